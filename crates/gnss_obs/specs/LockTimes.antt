@@ -1,0 +1,29 @@
+-- Lock times in milliseconds.
+use Rattle.std.specs.Prelude.{ℕ, ◌+◌, ◌-◌, ◌*◌, ◌/◌, ◌^◌, ◌==◌, ◌||◌, nat_lt, nat_le, if◌then◌else◌, Bool, false, Option, Some, None}
+
+-- the least time that a lock has lasted, and the time that it has not reached
+pub record LockTime : Type 0 where
+  pub least : Option ℕ
+  pub upper : Option ℕ
+
+abbrev pub least4 : ℕ → ℕ
+least4 i = if i == 0 then 0 else 2 ^ (i + 4)
+
+abbrev pub times4 : ℕ → LockTime
+times4 i = record { least = Some (least4 i); upper = if i == 15 then None else Some (least4 (i + 1)) }
+
+abbrev pub least7 : ℕ → ℕ
+least7 i = (i - 32 * (i / 32 - 1)) * 2 ^ (i / 32 - 1)
+
+abbrev pub times7 : ℕ → LockTime
+times7 i = if nat_lt 704 i then record { least = None; upper = None } else record { least = Some (least7 i); upper = if i == 704 then None else Some (least7 (i + 1)) }
+
+-- lock was lost between two times of a phase
+abbrev pub has_passed : Option ℕ → ℕ → Bool
+has_passed None elapsed = false
+has_passed (Some upper) elapsed = nat_le upper elapsed
+
+abbrev pub lost : Option ℕ → Option ℕ → Option ℕ → ℕ → Bool
+lost None now upper elapsed = false
+lost (Some before) None upper elapsed = false
+lost (Some before) (Some now) upper elapsed = nat_lt now before || has_passed upper elapsed

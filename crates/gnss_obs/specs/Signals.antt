@@ -1,0 +1,64 @@
+-- The signals of each system.
+use Rattle.std.specs.Prelude.{ℕ, List, [], ◌∷◌, Bool, ◌==◌, ◌<◌, if◌then◌else◌, Option, option_map, length, position, slice_get}
+use Rattle.std.specs.Option.{option_map_or}
+use Rattle.std.specs.Str.{bytes_eq}
+use Rattle.gnss_obs.specs.declared.tables.TheConstants.{GPS_SIGNALS, GALILEO_SIGNALS}
+use Rattle.gnss_obs.specs.declared.tables.Entry.{Entry}
+use Rattle.gnss_obs.specs.declared.system.System.{System}
+use Rattle.gnss_obs.specs.declared.system.System.TheVariants.{Gps, Galileo}
+
+-- the table of a system
+abbrev pub table : System → List Entry
+table Gps = GPS_SIGNALS
+table Galileo = GALILEO_SIGNALS
+
+-- a signal: its place in the table of its system, from 0
+pub record SignalAt : Type 0 where
+  pub system : System
+  pub index : ℕ
+
+-- the place is one of the table's
+abbrev pub IsSignal : SignalAt → Type 0
+IsSignal s = s.index < length (table s.system)
+
+-- the signal that a system's table has at the first place that passes a test
+abbrev pub signal_where : System → (Entry → Bool) → Option SignalAt
+signal_where system test = option_map (λ i. record { system = system; index = i }) (position test (table system))
+
+-- the signal of an ID
+abbrev pub signal_of_id : System → ℕ → Option SignalAt
+signal_of_id system id = signal_where system (λ e. e.id == id)
+
+-- the signal of a code
+abbrev pub signal_of_code : System → List ℕ → Option SignalAt
+signal_of_code system code = signal_where system (λ e. bytes_eq e.code code)
+
+-- the ID of a signal
+abbrev pub id_of : SignalAt → ℕ
+id_of s = option_map_or (λ e. e.id) (slice_get (table s.system) s.index) 0
+
+-- the code of a signal: the digit of its band and the letter of its attribute
+abbrev pub code_of : SignalAt → List ℕ
+code_of s = option_map_or (λ e. e.code) (slice_get (table s.system) s.index) []
+
+-- the digit that a code begins with
+abbrev pub band_of : List ℕ → ℕ
+band_of [] = 0
+band_of (digit ∷ rest) = digit
+
+-- the carriers of the bands, in hertz
+abbrev pub carrier_of : System → ℕ → ℕ
+carrier_of Gps band =
+    if band == 49 then 1575420000
+    else (if band == 50 then 1227600000
+    else 1176450000)
+carrier_of Galileo band =
+    if band == 49 then 1575420000
+    else (if band == 53 then 1176450000
+    else (if band == 54 then 1278750000
+    else (if band == 55 then 1207140000
+    else 1191795000)))
+
+-- the carrier of a signal
+abbrev pub hertz_of : SignalAt → ℕ
+hertz_of s = carrier_of s.system (band_of (code_of s))

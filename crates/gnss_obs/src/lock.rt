@@ -1,0 +1,95 @@
+ghost use Rattle.std.specs.Prelude.{◌≡◌, ◌^◌, ◌<◌, ◌≤◌};
+ghost use Rattle.gnss_obs.specs.LockTimes.{LockTime, times4, times7, lost};
+ghost use Rattle.gnss_obs.specs.LockTimes as LockTimes;
+
+use std::marker::Model;
+
+/// How long a lock has lasted at least, and how long it has not lasted.
+#[derive(Clone, Copy, Debug, PartialEq, Eq)]
+pub struct Lock {
+    least: Option<u32>,
+    upper: Option<u32>,
+}
+
+impl Model for Lock {
+    ghost Value = { LockTime };
+
+    ghost view = { λ l. record { least = l.least; upper = l.upper } };
+
+    ghost inverse = { λ t. record { least = t.least; upper = t.upper } };
+}
+
+fn least4(code: u8) -> u32
+    requires { code < 16 }
+    ensures { result ≡ LockTimes.least4 code }
+{
+    if code == 0 { 0 } else { 1 << (code + 4) }
+}
+
+fn least7(code: u16) -> u32
+    requires { code ≤ 704 }
+    ensures { result ≡ LockTimes.least7 code }
+{
+    let k = (code / 32).saturating_sub(1);
+    ((code - 32 * k) as u32) << k
+}
+
+impl Lock {
+    pub fn from_df402(code: u8) -> Lock
+        requires { code < 16 }
+        ensures { result ≡ times4 code }
+    {
+        Lock {
+            least: Some(least4(code)),
+            upper: if code == 15 {
+                None
+            } else {
+                Some(least4(code + 1))
+            },
+        }
+    }
+
+    pub fn from_df407(code: u16) -> Lock
+        requires { code < 1024 }
+        ensures { result ≡ times7 code }
+    {
+        if code > 704 {
+            return Lock {
+                least: None,
+                upper: None,
+            };
+        }
+        Lock {
+            least: Some(least7(code)),
+            upper: if code == 704 {
+                None
+            } else {
+                Some(least7(code + 1))
+            },
+        }
+    }
+
+    pub fn least(self) -> Option<u32>
+        ensures { result ≡ self.least }
+    {
+        self.least
+    }
+
+    pub fn upper(self) -> Option<u32>
+        ensures { result ≡ self.upper }
+    {
+        self.upper
+    }
+}
+
+/// Was the lock lost between then and now, so many milliseconds apart?
+pub fn is_lost(then: Lock, now: Lock, elapsed: u64) -> bool
+    ensures { result ≡ lost then.least now.least now.upper elapsed }
+{
+    match (then.least, now.least) {
+        (Some(before), Some(least)) => {
+            least < before || matches!(now.upper, Some(upper) if upper as u64 <= elapsed)
+        }
+        _ => false,
+    }
+}
