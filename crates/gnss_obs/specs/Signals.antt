@@ -1,5 +1,5 @@
 -- The signals of each system.
-use Rattle.std.specs.Prelude.{ℕ, List, [], ◌∷◌, Bool, ◌==◌, ◌<◌, if◌then◌else◌, Option, option_map, length, position, slice_get}
+use Rattle.std.specs.Prelude.{ℕ, List, [], ◌∷◌, Bool, ◌==◌, ◌<◌, nat_lt, if◌then◌else◌, Option, Some, None, option_map, length, position, slice_get}
 use Rattle.std.specs.Option.{option_map_or}
 use Rattle.std.specs.Str.{bytes_eq}
 use Rattle.gnss_obs.specs.declared.tables.TheConstants.{GPS_SIGNALS, GALILEO_SIGNALS}
@@ -21,25 +21,32 @@ pub record SignalAt : Type 0 where
 abbrev pub IsSignal : SignalAt → Type 0
 IsSignal s = s.index < length (table s.system)
 
+-- the signal at a place, where there is one
+abbrev pub signal_at : System → ℕ → Option SignalAt
+signal_at system index =
+    if nat_lt index (length (table system))
+    then Some (record { system = system; index = index })
+    else None
+
 -- the signal that a system's table has at the first place that passes a test
 abbrev pub signal_where : System → (Entry → Bool) → Option SignalAt
 signal_where system test = option_map (λ i. record { system = system; index = i }) (position test (table system))
 
 -- the signal of an ID
 abbrev pub signal_of_id : System → ℕ → Option SignalAt
-signal_of_id system id = signal_where system (λ e. e.id == id)
+signal_of_id system id = signal_where system (λ e. e.0 == id)
 
 -- the signal of a code
 abbrev pub signal_of_code : System → List ℕ → Option SignalAt
-signal_of_code system code = signal_where system (λ e. bytes_eq e.code code)
+signal_of_code system code = signal_where system (λ e. bytes_eq e.1 code)
 
 -- the ID of a signal
 abbrev pub id_of : SignalAt → ℕ
-id_of s = option_map_or (λ e. e.id) (slice_get (table s.system) s.index) 0
+id_of s = option_map_or (λ e. e.0) (slice_get (table s.system) s.index) 0
 
 -- the code of a signal: the digit of its band and the letter of its attribute
 abbrev pub code_of : SignalAt → List ℕ
-code_of s = option_map_or (λ e. e.code) (slice_get (table s.system) s.index) []
+code_of s = option_map_or (λ e. e.1) (slice_get (table s.system) s.index) []
 
 -- the digit that a code begins with
 abbrev pub band_of : List ℕ → ℕ

@@ -16,5 +16,4 @@ pub use observables::{doppler, phase, pseudorange, strength, strength_digit};
 pub use satellite::Sat;
 pub use signal::Signal;
 pub use system::System;
-pub use tables::{Entry, GALILEO_SIGNALS, GPS_SIGNALS};
 pub use thousandths::Thousandths;

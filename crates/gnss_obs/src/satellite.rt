@@ -21,15 +21,6 @@ impl Model for Sat {
     ghost inverse = { λ s. record { system = s.system; id = s.id } };
 }
 
-fn last_id(system: System) -> u8
-    ensures { result ≡ satellites system }
-{
-    match system {
-        System::Gps => 32,
-        System::Galileo => 36,
-    }
-}
-
 impl Sat {
     /// The satellite of this number, or `None` where the system has none. The number is that of RINEX, and the
     /// satellite ID of the mask DF394.
@@ -40,7 +31,7 @@ impl Sat {
         if id == 0 {
             return None;
         }
-        if id > last_id(system) {
+        if id > system.satellites() {
             return None;
         }
         Some(Sat { system, id })

@@ -1,6 +1,6 @@
 ghost use Rattle.std.specs.Prelude.{◌≡◌, ◌<◌, ◌^◌, ◌==◌, length, position, IfSome};
 ghost use Rattle.std.specs.Str.{bytes_eq};
-ghost use Rattle.gnss_obs.specs.Signals.{SignalAt, IsSignal, table, signal_of_id, signal_of_code, code_of, hertz_of};
+ghost use Rattle.gnss_obs.specs.Signals.{SignalAt, IsSignal, table, signal_at, signal_of_id, signal_of_code, code_of, hertz_of};
 
 use crate::System;
 use crate::tables::{Entry, GALILEO_SIGNALS, GPS_SIGNALS};
@@ -33,17 +33,17 @@ fn entries(system: System) -> &'static [Entry]
 }
 
 fn place_of_id(entries: &[Entry], id: u8) -> Option<usize>
-    ensures value { result ≡ position (λ e. e.id == id) entries.now }
+    ensures value { result ≡ position (λ e. e.0 == id) entries.now }
     ensures below { IfSome result (λ i. i < length entries.now) }
 {
-    entries.iter().position(|e| e.id == id)
+    entries.iter().position(|e| e.0 == id)
 }
 
 fn place_of_code(entries: &[Entry], code: &[u8]) -> Option<usize>
-    ensures value { result ≡ position (λ e. bytes_eq e.code code.now) entries.now }
+    ensures value { result ≡ position (λ e. bytes_eq e.1 code.now) entries.now }
     ensures below { IfSome result (λ i. i < length entries.now) }
 {
-    entries.iter().position(|e| e.code.as_slice() == code)
+    entries.iter().position(|e| e.1.as_slice() == code)
 }
 
 impl Signal {
@@ -67,11 +67,22 @@ impl Signal {
         }
     }
 
+    /// The signal at a place of the system's table, from 0, or `None` behind its end.
+    pub fn from_index(system: System, index: usize) -> Option<Signal>
+        ensures { result ≡ signal_at system index }
+    {
+        if index < system.signals() {
+            Some(Signal { system, index })
+        } else {
+            None
+        }
+    }
+
     /// The RINEX code, in ASCII: the digit of the band and the letter of the attribute.
     pub fn code(self) -> [u8; 2]
         ensures { result ≡ code_of self }
     {
-        entries(self.system)[self.index].code
+        entries(self.system)[self.index].1
     }
 
     /// The frequency of the carrier, in hertz.
