@@ -78,6 +78,10 @@ product_size x h m b size small room = rw unsigned_abs-mul (step (unsigned_abs x
     step : (y h m b : ℕ) → y ≤ m → h < 2 ^ 31 → m * 2 ^ 31 ≤ b → y * h ≤ b
     step y h m b size small room = let p : y * h ≤ m * 2 ^ 31 = mul-le y h m (2 ^ 31) size (omega arith) in omega arith
 
+-- a product stays within that of its factors' bounds
+pub product_within : (x : ℤ) (h m n : ℕ) → unsigned_abs x ≤ m → h ≤ n → unsigned_abs (x *ℤ pos h) ≤ m * n
+product_within x h m n size small = rw unsigned_abs-mul (mul-le (unsigned_abs x) h m n size small)
+
 -- the same product turned round
 pub turned_casts : (x : ℤ) (h m : ℕ) → FitsSigned w128 x → unsigned_abs x ≤ m → m * 2 ^ 31 < 2 ^ 100 → h < 2 ^ 31 → to_z w128 (of_z w128 (pos 0 -ℤ to_z w128 (of_z w128 (x *ℤ to_z w128 h)))) ≡ pos 0 -ℤ (x *ℤ pos h)
 turned_casts x h m f size room small =
@@ -90,3 +94,12 @@ turned_casts x h m f size room small =
 -- a nearest number stays one where both are named otherwise
 pub nearest_named : (a b : ℤ) (q : ℕ) (t u : ℤ) → a ≡ b → t ≡ u → IsNearest a q t → IsNearest b q u
 nearest_named a b q t u same_fraction same_number near = subst (λ x. IsNearest x q u) same_fraction (subst (IsNearest a q) same_number near)
+
+-- a nearest number is not much larger than the fraction
+pub nearest_bound : (a : ℤ) (q : ℕ) (t : ℤ) → IsNearest a q t → unsigned_abs t * q ≤ unsigned_abs a + q
+nearest_bound a q t near = rw at_size at (step (t *ℤ pos q) near.near)
+  where
+    at_size : unsigned_abs (t *ℤ pos q) ≡ unsigned_abs t * q
+    at_size = unsigned_abs-mul t (pos q)
+    step : (x : ℤ) → 2 * unsigned_abs (x -ℤ a) ≤ q → unsigned_abs x ≤ unsigned_abs a + q
+    step x h = omega (arith, ints)

@@ -1,5 +1,6 @@
 -- Lock times in milliseconds.
-use Rattle.std.specs.Prelude.{ℕ, ◌+◌, ◌-◌, ◌*◌, ◌/◌, ◌^◌, ◌==◌, ◌||◌, nat_lt, nat_le, if◌then◌else◌, Bool, false, Option, Some, None}
+use Rattle.std.specs.Prelude.{ℕ, ◌+◌, ◌-◌, ◌*◌, ◌/◌, ◌^◌, ◌==◌, ◌||◌, ◌<◌, ◌≤◌, ◌⊎◌, nat_lt, nat_le, if◌then◌else◌, Bool, false, Option, Some, None}
+use Rattle.std.specs.Option.{IsSomeAnd}
 
 -- the least time that a lock has lasted, and the time that it has not reached
 pub record LockTime : Type 0 where
@@ -18,7 +19,14 @@ least7 i = (i - 32 * (i / 32 - 1)) * 2 ^ (i / 32 - 1)
 abbrev pub times7 : ℕ → LockTime
 times7 i = if nat_lt 704 i then record { least = None; upper = None } else record { least = Some (least7 i); upper = if i == 704 then None else Some (least7 (i + 1)) }
 
--- lock was lost between two times of a phase
+-- lock was lost between two times of a phase, so many milliseconds apart: both lock times are known, and the later
+-- one is less, or is known to be no more than the time between
+abbrev pub IsLost : LockTime → LockTime → ℕ → Type 0
+IsLost earlier later elapsed =
+    IsSomeAnd earlier.least (λ before. IsSomeAnd later.least (λ least.
+        (least < before) ⊎ IsSomeAnd later.upper (λ upper. upper ≤ elapsed)))
+
+-- the same as an answer
 abbrev pub has_passed : Option ℕ → ℕ → Bool
 has_passed None elapsed = false
 has_passed (Some upper) elapsed = nat_le upper elapsed

@@ -1,5 +1,5 @@
 -- The signals of each system.
-use Rattle.std.specs.Prelude.{ℕ, List, [], ◌∷◌, Bool, ◌==◌, ◌<◌, nat_lt, if◌then◌else◌, Option, Some, None, option_map, length, position, slice_get}
+use Rattle.std.specs.Prelude.{ℕ, List, [], ◌∷◌, ◌+◌, ◌-◌, Bool, ◌==◌, ◌<◌, nat_lt, if◌then◌else◌, Option, Some, None, option_map, length, position, slice_get}
 use Rattle.std.specs.Option.{option_map_or}
 use Rattle.std.specs.Str.{bytes_eq}
 use Rattle.gnss_obs.specs.declared.tables.TheConstants.{GPS_SIGNALS, GALILEO_SIGNALS}
@@ -20,6 +20,10 @@ pub record SignalAt : Type 0 where
 -- the place is one of the table's
 abbrev pub IsSignal : SignalAt → Type 0
 IsSignal s = s.index < length (table s.system)
+
+-- the place behind
+abbrev pub behind : SignalAt → SignalAt
+behind s = record { system = s.system; index = s.index + 1 }
 
 -- the signal at a place, where there is one
 abbrev pub signal_at : System → ℕ → Option SignalAt
@@ -48,24 +52,21 @@ id_of s = option_map_or (λ e. e.0) (slice_get (table s.system) s.index) 0
 abbrev pub code_of : SignalAt → List ℕ
 code_of s = option_map_or (λ e. e.1) (slice_get (table s.system) s.index) []
 
--- the digit that a code begins with
+-- the bands of a system by the digit that a code begins with, each with its carrier in hertz
+abbrev pub carriers : System → List (ℕ × ℕ)
+carriers Gps = (1, 1575420000) ∷ (2, 1227600000) ∷ (5, 1176450000) ∷ []
+carriers Galileo = (1, 1575420000) ∷ (5, 1176450000) ∷ (6, 1278750000) ∷ (7, 1207140000) ∷ (8, 1191795000) ∷ []
+
+-- the band of a code: the number that its digit, in ASCII, stands for
 abbrev pub band_of : List ℕ → ℕ
 band_of [] = 0
-band_of (digit ∷ rest) = digit
+band_of (digit ∷ rest) = digit - 48
 
--- the carriers of the bands, in hertz
-abbrev pub carrier_of : System → ℕ → ℕ
-carrier_of Gps band =
-    if band == 49 then 1575420000
-    else (if band == 50 then 1227600000
-    else 1176450000)
-carrier_of Galileo band =
-    if band == 49 then 1575420000
-    else (if band == 53 then 1176450000
-    else (if band == 54 then 1278750000
-    else (if band == 55 then 1207140000
-    else 1191795000)))
+-- the carrier of a band, 0 where there is none
+abbrev pub carrier_of : List (ℕ × ℕ) → ℕ → ℕ
+carrier_of [] band = 0
+carrier_of (c ∷ others) band = if c.0 == band then c.1 else carrier_of others band
 
 -- the carrier of a signal
 abbrev pub hertz_of : SignalAt → ℕ
-hertz_of s = carrier_of s.system (band_of (code_of s))
+hertz_of s = carrier_of (carriers s.system) (band_of (code_of s))

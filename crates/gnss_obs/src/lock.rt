@@ -1,5 +1,5 @@
-ghost use Rattle.std.specs.Prelude.{◌≡◌, ◌^◌, ◌<◌, ◌≤◌};
-ghost use Rattle.gnss_obs.specs.LockTimes.{LockTime, times4, times7, lost};
+ghost use Rattle.std.specs.Prelude.{◌≡◌, ◌^◌, ◌<◌, ◌≤◌, ◌↔◌, IsTrue};
+ghost use Rattle.gnss_obs.specs.LockTimes.{LockTime, IsLost, times4, times7, lost};
 ghost use Rattle.gnss_obs.specs.LockTimes as LockTimes;
 
 use std::marker::Model;
@@ -82,13 +82,21 @@ impl Lock {
     }
 }
 
-/// Was the lock lost between then and now, so many milliseconds apart?
+/// Was lock lost between two times, `elapsed` milliseconds apart? It was where the later lock has lasted less long than
+/// the earlier one, or is known to be no older than the time between. Where either is unknown nothing is known of a loss.
 pub fn is_lost(then: Lock, now: Lock, elapsed: u64) -> bool
-    ensures { result ≡ lost then.least now.least now.upper elapsed }
+    ensures lost { IsTrue result ↔ IsLost then now elapsed }
+    ensures value { result ≡ lost then.least now.least now.upper elapsed }
 {
-    match (then.least, now.least) {
+    has_fallen(then.least, now.least, now.upper, elapsed)
+}
+
+fn has_fallen(before: Option<u32>, least: Option<u32>, upper: Option<u32>, elapsed: u64) -> bool
+    ensures { result ≡ lost before least upper elapsed }
+{
+    match (before, least) {
         (Some(before), Some(least)) => {
-            least < before || matches!(now.upper, Some(upper) if upper as u64 <= elapsed)
+            least < before || matches!(upper, Some(upper) if upper as u64 <= elapsed)
         }
         _ => false,
     }

@@ -1,4 +1,4 @@
-ghost use Rattle.std.specs.Prelude.{◌≡◌, ◌*◌, ◌^◌, ◌<◌, ◌≤◌, ◌*ℤ◌, ◌-ℤ◌, unsigned_abs, ℤ, ℕ, pos};
+ghost use Rattle.std.specs.Prelude.{◌≡◌, ◌*◌, ◌^◌, ◌<◌, ◌≤◌, ◌*ℤ◌, ◌-ℤ◌, ◌≤ℤ◌, ◌<ℤ◌, unsigned_abs, ℤ, ℕ, pos, IfSome};
 ghost use Rattle.std.specs.Option.{option_map, ForSome};
 ghost use Rattle.gnss_obs.specs.Rounding.{IsNearest, IsRounded};
 ghost use Rattle.gnss_obs.specs.Observables.{light, metres, cycles, shift, decibels, digit};
@@ -15,6 +15,7 @@ pub fn pseudorange(range: Option<i64>) -> Option<Thousandths>
     requires { ForSome range (λ r. unsigned_abs r ≤ 2 ^ 40) }
     ensures rounded { IsRounded (λ r. r *ℤ pos light) (2 ^ 31) range result }
     ensures value { result ≡ option_map metres range }
+    ensures bound { IfSome result (λ t. unsigned_abs t < 10 ^ 12) }
 {
     match range {
         None => None,
@@ -27,6 +28,7 @@ pub fn phase(phase: Option<i64>, signal: Signal) -> Option<Thousandths>
     requires { ForSome phase (λ p. unsigned_abs p ≤ 2 ^ 40) }
     ensures rounded { IsRounded (λ p. p *ℤ pos (hertz_of signal)) (2 ^ 31) phase result }
     ensures value { result ≡ option_map (cycles (hertz_of signal)) phase }
+    ensures bound { IfSome result (λ t. unsigned_abs t < 10 ^ 12) }
 {
     match phase {
         None => None,
@@ -43,6 +45,7 @@ pub fn doppler(rate: Option<i32>, signal: Signal) -> Option<Thousandths>
     requires { ForSome rate (λ v. unsigned_abs v ≤ 10 ^ 8) }
     ensures rounded { IsRounded (λ v. pos 0 -ℤ (v *ℤ pos (hertz_of signal))) (10 * light) rate result }
     ensures value { result ≡ option_map (shift (hertz_of signal)) rate }
+    ensures bound { IfSome result (λ t. unsigned_abs t < 10 ^ 12) }
 {
     match rate {
         None => None,
@@ -58,6 +61,8 @@ pub fn strength(strength: Option<u16>) -> Option<Thousandths>
     requires { ForSome strength (λ s. s < 1024) }
     ensures rounded { IsRounded (λ s. pos (s * 1000)) 16 strength result }
     ensures value { result ≡ option_map decibels strength }
+    ensures bound { IfSome result (λ t. (pos 0 ≤ℤ t) × (t <ℤ pos 100000)) }
+    ensures positive { ForSome strength (λ s. 0 < s → IfSome result (λ t. pos 0 <ℤ t)) }
 {
     match strength {
         None => None,

@@ -1,6 +1,6 @@
-ghost use Rattle.std.specs.Prelude.{◌≡◌, ◌<◌, ◌^◌, ◌==◌, length, position, IfSome};
+ghost use Rattle.std.specs.Prelude.{◌≡◌, ◌-◌, ◌<◌, ◌≤◌, ◌==◌, length, position, IfSome};
 ghost use Rattle.std.specs.Str.{bytes_eq};
-ghost use Rattle.gnss_obs.specs.Signals.{SignalAt, IsSignal, table, signal_at, signal_of_id, signal_of_code, code_of, hertz_of};
+ghost use Rattle.gnss_obs.specs.Signals.{SignalAt, IsSignal, table, signal_at, signal_of_id, signal_of_code, code_of, carriers, carrier_of, hertz_of};
 
 use crate::System;
 use crate::tables::{Entry, GALILEO_SIGNALS, GPS_SIGNALS};
@@ -46,6 +46,29 @@ fn place_of_code(entries: &[Entry], code: &[u8]) -> Option<usize>
     entries.iter().position(|e| e.1.as_slice() == code)
 }
 
+/// The carrier of a band, by the digit that its codes begin with, in hertz. It is 0 where the system has no such band.
+fn carrier(system: System, digit: u8) -> u32
+    ensures value { result ≡ carrier_of (carriers system) (digit - 48) }
+    ensures bound { result ≤ 1575420000 }
+{
+    match system {
+        System::Gps => match digit {
+            b'1' => 1_575_420_000,
+            b'2' => 1_227_600_000,
+            b'5' => 1_176_450_000,
+            _ => 0,
+        },
+        System::Galileo => match digit {
+            b'1' => 1_575_420_000,
+            b'5' => 1_176_450_000,
+            b'6' => 1_278_750_000,
+            b'7' => 1_207_140_000,
+            b'8' => 1_191_795_000,
+            _ => 0,
+        },
+    }
+}
+
 impl Signal {
     /// The signal of a signal ID, the bit of the signal mask DF395 counted from 1, or `None` where the table has none.
     pub fn from_id(system: System, id: u8) -> Option<Signal>
@@ -88,23 +111,10 @@ impl Signal {
     /// The frequency of the carrier, in hertz.
     pub fn hertz(self) -> u32
         ensures value { result ≡ hertz_of self }
-        ensures bound { result < 2 ^ 31 }
+        ensures positive { 0 < result }
+        ensures bound { result ≤ 1575420000 }
     {
-        let [band, _attribute] = self.code();
-        match self.system {
-            System::Gps => match band {
-                b'1' => 1_575_420_000,
-                b'2' => 1_227_600_000,
-                _ => 1_176_450_000,
-            },
-            System::Galileo => match band {
-                b'1' => 1_575_420_000,
-                b'5' => 1_176_450_000,
-                b'6' => 1_278_750_000,
-                b'7' => 1_207_140_000,
-                _ => 1_191_795_000,
-            },
-        }
+        carrier(self.system, self.code()[0])
     }
 
     /// The system that sends the signal.
