@@ -20,8 +20,9 @@ last_or_below n i below = grind (arith, below)
 pub passes_at : (test : ℕ → Bool) (n i : ℕ) → passes_below test n ≡ true → i < n → test i ≡ true
 passes_at test zero i all below = absurd (omega (arith, below))
 passes_at test (suc n) i all below = elim (last_or_below n i below) [
-      inl last ↦ subst (λ (j : ℕ). test j ≡ true) (sym last) (both_first (test n) (passes_below test n) all)
-    | inr less ↦ passes_at test n i (both_second (test n) (passes_below test n) all) less ]
+  | inl last ↦ subst (λ (j : ℕ). test j ≡ true) (sym last) (both_first (test n) (passes_below test n) all)
+  | inr less ↦ passes_at test n i (both_second (test n) (passes_below test n) all) less
+]
 
 -- what the tests of numbers say
 pub is_less : (a b : ℕ) → nat_lt a b ≡ true → a < b

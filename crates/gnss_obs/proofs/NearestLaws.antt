@@ -101,5 +101,6 @@ nearest_bound a q t near = rw at_size at (step (t *ℤ pos q) near.near)
   where
     at_size : unsigned_abs (t *ℤ pos q) ≡ unsigned_abs t * q
     at_size = unsigned_abs-mul t (pos q)
+
     step : (x : ℤ) → 2 * unsigned_abs (x -ℤ a) ≤ q → unsigned_abs x ≤ unsigned_abs a + q
     step x h = omega (arith, ints)

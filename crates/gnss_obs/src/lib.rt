@@ -9,6 +9,8 @@ mod satellite;
 mod signal;
 mod system;
 mod tables;
+#[cfg(test)]
+mod tests;
 mod thousandths;
 
 pub use lock::{Lock, is_lost};

@@ -4,7 +4,8 @@ ghost use Rattle.gnss_obs.specs.LockTimes as LockTimes;
 
 use std::marker::Model;
 
-/// How long a lock has lasted at least, and how long it has not lasted.
+/// How long a receiver has tracked a phase without a break, as a lock time indicator tells it: at least so many
+/// milliseconds, and less than so many.
 #[derive(Clone, Copy, Debug, PartialEq, Eq)]
 pub struct Lock {
     least: Option<u32>,
@@ -19,6 +20,7 @@ impl Model for Lock {
     ghost inverse = { λ t. record { least = t.least; upper = t.upper } };
 }
 
+/// The least time of an indicator DF402, in milliseconds.
 fn least4(code: u8) -> u32
     requires { code < 16 }
     ensures { result ≡ LockTimes.least4 code }
@@ -26,6 +28,7 @@ fn least4(code: u8) -> u32
     if code == 0 { 0 } else { 1 << (code + 4) }
 }
 
+/// The least time of an indicator DF407 that is known, in milliseconds.
 fn least7(code: u16) -> u32
     requires { code ≤ 704 }
     ensures { result ≡ LockTimes.least7 code }
@@ -35,6 +38,7 @@ fn least7(code: u16) -> u32
 }
 
 impl Lock {
+    /// The lock of an indicator of MSM4, DF402.
     pub fn from_df402(code: u8) -> Lock
         requires { code < 16 }
         ensures { result ≡ times4 code }
@@ -49,6 +53,7 @@ impl Lock {
         }
     }
 
+    /// The lock of an indicator of MSM7, DF407. From 705 on it is unknown.
     pub fn from_df407(code: u16) -> Lock
         requires { code < 1024 }
         ensures { result ≡ times7 code }
@@ -69,12 +74,14 @@ impl Lock {
         }
     }
 
+    /// The milliseconds that the lock has lasted at least, where they are known.
     pub fn least(self) -> Option<u32>
         ensures { result ≡ self.least }
     {
         self.least
     }
 
+    /// The milliseconds that the lock has not reached, where such a time is known.
     pub fn upper(self) -> Option<u32>
         ensures { result ≡ self.upper }
     {
@@ -91,6 +98,7 @@ pub fn is_lost(then: Lock, now: Lock, elapsed: u64) -> bool
     has_fallen(then.least, now.least, now.upper, elapsed)
 }
 
+/// The same, from the lock times of which the answer is made.
 fn has_fallen(before: Option<u32>, least: Option<u32>, upper: Option<u32>, elapsed: u64) -> bool
     ensures { result ≡ lost before least upper elapsed }
 {

@@ -23,6 +23,7 @@ impl Model for Signal {
     ghost inverse = { λ s. record { system = s.system; index = s.index } };
 }
 
+/// The table of a system.
 fn entries(system: System) -> &'static [Entry]
     ensures { result.now ≡ table system }
 {
@@ -32,6 +33,7 @@ fn entries(system: System) -> &'static [Entry]
     }
 }
 
+/// The line with this signal ID.
 fn place_of_id(entries: &[Entry], id: u8) -> Option<usize>
     ensures value { result ≡ position (λ e. e.0 == id) entries.now }
     ensures below { IfSome result (λ i. i < length entries.now) }
@@ -39,6 +41,7 @@ fn place_of_id(entries: &[Entry], id: u8) -> Option<usize>
     entries.iter().position(|e| e.0 == id)
 }
 
+/// The line with this code.
 fn place_of_code(entries: &[Entry], code: &[u8]) -> Option<usize>
     ensures value { result ≡ position (λ e. bytes_eq e.1 code.now) entries.now }
     ensures below { IfSome result (λ i. i < length entries.now) }
@@ -74,20 +77,16 @@ impl Signal {
     pub fn from_id(system: System, id: u8) -> Option<Signal>
         ensures { result ≡ signal_of_id system id }
     {
-        match place_of_id(entries(system), id) {
-            Some(index) => Some(Signal { system, index }),
-            None => None,
-        }
+        let index = place_of_id(entries(system), id)?;
+        Some(Signal { system, index })
     }
 
     /// The signal of a RINEX code, as `1C`, or `None` where the table has none.
     pub fn from_code(system: System, code: &str) -> Option<Signal>
         ensures { result ≡ signal_of_code system code.now }
     {
-        match place_of_code(entries(system), code.as_bytes()) {
-            Some(index) => Some(Signal { system, index }),
-            None => None,
-        }
+        let index = place_of_code(entries(system), code.as_bytes())?;
+        Some(Signal { system, index })
     }
 
     /// The signal at a place of the system's table, from 0, or `None` behind its end.
