@@ -1,6 +1,6 @@
 -- What the answer to a loss of lock says.
-use Rattle.std.proofs.Common.{ℕ, ◌≡◌, ◌<◌, ◌≤◌, ◌↔◌, ◌⊎◌, inl, inr, Bool, true, false, IsTrue, Option, Some, None, arith, rules, refl, ◌+◌, ◌*◌, ◌==◌, ◌||◌, nat_lt}
-use Rattle.gnss_obs.specs.LockTimes.{LockTime, IsLost, lost, has_passed, least4, least7}
+use Rattle.std.proofs.Common.{ℕ, ◌≡◌, ◌<◌, ◌≤◌, ◌↔◌, IsTrue, Option, Some, None, arith, rules, refl, ◌+◌, ◌*◌, ◌==◌, ◌||◌, nat_lt}
+use Rattle.gnss_obs.specs.LockTimes.{LockTime, IsLost, lost, least4, least7}
 use Rattle.gnss_obs.proofs.Checked.{passes_at, is_less, is_equal, unless_less}
 
 pub lost_is : (earlier later : LockTime) (elapsed : ℕ) → IsTrue (lost earlier.least later.least later.upper elapsed) ↔ IsLost earlier later elapsed

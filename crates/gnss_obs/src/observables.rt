@@ -61,7 +61,8 @@ pub fn strength(strength: Option<u16>) -> Option<Thousandths>
     requires { ForSome strength (λ s. s < 1024) }
     ensures rounded { IsRounded (λ s. pos (s * 1000)) 16 strength result }
     ensures value { result ≡ option_map decibels strength }
-    ensures bound { IfSome result (λ t. (pos 0 ≤ℤ t) × (t <ℤ pos 100000)) }
+    ensures bound { IfSome result (λ t. unsigned_abs t < 10 ^ 12) }
+    ensures range { IfSome result (λ t. (pos 0 ≤ℤ t) × (t <ℤ pos 100000)) }
     ensures positive { ForSome strength (λ s. 0 < s → IfSome result (λ t. pos 0 <ℤ t)) }
 {
     match strength {

@@ -1,5 +1,3 @@
-use Rattle.std.proofs.Common.{◌↔◌, IsTrue}
-use Rattle.gnss_obs.specs.LockTimes.{IsLost}
 use Rattle.gnss_obs.proofs.LockLaws.{lost_is}
 use Rattle.gnss_obs.proofs.lock.is_lost.Goals as goal
 
