@@ -73,6 +73,26 @@ fn lists_signals(rt: HostRuntime) {
     );
 }
 
+/// The 32 places of the signal mask DF395, in order, empty where none of the signals read has its place.
+#[test]
+fn fills_the_signal_masks(rt: HostRuntime) {
+    let gps = [
+        "", "1C", "1P", "1W", "", "", "", "2C", "2P", "2W", "", "", "", "", "2S", "2L", // 1 to 16
+        "2X", "", "", "", "", "5I", "5Q", "5X", "", "", "", "", "", "1S", "1L", "1X", // 17 to 32
+    ];
+    let galileo = [
+        "", "1C", "1A", "1B", "1X", "1Z", "", "6C", "6A", "6B", "6X", "6Z", "", "7I", "7Q", "7X", // 1 to 16
+        "", "8I", "8Q", "8X", "", "5I", "5Q", "5X", "", "", "", "", "", "", "", "", // 17 to 32
+    ];
+    for (system, mask) in [(System::Gps, gps), (System::Galileo, galileo)] {
+        for (id, code) in (1..33u8).zip(mask) {
+            let listed = Signal::from_id(system, id);
+            assert_eq!(rt; listed, Signal::from_code(system, code), "{system:?} {id}");
+            assert_eq!(rt; listed.is_some(), !code.is_empty(), "{system:?} {id}");
+        }
+    }
+}
+
 #[test]
 fn knows_no_other_signal(rt: HostRuntime) {
     for id in [0, 1, 5, 33, 255] {
