@@ -4,6 +4,7 @@
 mod check;
 mod complement;
 mod counted;
+pub mod devices;
 mod framing;
 pub mod laws;
 mod reader;
