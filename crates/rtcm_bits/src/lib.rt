@@ -8,6 +8,8 @@ pub mod devices;
 mod framing;
 pub mod laws;
 mod reader;
+#[cfg(test)]
+mod tests;
 mod window;
 mod writer;
 
