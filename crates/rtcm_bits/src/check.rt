@@ -1,12 +1,13 @@
-//! The check of a list of bytes, CRC-24Q.
-ghost use Rattle.std.specs.Prelude.{◌≡◌, ◌^◌, ◌<◌, List, ℕ, [], ◌∷◌, ◌++◌, ◌==◌, IsTrue, ◌↔◌, Bool};
+//! The check of a frame, CRC-24Q (RTCM 10403.3, transport layer): the generator is 0x1864CFB, the register begins at 0,
+//! the most significant bit goes first, and nothing is changed at the end.
+ghost use Rattle.std.specs.Prelude.{◌≡◌, ◌^◌, ◌<◌, List, ℕ, [], ◌∷◌, ◌++◌};
 ghost use Rattle.rtcm_bits.specs.Bits.{uint};
 ghost use Rattle.rtcm_bits.specs.Check.{check};
 ghost use Rattle.rtcm_bits.specs.Register.{after_bits};
 
 use std::marker::Model;
 
-/// The check of each byte.
+/// What eight steps make of an empty register, for each byte.
 const TABLE: [u32; 256] = [
     0x000000, 0x864CFB, 0x8AD50D, 0x0C99F6, 0x93E6E1, 0x15AA1A, 0x1933EC, 0x9F7F17, 0xA18139,
     0x27CDC2, 0x2B5434, 0xAD18CF, 0x3267D8, 0xB42B23, 0xB8B2D5, 0x3EFE2E, 0xC54E89, 0x430272,
@@ -39,7 +40,7 @@ const TABLE: [u32; 256] = [
     0xD11CCE, 0x575035, 0x5BC9C3, 0xDD8538,
 ];
 
-/// The check of the bytes taken since it was made.
+/// The check of the bytes that were taken since it was made.
 #[derive(Drop)]
 pub struct CheckRegister {
     register: u32,
@@ -68,7 +69,7 @@ impl CheckRegister {
         self.register = by_table(self.register, byte);
     }
 
-    /// The check of the bytes taken.
+    /// The check of the bytes taken, 24 bits.
     pub fn value(&self) -> u32
         ensures value { result ≡ self.now }
         ensures bound { result < 2 ^ 24 }
@@ -77,7 +78,7 @@ impl CheckRegister {
     }
 }
 
-/// The check of these bytes.
+/// The check of these bytes, 24 bits.
 pub fn crc24q(bytes: &[u8]) -> u32
     ensures value { result ≡ check bytes.now }
     ensures bound { result < 2 ^ 24 }
@@ -101,7 +102,8 @@ fn by_table(register: u32, byte: u8) -> u32
 
 /// The check of one byte.
 fn table_entry(byte: u8) -> u32
-    ensures { result ≡ check (byte ∷ []) }
+    ensures value { result ≡ check (byte ∷ []) }
+    ensures steps { uint 24 result ≡ after_bits (uint 24 0) (uint 8 byte) }
 {
     TABLE[byte as usize]
 }
