@@ -1,4 +1,5 @@
 pub mod BitLemmas
+pub mod PartLemmas
 pub mod SignedLemmas
 pub mod RegisterBits
 pub mod CheckLemmas

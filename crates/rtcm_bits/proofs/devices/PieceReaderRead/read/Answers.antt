@@ -1,4 +1,4 @@
-use Rattle.std.proofs.Common.{◌<◌, ◌≡◌, ◌∙◌, ap, arith, length, min, rules}
+use Rattle.std.proofs.Common.{◌<◌, ◌≡◌, ◌∙◌, ap, length, min}
 use Rattle.rtcm_bits.proofs.DeviceLemmas.{read_gives, not_empty}
 use Rattle.rtcm_bits.proofs.devices.PieceReaderRead.read.Goals as goal
 
