@@ -1,5 +1,6 @@
 pub mod BitLemmas
 pub mod PartLemmas
+pub mod WriteLemmas
 pub mod SignedLemmas
 pub mod RegisterBits
 pub mod CheckLemmas

@@ -143,10 +143,6 @@ check_three m x y z =
     let k : bits_of (m ++ x ∷ y ∷ z ∷ []) ≡ bits_of m ++ three x y z = bits_of-append m (x ∷ y ∷ z ∷ []) ∙ ap (λ t. bits_of m ++ t) (bytes_three x y z) in
     ap (λ q. number (bits_remainder q)) k ∙ ap number (remainder-append (bits_of m) (three x y z))
 
-uint-zero : uint 24 0 ≡ replicate 24 false
-unfolding uint
-uint-zero = refl
-
 number_zeros : number (replicate 24 false) ≡ 0
 unfolding number_from
 number_zeros = refl

@@ -1,9 +1,9 @@
 -- What a window's calls do to its places, as a contract sees them.
-use Rattle.std.proofs.Common.{◌≡◌, ℕ, ◌+◌, ◌-◌, ◌<◌, ◌≤◌, min, max, List, [], ◌∷◌, ◌++◌, map, set, get_or, length, take, drop, refl, sym, ap, ◌∙◌, arith, slice_range, ⊎_elim}
+use Rattle.std.proofs.Common.{◌≡◌, ℕ, ◌+◌, ◌<◌, ◌≤◌, min, max, List, [], ◌∷◌, ◌++◌, map, set, get_or, length, drop, refl, sym, ap, ◌∙◌, arith, ⊎_elim}
 use Rattle.std.specs.List.{All}
 use Rattle.std.proofs.lemmas.List.Elements.{All-push}
 use Rattle.std.proofs.lemmas.Bool.{cases_lt}
-use Rattle.std.proofs.lemmas.List.{drop-map, map-set, set-get_or, get_or-map, length-map, take_more, length-drop, get_or-drop, get_or_past}
+use Rattle.std.proofs.lemmas.List.{drop-map, map-set, set-get_or, get_or-map, length-map, get_or_past}
 use Rattle.rtcm_bits.specs.declared.window.Place.{Place}
 use Rattle.rtcm_bits.specs.Places.{held_of}
 use Rattle.rtcm_bits.specs.Window.{Held, without_front, looked}
@@ -27,16 +27,6 @@ view_looked xs i e m e' m' count p l h k a b =
     let w : set (map byte xs) i (get_or (map byte xs) i 0) ≡ map byte xs = set-get_or (map byte xs) i 0 in
     let x : set (map byte xs) i p.byte ≡ map byte xs = ap (set (map byte xs) i) (sym u) ∙ w in
     rw (s, t, v, x, a, b, k) refl
-
--- one byte more of a range
-pub range_more : (xs : List ℕ) (start i b : ℕ) → start + i < length xs → b ≡ get_or xs (start + i) 0 → slice_range xs start (start + i) ++ b ∷ [] ≡ slice_range xs start (start + (i + 1))
-range_more xs start i b h e =
-    let m : (start + i) - start ≡ i = omega arith in
-    let n : (start + (i + 1)) - start ≡ i + 1 = omega arith in
-    let l : i < length (drop start xs) = omega (arith, length-drop start xs) in
-    let t : take (i + 1) (drop start xs) ≡ take i (drop start xs) ++ get_or (drop start xs) i 0 ∷ [] = take_more (drop start xs) i 0 l in
-    let g : get_or (drop start xs) i 0 ≡ get_or xs (start + i) 0 = get_or-drop start xs i 0 in
-    rw (m, n, t, g, e) refl
 
 pub place_there : (xs : List Place) (e m i : ℕ) (w : Held) → held_of xs e m ≡ w → i < length w.bytes → i < length xs
 place_there xs e m i w v h =
