@@ -16,20 +16,25 @@ use crate::candidate::Candidate;
 use rtcm_bits::{Window, laws};
 use std::alloc::Global;
 use std::marker::Model;
+use thiserror::Error;
 
 /// The most bytes of a stream.
 pub const MOST_BYTES: u64 = 1 << 48;
 
 /// Why a framer refused.
-#[derive(Clone, Copy, Debug, PartialEq, Eq, Drop)]
+#[derive(Clone, Copy, Debug, PartialEq, Eq, Error)]
 pub enum ScanFault {
     /// No memory for the window.
+    #[error("no memory for the window")]
     Memory,
     /// A limit of more than 2^48 bytes.
+    #[error("the limit is above 2^48 bytes")]
     BadLimit,
     /// As many bytes as the limit allows were taken.
+    #[error("the stream is longer than its limit")]
     TooLong,
     /// The stream has ended.
+    #[error("the stream has ended")]
     Ended,
 }
 

@@ -8,3 +8,6 @@ pub mod laws;
 
 pub use framer::{Frame, Framer, MOST_BYTES, ScanFault};
 pub use frames::{FrameView, Frames};
+
+#[cfg(test)]
+mod tests;
