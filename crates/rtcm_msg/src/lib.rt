@@ -1,0 +1,33 @@
+//! Messages and their values.
+#![tactic(auto)]
+
+mod columns;
+mod entry;
+mod fault;
+mod field;
+mod grid;
+mod grid4;
+mod grid7;
+mod header;
+pub mod laws;
+mod masks;
+mod message;
+mod msm;
+mod seats;
+mod station;
+mod writing;
+
+pub use entry::{Entry, entries};
+pub use fault::{Field, MsgFault, ValueFault};
+pub use grid::Grid;
+pub use grid4::{Cell4, Grid4, Satellite4};
+pub use grid7::{Cell7, Grid7, Satellite7};
+pub use header::{MsmHeader, WEEK};
+pub use masks::Masks;
+pub use message::{Message, decode, encode};
+pub use msm::Msm;
+pub use seats::{Seat, Seats, all_seats};
+pub use station::{Station, StationParts};
+
+#[cfg(test)]
+mod tests;
