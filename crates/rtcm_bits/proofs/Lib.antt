@@ -1,0 +1,10 @@
+pub mod BitLemmas
+pub mod SignedLemmas
+pub mod RegisterBits
+pub mod CheckLemmas
+pub mod RegisterLemmas
+pub mod ResidueLemmas
+pub mod TableLemmas
+pub mod WindowLemmas
+pub mod DeviceLemmas
+pub mod Examples
