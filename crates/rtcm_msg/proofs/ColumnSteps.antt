@@ -8,7 +8,7 @@ use Rattle.rtcm_bits.specs.Reading.{Cursor}
 use Rattle.rtcm_msg.specs.declared.fault.MsgFault.{MsgFault}
 use Rattle.rtcm_msg.specs.Fields.{number_at, ◌>>=◌}
 use Rattle.rtcm_msg.specs.Packed.{total}
-use Rattle.rtcm_bits.proofs.SignedLemmas.{pow_mono}
+use Rattle.rtcm_msg.specs.BitLaws.{pow_mono}
 use Rattle.rtcm_msg.proofs.Binds.{bind_ok, ok_inj, number_took}
 use Rattle.rtcm_msg.specs.Columns.{column_at, columns_at, with_front, EachBelow}
 

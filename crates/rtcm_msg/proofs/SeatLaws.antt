@@ -11,7 +11,7 @@ use Rattle.std.specs.List.{flat_map, enumerate_from}
 use Rattle.rtcm_msg.specs.declared.seats.Seat.{Seat}
 use Rattle.rtcm_msg.specs.Msm.{Sets, AreSets, pairs}
 use Rattle.rtcm_bits.specs.Bits.{uint, odd}
-use Rattle.rtcm_bits.proofs.BitLemmas.{uint-first, length-uint, mod-suc}
+use Rattle.rtcm_msg.specs.BitLaws.{uint-first, length-uint, mod-suc}
 use Rattle.rtcm_msg.specs.Entries.{up_from, ids, chosen, seat, all_pairs, seats_behind, seats}
 
 -- what a loop over the bits has left

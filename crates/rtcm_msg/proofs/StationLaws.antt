@@ -2,7 +2,7 @@
 use Rattle.std.proofs.Common.{ℕ, ◌≡◌, ◌+◌, ◌==◌, ◌^◌, ◌<◌, ◌≤◌, Bool, true, false, List, [], ◌∷◌, ◌++◌, Ok, Option, Some, None, refl, sym, ap, ◌∙◌, arith, lit<, lit≤, is_some, subst, ◌⊎◌, inl, inr, append_assoc, IfSome, add-zero}
 use Rattle.rtcm_bits.specs.Bits.{bit, raw, signed, uint}
 use Rattle.rtcm_bits.specs.Reading.{Cursor}
-use Rattle.rtcm_bits.proofs.SignedLemmas.{raw_fits, raw-signed, signed-raw, signed-fits}
+use Rattle.rtcm_msg.specs.BitLaws.{raw_fits, raw-signed, signed-raw, signed-fits}
 use Rattle.rtcm_msg.specs.declared.station.StationParts.{StationParts}
 use Rattle.rtcm_msg.specs.Fields.{number_at, ◌>>=◌, spelled}
 use Rattle.rtcm_msg.specs.Packed.{total}

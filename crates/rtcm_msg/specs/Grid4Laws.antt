@@ -1,8 +1,7 @@
 -- What was packed is unpacked, and the other way round.
 use Rattle.std.proofs.Common.{ℕ, zero, suc, All, get_or, lit≤, ◌≡◌, ◌+◌, ◌/◌, ◌%◌, ◌^◌, ◌<◌, ◌≤◌, ◌==◌, Bool, true, false, refl, arith}
 use Rattle.rtcm_bits.specs.Bits.{bit, raw}
-use Rattle.rtcm_bits.proofs.SignedLemmas.{raw_fits, raw-signed, signed-raw, signed-fits}
-use Rattle.rtcm_bits.proofs.BitLemmas.{bit_odd, bit-small}
+use Rattle.rtcm_msg.specs.BitLaws.{raw_fits, raw-signed, signed-raw, signed-fits, bit_odd, bit-small}
 use Rattle.rtcm_msg.specs.declared.grid4.Satellite4.{Satellite4}
 use Rattle.rtcm_msg.specs.declared.grid4.Cell4.{Cell4}
 use Rattle.rtcm_msg.specs.Packed.{total}
