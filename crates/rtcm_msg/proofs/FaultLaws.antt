@@ -10,11 +10,11 @@ use Rattle.rtcm_msg.specs.Fields.{number_at, ◌>>=◌, first_past}
 use Rattle.rtcm_msg.specs.Packed.{total}
 use Rattle.rtcm_msg.specs.Columns.{column_at, columns_at}
 use Rattle.rtcm_msg.specs.Spelling.{repeated}
-use Rattle.rtcm_msg.specs.Msm.{header_at, sets_at, msm_at, week, MsmValue, pairs}
-use Rattle.rtcm_msg.proofs.FieldLaws.{fields_at, standing, part, numbers_at, number_there_at, ShortAt, short_at_more, short_at_behind, fields_read, past_none, past_through}
+use Rattle.rtcm_msg.specs.Msm.{time_table, header_table, mask_table, header_of, header_at, sets_at, msm_at, week, MsmValue, pairs}
+use Rattle.rtcm_msg.proofs.FieldLaws.{contents_at, fields_at, standing, part, number_there_at, ShortAt, short_at_more, short_at_behind, fields_read, past_none, past_through}
 use Rattle.rtcm_msg.proofs.Binds.{number_short}
 use Rattle.rtcm_msg.proofs.Combine.{past_here, past_next}
-use Rattle.rtcm_msg.proofs.MsmLaws.{head_widths, tail_widths, mask_widths, header_chain, header_rest_is, header_of, in_time, too_late, sets_chain, few_rest, many_rest}
+use Rattle.rtcm_msg.proofs.MsmLaws.{head_widths, tail_widths, mask_widths, header_chain, header_rest_is, in_time, too_late, sets_chain, few_rest, many_rest}
 
 -- ---- columns
 
@@ -102,15 +102,15 @@ data HeaderEnd (bits : List Bool) : Type 0 where
   good : (v : MsmHeader) → part bits 24 30 < week → 73 ≤ length bits → header_at (standing bits 12) ≡ Ok (v, standing bits 73) → HeaderEnd bits
 
 header_end : (bits : List Bool) → 12 ≤ length bits → HeaderEnd bits
-header_end bits h = elim (fields_read head_widths bits 12 h) [
+header_end bits h = elim (fields_read time_table bits 12 h) [
   | inl few ↦ no_time few.1.0 few.0 few.1.2 (header_chain (standing bits 12) ∙ rw few.1.1 refl)
   | inr there ↦ elim (cases_lt (part bits 24 30) week) [
     | inr over ↦ late there.0 over (header_chain (standing bits 12) ∙ rw (there.1, too_late (part bits 24 30) (standing bits 54) over) refl)
     | inl early ↦
-        let chain : header_at (standing bits 12) ≡ (fields_at tail_widths (standing bits 54) >>= λ m. Ok (header_of (part bits 12 12) (part bits 24 30) m.0, m.1)) = header_chain (standing bits 12) ∙ rw (there.1, in_time (part bits 24 30) (standing bits 54) early, header_rest_is (part bits 12 12) (part bits 24 30) (standing bits 54)) refl in
-        elim (fields_read tail_widths bits 54 there.0) [
+        let chain : header_at (standing bits 12) ≡ (fields_at header_table (standing bits 54) >>= λ m. Ok (header_of (part bits 12 12) (part bits 24 30) m.0, m.1)) = header_chain (standing bits 12) ∙ rw (there.1, in_time (part bits 24 30) (standing bits 54) early, header_rest_is (part bits 12 12) (part bits 24 30) (standing bits 54)) refl in
+        elim (fields_read header_table bits 54 there.0) [
           | inl few ↦ short few.1.0 early few.0 (short_at_behind head_widths tail_widths bits 12 few.1.0 there.0 few.1.2) (chain ∙ rw few.1.1 refl)
-          | inr all ↦ good (header_of (part bits 12 12) (part bits 24 30) (numbers_at tail_widths bits 54)) early all.0 (chain ∙ rw all.1 refl)
+          | inr all ↦ good (header_of (part bits 12 12) (part bits 24 30) (contents_at header_table bits 54)) early all.0 (chain ∙ rw all.1 refl)
         ]
   ]
 ]
@@ -123,7 +123,7 @@ data SetsEnd (bits : List Bool) : Type 0 where
   good : pairs_of bits ≤ 64 → 169 + pairs_of bits ≤ length bits → sets_at (standing bits 73) ≡ Ok (record { satellites = part bits 73 64; signals = part bits 137 32; cells = part bits 169 (pairs_of bits) }, standing bits (169 + pairs_of bits)) → SetsEnd bits
 
 sets_end : (bits : List Bool) → 73 ≤ length bits → SetsEnd bits
-sets_end bits h = elim (fields_read mask_widths bits 73 h) [
+sets_end bits h = elim (fields_read mask_table bits 73 h) [
   | inl few ↦ no_masks few.1.0 few.0 few.1.2 (sets_chain (standing bits 73) ∙ rw few.1.1 refl)
   | inr there ↦
       let p = pairs_of bits in

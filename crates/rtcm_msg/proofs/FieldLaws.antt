@@ -1,108 +1,168 @@
--- Fields of stated widths one after the other, as one read: what was read, what is read again, and which fault.
-use Rattle.std.proofs.Common.{ℕ, ◌≡◌, ◌+◌, ◌^◌, ◌<◌, ◌≤◌, Bool, List, [], ◌∷◌, ◌++◌, length, take, drop, Result, Ok, Err, Some, None, refl, sym, ap, subst, ◌∙◌, arith, append_assoc, ◌⊎◌, inl, inr, add_assoc, add-zero}
+-- The fields of a table, as one read: what was read, what is read again, and which fault.
+use Rattle.std.proofs.Common.{ℕ, true, false, nat_lt, lit<, ◌==◌, ◌&&◌, ◌≡◌, ◌+◌, ◌^◌, ◌<◌, ◌≤◌, Bool, List, [], ◌∷◌, ◌++◌, length, take, drop, Result, Ok, Err, Some, None, refl, sym, ap, subst, ◌∙◌, arith, append_assoc, ◌⊎◌, inl, inr, add_assoc, add-zero}
 use Rattle.std.proofs.lemmas.Bool.{cases_lt}
 use Rattle.std.proofs.lemmas.List.{length-drop, drop-drop}
-use Rattle.rtcm_bits.specs.Bits.{uint, number}
+use Rattle.rtcm_bits.specs.Bits.{bit, uint, number, FitsInt}
+use Rattle.rtcm_msg.specs.BitLaws.{raw_fits, raw-signed, signed-raw, signed-fits}
+use Rattle.rtcm_msg.specs.Layout.{Kind, Uint, Int, Flag, Reserved, Table, width, widths, Content, Contents, number_of, content, fields_of}
 use Rattle.rtcm_bits.specs.Reading.{Cursor, after, unsigned_at}
 use Rattle.rtcm_msg.specs.declared.fault.MsgFault.{MsgFault}
 use Rattle.rtcm_msg.specs.declared.fault.MsgFault.TheVariants.{Short}
-use Rattle.rtcm_msg.specs.Fields.{number_at, ◌>>=◌, spelled, first_past}
+use Rattle.rtcm_msg.specs.Fields.{number_at, ◌>>=◌, spelled, first_past, reading}
 use Rattle.rtcm_msg.specs.Packed.{total}
 use Rattle.rtcm_msg.proofs.Binds.{ok_inj, number_there, number_short, took_at}
 use Rattle.rtcm_msg.proofs.Combine.{past_here, past_next, cursor, number_again, ok_err, bind_bind}
 
--- a number for each field
-abbrev pub Numbers : List ℕ → Type 0
-Numbers [] = Unit {0}
-Numbers (w ∷ ws) = ℕ × Numbers ws
+-- ---- one field's content
 
--- each below its width
-abbrev pub Fit : (ws : List ℕ) → Numbers ws → Type 0
-Fit [] ns = Unit {0}
-Fit (w ∷ ws) ns = (ns.0 < 2 ^ w) × Fit ws ns.1
+-- a two's complement has a sign
+abbrev pub has_sign : Kind → Bool
+has_sign (Uint w) = true
+has_sign (Int w) = nat_lt 0 w
+has_sign Flag = true
+has_sign (Reserved w) = true
 
--- the fields
-abbrev pub fields : (ws : List ℕ) → Numbers ws → List (ℕ × ℕ)
-fields [] ns = []
-fields (w ∷ ws) ns = (w, ns.0) ∷ fields ws ns.1
+abbrev pub have_signs : Table → Bool
+have_signs [] = true
+have_signs (f ∷ fs) = has_sign f.1 && have_signs fs
 
-abbrev pub fields_at : (ws : List ℕ) → Cursor → Result (Numbers ws × Cursor) MsgFault
-fields_at [] c = Ok (tt, c)
-fields_at (w ∷ ws) c = number_at w c >>= λ here. fields_at ws here.1 >>= λ others. Ok ((here.0, others.0), others.1)
+-- the content fits the field
+abbrev pub Fits : (k : Kind) → Content k → Type 0
+Fits (Uint w) n = n < 2 ^ w
+Fits (Int w) z = FitsInt w z
+Fits Flag b = Unit {0}
+Fits (Reserved w) n = n < 2 ^ w
 
--- read one by one, in a chain of binds: at closed widths this computes to the chain
-abbrev pub reading : {B : Type 0} (ws : List ℕ) → Cursor → (Numbers ws × Cursor → Result B MsgFault) → Result B MsgFault
-reading [] c f = f (tt, c)
-reading (w ∷ ws) c f = number_at w c >>= λ h. reading ws h.1 (λ o. f ((h.0, o.0), o.1))
+sign_there : (w : ℕ) → nat_lt 0 w ≡ true → 0 < w
+sign_there w h = grind arith
 
-pub reading_is : {B : Type 0} (ws : List ℕ) (c : Cursor) (f : Numbers ws × Cursor → Result B MsgFault) → reading ws c f ≡ (fields_at ws c >>= f)
-reading_is [] c f = refl
-reading_is (w ∷ ws) c f = go (λ h. reading_is ws h.1 (λ o. f ((h.0, o.0), o.1))) (number_at w c)
+flag_back : (n : ℕ) → n < 2 → bit (n == 1) ≡ n
+flag_back n h = elim (two n h) [ inl z ↦ rw z refl | inr o ↦ rw o refl ]
   where
-    go : ((h : ℕ × Cursor) → reading ws h.1 (λ o. f ((h.0, o.0), o.1)) ≡ (fields_at ws h.1 >>= λ o. f ((h.0, o.0), o.1)))
-        → (r : Result (ℕ × Cursor) MsgFault) → (r >>= λ h. reading ws h.1 (λ o. f ((h.0, o.0), o.1))) ≡ ((r >>= λ here. fields_at ws here.1 >>= λ others. Ok ((here.0, others.0), others.1)) >>= f)
-    go each (Ok h) = each h ∙ sym (bind_bind (fields_at ws h.1) (λ o. Ok ((h.0, o.0), o.1)) f)
+    two : (n : ℕ) → n < 2 → (n ≡ 0) ⊎ (n ≡ 1)
+    two n h = grind arith
+
+number-content : (k : Kind) (n : ℕ) → has_sign k ≡ true → n < 2 ^ width k → number_of k (content k n) ≡ n
+number-content (Uint w) n sign fits = refl
+number-content (Int w) n sign fits = raw-signed w n (sign_there w sign) fits
+number-content Flag n sign fits = flag_back n fits
+number-content (Reserved w) n sign fits = refl
+
+content_fits : (k : Kind) (n : ℕ) → has_sign k ≡ true → n < 2 ^ width k → Fits k (content k n)
+content_fits (Uint w) n sign fits = fits
+content_fits (Int w) n sign fits = signed-fits w n (sign_there w sign) fits
+content_fits Flag n sign fits = tt
+content_fits (Reserved w) n sign fits = fits
+
+content-number : (k : Kind) (c : Content k) → has_sign k ≡ true → Fits k c → content k (number_of k c) ≡ c
+content-number (Uint w) n sign fits = refl
+content-number (Int w) z sign fits = signed-raw w z (sign_there w sign) fits
+content-number Flag true sign fits = refl
+content-number Flag false sign fits = refl
+content-number (Reserved w) n sign fits = refl
+
+number_fits : (k : Kind) (c : Content k) → has_sign k ≡ true → Fits k c → number_of k c < 2 ^ width k
+number_fits (Uint w) n sign fits = fits
+number_fits (Int w) z sign fits = raw_fits z w (sign_there w sign) fits
+number_fits Flag true sign fits = lit< tt
+number_fits Flag false sign fits = lit< tt
+number_fits (Reserved w) n sign fits = fits
+
+sign_first : (a b : Bool) → (a && b) ≡ true → a ≡ true
+sign_first true b h = refl
+sign_first false b h = cc
+
+sign_others : (a b : Bool) → (a && b) ≡ true → b ≡ true
+sign_others true b h = h
+sign_others false b h = cc
+
+-- ---- the fields of a table
+
+abbrev pub FitAll : (t : Table) → Contents t → Type 0
+FitAll [] cs = Unit {0}
+FitAll (f ∷ fs) cs = Fits f.1 cs.0 × FitAll fs cs.1
+
+-- the fields as one read
+abbrev pub fields_at : (t : Table) → Cursor → Result (Contents t × Cursor) MsgFault
+fields_at [] c = Ok (tt, c)
+fields_at (f ∷ fs) c = number_at (width f.1) c >>= λ here. fields_at fs here.1 >>= λ others. Ok ((content f.1 here.0, others.0), others.1)
+
+pub reading_is : {B : Type 0} (t : Table) (c : Cursor) (next : Contents t × Cursor → Result B MsgFault) → reading t c next ≡ (fields_at t c >>= next)
+reading_is [] c next = refl
+reading_is (f ∷ fs) c next = go (λ h. reading_is fs h.1 (λ o. next ((content f.1 h.0, o.0), o.1))) (number_at (width f.1) c)
+  where
+    go : ((h : ℕ × Cursor) → reading fs h.1 (λ o. next ((content f.1 h.0, o.0), o.1)) ≡ (fields_at fs h.1 >>= λ o. next ((content f.1 h.0, o.0), o.1)))
+        → (r : Result (ℕ × Cursor) MsgFault) → (r >>= λ h. reading fs h.1 (λ o. next ((content f.1 h.0, o.0), o.1))) ≡ ((r >>= λ here. fields_at fs here.1 >>= λ others. Ok ((content f.1 here.0, others.0), others.1)) >>= next)
+    go each (Ok h) = each h ∙ sym (bind_bind (fields_at fs h.1) (λ o. Ok ((content f.1 h.0, o.0), o.1)) next)
     go each (Err e) = refl
 
 -- ---- what was read
 
--- the numbers that stand there
-abbrev pub values : (ws : List ℕ) → Cursor → Numbers ws
+-- the contents that stand there
+abbrev pub values : (t : Table) → Cursor → Contents t
 values [] c = tt
-values (w ∷ ws) c = (unsigned_at w c, values ws (after c w))
+values (f ∷ fs) c = (content f.1 (unsigned_at (width f.1) c), values fs (after c (width f.1)))
 
-abbrev pub behind : List ℕ → Cursor → Cursor
+abbrev pub behind : Table → Cursor → Cursor
 behind [] c = c
-behind (w ∷ ws) c = behind ws (after c w)
+behind (f ∷ fs) c = behind fs (after c (width f.1))
 
-pub record FieldsTook (ws : List ℕ) (c : Cursor) (x : Numbers ws × Cursor) : Type 0 where
-  pub room : total ws ≤ length c.rest
-  pub is : x ≡ (values ws c, behind ws c)
-  pub fit : Fit ws x.0
-  pub bits : c.rest ≡ spelled (fields ws x.0) ++ x.1.rest
+pub record FieldsTook (t : Table) (c : Cursor) (x : Contents t × Cursor) : Type 0 where
+  pub room : total (widths t) ≤ length c.rest
+  pub fit : FitAll t x.0
+  pub bits : c.rest ≡ spelled (fields_of t x.0) ++ x.1.rest
 
-fields_there : (ws : List ℕ) (c : Cursor) → total ws ≤ length c.rest → fields_at ws c ≡ Ok (values ws c, behind ws c)
+fields_there : (t : Table) (c : Cursor) → total (widths t) ≤ length c.rest → fields_at t c ≡ Ok (values t c, behind t c)
 fields_there [] c room = refl
-fields_there (w ∷ ws) c room =
-    let here = number_there w c (omega arith) in
-    let others = fields_there ws (after c w) (omega (arith, length-drop w c.rest)) in
+fields_there (f ∷ fs) c room =
+    let here = number_there (width f.1) c (omega arith) in
+    let others = fields_there fs (after c (width f.1)) (omega (arith, length-drop (width f.1) c.rest)) in
     rw (here, others) refl
 
-values_took : (ws : List ℕ) (c : Cursor) → total ws ≤ length c.rest → FieldsTook ws c (values ws c, behind ws c)
+values_took : (t : Table) (c : Cursor) → have_signs t ≡ true → total (widths t) ≤ length c.rest → FieldsTook t c (values t c, behind t c)
 unfolding spelled
-values_took [] c room = record { room = room; is = refl; fit = tt; bits = refl }
-values_took (w ∷ ws) c room =
+values_took [] c signs room = record { room = room; fit = tt; bits = refl }
+values_took (f ∷ fs) c signs room =
+    let w = width f.1 in
+    let sign = sign_first (has_sign f.1) (have_signs fs) signs in
     let took = took_at w c (omega arith) in
-    let rest = values_took ws (after c w) (omega (arith, length-drop w c.rest)) in
-    record { room = room; is = refl; fit = (took.fits, rest.fit); bits = took.bits ∙ (ap (λ t. uint w (unsigned_at w c) ++ t) rest.bits ∙ sym (append_assoc (uint w (unsigned_at w c)) (spelled (fields ws (values ws (after c w)))) (behind ws (after c w)).rest)) }
+    let rest = values_took fs (after c w) (sign_others (has_sign f.1) (have_signs fs) signs) (omega (arith, length-drop w c.rest)) in
+    let n = unsigned_at w c in
+    let tail = spelled (fields_of fs (values fs (after c w))) in
+    record {
+      room = room;
+      fit = (content_fits f.1 n sign took.fits, rest.fit);
+      bits = took.bits ∙ (ap (λ t. uint w n ++ t) rest.bits ∙ (sym (append_assoc (uint w n) tail (behind fs (after c w)).rest) ∙ ap (λ (k : ℕ). (uint w k ++ tail) ++ (behind fs (after c w)).rest) (sym (number-content f.1 n sign took.fits)))) }
 
-pub fields_short : (ws : List ℕ) (c : Cursor) → length c.rest < total ws → (k : ℕ) × (fields_at ws c ≡ Err (Short k)) × (first_past (c.place + length c.rest) c.place ws ≡ Some k)
+pub fields_short : (t : Table) (c : Cursor) → length c.rest < total (widths t) → (k : ℕ) × (fields_at t c ≡ Err (Short k)) × (first_past (c.place + length c.rest) c.place (widths t) ≡ Some k)
 fields_short [] c h = absurd (omega arith)
-fields_short (w ∷ ws) c h = elim (cases_lt (length c.rest) w) [
-  | inl short ↦ (c.place, rw (number_short w c short) refl, past_here w ws (c.place + length c.rest) c.place (omega arith))
+fields_short (f ∷ fs) c h = elim (cases_lt (length c.rest) (width f.1)) [
+  | inl short ↦ (c.place, rw (number_short (width f.1) c short) refl, past_here (width f.1) (widths fs) (c.place + length c.rest) c.place (omega arith))
   | inr there ↦
-      let rest = fields_short ws (after c w) (omega (arith, length-drop w c.rest)) in
+      let w = width f.1 in
+      let rest = fields_short fs (after c w) (omega (arith, length-drop w c.rest)) in
       let same : c.place + w + length (drop w c.rest) ≡ c.place + length c.rest = omega (arith, length-drop w c.rest) in
-      (rest.0, rw (number_there w c there, rest.1) refl, past_next w ws (c.place + length c.rest) c.place (omega arith) ∙ (rw same at rest.2))
+      (rest.0, rw (number_there w c there, rest.1) refl, past_next w (widths fs) (c.place + length c.rest) c.place (omega arith) ∙ (rw same at rest.2))
 ]
 
-pub fields_ok : (ws : List ℕ) (c : Cursor) (x : Numbers ws × Cursor) → fields_at ws c ≡ Ok x → FieldsTook ws c x
-fields_ok ws c x e = elim (cases_lt (length c.rest) (total ws)) [
-  | inl short ↦ let s = fields_short ws c short in absurd (ok_err x (Short s.0) (fields_at ws c) e s.1)
-  | inr there ↦ subst (FieldsTook ws c) (ok_inj (values ws c, behind ws c) x (fields_at ws c) (fields_there ws c there) e) (values_took ws c there)
+pub fields_ok : (t : Table) (c : Cursor) (x : Contents t × Cursor) → have_signs t ≡ true → fields_at t c ≡ Ok x → FieldsTook t c x
+fields_ok t c x signs e = elim (cases_lt (length c.rest) (total (widths t))) [
+  | inl short ↦ let s = fields_short t c short in absurd (ok_err x (Short s.0) (fields_at t c) e s.1)
+  | inr there ↦ subst (FieldsTook t c) (ok_inj (values t c, behind t c) x (fields_at t c) (fields_there t c there) e) (values_took t c signs there)
 ]
-
--- ---- which fault
 
 -- ---- what is read again
 
-pub fields_again : (ws : List ℕ) (ns : Numbers ws) (place : ℕ) (rest : List Bool) → Fit ws ns → fields_at ws (cursor place (spelled (fields ws ns) ++ rest)) ≡ Ok (ns, cursor (place + total ws) rest)
+pub fields_again : (t : Table) (cs : Contents t) (place : ℕ) (rest : List Bool) → have_signs t ≡ true → FitAll t cs → fields_at t (cursor place (spelled (fields_of t cs) ++ rest)) ≡ Ok (cs, cursor (place + total (widths t)) rest)
 unfolding spelled
-fields_again [] ns place rest fit = rw (add-zero place) refl
-fields_again (w ∷ ws) ns place rest fit =
-    let here = number_again w ns.0 place (spelled (fields ws ns.1) ++ rest) fit.0 in
-    let others = fields_again ws ns.1 (place + w) rest fit.1 in
-    rw (append_assoc (uint w ns.0) (spelled (fields ws ns.1)) rest, here, others, add_assoc place w (total ws)) refl
+fields_again [] cs place rest signs fit = rw (add-zero place) refl
+fields_again (f ∷ fs) cs place rest signs fit =
+    let w = width f.1 in
+    let n = number_of f.1 cs.0 in
+    let sign = sign_first (has_sign f.1) (have_signs fs) signs in
+    let here = number_again w n place (spelled (fields_of fs cs.1) ++ rest) (number_fits f.1 cs.0 sign fit.0) in
+    let others = fields_again fs cs.1 (place + w) rest (sign_others (has_sign f.1) (have_signs fs) signs) fit.1 in
+    rw (append_assoc (uint w n) (spelled (fields_of fs cs.1)) rest, here, others, content-number f.1 cs.0 sign fit.0, add_assoc place w (total (widths fs))) refl
 
 -- ---- where fields end
 
@@ -132,9 +192,9 @@ standing bits place = record { place = place; rest = drop place bits }
 abbrev pub part : List Bool → ℕ → ℕ → ℕ
 part bits place w = number (take w (drop place bits))
 
-abbrev pub numbers_at : (ws : List ℕ) → List Bool → ℕ → Numbers ws
-numbers_at [] bits place = tt
-numbers_at (w ∷ ws) bits place = (part bits place w, numbers_at ws bits (place + w))
+abbrev pub contents_at : (t : Table) → List Bool → ℕ → Contents t
+contents_at [] bits place = tt
+contents_at (f ∷ fs) bits place = (content f.1 (part bits place (width f.1)), contents_at fs bits (place + width f.1))
 
 pub step_on : (w : ℕ) (bits : List Bool) (place : ℕ) → after (standing bits place) w ≡ standing bits (place + w)
 step_on w bits place = ap (cursor (place + w)) (drop-drop w place bits)
@@ -155,23 +215,24 @@ pub short_at_behind : (ws vs : List ℕ) (bits : List Bool) (place : ℕ) (e : M
 short_at_behind ws vs bits place e room s = record { first = s.first; is = s.is; past = past_through ws vs (length bits) place room ∙ s.past }
 
 -- either they are there, or one of them is the first that is not
-abbrev pub FieldsRead : List ℕ → List Bool → ℕ → Type 0
-FieldsRead ws bits place =
-    ((length bits < place + total ws) × ((e : MsgFault) × (fields_at ws (standing bits place) ≡ Err e) × ShortAt bits place ws e))
-    ⊎ ((place + total ws ≤ length bits) × (fields_at ws (standing bits place) ≡ Ok (numbers_at ws bits place, standing bits (place + total ws))))
+abbrev pub FieldsRead : Table → List Bool → ℕ → Type 0
+FieldsRead t bits place =
+    ((length bits < place + total (widths t)) × ((e : MsgFault) × (fields_at t (standing bits place) ≡ Err e) × ShortAt bits place (widths t) e))
+    ⊎ ((place + total (widths t) ≤ length bits) × (fields_at t (standing bits place) ≡ Ok (contents_at t bits place, standing bits (place + total (widths t)))))
 
-pub fields_read : (ws : List ℕ) (bits : List Bool) (place : ℕ) → place ≤ length bits → FieldsRead ws bits place
-fields_read ws bits place h = elim (cases_lt (length bits) (place + total ws)) [
+pub fields_read : (t : Table) (bits : List Bool) (place : ℕ) → place ≤ length bits → FieldsRead t bits place
+fields_read t bits place h = elim (cases_lt (length bits) (place + total (widths t))) [
   | inl few ↦
-      let s = fields_short ws (standing bits place) (omega (arith, length-drop place bits)) in
+      let s = fields_short t (standing bits place) (omega (arith, length-drop place bits)) in
       let whole : place + length (drop place bits) ≡ length bits = omega (arith, length-drop place bits) in
       inl (few, (Short s.0, s.1, record { first = s.0; is = refl; past = rw whole at s.2 }))
-  | inr there ↦ inr (there, all_there ws bits place there)
+  | inr there ↦ inr (there, all_there t bits place there)
 ]
   where
-    all_there : (ws : List ℕ) (bits : List Bool) (place : ℕ) → place + total ws ≤ length bits → fields_at ws (standing bits place) ≡ Ok (numbers_at ws bits place, standing bits (place + total ws))
+    all_there : (t : Table) (bits : List Bool) (place : ℕ) → place + total (widths t) ≤ length bits → fields_at t (standing bits place) ≡ Ok (contents_at t bits place, standing bits (place + total (widths t)))
     all_there [] bits place h = rw (add-zero place) refl
-    all_there (w ∷ ws) bits place h =
+    all_there (f ∷ fs) bits place h =
+        let w = width f.1 in
         let here = number_there_at w bits place (omega arith) in
-        let others = all_there ws bits (place + w) (omega arith) in
-        rw (here, others, add_assoc place w (total ws)) refl
+        let others = all_there fs bits (place + w) (omega arith) in
+        rw (here, others, add_assoc place w (total (widths fs))) refl

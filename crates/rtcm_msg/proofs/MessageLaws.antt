@@ -11,15 +11,15 @@ use Rattle.rtcm_msg.specs.declared.station.StationParts.{StationParts}
 use Rattle.rtcm_msg.specs.declared.message.Message.{Message}
 use Rattle.rtcm_msg.specs.Fields.{◌>>=◌, spelled, first_past}
 use Rattle.rtcm_msg.specs.Packed.{total, columns}
-use Rattle.rtcm_msg.specs.Station.{station_at}
+use Rattle.rtcm_msg.specs.Station.{station_at, station_table, station_parts}
 use Rattle.rtcm_msg.specs.Msm.{msm_at, MsmValue, week, set_fields}
 use Rattle.rtcm_msg.specs.Reading.{message_of, body_at, start, other_at, set_at}
 use Rattle.rtcm_msg.specs.Spelling.{Reads, IsMessage, IsFault, message_bits, reserved_width, is_other, is_read, is_msm, number_of, set_of, layout, layout_of, has_bad_time, has_too_many, field_at}
 use Rattle.rtcm_msg.proofs.Binds.{bind_ok, ok_inj, number_took, number_short}
 use Rattle.rtcm_msg.proofs.Combine.{cursor, number_again, ok_err, past_here, past_next}
-use Rattle.rtcm_msg.proofs.StationLaws.{station_again, station_took, station_tail, station_widths, height_widths, station_chain, station_of, IsRead}
+use Rattle.rtcm_msg.proofs.StationLaws.{station_again, station_took, station_tail, station_widths, height_widths, station_chain, IsRead}
 use Rattle.rtcm_msg.proofs.MsmLaws.{msm_took, msm_again, msm_tail, header_tail, IsMsmRead}
-use Rattle.rtcm_msg.proofs.FieldLaws.{fields_at, standing, part, ShortAt, fields_read, numbers_at, number_there_at, short_at_more, short_at_behind, past_none}
+use Rattle.rtcm_msg.proofs.FieldLaws.{contents_at, fields_at, standing, part, ShortAt, fields_read, number_there_at, short_at_more, short_at_behind, past_none}
 use Rattle.rtcm_msg.proofs.FaultLaws.{MsmEnd, no_time, late, no_masks, many, short, good, msm_end, msm_widths, pairs_of}
 use Rattle.rtcm_msg.specs.declared.message.Message.TheVariants as messages
 use Rattle.rtcm_msg.specs.Grid4 as grid4
@@ -286,17 +286,17 @@ past_all bits ws h is none = ap (first_past (length bits) 0) is ∙ (past_next 1
 
 station_end : (bits : List Bool) (has : Bool) → 12 ≤ length bits
     → ((e : MsgFault) × (station_at has (standing bits 12) ≡ Err e) × ShortAt bits 12 (station_widths ++ height_widths has) e) ⊎ ((v : StationParts × Cursor) × (station_at has (standing bits 12) ≡ Ok v) × (first_past (length bits) 12 (station_widths ++ height_widths has) ≡ None))
-station_end bits has h = elim (fields_read station_widths bits 12 h) [
+station_end bits has h = elim (fields_read station_table bits 12 h) [
   | inl few ↦ inl (few.1.0, station_chain has (standing bits 12) ∙ rw few.1.1 refl, short_at_more station_widths (height_widths has) bits 12 few.1.0 few.1.2)
   | inr there ↦ by_height has there.0 there.1
 ]
   where
-    by_height : (has : Bool) → 12 + total station_widths ≤ length bits → fields_at station_widths (standing bits 12) ≡ Ok (numbers_at station_widths bits 12, standing bits (12 + total station_widths))
+    by_height : (has : Bool) → 12 + total station_widths ≤ length bits → fields_at station_table (standing bits 12) ≡ Ok (contents_at station_table bits 12, standing bits (12 + total station_widths))
         → ((e : MsgFault) × (station_at has (standing bits 12) ≡ Err e) × ShortAt bits 12 (station_widths ++ height_widths has) e) ⊎ ((v : StationParts × Cursor) × (station_at has (standing bits 12) ≡ Ok v) × (first_past (length bits) 12 (station_widths ++ height_widths has) ≡ None))
-    by_height false room read = inr ((station_of (numbers_at station_widths bits 12) None, standing bits 152), station_chain false (standing bits 12) ∙ rw read refl, past_none (station_widths ++ []) (length bits) 12 room)
+    by_height false room read = inr ((station_parts (contents_at station_table bits 12) None, standing bits 152), station_chain false (standing bits 12) ∙ rw read refl, past_none (station_widths ++ []) (length bits) 12 room)
     by_height true room read = elim (cases_lt (length bits) 168) [
       | inl few ↦ inl (Short 152, station_chain true (standing bits 12) ∙ rw (read, number_short 16 (standing bits 152) (omega (arith, length-drop 152 bits))) refl, short_at_behind station_widths (16 ∷ []) bits 12 (Short 152) room (record { first = 152; is = refl; past = past_here 16 [] (length bits) 152 few }))
-      | inr all ↦ inr ((station_of (numbers_at station_widths bits 12) (Some (part bits 152 16)), standing bits 168), station_chain true (standing bits 12) ∙ rw (read, number_there_at 16 bits 152 all) refl, past_none (station_widths ++ (16 ∷ [])) (length bits) 12 all)
+      | inr all ↦ inr ((station_parts (contents_at station_table bits 12) (Some (part bits 152 16)), standing bits 168), station_chain true (standing bits 12) ∙ rw (read, number_there_at 16 bits 152 all) refl, past_none (station_widths ++ (16 ∷ [])) (length bits) 12 all)
     ]
 
 pub layout_station : (has : Bool) (bits : List Bool) → layout_of (station_number has) bits ≡ 12 ∷ (station_widths ++ height_widths has)

@@ -1,21 +1,21 @@
 -- What is read as a multiple signal message, what is read again, and which fault stands.
-use Rattle.std.proofs.Common.{ℕ, ◌≡◌, ◌+◌, ◌*◌, ◌==◌, ◌^◌, ◌<◌, ◌≤◌, Bool, List, [], ◌∷◌, ◌++◌, length, Result, Ok, Err, refl, sym, ap, subst, ◌∙◌, arith, inl, inr, append_assoc, replicate, count_ones, nat_lt, if◌then◌else◌, ◌/◌}
+use Rattle.std.proofs.Common.{ℕ, ◌≡◌, ◌+◌, ◌*◌, ◌^◌, ◌<◌, ◌≤◌, Bool, List, [], ◌∷◌, ◌++◌, length, Result, Ok, Err, refl, sym, ap, subst, ◌∙◌, arith, inl, inr, append_assoc, replicate, count_ones, nat_lt, if◌then◌else◌, ◌/◌}
 use Rattle.std.proofs.lemmas.Bool.{cases_lt}
 use Rattle.std.proofs.lemmas.List.{length-map, length-replicate}
-use Rattle.rtcm_bits.specs.Bits.{bit, uint}
+use Rattle.rtcm_bits.specs.Bits.{uint}
 use Rattle.rtcm_bits.specs.Reading.{Cursor}
 use Rattle.rtcm_msg.specs.declared.fault.MsgFault.{MsgFault}
 use Rattle.rtcm_msg.specs.declared.fault.MsgFault.TheVariants.{BadTime, TooManyCells}
 use Rattle.rtcm_msg.specs.declared.header.MsmHeader.{MsmHeader}
-use Rattle.rtcm_msg.specs.Fields.{number_at, ◌>>=◌, spelled}
+use Rattle.rtcm_msg.specs.Fields.{number_at, reading, ◌>>=◌, spelled}
 use Rattle.rtcm_msg.specs.Packed.{total, columns}
 use Rattle.rtcm_msg.specs.Columns.{columns_at, EachBelow}
-use Rattle.rtcm_msg.specs.Msm.{header_at, sets_at, msm_at, timely, week, IsHeader, AreSets, IsValue, Sets, MsmValue, pairs, set_fields}
+use Rattle.rtcm_msg.specs.Msm.{header_at, sets_at, msm_at, timely, week, IsHeader, AreSets, IsValue, Sets, MsmValue, pairs, set_fields, time_table, header_table, mask_table, time_contents, header_contents, header_of}
 use Rattle.rtcm_msg.proofs.Binds.{ok_inj, bind_ok, number_took}
 use Rattle.rtcm_msg.proofs.Combine.{ok_err, cursor, number_again}
 use Rattle.rtcm_msg.proofs.WritingSteps.{spelled-append}
-use Rattle.rtcm_msg.proofs.StationLaws.{flag_back, flag_again, bit_fits}
-use Rattle.rtcm_msg.proofs.FieldLaws.{Numbers, Fit, fields, fields_at, reading, reading_is, fields_ok, fields_again, FieldsTook}
+use Rattle.rtcm_msg.proofs.FieldLaws.{fields_at, reading_is, fields_ok, fields_again, FieldsTook}
+use Rattle.rtcm_msg.specs.Layout.{widths, Contents, fields_of}
 use Rattle.rtcm_msg.proofs.ColumnSteps.{columns_fit}
 use Rattle.rtcm_msg.proofs.ColumnLaws.{ColumnsTook, columns_took, columns_again, highs_zero}
 
@@ -23,37 +23,27 @@ use Rattle.rtcm_msg.proofs.ColumnLaws.{ColumnsTook, columns_took, columns_again,
 
 -- the fields behind the message number, up to the time, and those behind the time
 abbrev pub head_widths : List ℕ
-head_widths = 12 ∷ 30 ∷ []
+head_widths = widths time_table
 
 abbrev pub tail_widths : List ℕ
-tail_widths = 1 ∷ 3 ∷ 7 ∷ 2 ∷ 2 ∷ 1 ∷ 3 ∷ []
+tail_widths = widths header_table
 
 abbrev pub mask_widths : List ℕ
-mask_widths = 64 ∷ 32 ∷ []
-
-abbrev pub header_of : ℕ → ℕ → Numbers tail_widths → MsmHeader
-header_of station time (more, (iods, (reserved, (steering, (clock, (smoothing, (interval, end))))))) =
-    record { station = station; time = time; more = more == 1; iods = iods; steering = steering; clock = clock; smoothing = smoothing == 1; interval = interval }
-
-abbrev pub heads_of : MsmHeader → Numbers head_widths
-heads_of h = (h.station, (h.time, tt))
-
-abbrev pub tails_of : MsmHeader → ℕ → Numbers tail_widths
-tails_of h reserved = (bit h.more, (h.iods, (reserved, (h.steering, (h.clock, (bit h.smoothing, (h.interval, tt)))))))
+mask_widths = widths mask_table
 
 -- the fields of a header behind the message number
 abbrev pub header_tail : MsmHeader → ℕ → List (ℕ × ℕ)
-header_tail h reserved = fields head_widths (heads_of h) ++ fields tail_widths (tails_of h reserved)
+header_tail h reserved = fields_of time_table (time_contents h) ++ fields_of header_table (header_contents h reserved)
 
 abbrev pub header_rest : ℕ → ℕ → Cursor → Result (MsmHeader × Cursor) MsgFault
-header_rest station time c = reading tail_widths c (λ m. Ok (header_of station time m.0, m.1))
+header_rest station time c = reading header_table c (λ m. Ok (header_of station time m.0, m.1))
 
-pub header_rest_is : (station time : ℕ) (c : Cursor) → header_rest station time c ≡ (fields_at tail_widths c >>= λ m. Ok (header_of station time m.0, m.1))
-header_rest_is station time c = reading_is tail_widths c (λ m. Ok (header_of station time m.0, m.1))
+pub header_rest_is : (station time : ℕ) (c : Cursor) → header_rest station time c ≡ (fields_at header_table c >>= λ m. Ok (header_of station time m.0, m.1))
+header_rest_is station time c = reading_is header_table c (λ m. Ok (header_of station time m.0, m.1))
 
-pub header_chain : (c : Cursor) → header_at c ≡ (fields_at head_widths c >>= λ n. timely n.0.1.0 n.1 >>= λ t. header_rest n.0.0 t.0 t.1)
+pub header_chain : (c : Cursor) → header_at c ≡ (fields_at time_table c >>= λ n. timely n.0.1.0 n.1 >>= λ t. header_rest n.0.0 t.0 t.1)
 unfolding header_at
-header_chain c = reading_is head_widths c (λ n. timely n.0.1.0 n.1 >>= λ t. header_rest n.0.0 t.0 t.1)
+header_chain c = reading_is time_table c (λ n. timely n.0.1.0 n.1 >>= λ t. header_rest n.0.0 t.0 t.1)
 
 -- two runs of fields, one behind the other
 pub both : (fs gs : List (ℕ × ℕ)) (a b d : List Bool) → a ≡ spelled fs ++ b → b ≡ spelled gs ++ d → a ≡ spelled (fs ++ gs) ++ d
@@ -75,37 +65,34 @@ pub record IsHeaderRead (v : MsmHeader) (c d : Cursor) : Type 0 where
   pub is_header : IsHeader v
   pub bits : c.rest ≡ spelled (header_tail v reserved) ++ d.rest
 
-header_done : (c : Cursor) (n : Numbers head_widths × Cursor) (m : Numbers tail_widths × Cursor) → FieldsTook head_widths c n → n.0.1.0 < week → FieldsTook tail_widths n.1 m → IsHeaderRead (header_of n.0.0 n.0.1.0 m.0) c m.1
+header_done : (c : Cursor) (n : Contents time_table × Cursor) (m : Contents header_table × Cursor) → FieldsTook time_table c n → n.0.1.0 < week → FieldsTook header_table n.1 m → IsHeaderRead (header_of n.0.0 n.0.1.0 m.0) c m.1
 header_done c n m a early b = record {
   reserved = m.0.1.1.0;
   small = b.fit.1.1.0;
   is_header = record { station = a.fit.0; time = early; iods = b.fit.1.0; steering = b.fit.1.1.1.0; clock = b.fit.1.1.1.1.0; interval = b.fit.1.1.1.1.1.1.0 };
-  bits = both (fields head_widths n.0) (fields tail_widths m.0) _ _ _ a.bits b.bits ∙ ap (λ (k : Numbers tail_widths). spelled (fields head_widths n.0 ++ fields tail_widths k) ++ m.1.rest) (sym (tails_back n.0.0 n.0.1.0 m.0 b.fit));
+  bits = both (fields_of time_table n.0) (fields_of header_table m.0) _ _ _ a.bits b.bits;
 }
-  where
-    tails_back : (station time : ℕ) (m : Numbers tail_widths) → Fit tail_widths m → tails_of (header_of station time m) m.1.1.0 ≡ m
-    tails_back station time m f = rw (flag_back _ f.0, flag_back _ f.1.1.1.1.1.0) refl
 
 pub header_took : (c : Cursor) (v : MsmHeader × Cursor) → header_at c ≡ Ok v → IsHeaderRead v.0 c v.1
 header_took c v e =
-    let head = bind_ok (fields_at head_widths c) _ v (sym (header_chain c) ∙ e) in
-    let took = fields_ok head_widths c head.0 head.1 in
+    let head = bind_ok (fields_at time_table c) _ v (sym (header_chain c) ∙ e) in
+    let took = fields_ok time_table c head.0 refl head.1 in
     elim (cases_lt head.0.0.1.0 week) [
       | inl early ↦
-          let tail = bind_ok (fields_at tail_widths head.0.1) _ v (sym (header_rest_is head.0.0.0 head.0.0.1.0 head.0.1) ∙ (rw (in_time head.0.0.1.0 head.0.1 early) at head.2)) in
-          subst (λ (w : MsmHeader × Cursor). IsHeaderRead w.0 c w.1) (ok_inj _ v _ refl tail.2) (header_done c head.0 tail.0 took early (fields_ok tail_widths head.0.1 tail.0 tail.1))
+          let tail = bind_ok (fields_at header_table head.0.1) _ v (sym (header_rest_is head.0.0.0 head.0.0.1.0 head.0.1) ∙ (rw (in_time head.0.0.1.0 head.0.1 early) at head.2)) in
+          subst (λ (w : MsmHeader × Cursor). IsHeaderRead w.0 c w.1) (ok_inj _ v _ refl tail.2) (header_done c head.0 tail.0 took early (fields_ok header_table head.0.1 tail.0 refl tail.1))
       | inr late ↦ absurd (ok_err v BadTime _ head.2 (rw (too_late head.0.0.1.0 head.0.1 late) refl))
     ]
 
 pub header_again : (v : MsmHeader) (reserved place : ℕ) (rest : List Bool) → IsHeader v → reserved < 128 → header_at (cursor place (spelled (header_tail v reserved) ++ rest)) ≡ Ok (v, cursor (place + 42 + 19) rest)
 header_again v reserved place rest h small =
-    let n = heads_of v in
-    let m = tails_of v reserved in
+    let n = time_contents v in
+    let m = header_contents v reserved in
     let c = cursor place (spelled (header_tail v reserved) ++ rest) in
-    let split : c ≡ cursor place (spelled (fields head_widths n) ++ (spelled (fields tail_widths m) ++ rest)) = ap (cursor place) (ap (λ t. t ++ rest) (spelled-append (fields head_widths n) (fields tail_widths m)) ∙ append_assoc (spelled (fields head_widths n)) (spelled (fields tail_widths m)) rest) in
-    let first = fields_again head_widths n place (spelled (fields tail_widths m) ++ rest) (h.station, (early v.time h.time, tt)) in
-    let second = fields_again tail_widths m (place + 42) rest (bit_fits v.more, (h.iods, (small, (h.steering, (h.clock, (bit_fits v.smoothing, (h.interval, tt))))))) in
-    header_chain c ∙ rw (split, first, in_time v.time (cursor (place + 42) (spelled (fields tail_widths m) ++ rest)) h.time, header_rest_is v.station v.time (cursor (place + 42) (spelled (fields tail_widths m) ++ rest)), second, flag_again v.more, flag_again v.smoothing) refl
+    let split : c ≡ cursor place (spelled (fields_of time_table n) ++ (spelled (fields_of header_table m) ++ rest)) = ap (cursor place) (ap (λ t. t ++ rest) (spelled-append (fields_of time_table n) (fields_of header_table m)) ∙ append_assoc (spelled (fields_of time_table n)) (spelled (fields_of header_table m)) rest) in
+    let first = fields_again time_table n place (spelled (fields_of header_table m) ++ rest) refl (h.station, (early v.time h.time, tt)) in
+    let second = fields_again header_table m (place + 42) rest refl (tt, (h.iods, (small, (h.steering, (h.clock, (tt, (h.interval, tt))))))) in
+    header_chain c ∙ rw (split, first, in_time v.time (cursor (place + 42) (spelled (fields_of header_table m) ++ rest)) h.time, header_rest_is v.station v.time (cursor (place + 42) (spelled (fields_of header_table m) ++ rest)), second) refl
   where
     early : (t : ℕ) → t < week → t < 2 ^ 30
     early t h = omega (arith, h)
@@ -115,9 +102,9 @@ header_again v reserved place rest h small =
 abbrev pub sets_rest : ℕ → ℕ → Cursor → Result (Sets × Cursor) MsgFault
 sets_rest satellites signals c = if nat_lt 64 (pairs satellites signals) then Err TooManyCells else (number_at (pairs satellites signals) c >>= λ cells. Ok (record { satellites = satellites; signals = signals; cells = cells.0 }, cells.1))
 
-pub sets_chain : (c : Cursor) → sets_at c ≡ (fields_at mask_widths c >>= λ n. sets_rest n.0.0 n.0.1.0 n.1)
+pub sets_chain : (c : Cursor) → sets_at c ≡ (fields_at mask_table c >>= λ n. sets_rest n.0.0 n.0.1.0 n.1)
 unfolding sets_at
-sets_chain c = reading_is mask_widths c (λ n. sets_rest n.0.0 n.0.1.0 n.1)
+sets_chain c = reading_is mask_table c (λ n. sets_rest n.0.0 n.0.1.0 n.1)
 
 pub few_rest : (satellites signals : ℕ) (c : Cursor) → pairs satellites signals ≤ 64 → sets_rest satellites signals c ≡ (number_at (pairs satellites signals) c >>= λ cells. Ok (record { satellites = satellites; signals = signals; cells = cells.0 }, cells.1))
 few_rest a b c h = grind arith
@@ -132,8 +119,8 @@ pub record AreSetsRead (v : Sets) (c d : Cursor) : Type 0 where
 pub sets_took : (c : Cursor) (v : Sets × Cursor) → sets_at c ≡ Ok v → AreSetsRead v.0 c v.1
 unfolding spelled
 sets_took c v e =
-    let masks = bind_ok (fields_at mask_widths c) _ v (sym (sets_chain c) ∙ e) in
-    let took = fields_ok mask_widths c masks.0 masks.1 in
+    let masks = bind_ok (fields_at mask_table c) _ v (sym (sets_chain c) ∙ e) in
+    let took = fields_ok mask_table c masks.0 refl masks.1 in
     let a = masks.0.0.0 in
     let b = masks.0.0.1.0 in
     elim (cases_lt 64 (pairs a b)) [
@@ -143,18 +130,18 @@ sets_took c v e =
           let read = number_took (pairs a b) masks.0.1 cells.0 cells.1 in
           subst (λ (w : Sets × Cursor). AreSetsRead w.0 c w.1) (ok_inj _ v _ refl cells.2) (record {
             are_sets = record { satellites = took.fit.0; signals = took.fit.1.0; few = few; cells = read.fits };
-            bits = both (fields mask_widths masks.0.0) ((pairs a b, cells.0.0) ∷ []) _ _ _ took.bits (read.bits ∙ sym (append_assoc (uint (pairs a b) cells.0.0) [] cells.0.1.rest));
+            bits = both (fields_of mask_table masks.0.0) ((pairs a b, cells.0.0) ∷ []) _ _ _ took.bits (read.bits ∙ sym (append_assoc (uint (pairs a b) cells.0.0) [] cells.0.1.rest));
           })
     ]
 
 pub sets_again : (v : Sets) (place : ℕ) (rest : List Bool) → AreSets v → sets_at (cursor place (spelled (set_fields v) ++ rest)) ≡ Ok (v, cursor (place + 96 + pairs v.satellites v.signals) rest)
 unfolding spelled
 sets_again v place rest h =
-    let n : Numbers mask_widths = (v.satellites, (v.signals, tt)) in
+    let n : Contents mask_table = (v.satellites, (v.signals, tt)) in
     let p = pairs v.satellites v.signals in
     let c = cursor place (spelled (set_fields v) ++ rest) in
-    let split : c ≡ cursor place (spelled (fields mask_widths n) ++ (spelled ((p, v.cells) ∷ []) ++ rest)) = ap (cursor place) (ap (λ t. t ++ rest) (spelled-append (fields mask_widths n) ((p, v.cells) ∷ [])) ∙ append_assoc (spelled (fields mask_widths n)) (spelled ((p, v.cells) ∷ [])) rest) in
-    let first = fields_again mask_widths n place (spelled ((p, v.cells) ∷ []) ++ rest) (h.satellites, (h.signals, tt)) in
+    let split : c ≡ cursor place (spelled (fields_of mask_table n) ++ (spelled ((p, v.cells) ∷ []) ++ rest)) = ap (cursor place) (ap (λ t. t ++ rest) (spelled-append (fields_of mask_table n) ((p, v.cells) ∷ [])) ∙ append_assoc (spelled (fields_of mask_table n)) (spelled ((p, v.cells) ∷ [])) rest) in
+    let first = fields_again mask_table n place (spelled ((p, v.cells) ∷ []) ++ rest) refl (h.satellites, (h.signals, tt)) in
     let second = number_again p v.cells (place + 96) rest h.cells in
     sets_chain c ∙ rw (split, first, few_rest v.satellites v.signals (cursor (place + 96) (spelled ((p, v.cells) ∷ []) ++ rest)) h.few, append_assoc (uint p v.cells) [] rest, second) refl
 

@@ -129,9 +129,9 @@ signed_low v w h = grind arith
 signed_high : (v w : ℕ) → 2 ^ (w - 1) ≤ v → signed w v ≡ negsuc (2 ^ w - (v + 1))
 signed_high v w h = grind arith
 
-pub raw_fits : (z : ℤ) (w : ℕ) → 0 < w → w ≤ 64 → FitsInt w z → raw w z < 2 ^ w
-raw_fits (pos n) w some few h = omega (arith, half w some)
-raw_fits (negsuc n) w some few h = omega (arith, half w some)
+pub raw_fits : (z : ℤ) (w : ℕ) → 0 < w → FitsInt w z → raw w z < 2 ^ w
+raw_fits (pos n) w some h = omega (arith, half w some)
+raw_fits (negsuc n) w some h = omega (arith, half w some)
 
 pub raw-signed : (w n : ℕ) → 0 < w → n < 2 ^ w → raw w (signed w n) ≡ n
 raw-signed w n some fits = elim (cases_lt n (2 ^ (w - 1))) [

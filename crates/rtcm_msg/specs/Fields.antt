@@ -2,6 +2,7 @@
 use Rattle.std.specs.Prelude.{◌≡◌, ℕ, ◌+◌, nat_lt, if◌then◌else◌, Bool, List, [], ◌∷◌, ◌++◌, length, Option, Some, None, Result, Ok, Err}
 use Rattle.rtcm_bits.specs.Bits.{uint}
 use Rattle.rtcm_bits.specs.Reading.{Cursor, after, unsigned_at}
+use Rattle.rtcm_msg.specs.Layout.{Table, Contents, width, content}
 use Rattle.rtcm_msg.specs.declared.fault.MsgFault.{MsgFault}
 use Rattle.rtcm_msg.specs.declared.fault.MsgFault.TheVariants.{Short}
 
@@ -37,3 +38,8 @@ Gives view (Err e) read = read ≡ Err e
 -- one field: the number and the cursor behind it
 unfoldable pub number_at : ℕ → Cursor → Result (ℕ × Cursor) MsgFault
 number_at w c = if nat_lt (length c.rest) w then Err (Short c.place) else Ok (unsigned_at w c, after c w)
+
+-- the fields of a table one after the other, and then what follows
+abbrev pub reading : {B : Type 0} (t : Table) → Cursor → (Contents t × Cursor → Result B MsgFault) → Result B MsgFault
+reading [] c next = next (tt, c)
+reading (f ∷ fs) c next = number_at (width f.1) c >>= λ n. reading fs n.1 (λ others. next ((content f.1 n.0, others.0), others.1))

@@ -24,15 +24,15 @@ satellite_same n h = omega arith
 
 pub cell_fits : (c : Cell4) → IsCell c → cell_number c < 2 ^ 48
 cell_fits c h =
-    let a = raw_fits c.range 15 (omega arith) (omega arith) h.range in
-    let b = raw_fits c.phase 22 (omega arith) (omega arith) h.phase in
+    let a = raw_fits c.range 15 (omega arith) h.range in
+    let b = raw_fits c.phase 22 (omega arith) h.phase in
     let e = bit-small c.half_cycle in
     omega arith
 
 pub cell_back : (c : Cell4) → IsCell c → cell_at (cell_number c) ≡ c
 cell_back c h =
-    let a = raw_fits c.range 15 (omega arith) (omega arith) h.range in
-    let b = raw_fits c.phase 22 (omega arith) (omega arith) h.phase in
+    let a = raw_fits c.range 15 (omega arith) h.range in
+    let b = raw_fits c.phase 22 (omega arith) h.phase in
     let e = bit-small c.half_cycle in
     let range : cell_number c / 2 ^ 33 % 2 ^ 15 ≡ raw 15 c.range = omega arith in
     let phase : cell_number c / 2 ^ 11 % 2 ^ 22 ≡ raw 22 c.phase = omega arith in

@@ -8,11 +8,11 @@ use Rattle.rtcm_msg.specs.Packed.{total}
 use Rattle.rtcm_msg.specs.Grid7.{satellite_widths, cell_widths, IsSatellite, IsCell, satellite_number, satellite_at, cell_number, cell_at}
 
 pub satellite_fits : (s : Satellite7) → IsSatellite s → satellite_number s < 2 ^ 36
-satellite_fits s h = let r = raw_fits s.rate 14 (omega arith) (omega arith) h.rate in omega arith
+satellite_fits s h = let r = raw_fits s.rate 14 (omega arith) h.rate in omega arith
 
 pub satellite_back : (s : Satellite7) → IsSatellite s → satellite_at (satellite_number s) ≡ s
 satellite_back s h =
-    let r = raw_fits s.rate 14 (omega arith) (omega arith) h.rate in
+    let r = raw_fits s.rate 14 (omega arith) h.rate in
     let whole : satellite_number s / 2 ^ 28 % 2 ^ 8 ≡ s.whole = omega arith in
     let extended : satellite_number s / 2 ^ 24 % 2 ^ 4 ≡ s.extended = omega arith in
     let fraction : satellite_number s / 2 ^ 14 % 2 ^ 10 ≡ s.fraction = omega arith in
@@ -28,17 +28,17 @@ satellite_same n h = let r = raw-signed 14 (n % 2 ^ 14) (omega arith) (omega ari
 
 pub cell_fits : (c : Cell7) → IsCell c → cell_number c < 2 ^ 80
 cell_fits c h =
-    let a = raw_fits c.range 20 (omega arith) (omega arith) h.range in
-    let b = raw_fits c.phase 24 (omega arith) (omega arith) h.phase in
-    let d = raw_fits c.rate 15 (omega arith) (omega arith) h.rate in
+    let a = raw_fits c.range 20 (omega arith) h.range in
+    let b = raw_fits c.phase 24 (omega arith) h.phase in
+    let d = raw_fits c.rate 15 (omega arith) h.rate in
     let e = bit-small c.half_cycle in
     omega arith
 
 pub cell_back : (c : Cell7) → IsCell c → cell_at (cell_number c) ≡ c
 cell_back c h =
-    let a = raw_fits c.range 20 (omega arith) (omega arith) h.range in
-    let b = raw_fits c.phase 24 (omega arith) (omega arith) h.phase in
-    let d = raw_fits c.rate 15 (omega arith) (omega arith) h.rate in
+    let a = raw_fits c.range 20 (omega arith) h.range in
+    let b = raw_fits c.phase 24 (omega arith) h.phase in
+    let d = raw_fits c.rate 15 (omega arith) h.rate in
     let e = bit-small c.half_cycle in
     let range : cell_number c / 2 ^ 60 % 2 ^ 20 ≡ raw 20 c.range = omega arith in
     let phase : cell_number c / 2 ^ 36 % 2 ^ 24 ≡ raw 24 c.phase = omega arith in

@@ -1,11 +1,11 @@
 -- The values of multiple signal messages.
-use Rattle.std.specs.Prelude.{◌≡◌, ℕ, ◌*◌, ◌^◌, ◌<◌, ◌≤◌, ◌==◌, nat_lt, nat_le, if◌then◌else◌, Bool, List, [], ◌∷◌, ◌++◌, length, Result, Ok, Err, replicate, count_ones}
-use Rattle.rtcm_bits.specs.Bits.{bit}
+use Rattle.std.specs.Prelude.{◌≡◌, ℕ, ◌*◌, ◌^◌, ◌<◌, ◌≤◌, nat_lt, nat_le, if◌then◌else◌, Bool, List, [], ◌∷◌, ◌++◌, length, Result, Ok, Err, replicate, count_ones}
 use Rattle.rtcm_bits.specs.Reading.{Cursor}
 use Rattle.rtcm_msg.specs.declared.fault.MsgFault.{MsgFault}
 use Rattle.rtcm_msg.specs.declared.fault.MsgFault.TheVariants.{TooManyCells, BadTime}
 use Rattle.rtcm_msg.specs.declared.header.MsmHeader.{MsmHeader}
-use Rattle.rtcm_msg.specs.Fields.{spelled, number_at, ◌>>=◌}
+use Rattle.rtcm_msg.specs.Fields.{spelled, reading, ◌>>=◌}
+use Rattle.rtcm_msg.specs.Layout.{Table, Uint, Flag, Reserved, Contents, fields_of, ◌▸◌, number_table}
 use Rattle.rtcm_msg.specs.Packed.{total, columns}
 use Rattle.rtcm_msg.specs.Columns.{columns_at, EachBelow}
 
@@ -55,44 +55,77 @@ pub record IsValue (satellite_widths cell_widths : List ℕ) (v : MsmValue) : Ty
   pub satellites : EachBelow (total satellite_widths) v.satellites
   pub cells : EachBelow (total cell_widths) v.cells
 
+-- ---- the layout
+
+-- the head of a multiple signal message, behind the message number
+abbrev pub time_table : Table
+time_table =
+    (3, Uint 12)       -- reference station ID
+    ∷ (4, Uint 30)     -- GPS epoch time, ms of the week; of Galileo DF248
+    ∷ []
+
+-- what follows the time
+abbrev pub header_table : Table
+header_table =
+    (393, Flag)        -- multiple message bit
+    ∷ (409, Uint 3)    -- issue of data station
+    ∷ (1, Reserved 7)
+    ∷ (411, Uint 2)    -- clock steering indicator
+    ∷ (412, Uint 2)    -- external clock indicator
+    ∷ (417, Flag)      -- divergence-free smoothing indicator
+    ∷ (418, Uint 3)    -- smoothing interval
+    ∷ []
+
+-- the masks, where the third has a bit for each pair of a satellite and a signal
+abbrev pub mask_table : Table
+mask_table =
+    (394, Uint 64)     -- satellite mask
+    ∷ (395, Uint 32)   -- signal mask
+    ∷ []
+
+abbrev pub cell_mask_table : ℕ → Table
+cell_mask_table pairs =
+    (396, Uint pairs)  -- cell mask
+    ∷ []
+
 -- ---- the bits, where the reserved ones are any
+
+abbrev pub time_contents : MsmHeader → Contents time_table
+time_contents h = h.station ▸ h.time ▸ tt
+
+abbrev pub header_contents : MsmHeader → ℕ → Contents header_table
+header_contents h reserved = h.more ▸ h.iods ▸ reserved ▸ h.steering ▸ h.clock ▸ h.smoothing ▸ h.interval ▸ tt
 
 -- the fields up to the masks
 abbrev pub header_fields : ℕ → MsmHeader → ℕ → List (ℕ × ℕ)
-header_fields number h reserved =
-    (12, number) ∷ (12, h.station) ∷ (30, h.time) ∷ (1, bit h.more) ∷ (3, h.iods) ∷ (7, reserved) ∷ (2, h.steering) ∷ (2, h.clock) ∷ (1, bit h.smoothing) ∷ (3, h.interval) ∷ []
+header_fields number h reserved = fields_of number_table (number ▸ tt) ++ (fields_of time_table (time_contents h) ++ fields_of header_table (header_contents h reserved))
 
 abbrev pub set_fields : Sets → List (ℕ × ℕ)
-set_fields s = (64, s.satellites) ∷ (32, s.signals) ∷ (pairs s.satellites s.signals, s.cells) ∷ []
+set_fields s = fields_of mask_table (s.satellites ▸ s.signals ▸ tt) ++ fields_of (cell_mask_table (pairs s.satellites s.signals)) (s.cells ▸ tt)
 
--- all bits of a message of this number
+-- all bits of a message of this number: behind the masks a field of all satellites, then the next, then a field of all cells
 abbrev pub msm_bits : List ℕ → List ℕ → ℕ → MsmValue → ℕ → List Bool
 msm_bits satellite_widths cell_widths number v reserved = spelled (header_fields number v.header reserved) ++ (spelled (set_fields v.sets) ++ (columns satellite_widths v.satellites ++ columns cell_widths v.cells))
 
 -- ---- reading, behind the message number
 
+-- a time is judged as soon as it was read
 abbrev pub timely : ℕ → Cursor → Result (ℕ × Cursor) MsgFault
 timely time c = if nat_le week time then Err BadTime else Ok (time, c)
 
+abbrev pub header_of : ℕ → ℕ → Contents header_table → MsmHeader
+header_of station time (more, (iods, (reserved, (steering, (clock, (smoothing, (interval, end))))))) =
+    record { station = station; time = time; more = more; iods = iods; steering = steering; clock = clock; smoothing = smoothing; interval = interval }
+
 unfoldable pub header_at : Cursor → Result (MsmHeader × Cursor) MsgFault
-header_at c = do
-  station ← number_at 12 c
-  ms ← number_at 30 station.1
-  time ← timely ms.0 ms.1
-  more ← number_at 1 time.1
-  iods ← number_at 3 more.1
-  reserved ← number_at 7 iods.1
-  steering ← number_at 2 reserved.1
-  clock ← number_at 2 steering.1
-  smoothing ← number_at 1 clock.1
-  interval ← number_at 3 smoothing.1
-  Ok (record { station = station.0; time = time.0; more = more.0 == 1; iods = iods.0; steering = steering.0; clock = clock.0; smoothing = smoothing.0 == 1; interval = interval.0 }, interval.1)
+header_at c = reading time_table c (λ n. timely n.0.1.0 n.1 >>= λ time. reading header_table time.1 (λ m. Ok (header_of n.0.0 time.0 m.0, m.1)))
+
+-- the pairs are counted as soon as both masks were read
+abbrev pub sets_behind : ℕ → ℕ → Cursor → Result (Sets × Cursor) MsgFault
+sets_behind satellites signals c = if nat_lt 64 (pairs satellites signals) then Err TooManyCells else reading (cell_mask_table (pairs satellites signals)) c (λ cells. Ok (record { satellites = satellites; signals = signals; cells = cells.0.0 }, cells.1))
 
 unfoldable pub sets_at : Cursor → Result (Sets × Cursor) MsgFault
-sets_at c = do
-  satellites ← number_at 64 c
-  signals ← number_at 32 satellites.1
-  if nat_lt 64 (pairs satellites.0 signals.0) then Err TooManyCells else (number_at (pairs satellites.0 signals.0) signals.1 >>= λ cells. Ok (record { satellites = satellites.0; signals = signals.0; cells = cells.0 }, cells.1))
+sets_at c = reading mask_table c (λ m. sets_behind m.0.0 m.0.1.0 m.1)
 
 unfoldable pub msm_at : List ℕ → List ℕ → Bool → Cursor → Result (MsmValue × Cursor) MsgFault
 msm_at satellite_widths cell_widths is_galileo c = do

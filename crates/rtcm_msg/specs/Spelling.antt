@@ -6,8 +6,9 @@ use Rattle.rtcm_msg.specs.declared.fault.MsgFault.TheVariants.{Short, TooManyCel
 use Rattle.rtcm_msg.specs.declared.message.Message.{Message}
 use Rattle.rtcm_msg.specs.declared.message.Message.TheVariants.{Station, Msm4, Msm7, Other}
 use Rattle.rtcm_msg.specs.Fields.{spelled, first_past}
-use Rattle.rtcm_msg.specs.Station.{station_fields, InRange}
-use Rattle.rtcm_msg.specs.Msm.{msm_bits, IsValue, pairs, week}
+use Rattle.rtcm_msg.specs.Station.{station_fields, InRange, station_table, height_table}
+use Rattle.rtcm_msg.specs.Msm.{msm_bits, IsValue, pairs, week, time_table, header_table, mask_table, cell_mask_table}
+use Rattle.rtcm_msg.specs.Layout.{widths, number_table}
 use Rattle.rtcm_msg.specs.Reading.{is_listed}
 use Rattle.rtcm_msg.specs.Grid4 as grid4
 use Rattle.rtcm_msg.specs.Grid7 as grid7
@@ -87,21 +88,18 @@ abbrev pub repeated : ℕ → List ℕ → List ℕ
 repeated count [] = []
 repeated count (w ∷ ws) = replicate count w ++ repeated count ws
 
-abbrev pub station_layout : List ℕ
-station_layout = 12 ∷ 12 ∷ 6 ∷ 1 ∷ 1 ∷ 1 ∷ 1 ∷ 38 ∷ 1 ∷ 1 ∷ 38 ∷ 2 ∷ 38 ∷ []
-
 abbrev pub msm_layout : List ℕ → List ℕ → List Bool → List ℕ
 msm_layout satellite_widths cell_widths bits =
     let satellites = field_at bits 73 64 in
     let signals = field_at bits 137 32 in
     let width = pairs satellites signals in
-    12 ∷ 12 ∷ 30 ∷ 1 ∷ 3 ∷ 7 ∷ 2 ∷ 2 ∷ 1 ∷ 3 ∷ 64 ∷ 32 ∷ width ∷ (repeated (count_ones satellites) satellite_widths ++ repeated (count_ones (field_at bits 169 width)) cell_widths)
+    widths (number_table ++ (time_table ++ (header_table ++ (mask_table ++ cell_mask_table width)))) ++ (repeated (count_ones satellites) satellite_widths ++ repeated (count_ones (field_at bits 169 width)) cell_widths)
 
 -- those of a message of this number
 abbrev pub layout_of : ℕ → List Bool → List ℕ
 layout_of n bits =
-    if n == 1005 then station_layout
-    else (if n == 1006 then station_layout ++ 16 ∷ []
+    if n == 1005 then widths (number_table ++ station_table)
+    else (if n == 1006 then widths (number_table ++ (station_table ++ height_table))
     else (if n == 1074 || n == 1094 then msm_layout grid4.satellite_widths grid4.cell_widths bits
     else (if n == 1077 || n == 1097 then msm_layout grid7.satellite_widths grid7.cell_widths bits else [])))
 

@@ -1,19 +1,51 @@
 -- Messages 1005 and 1006.
-use Rattle.std.specs.Prelude.{ℕ, ◌^◌, ◌<◌, ◌==◌, if◌then◌else◌, Bool, true, false, List, [], ◌∷◌, ◌++◌, Option, Some, None, Result, Ok, is_some, IfSome}
-use Rattle.rtcm_bits.specs.Bits.{bit, raw, signed, FitsInt}
+use Rattle.std.specs.Prelude.{ℕ, ◌^◌, ◌<◌, if◌then◌else◌, Bool, true, false, List, [], ◌∷◌, ◌++◌, Option, Some, None, Result, Ok, is_some, IfSome}
+use Rattle.rtcm_bits.specs.Bits.{FitsInt}
 use Rattle.rtcm_bits.specs.Reading.{Cursor}
 use Rattle.rtcm_msg.specs.declared.fault.MsgFault.{MsgFault}
 use Rattle.rtcm_msg.specs.declared.station.StationParts.{StationParts}
-use Rattle.rtcm_msg.specs.Fields.{number_at, ◌>>=◌}
+use Rattle.rtcm_msg.specs.Layout.{Table, Uint, Int, Flag, Reserved, Contents, fields_of, ◌▸◌, number_table}
+use Rattle.rtcm_msg.specs.Fields.{reading, ◌>>=◌}
+
+-- the fields of message 1005, behind the message number
+abbrev pub station_table : Table
+station_table =
+    (3, Uint 12)       -- reference station ID
+    ∷ (21, Uint 6)     -- ITRF realization year
+    ∷ (22, Flag)       -- GPS indicator
+    ∷ (23, Flag)       -- GLONASS indicator
+    ∷ (24, Flag)       -- Galileo indicator
+    ∷ (141, Flag)      -- reference station indicator
+    ∷ (25, Int 38)     -- antenna reference point ECEF-X, 0.0001 m
+    ∷ (142, Flag)      -- single receiver oscillator indicator
+    ∷ (1, Reserved 1)
+    ∷ (26, Int 38)     -- antenna reference point ECEF-Y, 0.0001 m
+    ∷ (364, Uint 2)    -- quarter cycle indicator
+    ∷ (27, Int 38)     -- antenna reference point ECEF-Z, 0.0001 m
+    ∷ []
+
+-- message 1006 has one more
+abbrev pub height_table : Table
+height_table =
+    (28, Uint 16)      -- antenna height, 0.0001 m
+    ∷ []
+
+-- what the fields of a value hold, with the reserved bit
+abbrev pub station_contents : StationParts → ℕ → Contents station_table
+station_contents s reserved =
+    s.station ▸ s.realization ▸ s.gps ▸ s.glonass ▸ s.galileo ▸ s.reference ▸ s.x ▸ s.oscillator ▸ reserved ▸ s.y ▸ s.quarter ▸ s.z ▸ tt
+
+abbrev pub station_parts : Contents station_table → Option ℕ → StationParts
+station_parts (station, (realization, (gps, (glonass, (galileo, (reference, (x, (oscillator, (reserved, (y, (quarter, (z, end)))))))))))) height =
+    record { station = station; realization = realization; gps = gps; glonass = glonass; galileo = galileo; reference = reference; x = x; oscillator = oscillator; y = y; quarter = quarter; z = z; height = height }
 
 abbrev pub height_fields : Option ℕ → List (ℕ × ℕ)
 height_fields None = []
-height_fields (Some h) = (16, h) ∷ []
+height_fields (Some h) = fields_of height_table (h ▸ tt)
 
 -- the fields that both messages have
 abbrev pub common_fields : ℕ → StationParts → ℕ → List (ℕ × ℕ)
-common_fields number s reserved =
-    (12, number) ∷ (12, s.station) ∷ (6, s.realization) ∷ (1, bit s.gps) ∷ (1, bit s.glonass) ∷ (1, bit s.galileo) ∷ (1, bit s.reference) ∷ (38, raw 38 s.x) ∷ (1, bit s.oscillator) ∷ (1, reserved) ∷ (38, raw 38 s.y) ∷ (2, s.quarter) ∷ (38, raw 38 s.z) ∷ []
+common_fields number s reserved = fields_of number_table (number ▸ tt) ++ fields_of station_table (station_contents s reserved)
 
 -- the fields in order, whose reserved bit is as given
 abbrev pub station_fields : StationParts → ℕ → List (ℕ × ℕ)
@@ -31,28 +63,9 @@ pub record InRange (s : StationParts) : Type 0 where
 
 -- ---- reading, behind the message number
 
-abbrev pub flag : ℕ → Bool
-flag n = n == 1
-
 abbrev pub height_at : Bool → Cursor → Result (Option ℕ × Cursor) MsgFault
 height_at false c = Ok (None, c)
-height_at true c = do
-  height ← number_at 16 c
-  Ok (Some height.0, height.1)
+height_at true c = reading height_table c (λ h. Ok (Some h.0.0, h.1))
 
 unfoldable pub station_at : Bool → Cursor → Result (StationParts × Cursor) MsgFault
-station_at has_height c = do
-  station ← number_at 12 c
-  realization ← number_at 6 station.1
-  gps ← number_at 1 realization.1
-  glonass ← number_at 1 gps.1
-  galileo ← number_at 1 glonass.1
-  reference ← number_at 1 galileo.1
-  x ← number_at 38 reference.1
-  oscillator ← number_at 1 x.1
-  reserved ← number_at 1 oscillator.1
-  y ← number_at 38 reserved.1
-  quarter ← number_at 2 y.1
-  z ← number_at 38 quarter.1
-  height ← height_at has_height z.1
-  Ok (record { station = station.0; realization = realization.0; gps = flag gps.0; glonass = flag glonass.0; galileo = flag galileo.0; reference = flag reference.0; x = signed 38 x.0; oscillator = flag oscillator.0; y = signed 38 y.0; quarter = quarter.0; z = signed 38 z.0; height = height.0 }, height.1)
+station_at has_height c = reading station_table c (λ s. height_at has_height s.1 >>= λ h. Ok (station_parts s.0 h.0, h.1))
