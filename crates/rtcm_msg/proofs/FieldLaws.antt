@@ -1,10 +1,10 @@
 -- The fields of a table, as one read: what was read, what is read again, and which fault.
-use Rattle.std.proofs.Common.{ℕ, true, false, nat_lt, lit<, ◌==◌, ◌&&◌, ◌≡◌, ◌+◌, ◌^◌, ◌<◌, ◌≤◌, Bool, List, [], ◌∷◌, ◌++◌, length, take, drop, Result, Ok, Err, Some, None, refl, sym, ap, subst, ◌∙◌, arith, append_assoc, ◌⊎◌, inl, inr, add_assoc, add-zero}
+use Rattle.std.proofs.Common.{ℕ, true, ◌≡◌, ◌+◌, ◌<◌, ◌≤◌, Bool, List, [], ◌∷◌, ◌++◌, length, take, drop, Result, Ok, Err, Some, None, refl, sym, ap, subst, ◌∙◌, arith, append_assoc, ◌⊎◌, inl, inr, add_assoc, add-zero}
 use Rattle.std.proofs.lemmas.Bool.{cases_lt}
 use Rattle.std.proofs.lemmas.List.{length-drop, drop-drop}
-use Rattle.rtcm_bits.specs.Bits.{bit, uint, number, FitsInt}
-use Rattle.rtcm_msg.specs.BitLaws.{raw_fits, raw-signed, signed-raw, signed-fits}
-use Rattle.rtcm_msg.specs.Layout.{Kind, Uint, Int, Flag, Reserved, Table, width, widths, Content, Contents, number_of, content, fields_of}
+use Rattle.rtcm_bits.specs.Bits.{uint, number}
+use Rattle.rtcm_msg.specs.LayoutLaws.{has_sign, have_signs, FitAll, number-content, content_fits, content-number, number_fits, sign_first, sign_others}
+use Rattle.rtcm_msg.specs.Layout.{Table, width, widths, Contents, number_of, content, fields_of}
 use Rattle.rtcm_bits.specs.Reading.{Cursor, after, unsigned_at}
 use Rattle.rtcm_msg.specs.declared.fault.MsgFault.{MsgFault}
 use Rattle.rtcm_msg.specs.declared.fault.MsgFault.TheVariants.{Short}
@@ -12,75 +12,6 @@ use Rattle.rtcm_msg.specs.Fields.{number_at, ◌>>=◌, spelled, first_past, rea
 use Rattle.rtcm_msg.specs.Packed.{total}
 use Rattle.rtcm_msg.proofs.Binds.{ok_inj, number_there, number_short, took_at}
 use Rattle.rtcm_msg.proofs.Combine.{past_here, past_next, cursor, number_again, ok_err, bind_bind}
-
--- ---- one field's content
-
--- a two's complement has a sign
-abbrev pub has_sign : Kind → Bool
-has_sign (Uint w) = true
-has_sign (Int w) = nat_lt 0 w
-has_sign Flag = true
-has_sign (Reserved w) = true
-
-abbrev pub have_signs : Table → Bool
-have_signs [] = true
-have_signs (f ∷ fs) = has_sign f.1 && have_signs fs
-
--- the content fits the field
-abbrev pub Fits : (k : Kind) → Content k → Type 0
-Fits (Uint w) n = n < 2 ^ w
-Fits (Int w) z = FitsInt w z
-Fits Flag b = Unit {0}
-Fits (Reserved w) n = n < 2 ^ w
-
-sign_there : (w : ℕ) → nat_lt 0 w ≡ true → 0 < w
-sign_there w h = grind arith
-
-flag_back : (n : ℕ) → n < 2 → bit (n == 1) ≡ n
-flag_back n h = elim (two n h) [ inl z ↦ rw z refl | inr o ↦ rw o refl ]
-  where
-    two : (n : ℕ) → n < 2 → (n ≡ 0) ⊎ (n ≡ 1)
-    two n h = grind arith
-
-number-content : (k : Kind) (n : ℕ) → has_sign k ≡ true → n < 2 ^ width k → number_of k (content k n) ≡ n
-number-content (Uint w) n sign fits = refl
-number-content (Int w) n sign fits = raw-signed w n (sign_there w sign) fits
-number-content Flag n sign fits = flag_back n fits
-number-content (Reserved w) n sign fits = refl
-
-content_fits : (k : Kind) (n : ℕ) → has_sign k ≡ true → n < 2 ^ width k → Fits k (content k n)
-content_fits (Uint w) n sign fits = fits
-content_fits (Int w) n sign fits = signed-fits w n (sign_there w sign) fits
-content_fits Flag n sign fits = tt
-content_fits (Reserved w) n sign fits = fits
-
-content-number : (k : Kind) (c : Content k) → has_sign k ≡ true → Fits k c → content k (number_of k c) ≡ c
-content-number (Uint w) n sign fits = refl
-content-number (Int w) z sign fits = signed-raw w z (sign_there w sign) fits
-content-number Flag true sign fits = refl
-content-number Flag false sign fits = refl
-content-number (Reserved w) n sign fits = refl
-
-number_fits : (k : Kind) (c : Content k) → has_sign k ≡ true → Fits k c → number_of k c < 2 ^ width k
-number_fits (Uint w) n sign fits = fits
-number_fits (Int w) z sign fits = raw_fits z w (sign_there w sign) fits
-number_fits Flag true sign fits = lit< tt
-number_fits Flag false sign fits = lit< tt
-number_fits (Reserved w) n sign fits = fits
-
-sign_first : (a b : Bool) → (a && b) ≡ true → a ≡ true
-sign_first true b h = refl
-sign_first false b h = cc
-
-sign_others : (a b : Bool) → (a && b) ≡ true → b ≡ true
-sign_others true b h = h
-sign_others false b h = cc
-
--- ---- the fields of a table
-
-abbrev pub FitAll : (t : Table) → Contents t → Type 0
-FitAll [] cs = Unit {0}
-FitAll (f ∷ fs) cs = Fits f.1 cs.0 × FitAll fs cs.1
 
 -- the fields as one read
 abbrev pub fields_at : (t : Table) → Cursor → Result (Contents t × Cursor) MsgFault

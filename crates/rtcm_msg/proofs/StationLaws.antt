@@ -9,8 +9,9 @@ use Rattle.rtcm_msg.specs.Station.{station_at, height_at, InRange, height_fields
 use Rattle.rtcm_msg.proofs.Binds.{bind_ok, ok_inj, number_took}
 use Rattle.rtcm_msg.proofs.Combine.{cursor, number_again}
 use Rattle.rtcm_msg.proofs.WritingSteps.{spelled-append}
-use Rattle.rtcm_msg.proofs.FieldLaws.{FitAll, fields_at, reading_is, fields_ok, fields_again, FieldsTook}
+use Rattle.rtcm_msg.proofs.FieldLaws.{fields_at, reading_is, fields_ok, fields_again, FieldsTook}
 use Rattle.rtcm_msg.specs.Layout.{widths, Contents, fields_of}
+use Rattle.rtcm_msg.specs.LayoutLaws.{FitAll}
 
 -- the fields behind the message number, up to the height
 abbrev pub station_widths : List ℕ

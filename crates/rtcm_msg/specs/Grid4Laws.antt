@@ -1,66 +1,47 @@
 -- What was packed is unpacked, and the other way round.
-use Rattle.std.proofs.Common.{ℕ, zero, suc, All, get_or, lit≤, ◌≡◌, ◌+◌, ◌/◌, ◌%◌, ◌^◌, ◌<◌, ◌≤◌, ◌==◌, Bool, true, false, refl, arith}
-use Rattle.rtcm_bits.specs.Bits.{bit, raw}
-use Rattle.rtcm_msg.specs.BitLaws.{raw_fits, raw-signed, signed-raw, signed-fits, bit_odd, bit-small}
+use Rattle.std.proofs.Common.{ap, ◌<◌, ℕ, zero, suc, All, get_or, lit≤, ◌≡◌, ◌+◌, ◌^◌, ◌≤◌, refl, arith}
 use Rattle.rtcm_msg.specs.declared.grid4.Satellite4.{Satellite4}
 use Rattle.rtcm_msg.specs.declared.grid4.Cell4.{Cell4}
-use Rattle.rtcm_msg.specs.Packed.{total}
-use Rattle.rtcm_msg.specs.Grid4.{satellite_widths, cell_widths, IsSatellite, IsCell, satellite_number, satellite_at, cell_number, cell_at}
+use Rattle.rtcm_msg.specs.Layout.{Contents}
+use Rattle.rtcm_msg.specs.LayoutLaws.{FitAll, packed_fits, unpacked-packed, unpacked_fit, packed-unpacked}
+use Rattle.rtcm_msg.specs.Packed.{total, unpacked}
+use Rattle.rtcm_msg.specs.Grid4.{satellite_table, cell_table, satellite_contents, satellite_of, cell_contents, cell_of, satellite_widths, cell_widths, IsSatellite, IsCell, satellite_number, satellite_at, cell_number, cell_at}
 
-pub satellite_fits : (s : Satellite4) → IsSatellite s → satellite_number s < 2 ^ 18
-satellite_fits s h = omega arith
+satellite_fit : (s : Satellite4) → IsSatellite s → FitAll satellite_table (satellite_contents s)
+satellite_fit s h = (h.whole, (h.fraction, tt))
+
+satellite_is : (cs : Contents satellite_table) → FitAll satellite_table cs → IsSatellite (satellite_of cs)
+satellite_is cs h = record { whole = h.0; fraction = h.1.0 }
+
+pub satellite_fits : (s : Satellite4) → IsSatellite s → satellite_number s < 2 ^ total satellite_widths
+satellite_fits s h = packed_fits satellite_table (satellite_contents s) refl (satellite_fit s h)
 
 pub satellite_back : (s : Satellite4) → IsSatellite s → satellite_at (satellite_number s) ≡ s
-satellite_back s h =
-    let whole : satellite_number s / 2 ^ 10 % 2 ^ 8 ≡ s.whole = omega arith in
-    let fraction : satellite_number s % 2 ^ 10 ≡ s.fraction = omega arith in
-    rw (whole, fraction) refl
+satellite_back s h = ap satellite_of (unpacked-packed satellite_table (satellite_contents s) refl (satellite_fit s h))
 
-pub satellite_in_range : (n : ℕ) → n < 2 ^ 18 → IsSatellite (satellite_at n)
-satellite_in_range n h = record { whole = omega arith; fraction = omega arith }
+pub satellite_in_range : (n : ℕ) → n < 2 ^ total satellite_widths → IsSatellite (satellite_at n)
+satellite_in_range n h = satellite_is (unpacked satellite_table n) (unpacked_fit satellite_table n refl)
 
-pub satellite_same : (n : ℕ) → n < 2 ^ 18 → satellite_number (satellite_at n) ≡ n
-satellite_same n h = omega arith
+pub satellite_same : (n : ℕ) → n < 2 ^ total satellite_widths → satellite_number (satellite_at n) ≡ n
+satellite_same n h = packed-unpacked satellite_table n refl h
 
-pub cell_fits : (c : Cell4) → IsCell c → cell_number c < 2 ^ 48
-cell_fits c h =
-    let a = raw_fits c.range 15 (omega arith) h.range in
-    let b = raw_fits c.phase 22 (omega arith) h.phase in
-    let e = bit-small c.half_cycle in
-    omega arith
+cell_fit : (c : Cell4) → IsCell c → FitAll cell_table (cell_contents c)
+cell_fit c h = (h.range, (h.phase, (h.lock, (tt, (h.strength, tt)))))
+
+cell_is : (cs : Contents cell_table) → FitAll cell_table cs → IsCell (cell_of cs)
+cell_is cs h = record { range = h.0; phase = h.1.0; lock = h.1.1.0; strength = h.1.1.1.1.0 }
+
+pub cell_fits : (c : Cell4) → IsCell c → cell_number c < 2 ^ total cell_widths
+cell_fits c h = packed_fits cell_table (cell_contents c) refl (cell_fit c h)
 
 pub cell_back : (c : Cell4) → IsCell c → cell_at (cell_number c) ≡ c
-cell_back c h =
-    let a = raw_fits c.range 15 (omega arith) h.range in
-    let b = raw_fits c.phase 22 (omega arith) h.phase in
-    let e = bit-small c.half_cycle in
-    let range : cell_number c / 2 ^ 33 % 2 ^ 15 ≡ raw 15 c.range = omega arith in
-    let phase : cell_number c / 2 ^ 11 % 2 ^ 22 ≡ raw 22 c.phase = omega arith in
-    let lock : cell_number c / 2 ^ 7 % 2 ^ 4 ≡ c.lock = omega arith in
-    let half : cell_number c / 2 ^ 6 % 2 ^ 1 ≡ bit c.half_cycle = omega arith in
-    let strength : cell_number c % 2 ^ 6 ≡ c.strength = omega arith in
-    let back1 = signed-raw 15 c.range (omega arith) h.range in
-    let back2 = signed-raw 22 c.phase (omega arith) h.phase in
-    rw (range, phase, lock, half, strength, back1, back2, flag_bit c.half_cycle) refl
-  where
-    flag_bit : (b : Bool) → (bit b == 1) ≡ b
-    flag_bit true = refl
-    flag_bit false = refl
+cell_back c h = ap cell_of (unpacked-packed cell_table (cell_contents c) refl (cell_fit c h))
 
-pub cell_in_range : (n : ℕ) → n < 2 ^ 48 → IsCell (cell_at n)
-cell_in_range n h = record {
-  range = signed-fits 15 (n / 2 ^ 33 % 2 ^ 15) (omega arith) (omega arith);
-  phase = signed-fits 22 (n / 2 ^ 11 % 2 ^ 22) (omega arith) (omega arith);
-  lock = omega arith;
-  strength = omega arith;
-}
+pub cell_in_range : (n : ℕ) → n < 2 ^ total cell_widths → IsCell (cell_at n)
+cell_in_range n h = cell_is (unpacked cell_table n) (unpacked_fit cell_table n refl)
 
-pub cell_same : (n : ℕ) → n < 2 ^ 48 → cell_number (cell_at n) ≡ n
-cell_same n h =
-    let a = raw-signed 15 (n / 2 ^ 33 % 2 ^ 15) (omega arith) (omega arith) in
-    let b = raw-signed 22 (n / 2 ^ 11 % 2 ^ 22) (omega arith) (omega arith) in
-    let e = bit_odd (n / 2 ^ 6) in
-    rw (a, b, e) (omega arith)
+pub cell_same : (n : ℕ) → n < 2 ^ total cell_widths → cell_number (cell_at n) ≡ n
+cell_same n h = packed-unpacked cell_table n refl h
 
 pub satellite_widths_few : All (λ w. w ≤ 64) satellite_widths
 satellite_widths_few k d h = few k d h

@@ -1,21 +1,42 @@
 -- The fields of MSM7, for a satellite and for a cell.
-use Rattle.std.specs.Prelude.{ℕ, ℤ, negsuc, ◌^◌, ◌<◌, ◌/◌, ◌%◌, ◌==◌, List, [], ◌∷◌, Bool, not, nat_le, Some, None, Option, if◌then◌else◌}
+use Rattle.std.specs.Prelude.{ℕ, ℤ, negsuc, ◌^◌, ◌<◌, List, [], ◌∷◌, Bool, not, nat_le, Some, None, Option, if◌then◌else◌}
 use Rattle.std.specs.List.{list_any}
 use Rattle.rtcm_msg.specs.declared.fault.Field.{Field}
 use Rattle.rtcm_msg.specs.Ranges.{fits_int}
-use Rattle.rtcm_bits.specs.Bits.{bit, raw, signed, FitsInt}
+use Rattle.rtcm_bits.specs.Bits.{FitsInt}
+use Rattle.rtcm_msg.specs.Layout.{Table, Uint, Int, Flag, Contents, widths, ◌▸◌}
 use Rattle.rtcm_msg.specs.Fractions.{scaled, joined, rate_joined}
-use Rattle.rtcm_msg.specs.Packed.{packed}
+use Rattle.rtcm_msg.specs.Packed.{packed, unpacked}
 use Rattle.rtcm_msg.specs.declared.grid7.Satellite7.{Satellite7}
 use Rattle.rtcm_msg.specs.declared.grid7.Cell7.{Cell7}
 use Rattle.rtcm_msg.specs.declared.fault.Field.TheVariants as fields
 use Rattle.rtcm_msg.specs.Fractions as fractions
 
+-- the fields of a satellite in MSM7
+abbrev pub satellite_table : Table
+satellite_table =
+    (397, Uint 8)        -- rough range, whole ms, 255 invalid
+    ∷ (0, Uint 4)        -- extended satellite information, which has no number of its own for GPS and Galileo
+    ∷ (398, Uint 10)     -- rough range below 1 ms, 2^-10 ms
+    ∷ (399, Int 14)      -- rough phase range rate, m/s, -2^13 invalid
+    ∷ []
+
+-- the fields of a cell in MSM7
+abbrev pub cell_table : Table
+cell_table =
+    (405, Int 20)        -- fine pseudorange, 2^-29 ms, -2^19 invalid
+    ∷ (406, Int 24)      -- fine phase range, 2^-31 ms, -2^23 invalid
+    ∷ (407, Uint 10)     -- lock time indicator
+    ∷ (420, Flag)        -- half-cycle ambiguity indicator
+    ∷ (408, Uint 10)     -- carrier to noise ratio, 2^-4 dB-Hz, 0 not computed
+    ∷ (404, Int 15)      -- fine phase range rate, 0.0001 m/s, -2^14 invalid
+    ∷ []
+
 abbrev pub satellite_widths : List ℕ
-satellite_widths = 8 ∷ 4 ∷ 10 ∷ 14 ∷ []
+satellite_widths = widths satellite_table
 
 abbrev pub cell_widths : List ℕ
-cell_widths = 20 ∷ 24 ∷ 10 ∷ 1 ∷ 10 ∷ 15 ∷ []
+cell_widths = widths cell_table
 
 pub record IsSatellite (s : Satellite7) : Type 0 where
   pub whole : s.whole < 2 ^ 8
@@ -30,17 +51,31 @@ pub record IsCell (c : Cell7) : Type 0 where
   pub strength : c.strength < 2 ^ 10
   pub rate : FitsInt 15 c.rate
 
+-- what the fields of a satellite and of a cell hold, and back
+abbrev pub satellite_contents : Satellite7 → Contents satellite_table
+satellite_contents s = s.whole ▸ s.extended ▸ s.fraction ▸ s.rate ▸ tt
+
+abbrev pub satellite_of : Contents satellite_table → Satellite7
+satellite_of (whole, (extended, (fraction, (rate, end)))) = record { whole = whole; extended = extended; fraction = fraction; rate = rate }
+
+abbrev pub cell_contents : Cell7 → Contents cell_table
+cell_contents c = c.range ▸ c.phase ▸ c.lock ▸ c.half_cycle ▸ c.strength ▸ c.rate ▸ tt
+
+abbrev pub cell_of : Contents cell_table → Cell7
+cell_of (range, (phase, (lock, (half_cycle, (strength, (rate, end)))))) = record { range = range; phase = phase; lock = lock; half_cycle = half_cycle; strength = strength; rate = rate }
+
+-- in one number, and back
 abbrev pub satellite_number : Satellite7 → ℕ
-satellite_number s = packed satellite_widths (s.whole ∷ s.extended ∷ s.fraction ∷ raw 14 s.rate ∷ [])
+satellite_number s = packed satellite_table (satellite_contents s)
 
 abbrev pub satellite_at : ℕ → Satellite7
-satellite_at p = record { whole = p / 2 ^ 28 % 2 ^ 8; extended = p / 2 ^ 24 % 2 ^ 4; fraction = p / 2 ^ 14 % 2 ^ 10; rate = signed 14 (p % 2 ^ 14) }
+satellite_at p = satellite_of (unpacked satellite_table p)
 
 abbrev pub cell_number : Cell7 → ℕ
-cell_number c = packed cell_widths (raw 20 c.range ∷ raw 24 c.phase ∷ c.lock ∷ bit c.half_cycle ∷ c.strength ∷ raw 15 c.rate ∷ [])
+cell_number c = packed cell_table (cell_contents c)
 
 abbrev pub cell_at : ℕ → Cell7
-cell_at p = record { range = signed 20 (p / 2 ^ 60 % 2 ^ 20); phase = signed 24 (p / 2 ^ 36 % 2 ^ 24); lock = p / 2 ^ 26 % 2 ^ 10; half_cycle = p / 2 ^ 25 % 2 ^ 1 == 1; strength = p / 2 ^ 15 % 2 ^ 10; rate = signed 15 (p % 2 ^ 15) }
+cell_at p = cell_of (unpacked cell_table p)
 
 abbrev pub number : Bool → ℕ
 number is_galileo = if is_galileo then 1097 else 1077
