@@ -63,7 +63,8 @@ values_took (f ∷ fs) c signs room =
     record {
       room = room;
       fit = (content_fits f.1 n sign took.fits, rest.fit);
-      bits = took.bits ∙ (ap (λ t. uint w n ++ t) rest.bits ∙ (sym (append_assoc (uint w n) tail (behind fs (after c w)).rest) ∙ ap (λ (k : ℕ). (uint w k ++ tail) ++ (behind fs (after c w)).rest) (sym (number-content f.1 n sign took.fits)))) }
+      bits = took.bits ∙ (ap (λ t. uint w n ++ t) rest.bits ∙ (sym (append_assoc (uint w n) tail (behind fs (after c w)).rest) ∙ ap (λ (k : ℕ). (uint w k ++ tail) ++ (behind fs (after c w)).rest) (sym (number-content f.1 n sign took.fits))));
+    }
 
 pub fields_short : (t : Table) (c : Cursor) → length c.rest < total (widths t) → (k : ℕ) × (fields_at t c ≡ Err (Short k)) × (first_past (c.place + length c.rest) c.place (widths t) ≡ Some k)
 fields_short [] c h = absurd (omega arith)

@@ -50,12 +50,13 @@ in_range_of cs h (station, (realization, (gps, (glonass, (galileo, (reference, (
 took_bits : (has : Bool) (c : Cursor) (n : Contents station_table × Cursor) (h : Option ℕ × Cursor) → FieldsTook station_table c n → IfSome h.0 (λ k. k < 2 ^ 16) → is_some h.0 ≡ has → n.1.rest ≡ spelled (height_fields h.0) ++ h.1.rest
     → IsRead (station_parts n.0 h.0) has c h.1
 took_bits has c n h took fits is bits = record {
-    reserved = reserved_of n.0;
-    one = took.fit.1.1.1.1.1.1.1.1.0;
-    in_range = in_range_of n.0 h.0 took.fit fits;
-    height = is;
-    bits = took.bits ∙ (ap (λ t. spelled (fields_of station_table n.0) ++ t) bits ∙ (sym (append_assoc (spelled (fields_of station_table n.0)) (spelled (height_fields h.0)) h.1.rest)
-        ∙ ap (λ (m : List Bool). m ++ h.1.rest) (sym (spelled-append (fields_of station_table n.0) (height_fields h.0))))) }
+  reserved = reserved_of n.0;
+  one = took.fit.1.1.1.1.1.1.1.1.0;
+  in_range = in_range_of n.0 h.0 took.fit fits;
+  height = is;
+  bits = took.bits ∙ (ap (λ t. spelled (fields_of station_table n.0) ++ t) bits ∙ (sym (append_assoc (spelled (fields_of station_table n.0)) (spelled (height_fields h.0)) h.1.rest)
+      ∙ ap (λ (m : List Bool). m ++ h.1.rest) (sym (spelled-append (fields_of station_table n.0) (height_fields h.0)))));
+}
 
 by_height : (has : Bool) (c : Cursor) (n : Contents station_table × Cursor) (h : Option ℕ × Cursor) → FieldsTook station_table c n → height_at has n.1 ≡ Ok h → IsRead (station_parts n.0 h.0) has c h.1
 unfolding spelled
@@ -64,7 +65,7 @@ by_height true c n h took e =
     let read = bind_ok (number_at 16 n.1) _ h e in
     let one = number_took 16 n.1 read.0 read.1 in
     subst (λ (k : Option ℕ × Cursor). IsRead (station_parts n.0 k.0) true c k.1) (ok_inj (Some read.0.0, read.0.1) h _ refl read.2)
-      (took_bits true c n (Some read.0.0, read.0.1) took one.fits refl (one.bits ∙ sym (append_assoc (uint 16 read.0.0) [] read.0.1.rest)))
+    (took_bits true c n (Some read.0.0, read.0.1) took one.fits refl (one.bits ∙ sym (append_assoc (uint 16 read.0.0) [] read.0.1.rest)))
 
 pub station_took : (has : Bool) (c : Cursor) (v : StationParts × Cursor) → station_at has c ≡ Ok v → IsRead v.0 has c v.1
 station_took has c v e =

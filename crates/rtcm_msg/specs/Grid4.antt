@@ -15,18 +15,18 @@ use Rattle.rtcm_msg.specs.Fractions as fractions
 -- the fields of a satellite in MSM4
 abbrev pub satellite_table : Table
 satellite_table =
-    (397, Uint 8)        -- rough range, whole ms, 255 invalid
-    ∷ (398, Uint 10)     -- rough range below 1 ms, 2^-10 ms
+    (397, Uint 8)  -- rough range, whole ms, 255 invalid
+    ∷ (398, Uint 10)  -- rough range below 1 ms, 2^-10 ms
     ∷ []
 
 -- the fields of a cell in MSM4
 abbrev pub cell_table : Table
 cell_table =
-    (400, Int 15)        -- fine pseudorange, 2^-24 ms, -2^14 invalid
-    ∷ (401, Int 22)      -- fine phase range, 2^-29 ms, -2^21 invalid
-    ∷ (402, Uint 4)      -- lock time indicator
-    ∷ (420, Flag)        -- half-cycle ambiguity indicator
-    ∷ (403, Uint 6)      -- carrier to noise ratio, dB-Hz, 0 not computed
+    (400, Int 15)  -- fine pseudorange, 2^-24 ms, -2^14 invalid
+    ∷ (401, Int 22)  -- fine phase range, 2^-29 ms, -2^21 invalid
+    ∷ (402, Uint 4)  -- lock time indicator
+    ∷ (420, Flag)  -- half-cycle ambiguity indicator
+    ∷ (403, Uint 6)  -- carrier to noise ratio, dB-Hz, 0 not computed
     ∷ []
 
 abbrev pub satellite_widths : List ℕ

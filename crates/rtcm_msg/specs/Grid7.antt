@@ -15,21 +15,21 @@ use Rattle.rtcm_msg.specs.Fractions as fractions
 -- the fields of a satellite in MSM7
 abbrev pub satellite_table : Table
 satellite_table =
-    (397, Uint 8)        -- rough range, whole ms, 255 invalid
-    ∷ (0, Uint 4)        -- extended satellite information, which has no number of its own for GPS and Galileo
-    ∷ (398, Uint 10)     -- rough range below 1 ms, 2^-10 ms
-    ∷ (399, Int 14)      -- rough phase range rate, m/s, -2^13 invalid
+    (397, Uint 8)  -- rough range, whole ms, 255 invalid
+    ∷ (0, Uint 4)  -- extended satellite information, which has no number of its own for GPS and Galileo
+    ∷ (398, Uint 10)  -- rough range below 1 ms, 2^-10 ms
+    ∷ (399, Int 14)  -- rough phase range rate, m/s, -2^13 invalid
     ∷ []
 
 -- the fields of a cell in MSM7
 abbrev pub cell_table : Table
 cell_table =
-    (405, Int 20)        -- fine pseudorange, 2^-29 ms, -2^19 invalid
-    ∷ (406, Int 24)      -- fine phase range, 2^-31 ms, -2^23 invalid
-    ∷ (407, Uint 10)     -- lock time indicator
-    ∷ (420, Flag)        -- half-cycle ambiguity indicator
-    ∷ (408, Uint 10)     -- carrier to noise ratio, 2^-4 dB-Hz, 0 not computed
-    ∷ (404, Int 15)      -- fine phase range rate, 0.0001 m/s, -2^14 invalid
+    (405, Int 20)  -- fine pseudorange, 2^-29 ms, -2^19 invalid
+    ∷ (406, Int 24)  -- fine phase range, 2^-31 ms, -2^23 invalid
+    ∷ (407, Uint 10)  -- lock time indicator
+    ∷ (420, Flag)  -- half-cycle ambiguity indicator
+    ∷ (408, Uint 10)  -- carrier to noise ratio, 2^-4 dB-Hz, 0 not computed
+    ∷ (404, Int 15)  -- fine phase range rate, 0.0001 m/s, -2^14 invalid
     ∷ []
 
 abbrev pub satellite_widths : List ℕ

@@ -61,5 +61,5 @@ fields_of (f ∷ fs) cs = (width f.1, number_of f.1 cs.0) ∷ fields_of fs cs.1
 -- each message begins with its number
 abbrev pub number_table : Table
 number_table =
-    (2, Uint 12)       -- message number
+    (2, Uint 12)  -- message number
     ∷ []

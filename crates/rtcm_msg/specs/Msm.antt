@@ -60,27 +60,27 @@ pub record IsValue (satellite_widths cell_widths : List ℕ) (v : MsmValue) : Ty
 -- the head of a multiple signal message, behind the message number
 abbrev pub time_table : Table
 time_table =
-    (3, Uint 12)       -- reference station ID
-    ∷ (4, Uint 30)     -- GPS epoch time, ms of the week; of Galileo DF248
+    (3, Uint 12)  -- reference station ID
+    ∷ (4, Uint 30)  -- GPS epoch time, ms of the week; of Galileo DF248
     ∷ []
 
 -- what follows the time
 abbrev pub header_table : Table
 header_table =
-    (393, Flag)        -- multiple message bit
-    ∷ (409, Uint 3)    -- issue of data station
+    (393, Flag)  -- multiple message bit
+    ∷ (409, Uint 3)  -- issue of data station
     ∷ (1, Reserved 7)
-    ∷ (411, Uint 2)    -- clock steering indicator
-    ∷ (412, Uint 2)    -- external clock indicator
-    ∷ (417, Flag)      -- divergence-free smoothing indicator
-    ∷ (418, Uint 3)    -- smoothing interval
+    ∷ (411, Uint 2)  -- clock steering indicator
+    ∷ (412, Uint 2)  -- external clock indicator
+    ∷ (417, Flag)  -- divergence-free smoothing indicator
+    ∷ (418, Uint 3)  -- smoothing interval
     ∷ []
 
 -- the masks, where the third has a bit for each pair of a satellite and a signal
 abbrev pub mask_table : Table
 mask_table =
-    (394, Uint 64)     -- satellite mask
-    ∷ (395, Uint 32)   -- signal mask
+    (394, Uint 64)  -- satellite mask
+    ∷ (395, Uint 32)  -- signal mask
     ∷ []
 
 abbrev pub cell_mask_table : ℕ → Table

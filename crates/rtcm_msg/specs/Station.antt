@@ -10,24 +10,24 @@ use Rattle.rtcm_msg.specs.Fields.{reading, ◌>>=◌}
 -- the fields of message 1005, behind the message number
 abbrev pub station_table : Table
 station_table =
-    (3, Uint 12)       -- reference station ID
-    ∷ (21, Uint 6)     -- ITRF realization year
-    ∷ (22, Flag)       -- GPS indicator
-    ∷ (23, Flag)       -- GLONASS indicator
-    ∷ (24, Flag)       -- Galileo indicator
-    ∷ (141, Flag)      -- reference station indicator
-    ∷ (25, Int 38)     -- antenna reference point ECEF-X, 0.0001 m
-    ∷ (142, Flag)      -- single receiver oscillator indicator
+    (3, Uint 12)  -- reference station ID
+    ∷ (21, Uint 6)  -- ITRF realization year
+    ∷ (22, Flag)  -- GPS indicator
+    ∷ (23, Flag)  -- GLONASS indicator
+    ∷ (24, Flag)  -- Galileo indicator
+    ∷ (141, Flag)  -- reference station indicator
+    ∷ (25, Int 38)  -- antenna reference point ECEF-X, 0.0001 m
+    ∷ (142, Flag)  -- single receiver oscillator indicator
     ∷ (1, Reserved 1)
-    ∷ (26, Int 38)     -- antenna reference point ECEF-Y, 0.0001 m
-    ∷ (364, Uint 2)    -- quarter cycle indicator
-    ∷ (27, Int 38)     -- antenna reference point ECEF-Z, 0.0001 m
+    ∷ (26, Int 38)  -- antenna reference point ECEF-Y, 0.0001 m
+    ∷ (364, Uint 2)  -- quarter cycle indicator
+    ∷ (27, Int 38)  -- antenna reference point ECEF-Z, 0.0001 m
     ∷ []
 
 -- message 1006 has one more
 abbrev pub height_table : Table
 height_table =
-    (28, Uint 16)      -- antenna height, 0.0001 m
+    (28, Uint 16)  -- antenna height, 0.0001 m
     ∷ []
 
 -- what the fields of a value hold, with the reserved bit

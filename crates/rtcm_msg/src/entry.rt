@@ -7,24 +7,29 @@ use crate::msm::Msm;
 use crate::seats::{Seat, Seats};
 use arrayvec::ArrayVec;
 
-/// What a cell says, as exact fractions.
+/// What a cell says of its satellite and signal, as exact fractions in either precision.
 #[derive(Clone, Copy, Debug, PartialEq, Eq, Default)]
 pub struct Entry {
+    /// The satellite's ID, from 1 to 64, by the place of its bit in DF394.
     pub satellite: u8,
+    /// The signal's ID, from 1 to 32, by the place of its bit in DF395.
     pub signal: u8,
-    /// In units of 2^-31 ms, as is the phase.
+    /// The pseudorange in 2^-31 ms: DF397 and DF398 with DF400 or DF405.
     pub range: Option<i64>,
+    /// The phase range in 2^-31 ms: DF397 and DF398 with DF401 or DF406.
     pub phase: Option<i64>,
-    /// In 0.0001 m/s.
+    /// The phase range rate in 0.0001 m/s: DF399 with DF404. MSM4 has none.
     pub rate: Option<i32>,
-    /// In 1/16 dB-Hz.
+    /// The carrier to noise ratio in 1/16 dB-Hz: DF403 or DF408.
     pub strength: Option<u16>,
+    /// The lock time indicator: DF402 in MSM4, DF407 in MSM7.
     pub lock: u16,
+    /// Whether a half-cycle ambiguity is possible: DF420.
     pub half_cycle: bool,
 }
 
 impl<G: Grid> Msm<G> {
-    /// What the cell of a number says, which has this seat.
+    /// What cell `i` says, where the seat is that of this cell.
     pub fn entry(&self, seat: Seat, i: usize) -> Entry
         requires place { seat.place < length self.now.satellites }
         requires cell { i < length self.now.cells }
@@ -33,6 +38,7 @@ impl<G: Grid> Msm<G> {
         ensures phase { IfSome result.phase (λ r. unsigned_abs r ≤ 2 ^ 40) }
         ensures rate { IfSome result.rate (λ r. unsigned_abs r ≤ 10 ^ 8) }
         ensures strength { IfSome result.strength (λ s. s < 1024) }
+        ensures lock { result.lock < 2 ^ G.lock_width }
     {
         let satellite = self.satellite(seat.place);
         let cell = self.cell(i);

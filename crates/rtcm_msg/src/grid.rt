@@ -32,92 +32,108 @@ pub trait Grid {
 
     ghost cell_at: { ℕ → Self.Cell };
 
-    /// The message number.
     ghost number_of: { Bool → ℕ };
 
+    /// The message number, DF002.
     fn number_of(is_galileo: bool) -> u16
         ensures { result ≡ number_of is_galileo };
 
-    /// The first part in the order of the layout that is out of range in some satellite.
     ghost satellite_fault_of: { List Self.Satellite → Option Field };
 
     ghost cell_fault_of: { List Self.Cell → Option Field };
 
+    /// The first field, in the order of the layout, that does not fit its bits in some satellite.
     fn satellite_fault(satellites: &[Self::Satellite]) -> Option<Field>
         ensures first { result ≡ satellite_fault_of satellites.now }
         ensures none { IfNone result (All is_satellite satellites.now) };
 
+    /// The first field, in the order of the layout, that does not fit its bits in some cell.
     fn cell_fault(cells: &[Self::Cell]) -> Option<Field>
         ensures first { result ≡ cell_fault_of cells.now }
         ensures none { IfNone result (All is_cell cells.now) };
 
-    /// The range in units of 2^-31 ms.
     ghost range_of: { Self.Satellite → Self.Cell → Option ℤ };
 
-    /// The phase in units of 2^-31 ms.
     ghost phase_of: { Self.Satellite → Self.Cell → Option ℤ };
 
-    /// The rate in 0.0001 m/s.
     ghost rate_of: { Self.Satellite → Self.Cell → Option ℤ };
 
-    /// The strength in 1/16 dB-Hz.
     ghost strength_of: { Self.Cell → Option ℕ };
 
     ghost lock_code_of: { Self.Cell → ℕ };
 
     ghost half_cycle_of: { Self.Cell → Bool };
 
+    ghost lock_width: { ℕ };
+
+    /// The pseudorange in 2^-31 ms: the rough range and the cell's fine pseudorange. None where either
+    /// is invalid.
     fn range(satellite: &Self::Satellite, cell: &Self::Cell) -> Option<i64>
         requires s { is_satellite satellite.now }
         requires c { is_cell cell.now }
         ensures value { result ≡ range_of satellite.now cell.now }
         ensures bound { IfSome result (λ r. unsigned_abs r ≤ 2 ^ 40) };
 
+    /// The phase range in 2^-31 ms: the rough range and the cell's fine phase range. None where either
+    /// is invalid.
     fn phase(satellite: &Self::Satellite, cell: &Self::Cell) -> Option<i64>
         requires s { is_satellite satellite.now }
         requires c { is_cell cell.now }
         ensures value { result ≡ phase_of satellite.now cell.now }
         ensures bound { IfSome result (λ r. unsigned_abs r ≤ 2 ^ 40) };
 
+    /// The phase range rate in 0.0001 m/s. None where its rough or fine part is invalid, and in MSM4.
     fn rate(satellite: &Self::Satellite, cell: &Self::Cell) -> Option<i32>
         requires s { is_satellite satellite.now }
         requires c { is_cell cell.now }
         ensures value { result ≡ rate_of satellite.now cell.now }
         ensures bound { IfSome result (λ r. unsigned_abs r ≤ 10 ^ 8) };
 
+    /// The carrier to noise ratio in 1/16 dB-Hz. None where it was not computed.
     fn strength(cell: &Self::Cell) -> Option<u16>
         requires { is_cell cell.now }
         ensures value { result ≡ strength_of cell.now }
         ensures bound { IfSome result (λ s. s < 1024) };
 
+    /// The lock time indicator, DF402 or DF407.
     fn lock_code(cell: &Self::Cell) -> u16
-        ensures { result ≡ lock_code_of cell.now };
+        requires { is_cell cell.now }
+        ensures value { result ≡ lock_code_of cell.now }
+        ensures bound { result < 2 ^ lock_width };
 
+    /// Whether a half-cycle ambiguity is possible, DF420.
     fn half_cycle(cell: &Self::Cell) -> bool
         ensures { result ≡ half_cycle_of cell.now };
 
+    /// The widths of a satellite's fields, in the order of the layout.
     fn satellite_widths() -> &'static [u32]
         ensures { result.now ≡ satellite_widths };
 
+    /// The widths of a cell's fields, in the order of the layout.
     fn cell_widths() -> &'static [u32]
         ensures { result.now ≡ cell_widths };
 
+    /// A satellite's fields in one number, the first in the most significant bits.
     fn satellite_number(satellite: &Self::Satellite) -> u64
         requires { is_satellite satellite.now }
         ensures { result ≡ satellite_packed satellite.now };
 
+    /// The satellite whose fields are in the number.
     fn satellite_of(number: u64) -> Self::Satellite
         requires { number < 2 ^ total satellite_widths }
         ensures { result ≡ satellite_at number };
 
+    /// A cell's fields in one number, the first in the most significant bits.
     fn cell_number(cell: &Self::Cell) -> u128
         requires { is_cell cell.now }
         ensures { result ≡ cell_packed cell.now };
 
+    /// The cell whose fields are in the number.
     fn cell_of(number: u128) -> Self::Cell
         requires { number < 2 ^ total cell_widths }
         ensures { result ≡ cell_at number };
 
+    // A field has at most 64 bits, and a satellite or a cell fits its number.
     ghost satellite_widths_few: { All (λ w. w ≤ 64) satellite_widths };
 
     /// The largest message has room.
@@ -129,6 +145,7 @@ pub trait Grid {
 
     ghost cell_width: { total cell_widths ≤ 128 };
 
+    // Packing and unpacking undo each other.
     ghost satellite_fits: { (s : Self.Satellite) → is_satellite s → satellite_packed s < 2 ^ total satellite_widths };
 
     ghost satellite_back: { (s : Self.Satellite) → is_satellite s → satellite_at (satellite_packed s) ≡ s };
@@ -144,6 +161,9 @@ pub trait Grid {
     ghost cell_in_range: { (n : ℕ) → n < 2 ^ total cell_widths → is_cell (cell_at n) };
 
     ghost cell_same: { (n : ℕ) → n < 2 ^ total cell_widths → cell_packed (cell_at n) ≡ n };
+
+    // A lock time indicator fits its field.
+    ghost lock_fits: { (c : Self.Cell) → is_cell c → lock_code_of c < 2 ^ lock_width };
 }
 
 /// The rough range in units of 2^-31 ms with a fine part.

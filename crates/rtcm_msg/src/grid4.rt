@@ -11,25 +11,34 @@ use rtcm_bits::{raw_of, signed_of};
 /// The data of a satellite in MSM4.
 #[derive(Clone, Copy, Debug, PartialEq, Eq, Drop)]
 pub struct Satellite4 {
+    /// Rough range in whole milliseconds, DF397: 8 bits, 255 for none.
     pub whole: u8,
+    /// Rough range below a millisecond in 2^-10 ms, DF398: 10 bits.
     pub fraction: u16,
 }
 
 /// The data of a cell in MSM4.
 #[derive(Clone, Copy, Debug, PartialEq, Eq, Drop)]
 pub struct Cell4 {
+    /// Fine pseudorange in 2^-24 ms, DF400: 15 bits with a sign, -2^14 for none.
     pub range: i16,
+    /// Fine phase range in 2^-29 ms, DF401: 22 bits with a sign, -2^21 for none.
     pub phase: i32,
+    /// Lock time indicator, DF402: 4 bits.
     pub lock: u8,
+    /// Half-cycle ambiguity indicator, DF420: whether one is possible.
     pub half_cycle: bool,
+    /// Carrier to noise ratio in dB-Hz, DF403: 6 bits, 0 for none.
     pub strength: u8,
 }
 
-/// The precision of MSM4.
+/// The precision of MSM4: messages 1074 and 1094.
 pub struct Grid4;
 
+/// The widths of DF397 and DF398.
 const SATELLITE_WIDTHS: [u32; 2] = [8, 10];
 
+/// The widths of DF400, DF401, DF402, DF420 and DF403.
 const CELL_WIDTHS: [u32; 5] = [15, 22, 4, 1, 6];
 
 // The type bounds this part already: the test tells the proof so of each element.
@@ -71,6 +80,7 @@ fn has_bad_strength(cells: &[Cell4]) -> bool
     cells.iter().any(|x| x.strength >= 64)
 }
 
+/// The fine pseudorange in 2^-31 ms.
 fn fine_range(cell: &Cell4) -> Option<i32>
     requires { grid4.IsCell cell.now }
     ensures value { result ≡ scaled (negsuc 16383) 128 cell.now.range }
@@ -83,6 +93,7 @@ fn fine_range(cell: &Cell4) -> Option<i32>
     }
 }
 
+/// The fine phase range in 2^-31 ms.
 fn fine_phase(cell: &Cell4) -> Option<i32>
     requires { grid4.IsCell cell.now }
     ensures value { result ≡ scaled (negsuc 2097151) 4 cell.now.phase }
@@ -165,6 +176,8 @@ impl Grid for Grid4 {
     ghost lock_code_of = { λ c. c.lock };
 
     ghost half_cycle_of = { λ c. c.half_cycle };
+
+    ghost lock_width = { 4 };
 
     fn range(satellite: &Satellite4, cell: &Cell4) -> Option<i64> {
         joined(satellite.whole, satellite.fraction, fine_range(cell))
@@ -259,4 +272,6 @@ impl Grid for Grid4 {
     ghost cell_in_range = { laws.cell_in_range };
 
     ghost cell_same = { laws.cell_same };
+
+    ghost lock_fits = { λ c h. h.lock };
 }

@@ -11,28 +11,40 @@ use rtcm_bits::{raw_of, signed_of};
 /// The data of a satellite in MSM7.
 #[derive(Clone, Copy, Debug, PartialEq, Eq, Drop)]
 pub struct Satellite7 {
+    /// Rough range in whole milliseconds, DF397: 8 bits, 255 for none.
     pub whole: u8,
+    /// Extended satellite information: 4 bits.
     pub extended: u8,
+    /// Rough range below a millisecond in 2^-10 ms, DF398: 10 bits.
     pub fraction: u16,
+    /// Rough phase range rate in m/s, DF399: 14 bits with a sign, -2^13 for none.
     pub rate: i16,
 }
 
 /// The data of a cell in MSM7.
 #[derive(Clone, Copy, Debug, PartialEq, Eq, Drop)]
 pub struct Cell7 {
+    /// Fine pseudorange in 2^-29 ms, DF405: 20 bits with a sign, -2^19 for none.
     pub range: i32,
+    /// Fine phase range in 2^-31 ms, DF406: 24 bits with a sign, -2^23 for none.
     pub phase: i32,
+    /// Lock time indicator, DF407: 10 bits.
     pub lock: u16,
+    /// Half-cycle ambiguity indicator, DF420: whether one is possible.
     pub half_cycle: bool,
+    /// Carrier to noise ratio in 2^-4 dB-Hz, DF408: 10 bits, 0 for none.
     pub strength: u16,
+    /// Fine phase range rate in 0.0001 m/s, DF404: 15 bits with a sign, -2^14 for none.
     pub rate: i16,
 }
 
-/// The precision of MSM7.
+/// The precision of MSM7: messages 1077 and 1097.
 pub struct Grid7;
 
+/// The widths of DF397, the extended satellite information, DF398 and DF399.
 const SATELLITE_WIDTHS: [u32; 4] = [8, 4, 10, 14];
 
+/// The widths of DF405, DF406, DF407, DF420, DF408 and DF404.
 const CELL_WIDTHS: [u32; 6] = [20, 24, 10, 1, 10, 15];
 
 // The type bounds this part already: the test tells the proof so of each element.
@@ -92,6 +104,7 @@ fn has_bad_fine_rate(cells: &[Cell7]) -> bool
     cells.iter().any(|x| x.rate < -16384 || x.rate >= 16384)
 }
 
+/// The fine pseudorange in 2^-31 ms.
 fn fine_range(cell: &Cell7) -> Option<i32>
     requires { grid7.IsCell cell.now }
     ensures value { result ≡ scaled (negsuc 524287) 4 cell.now.range }
@@ -100,10 +113,11 @@ fn fine_range(cell: &Cell7) -> Option<i32>
     if cell.range == -524288 {
         None
     } else {
-        Some(cell.range as i32 * 4)
+        Some(cell.range * 4)
     }
 }
 
+/// The fine phase range in 2^-31 ms.
 fn fine_phase(cell: &Cell7) -> Option<i32>
     requires { grid7.IsCell cell.now }
     ensures value { result ≡ scaled (negsuc 8388607) 1 cell.now.phase }
@@ -112,7 +126,7 @@ fn fine_phase(cell: &Cell7) -> Option<i32>
     if cell.phase == -8388608 {
         None
     } else {
-        Some(cell.phase as i32 * 1)
+        Some(cell.phase)
     }
 }
 
@@ -196,6 +210,8 @@ impl Grid for Grid7 {
 
     ghost half_cycle_of = { λ c. c.half_cycle };
 
+    ghost lock_width = { 10 };
+
     fn range(satellite: &Satellite7, cell: &Cell7) -> Option<i64> {
         joined(satellite.whole, satellite.fraction, fine_range(cell))
     }
@@ -215,12 +231,12 @@ impl Grid for Grid7 {
         if cell.strength == 0 {
             None
         } else {
-            Some(cell.strength as u16 * 1)
+            Some(cell.strength)
         }
     }
 
     fn lock_code(cell: &Cell7) -> u16 {
-        cell.lock as u16
+        cell.lock
     }
 
     fn half_cycle(cell: &Cell7) -> bool {
@@ -245,8 +261,8 @@ impl Grid for Grid7 {
 
     fn satellite_of(number: u64) -> Satellite7 {
         Satellite7 {
-            whole: (number >> 28 & 0xff) as u8,
-            extended: (number >> 24 & 0xf) as u8,
+            whole: (number / (1 << 28) % 256) as u8,
+            extended: (number / (1 << 24) % 16) as u8,
             fraction: (number / 16384 % 1024) as u16,
             rate: signed_of(number % 16384, 14) as i16,
         }
@@ -302,4 +318,6 @@ impl Grid for Grid7 {
     ghost cell_in_range = { laws.cell_in_range };
 
     ghost cell_same = { laws.cell_same };
+
+    ghost lock_fits = { λ c h. h.lock };
 }

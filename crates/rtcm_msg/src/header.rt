@@ -7,23 +7,31 @@ use crate::fault::{Field, MsgFault};
 use crate::field::field;
 use rtcm_bits::BitReader;
 
-/// Milliseconds.
+/// The milliseconds of a week.
 pub const WEEK: u32 = 604_800_000;
 
-/// The fields at the head of a multiple signal message.
+/// The fields at the head of a multiple signal message (MSM), behind its number.
 #[derive(Clone, Copy, Debug, PartialEq, Eq)]
 pub struct MsmHeader {
+    /// Reference station ID, DF003: 12 bits.
     pub station: u16,
-    /// In milliseconds of the week.
+    /// Epoch time in milliseconds of the week, below 604,800,000: DF004 for GPS, DF248 for Galileo.
     pub time: u32,
+    /// Multiple message bit, DF393: whether more MSMs of this station and time follow.
     pub more: bool,
+    /// Issue of data station, DF409: 3 bits.
     pub iods: u8,
+    /// Clock steering indicator, DF411: 2 bits.
     pub steering: u8,
+    /// External clock indicator, DF412: 2 bits.
     pub clock: u8,
+    /// Divergence-free smoothing indicator, DF417.
     pub smoothing: bool,
+    /// Smoothing interval, DF418: 3 bits.
     pub interval: u8,
 }
 
+/// Reads the head of an MSM behind its number. A time of a week or more is a fault as soon as it was read.
 #[tactic(auto, unfolding(crate::specs::Msm::header_at))]
 pub(crate) fn read_header(reader: &mut BitReader) -> Result<MsmHeader, MsgFault>
     ensures read { Gives (λ h. (h, reader.new)) result (header_at reader.old) }
@@ -36,7 +44,7 @@ pub(crate) fn read_header(reader: &mut BitReader) -> Result<MsmHeader, MsgFault>
     }
     let more = field(reader, 1)? == 1;
     let iods = field(reader, 3)? as u8;
-    field(reader, 7)?;
+    let _reserved = field(reader, 7)?;
     let steering = field(reader, 2)? as u8;
     let clock = field(reader, 2)? as u8;
     let smoothing = field(reader, 1)? == 1;
@@ -53,7 +61,7 @@ pub(crate) fn read_header(reader: &mut BitReader) -> Result<MsmHeader, MsgFault>
     })
 }
 
-/// The first part, in the order of the layout, that is out of range, but for the time.
+/// The first field, in the order of the layout, that does not fit its bits. The time is judged before.
 pub(crate) fn header_fault(header: &MsmHeader) -> Option<Field>
     ensures first { result ≡ header_fault header.now }
     ensures none { header.now.time < 604800000 → IfNone result (IsHeader header.now) }

@@ -1,4 +1,6 @@
-//! Messages and their values.
+//! The messages of RTCM 10403.3 that the converter reads, and their values, both ways: station messages
+//! 1005 and 1006, and the multiple signal messages (MSM) 1074, 1077, 1094 and 1097. `decode` reads a
+//! message, `encode` writes one, `entries` says what its cells mean.
 #![tactic(auto)]
 
 mod columns;

@@ -8,7 +8,7 @@ use crate::field::field;
 use rtcm_bits::BitReader;
 use std::marker::Model;
 
-/// The satellites, the signals, and the pairs of both that have a cell.
+/// The satellites, the signals, and the pairs of both that have a cell: at most 64 pairs.
 #[derive(Clone, Copy, Debug, PartialEq, Eq)]
 pub struct Masks {
     satellites: u64,
@@ -29,8 +29,14 @@ impl Model for Masks {
 }
 
 impl Masks {
-    /// The most significant bit of the first two is ID 1. The first pair is the most significant bit
-    /// of as many as there are pairs.
+    /// The masks of an MSM: satellites DF394, signals DF395, cells DF396. The most significant bit of
+    /// the first two is ID 1. The cell mask has a bit for each pair, by satellite and within it by
+    /// signal, and is taken as a number, the first pair in its most significant bit.
+    ///
+    /// # Errors
+    ///
+    /// `TooManyCells` where there are more than 64 pairs of a satellite and a signal, else
+    /// `OutOfRange(Field::Cells)` where the cell mask has more bits than there are pairs.
     pub fn new(satellites: u64, signals: u32, cells: u64) -> Result<Masks, ValueFault>
         ensures { result ≡ sets_of satellites signals cells }
     {
@@ -48,18 +54,21 @@ impl Masks {
         })
     }
 
+    /// The satellite mask, DF394.
     pub fn satellites(&self) -> u64
         ensures { result ≡ self.now.satellites }
     {
         self.satellites
     }
 
+    /// The signal mask, DF395.
     pub fn signals(&self) -> u32
         ensures { result ≡ self.now.signals }
     {
         self.signals
     }
 
+    /// The cell mask, DF396, as a number.
     pub fn cells(&self) -> u64
         ensures value { result ≡ self.now.cells }
         ensures sets { AreSets self.now }
@@ -68,6 +77,7 @@ impl Masks {
     }
 }
 
+/// Reads the masks. More than 64 pairs are a fault as soon as the first two masks were read.
 #[tactic(auto, unfolding(crate::specs::Msm::sets_at))]
 pub(crate) fn read_masks(reader: &mut BitReader) -> Result<Masks, MsgFault>
     ensures { Gives (λ m. (m, reader.new)) result (sets_at reader.old) }

@@ -17,19 +17,24 @@ use crate::writing::write_station;
 use arrayvec::ArrayVec;
 use rtcm_bits::{BitReader, BitWriter};
 
-/// A message.
+/// A message of RTCM 10403.3.
 #[derive(Drop)]
 pub enum Message {
+    /// Message 1005 or 1006.
     Station(Station),
+    /// Message 1074 or 1094.
     Msm4(Msm<Grid4>),
+    /// Message 1077 or 1097.
     Msm7(Msm<Grid7>),
-    /// A message that is not read, with the station and DF393 of a multiple signal message.
+    /// A message of another number, DF002. Of a multiple signal message of any system and type that is
+    /// long enough for them, `set` has the station, DF003, and the multiple message bit, DF393.
     Other {
         number: u16,
         set: Option<(u16, bool)>,
     },
 }
 
+/// The station and DF393 of a multiple signal message behind its number, if they are there.
 fn read_set(reader: &mut BitReader) -> Option<(u16, bool)>
     ensures { result ≡ set_at reader.old }
 {
@@ -39,12 +44,14 @@ fn read_set(reader: &mut BitReader) -> Option<(u16, bool)>
     Some((station, more))
 }
 
+/// Whether a message of this number is a multiple signal message, of whatever system and type.
 fn is_listed(number: u16) -> bool
     ensures { result ≡ is_listed number }
 {
     number >= 1071 && number <= 1127 && number % 10 >= 1 && number % 10 <= 7
 }
 
+/// Reads what stands behind the message number.
 #[tactic(auto, unfolding(crate::specs::Reading::body_at))]
 fn read_body(number: u16, reader: &mut BitReader) -> Result<Message, MsgFault>
     ensures { Gives (λ m. m) result (body_at number reader.old) }
@@ -67,6 +74,7 @@ fn read_body(number: u16, reader: &mut BitReader) -> Result<Message, MsgFault>
     }
 }
 
+/// Reads a message of at most 1,023 bytes.
 #[tactic(auto, unfolding(crate::specs::Reading::message_of))]
 fn read_message(bytes: &[u8]) -> Result<Message, MsgFault>
     requires { 8 * length bytes.now < 2 ^ 64 }
@@ -77,7 +85,7 @@ fn read_message(bytes: &[u8]) -> Result<Message, MsgFault>
     read_body(number, &mut reader)
 }
 
-/// The bytes that a message has at most.
+/// The first 1,023 bytes, behind which no field ends.
 fn front(bytes: &[u8]) -> &[u8]
     ensures few { length result.now ≤ 1023 }
     ensures same { message_at result.now ≡ message_at bytes.now }
@@ -89,7 +97,15 @@ fn front(bytes: &[u8]) -> &[u8]
     }
 }
 
-/// Reads a message. Nothing that is read ends behind the first 1,023 bytes.
+/// Reads a message. Reserved bits and what stands behind the last field may be anything. A number
+/// other than the six that are read gives `Message::Other`.
+///
+/// # Errors
+///
+/// The first fault in the order of the fields: `Short` with the number of bits before the first field
+/// that does not end within the message, `BadTime` for an epoch time of a week or more as soon as it
+/// was read, `TooManyCells` for more than 64 pairs of a satellite and a signal as soon as both masks
+/// were read.
 pub fn decode(bytes: &[u8]) -> Result<Message, MsgFault>
     ensures exact { Gives (λ m. m) result (message_at bytes.now) }
     // What is spelled is read, whatever the reserved bits are and whatever follows.
@@ -102,6 +118,7 @@ pub fn decode(bytes: &[u8]) -> Result<Message, MsgFault>
 }
 
 impl Message {
+    /// Whether the message is of a number that is not read.
     pub fn is_other(&self) -> bool
         ensures { result ≡ is_other self.now }
     {
@@ -109,6 +126,7 @@ impl Message {
     }
 }
 
+/// Writes a message with its number.
 fn write_message(writer: &mut BitWriter, message: &Message)
     requires known { is_other message.now ≡ false }
     requires new { length writer.old ≡ 0 }
@@ -123,7 +141,8 @@ fn write_message(writer: &mut BitWriter, message: &Message)
     }
 }
 
-/// Writes a message, with zero for what is reserved, and filled up with zero bits to a byte.
+/// Replaces the bytes by the message, with zero for the reserved bits, and filled up with zero bits to
+/// a byte. `decode` gives the message back.
 pub fn encode(message: &Message, bytes: &mut ArrayVec<u8, 1023>)
     requires { is_other message.now ≡ false }
     ensures bits { bits_of bytes.new.items ≡ filled (message_bits message.now 0) }

@@ -15,7 +15,9 @@ use arrayvec::ArrayVec;
 use rtcm_bits::{BitReader, BitWriter};
 use std::marker::{Model, PhantomData};
 
-/// A multiple signal message, in the precision of the grid.
+/// A multiple signal message of GPS or Galileo, in the precision of the grid: a header, the satellites
+/// and signals that the masks name, data for each satellite, and a cell for each pair that has one.
+// The data stand packed, each satellite's or cell's fields in one number.
 #[derive(Drop)]
 pub struct Msm<G: Grid> {
     is_galileo: bool,
@@ -37,7 +39,14 @@ impl<G: Grid> Model for Msm<G> {
 }
 
 impl<G: Grid> Msm<G> {
-    /// A message of these parts. Its satellites and cells stand in the order of the masks.
+    /// A message of these parts. The satellites stand in rising order of their IDs, the cells in the
+    /// order of the cell mask.
+    ///
+    /// # Errors
+    ///
+    /// In this order: `BadTime` where the time is a week or more, `CellCount` where there are more or
+    /// fewer satellites or cells than the masks have, `OutOfRange` with the first field, in the order
+    /// of the layout, that does not fit its bits somewhere.
     pub fn new(
         is_galileo: bool,
         header: MsmHeader,
@@ -90,12 +99,14 @@ impl<G: Grid> Msm<G> {
         G::number_of(self.is_galileo)
     }
 
+    /// The fields at the head of the message.
     pub fn header(&self) -> MsmHeader
         ensures { result ≡ self.now.header }
     {
         self.header
     }
 
+    /// The satellites, signals and pairs that the message has data of.
     pub fn masks(&self) -> Masks
         ensures { result ≡ self.now.sets }
     {
@@ -110,6 +121,7 @@ impl<G: Grid> Msm<G> {
         self.satellites.len()
     }
 
+    /// How many cells there are.
     pub fn cells(&self) -> usize
         ensures count { result ≡ length self.now.cells }
         ensures set { result ≡ count_ones self.now.sets.cells }
@@ -126,6 +138,7 @@ impl<G: Grid> Msm<G> {
         G::satellite_of(self.satellites[i])
     }
 
+    /// The data of a cell, in the order of the cell mask.
     pub fn cell(&self, i: usize) -> G::Cell
         requires { i < length self.now.cells }
         ensures value { result ≡ G.cell_at (slice_index self.now.cells i) }
@@ -135,6 +148,7 @@ impl<G: Grid> Msm<G> {
     }
 }
 
+/// So many zeros.
 fn zeros(count: usize) -> ArrayVec<u128, 64>
     requires { count ≤ 64 }
     ensures { result.items ≡ replicate count 0 }
@@ -146,6 +160,7 @@ fn zeros(count: usize) -> ArrayVec<u128, 64>
     zeros
 }
 
+/// The numbers in 64 bits.
 fn narrow(numbers: &ArrayVec<u128, 64>) -> ArrayVec<u64, 64>
     requires { EachBelow 64 numbers.now.items }
     ensures { result.items ≡ numbers.now.items }
@@ -175,6 +190,7 @@ fn read_numbers(
     Ok(numbers)
 }
 
+/// Reads an MSM behind its number.
 #[tactic(auto, unfolding(crate::specs::Msm::msm_at))]
 pub(crate) fn read_msm<G: Grid>(
     reader: &mut BitReader,
@@ -204,6 +220,7 @@ pub(crate) fn read_msm<G: Grid>(
     })
 }
 
+/// The numbers in 128 bits.
 fn widen(numbers: &ArrayVec<u64, 64>) -> ArrayVec<u128, 64>
     ensures { result.items ≡ numbers.now.items }
 {
@@ -214,7 +231,7 @@ fn widen(numbers: &ArrayVec<u64, 64>) -> ArrayVec<u128, 64>
     wide
 }
 
-/// Writes a message.
+/// Writes an MSM, with zero for the reserved bits.
 pub(crate) fn write_msm<G: Grid>(writer: &mut BitWriter, msm: &Msm<G>)
     requires { length writer.old ≡ 0 }
     ensures value { IsValue G.satellite_widths G.cell_widths msm.now }
@@ -230,6 +247,7 @@ pub(crate) fn write_msm<G: Grid>(writer: &mut BitWriter, msm: &Msm<G>)
     write_columns(writer, G::cell_widths(), msm.cells.as_slice());
 }
 
+/// Each satellite's fields in one number.
 fn pack_satellites<G: Grid>(satellites: &[G::Satellite]) -> ArrayVec<u64, 64>
     requires few { length satellites.now ≤ 64 }
     requires in_range { All G.is_satellite satellites.now }
@@ -243,6 +261,7 @@ fn pack_satellites<G: Grid>(satellites: &[G::Satellite]) -> ArrayVec<u64, 64>
     packed
 }
 
+/// Each cell's fields in one number.
 fn pack_cells<G: Grid>(cells: &[G::Cell]) -> ArrayVec<u128, 64>
     requires few { length cells.now ≤ 64 }
     requires in_range { All G.is_cell cells.now }

@@ -7,11 +7,14 @@ use crate::masks::Masks;
 use arrayvec::ArrayVec;
 use std::marker::Model;
 
-/// A cell's satellite, by its place in the set and its ID, and its signal.
+/// The satellite and the signal of a cell.
 #[derive(Clone, Copy, Debug, PartialEq, Eq, Default)]
 pub struct Seat {
+    /// The place of the satellite among the message's satellites, from 0.
     pub place: usize,
+    /// The satellite's ID, from 1 to 64.
     pub satellite: u8,
+    /// The signal's ID, from 1 to 32.
     pub signal: u8,
 }
 
@@ -49,6 +52,7 @@ fn pair_at(masks: &Masks, signals: u32, pair: u32) -> Seat
     }
 }
 
+/// Whether the pair at a place of all pairs has a cell.
 fn has_cell(masks: &Masks, count: u32, pair: u32) -> bool
     requires count { count ≡ pairs masks.now.satellites masks.now.signals }
     requires there { pair < pairs masks.now.satellites masks.now.signals }
@@ -74,7 +78,8 @@ fn first_cell(masks: &Masks, count: u32, signals: u32, from: u32) -> Option<(u32
     None
 }
 
-/// Goes over the cells of a message in the order of the cell mask.
+/// Goes over the satellites and signals of a message's cells, in the order of the cell mask. It takes
+/// no memory.
 #[derive(Drop)]
 pub struct Seats {
     masks: Masks,
@@ -96,6 +101,7 @@ impl Model for Seats {
 }
 
 impl Seats {
+    /// The walk at its start.
     pub fn new(masks: Masks) -> Seats
         ensures all { result ≡ record { sets = masks; left = seats masks } }
         ensures count { length (seats masks) ≡ count_ones masks.cells }
@@ -110,7 +116,7 @@ impl Seats {
         }
     }
 
-    /// The next cell.
+    /// The satellite and signal of the next cell.
     pub fn next(&mut self) -> Option<Seat>
         ensures some { IfSome result (λ x. (self.old.left ≡ x ∷ self.new.left) × (x.place < count_ones self.old.sets.satellites)) }
         ensures none { IfNone result ((self.old.left ≡ []) × (self.new.left ≡ [])) }

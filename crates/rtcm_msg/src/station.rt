@@ -10,25 +10,38 @@ use crate::field::field;
 use rtcm_bits::{BitReader, signed_of};
 use std::marker::Model;
 
-/// The fields of a station message. With a height it is message 1006, with none 1005.
+/// What a station message says of the antenna reference point. With a height it is message 1006,
+/// with none message 1005.
 #[derive(Clone, Copy, Debug, PartialEq, Eq)]
 pub struct StationParts {
+    /// Reference station ID, DF003: 12 bits.
     pub station: u16,
+    /// ITRF realization year, DF021: 6 bits.
     pub realization: u8,
+    /// Whether the station gives GPS, DF022.
     pub gps: bool,
+    /// Whether the station gives GLONASS, DF023.
     pub glonass: bool,
+    /// Whether the station gives Galileo, DF024.
     pub galileo: bool,
+    /// Reference station indicator, DF141: whether the station is not a physical one.
     pub reference: bool,
+    /// Antenna reference point ECEF-X, DF025: 38 bits with a sign, in 0.0001 m.
     pub x: i64,
+    /// Single receiver oscillator indicator, DF142.
     pub oscillator: bool,
+    /// Antenna reference point ECEF-Y, DF026: 38 bits with a sign, in 0.0001 m.
     pub y: i64,
+    /// Quarter cycle indicator, DF364: 2 bits.
     pub quarter: u8,
+    /// Antenna reference point ECEF-Z, DF027: 38 bits with a sign, in 0.0001 m.
     pub z: i64,
+    /// Antenna height, DF028, in 0.0001 m; message 1006 alone has it.
     pub height: Option<u16>,
 }
 
-/// A station message.
-#[derive(Drop)]
+/// A station message, 1005 or 1006, whose fields are all in range.
+#[derive(Clone, Copy, Debug, PartialEq, Eq)]
 pub struct Station {
     parts: StationParts,
 }
@@ -43,12 +56,19 @@ impl Model for Station {
     ghost view = { λ s. s.parts };
 
     ghost invariant = { λ s. InRange s.parts };
+
+    ghost inverse = { λ s. record { parts = s } };
 }
 
 impl Station {
-    /// A station of these parts, or the first part in the order of the message that is out of range.
+    /// A station of these parts.
+    ///
+    /// # Errors
+    ///
+    /// `OutOfRange` names the first field, in the order of the message, that does not fit its bits.
     pub fn new(parts: StationParts) -> Result<Station, ValueFault>
-        ensures { result ≡ station_made (station_fault parts) parts }
+        ensures exact { result ≡ station_made (station_fault parts) parts }
+        ensures accepted { InRange parts → result ≡ Ok parts }
     {
         if parts.station >= 1 << 12 {
             return Err(ValueFault::OutOfRange(Field::Station));
@@ -71,6 +91,7 @@ impl Station {
         Ok(Station { parts })
     }
 
+    /// The parts that it was made of.
     pub fn parts(&self) -> StationParts
         ensures value { result ≡ self.now }
         ensures in_range { InRange result }
@@ -79,6 +100,7 @@ impl Station {
     }
 }
 
+/// Whether a coordinate fits 38 bits with a sign.
 fn fits_coordinate(z: i64) -> bool
     ensures value { result ≡ fits_int 38 z }
     ensures fits { IsTrue result ↔ FitsInt 38 z }
@@ -86,6 +108,7 @@ fn fits_coordinate(z: i64) -> bool
     z >= -(1 << 37) && z < 1 << 37
 }
 
+/// Reads the fields behind the message number, in the order of the table.
 #[tactic(auto, unfolding(crate::specs::Station::station_at))]
 fn read_parts(reader: &mut BitReader, has_height: bool) -> Result<StationParts, MsgFault>
     ensures read { Gives (λ parts. (parts, reader.new)) result (station_at has_height reader.old) }
@@ -99,7 +122,7 @@ fn read_parts(reader: &mut BitReader, has_height: bool) -> Result<StationParts, 
     let reference = field(reader, 1)? == 1;
     let x = signed_of(field(reader, 38)?, 38);
     let oscillator = field(reader, 1)? == 1;
-    field(reader, 1)?;
+    let _reserved = field(reader, 1)?;
     let y = signed_of(field(reader, 38)?, 38);
     let quarter = field(reader, 2)? as u8;
     let z = signed_of(field(reader, 38)?, 38);
@@ -124,6 +147,7 @@ fn read_parts(reader: &mut BitReader, has_height: bool) -> Result<StationParts, 
     })
 }
 
+/// Reads a station message behind its number.
 pub(crate) fn read_station(reader: &mut BitReader, has_height: bool) -> Result<Station, MsgFault>
     ensures { Gives (λ s. (s, reader.new)) result (station_at has_height reader.old) }
 {

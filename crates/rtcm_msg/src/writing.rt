@@ -23,6 +23,7 @@ fn write_fields(writer: &mut BitWriter, fields: &[(u32, u64)])
     }
 }
 
+/// Writes the fields that messages 1005 and 1006 have both.
 fn write_common(writer: &mut BitWriter, number: u16, parts: &StationParts)
     requires room { length writer.old ≤ 8000 }
     requires in_range { InRange parts.now }
@@ -52,6 +53,7 @@ fn write_common(writer: &mut BitWriter, number: u16, parts: &StationParts)
     );
 }
 
+/// Writes a station message with its number.
 pub(crate) fn write_station(writer: &mut BitWriter, parts: &StationParts)
     requires room { length writer.old ≤ 8000 }
     requires in_range { InRange parts.now }
@@ -66,6 +68,7 @@ pub(crate) fn write_station(writer: &mut BitWriter, parts: &StationParts)
     }
 }
 
+/// Writes the head of an MSM with its number.
 pub(crate) fn write_header(writer: &mut BitWriter, number: u16, header: &MsmHeader)
     requires { length writer.old ≤ 8000 }
     ensures bits { writer.new ≡ writer.old ++ spelled (header_fields number header.now 0) }
@@ -88,6 +91,7 @@ pub(crate) fn write_header(writer: &mut BitWriter, number: u16, header: &MsmHead
     );
 }
 
+/// Writes the masks.
 pub(crate) fn write_masks(writer: &mut BitWriter, masks: &Masks)
     requires { length writer.old ≤ 8000 }
     ensures bits { writer.new ≡ writer.old ++ spelled (set_fields masks.now) }
@@ -133,6 +137,7 @@ pub(crate) fn write_columns(writer: &mut BitWriter, widths: &[u32], numbers: &[u
     }
 }
 
+/// The widths together.
 fn total_width(widths: &[u32]) -> u32
     requires { total widths.now ≤ 128 }
     ensures { result ≡ total widths.now }
