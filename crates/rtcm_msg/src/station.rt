@@ -41,7 +41,7 @@ pub struct StationParts {
 }
 
 /// A station message, 1005 or 1006, whose fields are all in range.
-#[derive(Clone, Copy, Debug, PartialEq, Eq)]
+#[derive(Drop)]
 pub struct Station {
     parts: StationParts,
 }
@@ -56,8 +56,6 @@ impl Model for Station {
     ghost view = { λ s. s.parts };
 
     ghost invariant = { λ s. InRange s.parts };
-
-    ghost inverse = { λ s. record { parts = s } };
 }
 
 impl Station {
