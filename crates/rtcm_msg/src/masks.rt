@@ -84,11 +84,11 @@ pub(crate) fn read_masks(reader: &mut BitReader) -> Result<Masks, MsgFault>
 {
     let satellites = field(reader, 64)?;
     let signals = field(reader, 32)? as u32;
-    let pairs = satellites.count_ones() * signals.count_ones();
-    if pairs > 64 {
+    let count = satellites.count_ones() * signals.count_ones();
+    if count > 64 {
         return Err(MsgFault::TooManyCells);
     }
-    let cells = field(reader, pairs)?;
+    let cells = field(reader, count)?;
     Ok(Masks {
         satellites,
         signals,
