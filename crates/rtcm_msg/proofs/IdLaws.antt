@@ -6,7 +6,7 @@ use Rattle.rtcm_bits.specs.Bits.{uint, number}
 use Rattle.rtcm_msg.specs.BitLaws.{length-uint, uint-number, number-uint, number-fits}
 use Rattle.rtcm_msg.specs.Entries.{up_from, ids, Rising}
 
-weaken : (low more high : ℕ) (xs : List ℕ) → low ≤ more → Rising more high xs → Rising low high xs
+pub weaken : (low more high : ℕ) (xs : List ℕ) → low ≤ more → Rising more high xs → Rising low high xs
 weaken low more high [] h r = tt
 weaken low more high (x ∷ xs) h r = (omega (arith, h, r.0), r.1, r.2)
 
@@ -38,7 +38,7 @@ up_one i (false ∷ bs) (false ∷ cs) len e = ap (λ t. false ∷ t) (up_one (i
 up_one i (true ∷ bs) (false ∷ cs) len e = absurd (above i (up_from (i + 1) bs) cs e)
 up_one i (false ∷ bs) (true ∷ cs) len e = absurd (above i (up_from (i + 1) cs) bs (sym e))
 
-uint_value : (w n : ℕ) → n < 2 ^ w → number (uint w n) ≡ n
+pub uint_value : (w n : ℕ) → n < 2 ^ w → number (uint w n) ≡ n
 uint_value w n h = let low : n % 2 ^ w ≡ n = mod-eq_of_lt h in number-uint w 0 n ∙ omega (arith, low)
 
 pub ids_one : (w m n : ℕ) → m < 2 ^ w → n < 2 ^ w → ids w m ≡ ids w n → m ≡ n
