@@ -13,12 +13,8 @@ use Rattle.rtcm_msg.proofs.SeatLaws.{ids_count, pairs_count, seats_count}
 
 -- ---- pairs rise
 
-abbrev key : Seat → ℕ
+abbrev pub key : Seat → ℕ
 key x = pair_number (pair x)
-
-higher : (low high top : ℕ) (xs : List ℕ) → high ≤ top → Rising low high xs → Rising low top xs
-higher low high top [] h r = tt
-higher low high top (x ∷ xs) h r = (r.0, omega (arith, h, r.1), higher (x + 1) high top xs h r.2)
 
 -- a rising list in front of one that begins above it
 rising-append : (low middle high : ℕ) (xs ys : List ℕ) → low ≤ middle + 1 → middle ≤ high → Rising low middle xs → Rising (middle + 1) high ys → Rising low high (xs ++ ys)
@@ -45,7 +41,7 @@ rows_rising gs k low (x ∷ xs) g h r =
     rw (map-append key (map (seat (k, x)) gs) (flat_map (λ y. map (seat y) gs) (enumerate_from (k + 1) xs)))
     (rising-append (64 * low + 1) (64 * x + 32) (64 * 64 + 32) _ _ (omega (arith, r.0)) (omega (arith, r.1)) here above)
 
-all_rising : (s : Sets) → Rising (64 * 1 + 1) (64 * 64 + 32) (map key (all_pairs s))
+pub all_rising : (s : Sets) → Rising (64 * 1 + 1) (64 * 64 + 32) (map key (all_pairs s))
 all_rising s = rows_rising (ids 32 s.signals) 0 1 (ids 64 s.satellites) (ids_rising 32 s.signals) (omega arith) (ids_rising 64 s.satellites)
 
 chosen_rising : (low high : ℕ) (bits : List Bool) (xs : List Seat) → Rising low high (map key xs) → Rising low high (map key (chosen bits xs))
@@ -55,7 +51,7 @@ chosen_rising low high (b ∷ bits) [] r = tt
 chosen_rising low high (true ∷ bits) (x ∷ xs) r = (r.0, r.1, chosen_rising (key x + 1) high bits xs r.2)
 chosen_rising low high (false ∷ bits) (x ∷ xs) r = weaken low (key x + 1) high (map key (chosen bits xs)) (omega (arith, r.0)) (chosen_rising (key x + 1) high bits xs r.2)
 
-map-map : (xs : List Seat) → map pair_number (map pair xs) ≡ map key xs
+pub map-map : (xs : List Seat) → map pair_number (map pair xs) ≡ map key xs
 map-map [] = refl
 map-map (x ∷ xs) = ap (λ t. key x ∷ t) (map-map xs)
 

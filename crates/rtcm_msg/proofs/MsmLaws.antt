@@ -10,7 +10,7 @@ use Rattle.rtcm_msg.specs.declared.header.MsmHeader.{MsmHeader}
 use Rattle.rtcm_msg.specs.Fields.{number_at, reading, ◌>>=◌, spelled}
 use Rattle.rtcm_msg.specs.Packed.{total, columns}
 use Rattle.rtcm_msg.specs.Columns.{columns_at, EachBelow}
-use Rattle.rtcm_msg.specs.Msm.{header_at, sets_at, msm_at, timely, week, IsHeader, AreSets, IsValue, Sets, MsmValue, pairs, set_fields, time_table, header_table, mask_table, time_contents, header_contents, header_of}
+use Rattle.rtcm_msg.specs.Msm.{sets_behind, header_at, sets_at, msm_at, timely, week, IsHeader, AreSets, IsValue, Sets, MsmValue, pairs, set_fields, time_table, header_table, mask_table, time_contents, header_contents, header_of}
 use Rattle.rtcm_msg.proofs.Binds.{ok_inj, bind_ok, number_took}
 use Rattle.rtcm_msg.proofs.Combine.{ok_err, cursor, number_again}
 use Rattle.rtcm_msg.proofs.WritingSteps.{spelled-append}
@@ -99,17 +99,14 @@ header_again v reserved place rest h small =
 
 -- ---- sets
 
-abbrev pub sets_rest : ℕ → ℕ → Cursor → Result (Sets × Cursor) MsgFault
-sets_rest satellites signals c = if nat_lt 64 (pairs satellites signals) then Err TooManyCells else (number_at (pairs satellites signals) c >>= λ cells. Ok (record { satellites = satellites; signals = signals; cells = cells.0 }, cells.1))
-
-pub sets_chain : (c : Cursor) → sets_at c ≡ (fields_at mask_table c >>= λ n. sets_rest n.0.0 n.0.1.0 n.1)
+pub sets_chain : (c : Cursor) → sets_at c ≡ (fields_at mask_table c >>= λ n. sets_behind n.0.0 n.0.1.0 n.1)
 unfolding sets_at
-sets_chain c = reading_is mask_table c (λ n. sets_rest n.0.0 n.0.1.0 n.1)
+sets_chain c = reading_is mask_table c (λ n. sets_behind n.0.0 n.0.1.0 n.1)
 
-pub few_rest : (satellites signals : ℕ) (c : Cursor) → pairs satellites signals ≤ 64 → sets_rest satellites signals c ≡ (number_at (pairs satellites signals) c >>= λ cells. Ok (record { satellites = satellites; signals = signals; cells = cells.0 }, cells.1))
+pub few_rest : (satellites signals : ℕ) (c : Cursor) → pairs satellites signals ≤ 64 → sets_behind satellites signals c ≡ (number_at (pairs satellites signals) c >>= λ cells. Ok (record { satellites = satellites; signals = signals; cells = cells.0 }, cells.1))
 few_rest a b c h = grind arith
 
-pub many_rest : (satellites signals : ℕ) (c : Cursor) → 64 < pairs satellites signals → sets_rest satellites signals c ≡ Err TooManyCells
+pub many_rest : (satellites signals : ℕ) (c : Cursor) → 64 < pairs satellites signals → sets_behind satellites signals c ≡ Err TooManyCells
 many_rest a b c h = grind arith
 
 pub record AreSetsRead (v : Sets) (c d : Cursor) : Type 0 where

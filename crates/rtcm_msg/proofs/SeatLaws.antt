@@ -160,8 +160,13 @@ same_seat q a b a' b' e f = rw (e, f) refl
 pub seat_found : (s : Sets) (p count : ℕ) (b : Bool) (x : Seat) → count ≡ pairs s.satellites s.signals → b ≡ true → drop p (uint count s.cells) ≡ b ∷ drop (p + 1) (uint count s.cells) → drop p (all_pairs s) ≡ x ∷ drop (p + 1) (all_pairs s) → seats_behind p s ≡ x ∷ seats_behind (p + 1) s
 seat_found s p count b x e set cell here = behind_set p (uint (pairs s.satellites s.signals) s.cells) (all_pairs s) x (rw (e, set) at cell) here
 
-pub seat_passed : (s : Sets) (p count : ℕ) (b : Bool) (x : Seat) → count ≡ pairs s.satellites s.signals → b ≡ false → drop p (uint count s.cells) ≡ b ∷ drop (p + 1) (uint count s.cells) → drop p (all_pairs s) ≡ x ∷ drop (p + 1) (all_pairs s) → seats_behind p s ≡ seats_behind (p + 1) s
+seat_passed : (s : Sets) (p count : ℕ) (b : Bool) (x : Seat) → count ≡ pairs s.satellites s.signals → b ≡ false → drop p (uint count s.cells) ≡ b ∷ drop (p + 1) (uint count s.cells) → drop p (all_pairs s) ≡ x ∷ drop (p + 1) (all_pairs s) → seats_behind p s ≡ seats_behind (p + 1) s
 seat_passed s p count b x e clear cell here = behind_clear p (uint (pairs s.satellites s.signals) s.cells) (all_pairs s) x (rw (e, clear) at cell) here
+
+pub seat_skipped : (s : Sets) (p count : ℕ) (b : Bool) → AreSets s → p < pairs s.satellites s.signals → count ≡ pairs s.satellites s.signals → b ≡ false → drop p (uint count s.cells) ≡ b ∷ drop (p + 1) (uint count s.cells) → seats_behind p s ≡ seats_behind (p + 1) s
+seat_skipped s p count b h there e clear cell =
+    let d : Seat = record { place = 0; satellite = 0; signal = 0 } in
+    seat_passed s p count b (get_or (all_pairs s) p d) e clear cell (drop-cons (all_pairs s) p d (rw (pairs_count s h) there) ∙ rw (add-one p) refl)
 
 pub seats_over : (s : Sets) (p count : ℕ) → count ≡ pairs s.satellites s.signals → p ≡ count → seats_behind p s ≡ []
 seats_over s p count e f = rw (f, e) (behind_all s)

@@ -6,7 +6,7 @@ ghost use Rattle.rtcm_msg.specs.declared.message.Message.{Message};
 ghost use Rattle.rtcm_msg.specs.Spelling.{message_bits, is_other, Reads, IsMessage};
 ghost use Rattle.rtcm_msg.specs.Reading.{message_at};
 ghost use Rattle.rtcm_msg.specs.Msm.{MsmValue, Sets, IsValue};
-ghost use Rattle.rtcm_msg.specs.Meaning.{meaning, pair_number, cell_pairs};
+ghost use Rattle.rtcm_msg.specs.Meaning.{Meaning, IsMeaning, meaning, pair_number, cell_pairs};
 
 /// What is spelled with zero for the reserved bits, and filled up with zero bits to a byte, is read back.
 pub fn read_back()
@@ -34,4 +34,5 @@ pub fn values_are_maps()
     ensures cells { (sw cw : List ℕ) (v : MsmValue) → IsValue sw cw v → map (λ x. x.0) (meaning v).cells ≡ cell_pairs v.sets }
     ensures rising { (s : Sets) → Rising 65 4128 (map pair_number (cell_pairs s)) }
     ensures one { (sw cw : List ℕ) (v w : MsmValue) → IsValue sw cw v → IsValue sw cw w → meaning v ≡ meaning w → v ≡ w }
+    ensures all { (sw cw : List ℕ) (m : Meaning) → IsMeaning sw cw m → (v : MsmValue) × IsValue sw cw v × (meaning v ≡ m) }
 {}

@@ -69,10 +69,10 @@ fn first_cell(masks: &Masks, count: u32, signals: u32, from: u32) -> Option<(u32
     ensures some { IfSome result (λ x. (x.0 ≤ count) × (seats_behind from masks.now ≡ x.1 ∷ seats_behind x.0 masks.now) × (x.1.place < count_ones masks.now.satellites)) }
     ensures none { IfNone result (seats_behind from masks.now ≡ []) }
 {
+    let _ = masks.cells();
     for pair in from..count {
-        let here = pair_at(masks, signals, pair);
         if has_cell(masks, count, pair) {
-            return Some((pair + 1, here));
+            return Some((pair + 1, pair_at(masks, signals, pair)));
         }
     }
     None
