@@ -1,5 +1,5 @@
 -- What a message says, cell by cell: the form in which the layers above see it.
-use Rattle.std.specs.Prelude.{◌≤◌, ℕ, ℤ, ◌+◌, if◌then◌else◌, Bool, List, [], ◌∷◌, map, slice_index, Option, drop}
+use Rattle.std.specs.Prelude.{◌<◌, ◌^◌, IfSome, unsigned_abs, ◌≤◌, ℕ, ℤ, ◌+◌, if◌then◌else◌, Bool, List, [], ◌∷◌, map, slice_index, Option, drop}
 use Rattle.std.specs.List.{flat_map, zip, enumerate_from}
 use Rattle.rtcm_bits.specs.Bits.{uint}
 use Rattle.rtcm_msg.specs.declared.message.Message.{Message}
@@ -50,6 +50,14 @@ seats_behind n s = chosen (drop n (uint (pairs s.satellites s.signals) s.cells))
 pub record Walk : Type 0 where
   pub sets : Sets
   pub left : List Seat
+
+-- how far the numbers of a cell reach, where there are so many lock time indicators
+pub record IsEntry (codes : ℕ) (e : Entry) : Type 0 where
+  pub range : IfSome e.range (λ r. unsigned_abs r ≤ 2 ^ 40)
+  pub phase : IfSome e.phase (λ r. unsigned_abs r ≤ 2 ^ 40)
+  pub rate : IfSome e.rate (λ v. unsigned_abs v ≤ 10 ^ 8)
+  pub strength : IfSome e.strength (λ s. s < 1024)
+  pub lock : e.lock < codes
 
 -- what a cell says, in either grid
 abbrev pub entry_by : {S C : Type 0} → (ℕ → S) → (ℕ → C) → (S → C → Option ℤ) → (S → C → Option ℤ) → (S → C → Option ℤ) → (C → Option ℕ) → (C → ℕ) → (C → Bool) → List ℕ → Seat × ℕ → Entry

@@ -1,6 +1,6 @@
-ghost use Rattle.std.specs.Prelude.{◌≡◌, ◌<◌, ◌≤◌, ◌^◌, length, slice_index, IfSome, unsigned_abs, map};
+ghost use Rattle.std.specs.Prelude.{◌≡◌, ◌<◌, ◌≤◌, ◌^◌, length, slice_index, IfSome, unsigned_abs, map, All};
 ghost use Rattle.std.specs.List.{zip};
-ghost use Rattle.rtcm_msg.specs.Entries.{entry_by, seats};
+ghost use Rattle.rtcm_msg.specs.Entries.{entry_by, seats, IsEntry};
 
 use crate::grid::Grid;
 use crate::msm::Msm;
@@ -38,7 +38,7 @@ impl<G: Grid> Msm<G> {
         ensures phase { IfSome result.phase (λ r. unsigned_abs r ≤ 2 ^ 40) }
         ensures rate { IfSome result.rate (λ r. unsigned_abs r ≤ 10 ^ 8) }
         ensures strength { IfSome result.strength (λ s. s < 1024) }
-        ensures lock { result.lock < 2 ^ G.lock_width }
+        ensures lock { result.lock < G.lock_codes }
     {
         let satellite = self.satellite(seat.place);
         let cell = self.cell(i);
@@ -57,7 +57,8 @@ impl<G: Grid> Msm<G> {
 
 /// What all cells say, in the order of the cell mask.
 pub fn entries<G: Grid>(msm: &Msm<G>) -> ArrayVec<Entry, 64>
-    ensures { result.items ≡ map (entry_by G.satellite_at G.cell_at G.range_of G.phase_of G.rate_of G.strength_of G.lock_code_of G.half_cycle_of msm.now.satellites) (zip (seats msm.now.sets) msm.now.cells) }
+    ensures cells { result.items ≡ map (entry_by G.satellite_at G.cell_at G.range_of G.phase_of G.rate_of G.strength_of G.lock_code_of G.half_cycle_of msm.now.satellites) (zip (seats msm.now.sets) msm.now.cells) }
+    ensures bounds { All (IsEntry G.lock_codes) result.items }
 {
     let mut walk = Seats::new(msm.masks());
     let mut all = ArrayVec::new();

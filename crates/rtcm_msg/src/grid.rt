@@ -36,7 +36,8 @@ pub trait Grid {
 
     /// The message number, DF002.
     fn number_of(is_galileo: bool) -> u16
-        ensures { result ≡ number_of is_galileo };
+        ensures value { result ≡ number_of is_galileo }
+        ensures bound { result < 2 ^ 12 };
 
     ghost satellite_fault_of: { List Self.Satellite → Option Field };
 
@@ -64,7 +65,7 @@ pub trait Grid {
 
     ghost half_cycle_of: { Self.Cell → Bool };
 
-    ghost lock_width: { ℕ };
+    ghost lock_codes: { ℕ };
 
     /// The pseudorange in 2^-31 ms: the rough range and the cell's fine pseudorange. None where either
     /// is invalid.
@@ -99,7 +100,7 @@ pub trait Grid {
     fn lock_code(cell: &Self::Cell) -> u16
         requires { is_cell cell.now }
         ensures value { result ≡ lock_code_of cell.now }
-        ensures bound { result < 2 ^ lock_width };
+        ensures bound { result < lock_codes };
 
     /// Whether a half-cycle ambiguity is possible, DF420.
     fn half_cycle(cell: &Self::Cell) -> bool
@@ -162,8 +163,8 @@ pub trait Grid {
 
     ghost cell_same: { (n : ℕ) → n < 2 ^ total cell_widths → cell_packed (cell_at n) ≡ n };
 
-    // A lock time indicator fits its field.
-    ghost lock_fits: { (c : Self.Cell) → is_cell c → lock_code_of c < 2 ^ lock_width };
+    // There are so many lock time indicators.
+    ghost lock_fits: { (c : Self.Cell) → is_cell c → lock_code_of c < lock_codes };
 }
 
 /// The rough range in units of 2^-31 ms with a fine part.

@@ -1,6 +1,6 @@
 //! Laws of the definitions, each the contract of a function without a body.
 ghost use Rattle.rtcm_msg.specs.Entries.{ids, Rising};
-ghost use Rattle.std.specs.Prelude.{◌<◌, ◌^◌, ◌≡◌, List, Bool, ℕ, Ok, false, map};
+ghost use Rattle.std.specs.Prelude.{◌≤◌, length, ◌<◌, ◌^◌, ◌≡◌, List, Bool, ℕ, Ok, false, map};
 ghost use Rattle.rtcm_bits.specs.Bits.{bits_of, filled};
 ghost use Rattle.rtcm_msg.specs.declared.message.Message.{Message};
 ghost use Rattle.rtcm_msg.specs.Spelling.{message_bits, is_other, Reads, IsMessage};
@@ -12,6 +12,8 @@ ghost use Rattle.rtcm_msg.specs.Meaning.{Meaning, IsMeaning, meaning, pair_numbe
 pub fn read_back()
     ensures spelled { (v : Message) → IsMessage v → is_other v ≡ false → Reads (filled (message_bits v 0)) v }
     ensures read { (v : Message) (bytes : List ℕ) → IsMessage v → is_other v ≡ false → bits_of bytes ≡ filled (message_bits v 0) → message_at bytes ≡ Ok v }
+    // so that its bytes are at most 1,023
+    ensures short { (v : Message) → IsMessage v → length (message_bits v 0) ≤ 8184 }
 {}
 
 /// Bits are read as one value at most.

@@ -33,3 +33,5 @@ pub use station::{Station, StationParts};
 
 #[cfg(test)]
 mod tests;
+#[cfg(test)]
+mod value_tests;

@@ -1,6 +1,6 @@
-ghost use Rattle.std.specs.Prelude.{◌≡◌, All, map, IfErr, Some, None, ◌++◌, ◌<◌, ◌≤◌, IfOk, length, replicate, slice_index, count_ones};
+ghost use Rattle.std.specs.Prelude.{◌≡◌, ◌<◌, ◌^◌, All, map, IfErr, Some, None, ◌++◌, ◌≤◌, IfOk, length, replicate, slice_index, count_ones};
 ghost use Rattle.rtcm_msg.specs.Fields.{Gives};
-ghost use Rattle.rtcm_msg.specs.Msm.{msm_at, msm_bits, IsValue};
+ghost use Rattle.rtcm_msg.specs.Msm.{IsHeader, msm_at, msm_bits, IsValue};
 ghost use Rattle.rtcm_msg.specs.Packed.{total};
 ghost use Rattle.rtcm_msg.specs.Refusals.{msm_refusal};
 ghost use Rattle.rtcm_msg.specs.Columns.{EachBelow, columns_at};
@@ -94,14 +94,16 @@ impl<G: Grid> Msm<G> {
 
     /// The message number, DF002: 1074 or 1094 in MSM4, 1077 or 1097 in MSM7.
     pub fn number(&self) -> u16
-        ensures { result ≡ G.number_of self.now.is_galileo }
+        ensures value { result ≡ G.number_of self.now.is_galileo }
+        ensures bound { result < 2 ^ 12 }
     {
         G::number_of(self.is_galileo)
     }
 
     /// The fields at the head of the message.
     pub fn header(&self) -> MsmHeader
-        ensures { result ≡ self.now.header }
+        ensures value { result ≡ self.now.header }
+        ensures in_range { IsHeader result }
     {
         self.header
     }

@@ -1,6 +1,6 @@
-use Rattle.std.proofs.Common.{◌≡◌, ◌++◌, ◌+◌, length, map, drop}
+use Rattle.std.proofs.Common.{◌≡◌, ◌++◌, ◌+◌, length, map, drop, All}
 use Rattle.std.specs.List.{zip}
-use Rattle.rtcm_msg.specs.Entries.{seats, entry_by}
+use Rattle.rtcm_msg.specs.Entries.{seats, entry_by, IsEntry}
 use Rattle.rtcm_msg.proofs.entry.entries.Given as goal
 
 abbrev pub invariant-loop-i : goal.invariant-loop-i
@@ -11,4 +11,5 @@ invariant-loop-i g l =
       sets : l.walk.sets ≡ l.msm.sets;
       left : length l.walk.left + l.i ≡ length l.msm.cells;
       len : length l.all.items ≡ l.i;
+      bounds : All (IsEntry g.G.Grid.lock_codes) l.all.items;
     }
