@@ -1,0 +1,3 @@
+mod FrameLemmas
+mod LineLemmas
+mod ListedLemmas

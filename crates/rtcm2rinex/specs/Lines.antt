@@ -1,0 +1,7 @@
+-- Lines of text.
+use Rattle.std.specs.Prelude.{ℕ, List, [], ◌∷◌, ◌++◌}
+use Rattle.std.specs.List.{join_with_byte}
+
+-- words with single blanks between them, and a line feed behind the last
+abbrev pub line : List (List ℕ) → List ℕ
+line words = join_with_byte 0x20 words ++ 0x0A ∷ []
