@@ -1,8 +1,8 @@
 -- What listing does, step by step.
-use Rattle.std.proofs.Common.{◌≡◌, ℕ, ◌+◌, ◌-◌, ◌<◌, ◌≤◌, Bool, true, false, Option, List, [], ◌∷◌, ◌++◌, ◌∙◌, ap, sym, refl, rules, arith, length, take, drop, flat_map, append_assoc, append-nil, subst, take-append-drop, length-drop, take_all, length-append, zero-add, suc, slice_index, None, Some, inl, inr, ◌⊎◌}
+use Rattle.std.proofs.Common.{◌≡◌, ℕ, ◌+◌, ◌-◌, ◌<◌, ◌≤◌, Bool, true, false, Option, List, [], ◌∷◌, ◌++◌, ◌∙◌, ap, sym, refl, rules, arith, length, take, drop, flat_map, append_assoc, append-nil, subst, take-append-drop, length-drop, take_all, length-append, zero-add, suc, slice_index, None, Some, Result, Ok, Err, inl, inr, ◌⊎◌}
 use Rattle.std.proofs.lemmas.List.{take_more}
 use Rattle.std.specs.Io.KnownBytes.{Appends, Consumes, IsAtEnd}
-use Rattle.std.proofs.KnownBytes.{Appends-trans, Consumes-trans, Consumes-kept, Appends-nil}
+use Rattle.std.proofs.KnownBytes.{Appends-trans, Consumes-trans}
 use Rattle.rtcm_bits.specs.Device.{AppendsPrefix}
 use Rattle.rtcm_scan.specs.Frames.{Framed, frames_of}
 use Rattle.rtcm_scan.specs.Decided.{decided_frames}
@@ -10,10 +10,11 @@ use Rattle.rtcm_scan.specs.declared.framer.ScanFault.{ScanFault}
 use Rattle.rtcm_scan.specs.Drained.{IsDrained}
 use Rattle.rtcm_scan.specs.Known.{IsPrefix, known_frames}
 use Rattle.rtcm_scan.specs.Scan.{Scan, StandsFor}
+use Rattle.rtcm2rinex.specs.declared.fault.ToolFault.{ToolFault}
 use Rattle.rtcm2rinex.specs.declared.listing.Listing.{Listing}
 use Rattle.rtcm2rinex.specs.Kinds.{line_of, lines_of}
 use Rattle.rtcm2rinex.specs.Listed.{Lists, ListsKnown, IsListed, IsRefusal, up_to_limit}
-use Rattle.rtcm2rinex.specs.Listing.{ListsPart, ListsToLimit}
+use Rattle.rtcm2rinex.specs.Listing.{ListsAll, ListsPart, ListsToLimit}
 use Rattle.rtcm2rinex.specs.Paging.{Moves}
 
 -- the lines of one frame more
@@ -29,12 +30,12 @@ lines_join k (f ∷ fs) gs = ap (λ (l : List ℕ). line_of k f ++ l) (lines_joi
 pub list_frame : (k : Listing) (w w1 w2 : Option (List ℕ)) (page page2 text : List ℕ) (v v2 : Scan) (b : List ℕ) (fs : List Framed) (f : Framed)
     → text ≡ line_of k f → Moves w1 w2 page text page2 → StandsFor v2 b (fs ++ f ∷ []) → Lists (lines_of k) w w1 page v b fs → Lists (lines_of k) w w2 page2 v2 b (fs ++ f ∷ [])
 list_frame k w w1 w2 page page2 text v v2 b fs f e m stands s = record {
-    framer = stands;
-    sent = s.sent ++ m.0;
-    out = Appends-trans w w1 w2 s.sent m.0 s.out m.1;
-    joined = append_assoc s.sent m.0 page2 ∙ ap (λ (l : List ℕ). s.sent ++ l) m.2 ∙ sym (append_assoc s.sent page text)
-        ∙ ap (λ (l : List ℕ). l ++ text) s.joined ∙ ap (λ (l : List ℕ). lines_of k fs ++ l) e ∙ sym (lines_more k fs f);
-    }
+  framer = stands;
+  sent = s.sent ++ m.0;
+  out = Appends-trans w w1 w2 s.sent m.0 s.out m.1;
+  joined = append_assoc s.sent m.0 page2 ∙ ap (λ (l : List ℕ). s.sent ++ l) m.2 ∙ sym (append_assoc s.sent page text)
+      ∙ ap (λ (l : List ℕ). l ++ text) s.joined ∙ ap (λ (l : List ℕ). lines_of k fs ++ l) e ∙ sym (lines_more k fs f);
+}
 
 -- the framer moved on and nothing was written
 pub list_same : (k : Listing) (w w1 : Option (List ℕ)) (page : List ℕ) (v v2 : Scan) (b b2 : List ℕ) (fs : List Framed) → StandsFor v2 b2 fs → Lists (lines_of k) w w1 page v b fs → Lists (lines_of k) w w1 page v2 b2 fs
@@ -43,18 +44,26 @@ list_same k w w1 page v v2 b b2 fs stands s = record { framer = stands; sent = s
 -- the page was written
 pub list_written : (k : Listing) (w w1 w2 : Option (List ℕ)) (page : List ℕ) (v : Scan) (b : List ℕ) (fs : List Framed) → Appends w1 w2 page → Lists (lines_of k) w w1 page v b fs → Lists (lines_of k) w w2 [] v b fs
 list_written k w w1 w2 page v b fs a s = record {
-    framer = s.framer; sent = s.sent ++ page; out = Appends-trans w w1 w2 s.sent page s.out a; joined = append-nil (s.sent ++ page) ∙ s.joined }
+  framer = s.framer;
+  sent = s.sent ++ page;
+  out = Appends-trans w w1 w2 s.sent page s.out a;
+  joined = append-nil (s.sent ++ page) ∙ s.joined;
+}
 
 -- a prefix of the page was written
 pub list_part : (k : Listing) (w w1 w2 : Option (List ℕ)) (page : List ℕ) (v : Scan) (b : List ℕ) (fs gs : List Framed) → IsPrefix fs gs → AppendsPrefix w1 w2 page → Lists (lines_of k) w w1 page v b fs
     → AppendsPrefix w w2 (lines_of k gs)
 list_part k w w1 w2 page v b fs gs p a s =
     let rest = a.0 in
-    let sent = a.1.0 in
-    (rest ++ lines_of k p.0, (s.sent ++ sent,
+    let sent = a.1.0 in (
+      rest ++ lines_of k p.0,
+      (
+        s.sent ++ sent,
         ap (lines_of k) p.1 ∙ lines_join k fs p.0 ∙ ap (λ (l : List ℕ). l ++ lines_of k p.0) (sym s.joined ∙ ap (λ (l : List ℕ). s.sent ++ l) a.1.1 ∙ sym (append_assoc s.sent sent rest))
-        ∙ append_assoc (s.sent ++ sent) rest (lines_of k p.0),
-        Appends-trans w w1 w2 s.sent sent s.out a.1.2))
+            ∙ append_assoc (s.sent ++ sent) rest (lines_of k p.0),
+        Appends-trans w w1 w2 s.sent sent s.out a.1.2,
+      ),
+    )
 
 -- what was handed out stays the first of what is known
 abbrev pub StaysHanded : Type 0
@@ -130,10 +139,10 @@ listed_more k r r1 r2 w w1 w2 v u v2 piece same law none read s =
     (b ++ piece, Consumes-trans r r1 r2 b piece s.1 read, whole)
 
 -- a piece was read that goes over the limit
-pub listed_to_limit : (k : Listing) (r r1 r2 w w1 w2 : Option (List ℕ)) (v v2 : Scan) (piece : List ℕ) (fault : ScanFault)
+to_limit : (k : Listing) (r r1 r2 w w1 w2 : Option (List ℕ)) (v v2 : Scan) (piece : List ℕ) (fault : ScanFault)
     → ((w : Option (List ℕ)) (b : List ℕ) (fs : List Framed) → Lists (lines_of k) w w1 [] v b fs → ListsKnown (lines_of k) w w2 [] v2 (b ++ up_to_limit v piece))
     → v2.has_ended ≡ false → v.taken ≤ v.limit → IsRefusal v (length piece) (Some fault) → Consumes r1 r2 piece → IsListed (lines_of k) r r1 w w1 v → ListsToLimit v.limit (lines_of k) r r2 w w2
-listed_to_limit k r r1 r2 w w1 w2 v v2 piece fault law going within refused read s =
+to_limit k r r1 r2 w w1 w2 v v2 piece fault law going within refused read s =
     let b : List ℕ = s.0 in
     let fs : List Framed = known_frames v.has_ended b in
     let taken : v.taken ≡ length b = s.2.framer.taken in
@@ -144,6 +153,15 @@ listed_to_limit k r r1 r2 w w1 w2 v v2 piece fault law going within refused read
     let known : known_frames v2.has_ended (b ++ up_to_limit v piece) ≡ decided_frames (take v.limit (b ++ piece)) = ap (λ (e : Bool). known_frames e (b ++ up_to_limit v piece)) going ∙ ap decided_frames same in
     let size : length (b ++ piece) ≡ length b + length piece = length-append b piece in
     (b ++ piece, Consumes-trans r r1 r2 b piece s.1 read, omega (arith, size, more, taken), subst (λ (gs : List Framed). Appends w w2 (lines_of k gs)) known out)
+
+pub listed_to_limit : (k : Listing) (r r1 r2 w w1 w2 : Option (List ℕ)) (u v v2 : Scan) (piece : List ℕ) (fault : ScanFault) → v ≡ u
+    → ((w : Option (List ℕ)) (b : List ℕ) (fs : List Framed) → Lists (lines_of k) w w1 [] v b fs → ListsKnown (lines_of k) w w2 [] v2 (b ++ up_to_limit v piece))
+    → v2.has_ended ≡ false → u.taken ≤ u.limit → IsRefusal v (length piece) (Some fault) → Consumes r1 r2 piece → IsListed (lines_of k) r r1 w w1 u → ListsToLimit u.limit (lines_of k) r r2 w w2
+listed_to_limit k r r1 r2 w w1 w2 u v v2 piece fault same law going within refused read s =
+    let law2 : (w : Option (List ℕ)) (b : List ℕ) (fs : List Framed) → Lists (lines_of k) w w1 [] u b fs → ListsKnown (lines_of k) w w2 [] v2 (b ++ up_to_limit u piece) =
+    subst (λ (x : Scan). (w : Option (List ℕ)) (b : List ℕ) (fs : List Framed) → Lists (lines_of k) w w1 [] x b fs → ListsKnown (lines_of k) w w2 [] v2 (b ++ up_to_limit x piece)) same law in
+    let refused2 : IsRefusal u (length piece) (Some fault) = subst (λ (x : Scan). IsRefusal x (length piece) (Some fault)) same refused in
+    to_limit k r r1 r2 w w1 w2 u v2 piece fault law2 going within refused2 read s
 
 -- the writer failed in a piece, before the end or at it
 pub listed_part : (k : Listing) (r r1 r2 w w1 w2 : Option (List ℕ)) (v u : Scan) (piece : List ℕ) → ((b : List ℕ) (fs : List Framed) → StandsFor v b fs → StandsFor u b fs)
@@ -159,3 +177,12 @@ listed_part k r r1 r2 w w1 w2 v u piece same law ended read s =
         → AppendsPrefix w w2 (lines_of k (decided_frames b)) ⊎ (IsAtEnd r2 × AppendsPrefix w w2 (lines_of k (frames_of b)))
     known_part k w w2 r2 e b (inl h) p = inl (subst (λ (x : Bool). AppendsPrefix w w2 (lines_of k (known_frames x b))) h p)
     known_part k w w2 r2 e b (inr h) p = inr (h.1, subst (λ (x : Bool). AppendsPrefix w w2 (lines_of k (known_frames x b))) h.0 p)
+
+-- all was read
+pub listed_all : (k : Listing) (r r1 w w1 : Option (List ℕ)) (v : Scan) → v.has_ended ≡ true → IsAtEnd r1 → IsListed (lines_of k) r r1 w w1 v → ListsAll (lines_of k) r r1 w w1
+listed_all k r r1 w w1 v ended end s =
+    (s.0, s.1, end, subst (λ (e : Bool). Appends w w1 (lines_of k (known_frames e s.0))) ended (known_out k w w1 v s.0 s.2))
+
+-- a fault of one call is that of another
+pub same_fault : {A B : Type 0} (f h : ToolFault) → ◌≡◌ {A = Result A ToolFault} (Err f) (Err h) → ◌≡◌ {A = Result B ToolFault} (Err f) (Err h)
+same_fault f h e = let same : f ≡ h = cc in ap Err same

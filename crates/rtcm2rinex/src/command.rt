@@ -7,6 +7,7 @@ use crate::listing::run_frames;
 use clap::error::ErrorKind;
 use rtcm_bits::Counted;
 use std::alloc::Global;
+use std::io;
 use std::io::{Read, Write};
 
 /// Runs the command that the words ask for, the first of which is the program's name, and answers the exit status:
@@ -39,6 +40,19 @@ pub fn command<R: Read, W: Write, E: Write>(
     match outcome {
         Ok(()) => 0,
         Err(fault) => stop(fault, faults),
+    }
+}
+
+/// Says why the words of the command line can't be had, and answers the exit status: memory ran out, or a word isn't UTF-8.
+pub fn refuse_words<E: Write>(error: &io::Error, faults: &mut E) -> u8
+    ensures { result ≤ 2 }
+{
+    if error.kind() == io::ErrorKind::OutOfMemory {
+        let _ = faults.write_all(b"rtcm2rinex: Memory\n");
+        1
+    } else {
+        let _ = faults.write_all(b"error: a word of the command line isn't UTF-8\n");
+        2
     }
 }
 

@@ -1,25 +1,17 @@
 //! Why a command stopped.
 use rtcm_scan::ScanFault;
-use std::fmt;
+use thiserror::Error;
 
-/// Why a command stopped.
-#[derive(Clone, Copy, Debug, PartialEq, Eq, Drop)]
+/// Why a command stopped. A fault is shown as its own name, or as that of the lower fault that it holds.
+#[derive(Clone, Copy, Debug, PartialEq, Eq, Drop, Error)]
 pub enum ToolFault {
     /// The reader failed.
+    #[error("Read")]
     Read,
     /// The writer failed, or took none of the bytes that it was offered.
+    #[error("Write")]
     Write,
     /// The framer refused.
+    #[error("{0:?}")]
     Scan(ScanFault),
-}
-
-/// A fault is shown as its own name.
-impl fmt::Display for ToolFault {
-    fn fmt<W: fmt::Write>(&self, f: &mut fmt::Formatter<W>) -> fmt::Result {
-        match self {
-            ToolFault::Read => write!(f, "Read"),
-            ToolFault::Write => write!(f, "Write"),
-            ToolFault::Scan(fault) => write!(f, "{fault:?}"),
-        }
-    }
 }

@@ -89,7 +89,7 @@ fn list_frames<R: Read, W: Write>(
 ) -> Result<(), ToolFault>
     requires going { framer.old.has_ended ≡ false }
     requires within { framer.old.taken ≤ framer.old.limit }
-    requires new { StandsFor framer.old [] [] × (framer.old.taken ≡ 0) }
+    requires new { StandsFor framer.old [] [] × IsDrained framer.old [] [] }
     ensures whole { OnOk result (ListsAll (lines_of listing) (R.remaining reader.old.inner) (R.remaining reader.new.inner) (W.contents writer.old.inner) (W.contents writer.new.inner)) }
     ensures read { result ≡ Err ToolFault.Read → ListsDecided (lines_of listing) (R.remaining reader.old.inner) (R.remaining reader.new.inner) (W.contents writer.old.inner) (W.contents writer.new.inner) }
     ensures read_failed { result ≡ Err ToolFault.Read → HasFailed reader.old.failures reader.new.failures }

@@ -37,7 +37,11 @@ impl Page {
     }
 
     /// Adds a line, and first writes those that wait where there is no room for it.
-    pub fn add<W: Write>(&mut self, line: &Line, writer: &mut Counted<W>) -> Result<(), DeviceFailed>
+    pub fn add<W: Write>(
+        &mut self,
+        line: &Line,
+        writer: &mut Counted<W>,
+    ) -> Result<(), DeviceFailed>
         ensures moves { OnOk result (Moves (W.contents writer.old.inner) (W.contents writer.new.inner) self.old line.now self.new) }
         ensures part { OnErr result (AppendsPrefix (W.contents writer.old.inner) (W.contents writer.new.inner) self.old) }
         ensures failed { OnErr result (HasFailed writer.old.failures writer.new.failures) }

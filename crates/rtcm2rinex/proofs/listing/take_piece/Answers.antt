@@ -11,10 +11,11 @@ loop-frame-preserved-in-Ok g c =
     let piece : List ℕ = c.args.piece.now in
     let done : ℕ = c.loop-frame.done in
     record {
-      lists = λ w b fs s. (let l = kept.lists w b fs s in
-          (l.0 ++ framed c.in-Some.frame ∷ [],
-           list_frame c.args.listing w (contents c.loop-frame.writer.inner) (contents c.add.new.writer.inner) c.loop-frame.page c.add.new.self c.line_of.result c.loop-frame.framer c.next.new.self
-           (b ++ take done piece) l.0 (framed c.in-Some.frame) c.line_of.ensures c.in-Ok.ensures.moves (c.in-Some.ensures.some (b ++ take done piece) l.0 l.1.framer) l.1));
+      lists = λ w b fs s. (let l = kept.lists w b fs s in (
+        l.0 ++ framed c.in-Some.frame ∷ [],
+        list_frame c.args.listing w (contents c.loop-frame.writer.inner) (contents c.add.new.writer.inner) c.loop-frame.page c.add.new.self c.line_of.result c.loop-frame.framer c.next.new.self
+            (b ++ take done piece) l.0 (framed c.in-Some.frame) c.line_of.ensures c.in-Ok.ensures.moves (c.in-Some.ensures.some (b ++ take done piece) l.0 l.1.framer) l.1,
+      ));
       done = kept.done;
       taken = c.in-Some.ensures.taken ∙ kept.taken;
       within = omega (arith, c.in-Some.ensures.taken, kept.within);
