@@ -1,3 +1,4 @@
 mod FrameLemmas
 mod LineLemmas
 mod ListedLemmas
+mod ShowLemmas

@@ -10,7 +10,8 @@ pub fn program<'a>(alloc: Global) -> Result<Command<'a>, Error> {
         )
         .after_help("Example: rtcm2rinex frames < stream.rtcm3")
         .subcommand_required(true)
-        .subcommand(frames(alloc))?;
+        .subcommand(frames(alloc))?
+        .subcommand(show(alloc))?;
     Ok(program)
 }
 
@@ -23,4 +24,11 @@ fn frames<'a>(alloc: Global) -> Command<'a> {
         .after_help(
             "Example: rtcm2rinex frames < stream.rtcm3\nA line as '0 19 1005' is a frame at byte 0 with a message of 19 bytes, which is message 1005.",
         )
+}
+
+/// The command that shows messages.
+fn show<'a>(alloc: Global) -> Command<'a> {
+    Command::new(alloc, "show")
+        .about("Shows the messages: stations and their coordinates, heads of MSMs, and why a message is refused")
+        .after_help("Example: rtcm2rinex show < stream.rtcm3\nA line as '0 1005 2003 1114104.5999 -4850729.7108 3975521.4643' is a station: the place of its frame, the message's number, the station, and X, Y and Z in metres.\nA line as '52 1077 2003 1000 0 1 1 1' is an MSM: place, number, station, time in milliseconds of the week, DF393, and how many satellites, signals and cells it has.")
 }

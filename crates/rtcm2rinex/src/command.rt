@@ -3,7 +3,7 @@ ghost use Rattle.std.specs.Prelude.{◌≡◌, ◌≤◌};
 
 use crate::cli::program;
 use crate::fault::ToolFault;
-use crate::listing::run_frames;
+use crate::listing::{run_frames, run_show};
 use clap::error::ErrorKind;
 use rtcm_bits::Counted;
 use std::alloc::Global;
@@ -35,6 +35,7 @@ pub fn command<R: Read, W: Write, E: Write>(
     };
     let outcome = match matches.subcommand() {
         Some(("frames", _)) => run_frames(alloc, reader, writer),
+        Some(("show", _)) => run_show(alloc, reader, writer),
         _ => Ok(()),
     };
     match outcome {

@@ -1,5 +1,6 @@
 //! A line of output.
 ghost use Rattle.std.specs.Prelude.{◌≡◌, ◌+◌, ◌<◌, ◌≤◌, [], ◌∷◌, ◌++◌, length, decimal};
+ghost use Rattle.rtcm2rinex.specs.Metres.{digit, size_text, metres};
 
 use arrayvec::ArrayVec;
 use itoa::Buffer;
@@ -57,6 +58,32 @@ impl Line {
         self.put(word.as_bytes());
     }
 
+    /// One more word, a length in units of 0.0001 m, which is written in metres with four digits behind the point.
+    pub fn add_metres(&mut self, value: i64)
+        requires { length self.old ≤ 229 }
+        ensures text { self.new ≡ self.old ++ 0x20 ∷ metres value }
+        ensures short { length self.new ≤ length self.old + 27 }
+    {
+        self.put(if value < 0 { b" -" } else { b" " });
+        self.put_size(value.unsigned_abs());
+    }
+
+    fn put_size(&mut self, size: u64)
+        requires { length self.old ≤ 231 }
+        ensures text { self.new ≡ self.old ++ size_text size }
+        ensures short { length self.new ≤ length self.old + 25 }
+    {
+        self.put(Buffer::new().format(size / 10_000).as_bytes());
+        let decimals = [
+            b'.',
+            digit(size / 1_000),
+            digit(size / 100),
+            digit(size / 10),
+            digit(size),
+        ];
+        self.put(decimals.as_slice());
+    }
+
     /// The line feed behind the last word.
     pub fn finish(&mut self)
         requires { length self.old < 256 }
@@ -79,4 +106,11 @@ impl Line {
     {
         self.text.try_extend_from_slice(bytes).unwrap();
     }
+}
+
+/// The last digit of a number.
+fn digit(number: u64) -> u8
+    ensures { result ≡ digit number }
+{
+    b'0' + (number % 10) as u8
 }

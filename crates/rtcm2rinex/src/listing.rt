@@ -9,14 +9,16 @@ ghost use Rattle.rtcm_scan.specs.Scan.{Scan, StandsFor};
 ghost use Rattle.std.specs.Io.KnownBytes.{Appends, IsAtEnd};
 ghost use Rattle.rtcm_scan.specs.Answers.{framed};
 ghost use Rattle.rtcm2rinex.specs.FrameLines.{frame_lines};
+ghost use Rattle.rtcm2rinex.specs.ShowLines.{show_lines};
+ghost use Rattle.rtcm2rinex.specs.Paging.{Moves};
 ghost use Rattle.rtcm2rinex.specs.Listing.{ListsAll, ListsDecided, ListsToLimit, ListsPart, IsListFault, IsUntouched};
 ghost use Rattle.rtcm2rinex.specs.Listed.{Lists, ListsKnown, IsListed, IsRefusal, up_to_limit};
 ghost use Rattle.rtcm2rinex.specs.Kinds.{line_of, lines_of};
 
 use crate::fault::ToolFault;
 use crate::frames::frame_line;
-use crate::line::Line;
 use crate::page::Page;
+use crate::show::message_line;
 use rtcm_bits::{Counted, DeviceFailed};
 use rtcm_scan::{Frame, Framer, MOST_BYTES, ScanFault, laws};
 use std::alloc::Global;
@@ -29,6 +31,8 @@ const PIECE_BYTES: usize = 65536;
 pub enum Listing {
     /// A line for each frame.
     Frames,
+    /// A line for each message that is read or refused.
+    Messages,
 }
 
 /// Writes a line for each frame of the stream: its place, the length of its message and the message's number.
@@ -53,6 +57,30 @@ pub fn run_frames<R: Read, W: Write>(
     ensures only { IfErr result IsListFault }
 {
     list(alloc, Listing::Frames, MOST_BYTES, reader, writer)
+}
+
+/// Writes a line for each message of the stream that is read or refused: a station, the head of an MSM, or the fault.
+pub fn run_show<R: Read, W: Write>(
+    alloc: Global,
+    reader: &mut Counted<R>,
+    writer: &mut Counted<W>,
+) -> Result<(), ToolFault>
+    ensures whole { OnOk result (ListsAll show_lines (R.remaining reader.old.inner) (R.remaining reader.new.inner) (W.contents writer.old.inner) (W.contents writer.new.inner)) }
+
+    // The reader failed: what the bytes before decide was written.
+    ensures read { result ≡ Err ToolFault.Read → ListsDecided show_lines (R.remaining reader.old.inner) (R.remaining reader.new.inner) (W.contents writer.old.inner) (W.contents writer.new.inner) }
+    ensures read_failed { result ≡ Err ToolFault.Read → HasFailed reader.old.failures reader.new.failures }
+
+    // The writer failed: what it took is a prefix of the lines.
+    ensures write { result ≡ Err ToolFault.Write → ListsPart show_lines (R.remaining reader.old.inner) (R.remaining reader.new.inner) (W.contents writer.old.inner) (W.contents writer.new.inner) }
+    ensures write_failed { result ≡ Err ToolFault.Write → HasFailed writer.old.failures writer.new.failures }
+
+    // A stream of more than 2^48 bytes: what the first 2^48 decide was written.
+    ensures too_long { result ≡ Err (ToolFault.Scan ScanFault.TooLong) → ListsToLimit (2 ^ 48) show_lines (R.remaining reader.old.inner) (R.remaining reader.new.inner) (W.contents writer.old.inner) (W.contents writer.new.inner) }
+    ensures memory { result ≡ Err (ToolFault.Scan ScanFault.Memory) → IsUntouched reader.old reader.new writer.old writer.new }
+    ensures only { IfErr result IsListFault }
+{
+    list(alloc, Listing::Messages, MOST_BYTES, reader, writer)
 }
 
 /// Reads at most so many bytes, and writes the lines of the frames.
@@ -211,7 +239,7 @@ fn take_piece<W: Write>(
     let mut done = 0;
     loop {
         match framer.next() {
-            Some(frame) => match page.add(&line_of(listing, &frame), writer) {
+            Some(frame) => match add_line(listing, &frame, page, writer) {
                 Ok(()) => {}
                 Err(failed) => return Err(failed),
             },
@@ -236,11 +264,23 @@ fn stays_handed()
     laws::prefix();
 }
 
-/// The line of a frame.
-fn line_of(listing: Listing, frame: &Frame) -> Line
-    ensures { result ≡ line_of listing (framed frame.now) }
+/// Puts the line of a frame on the page, where it has one.
+fn add_line<W: Write>(
+    listing: Listing,
+    frame: &Frame,
+    page: &mut Page,
+    writer: &mut Counted<W>,
+) -> Result<(), DeviceFailed>
+    ensures moves { OnOk result (Moves (W.contents writer.old.inner) (W.contents writer.new.inner) page.old (line_of listing (framed frame.now)) page.new) }
+    ensures part { OnErr result (AppendsPrefix (W.contents writer.old.inner) (W.contents writer.new.inner) page.old) }
+    ensures failed { OnErr result (HasFailed writer.old.failures writer.new.failures) }
+    ensures fine { OnOk result (writer.new.failures ≡ writer.old.failures) }
 {
     match listing {
-        Listing::Frames => frame_line(frame),
+        Listing::Frames => page.add(&frame_line(frame), writer),
+        Listing::Messages => match message_line(frame) {
+            Some(line) => page.add(&line, writer),
+            None => Ok(()),
+        },
     }
 }

@@ -1,4 +1,4 @@
-//! Reads an RTCM 3 stream from standard input, and writes what it says to standard output: its frames.
+//! Reads an RTCM 3 stream from standard input, and writes what it says to standard output: its frames, or its messages.
 #![tactic(auto)]
 
 mod cli;
@@ -8,6 +8,7 @@ mod frames;
 mod line;
 mod listing;
 mod page;
+mod show;
 #[cfg(test)]
 mod tests;
 

@@ -1,6 +1,7 @@
-use Rattle.std.proofs.Common.{◌≡◌, ◌++◌, ◌∷◌, [], ◌∙◌, sym, ap, subst, ◌+◌, ◌-◌, ◌≤◌, ◌<◌, arith, ℕ, List, length, take, slice_index}
+use Rattle.std.proofs.Common.{◌≡◌, ◌++◌, ◌∷◌, [], ◌∙◌, refl, sym, ap, subst, ◌+◌, ◌-◌, ◌≤◌, ◌<◌, arith, ℕ, List, length, take, slice_index}
 use Rattle.rtcm_scan.specs.Answers.{framed}
 use Rattle.rtcm_scan.specs.Scan.{StandsFor}
+use Rattle.rtcm2rinex.specs.Kinds.{line_of}
 use Rattle.rtcm2rinex.proofs.ListedLemmas.{list_frame, list_same, list_drained, piece_part, take_both, take_next}
 use Rattle.rtcm2rinex.proofs.listing.take_piece.Goals as goal
 
@@ -13,8 +14,8 @@ loop-frame-preserved-in-Ok g c =
     record {
       lists = λ w b fs s. (let l = kept.lists w b fs s in (
         l.0 ++ framed c.in-Some.frame ∷ [],
-        list_frame c.args.listing w (contents c.loop-frame.writer.inner) (contents c.add.new.writer.inner) c.loop-frame.page c.add.new.self c.line_of.result c.loop-frame.framer c.next.new.self
-            (b ++ take done piece) l.0 (framed c.in-Some.frame) c.line_of.ensures c.in-Ok.ensures.moves (c.in-Some.ensures.some (b ++ take done piece) l.0 l.1.framer) l.1,
+        list_frame c.args.listing w (contents c.loop-frame.writer.inner) (contents c.add_line.new.writer.inner) c.loop-frame.page c.add_line.new.page (line_of c.args.listing (framed c.in-Some.frame)) c.loop-frame.framer c.next.new.self
+            (b ++ take done piece) l.0 (framed c.in-Some.frame) refl c.in-Ok.ensures.moves (c.in-Some.ensures.some (b ++ take done piece) l.0 l.1.framer) l.1,
       ));
       done = kept.done;
       taken = c.in-Some.ensures.taken ∙ kept.taken;
@@ -28,7 +29,7 @@ pub returns-in-Err-clause-part : goal.returns-in-Err-clause-part
 returns-in-Err-clause-part g c = λ w b fs s.
     let contents = g.W.Write.contents in
     let l = c.loop-frame.invariant.lists w b fs s in
-    piece_part c.args.listing w (contents c.loop-frame.writer.inner) (contents c.add.new.writer.inner) c.loop-frame.page c.loop-frame.framer c.args.framer.now.has_ended b c.args.piece.now c.loop-frame.done l.0
+    piece_part c.args.listing w (contents c.loop-frame.writer.inner) (contents c.add_line.new.writer.inner) c.loop-frame.page c.loop-frame.framer c.args.framer.now.has_ended b c.args.piece.now c.loop-frame.done l.0
     c.stays_handed.ensures c.loop-frame.invariant.ended c.requires.going c.in-Err.ensures.part l.1
 
 pub returns-then-done-piece-clause-listed : goal.returns-then-done-piece-clause-listed
