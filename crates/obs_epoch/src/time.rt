@@ -42,6 +42,14 @@ impl GpsTime {
         }
     }
 
+    // The time of a number that is known to lie within the weeks.
+    pub(crate) fn within(milliseconds: u64) -> GpsTime
+        requires { milliseconds < weeks * week }
+        ensures { result ≡ milliseconds }
+    {
+        GpsTime { milliseconds }
+    }
+
     /// The milliseconds since 1980-01-06 00:00:00.
     pub fn milliseconds(self) -> u64
         ensures value { result ≡ self }
