@@ -6,4 +6,5 @@ pub mod Kinds
 pub mod Listing
 pub mod Listed
 pub mod Paging
+pub mod Converting
 pub mod ReadBack

@@ -3,10 +3,15 @@ ghost use Rattle.std.specs.Prelude.{◌≡◌, ◌⊎◌, ◌≤◌};
 ghost use Rattle.rtcm2rinex.specs.FrameLines.{frame_lines};
 ghost use Rattle.rtcm2rinex.specs.ShowLines.{show_lines};
 ghost use Rattle.rtcm2rinex.specs.Listing.{ListsAll};
+ghost use Rattle.rtcm2rinex.specs.Converting.{IsWhole};
+ghost use Rattle.rtcm_convert.specs.Converted.{Settings};
 
 use crate::cli::program;
+use crate::convert::{run_convert, tell};
 use crate::fault::ToolFault;
 use crate::listing::{run_frames, run_show};
+use crate::options::setup_of;
+use clap::ArgMatches;
 use clap::error::ErrorKind;
 use rtcm_bits::Counted;
 use std::alloc::Global;
@@ -24,10 +29,11 @@ pub fn command<R: Read, W: Write, E: Write>(
 ) -> u8
     ensures status { result ≤ 2 }
 
-    // Good is only a stream that was read to its end and listed.
+    // Good is only a stream that was read to its end and listed, or whose file was written.
     ensures good { result ≡ 0 →
         ListsAll frame_lines (R.remaining reader.old.inner) (R.remaining reader.new.inner) (W.contents writer.old.inner) (W.contents writer.new.inner)
-        ⊎ ListsAll show_lines (R.remaining reader.old.inner) (R.remaining reader.new.inner) (W.contents writer.old.inner) (W.contents writer.new.inner) }
+        ⊎ ListsAll show_lines (R.remaining reader.old.inner) (R.remaining reader.new.inner) (W.contents writer.old.inner) (W.contents writer.new.inner)
+        ⊎ ((s : Settings) × IsWhole s (R.remaining reader.old.inner) (W.contents writer.old.inner) (W.contents writer.new.inner)) }
 
     // Of a command line that isn't accepted nothing comes but its text.
     ensures unread { result ≡ 2 → reader.new ≡ reader.old }
@@ -44,10 +50,35 @@ pub fn command<R: Read, W: Write, E: Write>(
     let outcome = match matches.subcommand() {
         Some(("frames", _)) => run_frames(alloc, reader, writer),
         Some(("show", _)) => run_show(alloc, reader, writer),
+        Some(("convert", options)) => return convert(alloc, options, reader, writer, faults),
         _ => return 2,
     };
     match outcome {
         Ok(()) => 0,
+        Err(fault) => stop(fault, faults),
+    }
+}
+
+/// Converts the stream as the options ask, and tells the counts or the fault. Answers the exit status.
+fn convert<R: Read, W: Write, E: Write>(
+    alloc: Global,
+    options: &ArgMatches,
+    reader: &mut Counted<R>,
+    writer: &mut Counted<W>,
+    faults: &mut E,
+) -> u8
+    ensures status { result ≤ 1 }
+    ensures good { result ≡ 0 → (s : Settings) × IsWhole s (R.remaining reader.old.inner) (W.contents writer.old.inner) (W.contents writer.new.inner) }
+{
+    let setup = match setup_of(alloc, options) {
+        Ok(setup) => setup,
+        Err(fault) => return stop(fault, faults),
+    };
+    match run_convert(alloc, setup, reader, writer) {
+        Ok(report) => {
+            tell(&report, faults);
+            0
+        }
         Err(fault) => stop(fault, faults),
     }
 }

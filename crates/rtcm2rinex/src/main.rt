@@ -1,13 +1,16 @@
-//! Reads an RTCM 3 stream from standard input, and writes what it says to standard output: its frames, or its messages.
+//! Reads an RTCM 3 stream from standard input, and writes what it says to standard output: its frames, its messages, or the
+//! RINEX 3.05 observation file of its observations.
 #![tactic(auto)]
 
 mod cli;
 mod command;
+mod convert;
 mod fault;
 mod frames;
 pub mod laws;
 mod line;
 mod listing;
+mod options;
 mod page;
 mod show;
 #[cfg(test)]

@@ -1,0 +1,86 @@
+//! The command `convert`: the observation file of a stream.
+ghost use Rattle.std.specs.Prelude.{◌≡◌, ◌≢◌, ◌<◌, ◌≤◌, ◌⊎◌, ◌↔◌, List, ℕ, Err, OnOk, IfOk, IfErr, IfSome, max, length, take};
+ghost use Rattle.std.specs.Io.KnownBytes.{Appends, Consumes};
+ghost use Rattle.rtcm_bits.specs.Device.{HasFailed};
+ghost use Rattle.rtcm_scan.specs.Frames.{frames_of};
+ghost use Rattle.rtcm_scan.specs.Decided.{decided_frames};
+ghost use Rattle.rtcm_convert.specs.Converted.{so_far, file, epochs_in};
+ghost use Rattle.rtcm_convert.specs.Broken.{Broke, BrokeAtEnd};
+ghost use Rattle.rtcm_convert.specs.Outcomes.{report_of};
+ghost use Rattle.rtcm_convert.specs.Told.{settings, IsBad};
+ghost use Rattle.rtcm2rinex.specs.Converting.{IsConvertFault, IsWhole};
+
+use crate::fault::ToolFault;
+use rtcm_bits::Counted;
+use rtcm_convert::{Fault, Report, Setup, convert_stream};
+use std::alloc::Global;
+use std::io::{Read, Write};
+
+/// Makes the observation file of a stream that is read to its end: for every stream, however the reader cuts it, and every
+/// starting week and plan, the file written is exactly the one defined from the stream's valid frames in order.
+pub fn run_convert<R: Read, W: Write>(
+    alloc: Global,
+    setup: Setup,
+    reader: &mut Counted<R>,
+    writer: &mut Counted<W>,
+) -> Result<Report, ToolFault>
+    ensures file { OnOk result (IsWhole (settings setup) (R.remaining reader.old.inner) (W.contents writer.old.inner) (W.contents writer.new.inner)) }
+    ensures report { IfOk result (λ report. IfSome (R.remaining reader.old.inner) (λ b. report ≡ report_of (settings setup) b)) }
+
+    // No epoch stands in that file, and it is empty.
+    ensures no_epoch { result ≡ Err (ToolFault.Convert Fault.NoEpoch) → IfSome (R.remaining reader.old.inner) (λ b.
+        (epochs_in (settings setup) (frames_of b) ≡ 0) × Appends (W.contents writer.old.inner) (W.contents writer.new.inner) (file (settings setup) (frames_of b))) }
+
+    // The bytes up to the limit were taken, and what went out is the file of the epochs that they close.
+    ensures too_long { result ≡ Err (ToolFault.Convert Fault.TooLong) → IfSome (R.remaining reader.old.inner) (λ b. setup.limit < length b) }
+    ensures long { result ≡ Err (ToolFault.Convert Fault.TooLong) → (front : List ℕ) × Consumes (R.remaining reader.old.inner) (R.remaining reader.new.inner) front
+        × Appends (W.contents writer.old.inner) (W.contents writer.new.inner) (so_far (settings setup) (decided_frames (take setup.limit front))) }
+
+    // The reader failed: what went out is the file of the epochs that the bytes before close.
+    ensures read { result ≡ Err ToolFault.Read → (front : List ℕ) × Consumes (R.remaining reader.old.inner) (R.remaining reader.new.inner) front
+        × Appends (W.contents writer.old.inner) (W.contents writer.new.inner) (so_far (settings setup) (decided_frames front)) }
+    ensures read_failed { result ≡ Err ToolFault.Read → HasFailed reader.old.failures reader.new.failures }
+
+    // The writer failed: what it took is a front of the file.
+    ensures write { result ≡ Err ToolFault.Write →
+        Broke (R.remaining reader.old.inner) (R.remaining reader.new.inner) (W.contents writer.old.inner) (W.contents writer.new.inner) (settings setup)
+        ⊎ BrokeAtEnd (R.remaining reader.old.inner) (R.remaining reader.new.inner) (W.contents writer.old.inner) (W.contents writer.new.inner) (settings setup) }
+    ensures write_failed { result ≡ Err ToolFault.Write → HasFailed writer.old.failures writer.new.failures }
+    ensures bad_setup { result ≡ Err (ToolFault.Convert Fault.BadSetup) ↔ IsBad setup }
+    ensures only { IfErr result IsConvertFault }
+    ensures widest { reader.new.widest ≤ max reader.old.widest 1029 }
+{
+    match convert_stream(alloc, setup, reader, writer) {
+        Ok(report) => Ok(report),
+        Err(Fault::Read) => Err(ToolFault::Read),
+        Err(Fault::Write) => Err(ToolFault::Write),
+        Err(Fault::Memory) => Err(ToolFault::Convert(Fault::Memory)),
+        Err(Fault::BadSetup) => Err(ToolFault::Convert(Fault::BadSetup)),
+        Err(Fault::TooLong) => Err(ToolFault::Convert(Fault::TooLong)),
+        Err(Fault::NoEpoch) => Err(ToolFault::Convert(Fault::NoEpoch)),
+        Err(Fault::Failed) => Err(ToolFault::Convert(Fault::Failed)),
+        Err(Fault::Finished) => Err(ToolFault::Convert(Fault::Finished)),
+    }
+}
+
+/// Writes one line of all counts, each behind its name. A failure of this writer is ignored.
+pub fn tell<E: Write>(report: &Report, faults: &mut E) {
+    let _ = writeln!(
+        faults,
+        "bytes {} skipped_bytes {} frames {} faulty {} station {} other {} ignored {} late {} past {} taken {} skipped {} repeated {} crowded {} epochs {}",
+        report.bytes,
+        report.skipped_bytes,
+        report.frames,
+        report.faulty,
+        report.station,
+        report.other,
+        report.ignored,
+        report.late,
+        report.past,
+        report.taken,
+        report.skipped,
+        report.repeated,
+        report.crowded,
+        report.epochs,
+    );
+}

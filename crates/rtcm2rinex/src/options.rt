@@ -1,0 +1,57 @@
+//! What the options of `convert` ask for.
+ghost use Rattle.std.specs.Prelude.{IfErr};
+ghost use Rattle.rtcm2rinex.specs.Converting.{IsSetupFault};
+
+use crate::fault::ToolFault;
+use clap::ArgMatches;
+use obs_epoch::{Gather, Plan};
+use rinex_file::{HeaderTexts, Texts};
+use rtcm_convert::Setup;
+use rtcm_scan::MOST_BYTES;
+use std::alloc::Global;
+
+/// What a conversion is told at first. The texts of the header are judged before the plan.
+pub fn setup_of(alloc: Global, options: &ArgMatches) -> Result<Setup, ToolFault>
+    ensures { IfErr result IsSetupFault }
+{
+    let texts = match HeaderTexts::new(&texts_of(options)) {
+        Ok(texts) => texts,
+        Err(fault) => return Err(ToolFault::Header(fault)),
+    };
+    let plan = match Plan::parse(alloc, text(options, "gps"), text(options, "galileo")) {
+        Ok(plan) => plan,
+        Err(fault) => return Err(ToolFault::Plan(fault)),
+    };
+    Ok(Setup {
+        plan,
+        texts,
+        start_week: options.get_one::<u32>("week").unwrap_or(0),
+        station: options.get_one::<u16>("station"),
+        gather: match text(options, "gather") {
+            "time" => Gather::Time,
+            _ => Gather::Bit,
+        },
+        limit: options.get_one::<u64>("limit").unwrap_or(MOST_BYTES),
+    })
+}
+
+fn texts_of<'a>(options: &'a ArgMatches) -> Texts<'a> {
+    Texts {
+        run_by: text(options, "run-by"),
+        date: text(options, "date"),
+        marker: text(options, "marker"),
+        marker_type: text(options, "marker-type"),
+        observer: text(options, "observer"),
+        agency: text(options, "agency"),
+        rec_number: text(options, "rec-number"),
+        rec_type: text(options, "rec-type"),
+        rec_version: text(options, "rec-version"),
+        ant_number: text(options, "ant-number"),
+        ant_type: text(options, "ant-type"),
+    }
+}
+
+/// The value of an option: each that is asked for is required or has a default.
+fn text<'a>(options: &'a ArgMatches, name: &str) -> &'a str {
+    options.get_str(name).unwrap_or("")
+}
