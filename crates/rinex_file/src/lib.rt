@@ -1,0 +1,6 @@
+//! Observation files.
+#![tactic(auto)]
+
+mod fault;
+
+pub use fault::{HeadFault, HeaderField};
