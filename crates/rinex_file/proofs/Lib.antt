@@ -1,2 +1,3 @@
 mod Digits
+mod Cuts
 mod Examples

@@ -1,5 +1,6 @@
 -- The lines of a header, RINEX 3.05, table A2. Content stands in columns 1 to 60, the label from column 61 on.
-use Rattle.std.specs.Prelude.{ℕ, zero, suc, ℤ, pos, ◌+◌, ◌*◌, ◌/◌, List, [], ◌∷◌, ◌++◌, length, take, drop, map, flat_map, replicate, decimal, codes}
+use Rattle.std.specs.Prelude.{ℕ, zero, suc, ℤ, pos, ◌+◌, ◌*◌, ◌/◌, ◌==◌, if◌then◌else◌, List, [], ◌∷◌, ◌++◌, length, take, drop, map, flat_map, replicate, decimal, codes, get_or, min}
+use Rattle.arrayvec.specs.ArrayVec.{ArrayVec}
 use Rattle.gnss_obs.specs.Signals.{code_of}
 use Rattle.gnss_obs.specs.declared.system.System.{System}
 use Rattle.gnss_obs.specs.declared.system.System.TheVariants.{Gps, Galileo}
@@ -41,9 +42,13 @@ position_line v = header_line (lengths v.x v.y v.z) (codes "APPROX POSITION XYZ"
 abbrev pub antenna_line : StationValues → List ℕ
 antenna_line v = header_line (lengths (pos v.height) (pos 0) (pos 0)) (codes "ANTENNA: DELTA H/E/N")
 
--- pseudorange, phase, Doppler and strength of each signal with one of these codes
+-- a type of a signal with this code: pseudorange, phase, Doppler or strength
+abbrev pub type_of : ℕ → List ℕ → List ℕ
+type_of kind code = (if kind == 0 then 67 else (if kind == 1 then 76 else (if kind == 2 then 68 else 83))) ∷ code
+
+-- the types of the signals with these codes
 abbrev pub types_of : List (List ℕ) → List (List ℕ)
-types_of signals = flat_map (λ code. (67 ∷ code) ∷ (76 ∷ code) ∷ (68 ∷ code) ∷ (83 ∷ code) ∷ []) signals
+types_of signals = flat_map (λ code. type_of 0 code ∷ type_of 1 code ∷ type_of 2 code ∷ type_of 3 code ∷ []) signals
 
 -- what a line of types begins with: on the first, the system's letter and the number of types
 abbrev pub type_front : ℕ → ℕ → ℕ → List ℕ
@@ -85,17 +90,23 @@ first_content t =
 abbrev pub one : List ℕ → List (List ℕ)
 one line = line ∷ []
 
+-- the lines that show the texts handed in
+abbrev pub text_lines : HeaderLists → List (List ℕ)
+text_lines x =
+    header_line (three (codes "rtcm2rinex") x.run_by x.date) (codes "PGM / RUN BY / DATE")
+    ∷ header_line x.marker (codes "MARKER NAME")
+    ∷ header_line x.marker_type (codes "MARKER TYPE")
+    ∷ header_line (two x.observer x.agency) (codes "OBSERVER / AGENCY")
+    ∷ header_line (three x.rec_number x.rec_type x.rec_version) (codes "REC # / TYPE / VERS")
+    ∷ header_line (two x.ant_number x.ant_type) (codes "ANT # / TYPE")
+    ∷ []
+
 -- the lines by label, in order
 unfoldable pub sections : HeaderLists → PlanValue → StationValues → Civil → List (List (List ℕ))
 sections x p v t =
     one (header_line (version_content p) (codes "RINEX VERSION / TYPE"))
-    ∷ one (header_line (three (codes "rtcm2rinex") x.run_by x.date) (codes "PGM / RUN BY / DATE"))
-    ∷ one (header_line x.marker (codes "MARKER NAME"))
-    ∷ one (header_line x.marker_type (codes "MARKER TYPE"))
-    ∷ one (header_line (two x.observer x.agency) (codes "OBSERVER / AGENCY"))
-    ∷ one (header_line (three x.rec_number x.rec_type x.rec_version) (codes "REC # / TYPE / VERS"))
-    ∷ one (header_line (two x.ant_number x.ant_type) (codes "ANT # / TYPE"))
-    ∷ one (position_line v)
+    ∷ (map one (text_lines x)
+    ++ one (position_line v)
     ∷ one (antenna_line v)
     ∷ type_lines Gps p.gps
     ∷ type_lines Galileo p.galileo
@@ -104,8 +115,26 @@ sections x p v t =
     ∷ shift_lines Gps p.gps
     ∷ shift_lines Galileo p.galileo
     ∷ one (header_line [] (codes "END OF HEADER"))
-    ∷ []
+    ∷ [])
 
 -- the lines of a header, in order
 unfoldable pub header_lines : HeaderLists → PlanValue → StationValues → Civil → List (List ℕ)
 header_lines x p v t = flat_map (λ section. section) (sections x p v t)
+
+-- ---- one line after the other
+
+-- so many lines stand in a section
+abbrev pub section_rows : PlanValue → ℕ → ℕ
+section_rows p section =
+    if section == 9 then type_rows (length p.gps)
+    else (if section == 10 then type_rows (length p.galileo)
+    else (if section == 13 then min (length p.gps) 1
+    else (if section == 14 then min (length p.galileo) 1
+    else 1)))
+
+-- the lines from a line of a section on
+abbrev pub lines_from : List (List (List ℕ)) → ℕ → ℕ → List (List ℕ)
+lines_from all section row = drop row (get_or all section []) ++ flat_map (λ lines. lines) (drop (section + 1) all)
+
+abbrev pub as_line : List ℕ → ArrayVec ℕ
+as_line bytes = record { items = bytes }

@@ -6,3 +6,4 @@ pub mod Lines
 pub mod Header
 pub mod File
 pub mod Reading
+pub mod TextsOf

@@ -1,4 +1,5 @@
 //! What can be wrong with a header or with writing.
+ghost use Rattle.std.specs.Prelude.{◌≡◌};
 
 /// A text of the header that is handed in.
 #[derive(Clone, Copy, Debug, PartialEq, Eq)]
@@ -36,4 +37,19 @@ pub enum HeadFault {
     NotPrintable(HeaderField),
     /// The writer failed.
     Write,
+}
+
+impl HeaderField {
+    ghost use Rattle.rinex_file.specs.Texts.{width_of};
+
+    /// How many columns are for the text.
+    pub fn width(self) -> usize
+        ensures { result ≡ width_of self }
+    {
+        match self {
+            HeaderField::Marker => 60,
+            HeaderField::Agency => 40,
+            _ => 20,
+        }
+    }
 }
