@@ -6,8 +6,9 @@ use Rattle.gnss_obs.specs.declared.system.System.TheVariants.{Gps, Galileo}
 use Rattle.rinex_file.specs.Blanks.{trimmed}
 use Rattle.rinex_file.specs.Texts.{HeaderLists}
 use Rattle.rinex_file.specs.Value.{Entry, Row, Seen, Stamped, FileValue}
-use Rattle.rinex_file.specs.Header.{header_lines, sections}
-use Rattle.rinex_file.specs.Lines.{field, entry_text, seen_line, epoch_line, joined}
+use Rattle.rinex_file.specs.Header.{header_line, header_lines, lines_of}
+use Rattle.rinex_file.specs.Lines.{field, entry_text, seen_line, epoch_line}
+use Rattle.rinex_file.specs.Numbers.{joined}
 use Rattle.rinex_file.specs.File.{file_text}
 
 abbrev texts : HeaderLists
@@ -48,9 +49,9 @@ pub one_text : file_text one ≡ lines (
   ∷ codes "> 2024 02 04 00 00  1.0000000  0  1"
   ∷ codes "G05  20985472.060 7 110279400.000 7      -525.504          45.063"
   ∷ [])
-unfolding digits header_lines sections epoch_line seen_line trimmed entry_text field
+unfolding digits header_line header_lines lines_of epoch_line seen_line trimmed entry_text field
 one_text = refl
 
 pub one_length : length (file_text one) ≡ 1236
-unfolding digits header_lines sections epoch_line seen_line trimmed entry_text field
+unfolding digits header_line header_lines lines_of epoch_line seen_line trimmed entry_text field
 one_length = refl

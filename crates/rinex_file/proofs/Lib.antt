@@ -1,3 +1,10 @@
 mod Digits
 mod Cuts
+mod Grown
+mod Columns
+mod Found
+mod Entries
+mod SignalTypes
+mod Sections
+mod Sent
 mod Examples

@@ -1,12 +1,14 @@
 -- The text of a file.
-use Rattle.std.specs.Prelude.{ℕ, List, [], ◌∷◌, ◌++◌, length, map, flat_map, replicate, codes, Option, Some, None}
+use Rattle.std.specs.Prelude.{ℕ, List, [], ◌∷◌, ◌++◌, length, map, flat_map, replicate, codes, Option, Some, None, if◌then◌else◌}
+use Rattle.gnss_obs.specs.declared.system.System.{System}
 use Rattle.obs_epoch.specs.declared.cell.StationValues.{StationValues}
-use Rattle.obs_epoch.specs.Cells.{EpochValue, PlanValue}
+use Rattle.obs_epoch.specs.Values.{EpochValue, PlanValue, cells_of, is_written}
 use Rattle.obs_epoch.specs.Dates.{civil_of}
 use Rattle.rinex_file.specs.Texts.{HeaderLists}
-use Rattle.rinex_file.specs.Value.{Stamped, FileValue, stamped_of}
-use Rattle.rinex_file.specs.Header.{header_lines, position_line, antenna_line}
-use Rattle.rinex_file.specs.Lines.{epoch_line, seen_line, joined}
+use Rattle.rinex_file.specs.Value.{Stamped, FileValue, stamped_of, seen_of, written}
+use Rattle.rinex_file.specs.Header.{header_lines, position_line, delta_line}
+use Rattle.rinex_file.specs.Lines.{epoch_line, seen_line}
+use Rattle.rinex_file.specs.Numbers.{joined}
 
 -- the header of a file whose first epoch is at this time
 unfoldable pub header_text : HeaderLists → PlanValue → StationValues → ℕ → List ℕ
@@ -15,7 +17,7 @@ header_text texts plan values first = joined (header_lines texts plan values (ci
 -- station values that change: event flag 4, and two header lines
 abbrev pub change_lines : Option StationValues → List (List ℕ)
 change_lines None = []
-change_lines (Some v) = (codes ">" ++ (replicate 30 32 ++ codes "4  2\n")) ∷ position_line v ∷ antenna_line v ∷ []
+change_lines (Some v) = (codes ">" ++ (replicate 30 32 ++ codes "4  2\n")) ∷ position_line v ∷ delta_line v ∷ []
 
 -- the lines of an epoch
 abbrev pub stamped_lines : Stamped → List (List ℕ)
@@ -24,6 +26,14 @@ stamped_lines e = change_lines e.change ++ (epoch_line (civil_of e.time) (length
 -- an epoch that was gathered under a plan
 unfoldable pub epoch_text : PlanValue → EpochValue → List ℕ
 epoch_text plan epoch = joined (stamped_lines (stamped_of plan epoch))
+
+-- the line of a satellite, where it is written
+unfoldable pub line_or_none : PlanValue → EpochValue → System → ℕ → List ℕ
+line_or_none plan epoch system id = if is_written (cells_of system epoch) id then seen_line (seen_of plan epoch system id) else []
+
+-- the lines of a system's satellites up to a number
+unfoldable pub lines_up_to : PlanValue → EpochValue → System → ℕ → List ℕ
+lines_up_to plan epoch system most = joined (map seen_line (map (seen_of plan epoch system) (written (cells_of system epoch) most)))
 
 -- header and epochs; nothing where there is no epoch
 abbrev pub lines_of : HeaderLists → PlanValue → StationValues → List Stamped → List (List ℕ)

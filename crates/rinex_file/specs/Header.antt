@@ -1,46 +1,71 @@
 -- The lines of a header, RINEX 3.05, table A2. Content stands in columns 1 to 60, the label from column 61 on.
-use Rattle.std.specs.Prelude.{ℕ, zero, suc, ℤ, pos, ◌+◌, ◌*◌, ◌/◌, ◌==◌, if◌then◌else◌, List, [], ◌∷◌, ◌++◌, length, take, drop, map, flat_map, replicate, decimal, codes, get_or, min}
-use Rattle.arrayvec.specs.ArrayVec.{ArrayVec}
+use Rattle.std.specs.Prelude.{ℕ, zero, suc, ℤ, pos, ◌+◌, ◌*◌, ◌/◌, ◌==◌, if◌then◌else◌, List, [], ◌∷◌, ◌++◌, length, take, drop, map, flat_map, replicate, decimal, codes, min}
 use Rattle.gnss_obs.specs.Signals.{code_of}
 use Rattle.gnss_obs.specs.declared.system.System.{System}
 use Rattle.gnss_obs.specs.declared.system.System.TheVariants.{Gps, Galileo}
 use Rattle.obs_epoch.specs.declared.cell.StationValues.{StationValues}
 use Rattle.obs_epoch.specs.declared.civil.Civil.{Civil}
-use Rattle.obs_epoch.specs.Cells.{PlanValue, planned_of}
-use Rattle.rinex_file.specs.Numbers.{left, right, fixed}
+use Rattle.obs_epoch.specs.Values.{PlanValue, planned_of}
+use Rattle.rinex_file.specs.declared.section.Section.{Section}
+use Rattle.rinex_file.specs.declared.section.Section.TheVariants.{Version, Program, Marker, MarkerType, Observer, Receiver, Antenna, Position, Delta, Types, StrengthUnit, First, Shift, End}
+use Rattle.rinex_file.specs.Numbers.{joined, left, right, fixed}
 use Rattle.rinex_file.specs.Texts.{HeaderLists}
 use Rattle.rinex_file.specs.Lines.{letter_of}
 
 -- content, label and a line feed
-abbrev pub header_line : List ℕ → List ℕ → List ℕ
-header_line content label = left 60 content ++ (left 20 label ++ 10 ∷ [])
-
--- G, E, or M where both systems are planned
-abbrev pub file_system : List ℕ → List ℕ → List ℕ
-file_system [] galileo = codes "E"
-file_system (_ ∷ _) [] = codes "G"
-file_system (_ ∷ _) (_ ∷ _) = codes "M"
-
-abbrev pub version_content : PlanValue → List ℕ
-version_content p = right 9 (fixed 2 (pos 305)) ++ (replicate 11 32 ++ (left 20 (codes "OBSERVATION DATA") ++ file_system p.gps p.galileo))
+unfoldable pub header_line : List ℕ → List ℕ → List ℕ
+header_line content label = joined (left 60 content ∷ left 20 label ∷ (10 ∷ []) ∷ [])
 
 -- two texts, and three, of 20 columns each but the last
 abbrev pub two : List ℕ → List ℕ → List ℕ
-two a b = left 20 a ++ b
+two a b = joined (left 20 a ∷ b ∷ [])
 
 abbrev pub three : List ℕ → List ℕ → List ℕ → List ℕ
-three a b c = left 20 a ++ (left 20 b ++ c)
+three a b c = joined (left 20 a ∷ left 20 b ∷ c ∷ [])
 
 -- three numbers in 0.0001 m
 abbrev pub lengths : ℤ → ℤ → ℤ → List ℕ
-lengths a b c = right 14 (fixed 4 a) ++ (right 14 (fixed 4 b) ++ right 14 (fixed 4 c))
+lengths a b c = joined (right 14 (fixed 4 a) ∷ right 14 (fixed 4 b) ∷ right 14 (fixed 4 c) ∷ [])
+
+-- ---- version and texts
+
+-- G, E, or M where both systems are planned
+abbrev pub file_system : PlanValue → ℕ
+file_system p = if length p.gps == 0 then 69 else (if length p.galileo == 0 then 71 else 77)
+
+abbrev pub version_line : PlanValue → List ℕ
+version_line p = header_line
+    (joined (right 9 (fixed 2 (pos 305)) ∷ replicate 11 32 ∷ left 20 (codes "OBSERVATION DATA") ∷ (file_system p ∷ []) ∷ []))
+    (codes "RINEX VERSION / TYPE")
+
+abbrev pub program_line : HeaderLists → List ℕ
+program_line x = header_line (three (codes "rtcm2rinex") x.run_by x.date) (codes "PGM / RUN BY / DATE")
+
+abbrev pub marker_line : HeaderLists → List ℕ
+marker_line x = header_line x.marker (codes "MARKER NAME")
+
+abbrev pub marker_type_line : HeaderLists → List ℕ
+marker_type_line x = header_line x.marker_type (codes "MARKER TYPE")
+
+abbrev pub observer_line : HeaderLists → List ℕ
+observer_line x = header_line (two x.observer x.agency) (codes "OBSERVER / AGENCY")
+
+abbrev pub receiver_line : HeaderLists → List ℕ
+receiver_line x = header_line (three x.rec_number x.rec_type x.rec_version) (codes "REC # / TYPE / VERS")
+
+abbrev pub antenna_line : HeaderLists → List ℕ
+antenna_line x = header_line (two x.ant_number x.ant_type) (codes "ANT # / TYPE")
+
+-- ---- station
 
 abbrev pub position_line : StationValues → List ℕ
 position_line v = header_line (lengths v.x v.y v.z) (codes "APPROX POSITION XYZ")
 
 -- the height of the antenna, which stands neither east nor north of the marker
-abbrev pub antenna_line : StationValues → List ℕ
-antenna_line v = header_line (lengths (pos v.height) (pos 0) (pos 0)) (codes "ANTENNA: DELTA H/E/N")
+abbrev pub delta_line : StationValues → List ℕ
+delta_line v = header_line (lengths (pos v.height) (pos 0) (pos 0)) (codes "ANTENNA: DELTA H/E/N")
+
+-- ---- signals
 
 -- a type of a signal with this code: pseudorange, phase, Doppler or strength
 abbrev pub type_of : ℕ → List ℕ → List ℕ
@@ -55,10 +80,12 @@ abbrev pub type_front : ℕ → ℕ → ℕ → List ℕ
 type_front letter types zero = letter ∷ 32 ∷ 32 ∷ right 3 (decimal types)
 type_front letter types (suc line) = replicate 6 32
 
--- the line of the 13 types, or less, that stand from `13 * line` on
+-- the 13 types, or less, that stand from `13 * line` on, with a blank in front of each
+abbrev pub type_columns : List (List ℕ) → ℕ → List ℕ
+type_columns types line = flat_map (λ t. 32 ∷ t) (take 13 (drop (13 * line) types))
+
 abbrev pub type_line : ℕ → List (List ℕ) → ℕ → List ℕ
-type_line letter types line =
-    header_line (type_front letter (length types) line ++ flat_map (λ t. 32 ∷ t) (take 13 (drop (13 * line) types))) (codes "SYS / # / OBS TYPES")
+type_line letter types line = header_line (type_front letter (length types) line ++ type_columns types line) (codes "SYS / # / OBS TYPES")
 
 -- the numbers below n
 abbrev pub places : ℕ → List ℕ
@@ -78,63 +105,86 @@ type_lines system signals = map (type_line (letter_of system) (types_of (codes_o
 
 -- no phase is shifted; no line where no signal of the system is planned
 abbrev pub shift_lines : System → List ℕ → List (List ℕ)
-shift_lines system [] = []
-shift_lines system (_ ∷ _) = header_line (letter_of system ∷ []) (codes "SYS / PHASE SHIFT") ∷ []
+shift_lines system signals = replicate (min (length signals) 1) (header_line (letter_of system ∷ []) (codes "SYS / PHASE SHIFT"))
+
+-- ---- units, time and end
+
+abbrev pub strength_line : List ℕ
+strength_line = header_line (codes "DBHZ") (codes "SIGNAL STRENGTH UNIT")
 
 -- year, month, day, hour and minute in six columns each, and the second with seven decimals
-abbrev pub first_content : Civil → List ℕ
-first_content t =
-    right 6 (decimal t.year) ++ (right 6 (decimal t.month) ++ (right 6 (decimal t.day) ++ (right 6 (decimal t.hour) ++ (right 6 (decimal t.minute)
-    ++ (right 13 (fixed 7 (pos (t.millisecond * 10_000))) ++ codes "     GPS")))))
+abbrev pub first_line : Civil → List ℕ
+first_line t = header_line
+    (joined (right 6 (decimal t.year) ∷ right 6 (decimal t.month) ∷ right 6 (decimal t.day) ∷ right 6 (decimal t.hour) ∷ right 6 (decimal t.minute)
+    ∷ right 13 (fixed 7 (pos (t.millisecond * 10_000))) ∷ codes "     GPS" ∷ []))
+    (codes "TIME OF FIRST OBS")
+
+abbrev pub end_line : List ℕ
+end_line = header_line [] (codes "END OF HEADER")
+
+-- ---- the whole
 
 abbrev pub one : List ℕ → List (List ℕ)
 one line = line ∷ []
 
--- the lines that show the texts handed in
-abbrev pub text_lines : HeaderLists → List (List ℕ)
-text_lines x =
-    header_line (three (codes "rtcm2rinex") x.run_by x.date) (codes "PGM / RUN BY / DATE")
-    ∷ header_line x.marker (codes "MARKER NAME")
-    ∷ header_line x.marker_type (codes "MARKER TYPE")
-    ∷ header_line (two x.observer x.agency) (codes "OBSERVER / AGENCY")
-    ∷ header_line (three x.rec_number x.rec_type x.rec_version) (codes "REC # / TYPE / VERS")
-    ∷ header_line (two x.ant_number x.ant_type) (codes "ANT # / TYPE")
-    ∷ []
+-- the lines of a section
+unfoldable pub lines_of : HeaderLists → PlanValue → StationValues → Civil → Section → List (List ℕ)
+lines_of x p v t Version = one (version_line p)
+lines_of x p v t Program = one (program_line x)
+lines_of x p v t Marker = one (marker_line x)
+lines_of x p v t MarkerType = one (marker_type_line x)
+lines_of x p v t Observer = one (observer_line x)
+lines_of x p v t Receiver = one (receiver_line x)
+lines_of x p v t Antenna = one (antenna_line x)
+lines_of x p v t Position = one (position_line v)
+lines_of x p v t Delta = one (delta_line v)
+lines_of x p v t (Types system) = type_lines system (planned_of system p)
+lines_of x p v t StrengthUnit = one strength_line
+lines_of x p v t First = one (first_line t)
+lines_of x p v t (Shift system) = shift_lines system (planned_of system p)
+lines_of x p v t End = one end_line
 
--- the lines by label, in order
-unfoldable pub sections : HeaderLists → PlanValue → StationValues → Civil → List (List (List ℕ))
-sections x p v t =
-    one (header_line (version_content p) (codes "RINEX VERSION / TYPE"))
-    ∷ (map one (text_lines x)
-    ++ one (position_line v)
-    ∷ one (antenna_line v)
-    ∷ type_lines Gps p.gps
-    ∷ type_lines Galileo p.galileo
-    ∷ one (header_line (codes "DBHZ") (codes "SIGNAL STRENGTH UNIT"))
-    ∷ one (header_line (first_content t) (codes "TIME OF FIRST OBS"))
-    ∷ shift_lines Gps p.gps
-    ∷ shift_lines Galileo p.galileo
-    ∷ one (header_line [] (codes "END OF HEADER"))
-    ∷ [])
+-- the sections in order
+abbrev pub all_sections : List Section
+all_sections =
+    Version ∷ Program ∷ Marker ∷ MarkerType ∷ Observer ∷ Receiver ∷ Antenna ∷ Position ∷ Delta
+    ∷ Types Gps ∷ Types Galileo ∷ StrengthUnit ∷ First ∷ Shift Gps ∷ Shift Galileo ∷ End ∷ []
 
 -- the lines of a header, in order
 unfoldable pub header_lines : HeaderLists → PlanValue → StationValues → Civil → List (List ℕ)
-header_lines x p v t = flat_map (λ section. section) (sections x p v t)
+header_lines x p v t = flat_map (lines_of x p v t) all_sections
 
 -- ---- one line after the other
 
 -- so many lines stand in a section
-abbrev pub section_rows : PlanValue → ℕ → ℕ
-section_rows p section =
-    if section == 9 then type_rows (length p.gps)
-    else (if section == 10 then type_rows (length p.galileo)
-    else (if section == 13 then min (length p.gps) 1
-    else (if section == 14 then min (length p.galileo) 1
-    else 1)))
+abbrev pub section_rows : PlanValue → Section → ℕ
+section_rows p (Types system) = type_rows (length (planned_of system p))
+section_rows p (Shift system) = min (length (planned_of system p)) 1
+section_rows p other = 1
 
--- the lines from a line of a section on
-abbrev pub lines_from : List (List (List ℕ)) → ℕ → ℕ → List (List ℕ)
-lines_from all section row = drop row (get_or all section []) ++ flat_map (λ lines. lines) (drop (section + 1) all)
+-- the place of a section among all
+abbrev pub place_of : Section → ℕ
+place_of Version = 0
+place_of Program = 1
+place_of Marker = 2
+place_of MarkerType = 3
+place_of Observer = 4
+place_of Receiver = 5
+place_of Antenna = 6
+place_of Position = 7
+place_of Delta = 8
+place_of (Types Gps) = 9
+place_of (Types Galileo) = 10
+place_of StrengthUnit = 11
+place_of First = 12
+place_of (Shift Gps) = 13
+place_of (Shift Galileo) = 14
+place_of End = 15
 
-abbrev pub as_line : List ℕ → ArrayVec ℕ
-as_line bytes = record { items = bytes }
+-- the sections behind one
+abbrev pub after : Section → List Section
+after section = drop (suc (place_of section)) all_sections
+
+-- the lines from a line of a section on, where the sections have these
+abbrev pub lines_from : (Section → List (List ℕ)) → Section → ℕ → List (List ℕ)
+lines_from lines section row = drop row (lines section) ++ flat_map lines (after section)

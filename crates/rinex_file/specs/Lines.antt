@@ -5,13 +5,9 @@ use Rattle.gnss_obs.specs.Observables.{digit}
 use Rattle.gnss_obs.specs.declared.system.System.{System}
 use Rattle.gnss_obs.specs.declared.system.System.TheVariants.{Gps, Galileo}
 use Rattle.obs_epoch.specs.declared.civil.Civil.{Civil}
-use Rattle.rinex_file.specs.Numbers.{right, fixed, padded}
+use Rattle.rinex_file.specs.Numbers.{joined, right, fixed, padded}
 use Rattle.rinex_file.specs.Blanks.{trimmed}
 use Rattle.rinex_file.specs.Value.{Entry, Row, Seen}
-
--- fields, one behind the other; lines, one after the other
-abbrev pub joined : List (List ℕ) → List ℕ
-joined parts = flat_map (λ part. part) parts
 
 -- the fields of the line that an epoch of so many satellites begins with
 abbrev pub epoch_fields : Civil → ℕ → List (List ℕ)

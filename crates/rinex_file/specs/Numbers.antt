@@ -1,7 +1,11 @@
 -- Numbers of stated width, as they stand in the columns of a line.
-use Rattle.std.specs.Prelude.{ℕ, ℤ, ◌-◌, ◌/◌, ◌%◌, ◌^◌, List, ◌∷◌, ◌++◌, length, replicate, decimal, unsigned_abs}
+use Rattle.std.specs.Prelude.{ℕ, ℤ, ◌-◌, ◌/◌, ◌%◌, ◌^◌, List, ◌∷◌, ◌++◌, length, flat_map, replicate, decimal, unsigned_abs}
 use Rattle.std.specs.Int.{is_negative}
 use Rattle.std.specs.Fmt.{sign_text}
+
+-- fields, one behind the other; lines, one after the other
+abbrev pub joined : List (List ℕ) → List ℕ
+joined parts = flat_map (λ part. part) parts
 
 -- a text left in its columns, with blanks behind
 abbrev pub left : ℕ → List ℕ → List ℕ

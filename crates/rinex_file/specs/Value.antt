@@ -1,13 +1,12 @@
 -- What a file holds.
-use Rattle.std.specs.Prelude.{◌≡◌, ℕ, ℤ, ◌==◌, ◌&&◌, ◌||◌, Bool, true, false, List, [], ◌∷◌, ◌++◌, zero, suc, length, map, filter, find, Option, Some, None, is_some}
+use Rattle.std.specs.Prelude.{ℕ, ℤ, ◌==◌, ◌&&◌, Bool, List, [], ◌∷◌, ◌++◌, zero, suc, length, map, filter, find, Option, None}
 use Rattle.std.specs.Option.{option_map_or}
-use Rattle.std.specs.List.{list_any}
 use Rattle.gnss_obs.specs.declared.system.System.{System}
 use Rattle.gnss_obs.specs.declared.system.System.TheVariants.{Gps, Galileo}
 use Rattle.gnss_obs.specs.Satellites.{satellites}
 use Rattle.obs_epoch.specs.declared.cell.Cell.{Cell}
 use Rattle.obs_epoch.specs.declared.cell.StationValues.{StationValues}
-use Rattle.obs_epoch.specs.Cells.{EpochValue, PlanValue, cells_of, planned_of}
+use Rattle.obs_epoch.specs.Values.{EpochValue, PlanValue, cells_of, planned_of, is_written}
 use Rattle.rinex_file.specs.Texts.{HeaderLists}
 
 -- what was observed of a planned signal: values in thousandths, all absent where nothing was
@@ -43,13 +42,6 @@ pub record FileValue : Type 0 where
   pub epochs : List Stamped
 
 -- ---- the value of an epoch that was gathered under a plan
-
-abbrev pub has_value : Cell → Bool
-has_value c = is_some c.c || is_some c.l || is_some c.d || is_some c.s
-
--- a satellite is written where one of its cells has a value
-abbrev pub is_written : List Cell → ℕ → Bool
-is_written cells id = list_any (λ c. (c.satellite.id == id) && has_value c) cells
 
 -- the numbers from 1 to n
 abbrev pub numbers : ℕ → List ℕ

@@ -7,6 +7,7 @@ mod head;
 mod header;
 mod numbers;
 mod satellite;
+mod section;
 mod texts;
 mod types;
 mod write;

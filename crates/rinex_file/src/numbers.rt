@@ -1,5 +1,5 @@
 //! Numbers of stated width, as they stand in the columns of a line.
-ghost use Rattle.std.specs.Prelude.{◌≡◌, ◌+◌, ◌^◌, ◌≤◌, ◌++◌, ℕ, replicate, decimal, length};
+ghost use Rattle.std.specs.Prelude.{◌≡◌, ◌+◌, ◌^◌, ◌≤◌, ◌*◌, ◌++◌, ℕ, pos, replicate, decimal, length};
 ghost use Rattle.rinex_file.specs.Numbers.{fixed, padded, left, right};
 ghost use Rattle.arrayvec.specs.ArrayVec.{array_vec_len};
 
@@ -12,7 +12,8 @@ pub type Line = ArrayVec<u8, 1220>;
 /// Appends the bytes.
 pub(crate) fn put<const N: usize>(line: &mut ArrayVec<u8, N>, bytes: &[u8])
     requires { array_vec_len line.old + length bytes.now ≤ N }
-    ensures { line.new.items ≡ line.old.items ++ bytes.now }
+    ensures text { line.new.items ≡ line.old.items ++ bytes.now }
+    ensures size { array_vec_len line.new ≡ array_vec_len line.old + length bytes.now }
 {
     let _ = line.try_extend_from_slice(bytes);
 }
@@ -109,4 +110,14 @@ pub(crate) fn put_fixed(line: &mut Line, width: usize, places: usize, scale: u64
 {
     let text = fixed_text(places, scale, value);
     put_right(line, width, text.as_slice());
+}
+
+/// Appends seconds with seven decimals right in their columns.
+pub(crate) fn put_seconds(line: &mut Line, width: usize, milliseconds: u16)
+    requires width { width ≤ 20 }
+    requires room { array_vec_len line.old + 84 ≤ 1220 }
+    ensures text { line.new.items ≡ line.old.items ++ right width (fixed 7 (pos (milliseconds * 10_000))) }
+    ensures size { array_vec_len line.new ≤ array_vec_len line.old + 84 }
+{
+    put_fixed(line, width, 7, 10_000_000, (milliseconds as u64 * 10_000) as i64);
 }

@@ -1,9 +1,10 @@
 //! Observation lines: RINEX 3.05, table A3, "OBSERVATION DATA RECORD".
-ghost use Rattle.std.specs.Prelude.{◌≡◌, ℕ, ◌+◌, ◌*◌, ◌≤◌, ◌<◌, ◌^◌, ◌++◌, [], ◌∷◌, length, take, map, find, unsigned_abs, IfSome, Some, Option};
+ghost use Rattle.std.specs.Prelude.{◌≡◌, ℕ, ◌+◌, ◌*◌, ◌≤◌, ◌<◌, ◌^◌, ◌++◌, [], ◌∷◌, length, take, replicate, find, IfSome, Some};
 ghost use Rattle.std.specs.Option.{option_map};
 ghost use Rattle.arrayvec.specs.ArrayVec.{array_vec_len};
-ghost use Rattle.obs_epoch.specs.Cells.{Fits, IsHeld, AreHeld, cells_of, planned_of};
+ghost use Rattle.obs_epoch.specs.Values.{Fits, AreHeld};
 ghost use Rattle.rinex_file.specs.Value.{Entry, entry_of, no_entry, entry_at, is_of, seen_of};
+ghost use Rattle.rinex_file.specs.Numbers.{padded};
 ghost use Rattle.rinex_file.specs.Blanks.{trimmed};
 ghost use Rattle.rinex_file.specs.Lines.{field, strength_byte, mark_byte, entry_text, letter_of, seen_line};
 
@@ -12,6 +13,19 @@ use gnss_obs::{Sat, System, Thousandths, strength_digit};
 use itoa::write_digits;
 use obs_epoch::{Cell, Epoch, Plan};
 
+// What stands behind the whole part of a value, in its columns: a point, thousandths, and two columns more.
+fn behind_whole(part: u64, lost: u8, strength: u8) -> [u8; 16]
+    requires { part < 1000 }
+    ensures { result ≡ replicate 10 32 ++ (46 ∷ padded 3 part ++ lost ∷ strength ∷ []) }
+{
+    let hundreds = b'0' + (part / 100) as u8;
+    let tens = b'0' + (part / 10 % 10) as u8;
+    let ones = b'0' + (part % 10) as u8;
+    [
+        b' ', b' ', b' ', b' ', b' ', b' ', b' ', b' ', b' ', b' ', b'.', hundreds, tens, ones, lost, strength,
+    ]
+}
+
 // A value as F14.3, with the two columns behind it.
 #[tactic(auto, unfolding(crate::specs::Lines::field))]
 fn columns_of(value: i64, lost: u8, strength: u8) -> [u8; 16]
@@ -19,14 +33,7 @@ fn columns_of(value: i64, lost: u8, strength: u8) -> [u8; 16]
     ensures { result ≡ field (Some value) lost strength }
 {
     let size = value.unsigned_abs();
-    let part = size % 1000;
-    let mut columns = [b' '; 16];
-    columns[10] = b'.';
-    columns[11] = b'0' + (part / 100) as u8;
-    columns[12] = b'0' + (part / 10 % 10) as u8;
-    columns[13] = b'0' + (part % 10) as u8;
-    columns[14] = lost;
-    columns[15] = strength;
+    let mut columns = behind_whole(size % 1000, lost, strength);
     let start = write_digits(size / 1000, &mut columns, 10);
     if value < 0 {
         columns[start - 1] = b'-';
@@ -42,11 +49,10 @@ fn put_field(line: &mut Line, value: Option<Thousandths>, lost: u8, strength: u8
     ensures text { line.new.items ≡ line.old.items ++ field value lost strength }
     ensures size { array_vec_len line.new ≡ array_vec_len line.old + 16 }
 {
-    let columns = match value {
-        None => [b' '; 16],
-        Some(value) => columns_of(value.value(), lost, strength),
-    };
-    put(line, &columns);
+    match value {
+        None => put_times(line, b' ', 16),
+        Some(value) => put(line, &columns_of(value.value(), lost, strength)),
+    }
 }
 
 // The strength column.

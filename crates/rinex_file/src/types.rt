@@ -2,9 +2,9 @@
 ghost use Rattle.std.specs.Prelude.{◌≡◌, ℕ, ◌+◌, ◌*◌, ◌/◌, ◌≤◌, ◌<◌, ◌++◌, [], ◌∷◌, length};
 ghost use Rattle.arrayvec.specs.ArrayVec.{array_vec_len};
 ghost use Rattle.gnss_obs.specs.Signals.{code_of};
-ghost use Rattle.obs_epoch.specs.Cells.{planned_of};
+ghost use Rattle.obs_epoch.specs.Values.{planned_of};
 ghost use Rattle.rinex_file.specs.Lines.{letter_of};
-ghost use Rattle.rinex_file.specs.Header.{type_line, type_front, type_rows, types_of, codes_of, type_of};
+ghost use Rattle.rinex_file.specs.Header.{type_line, type_front, type_columns, type_rows, types_of, codes_of, type_of};
 
 use crate::header::labelled;
 use crate::numbers::{Line, put, put_whole};
@@ -27,7 +27,7 @@ fn put_front(content: &mut Line, letter: u8, types: usize, row: usize)
     requires room { array_vec_len content.old ≤ 100 }
     requires types { types ≤ 1000 }
     ensures text { content.new.items ≡ content.old.items ++ type_front letter types row }
-    ensures size { array_vec_len content.new ≤ array_vec_len content.old + 50 }
+    ensures size { array_vec_len content.new ≤ array_vec_len content.old + 63 }
 {
     if row == 0 {
         content.push(letter);
@@ -56,16 +56,27 @@ fn put_type(content: &mut Line, signal: Signal, kind: usize)
     put(content, &signal.code());
 }
 
+// Appends a line's types.
+fn put_types(content: &mut Line, plan: &Plan, system: System, row: usize)
+    requires row { row < type_rows (length (planned_of system plan.now)) }
+    requires room { array_vec_len content.old ≤ 100 }
+    ensures text { content.new.items ≡ content.old.items ++ type_columns (types_of (codes_of system (planned_of system plan.now))) row }
+    ensures size { array_vec_len content.new ≤ array_vec_len content.old + 52 }
+{
+    let first = TYPES * row;
+    let end = (4 * plan.signals(system)).min(first + TYPES);
+    for i in first..end {
+        put_type(content, plan.signal(system, i / 4), i % 4);
+    }
+}
+
 /// A line of a system's types.
 pub(crate) fn type_line(plan: &Plan, system: System, row: usize) -> Line
     requires { row < type_rows (length (planned_of system plan.now)) }
     ensures { result.items ≡ type_line (letter_of system) (types_of (codes_of system (planned_of system plan.now))) row }
 {
-    let types = 4 * plan.signals(system);
     let mut content = Line::new();
-    put_front(&mut content, letter_of(system), types, row);
-    for i in TYPES * row..types.min(TYPES * row + TYPES) {
-        put_type(&mut content, plan.signal(system, i / 4), i % 4);
-    }
+    put_front(&mut content, letter_of(system), 4 * plan.signals(system), row);
+    put_types(&mut content, plan, system, row);
     labelled(content.as_slice(), b"SYS / # / OBS TYPES")
 }

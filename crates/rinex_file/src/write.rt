@@ -1,13 +1,10 @@
 //! Writing a file, one line at a time.
-ghost use Rattle.std.specs.Prelude.{◌≡◌, ℕ, ◌<◌, ◌≤◌, List, length, map, filter, OnOk, OnErr, IfErr};
-ghost use Rattle.std.specs.List.{list_any};
+ghost use Rattle.std.specs.Prelude.{◌≡◌, ◌<◌, OnOk, OnErr, IfErr};
 ghost use Rattle.std.specs.Io.KnownBytes.{Appends};
-ghost use Rattle.gnss_obs.specs.Satellites.{satellites};
 ghost use Rattle.rtcm_bits.specs.Device.{AppendsPrefix, HasFailed};
-ghost use Rattle.obs_epoch.specs.Cells.{cells_of};
-ghost use Rattle.rinex_file.specs.Value.{has_value, is_written, written, rows_of};
-ghost use Rattle.rinex_file.specs.Lines.{joined, seen_line};
-ghost use Rattle.rinex_file.specs.File.{header_text, epoch_text};
+ghost use Rattle.obs_epoch.specs.Values.{cells_of, has_value, is_written};
+ghost use Rattle.gnss_obs.specs.Satellites.{satellites};
+ghost use Rattle.rinex_file.specs.File.{header_text, epoch_text, line_or_none, lines_up_to};
 
 use crate::epoch::epoch_line;
 use crate::fault::HeadFault;
@@ -56,29 +53,32 @@ fn is_written(cells: &[Cell], id: u8) -> bool
     cells.iter().any(|cell| cell.satellite.id() == id && has_value(cell))
 }
 
-// The greatest number of a satellite.
-fn last_id(system: System) -> u8
-    ensures { result ≡ satellites system }
+// Writes the line of a satellite where it has a value.
+fn write_satellite<W: Write>(
+    epoch: &Epoch,
+    plan: &Plan,
+    system: System,
+    id: u8,
+    line: &mut Line,
+    writer: &mut Counted<W>,
+) -> Result<(), HeadFault>
+    requires { id < 100 }
+    ensures whole { OnOk result (Appends (W.contents writer.old.inner) (W.contents writer.new.inner) (line_or_none plan.now epoch.now system id)) }
+    ensures part { OnErr result (AppendsPrefix (W.contents writer.old.inner) (W.contents writer.new.inner) (line_or_none plan.now epoch.now system id)) }
+    ensures only { IfErr result (λ fault. fault ≡ HeadFault.Write) }
+    ensures failed { OnErr result (HasFailed writer.old.failures writer.new.failures) }
+    ensures fine { OnOk result (writer.new.failures ≡ writer.old.failures) }
+    ensures widest { writer.new.widest ≡ writer.old.widest }
 {
-    match system {
-        System::Gps => 32,
-        System::Galileo => 36,
+    if !is_written(epoch.cells(system), id) {
+        return Ok(());
     }
-}
-
-// How many of the satellites up to a number are written.
-fn count_written(cells: &[Cell], last: u8) -> usize
-    requires { last < 100 }
-    ensures count { result ≡ length (written cells.now last) }
-    ensures bound { result ≤ last }
-{
-    let mut count = 0;
-    for before in 0..last {
-        if is_written(cells, before + 1) {
-            count += 1;
-        }
+    line.clear();
+    put_seen(line, epoch, plan, system, id);
+    match writer.write_whole(line.as_slice()) {
+        Ok(()) => Ok(()),
+        Err(_) => Err(HeadFault::Write),
     }
-    count
 }
 
 // Writes the lines of a system's satellites.
@@ -89,24 +89,17 @@ fn write_system<W: Write>(
     line: &mut Line,
     writer: &mut Counted<W>,
 ) -> Result<(), HeadFault>
-    ensures whole { OnOk result (Appends (W.contents writer.old.inner) (W.contents writer.new.inner)
-        (joined (map seen_line (rows_of plan.now epoch.now system)))) }
-    ensures part { OnErr result (AppendsPrefix (W.contents writer.old.inner) (W.contents writer.new.inner)
-        (joined (map seen_line (rows_of plan.now epoch.now system)))) }
+    ensures whole { OnOk result (Appends (W.contents writer.old.inner) (W.contents writer.new.inner) (lines_up_to plan.now epoch.now system (satellites system))) }
+    ensures part { OnErr result (AppendsPrefix (W.contents writer.old.inner) (W.contents writer.new.inner) (lines_up_to plan.now epoch.now system (satellites system))) }
     ensures only { IfErr result (λ fault. fault ≡ HeadFault.Write) }
     ensures failed { OnErr result (HasFailed writer.old.failures writer.new.failures) }
     ensures fine { OnOk result (writer.new.failures ≡ writer.old.failures) }
     ensures widest { writer.new.widest ≡ writer.old.widest }
 {
-    let cells = epoch.cells(system);
-    for before in 0..last_id(system) {
-        if is_written(cells, before + 1) {
-            line.clear();
-            put_seen(line, epoch, plan, system, before + 1);
-            match writer.write_whole(line.as_slice()) {
-                Ok(()) => {}
-                Err(_) => return Err(HeadFault::Write),
-            }
+    for before in 0..system.satellites() {
+        match write_satellite(epoch, plan, system, before + 1, line, writer) {
+            Ok(()) => {}
+            Err(fault) => return Err(fault),
         }
     }
     Ok(())
@@ -128,10 +121,8 @@ pub fn write_epoch<W: Write>(
     ensures fine { OnOk result (writer.new.failures ≡ writer.old.failures) }
     ensures widest { writer.new.widest ≡ writer.old.widest }
 {
-    let gps = count_written(epoch.cells(System::Gps), last_id(System::Gps));
-    let galileo = count_written(epoch.cells(System::Galileo), last_id(System::Galileo));
     let mut line = Line::new();
-    epoch_line(epoch.time(), gps + galileo, &mut line);
+    epoch_line(epoch.time(), epoch.satellites(), &mut line);
     match writer.write_whole(line.as_slice()) {
         Ok(()) => {}
         Err(_) => return Err(HeadFault::Write),
