@@ -7,4 +7,5 @@ mod Entries
 mod SignalTypes
 mod Sections
 mod Sent
+mod Faultless
 mod Examples

@@ -3,7 +3,7 @@ use Rattle.std.proofs.Common.{rules, arith, ◌≡◌, ◌∙◌, sym, ap, refl,
 use Rattle.std.specs.Prelude.{map, flat_map, filter, if◌then◌else◌}
 use Rattle.std.specs.Io.KnownBytes.{Appends}
 use Rattle.std.proofs.KnownBytes.{Appends-trans, Appends-nil}
-use Rattle.std.proofs.lemmas.List.{map-append, length-map}
+use Rattle.std.proofs.lemmas.List.{map-append}
 use Rattle.rtcm_bits.specs.Device.{AppendsPrefix}
 use Rattle.gnss_obs.specs.declared.system.System.{System}
 use Rattle.gnss_obs.specs.declared.system.System.TheVariants.{Gps, Galileo}
@@ -19,7 +19,7 @@ use Rattle.rinex_file.proofs.Entries.{flat_map-append}
 
 -- behind what went out, a part of what follows
 pub part_behind : (a b c : Option (List ℕ)) (text done next rest : List ℕ) → text ≡ done ++ (next ++ rest) → Appends a b done → AppendsPrefix b c next → AppendsPrefix a c text
-part_behind a b c text done next rest is out (left, sent, split, more) =
+part_behind a b c text done next rest is out (left, (sent, split, more)) =
     (left ++ rest, (done ++ sent,
     is ∙ ap (λ l. done ++ (l ++ rest)) split ∙ ap (λ l. done ++ l) (append_assoc sent left rest) ∙ sym (append_assoc done sent (left ++ rest)),
     Appends-trans a b c done sent out more))
@@ -92,11 +92,15 @@ length-written cells (suc n) =
     ∙ ap (λ k. k + length (if is_written cells (suc n) then suc n ∷ [] else [])) (length-written cells n)
     ∙ ap (λ k. written_among cells n + k) (one_more n (is_written cells (suc n)))
 
+length-of : {X : Type 0} (f : ℕ → X) (ids : List ℕ) → length (map f ids) ≡ length ids
+length-of f [] = refl
+length-of f (x ∷ xs) = ap suc (length-of f xs)
+
 pub length-rows : (p : PlanValue) (e : EpochValue) → length (rows_of p e Gps ++ rows_of p e Galileo) ≡ satellites e
 length-rows p e =
     length-append (rows_of p e Gps) (rows_of p e Galileo)
-    ∙ ap (λ k. k + length (rows_of p e Galileo)) (length-map (seen_of p e Gps) (written e.gps (satellites_in Gps)) ∙ length-written e.gps (satellites_in Gps))
-    ∙ ap (λ k. written_among e.gps (satellites_in Gps) + k) (length-map (seen_of p e Galileo) (written e.galileo (satellites_in Galileo)) ∙ length-written e.galileo (satellites_in Galileo))
+    ∙ ap (λ k. k + length (rows_of p e Galileo)) (length-of (seen_of p e Gps) (written e.gps (satellites_in Gps)) ∙ length-written e.gps (satellites_in Gps))
+    ∙ ap (λ k. written_among e.gps (satellites_in Gps) + k) (length-of (seen_of p e Galileo) (written e.galileo (satellites_in Galileo)) ∙ length-written e.galileo (satellites_in Galileo))
 
 -- the lines of an epoch: its own, those of GPS and those of Galileo
 pub epoch_parts : (p : PlanValue) (e : EpochValue) → epoch_text p e ≡ epoch_line (civil_of e.time) (satellites e) ++ (lines_up_to p e Gps (satellites_in Gps) ++ lines_up_to p e Galileo (satellites_in Galileo))

@@ -50,19 +50,23 @@ type_here cs i e h = ap (λ n. get_or (types_of cs) n e) (split i) ∙ types_at 
 same_code : (s : SignalAt) (system : System) (index : ℕ) → s.index ≡ index → s.system ≡ system → code_of s ≡ code_of (record { system = system; index = index })
 same_code s system index p q = ap (λ x. code_of (record { system = x; index = s.index })) q ∙ ap (λ x. code_of (record { system = system; index = x })) p
 
+length-codes : (f : ℕ → List ℕ) (xs : List ℕ) → length (map f xs) ≡ length xs
+length-codes f [] = refl
+length-codes f (x ∷ xs) = ap suc (length-codes f xs)
+
 -- the type at a place of a system's types
 pub signal_type : (system : System) (signals : List ℕ) (s : SignalAt) (i : ℕ) → i < 4 * length signals → s.index ≡ slice_index signals (i / 4) → s.system ≡ system
     → type_of (i % 4) (code_of s) ≡ get_or (types_of (codes_of system signals)) i []
 signal_type system signals s i h p q =
-    let f = λ index. code_of (record { system = system; index = index }) in
-    let count : length (codes_of system signals) ≡ length signals = length-map f signals in
+    let f : ℕ → List ℕ = λ index. code_of (record { system = system; index = index }) in
+    let count : length (codes_of system signals) ≡ length signals = length-codes f signals in
     let within : i < 4 * length (codes_of system signals) = rw count h in
     ap (type_of (i % 4)) (same_code s system (slice_index signals (i / 4)) p q ∙ sym (at_code f signals (i / 4) [] (quarter i (length signals) h)))
     ∙ sym (type_here (codes_of system signals) i [] within)
 
 -- so many types of all
 pub length-system_types : (system : System) (signals : List ℕ) → length (types_of (codes_of system signals)) ≡ 4 * length signals
-length-system_types system signals = length-types_of (codes_of system signals) ∙ ap (λ n. 4 * n) (length-map (λ index. code_of (record { system = system; index = index })) signals)
+length-system_types system signals = length-types_of (codes_of system signals) ∙ ap (λ n. 4 * n) (length-codes (λ index. code_of (record { system = system; index = index })) signals)
 
 abbrev pub columns : List (List ℕ) → List ℕ
 columns types = flat_map (λ t. 32 ∷ t) types
@@ -90,14 +94,21 @@ type_more types start i x front text new low high is before more =
 same_take : (types : List (List ℕ)) (m n : ℕ) → length types ≤ m → length types ≤ n → take m types ≡ take n types
 same_take types m n a b = take_all m types a ∙ sym (take_all n types b)
 
--- the line is full, or all types stand there
-pub types_done : (types : List (List ℕ)) (row i : ℕ) (front text : List ℕ) → 13 * row ≤ i → i ≤ 13 * row + 13 → (i < 13 * row + 13 → length types ≤ i)
-    → text ≡ front ++ columns (take (i - 13 * row) (drop (13 * row) types)) → text ≡ front ++ type_columns types row
-types_done types row i front text low high end is =
-    is ∙ ap (λ l. front ++ columns l) (elim (cases_lt i (13 * row + 13)) [
+full_or_all : (types : List (List ℕ)) (row i : ℕ) → 13 * row ≤ i → i ≤ 13 * row + 13 → (i < 13 * row + 13 → length types ≤ i)
+    → take (i - 13 * row) (drop (13 * row) types) ≡ take 13 (drop (13 * row) types)
+full_or_all types row i low high end =
+    elim (cases_lt i (13 * row + 13)) [
       | inl less ↦
           let all : length types ≤ i = end less in
           let rest : length (drop (13 * row) types) ≤ i - 13 * row = simp length-drop (omega (arith, all, low)) in
           same_take (drop (13 * row) types) (i - 13 * row) 13 rest (omega (arith, rest, low, less))
-      | inr full ↦ ap (λ n. take n (drop (13 * row) types)) (omega (arith, full, high))
-    ])
+      | inr full ↦
+          let count : i - 13 * row ≡ 13 = omega (arith, full, high) in
+          ap (λ n. take n (drop (13 * row) types)) count
+    ]
+
+-- the line is full, or all types stand there
+pub types_done : (types : List (List ℕ)) (row i : ℕ) (front text : List ℕ) → 13 * row ≤ i → i ≤ 13 * row + 13 → (i < 13 * row + 13 → length types ≤ i)
+    → text ≡ front ++ columns (take (i - 13 * row) (drop (13 * row) types)) → text ≡ front ++ type_columns types row
+types_done types row i front text low high end is =
+    is ∙ ap (λ l. front ++ columns l) (full_or_all types row i low high end)

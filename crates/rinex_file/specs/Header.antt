@@ -1,5 +1,6 @@
 -- The lines of a header, RINEX 3.05, table A2. Content stands in columns 1 to 60, the label from column 61 on.
 use Rattle.std.specs.Prelude.{ℕ, zero, suc, ℤ, pos, ◌+◌, ◌*◌, ◌/◌, ◌==◌, if◌then◌else◌, List, [], ◌∷◌, ◌++◌, length, take, drop, map, flat_map, replicate, decimal, codes, min}
+use Rattle.std.specs.List.{range_with_len}
 use Rattle.gnss_obs.specs.Signals.{code_of}
 use Rattle.gnss_obs.specs.declared.system.System.{System}
 use Rattle.gnss_obs.specs.declared.system.System.TheVariants.{Gps, Galileo}
@@ -87,11 +88,6 @@ type_columns types line = flat_map (λ t. 32 ∷ t) (take 13 (drop (13 * line) t
 abbrev pub type_line : ℕ → List (List ℕ) → ℕ → List ℕ
 type_line letter types line = header_line (type_front letter (length types) line ++ type_columns types line) (codes "SYS / # / OBS TYPES")
 
--- the numbers below n
-abbrev pub places : ℕ → List ℕ
-places zero = []
-places (suc n) = places n ++ n ∷ []
-
 -- so many lines are needed for the types of so many signals
 abbrev pub type_rows : ℕ → ℕ
 type_rows signals = (4 * signals + 12) / 13
@@ -101,7 +97,7 @@ codes_of system signals = map (λ index. code_of (record { system = system; inde
 
 -- the types of a system; no line where no signal of it is planned
 abbrev pub type_lines : System → List ℕ → List (List ℕ)
-type_lines system signals = map (type_line (letter_of system) (types_of (codes_of system signals))) (places (type_rows (length signals)))
+type_lines system signals = map (type_line (letter_of system) (types_of (codes_of system signals))) (range_with_len 0 (type_rows (length signals)))
 
 -- no phase is shifted; no line where no signal of the system is planned
 abbrev pub shift_lines : System → List ℕ → List (List ℕ)

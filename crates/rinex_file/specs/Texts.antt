@@ -1,5 +1,5 @@
 -- The eleven texts of a header that are handed in.
-use Rattle.std.specs.Prelude.{ℕ, ◌<◌, ◌≤◌, ◌&&◌, Bool, true, false, nat_le, nat_lt, List, [], ◌∷◌, length, All, Option, Some, None, if◌then◌else◌}
+use Rattle.std.specs.Prelude.{ℕ, ◌<◌, ◌≤◌, ◌&&◌, Bool, true, false, nat_le, nat_lt, List, [], ◌∷◌, length, Option, Some, None, if◌then◌else◌}
 use Rattle.std.specs.List.{list_all}
 use Rattle.rinex_file.specs.declared.fault.HeaderField.{HeaderField}
 use Rattle.rinex_file.specs.declared.fault.HeaderField.TheVariants.{RunBy, Date, Marker, MarkerType, Observer, Agency, RecNumber, RecType, RecVersion, AntNumber, AntType}
@@ -63,13 +63,15 @@ fault_of field text =
     then (if nat_lt (width_of field) (length (trimmed text)) then Some (TooLong field) else None)
     else Some (NotPrintable field)
 
+-- the fault that was found, or else a later one
 abbrev pub or_else : Option HeadFault → Option HeadFault → Option HeadFault
 or_else None later = later
 or_else (Some fault) later = Some fault
 
-abbrev pub first_fault : HeaderLists → List HeaderField → Option HeadFault
-first_fault t [] = None
-first_fault t (field ∷ rest) = or_else (fault_of field (text_of t field)) (first_fault t rest)
+-- the fault that was found, or else the first of these fields
+abbrev pub first_fault : HeaderLists → Option HeadFault → List HeaderField → Option HeadFault
+first_fault t found [] = found
+first_fault t found (field ∷ rest) = first_fault t (or_else found (fault_of field (text_of t field))) rest
 
 -- each text without the blanks at its end
 abbrev pub trimmed_texts : HeaderLists → HeaderLists
@@ -86,7 +88,3 @@ trimmed_texts t = record {
   ant_number = trimmed t.ant_number;
   ant_type = trimmed t.ant_type;
 }
-
--- each text fits its columns
-abbrev pub AreShort : HeaderLists → Type 0
-AreShort t = All (λ field. length (text_of t field) ≤ width_of field) fields

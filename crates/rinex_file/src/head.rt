@@ -1,5 +1,5 @@
 //! A header, line after line.
-ghost use Rattle.std.specs.Prelude.{◌≡◌, ◌<◌, [], length, get_or, IfNone, IfSome};
+ghost use Rattle.std.specs.Prelude.{◌≡◌, ◌+◌, ◌<◌, ◌^◌, [], length, get_or, IfNone, IfSome};
 ghost use Rattle.std.specs.Iterator.{YieldsFirstBy, item_count};
 ghost use Rattle.obs_epoch.specs.Dates.{civil_of};
 ghost use Rattle.rinex_file.specs.Header.{section_rows, lines_of, header_lines, lines_from};
@@ -45,6 +45,7 @@ fn section_rows(plan: &Plan, section: Section) -> usize
 fn place_from(head: &Head, section: Section, row: usize) -> Option<(Section, usize)>
     ensures none { IfNone result (lines_from (lines_of head.now.texts.now head.now.plan.now head.now.values (civil_of head.now.first)) section row ≡ []) }
     ensures here { IfSome result (λ place. place.1 < section_rows head.now.plan.now place.0) }
+    ensures bound { IfSome result (λ place. place.1 + 1 < 2 ^ 64) }
     ensures same { IfSome result (λ place.
         lines_from (lines_of head.now.texts.now head.now.plan.now head.now.values (civil_of head.now.first)) section row
         ≡ lines_from (lines_of head.now.texts.now head.now.plan.now head.now.values (civil_of head.now.first)) place.0 place.1) }

@@ -1,9 +1,9 @@
 //! The texts of a header.
-ghost use Rattle.std.specs.Prelude.{◌≡◌, ◌≤◌, length, IfOk};
+ghost use Rattle.std.specs.Prelude.{◌≡◌, ◌≤◌, length, None, IfOk};
 ghost use Rattle.std.specs.Result.{result_err};
 ghost use Rattle.std.specs.List.{list_all};
 ghost use Rattle.rinex_file.specs.Blanks.{trimmed};
-ghost use Rattle.rinex_file.specs.Texts.{fields, text_of, fault_of, first_fault, trimmed_texts, is_printable};
+ghost use Rattle.rinex_file.specs.Texts.{fields, text_of, or_else, fault_of, first_fault, trimmed_texts, is_printable};
 ghost use Rattle.rinex_file.specs.TextsOf.{lists_of};
 
 use crate::fault::{HeadFault, HeaderField};
@@ -96,77 +96,77 @@ fn cut<const N: usize>(text: &str) -> ArrayVec<u8, N>
     taken
 }
 
-const FIELDS: [HeaderField; 11] = [
-    HeaderField::RunBy,
-    HeaderField::Date,
-    HeaderField::Marker,
-    HeaderField::MarkerType,
-    HeaderField::Observer,
-    HeaderField::Agency,
-    HeaderField::RecNumber,
-    HeaderField::RecType,
-    HeaderField::RecVersion,
-    HeaderField::AntNumber,
-    HeaderField::AntType,
-];
+// The fault that was found, or else what is wrong with the text of a field.
+fn or_fault(found: Option<HeadFault>, field: HeaderField, text: &str) -> Option<HeadFault>
+    ensures { result ≡ or_else found (fault_of field text.now) }
+{
+    match found {
+        Some(fault) => Some(fault),
+        None => fault_of(field, text),
+    }
+}
 
 impl<'a> Texts<'a> {
-    // The text of a field.
-    fn text(&self, field: HeaderField) -> &str
-        ensures { result.now ≡ text_of (lists_of self.now) field }
-    {
-        match field {
-            HeaderField::RunBy => self.run_by,
-            HeaderField::Date => self.date,
-            HeaderField::Marker => self.marker,
-            HeaderField::MarkerType => self.marker_type,
-            HeaderField::Observer => self.observer,
-            HeaderField::Agency => self.agency,
-            HeaderField::RecNumber => self.rec_number,
-            HeaderField::RecType => self.rec_type,
-            HeaderField::RecVersion => self.rec_version,
-            HeaderField::AntNumber => self.ant_number,
-            HeaderField::AntType => self.ant_type,
-        }
-    }
-
     // What is wrong with the first field that has a fault.
     fn fault(&self) -> Option<HeadFault>
-        ensures { result ≡ first_fault (lists_of self.now) fields }
+        ensures { result ≡ first_fault (lists_of self.now) None fields }
     {
-        for field in FIELDS {
-            let fault = fault_of(field, self.text(field));
-            if fault.is_some() {
-                return fault;
-            }
-        }
-        None
+        let run_by = fault_of(HeaderField::RunBy, self.run_by);
+        let date = or_fault(run_by, HeaderField::Date, self.date);
+        let marker = or_fault(date, HeaderField::Marker, self.marker);
+        let marker_type = or_fault(marker, HeaderField::MarkerType, self.marker_type);
+        let observer = or_fault(marker_type, HeaderField::Observer, self.observer);
+        let agency = or_fault(observer, HeaderField::Agency, self.agency);
+        let rec_number = or_fault(agency, HeaderField::RecNumber, self.rec_number);
+        let rec_type = or_fault(rec_number, HeaderField::RecType, self.rec_type);
+        let rec_version = or_fault(rec_type, HeaderField::RecVersion, self.rec_version);
+        let ant_number = or_fault(rec_version, HeaderField::AntNumber, self.ant_number);
+        or_fault(ant_number, HeaderField::AntType, self.ant_type)
     }
 }
 
 impl HeaderTexts {
+    // Texts of which none has a fault.
+    fn taken(texts: &Texts) -> HeaderTexts
+        requires { first_fault (lists_of texts.now) None fields ≡ None }
+        ensures { result ≡ trimmed_texts (lists_of texts.now) }
+    {
+        let run_by = cut(texts.run_by);
+        let date = cut(texts.date);
+        let marker = cut(texts.marker);
+        let marker_type = cut(texts.marker_type);
+        let observer = cut(texts.observer);
+        let agency = cut(texts.agency);
+        let rec_number = cut(texts.rec_number);
+        let rec_type = cut(texts.rec_type);
+        let rec_version = cut(texts.rec_version);
+        let ant_number = cut(texts.ant_number);
+        let ant_type = cut(texts.ant_type);
+        HeaderTexts {
+            run_by,
+            date,
+            marker,
+            marker_type,
+            observer,
+            agency,
+            rec_number,
+            rec_type,
+            rec_version,
+            ant_number,
+            ant_type,
+        }
+    }
+
     /// The texts of a header. The first field that has a fault is named, in the order of [`Texts`]: a byte outside 0x20
     /// to 0x7E, then more bytes than columns.
     pub fn new(texts: &Texts) -> Result<HeaderTexts, HeadFault>
-        ensures fault { result_err result ≡ first_fault (lists_of texts.now) fields }
+        ensures fault { result_err result ≡ first_fault (lists_of texts.now) None fields }
         ensures texts { IfOk result (λ t. t ≡ trimmed_texts (lists_of texts.now)) }
     {
-        if let Some(fault) = texts.fault() {
-            return Err(fault);
+        match texts.fault() {
+            Some(fault) => Err(fault),
+            None => Ok(HeaderTexts::taken(texts)),
         }
-        Ok(HeaderTexts {
-            run_by: cut(texts.run_by),
-            date: cut(texts.date),
-            marker: cut(texts.marker),
-            marker_type: cut(texts.marker_type),
-            observer: cut(texts.observer),
-            agency: cut(texts.agency),
-            rec_number: cut(texts.rec_number),
-            rec_type: cut(texts.rec_type),
-            rec_version: cut(texts.rec_version),
-            ant_number: cut(texts.ant_number),
-            ant_type: cut(texts.ant_type),
-        })
     }
 
     /// The bytes of a text.
