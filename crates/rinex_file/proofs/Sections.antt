@@ -2,7 +2,7 @@
 use Rattle.std.proofs.Common.{rules, arith, ◌≡◌, ◌∙◌, sym, ap, refl, subst, ℕ, zero, suc, ◌+◌, ◌<◌, ◌≤◌, List, [], ◌∷◌, ◌++◌, length, drop, get_or, replicate}
 use Rattle.std.specs.Prelude.{map, flat_map, min, codes}
 use Rattle.std.specs.List.{range_with_len}
-use Rattle.std.proofs.lemmas.List.{length-map, length-replicate, drop_all}
+use Rattle.std.proofs.lemmas.List.{length-replicate, drop_all}
 use Rattle.obs_epoch.specs.Values.{PlanValue, planned_of}
 use Rattle.obs_epoch.specs.declared.cell.StationValues.{StationValues}
 use Rattle.obs_epoch.specs.declared.civil.Civil.{Civil}
@@ -15,6 +15,10 @@ use Rattle.rinex_file.specs.Header.{lines_of, lines_from, section_rows, after, h
 length-range : (a n : ℕ) → length (range_with_len a n) ≡ n
 length-range a zero = refl
 length-range a (suc n) = ap suc (length-range (a + 1) n)
+
+length-lines : (f : ℕ → List ℕ) (xs : List ℕ) → length (map f xs) ≡ length xs
+length-lines f [] = refl
+length-lines f (x ∷ xs) = ap suc (length-lines f xs)
 
 pub rows_at : (x : HeaderLists) (p : PlanValue) (v : StationValues) (t : Civil) (s : Section) → length (lines_of x p v t s) ≡ section_rows p s
 unfolding lines_of
@@ -29,7 +33,7 @@ rows_at x p v t Position = refl
 rows_at x p v t Delta = refl
 rows_at x p v t (Types s) =
     let line : ℕ → List ℕ = type_line (letter_of s) (types_of (codes_of s (planned_of s p))) in
-    length-map line (range_with_len 0 (type_rows (length (planned_of s p)))) ∙ length-range 0 (type_rows (length (planned_of s p)))
+    length-lines line (range_with_len 0 (type_rows (length (planned_of s p)))) ∙ length-range 0 (type_rows (length (planned_of s p)))
 rows_at x p v t StrengthUnit = refl
 rows_at x p v t First = refl
 rows_at x p v t (Shift s) = length-replicate (min (length (planned_of s p)) 1) (header_line (letter_of s ∷ []) (codes "SYS / PHASE SHIFT"))
@@ -38,6 +42,12 @@ rows_at x p v t End = refl
 -- a section is at its end
 pub skip : (lines : Section → List (List ℕ)) (s n : Section) (row : ℕ) → length (lines s) ≤ row → after s ≡ n ∷ after n → lines_from lines s row ≡ lines_from lines n 0
 skip lines s n row short e = ap (λ l. l ++ flat_map lines (after s)) (drop_all row (lines s) short) ∙ ap (flat_map lines) e
+
+pub at_end : (rows count here line : ℕ) → rows ≡ here → count ≡ here → count ≤ line → rows ≤ line
+at_end rows count here line p q less = omega (arith, p, q, less)
+
+pub below : (row here rows : ℕ) → row < here → rows ≡ here → row < rows
+below row here rows less p = omega (arith, less, p)
 
 -- and so is the last
 pub ended : (lines : Section → List (List ℕ)) (s : Section) (row : ℕ) → length (lines s) ≤ row → after s ≡ [] → lines_from lines s row ≡ []

@@ -1,5 +1,5 @@
 -- Lines that went out, and a part of them.
-use Rattle.std.proofs.Common.{rules, arith, ◌≡◌, ◌∙◌, sym, ap, refl, subst, ℕ, zero, suc, ◌+◌, ◌-◌, ◌≤◌, List, [], ◌∷◌, ◌++◌, length, append_assoc, append-nil, length-append, Option, Some, None, Bool, true, false}
+use Rattle.std.proofs.Common.{rules, arith, ◌≡◌, ◌∙◌, sym, ap, refl, subst, ℕ, zero, suc, ◌+◌, ◌-◌, ◌≤◌, List, [], ◌∷◌, ◌++◌, length, append_assoc, append-nil, length-append, Option, Bool, true, false, Result, Ok, Err, OnOk, OnErr}
 use Rattle.std.specs.Prelude.{map, flat_map, filter, if◌then◌else◌}
 use Rattle.std.specs.Io.KnownBytes.{Appends}
 use Rattle.std.proofs.KnownBytes.{Appends-trans, Appends-nil}
@@ -46,17 +46,37 @@ one_of : (p : PlanValue) (e : EpochValue) (s : System) (n : ℕ) (b : Bool)
 one_of p e s n true = append-nil (seen_line (seen_of p e s (suc n)))
 one_of p e s n false = refl
 
-pub lines_more : (p : PlanValue) (e : EpochValue) (s : System) (n : ℕ) → lines_up_to p e s (suc n) ≡ lines_up_to p e s n ++ line_or_none p e s (suc n)
+lines_suc : (p : PlanValue) (e : EpochValue) (s : System) (n : ℕ) → lines_up_to p e s (suc n) ≡ lines_up_to p e s n ++ line_or_none p e s (suc n)
 unfolding lines_up_to line_or_none
-lines_more p e s n =
+lines_suc p e s n =
     let cells = cells_of s e in
-    let more : filter (is_written cells) (suc n ∷ []) ≡ (if is_written cells (suc n) then suc n ∷ [] else []) = refl in
     let split : written cells (suc n) ≡ written cells n ++ (if is_written cells (suc n) then suc n ∷ [] else []) = filter-append (is_written cells) (numbers n) (suc n ∷ []) in
     ap (λ l. joined (map seen_line (map (seen_of p e s) l))) split
     ∙ ap (λ l. joined (map seen_line l)) (map-append (seen_of p e s) (written cells n) (if is_written cells (suc n) then suc n ∷ [] else []))
     ∙ ap joined (map-append seen_line (map (seen_of p e s) (written cells n)) (map (seen_of p e s) (if is_written cells (suc n) then suc n ∷ [] else [])))
     ∙ joined-append (map seen_line (map (seen_of p e s) (written cells n))) (map seen_line (map (seen_of p e s) (if is_written cells (suc n) then suc n ∷ [] else [])))
     ∙ ap (λ l. lines_up_to p e s n ++ l) (one_of p e s n (is_written cells (suc n)))
+
+lines_more : (p : PlanValue) (e : EpochValue) (s : System) (n m : ℕ) → m ≡ suc n → lines_up_to p e s m ≡ lines_up_to p e s n ++ line_or_none p e s m
+lines_more p e s n m is = subst (λ k. lines_up_to p e s k ≡ lines_up_to p e s n ++ line_or_none p e s k) (sym is) (lines_suc p e s n)
+
+pub no_lines : (p : PlanValue) (e : EpochValue) (s : System) → lines_up_to p e s 0 ≡ []
+unfolding lines_up_to
+no_lines p e s = refl
+
+pub not_written : (p : PlanValue) (e : EpochValue) (s : System) (id : ℕ) → is_written (cells_of s e) id ≡ false → line_or_none p e s id ≡ []
+unfolding line_or_none
+not_written p e s id h = ap (λ b. if b then seen_line (seen_of p e s id) else []) h
+
+pub is_shown : (p : PlanValue) (e : EpochValue) (s : System) (id : ℕ) → is_written (cells_of s e) id ≡ true → line_or_none p e s id ≡ seen_line (seen_of p e s id)
+unfolding line_or_none
+is_shown p e s id h = ap (λ b. if b then seen_line (seen_of p e s id) else []) h
+
+-- one satellite more went out
+pub grown_lines : (a b c : Option (List ℕ)) (p : PlanValue) (e : EpochValue) (s : System) (n m : ℕ) → m ≡ suc n → Appends a b (lines_up_to p e s n) → Appends b c (line_or_none p e s m)
+    → Appends a c (lines_up_to p e s m)
+grown_lines a b c p e s n m is out more =
+    subst (λ l. Appends a c l) (sym (lines_more p e s n m is)) (Appends-trans a b c (lines_up_to p e s n) (line_or_none p e s m) out more)
 
 -- what follows the lines up to a number
 abbrev Rest : List ℕ → List ℕ → Type 0
@@ -70,13 +90,16 @@ lines_rest p e s n (suc k) m is =
     let same : m ≡ suc (n + k) = omega (arith, is) in
     let (rest, before) = lines_rest p e s n k (n + k) refl in
     (rest ++ line_or_none p e s (suc (n + k)),
-    ap (lines_up_to p e s) same ∙ lines_more p e s (n + k) ∙ ap (λ l. l ++ line_or_none p e s (suc (n + k))) before
+    ap (lines_up_to p e s) same ∙ lines_suc p e s (n + k) ∙ ap (λ l. l ++ line_or_none p e s (suc (n + k))) before
     ∙ append_assoc (lines_up_to p e s n) rest (line_or_none p e s (suc (n + k))))
 
-pub lines_split : (p : PlanValue) (e : EpochValue) (s : System) (n m : ℕ) → suc n ≤ m → (rest : List ℕ) × (lines_up_to p e s m ≡ lines_up_to p e s n ++ (line_or_none p e s (suc n) ++ rest))
-lines_split p e s n m h =
-    let (rest, is) = lines_rest p e s (suc n) (m - suc n) m (omega (arith, h)) in
-    (rest, is ∙ ap (λ l. l ++ rest) (lines_more p e s n) ∙ append_assoc (lines_up_to p e s n) (line_or_none p e s (suc n)) rest)
+-- a part of one satellite's line is a part of all
+pub part_lines : (a b c : Option (List ℕ)) (p : PlanValue) (e : EpochValue) (s : System) (n m most : ℕ) → m ≡ suc n → m ≤ most → Appends a b (lines_up_to p e s n)
+    → AppendsPrefix b c (line_or_none p e s m) → AppendsPrefix a c (lines_up_to p e s most)
+part_lines a b c p e s n m most is h out part =
+    let (rest, split) = lines_rest p e s m (most - m) most (omega (arith, h)) in
+    part_behind a b c (lines_up_to p e s most) (lines_up_to p e s n) (line_or_none p e s m) rest
+    (split ∙ ap (λ l. l ++ rest) (lines_more p e s n m is) ∙ append_assoc (lines_up_to p e s n) (line_or_none p e s m) rest) out part
 
 -- ---- an epoch
 
@@ -109,3 +132,13 @@ epoch_parts p e =
     ap (λ n. epoch_line (civil_of e.time) n ++ joined (map seen_line (rows_of p e Gps ++ rows_of p e Galileo))) (length-rows p e)
     ∙ ap (λ l. epoch_line (civil_of e.time) (satellites e) ++ joined l) (map-append seen_line (rows_of p e Gps) (rows_of p e Galileo))
     ∙ ap (λ l. epoch_line (civil_of e.time) (satellites e) ++ l) (joined-append (map seen_line (rows_of p e Gps)) (map seen_line (rows_of p e Galileo)))
+
+-- ---- what a result tells
+
+pub on_ok : {A E : Type 0} (P Q : Type 0) (r : Result A E) → (P → Q) → OnOk r P → OnOk r Q
+on_ok P Q (Ok x) f h = f h
+on_ok P Q (Err e) f h = tt
+
+pub on_err : {A E : Type 0} (P Q : Type 0) (r : Result A E) → (P → Q) → OnErr r P → OnErr r Q
+on_err P Q (Ok x) f h = tt
+on_err P Q (Err e) f h = f h

@@ -63,8 +63,9 @@ fn put_types(content: &mut Line, plan: &Plan, system: System, row: usize)
     ensures text { content.new.items ≡ content.old.items ++ type_columns (types_of (codes_of system (planned_of system plan.now))) row }
     ensures size { array_vec_len content.new ≤ array_vec_len content.old + 52 }
 {
+    let types = 4 * plan.signals(system);
     let first = TYPES * row;
-    let end = (4 * plan.signals(system)).min(first + TYPES);
+    let end = types.min(first + TYPES);
     for i in first..end {
         put_type(content, plan.signal(system, i / 4), i % 4);
     }

@@ -1,13 +1,14 @@
-use Rattle.std.proofs.Common.{rules, arith, ◌≡◌, ◌∙◌, sym, ap, ◌+◌, ◌-◌, ◌*◌, ◌/◌, ◌%◌, ◌<◌, ◌≤◌, ◌^◌, length}
+use Rattle.std.proofs.Common.{rules, arith, ◌≡◌, ◌∙◌, sym, ap, ◌+◌, ◌-◌, ◌*◌, ◌/◌, ◌%◌, ◌<◌, ◌≤◌, length}
 use Rattle.gnss_obs.specs.Signals.{code_of}
 use Rattle.obs_epoch.specs.Values.{planned_of}
 use Rattle.rinex_file.specs.Header.{types_of, type_of, codes_of}
+use Rattle.rinex_file.proofs.Entries.{few_signals}
 use Rattle.rinex_file.proofs.SignalTypes.{signal_type, length-system_types, type_more, types_done}
 use Rattle.rinex_file.proofs.types.put_types.Goals as goal
 
 pub overflow_mul-first : goal.overflow_mul-first
 overflow_mul-first c =
-    let few : length (planned_of c.args.system c.args.plan.now) < 2 ^ 32 = ? in
+    let few = few_signals c.args.system in
     omega (arith, few, c.requires.row)
 
 pub loop-i-preserved : goal.loop-i-preserved
