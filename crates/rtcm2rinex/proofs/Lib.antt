@@ -1,0 +1,5 @@
+mod FrameLemmas
+mod LineLemmas
+mod ListedLemmas
+mod ShowLemmas
+mod ReadBackLemmas

@@ -1,0 +1,14 @@
+//! The frames of RTCM 3 streams (RTCM 10403.3, transport layer): of a stream that comes byte by byte, with exact counts of
+//! how often each byte is looked at, and of a slice.
+#![tactic(auto)]
+
+mod candidate;
+mod framer;
+mod frames;
+pub mod laws;
+
+pub use framer::{Frame, Framer, MOST_BYTES, ScanFault};
+pub use frames::{FrameView, Frames};
+
+#[cfg(test)]
+mod tests;
