@@ -8,4 +8,5 @@ mod SignalTypes
 mod Sections
 mod Sent
 mod Faultless
+mod FileText
 mod Examples

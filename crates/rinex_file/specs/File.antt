@@ -47,3 +47,7 @@ file_lines v = lines_of v.texts v.plan v.values v.epochs
 -- the text of a file value
 abbrev pub file_text : FileValue → List ℕ
 file_text v = joined (file_lines v)
+
+-- the value of a file of epochs that were gathered under a plan
+abbrev pub gathered : HeaderLists → PlanValue → StationValues → List EpochValue → FileValue
+gathered texts plan values epochs = record { texts = texts; plan = plan; values = values; epochs = map (stamped_of plan) epochs }

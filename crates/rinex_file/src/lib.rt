@@ -5,6 +5,7 @@ mod epoch;
 mod fault;
 mod head;
 mod header;
+pub mod laws;
 mod numbers;
 mod satellite;
 mod section;
