@@ -103,7 +103,8 @@ pub fn list<R: Read, W: Write>(
 {
     let mut framer = match Framer::new(alloc, limit) {
         Ok(framer) => framer,
-        Err(fault) => return Err(ToolFault::Scan(fault)),
+        // The limit is good, so that memory is all that can be wanting.
+        Err(_) => return Err(ToolFault::Scan(ScanFault::Memory)),
     };
     list_frames(listing, &mut framer, reader, writer)
 }

@@ -3,20 +3,19 @@
 //! The scan goes from the left: at the first undecided place either a whole frame with a right check stands, which is
 //! handed out and passed over, or none can, and the scan goes on one byte further, or bytes are missing, and it waits.
 //! So a frame inside a damaged frame is found. Each byte of a candidate is looked at once, however the stream is cut.
-ghost use Rattle.std.specs.Prelude.{◌≡◌, ◌+◌, ◌-◌, ◌*◌, ◌<◌, ◌≤◌, ◌^◌, ℕ, List, [], ◌∷◌, ◌++◌, min, length, slice_index, take, drop, true, false, IsTrue, IfOk, OnOk, OnErr, IfSome, IfNone, OnSome, ◌↔◌};
-ghost use Rattle.rtcm_bits.specs.Check.{check};
-ghost use Rattle.rtcm_scan.specs.Frame.{begins_frame, frame_length, message_length, message_of, sent_check};
+ghost use Rattle.std.specs.Prelude.{◌≡◌, ◌+◌, ◌-◌, ◌*◌, ◌<◌, ◌≤◌, ◌^◌, ℕ, List, [], ◌∷◌, ◌++◌, min, length, slice_index, take, true, false, IsTrue, IfOk, OnOk, OnErr, IfSome, IfNone, OnSome, ◌↔◌};
+ghost use Rattle.rtcm_scan.specs.Frame.{begins_frame, frame_length, message_of};
 ghost use Rattle.rtcm_scan.specs.Frames.{Framed};
 ghost use Rattle.rtcm_scan.specs.Scan.{StandsFor, first_held, window_of, with_window};
 ghost use Rattle.rtcm_scan.specs.Candidate.{HasTaken, wanted_by};
 ghost use Rattle.rtcm_scan.specs.Examined.{HasExamined, IsCounted, IsCountedTo};
 ghost use Rattle.rtcm_scan.specs.Pending.{asked, with_candidate_examined};
-ghost use Rattle.rtcm_bits.specs.Window.{looked_through, without_front, pushed};
+ghost use Rattle.rtcm_bits.specs.Window.{looked_through, without_front};
 ghost use Rattle.rtcm_scan.specs.Drained.{IsDrained};
 ghost use Rattle.rtcm_scan.specs.Answers.{framed, push_answer, decision, if_missing, new_scan};
 
-use arrayvec::ArrayVec;
 use crate::candidate::Candidate;
+use arrayvec::ArrayVec;
 use rtcm_bits::{Window, laws};
 use std::alloc::Global;
 use std::marker::Model;
