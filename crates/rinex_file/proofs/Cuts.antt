@@ -1,0 +1,86 @@
+-- A text whose blanks at the end were cut is had back by filling it up.
+use Rattle.std.proofs.Common.{rules, arith, ◌≡◌, ℕ, zero, suc, ◌+◌, ◌-◌, ◌<◌, ◌≤◌, List, [], ◌∷◌, ◌++◌, length, replicate, take, get_or, refl, sym, ap, ◌∙◌, Bool, true, false, append_assoc, length-append, subst}
+use Rattle.std.specs.Prelude.{◌==◌, if◌then◌else◌}
+use Rattle.std.proofs.lemmas.List.{length-replicate, take_more, append_cancel_right}
+use Rattle.std.proofs.lemmas.Bool.{eqb-true}
+use Rattle.rinex_file.specs.Blanks.{trimmed, before_cut}
+
+-- some blanks make the text whole
+abbrev FilledTo : List ℕ → List ℕ → Type 0
+FilledTo part text = (k : ℕ) × (part ++ replicate k 32 ≡ text)
+
+one_more : (b : ℕ) (part bs : List ℕ) → FilledTo part bs → FilledTo (before_cut b part) (b ∷ bs)
+one_more b [] bs (k, e) =
+    elim (b == 32) as (λ t. (b == 32) ≡ t → FilledTo (if t then [] else b ∷ []) (b ∷ bs)) [
+      | true ↦ λ is. let same = eqb-true b 32 is in (suc k, ap (λ c. c ∷ replicate k 32) (sym same) ∙ ap (λ l. b ∷ l) e)
+      | false ↦ λ isnt. (k, ap (λ l. b ∷ l) e)
+    ] refl
+one_more b (c ∷ cs) bs (k, e) = (k, ap (λ l. b ∷ l) e)
+
+pub filled : (text : List ℕ) → FilledTo (trimmed text) text
+unfolding trimmed
+filled [] = (0, refl)
+filled (b ∷ bs) = one_more b (trimmed bs) bs (filled bs)
+
+same_fill : (part text : List ℕ) → FilledTo part text → part ++ replicate (length text - length part) 32 ≡ text
+same_fill part text (k, e) =
+    let l : length text ≡ length part + k = ap length (sym e) ∙ simp (length-append, length-replicate) in
+    let n : length text - length part ≡ k = omega (arith, l) in
+    ap (λ m. part ++ replicate m 32) n ∙ e
+
+-- filled up to its whole width, the text is there again
+pub fill-trimmed : (width : ℕ) (text : List ℕ) → length text ≡ width → trimmed text ++ replicate (width - length (trimmed text)) 32 ≡ text
+fill-trimmed width text e = ap (λ w. trimmed text ++ replicate (w - length (trimmed text)) 32) (sym e) ∙ same_fill (trimmed text) text (filled text)
+
+pub length-trimmed : (text : List ℕ) → length (trimmed text) ≤ length text
+length-trimmed text =
+    let f = filled text in
+    let l : length text ≡ length (trimmed text) + f.0 = ap length (sym f.1) ∙ simp (length-append, length-replicate) in
+    omega (arith, l)
+
+-- of one width, the cut texts determine the texts
+pub trimmed_determines : (xs ys : List ℕ) → length xs ≡ length ys → trimmed xs ≡ trimmed ys → xs ≡ ys
+trimmed_determines xs ys l e =
+    sym (fill-trimmed (length xs) xs refl) ∙ ap (λ t. t ++ replicate (length xs - length t) 32) e ∙ fill-trimmed (length xs) ys (sym l)
+
+-- a line has no blank left to cut
+pub trimmed-blank : (text : List ℕ) → trimmed (text ++ 32 ∷ []) ≡ trimmed text
+unfolding trimmed
+trimmed-blank [] = refl
+trimmed-blank (b ∷ bs) = ap (before_cut b) (trimmed-blank bs)
+
+keeps : (b : ℕ) (xs : List ℕ) (c : ℕ) → before_cut b (xs ++ c ∷ []) ≡ b ∷ (xs ++ c ∷ [])
+keeps b [] c = refl
+keeps b (x ∷ xs) c = refl
+
+before_cut-other : (b : ℕ) → (b ≡ 32 → ⊥) → before_cut b [] ≡ b ∷ []
+before_cut-other b other = grind arith
+
+-- another byte at the end stays
+pub trimmed-other : (text : List ℕ) (b : ℕ) → (b ≡ 32 → ⊥) → trimmed (text ++ b ∷ []) ≡ text ++ b ∷ []
+unfolding trimmed
+trimmed-other [] b other = before_cut-other b other
+trimmed-other (x ∷ xs) b other = ap (before_cut x) (trimmed-other xs b other) ∙ keeps x xs b
+
+-- the steps of a cut from the end
+pub cut_more : (text : List ℕ) (n : ℕ) → n < length text → get_or text n 0 ≡ 32 → trimmed (take (n + 1) text) ≡ trimmed (take n text)
+cut_more text n h e = ap trimmed (take_more text n 0 h ∙ ap (λ b. take n text ++ b ∷ []) e) ∙ trimmed-blank (take n text)
+
+pub cut_enough : (text : List ℕ) (n : ℕ) → n < length text → (get_or text n 0 ≡ 32 → ⊥) → take (n + 1) text ≡ trimmed (take (n + 1) text)
+cut_enough text n h other = take_more text n 0 h ∙ sym (trimmed-other (take n text) (get_or text n 0) other) ∙ ap trimmed (sym (take_more text n 0 h))
+
+-- the last byte taken off
+pub same_front : (xs ys : List ℕ) (b : ℕ) → xs ++ b ∷ [] ≡ ys ++ b ∷ [] → xs ≡ ys
+same_front xs ys b e = append_cancel_right xs ys (b ∷ []) e
+
+pub size_after : (new old text : List ℕ) (n : ℕ) → new ≡ old ++ text → length text ≡ n → length new ≡ length old + n
+size_after new old text n e l = ap length e ∙ length-append old text ∙ ap (λ k. length old + k) l
+
+in_front : (b : ℕ) (l : List ℕ) → (b ≡ 32 → ⊥) → before_cut b l ≡ b ∷ l
+in_front b [] other = before_cut-other b other
+in_front b (c ∷ cs) other = refl
+
+-- what begins with no blank begins so still
+pub trimmed-front : (b : ℕ) (bs : List ℕ) → (b ≡ 32 → ⊥) → trimmed (b ∷ bs) ≡ b ∷ trimmed bs
+unfolding trimmed
+trimmed-front b bs other = in_front b (trimmed bs) other

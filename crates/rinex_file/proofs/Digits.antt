@@ -1,0 +1,231 @@
+-- A number that was written is read back, so its text determines it.
+use Rattle.std.proofs.Common.{rules, arith, ◌≡◌, ℕ, zero, suc, ◌+◌, ◌-◌, ◌*◌, ◌/◌, ◌%◌, ◌^◌, ◌<◌, ◌≤◌, List, [], ◌∷◌, ◌++◌, length, replicate, decimal, refl, sym, ap, ◌∙◌, Bool, true, false, append_assoc, length-append, ℤ, pos, negsuc, neg_ℤ, unsigned_abs}
+use Rattle.std.specs.Prelude.{◌||◌, ◌==◌, if◌then◌else◌}
+use Rattle.std.specs.Int.{is_negative}
+use Rattle.std.specs.Fmt.{sign_text}
+use Rattle.std.proofs.Math.Nat.{pow-suc, div-le_self, mod-le, mod-lt}
+use Rattle.std.proofs.lemmas.Nat.{pow-add, div-add-mod'}
+use Rattle.std.proofs.lemmas.List.{length-replicate}
+use Rattle.std.proofs.lemmas.Fmt.{decimal_by_steps, length-decimal-le}
+use Rattle.rinex_file.specs.Numbers.{right, padded, fixed}
+use Rattle.rinex_file.specs.Reading.{next_digit, digits_from, digits_in, has, number_in}
+
+pub digits_from-append : (n : ℕ) (xs ys : List ℕ) → digits_from n (xs ++ ys) ≡ digits_from (digits_from n xs) ys
+digits_from-append n [] ys = refl
+digits_from-append n (x ∷ xs) ys = digits_from-append (next_digit n x) xs ys
+
+pub digits_from-blanks : (k n : ℕ) → digits_from n (replicate k 32) ≡ n
+digits_from-blanks zero n = refl
+digits_from-blanks (suc k) n = digits_from-blanks k n
+
+next_digit-digit : (n d : ℕ) → d < 10 → next_digit n (48 + d) ≡ n * 10 + d
+next_digit-digit n d h = grind arith
+
+shift : (n p : ℕ) → (n * 10 + 0) * p ≡ n * (p * 10)
+shift n p = omega arith
+
+pub digits_from-zeros : (k n : ℕ) → digits_from n (replicate k 48) ≡ n * 10 ^ k
+digits_from-zeros zero n = omega arith
+digits_from-zeros (suc k) n = digits_from-zeros k (next_digit n 48) ∙ shift n (10 ^ k) ∙ ap (λ p. n * p) (sym (pow-suc 10 k))
+
+-- the digits of n behind a number
+abbrev Reads : ℕ → List ℕ → Type 0
+Reads n ds = (m : ℕ) → digits_from m ds ≡ m * 10 ^ length ds + n
+
+reads_one : (n : ℕ) → n < 10 → Reads n ((48 + n) ∷ [])
+reads_one n h m = next_digit-digit m n h ∙ omega arith
+
+regroup : (m p q r n : ℕ) → n ≡ 10 * q + r → (m * p + q) * 10 + r ≡ m * (p * 10) + n
+regroup m p q r n e = omega (arith, e)
+
+reads_more : (n : ℕ) (ds : List ℕ) → 10 ≤ n → Reads (n / 10) ds → Reads n (ds ++ ((48 + n % 10) ∷ []))
+reads_more n ds h before m =
+    let e = digits_from-append m ds ((48 + n % 10) ∷ []) in
+    let l : length (ds ++ ((48 + n % 10) ∷ [])) ≡ suc (length ds) = simp length-append (omega arith) in
+    let p : 10 ^ length (ds ++ ((48 + n % 10) ∷ [])) ≡ 10 ^ length ds * 10 = ap (λ k. 10 ^ k) l ∙ pow-suc 10 (length ds) in
+    e ∙ ap (λ k. next_digit k (48 + n % 10)) (before m) ∙ next_digit-digit (m * 10 ^ length ds + n / 10) (n % 10) (omega arith)
+    ∙ regroup m (10 ^ length ds) (n / 10) (n % 10) n (omega arith) ∙ ap (λ k. m * k + n) (sym p)
+
+pub digits_from-decimal : (n : ℕ) → n < 2 ^ 64 → Reads n (decimal n)
+digits_from-decimal n h = decimal_by_steps Reads reads_one reads_more n h
+
+pub ten_pow : (n : ℕ) → 0 < 10 ^ n
+ten_pow zero = omega arith
+ten_pow (suc n) = let h = ten_pow n in rw pow-suc (omega (arith, h))
+
+-- ---- a number with zeros in front
+
+pub length-padded : (places n : ℕ) → 0 < places → n < 10 ^ places → n < 2 ^ 64 → length (padded places n) ≡ places
+length-padded places n some small fits =
+    let short = length-decimal-le places n some small fits in
+    simp (length-append, length-replicate) (omega (arith, short))
+
+joined : (m p q r n : ℕ) → r ≡ p * q → m * p * q + n ≡ m * r + n
+joined m p q r n e = rw e (omega arith)
+
+zero_times : (l w p r : ℕ) → (0 * l + w) * p + r ≡ w * p + r
+zero_times l w p r = omega arith
+
+or_assoc : (a b c : Bool) → (a || (b || c)) ≡ ((a || b) || c)
+or_assoc true b c = refl
+or_assoc false b c = refl
+
+three_parts : (sign whole part : List ℕ) (digits places : ℕ) → length whole ≤ digits → length part ≡ places
+    → length (sign ++ whole ++ 46 ∷ part) ≤ length sign + (digits + (1 + places))
+three_parts sign whole part digits places w p = simp length-append (omega (arith, w, p))
+
+pub digits_from-padded : (places n m : ℕ) → 0 < places → n < 10 ^ places → n < 2 ^ 64 → digits_from m (padded places n) ≡ m * 10 ^ places + n
+digits_from-padded places n m some small fits =
+    let k = places - length (decimal n) in
+    let short = length-decimal-le places n some small fits in
+    let e : places ≡ k + length (decimal n) = omega (arith, short) in
+    let sum : 10 ^ places ≡ 10 ^ k * 10 ^ length (decimal n) = ap (λ a. 10 ^ a) e ∙ pow-add 10 k (length (decimal n)) in
+    digits_from-append m (replicate k 48) (decimal n) ∙ ap (λ a. digits_from a (decimal n)) (digits_from-zeros k m)
+    ∙ digits_from-decimal n fits (m * 10 ^ k) ∙ joined m (10 ^ k) (10 ^ length (decimal n)) (10 ^ places) n sum
+
+pub digits_in-right : (width : ℕ) (text : List ℕ) → digits_in (right width text) ≡ digits_in text
+digits_in-right width text = digits_from-append 0 (replicate (width - length text) 32) text ∙ ap (λ a. digits_from a text) (digits_from-blanks (width - length text) 0)
+
+-- ---- a number with decimals
+
+digits_in-sign : (b : Bool) (text : List ℕ) → digits_in (sign_text b ++ text) ≡ digits_in text
+digits_in-sign true text = refl
+digits_in-sign false text = refl
+
+-- the whole part, a point and the digits behind it
+whole_and_part : (places n : ℕ) → 0 < places → n < 2 ^ 64 → digits_in (decimal (n / 10 ^ places) ++ 46 ∷ padded places (n % 10 ^ places)) ≡ n
+whole_and_part places n some fits =
+    let whole = n / 10 ^ places in
+    let part = n % 10 ^ places in
+    let pos_pow = ten_pow places in
+    let small : part < 10 ^ places = mod-lt n pos_pow in
+    let below : whole ≤ n = div-le_self n (10 ^ places) in
+    let least : part ≤ n = mod-le n (10 ^ places) in
+    digits_from-append 0 (decimal whole) (46 ∷ padded places part)
+    ∙ ap (λ a. digits_from a (padded places part)) (digits_from-decimal whole (omega (arith, below, fits)) 0)
+    ∙ digits_from-padded places part (0 * 10 ^ length (decimal whole) + whole) some small (omega (arith, least, fits))
+    ∙ zero_times (10 ^ length (decimal whole)) whole (10 ^ places) part
+    ∙ div-add-mod' n (10 ^ places)
+
+pub digits_in-fixed : (places : ℕ) (z : ℤ) → 0 < places → unsigned_abs z < 2 ^ 64 → digits_in (fixed places z) ≡ unsigned_abs z
+digits_in-fixed places z some fits =
+    ap digits_in (append_assoc (sign_text (is_negative z)) (decimal (unsigned_abs z / 10 ^ places)) (46 ∷ padded places (unsigned_abs z % 10 ^ places)))
+    ∙ digits_in-sign (is_negative z) (decimal (unsigned_abs z / 10 ^ places) ++ 46 ∷ padded places (unsigned_abs z % 10 ^ places))
+    ∙ whole_and_part places (unsigned_abs z) some fits
+
+-- ---- the sign
+
+pub has-append : (c : ℕ) (xs ys : List ℕ) → has c (xs ++ ys) ≡ (has c xs || has c ys)
+has-append c [] ys = refl
+has-append c (x ∷ xs) ys = ap (λ b. (x == c) || b) (has-append c xs ys) ∙ or_assoc (x == c) (has c xs) (has c ys)
+
+or_true : (a : Bool) → (a || true) ≡ true
+or_true true = refl
+or_true false = refl
+
+-- a byte in the midst
+pub has-midst : (c : ℕ) (xs ys : List ℕ) → (c == c) ≡ true → has c (xs ++ c ∷ ys) ≡ true
+has-midst c xs ys same = has-append c xs (c ∷ ys) ∙ ap (λ b. has c xs || (b || has c ys)) same ∙ or_true (has c xs)
+
+pub has-not : (c k b : ℕ) → (b == c) ≡ false → has c (replicate k b) ≡ false
+has-not c zero b h = refl
+has-not c (suc k) b h = ap (λ a. a || has c (replicate k b)) h ∙ has-not c k b h
+
+no_minus-append : (xs ys : List ℕ) → has 45 xs ≡ false → has 45 ys ≡ false → has 45 (xs ++ ys) ≡ false
+no_minus-append xs ys x y = has-append 45 xs ys ∙ ap (λ b. b || has 45 ys) x ∙ y
+
+no_minus-digit : (d : ℕ) → has 45 ((48 + d) ∷ []) ≡ false
+no_minus-digit d = grind arith
+
+no_minus-decimal : (n : ℕ) → n < 2 ^ 64 → has 45 (decimal n) ≡ false
+no_minus-decimal n h =
+    decimal_by_steps (λ m ds. has 45 ds ≡ false) (λ m small. no_minus-digit m) (λ m ds big before. no_minus-append ds _ before (no_minus-digit (m % 10))) n h
+
+no_minus-padded : (places n : ℕ) → n < 2 ^ 64 → has 45 (padded places n) ≡ false
+no_minus-padded places n h = no_minus-append (replicate (places - length (decimal n)) 48) (decimal n) (has-not 45 (places - length (decimal n)) 48 refl) (no_minus-decimal n h)
+
+no_minus-size : (places n : ℕ) → n < 2 ^ 64 → has 45 (decimal (n / 10 ^ places) ++ 46 ∷ padded places (n % 10 ^ places)) ≡ false
+no_minus-size places n fits =
+    let below : n / 10 ^ places ≤ n = div-le_self n (10 ^ places) in
+    let least : n % 10 ^ places ≤ n = mod-le n (10 ^ places) in
+    no_minus-append (decimal (n / 10 ^ places)) (46 ∷ padded places (n % 10 ^ places)) (no_minus-decimal (n / 10 ^ places) (omega (arith, below, fits)))
+    (no_minus-padded places (n % 10 ^ places) (omega (arith, least, fits)))
+
+has_minus-right : (width : ℕ) (text : List ℕ) → has 45 (right width text) ≡ has 45 text
+has_minus-right width text = has-append 45 (replicate (width - length text) 32) text ∙ ap (λ b. b || has 45 text) (has-not 45 (width - length text) 32 refl)
+
+pub not_negative : (n : ℕ) → is_negative (pos n) ≡ false
+not_negative n = search rules
+
+has_minus-fixed : (places : ℕ) (z : ℤ) → unsigned_abs z < 2 ^ 64 → has 45 (fixed places z) ≡ is_negative z
+has_minus-fixed places (pos n) fits =
+    ap (λ b. has 45 (sign_text b ++ decimal (n / 10 ^ places) ++ 46 ∷ padded places (n % 10 ^ places))) (not_negative n)
+    ∙ no_minus-size places n fits ∙ sym (not_negative n)
+has_minus-fixed places (negsuc n) fits = refl
+
+-- ---- the number is read back, so its text determines it
+
+by_parts : (z : ℤ) (text : List ℕ) → digits_in text ≡ unsigned_abs z → has 45 text ≡ is_negative z → number_in text ≡ z
+by_parts (pos n) text d m = ap (λ b. if b then neg_ℤ (pos (digits_in text)) else pos (digits_in text)) (m ∙ not_negative n) ∙ ap pos d
+by_parts (negsuc n) text d m = ap (λ b. if b then neg_ℤ (pos (digits_in text)) else pos (digits_in text)) m ∙ ap (λ k. neg_ℤ (pos k)) d
+
+pub number_in-fixed : (width places : ℕ) (z : ℤ) → 0 < places → unsigned_abs z < 2 ^ 64 → number_in (right width (fixed places z)) ≡ z
+number_in-fixed width places z some fits =
+    by_parts z (right width (fixed places z)) (digits_in-right width (fixed places z) ∙ digits_in-fixed places z some fits)
+    (has_minus-right width (fixed places z) ∙ has_minus-fixed places z fits)
+
+pub fixed_determines : (width places : ℕ) (y z : ℤ) → 0 < places → unsigned_abs y < 2 ^ 64 → unsigned_abs z < 2 ^ 64
+    → right width (fixed places y) ≡ right width (fixed places z) → y ≡ z
+fixed_determines width places y z some small fits e = sym (number_in-fixed width places y some small) ∙ ap number_in e ∙ number_in-fixed width places z some fits
+
+pub digits_in-padded : (places n : ℕ) → 0 < places → n < 10 ^ places → n < 2 ^ 64 → digits_in (padded places n) ≡ n
+digits_in-padded places n some small fits = digits_from-padded places n 0 some small fits ∙ omega arith
+
+pub digits_in-whole : (width n : ℕ) → n < 2 ^ 64 → digits_in (right width (decimal n)) ≡ n
+digits_in-whole width n fits = digits_in-right width (decimal n) ∙ digits_from-decimal n fits 0 ∙ omega arith
+
+-- ---- lengths
+
+pub length-right : (width : ℕ) (text : List ℕ) → length text ≤ width → length (right width text) ≡ width
+length-right width text short = simp (length-append, length-replicate) (omega (arith, short))
+
+length-sign : (b : Bool) → length (sign_text b) ≤ 1
+length-sign true = omega arith
+length-sign false = omega arith
+
+-- so many digits before the point
+pub length-fixed : (places digits : ℕ) (z : ℤ) → 0 < places → 0 < digits → unsigned_abs z < 2 ^ 64 → unsigned_abs z / 10 ^ places < 10 ^ digits
+    → length (fixed places z) ≤ length (sign_text (is_negative z)) + (digits + (1 + places))
+length-fixed places digits z some any fits bound =
+    let below : unsigned_abs z / 10 ^ places ≤ unsigned_abs z = div-le_self (unsigned_abs z) (10 ^ places) in
+    let least : unsigned_abs z % 10 ^ places ≤ unsigned_abs z = mod-le (unsigned_abs z) (10 ^ places) in
+    let whole = length-decimal-le digits (unsigned_abs z / 10 ^ places) any bound (omega (arith, below, fits)) in
+    let small : unsigned_abs z % 10 ^ places < 10 ^ places = mod-lt (unsigned_abs z) (ten_pow places) in
+    let part = length-padded places (unsigned_abs z % 10 ^ places) some small (omega (arith, least, fits)) in
+    three_parts (sign_text (is_negative z)) (decimal (unsigned_abs z / 10 ^ places)) (padded places (unsigned_abs z % 10 ^ places)) digits places whole part
+
+pub length-right-le : (width : ℕ) (text : List ℕ) → length (right width text) ≤ width + length text
+length-right-le width text = simp (length-append, length-replicate) (omega arith)
+
+pub length-padded-le : (places n : ℕ) → n < 2 ^ 64 → length (padded places n) ≤ places + 20
+length-padded-le places n fits =
+    let digits = length-decimal-le 20 n (omega arith) (omega arith) fits in
+    simp (length-append, length-replicate) (omega (arith, digits))
+
+three_bounds : (sign whole part : List ℕ) (places : ℕ) → length sign ≤ 1 → length whole ≤ 20 → length part ≤ places + 20
+    → length (sign ++ whole ++ 46 ∷ part) ≤ places + 42
+three_bounds sign whole part places s w p = simp length-append (omega (arith, s, w, p))
+
+pub length-fixed-le : (places : ℕ) (z : ℤ) → unsigned_abs z < 2 ^ 64 → length (fixed places z) ≤ places + 42
+length-fixed-le places z fits =
+    let below : unsigned_abs z / 10 ^ places ≤ unsigned_abs z = div-le_self (unsigned_abs z) (10 ^ places) in
+    let least : unsigned_abs z % 10 ^ places ≤ unsigned_abs z = mod-le (unsigned_abs z) (10 ^ places) in
+    let whole = length-decimal-le 20 (unsigned_abs z / 10 ^ places) (omega arith) (omega (arith, below, fits)) (omega (arith, below, fits)) in
+    let part = length-padded-le places (unsigned_abs z % 10 ^ places) (omega (arith, least, fits)) in
+    three_bounds (sign_text (is_negative z)) (decimal (unsigned_abs z / 10 ^ places)) (padded places (unsigned_abs z % 10 ^ places)) places (length-sign (is_negative z)) whole part
+
+-- a number with decimals has a point
+pub has_point-fixed : (width places : ℕ) (z : ℤ) → has 46 (right width (fixed places z)) ≡ true
+has_point-fixed width places z =
+    ap (has 46) (sym (append_assoc (replicate (width - length (fixed places z)) 32) (sign_text (is_negative z) ++ decimal (unsigned_abs z / 10 ^ places)) (46 ∷ padded places (unsigned_abs z % 10 ^ places))))
+    ∙ has-midst 46 (replicate (width - length (fixed places z)) 32 ++ (sign_text (is_negative z) ++ decimal (unsigned_abs z / 10 ^ places))) (padded places (unsigned_abs z % 10 ^ places)) refl

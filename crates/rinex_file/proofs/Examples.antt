@@ -1,0 +1,57 @@
+-- The text of a small file, and lines with a value that is missing, negative or at its limit.
+use Rattle.std.proofs.Common.{◌≡◌, ℕ, ◌+◌, ◌*◌, List, [], ◌∷◌, ◌++◌, refl, Option, Some, None, length, map}
+use Rattle.std.specs.Prelude.{codes, pos, negsuc}
+use Rattle.std.specs.Fmt.{digits}
+use Rattle.gnss_obs.specs.declared.system.System.TheVariants.{Gps, Galileo}
+use Rattle.rinex_file.specs.Blanks.{trimmed}
+use Rattle.rinex_file.specs.Texts.{HeaderLists}
+use Rattle.rinex_file.specs.Value.{Entry, Row, Seen, Stamped, FileValue}
+use Rattle.rinex_file.specs.Header.{header_line, header_lines, lines_of}
+use Rattle.rinex_file.specs.Lines.{field, entry_text, seen_line, epoch_line}
+use Rattle.rinex_file.specs.Numbers.{joined}
+use Rattle.rinex_file.specs.File.{file_text}
+
+abbrev texts : HeaderLists
+texts = record { run_by = []; date = codes "20240204 000001 UTC"; marker = []; marker_type = codes "GEODETIC"; observer = []; agency = [];
+  rec_number = []; rec_type = []; rec_version = []; ant_number = []; ant_type = [] }
+
+-- one epoch of one satellite, GPS 5 with 1C
+abbrev one : FileValue
+one = record {
+  texts = texts;
+  plan = record { gps = 0 ∷ []; galileo = [] };
+  values = record { x = pos 0; y = pos 0; z = pos 0; height = 0 };
+  epochs = record {
+    change = None;
+    time = 2300 * 604_800_000 + 1000;
+    rows = record { system = Gps; row = record { satellite = 5; entries = record { c = Some (pos 20_985_472_060); l = Some (pos 110_279_400_000); d = Some (negsuc 525_503); s = Some (pos 45_063); mark = 0 } ∷ [] } } ∷ [];
+  } ∷ [];
+}
+
+abbrev lines : List (List ℕ) → List ℕ
+lines texts = joined (map (λ line. line ++ 10 ∷ []) texts)
+
+pub one_text : file_text one ≡ lines (
+  codes "     3.05           OBSERVATION DATA    G                   RINEX VERSION / TYPE"
+  ∷ codes "rtcm2rinex                              20240204 000001 UTC PGM / RUN BY / DATE "
+  ∷ codes "                                                            MARKER NAME         "
+  ∷ codes "GEODETIC                                                    MARKER TYPE         "
+  ∷ codes "                                                            OBSERVER / AGENCY   "
+  ∷ codes "                                                            REC # / TYPE / VERS "
+  ∷ codes "                                                            ANT # / TYPE        "
+  ∷ codes "        0.0000        0.0000        0.0000                  APPROX POSITION XYZ "
+  ∷ codes "        0.0000        0.0000        0.0000                  ANTENNA: DELTA H/E/N"
+  ∷ codes "G    4 C1C L1C D1C S1C                                      SYS / # / OBS TYPES "
+  ∷ codes "DBHZ                                                        SIGNAL STRENGTH UNIT"
+  ∷ codes "  2024     2     4     0     0    1.0000000     GPS         TIME OF FIRST OBS   "
+  ∷ codes "G                                                           SYS / PHASE SHIFT   "
+  ∷ codes "                                                            END OF HEADER       "
+  ∷ codes "> 2024 02 04 00 00  1.0000000  0  1"
+  ∷ codes "G05  20985472.060 7 110279400.000 7      -525.504          45.063"
+  ∷ [])
+unfolding digits header_line header_lines lines_of epoch_line seen_line trimmed entry_text field
+one_text = refl
+
+pub one_length : length (file_text one) ≡ 1236
+unfolding digits header_line header_lines lines_of epoch_line seen_line trimmed entry_text field
+one_length = refl

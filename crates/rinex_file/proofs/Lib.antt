@@ -1,0 +1,12 @@
+mod Digits
+mod Cuts
+mod Grown
+mod Columns
+mod Found
+mod Entries
+mod SignalTypes
+mod Sections
+mod Sent
+mod Faultless
+mod FileText
+mod Examples

@@ -1,0 +1,144 @@
+-- Lines that went out, and a part of them.
+use Rattle.std.proofs.Common.{rules, arith, ◌≡◌, ◌∙◌, sym, ap, refl, subst, ℕ, zero, suc, ◌+◌, ◌-◌, ◌≤◌, List, [], ◌∷◌, ◌++◌, length, append_assoc, append-nil, length-append, Option, Bool, true, false, Result, Ok, Err, OnOk, OnErr}
+use Rattle.std.specs.Prelude.{map, flat_map, filter, if◌then◌else◌}
+use Rattle.std.specs.Io.KnownBytes.{Appends}
+use Rattle.std.proofs.KnownBytes.{Appends-trans, Appends-nil}
+use Rattle.std.proofs.lemmas.List.{map-append}
+use Rattle.rtcm_bits.specs.Device.{AppendsPrefix}
+use Rattle.gnss_obs.specs.declared.system.System.{System}
+use Rattle.gnss_obs.specs.declared.system.System.TheVariants.{Gps, Galileo}
+use Rattle.gnss_obs.specs.Satellites.{satellites as satellites_in}
+use Rattle.obs_epoch.specs.declared.cell.Cell.{Cell}
+use Rattle.obs_epoch.specs.Dates.{civil_of}
+use Rattle.obs_epoch.specs.Values.{PlanValue, EpochValue, cells_of, is_written, written_among, satellites}
+use Rattle.rinex_file.specs.Numbers.{joined}
+use Rattle.rinex_file.specs.Value.{numbers, written, seen_of, rows_of}
+use Rattle.rinex_file.specs.Lines.{seen_line, epoch_line}
+use Rattle.rinex_file.specs.File.{line_or_none, lines_up_to, epoch_text}
+use Rattle.rinex_file.proofs.Entries.{flat_map-append}
+
+-- behind what went out, a part of what follows
+pub part_behind : (a b c : Option (List ℕ)) (text done next rest : List ℕ) → text ≡ done ++ (next ++ rest) → Appends a b done → AppendsPrefix b c next → AppendsPrefix a c text
+part_behind a b c text done next rest is out (left, (sent, split, more)) =
+    (left ++ rest, (done ++ sent,
+    is ∙ ap (λ l. done ++ (l ++ rest)) split ∙ ap (λ l. done ++ l) (append_assoc sent left rest) ∙ sym (append_assoc done sent (left ++ rest)),
+    Appends-trans a b c done sent out more))
+
+-- a part of the first is a part of both
+pub part_first : (a c : Option (List ℕ)) (text next rest : List ℕ) → text ≡ next ++ rest → AppendsPrefix a c next → AppendsPrefix a c text
+part_first a c text next rest is part = part_behind a a c text [] next rest is (Appends-nil a) part
+
+pub filter-append : {X : Type 0} (test : X → Bool) (xs ys : List X) → filter test (xs ++ ys) ≡ filter test xs ++ filter test ys
+filter-append test [] ys = refl
+filter-append test (x ∷ xs) ys =
+    elim (test x) as (λ b. (if b then x ∷ filter test (xs ++ ys) else filter test (xs ++ ys)) ≡ (if b then x ∷ filter test xs else filter test xs) ++ filter test ys) [
+      | true ↦ ap (λ l. x ∷ l) (filter-append test xs ys)
+      | false ↦ filter-append test xs ys
+    ]
+
+pub joined-append : (xs ys : List (List ℕ)) → joined (xs ++ ys) ≡ joined xs ++ joined ys
+joined-append xs ys = flat_map-append (λ l. l) xs ys
+
+-- ---- satellite by satellite
+
+one_of : (p : PlanValue) (e : EpochValue) (s : System) (n : ℕ) (b : Bool)
+    → joined (map seen_line (map (seen_of p e s) (if b then suc n ∷ [] else []))) ≡ (if b then seen_line (seen_of p e s (suc n)) else [])
+one_of p e s n true = append-nil (seen_line (seen_of p e s (suc n)))
+one_of p e s n false = refl
+
+lines_suc : (p : PlanValue) (e : EpochValue) (s : System) (n : ℕ) → lines_up_to p e s (suc n) ≡ lines_up_to p e s n ++ line_or_none p e s (suc n)
+unfolding lines_up_to line_or_none
+lines_suc p e s n =
+    let cells = cells_of s e in
+    let split : written cells (suc n) ≡ written cells n ++ (if is_written cells (suc n) then suc n ∷ [] else []) = filter-append (is_written cells) (numbers n) (suc n ∷ []) in
+    ap (λ l. joined (map seen_line (map (seen_of p e s) l))) split
+    ∙ ap (λ l. joined (map seen_line l)) (map-append (seen_of p e s) (written cells n) (if is_written cells (suc n) then suc n ∷ [] else []))
+    ∙ ap joined (map-append seen_line (map (seen_of p e s) (written cells n)) (map (seen_of p e s) (if is_written cells (suc n) then suc n ∷ [] else [])))
+    ∙ joined-append (map seen_line (map (seen_of p e s) (written cells n))) (map seen_line (map (seen_of p e s) (if is_written cells (suc n) then suc n ∷ [] else [])))
+    ∙ ap (λ l. lines_up_to p e s n ++ l) (one_of p e s n (is_written cells (suc n)))
+
+lines_more : (p : PlanValue) (e : EpochValue) (s : System) (n m : ℕ) → m ≡ suc n → lines_up_to p e s m ≡ lines_up_to p e s n ++ line_or_none p e s m
+lines_more p e s n m is = subst (λ k. lines_up_to p e s k ≡ lines_up_to p e s n ++ line_or_none p e s k) (sym is) (lines_suc p e s n)
+
+pub no_lines : (p : PlanValue) (e : EpochValue) (s : System) → lines_up_to p e s 0 ≡ []
+unfolding lines_up_to
+no_lines p e s = refl
+
+pub not_written : (p : PlanValue) (e : EpochValue) (s : System) (id : ℕ) → is_written (cells_of s e) id ≡ false → line_or_none p e s id ≡ []
+unfolding line_or_none
+not_written p e s id h = ap (λ b. if b then seen_line (seen_of p e s id) else []) h
+
+pub is_shown : (p : PlanValue) (e : EpochValue) (s : System) (id : ℕ) → is_written (cells_of s e) id ≡ true → line_or_none p e s id ≡ seen_line (seen_of p e s id)
+unfolding line_or_none
+is_shown p e s id h = ap (λ b. if b then seen_line (seen_of p e s id) else []) h
+
+-- one satellite more went out
+pub grown_lines : (a b c : Option (List ℕ)) (p : PlanValue) (e : EpochValue) (s : System) (n m : ℕ) → m ≡ suc n → Appends a b (lines_up_to p e s n) → Appends b c (line_or_none p e s m)
+    → Appends a c (lines_up_to p e s m)
+grown_lines a b c p e s n m is out more =
+    subst (λ l. Appends a c l) (sym (lines_more p e s n m is)) (Appends-trans a b c (lines_up_to p e s n) (line_or_none p e s m) out more)
+
+-- what follows the lines up to a number
+abbrev Rest : List ℕ → List ℕ → Type 0
+Rest text done = (rest : List ℕ) × (text ≡ done ++ rest)
+
+lines_rest : (p : PlanValue) (e : EpochValue) (s : System) (n k m : ℕ) → m ≡ n + k → Rest (lines_up_to p e s m) (lines_up_to p e s n)
+lines_rest p e s n zero m is =
+    let same : m ≡ n = omega (arith, is) in
+    ([], ap (lines_up_to p e s) same ∙ sym (append-nil (lines_up_to p e s n)))
+lines_rest p e s n (suc k) m is =
+    let same : m ≡ suc (n + k) = omega (arith, is) in
+    let (rest, before) = lines_rest p e s n k (n + k) refl in
+    (rest ++ line_or_none p e s (suc (n + k)),
+    ap (lines_up_to p e s) same ∙ lines_suc p e s (n + k) ∙ ap (λ l. l ++ line_or_none p e s (suc (n + k))) before
+    ∙ append_assoc (lines_up_to p e s n) rest (line_or_none p e s (suc (n + k))))
+
+-- a part of one satellite's line is a part of all
+pub part_lines : (a b c : Option (List ℕ)) (p : PlanValue) (e : EpochValue) (s : System) (n m most : ℕ) → m ≡ suc n → m ≤ most → Appends a b (lines_up_to p e s n)
+    → AppendsPrefix b c (line_or_none p e s m) → AppendsPrefix a c (lines_up_to p e s most)
+part_lines a b c p e s n m most is h out part =
+    let (rest, split) = lines_rest p e s m (most - m) most (omega (arith, h)) in
+    part_behind a b c (lines_up_to p e s most) (lines_up_to p e s n) (line_or_none p e s m) rest
+    (split ∙ ap (λ l. l ++ rest) (lines_more p e s n m is) ∙ append_assoc (lines_up_to p e s n) (line_or_none p e s m) rest) out part
+
+-- ---- an epoch
+
+one_more : (n : ℕ) (b : Bool) → length (if b then suc n ∷ [] else []) ≡ (if b then 1 else 0)
+one_more n true = refl
+one_more n false = refl
+
+length-written : (cells : List Cell) (n : ℕ) → length (written cells n) ≡ written_among cells n
+length-written cells zero = refl
+length-written cells (suc n) =
+    ap length (filter-append (is_written cells) (numbers n) (suc n ∷ []))
+    ∙ length-append (written cells n) (if is_written cells (suc n) then suc n ∷ [] else [])
+    ∙ ap (λ k. k + length (if is_written cells (suc n) then suc n ∷ [] else [])) (length-written cells n)
+    ∙ ap (λ k. written_among cells n + k) (one_more n (is_written cells (suc n)))
+
+length-of : {X : Type 0} (f : ℕ → X) (ids : List ℕ) → length (map f ids) ≡ length ids
+length-of f [] = refl
+length-of f (x ∷ xs) = ap suc (length-of f xs)
+
+pub length-rows : (p : PlanValue) (e : EpochValue) → length (rows_of p e Gps ++ rows_of p e Galileo) ≡ satellites e
+length-rows p e =
+    length-append (rows_of p e Gps) (rows_of p e Galileo)
+    ∙ ap (λ k. k + length (rows_of p e Galileo)) (length-of (seen_of p e Gps) (written e.gps (satellites_in Gps)) ∙ length-written e.gps (satellites_in Gps))
+    ∙ ap (λ k. written_among e.gps (satellites_in Gps) + k) (length-of (seen_of p e Galileo) (written e.galileo (satellites_in Galileo)) ∙ length-written e.galileo (satellites_in Galileo))
+
+-- the lines of an epoch: its own, those of GPS and those of Galileo
+pub epoch_parts : (p : PlanValue) (e : EpochValue) → epoch_text p e ≡ epoch_line (civil_of e.time) (satellites e) ++ (lines_up_to p e Gps (satellites_in Gps) ++ lines_up_to p e Galileo (satellites_in Galileo))
+unfolding epoch_text lines_up_to
+epoch_parts p e =
+    ap (λ n. epoch_line (civil_of e.time) n ++ joined (map seen_line (rows_of p e Gps ++ rows_of p e Galileo))) (length-rows p e)
+    ∙ ap (λ l. epoch_line (civil_of e.time) (satellites e) ++ joined l) (map-append seen_line (rows_of p e Gps) (rows_of p e Galileo))
+    ∙ ap (λ l. epoch_line (civil_of e.time) (satellites e) ++ l) (joined-append (map seen_line (rows_of p e Gps)) (map seen_line (rows_of p e Galileo)))
+
+-- ---- what a result tells
+
+pub on_ok : {A E : Type 0} (P Q : Type 0) (r : Result A E) → (P → Q) → OnOk r P → OnOk r Q
+on_ok P Q (Ok x) f h = f h
+on_ok P Q (Err e) f h = tt
+
+pub on_err : {A E : Type 0} (P Q : Type 0) (r : Result A E) → (P → Q) → OnErr r P → OnErr r Q
+on_err P Q (Ok x) f h = tt
+on_err P Q (Err e) f h = f h

@@ -1,0 +1,52 @@
+use Rattle.std.proofs.Common.{◌≡◌, ◌∙◌, sym, ap, subst, refl, List, [], ◌∷◌, ◌++◌, append_assoc, append-nil}
+use Rattle.std.specs.Io.KnownBytes.{Appends}
+use Rattle.std.proofs.KnownBytes.{Appends-nil, Appends-trans}
+use Rattle.rtcm_bits.specs.Device.{AppendsPrefix, HasFailed}
+use Rattle.rinex_file.specs.Numbers.{joined}
+use Rattle.rinex_file.specs.File.{header_text}
+use Rattle.rinex_file.proofs.Sent.{part_behind}
+use Rattle.rinex_file.proofs.write.write_header.Goals as goal
+
+pub loop-line-init : goal.loop-line-init
+unfolding header_text
+loop-line-init g c =
+    let same = c.into_iter-line-iterator.ensures.into_iter_gives in
+    (tt, tt, ([], sym (ap joined (same ∙ c.header_lines-line-items.ensures)), Appends-nil (g.W.Write.contents c.args.writer.now.inner)), refl, refl)
+
+pub loop-line-preserved : goal.loop-line-preserved
+loop-line-preserved g c =
+    let contents = g.W.Write.contents in
+    let (can, ends, (done, text, out), fine, widest) = c.loop-line.invariant in
+    let line = c.in-Some.line.items in
+    let rest = joined c.next.new.self in
+    let a = contents c.args.writer.now.inner in
+    let b = contents c.loop-line.writer.inner in
+    let d = contents c.write_whole.new.self.inner in
+    let whole = subst (λ l. Appends b d l) c.as_slice.ensures.value c.in-Ok.ensures.whole in
+    (tt, tt, (done ++ line, text ∙ ap (λ l. done ++ joined l) c.in-Some.ensures.steps ∙ sym (append_assoc done line rest), Appends-trans a b d done line out whole),
+    c.in-Ok.ensures.fine ∙ fine, c.in-Ok.ensures.widest ∙ widest)
+
+pub returns-in-Err-clause-part : goal.returns-in-Err-clause-part
+returns-in-Err-clause-part g c =
+    let contents = g.W.Write.contents in
+    let h = c.args.head.now in
+    let (can, ends, (done, text, out), fine, widest) = c.loop-line.invariant in
+    let line = c.in-Some.line.items in
+    let a = contents c.args.writer.now.inner in
+    let b = contents c.loop-line.writer.inner in
+    let d = contents c.write_whole.new.self.inner in
+    part_behind a b d (header_text h.texts.now h.plan.now h.values h.first) done line (joined c.next.new.self)
+    (text ∙ ap (λ l. done ++ joined l) c.in-Some.ensures.steps) out (subst (λ l. AppendsPrefix b d l) c.as_slice.ensures.value c.in-Err.ensures.part)
+
+pub returns-in-Err-clause-failed : goal.returns-in-Err-clause-failed
+returns-in-Err-clause-failed g c =
+    let (can, ends, out, fine, widest) = c.loop-line.invariant in
+    subst (λ n. HasFailed n c.write_whole.new.self.failures) fine c.in-Err.ensures.failed
+
+pub returns-clause-whole : goal.returns-clause-whole
+returns-clause-whole g c =
+    let contents = g.W.Write.contents in
+    let (can, ends, (done, text, out), fine, widest) = c.loop-line.invariant in
+    let a = contents c.args.writer.now.inner in
+    let b = contents c.loop-line.writer.inner in
+    subst (λ l. Appends a b l) (sym (text ∙ ap (λ l. done ++ joined l) c.in-None.ensures.steps.0 ∙ append-nil done)) out

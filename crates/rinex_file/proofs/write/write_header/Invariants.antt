@@ -1,0 +1,15 @@
+use Rattle.std.proofs.Common.{◌≡◌, ◌++◌, List, ℕ}
+use Rattle.std.specs.Io.KnownBytes.{Appends}
+use Rattle.rinex_file.specs.Numbers.{joined}
+use Rattle.rinex_file.specs.File.{header_text}
+use Rattle.rinex_file.proofs.write.write_header.Given as goal
+
+-- what went out and what is left are the whole text
+abbrev pub invariant-loop-line : goal.invariant-loop-line
+invariant-loop-line g l =
+    (goal.iterator-loop-line g).can_next l.line-iterator × (goal.iterator-loop-line g).is_finite l.line-iterator
+    × ((done : List ℕ)
+    × (header_text l.head.texts.now l.head.plan.now l.head.values l.head.first ≡ done ++ joined l.line-iterator)
+    × Appends (g.W.Write.contents l.fn.writer.inner) (g.W.Write.contents l.writer.inner) done)
+    × (l.writer.failures ≡ l.fn.writer.failures)
+    × (l.writer.widest ≡ l.fn.writer.widest)

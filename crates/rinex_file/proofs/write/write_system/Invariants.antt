@@ -1,0 +1,14 @@
+use Rattle.std.proofs.Common.{◌≡◌}
+use Rattle.std.specs.Io.KnownBytes.{Appends}
+use Rattle.rinex_file.specs.File.{lines_up_to}
+use Rattle.rinex_file.proofs.write.write_system.Given as goal
+
+-- the lines of the satellites so far went out
+abbrev pub invariant-loop-before : goal.invariant-loop-before
+invariant-loop-before g l =
+    let contents = g.W.Write.contents in
+    record {
+      out : Appends (contents l.fn.writer.inner) (contents l.writer.inner) (lines_up_to l.plan l.epoch l.system l.before);
+      fine : l.writer.failures ≡ l.fn.writer.failures;
+      widest : l.writer.widest ≡ l.fn.writer.widest;
+    }

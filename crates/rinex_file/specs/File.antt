@@ -1,0 +1,53 @@
+-- The text of a file.
+use Rattle.std.specs.Prelude.{ℕ, List, [], ◌∷◌, ◌++◌, length, map, flat_map, replicate, codes, Option, Some, None, if◌then◌else◌}
+use Rattle.gnss_obs.specs.declared.system.System.{System}
+use Rattle.obs_epoch.specs.declared.cell.StationValues.{StationValues}
+use Rattle.obs_epoch.specs.Values.{EpochValue, PlanValue, cells_of, is_written}
+use Rattle.obs_epoch.specs.Dates.{civil_of}
+use Rattle.rinex_file.specs.Texts.{HeaderLists}
+use Rattle.rinex_file.specs.Value.{Stamped, FileValue, stamped_of, seen_of, written}
+use Rattle.rinex_file.specs.Header.{header_lines, position_line, delta_line}
+use Rattle.rinex_file.specs.Lines.{epoch_line, seen_line}
+use Rattle.rinex_file.specs.Numbers.{joined}
+
+-- the header of a file whose first epoch is at this time
+unfoldable pub header_text : HeaderLists → PlanValue → StationValues → ℕ → List ℕ
+header_text texts plan values first = joined (header_lines texts plan values (civil_of first))
+
+-- station values that change: event flag 4, and two header lines
+abbrev pub change_lines : Option StationValues → List (List ℕ)
+change_lines None = []
+change_lines (Some v) = (codes ">" ++ (replicate 30 32 ++ codes "4  2\n")) ∷ position_line v ∷ delta_line v ∷ []
+
+-- the lines of an epoch
+abbrev pub stamped_lines : Stamped → List (List ℕ)
+stamped_lines e = change_lines e.change ++ (epoch_line (civil_of e.time) (length e.rows) ∷ map seen_line e.rows)
+
+-- an epoch that was gathered under a plan
+unfoldable pub epoch_text : PlanValue → EpochValue → List ℕ
+epoch_text plan epoch = joined (stamped_lines (stamped_of plan epoch))
+
+-- the line of a satellite, where it is written
+unfoldable pub line_or_none : PlanValue → EpochValue → System → ℕ → List ℕ
+line_or_none plan epoch system id = if is_written (cells_of system epoch) id then seen_line (seen_of plan epoch system id) else []
+
+-- the lines of a system's satellites up to a number
+unfoldable pub lines_up_to : PlanValue → EpochValue → System → ℕ → List ℕ
+lines_up_to plan epoch system most = joined (map seen_line (map (seen_of plan epoch system) (written (cells_of system epoch) most)))
+
+-- header and epochs; nothing where there is no epoch
+abbrev pub lines_of : HeaderLists → PlanValue → StationValues → List Stamped → List (List ℕ)
+lines_of x p v [] = []
+lines_of x p v (e ∷ es) = header_lines x p v (civil_of e.time) ++ flat_map stamped_lines (e ∷ es)
+
+-- the lines of a file value
+abbrev pub file_lines : FileValue → List (List ℕ)
+file_lines v = lines_of v.texts v.plan v.values v.epochs
+
+-- the text of a file value
+abbrev pub file_text : FileValue → List ℕ
+file_text v = joined (file_lines v)
+
+-- the value of a file of epochs that were gathered under a plan
+abbrev pub gathered : HeaderLists → PlanValue → StationValues → List EpochValue → FileValue
+gathered texts plan values epochs = record { texts = texts; plan = plan; values = values; epochs = map (stamped_of plan) epochs }

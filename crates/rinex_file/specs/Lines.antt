@@ -1,0 +1,56 @@
+-- Epoch records and observation records of RINEX 3.05, table A3.
+use Rattle.std.specs.Prelude.{ℕ, ℤ, pos, ◌+◌, ◌*◌, ◌==◌, Bool, List, [], ◌∷◌, ◌++◌, length, flat_map, replicate, decimal, codes, if◌then◌else◌, Option, Some, None}
+use Rattle.std.specs.Option.{option_map_or}
+use Rattle.gnss_obs.specs.Observables.{digit}
+use Rattle.gnss_obs.specs.declared.system.System.{System}
+use Rattle.gnss_obs.specs.declared.system.System.TheVariants.{Gps, Galileo}
+use Rattle.obs_epoch.specs.declared.civil.Civil.{Civil}
+use Rattle.rinex_file.specs.Numbers.{joined, right, fixed, padded}
+use Rattle.rinex_file.specs.Blanks.{trimmed}
+use Rattle.rinex_file.specs.Value.{Entry, Row, Seen}
+
+-- the fields of the line that an epoch of so many satellites begins with
+abbrev pub epoch_fields : Civil → ℕ → List (List ℕ)
+epoch_fields t satellites =
+    codes "> " ∷ right 4 (decimal t.year)
+    ∷ codes " " ∷ padded 2 t.month
+    ∷ codes " " ∷ padded 2 t.day
+    ∷ codes " " ∷ padded 2 t.hour
+    ∷ codes " " ∷ padded 2 t.minute
+    ∷ right 11 (fixed 7 (pos (t.millisecond * 10_000)))
+    ∷ codes "  0" ∷ right 3 (decimal satellites)
+    ∷ (10 ∷ []) ∷ []
+
+unfoldable pub epoch_line : Civil → ℕ → List ℕ
+epoch_line t satellites = joined (epoch_fields t satellites)
+
+-- a value with its loss-of-lock and strength columns; 16 blanks where it is missing
+unfoldable pub field : Option ℤ → ℕ → ℕ → List ℕ
+field None lost strength = replicate 16 32
+field (Some v) lost strength = right 14 (fixed 3 v) ++ lost ∷ strength ∷ []
+
+-- the loss-of-lock column of a phase
+abbrev pub mark_byte : ℕ → ℕ
+mark_byte mark = if mark == 0 then 32 else 48 + mark
+
+-- the strength column
+abbrev pub strength_byte : Option ℤ → ℕ
+strength_byte s = option_map_or (λ t. 48 + digit t) s 32
+
+-- the 64 columns of a signal
+unfoldable pub entry_text : Entry → List ℕ
+entry_text e =
+    field e.c 32 (strength_byte e.s) ++ (field e.l (mark_byte e.mark) (strength_byte e.s) ++ (field e.d 32 32 ++ field e.s 32 32))
+
+-- the letter of a system
+abbrev pub letter_of : System → ℕ
+letter_of Gps = 71
+letter_of Galileo = 69
+
+-- letter and number of a satellite, and the columns of its signals
+abbrev pub row_text : ℕ → Row → List ℕ
+row_text letter r = letter ∷ padded 2 r.satellite ++ flat_map entry_text r.entries
+
+-- the line of a satellite; blanks at its end are cut
+unfoldable pub seen_line : Seen → List ℕ
+seen_line s = trimmed (row_text (letter_of s.system) s.row) ++ 10 ∷ []

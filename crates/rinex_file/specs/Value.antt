@@ -1,0 +1,80 @@
+-- What a file holds.
+use Rattle.std.specs.Prelude.{ℕ, ℤ, ◌==◌, ◌&&◌, Bool, List, [], ◌∷◌, ◌++◌, zero, suc, length, map, filter, find, Option, None}
+use Rattle.std.specs.Option.{option_map_or}
+use Rattle.gnss_obs.specs.declared.system.System.{System}
+use Rattle.gnss_obs.specs.declared.system.System.TheVariants.{Gps, Galileo}
+use Rattle.gnss_obs.specs.Satellites.{satellites}
+use Rattle.obs_epoch.specs.declared.cell.Cell.{Cell}
+use Rattle.obs_epoch.specs.declared.cell.StationValues.{StationValues}
+use Rattle.obs_epoch.specs.Values.{EpochValue, PlanValue, cells_of, planned_of, is_written}
+use Rattle.rinex_file.specs.Texts.{HeaderLists}
+
+-- what was observed of a planned signal: values in thousandths, all absent where nothing was
+pub record Entry : Type 0 where
+  pub c : Option ℤ
+  pub l : Option ℤ
+  pub d : Option ℤ
+  pub s : Option ℤ
+  pub mark : ℕ
+
+-- A satellite's entries: a map from the planned signals of its system to values and mark, as one entry for each signal in
+-- the plan's order. An entry without a value and without a mark stands for a signal that the map doesn't have.
+pub record Row : Type 0 where
+  pub satellite : ℕ
+  pub entries : List Entry
+
+-- a satellite of a system, with its entries
+pub record Seen : Type 0 where
+  pub system : System
+  pub row : Row
+
+-- An epoch: a map from satellites to entries, as a list of rising satellites, those of GPS first. `change` are the station
+-- values that hold from this epoch on, where they are no longer those before.
+pub record Stamped : Type 0 where
+  pub change : Option StationValues
+  pub time : ℕ
+  pub rows : List Seen
+
+pub record FileValue : Type 0 where
+  pub texts : HeaderLists
+  pub plan : PlanValue
+  pub values : StationValues
+  pub epochs : List Stamped
+
+-- ---- the value of an epoch that was gathered under a plan
+
+-- the numbers from 1 to n
+abbrev pub numbers : ℕ → List ℕ
+numbers zero = []
+numbers (suc n) = numbers n ++ suc n ∷ []
+
+-- the satellites that are written, up to a number
+abbrev pub written : List Cell → ℕ → List ℕ
+written cells most = filter (is_written cells) (numbers most)
+
+abbrev pub no_entry : Entry
+no_entry = record { c = None; l = None; d = None; s = None; mark = 0 }
+
+abbrev pub entry_of : Cell → Entry
+entry_of c = record { c = c.c; l = c.l; d = c.d; s = c.s; mark = c.mark }
+
+-- a satellite's cell of the signal at this place of its system's table
+abbrev pub is_of : ℕ → ℕ → Cell → Bool
+is_of id index c = (c.satellite.id == id) && (c.signal.index == index)
+
+abbrev pub entry_at : List Cell → ℕ → ℕ → Entry
+entry_at cells id index = option_map_or entry_of (find (is_of id index) cells) no_entry
+
+-- a satellite's entries of these signals
+abbrev pub row_of : List ℕ → List Cell → ℕ → Row
+row_of signals cells id = record { satellite = id; entries = map (entry_at cells id) signals }
+
+abbrev pub seen_of : PlanValue → EpochValue → System → ℕ → Seen
+seen_of plan epoch system id = record { system = system; row = row_of (planned_of system plan) (cells_of system epoch) id }
+
+-- the satellites of a system that are written
+abbrev pub rows_of : PlanValue → EpochValue → System → List Seen
+rows_of plan epoch system = map (seen_of plan epoch system) (written (cells_of system epoch) (satellites system))
+
+abbrev pub stamped_of : PlanValue → EpochValue → Stamped
+stamped_of plan epoch = record { change = None; time = epoch.time; rows = rows_of plan epoch Gps ++ rows_of plan epoch Galileo }

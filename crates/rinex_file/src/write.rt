@@ -1,0 +1,135 @@
+//! Writing a file, one line at a time.
+ghost use Rattle.std.specs.Prelude.{◌≡◌, ◌<◌, OnOk, OnErr, IfErr};
+ghost use Rattle.std.specs.Io.KnownBytes.{Appends};
+ghost use Rattle.rtcm_bits.specs.Device.{AppendsPrefix, HasFailed};
+ghost use Rattle.obs_epoch.specs.Values.{cells_of, has_value, is_written};
+ghost use Rattle.gnss_obs.specs.Satellites.{satellites};
+ghost use Rattle.rinex_file.specs.File.{header_text, epoch_text, line_or_none, lines_up_to};
+
+use crate::epoch::epoch_line;
+use crate::fault::HeadFault;
+use crate::head::{Head, header_lines};
+use crate::numbers::Line;
+use crate::satellite::put_seen;
+use gnss_obs::System;
+use obs_epoch::{Cell, Epoch, Plan};
+use rtcm_bits::Counted;
+use std::io::Write;
+
+/// Writes a header, line by line.
+///
+/// Where the writer fails, what went out is a prefix of the header.
+#[tactic(auto, unfolding(crate::specs::File::header_text))]
+pub fn write_header<W: Write>(head: &Head, writer: &mut Counted<W>) -> Result<(), HeadFault>
+    ensures whole { OnOk result (Appends (W.contents writer.old.inner) (W.contents writer.new.inner)
+        (header_text head.now.texts.now head.now.plan.now head.now.values head.now.first)) }
+    ensures part { OnErr result (AppendsPrefix (W.contents writer.old.inner) (W.contents writer.new.inner)
+        (header_text head.now.texts.now head.now.plan.now head.now.values head.now.first)) }
+    ensures only { IfErr result (λ fault. fault ≡ HeadFault.Write) }
+    ensures failed { OnErr result (HasFailed writer.old.failures writer.new.failures) }
+    ensures fine { OnOk result (writer.new.failures ≡ writer.old.failures) }
+    ensures widest { writer.new.widest ≡ writer.old.widest }
+{
+    for line in header_lines(head) {
+        match writer.write_whole(line.as_slice()) {
+            Ok(()) => {}
+            Err(_) => return Err(HeadFault::Write),
+        }
+    }
+    Ok(())
+}
+
+// Whether a cell has a value.
+fn has_value(cell: &Cell) -> bool
+    ensures { result ≡ has_value cell.now }
+{
+    cell.c.is_some() || cell.l.is_some() || cell.d.is_some() || cell.s.is_some()
+}
+
+// Whether a satellite is written: one of its cells has a value.
+fn is_written(cells: &[Cell], id: u8) -> bool
+    ensures { result ≡ is_written cells.now id }
+{
+    cells.iter().any(|cell| cell.satellite.id() == id && has_value(cell))
+}
+
+// Writes the line of a satellite where it has a value.
+fn write_satellite<W: Write>(
+    epoch: &Epoch,
+    plan: &Plan,
+    system: System,
+    id: u8,
+    line: &mut Line,
+    writer: &mut Counted<W>,
+) -> Result<(), HeadFault>
+    requires { id < 100 }
+    ensures whole { OnOk result (Appends (W.contents writer.old.inner) (W.contents writer.new.inner) (line_or_none plan.now epoch.now system id)) }
+    ensures part { OnErr result (AppendsPrefix (W.contents writer.old.inner) (W.contents writer.new.inner) (line_or_none plan.now epoch.now system id)) }
+    ensures only { IfErr result (λ fault. fault ≡ HeadFault.Write) }
+    ensures failed { OnErr result (HasFailed writer.old.failures writer.new.failures) }
+    ensures fine { OnOk result (writer.new.failures ≡ writer.old.failures) }
+    ensures widest { writer.new.widest ≡ writer.old.widest }
+{
+    if !is_written(epoch.cells(system), id) {
+        return Ok(());
+    }
+    line.clear();
+    put_seen(line, epoch, plan, system, id);
+    match writer.write_whole(line.as_slice()) {
+        Ok(()) => Ok(()),
+        Err(_) => Err(HeadFault::Write),
+    }
+}
+
+// Writes the lines of a system's satellites.
+fn write_system<W: Write>(
+    epoch: &Epoch,
+    plan: &Plan,
+    system: System,
+    line: &mut Line,
+    writer: &mut Counted<W>,
+) -> Result<(), HeadFault>
+    ensures whole { OnOk result (Appends (W.contents writer.old.inner) (W.contents writer.new.inner) (lines_up_to plan.now epoch.now system (satellites system))) }
+    ensures part { OnErr result (AppendsPrefix (W.contents writer.old.inner) (W.contents writer.new.inner) (lines_up_to plan.now epoch.now system (satellites system))) }
+    ensures only { IfErr result (λ fault. fault ≡ HeadFault.Write) }
+    ensures failed { OnErr result (HasFailed writer.old.failures writer.new.failures) }
+    ensures fine { OnOk result (writer.new.failures ≡ writer.old.failures) }
+    ensures widest { writer.new.widest ≡ writer.old.widest }
+{
+    for before in 0..system.satellites() {
+        match write_satellite(epoch, plan, system, before + 1, line, writer) {
+            Ok(()) => {}
+            Err(fault) => return Err(fault),
+        }
+    }
+    Ok(())
+}
+
+/// Writes an epoch: its line, and a line for each satellite that has a value, those of GPS first and by rising number.
+///
+/// Where the writer fails, what went out is a prefix of these lines.
+#[tactic(auto, unfolding(crate::specs::File::epoch_text))]
+pub fn write_epoch<W: Write>(
+    epoch: &Epoch,
+    plan: &Plan,
+    writer: &mut Counted<W>,
+) -> Result<(), HeadFault>
+    ensures whole { OnOk result (Appends (W.contents writer.old.inner) (W.contents writer.new.inner) (epoch_text plan.now epoch.now)) }
+    ensures part { OnErr result (AppendsPrefix (W.contents writer.old.inner) (W.contents writer.new.inner) (epoch_text plan.now epoch.now)) }
+    ensures only { IfErr result (λ fault. fault ≡ HeadFault.Write) }
+    ensures failed { OnErr result (HasFailed writer.old.failures writer.new.failures) }
+    ensures fine { OnOk result (writer.new.failures ≡ writer.old.failures) }
+    ensures widest { writer.new.widest ≡ writer.old.widest }
+{
+    let mut line = Line::new();
+    epoch_line(epoch.time(), epoch.satellites(), &mut line);
+    match writer.write_whole(line.as_slice()) {
+        Ok(()) => {}
+        Err(_) => return Err(HeadFault::Write),
+    }
+    match write_system(epoch, plan, System::Gps, &mut line, writer) {
+        Ok(()) => {}
+        Err(fault) => return Err(fault),
+    }
+    write_system(epoch, plan, System::Galileo, &mut line, writer)
+}
