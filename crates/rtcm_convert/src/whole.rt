@@ -1,0 +1,71 @@
+//! Whole streams.
+ghost use Rattle.std.specs.Prelude.{◌≡◌, ◌≢◌, ◌<◌, ◌≤◌, ◌⊎◌, ◌↔◌, List, ℕ, Err, IsErrOf, IfOk, OnOk, IfSome, flat_map, max, length};
+ghost use Rattle.std.specs.Io.KnownBytes.{Appends};
+ghost use Rattle.rtcm_bits.specs.Device.{HasFailed};
+ghost use Rattle.rtcm_scan.specs.Frames.{frames_of};
+ghost use Rattle.rtcm_convert.specs.Converted.{file, epochs_in};
+ghost use Rattle.rtcm_convert.specs.Outcomes.{report_of};
+ghost use Rattle.rtcm_convert.specs.Told.{settings, IsBad};
+
+use crate::converter::Converter;
+use crate::fault::Fault;
+use crate::laws;
+use crate::report::Report;
+use crate::setup::Setup;
+use rtcm_bits::Counted;
+use std::alloc::Global;
+use std::io::{Read, Write};
+
+/// Makes the observation file of a stream that is read to its end.
+pub fn convert_stream<R: Read, W: Write>(
+    alloc: Global,
+    setup: Setup,
+    reader: &mut Counted<R>,
+    writer: &mut Counted<W>,
+) -> Result<Report, Fault>
+    // The file that was written is the one of the stream's frames in order.
+    ensures file { OnOk result (IfSome (R.remaining reader.old.inner) (λ b.
+        Appends (W.contents writer.old.inner) (W.contents writer.new.inner) (file (settings setup) (frames_of b)))) }
+    ensures report { IfOk result (λ report. IfSome (R.remaining reader.old.inner) (λ b. report ≡ report_of (settings setup) b)) }
+    // No epoch stands in that file, and it is empty.
+    ensures no_epoch { IsErrOf result Fault.NoEpoch → IfSome (R.remaining reader.old.inner) (λ b.
+        (epochs_in (settings setup) (frames_of b) ≡ 0) × Appends (W.contents writer.old.inner) (W.contents writer.new.inner) (file (settings setup) (frames_of b))) }
+    ensures too_long { IsErrOf result Fault.TooLong → IfSome (R.remaining reader.old.inner) (λ b. setup.limit < length b) }
+    ensures read { IsErrOf result Fault.Read → HasFailed reader.old.failures reader.new.failures }
+    ensures write { IsErrOf result Fault.Write → HasFailed writer.old.failures writer.new.failures }
+    ensures bad_setup { result ≡ Err Fault.BadSetup ↔ IsBad setup }
+    ensures only { (result ≢ Err Fault.Failed) × (result ≢ Err Fault.Finished) }
+    ensures widest { reader.new.widest ≤ max reader.old.widest 1029 }
+{
+    laws::prefix();
+    let mut converter = match Converter::new(alloc, setup) {
+        Ok(converter) => converter,
+        Err(fault) => return Err(fault),
+    };
+    converter.run(reader, writer)
+}
+
+/// Makes the observation file of a stream that comes in these pieces.
+pub fn convert_pieces<W: Write>(
+    alloc: Global,
+    setup: Setup,
+    pieces: &[Vec<u8>],
+    writer: &mut Counted<W>,
+) -> Result<Report, Fault>
+    // However the stream is cut into pieces, the file that was written is the one of its frames in order.
+    ensures file { OnOk result (Appends (W.contents writer.old.inner) (W.contents writer.new.inner)
+        (file (settings setup) (frames_of (flat_map (λ piece. piece.items) pieces.now)))) }
+    ensures report { IfOk result (λ report. report ≡ report_of (settings setup) (flat_map (λ piece. piece.items) pieces.now)) }
+{
+    laws::prefix();
+    let mut converter = match Converter::new(alloc, setup) {
+        Ok(converter) => converter,
+        Err(fault) => return Err(fault),
+    };
+    for piece in pieces {
+        if let Err(fault) = converter.feed(piece, writer) {
+            return Err(fault);
+        }
+    }
+    converter.finish(writer)
+}
