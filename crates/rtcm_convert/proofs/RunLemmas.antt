@@ -1,6 +1,6 @@
 -- A stream that is read piece by piece.
-use Rattle.std.proofs.Common.{◌≡◌, ℕ, List, [], ◌++◌, sym, ap, subst, ◌∙◌, Option, append_assoc, append-nil, length, take, drop, length-drop, ◌+◌, ◌-◌, ◌≤◌, ◌<◌, false, None, Some, arith, length-append, Result, Ok, Err, OnOk, IfOk}
-use Rattle.std.specs.Prelude.{IfSome}
+use Rattle.std.proofs.Common.{◌≡◌, ℕ, List, [], ◌++◌, sym, ap, subst, ◌∙◌, Option, append_assoc, append-nil, length, take, drop, length-drop, ◌+◌, ◌-◌, ◌≤◌, ◌<◌, refl, Bool, true, false, None, Some, arith, length-append, Result, Ok, Err, OnOk, IfOk}
+use Rattle.std.specs.Prelude.{IfSome, if◌then◌else◌}
 use Rattle.std.specs.Io.KnownBytes.{Consumes, Keeps, IsAtEnd}
 use Rattle.std.proofs.KnownBytes.{Consumes-trans, Consumes-whole, Consumes-kept, Consumes-nil}
 use Rattle.rtcm_scan.specs.Decided.{decided}
@@ -8,8 +8,18 @@ use Rattle.rtcm_scan.specs.Known.{known_place}
 use Rattle.rtcm_convert.specs.Converted.{Settings}
 use Rattle.rtcm_convert.specs.declared.report.Report.{Report}
 use Rattle.rtcm_convert.specs.Stream.{Extends, BreaksAtEnd}
-use Rattle.rtcm_convert.specs.Conversion.{Conversion, StandsFor, Goes, GoesLong, Adds, Completed, CompletedEmpty, Finishes, FinishesEmpty, Stops, StopsFeeding, StopsFinishing}
+use Rattle.rtcm_convert.specs.Conversion.{Conversion, IsGoing, refusal, StandsFor, Goes, GoesLong, Adds, Completed, CompletedEmpty, Finishes, FinishesEmpty, Stops, StopsFeeding, StopsFinishing}
+use Rattle.rtcm_convert.specs.declared.fault.Fault.TheVariants.{Failed, Finished}
 use Rattle.rtcm_convert.proofs.PartLemmas.{goes_on-refl, goes_on-trans, breaks_off-after}
+
+flags : (ended failed : Bool) → None ≡ (if ended then Some Finished else if failed then Some Failed else None) → (failed ≡ false) × (ended ≡ false)
+flags true failed e = absurd cc
+flags false true e = absurd cc
+flags false false e = (refl, refl)
+
+-- a converter that refuses nothing goes on
+pub going_on : (v : Conversion) → None ≡ refusal v → IsGoing v
+going_on v e = let p = flags v.has_ended v.has_failed e in record { fine = p.0; more = p.1 }
 
 abbrev pub Ran : Conversion → Conversion → Option (List ℕ) → Option (List ℕ) → Option (List ℕ) → Option (List ℕ) → Type 0
 Ran v w r r' a b = (front : List ℕ) × Consumes r r' front × Goes v w a b front

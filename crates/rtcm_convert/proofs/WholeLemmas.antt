@@ -1,18 +1,21 @@
 -- Whole streams.
-use Rattle.std.proofs.Common.{◌≡◌, ℕ, ◌+◌, ◌<◌, ◌≤◌, List, [], ◌∷◌, ◌++◌, sym, ap, subst, ◌∙◌, arith, Option, Some, None, Result, Ok, Err, OnOk, IfOk, append-nil, length, take, get_or}
+use Rattle.std.proofs.Common.{◌≡◌, ℕ, ◌+◌, ◌<◌, ◌≤◌, ◌⊎◌, inl, inr, refl, List, [], ◌∷◌, ◌++◌, sym, ap, subst, ◌∙◌, arith, Option, Some, None, Result, Ok, Err, OnOk, IfOk, append-nil, length, take, get_or}
 use Rattle.std.specs.Prelude.{IfSome, flat_map}
 use Rattle.std.proofs.lemmas.List.{take_more}
 use Rattle.std.proofs.lemmas.Grind.{flat_map-append}
 use Rattle.std.proofs.Math.Seq.{take-length}
-use Rattle.std.specs.Io.KnownBytes.{Appends}
+use Rattle.std.specs.Io.KnownBytes.{Appends, Consumes}
+use Rattle.std.proofs.KnownBytes.{Appends-trans}
+use Rattle.rtcm_bits.specs.Device.{AppendsPrefix}
 use Rattle.rtcm_scan.specs.Frames.{frames_of}
 use Rattle.rtcm_scan.specs.Decided.{decided_frames}
 use Rattle.rtcm_convert.specs.Converted.{Settings, so_far, file, epochs_in}
 use Rattle.rtcm_convert.specs.Outcomes.{report_of}
 use Rattle.rtcm_convert.specs.Fed.{GoesOn}
 use Rattle.rtcm_convert.specs.Laws.{NothingYet}
-use Rattle.rtcm_convert.specs.Stream.{Extends}
-use Rattle.rtcm_convert.specs.Conversion.{Conversion, StandsFor, Goes, Finishes, FinishesEmpty}
+use Rattle.rtcm_convert.specs.Stream.{Extends, BreaksAtEnd}
+use Rattle.rtcm_convert.specs.Broken.{IsBroken, Broke, BrokeAtEnd}
+use Rattle.rtcm_convert.specs.Conversion.{Conversion, StandsFor, Goes, GoesLong, Adds, Finishes, FinishesEmpty, StopsAt, StopsFeeding, StopsFinishing}
 use Rattle.rtcm_convert.specs.declared.report.Report.{Report}
 use Rattle.rtcm_convert.proofs.PartLemmas.{goes_on-trans}
 use Rattle.rtcm_convert.proofs.RunLemmas.{FinishesNow}
@@ -43,6 +46,34 @@ pub run_empty : (v w : Conversion) (s : Settings) (r a b : Option (List ℕ)) �
 run_empty v w s r a b nothing x h =
     some_weaker r (FinishesEmpty v w a b) (λ x. (epochs_in s (frames_of x) ≡ 0) × Appends a b (file s (frames_of x)))
     (λ l f. let p = f s [] x in (p.none, from_nothing nothing a b s (file s (frames_of l)) p.out)) h
+
+pub run_read : (v : Conversion) (s : Settings) (r r' a b : Option (List ℕ)) → NothingYet → StandsFor v s [] → ((front : List ℕ) × Consumes r r' front × Adds v a b front)
+    → (front : List ℕ) × Consumes r r' front × Appends a b (so_far s (decided_frames front))
+run_read v s r r' a b nothing x p = (p.0, p.1, from_nothing nothing a b s (so_far s (decided_frames p.0)) (p.2 s [] x))
+
+pub run_long : (v : Conversion) (s : Settings) (r r' a b : Option (List ℕ)) (limit : ℕ) → NothingYet → StandsFor v s [] → v.scan.limit ≡ limit → ((front : List ℕ) × Consumes r r' front × GoesLong v a b front)
+    → (front : List ℕ) × Consumes r r' front × Appends a b (so_far s (decided_frames (take limit front)))
+run_long v s r r' a b limit nothing x e p =
+    (p.0, p.1, subst (λ (n : ℕ). Appends a b (so_far s (decided_frames (take n p.0)))) e (from_nothing nothing a b s (so_far s (decided_frames (take v.scan.limit p.0))) (p.2 s [] x)))
+
+broken : (a b : Option (List ℕ)) (s : Settings) (front piece : List ℕ) → NothingYet → StopsAt a b s [] piece front → IsBroken a b s front piece
+broken a b s front piece nothing p = record {
+  out = so_far s (decided_frames front) ++ p.last.part;
+  went = Appends-trans a p.mid b (so_far s (decided_frames front)) p.last.part (from_nothing nothing a p.mid s (so_far s (decided_frames front)) p.before) p.last.out;
+  least = (p.last.part, refl);
+  most = (p.last.rest, p.last.text);
+  near = p.near;
+}
+
+broken_at_end : (a b : Option (List ℕ)) (s : Settings) (front : List ℕ) → NothingYet → BreaksAtEnd a b s [] front → AppendsPrefix a b (file s (frames_of front))
+broken_at_end a b s front nothing p =
+    let e : file s (frames_of front) ≡ p.part ++ p.rest = p.text ∙ ap (λ l. (l ++ p.part) ++ p.rest) (nothing s) in
+    (p.rest, (p.part, e, p.out))
+
+pub run_write : (v : Conversion) (s : Settings) (r r' a b : Option (List ℕ)) → NothingYet → StandsFor v s [] → (StopsFeeding v r r' a b ⊎ StopsFinishing v r r' a b)
+    → Broke r r' a b s ⊎ BrokeAtEnd r r' a b s
+run_write v s r r' a b nothing x (inl p) = inl (p.0, p.1, p.2, broken a b s p.0 p.1 nothing (p.3 s [] x))
+run_write v s r r' a b nothing x (inr p) = inr (p.0, p.1, p.2, broken_at_end a b s p.0 nothing (p.3 s [] x))
 
 pub run_over : (v : Conversion) (s : Settings) (r : Option (List ℕ)) (limit : ℕ) → StandsFor v s [] → v.scan.limit ≡ limit
     → IfSome r (λ rest. (s : Settings) (b : List ℕ) → StandsFor v s b → v.scan.limit < length (b ++ rest)) → IfSome r (λ b. limit < length b)

@@ -6,3 +6,4 @@ pub mod Stream
 pub mod Conversion
 pub mod Told
 pub mod Laws
+pub mod Broken

@@ -106,11 +106,8 @@ impl Converter {
         ensures only { IsGoing self.old → IfErr result (λ fault. (fault ≡ Fault.TooLong) ⊎ (fault ≡ Fault.Write)) }
         ensures err { IsGoing self.old → IfErr result (λ fault. LeftBy fault self.new) }
     {
-        if self.finished {
-            return Err(Fault::Finished);
-        }
-        if self.failed {
-            return Err(Fault::Failed);
+        if let Some(fault) = self.refusal() {
+            return Err(fault);
         }
         match feed_bytes(&mut self.framer, &mut self.filer, piece, writer) {
             Ok(()) => Ok(()),
@@ -140,11 +137,8 @@ impl Converter {
         ensures err { IsGoing self.old → IfErr result (λ fault. LeftBy fault self.new) }
         ensures same { (self.new.scan.taken ≡ self.old.scan.taken) × (self.new.scan.limit ≡ self.old.scan.limit) }
     {
-        if self.finished {
-            return Err(Fault::Finished);
-        }
-        if self.failed {
-            return Err(Fault::Failed);
+        if let Some(fault) = self.refusal() {
+            return Err(fault);
         }
         match end_stream(&mut self.framer, &mut self.filer, writer) {
             Ok(()) => {
@@ -159,6 +153,19 @@ impl Converter {
                 Err(Fault::Write)
             }
         }
+    }
+
+    /// The fault that every call answers of a converter that is finished or has failed.
+    fn refusal(&self) -> Option<Fault>
+        ensures { result ≡ refusal self.now }
+    {
+        if self.finished {
+            return Some(Fault::Finished);
+        }
+        if self.failed {
+            return Some(Fault::Failed);
+        }
+        None
     }
 
     /// The report of a stream that was ended.
@@ -240,11 +247,8 @@ impl Converter {
         ensures err { IsGoing self.old → IfErr result (λ fault. LeftBy fault self.new) }
         ensures widest { reader.new.widest ≤ max reader.old.widest 1029 }
     {
-        if self.finished {
-            return Err(Fault::Finished);
-        }
-        if self.failed {
-            return Err(Fault::Failed);
+        if let Some(fault) = self.refusal() {
+            return Err(fault);
         }
         loop {
             match self.pull(reader, writer) {

@@ -1,7 +1,6 @@
-use Rattle.std.proofs.Common.{arith, ◌∙◌, inl, inr, sym, ap, refl}
-use Rattle.rtcm_convert.specs.Conversion.{Conversion}
+use Rattle.std.proofs.Common.{arith, ◌∙◌, inl, inr, refl}
 use Rattle.rtcm_convert.proofs.PartLemmas.{same_fault}
-use Rattle.rtcm_convert.proofs.RunLemmas.{ran_start, ran-trans, ran_whole, ran_empty, ran_long, run_long, run_feeding, run_finishing}
+use Rattle.rtcm_convert.proofs.RunLemmas.{going_on, ran_start, ran-trans, ran_whole, ran_empty, ran_long, run_long, run_feeding, run_finishing}
 use Rattle.rtcm_convert.proofs.converter.Converter.run.Goals as goal
 
 pub returns-in-Ok-eq0-clause-whole : goal.returns-in-Ok-eq0-clause-whole
@@ -43,10 +42,7 @@ returns-in-Err-clause-write g c = λ e.
 pub loop-self-init : goal.loop-self-init
 loop-self-init g c = record {
   came = ran_start c.args.self.now _ _;
-  going = record {
-    fine = sym (ap (λ (v : Conversion). v.has_failed) c.self.view_is) ∙ c.if-self-2.false;
-    more = sym (ap (λ (v : Conversion). v.has_ended) c.self.view_is) ∙ c.if-self.false;
-  };
+  going = going_on c.args.self.now c.in_default.ensures;
   limit = refl;
   reader = refl;
   writer = refl;
