@@ -1,0 +1,52 @@
+-- Values worked out by hand, which the definitions compute.
+use Rattle.std.proofs.Common.{pos, negsuc, ◌≡◌, refl, Some, None, true, false}
+use Rattle.gnss_obs.specs.Observables.{metres, cycles, shift, decibels, digit}
+use Rattle.gnss_obs.specs.LockTimes.{times4, times7, lost}
+
+-- 70 ms, and the next range that MSM7 tells
+range : metres (pos 150323855360) ≡ pos 20985472060
+range = refl
+
+next_range : metres (pos 150323855364) ≡ pos 20985472061
+next_range = refl
+
+-- a tie below zero: -24615937.5 thousandths of a cycle of L1
+tie_below_zero : cycles 1575420000 (negsuc 33554431) ≡ negsuc 24615937
+tie_below_zero = refl
+
+-- 0.0001 m/s on L1 and on L5: more and less than half a thousandth of a hertz
+slow_on_l1 : shift 1575420000 (pos 1) ≡ negsuc 0
+slow_on_l1 = refl
+
+slow_on_l5 : shift 1176450000 (pos 1) ≡ pos 0
+slow_on_l5 = refl
+
+-- 45.0625 dB-Hz is a tie
+strong : decibels 721 ≡ pos 45063
+strong = refl
+
+strong_digit : digit (pos 45063) ≡ 7
+strong_digit = refl
+
+-- the ends of the lock times
+first4 : times4 0 ≡ record { least = Some 0; upper = Some 32 }
+first4 = refl
+
+last4 : times4 15 ≡ record { least = Some 524288; upper = None }
+last4 = refl
+
+before_last7 : times7 703 ≡ record { least = Some 66060288; upper = Some 67108864 }
+before_last7 = refl
+
+last7 : times7 704 ≡ record { least = Some 67108864; upper = None }
+last7 = refl
+
+unknown7 : times7 705 ≡ record { least = None; upper = None }
+unknown7 = refl
+
+-- a lock that is as old as the time between was lost, one that is older was not
+as_old : lost (Some 0) (Some 0) (Some 1) 1 ≡ true
+as_old = refl
+
+older : lost (Some 63) (Some 63) (Some 64) 63 ≡ false
+older = refl

@@ -1,0 +1,26 @@
+-- What the answer to a loss of lock says.
+use Rattle.std.proofs.Common.{ℕ, ◌≡◌, ◌<◌, ◌≤◌, ◌↔◌, IsTrue, Option, Some, None, arith, rules, refl, ◌+◌, ◌*◌, ◌==◌, ◌||◌, nat_lt}
+use Rattle.gnss_obs.specs.LockTimes.{LockTime, IsLost, lost, least4, least7}
+use Rattle.gnss_obs.proofs.Checked.{passes_at, is_less, is_equal, unless_less}
+
+pub lost_is : (earlier later : LockTime) (elapsed : ℕ) → IsTrue (lost earlier.least later.least later.upper elapsed) ↔ IsLost earlier later elapsed
+lost_is earlier later elapsed = cases earlier.least later.least later.upper
+  where
+    cases : (before least upper : Option ℕ) → IsTrue (lost before least upper elapsed) ↔ IsLost (record { least = before; upper = None }) (record { least = least; upper = upper }) elapsed
+    cases None least upper = search rules
+    cases (Some before) None upper = search rules
+    cases (Some before) (Some least) None = search rules
+    cases (Some before) (Some least) (Some upper) = search rules
+
+-- the steps of the indicators, each computed
+pub rising4 : (i : ℕ) → i < 15 → least4 i < least4 (i + 1)
+rising4 i below = is_less _ _ (passes_at (λ j. nat_lt (least4 j) (least4 (j + 1))) 15 i refl below)
+
+pub rising7 : (i : ℕ) → i < 704 → least7 i < least7 (i + 1)
+rising7 i below = is_less _ _ (passes_at (λ j. nat_lt (least7 j) (least7 (j + 1))) 704 i refl below)
+
+pub counts7 : (i : ℕ) → i ≤ 64 → least7 i ≡ i
+counts7 i below = is_equal _ _ (passes_at (λ j. least7 j == j) 65 i refl (omega (arith, below)))
+
+pub doubles7 : (i : ℕ) → 32 ≤ i → i + 32 ≤ 704 → least7 (i + 32) ≡ 2 * least7 i
+doubles7 i above below = is_equal _ _ (unless_less i 32 _ (passes_at (λ j. nat_lt j 32 || (least7 (j + 32) == 2 * least7 j)) 673 i refl (omega (arith, below))) above)

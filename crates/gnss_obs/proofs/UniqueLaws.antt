@@ -1,0 +1,66 @@
+-- There is one nearest whole number.
+use Rattle.std.proofs.Common.{ℕ, suc, ℤ, pos, negsuc, ◌≡◌, ◌+◌, ◌*◌, ◌<◌, ◌≤◌, ◌-ℤ◌, ◌+ℤ◌, ◌*ℤ◌, ◌<ℤ◌, ◌≤ℤ◌, unsigned_abs, ap, ◌∙◌, arith, ◌⊎◌, inl, inr}
+use Rattle.std.proofs.Math.IntN.{neg_ℤ, negsuc-*ℤ-pos}
+use Rattle.std.proofs.lemmas.Int.{ints}
+use Rattle.std.proofs.lemmas.Nat.{mul-le}
+use Rattle.gnss_obs.specs.Rounding.{IsNearest}
+
+negative : (m q : ℕ) → negsuc m *ℤ pos q ≡ pos 0 -ℤ pos (suc m * q)
+negative m q = negsuc-*ℤ-pos m q ∙ turned (suc m * q)
+  where
+    turned : (k : ℕ) → neg_ℤ (pos k) ≡ pos 0 -ℤ pos k
+    turned k = omega (arith, ints)
+
+more : (m n q : ℕ) → m < n → m * q + q ≤ n * q
+more m n q h = let p : suc m * q ≤ n * q = mul-le (suc m) q n q (omega (arith, h)) (omega arith) in omega (arith, p)
+
+-- multiples of q are q apart
+apart : (t u : ℤ) (q : ℕ) → t <ℤ u → ((t *ℤ pos q) +ℤ pos q) ≤ℤ (u *ℤ pos q)
+apart (pos m) (pos n) q h = let p = more m n q (omega (arith, ints, h)) in pp (m * q) (n * q) q p
+  where
+    pp : (x y q : ℕ) → x + q ≤ y → (pos x +ℤ pos q) ≤ℤ pos y
+    pp x y q h = omega (arith, ints)
+apart (pos m) (negsuc n) q h = absurd (omega (arith, ints, h))
+apart (negsuc m) (pos n) q h = rw (negative m q) (np (suc m * q) (n * q) q (omega arith))
+  where
+    np : (x y q : ℕ) → q ≤ x → ((pos 0 -ℤ pos x) +ℤ pos q) ≤ℤ pos y
+    np x y q h = omega (arith, ints)
+apart (negsuc m) (negsuc n) q h = let p = more (suc n) (suc m) q (omega (arith, ints, h)) in rw (negative m q, negative n q) (nn (suc m * q) (suc n * q) q p)
+  where
+    nn : (x y q : ℕ) → y + q ≤ x → ((pos 0 -ℤ pos x) +ℤ pos q) ≤ℤ (pos 0 -ℤ pos y)
+    nn x y q h = omega (arith, ints)
+
+order : (t u : ℤ) → (t ≡ u) ⊎ ((t <ℤ u) ⊎ (u <ℤ t))
+order t u = grind (arith, ints)
+
+zero_times : (q : ℕ) → pos 0 *ℤ pos q ≡ pos 0
+zero_times q = ap pos (none q)
+  where
+    none : (q : ℕ) → 0 * q ≡ 0
+    none q = omega arith
+
+-- x and y are next to each other, a lies half way: the one that is further from zero is one of them
+clash : (x y a : ℤ) (q : ℕ) → 0 < q → (x +ℤ pos q) ≤ℤ y → 2 * unsigned_abs (x -ℤ a) ≤ q → 2 * unsigned_abs (y -ℤ a) ≤ q
+    → (2 * unsigned_abs (x -ℤ a) ≡ q → unsigned_abs a < unsigned_abs x) → (2 * unsigned_abs (y -ℤ a) ≡ q → unsigned_abs a < unsigned_abs y) → (pos 0 ≤ℤ x) ⊎ ((x +ℤ pos q) ≤ℤ pos 0) → ⊥
+clash x y a q some next near_x near_y tie_x tie_y side =
+    let half_x : 2 * unsigned_abs (x -ℤ a) ≡ q = omega (arith, ints, next, near_x, near_y) in
+    let half_y : 2 * unsigned_abs (y -ℤ a) ≡ q = omega (arith, ints, next, near_x, near_y) in
+    let far_x = tie_x half_x in
+    let far_y = tie_y half_y in
+    elim side [ inl right ↦ omega (arith, ints, next, half_x, half_y, far_x, far_y, right, some) | inr left ↦ omega (arith, ints, next, half_x, half_y, far_x, far_y, left, some) ]
+
+one_side : (t u a : ℤ) (q : ℕ) → 0 < q → t <ℤ u → IsNearest a q t → IsNearest a q u → ⊥
+one_side t u a q some less p r = clash (t *ℤ pos q) (u *ℤ pos q) a q some (apart t u q less) p.near r.near p.tie r.tie (elim (order t (pos 0)) [
+  | inl e ↦ inl (rw (e, zero_times q) (omega (arith, ints)))
+  | inr s ↦ elim s [ inl left ↦ inr (rw (zero_times q) at (apart t (pos 0) q left)) | inr right ↦ inl (positive t right) ]
+])
+  where
+    positive : (t : ℤ) → pos 0 <ℤ t → pos 0 ≤ℤ (t *ℤ pos q)
+    positive (pos n) h = omega (arith, ints)
+    positive (negsuc n) h = absurd (omega (arith, ints, h))
+
+pub one_nearest : (a : ℤ) (q : ℕ) (t u : ℤ) → 0 < q → IsNearest a q t → IsNearest a q u → t ≡ u
+one_nearest a q t u some p r = elim (order t u) [
+  | inl e ↦ e
+  | inr s ↦ elim s [ inl less ↦ absurd (one_side t u a q some less p r) | inr more ↦ absurd (one_side u t a q some more r p) ]
+]

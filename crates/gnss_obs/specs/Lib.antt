@@ -1,0 +1,5 @@
+pub mod Satellites
+pub mod Signals
+pub mod Rounding
+pub mod Observables
+pub mod LockTimes

@@ -1,0 +1,54 @@
+-- Lock times in milliseconds.
+use Rattle.std.specs.Prelude.{ℕ, ◌+◌, ◌-◌, ◌*◌, ◌/◌, ◌^◌, ◌==◌, ◌||◌, ◌<◌, ◌≤◌, ◌⊎◌, nat_lt, nat_le, if◌then◌else◌, Bool, false, Option, Some, None}
+use Rattle.std.specs.Option.{IsSomeAnd}
+
+-- the milliseconds that a lock has lasted at least, and those that it has not reached; unknown where there are none
+pub record LockTime : Type 0 where
+  pub least : Option ℕ
+  pub upper : Option ℕ
+
+-- the least time of an indicator of MSM4 (DF402): 0, and from 1 to 15 twice the one before, from 32
+abbrev pub least4 : ℕ → ℕ
+least4 i = if i == 0 then 0 else 2 ^ (i + 4)
+
+-- the upper time is the next indicator's least; the last one has none
+abbrev pub times4 : ℕ → LockTime
+times4 i = record {
+  least = Some (least4 i);
+  upper = if i == 15 then None else Some (least4 (i + 1));
+}
+
+-- how often the least time's unit has doubled at an indicator of MSM7 (DF407)
+abbrev pub doublings : ℕ → ℕ
+doublings i = i / 32 - 1
+
+-- the least time of an indicator of MSM7, from 0 to 704
+abbrev pub least7 : ℕ → ℕ
+least7 i = (i - 32 * doublings i) * 2 ^ doublings i
+
+-- the upper time is the next indicator's least; 704 has none, and 705 to 1023 are an unknown lock
+abbrev pub times7 : ℕ → LockTime
+times7 i =
+    if nat_lt 704 i
+    then record { least = None; upper = None }
+    else record {
+      least = Some (least7 i);
+      upper = if i == 704 then None else Some (least7 (i + 1));
+    }
+
+-- lock was lost between two times of a phase, so many milliseconds apart: both lock times are known, and the later
+-- one is less, or is known to be no more than the time between
+abbrev pub IsLost : LockTime → LockTime → ℕ → Type 0
+IsLost earlier later elapsed =
+    IsSomeAnd earlier.least (λ before. IsSomeAnd later.least (λ least.
+    (least < before) ⊎ IsSomeAnd later.upper (λ upper. upper ≤ elapsed)))
+
+-- the same as an answer
+abbrev pub has_passed : Option ℕ → ℕ → Bool
+has_passed None elapsed = false
+has_passed (Some upper) elapsed = nat_le upper elapsed
+
+abbrev pub lost : Option ℕ → Option ℕ → Option ℕ → ℕ → Bool
+lost None now upper elapsed = false
+lost (Some before) None upper elapsed = false
+lost (Some before) (Some now) upper elapsed = nat_lt now before || has_passed upper elapsed

@@ -1,0 +1,23 @@
+-- Fractions rounded to whole numbers.
+use Rattle.std.specs.Prelude.{◌≡◌, ℕ, ℤ, pos, negsuc, ◌+◌, ◌*◌, ◌/◌, ◌<◌, ◌≤◌, ◌*ℤ◌, ◌-ℤ◌, unsigned_abs, Option, Some, None}
+
+-- t is nearest to a / q, and of two that are nearest it is the one further from zero
+pub record IsNearest (a : ℤ) (q : ℕ) (t : ℤ) : Type 0 where
+  pub near : 2 * unsigned_abs ((t *ℤ pos q) -ℤ a) ≤ q
+  pub tie : 2 * unsigned_abs ((t *ℤ pos q) -ℤ a) ≡ q → unsigned_abs a < unsigned_abs (t *ℤ pos q)
+
+-- a value is there exactly where there is something to make it of, and is then nearest to that over q
+abbrev pub IsRounded : {A : Type 0} → (A → ℤ) → ℕ → Option A → Option ℤ → Type 0
+IsRounded above q None None = Unit {0}
+IsRounded above q None (Some t) = ⊥
+IsRounded above q (Some x) None = ⊥
+IsRounded above q (Some x) (Some t) = IsNearest (above x) q t
+
+-- the same for the size of a
+abbrev pub nearest_size : ℕ → ℕ → ℕ
+nearest_size n q = (2 * n + q) / (2 * q)
+
+-- the whole number nearest to a / q
+abbrev pub nearest : ℤ → ℕ → ℤ
+nearest (pos n) q = pos (nearest_size n q)
+nearest (negsuc n) q = pos 0 -ℤ pos (nearest_size (n + 1) q)

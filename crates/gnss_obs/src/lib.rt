@@ -1,0 +1,21 @@
+//! Satellites, signals, and the values that a RINEX file holds of them: pseudorange, phase, Doppler, strength and lock.
+#![tactic(auto)]
+
+pub mod laws;
+mod lock;
+mod observables;
+mod rounding;
+mod satellite;
+mod signal;
+mod system;
+mod tables;
+#[cfg(test)]
+mod tests;
+mod thousandths;
+
+pub use lock::{Lock, is_lost};
+pub use observables::{doppler, phase, pseudorange, strength, strength_digit};
+pub use satellite::Sat;
+pub use signal::Signal;
+pub use system::System;
+pub use thousandths::Thousandths;

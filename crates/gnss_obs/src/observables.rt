@@ -1,0 +1,79 @@
+ghost use Rattle.std.specs.Prelude.{◌≡◌, ◌*◌, ◌^◌, ◌<◌, ◌≤◌, ◌*ℤ◌, ◌-ℤ◌, ◌≤ℤ◌, ◌<ℤ◌, unsigned_abs, ℤ, ℕ, pos, IfSome};
+ghost use Rattle.std.specs.Option.{option_map, ForSome};
+ghost use Rattle.gnss_obs.specs.Rounding.{IsNearest, IsRounded};
+ghost use Rattle.gnss_obs.specs.Observables.{light, metres, cycles, shift, decibels, digit};
+ghost use Rattle.gnss_obs.specs.Signals.{hertz_of};
+
+use crate::rounding::nearest_whole;
+use crate::{Signal, Thousandths};
+
+/// The speed of light in metres per second.
+const LIGHT: u32 = 299_792_458;
+
+/// The pseudorange in metres, of a range in units of 2^-31 ms. There is none without a range.
+pub fn pseudorange(range: Option<i64>) -> Option<Thousandths>
+    requires { ForSome range (λ r. unsigned_abs r ≤ 2 ^ 40) }
+    ensures rounded { IsRounded (λ r. r *ℤ pos light) (2 ^ 31) range result }
+    ensures value { result ≡ option_map metres range }
+    ensures bound { IfSome result (λ t. unsigned_abs t < 10 ^ 12) }
+{
+    match range {
+        None => None,
+        Some(r) => Some(Thousandths::new(nearest_whole(r as i128 * LIGHT as i128, 1 << 31))),
+    }
+}
+
+/// The carrier phase in cycles, of a phase range in units of 2^-31 ms. There is none without a phase range.
+pub fn phase(phase: Option<i64>, signal: Signal) -> Option<Thousandths>
+    requires { ForSome phase (λ p. unsigned_abs p ≤ 2 ^ 40) }
+    ensures rounded { IsRounded (λ p. p *ℤ pos (hertz_of signal)) (2 ^ 31) phase result }
+    ensures value { result ≡ option_map (cycles (hertz_of signal)) phase }
+    ensures bound { IfSome result (λ t. unsigned_abs t < 10 ^ 12) }
+{
+    match phase {
+        None => None,
+        Some(p) => Some(Thousandths::new(nearest_whole(
+            p as i128 * signal.hertz() as i128,
+            1 << 31,
+        ))),
+    }
+}
+
+/// The Doppler shift in hertz, of a phase range rate in 0.0001 m/s: positive where the satellite comes nearer, so
+/// where the rate is negative. There is none without a rate.
+pub fn doppler(rate: Option<i32>, signal: Signal) -> Option<Thousandths>
+    requires { ForSome rate (λ v. unsigned_abs v ≤ 10 ^ 8) }
+    ensures rounded { IsRounded (λ v. pos 0 -ℤ (v *ℤ pos (hertz_of signal))) (10 * light) rate result }
+    ensures value { result ≡ option_map (shift (hertz_of signal)) rate }
+    ensures bound { IfSome result (λ t. unsigned_abs t < 10 ^ 12) }
+{
+    match rate {
+        None => None,
+        Some(v) => Some(Thousandths::new(nearest_whole(
+            0 - v as i128 * signal.hertz() as i128,
+            10 * LIGHT as u64,
+        ))),
+    }
+}
+
+/// The strength in dB-Hz, of a carrier to noise ratio in 1/16 dB-Hz. There is none without a ratio.
+pub fn strength(strength: Option<u16>) -> Option<Thousandths>
+    requires { ForSome strength (λ s. s < 1024) }
+    ensures rounded { IsRounded (λ s. pos (s * 1000)) 16 strength result }
+    ensures value { result ≡ option_map decibels strength }
+    ensures bound { IfSome result (λ t. unsigned_abs t < 10 ^ 12) }
+    ensures range { IfSome result (λ t. (pos 0 ≤ℤ t) × (t <ℤ pos 100000)) }
+    ensures positive { ForSome strength (λ s. 0 < s → IfSome result (λ t. pos 0 <ℤ t)) }
+{
+    match strength {
+        None => None,
+        Some(s) => Some(Thousandths::new(nearest_whole(s as i128 * 1000, 16))),
+    }
+}
+
+/// The digit that stands for a strength in dB-Hz, from 1 for the weakest to 9: whole steps of 6 dB-Hz.
+pub fn strength_digit(strength: Thousandths) -> u8
+    ensures { result ≡ digit strength }
+{
+    (strength.value() / 6000).clamp(1, 9) as u8
+}

@@ -1,0 +1,4 @@
+mod FrameLemmas
+mod LineLemmas
+mod ListedLemmas
+mod ShowLemmas

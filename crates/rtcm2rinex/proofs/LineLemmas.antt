@@ -1,0 +1,20 @@
+-- Lines that are made word by word.
+use Rattle.std.proofs.Common.{◌≡◌, ℕ, List, [], ◌∷◌, ◌++◌, ◌∙◌, ap, sym, refl, append_assoc}
+use Rattle.std.specs.List.{join_with_byte}
+use Rattle.rtcm2rinex.specs.Lines.{line, with_words}
+
+joined : (x w : List ℕ) (ws : List (List ℕ)) → join_with_byte 0x20 ((x ++ 0x20 ∷ w) ∷ ws) ≡ join_with_byte 0x20 (x ∷ w ∷ ws)
+joined x w [] = refl
+joined x w (v ∷ vs) = append_assoc x (0x20 ∷ w) (0x20 ∷ join_with_byte 0x20 (v ∷ vs))
+
+words_joined : (x : List ℕ) (ws : List (List ℕ)) → with_words x ws ≡ join_with_byte 0x20 (x ∷ ws)
+words_joined x [] = refl
+words_joined x (w ∷ ws) = words_joined (x ++ 0x20 ∷ w) ws ∙ joined x w ws
+
+-- one word more
+pub add_word : {old new text word same : List ℕ} → new ≡ old ++ 0x20 ∷ word → old ≡ text → word ≡ same → new ≡ text ++ 0x20 ∷ same
+add_word {old} {new} {text} {word} {same} e f g = e ∙ ap (λ (l : List ℕ). l ++ 0x20 ∷ word) f ∙ ap (λ (l : List ℕ). text ++ 0x20 ∷ l) g
+
+-- the line feed
+pub end_line : (first : List ℕ) (words : List (List ℕ)) {text all : List ℕ} → all ≡ text ++ 0x0A ∷ [] → text ≡ with_words first words → all ≡ line (first ∷ words)
+end_line first words {text} {all} e f = e ∙ ap (λ (l : List ℕ). l ++ 0x0A ∷ []) (f ∙ words_joined first words)

@@ -1,0 +1,188 @@
+-- What listing does, step by step.
+use Rattle.std.proofs.Common.{◌≡◌, ℕ, ◌+◌, ◌-◌, ◌<◌, ◌≤◌, Bool, true, false, Option, List, [], ◌∷◌, ◌++◌, ◌∙◌, ap, sym, refl, rules, arith, length, take, drop, flat_map, append_assoc, append-nil, subst, take-append-drop, length-drop, take_all, length-append, zero-add, suc, slice_index, None, Some, Result, Ok, Err, inl, inr, ◌⊎◌}
+use Rattle.std.proofs.lemmas.List.{take_more}
+use Rattle.std.specs.Io.KnownBytes.{Appends, Consumes, IsAtEnd}
+use Rattle.std.proofs.KnownBytes.{Appends-trans, Consumes-trans}
+use Rattle.rtcm_bits.specs.Device.{AppendsPrefix}
+use Rattle.rtcm_scan.specs.Frames.{Framed, frames_of}
+use Rattle.rtcm_scan.specs.Decided.{decided_frames}
+use Rattle.rtcm_scan.specs.declared.framer.ScanFault.{ScanFault}
+use Rattle.rtcm_scan.specs.Drained.{IsDrained}
+use Rattle.rtcm_scan.specs.Known.{IsPrefix, known_frames}
+use Rattle.rtcm_scan.specs.Scan.{Scan, StandsFor}
+use Rattle.rtcm2rinex.specs.declared.fault.ToolFault.{ToolFault}
+use Rattle.rtcm2rinex.specs.declared.listing.Listing.{Listing}
+use Rattle.rtcm2rinex.specs.Kinds.{line_of, lines_of}
+use Rattle.rtcm2rinex.specs.Listed.{Lists, ListsKnown, IsListed, IsRefusal, up_to_limit}
+use Rattle.rtcm2rinex.specs.Listing.{ListsAll, ListsPart, ListsToLimit}
+use Rattle.rtcm2rinex.specs.Paging.{Moves}
+
+-- the lines of one frame more
+pub lines_more : (k : Listing) (fs : List Framed) (f : Framed) → lines_of k (fs ++ f ∷ []) ≡ lines_of k fs ++ line_of k f
+lines_more k [] f = append-nil (line_of k f)
+lines_more k (g ∷ fs) f = ap (λ (l : List ℕ). line_of k g ++ l) (lines_more k fs f) ∙ sym (append_assoc (line_of k g) (lines_of k fs) (line_of k f))
+
+pub lines_join : (k : Listing) (fs gs : List Framed) → lines_of k (fs ++ gs) ≡ lines_of k fs ++ lines_of k gs
+lines_join k [] gs = refl
+lines_join k (f ∷ fs) gs = ap (λ (l : List ℕ). line_of k f ++ l) (lines_join k fs gs) ∙ sym (append_assoc (line_of k f) (lines_of k fs) (lines_of k gs))
+
+-- a frame was handed out, and its line put on the page
+pub list_frame : (k : Listing) (w w1 w2 : Option (List ℕ)) (page page2 text : List ℕ) (v v2 : Scan) (b : List ℕ) (fs : List Framed) (f : Framed)
+    → text ≡ line_of k f → Moves w1 w2 page text page2 → StandsFor v2 b (fs ++ f ∷ []) → Lists (lines_of k) w w1 page v b fs → Lists (lines_of k) w w2 page2 v2 b (fs ++ f ∷ [])
+list_frame k w w1 w2 page page2 text v v2 b fs f e m stands s = record {
+  framer = stands;
+  sent = s.sent ++ m.0;
+  out = Appends-trans w w1 w2 s.sent m.0 s.out m.1;
+  joined = append_assoc s.sent m.0 page2 ∙ ap (λ (l : List ℕ). s.sent ++ l) m.2 ∙ sym (append_assoc s.sent page text)
+      ∙ ap (λ (l : List ℕ). l ++ text) s.joined ∙ ap (λ (l : List ℕ). lines_of k fs ++ l) e ∙ sym (lines_more k fs f);
+}
+
+-- the framer moved on and nothing was written
+pub list_same : (k : Listing) (w w1 : Option (List ℕ)) (page : List ℕ) (v v2 : Scan) (b b2 : List ℕ) (fs : List Framed) → StandsFor v2 b2 fs → Lists (lines_of k) w w1 page v b fs → Lists (lines_of k) w w1 page v2 b2 fs
+list_same k w w1 page v v2 b b2 fs stands s = record { framer = stands; sent = s.sent; out = s.out; joined = s.joined }
+
+-- the page was written
+pub list_written : (k : Listing) (w w1 w2 : Option (List ℕ)) (page : List ℕ) (v : Scan) (b : List ℕ) (fs : List Framed) → Appends w1 w2 page → Lists (lines_of k) w w1 page v b fs → Lists (lines_of k) w w2 [] v b fs
+list_written k w w1 w2 page v b fs a s = record {
+  framer = s.framer;
+  sent = s.sent ++ page;
+  out = Appends-trans w w1 w2 s.sent page s.out a;
+  joined = append-nil (s.sent ++ page) ∙ s.joined;
+}
+
+-- a prefix of the page was written
+pub list_part : (k : Listing) (w w1 w2 : Option (List ℕ)) (page : List ℕ) (v : Scan) (b : List ℕ) (fs gs : List Framed) → IsPrefix fs gs → AppendsPrefix w1 w2 page → Lists (lines_of k) w w1 page v b fs
+    → AppendsPrefix w w2 (lines_of k gs)
+list_part k w w1 w2 page v b fs gs p a s =
+    let rest = a.0 in
+    let sent = a.1.0 in (
+      rest ++ lines_of k p.0,
+      (
+        s.sent ++ sent,
+        ap (lines_of k) p.1 ∙ lines_join k fs p.0 ∙ ap (λ (l : List ℕ). l ++ lines_of k p.0) (sym s.joined ∙ ap (λ (l : List ℕ). s.sent ++ l) a.1.1 ∙ sym (append_assoc s.sent sent rest))
+            ∙ append_assoc (s.sent ++ sent) rest (lines_of k p.0),
+        Appends-trans w w1 w2 s.sent sent s.out a.1.2,
+      ),
+    )
+
+-- what was handed out stays the first of what is known
+abbrev pub StaysHanded : Type 0
+StaysHanded = (v : Scan) (b t : List ℕ) (fs : List Framed) → StandsFor v b fs → (v.has_ended ≡ true → length t ≡ 0) → IsPrefix fs (known_frames v.has_ended (b ++ t))
+
+pub handed_later : (e : Bool) (b t : List ℕ) (fs : List Framed) → IsPrefix fs (known_frames e b) → IsPrefix (decided_frames b) (decided_frames (b ++ t)) → (e ≡ true → length t ≡ 0)
+    → IsPrefix fs (known_frames e (b ++ t))
+handed_later true b [] fs p d h = (p.0, ap frames_of (append-nil b) ∙ p.1)
+handed_later true b (x ∷ t) fs p d h = absurd (omega (arith, h refl))
+handed_later false b t fs p d h = (p.0 ++ d.0, d.1 ∙ ap (λ (l : List Framed). l ++ d.0) p.1 ∙ append_assoc fs p.0 d.0)
+
+-- a prefix of the page was written after the first n bytes of a piece
+pub piece_part : (k : Listing) (w w1 w2 : Option (List ℕ)) (page : List ℕ) (v : Scan) (e : Bool) (b piece : List ℕ) (n : ℕ) (fs : List Framed) → StaysHanded → v.has_ended ≡ e → (e ≡ true → length piece ≡ 0)
+    → AppendsPrefix w1 w2 page → Lists (lines_of k) w w1 page v (b ++ take n piece) fs → AppendsPrefix w w2 (lines_of k (known_frames e (b ++ piece)))
+piece_part k w w1 w2 page v e b piece n fs law ended going a s =
+    let none : v.has_ended ≡ true → length (drop n piece) ≡ 0 = λ h. omega (arith, going (sym ended ∙ h), length-drop n piece) in
+    let p = law v (b ++ take n piece) (drop n piece) fs s.framer none in
+    let whole : (b ++ take n piece) ++ drop n piece ≡ b ++ piece = append_assoc b (take n piece) (drop n piece) ∙ ap (λ (l : List ℕ). b ++ l) (take-append-drop n piece) in
+    let known : known_frames e (b ++ piece) ≡ fs ++ p.0 = ap (known_frames e) (sym whole) ∙ ap (λ (x : Bool). known_frames x ((b ++ take n piece) ++ drop n piece)) (sym ended) ∙ p.1 in
+    list_part k w w1 w2 page v (b ++ take n piece) fs (known_frames e (b ++ piece)) (p.0, known) a s
+
+-- an empty page
+pub list_empty : (k : Listing) (w w1 : Option (List ℕ)) (page : List ℕ) (v : Scan) (b : List ℕ) (fs : List Framed) → page ≡ [] → Lists (lines_of k) w w1 [] v b fs → Lists (lines_of k) w w1 page v b fs
+list_empty k w w1 page v b fs e s = subst (λ (p : List ℕ). Lists (lines_of k) w w1 p v b fs) (sym e) s
+
+-- all that the bytes decide was handed out
+pub list_drained : (k : Listing) (w w1 : Option (List ℕ)) (page : List ℕ) (v v2 : Scan) (b piece : List ℕ) (n m : ℕ) (fs : List Framed) → take n piece ≡ take m piece
+    → StandsFor v2 (b ++ take n piece) fs → IsDrained v2 (b ++ take n piece) fs → Lists (lines_of k) w w1 page v (b ++ take n piece) fs → ListsKnown (lines_of k) w w1 page v2 (b ++ take m piece)
+list_drained k w w1 page v v2 b piece n m fs same stands drained s =
+    let all : ListsKnown (lines_of k) w w1 page v2 (b ++ take n piece) =
+    subst (λ (gs : List Framed). Lists (lines_of k) w w1 page v2 (b ++ take n piece) gs) drained.frames (list_same k w w1 page v v2 (b ++ take n piece) (b ++ take n piece) fs stands s) in
+    subst (λ (l : List ℕ). ListsKnown (lines_of k) w w1 page v2 (b ++ l)) same all
+
+pub take_both : (piece : List ℕ) (n m : ℕ) → n ≡ length piece → n ≤ m → take n piece ≡ take m piece
+take_both piece n m e h = take_all n piece (omega (arith, e)) ∙ sym (take_all m piece (omega (arith, e, h)))
+
+pub take_next : (b piece : List ℕ) (n : ℕ) → n < length piece → (b ++ take n piece) ++ slice_index piece n ∷ [] ≡ b ++ take (n + 1) piece
+take_next b piece n h = append_assoc b (take n piece) (slice_index piece n ∷ []) ∙ ap (λ (l : List ℕ). b ++ l) (sym (take_more piece n 0 h))
+
+-- the lines of all that is known were written
+pub known_out : (k : Listing) (w w1 : Option (List ℕ)) (v : Scan) (b : List ℕ) → ListsKnown (lines_of k) w w1 [] v b → Appends w w1 (lines_of k (known_frames v.has_ended b))
+known_out k w w1 v b s = subst (λ (l : List ℕ). Appends w w1 l) (sym (append-nil s.sent) ∙ s.joined) s.out
+
+pub all_taken : (v : Scan) (piece : List ℕ) → IsRefusal v (length piece) None → up_to_limit v piece ≡ piece
+all_taken v piece (inl h) = take_all (v.limit - v.taken) piece (omega (arith, h.1))
+all_taken v piece (inr h) = absurd (none_some h.0)
+  where
+    none_some : {fault : ScanFault} → None ≡ Some fault → ⊥
+    none_some e = cc
+
+pub refused_more : (v : Scan) (n : ℕ) (fault : ScanFault) → IsRefusal v n (Some fault) → v.limit < v.taken + n
+refused_more v n fault (inl h) = absurd (some_none h.0)
+  where
+    some_none : {f : ScanFault} → Some f ≡ None → ⊥
+    some_none e = cc
+refused_more v n fault (inr h) = h.1
+
+pub take_behind : (b piece : List ℕ) (m : ℕ) → take (length b + m) (b ++ piece) ≡ b ++ take m piece
+take_behind [] piece m = ap (λ (n : ℕ). take n piece) (zero-add m)
+take_behind (x ∷ b) piece m =
+    let more : length (x ∷ b) + m ≡ suc (length b + m) = omega arith in
+    ap (λ (n : ℕ). take n (x ∷ (b ++ piece))) more ∙ ap (λ (l : List ℕ). x ∷ l) (take_behind b piece m)
+
+-- a piece was read and taken whole
+pub listed_more : (k : Listing) (r r1 r2 w w1 w2 : Option (List ℕ)) (v u v2 : Scan) (piece : List ℕ) → ((b : List ℕ) (fs : List Framed) → StandsFor v b fs → StandsFor u b fs)
+    → ((w : Option (List ℕ)) (b : List ℕ) (fs : List Framed) → Lists (lines_of k) w w1 [] u b fs → ListsKnown (lines_of k) w w2 [] v2 (b ++ up_to_limit u piece))
+    → IsRefusal u (length piece) None → Consumes r1 r2 piece → IsListed (lines_of k) r r1 w w1 v → IsListed (lines_of k) r r2 w w2 v2
+listed_more k r r1 r2 w w1 w2 v u v2 piece same law none read s =
+    let b : List ℕ = s.0 in
+    let fs : List Framed = known_frames v.has_ended b in
+    let done = law w b fs (list_same k w w1 [] v u b b fs (same b fs s.2.framer) s.2) in
+    let whole : ListsKnown (lines_of k) w w2 [] v2 (b ++ piece) = subst (λ (l : List ℕ). ListsKnown (lines_of k) w w2 [] v2 (b ++ l)) (all_taken u piece none) done in
+    (b ++ piece, Consumes-trans r r1 r2 b piece s.1 read, whole)
+
+-- a piece was read that goes over the limit
+to_limit : (k : Listing) (r r1 r2 w w1 w2 : Option (List ℕ)) (v v2 : Scan) (piece : List ℕ) (fault : ScanFault)
+    → ((w : Option (List ℕ)) (b : List ℕ) (fs : List Framed) → Lists (lines_of k) w w1 [] v b fs → ListsKnown (lines_of k) w w2 [] v2 (b ++ up_to_limit v piece))
+    → v2.has_ended ≡ false → v.taken ≤ v.limit → IsRefusal v (length piece) (Some fault) → Consumes r1 r2 piece → IsListed (lines_of k) r r1 w w1 v → ListsToLimit v.limit (lines_of k) r r2 w w2
+to_limit k r r1 r2 w w1 w2 v v2 piece fault law going within refused read s =
+    let b : List ℕ = s.0 in
+    let fs : List Framed = known_frames v.has_ended b in
+    let taken : v.taken ≡ length b = s.2.framer.taken in
+    let more : v.limit < v.taken + length piece = refused_more v (length piece) fault refused in
+    let out : Appends w w2 (lines_of k (known_frames v2.has_ended (b ++ up_to_limit v piece))) = known_out k w w2 v2 (b ++ up_to_limit v piece) (law w b fs s.2) in
+    let front : length b + (v.limit - v.taken) ≡ v.limit = omega (arith, taken, within) in
+    let same : b ++ up_to_limit v piece ≡ take v.limit (b ++ piece) = sym (take_behind b piece (v.limit - v.taken)) ∙ ap (λ (n : ℕ). take n (b ++ piece)) front in
+    let known : known_frames v2.has_ended (b ++ up_to_limit v piece) ≡ decided_frames (take v.limit (b ++ piece)) = ap (λ (e : Bool). known_frames e (b ++ up_to_limit v piece)) going ∙ ap decided_frames same in
+    let size : length (b ++ piece) ≡ length b + length piece = length-append b piece in
+    (b ++ piece, Consumes-trans r r1 r2 b piece s.1 read, omega (arith, size, more, taken), subst (λ (gs : List Framed). Appends w w2 (lines_of k gs)) known out)
+
+pub listed_to_limit : (k : Listing) (r r1 r2 w w1 w2 : Option (List ℕ)) (u v v2 : Scan) (piece : List ℕ) (fault : ScanFault) → v ≡ u
+    → ((w : Option (List ℕ)) (b : List ℕ) (fs : List Framed) → Lists (lines_of k) w w1 [] v b fs → ListsKnown (lines_of k) w w2 [] v2 (b ++ up_to_limit v piece))
+    → v2.has_ended ≡ false → u.taken ≤ u.limit → IsRefusal v (length piece) (Some fault) → Consumes r1 r2 piece → IsListed (lines_of k) r r1 w w1 u → ListsToLimit u.limit (lines_of k) r r2 w w2
+listed_to_limit k r r1 r2 w w1 w2 u v v2 piece fault same law going within refused read s =
+    let law2 : (w : Option (List ℕ)) (b : List ℕ) (fs : List Framed) → Lists (lines_of k) w w1 [] u b fs → ListsKnown (lines_of k) w w2 [] v2 (b ++ up_to_limit u piece) =
+    subst (λ (x : Scan). (w : Option (List ℕ)) (b : List ℕ) (fs : List Framed) → Lists (lines_of k) w w1 [] x b fs → ListsKnown (lines_of k) w w2 [] v2 (b ++ up_to_limit x piece)) same law in
+    let refused2 : IsRefusal u (length piece) (Some fault) = subst (λ (x : Scan). IsRefusal x (length piece) (Some fault)) same refused in
+    to_limit k r r1 r2 w w1 w2 u v2 piece fault law2 going within refused2 read s
+
+-- the writer failed in a piece, before the end or at it
+pub listed_part : (k : Listing) (r r1 r2 w w1 w2 : Option (List ℕ)) (v u : Scan) (piece : List ℕ) → ((b : List ℕ) (fs : List Framed) → StandsFor v b fs → StandsFor u b fs)
+    → ((w : Option (List ℕ)) (b : List ℕ) (fs : List Framed) → Lists (lines_of k) w w1 [] u b fs → AppendsPrefix w w2 (lines_of k (known_frames u.has_ended (b ++ piece))))
+    → (u.has_ended ≡ false) ⊎ ((u.has_ended ≡ true) × IsAtEnd r2) → Consumes r1 r2 piece → IsListed (lines_of k) r r1 w w1 v → ListsPart (lines_of k) r r2 w w2
+listed_part k r r1 r2 w w1 w2 v u piece same law ended read s =
+    let b : List ℕ = s.0 in
+    let fs : List Framed = known_frames v.has_ended b in
+    let part : AppendsPrefix w w2 (lines_of k (known_frames u.has_ended (b ++ piece))) = law w b fs (list_same k w w1 [] v u b b fs (same b fs s.2.framer) s.2) in
+    (b ++ piece, Consumes-trans r r1 r2 b piece s.1 read, known_part k w w2 r2 u.has_ended (b ++ piece) ended part)
+  where
+    known_part : (k : Listing) (w w2 r2 : Option (List ℕ)) (e : Bool) (b : List ℕ) → (e ≡ false) ⊎ ((e ≡ true) × IsAtEnd r2) → AppendsPrefix w w2 (lines_of k (known_frames e b))
+        → AppendsPrefix w w2 (lines_of k (decided_frames b)) ⊎ (IsAtEnd r2 × AppendsPrefix w w2 (lines_of k (frames_of b)))
+    known_part k w w2 r2 e b (inl h) p = inl (subst (λ (x : Bool). AppendsPrefix w w2 (lines_of k (known_frames x b))) h p)
+    known_part k w w2 r2 e b (inr h) p = inr (h.1, subst (λ (x : Bool). AppendsPrefix w w2 (lines_of k (known_frames x b))) h.0 p)
+
+-- all was read
+pub listed_all : (k : Listing) (r r1 w w1 : Option (List ℕ)) (v : Scan) → v.has_ended ≡ true → IsAtEnd r1 → IsListed (lines_of k) r r1 w w1 v → ListsAll (lines_of k) r r1 w w1
+listed_all k r r1 w w1 v ended end s =
+    (s.0, s.1, end, subst (λ (e : Bool). Appends w w1 (lines_of k (known_frames e s.0))) ended (known_out k w w1 v s.0 s.2))
+
+-- a fault of one call is that of another
+pub same_fault : {A B : Type 0} (f h : ToolFault) → ◌≡◌ {A = Result A ToolFault} (Err f) (Err h) → ◌≡◌ {A = Result B ToolFault} (Err f) (Err h)
+same_fault f h e = let same : f ≡ h = cc in ap Err same

@@ -1,0 +1,79 @@
+//! The whole program, over a reader, a writer and a fault writer.
+ghost use Rattle.std.specs.Prelude.{◌≡◌, ◌≤◌};
+
+use crate::cli::program;
+use crate::fault::ToolFault;
+use crate::listing::{run_frames, run_show};
+use clap::error::ErrorKind;
+use rtcm_bits::Counted;
+use std::alloc::Global;
+use std::io;
+use std::io::{Read, Write};
+
+/// Runs the command that the words ask for, the first of which is the program's name, and answers the exit status:
+/// 0 is good, 1 a fault, and 2 a command line that isn't accepted or asks for help.
+pub fn command<R: Read, W: Write, E: Write>(
+    alloc: Global,
+    words: &[&str],
+    reader: &mut Counted<R>,
+    writer: &mut Counted<W>,
+    faults: &mut E,
+) -> u8
+    ensures status { result ≤ 2 }
+
+    // Of a command line that isn't accepted nothing comes but its text.
+    ensures unread { result ≡ 2 → reader.new ≡ reader.old }
+    ensures unwritten { result ≡ 2 → writer.new ≡ writer.old }
+{
+    let parsed = match program(alloc) {
+        Ok(program) => program.try_get_matches_from(words),
+        Err(error) => Err(error),
+    };
+    let matches = match parsed {
+        Ok(matches) => matches,
+        Err(error) => return refuse(&error, faults),
+    };
+    let outcome = match matches.subcommand() {
+        Some(("frames", _)) => run_frames(alloc, reader, writer),
+        Some(("show", _)) => run_show(alloc, reader, writer),
+        _ => Ok(()),
+    };
+    match outcome {
+        Ok(()) => 0,
+        Err(fault) => stop(fault, faults),
+    }
+}
+
+/// Says why the words of the command line can't be had, and answers the exit status: memory ran out, or a word isn't UTF-8.
+pub fn refuse_words<E: Write>(error: &io::Error, faults: &mut E) -> u8
+    ensures { result ≤ 2 }
+{
+    if error.kind() == io::ErrorKind::OutOfMemory {
+        let _ = faults.write_all(b"rtcm2rinex: Memory\n");
+        1
+    } else {
+        let _ = faults.write_all(b"error: a word of the command line isn't UTF-8\n");
+        2
+    }
+}
+
+/// Says what is wrong with the words, or that memory ran out. A failure of this writer is ignored.
+fn refuse<E: Write>(error: &clap::Error, faults: &mut E) -> u8
+    ensures { result ≤ 2 }
+{
+    if error.kind() == ErrorKind::OutOfMemory {
+        let _ = faults.write_all(b"rtcm2rinex: Memory\n");
+        1
+    } else {
+        let _ = write!(faults, "{error}");
+        2
+    }
+}
+
+/// Names the fault on one line. A failure of this writer is ignored.
+fn stop<E: Write>(fault: ToolFault, faults: &mut E) -> u8
+    ensures { result ≡ 1 }
+{
+    let _ = writeln!(faults, "rtcm2rinex: {fault}");
+    1
+}

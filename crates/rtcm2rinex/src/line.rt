@@ -1,0 +1,116 @@
+//! A line of output.
+ghost use Rattle.std.specs.Prelude.{◌≡◌, ◌+◌, ◌<◌, ◌≤◌, [], ◌∷◌, ◌++◌, length, decimal};
+ghost use Rattle.rtcm2rinex.specs.Metres.{digit, size_text, metres};
+
+use arrayvec::ArrayVec;
+use itoa::Buffer;
+use std::marker::Model;
+
+/// The most bytes of a line, its line feed included.
+pub const LINE_BYTES: usize = 256;
+
+/// A line that is made word by word, with single blanks between the words.
+#[derive(Drop)]
+pub struct Line {
+    text: ArrayVec<u8, 256>,
+}
+
+impl Model for Line {
+    ghost use Rattle.std.specs.Prelude.{List, ℕ, ◌≤◌, length};
+
+    ghost Value = { List ℕ };
+
+    ghost view = { λ l. l.text.items };
+
+    ghost invariant = { λ l. length l.text.items ≤ 256 };
+}
+
+impl Line {
+    /// A line whose first word is a number.
+    pub fn starting_with(number: u64) -> Line
+        ensures text { result ≡ decimal number }
+        ensures short { length result ≤ 20 }
+    {
+        let mut line = Line {
+            text: ArrayVec::new(),
+        };
+        line.put(Buffer::new().format(number).as_bytes());
+        line
+    }
+
+    /// One more word, a number.
+    pub fn add_number(&mut self, number: u64)
+        requires { length self.old ≤ 235 }
+        ensures text { self.new ≡ self.old ++ 0x20 ∷ decimal number }
+        ensures short { length self.new ≤ length self.old + 21 }
+    {
+        self.put(b" ");
+        self.put(Buffer::new().format(number).as_bytes());
+    }
+
+    /// One more word.
+    pub fn add_word(&mut self, word: &str)
+        requires { length self.old + length word.now + 1 ≤ 256 }
+        ensures text { self.new ≡ self.old ++ 0x20 ∷ word.now }
+        ensures short { length self.new ≡ length self.old + length word.now + 1 }
+    {
+        self.put(b" ");
+        self.put(word.as_bytes());
+    }
+
+    /// One more word, a length in units of 0.0001 m, which is written in metres with four digits behind the point.
+    pub fn add_metres(&mut self, value: i64)
+        requires { length self.old ≤ 229 }
+        ensures text { self.new ≡ self.old ++ 0x20 ∷ metres value }
+        ensures short { length self.new ≤ length self.old + 27 }
+    {
+        self.put(if value < 0 { b" -" } else { b" " });
+        self.put_size(value.unsigned_abs());
+    }
+
+    fn put_size(&mut self, size: u64)
+        requires { length self.old ≤ 231 }
+        ensures text { self.new ≡ self.old ++ size_text size }
+        ensures short { length self.new ≤ length self.old + 25 }
+    {
+        self.put(Buffer::new().format(size / 10_000).as_bytes());
+        let decimals = [
+            b'.',
+            digit(size / 1_000),
+            digit(size / 100),
+            digit(size / 10),
+            digit(size),
+        ];
+        self.put(decimals.as_slice());
+    }
+
+    /// The line feed behind the last word.
+    pub fn finish(&mut self)
+        requires { length self.old < 256 }
+        ensures { self.new ≡ self.old ++ 0x0A ∷ [] }
+    {
+        self.put(b"\n");
+    }
+
+    /// The line's bytes.
+    pub fn as_bytes(&self) -> &[u8]
+        ensures text { result.now ≡ self.now }
+        ensures short { length result.now ≤ 256 }
+    {
+        self.text.as_slice()
+    }
+
+    fn put(&mut self, bytes: &[u8])
+        requires { length self.old + length bytes.now ≤ 256 }
+        ensures { self.new ≡ self.old ++ bytes.now }
+    {
+        self.text.try_extend_from_slice(bytes).unwrap();
+    }
+}
+
+/// The last digit of a number.
+fn digit(number: u64) -> u8
+    ensures { result ≡ digit number }
+{
+    b'0' + (number % 10) as u8
+}

@@ -1,0 +1,286 @@
+//! A stream is read to its end, and a line is written for each of its frames as it is decided.
+ghost use Rattle.std.specs.Prelude.{◌≡◌, ◌≢◌, ◌+◌, ◌-◌, ◌≤◌, ◌<◌, ◌^◌, ◌++◌, ◌⊎◌, [], List, ℕ, Option, length, take, true, false, IfSome, None, Ok, Err, IfOk, OnOk, OnErr, IfErr};
+ghost use Rattle.rtcm_bits.specs.Device.{HasFailed, AppendsPrefix};
+ghost use Rattle.rtcm_scan.specs.Frames.{Framed, frames_of};
+ghost use Rattle.rtcm_scan.specs.Decided.{decided_frames};
+ghost use Rattle.rtcm_scan.specs.Drained.{IsDrained};
+ghost use Rattle.rtcm_scan.specs.Known.{IsPrefix, known_frames};
+ghost use Rattle.rtcm_scan.specs.Scan.{Scan, StandsFor};
+ghost use Rattle.std.specs.Io.KnownBytes.{Appends, IsAtEnd};
+ghost use Rattle.rtcm_scan.specs.Answers.{framed};
+ghost use Rattle.rtcm2rinex.specs.FrameLines.{frame_lines};
+ghost use Rattle.rtcm2rinex.specs.ShowLines.{show_lines};
+ghost use Rattle.rtcm2rinex.specs.Paging.{Moves};
+ghost use Rattle.rtcm2rinex.specs.Listing.{ListsAll, ListsDecided, ListsToLimit, ListsPart, IsListFault, IsUntouched};
+ghost use Rattle.rtcm2rinex.specs.Listed.{Lists, ListsKnown, IsListed, IsRefusal, up_to_limit};
+ghost use Rattle.rtcm2rinex.specs.Kinds.{line_of, lines_of};
+
+use crate::fault::ToolFault;
+use crate::frames::frame_line;
+use crate::page::Page;
+use crate::show::message_line;
+use rtcm_bits::{Counted, DeviceFailed};
+use rtcm_scan::{Frame, Framer, MOST_BYTES, ScanFault, laws};
+use std::alloc::Global;
+use std::io::{Read, Write};
+
+const PIECE_BYTES: usize = 65536;
+
+/// What the lines say.
+#[derive(Clone, Copy)]
+pub enum Listing {
+    /// A line for each frame.
+    Frames,
+    /// A line for each message that is read or refused.
+    Messages,
+}
+
+/// Writes a line for each frame of the stream: its place, the length of its message and the message's number.
+pub fn run_frames<R: Read, W: Write>(
+    alloc: Global,
+    reader: &mut Counted<R>,
+    writer: &mut Counted<W>,
+) -> Result<(), ToolFault>
+    ensures whole { OnOk result (ListsAll frame_lines (R.remaining reader.old.inner) (R.remaining reader.new.inner) (W.contents writer.old.inner) (W.contents writer.new.inner)) }
+
+    // The reader failed: what the bytes before decide was written.
+    ensures read { result ≡ Err ToolFault.Read → ListsDecided frame_lines (R.remaining reader.old.inner) (R.remaining reader.new.inner) (W.contents writer.old.inner) (W.contents writer.new.inner) }
+    ensures read_failed { result ≡ Err ToolFault.Read → HasFailed reader.old.failures reader.new.failures }
+
+    // The writer failed: what it took is a prefix of the lines.
+    ensures write { result ≡ Err ToolFault.Write → ListsPart frame_lines (R.remaining reader.old.inner) (R.remaining reader.new.inner) (W.contents writer.old.inner) (W.contents writer.new.inner) }
+    ensures write_failed { result ≡ Err ToolFault.Write → HasFailed writer.old.failures writer.new.failures }
+
+    // A stream of more than 2^48 bytes: what the first 2^48 decide was written.
+    ensures too_long { result ≡ Err (ToolFault.Scan ScanFault.TooLong) → ListsToLimit (2 ^ 48) frame_lines (R.remaining reader.old.inner) (R.remaining reader.new.inner) (W.contents writer.old.inner) (W.contents writer.new.inner) }
+    ensures memory { result ≡ Err (ToolFault.Scan ScanFault.Memory) → IsUntouched reader.old reader.new writer.old writer.new }
+    ensures only { IfErr result IsListFault }
+{
+    list(alloc, Listing::Frames, MOST_BYTES, reader, writer)
+}
+
+/// Writes a line for each message of the stream that is read or refused: a station, the head of an MSM, or the fault.
+pub fn run_show<R: Read, W: Write>(
+    alloc: Global,
+    reader: &mut Counted<R>,
+    writer: &mut Counted<W>,
+) -> Result<(), ToolFault>
+    ensures whole { OnOk result (ListsAll show_lines (R.remaining reader.old.inner) (R.remaining reader.new.inner) (W.contents writer.old.inner) (W.contents writer.new.inner)) }
+
+    // The reader failed: what the bytes before decide was written.
+    ensures read { result ≡ Err ToolFault.Read → ListsDecided show_lines (R.remaining reader.old.inner) (R.remaining reader.new.inner) (W.contents writer.old.inner) (W.contents writer.new.inner) }
+    ensures read_failed { result ≡ Err ToolFault.Read → HasFailed reader.old.failures reader.new.failures }
+
+    // The writer failed: what it took is a prefix of the lines.
+    ensures write { result ≡ Err ToolFault.Write → ListsPart show_lines (R.remaining reader.old.inner) (R.remaining reader.new.inner) (W.contents writer.old.inner) (W.contents writer.new.inner) }
+    ensures write_failed { result ≡ Err ToolFault.Write → HasFailed writer.old.failures writer.new.failures }
+
+    // A stream of more than 2^48 bytes: what the first 2^48 decide was written.
+    ensures too_long { result ≡ Err (ToolFault.Scan ScanFault.TooLong) → ListsToLimit (2 ^ 48) show_lines (R.remaining reader.old.inner) (R.remaining reader.new.inner) (W.contents writer.old.inner) (W.contents writer.new.inner) }
+    ensures memory { result ≡ Err (ToolFault.Scan ScanFault.Memory) → IsUntouched reader.old reader.new writer.old writer.new }
+    ensures only { IfErr result IsListFault }
+{
+    list(alloc, Listing::Messages, MOST_BYTES, reader, writer)
+}
+
+/// Reads at most so many bytes, and writes the lines of the frames.
+pub fn list<R: Read, W: Write>(
+    alloc: Global,
+    listing: Listing,
+    limit: u64,
+    reader: &mut Counted<R>,
+    writer: &mut Counted<W>,
+) -> Result<(), ToolFault>
+    requires { limit ≤ 2 ^ 48 }
+    ensures whole { OnOk result (ListsAll (lines_of listing) (R.remaining reader.old.inner) (R.remaining reader.new.inner) (W.contents writer.old.inner) (W.contents writer.new.inner)) }
+    ensures read { result ≡ Err ToolFault.Read → ListsDecided (lines_of listing) (R.remaining reader.old.inner) (R.remaining reader.new.inner) (W.contents writer.old.inner) (W.contents writer.new.inner) }
+    ensures read_failed { result ≡ Err ToolFault.Read → HasFailed reader.old.failures reader.new.failures }
+    ensures write { result ≡ Err ToolFault.Write → ListsPart (lines_of listing) (R.remaining reader.old.inner) (R.remaining reader.new.inner) (W.contents writer.old.inner) (W.contents writer.new.inner) }
+    ensures write_failed { result ≡ Err ToolFault.Write → HasFailed writer.old.failures writer.new.failures }
+    ensures too_long { result ≡ Err (ToolFault.Scan ScanFault.TooLong) → ListsToLimit limit (lines_of listing) (R.remaining reader.old.inner) (R.remaining reader.new.inner) (W.contents writer.old.inner) (W.contents writer.new.inner) }
+    ensures memory { result ≡ Err (ToolFault.Scan ScanFault.Memory) → IsUntouched reader.old reader.new writer.old writer.new }
+    ensures only { IfErr result IsListFault }
+{
+    let mut framer = match Framer::new(alloc, limit) {
+        Ok(framer) => framer,
+        Err(fault) => return Err(ToolFault::Scan(fault)),
+    };
+    list_frames(listing, &mut framer, reader, writer)
+}
+
+/// Reads what is left of the stream, and writes the lines of its frames.
+fn list_frames<R: Read, W: Write>(
+    listing: Listing,
+    framer: &mut Framer,
+    reader: &mut Counted<R>,
+    writer: &mut Counted<W>,
+) -> Result<(), ToolFault>
+    requires going { framer.old.has_ended ≡ false }
+    requires within { framer.old.taken ≤ framer.old.limit }
+    requires new { StandsFor framer.old [] [] × IsDrained framer.old [] [] }
+    ensures whole { OnOk result (ListsAll (lines_of listing) (R.remaining reader.old.inner) (R.remaining reader.new.inner) (W.contents writer.old.inner) (W.contents writer.new.inner)) }
+    ensures read { result ≡ Err ToolFault.Read → ListsDecided (lines_of listing) (R.remaining reader.old.inner) (R.remaining reader.new.inner) (W.contents writer.old.inner) (W.contents writer.new.inner) }
+    ensures read_failed { result ≡ Err ToolFault.Read → HasFailed reader.old.failures reader.new.failures }
+    ensures write { result ≡ Err ToolFault.Write → ListsPart (lines_of listing) (R.remaining reader.old.inner) (R.remaining reader.new.inner) (W.contents writer.old.inner) (W.contents writer.new.inner) }
+    ensures write_failed { result ≡ Err ToolFault.Write → HasFailed writer.old.failures writer.new.failures }
+    ensures too_long { result ≡ Err (ToolFault.Scan ScanFault.TooLong) → ListsToLimit framer.old.limit (lines_of listing) (R.remaining reader.old.inner) (R.remaining reader.new.inner) (W.contents writer.old.inner) (W.contents writer.new.inner) }
+    ensures only { IfErr result (λ fault. (fault ≡ ToolFault.Read) ⊎ (fault ≡ ToolFault.Write) ⊎ (fault ≡ ToolFault.Scan ScanFault.TooLong)) }
+{
+    let mut piece = [0; PIECE_BYTES];
+    loop {
+        match list_next(listing, framer, &mut piece, reader, writer) {
+            Ok(0) => return Ok(()),
+            Ok(_) => {}
+            Err(fault) => return Err(fault),
+        }
+    }
+}
+
+/// Reads the next piece of the stream, and writes the lines of the frames that it decides; a piece of no bytes is the end.
+fn list_next<R: Read, W: Write>(
+    listing: Listing,
+    framer: &mut Framer,
+    piece: &mut [u8],
+    reader: &mut Counted<R>,
+    writer: &mut Counted<W>,
+) -> Result<usize, ToolFault>
+    requires room { 0 < length piece.old }
+    requires going { framer.old.has_ended ≡ false }
+    requires within { framer.old.taken ≤ framer.old.limit }
+    ensures listed { OnOk result ((r w : Option (List ℕ)) → IsListed (lines_of listing) r (R.remaining reader.old.inner) w (W.contents writer.old.inner) framer.old
+        → IsListed (lines_of listing) r (R.remaining reader.new.inner) w (W.contents writer.new.inner) framer.new) }
+    ensures end { result ≡ Ok 0 → (framer.new.has_ended ≡ true) × IsAtEnd (R.remaining reader.new.inner) }
+    ensures more { IfOk result (λ n. n ≢ 0 → framer.new.has_ended ≡ false) }
+    ensures taken { IfOk result (λ n. framer.new.taken ≡ framer.old.taken + n) }
+    ensures read { result ≡ Err ToolFault.Read → (r w : Option (List ℕ)) → IsListed (lines_of listing) r (R.remaining reader.old.inner) w (W.contents writer.old.inner) framer.old
+        → ListsDecided (lines_of listing) r (R.remaining reader.new.inner) w (W.contents writer.new.inner) }
+    ensures read_failed { result ≡ Err ToolFault.Read → HasFailed reader.old.failures reader.new.failures }
+    ensures write { result ≡ Err ToolFault.Write → (r w : Option (List ℕ)) → IsListed (lines_of listing) r (R.remaining reader.old.inner) w (W.contents writer.old.inner) framer.old
+        → ListsPart (lines_of listing) r (R.remaining reader.new.inner) w (W.contents writer.new.inner) }
+    ensures write_failed { result ≡ Err ToolFault.Write → HasFailed writer.old.failures writer.new.failures }
+    ensures too_long { result ≡ Err (ToolFault.Scan ScanFault.TooLong) → (r w : Option (List ℕ)) → IsListed (lines_of listing) r (R.remaining reader.old.inner) w (W.contents writer.old.inner) framer.old
+        → ListsToLimit framer.old.limit (lines_of listing) r (R.remaining reader.new.inner) w (W.contents writer.new.inner) }
+    ensures only { IfErr result (λ fault. (fault ≡ ToolFault.Read) ⊎ (fault ≡ ToolFault.Write) ⊎ (fault ≡ ToolFault.Scan ScanFault.TooLong)) }
+    ensures limit { framer.new.limit ≡ framer.old.limit }
+    ensures within { OnOk result (framer.new.taken ≤ framer.old.limit) }
+    ensures fine { OnOk result ((reader.new.failures ≡ reader.old.failures) × (writer.new.failures ≡ writer.old.failures)) }
+    ensures size { length piece.new ≡ length piece.old }
+{
+    let n = match reader.read(piece) {
+        Ok(n) => n,
+        Err(_) => return Err(ToolFault::Read),
+    };
+    if n == 0 {
+        framer.end();
+    }
+    match list_piece(listing, framer, &piece[..n], writer) {
+        Ok(None) => Ok(n),
+        Ok(Some(fault)) => Err(ToolFault::Scan(fault)),
+        Err(_) => Err(ToolFault::Write),
+    }
+}
+
+/// Takes a piece of the stream up to the framer's limit, and writes the lines of the frames that it decides. Answers why
+/// the framer refused a byte, if it did.
+fn list_piece<W: Write>(
+    listing: Listing,
+    framer: &mut Framer,
+    piece: &[u8],
+    writer: &mut Counted<W>,
+) -> Result<Option<ScanFault>, DeviceFailed>
+    requires going { framer.old.has_ended ≡ true → length piece.now ≡ 0 }
+    requires within { framer.old.taken ≤ framer.old.limit }
+    ensures listed { OnOk result ((w : Option (List ℕ)) (b : List ℕ) (fs : List Framed) → Lists (lines_of listing) w (W.contents writer.old.inner) [] framer.old b fs
+        → ListsKnown (lines_of listing) w (W.contents writer.new.inner) [] framer.new (b ++ up_to_limit framer.old piece.now)) }
+    ensures part { OnErr result ((w : Option (List ℕ)) (b : List ℕ) (fs : List Framed) → Lists (lines_of listing) w (W.contents writer.old.inner) [] framer.old b fs
+        → AppendsPrefix w (W.contents writer.new.inner) (lines_of listing (known_frames framer.old.has_ended (b ++ piece.now)))) }
+    ensures failed { OnErr result (HasFailed writer.old.failures writer.new.failures) }
+    ensures fine { OnOk result (writer.new.failures ≡ writer.old.failures) }
+    ensures refusal { IfOk result (λ refusal. IsRefusal framer.old (length piece.now) refusal) }
+    ensures taken { result ≡ Ok None → framer.new.taken ≡ framer.old.taken + length piece.now }
+    ensures limit { framer.new.limit ≡ framer.old.limit }
+    ensures ended { framer.new.has_ended ≡ framer.old.has_ended }
+{
+    let mut page = Page::new();
+    let refusal = match take_piece(listing, framer, piece, &mut page, writer) {
+        Ok(refusal) => refusal,
+        Err(failed) => return Err(failed),
+    };
+    stays_handed();
+    match page.write_out(writer) {
+        Ok(()) => Ok(refusal),
+        Err(failed) => Err(failed),
+    }
+}
+
+/// Takes a piece of the stream up to the framer's limit, and puts the lines of the frames that it decides on the page.
+/// Answers why the framer refused a byte, if it did.
+fn take_piece<W: Write>(
+    listing: Listing,
+    framer: &mut Framer,
+    piece: &[u8],
+    page: &mut Page,
+    writer: &mut Counted<W>,
+) -> Result<Option<ScanFault>, DeviceFailed>
+    requires going { framer.old.has_ended ≡ true → length piece.now ≡ 0 }
+    requires within { framer.old.taken ≤ framer.old.limit }
+    ensures listed { OnOk result ((w : Option (List ℕ)) (b : List ℕ) (fs : List Framed) → Lists (lines_of listing) w (W.contents writer.old.inner) page.old framer.old b fs
+        → ListsKnown (lines_of listing) w (W.contents writer.new.inner) page.new framer.new (b ++ up_to_limit framer.old piece.now)) }
+    ensures part { OnErr result ((w : Option (List ℕ)) (b : List ℕ) (fs : List Framed) → Lists (lines_of listing) w (W.contents writer.old.inner) page.old framer.old b fs
+        → AppendsPrefix w (W.contents writer.new.inner) (lines_of listing (known_frames framer.old.has_ended (b ++ piece.now)))) }
+    ensures failed { OnErr result (HasFailed writer.old.failures writer.new.failures) }
+    ensures fine { OnOk result (writer.new.failures ≡ writer.old.failures) }
+    ensures refusal { IfOk result (λ refusal. IsRefusal framer.old (length piece.now) refusal) }
+    ensures taken { result ≡ Ok None → framer.new.taken ≡ framer.old.taken + length piece.now }
+    ensures limit { framer.new.limit ≡ framer.old.limit }
+    ensures ended { framer.new.has_ended ≡ framer.old.has_ended }
+{
+    stays_handed();
+    let mut done = 0;
+    loop {
+        match framer.next() {
+            Some(frame) => match add_line(listing, &frame, page, writer) {
+                Ok(()) => {}
+                Err(failed) => return Err(failed),
+            },
+            None => {
+                if done == piece.len() {
+                    return Ok(None);
+                }
+                match framer.push(piece[done]) {
+                    Ok(()) => done += 1,
+                    Err(fault) => return Ok(Some(fault)),
+                }
+            }
+        }
+    }
+}
+
+/// The frames that were handed out are the first of those that are known when more bytes have come.
+fn stays_handed()
+    ensures { (v : Scan) (b t : List ℕ) (fs : List Framed) → StandsFor v b fs → (v.has_ended ≡ true → length t ≡ 0) → IsPrefix fs (known_frames v.has_ended (b ++ t)) }
+{
+    laws::handed();
+    laws::prefix();
+}
+
+/// Puts the line of a frame on the page, where it has one.
+fn add_line<W: Write>(
+    listing: Listing,
+    frame: &Frame,
+    page: &mut Page,
+    writer: &mut Counted<W>,
+) -> Result<(), DeviceFailed>
+    ensures moves { OnOk result (Moves (W.contents writer.old.inner) (W.contents writer.new.inner) page.old (line_of listing (framed frame.now)) page.new) }
+    ensures part { OnErr result (AppendsPrefix (W.contents writer.old.inner) (W.contents writer.new.inner) page.old) }
+    ensures failed { OnErr result (HasFailed writer.old.failures writer.new.failures) }
+    ensures fine { OnOk result (writer.new.failures ≡ writer.old.failures) }
+{
+    match listing {
+        Listing::Frames => page.add(&frame_line(frame), writer),
+        Listing::Messages => match message_line(frame) {
+            Some(line) => page.add(&line, writer),
+            None => Ok(()),
+        },
+    }
+}

@@ -1,0 +1,46 @@
+//! Reads an RTCM 3 stream from standard input, and writes what it says to standard output: its frames, or its messages.
+#![tactic(auto)]
+
+mod cli;
+mod command;
+mod fault;
+mod frames;
+mod line;
+mod listing;
+mod page;
+mod show;
+#[cfg(test)]
+mod tests;
+
+use crate::command::{command, refuse_words};
+use rtcm_bits::Counted;
+use std::alloc::Global;
+use std::io;
+use std::process::ExitCode;
+
+fn main(rt: HostRuntime) -> ExitCode {
+    let status = match run(&rt) {
+        Ok(status) => status,
+        Err(error) => refuse_words(&error, &mut rt.stderr()),
+    };
+    ExitCode::from(status)
+}
+
+/// Runs the command over the standard streams, and answers the exit status, unless the words can't be had.
+fn run(rt: &HostRuntime) -> io::Result<u8> {
+    let alloc: Global = rt.alloc();
+    let owned: Vec<String> = std::env::args(rt)?.collect(alloc)?;
+    let mut words: Vec<&str> = Vec::new(alloc);
+    for word in &owned {
+        words.push(word.as_str())?;
+    }
+    let mut reader = Counted::new(rt.stdin());
+    let mut writer = Counted::new(rt.stdout());
+    Ok(command(
+        alloc,
+        words.as_slice(),
+        &mut reader,
+        &mut writer,
+        &mut rt.stderr(),
+    ))
+}

@@ -1,0 +1,107 @@
+//! The command `show`: what each message says.
+ghost use Rattle.std.specs.Prelude.{◌≡◌, ◌+◌, ◌<◌, ◌≤◌, ◌^◌, if◌then◌else◌, is_some, [], length, MatchOption};
+ghost use Rattle.rtcm_scan.specs.Answers.{framed};
+ghost use Rattle.rtcm_msg.specs.Station.{InRange};
+ghost use Rattle.rtcm2rinex.specs.Lines.{with_words};
+ghost use Rattle.rtcm2rinex.specs.ShowLines.{show_line, station_line, msm_line, fault_line, height_words, fault_words};
+
+use crate::frames::add_message_number;
+use crate::line::Line;
+use rtcm_msg::{Grid, Message, MsgFault, Msm, StationParts, decode};
+use rtcm_scan::Frame;
+
+/// The line of a frame's message; one that is neither read nor refused has none.
+pub fn message_line(frame: &Frame) -> Option<Line>
+    ensures { MatchOption result (show_line (framed frame.now) ≡ []) (λ line. line ≡ show_line (framed frame.now)) }
+{
+    match decode(frame.message.as_slice()) {
+        Ok(Message::Station(station)) => Some(station_line(frame.offset, station.parts())),
+        Ok(Message::Msm4(msm)) => Some(msm_line(frame.offset, &msm)),
+        Ok(Message::Msm7(msm)) => Some(msm_line(frame.offset, &msm)),
+        Ok(Message::Other { .. }) => None,
+        Err(fault) => Some(fault_line(frame.offset, frame.message.as_slice(), fault)),
+    }
+}
+
+/// The line of a station message: place, number, station, X, Y and Z in metres, and the height of a 1006.
+fn station_line(offset: u64, station: StationParts) -> Line
+    requires { InRange station }
+    ensures { result ≡ station_line offset station }
+{
+    let mut line = Line::starting_with(offset);
+    line.add_number(station_number(station.height));
+    line.add_number(u64::from(station.station));
+    line.add_metres(station.x);
+    line.add_metres(station.y);
+    line.add_metres(station.z);
+    add_height(&mut line, station.height);
+    line.finish();
+    line
+}
+
+/// Adds the height of a 1006 in metres.
+fn add_height(line: &mut Line, height: Option<u16>)
+    requires { length line.old ≤ 229 }
+    ensures text { line.new ≡ with_words line.old (height_words height) }
+    ensures short { length line.new ≤ length line.old + 27 }
+{
+    match height {
+        Some(height) => line.add_metres(i64::from(height)),
+        None => {}
+    }
+}
+
+/// The number of a station message: 1006 where it has a height.
+fn station_number(height: Option<u16>) -> u64
+    ensures { result ≡ if is_some height then 1006 else 1005 }
+{
+    match height {
+        Some(_) => 1006,
+        None => 1005,
+    }
+}
+
+/// The line of an MSM: place, number, station, time, DF393, and how many satellites, signals and cells it has.
+fn msm_line<G: Grid>(offset: u64, msm: &Msm<G>) -> Line
+    ensures { result ≡ msm_line offset (G.number_of msm.now.is_galileo) msm.now }
+{
+    let header = msm.header();
+    let mut line = Line::starting_with(offset);
+    line.add_number(u64::from(msm.number()));
+    line.add_number(u64::from(header.station));
+    line.add_number(u64::from(header.time));
+    line.add_number(u64::from(header.more));
+    line.add_number(msm.satellites() as u64);
+    line.add_number(u64::from(msm.masks().signals().count_ones()));
+    line.add_number(msm.cells() as u64);
+    line.finish();
+    line
+}
+
+/// The line of a refused message: place, number and fault.
+fn fault_line(offset: u64, message: &[u8], fault: MsgFault) -> Line
+    requires { length message.now ≤ 1023 }
+    ensures { result ≡ fault_line offset message.now fault }
+{
+    let mut line = Line::starting_with(offset);
+    add_message_number(&mut line, message);
+    add_fault(&mut line, fault);
+    line.finish();
+    line
+}
+
+/// Adds a fault by its name, with the bit of a field that is cut off.
+fn add_fault(line: &mut Line, fault: MsgFault)
+    requires { length line.old ≤ 200 }
+    ensures text { line.new ≡ with_words line.old (fault_words fault) }
+    ensures short { length line.new ≤ length line.old + 40 }
+{
+    match fault {
+        MsgFault::Short(bits) => {
+            line.add_word("Short");
+            line.add_number(bits as u64);
+        }
+        MsgFault::TooManyCells => line.add_word("TooManyCells"),
+        MsgFault::BadTime => line.add_word("BadTime"),
+    }
+}

@@ -1,0 +1,12 @@
+pub mod BitLemmas
+pub mod PartLemmas
+pub mod WriteLemmas
+pub mod SignedLemmas
+pub mod RegisterBits
+pub mod CheckLemmas
+pub mod RegisterLemmas
+pub mod ResidueLemmas
+pub mod TableLemmas
+pub mod WindowLemmas
+pub mod DeviceLemmas
+pub mod Examples

@@ -1,0 +1,55 @@
+-- Bits of numbers that are joined, cut, doubled and added without carry.
+use Rattle.std.proofs.Common.{◌≡◌, ℕ, ◌+◌, ◌-◌, ◌*◌, ◌/◌, ◌%◌, ◌^◌, ◌<◌, ◌≤◌, eqb, ◌∷◌, ◌++◌, refl, sym, ap, ◌∙◌, arith, suc, zero, inl, inr, ◌⊎◌, ⊎_elim, bit_xor}
+use Rattle.std.proofs.lemmas.Bool.{cases_eq}
+use Rattle.std.proofs.lemmas.Nat.{div-add-mod'}
+use Rattle.std.proofs.lemmas.Nat.Bits.{bit_at_cat_low, bit_at_cat_high, bit_at_xor, bit_at-lt}
+use Rattle.std.proofs.Math.Nat.{mod-eq_of_lt}
+use Rattle.std.specs.Int.{bit_at}
+use Rattle.rtcm_bits.specs.Bits.{odd, uint, number}
+use Rattle.rtcm_bits.specs.Check.{plus, add_front}
+use Rattle.rtcm_bits.proofs.BitLemmas.{number-uint}
+
+-- a number is spelled by its bits
+pub number_of-uint : (w n : ℕ) → n < 2 ^ w → number (uint w n) ≡ n
+number_of-uint w n h = number-uint w 0 n ∙ rw (mod-eq_of_lt h) (omega arith)
+
+-- only the low bits count
+pub uint-cat : (w a k b : ℕ) → w ≤ k → uint w (a * 2 ^ k + b) ≡ uint w b
+unfolding uint
+uint-cat zero a k b h = refl
+uint-cat (suc w) a k b h =
+    let e : bit_at (a * 2 ^ k + b) w ≡ bit_at b w = bit_at_cat_low a k b w (omega arith) in
+    let f : uint w (a * 2 ^ k + b) ≡ uint w b = uint-cat w a k b (omega arith) in
+    rw (e, f) refl
+
+pub uint-mod : (w k n : ℕ) → w ≤ k → uint w (n % 2 ^ k) ≡ uint w n
+uint-mod w k n h = sym (uint-cat w (n / 2 ^ k) k (n % 2 ^ k) h) ∙ ap (uint w) (div-add-mod' n (2 ^ k))
+
+-- the upper and the lower bits of a number
+pub uint-split : (w k a c : ℕ) → c < 2 ^ k → uint (w + k) (a * 2 ^ k + c) ≡ uint w a ++ uint k c
+unfolding uint
+uint-split zero k a c h = ap (λ j. uint j (a * 2 ^ k + c)) (let z : 0 + k ≡ k = omega arith in z) ∙ uint-cat k a k c (omega arith)
+uint-split (suc w) k a c h =
+    let z : suc w + k ≡ suc (w + k) = omega arith in
+    let m : w + k - k ≡ w = omega arith in
+    let e : bit_at (a * 2 ^ k + c) (w + k) ≡ bit_at a (w + k - k) = bit_at_cat_high a k c (w + k) h (omega arith) in
+    let r : uint (w + k) (a * 2 ^ k + c) ≡ uint w a ++ uint k c = uint-split w k a c h in
+    ap (λ j. uint j (a * 2 ^ k + c)) z ∙ ap (λ q. eqb q 1 ∷ uint (w + k) (a * 2 ^ k + c)) (e ∙ ap (bit_at a) m) ∙ ap (λ q. odd (a / 2 ^ w) ∷ q) r
+
+below_two : (t : ℕ) → t < 2 → (t ≡ 0) ⊎ (t ≡ 1)
+below_two t h = ⊎_elim (λ (e : t ≡ 0). inl e) (λ (e : t ≡ 0 → ⊥). inr (omega arith)) (cases_eq t 0)
+
+plus_is : (s t : ℕ) → s < 2 → t < 2 → eqb ((s + t) % 2) 1 ≡ plus (eqb s 1) (eqb t 1)
+plus_is s t h k =
+    ⊎_elim (λ (e : s ≡ 0). ⊎_elim (λ (f : t ≡ 0). rw (e, f) refl) (λ (f : t ≡ 1). rw (e, f) refl) (below_two t k))
+    (λ (e : s ≡ 1). ⊎_elim (λ (f : t ≡ 0). rw (e, f) refl) (λ (f : t ≡ 1). rw (e, f) refl) (below_two t k)) (below_two s h)
+
+-- the exclusive or of two numbers is the sum of their bits
+pub uint-xor : (w a b : ℕ) → uint w (bit_xor a b) ≡ add_front (uint w a) (uint w b)
+unfolding uint add_front
+uint-xor zero a b = refl
+uint-xor (suc w) a b =
+    let e : bit_at (bit_xor a b) w ≡ (bit_at a w + bit_at b w) % 2 = bit_at_xor a b w in
+    let f : eqb ((bit_at a w + bit_at b w) % 2) 1 ≡ plus (odd (a / 2 ^ w)) (odd (b / 2 ^ w)) = plus_is (bit_at a w) (bit_at b w) (bit_at-lt a w) (bit_at-lt b w) in
+    let t : uint w (bit_xor a b) ≡ add_front (uint w a) (uint w b) = uint-xor w a b in
+    rw (e, f, t) refl

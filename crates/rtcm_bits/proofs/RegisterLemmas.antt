@@ -1,0 +1,33 @@
+-- The register as a number.
+use Rattle.std.proofs.Common.{◌≡◌, ℕ, ◌^◌, ◌<◌, List, [], ◌∷◌, ◌++◌, length, refl, sym, ap, ◌∙◌}
+use Rattle.rtcm_bits.specs.Bits.{uint, number, number_from, bits_of}
+use Rattle.rtcm_bits.specs.Check.{check, bits_remainder}
+use Rattle.rtcm_bits.specs.Register.{after_bits}
+use Rattle.rtcm_bits.proofs.BitLemmas.{uint-number, number-fits, bits_of-push}
+use Rattle.rtcm_bits.proofs.RegisterBits.{number_of-uint}
+use Rattle.rtcm_bits.proofs.CheckLemmas.{remainder-append, length-bits_remainder}
+
+-- the bits of a check are the remainder
+pub check_is : (m : List ℕ) → uint 24 (check m) ≡ bits_remainder (bits_of m)
+unfolding check
+check_is m =
+    let r = bits_remainder (bits_of m) in
+    ap (λ n. uint n (number r)) (sym (length-bits_remainder (bits_of m))) ∙ uint-number r 0
+
+pub check_below : (m : List ℕ) → check m < 2 ^ 24
+unfolding check
+check_below m =
+    let r = bits_remainder (bits_of m) in
+    let h : number r < 2 ^ length r = number-fits r in rw (length-bits_remainder (bits_of m)) at h
+
+-- one byte more
+pub check_push : (m : List ℕ) (x y b : ℕ) → x ≡ check m → y < 2 ^ 24 → uint 24 y ≡ after_bits (uint 24 x) (uint 8 b) → y ≡ check (m ++ b ∷ [])
+check_push m x y b e h f =
+    let g : uint 24 x ≡ bits_remainder (bits_of m) = ap (uint 24) e ∙ check_is m in
+    let k : bits_of (m ++ b ∷ []) ≡ bits_of m ++ uint 8 b = bits_of-push m b in
+    let s : uint 24 y ≡ uint 24 (check (m ++ b ∷ [])) = f ∙ ap (λ r. after_bits r (uint 8 b)) g ∙ sym (remainder-append (bits_of m) (uint 8 b)) ∙ sym (ap bits_remainder k) ∙ sym (check_is (m ++ b ∷ [])) in
+    sym (number_of-uint 24 y h) ∙ ap number s ∙ number_of-uint 24 (check (m ++ b ∷ [])) (check_below (m ++ b ∷ []))
+
+pub check_nil : 0 ≡ check []
+unfolding check bits_remainder Rattle.rtcm_bits.specs.Check.remainder number_from bits_of
+check_nil = refl

@@ -1,0 +1,49 @@
+-- What a chain of reads that succeeded, or failed, did.
+use Rattle.std.proofs.Common.{ℕ, ◌≡◌, ◌+◌, ◌^◌, ◌<◌, ◌≤◌, ◌++◌, length, take, drop, Result, Ok, Err, refl, inl, inr, arith, subst, ◌∙◌, sym, ap}
+use Rattle.std.proofs.lemmas.Bool.{cases_lt}
+use Rattle.std.proofs.lemmas.List.{take-append-drop, length-take-le}
+use Rattle.rtcm_bits.specs.Bits.{uint, number}
+use Rattle.rtcm_bits.specs.Reading.{Cursor, after, unsigned_at}
+use Rattle.rtcm_msg.specs.BitLaws.{number-take-fits, uint-number}
+use Rattle.rtcm_msg.specs.declared.fault.MsgFault.{MsgFault}
+use Rattle.rtcm_msg.specs.declared.fault.MsgFault.TheVariants.{Short}
+use Rattle.rtcm_msg.specs.Fields.{◌>>=◌, number_at}
+
+pub bind_ok : {A B : Type 0} (r : Result A MsgFault) (f : A → Result B MsgFault) (y : B) → (r >>= f) ≡ Ok y → (x : A) × (r ≡ Ok x) × (f x ≡ Ok y)
+bind_ok (Ok x) f y e = (x, refl, e)
+bind_ok (Err d) f y e = cc
+
+pub number_there : (w : ℕ) (c : Cursor) → w ≤ length c.rest → number_at w c ≡ Ok (unsigned_at w c, after c w)
+unfolding number_at
+number_there w c h = grind arith
+
+pub number_short : (w : ℕ) (c : Cursor) → length c.rest < w → number_at w c ≡ Err (Short c.place)
+unfolding number_at
+number_short w c h = grind arith
+
+pub ok_inj : {A : Type 0} (x y : A) (r : Result A MsgFault) → r ≡ Ok x → r ≡ Ok y → x ≡ y
+ok_inj x y r e f = cc
+
+-- what a field that was read is
+pub record Took (w : ℕ) (c : Cursor) (x : ℕ × Cursor) : Type 0 where
+  pub fits : x.0 < 2 ^ w
+  pub room : w ≤ length c.rest
+  pub bits : c.rest ≡ uint w x.0 ++ x.1.rest
+  pub place : x.1.place ≡ c.place + w
+
+pub took_at : (w : ℕ) (c : Cursor) → w ≤ length c.rest → Took w c (unsigned_at w c, after c w)
+took_at w c h = record {
+  fits = number-take-fits c.rest w h;
+  room = h;
+  bits = sym (take-append-drop w c.rest) ∙ ap (λ t. t ++ drop w c.rest) (sym (let P : ℕ → Type 0 = λ n. uint n (number (take w c.rest)) ≡ take w c.rest in subst P (length-take-le w c.rest h) (uint-number (take w c.rest) 0)));
+  place = refl;
+}
+
+pub number_took : (w : ℕ) (c : Cursor) (x : ℕ × Cursor) → number_at w c ≡ Ok x → Took w c x
+number_took w c x e = elim (cases_lt (length c.rest) w) [
+  | inl short ↦ absurd (no_ok (number_at w c) (Short c.place) x (number_short w c short) e)
+  | inr there ↦ let is = ok_inj (unsigned_at w c, after c w) x (number_at w c) (number_there w c there) e in subst (Took w c) is (took_at w c there)
+]
+  where
+    no_ok : {A : Type 0} (r : Result A MsgFault) (d : MsgFault) (x : A) → r ≡ Err d → r ≡ Ok x → ⊥
+    no_ok r d x e f = cc

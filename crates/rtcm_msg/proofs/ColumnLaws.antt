@@ -1,0 +1,110 @@
+-- What stands in columns that were read, what is read again, and which fault.
+use Rattle.std.proofs.Common.{ℕ, zero, suc, ◌≡◌, ◌+◌, ◌*◌, ◌/◌, ◌%◌, ◌^◌, ◌<◌, Bool, List, [], ◌∷◌, ◌++◌, length, map, Ok, refl, sym, ap, subst, ◌∙◌, arith, append_assoc, replicate, add_comm}
+use Rattle.std.specs.List.{flat_map}
+use Rattle.std.proofs.lemmas.List.{length-map}
+use Rattle.std.proofs.Math.Nat.{div-eq_of_lt}
+use Rattle.std.proofs.lemmas.Nat.{shr_high, shr-shr, div-add-mod', mod_below, pow_pos}
+use Rattle.rtcm_bits.specs.Bits.{uint}
+use Rattle.rtcm_bits.specs.Reading.{Cursor}
+use Rattle.rtcm_msg.specs.BitLaws.{uint-low}
+use Rattle.rtcm_msg.specs.Fields.{number_at, ◌>>=◌}
+use Rattle.rtcm_msg.specs.Packed.{total, columns}
+use Rattle.rtcm_msg.specs.Columns.{column_at, columns_at, EachBelow}
+use Rattle.rtcm_msg.proofs.Binds.{bind_ok, ok_inj, number_took, Took}
+use Rattle.rtcm_msg.proofs.Combine.{cursor, number_again}
+
+-- ---- which fault
+
+-- ---- what was read
+
+-- the high parts
+abbrev pub highs : ℕ → List ℕ → List ℕ
+highs w ns = map (λ n. n / 2 ^ w) ns
+
+pub record ColumnTook (w : ℕ) (ps : List ℕ) (c : Cursor) (x : List ℕ × Cursor) : Type 0 where
+  pub bits : c.rest ≡ flat_map (uint w) x.0 ++ x.1.rest
+  pub high : highs w x.0 ≡ ps
+
+pub column_took : (w : ℕ) (ps : List ℕ) (c : Cursor) (x : List ℕ × Cursor) → column_at w ps c ≡ Ok x → ColumnTook w ps c x
+unfolding column_at
+column_took w [] c x e = subst (ColumnTook w [] c) (ok_inj ([], c) x (column_at w [] c) refl e) (record { bits = refl; high = refl })
+column_took w (p ∷ ps) c x e =
+    let here = bind_ok (number_at w c) _ x e in
+    let others = bind_ok (column_at w ps here.0.1) _ x here.2 in
+    let took = number_took w c here.0 here.1 in
+    let rest = column_took w ps here.0.1 others.0 others.1 in
+    subst (ColumnTook w (p ∷ ps) c) (ok_inj _ x _ refl others.2) (join w p ps c here.0 others.0 took rest)
+  where
+    join : (w p : ℕ) (ps : List ℕ) (c : Cursor) (h : ℕ × Cursor) (o : List ℕ × Cursor) → Took w c h → ColumnTook w ps h.1 o → ColumnTook w (p ∷ ps) c ((p * 2 ^ w + h.0) ∷ o.0, o.1)
+    join w p ps c h o t r = record {
+      bits = t.bits ∙ rw (r.bits, uint-low w p h.0) (sym (append_assoc (uint w h.0) (flat_map (uint w) o.0) o.1.rest));
+      high = rw (shr_high p w h.0 t.fits, r.high) refl;
+    }
+
+-- the columns that were read stand there
+pub record ColumnsTook (ws ps : List ℕ) (c : Cursor) (x : List ℕ × Cursor) : Type 0 where
+  pub bits : c.rest ≡ columns ws x.0 ++ x.1.rest
+  pub high : highs (total ws) x.0 ≡ ps
+
+column_of_highs : (w t : ℕ) (ns : List ℕ) → flat_map (uint w) (highs t ns) ≡ flat_map (λ p. uint w (p / 2 ^ t)) ns
+column_of_highs w t [] = refl
+column_of_highs w t (n ∷ ns) = ap (λ r. uint w (n / 2 ^ t) ++ r) (column_of_highs w t ns)
+
+highs_highs : (w t : ℕ) (ns : List ℕ) → highs w (highs t ns) ≡ highs (w + t) ns
+highs_highs w t [] = refl
+highs_highs w t (n ∷ ns) = rw (shr-shr n t w, add_comm t w, highs_highs w t ns) refl
+
+highs_none : (ns : List ℕ) → highs 0 ns ≡ ns
+highs_none [] = refl
+highs_none (n ∷ ns) = let e : n / 2 ^ 0 ≡ n = omega arith in rw (e, highs_none ns) refl
+
+pub columns_took : (ws ps : List ℕ) (c : Cursor) (x : List ℕ × Cursor) → columns_at ws ps c ≡ Ok x → ColumnsTook ws ps c x
+unfolding columns_at columns
+columns_took [] ps c x e = subst (ColumnsTook [] ps c) (ok_inj (ps, c) x (columns_at [] ps c) refl e) (record { bits = refl; high = highs_none ps })
+columns_took (w ∷ ws) ps c x e =
+    let first = bind_ok (column_at w ps c) _ x e in
+    let here = column_took w ps c first.0 first.1 in
+    let rest = columns_took ws first.0.0 first.0.1 x first.2 in
+    join w ws ps c first.0 x here rest
+  where
+    join : (w : ℕ) (ws ps : List ℕ) (c : Cursor) (q x : List ℕ × Cursor) → ColumnTook w ps c q → ColumnsTook ws q.0 q.1 x → ColumnsTook (w ∷ ws) ps c x
+    join w ws ps c q x a b = record {
+      bits = a.bits ∙ rw (← b.high, column_of_highs w (total ws) x.0, b.bits) (sym (append_assoc (flat_map (λ p. uint w (p / 2 ^ total ws)) x.0) (columns ws x.0) x.1.rest));
+      high = sym (highs_highs w (total ws) x.0) ∙ (rw b.high a.high);
+    }
+
+-- ---- what is read again
+
+pub column_again : (w : ℕ) (ns : List ℕ) (place : ℕ) (rest : List Bool) → column_at w (highs w ns) (cursor place (flat_map (uint w) ns ++ rest)) ≡ Ok (ns, cursor (place + w * length ns) rest)
+unfolding column_at
+column_again w [] place rest = let e : place + w * 0 ≡ place = omega arith in rw e refl
+column_again w (n ∷ ns) place rest =
+    let low : uint w n ≡ uint w (n % 2 ^ w) = ap (uint w) (sym (div-add-mod' n (2 ^ w))) ∙ uint-low w (n / 2 ^ w) (n % 2 ^ w) in
+    let here = number_again w (n % 2 ^ w) place (flat_map (uint w) ns ++ rest) (mod_below n (2 ^ w) (pow_pos w)) in
+    let others = column_again w ns (place + w) rest in
+    let whole : n / 2 ^ w * 2 ^ w + n % 2 ^ w ≡ n = div-add-mod' n (2 ^ w) in
+    let places : place + w + w * length ns ≡ place + w * suc (length ns) = far place w (length ns) in
+    rw (append_assoc (uint w n) (flat_map (uint w) ns) rest, low, here, others, whole, places) refl
+  where
+    far : (place w k : ℕ) → place + w + w * k ≡ place + w * suc k
+    far place w k = omega arith
+
+pub columns_again : (ws ns : List ℕ) (place : ℕ) (rest : List Bool) → columns_at ws (highs (total ws) ns) (cursor place (columns ws ns ++ rest)) ≡ Ok (ns, cursor (place + total ws * length ns) rest)
+unfolding columns_at columns
+columns_again [] ns place rest = let e : place + 0 * length ns ≡ place = omega arith in rw (e, highs_none ns) refl
+columns_again (w ∷ ws) ns place rest =
+    let here = column_again w (highs (total ws) ns) place (columns ws ns ++ rest) in
+    let others = columns_again ws ns (place + w * length (highs (total ws) ns)) rest in
+    let places : place + w * length (highs (total ws) ns) + total ws * length ns ≡ place + (w + total ws) * length ns = far place w (total ws) (length ns) (length (highs (total ws) ns)) (length-map ns (λ n. n / 2 ^ total ws)) in
+    rw (append_assoc (flat_map (λ p. uint w (p / 2 ^ total ws)) ns) (columns ws ns) rest, ← column_of_highs w (total ws) ns, ← highs_highs w (total ws) ns, here, others, places) refl
+  where
+    far : (place w t k m : ℕ) → m ≡ k → place + w * m + t * k ≡ place + (w + t) * k
+    far place w t k m e = rw e (omega arith)
+
+-- numbers below the width have no high parts
+pub highs_zero : (t : ℕ) (ns : List ℕ) → EachBelow t ns → highs t ns ≡ replicate (length ns) 0
+highs_zero t [] h = refl
+highs_zero t (n ∷ ns) h = let e : n / 2 ^ t ≡ 0 = div_eq_zero n (2 ^ t) (h zero) in rw (e, highs_zero t ns (λ k. h (suc k))) refl
+  where
+    div_eq_zero : (n p : ℕ) → n < p → n / p ≡ 0
+    div_eq_zero n p h = div-eq_of_lt h

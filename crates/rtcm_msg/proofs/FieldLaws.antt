@@ -1,0 +1,170 @@
+-- The fields of a table, as one read: what was read, what is read again, and which fault.
+use Rattle.std.proofs.Common.{ℕ, true, ◌≡◌, ◌+◌, ◌<◌, ◌≤◌, Bool, List, [], ◌∷◌, ◌++◌, length, take, drop, Result, Ok, Err, Some, None, refl, sym, ap, subst, ◌∙◌, arith, append_assoc, ◌⊎◌, inl, inr, add_assoc, add-zero}
+use Rattle.std.proofs.lemmas.Bool.{cases_lt}
+use Rattle.std.proofs.lemmas.List.{length-drop, drop-drop}
+use Rattle.rtcm_bits.specs.Bits.{uint, number}
+use Rattle.rtcm_msg.specs.LayoutLaws.{has_sign, have_signs, FitAll, number-content, content_fits, content-number, number_fits, sign_first, sign_others}
+use Rattle.rtcm_msg.specs.Layout.{Table, width, widths, Contents, number_of, content, fields_of}
+use Rattle.rtcm_bits.specs.Reading.{Cursor, after, unsigned_at}
+use Rattle.rtcm_msg.specs.declared.fault.MsgFault.{MsgFault}
+use Rattle.rtcm_msg.specs.declared.fault.MsgFault.TheVariants.{Short}
+use Rattle.rtcm_msg.specs.Fields.{number_at, ◌>>=◌, spelled, first_past, reading}
+use Rattle.rtcm_msg.specs.Packed.{total}
+use Rattle.rtcm_msg.proofs.Binds.{ok_inj, number_there, number_short, took_at}
+use Rattle.rtcm_msg.proofs.Combine.{past_here, past_next, cursor, number_again, ok_err, bind_bind}
+
+-- the fields as one read
+abbrev pub fields_at : (t : Table) → Cursor → Result (Contents t × Cursor) MsgFault
+fields_at [] c = Ok (tt, c)
+fields_at (f ∷ fs) c = number_at (width f.1) c >>= λ here. fields_at fs here.1 >>= λ others. Ok ((content f.1 here.0, others.0), others.1)
+
+pub reading_is : {B : Type 0} (t : Table) (c : Cursor) (next : Contents t × Cursor → Result B MsgFault) → reading t c next ≡ (fields_at t c >>= next)
+reading_is [] c next = refl
+reading_is (f ∷ fs) c next = go (λ h. reading_is fs h.1 (λ o. next ((content f.1 h.0, o.0), o.1))) (number_at (width f.1) c)
+  where
+    go : ((h : ℕ × Cursor) → reading fs h.1 (λ o. next ((content f.1 h.0, o.0), o.1)) ≡ (fields_at fs h.1 >>= λ o. next ((content f.1 h.0, o.0), o.1)))
+        → (r : Result (ℕ × Cursor) MsgFault) → (r >>= λ h. reading fs h.1 (λ o. next ((content f.1 h.0, o.0), o.1))) ≡ ((r >>= λ here. fields_at fs here.1 >>= λ others. Ok ((content f.1 here.0, others.0), others.1)) >>= next)
+    go each (Ok h) = each h ∙ sym (bind_bind (fields_at fs h.1) (λ o. Ok ((content f.1 h.0, o.0), o.1)) next)
+    go each (Err e) = refl
+
+-- ---- what was read
+
+-- the contents that stand there
+abbrev pub values : (t : Table) → Cursor → Contents t
+values [] c = tt
+values (f ∷ fs) c = (content f.1 (unsigned_at (width f.1) c), values fs (after c (width f.1)))
+
+abbrev pub behind : Table → Cursor → Cursor
+behind [] c = c
+behind (f ∷ fs) c = behind fs (after c (width f.1))
+
+pub record FieldsTook (t : Table) (c : Cursor) (x : Contents t × Cursor) : Type 0 where
+  pub room : total (widths t) ≤ length c.rest
+  pub fit : FitAll t x.0
+  pub bits : c.rest ≡ spelled (fields_of t x.0) ++ x.1.rest
+
+fields_there : (t : Table) (c : Cursor) → total (widths t) ≤ length c.rest → fields_at t c ≡ Ok (values t c, behind t c)
+fields_there [] c room = refl
+fields_there (f ∷ fs) c room =
+    let here = number_there (width f.1) c (omega arith) in
+    let others = fields_there fs (after c (width f.1)) (omega (arith, length-drop (width f.1) c.rest)) in
+    rw (here, others) refl
+
+values_took : (t : Table) (c : Cursor) → have_signs t ≡ true → total (widths t) ≤ length c.rest → FieldsTook t c (values t c, behind t c)
+unfolding spelled
+values_took [] c signs room = record { room = room; fit = tt; bits = refl }
+values_took (f ∷ fs) c signs room =
+    let w = width f.1 in
+    let sign = sign_first (has_sign f.1) (have_signs fs) signs in
+    let took = took_at w c (omega arith) in
+    let rest = values_took fs (after c w) (sign_others (has_sign f.1) (have_signs fs) signs) (omega (arith, length-drop w c.rest)) in
+    let n = unsigned_at w c in
+    let tail = spelled (fields_of fs (values fs (after c w))) in
+    record {
+      room = room;
+      fit = (content_fits f.1 n sign took.fits, rest.fit);
+      bits = took.bits ∙ (ap (λ t. uint w n ++ t) rest.bits ∙ (sym (append_assoc (uint w n) tail (behind fs (after c w)).rest) ∙ ap (λ (k : ℕ). (uint w k ++ tail) ++ (behind fs (after c w)).rest) (sym (number-content f.1 n sign took.fits))));
+    }
+
+pub fields_short : (t : Table) (c : Cursor) → length c.rest < total (widths t) → (k : ℕ) × (fields_at t c ≡ Err (Short k)) × (first_past (c.place + length c.rest) c.place (widths t) ≡ Some k)
+fields_short [] c h = absurd (omega arith)
+fields_short (f ∷ fs) c h = elim (cases_lt (length c.rest) (width f.1)) [
+  | inl short ↦ (c.place, rw (number_short (width f.1) c short) refl, past_here (width f.1) (widths fs) (c.place + length c.rest) c.place (omega arith))
+  | inr there ↦
+      let w = width f.1 in
+      let rest = fields_short fs (after c w) (omega (arith, length-drop w c.rest)) in
+      let same : c.place + w + length (drop w c.rest) ≡ c.place + length c.rest = omega (arith, length-drop w c.rest) in
+      (rest.0, rw (number_there w c there, rest.1) refl, past_next w (widths fs) (c.place + length c.rest) c.place (omega arith) ∙ (rw same at rest.2))
+]
+
+pub fields_ok : (t : Table) (c : Cursor) (x : Contents t × Cursor) → have_signs t ≡ true → fields_at t c ≡ Ok x → FieldsTook t c x
+fields_ok t c x signs e = elim (cases_lt (length c.rest) (total (widths t))) [
+  | inl short ↦ let s = fields_short t c short in absurd (ok_err x (Short s.0) (fields_at t c) e s.1)
+  | inr there ↦ subst (FieldsTook t c) (ok_inj (values t c, behind t c) x (fields_at t c) (fields_there t c there) e) (values_took t c signs there)
+]
+
+-- ---- what is read again
+
+pub fields_again : (t : Table) (cs : Contents t) (place : ℕ) (rest : List Bool) → have_signs t ≡ true → FitAll t cs → fields_at t (cursor place (spelled (fields_of t cs) ++ rest)) ≡ Ok (cs, cursor (place + total (widths t)) rest)
+unfolding spelled
+fields_again [] cs place rest signs fit = rw (add-zero place) refl
+fields_again (f ∷ fs) cs place rest signs fit =
+    let w = width f.1 in
+    let n = number_of f.1 cs.0 in
+    let sign = sign_first (has_sign f.1) (have_signs fs) signs in
+    let here = number_again w n place (spelled (fields_of fs cs.1) ++ rest) (number_fits f.1 cs.0 sign fit.0) in
+    let others = fields_again fs cs.1 (place + w) rest (sign_others (has_sign f.1) (have_signs fs) signs) fit.1 in
+    rw (append_assoc (uint w n) (spelled (fields_of fs cs.1)) rest, here, others, content-number f.1 cs.0 sign fit.0, add_assoc place w (total (widths fs))) refl
+
+-- ---- where fields end
+
+pub past_more : (ws vs : List ℕ) (len place k : ℕ) → first_past len place ws ≡ Some k → first_past len place (ws ++ vs) ≡ Some k
+unfolding first_past
+past_more [] vs len place k h = cc
+past_more (w ∷ ws) vs len place k h = elim (cases_lt len (place + w)) [
+  | inl short ↦ past_here w (ws ++ vs) len place short ∙ (sym (past_here w ws len place short) ∙ h)
+  | inr there ↦ past_next w (ws ++ vs) len place there ∙ past_more ws vs len (place + w) k (sym (past_next w ws len place there) ∙ h)
+]
+
+pub past_through : (ws vs : List ℕ) (len place : ℕ) → place + total ws ≤ len → first_past len place (ws ++ vs) ≡ first_past len (place + total ws) vs
+past_through [] vs len place h = rw (add-zero place) refl
+past_through (w ∷ ws) vs len place h = past_next w (ws ++ vs) len place (omega arith) ∙ (past_through ws vs len (place + w) (omega arith) ∙ rw (add_assoc place w (total ws)) refl)
+
+pub past_none : (ws : List ℕ) (len place : ℕ) → place + total ws ≤ len → first_past len place ws ≡ None
+unfolding first_past
+past_none [] len place h = refl
+past_none (w ∷ ws) len place h = past_next w ws len place (omega arith) ∙ past_none ws len (place + w) (omega arith)
+
+-- ---- from a place of bits on
+
+abbrev pub standing : List Bool → ℕ → Cursor
+standing bits place = record { place = place; rest = drop place bits }
+
+-- the number of w bits from a place on
+abbrev pub part : List Bool → ℕ → ℕ → ℕ
+part bits place w = number (take w (drop place bits))
+
+abbrev pub contents_at : (t : Table) → List Bool → ℕ → Contents t
+contents_at [] bits place = tt
+contents_at (f ∷ fs) bits place = (content f.1 (part bits place (width f.1)), contents_at fs bits (place + width f.1))
+
+pub step_on : (w : ℕ) (bits : List Bool) (place : ℕ) → after (standing bits place) w ≡ standing bits (place + w)
+step_on w bits place = ap (cursor (place + w)) (drop-drop w place bits)
+
+pub number_there_at : (w : ℕ) (bits : List Bool) (place : ℕ) → place + w ≤ length bits → number_at w (standing bits place) ≡ Ok (part bits place w, standing bits (place + w))
+number_there_at w bits place h = number_there w (standing bits place) (omega (arith, length-drop place bits)) ∙ rw (step_on w bits place) refl
+
+-- the first of these fields that does not end within the bits
+pub record ShortAt (bits : List Bool) (place : ℕ) (ws : List ℕ) (e : MsgFault) : Type 0 where
+  pub first : ℕ
+  pub is : e ≡ Short first
+  pub past : first_past (length bits) place ws ≡ Some first
+
+pub short_at_more : (ws vs : List ℕ) (bits : List Bool) (place : ℕ) (e : MsgFault) → ShortAt bits place ws e → ShortAt bits place (ws ++ vs) e
+short_at_more ws vs bits place e s = record { first = s.first; is = s.is; past = past_more ws vs (length bits) place s.first s.past }
+
+pub short_at_behind : (ws vs : List ℕ) (bits : List Bool) (place : ℕ) (e : MsgFault) → place + total ws ≤ length bits → ShortAt bits (place + total ws) vs e → ShortAt bits place (ws ++ vs) e
+short_at_behind ws vs bits place e room s = record { first = s.first; is = s.is; past = past_through ws vs (length bits) place room ∙ s.past }
+
+-- either they are there, or one of them is the first that is not
+abbrev pub FieldsRead : Table → List Bool → ℕ → Type 0
+FieldsRead t bits place =
+    ((length bits < place + total (widths t)) × ((e : MsgFault) × (fields_at t (standing bits place) ≡ Err e) × ShortAt bits place (widths t) e))
+    ⊎ ((place + total (widths t) ≤ length bits) × (fields_at t (standing bits place) ≡ Ok (contents_at t bits place, standing bits (place + total (widths t)))))
+
+pub fields_read : (t : Table) (bits : List Bool) (place : ℕ) → place ≤ length bits → FieldsRead t bits place
+fields_read t bits place h = elim (cases_lt (length bits) (place + total (widths t))) [
+  | inl few ↦
+      let s = fields_short t (standing bits place) (omega (arith, length-drop place bits)) in
+      let whole : place + length (drop place bits) ≡ length bits = omega (arith, length-drop place bits) in
+      inl (few, (Short s.0, s.1, record { first = s.0; is = refl; past = rw whole at s.2 }))
+  | inr there ↦ inr (there, all_there t bits place there)
+]
+  where
+    all_there : (t : Table) (bits : List Bool) (place : ℕ) → place + total (widths t) ≤ length bits → fields_at t (standing bits place) ≡ Ok (contents_at t bits place, standing bits (place + total (widths t)))
+    all_there [] bits place h = rw (add-zero place) refl
+    all_there (f ∷ fs) bits place h =
+        let w = width f.1 in
+        let here = number_there_at w bits place (omega arith) in
+        let others = all_there fs bits (place + w) (omega arith) in
+        rw (here, others, add_assoc place w (total (widths fs))) refl

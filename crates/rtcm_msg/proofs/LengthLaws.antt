@@ -1,0 +1,61 @@
+-- No message is longer than 1,023 bytes.
+use Rattle.std.proofs.Common.{ℕ, ◌≡◌, ◌+◌, ◌*◌, ◌/◌, ◌^◌, ◌≤◌, List, [], ◌∷◌, ◌++◌, length, refl, ◌∙◌, arith, lit≤, length-append, count_ones, Option, Some, None}
+use Rattle.std.specs.List.{flat_map}
+use Rattle.std.proofs.lemmas.Nat.{mul-le, ones-le}
+use Rattle.rtcm_bits.specs.Bits.{uint}
+use Rattle.rtcm_msg.specs.BitLaws.{length-uint}
+use Rattle.rtcm_msg.specs.declared.message.Message.{Message}
+use Rattle.rtcm_msg.specs.Fields.{spelled, width_of}
+use Rattle.rtcm_msg.specs.Packed.{total, columns}
+use Rattle.rtcm_msg.specs.Station.{station_fields}
+use Rattle.rtcm_msg.specs.Msm.{MsmValue, IsValue, pairs, msm_bits, header_fields, set_fields}
+use Rattle.rtcm_msg.specs.Spelling.{IsMessage, message_bits}
+use Rattle.rtcm_msg.specs.declared.message.Message.TheVariants as messages
+use Rattle.rtcm_msg.specs.Grid4 as grid4
+use Rattle.rtcm_msg.specs.Grid7 as grid7
+
+length-spelled : (fs : List (ℕ × ℕ)) → length (spelled fs) ≡ width_of fs
+unfolding spelled
+length-spelled [] = refl
+length-spelled (f ∷ fs) = length-append (uint f.0 f.1) (spelled fs) ∙ rw (length-uint f.0 f.1, length-spelled fs) refl
+
+length-column : (w t : ℕ) (ns : List ℕ) → length (flat_map (λ p. uint w (p / 2 ^ t)) ns) ≡ w * length ns
+length-column w t [] = omega arith
+length-column w t (n ∷ ns) = length-append (uint w (n / 2 ^ t)) (flat_map (λ p. uint w (p / 2 ^ t)) ns) ∙ rw (length-uint w (n / 2 ^ t), length-column w t ns) (omega arith)
+
+length-columns : (ws ns : List ℕ) → length (columns ws ns) ≡ total ws * length ns
+unfolding columns
+length-columns [] ns = omega arith
+length-columns (w ∷ ws) ns = length-append (flat_map (λ p. uint w (p / 2 ^ total ws)) ns) (columns ws ns) ∙ rw (length-column w (total ws) ns, length-columns ws ns) (both w (total ws) (length ns))
+  where
+    both : (w t n : ℕ) → w * n + t * n ≡ (w + t) * n
+    both w t n = omega arith
+
+msm_short : (sw cw : List ℕ) (number : ℕ) (v : MsmValue) → total sw + total cw ≤ 124 → IsValue sw cw v → length (msm_bits sw cw number v 0) ≤ 8184
+msm_short sw cw number v few h =
+    let p = pairs v.sets.satellites v.sets.signals in
+    let head : length (spelled (header_fields number v.header 0)) ≡ 73 = length-spelled (header_fields number v.header 0) in
+    let sets : length (spelled (set_fields v.sets)) ≡ 96 + p = length-spelled (set_fields v.sets) ∙ wide p in
+    let satellites : length (columns sw v.satellites) ≤ total sw * 64 = rw (length-columns sw v.satellites, h.satellite_count) (mul-le (total sw) (count_ones v.sets.satellites) (total sw) 64 (omega arith) (ones-le 64 v.sets.satellites h.sets.satellites)) in
+    let cells : length (columns cw v.cells) ≤ total cw * 64 = rw (length-columns cw v.cells, h.cell_count) (mul-le (total cw) (count_ones v.sets.cells) (total cw) 64 (omega arith) (few_cells p v.sets.cells h.sets.few (ones-le p v.sets.cells h.sets.cells))) in
+    rw (length-append (spelled (header_fields number v.header 0)) (spelled (set_fields v.sets) ++ (columns sw v.satellites ++ columns cw v.cells)), length-append (spelled (set_fields v.sets)) (columns sw v.satellites ++ columns cw v.cells), length-append (columns sw v.satellites) (columns cw v.cells), head, sets)
+    (sum p (length (columns sw v.satellites)) (length (columns cw v.cells)) (total sw) (total cw) h.sets.few satellites cells few)
+  where
+    wide : (p : ℕ) → 64 + (32 + (p + 0)) ≡ 96 + p
+    wide p = omega arith
+
+    few_cells : (p c : ℕ) → p ≤ 64 → count_ones c ≤ p → count_ones c ≤ 64
+    few_cells p c h k = omega (arith, h, k)
+
+    sum : (p s c a b : ℕ) → p ≤ 64 → s ≤ a * 64 → c ≤ b * 64 → a + b ≤ 124 → 73 + (96 + p + (s + c)) ≤ 8184
+    sum p s c a b h i j k = omega arith
+
+pub message_short : (v : Message) → IsMessage v → length (message_bits v 0) ≤ 8184
+message_short (messages.Station s) h = rw (length-spelled (station_fields s 0)) (by_height s.height)
+  where
+    by_height : (x : Option ℕ) → width_of (station_fields (record s { height = x }) 0) ≤ 8184
+    by_height None = lit≤ tt
+    by_height (Some k) = lit≤ tt
+message_short (messages.Msm4 m) h = msm_short grid4.satellite_widths grid4.cell_widths (grid4.number m.is_galileo) m (lit≤ tt) h
+message_short (messages.Msm7 m) h = msm_short grid7.satellite_widths grid7.cell_widths (grid7.number m.is_galileo) m (lit≤ tt) h
+message_short (messages.Other n set) h = lit≤ tt

@@ -1,0 +1,195 @@
+-- Each meaning is one of a value.
+use Rattle.std.proofs.Common.{ℕ, suc, ◌≡◌, ◌+◌, ◌==◌, ◌^◌, ◌<◌, ◌≤◌, Bool, true, false, List, [], ◌∷◌, ◌++◌, length, map, refl, sym, ap, subst, ◌∙◌, arith, count_ones, if◌then◌else◌, ◌⊎◌, inl, inr}
+use Rattle.std.specs.List.{flat_map, zip, enumerate_from}
+use Rattle.std.proofs.lemmas.List.{length-map}
+use Rattle.std.proofs.lemmas.Nat.{pow_pos}
+use Rattle.rtcm_bits.specs.Bits.{uint, number}
+use Rattle.rtcm_msg.specs.BitLaws.{uint-number, number-fits}
+use Rattle.rtcm_msg.specs.declared.seats.Seat.{Seat}
+use Rattle.rtcm_msg.specs.Msm.{MsmValue, Sets, AreSets, IsValue, pairs}
+use Rattle.rtcm_msg.specs.Entries.{ids, chosen, seat, all_pairs, seats, Rising}
+use Rattle.rtcm_msg.specs.Meaning.{Meaning, meaning, pair, pair_number, cell_pairs, IsMeaning, IsIn, Each, keys, data_of}
+use Rattle.rtcm_msg.proofs.IdLaws.{weaken, ids_all}
+use Rattle.rtcm_msg.proofs.SeatLaws.{ids_count, pairs_count, seats_count}
+use Rattle.rtcm_msg.proofs.MeaningLaws.{map-map, all_rising}
+
+-- the pairs of two lists
+abbrev cross : List ℕ → List ℕ → List (ℕ × ℕ)
+cross xs gs = flat_map (λ a. map (λ g. (a, g)) gs) xs
+
+row_pairs : (k a : ℕ) (gs : List ℕ) → map pair (map (seat (k, a)) gs) ≡ map (λ g. (a, g)) gs
+row_pairs k a [] = refl
+row_pairs k a (g ∷ gs) = ap (λ t. (a, g) ∷ t) (row_pairs k a gs)
+
+map-append : {A B : Type 0} (f : A → B) (xs ys : List A) → map f (xs ++ ys) ≡ map f xs ++ map f ys
+map-append f [] ys = refl
+map-append f (x ∷ xs) ys = ap (λ t. f x ∷ t) (map-append f xs ys)
+
+all_are_cross : (k : ℕ) (xs gs : List ℕ) → map pair (flat_map (λ x. map (seat x) gs) (enumerate_from k xs)) ≡ cross xs gs
+all_are_cross k [] gs = refl
+all_are_cross k (x ∷ xs) gs = map-append pair (map (seat (k, x)) gs) (flat_map (λ y. map (seat y) gs) (enumerate_from (k + 1) xs)) ∙ rw (row_pairs k x gs, all_are_cross (k + 1) xs gs) refl
+
+chosen-map : (bits : List Bool) (xs : List Seat) → map pair (chosen bits xs) ≡ chosen bits (map pair xs)
+unfolding chosen
+chosen-map [] xs = refl
+chosen-map (b ∷ bits) [] = refl
+chosen-map (true ∷ bits) (x ∷ xs) = ap (λ t. pair x ∷ t) (chosen-map bits xs)
+chosen-map (false ∷ bits) (x ∷ xs) = chosen-map bits xs
+
+-- ---- the pairs that are picked from all
+
+pick : List (ℕ × ℕ) → List (ℕ × ℕ) → List Bool
+pick [] ys = []
+pick (x ∷ xs) [] = false ∷ pick xs []
+pick (x ∷ xs) (y ∷ ys) = if pair_number x == pair_number y then true ∷ pick xs ys else false ∷ pick xs (y ∷ ys)
+
+pick_here : (x y : ℕ × ℕ) (xs ys : List (ℕ × ℕ)) → y ≡ x → pick (x ∷ xs) (y ∷ ys) ≡ true ∷ pick xs ys
+unfolding pick
+pick_here x y xs ys e = let f : (pair_number x == pair_number y) ≡ true = same (pair_number x) (pair_number y) (ap pair_number (sym e)) in rw f refl
+  where
+    same : (m n : ℕ) → m ≡ n → (m == n) ≡ true
+    same m n e = grind arith
+
+pick_later : (x y : ℕ × ℕ) (xs ys : List (ℕ × ℕ)) → pair_number x < pair_number y → pick (x ∷ xs) (y ∷ ys) ≡ false ∷ pick xs (y ∷ ys)
+unfolding pick
+pick_later x y xs ys h = let f : (pair_number x == pair_number y) ≡ false = other (pair_number x) (pair_number y) h in rw f refl
+  where
+    other : (m n : ℕ) → m < n → (m == n) ≡ false
+    other m n h = grind arith
+
+in_above : (low high : ℕ) (y : ℕ × ℕ) (xs : List (ℕ × ℕ)) → Rising low high (map pair_number xs) → IsIn y xs → low ≤ pair_number y
+in_above low high y [] r i = absurd i
+in_above low high y (x ∷ xs) r (inl e) = rw e r.0
+in_above low high y (x ∷ xs) r (inr i) = let h = in_above (pair_number x + 1) high y xs r.2 i in below low (pair_number x) (pair_number y) r.0 h
+  where
+    below : (l m n : ℕ) → l ≤ m → m + 1 ≤ n → l ≤ n
+    below l m n h k = omega arith
+
+-- those above the first are among the others
+others_in : (high : ℕ) (x : ℕ × ℕ) (xs ys : List (ℕ × ℕ)) → Rising (pair_number x + 1) high (map pair_number ys) → Each (λ y. IsIn y (x ∷ xs)) ys → Each (λ y. IsIn y xs) ys
+others_in high x xs [] r h = tt
+others_in high x xs (y ∷ ys) r h = (first y r.0 h.0, others_in high x xs ys (weaken (pair_number x + 1) (pair_number y + 1) high (map pair_number ys) (less (pair_number x) (pair_number y) r.0) r.2) h.1)
+  where
+    less : (m n : ℕ) → m + 1 ≤ n → m + 1 ≤ n + 1
+    less m n h = omega arith
+
+    first : (y : ℕ × ℕ) → pair_number x + 1 ≤ pair_number y → IsIn y (x ∷ xs) → IsIn y xs
+    first y up (inl e) = absurd (same (pair_number x) (pair_number y) up (ap pair_number e))
+      where
+        same : (m n : ℕ) → m + 1 ≤ n → n ≡ m → ⊥
+        same m n h e = omega arith
+    first y up (inr i) = i
+
+more : (m n : ℕ) → m + 1 ≤ n → m + 1 ≤ n + 1
+more m n h = omega arith
+
+over : (m n : ℕ) → m + 1 ≤ n → m < n
+over m n h = omega arith
+
+reflexive : (n : ℕ) → n ≤ n
+reflexive n = omega arith
+
+record Picked (xs ys : List (ℕ × ℕ)) : Type 0 where
+  back : chosen (pick xs ys) xs ≡ ys
+  len : length (pick xs ys) ≡ length xs
+
+picked : (low high start top : ℕ) (xs ys : List (ℕ × ℕ)) → Rising low high (map pair_number xs) → Rising start top (map pair_number ys) → Each (λ y. IsIn y xs) ys → Picked xs ys
+unfolding pick chosen
+picked low high start top [] [] r s h = record { back = refl; len = refl }
+picked low high start top [] (y ∷ ys) r s h = absurd h.0
+picked low high start top (x ∷ xs) [] r s h = let p = picked (pair_number x + 1) high start top xs [] r.2 tt tt in record { back = p.back; len = ap suc p.len }
+picked low high start top (x ∷ xs) (y ∷ ys) r s h = elim h.0 [
+  | inl e ↦
+      let above : Rising (pair_number x + 1) top (map pair_number ys) = subst (λ (n : ℕ). Rising (n + 1) top (map pair_number ys)) (ap pair_number e) s.2 in
+      let p = picked (pair_number x + 1) high (pair_number x + 1) top xs ys r.2 above (others_in top x xs ys above h.1) in
+      let here = pick_here x y xs ys e in
+      record { back = rw here (ap (λ t. x ∷ t) p.back ∙ ap (λ (z : ℕ × ℕ). z ∷ ys) (sym e)); len = rw here (ap suc p.len) }
+  | inr i ↦
+      let up : pair_number x + 1 ≤ pair_number y = in_above (pair_number x + 1) high y xs r.2 i in
+      let above : Rising (pair_number x + 1) top (map pair_number ys) = weaken (pair_number x + 1) (pair_number y + 1) top (map pair_number ys) (more (pair_number x) (pair_number y) up) s.2 in
+      let p = picked (pair_number x + 1) high (pair_number y) top xs (y ∷ ys) r.2 (reflexive (pair_number y), s.1, s.2) (i, others_in top x xs ys above h.1) in
+      let here = pick_later x y xs ys (over (pair_number x) (pair_number y) up) in
+      record { back = rw here p.back; len = rw here (ap suc p.len) }
+]
+
+-- ---- pairs of the lists are among all pairs
+
+in_append : (y : ℕ × ℕ) (xs ys : List (ℕ × ℕ)) → IsIn y xs ⊎ IsIn y ys → IsIn y (xs ++ ys)
+in_append y [] ys (inl i) = absurd i
+in_append y [] ys (inr i) = i
+in_append y (x ∷ xs) ys (inl (inl e)) = inl e
+in_append y (x ∷ xs) ys (inl (inr i)) = inr (in_append y xs ys (inl i))
+in_append y (x ∷ xs) ys (inr i) = inr (in_append y xs ys (inr i))
+
+in_row : (a b g : ℕ) (gs : List ℕ) → a ≡ b → IsIn g gs → IsIn {A = ℕ × ℕ} (a, g) (map (λ h. (b, h)) gs)
+in_row a b g [] e i = absurd i
+in_row a b g (h ∷ gs) e (inl f) = inl (rw (e, f) refl)
+in_row a b g (h ∷ gs) e (inr i) = inr (in_row a b g gs e i)
+
+in_cross : (p : ℕ × ℕ) (xs gs : List ℕ) → IsIn p.0 xs → IsIn p.1 gs → IsIn p (cross xs gs)
+in_cross p [] gs i j = absurd i
+in_cross p (x ∷ xs) gs (inl e) j = in_append p (map (λ g. (x, g)) gs) (cross xs gs) (inl (in_row p.0 x p.1 gs e j))
+in_cross p (x ∷ xs) gs (inr i) j = in_append p (map (λ g. (x, g)) gs) (cross xs gs) (inr (in_cross p xs gs i j))
+
+each_cross : (xs gs : List ℕ) (ps : List (ℕ × ℕ)) → Each (λ p. IsIn p.0 xs × IsIn p.1 gs) ps → Each (λ p. IsIn p (cross xs gs)) ps
+each_cross xs gs [] h = tt
+each_cross xs gs (p ∷ ps) h = (in_cross p xs gs h.0.0 h.0.1, each_cross xs gs ps h.1)
+
+-- ---- the value
+
+zip_back : {A : Type 0} (xs : List (A × ℕ)) → zip (keys xs) (data_of xs) ≡ xs
+zip_back [] = refl
+zip_back (x ∷ xs) = ap (λ t. x ∷ t) (zip_back xs)
+
+-- the cell mask of pairs among those of two masks
+pub record Masked (a g : ℕ) (ps : List (ℕ × ℕ)) : Type 0 where
+  pub cells : ℕ
+  pub fits : cells < 2 ^ pairs a g
+  pub are : cell_pairs (record { satellites = a; signals = g; cells = cells }) ≡ ps
+
+masked : (a g : ℕ) (ps : List (ℕ × ℕ)) → a < 2 ^ 64 → g < 2 ^ 32 → pairs a g ≤ 64 → Rising 65 4128 (map pair_number ps) → Each (λ p. IsIn p (cross (ids 64 a) (ids 32 g))) ps → Masked a g ps
+masked a g ps fa fg few s h =
+    let all = cross (ids 64 a) (ids 32 g) in
+    let t : Sets = record { satellites = a; signals = g; cells = 0 } in
+    let is_all : map pair (all_pairs t) ≡ all = all_are_cross 0 (ids 64 a) (ids 32 g) in
+    let r : Rising 65 4128 (map pair_number all) = rw is_all at (rw (← map-map (all_pairs t)) at (all_rising t)) in
+    let p = picked 65 4128 65 4128 all ps r s h in
+    let bits = pick all ps in
+    let count : length bits ≡ pairs a g = p.len ∙ (ap length (sym is_all) ∙ (length-map (all_pairs t) pair ∙ pairs_count t (record { satellites = fa; signals = fg; few = few; cells = pow_pos (pairs a g) }))) in
+    let P : ℕ → Type 0 = λ n. number bits < 2 ^ n in
+    let Q : ℕ → Type 0 = λ n. uint n (number bits) ≡ bits in
+    let spelled : uint (pairs a g) (number bits) ≡ bits = subst Q count (uint-number bits 0) in
+    record {
+      cells = number bits;
+      fits = subst P count (number-fits bits);
+      are = chosen-map (uint (pairs a g) (number bits)) (all_pairs t) ∙ (rw (spelled, is_all) p.back);
+    }
+
+pub value_all : (sw cw : List ℕ) (m : Meaning) → IsMeaning sw cw m → (v : MsmValue) × IsValue sw cw v × (meaning v ≡ m)
+value_all sw cw m h =
+    let one = ids_all 64 (keys m.satellites) h.satellites in
+    let two = ids_all 32 m.signals h.signals in
+    let a = one.0 in
+    let g = two.0 in
+    let some : count_ones a ≡ length (keys m.satellites) = sym (ids_count 64 a one.1) ∙ ap length one.2 in
+    let more : count_ones g ≡ length m.signals = sym (ids_count 32 g two.1) ∙ ap length two.2 in
+    let few : pairs a g ≤ 64 = rw (some, more) h.few in
+    let each = each_cross (ids 64 a) (ids 32 g) (keys m.cells) (rw (one.2, two.2) h.pairs) in
+    let k = masked a g (keys m.cells) one.1 two.1 few h.cells each in
+    let s : Sets = record { satellites = a; signals = g; cells = k.cells } in
+    let are : AreSets s = record { satellites = one.1; signals = two.1; few = few; cells = k.fits } in
+    let v : MsmValue = record { is_galileo = m.is_galileo; header = m.header; sets = s; satellites = data_of m.satellites; cells = data_of m.cells } in
+    let value : IsValue sw cw v = record {
+      header = h.header;
+      sets = are;
+      satellite_count = length-map m.satellites (λ x. x.1) ∙ (sym (length-map m.satellites (λ x. x.0)) ∙ sym some);
+      cell_count = length-map m.cells (λ x. x.1) ∙ (sym (length-map m.cells (λ x. x.0)) ∙ (ap length (sym k.are) ∙ (length-map (seats s) pair ∙ seats_count s are)));
+      satellites = h.satellite_data;
+      cells = h.cell_data;
+    } in
+    let x : zip (ids 64 a) (data_of m.satellites) ≡ m.satellites = ap (λ (xs : List ℕ). zip xs (data_of m.satellites)) one.2 ∙ zip_back m.satellites in
+    let y : zip (cell_pairs s) (data_of m.cells) ≡ m.cells = ap (λ (ps : List (ℕ × ℕ)). zip ps (data_of m.cells)) k.are ∙ zip_back m.cells in
+    (v, value, meant m (zip (ids 64 a) (data_of m.satellites)) (ids 32 g) (zip (cell_pairs s) (data_of m.cells)) x two.2 y)
+  where
+    meant : (m : Meaning) (xs : List (ℕ × ℕ)) (gs : List ℕ) (cs : List ((ℕ × ℕ) × ℕ)) → xs ≡ m.satellites → gs ≡ m.signals → cs ≡ m.cells → Path Meaning (record { is_galileo = m.is_galileo; header = m.header; satellites = xs; signals = gs; cells = cs }) m
+    meant m xs gs cs x y z = rw (x, y, z) refl

@@ -1,0 +1,415 @@
+-- What is read as a message, what is read again, and which fault stands.
+use Rattle.std.proofs.Common.{ℕ, ◌≡◌, ◌+◌, ◌==◌, ◌^◌, ◌<◌, ◌≤◌, ◌&&◌, Bool, true, false, List, [], ◌∷◌, ◌++◌, length, drop, Result, Ok, Err, Option, Some, None, refl, sym, ap, subst, ◌∙◌, arith, lit<, ◌⊎◌, inl, inr, append_assoc, nat_lt, nat_le, if◌then◌else◌, is_some, IsTrue, replicate}
+use Rattle.std.proofs.lemmas.Bool.{cases_lt, cases_eq}
+use Rattle.std.proofs.lemmas.Nat.{pow_pos}
+use Rattle.std.proofs.lemmas.List.{length-drop, drop-drop}
+use Rattle.rtcm_bits.specs.Bits.{uint, number, filled, missing}
+use Rattle.rtcm_bits.specs.Reading.{Cursor}
+use Rattle.rtcm_msg.specs.declared.fault.MsgFault.{MsgFault}
+use Rattle.rtcm_msg.specs.declared.fault.MsgFault.TheVariants.{BadTime, TooManyCells, Short}
+use Rattle.rtcm_msg.specs.declared.station.StationParts.{StationParts}
+use Rattle.rtcm_msg.specs.declared.message.Message.{Message}
+use Rattle.rtcm_msg.specs.Fields.{◌>>=◌, spelled, first_past}
+use Rattle.rtcm_msg.specs.Packed.{total, columns}
+use Rattle.rtcm_msg.specs.Station.{station_at, station_table, station_parts}
+use Rattle.rtcm_msg.specs.Msm.{msm_at, MsmValue, week, set_fields}
+use Rattle.rtcm_msg.specs.Reading.{message_of, body_at, start, other_at, set_at}
+use Rattle.rtcm_msg.specs.Spelling.{Reads, IsMessage, IsFault, message_bits, reserved_width, is_other, is_read, is_msm, number_of, set_of, layout, layout_of, has_bad_time, has_too_many, field_at}
+use Rattle.rtcm_msg.proofs.Binds.{bind_ok, ok_inj, number_took, number_short}
+use Rattle.rtcm_msg.proofs.Combine.{cursor, number_again, ok_err, past_here, past_next}
+use Rattle.rtcm_msg.proofs.StationLaws.{station_again, station_took, station_tail, station_widths, height_widths, station_chain, IsRead}
+use Rattle.rtcm_msg.proofs.MsmLaws.{msm_took, msm_again, msm_tail, header_tail, IsMsmRead}
+use Rattle.rtcm_msg.proofs.FieldLaws.{contents_at, fields_at, standing, part, ShortAt, fields_read, number_there_at, short_at_more, short_at_behind, past_none}
+use Rattle.rtcm_msg.proofs.FaultLaws.{MsmEnd, no_time, late, no_masks, many, short, good, msm_end, msm_widths, pairs_of}
+use Rattle.rtcm_msg.specs.declared.message.Message.TheVariants as messages
+use Rattle.rtcm_msg.specs.Grid4 as grid4
+use Rattle.rtcm_msg.specs.Grid7 as grid7
+
+-- ---- which number
+
+abbrev pub station_number : Bool → ℕ
+station_number has = if has then 1006 else 1005
+
+eq_other : (a b : ℕ) → (a ≡ b → ⊥) → (a == b) ≡ false
+eq_other a b h = grind arith
+
+pub data Kind (n : ℕ) : Type 0 where
+  station : (has : Bool) → n ≡ station_number has → Kind n
+  msm4 : (g : Bool) → n ≡ grid4.number g → Kind n
+  msm7 : (g : Bool) → n ≡ grid7.number g → Kind n
+  other : is_read n ≡ false → is_msm n ≡ false → ((bits : List Bool) → layout_of n bits ≡ []) → ((c : Cursor) → body_at n c ≡ Ok (other_at n c)) → Kind n
+
+pub kind_of : (n : ℕ) → Kind n
+unfolding body_at
+kind_of n = elim (cases_eq n 1005) [
+  | inl e ↦ station false e
+  | inr a ↦ elim (cases_eq n 1006) [
+    | inl e ↦ station true e
+    | inr b ↦ elim (cases_eq n 1074) [
+      | inl e ↦ msm4 false e
+      | inr c ↦ elim (cases_eq n 1077) [
+        | inl e ↦ msm7 false e
+        | inr d ↦ elim (cases_eq n 1094) [
+          | inl e ↦ msm4 true e
+          | inr f ↦ elim (cases_eq n 1097) [
+            | inl e ↦ msm7 true e
+            | inr g ↦
+                let a' = eq_other n 1005 a in
+                let b' = eq_other n 1006 b in
+                let c' = eq_other n 1074 c in
+                let d' = eq_other n 1077 d in
+                let f' = eq_other n 1094 f in
+                let g' = eq_other n 1097 g in
+                other (rw (a', b', c', d', f', g') refl) (rw (c', d', f', g') refl) (λ bits. rw (a', b', c', d', f', g') refl) (λ k. rw (a', b', c', d', f', g') refl)
+          ]
+        ]
+      ]
+    ]
+  ]
+]
+
+body_station : (has : Bool) (c : Cursor) → body_at (station_number has) c ≡ (station_at has c >>= λ s. Ok (messages.Station s.0))
+unfolding body_at
+body_station true c = refl
+body_station false c = refl
+
+body_msm4 : (g : Bool) (c : Cursor) → body_at (grid4.number g) c ≡ (msm_at grid4.satellite_widths grid4.cell_widths g c >>= λ m. Ok (messages.Msm4 m.0))
+unfolding body_at
+body_msm4 true c = refl
+body_msm4 false c = refl
+
+body_msm7 : (g : Bool) (c : Cursor) → body_at (grid7.number g) c ≡ (msm_at grid7.satellite_widths grid7.cell_widths g c >>= λ m. Ok (messages.Msm7 m.0))
+unfolding body_at
+body_msm7 true c = refl
+body_msm7 false c = refl
+
+message_there : (bits : List Bool) → 12 ≤ length bits → message_of bits ≡ body_at (number_of bits) (standing bits 12)
+unfolding message_of
+message_there bits h = rw (number_there_at 12 bits 0 h) refl
+
+message_none : (bits : List Bool) → length bits < 12 → message_of bits ≡ Err (Short 0)
+unfolding message_of
+message_none bits h = rw (number_short 12 (start bits) h) refl
+
+-- ---- other messages
+
+other_set : (bits : List Bool) → 12 ≤ length bits → set_at (standing bits 12) ≡ (if nat_le 55 (length bits) then Some (field_at bits 12 12, field_at bits 54 1 == 1) else None)
+other_set bits h = elim (cases_lt (length bits) 55) [ inl few ↦ none bits few | inr lots ↦ some bits lots ]
+  where
+    none : (bits : List Bool) → length bits < 55 → set_at (standing bits 12) ≡ (if nat_le 55 (length bits) then Some (field_at bits 12 12, field_at bits 54 1 == 1) else None)
+    none bits few = let less : length (drop 12 bits) < 43 = omega (arith, length-drop 12 bits) in grind arith
+
+    some : (bits : List Bool) → 55 ≤ length bits → set_at (standing bits 12) ≡ (if nat_le 55 (length bits) then Some (field_at bits 12 12, field_at bits 54 1 == 1) else None)
+    some bits lots =
+        let more : 43 ≤ length (drop 12 bits) = omega (arith, length-drop 12 bits) in
+        let one : drop 30 (drop 12 (drop 12 bits)) ≡ drop 54 bits = ap (drop 30) (drop-drop 12 12 bits) ∙ drop-drop 30 24 bits in
+        rw one (grind arith)
+
+other_is : (bits : List Bool) → 12 ≤ length bits → other_at (number_of bits) (standing bits 12) ≡ messages.Other (number_of bits) (set_of bits)
+other_is bits h = rw (other_set bits h) refl
+
+-- ---- what is read again
+
+-- a message of this number whose bits stand behind it
+again : (bits : List Bool) (n : ℕ) (tail rest : List Bool) → n < 2 ^ 12 → bits ≡ (uint 12 n ++ tail) ++ rest → message_of bits ≡ body_at n (cursor 12 (tail ++ rest))
+unfolding message_of
+again bits n tail rest small is = rw (is, append_assoc (uint 12 n) tail rest, number_again 12 n 0 (tail ++ rest) small) refl
+
+pub message_again : (bits rest : List Bool) (v : Message) (reserved : ℕ) → IsMessage v → is_other v ≡ false → reserved < 2 ^ reserved_width v → bits ≡ message_bits v reserved ++ rest → message_of bits ≡ Ok v
+unfolding spelled
+message_again bits rest (messages.Station s) reserved h known small is =
+    let n = station_number (is_some s.height) in
+    let few : n < 2 ^ 12 = few_number (is_some s.height) in
+    again bits n (spelled (station_tail s reserved)) rest few is ∙ (body_station (is_some s.height) (cursor 12 (spelled (station_tail s reserved) ++ rest)) ∙ rw (station_again s reserved 12 rest h small) refl)
+  where
+    few_number : (has : Bool) → station_number has < 2 ^ 12
+    few_number true = lit< tt
+    few_number false = lit< tt
+message_again bits rest (messages.Msm4 m) reserved h known small is =
+    let tail = msm_tail grid4.satellite_widths grid4.cell_widths m reserved in
+    let read = msm_again grid4.satellite_widths grid4.cell_widths m reserved 12 rest h small in
+    again bits (grid4.number m.is_galileo) tail rest (few_number m.is_galileo) (is ∙ ap (λ t. t ++ rest) (append_assoc (uint 12 (grid4.number m.is_galileo)) (spelled (header_tail m.header reserved)) (spelled (set_fields m.sets) ++ (columns grid4.satellite_widths m.satellites ++ columns grid4.cell_widths m.cells))))
+    ∙ (body_msm4 m.is_galileo (cursor 12 (tail ++ rest)) ∙ rw read.1 refl)
+  where
+    few_number : (g : Bool) → grid4.number g < 2 ^ 12
+    few_number true = lit< tt
+    few_number false = lit< tt
+message_again bits rest (messages.Msm7 m) reserved h known small is =
+    let tail = msm_tail grid7.satellite_widths grid7.cell_widths m reserved in
+    let read = msm_again grid7.satellite_widths grid7.cell_widths m reserved 12 rest h small in
+    again bits (grid7.number m.is_galileo) tail rest (few_number m.is_galileo) (is ∙ ap (λ t. t ++ rest) (append_assoc (uint 12 (grid7.number m.is_galileo)) (spelled (header_tail m.header reserved)) (spelled (set_fields m.sets) ++ (columns grid7.satellite_widths m.satellites ++ columns grid7.cell_widths m.cells))))
+    ∙ (body_msm7 m.is_galileo (cursor 12 (tail ++ rest)) ∙ rw read.1 refl)
+  where
+    few_number : (g : Bool) → grid7.number g < 2 ^ 12
+    few_number true = lit< tt
+    few_number false = lit< tt
+message_again bits rest (messages.Other n set) reserved h known small is = cc
+
+true_false : (b : Bool) → b ≡ true → b ≡ false → ⊥
+true_false b p q = cc
+
+-- a value whose bits stand in front is read
+pub read_again : (bits : List Bool) (v : Message) → Reads bits v → message_of bits ≡ Ok v
+read_again bits v (inl b) = message_again bits b.rest v b.spells.reserved b.is_value b.known b.spells.fits (b.joined ∙ ap (λ t. t ++ b.rest) b.spells.bits_are)
+read_again bits v (inr o) = message_there bits o.number_there ∙ go (number_of bits) (kind_of (number_of bits)) o.unread (standing bits 12) ∙ ap Ok (other_is bits o.number_there ∙ sym o.value)
+  where
+    go : (n : ℕ) → Kind n → is_read n ≡ false → (c : Cursor) → body_at n c ≡ Ok (other_at n c)
+    go n (station true e) un c = absurd (true_false _ (rw e refl) un)
+    go n (station false e) un c = absurd (true_false _ (rw e refl) un)
+    go n (msm4 true e) un c = absurd (true_false _ (rw e refl) un)
+    go n (msm4 false e) un c = absurd (true_false _ (rw e refl) un)
+    go n (msm7 true e) un c = absurd (true_false _ (rw e refl) un)
+    go n (msm7 false e) un c = absurd (true_false _ (rw e refl) un)
+    go n (other unread no_msm empty is) un c = is c
+
+-- ---- what was read
+
+pub record Found (bits : List Bool) (v : Message) : Type 0 where
+  pub is_message : IsMessage v
+  pub reads : Reads bits v
+
+-- the message number and what stands behind it
+in_front : (bits : List Bool) → 12 ≤ length bits → bits ≡ uint 12 (number_of bits) ++ drop 12 bits
+in_front bits h = (number_took 12 (start bits) (number_of bits, standing bits 12) (number_there_at 12 bits 0 h)).bits
+
+begins : (bits : List Bool) (v : Message) (reserved : ℕ) (rest : List Bool) → IsMessage v → is_other v ≡ false → reserved < 2 ^ reserved_width v → bits ≡ message_bits v reserved ++ rest → Found bits v
+begins bits v reserved rest h known small is = record { is_message = h; reads = inl (record { is_value = h; known = known; front = message_bits v reserved; rest = rest; joined = is; spells = record { reserved = reserved; fits = small; bits_are = refl } }) }
+
+-- a number, and a tail behind it
+with_number : (bits : List Bool) (n : ℕ) (tail rest : List Bool) → bits ≡ uint 12 n ++ drop 12 bits → drop 12 bits ≡ tail ++ rest → bits ≡ (uint 12 n ++ tail) ++ rest
+with_number bits n tail rest e f = e ∙ (ap (λ t. uint 12 n ++ t) f ∙ sym (append_assoc (uint 12 n) tail rest))
+
+found_station : (bits : List Bool) (has : Bool) (s : StationParts) (d : Cursor) → bits ≡ uint 12 (station_number has) ++ drop 12 bits → IsRead s has (standing bits 12) d → Found bits (messages.Station s)
+unfolding spelled
+found_station bits has s d front r =
+    let number : station_number has ≡ station_number (is_some s.height) = ap station_number (sym r.height) in
+    begins bits (messages.Station s) r.reserved d.rest r.in_range refl r.one (with_number bits (station_number (is_some s.height)) (spelled (station_tail s r.reserved)) d.rest (front ∙ ap (λ (n : ℕ). uint 12 n ++ drop 12 bits) number) r.bits)
+
+found_msm4 : (bits : List Bool) (g : Bool) (m : MsmValue) (d : Cursor) → bits ≡ uint 12 (grid4.number g) ++ drop 12 bits → IsMsmRead grid4.satellite_widths grid4.cell_widths g m (standing bits 12) d → Found bits (messages.Msm4 m)
+unfolding spelled
+found_msm4 bits g m d front r =
+    let n = grid4.number m.is_galileo in
+    let content = columns grid4.satellite_widths m.satellites ++ columns grid4.cell_widths m.cells in
+    let number : grid4.number g ≡ n = ap grid4.number (sym r.galileo) in
+    begins bits (messages.Msm4 m) r.reserved d.rest r.is_value refl r.small (with_number bits n (msm_tail grid4.satellite_widths grid4.cell_widths m r.reserved) d.rest (front ∙ ap (λ (n : ℕ). uint 12 n ++ drop 12 bits) number) r.bits
+    ∙ ap (λ (t : List Bool). t ++ d.rest) (sym (append_assoc (uint 12 n) (spelled (header_tail m.header r.reserved)) (spelled (set_fields m.sets) ++ content))))
+
+found_msm7 : (bits : List Bool) (g : Bool) (m : MsmValue) (d : Cursor) → bits ≡ uint 12 (grid7.number g) ++ drop 12 bits → IsMsmRead grid7.satellite_widths grid7.cell_widths g m (standing bits 12) d → Found bits (messages.Msm7 m)
+unfolding spelled
+found_msm7 bits g m d front r =
+    let n = grid7.number m.is_galileo in
+    let content = columns grid7.satellite_widths m.satellites ++ columns grid7.cell_widths m.cells in
+    let number : grid7.number g ≡ n = ap grid7.number (sym r.galileo) in
+    begins bits (messages.Msm7 m) r.reserved d.rest r.is_value refl r.small (with_number bits n (msm_tail grid7.satellite_widths grid7.cell_widths m r.reserved) d.rest (front ∙ ap (λ (n : ℕ). uint 12 n ++ drop 12 bits) number) r.bits
+    ∙ ap (λ (t : List Bool). t ++ d.rest) (sym (append_assoc (uint 12 n) (spelled (header_tail m.header r.reserved)) (spelled (set_fields m.sets) ++ content))))
+
+body_found : (bits : List Bool) (n : ℕ) (v : Message) → 12 ≤ length bits → number_of bits ≡ n → Kind n → body_at n (standing bits 12) ≡ Ok v → Found bits v
+body_found bits n v h is (station has e) read =
+    let body = bind_ok (station_at has (standing bits 12)) _ v (sym (body_station has (standing bits 12)) ∙ (rw e at read)) in
+    subst (Found bits) (ok_inj _ v _ refl body.2) (found_station bits has body.0.0 body.0.1 (in_front bits h ∙ ap (λ (k : ℕ). uint 12 k ++ drop 12 bits) (is ∙ e)) (station_took has (standing bits 12) body.0 body.1))
+body_found bits n v h is (msm4 g e) read =
+    let body = bind_ok (msm_at grid4.satellite_widths grid4.cell_widths g (standing bits 12)) _ v (sym (body_msm4 g (standing bits 12)) ∙ (rw e at read)) in
+    subst (Found bits) (ok_inj _ v _ refl body.2) (found_msm4 bits g body.0.0 body.0.1 (in_front bits h ∙ ap (λ (k : ℕ). uint 12 k ++ drop 12 bits) (is ∙ e)) (msm_took grid4.satellite_widths grid4.cell_widths g (standing bits 12) body.0 body.1))
+body_found bits n v h is (msm7 g e) read =
+    let body = bind_ok (msm_at grid7.satellite_widths grid7.cell_widths g (standing bits 12)) _ v (sym (body_msm7 g (standing bits 12)) ∙ (rw e at read)) in
+    subst (Found bits) (ok_inj _ v _ refl body.2) (found_msm7 bits g body.0.0 body.0.1 (in_front bits h ∙ ap (λ (k : ℕ). uint 12 k ++ drop 12 bits) (is ∙ e)) (msm_took grid7.satellite_widths grid7.cell_widths g (standing bits 12) body.0 body.1))
+body_found bits n v h is (other unread no_msm empty body) read =
+    let value : v ≡ messages.Other (number_of bits) (set_of bits) = ok_inj v (other_at n (standing bits 12)) _ read (body (standing bits 12)) ∙ (ap (λ (k : ℕ). other_at k (standing bits 12)) (sym is) ∙ other_is bits h) in
+    let unread' : is_read (number_of bits) ≡ false = ap is_read is ∙ unread in
+    subst (Found bits) (sym value) (record { is_message = tt; reads = inr (record { number_there = h; unread = unread'; value = refl }) })
+
+pub message_found : (bits : List Bool) (v : Message) → message_of bits ≡ Ok v → Found bits v
+message_found bits v read = elim (cases_lt (length bits) 12) [
+  | inl few ↦ absurd (ok_err v (Short 0) (message_of bits) read (message_none bits few))
+  | inr there ↦ body_found bits (number_of bits) v there refl (kind_of (number_of bits)) (sym (message_there bits there) ∙ read)
+]
+
+-- ---- which fault
+
+data MessageEnd (bits : List Bool) : Type 0 where
+  faulty : (e : MsgFault) → IsFault bits e → message_of bits ≡ Err e → MessageEnd bits
+  sound : (v : Message) → ((f : MsgFault) → IsFault bits f → ⊥) → message_of bits ≡ Ok v → MessageEnd bits
+
+and_first : (a b c : Bool) → a ≡ false → (a && b && c) ≡ false
+and_first true b c h = absurd (cc)
+and_first false b c h = refl
+
+and_second : (a b c : Bool) → b ≡ false → (a && b && c) ≡ false
+and_second true b c h = rw h refl
+and_second false b c h = refl
+
+and_third : (a b c : Bool) → c ≡ false → (a && b && c) ≡ false
+and_third true true c h = h
+and_third true false c h = refl
+and_third false b c h = refl
+
+pub and_all : (a b c : Bool) → a ≡ true → b ≡ true → c ≡ true → IsTrue (a && b && c)
+and_all a b c e f g = rw (e, f, g) refl
+
+le_false : (a b : ℕ) → b < a → nat_le a b ≡ false
+le_false a b h = grind arith
+
+pub le_true : (a b : ℕ) → a ≤ b → nat_le a b ≡ true
+le_true a b h = grind arith
+
+lt_false : (a b : ℕ) → b ≤ a → nat_lt a b ≡ false
+lt_false a b h = grind arith
+
+pub lt_true : (a b : ℕ) → a < b → nat_lt a b ≡ true
+lt_true a b h = grind arith
+
+pub not_true : (b : Bool) → b ≡ false → IsTrue b → ⊥
+not_true b e h = cc
+
+pub some_none : (r : Option ℕ) (k : ℕ) → r ≡ Some k → r ≡ None → ⊥
+some_none r k e f = cc
+
+-- neither of the two faults that come first
+pub record InTime (bits : List Bool) : Type 0 where
+  pub time : has_bad_time bits ≡ false
+  pub few : has_too_many bits ≡ false
+
+no_msm_in_time : (bits : List Bool) → is_msm (number_of bits) ≡ false → InTime bits
+no_msm_in_time bits h = record { time = and_first (is_msm (number_of bits)) (nat_le 54 (length bits)) (nat_le week (field_at bits 24 30)) h; few = and_first (is_msm (number_of bits)) (nat_le 169 (length bits)) (nat_lt 64 (pairs_of bits)) h }
+
+no_fault : (bits : List Bool) → 12 ≤ length bits → InTime bits → first_past (length bits) 0 (layout bits) ≡ None → (f : MsgFault) → IsFault bits f → ⊥
+no_fault bits h clean none BadTime f = not_true (has_bad_time bits) clean.time f
+no_fault bits h clean none TooManyCells f = not_true (has_too_many bits) clean.few f.1
+no_fault bits h clean none (Short k) (time, few, inl x) = omega (arith, h, x.0)
+no_fault bits h clean none (Short k) (time, few, inr x) = some_none (first_past (length bits) 0 (layout bits)) k x.1 none
+
+short_fault : (bits : List Bool) (ws : List ℕ) (e : MsgFault) → 12 ≤ length bits → InTime bits → layout bits ≡ 12 ∷ ws → ShortAt bits 12 ws e → IsFault bits e
+short_fault bits ws e h clean is s = subst (IsFault bits) (sym s.is) (clean.time, clean.few, inr (h, ap (first_past (length bits) 0) is ∙ (past_next 12 ws (length bits) 0 h ∙ s.past)))
+
+past_all : (bits : List Bool) (ws : List ℕ) → 12 ≤ length bits → layout bits ≡ 12 ∷ ws → first_past (length bits) 12 ws ≡ None → first_past (length bits) 0 (layout bits) ≡ None
+past_all bits ws h is none = ap (first_past (length bits) 0) is ∙ (past_next 12 ws (length bits) 0 h ∙ none)
+
+station_end : (bits : List Bool) (has : Bool) → 12 ≤ length bits
+    → ((e : MsgFault) × (station_at has (standing bits 12) ≡ Err e) × ShortAt bits 12 (station_widths ++ height_widths has) e) ⊎ ((v : StationParts × Cursor) × (station_at has (standing bits 12) ≡ Ok v) × (first_past (length bits) 12 (station_widths ++ height_widths has) ≡ None))
+station_end bits has h = elim (fields_read station_table bits 12 h) [
+  | inl few ↦ inl (few.1.0, station_chain has (standing bits 12) ∙ rw few.1.1 refl, short_at_more station_widths (height_widths has) bits 12 few.1.0 few.1.2)
+  | inr there ↦ by_height has there.0 there.1
+]
+  where
+    by_height : (has : Bool) → 12 + total station_widths ≤ length bits → fields_at station_table (standing bits 12) ≡ Ok (contents_at station_table bits 12, standing bits (12 + total station_widths))
+        → ((e : MsgFault) × (station_at has (standing bits 12) ≡ Err e) × ShortAt bits 12 (station_widths ++ height_widths has) e) ⊎ ((v : StationParts × Cursor) × (station_at has (standing bits 12) ≡ Ok v) × (first_past (length bits) 12 (station_widths ++ height_widths has) ≡ None))
+    by_height false room read = inr ((station_parts (contents_at station_table bits 12) None, standing bits 152), station_chain false (standing bits 12) ∙ rw read refl, past_none (station_widths ++ []) (length bits) 12 room)
+    by_height true room read = elim (cases_lt (length bits) 168) [
+      | inl few ↦ inl (Short 152, station_chain true (standing bits 12) ∙ rw (read, number_short 16 (standing bits 152) (omega (arith, length-drop 152 bits))) refl, short_at_behind station_widths (16 ∷ []) bits 12 (Short 152) room (record { first = 152; is = refl; past = past_here 16 [] (length bits) 152 few }))
+      | inr all ↦ inr ((station_parts (contents_at station_table bits 12) (Some (part bits 152 16)), standing bits 168), station_chain true (standing bits 12) ∙ rw (read, number_there_at 16 bits 152 all) refl, past_none (station_widths ++ (16 ∷ [])) (length bits) 12 all)
+    ]
+
+pub layout_station : (has : Bool) (bits : List Bool) → layout_of (station_number has) bits ≡ 12 ∷ (station_widths ++ height_widths has)
+layout_station true bits = refl
+layout_station false bits = refl
+
+pub layout_msm4 : (g : Bool) (bits : List Bool) → layout_of (grid4.number g) bits ≡ 12 ∷ msm_widths grid4.satellite_widths grid4.cell_widths bits
+layout_msm4 true bits = refl
+layout_msm4 false bits = refl
+
+pub layout_msm7 : (g : Bool) (bits : List Bool) → layout_of (grid7.number g) bits ≡ 12 ∷ msm_widths grid7.satellite_widths grid7.cell_widths bits
+layout_msm7 true bits = refl
+layout_msm7 false bits = refl
+
+station_no_msm : (has : Bool) → is_msm (station_number has) ≡ false
+station_no_msm true = refl
+station_no_msm false = refl
+
+pub msm4_is_msm : (g : Bool) → is_msm (grid4.number g) ≡ true
+msm4_is_msm true = refl
+msm4_is_msm false = refl
+
+pub msm7_is_msm : (g : Bool) → is_msm (grid7.number g) ≡ true
+msm7_is_msm true = refl
+msm7_is_msm false = refl
+
+-- how a multiple signal message ends, by the widths of either grid
+msm_message_end : (bits : List Bool) (sw cw : List ℕ) (g : Bool) (wrap : MsmValue → Message) → 12 ≤ length bits → is_msm (number_of bits) ≡ true → layout bits ≡ 12 ∷ msm_widths sw cw bits
+    → message_of bits ≡ (msm_at sw cw g (standing bits 12) >>= λ m. Ok (wrap m.0)) → MsmEnd sw cw g bits → MessageEnd bits
+msm_message_end bits sw cw g wrap h msm lay read end = go end
+  where
+    m : Bool
+    m = is_msm (number_of bits)
+
+    early_is : part bits 24 30 < week → has_bad_time bits ≡ false
+    early_is early = and_third m (nat_le 54 (length bits)) (nat_le week (field_at bits 24 30)) (le_false week (field_at bits 24 30) early)
+
+    few_is : pairs_of bits ≤ 64 → has_too_many bits ≡ false
+    few_is few = and_third m (nat_le 169 (length bits)) (nat_lt 64 (pairs_of bits)) (lt_false 64 (pairs_of bits) few)
+
+    go : MsmEnd sw cw g bits → MessageEnd bits
+    go (no_time e few s is) = faulty e (short_fault bits (msm_widths sw cw bits) e h (record { time = and_second m (nat_le 54 (length bits)) (nat_le week (field_at bits 24 30)) (le_false 54 (length bits) few); few = and_second m (nat_le 169 (length bits)) (nat_lt 64 (pairs_of bits)) (le_false 169 (length bits) (omega (arith, few))) }) lay s) (read ∙ rw is refl)
+    go (late there over is) = faulty BadTime (and_all m (nat_le 54 (length bits)) (nat_le week (field_at bits 24 30)) msm (le_true 54 (length bits) there) (le_true week (field_at bits 24 30) over)) (read ∙ rw is refl)
+    go (no_masks e early few s is) = faulty e (short_fault bits (msm_widths sw cw bits) e h (record { time = early_is early; few = and_second m (nat_le 169 (length bits)) (nat_lt 64 (pairs_of bits)) (le_false 169 (length bits) few) }) lay s) (read ∙ rw is refl)
+    go (many early there over is) = faulty TooManyCells (early_is early, and_all m (nat_le 169 (length bits)) (nat_lt 64 (pairs_of bits)) msm (le_true 169 (length bits) there) (lt_true 64 (pairs_of bits) over)) (read ∙ rw is refl)
+    go (short e early few s is) = faulty e (short_fault bits (msm_widths sw cw bits) e h (record { time = early_is early; few = few_is few }) lay s) (read ∙ rw is refl)
+    go (good v early few none is) = sound (wrap v.0) (no_fault bits h (record { time = early_is early; few = few_is few }) (past_all bits (msm_widths sw cw bits) h lay none)) (read ∙ rw is refl)
+
+message_end : (bits : List Bool) → MessageEnd bits
+unfolding first_past
+message_end bits = elim (cases_lt (length bits) 12) [
+  | inl few ↦ faulty (Short 0) (
+    and_second (is_msm (number_of bits)) (nat_le 54 (length bits)) (nat_le week (field_at bits 24 30)) (le_false 54 (length bits) (omega (arith, few))),
+    and_second (is_msm (number_of bits)) (nat_le 169 (length bits)) (nat_lt 64 (pairs_of bits)) (le_false 169 (length bits) (omega (arith, few))),
+    inl (few, refl),
+  ) (message_none bits few)
+  | inr there ↦ go (number_of bits) refl there (kind_of (number_of bits))
+]
+  where
+    go : (n : ℕ) → number_of bits ≡ n → 12 ≤ length bits → Kind n → MessageEnd bits
+    go n is h (station has e) =
+        let lay : layout bits ≡ 12 ∷ (station_widths ++ height_widths has) = ap (λ (k : ℕ). layout_of k bits) (is ∙ e) ∙ layout_station has bits in
+        let clean = no_msm_in_time bits (ap is_msm (is ∙ e) ∙ station_no_msm has) in
+        let read : message_of bits ≡ (station_at has (standing bits 12) >>= λ s. Ok (messages.Station s.0)) = message_there bits h ∙ (ap (λ (k : ℕ). body_at k (standing bits 12)) (is ∙ e) ∙ body_station has (standing bits 12)) in
+        elim (station_end bits has h) [
+          | inl bad ↦ faulty bad.0 (short_fault bits (station_widths ++ height_widths has) bad.0 h clean lay bad.2) (read ∙ rw bad.1 refl)
+          | inr fine ↦ sound (messages.Station fine.0.0) (no_fault bits h clean (past_all bits (station_widths ++ height_widths has) h lay fine.2)) (read ∙ rw fine.1 refl)
+        ]
+    go n is h (msm4 g e) = msm_message_end bits grid4.satellite_widths grid4.cell_widths g messages.Msm4 h (ap is_msm (is ∙ e) ∙ msm4_is_msm g) (ap (λ (k : ℕ). layout_of k bits) (is ∙ e) ∙ layout_msm4 g bits)
+        (message_there bits h ∙ (ap (λ (k : ℕ). body_at k (standing bits 12)) (is ∙ e) ∙ body_msm4 g (standing bits 12))) (msm_end grid4.satellite_widths grid4.cell_widths g bits h)
+    go n is h (msm7 g e) = msm_message_end bits grid7.satellite_widths grid7.cell_widths g messages.Msm7 h (ap is_msm (is ∙ e) ∙ msm7_is_msm g) (ap (λ (k : ℕ). layout_of k bits) (is ∙ e) ∙ layout_msm7 g bits)
+        (message_there bits h ∙ (ap (λ (k : ℕ). body_at k (standing bits 12)) (is ∙ e) ∙ body_msm7 g (standing bits 12))) (msm_end grid7.satellite_widths grid7.cell_widths g bits h)
+    go n is h (other unread no_msm empty body) = sound (other_at n (standing bits 12)) (no_fault bits h (no_msm_in_time bits (ap is_msm is ∙ no_msm)) (ap (first_past (length bits) 0) (ap (λ (k : ℕ). layout_of k bits) is ∙ empty bits)))
+        (message_there bits h ∙ (ap (λ (k : ℕ). body_at k (standing bits 12)) is ∙ body (standing bits 12)))
+
+pub message_fault : (bits : List Bool) (e : MsgFault) → message_of bits ≡ Err e → IsFault bits e
+message_fault bits e read = go (message_end bits)
+  where
+    err_same : (e d : MsgFault) (r : Result Message MsgFault) → r ≡ Err e → r ≡ Err d → e ≡ d
+    err_same e d r a b = cc
+
+    go : MessageEnd bits → IsFault bits e
+    go (faulty d f is) = subst (IsFault bits) (err_same d e (message_of bits) is read) f
+    go (sound v none is) = absurd (ok_err v e (message_of bits) is read)
+
+fault_one : (bits : List Bool) (e f : MsgFault) → IsFault bits e → IsFault bits f → e ≡ f
+fault_one bits BadTime BadTime a b = refl
+fault_one bits BadTime TooManyCells a b = absurd (not_true (has_bad_time bits) b.0 a)
+fault_one bits BadTime (Short k) a b = absurd (not_true (has_bad_time bits) b.0 a)
+fault_one bits TooManyCells BadTime a b = absurd (not_true (has_bad_time bits) a.0 b)
+fault_one bits TooManyCells TooManyCells a b = refl
+fault_one bits TooManyCells (Short k) a b = absurd (not_true (has_too_many bits) b.1 a.1)
+fault_one bits (Short k) BadTime a b = absurd (not_true (has_bad_time bits) a.0 b)
+fault_one bits (Short k) TooManyCells a b = absurd (not_true (has_too_many bits) a.1 b.1)
+fault_one bits (Short k) (Short j) (at, am, inl x) (bt, bm, inl y) = ap Short (x.1 ∙ sym y.1)
+fault_one bits (Short k) (Short j) (at, am, inl x) (bt, bm, inr y) = absurd (omega (arith, x.0, y.0))
+fault_one bits (Short k) (Short j) (at, am, inr x) (bt, bm, inl y) = absurd (omega (arith, x.0, y.0))
+fault_one bits (Short k) (Short j) (at, am, inr x) (bt, bm, inr y) = ap Short (some_same (first_past (length bits) 0 (layout bits)) k j x.1 y.1)
+  where
+    some_same : (r : Option ℕ) (k j : ℕ) → r ≡ Some k → r ≡ Some j → k ≡ j
+    some_same r k j e f = cc
+
+pub message_only_fault : (bits : List Bool) (f : MsgFault) → IsFault bits f → message_of bits ≡ Err f
+message_only_fault bits f fault = go (message_end bits)
+  where
+    go : MessageEnd bits → message_of bits ≡ Err f
+    go (faulty d stands is) = is ∙ ap Err (fault_one bits d f stands fault)
+    go (sound v none is) = absurd (none f fault)
+
+-- ---- what is written
+
+pub zero_read : (v : Message) → IsMessage v → is_other v ≡ false → Reads (filled (message_bits v 0)) v
+zero_read v value known = inl (record { is_value = value; known = known; front = message_bits v 0; rest = replicate (missing (length (message_bits v 0))) false; joined = refl; spells = record { reserved = 0; fits = zero_fits v; bits_are = refl } })
+  where
+    zero_fits : (v : Message) → 0 < 2 ^ reserved_width v
+    zero_fits v = pow_pos (reserved_width v)

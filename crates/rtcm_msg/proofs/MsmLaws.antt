@@ -1,0 +1,217 @@
+-- What is read as a multiple signal message, what is read again, and which fault stands.
+use Rattle.std.proofs.Common.{ℕ, ◌≡◌, ◌+◌, ◌*◌, ◌^◌, ◌<◌, ◌≤◌, Bool, List, [], ◌∷◌, ◌++◌, length, Result, Ok, Err, refl, sym, ap, subst, ◌∙◌, arith, inl, inr, append_assoc, replicate, count_ones, ◌/◌}
+use Rattle.std.proofs.lemmas.Bool.{cases_lt}
+use Rattle.std.proofs.lemmas.List.{length-map, length-replicate}
+use Rattle.rtcm_bits.specs.Bits.{uint}
+use Rattle.rtcm_bits.specs.Reading.{Cursor}
+use Rattle.rtcm_msg.specs.declared.fault.MsgFault.{MsgFault}
+use Rattle.rtcm_msg.specs.declared.fault.MsgFault.TheVariants.{BadTime, TooManyCells}
+use Rattle.rtcm_msg.specs.declared.header.MsmHeader.{MsmHeader}
+use Rattle.rtcm_msg.specs.Fields.{number_at, reading, ◌>>=◌, spelled}
+use Rattle.rtcm_msg.specs.Packed.{total, columns}
+use Rattle.rtcm_msg.specs.Columns.{columns_at, EachBelow}
+use Rattle.rtcm_msg.specs.Msm.{sets_behind, header_at, sets_at, msm_at, timely, week, IsHeader, AreSets, IsValue, Sets, MsmValue, pairs, set_fields, time_table, header_table, mask_table, time_contents, header_contents, header_of}
+use Rattle.rtcm_msg.proofs.Binds.{ok_inj, bind_ok, number_took}
+use Rattle.rtcm_msg.proofs.Combine.{ok_err, cursor, number_again}
+use Rattle.rtcm_msg.proofs.WritingSteps.{spelled-append}
+use Rattle.rtcm_msg.proofs.FieldLaws.{fields_at, reading_is, fields_ok, fields_again, FieldsTook}
+use Rattle.rtcm_msg.specs.Layout.{widths, Contents, fields_of}
+use Rattle.rtcm_msg.proofs.ColumnSteps.{columns_fit}
+use Rattle.rtcm_msg.proofs.ColumnLaws.{ColumnsTook, columns_took, columns_again, highs_zero}
+
+-- ---- the parts
+
+-- the fields behind the message number, up to the time, and those behind the time
+abbrev pub head_widths : List ℕ
+head_widths = widths time_table
+
+abbrev pub tail_widths : List ℕ
+tail_widths = widths header_table
+
+abbrev pub mask_widths : List ℕ
+mask_widths = widths mask_table
+
+-- the fields of a header behind the message number
+abbrev pub header_tail : MsmHeader → ℕ → List (ℕ × ℕ)
+header_tail h reserved = fields_of time_table (time_contents h) ++ fields_of header_table (header_contents h reserved)
+
+abbrev pub header_rest : ℕ → ℕ → Cursor → Result (MsmHeader × Cursor) MsgFault
+header_rest station time c = reading header_table c (λ m. Ok (header_of station time m.0, m.1))
+
+pub header_rest_is : (station time : ℕ) (c : Cursor) → header_rest station time c ≡ (fields_at header_table c >>= λ m. Ok (header_of station time m.0, m.1))
+header_rest_is station time c = reading_is header_table c (λ m. Ok (header_of station time m.0, m.1))
+
+pub header_chain : (c : Cursor) → header_at c ≡ (fields_at time_table c >>= λ n. timely n.0.1.0 n.1 >>= λ t. header_rest n.0.0 t.0 t.1)
+unfolding header_at
+header_chain c = reading_is time_table c (λ n. timely n.0.1.0 n.1 >>= λ t. header_rest n.0.0 t.0 t.1)
+
+-- two runs of fields, one behind the other
+pub both : (fs gs : List (ℕ × ℕ)) (a b d : List Bool) → a ≡ spelled fs ++ b → b ≡ spelled gs ++ d → a ≡ spelled (fs ++ gs) ++ d
+both fs gs a b d e f = e ∙ (ap (λ t. spelled fs ++ t) f ∙ (sym (append_assoc (spelled fs) (spelled gs) d) ∙ ap (λ t. t ++ d) (sym (spelled-append fs gs))))
+
+-- ---- times
+
+pub in_time : (t : ℕ) (c : Cursor) → t < week → timely t c ≡ Ok (t, c)
+in_time t c h = grind arith
+
+pub too_late : (t : ℕ) (c : Cursor) → week ≤ t → timely t c ≡ Err BadTime
+too_late t c h = grind arith
+
+-- ---- headers
+
+pub record IsHeaderRead (v : MsmHeader) (c d : Cursor) : Type 0 where
+  pub reserved : ℕ
+  pub small : reserved < 128
+  pub is_header : IsHeader v
+  pub bits : c.rest ≡ spelled (header_tail v reserved) ++ d.rest
+
+header_done : (c : Cursor) (n : Contents time_table × Cursor) (m : Contents header_table × Cursor) → FieldsTook time_table c n → n.0.1.0 < week → FieldsTook header_table n.1 m → IsHeaderRead (header_of n.0.0 n.0.1.0 m.0) c m.1
+header_done c n m a early b = record {
+  reserved = m.0.1.1.0;
+  small = b.fit.1.1.0;
+  is_header = record { station = a.fit.0; time = early; iods = b.fit.1.0; steering = b.fit.1.1.1.0; clock = b.fit.1.1.1.1.0; interval = b.fit.1.1.1.1.1.1.0 };
+  bits = both (fields_of time_table n.0) (fields_of header_table m.0) _ _ _ a.bits b.bits;
+}
+
+pub header_took : (c : Cursor) (v : MsmHeader × Cursor) → header_at c ≡ Ok v → IsHeaderRead v.0 c v.1
+header_took c v e =
+    let head = bind_ok (fields_at time_table c) _ v (sym (header_chain c) ∙ e) in
+    let took = fields_ok time_table c head.0 refl head.1 in
+    elim (cases_lt head.0.0.1.0 week) [
+      | inl early ↦
+          let tail = bind_ok (fields_at header_table head.0.1) _ v (sym (header_rest_is head.0.0.0 head.0.0.1.0 head.0.1) ∙ (rw (in_time head.0.0.1.0 head.0.1 early) at head.2)) in
+          subst (λ (w : MsmHeader × Cursor). IsHeaderRead w.0 c w.1) (ok_inj _ v _ refl tail.2) (header_done c head.0 tail.0 took early (fields_ok header_table head.0.1 tail.0 refl tail.1))
+      | inr late ↦ absurd (ok_err v BadTime _ head.2 (rw (too_late head.0.0.1.0 head.0.1 late) refl))
+    ]
+
+pub header_again : (v : MsmHeader) (reserved place : ℕ) (rest : List Bool) → IsHeader v → reserved < 128 → header_at (cursor place (spelled (header_tail v reserved) ++ rest)) ≡ Ok (v, cursor (place + 42 + 19) rest)
+header_again v reserved place rest h small =
+    let n = time_contents v in
+    let m = header_contents v reserved in
+    let c = cursor place (spelled (header_tail v reserved) ++ rest) in
+    let split : c ≡ cursor place (spelled (fields_of time_table n) ++ (spelled (fields_of header_table m) ++ rest)) = ap (cursor place) (ap (λ t. t ++ rest) (spelled-append (fields_of time_table n) (fields_of header_table m)) ∙ append_assoc (spelled (fields_of time_table n)) (spelled (fields_of header_table m)) rest) in
+    let first = fields_again time_table n place (spelled (fields_of header_table m) ++ rest) refl (h.station, (early v.time h.time, tt)) in
+    let second = fields_again header_table m (place + 42) rest refl (tt, (h.iods, (small, (h.steering, (h.clock, (tt, (h.interval, tt))))))) in
+    header_chain c ∙ rw (split, first, in_time v.time (cursor (place + 42) (spelled (fields_of header_table m) ++ rest)) h.time, header_rest_is v.station v.time (cursor (place + 42) (spelled (fields_of header_table m) ++ rest)), second) refl
+  where
+    early : (t : ℕ) → t < week → t < 2 ^ 30
+    early t h = omega (arith, h)
+
+-- ---- sets
+
+pub sets_chain : (c : Cursor) → sets_at c ≡ (fields_at mask_table c >>= λ n. sets_behind n.0.0 n.0.1.0 n.1)
+unfolding sets_at
+sets_chain c = reading_is mask_table c (λ n. sets_behind n.0.0 n.0.1.0 n.1)
+
+pub few_rest : (satellites signals : ℕ) (c : Cursor) → pairs satellites signals ≤ 64 → sets_behind satellites signals c ≡ (number_at (pairs satellites signals) c >>= λ cells. Ok (record { satellites = satellites; signals = signals; cells = cells.0 }, cells.1))
+few_rest a b c h = grind arith
+
+pub many_rest : (satellites signals : ℕ) (c : Cursor) → 64 < pairs satellites signals → sets_behind satellites signals c ≡ Err TooManyCells
+many_rest a b c h = grind arith
+
+pub record AreSetsRead (v : Sets) (c d : Cursor) : Type 0 where
+  pub are_sets : AreSets v
+  pub bits : c.rest ≡ spelled (set_fields v) ++ d.rest
+
+pub sets_took : (c : Cursor) (v : Sets × Cursor) → sets_at c ≡ Ok v → AreSetsRead v.0 c v.1
+unfolding spelled
+sets_took c v e =
+    let masks = bind_ok (fields_at mask_table c) _ v (sym (sets_chain c) ∙ e) in
+    let took = fields_ok mask_table c masks.0 refl masks.1 in
+    let a = masks.0.0.0 in
+    let b = masks.0.0.1.0 in
+    elim (cases_lt 64 (pairs a b)) [
+      | inl many ↦ absurd (ok_err v TooManyCells _ masks.2 (many_rest a b masks.0.1 many))
+      | inr few ↦
+          let cells = bind_ok (number_at (pairs a b) masks.0.1) _ v (sym (few_rest a b masks.0.1 few) ∙ masks.2) in
+          let read = number_took (pairs a b) masks.0.1 cells.0 cells.1 in
+          subst (λ (w : Sets × Cursor). AreSetsRead w.0 c w.1) (ok_inj _ v _ refl cells.2) (record {
+            are_sets = record { satellites = took.fit.0; signals = took.fit.1.0; few = few; cells = read.fits };
+            bits = both (fields_of mask_table masks.0.0) ((pairs a b, cells.0.0) ∷ []) _ _ _ took.bits (read.bits ∙ sym (append_assoc (uint (pairs a b) cells.0.0) [] cells.0.1.rest));
+          })
+    ]
+
+pub sets_again : (v : Sets) (place : ℕ) (rest : List Bool) → AreSets v → sets_at (cursor place (spelled (set_fields v) ++ rest)) ≡ Ok (v, cursor (place + 96 + pairs v.satellites v.signals) rest)
+unfolding spelled
+sets_again v place rest h =
+    let n : Contents mask_table = (v.satellites, (v.signals, tt)) in
+    let p = pairs v.satellites v.signals in
+    let c = cursor place (spelled (set_fields v) ++ rest) in
+    let split : c ≡ cursor place (spelled (fields_of mask_table n) ++ (spelled ((p, v.cells) ∷ []) ++ rest)) = ap (cursor place) (ap (λ t. t ++ rest) (spelled-append (fields_of mask_table n) ((p, v.cells) ∷ [])) ∙ append_assoc (spelled (fields_of mask_table n)) (spelled ((p, v.cells) ∷ [])) rest) in
+    let first = fields_again mask_table n place (spelled ((p, v.cells) ∷ []) ++ rest) refl (h.satellites, (h.signals, tt)) in
+    let second = number_again p v.cells (place + 96) rest h.cells in
+    sets_chain c ∙ rw (split, first, few_rest v.satellites v.signals (cursor (place + 96) (spelled ((p, v.cells) ∷ []) ++ rest)) h.few, append_assoc (uint p v.cells) [] rest, second) refl
+
+-- ---- the whole
+
+-- the bits behind the message number
+abbrev pub msm_tail : List ℕ → List ℕ → MsmValue → ℕ → List Bool
+msm_tail sw cw v reserved = spelled (header_tail v.header reserved) ++ (spelled (set_fields v.sets) ++ (columns sw v.satellites ++ columns cw v.cells))
+
+pub record IsMsmRead (sw cw : List ℕ) (g : Bool) (v : MsmValue) (c d : Cursor) : Type 0 where
+  pub reserved : ℕ
+  pub small : reserved < 128
+  pub is_value : IsValue sw cw v
+  pub galileo : v.is_galileo ≡ g
+  pub bits : c.rest ≡ msm_tail sw cw v reserved ++ d.rest
+
+-- as many columns' numbers are read as were asked for
+columns_count : (ws : List ℕ) (n : ℕ) (c : Cursor) (x : List ℕ × Cursor) → ColumnsTook ws (replicate n 0) c x → length x.0 ≡ n
+columns_count ws n c x t = sym (length-map x.0 (λ k. k / 2 ^ total ws)) ∙ (ap length t.high ∙ length-replicate n 0)
+
+msm_done : (sw cw : List ℕ) (g : Bool) (c : Cursor) (h : MsmHeader × Cursor) (s : Sets × Cursor) (x y : List ℕ × Cursor) → IsHeaderRead h.0 c h.1 → AreSetsRead s.0 h.1 s.1
+    → columns_at sw (replicate (count_ones s.0.satellites) 0) s.1 ≡ Ok x → columns_at cw (replicate (count_ones s.0.cells) 0) x.1 ≡ Ok y
+    → IsMsmRead sw cw g (record { is_galileo = g; header = h.0; sets = s.0; satellites = x.0; cells = y.0 }) c y.1
+msm_done sw cw g c h s x y a b e f =
+    let xs = columns_took sw (replicate (count_ones s.0.satellites) 0) s.1 x e in
+    let ys = columns_took cw (replicate (count_ones s.0.cells) 0) x.1 y f in
+    record {
+      reserved = a.reserved;
+      small = a.small;
+      galileo = refl;
+      is_value = record {
+        header = a.is_header;
+        sets = b.are_sets;
+        satellite_count = columns_count sw (count_ones s.0.satellites) s.1 x xs;
+        cell_count = columns_count cw (count_ones s.0.cells) x.1 y ys;
+        satellites = columns_fit sw (count_ones s.0.satellites) s.1 x e;
+        cells = columns_fit cw (count_ones s.0.cells) x.1 y f;
+      };
+      bits = join4 (spelled (header_tail h.0 a.reserved)) (spelled (set_fields s.0)) (columns sw x.0) (columns cw y.0) _ _ _ _ _ a.bits b.bits xs.bits ys.bits;
+    }
+  where
+    join4 : (p q r t a b c d e : List Bool) → a ≡ p ++ b → b ≡ q ++ c → c ≡ r ++ d → d ≡ t ++ e → a ≡ (p ++ (q ++ (r ++ t))) ++ e
+    join4 p q r t a b c d e i j k l = i ∙ (ap (λ z. p ++ z) (j ∙ ap (λ z. q ++ z) (k ∙ ap (λ z. r ++ z) l)) ∙ sym (append_assoc p (q ++ (r ++ t)) e ∙ ap (λ z. p ++ z) (append_assoc q (r ++ t) e ∙ ap (λ z. q ++ z) (append_assoc r t e))))
+
+-- numbers in range are read again from zeros
+columns_same : (ws ns : List ℕ) (count place : ℕ) (rest : List Bool) → length ns ≡ count → EachBelow (total ws) ns → columns_at ws (replicate count 0) (cursor place (columns ws ns ++ rest)) ≡ Ok (ns, cursor (place + total ws * length ns) rest)
+columns_same ws ns count place rest len below = rw (← len, ← highs_zero (total ws) ns below) (columns_again ws ns place rest)
+
+pub msm_took : (sw cw : List ℕ) (g : Bool) (c : Cursor) (v : MsmValue × Cursor) → msm_at sw cw g c ≡ Ok v → IsMsmRead sw cw g v.0 c v.1
+unfolding msm_at
+msm_took sw cw g c v e =
+    let header = bind_ok (header_at c) _ v e in
+    let sets = bind_ok (sets_at header.0.1) _ v header.2 in
+    let satellites = bind_ok (columns_at sw (replicate (count_ones sets.0.0.satellites) 0) sets.0.1) _ v sets.2 in
+    let cells = bind_ok (columns_at cw (replicate (count_ones sets.0.0.cells) 0) satellites.0.1) _ v satellites.2 in
+    subst (λ (w : MsmValue × Cursor). IsMsmRead sw cw g w.0 c w.1) (ok_inj _ v _ refl cells.2)
+    (msm_done sw cw g c header.0 sets.0 satellites.0 cells.0 (header_took c header.0 header.1) (sets_took header.0.1 sets.0 sets.1) satellites.1 cells.1)
+
+pub msm_again : (sw cw : List ℕ) (v : MsmValue) (reserved place : ℕ) (rest : List Bool) → IsValue sw cw v → reserved < 128 → (d : Cursor) × (msm_at sw cw v.is_galileo (cursor place (msm_tail sw cw v reserved ++ rest)) ≡ Ok (v, d))
+unfolding msm_at
+msm_again sw cw v reserved place rest h small =
+    let p = pairs v.sets.satellites v.sets.signals in
+    let here = place + 42 + 19 in
+    let there = here + 96 + p in
+    let last = columns cw v.cells ++ rest in
+    let mid = columns sw v.satellites ++ last in
+    let sets = spelled (set_fields v.sets) ++ mid in
+    let split : msm_tail sw cw v reserved ++ rest ≡ spelled (header_tail v.header reserved) ++ sets =
+    append_assoc (spelled (header_tail v.header reserved)) (spelled (set_fields v.sets) ++ (columns sw v.satellites ++ columns cw v.cells)) rest
+    ∙ ap (λ t. spelled (header_tail v.header reserved) ++ t) (append_assoc (spelled (set_fields v.sets)) (columns sw v.satellites ++ columns cw v.cells) rest
+    ∙ ap (λ t. spelled (set_fields v.sets) ++ t) (append_assoc (columns sw v.satellites) (columns cw v.cells) rest)) in
+    let first = header_again v.header reserved place sets h.header small in
+    let second = sets_again v.sets here mid h.sets in
+    let third = columns_same sw v.satellites (count_ones v.sets.satellites) there last h.satellite_count h.satellites in
+    let fourth = columns_same cw v.cells (count_ones v.sets.cells) (there + total sw * length v.satellites) rest h.cell_count h.cells in
+    (cursor (there + total sw * length v.satellites + total cw * length v.cells) rest, rw (split, first, second, third, fourth) refl)

@@ -1,0 +1,95 @@
+-- What is read as a station, what is read again, and which fault stands.
+use Rattle.std.proofs.Common.{ℕ, ◌≡◌, ◌+◌, ◌^◌, ◌<◌, Bool, true, false, List, [], ◌++◌, Ok, Option, Some, None, refl, sym, ap, ◌∙◌, is_some, subst, append_assoc, IfSome, add-zero}
+use Rattle.rtcm_bits.specs.Bits.{uint}
+use Rattle.rtcm_bits.specs.Reading.{Cursor}
+use Rattle.rtcm_msg.specs.declared.station.StationParts.{StationParts}
+use Rattle.rtcm_msg.specs.Fields.{number_at, ◌>>=◌, spelled}
+use Rattle.rtcm_msg.specs.Packed.{total}
+use Rattle.rtcm_msg.specs.Station.{station_at, height_at, InRange, height_fields, station_table, height_table, station_contents, station_parts}
+use Rattle.rtcm_msg.proofs.Binds.{bind_ok, ok_inj, number_took}
+use Rattle.rtcm_msg.proofs.Combine.{cursor, number_again}
+use Rattle.rtcm_msg.proofs.WritingSteps.{spelled-append}
+use Rattle.rtcm_msg.proofs.FieldLaws.{fields_at, reading_is, fields_ok, fields_again, FieldsTook}
+use Rattle.rtcm_msg.specs.Layout.{widths, Contents, fields_of}
+use Rattle.rtcm_msg.specs.LayoutLaws.{FitAll}
+
+-- the fields behind the message number, up to the height
+abbrev pub station_widths : List ℕ
+station_widths = widths station_table
+
+abbrev pub height_widths : Bool → List ℕ
+height_widths false = []
+height_widths true = widths height_table
+
+-- the fields of a station message behind its number
+abbrev pub station_tail : StationParts → ℕ → List (ℕ × ℕ)
+station_tail s reserved = fields_of station_table (station_contents s reserved) ++ height_fields s.height
+
+pub station_chain : (has : Bool) (c : Cursor) → station_at has c ≡ (fields_at station_table c >>= λ s. height_at has s.1 >>= λ h. Ok (station_parts s.0 h.0, h.1))
+unfolding station_at
+station_chain has c = reading_is station_table c (λ s. height_at has s.1 >>= λ h. Ok (station_parts s.0 h.0, h.1))
+
+-- ---- what is read as a station
+
+-- the fields that stand between the message number and what follows are those of the value
+pub record IsRead (s : StationParts) (has : Bool) (c d : Cursor) : Type 0 where
+  pub reserved : ℕ
+  pub one : reserved < 2
+  pub in_range : InRange s
+  pub height : is_some s.height ≡ has
+  pub bits : c.rest ≡ spelled (station_tail s reserved) ++ d.rest
+
+abbrev reserved_of : Contents station_table → ℕ
+reserved_of cs = cs.1.1.1.1.1.1.1.1.0
+
+in_range_of : (cs : Contents station_table) (h : Option ℕ) → FitAll station_table cs → IfSome h (λ k. k < 2 ^ 16) → InRange (station_parts cs h)
+in_range_of cs h (station, (realization, (gps, (glonass, (galileo, (reference, (x, (oscillator, (reserved, (y, (quarter, (z, end)))))))))))) height =
+    record { station = station; realization = realization; x = x; y = y; quarter = quarter; z = z; height = height }
+
+-- the bits of the fields that were read, with those of the height
+took_bits : (has : Bool) (c : Cursor) (n : Contents station_table × Cursor) (h : Option ℕ × Cursor) → FieldsTook station_table c n → IfSome h.0 (λ k. k < 2 ^ 16) → is_some h.0 ≡ has → n.1.rest ≡ spelled (height_fields h.0) ++ h.1.rest
+    → IsRead (station_parts n.0 h.0) has c h.1
+took_bits has c n h took fits is bits = record {
+  reserved = reserved_of n.0;
+  one = took.fit.1.1.1.1.1.1.1.1.0;
+  in_range = in_range_of n.0 h.0 took.fit fits;
+  height = is;
+  bits = took.bits ∙ (ap (λ t. spelled (fields_of station_table n.0) ++ t) bits ∙ (sym (append_assoc (spelled (fields_of station_table n.0)) (spelled (height_fields h.0)) h.1.rest)
+      ∙ ap (λ (m : List Bool). m ++ h.1.rest) (sym (spelled-append (fields_of station_table n.0) (height_fields h.0)))));
+}
+
+by_height : (has : Bool) (c : Cursor) (n : Contents station_table × Cursor) (h : Option ℕ × Cursor) → FieldsTook station_table c n → height_at has n.1 ≡ Ok h → IsRead (station_parts n.0 h.0) has c h.1
+unfolding spelled
+by_height false c n h took e = subst (λ (k : Option ℕ × Cursor). IsRead (station_parts n.0 k.0) false c k.1) (ok_inj (None, n.1) h _ refl e) (took_bits false c n (None, n.1) took tt refl refl)
+by_height true c n h took e =
+    let read = bind_ok (number_at 16 n.1) _ h e in
+    let one = number_took 16 n.1 read.0 read.1 in
+    subst (λ (k : Option ℕ × Cursor). IsRead (station_parts n.0 k.0) true c k.1) (ok_inj (Some read.0.0, read.0.1) h _ refl read.2)
+    (took_bits true c n (Some read.0.0, read.0.1) took one.fits refl (one.bits ∙ sym (append_assoc (uint 16 read.0.0) [] read.0.1.rest)))
+
+pub station_took : (has : Bool) (c : Cursor) (v : StationParts × Cursor) → station_at has c ≡ Ok v → IsRead v.0 has c v.1
+station_took has c v e =
+    let first = bind_ok (fields_at station_table c) _ v (sym (station_chain has c) ∙ e) in
+    let took = fields_ok station_table c first.0 refl first.1 in
+    let second = bind_ok (height_at has first.0.1) _ v first.2 in
+    subst (λ (w : StationParts × Cursor). IsRead w.0 has c w.1) (ok_inj _ v _ refl second.2) (by_height has c first.0 second.0 took second.1)
+
+-- ---- what is read again
+
+fit_again : (s : StationParts) (reserved : ℕ) → InRange s → reserved < 2 → FitAll station_table (station_contents s reserved)
+fit_again s reserved r one = (r.station, (r.realization, (tt, (tt, (tt, (tt, (r.x, (tt, (one, (r.y, (r.quarter, (r.z, tt))))))))))))
+
+height_again : (h : Option ℕ) (place : ℕ) (rest : List Bool) → IfSome h (λ k. k < 2 ^ 16) → height_at (is_some h) (cursor place (spelled (height_fields h) ++ rest)) ≡ Ok (h, cursor (place + total (height_widths (is_some h))) rest)
+unfolding spelled
+height_again None place rest fits = rw (add-zero place) refl
+height_again (Some h) place rest fits = rw (append_assoc (uint 16 h) [] rest, number_again 16 h place rest fits) refl
+
+pub station_again : (s : StationParts) (reserved place : ℕ) (rest : List Bool) → InRange s → reserved < 2
+    → station_at (is_some s.height) (cursor place (spelled (station_tail s reserved) ++ rest)) ≡ Ok (s, cursor (place + total station_widths + total (height_widths (is_some s.height))) rest)
+station_again s reserved place rest r one =
+    let cs = station_contents s reserved in
+    let c = cursor place (spelled (fields_of station_table cs ++ height_fields s.height) ++ rest) in
+    let split : c ≡ cursor place (spelled (fields_of station_table cs) ++ (spelled (height_fields s.height) ++ rest)) = ap (cursor place) (ap (λ t. t ++ rest) (spelled-append (fields_of station_table cs) (height_fields s.height)) ∙ append_assoc (spelled (fields_of station_table cs)) (spelled (height_fields s.height)) rest) in
+    let first = fields_again station_table cs place (spelled (height_fields s.height) ++ rest) refl (fit_again s reserved r one) in
+    let second = height_again s.height (place + total station_widths) rest r.height in
+    station_chain (is_some s.height) c ∙ rw (split, first, second) refl

@@ -1,0 +1,41 @@
+-- The loops that write fields and columns.
+use Rattle.std.proofs.Common.{ℕ, suc, ◌≡◌, ◌+◌, ◌*◌, ◌/◌, ◌%◌, ◌^◌, ◌<◌, ◌≤◌, Bool, List, [], ◌∷◌, ◌++◌, length, drop, get_or, refl, sym, ap, ◌∙◌, arith, append_assoc, add-one}
+use Rattle.std.proofs.Math.Seq.{drop-cons}
+use Rattle.std.proofs.lemmas.Nat.{one_shl, div-add-mod'}
+use Rattle.std.specs.List.{flat_map}
+use Rattle.rtcm_bits.specs.Bits.{uint}
+use Rattle.rtcm_msg.specs.BitLaws.{uint-low}
+use Rattle.rtcm_msg.specs.Fields.{spelled, width_of}
+use Rattle.rtcm_msg.specs.Packed.{columns, total}
+
+pub spelled-append : (fs gs : List (ℕ × ℕ)) → spelled (fs ++ gs) ≡ spelled fs ++ spelled gs
+unfolding spelled
+spelled-append [] gs = refl
+spelled-append (f ∷ fs) gs = rw (spelled-append fs gs, append_assoc (uint f.0 f.1) (spelled fs) (spelled gs)) refl
+
+pub fields_next : (fs : List (ℕ × ℕ)) (i : ℕ) (old new whole : List Bool) → i < length fs → new ≡ old ++ uint (get_or fs i (0, 0)).0 (get_or fs i (0, 0)).1 → old ++ spelled (drop i fs) ≡ whole → new ++ spelled (drop (i + 1) fs) ≡ whole
+unfolding spelled
+fields_next fs i old new whole h put inv =
+    let here = rw (drop-cons fs i (0, 0) h) at inv in
+    rw (add-one i, put, append_assoc old (uint (get_or fs i (0, 0)).0 (get_or fs i (0, 0)).1) (spelled (drop (suc i) fs))) here
+
+pub width_next : (fs : List (ℕ × ℕ)) (i : ℕ) → i < length fs → width_of (drop i fs) ≡ (get_or fs i (0, 0)).0 + width_of (drop (i + 1) fs)
+width_next fs i h = rw (add-one i, drop-cons fs i (0, 0) h) refl
+
+-- ---- columns
+low_part : (w n : ℕ) → uint w (n % 2 ^ w) ≡ uint w n
+low_part w n = sym (uint-low w (n / 2 ^ w) (n % 2 ^ w)) ∙ ap (uint w) (div-add-mod' n (2 ^ w))
+
+pub column_put : (old new : List Bool) (w s n : ℕ) → w ≤ 64 → s < 128 → new ≡ old ++ uint w (n / ((1 * 2 ^ s) % 2 ^ 128) % ((1 * 2 ^ w) % 2 ^ 128)) → new ≡ old ++ uint w (n / 2 ^ s)
+column_put old new w s n few h put = rw (one_shl s 128 h, one_shl w 128 (omega arith), low_part w (n / 2 ^ s)) at put
+
+pub column_next : (f : ℕ → List Bool) (ns : List ℕ) (i : ℕ) (old new whole : List Bool) → i < length ns → new ≡ old ++ f (get_or ns i 0) → old ++ flat_map f (drop i ns) ≡ whole → new ++ flat_map f (drop (i + 1) ns) ≡ whole
+column_next f ns i old new whole h put inv =
+    let here = rw (drop-cons ns i 0 h) at inv in
+    rw (add-one i, put, append_assoc old (f (get_or ns i 0)) (flat_map f (drop (suc i) ns))) here
+
+pub columns_next : (ws ns : List ℕ) (i : ℕ) (old new whole : List Bool) → i < length ws → new ≡ old ++ flat_map (λ p. uint (get_or ws i 0) (p / 2 ^ total (drop (i + 1) ws))) ns → old ++ columns (drop i ws) ns ≡ whole → new ++ columns (drop (i + 1) ws) ns ≡ whole
+unfolding columns
+columns_next ws ns i old new whole h put inv =
+    let here = rw (drop-cons ws i 0 h) at inv in
+    rw (put, add-one i, append_assoc old (flat_map (λ p. uint (get_or ws i 0) (p / 2 ^ total (drop (suc i) ws))) ns) (columns (drop (suc i) ws) ns)) here

@@ -1,0 +1,19 @@
+use Rattle.std.proofs.Common.{◌≡◌, length, arith, ◌∙◌, sym, append-nil}
+use Rattle.std.proofs.Math.Seq.{drop-length}
+use Rattle.rtcm_msg.specs.Fields.{spelled}
+use Rattle.rtcm_msg.proofs.WritingSteps.{fields_next, width_next}
+use Rattle.rtcm_msg.proofs.writing.write_fields.Goals as goal
+
+pub loop-width-preserved : goal.loop-width-preserved
+loop-width-preserved c =
+    let width = width_next c.args.fields.now c.loop-width.width-index c.loop-width-test.true in
+    record {
+      bits = fields_next c.args.fields.now c.loop-width.width-index c.loop-width.writer c.put.new.self _ c.loop-width-test.true c.put.ensures.bits c.loop-width.invariant.bits;
+      len = omega (arith, width);
+    }
+
+pub returns-clause-bits : goal.returns-clause-bits
+unfolding spelled
+returns-clause-bits c =
+    let end : c.loop-width.width-index ≡ length c.args.fields.now = omega arith in
+    sym (append-nil c.loop-width.writer) ∙ (rw (end, drop-length c.args.fields.now) at c.loop-width.invariant.bits)

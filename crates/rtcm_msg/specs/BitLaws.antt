@@ -1,0 +1,152 @@
+-- What follows from the words of Bits for numbers of w bits, lists of bits and two's complements.
+use Rattle.std.proofs.Common.{ℕ, zero, suc, ℤ, pos, negsuc, ◌≡◌, ◌+◌, ◌-◌, ◌*◌, ◌/◌, ◌%◌, ◌^◌, ◌<◌, ◌≤◌, Bool, true, false, List, [], ◌∷◌, ◌++◌, length, take, refl, sym, ap, ◌∙◌, arith, append_assoc, length-append, subst, ◌⊎◌, inl, inr, add_comm}
+use Rattle.std.proofs.lemmas.Nat.{mod-pow-add, shr_high, pow_pos}
+use Rattle.std.proofs.Math.Nat.{add-mul-div_right, pow-le-pow_right}
+use Rattle.std.proofs.lemmas.Bool.{cases_lt}
+use Rattle.std.proofs.lemmas.List.{length-take-le}
+use mir.Val.{bool_byte}
+use Rattle.rtcm_bits.specs.Bits.{bit, odd, uint, number_from, number, bits_of, signed, raw, FitsInt}
+
+pub bit_odd : (n : ℕ) → bit (odd n) ≡ n % 2
+bit_odd n = elim (mod2 n) [ inl z ↦ rw z refl | inr o ↦ rw o refl ]
+  where
+    mod2 : (n : ℕ) → (n % 2 ≡ 0) ⊎ (n % 2 ≡ 1)
+    mod2 n = grind arith
+
+pub odd_bit : (n : ℕ) (b : Bool) → odd (2 * n + bit b) ≡ b
+odd_bit n false = let e : (2 * n + 0) % 2 ≡ 0 = omega arith in rw e refl
+odd_bit n true = let e : (2 * n + 1) % 2 ≡ 1 = omega arith in rw e refl
+
+pub length-uint : (w n : ℕ) → length (uint w n) ≡ w
+unfolding uint
+length-uint zero n = refl
+length-uint (suc w) n = ap suc (length-uint w n)
+
+-- the top bit of w + 1, and the others
+pub mod-suc : (w n : ℕ) → n % 2 ^ suc w ≡ n / 2 ^ w % 2 * 2 ^ w + n % 2 ^ w
+mod-suc w n = ap (λ k. n % 2 ^ k) (omega arith) ∙ mod-pow-add n 1 w
+
+pub pow-double : (w : ℕ) → 2 ^ suc w ≡ 2 * 2 ^ w
+pow-double w = omega arith
+
+horner : (a t p r q : ℕ) → q ≡ 2 * p → (2 * a + t) * p + r ≡ a * q + (t * p + r)
+horner a t p r q e = rw e (omega arith)
+
+pub number-uint : (w a n : ℕ) → number_from a (uint w n) ≡ a * 2 ^ w + n % 2 ^ w
+unfolding uint number_from
+number-uint zero a n = omega arith
+number-uint (suc w) a n =
+    number-uint w (2 * a + bit (odd (n / 2 ^ w))) n ∙ rw (mod-suc w n, bit_odd (n / 2 ^ w)) (horner a (n / 2 ^ w % 2) (2 ^ w) (n % 2 ^ w) (2 ^ suc w) (pow-double w))
+
+pub bit-small : (b : Bool) → bit b < 2
+bit-small false = omega arith
+bit-small true = omega arith
+
+-- the high part and the rest
+pub number-split : (bits : List Bool) (a : ℕ) → number_from a bits ≡ a * 2 ^ length bits + number bits
+unfolding number_from
+number-split [] a = omega arith
+number-split (b ∷ bits) a = number-split bits (2 * a + bit b) ∙ step a (bit b) _ _ (2 ^ suc (length bits)) (pow-double (length bits)) _ (number-split bits (2 * 0 + bit b))
+  where
+    step : (a t p r q : ℕ) → q ≡ 2 * p → (m : ℕ) → m ≡ (2 * 0 + t) * p + r → (2 * a + t) * p + r ≡ a * q + m
+    step a t p r q e m f = rw (e, f) (omega arith)
+
+pub number-fits : (bits : List Bool) → number bits < 2 ^ length bits
+unfolding number_from
+number-fits [] = omega arith
+number-fits (b ∷ bits) = rw (number-split bits (2 * 0 + bit b), pow-double (length bits)) (step (bit b) (2 ^ length bits) (number bits) (bit-small b) (number-fits bits))
+  where
+    step : (t p r : ℕ) → t < 2 → r < p → (2 * 0 + t) * p + r < 2 * p
+    step t p r s f = grind arith
+
+cons2 : {x y : Bool} {xs ys : List Bool} → x ≡ y → xs ≡ ys → (x ∷ xs) ≡ (y ∷ ys)
+cons2 e f = cc
+
+-- only the low bits count
+pub uint-low : (w a n : ℕ) → uint w (a * 2 ^ w + n) ≡ uint w n
+unfolding uint
+uint-low zero a n = refl
+uint-low (suc w) a n = cons2 (head w a n) (rw (double w a) (uint-low w (2 * a) n))
+  where
+    double : (w a : ℕ) → a * 2 ^ suc w ≡ 2 * a * 2 ^ w
+    double w a = rw (pow-double w) (omega arith)
+
+    odd-even : (a m : ℕ) → odd (m + 2 * a) ≡ odd m
+    odd-even a m = let e : (m + 2 * a) % 2 ≡ m % 2 = omega arith in rw e refl
+
+    head : (w a n : ℕ) → odd ((a * 2 ^ suc w + n) / 2 ^ w) ≡ odd (n / 2 ^ w)
+    head w a n = rw (double w a, add_comm (2 * a * 2 ^ w) n, add-mul-div_right n (2 * a) (pow_pos w)) (odd-even a (n / 2 ^ w))
+
+-- bits are those of their number
+pub uint-number : (bits : List Bool) (a : ℕ) → uint (length bits) (number_from a bits) ≡ bits
+unfolding uint number_from
+uint-number [] a = refl
+uint-number (b ∷ bits) a = cons2 (ap odd (top bits (2 * a + bit b)) ∙ odd_bit a b) (uint-number bits (2 * a + bit b))
+  where
+    top : (bits : List Bool) (c : ℕ) → number_from c bits / 2 ^ length bits ≡ c
+    top bits c = rw (number-split bits c) (shr_high c (length bits) (number bits) (number-fits bits))
+
+-- ---- the bits of bytes
+
+pub bits_of-append : (xs ys : List ℕ) → bits_of (xs ++ ys) ≡ bits_of xs ++ bits_of ys
+unfolding bits_of
+bits_of-append [] ys = refl
+bits_of-append (x ∷ xs) ys = ap (λ t. uint 8 x ++ t) (bits_of-append xs ys) ∙ sym (append_assoc (uint 8 x) (bits_of xs) (bits_of ys))
+
+pub length-bits_of : (xs : List ℕ) → length (bits_of xs) ≡ 8 * length xs
+unfolding bits_of
+length-bits_of [] = refl
+length-bits_of (x ∷ xs) = length-append (uint 8 x) (bits_of xs) ∙ omega (arith, length-uint 8 x, length-bits_of xs)
+
+pub number-take-fits : (l : List Bool) (w : ℕ) → w ≤ length l → number (take w l) < 2 ^ w
+number-take-fits l w h = let P : ℕ → Type 0 = λ n. number (take w l) < 2 ^ n in subst P (length-take-le w l h) (number-fits (take w l))
+
+-- the next bit of a number to be written
+pub uint-first : (w i n : ℕ) → i < w → uint (w - i) n ≡ odd (n / 2 ^ (w - 1 - i)) ∷ uint (w - (i + 1)) n
+unfolding uint
+uint-first w i n h =
+    let e : w - i ≡ suc (w - 1 - i) = omega arith in
+    let f : w - (i + 1) ≡ w - 1 - i = omega arith in
+    rw (e, f) refl
+
+-- a bool as a number
+pub byte-bit : (b : Bool) → bool_byte b ≡ bit b
+byte-bit false = refl
+byte-bit true = refl
+
+-- ---- two's complements
+
+pub pow_mono : (i j : ℕ) → i ≤ j → 2 ^ i ≤ 2 ^ j
+pow_mono i j h = pow-le-pow_right (omega arith) h
+
+pub half : (w : ℕ) → 0 < w → 2 ^ w ≡ 2 * 2 ^ (w - 1)
+half zero h = absurd (omega arith)
+half (suc w) h = let e : suc w - 1 ≡ w = omega arith in rw e (omega arith)
+
+signed_low : (v w : ℕ) → v < 2 ^ (w - 1) → signed w v ≡ pos v
+signed_low v w h = grind arith
+
+signed_high : (v w : ℕ) → 2 ^ (w - 1) ≤ v → signed w v ≡ negsuc (2 ^ w - (v + 1))
+signed_high v w h = grind arith
+
+pub raw_fits : (z : ℤ) (w : ℕ) → 0 < w → FitsInt w z → raw w z < 2 ^ w
+raw_fits (pos n) w some h = omega (arith, half w some)
+raw_fits (negsuc n) w some h = omega (arith, half w some)
+
+pub raw-signed : (w n : ℕ) → 0 < w → n < 2 ^ w → raw w (signed w n) ≡ n
+raw-signed w n some fits = elim (cases_lt n (2 ^ (w - 1))) [
+  | inl low ↦ rw (signed_low n w low) refl
+  | inr high ↦ rw (signed_high n w high) (omega arith)
+]
+
+pub signed-raw : (w : ℕ) (z : ℤ) → 0 < w → FitsInt w z → signed w (raw w z) ≡ z
+signed-raw w (pos n) some fits = signed_low n w fits
+signed-raw w (negsuc n) some fits =
+    let top = half w some in
+    signed_high (2 ^ w - (n + 1)) w (omega arith) ∙ ap negsuc (omega arith)
+
+pub signed-fits : (w n : ℕ) → 0 < w → n < 2 ^ w → FitsInt w (signed w n)
+signed-fits w n some fits = elim (cases_lt n (2 ^ (w - 1))) [
+  | inl low ↦ rw (signed_low n w low) low
+  | inr high ↦ rw (signed_high n w high) (omega (arith, half w some))
+]

@@ -1,0 +1,27 @@
+-- Reading the data of satellites or cells, field by field: one field of all, then the next field of all.
+use Rattle.std.specs.Prelude.{ℕ, ◌+◌, ◌*◌, ◌^◌, ◌<◌, List, [], ◌∷◌, ◌++◌, Result, Ok, slice_index}
+use Rattle.rtcm_bits.specs.Reading.{Cursor}
+use Rattle.rtcm_msg.specs.declared.fault.MsgFault.{MsgFault}
+use Rattle.rtcm_msg.specs.Fields.{number_at, ◌>>=◌}
+
+-- one field of each: it goes below what was read of each before
+unfoldable pub column_at : ℕ → List ℕ → Cursor → Result (List ℕ × Cursor) MsgFault
+column_at w [] c = Ok ([], c)
+column_at w (p ∷ ps) c = do
+  here ← number_at w c
+  others ← column_at w ps here.1
+  Ok ((p * 2 ^ w + here.0) ∷ others.0, others.1)
+
+unfoldable pub columns_at : List ℕ → List ℕ → Cursor → Result (List ℕ × Cursor) MsgFault
+columns_at [] ps c = Ok (ps, c)
+columns_at (w ∷ ws) ps c = do
+  next ← column_at w ps c
+  columns_at ws next.0 next.1
+
+-- numbers put in front of what is read
+abbrev pub with_front : List ℕ → Result (List ℕ × Cursor) MsgFault → Result (List ℕ × Cursor) MsgFault
+with_front front read = read >>= λ x. Ok (front ++ x.0, x.1)
+
+-- each number is below 2 ^ bits
+abbrev pub EachBelow : ℕ → List ℕ → Type 0
+EachBelow bits ps = (k : ℕ) → slice_index ps k < 2 ^ bits

@@ -1,0 +1,80 @@
+-- What a message says, cell by cell: the form in which the layers above see it.
+use Rattle.std.specs.Prelude.{◌<◌, ◌^◌, IfSome, unsigned_abs, ◌≤◌, ℕ, ℤ, ◌+◌, if◌then◌else◌, Bool, List, [], ◌∷◌, map, slice_index, Option, drop}
+use Rattle.std.specs.List.{flat_map, zip, enumerate_from}
+use Rattle.rtcm_bits.specs.Bits.{uint}
+use Rattle.rtcm_msg.specs.declared.message.Message.{Message}
+use Rattle.rtcm_msg.specs.declared.message.Message.TheVariants.{Station, Msm4, Msm7, Other}
+use Rattle.rtcm_msg.specs.declared.seats.Seat.{Seat}
+use Rattle.rtcm_msg.specs.declared.entry.Entry.{Entry}
+use Rattle.rtcm_msg.specs.Msm.{MsmValue, Sets, pairs}
+use Rattle.rtcm_msg.specs.Grid4 as grid4
+use Rattle.rtcm_msg.specs.Grid7 as grid7
+
+-- those of the items whose bit is set
+unfoldable pub chosen : {X : Type 0} → List Bool → List X → List X
+chosen [] xs = []
+chosen (b ∷ bits) [] = []
+chosen (b ∷ bits) (x ∷ xs) = if b then x ∷ chosen bits xs else chosen bits xs
+
+-- rising numbers from a first one
+unfoldable pub up_from : ℕ → List Bool → List ℕ
+up_from i [] = []
+up_from i (b ∷ bits) = if b then i ∷ up_from (i + 1) bits else up_from (i + 1) bits
+
+-- the IDs of a set, rising
+abbrev pub ids : ℕ → ℕ → List ℕ
+ids w mask = up_from 1 (uint w mask)
+
+-- each is at least low and at most high, and above the one before it
+abbrev pub Rising : ℕ → ℕ → List ℕ → Type 0
+Rising low high [] = Unit {0}
+Rising low high (x ∷ xs) = (low ≤ x) × (x ≤ high) × Rising (x + 1) high xs
+
+-- a pair of a satellite, by its place in the set and its ID, and a signal
+abbrev pub seat : ℕ × ℕ → ℕ → Seat
+seat x g = record { place = x.0; satellite = x.1; signal = g }
+
+-- all pairs, by satellite and within it by signal
+abbrev pub all_pairs : Sets → List Seat
+all_pairs s = flat_map (λ x. map (seat x) (ids 32 s.signals)) (enumerate_from 0 (ids 64 s.satellites))
+
+-- the pairs that have a cell
+abbrev pub seats : Sets → List Seat
+seats s = chosen (uint (pairs s.satellites s.signals) s.cells) (all_pairs s)
+
+-- those of them that are not among the first n pairs
+abbrev pub seats_behind : ℕ → Sets → List Seat
+seats_behind n s = chosen (drop n (uint (pairs s.satellites s.signals) s.cells)) (drop n (all_pairs s))
+
+-- a walk over the cells: of which sets, and the seats that are left
+pub record Walk : Type 0 where
+  pub sets : Sets
+  pub left : List Seat
+
+-- how far the numbers of a cell reach, where there are so many lock time indicators
+pub record IsEntry (codes : ℕ) (e : Entry) : Type 0 where
+  pub range : IfSome e.range (λ r. unsigned_abs r ≤ 2 ^ 40)
+  pub phase : IfSome e.phase (λ r. unsigned_abs r ≤ 2 ^ 40)
+  pub rate : IfSome e.rate (λ v. unsigned_abs v ≤ 10 ^ 8)
+  pub strength : IfSome e.strength (λ s. s < 1024)
+  pub lock : e.lock < codes
+
+-- what a cell says, in either grid
+abbrev pub entry_by : {S C : Type 0} → (ℕ → S) → (ℕ → C) → (S → C → Option ℤ) → (S → C → Option ℤ) → (S → C → Option ℤ) → (C → Option ℕ) → (C → ℕ) → (C → Bool) → List ℕ → Seat × ℕ → Entry
+entry_by satellite_at cell_at range_of phase_of rate_of strength_of lock_of half_cycle_of satellites x =
+    let s = satellite_at (slice_index satellites x.0.place) in
+    let c = cell_at x.1 in
+    record { satellite = x.0.satellite; signal = x.0.signal; range = range_of s c; phase = phase_of s c; rate = rate_of s c; strength = strength_of c; lock = lock_of c; half_cycle = half_cycle_of c }
+
+abbrev pub entry4 : MsmValue → Seat × ℕ → Entry
+entry4 v = entry_by grid4.satellite_at grid4.cell_at grid4.range_of grid4.phase_of grid4.rate_of grid4.strength_of (λ c. c.lock) (λ c. c.half_cycle) v.satellites
+
+abbrev pub entry7 : MsmValue → Seat × ℕ → Entry
+entry7 v = entry_by grid7.satellite_at grid7.cell_at grid7.range_of grid7.phase_of grid7.rate_of grid7.strength_of (λ c. c.lock) (λ c. c.half_cycle) v.satellites
+
+-- the cells of a message in order
+abbrev pub entries : Message → List Entry
+entries (Station s) = []
+entries (Msm4 v) = map (entry4 v) (zip (seats v.sets) v.cells)
+entries (Msm7 v) = map (entry7 v) (zip (seats v.sets) v.cells)
+entries (Other n set) = []

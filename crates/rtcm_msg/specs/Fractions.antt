@@ -1,0 +1,20 @@
+-- Ranges, phases, rates and strengths as exact fractions.
+use Rattle.std.specs.Ordering.{int_eq}
+use Rattle.std.specs.Prelude.{ℕ, ℤ, pos, negsuc, ◌+◌, ◌*◌, ◌^◌, ◌+ℤ◌, ◌*ℤ◌, ◌==◌, if◌then◌else◌, Option, Some, None}
+
+-- a fine part in units of k, absent where it is the invalid value
+abbrev pub scaled : ℤ → ℕ → ℤ → Option ℤ
+scaled invalid k z = if int_eq z invalid then None else Some (z *ℤ pos k)
+
+-- the rough range in units of 2^-31 ms with a fine part, absent where either is invalid
+abbrev pub joined : ℕ → ℕ → Option ℤ → Option ℤ
+joined whole fraction None = None
+joined whole fraction (Some fine) = if whole == 255 then None else Some (pos (whole * 2 ^ 31 + fraction * 2 ^ 21) +ℤ fine)
+
+-- a rate in 0.0001 m/s
+abbrev pub rate_joined : ℤ → ℤ → Option ℤ
+rate_joined rough fine = if int_eq rough (negsuc 8191) then None else (if int_eq fine (negsuc 16383) then None else Some ((rough *ℤ pos 10000) +ℤ fine))
+
+-- a strength in 1/16 dB-Hz, absent where it is 0
+abbrev pub strength_of : ℕ → ℕ → Option ℕ
+strength_of n k = if n == 0 then None else Some (n * k)

@@ -1,0 +1,110 @@
+-- The fields of MSM7, for a satellite and for a cell.
+use Rattle.std.specs.Prelude.{ℕ, ℤ, negsuc, ◌^◌, ◌<◌, List, [], ◌∷◌, Bool, not, nat_le, Some, None, Option, if◌then◌else◌}
+use Rattle.std.specs.List.{list_any}
+use Rattle.rtcm_msg.specs.declared.fault.Field.{Field}
+use Rattle.rtcm_msg.specs.Ranges.{fits_int}
+use Rattle.rtcm_bits.specs.Bits.{FitsInt}
+use Rattle.rtcm_msg.specs.Layout.{Table, Uint, Int, Flag, Contents, widths, ◌▸◌}
+use Rattle.rtcm_msg.specs.Fractions.{scaled, joined, rate_joined}
+use Rattle.rtcm_msg.specs.Packed.{packed, unpacked}
+use Rattle.rtcm_msg.specs.declared.grid7.Satellite7.{Satellite7}
+use Rattle.rtcm_msg.specs.declared.grid7.Cell7.{Cell7}
+use Rattle.rtcm_msg.specs.declared.fault.Field.TheVariants as fields
+use Rattle.rtcm_msg.specs.Fractions as fractions
+
+-- the fields of a satellite in MSM7
+abbrev pub satellite_table : Table
+satellite_table =
+    (397, Uint 8)  -- rough range, whole ms, 255 invalid
+    ∷ (0, Uint 4)  -- extended satellite information, which has no number of its own for GPS and Galileo
+    ∷ (398, Uint 10)  -- rough range below 1 ms, 2^-10 ms
+    ∷ (399, Int 14)  -- rough phase range rate, m/s, -2^13 invalid
+    ∷ []
+
+-- the fields of a cell in MSM7
+abbrev pub cell_table : Table
+cell_table =
+    (405, Int 20)  -- fine pseudorange, 2^-29 ms, -2^19 invalid
+    ∷ (406, Int 24)  -- fine phase range, 2^-31 ms, -2^23 invalid
+    ∷ (407, Uint 10)  -- lock time indicator
+    ∷ (420, Flag)  -- half-cycle ambiguity indicator
+    ∷ (408, Uint 10)  -- carrier to noise ratio, 2^-4 dB-Hz, 0 not computed
+    ∷ (404, Int 15)  -- fine phase range rate, 0.0001 m/s, -2^14 invalid
+    ∷ []
+
+abbrev pub satellite_widths : List ℕ
+satellite_widths = widths satellite_table
+
+abbrev pub cell_widths : List ℕ
+cell_widths = widths cell_table
+
+pub record IsSatellite (s : Satellite7) : Type 0 where
+  pub whole : s.whole < 2 ^ 8
+  pub extended : s.extended < 2 ^ 4
+  pub fraction : s.fraction < 2 ^ 10
+  pub rate : FitsInt 14 s.rate
+
+pub record IsCell (c : Cell7) : Type 0 where
+  pub range : FitsInt 20 c.range
+  pub phase : FitsInt 24 c.phase
+  pub lock : c.lock < 2 ^ 10
+  pub strength : c.strength < 2 ^ 10
+  pub rate : FitsInt 15 c.rate
+
+-- what the fields of a satellite and of a cell hold, and back
+abbrev pub satellite_contents : Satellite7 → Contents satellite_table
+satellite_contents s = s.whole ▸ s.extended ▸ s.fraction ▸ s.rate ▸ tt
+
+abbrev pub satellite_of : Contents satellite_table → Satellite7
+satellite_of (whole, (extended, (fraction, (rate, end)))) = record { whole = whole; extended = extended; fraction = fraction; rate = rate }
+
+abbrev pub cell_contents : Cell7 → Contents cell_table
+cell_contents c = c.range ▸ c.phase ▸ c.lock ▸ c.half_cycle ▸ c.strength ▸ c.rate ▸ tt
+
+abbrev pub cell_of : Contents cell_table → Cell7
+cell_of (range, (phase, (lock, (half_cycle, (strength, (rate, end)))))) = record { range = range; phase = phase; lock = lock; half_cycle = half_cycle; strength = strength; rate = rate }
+
+-- in one number, and back
+abbrev pub satellite_number : Satellite7 → ℕ
+satellite_number s = packed satellite_table (satellite_contents s)
+
+abbrev pub satellite_at : ℕ → Satellite7
+satellite_at p = satellite_of (unpacked satellite_table p)
+
+abbrev pub cell_number : Cell7 → ℕ
+cell_number c = packed cell_table (cell_contents c)
+
+abbrev pub cell_at : ℕ → Cell7
+cell_at p = cell_of (unpacked cell_table p)
+
+abbrev pub number : Bool → ℕ
+number is_galileo = if is_galileo then 1097 else 1077
+
+abbrev pub satellite_fault : List Satellite7 → Option Field
+satellite_fault xs =
+    if list_any (λ x. nat_le (2 ^ 8) x.whole) xs then Some fields.RangeWhole
+    else (if list_any (λ x. nat_le (2 ^ 4) x.extended) xs then Some fields.Extended
+    else (if list_any (λ x. nat_le (2 ^ 10) x.fraction) xs then Some fields.RangeFraction
+    else (if list_any (λ x. not (fits_int 14 x.rate)) xs then Some fields.RoughRate
+    else None)))
+
+abbrev pub cell_fault : List Cell7 → Option Field
+cell_fault xs =
+    if list_any (λ x. not (fits_int 20 x.range)) xs then Some fields.FineRange
+    else (if list_any (λ x. not (fits_int 24 x.phase)) xs then Some fields.FinePhase
+    else (if list_any (λ x. nat_le (2 ^ 10) x.lock) xs then Some fields.Lock
+    else (if list_any (λ x. nat_le (2 ^ 10) x.strength) xs then Some fields.Strength
+    else (if list_any (λ x. not (fits_int 15 x.rate)) xs then Some fields.FineRate
+    else None))))
+
+abbrev pub range_of : Satellite7 → Cell7 → Option ℤ
+range_of s c = joined s.whole s.fraction (scaled (negsuc 524287) 4 c.range)
+
+abbrev pub phase_of : Satellite7 → Cell7 → Option ℤ
+phase_of s c = joined s.whole s.fraction (scaled (negsuc 8388607) 1 c.phase)
+
+abbrev pub rate_of : Satellite7 → Cell7 → Option ℤ
+rate_of s c = rate_joined s.rate c.rate
+
+abbrev pub strength_of : Cell7 → Option ℕ
+strength_of c = fractions.strength_of c.strength 1

@@ -1,0 +1,62 @@
+-- What a multiple signal message means: a header, the satellites with their data, the signals, and the
+-- cells of pairs of both.
+use Rattle.std.specs.Prelude.{ℕ, ◌≡◌, ◌+◌, ◌*◌, ◌≤◌, ◌⊎◌, Bool, List, [], ◌∷◌, map, length}
+use Rattle.std.specs.List.{zip}
+use Rattle.rtcm_msg.specs.declared.header.MsmHeader.{MsmHeader}
+use Rattle.rtcm_msg.specs.declared.seats.Seat.{Seat}
+use Rattle.rtcm_msg.specs.Packed.{total}
+use Rattle.rtcm_msg.specs.Columns.{EachBelow}
+use Rattle.rtcm_msg.specs.Msm.{MsmValue, Sets, IsHeader}
+use Rattle.rtcm_msg.specs.Entries.{ids, seats, Rising}
+
+-- Of each satellite the ID and the data, by rising IDs; the IDs of the signals, rising; of each cell the
+-- IDs of its satellite and its signal, and the data, rising by satellite and within it by signal.
+pub record Meaning : Type 0 where
+  pub is_galileo : Bool
+  pub header : MsmHeader
+  pub satellites : List (ℕ × ℕ)
+  pub signals : List ℕ
+  pub cells : List ((ℕ × ℕ) × ℕ)
+
+abbrev pub pair : Seat → ℕ × ℕ
+pair x = (x.satellite, x.signal)
+
+-- the pairs of a satellite and a signal that have a cell
+abbrev pub cell_pairs : Sets → List (ℕ × ℕ)
+cell_pairs s = map pair (seats s)
+
+-- a pair as one number, which rises by satellite and within it by signal
+abbrev pub pair_number : ℕ × ℕ → ℕ
+pair_number p = 64 * p.0 + p.1
+
+abbrev pub meaning : MsmValue → Meaning
+meaning v = record { is_galileo = v.is_galileo; header = v.header; satellites = zip (ids 64 v.sets.satellites) v.satellites; signals = ids 32 v.sets.signals; cells = zip (cell_pairs v.sets) v.cells }
+
+-- ---- which meanings a value has
+
+-- it stands in the list
+abbrev pub IsIn : {A : Type 0} → A → List A → Type 0
+IsIn y [] = ⊥
+IsIn y (x ∷ xs) = (y ≡ x) ⊎ IsIn y xs
+
+abbrev pub Each : {A : Type 0} → (A → Type 0) → List A → Type 0
+Each P [] = Unit {0}
+Each P (x ∷ xs) = P x × Each P xs
+
+abbrev pub keys : {A : Type 0} → List (A × ℕ) → List A
+keys xs = map (λ x. x.0) xs
+
+abbrev pub data_of : {A : Type 0} → List (A × ℕ) → List ℕ
+data_of xs = map (λ x. x.1) xs
+
+-- Satellites and signals rise, with at most 64 pairs, and the cells' pairs are of these and rise. The
+-- data fit the fields.
+pub record IsMeaning (satellite_widths cell_widths : List ℕ) (m : Meaning) : Type 0 where
+  pub header : IsHeader m.header
+  pub satellites : Rising 1 64 (keys m.satellites)
+  pub signals : Rising 1 32 m.signals
+  pub few : length (keys m.satellites) * length m.signals ≤ 64
+  pub cells : Rising 65 4128 (map pair_number (keys m.cells))
+  pub pairs : Each (λ p. IsIn p.0 (keys m.satellites) × IsIn p.1 m.signals) (keys m.cells)
+  pub satellite_data : EachBelow (total satellite_widths) (data_of m.satellites)
+  pub cell_data : EachBelow (total cell_widths) (data_of m.cells)

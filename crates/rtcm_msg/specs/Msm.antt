@@ -1,0 +1,136 @@
+-- The values of multiple signal messages.
+use Rattle.std.specs.Prelude.{◌≡◌, ℕ, ◌*◌, ◌^◌, ◌<◌, ◌≤◌, nat_lt, nat_le, if◌then◌else◌, Bool, List, [], ◌∷◌, ◌++◌, length, Result, Ok, Err, replicate, count_ones}
+use Rattle.rtcm_bits.specs.Reading.{Cursor}
+use Rattle.rtcm_msg.specs.declared.fault.MsgFault.{MsgFault}
+use Rattle.rtcm_msg.specs.declared.fault.MsgFault.TheVariants.{TooManyCells, BadTime}
+use Rattle.rtcm_msg.specs.declared.header.MsmHeader.{MsmHeader}
+use Rattle.rtcm_msg.specs.Fields.{spelled, reading, ◌>>=◌}
+use Rattle.rtcm_msg.specs.Layout.{Table, Uint, Flag, Reserved, Contents, fields_of, ◌▸◌, number_table}
+use Rattle.rtcm_msg.specs.Packed.{total, columns}
+use Rattle.rtcm_msg.specs.Columns.{columns_at, EachBelow}
+
+-- milliseconds
+abbrev pub week : ℕ
+week = 604800000
+
+-- The satellites, the signals, and the pairs of one of each that have a cell. The highest bit of the
+-- 64 and of the 32 is ID 1, and the highest of the last is the first pair.
+pub record Sets : Type 0 where
+  pub satellites : ℕ
+  pub signals : ℕ
+  pub cells : ℕ
+
+-- how many pairs of a satellite and a signal there are
+abbrev pub pairs : ℕ → ℕ → ℕ
+pairs satellites signals = count_ones satellites * count_ones signals
+
+-- a message, where each satellite's and each cell's fields are one number
+pub record MsmValue : Type 0 where
+  pub is_galileo : Bool
+  pub header : MsmHeader
+  pub sets : Sets
+  pub satellites : List ℕ
+  pub cells : List ℕ
+
+pub record IsHeader (h : MsmHeader) : Type 0 where
+  pub station : h.station < 2 ^ 12
+  pub time : h.time < week
+  pub iods : h.iods < 2 ^ 3
+  pub steering : h.steering < 2 ^ 2
+  pub clock : h.clock < 2 ^ 2
+  pub interval : h.interval < 2 ^ 3
+
+pub record AreSets (s : Sets) : Type 0 where
+  pub satellites : s.satellites < 2 ^ 64
+  pub signals : s.signals < 2 ^ 32
+  pub few : pairs s.satellites s.signals ≤ 64
+  pub cells : s.cells < 2 ^ pairs s.satellites s.signals
+
+-- a value whose fields have these widths
+pub record IsValue (satellite_widths cell_widths : List ℕ) (v : MsmValue) : Type 0 where
+  pub header : IsHeader v.header
+  pub sets : AreSets v.sets
+  pub satellite_count : length v.satellites ≡ count_ones v.sets.satellites
+  pub cell_count : length v.cells ≡ count_ones v.sets.cells
+  pub satellites : EachBelow (total satellite_widths) v.satellites
+  pub cells : EachBelow (total cell_widths) v.cells
+
+-- ---- the layout
+
+-- the head of a multiple signal message, behind the message number
+abbrev pub time_table : Table
+time_table =
+    (3, Uint 12)  -- reference station ID
+    ∷ (4, Uint 30)  -- GPS epoch time, ms of the week; of Galileo DF248
+    ∷ []
+
+-- what follows the time
+abbrev pub header_table : Table
+header_table =
+    (393, Flag)  -- multiple message bit
+    ∷ (409, Uint 3)  -- issue of data station
+    ∷ (1, Reserved 7)
+    ∷ (411, Uint 2)  -- clock steering indicator
+    ∷ (412, Uint 2)  -- external clock indicator
+    ∷ (417, Flag)  -- divergence-free smoothing indicator
+    ∷ (418, Uint 3)  -- smoothing interval
+    ∷ []
+
+-- the masks, where the third has a bit for each pair of a satellite and a signal
+abbrev pub mask_table : Table
+mask_table =
+    (394, Uint 64)  -- satellite mask
+    ∷ (395, Uint 32)  -- signal mask
+    ∷ []
+
+abbrev pub cell_mask_table : ℕ → Table
+cell_mask_table pairs =
+    (396, Uint pairs)  -- cell mask
+    ∷ []
+
+-- ---- the bits, where the reserved ones are any
+
+abbrev pub time_contents : MsmHeader → Contents time_table
+time_contents h = h.station ▸ h.time ▸ tt
+
+abbrev pub header_contents : MsmHeader → ℕ → Contents header_table
+header_contents h reserved = h.more ▸ h.iods ▸ reserved ▸ h.steering ▸ h.clock ▸ h.smoothing ▸ h.interval ▸ tt
+
+-- the fields up to the masks
+abbrev pub header_fields : ℕ → MsmHeader → ℕ → List (ℕ × ℕ)
+header_fields number h reserved = fields_of number_table (number ▸ tt) ++ (fields_of time_table (time_contents h) ++ fields_of header_table (header_contents h reserved))
+
+abbrev pub set_fields : Sets → List (ℕ × ℕ)
+set_fields s = fields_of mask_table (s.satellites ▸ s.signals ▸ tt) ++ fields_of (cell_mask_table (pairs s.satellites s.signals)) (s.cells ▸ tt)
+
+-- all bits of a message of this number: behind the masks a field of all satellites, then the next, then a field of all cells
+abbrev pub msm_bits : List ℕ → List ℕ → ℕ → MsmValue → ℕ → List Bool
+msm_bits satellite_widths cell_widths number v reserved = spelled (header_fields number v.header reserved) ++ (spelled (set_fields v.sets) ++ (columns satellite_widths v.satellites ++ columns cell_widths v.cells))
+
+-- ---- reading, behind the message number
+
+-- a time is judged as soon as it was read
+abbrev pub timely : ℕ → Cursor → Result (ℕ × Cursor) MsgFault
+timely time c = if nat_le week time then Err BadTime else Ok (time, c)
+
+abbrev pub header_of : ℕ → ℕ → Contents header_table → MsmHeader
+header_of station time (more, (iods, (reserved, (steering, (clock, (smoothing, (interval, end))))))) =
+    record { station = station; time = time; more = more; iods = iods; steering = steering; clock = clock; smoothing = smoothing; interval = interval }
+
+unfoldable pub header_at : Cursor → Result (MsmHeader × Cursor) MsgFault
+header_at c = reading time_table c (λ n. timely n.0.1.0 n.1 >>= λ time. reading header_table time.1 (λ m. Ok (header_of n.0.0 time.0 m.0, m.1)))
+
+-- the pairs are counted as soon as both masks were read
+abbrev pub sets_behind : ℕ → ℕ → Cursor → Result (Sets × Cursor) MsgFault
+sets_behind satellites signals c = if nat_lt 64 (pairs satellites signals) then Err TooManyCells else reading (cell_mask_table (pairs satellites signals)) c (λ cells. Ok (record { satellites = satellites; signals = signals; cells = cells.0.0 }, cells.1))
+
+unfoldable pub sets_at : Cursor → Result (Sets × Cursor) MsgFault
+sets_at c = reading mask_table c (λ m. sets_behind m.0.0 m.0.1.0 m.1)
+
+unfoldable pub msm_at : List ℕ → List ℕ → Bool → Cursor → Result (MsmValue × Cursor) MsgFault
+msm_at satellite_widths cell_widths is_galileo c = do
+  header ← header_at c
+  sets ← sets_at header.1
+  satellites ← columns_at satellite_widths (replicate (count_ones sets.0.satellites) 0) sets.1
+  cells ← columns_at cell_widths (replicate (count_ones sets.0.cells) 0) satellites.1
+  Ok (record { is_galileo = is_galileo; header = header.0; sets = sets.0; satellites = satellites.0; cells = cells.0 }, cells.1)

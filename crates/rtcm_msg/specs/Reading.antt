@@ -1,0 +1,44 @@
+-- What a message's bits are read as.
+use Rattle.std.specs.Prelude.{ℕ, ◌%◌, ◌==◌, ◌&&◌, nat_lt, nat_le, if◌then◌else◌, Bool, true, false, List, length, Option, Some, None, Result, Ok}
+use Rattle.rtcm_bits.specs.Bits.{bits_of}
+use Rattle.rtcm_bits.specs.Reading.{Cursor, after, unsigned_at}
+use Rattle.rtcm_msg.specs.declared.fault.MsgFault.{MsgFault}
+use Rattle.rtcm_msg.specs.declared.message.Message.{Message}
+use Rattle.rtcm_msg.specs.Fields.{number_at, ◌>>=◌}
+use Rattle.rtcm_msg.specs.Station.{station_at}
+use Rattle.rtcm_msg.specs.Msm.{msm_at}
+use Rattle.rtcm_msg.specs.declared.message.Message.TheVariants as messages
+use Rattle.rtcm_msg.specs.Grid4 as grid4
+use Rattle.rtcm_msg.specs.Grid7 as grid7
+
+-- the numbers of the multiple signal messages of all systems
+abbrev pub is_listed : ℕ → Bool
+is_listed n = nat_le 1071 n && nat_le n 1127 && nat_le 1 (n % 10) && nat_le (n % 10) 7
+
+-- the station and DF393 of a listed message, behind its number
+abbrev pub set_at : Cursor → Option (ℕ × Bool)
+set_at c = if nat_lt (length c.rest) 43 then None else Some (unsigned_at 12 c, unsigned_at 1 (after (after c 12) 30) == 1)
+
+abbrev pub other_at : ℕ → Cursor → Message
+other_at n c = messages.Other n (if is_listed n then set_at c else None)
+
+abbrev pub start : List Bool → Cursor
+start bits = record { place = 0; rest = bits }
+
+-- the value, behind the message number n
+unfoldable pub body_at : ℕ → Cursor → Result Message MsgFault
+body_at n c =
+    if n == 1005 then (station_at false c >>= λ s. Ok (messages.Station s.0))
+    else (if n == 1006 then (station_at true c >>= λ s. Ok (messages.Station s.0))
+    else (if n == 1074 then (msm_at grid4.satellite_widths grid4.cell_widths false c >>= λ m. Ok (messages.Msm4 m.0))
+    else (if n == 1077 then (msm_at grid7.satellite_widths grid7.cell_widths false c >>= λ m. Ok (messages.Msm7 m.0))
+    else (if n == 1094 then (msm_at grid4.satellite_widths grid4.cell_widths true c >>= λ m. Ok (messages.Msm4 m.0))
+    else (if n == 1097 then (msm_at grid7.satellite_widths grid7.cell_widths true c >>= λ m. Ok (messages.Msm7 m.0))
+    else Ok (other_at n c))))))
+
+-- what bits are read as
+unfoldable pub message_of : List Bool → Result Message MsgFault
+message_of bits = number_at 12 (start bits) >>= λ n. body_at n.0 n.1
+
+abbrev pub message_at : List ℕ → Result Message MsgFault
+message_at bytes = message_of (bits_of bytes)

@@ -1,0 +1,55 @@
+-- Which parts are a value, and else the first refusal.
+use Rattle.std.specs.Prelude.{ℕ, ◌^◌, ◌==◌, ◌&&◌, nat_lt, nat_le, if◌then◌else◌, not, Option, Some, None, Result, Ok, Err, count_ones}
+use Rattle.rtcm_msg.specs.declared.fault.Field.{Field}
+use Rattle.rtcm_msg.specs.declared.header.MsmHeader.{MsmHeader}
+use Rattle.rtcm_msg.specs.declared.station.StationParts.{StationParts}
+use Rattle.rtcm_msg.specs.declared.fault.ValueFault.{ValueFault}
+use Rattle.rtcm_msg.specs.Ranges.{fits_int}
+use Rattle.rtcm_msg.specs.Msm.{Sets, pairs, week}
+use Rattle.rtcm_msg.specs.declared.fault.ValueFault.TheVariants as faults
+use Rattle.rtcm_msg.specs.declared.fault.Field.TheVariants as fields
+
+abbrev pub sets_of : ℕ → ℕ → ℕ → Result Sets ValueFault
+sets_of satellites signals cells =
+    if nat_lt 64 (pairs satellites signals) then Err faults.TooManyCells
+    else (if nat_le (2 ^ pairs satellites signals) cells then Err (faults.OutOfRange fields.Cells) else Ok (record { satellites = satellites; signals = signals; cells = cells }))
+
+-- the first part of a station, in the order of the layout, that is out of range
+abbrev pub station_fault : StationParts → Option Field
+station_fault s =
+    if nat_le (2 ^ 12) s.station then Some fields.Station
+    else (if nat_le (2 ^ 6) s.realization then Some fields.Realization
+    else (if not (fits_int 38 s.x) then Some fields.X
+    else (if not (fits_int 38 s.y) then Some fields.Y
+    else (if nat_le (2 ^ 2) s.quarter then Some fields.Quarter
+    else (if not (fits_int 38 s.z) then Some fields.Z
+    else None)))))
+
+abbrev pub station_made : Option Field → StationParts → Result StationParts ValueFault
+station_made None s = Ok s
+station_made (Some f) s = Err (faults.OutOfRange f)
+
+-- the first part of a header, in the order of the layout, that is out of range, but for the time
+abbrev pub header_fault : MsmHeader → Option Field
+header_fault h =
+    if nat_le (2 ^ 12) h.station then Some fields.Station
+    else (if nat_le (2 ^ 3) h.iods then Some fields.Iods
+    else (if nat_le (2 ^ 2) h.steering then Some fields.Steering
+    else (if nat_le (2 ^ 2) h.clock then Some fields.Clock
+    else (if nat_le (2 ^ 3) h.interval then Some fields.Interval
+    else None))))
+
+-- the first of these
+abbrev pub or_else : Option Field → Option Field → Option Field
+or_else None g = g
+or_else (Some f) g = Some f
+
+abbrev pub out_of_range : Option Field → Option ValueFault
+out_of_range None = None
+out_of_range (Some f) = Some (faults.OutOfRange f)
+
+-- why parts are no message, where the last two are the first bad part of the satellites and of the cells
+abbrev pub msm_refusal : MsmHeader → Sets → ℕ → ℕ → Option Field → Option Field → Option ValueFault
+msm_refusal h s satellites cells satellite_fault cell_fault =
+    if nat_le week h.time then Some faults.BadTime
+    else (if (satellites == count_ones s.satellites) && (cells == count_ones s.cells) then out_of_range (or_else (header_fault h) (or_else satellite_fault cell_fault)) else Some faults.CellCount)

@@ -1,0 +1,119 @@
+-- What spells a message, what is read, and which fault stands.
+use Rattle.std.specs.Prelude.{◌≡◌, ℕ, ◌^◌, ◌<◌, ◌≤◌, ◌==◌, ◌||◌, ◌&&◌, nat_lt, nat_le, if◌then◌else◌, Bool, true, false, List, [], ◌∷◌, ◌++◌, length, take, drop, Option, Some, None, replicate, count_ones, IsTrue, ◌⊎◌}
+use Rattle.rtcm_bits.specs.Bits.{number}
+use Rattle.rtcm_msg.specs.declared.fault.MsgFault.{MsgFault}
+use Rattle.rtcm_msg.specs.declared.fault.MsgFault.TheVariants.{Short, TooManyCells, BadTime}
+use Rattle.rtcm_msg.specs.declared.message.Message.{Message}
+use Rattle.rtcm_msg.specs.declared.message.Message.TheVariants.{Station, Msm4, Msm7, Other}
+use Rattle.rtcm_msg.specs.Fields.{spelled, first_past}
+use Rattle.rtcm_msg.specs.Station.{station_fields, InRange, station_table, height_table}
+use Rattle.rtcm_msg.specs.Msm.{msm_bits, IsValue, pairs, week, time_table, header_table, mask_table, cell_mask_table}
+use Rattle.rtcm_msg.specs.Layout.{widths, number_table}
+use Rattle.rtcm_msg.specs.Reading.{is_listed}
+use Rattle.rtcm_msg.specs.Grid4 as grid4
+use Rattle.rtcm_msg.specs.Grid7 as grid7
+
+abbrev pub is_other : Message → Bool
+is_other (Station s) = false
+is_other (Msm4 m) = false
+is_other (Msm7 m) = false
+is_other (Other n set) = true
+
+-- a value
+abbrev pub IsMessage : Message → Type 0
+IsMessage (Station s) = InRange s
+IsMessage (Msm4 m) = IsValue grid4.satellite_widths grid4.cell_widths m
+IsMessage (Msm7 m) = IsValue grid7.satellite_widths grid7.cell_widths m
+IsMessage (Other n set) = Unit {0}
+
+-- how many bits are reserved
+abbrev pub reserved_width : Message → ℕ
+reserved_width (Station s) = 1
+reserved_width (Msm4 m) = 7
+reserved_width (Msm7 m) = 7
+reserved_width (Other n set) = 0
+
+-- the bits of a message whose reserved bits are given
+abbrev pub message_bits : Message → ℕ → List Bool
+message_bits (Station s) reserved = spelled (station_fields s reserved)
+message_bits (Msm4 m) reserved = msm_bits grid4.satellite_widths grid4.cell_widths (grid4.number m.is_galileo) m reserved
+message_bits (Msm7 m) reserved = msm_bits grid7.satellite_widths grid7.cell_widths (grid7.number m.is_galileo) m reserved
+message_bits (Other n set) reserved = []
+
+-- the bits spell the message; its reserved bits are any
+pub record Spells (v : Message) (bits : List Bool) : Type 0 where
+  pub reserved : ℕ
+  pub fits : reserved < 2 ^ reserved_width v
+  pub bits_are : bits ≡ message_bits v reserved
+
+-- the number of w bits from a place on
+abbrev pub field_at : List Bool → ℕ → ℕ → ℕ
+field_at bits place w = number (take w (drop place bits))
+
+abbrev pub number_of : List Bool → ℕ
+number_of bits = field_at bits 0 12
+
+abbrev pub is_msm : ℕ → Bool
+is_msm n = n == 1074 || n == 1077 || n == 1094 || n == 1097
+
+abbrev pub is_read : ℕ → Bool
+is_read n = n == 1005 || n == 1006 || is_msm n
+
+-- the station and DF393 of a message that is not read
+abbrev pub set_of : List Bool → Option (ℕ × Bool)
+set_of bits = if is_listed (number_of bits) then (if nat_le 55 (length bits) then Some (field_at bits 12 12, field_at bits 54 1 == 1) else None) else None
+
+-- a message that is not read
+pub record IsOther (bits : List Bool) (v : Message) : Type 0 where
+  pub number_there : 12 ≤ length bits
+  pub unread : is_read (number_of bits) ≡ false
+  pub value : v ≡ Other (number_of bits) (set_of bits)
+
+-- the bits are read as the value
+pub record BeginsWith (bits : List Bool) (v : Message) : Type 0 where
+  pub is_value : IsMessage v
+  pub known : is_other v ≡ false
+  pub front : List Bool
+  pub rest : List Bool
+  pub joined : bits ≡ front ++ rest
+  pub spells : Spells v front
+
+abbrev pub Reads : List Bool → Message → Type 0
+Reads bits v = BeginsWith bits v ⊎ IsOther bits v
+
+-- ---- faults
+
+-- The widths of the fields of these bits in order, as far as they are there.
+abbrev pub repeated : ℕ → List ℕ → List ℕ
+repeated count [] = []
+repeated count (w ∷ ws) = replicate count w ++ repeated count ws
+
+abbrev pub msm_layout : List ℕ → List ℕ → List Bool → List ℕ
+msm_layout satellite_widths cell_widths bits =
+    let satellites = field_at bits 73 64 in
+    let signals = field_at bits 137 32 in
+    let width = pairs satellites signals in
+    widths (number_table ++ (time_table ++ (header_table ++ (mask_table ++ cell_mask_table width)))) ++ (repeated (count_ones satellites) satellite_widths ++ repeated (count_ones (field_at bits 169 width)) cell_widths)
+
+-- those of a message of this number
+abbrev pub layout_of : ℕ → List Bool → List ℕ
+layout_of n bits =
+    if n == 1005 then widths (number_table ++ station_table)
+    else (if n == 1006 then widths (number_table ++ (station_table ++ height_table))
+    else (if n == 1074 || n == 1094 then msm_layout grid4.satellite_widths grid4.cell_widths bits
+    else (if n == 1077 || n == 1097 then msm_layout grid7.satellite_widths grid7.cell_widths bits else [])))
+
+abbrev pub layout : List Bool → List ℕ
+layout bits = layout_of (number_of bits) bits
+
+abbrev pub has_bad_time : List Bool → Bool
+has_bad_time bits = is_msm (number_of bits) && nat_le 54 (length bits) && nat_le week (field_at bits 24 30)
+
+abbrev pub has_too_many : List Bool → Bool
+has_too_many bits = is_msm (number_of bits) && nat_le 169 (length bits) && nat_lt 64 (pairs (field_at bits 73 64) (field_at bits 137 32))
+
+-- which fault stands, if one does
+abbrev pub IsFault : List Bool → MsgFault → Type 0
+IsFault bits BadTime = IsTrue (has_bad_time bits)
+IsFault bits TooManyCells = (has_bad_time bits ≡ false) × IsTrue (has_too_many bits)
+IsFault bits (Short k) = (has_bad_time bits ≡ false) × (has_too_many bits ≡ false) × (((length bits < 12) × (k ≡ 0)) ⊎ ((12 ≤ length bits) × (first_past (length bits) 0 (layout bits) ≡ Some k)))

@@ -1,0 +1,71 @@
+-- Messages 1005 and 1006.
+use Rattle.std.specs.Prelude.{ℕ, ◌^◌, ◌<◌, if◌then◌else◌, Bool, true, false, List, [], ◌∷◌, ◌++◌, Option, Some, None, Result, Ok, is_some, IfSome}
+use Rattle.rtcm_bits.specs.Bits.{FitsInt}
+use Rattle.rtcm_bits.specs.Reading.{Cursor}
+use Rattle.rtcm_msg.specs.declared.fault.MsgFault.{MsgFault}
+use Rattle.rtcm_msg.specs.declared.station.StationParts.{StationParts}
+use Rattle.rtcm_msg.specs.Layout.{Table, Uint, Int, Flag, Reserved, Contents, fields_of, ◌▸◌, number_table}
+use Rattle.rtcm_msg.specs.Fields.{reading, ◌>>=◌}
+
+-- the fields of message 1005, behind the message number
+abbrev pub station_table : Table
+station_table =
+    (3, Uint 12)  -- reference station ID
+    ∷ (21, Uint 6)  -- ITRF realization year
+    ∷ (22, Flag)  -- GPS indicator
+    ∷ (23, Flag)  -- GLONASS indicator
+    ∷ (24, Flag)  -- Galileo indicator
+    ∷ (141, Flag)  -- reference station indicator
+    ∷ (25, Int 38)  -- antenna reference point ECEF-X, 0.0001 m
+    ∷ (142, Flag)  -- single receiver oscillator indicator
+    ∷ (1, Reserved 1)
+    ∷ (26, Int 38)  -- antenna reference point ECEF-Y, 0.0001 m
+    ∷ (364, Uint 2)  -- quarter cycle indicator
+    ∷ (27, Int 38)  -- antenna reference point ECEF-Z, 0.0001 m
+    ∷ []
+
+-- message 1006 has one more
+abbrev pub height_table : Table
+height_table =
+    (28, Uint 16)  -- antenna height, 0.0001 m
+    ∷ []
+
+-- what the fields of a value hold, with the reserved bit
+abbrev pub station_contents : StationParts → ℕ → Contents station_table
+station_contents s reserved =
+    s.station ▸ s.realization ▸ s.gps ▸ s.glonass ▸ s.galileo ▸ s.reference ▸ s.x ▸ s.oscillator ▸ reserved ▸ s.y ▸ s.quarter ▸ s.z ▸ tt
+
+abbrev pub station_parts : Contents station_table → Option ℕ → StationParts
+station_parts (station, (realization, (gps, (glonass, (galileo, (reference, (x, (oscillator, (reserved, (y, (quarter, (z, end)))))))))))) height =
+    record { station = station; realization = realization; gps = gps; glonass = glonass; galileo = galileo; reference = reference; x = x; oscillator = oscillator; y = y; quarter = quarter; z = z; height = height }
+
+abbrev pub height_fields : Option ℕ → List (ℕ × ℕ)
+height_fields None = []
+height_fields (Some h) = fields_of height_table (h ▸ tt)
+
+-- the fields that both messages have
+abbrev pub common_fields : ℕ → StationParts → ℕ → List (ℕ × ℕ)
+common_fields number s reserved = fields_of number_table (number ▸ tt) ++ fields_of station_table (station_contents s reserved)
+
+-- the fields in order, whose reserved bit is as given
+abbrev pub station_fields : StationParts → ℕ → List (ℕ × ℕ)
+station_fields s reserved = common_fields (if is_some s.height then 1006 else 1005) s reserved ++ height_fields s.height
+
+-- which parts are a value
+pub record InRange (s : StationParts) : Type 0 where
+  pub station : s.station < 2 ^ 12
+  pub realization : s.realization < 2 ^ 6
+  pub x : FitsInt 38 s.x
+  pub y : FitsInt 38 s.y
+  pub quarter : s.quarter < 2 ^ 2
+  pub z : FitsInt 38 s.z
+  pub height : IfSome s.height (λ h. h < 2 ^ 16)
+
+-- ---- reading, behind the message number
+
+abbrev pub height_at : Bool → Cursor → Result (Option ℕ × Cursor) MsgFault
+height_at false c = Ok (None, c)
+height_at true c = reading height_table c (λ h. Ok (Some h.0.0, h.1))
+
+unfoldable pub station_at : Bool → Cursor → Result (StationParts × Cursor) MsgFault
+station_at has_height c = reading station_table c (λ s. height_at has_height s.1 >>= λ h. Ok (station_parts s.0 h.0, h.1))

@@ -1,0 +1,187 @@
+ghost use Rattle.std.specs.Prelude.{◌≡◌, All, Bool, ◌+◌, ℕ, ℤ, List, ◌^◌, ◌<◌, ◌≤◌, Option, IfNone, IfSome, unsigned_abs};
+ghost use Rattle.std.specs.Option.{ForSome};
+ghost use Rattle.rtcm_msg.specs.Fractions.{joined};
+ghost use Rattle.rtcm_msg.specs.Packed.{total};
+ghost use Rattle.rtcm_msg.specs.declared.fault.Field.{Field};
+
+use crate::fault::Field;
+
+/// The data of a satellite and of a cell, in one of the two precisions.
+pub trait Grid {
+    type Satellite: Copy + Drop;
+
+    type Cell: Copy + Drop;
+
+    /// The widths of a satellite's fields, in order.
+    ghost satellite_widths: { List ℕ };
+
+    /// The widths of a cell's fields, in order.
+    ghost cell_widths: { List ℕ };
+
+    /// The parts of a satellite are in range.
+    ghost is_satellite: { Self.Satellite → Type 0 };
+
+    /// The parts of a cell are in range.
+    ghost is_cell: { Self.Cell → Type 0 };
+
+    ghost satellite_packed: { Self.Satellite → ℕ };
+
+    ghost satellite_at: { ℕ → Self.Satellite };
+
+    ghost cell_packed: { Self.Cell → ℕ };
+
+    ghost cell_at: { ℕ → Self.Cell };
+
+    ghost number_of: { Bool → ℕ };
+
+    /// The message number, DF002.
+    fn number_of(is_galileo: bool) -> u16
+        ensures value { result ≡ number_of is_galileo }
+        ensures bound { result < 2 ^ 12 };
+
+    ghost satellite_fault_of: { List Self.Satellite → Option Field };
+
+    ghost cell_fault_of: { List Self.Cell → Option Field };
+
+    /// The first field, in the order of the layout, that does not fit its bits in some satellite.
+    fn satellite_fault(satellites: &[Self::Satellite]) -> Option<Field>
+        ensures first { result ≡ satellite_fault_of satellites.now }
+        ensures none { IfNone result (All is_satellite satellites.now) };
+
+    /// The first field, in the order of the layout, that does not fit its bits in some cell.
+    fn cell_fault(cells: &[Self::Cell]) -> Option<Field>
+        ensures first { result ≡ cell_fault_of cells.now }
+        ensures none { IfNone result (All is_cell cells.now) };
+
+    ghost range_of: { Self.Satellite → Self.Cell → Option ℤ };
+
+    ghost phase_of: { Self.Satellite → Self.Cell → Option ℤ };
+
+    ghost rate_of: { Self.Satellite → Self.Cell → Option ℤ };
+
+    ghost strength_of: { Self.Cell → Option ℕ };
+
+    ghost lock_code_of: { Self.Cell → ℕ };
+
+    ghost half_cycle_of: { Self.Cell → Bool };
+
+    ghost lock_codes: { ℕ };
+
+    /// The pseudorange in 2^-31 ms: the rough range and the cell's fine pseudorange. None where either
+    /// is invalid.
+    fn range(satellite: &Self::Satellite, cell: &Self::Cell) -> Option<i64>
+        requires s { is_satellite satellite.now }
+        requires c { is_cell cell.now }
+        ensures value { result ≡ range_of satellite.now cell.now }
+        ensures bound { IfSome result (λ r. unsigned_abs r ≤ 2 ^ 40) };
+
+    /// The phase range in 2^-31 ms: the rough range and the cell's fine phase range. None where either
+    /// is invalid.
+    fn phase(satellite: &Self::Satellite, cell: &Self::Cell) -> Option<i64>
+        requires s { is_satellite satellite.now }
+        requires c { is_cell cell.now }
+        ensures value { result ≡ phase_of satellite.now cell.now }
+        ensures bound { IfSome result (λ r. unsigned_abs r ≤ 2 ^ 40) };
+
+    /// The phase range rate in 0.0001 m/s. None where its rough or fine part is invalid, and in MSM4.
+    fn rate(satellite: &Self::Satellite, cell: &Self::Cell) -> Option<i32>
+        requires s { is_satellite satellite.now }
+        requires c { is_cell cell.now }
+        ensures value { result ≡ rate_of satellite.now cell.now }
+        ensures bound { IfSome result (λ r. unsigned_abs r ≤ 10 ^ 8) };
+
+    /// The carrier to noise ratio in 1/16 dB-Hz. None where it was not computed.
+    fn strength(cell: &Self::Cell) -> Option<u16>
+        requires { is_cell cell.now }
+        ensures value { result ≡ strength_of cell.now }
+        ensures bound { IfSome result (λ s. s < 1024) };
+
+    /// The lock time indicator, DF402 or DF407.
+    fn lock_code(cell: &Self::Cell) -> u16
+        requires { is_cell cell.now }
+        ensures value { result ≡ lock_code_of cell.now }
+        ensures bound { result < lock_codes };
+
+    /// Whether a half-cycle ambiguity is possible, DF420.
+    fn half_cycle(cell: &Self::Cell) -> bool
+        ensures { result ≡ half_cycle_of cell.now };
+
+    /// The widths of a satellite's fields, in the order of the layout.
+    fn satellite_widths() -> &'static [u32]
+        ensures { result.now ≡ satellite_widths };
+
+    /// The widths of a cell's fields, in the order of the layout.
+    fn cell_widths() -> &'static [u32]
+        ensures { result.now ≡ cell_widths };
+
+    /// A satellite's fields in one number, the first in the most significant bits.
+    fn satellite_number(satellite: &Self::Satellite) -> u64
+        requires { is_satellite satellite.now }
+        ensures { result ≡ satellite_packed satellite.now };
+
+    /// The satellite whose fields are in the number.
+    fn satellite_of(number: u64) -> Self::Satellite
+        requires { number < 2 ^ total satellite_widths }
+        ensures { result ≡ satellite_at number };
+
+    /// A cell's fields in one number, the first in the most significant bits.
+    fn cell_number(cell: &Self::Cell) -> u128
+        requires { is_cell cell.now }
+        ensures { result ≡ cell_packed cell.now };
+
+    /// The cell whose fields are in the number.
+    fn cell_of(number: u128) -> Self::Cell
+        requires { number < 2 ^ total cell_widths }
+        ensures { result ≡ cell_at number };
+
+    // A field has at most 64 bits, and a satellite or a cell fits its number.
+    ghost satellite_widths_few: { All (λ w. w ≤ 64) satellite_widths };
+
+    /// The largest message has room.
+    ghost room: { total satellite_widths + total cell_widths ≤ 124 };
+
+    ghost satellite_width: { total satellite_widths ≤ 64 };
+
+    ghost cell_widths_few: { All (λ w. w ≤ 64) cell_widths };
+
+    ghost cell_width: { total cell_widths ≤ 128 };
+
+    // Packing and unpacking undo each other.
+    ghost satellite_fits: { (s : Self.Satellite) → is_satellite s → satellite_packed s < 2 ^ total satellite_widths };
+
+    ghost satellite_back: { (s : Self.Satellite) → is_satellite s → satellite_at (satellite_packed s) ≡ s };
+
+    ghost satellite_in_range: { (n : ℕ) → n < 2 ^ total satellite_widths → is_satellite (satellite_at n) };
+
+    ghost satellite_same: { (n : ℕ) → n < 2 ^ total satellite_widths → satellite_packed (satellite_at n) ≡ n };
+
+    ghost cell_fits: { (c : Self.Cell) → is_cell c → cell_packed c < 2 ^ total cell_widths };
+
+    ghost cell_back: { (c : Self.Cell) → is_cell c → cell_at (cell_packed c) ≡ c };
+
+    ghost cell_in_range: { (n : ℕ) → n < 2 ^ total cell_widths → is_cell (cell_at n) };
+
+    ghost cell_same: { (n : ℕ) → n < 2 ^ total cell_widths → cell_packed (cell_at n) ≡ n };
+
+    // There are so many lock time indicators.
+    ghost lock_fits: { (c : Self.Cell) → is_cell c → lock_code_of c < lock_codes };
+}
+
+/// The rough range in units of 2^-31 ms with a fine part.
+pub(crate) fn joined(whole: u8, fraction: u16, fine: Option<i32>) -> Option<i64>
+    requires fraction { fraction < 1024 }
+    requires small { ForSome fine (λ z. unsigned_abs z ≤ 2 ^ 26) }
+    ensures value { result ≡ joined whole fraction fine }
+    ensures bound { IfSome result (λ r. unsigned_abs r ≤ 2 ^ 40) }
+{
+    match fine {
+        None => None,
+        Some(fine) => {
+            if whole == 255 {
+                None
+            } else {
+                Some((whole as u64 * (1 << 31) + fraction as u64 * (1 << 21)) as i64 + fine as i64)
+            }
+        }
+    }
+}

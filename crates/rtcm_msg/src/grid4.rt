@@ -1,0 +1,277 @@
+ghost use Rattle.std.specs.Prelude.{◌≡◌, ◌^◌, nat_le, not, IfSome, negsuc, unsigned_abs, ◌≤◌};
+ghost use Rattle.rtcm_msg.specs.Fractions.{scaled};
+ghost use Rattle.std.specs.List.{list_any};
+ghost use Rattle.rtcm_msg.specs.Ranges.{fits_int};
+ghost use Rattle.rtcm_msg.specs.Grid4 as grid4;
+
+use crate::fault::Field;
+use crate::grid::{Grid, joined};
+use rtcm_bits::{raw_of, signed_of};
+
+/// The data of a satellite in MSM4.
+#[derive(Clone, Copy, Debug, PartialEq, Eq, Drop)]
+pub struct Satellite4 {
+    /// Rough range in whole milliseconds, DF397: 8 bits, 255 for none.
+    pub whole: u8,
+    /// Rough range below a millisecond in 2^-10 ms, DF398: 10 bits.
+    pub fraction: u16,
+}
+
+/// The data of a cell in MSM4.
+#[derive(Clone, Copy, Debug, PartialEq, Eq, Drop)]
+pub struct Cell4 {
+    /// Fine pseudorange in 2^-24 ms, DF400: 15 bits with a sign, -2^14 for none.
+    pub range: i16,
+    /// Fine phase range in 2^-29 ms, DF401: 22 bits with a sign, -2^21 for none.
+    pub phase: i32,
+    /// Lock time indicator, DF402: 4 bits.
+    pub lock: u8,
+    /// Half-cycle ambiguity indicator, DF420: whether one is possible.
+    pub half_cycle: bool,
+    /// Carrier to noise ratio in dB-Hz, DF403: 6 bits, 0 for none.
+    pub strength: u8,
+}
+
+/// The precision of MSM4: messages 1074 and 1094.
+pub struct Grid4;
+
+/// The widths of DF397 and DF398.
+const SATELLITE_WIDTHS: [u32; 2] = [8, 10];
+
+/// The widths of DF400, DF401, DF402, DF420 and DF403.
+const CELL_WIDTHS: [u32; 5] = [15, 22, 4, 1, 6];
+
+// The type bounds this part already: the test tells the proof so of each element.
+fn has_bad_range_whole(satellites: &[Satellite4]) -> bool
+    ensures { result ≡ list_any (λ x. nat_le (2 ^ 8) x.whole) satellites.now }
+{
+    satellites.iter().any(|x| x.whole as u16 >= 256)
+}
+
+fn has_bad_range_fraction(satellites: &[Satellite4]) -> bool
+    ensures { result ≡ list_any (λ x. nat_le (2 ^ 10) x.fraction) satellites.now }
+{
+    satellites.iter().any(|x| x.fraction >= 1024)
+}
+
+fn has_bad_fine_range(cells: &[Cell4]) -> bool
+    ensures { result ≡ list_any (λ x. not (fits_int 15 x.range)) cells.now }
+{
+    cells.iter().any(|x| x.range < -16384 || x.range >= 16384)
+}
+
+fn has_bad_fine_phase(cells: &[Cell4]) -> bool
+    ensures { result ≡ list_any (λ x. not (fits_int 22 x.phase)) cells.now }
+{
+    cells
+        .iter()
+        .any(|x| x.phase < -2097152 || x.phase >= 2097152)
+}
+
+fn has_bad_lock(cells: &[Cell4]) -> bool
+    ensures { result ≡ list_any (λ x. nat_le (2 ^ 4) x.lock) cells.now }
+{
+    cells.iter().any(|x| x.lock >= 16)
+}
+
+fn has_bad_strength(cells: &[Cell4]) -> bool
+    ensures { result ≡ list_any (λ x. nat_le (2 ^ 6) x.strength) cells.now }
+{
+    cells.iter().any(|x| x.strength >= 64)
+}
+
+/// The fine pseudorange in 2^-31 ms.
+fn fine_range(cell: &Cell4) -> Option<i32>
+    requires { grid4.IsCell cell.now }
+    ensures value { result ≡ scaled (negsuc 16383) 128 cell.now.range }
+    ensures small { IfSome result (λ z. unsigned_abs z ≤ 2 ^ 26) }
+{
+    if cell.range == -16384 {
+        None
+    } else {
+        Some(cell.range as i32 * 128)
+    }
+}
+
+/// The fine phase range in 2^-31 ms.
+fn fine_phase(cell: &Cell4) -> Option<i32>
+    requires { grid4.IsCell cell.now }
+    ensures value { result ≡ scaled (negsuc 2097151) 4 cell.now.phase }
+    ensures small { IfSome result (λ z. unsigned_abs z ≤ 2 ^ 26) }
+{
+    if cell.phase == -2097152 {
+        None
+    } else {
+        Some(cell.phase as i32 * 4)
+    }
+}
+
+impl Grid for Grid4 {
+    ghost use Rattle.rtcm_msg.specs.Grid4 as grid4;
+
+    type Satellite = Satellite4;
+
+    type Cell = Cell4;
+
+    ghost satellite_widths = { grid4.satellite_widths };
+
+    ghost cell_widths = { grid4.cell_widths };
+
+    ghost is_satellite = { grid4.IsSatellite };
+
+    ghost is_cell = { grid4.IsCell };
+
+    ghost satellite_packed = { grid4.satellite_number };
+
+    ghost satellite_at = { grid4.satellite_at };
+
+    ghost cell_packed = { grid4.cell_number };
+
+    ghost cell_at = { grid4.cell_at };
+
+    ghost number_of = { grid4.number };
+
+    fn number_of(is_galileo: bool) -> u16 {
+        if is_galileo { 1094 } else { 1074 }
+    }
+
+    ghost satellite_fault_of = { grid4.satellite_fault };
+
+    ghost cell_fault_of = { grid4.cell_fault };
+
+    fn satellite_fault(satellites: &[Satellite4]) -> Option<Field> {
+        if has_bad_range_whole(satellites) {
+            return Some(Field::RangeWhole);
+        }
+        if has_bad_range_fraction(satellites) {
+            return Some(Field::RangeFraction);
+        }
+        None
+    }
+
+    fn cell_fault(cells: &[Cell4]) -> Option<Field> {
+        if has_bad_fine_range(cells) {
+            return Some(Field::FineRange);
+        }
+        if has_bad_fine_phase(cells) {
+            return Some(Field::FinePhase);
+        }
+        if has_bad_lock(cells) {
+            return Some(Field::Lock);
+        }
+        if has_bad_strength(cells) {
+            return Some(Field::Strength);
+        }
+        None
+    }
+
+    ghost range_of = { grid4.range_of };
+
+    ghost phase_of = { grid4.phase_of };
+
+    ghost rate_of = { grid4.rate_of };
+
+    ghost strength_of = { grid4.strength_of };
+
+    ghost lock_code_of = { λ c. c.lock };
+
+    ghost half_cycle_of = { λ c. c.half_cycle };
+
+    ghost lock_codes = { 16 };
+
+    fn range(satellite: &Satellite4, cell: &Cell4) -> Option<i64> {
+        joined(satellite.whole, satellite.fraction, fine_range(cell))
+    }
+
+    fn phase(satellite: &Satellite4, cell: &Cell4) -> Option<i64> {
+        joined(satellite.whole, satellite.fraction, fine_phase(cell))
+    }
+
+    fn rate(_satellite: &Satellite4, _cell: &Cell4) -> Option<i32> {
+        None
+    }
+
+    fn strength(cell: &Cell4) -> Option<u16> {
+        if cell.strength == 0 {
+            None
+        } else {
+            Some(cell.strength as u16 * 16)
+        }
+    }
+
+    fn lock_code(cell: &Cell4) -> u16 {
+        cell.lock as u16
+    }
+
+    fn half_cycle(cell: &Cell4) -> bool {
+        cell.half_cycle
+    }
+
+    fn satellite_widths() -> &'static [u32] {
+        &SATELLITE_WIDTHS
+    }
+
+    fn cell_widths() -> &'static [u32] {
+        &CELL_WIDTHS
+    }
+
+    fn satellite_number(satellite: &Satellite4) -> u64 {
+        satellite.whole as u64 * 1024 + satellite.fraction as u64
+    }
+
+    fn satellite_of(number: u64) -> Satellite4 {
+        Satellite4 {
+            whole: (number / 1024 % 256) as u8,
+            fraction: (number % 1024) as u16,
+        }
+    }
+
+    fn cell_number(cell: &Cell4) -> u128 {
+        let range = raw_of(cell.range as i64, 15);
+        let phase = raw_of(cell.phase as i64, 22);
+        (((range as u128 * (1 << 22) + phase as u128) * 16 + cell.lock as u128) * 2
+            + cell.half_cycle as u128)
+            * 64
+            + cell.strength as u128
+    }
+
+    fn cell_of(number: u128) -> Cell4 {
+        Cell4 {
+            range: signed_of((number / (1 << 33) % (1 << 15)) as u64, 15) as i16,
+            phase: signed_of((number / (1 << 11) % (1 << 22)) as u64, 22) as i32,
+            lock: (number / (1 << 7) % 16) as u8,
+            half_cycle: number / (1 << 6) % 2 == 1,
+            strength: (number % 64) as u8,
+        }
+    }
+
+    ghost use Rattle.rtcm_msg.specs.Grid4Laws as laws;
+
+    ghost satellite_widths_few = { laws.satellite_widths_few };
+
+    ghost room = { laws.room };
+
+    ghost satellite_width = { laws.satellite_width };
+
+    ghost cell_widths_few = { laws.cell_widths_few };
+
+    ghost cell_width = { laws.cell_width };
+
+    ghost satellite_fits = { laws.satellite_fits };
+
+    ghost satellite_back = { laws.satellite_back };
+
+    ghost satellite_in_range = { laws.satellite_in_range };
+
+    ghost satellite_same = { laws.satellite_same };
+
+    ghost cell_fits = { laws.cell_fits };
+
+    ghost cell_back = { laws.cell_back };
+
+    ghost cell_in_range = { laws.cell_in_range };
+
+    ghost cell_same = { laws.cell_same };
+
+    ghost lock_fits = { λ c h. h.lock };
+}

@@ -1,0 +1,37 @@
+//! The messages of RTCM 10403.3 that the converter reads, and their values, both ways: station messages
+//! 1005 and 1006, and the multiple signal messages (MSM) 1074, 1077, 1094 and 1097. `decode` reads a
+//! message, `encode` writes one, `entries` says what its cells mean.
+#![tactic(auto)]
+
+mod columns;
+mod entry;
+mod fault;
+mod field;
+mod grid;
+mod grid4;
+mod grid7;
+mod header;
+pub mod laws;
+mod masks;
+mod message;
+mod msm;
+mod seats;
+mod station;
+mod writing;
+
+pub use entry::{Entry, entries};
+pub use fault::{Field, MsgFault, ValueFault};
+pub use grid::Grid;
+pub use grid4::{Cell4, Grid4, Satellite4};
+pub use grid7::{Cell7, Grid7, Satellite7};
+pub use header::{MsmHeader, WEEK};
+pub use masks::Masks;
+pub use message::{Message, decode, encode};
+pub use msm::Msm;
+pub use seats::{Seat, Seats, all_seats};
+pub use station::{Station, StationParts};
+
+#[cfg(test)]
+mod tests;
+#[cfg(test)]
+mod value_tests;

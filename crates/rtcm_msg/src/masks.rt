@@ -1,0 +1,97 @@
+ghost use Rattle.std.specs.Prelude.{◌≡◌};
+ghost use Rattle.rtcm_msg.specs.Fields.{Gives};
+ghost use Rattle.rtcm_msg.specs.Msm.{sets_at, AreSets};
+ghost use Rattle.rtcm_msg.specs.Refusals.{sets_of};
+
+use crate::fault::{Field, MsgFault, ValueFault};
+use crate::field::field;
+use rtcm_bits::BitReader;
+use std::marker::Model;
+
+/// The satellites, the signals, and the pairs of both that have a cell: at most 64 pairs.
+#[derive(Clone, Copy, Debug, PartialEq, Eq)]
+pub struct Masks {
+    satellites: u64,
+    signals: u32,
+    cells: u64,
+}
+
+impl Model for Masks {
+    ghost use Rattle.rtcm_msg.specs.Msm.{Sets, AreSets};
+
+    ghost Value = { Sets };
+
+    ghost view = { λ m. record { satellites = m.satellites; signals = m.signals; cells = m.cells } };
+
+    ghost invariant = { λ m. AreSets (record { satellites = m.satellites; signals = m.signals; cells = m.cells }) };
+
+    ghost inverse = { λ s. record { satellites = s.satellites; signals = s.signals; cells = s.cells } };
+}
+
+impl Masks {
+    /// The masks of an MSM: satellites DF394, signals DF395, cells DF396. The most significant bit of
+    /// the first two is ID 1. The cell mask has a bit for each pair, by satellite and within it by
+    /// signal, and is taken as a number, the first pair in its most significant bit.
+    ///
+    /// # Errors
+    ///
+    /// `TooManyCells` where there are more than 64 pairs of a satellite and a signal, else
+    /// `OutOfRange(Field::Cells)` where the cell mask has more bits than there are pairs.
+    pub fn new(satellites: u64, signals: u32, cells: u64) -> Result<Masks, ValueFault>
+        ensures { result ≡ sets_of satellites signals cells }
+    {
+        let pairs = satellites.count_ones() * signals.count_ones();
+        if pairs > 64 {
+            return Err(ValueFault::TooManyCells);
+        }
+        if pairs < 64 && cells >= 1 << pairs {
+            return Err(ValueFault::OutOfRange(Field::Cells));
+        }
+        Ok(Masks {
+            satellites,
+            signals,
+            cells,
+        })
+    }
+
+    /// The satellite mask, DF394.
+    pub fn satellites(&self) -> u64
+        ensures { result ≡ self.now.satellites }
+    {
+        self.satellites
+    }
+
+    /// The signal mask, DF395.
+    pub fn signals(&self) -> u32
+        ensures { result ≡ self.now.signals }
+    {
+        self.signals
+    }
+
+    /// The cell mask, DF396, as a number.
+    pub fn cells(&self) -> u64
+        ensures value { result ≡ self.now.cells }
+        ensures sets { AreSets self.now }
+    {
+        self.cells
+    }
+}
+
+/// Reads the masks. More than 64 pairs are a fault as soon as the first two masks were read.
+#[tactic(auto, unfolding(crate::specs::Msm::sets_at))]
+pub(crate) fn read_masks(reader: &mut BitReader) -> Result<Masks, MsgFault>
+    ensures { Gives (λ m. (m, reader.new)) result (sets_at reader.old) }
+{
+    let satellites = field(reader, 64)?;
+    let signals = field(reader, 32)? as u32;
+    let count = satellites.count_ones() * signals.count_ones();
+    if count > 64 {
+        return Err(MsgFault::TooManyCells);
+    }
+    let cells = field(reader, count)?;
+    Ok(Masks {
+        satellites,
+        signals,
+        cells,
+    })
+}

@@ -1,0 +1,154 @@
+ghost use Rattle.std.specs.Prelude.{◌≡◌, ◌++◌, ◌^◌, ◌<◌, ◌≤◌, ◌*◌, IfOk, IfErr, length, false, Ok, Err};
+ghost use Rattle.rtcm_msg.specs.Fields.{Gives};
+ghost use Rattle.rtcm_bits.specs.Bits.{bits_of, filled};
+ghost use Rattle.rtcm_msg.specs.Spelling.{message_bits, is_other, Reads, IsFault, IsMessage};
+ghost use Rattle.rtcm_msg.specs.declared.message.Message.{Message};
+ghost use Rattle.rtcm_msg.specs.declared.fault.MsgFault.{MsgFault};
+ghost use Rattle.rtcm_msg.specs.Reading.{message_at, body_at, set_at, is_listed};
+ghost use Rattle.rtcm_msg.specs.declared.message.Message.TheVariants as messages;
+
+use crate::fault::MsgFault;
+use crate::field::field;
+use crate::grid4::Grid4;
+use crate::grid7::Grid7;
+use crate::msm::{Msm, read_msm, write_msm};
+use crate::station::{Station, read_station};
+use crate::writing::write_station;
+use arrayvec::ArrayVec;
+use rtcm_bits::{BitReader, BitWriter};
+
+/// A message of RTCM 10403.3.
+#[derive(Drop)]
+pub enum Message {
+    /// Message 1005 or 1006.
+    Station(Station),
+    /// Message 1074 or 1094.
+    Msm4(Msm<Grid4>),
+    /// Message 1077 or 1097.
+    Msm7(Msm<Grid7>),
+    /// A message of another number, DF002. Of a multiple signal message of any system and type that is
+    /// long enough for them, `set` has the station, DF003, and the multiple message bit, DF393.
+    Other {
+        number: u16,
+        set: Option<(u16, bool)>,
+    },
+}
+
+/// The station and DF393 of a multiple signal message behind its number, if they are there.
+fn read_set(reader: &mut BitReader) -> Option<(u16, bool)>
+    ensures { result ≡ set_at reader.old }
+{
+    let station = reader.unsigned(12)? as u16;
+    reader.unsigned(30)?;
+    let more = reader.unsigned(1)? == 1;
+    Some((station, more))
+}
+
+/// Whether a message of this number is a multiple signal message, of whatever system and type.
+fn is_listed(number: u16) -> bool
+    ensures { result ≡ is_listed number }
+{
+    number >= 1071 && number <= 1127 && number % 10 >= 1 && number % 10 <= 7
+}
+
+/// Reads what stands behind the message number.
+#[tactic(auto, unfolding(crate::specs::Reading::body_at))]
+fn read_body(number: u16, reader: &mut BitReader) -> Result<Message, MsgFault>
+    ensures { Gives (λ m. m) result (body_at number reader.old) }
+{
+    match number {
+        1005 => Ok(Message::Station(read_station(reader, false)?)),
+        1006 => Ok(Message::Station(read_station(reader, true)?)),
+        1074 => Ok(Message::Msm4(read_msm(reader, false)?)),
+        1077 => Ok(Message::Msm7(read_msm(reader, false)?)),
+        1094 => Ok(Message::Msm4(read_msm(reader, true)?)),
+        1097 => Ok(Message::Msm7(read_msm(reader, true)?)),
+        _ => Ok(Message::Other {
+            number,
+            set: if is_listed(number) {
+                read_set(reader)
+            } else {
+                None
+            },
+        }),
+    }
+}
+
+/// Reads a message of at most 1,023 bytes.
+#[tactic(auto, unfolding(crate::specs::Reading::message_of))]
+fn read_message(bytes: &[u8]) -> Result<Message, MsgFault>
+    requires { 8 * length bytes.now < 2 ^ 64 }
+    ensures { Gives (λ m. m) result (message_at bytes.now) }
+{
+    let mut reader = BitReader::new(bytes);
+    let number = field(&mut reader, 12)? as u16;
+    read_body(number, &mut reader)
+}
+
+/// The first 1,023 bytes, behind which no field ends.
+fn front(bytes: &[u8]) -> &[u8]
+    ensures few { length result.now ≤ 1023 }
+    ensures same { message_at result.now ≡ message_at bytes.now }
+{
+    if bytes.len() > 1023 {
+        &bytes[..1023]
+    } else {
+        bytes
+    }
+}
+
+/// Reads a message. Reserved bits and what stands behind the last field may be anything. A number
+/// other than the six that are read gives `Message::Other`.
+///
+/// # Errors
+///
+/// The first fault in the order of the fields: `Short` with the number of bits before the first field
+/// that does not end within the message, `BadTime` for an epoch time of a week or more as soon as it
+/// was read, `TooManyCells` for more than 64 pairs of a satellite and a signal as soon as both masks
+/// were read.
+pub fn decode(bytes: &[u8]) -> Result<Message, MsgFault>
+    ensures exact { Gives (λ m. m) result (message_at bytes.now) }
+    // What is spelled is read, whatever the reserved bits are and whatever follows.
+    ensures only { (v : Message) → Reads (bits_of bytes.now) v → result ≡ Ok v }
+    ensures found { IfOk result (λ v. IsMessage v × Reads (bits_of bytes.now) v) }
+    ensures fault { IfErr result (IsFault (bits_of bytes.now)) }
+    ensures only_fault { (f : MsgFault) → IsFault (bits_of bytes.now) f → result ≡ Err f }
+{
+    read_message(front(bytes))
+}
+
+impl Message {
+    /// Whether the message is of a number that is not read.
+    pub fn is_other(&self) -> bool
+        ensures { result ≡ is_other self.now }
+    {
+        matches!(self, Message::Other { .. })
+    }
+}
+
+/// Writes a message with its number.
+fn write_message(writer: &mut BitWriter, message: &Message)
+    requires known { is_other message.now ≡ false }
+    requires new { length writer.old ≡ 0 }
+    ensures bits { writer.new ≡ writer.old ++ message_bits message.now 0 }
+    ensures value { IsMessage message.now }
+{
+    match message {
+        Message::Station(station) => write_station(writer, &station.parts()),
+        Message::Msm4(msm) => write_msm(writer, msm),
+        Message::Msm7(msm) => write_msm(writer, msm),
+        Message::Other { .. } => unreachable!(),
+    }
+}
+
+/// Replaces the bytes by the message, with zero for the reserved bits, and filled up with zero bits to
+/// a byte. `decode` gives the message back.
+pub fn encode(message: &Message, bytes: &mut ArrayVec<u8, 1023>)
+    requires { is_other message.now ≡ false }
+    ensures bits { bits_of bytes.new.items ≡ filled (message_bits message.now 0) }
+    ensures value { IsMessage message.now }
+{
+    let mut writer = BitWriter::new();
+    write_message(&mut writer, message);
+    writer.finish(bytes);
+}

@@ -1,0 +1,278 @@
+ghost use Rattle.std.specs.Prelude.{◌≡◌, ◌<◌, ◌^◌, All, map, IfErr, Some, None, ◌++◌, ◌≤◌, IfOk, length, replicate, slice_index, count_ones};
+ghost use Rattle.rtcm_msg.specs.Fields.{Gives};
+ghost use Rattle.rtcm_msg.specs.Msm.{IsHeader, msm_at, msm_bits, IsValue};
+ghost use Rattle.rtcm_msg.specs.Packed.{total};
+ghost use Rattle.rtcm_msg.specs.Refusals.{msm_refusal};
+ghost use Rattle.rtcm_msg.specs.Columns.{EachBelow, columns_at};
+
+use crate::columns::read_columns;
+use crate::fault::{MsgFault, ValueFault};
+use crate::grid::Grid;
+use crate::header::{MsmHeader, WEEK, header_fault, read_header};
+use crate::masks::{Masks, read_masks};
+use crate::writing::{write_columns, write_header, write_masks};
+use arrayvec::ArrayVec;
+use rtcm_bits::{BitReader, BitWriter};
+use std::marker::{Model, PhantomData};
+
+/// A multiple signal message of GPS or Galileo, in the precision of the grid: a header, the satellites
+/// and signals that the masks name, data for each satellite, and a cell for each pair that has one.
+// The data stand packed, each satellite's or cell's fields in one number.
+#[derive(Drop)]
+pub struct Msm<G: Grid> {
+    is_galileo: bool,
+    header: MsmHeader,
+    masks: Masks,
+    satellites: ArrayVec<u64, 64>,
+    cells: ArrayVec<u128, 64>,
+    grid: PhantomData<G>,
+}
+
+impl<G: Grid> Model for Msm<G> {
+    ghost use Rattle.rtcm_msg.specs.Msm.{MsmValue, IsValue};
+
+    ghost Value = { MsmValue };
+
+    ghost view = { λ m. record { is_galileo = m.is_galileo; header = m.header; sets = m.masks; satellites = m.satellites.items; cells = m.cells.items } };
+
+    ghost invariant = { λ m. IsValue G.satellite_widths G.cell_widths (record { is_galileo = m.is_galileo; header = m.header; sets = m.masks; satellites = m.satellites.items; cells = m.cells.items }) };
+}
+
+impl<G: Grid> Msm<G> {
+    /// A message of these parts. The satellites stand in rising order of their IDs, the cells in the
+    /// order of the cell mask.
+    ///
+    /// # Errors
+    ///
+    /// In this order: `BadTime` where the time is a week or more, `CellCount` where there are more or
+    /// fewer satellites or cells than the masks have, `OutOfRange` with the first field, in the order
+    /// of the layout, that does not fit its bits somewhere.
+    pub fn new(
+        is_galileo: bool,
+        header: MsmHeader,
+        masks: Masks,
+        satellites: &[G::Satellite],
+        cells: &[G::Cell],
+    ) -> Result<Msm<G>, ValueFault>
+        ensures refused { IfErr result (λ e. msm_refusal header masks (length satellites.now) (length cells.now) (G.satellite_fault_of satellites.now) (G.cell_fault_of cells.now) ≡ Some e) }
+        ensures accepted { IfOk result (λ _. msm_refusal header masks (length satellites.now) (length cells.now) (G.satellite_fault_of satellites.now) (G.cell_fault_of cells.now) ≡ None) }
+        ensures made { IfOk result (λ m. m ≡ record { is_galileo = is_galileo; header = header; sets = masks; satellites = map G.satellite_packed satellites.now; cells = map G.cell_packed cells.now }) }
+    {
+        if header.time >= WEEK {
+            return Err(ValueFault::BadTime);
+        }
+        if satellites.len() != masks.satellites().count_ones() as usize
+            || cells.len() != masks.cells().count_ones() as usize
+        {
+            return Err(ValueFault::CellCount);
+        }
+        if let Some(field) = header_fault(&header) {
+            return Err(ValueFault::OutOfRange(field));
+        }
+        if let Some(field) = G::satellite_fault(satellites) {
+            return Err(ValueFault::OutOfRange(field));
+        }
+        if let Some(field) = G::cell_fault(cells) {
+            return Err(ValueFault::OutOfRange(field));
+        }
+        Ok(Msm {
+            is_galileo,
+            header,
+            masks,
+            satellites: pack_satellites::<G>(satellites),
+            cells: pack_cells::<G>(cells),
+            grid: PhantomData,
+        })
+    }
+
+    /// Whether the satellites are Galileo's; else they are GPS satellites.
+    pub fn is_galileo(&self) -> bool
+        ensures { result ≡ self.now.is_galileo }
+    {
+        self.is_galileo
+    }
+
+    /// The message number, DF002: 1074 or 1094 in MSM4, 1077 or 1097 in MSM7.
+    pub fn number(&self) -> u16
+        ensures value { result ≡ G.number_of self.now.is_galileo }
+        ensures bound { result < 2 ^ 12 }
+    {
+        G::number_of(self.is_galileo)
+    }
+
+    /// The fields at the head of the message.
+    pub fn header(&self) -> MsmHeader
+        ensures value { result ≡ self.now.header }
+        ensures in_range { IsHeader result }
+    {
+        self.header
+    }
+
+    /// The satellites, signals and pairs that the message has data of.
+    pub fn masks(&self) -> Masks
+        ensures { result ≡ self.now.sets }
+    {
+        self.masks
+    }
+
+    /// How many satellites there are.
+    pub fn satellites(&self) -> usize
+        ensures count { result ≡ length self.now.satellites }
+        ensures set { result ≡ count_ones self.now.sets.satellites }
+    {
+        self.satellites.len()
+    }
+
+    /// How many cells there are.
+    pub fn cells(&self) -> usize
+        ensures count { result ≡ length self.now.cells }
+        ensures set { result ≡ count_ones self.now.sets.cells }
+    {
+        self.cells.len()
+    }
+
+    /// The data of a satellite, in rising order of the IDs.
+    pub fn satellite(&self, i: usize) -> G::Satellite
+        requires { i < length self.now.satellites }
+        ensures value { result ≡ G.satellite_at (slice_index self.now.satellites i) }
+        ensures in_range { G.is_satellite result }
+    {
+        G::satellite_of(self.satellites[i])
+    }
+
+    /// The data of a cell, in the order of the cell mask.
+    pub fn cell(&self, i: usize) -> G::Cell
+        requires { i < length self.now.cells }
+        ensures value { result ≡ G.cell_at (slice_index self.now.cells i) }
+        ensures in_range { G.is_cell result }
+    {
+        G::cell_of(self.cells[i])
+    }
+}
+
+/// So many zeros.
+fn zeros(count: usize) -> ArrayVec<u128, 64>
+    requires { count ≤ 64 }
+    ensures { result.items ≡ replicate count 0 }
+{
+    let mut zeros = ArrayVec::new();
+    for _ in 0..count {
+        zeros.push(0);
+    }
+    zeros
+}
+
+/// The numbers in 64 bits.
+fn narrow(numbers: &ArrayVec<u128, 64>) -> ArrayVec<u64, 64>
+    requires { EachBelow 64 numbers.now.items }
+    ensures { result.items ≡ numbers.now.items }
+{
+    let mut narrow = ArrayVec::new();
+    for number in numbers.as_slice() {
+        narrow.push(*number as u64);
+    }
+    narrow
+}
+
+/// Reads so many numbers that are packed of fields of these widths.
+fn read_numbers(
+    reader: &mut BitReader,
+    widths: &[u32],
+    count: usize,
+) -> Result<ArrayVec<u128, 64>, MsgFault>
+    requires few { All (λ w. w ≤ 64) widths.now }
+    requires wide { total widths.now ≤ 128 }
+    requires count { count ≤ 64 }
+    ensures read { Gives (λ ns. (ns.items, reader.new)) result (columns_at widths.now (replicate count 0) reader.old) }
+    ensures fit { IfOk result (λ ns. EachBelow (total widths.now) ns.items) }
+    ensures len { IfOk result (λ ns. length ns.items ≡ count) }
+{
+    let mut numbers = zeros(count);
+    read_columns(reader, widths, numbers.as_mut_slice())?;
+    Ok(numbers)
+}
+
+/// Reads an MSM behind its number.
+#[tactic(auto, unfolding(crate::specs::Msm::msm_at))]
+pub(crate) fn read_msm<G: Grid>(
+    reader: &mut BitReader,
+    is_galileo: bool,
+) -> Result<Msm<G>, MsgFault>
+    ensures { Gives (λ m. (m, reader.new)) result (msm_at G.satellite_widths G.cell_widths is_galileo reader.old) }
+{
+    let header = read_header(reader)?;
+    let masks = read_masks(reader)?;
+    let satellites = read_numbers(
+        reader,
+        G::satellite_widths(),
+        masks.satellites().count_ones() as usize,
+    )?;
+    let cells = read_numbers(
+        reader,
+        G::cell_widths(),
+        masks.cells().count_ones() as usize,
+    )?;
+    Ok(Msm {
+        is_galileo,
+        header,
+        masks,
+        satellites: narrow(&satellites),
+        cells,
+        grid: PhantomData,
+    })
+}
+
+/// The numbers in 128 bits.
+fn widen(numbers: &ArrayVec<u64, 64>) -> ArrayVec<u128, 64>
+    ensures { result.items ≡ numbers.now.items }
+{
+    let mut wide = ArrayVec::new();
+    for number in numbers.as_slice() {
+        wide.push(*number as u128);
+    }
+    wide
+}
+
+/// Writes an MSM, with zero for the reserved bits.
+pub(crate) fn write_msm<G: Grid>(writer: &mut BitWriter, msm: &Msm<G>)
+    requires { length writer.old ≡ 0 }
+    ensures value { IsValue G.satellite_widths G.cell_widths msm.now }
+    ensures bits { writer.new ≡ writer.old ++ msm_bits G.satellite_widths G.cell_widths (G.number_of msm.now.is_galileo) msm.now 0 }
+{
+    write_header(writer, G::number_of(msm.is_galileo), &msm.header);
+    write_masks(writer, &msm.masks);
+    write_columns(
+        writer,
+        G::satellite_widths(),
+        widen(&msm.satellites).as_slice(),
+    );
+    write_columns(writer, G::cell_widths(), msm.cells.as_slice());
+}
+
+/// Each satellite's fields in one number.
+fn pack_satellites<G: Grid>(satellites: &[G::Satellite]) -> ArrayVec<u64, 64>
+    requires few { length satellites.now ≤ 64 }
+    requires in_range { All G.is_satellite satellites.now }
+    ensures items { result.items ≡ map G.satellite_packed satellites.now }
+    ensures fit { EachBelow (total G.satellite_widths) result.items }
+{
+    let mut packed = ArrayVec::new();
+    for satellite in satellites {
+        packed.push(G::satellite_number(satellite));
+    }
+    packed
+}
+
+/// Each cell's fields in one number.
+fn pack_cells<G: Grid>(cells: &[G::Cell]) -> ArrayVec<u128, 64>
+    requires few { length cells.now ≤ 64 }
+    requires in_range { All G.is_cell cells.now }
+    ensures items { result.items ≡ map G.cell_packed cells.now }
+    ensures fit { EachBelow (total G.cell_widths) result.items }
+{
+    let mut packed = ArrayVec::new();
+    for cell in cells {
+        packed.push(G::cell_number(cell));
+    }
+    packed
+}

@@ -1,0 +1,154 @@
+ghost use Rattle.std.specs.Prelude.{◌≡◌, IfOk, IsTrue, ◌↔◌};
+ghost use Rattle.rtcm_msg.specs.Fields.{Gives};
+ghost use Rattle.rtcm_bits.specs.Bits.{FitsInt};
+ghost use Rattle.rtcm_msg.specs.Ranges.{fits_int};
+ghost use Rattle.rtcm_msg.specs.Station.{InRange, station_at};
+ghost use Rattle.rtcm_msg.specs.Refusals.{station_made, station_fault};
+
+use crate::fault::{Field, MsgFault, ValueFault};
+use crate::field::field;
+use rtcm_bits::{BitReader, signed_of};
+use std::marker::Model;
+
+/// What a station message says of the antenna reference point. With a height it is message 1006,
+/// with none message 1005.
+#[derive(Clone, Copy, Debug, PartialEq, Eq)]
+pub struct StationParts {
+    /// Reference station ID, DF003: 12 bits.
+    pub station: u16,
+    /// ITRF realization year, DF021: 6 bits.
+    pub realization: u8,
+    /// Whether the station gives GPS, DF022.
+    pub gps: bool,
+    /// Whether the station gives GLONASS, DF023.
+    pub glonass: bool,
+    /// Whether the station gives Galileo, DF024.
+    pub galileo: bool,
+    /// Reference station indicator, DF141: whether the station is not a physical one.
+    pub reference: bool,
+    /// Antenna reference point ECEF-X, DF025: 38 bits with a sign, in 0.0001 m.
+    pub x: i64,
+    /// Single receiver oscillator indicator, DF142.
+    pub oscillator: bool,
+    /// Antenna reference point ECEF-Y, DF026: 38 bits with a sign, in 0.0001 m.
+    pub y: i64,
+    /// Quarter cycle indicator, DF364: 2 bits.
+    pub quarter: u8,
+    /// Antenna reference point ECEF-Z, DF027: 38 bits with a sign, in 0.0001 m.
+    pub z: i64,
+    /// Antenna height, DF028, in 0.0001 m; message 1006 alone has it.
+    pub height: Option<u16>,
+}
+
+/// A station message, 1005 or 1006, whose fields are all in range.
+#[derive(Drop)]
+pub struct Station {
+    parts: StationParts,
+}
+
+impl Model for Station {
+    ghost use Rattle.rtcm_msg.specs.declared.station.StationParts.{StationParts};
+
+    ghost Value = { StationParts };
+
+    ghost use Rattle.rtcm_msg.specs.Station.{InRange};
+
+    ghost view = { λ s. s.parts };
+
+    ghost invariant = { λ s. InRange s.parts };
+}
+
+impl Station {
+    /// A station of these parts.
+    ///
+    /// # Errors
+    ///
+    /// `OutOfRange` names the first field, in the order of the message, that does not fit its bits.
+    pub fn new(parts: StationParts) -> Result<Station, ValueFault>
+        ensures exact { result ≡ station_made (station_fault parts) parts }
+        ensures accepted { InRange parts → result ≡ Ok parts }
+    {
+        if parts.station >= 1 << 12 {
+            return Err(ValueFault::OutOfRange(Field::Station));
+        }
+        if parts.realization >= 1 << 6 {
+            return Err(ValueFault::OutOfRange(Field::Realization));
+        }
+        if !fits_coordinate(parts.x) {
+            return Err(ValueFault::OutOfRange(Field::X));
+        }
+        if !fits_coordinate(parts.y) {
+            return Err(ValueFault::OutOfRange(Field::Y));
+        }
+        if parts.quarter >= 1 << 2 {
+            return Err(ValueFault::OutOfRange(Field::Quarter));
+        }
+        if !fits_coordinate(parts.z) {
+            return Err(ValueFault::OutOfRange(Field::Z));
+        }
+        Ok(Station { parts })
+    }
+
+    /// The parts that it was made of.
+    pub fn parts(&self) -> StationParts
+        ensures value { result ≡ self.now }
+        ensures in_range { InRange result }
+    {
+        self.parts
+    }
+}
+
+/// Whether a coordinate fits 38 bits with a sign.
+fn fits_coordinate(z: i64) -> bool
+    ensures value { result ≡ fits_int 38 z }
+    ensures fits { IsTrue result ↔ FitsInt 38 z }
+{
+    z >= -(1 << 37) && z < 1 << 37
+}
+
+/// Reads the fields behind the message number, in the order of the table.
+#[tactic(auto, unfolding(crate::specs::Station::station_at))]
+fn read_parts(reader: &mut BitReader, has_height: bool) -> Result<StationParts, MsgFault>
+    ensures read { Gives (λ parts. (parts, reader.new)) result (station_at has_height reader.old) }
+    ensures in_range { IfOk result InRange }
+{
+    let station = field(reader, 12)? as u16;
+    let realization = field(reader, 6)? as u8;
+    let gps = field(reader, 1)? == 1;
+    let glonass = field(reader, 1)? == 1;
+    let galileo = field(reader, 1)? == 1;
+    let reference = field(reader, 1)? == 1;
+    let x = signed_of(field(reader, 38)?, 38);
+    let oscillator = field(reader, 1)? == 1;
+    let _reserved = field(reader, 1)?;
+    let y = signed_of(field(reader, 38)?, 38);
+    let quarter = field(reader, 2)? as u8;
+    let z = signed_of(field(reader, 38)?, 38);
+    let height = if has_height {
+        Some(field(reader, 16)? as u16)
+    } else {
+        None
+    };
+    Ok(StationParts {
+        station,
+        realization,
+        gps,
+        glonass,
+        galileo,
+        reference,
+        x,
+        oscillator,
+        y,
+        quarter,
+        z,
+        height,
+    })
+}
+
+/// Reads a station message behind its number.
+pub(crate) fn read_station(reader: &mut BitReader, has_height: bool) -> Result<Station, MsgFault>
+    ensures { Gives (λ s. (s, reader.new)) result (station_at has_height reader.old) }
+{
+    let parts = read_parts(reader, has_height)?;
+    Ok(Station { parts })
+}

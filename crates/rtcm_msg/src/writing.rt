@@ -1,0 +1,150 @@
+ghost use Rattle.std.specs.Prelude.{◌≡◌, ◌+◌, ◌*◌, ◌/◌, ◌^◌, ◌<◌, ◌≤◌, ◌++◌, length, IsTrue, nat_le, All};
+ghost use Rattle.std.specs.List.{list_all, flat_map};
+ghost use Rattle.rtcm_bits.specs.Bits.{uint};
+ghost use Rattle.rtcm_msg.specs.Fields.{spelled, width_of};
+ghost use Rattle.rtcm_msg.specs.Station.{InRange, common_fields, station_fields};
+ghost use Rattle.rtcm_msg.specs.Msm.{header_fields, set_fields};
+ghost use Rattle.rtcm_msg.specs.Packed.{columns, total};
+
+use crate::header::MsmHeader;
+use crate::masks::Masks;
+use crate::station::StationParts;
+use rtcm_bits::{BitWriter, raw_of};
+
+/// Writes fields in order, each a width and a number.
+fn write_fields(writer: &mut BitWriter, fields: &[(u32, u64)])
+    requires few { IsTrue (list_all (λ f. nat_le f.0 64) fields.now) }
+    requires room { length writer.old + width_of fields.now ≤ 8184 }
+    ensures bits { writer.new ≡ writer.old ++ spelled fields.now }
+    ensures len { length writer.new ≡ length writer.old + width_of fields.now }
+{
+    for (width, number) in fields {
+        writer.put(*number, *width);
+    }
+}
+
+/// Writes the fields that messages 1005 and 1006 have both.
+fn write_common(writer: &mut BitWriter, number: u16, parts: &StationParts)
+    requires room { length writer.old ≤ 8000 }
+    requires in_range { InRange parts.now }
+    ensures bits { writer.new ≡ writer.old ++ spelled (common_fields number parts.now 0) }
+    ensures len { length writer.new ≡ length writer.old + 152 }
+{
+    let x = raw_of(parts.x, 38);
+    let y = raw_of(parts.y, 38);
+    let z = raw_of(parts.z, 38);
+    write_fields(
+        writer,
+        &[
+            (12, number as u64),
+            (12, parts.station as u64),
+            (6, parts.realization as u64),
+            (1, parts.gps as u64),
+            (1, parts.glonass as u64),
+            (1, parts.galileo as u64),
+            (1, parts.reference as u64),
+            (38, x),
+            (1, parts.oscillator as u64),
+            (1, 0),
+            (38, y),
+            (2, parts.quarter as u64),
+            (38, z),
+        ],
+    );
+}
+
+/// Writes a station message with its number.
+pub(crate) fn write_station(writer: &mut BitWriter, parts: &StationParts)
+    requires room { length writer.old ≤ 8000 }
+    requires in_range { InRange parts.now }
+    ensures { writer.new ≡ writer.old ++ spelled (station_fields parts.now 0) }
+{
+    match parts.height {
+        Some(height) => {
+            write_common(writer, 1006, parts);
+            write_fields(writer, &[(16, height as u64)]);
+        }
+        None => write_common(writer, 1005, parts),
+    }
+}
+
+/// Writes the head of an MSM with its number.
+pub(crate) fn write_header(writer: &mut BitWriter, number: u16, header: &MsmHeader)
+    requires { length writer.old ≤ 8000 }
+    ensures bits { writer.new ≡ writer.old ++ spelled (header_fields number header.now 0) }
+    ensures len { length writer.new ≡ length writer.old + 73 }
+{
+    write_fields(
+        writer,
+        &[
+            (12, number as u64),
+            (12, header.station as u64),
+            (30, header.time as u64),
+            (1, header.more as u64),
+            (3, header.iods as u64),
+            (7, 0),
+            (2, header.steering as u64),
+            (2, header.clock as u64),
+            (1, header.smoothing as u64),
+            (3, header.interval as u64),
+        ],
+    );
+}
+
+/// Writes the masks.
+pub(crate) fn write_masks(writer: &mut BitWriter, masks: &Masks)
+    requires { length writer.old ≤ 8000 }
+    ensures bits { writer.new ≡ writer.old ++ spelled (set_fields masks.now) }
+    ensures len { length writer.new ≤ length writer.old + 160 }
+{
+    let _ = masks.cells();
+    let pairs = masks.satellites().count_ones() * masks.signals().count_ones();
+    write_fields(
+        writer,
+        &[
+            (64, masks.satellites()),
+            (32, masks.signals() as u64),
+            (pairs, masks.cells()),
+        ],
+    );
+}
+
+/// Writes one field of each.
+fn write_column(writer: &mut BitWriter, shift: u32, width: u32, numbers: &[u128])
+    requires few { width ≤ 64 }
+    requires shift { shift < 128 }
+    requires room { length writer.old + width * length numbers.now ≤ 8184 }
+    ensures bits { writer.new ≡ writer.old ++ flat_map (λ p. uint width (p / 2 ^ shift)) numbers.now }
+    ensures len { length writer.new ≡ length writer.old + width * length numbers.now }
+{
+    for number in numbers {
+        writer.put((*number / (1 << shift) % (1 << width)) as u64, width);
+    }
+}
+
+/// Writes one field of all after the other.
+pub(crate) fn write_columns(writer: &mut BitWriter, widths: &[u32], numbers: &[u128])
+    requires few { All (λ w. w ≤ 64) widths.now }
+    requires wide { total widths.now < 128 }
+    requires room { length writer.old + total widths.now * length numbers.now ≤ 8184 }
+    ensures bits { writer.new ≡ writer.old ++ columns widths.now numbers.now }
+    ensures len { length writer.new ≡ length writer.old + total widths.now * length numbers.now }
+{
+    let mut shift = total_width(widths);
+    for width in widths {
+        shift -= *width;
+        write_column(writer, shift, *width, numbers);
+    }
+}
+
+/// The widths together.
+fn total_width(widths: &[u32]) -> u32
+    requires { total widths.now ≤ 128 }
+    ensures { result ≡ total widths.now }
+{
+    let mut sum = 0;
+    for width in widths {
+        sum += *width;
+    }
+    sum
+}

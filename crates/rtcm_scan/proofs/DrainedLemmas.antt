@@ -1,0 +1,39 @@
+-- When all is decided that can be.
+use Rattle.std.proofs.Common.{ℕ, ◌≡◌, ◌+◌, ◌-◌, ◌<◌, ◌≤◌, true, false, List, [], length, drop, sym, ap, ◌∙◌, arith, sum_by}
+use Rattle.std.proofs.lemmas.List.{drop_all}
+use Rattle.rtcm_scan.specs.Frame.{is_open}
+use Rattle.rtcm_scan.specs.Frames.{Framed}
+use Rattle.rtcm_scan.specs.Decided.{decided}
+use Rattle.rtcm_scan.specs.Scan.{Scan, StandsFor, first_held, Scanned}
+use Rattle.rtcm_scan.specs.Drained.{IsDrained}
+use Rattle.rtcm_scan.proofs.ScanLemmas.{scanned_all}
+use Rattle.rtcm_scan.proofs.DecidedLemmas.{decided_is, decided_frames_are}
+use Rattle.rtcm_scan.proofs.SkippedLemmas.{given_up_is}
+
+-- all is decided where nothing is held, and where what is held is open
+pub drained_ended : (v : Scan) (b : List ℕ) (fs : List Framed) → v.has_ended ≡ true → v.held ≡ [] → StandsFor v b fs → IsDrained v b fs
+drained_ended v b fs e h s =
+    let l : length v.held ≡ 0 = ap length h in
+    let t : v.taken ≡ length b = s.taken in
+    let p : first_held v ≡ length b = omega arith in
+    let c : Scanned v.has_ended b 0 (length b) fs = (let k = s.scanned in rw p at k) in
+    let k : v.skipped + sum_by (λ f. length f.message + 6) fs ≡ first_held v = s.skipped in
+    record {
+      frames = rw e (sym (scanned_all v.has_ended b fs c));
+      held = rw (e, h) (sym (drop_all (length b) b (omega arith)));
+      skipped = rw e (let g = given_up_is v.has_ended b (length b) fs (omega arith) c in omega (arith, g, k, p));
+    }
+
+pub drained_waiting : (v : Scan) (b : List ℕ) (fs : List Framed) → v.has_ended ≡ false → (0 < length v.held → is_open v.held ≡ true) → StandsFor v b fs → IsDrained v b fs
+drained_waiting v b fs e h s =
+    let t : v.taken ≡ length b = s.taken in
+    let f : length v.held ≤ v.taken = s.fits in
+    let c : Scanned false b 0 (first_held v) fs = (let k = s.scanned in rw e at k) in
+    let o : first_held v < length b → is_open (drop (first_held v) b) ≡ true = λ i. ap is_open (sym s.held) ∙ h (omega arith) in
+    let d : decided b ≡ first_held v = decided_is b (first_held v) fs (omega arith) c o in
+    let k : v.skipped + sum_by (λ f. length f.message + 6) fs ≡ first_held v = s.skipped in
+    record {
+      frames = rw e (sym (decided_frames_are b (first_held v) fs (omega arith) c o));
+      held = rw (e, d) s.held;
+      skipped = rw (e, d) (let g = given_up_is false b (first_held v) fs (omega arith) c in omega (arith, g, k));
+    }

@@ -1,0 +1,190 @@
+-- Damage stays local.
+use Rattle.std.proofs.Common.{ℕ, ◌≡◌, ◌+◌, ◌-◌, ◌/◌, ◌%◌, ◌<◌, ◌≤◌, true, List, [], ◌∷◌, ◌++◌, length, take, drop, get_or, refl, sym, ap, ◌∙◌, arith, suc, zero, ⊎_elim, subst, eq-eqb, append_assoc, length-append, take-add}
+use Rattle.std.specs.List.{All, Contains, flat_map}
+use Rattle.std.proofs.lemmas.Bool.{cases_lt, and_from, le-leb}
+use Rattle.std.proofs.lemmas.List.{append-nil, take_at, drop_at, length-drop, drop_all, get_or-drop, take-append-drop, drop_more}
+use Rattle.std.proofs.lemmas.List.Elements.{All-head, All-tail, All-drop, Contains-append_right}
+use Rattle.std.proofs.lemmas.List.Concat.{flat_map-append}
+use Rattle.rtcm_bits.specs.Check.{check}
+use Rattle.rtcm_bits.specs.FrameOf.{frame_bytes, header_of, three_bytes}
+use Rattle.rtcm_scan.specs.Frame.{begins_frame, message_length, frame_length, sent_check, message_of}
+use Rattle.rtcm_scan.specs.Frames.{Framed, IsFrameOf, end_of, frames_from, frames_of}
+use Rattle.rtcm_scan.specs.Local.{stream_behind, place_of, IsQuiet, StaysLocal, placed}
+use Rattle.rtcm_scan.specs.Scan.{Scanned}
+use Rattle.rtcm_scan.proofs.ScanLemmas.{scanned_frames, scanned_all}
+use Rattle.rtcm_scan.proofs.FrameLemmas.{length-message}
+use Rattle.rtcm_scan.proofs.DecisionLemmas.{frame_length_bound}
+use Rattle.rtcm_scan.proofs.LawLemmas.{frames_scanned, same_frame}
+
+-- what a list begins with: header, message, check and what follows
+spread : (m rest : List ℕ) → frame_bytes m ++ rest ≡ (header_of m ++ m) ++ (three_bytes (check (header_of m ++ m)) ++ rest)
+spread m rest = append_assoc (header_of m ++ m) (three_bytes (check (header_of m ++ m))) rest
+
+length_claimed : (m rest : List ℕ) → length m ≤ 1023 → message_length (frame_bytes m ++ rest) ≡ length m
+length_claimed m rest h = omega arith
+
+pub frame_begins : (m rest : List ℕ) → length m ≤ 1023 → begins_frame (frame_bytes m ++ rest) ≡ true
+unfolding begins_frame
+frame_begins m rest h =
+    let s : List ℕ = frame_bytes m ++ rest in
+    let c : ℕ = check (header_of m ++ m) in
+    let l : message_length (frame_bytes m ++ rest) ≡ length m = length_claimed m rest h in
+    let e = spread m rest in
+    let n : length (header_of m ++ m) ≡ length m + 3 = omega arith in
+    let t : take (length m + 3) (frame_bytes m ++ rest) ≡ header_of m ++ m = ap (take (length m + 3)) e ∙ take_at (header_of m ++ m) (three_bytes (check (header_of m ++ m)) ++ rest) (length m + 3) n in
+    let d : drop (length m + 3) (frame_bytes m ++ rest) ≡ three_bytes (check (header_of m ++ m)) ++ rest = ap (drop (length m + 3)) e ∙ drop_at (header_of m ++ m) (three_bytes (check (header_of m ++ m)) ++ rest) (length m + 3) n in
+    let w : sent_check (frame_bytes m ++ rest) (length m + 3) ≡ check (header_of m ++ m) = sent_at (frame_bytes m ++ rest) rest (length m + 3) (check (header_of m ++ m)) d in
+    let u : length (frame_bytes m ++ rest) ≡ length m + 6 + length rest = ap length e ∙ (length-append (header_of m ++ m) (three_bytes (check (header_of m ++ m)) ++ rest) ∙ (omega arith)) in
+    and_from _ _ refl (and_from _ _ (le-leb (frame_length (frame_bytes m ++ rest)) (length (frame_bytes m ++ rest)) (omega arith))
+    (eq-eqb _ _ (ap (λ x. sent_check (frame_bytes m ++ rest) (x + 3)) l ∙ w ∙ ap check (sym t) ∙ ap (λ x. check (take (x + 3) (frame_bytes m ++ rest))) (sym l))))
+  where
+    sent_at : (s rest : List ℕ) (n c : ℕ) → drop n s ≡ three_bytes c ++ rest → sent_check s n ≡ c
+    sent_at s rest n c d =
+        let a : get_or s n 0 ≡ c / 65536 = (let z : n + 0 ≡ n = omega arith in ap (λ x. get_or s x 0) (sym z) ∙ sym (get_or-drop n s 0 0) ∙ ap (λ x. get_or x 0 0) d) in
+        let b : get_or s (n + 1) 0 ≡ c / 256 % 256 = sym (get_or-drop n s 1 0) ∙ ap (λ x. get_or x 1 0) d in
+        let e : get_or s (n + 2) 0 ≡ c % 256 = sym (get_or-drop n s 2 0) ∙ ap (λ x. get_or x 2 0) d in
+        rw (a, b, e) (omega arith)
+
+pub frame_message : (m rest : List ℕ) → length m ≤ 1023 → message_of (frame_bytes m ++ rest) ≡ m
+frame_message m rest h =
+    let l : message_length (frame_bytes m ++ rest) ≡ length m = length_claimed m rest h in
+    ap (λ n. take n (drop 3 (frame_bytes m ++ rest))) l
+    ∙ ap (λ x. take (length m) (drop 3 x)) (spread m rest)
+    ∙ take_at m (three_bytes (check (header_of m ++ m)) ++ rest) (length m) refl
+
+-- ---- a list of frames behind bytes
+length-frame : (m : List ℕ) → length (frame_bytes m) ≡ length m + 6
+length-frame m = length-append (header_of m ++ m) (three_bytes (check (header_of m ++ m))) ∙ (omega arith)
+
+frame_here : (pre m : List ℕ) (rest : List ℕ) → length m ≤ 1023 → IsFrameOf (pre ++ (frame_bytes m ++ rest)) (record { offset = length pre; message = m })
+frame_here pre m rest h =
+    let d : drop (length pre) (pre ++ (frame_bytes m ++ rest)) ≡ frame_bytes m ++ rest = drop_at pre (frame_bytes m ++ rest) (length pre) refl in
+    record { begins = ap begins_frame d ∙ frame_begins m rest h; message = sym (ap message_of d ∙ frame_message m rest h) }
+
+scanned_list : (pre : List ℕ) (ms : List (List ℕ)) (b : List ℕ) (p n : ℕ) → b ≡ pre ++ flat_map frame_bytes ms → p ≡ length pre → n ≡ length b → All (λ m. length m ≤ 1023) ms → Scanned true b p n (placed p ms)
+scanned_list pre [] b p n e q r a = (let l : length b ≡ length pre = ap length (e ∙ append-nil pre) in omega arith, λ k i j. (let l : length b ≡ length pre = ap length (e ∙ append-nil pre) in absurd (omega arith)))
+scanned_list pre (m ∷ ms) b p n e q r a =
+    let h : length m ≤ 1023 = All-head (λ x. length x ≤ 1023) m ms a in
+    let f : IsFrameOf (pre ++ (frame_bytes m ++ flat_map frame_bytes ms)) (record { offset = length pre; message = m }) = frame_here pre m (flat_map frame_bytes ms) h in
+    let v : IsFrameOf b (record { offset = p; message = m }) = (rw (e, q) f) in
+    let l : p + (length m + 6) ≡ length (pre ++ frame_bytes m) = (let x = length-append pre (frame_bytes m) in let y = length-frame m in omega (arith, x, y)) in (
+      omega arith,
+      (λ k i j. absurd (omega arith)),
+      v,
+      scanned_list (pre ++ frame_bytes m) ms b (p + (length m + 6)) n (e ∙ sym (append_assoc pre (frame_bytes m) (flat_map frame_bytes ms))) l r (All-tail (λ x. length x ≤ 1023) m ms a),
+    )
+
+-- a scan can be cut where no frame lies across
+scanned_cut : (b : List ℕ) (from x n : ℕ) (fs : List Framed) → from ≤ x → x ≤ n → ((f : Framed) → IsFrameOf b f → f.offset < x → x < end_of f → ⊥) → Scanned true b from n fs
+    → (front : List Framed) × (rest : List Framed) × (fs ≡ front ++ rest) × Scanned true b x n rest
+scanned_cut b from x n [] h k c s = ([], [], refl, (k, λ q i j. s.1 q (omega arith) j))
+scanned_cut b from x n (f ∷ fs) h k c s = ⊎_elim
+    (λ (l : f.offset < x).
+    let e : end_of f ≤ x = ⊎_elim (λ (y : x < end_of f). absurd (c f s.2 l y)) (λ (y : end_of f ≤ x). y) (cases_lt x (end_of f)) in
+    let r = scanned_cut b (end_of f) x n fs e k c s.3 in
+    (f ∷ r.0, r.1, ap (λ t. f ∷ t) r.2, r.3))
+    (λ (l : x ≤ f.offset). ([], f ∷ fs, refl, (l, (λ q i j. s.1 q (omega arith) j), s.2, s.3)))
+    (cases_lt f.offset x)
+
+ends : (b : List ℕ) → frames_from (length b) 0 (drop (length b) b) ≡ []
+unfolding frames_from
+ends b = let d : drop (length b) b ≡ [] = drop_all (length b) b (omega arith) in rw d refl
+
+-- there is one scan of all from a place on
+scanned_one : (b : List ℕ) (x : ℕ) (fs gs : List Framed) → Scanned true b x (length b) fs → Scanned true b x (length b) gs → fs ≡ gs
+scanned_one b x fs gs s t =
+    sym (append-nil fs) ∙ ap (λ r. fs ++ r) (sym (ends b)) ∙ sym (scanned_frames true b x (length b) fs (omega arith) s) ∙ scanned_frames true b x (length b) gs (omega arith) t ∙ ap (λ r. gs ++ r) (ends b) ∙ append-nil gs
+
+-- each message of the list is there
+list_contains : (p i : ℕ) (ms : List (List ℕ)) → i < length ms → Contains (placed p ms) (record { offset = p + length (flat_map frame_bytes (take i ms)); message = get_or ms i [] })
+list_contains p i [] h = absurd (omega arith)
+list_contains p zero (m ∷ ms) h = (0, omega arith, ap (λ (x : ℕ). let r : Framed = record { offset = x; message = m } in r) (omega arith))
+list_contains p (suc i) (m ∷ ms) h =
+    let c = list_contains (p + (length m + 6)) i ms (omega (arith, h)) in
+    let e : p + (length m + 6) + length (flat_map frame_bytes (take i ms)) ≡ p + length (frame_bytes m ++ flat_map frame_bytes (take i ms)) =
+    (let x = length-append (frame_bytes m) (flat_map frame_bytes (take i ms)) in let y = length-frame m in omega (arith, x, y)) in
+    (suc c.0, omega (arith, c.1), get_same (placed (p + (length m + 6)) ms) (record { offset = p; message = m }) (get_or ms i []) c.0 (p + (length m + 6) + length (flat_map frame_bytes (take i ms))) (p + length (frame_bytes m ++ flat_map frame_bytes (take i ms))) e c.2)
+  where
+    get_same : (xs : List Framed) (f : Framed) (m : List ℕ) (k x y : ℕ) → x ≡ y → get_or xs k (record { offset = x; message = m }) ≡ record { offset = x; message = m } → get_or (f ∷ xs) (suc k) (record { offset = y; message = m }) ≡ record { offset = y; message = m }
+    get_same xs f m k x y e h = subst (λ (z : ℕ). get_or xs k (record { offset = z; message = m }) ≡ record { offset = z; message = m }) e h
+
+-- the stream is cut at a frame
+cut_at : (bytes : List ℕ) (ms : List (List ℕ)) (k : ℕ) → stream_behind bytes ms ≡ stream_behind bytes (take k ms) ++ flat_map frame_bytes (drop k ms)
+cut_at bytes ms k =
+    ap (stream_behind bytes) (sym (take-append-drop k ms)) ∙ ap (λ x. bytes ++ x) (flat_map-append frame_bytes (take k ms) (drop k ms)) ∙ sym (append_assoc bytes (flat_map frame_bytes (take k ms)) (flat_map frame_bytes (drop k ms)))
+
+place_split : (bytes : List ℕ) (ms : List (List ℕ)) (k d : ℕ) → place_of bytes ms (k + d) ≡ place_of bytes ms k + length (flat_map frame_bytes (take d (drop k ms)))
+place_split bytes ms k d =
+    ap (λ x. length (stream_behind bytes x)) (take-add k d ms) ∙ ap (λ x. length (bytes ++ x)) (flat_map-append frame_bytes (take k ms) (take d (drop k ms)))
+    ∙ ap length (sym (append_assoc bytes (flat_map frame_bytes (take k ms)) (flat_map frame_bytes (take d (drop k ms))))) ∙ length-append (stream_behind bytes (take k ms)) (flat_map frame_bytes (take d (drop k ms)))
+
+-- the frame with number i
+frame_number : (bytes : List ℕ) (ms : List (List ℕ)) (i : ℕ) → i < length ms → All (λ m. length m ≤ 1023) ms → IsFrameOf (stream_behind bytes ms) (record { offset = place_of bytes ms i; message = get_or ms i [] })
+frame_number bytes ms i h a =
+    let d : drop i ms ≡ get_or ms i [] ∷ drop (i + 1) ms = drop_more ms i [] h in
+    let e : stream_behind bytes ms ≡ stream_behind bytes (take i ms) ++ (frame_bytes (get_or ms i []) ++ flat_map frame_bytes (drop (i + 1) ms)) = cut_at bytes ms i ∙ ap (λ x. stream_behind bytes (take i ms) ++ flat_map frame_bytes x) d in
+    subst (λ (x : List ℕ). IsFrameOf x (record { offset = place_of bytes ms i; message = get_or ms i [] })) (sym e) (frame_here (stream_behind bytes (take i ms)) (get_or ms i []) (flat_map frame_bytes (drop (i + 1) ms)) (a i [] h))
+
+-- it ends where the next begins, and so before each later one begins
+frame_ends : (bytes : List ℕ) (ms : List (List ℕ)) (i k : ℕ) → i < k → k < length ms → place_of bytes ms i + (length (get_or ms i []) + 6) ≤ place_of bytes ms k
+frame_ends bytes ms i k h l =
+    let z : i + suc (k - (i + 1)) ≡ k = omega arith in
+    let p : place_of bytes ms (i + suc (k - (i + 1))) ≡ place_of bytes ms i + length (flat_map frame_bytes (take (suc (k - (i + 1))) (drop i ms))) = place_split bytes ms i (suc (k - (i + 1))) in
+    let d : drop i ms ≡ get_or ms i [] ∷ drop (i + 1) ms = drop_more ms i [] (omega arith) in
+    let e : length (flat_map frame_bytes (take (suc (k - (i + 1))) (drop i ms))) ≡ length (frame_bytes (get_or ms i [])) + length (flat_map frame_bytes (take (k - (i + 1)) (drop (i + 1) ms))) =
+    ap (λ x. length (flat_map frame_bytes (take (suc (k - (i + 1))) x))) d ∙ length-append (frame_bytes (get_or ms i [])) (flat_map frame_bytes (take (k - (i + 1)) (drop (i + 1) ms))) in
+    close _ _ _ _ _ _ (ap (place_of bytes ms) (sym z) ∙ p) e (length-frame (get_or ms i []))
+  where
+    close : (x y u w r m : ℕ) → x ≡ y + u → u ≡ w + r → w ≡ m + 6 → y + (m + 6) ≤ x
+    close x y u w r m a b c = omega arith
+
+-- no frame lies across the beginning of a frame that is far enough behind the bytes
+none_across : (bytes : List ℕ) (ms : List (List ℕ)) (k : ℕ) → All (λ m. length m ≤ 1023) ms → k < length ms → length bytes + 1028 ≤ place_of bytes ms k → IsQuiet bytes ms k
+    → (f : Framed) → IsFrameOf (stream_behind bytes ms) f → f.offset < place_of bytes ms k → place_of bytes ms k < end_of f → ⊥
+none_across bytes ms k a l far quiet f v h c = ⊎_elim
+    (λ (x : f.offset < length bytes).
+    let m : length f.message ≡ message_length (drop f.offset (stream_behind bytes ms)) = ap length v.message ∙ length-message (drop f.offset (stream_behind bytes ms)) v.begins in
+    let n : frame_length (drop f.offset (stream_behind bytes ms)) ≤ 1029 = frame_length_bound (drop f.offset (stream_behind bytes ms)) in
+    short _ _ _ (length bytes) (place_of bytes ms k) m n x far c)
+    (λ (x : length bytes ≤ f.offset).
+    let w = quiet f.offset x h v.begins in
+    let g = frame_number bytes ms w.0 (omega (arith, w.1, l)) a in
+    let s : f ≡ record { offset = place_of bytes ms w.0; message = get_or ms w.0 [] } = same_frame (stream_behind bytes ms) f (record { offset = place_of bytes ms w.0; message = get_or ms w.0 [] }) v g w.2 in
+    let t : end_of f ≡ place_of bytes ms w.0 + (length (get_or ms w.0 []) + 6) = ap end_of s in
+    crossing _ _ _ t (frame_ends bytes ms w.0 k w.1 l) c)
+    (cases_lt f.offset (length bytes))
+  where
+    short : (o lm ml j p : ℕ) → lm ≡ ml → ml + 6 ≤ 1029 → o < j → j + 1028 ≤ p → p < o + (lm + 6) → ⊥
+    short o lm ml j p a b c d e = omega arith
+
+    crossing : (e x p : ℕ) → e ≡ x → x ≤ p → p < e → ⊥
+    crossing e x p a b c = omega arith
+
+pub stays_local : (bytes : List ℕ) (ms : List (List ℕ)) (k : ℕ) → StaysLocal bytes ms k
+unfolding frames_of
+stays_local bytes ms k a l far quiet i hi li =
+    let b : List ℕ = stream_behind bytes ms in
+    let x : ℕ = place_of bytes ms k in
+    let e : stream_behind bytes ms ≡ stream_behind bytes (take k ms) ++ flat_map frame_bytes (drop k ms) = cut_at bytes ms k in
+    let within : place_of bytes ms k ≤ length (stream_behind bytes ms) = (let y : length (stream_behind bytes ms) ≡ length (stream_behind bytes (take k ms)) + length (flat_map frame_bytes (drop k ms)) = ap length e ∙ length-append (stream_behind bytes (take k ms)) (flat_map frame_bytes (drop k ms)) in ends_within _ _ _ y) in
+    let s : Scanned true b 0 (length b) (frames_from 0 0 b) = frames_scanned (length b) b 0 (omega arith) (omega arith) in
+    let c = scanned_cut b 0 (place_of bytes ms k) (length b) (frames_from 0 0 b) (omega arith) within (none_across bytes ms k a l far quiet) s in
+    let t : Scanned true b (place_of bytes ms k) (length b) (placed (place_of bytes ms k) (drop k ms)) =
+    scanned_list (stream_behind bytes (take k ms)) (drop k ms) b (place_of bytes ms k) (length b) e refl refl (All-drop (λ m. length m ≤ 1023) k ms a) in
+    let r : c.1 ≡ placed (place_of bytes ms k) (drop k ms) = scanned_one b (place_of bytes ms k) c.1 (placed (place_of bytes ms k) (drop k ms)) c.3 t in
+    let z : k + (i - k) ≡ i = omega arith in
+    let o : place_of bytes ms k + length (flat_map frame_bytes (take (i - k) (drop k ms))) ≡ place_of bytes ms i = sym (place_split bytes ms k (i - k)) ∙ ap (place_of bytes ms) z in
+    let m : get_or (drop k ms) (i - k) [] ≡ get_or ms i [] = get_or-drop k ms (i - k) [] ∙ ap (λ n. get_or ms n []) z in
+    let f : Contains (placed (place_of bytes ms k) (drop k ms)) (record { offset = place_of bytes ms k + length (flat_map frame_bytes (take (i - k) (drop k ms))); message = get_or (drop k ms) (i - k) [] }) =
+    list_contains (place_of bytes ms k) (i - k) (drop k ms) (let q : length (drop k ms) ≡ length ms - k = length-drop k ms in omega (arith, q, hi, li)) in
+    let g : record { offset = place_of bytes ms k + length (flat_map frame_bytes (take (i - k) (drop k ms))); message = get_or (drop k ms) (i - k) [] } ≡ record { offset = place_of bytes ms i; message = get_or ms i [] } =
+    ap (λ (y : ℕ). let q : Framed = record { offset = y; message = get_or (drop k ms) (i - k) [] } in q) o ∙ ap (λ (y : List ℕ). let q : Framed = record { offset = place_of bytes ms i; message = y } in q) m in
+    subst (λ (y : List Framed). Contains y (record { offset = place_of bytes ms i; message = get_or ms i [] })) (sym (c.2 ∙ ap (λ y. c.0 ++ y) r))
+    (Contains-append_right c.0 (placed (place_of bytes ms k) (drop k ms)) (record { offset = place_of bytes ms i; message = get_or ms i [] }) (subst (λ (y : Framed). Contains (placed (place_of bytes ms k) (drop k ms)) y) g f))
+  where
+    ends_within : (x y z : ℕ) → x ≡ y + z → y ≤ x
+    ends_within x y z e = omega arith
+
+-- a stream of frames alone has these frames
+pub joined : (ms : List (List ℕ)) → All (λ m. length m ≤ 1023) ms → frames_of (flat_map frame_bytes ms) ≡ placed 0 ms
+joined ms a = scanned_all true (flat_map frame_bytes ms) (placed 0 ms) (scanned_list [] ms (flat_map frame_bytes ms) 0 (length (flat_map frame_bytes ms)) refl refl refl a)

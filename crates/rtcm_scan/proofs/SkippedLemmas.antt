@@ -1,0 +1,104 @@
+-- The places in no frame are as many as the bytes that the frames leave over.
+use Rattle.std.proofs.Common.{ℕ, ◌≡◌, ◌+◌, ◌-◌, ◌<◌, ◌≤◌, Bool, true, false, not, cond, ◌&&◌, ◌||◌, ltb, leb, List, [], ◌∷◌, ◌++◌, length, drop, sum_by, refl, sym, ap, ◌∙◌, arith, suc, zero, ⊎_elim}
+use Rattle.std.specs.List.{list_any, count_by}
+use Rattle.std.proofs.lemmas.Bool.{cases_lt, lt-ltb, le-ltb, le-leb, lt-leb, and_left, and_right}
+use Rattle.std.proofs.lemmas.List.Sums.{sum_by_push, sum_by-cons}
+use Rattle.std.proofs.lemmas.List.Folds.{list_any-append}
+use Rattle.rtcm_scan.specs.Frame.{begins_frame, frame_length, message_of}
+use Rattle.rtcm_scan.specs.Frames.{Framed, end_of, frames_from, frames_of}
+use Rattle.rtcm_scan.specs.Decided.{places, is_within, given_up}
+use Rattle.rtcm_scan.specs.Scan.{Scanned}
+use Rattle.rtcm_scan.proofs.ScanLemmas.{scanned_le}
+use Rattle.rtcm_scan.proofs.DecidedLemmas.{frames_split}
+
+-- from a place on, all places pass a test, or none does
+count_all : (t : ℕ → Bool) (from d : ℕ) → ((q : ℕ) → from ≤ q → q < from + d → t q ≡ true) → count_by t (places (from + d)) ≡ count_by t (places from) + d
+unfolding places
+count_all t from zero h = let z : from + 0 ≡ from = omega arith in rw z (omega arith)
+count_all t from (suc d) h =
+    let z : from + suc d ≡ suc (from + d) = omega arith in
+    let r : count_by t (places (from + d)) ≡ count_by t (places from) + d = count_all t from d (λ q i j. h q i (omega arith)) in
+    let y : t (from + d) ≡ true = h (from + d) (omega arith) (omega arith) in
+    let s : count_by t (places (from + d) ++ (from + d) ∷ []) ≡ count_by t (places (from + d)) + cond (t (from + d)) 1 0 = sum_by_push (λ q. cond (t q) 1 0) (places (from + d)) (from + d) in
+    rw z (s ∙ ap (λ v. count_by t (places (from + d)) + cond v 1 0) y ∙ (omega (arith, r)))
+
+count_none : (t : ℕ → Bool) (from d : ℕ) → ((q : ℕ) → from ≤ q → q < from + d → t q ≡ false) → count_by t (places (from + d)) ≡ count_by t (places from)
+unfolding places
+count_none t from zero h = let z : from + 0 ≡ from = omega arith in rw z refl
+count_none t from (suc d) h =
+    let z : from + suc d ≡ suc (from + d) = omega arith in
+    let r : count_by t (places (from + d)) ≡ count_by t (places from) = count_none t from d (λ q i j. h q i (omega arith)) in
+    let y : t (from + d) ≡ false = h (from + d) (omega arith) (omega arith) in
+    let s : count_by t (places (from + d) ++ (from + d) ∷ []) ≡ count_by t (places (from + d)) + cond (t (from + d)) 1 0 = sum_by_push (λ q. cond (t q) 1 0) (places (from + d)) (from + d) in
+    rw z (s ∙ ap (λ v. count_by t (places (from + d)) + cond v 1 0) y ∙ (omega (arith, r)))
+
+count_same : (t u : ℕ → Bool) (n : ℕ) → ((q : ℕ) → q < n → t q ≡ u q) → count_by t (places n) ≡ count_by u (places n)
+unfolding places
+count_same t u zero h = refl
+count_same t u (suc n) h =
+    let r : count_by t (places n) ≡ count_by u (places n) = count_same t u n (λ q i. h q (omega arith)) in
+    let y : t n ≡ u n = h n (omega arith) in
+    sum_by_push (λ q. cond (t q) 1 0) (places n) n ∙ ap (λ c. c + cond (t n) 1 0) r ∙ ap (λ v. count_by u (places n) + cond v 1 0) y ∙ sym (sum_by_push (λ q. cond (u q) 1 0) (places n) n)
+
+-- a place before the frames, or before where they are looked for, is in none
+none_ahead : (e : Bool) (b : List ℕ) (from to q : ℕ) (fs : List Framed) → Scanned e b from to fs → q < from → list_any (is_within q) fs ≡ false
+none_ahead e b from to q [] s l = refl
+none_ahead e b from to q (f ∷ fs) s l =
+    let h : from ≤ f.offset = s.0 in
+    let n : (leb f.offset q && ltb q (end_of f)) ≡ false = and_left _ _ (lt-leb f.offset q (omega arith)) in
+    rw n (none_ahead e b (end_of f) to q fs s.3 (omega arith))
+
+none_from : (q p k : ℕ) (s : List ℕ) → q < p → list_any (is_within q) (frames_from p k s) ≡ false
+unfolding frames_from
+none_from q p k [] h = refl
+none_from q p (suc k) (x ∷ s) h = none_from q (p + 1) k s (omega arith)
+none_from q p zero (x ∷ s) h =
+    let n : (leb p q && ltb q (p + (length (message_of (x ∷ s)) + 6))) ≡ false = and_left _ _ (lt-leb p q h) in
+    elim (begins_frame (x ∷ s)) as (λ v. list_any (is_within q) (cond v (record { offset = p; message = message_of (x ∷ s) } ∷ frames_from (p + 1) (frame_length (x ∷ s) - 1) s) (frames_from (p + 1) 0 s)) ≡ false) [
+      true ↦ rw n (none_from q (p + 1) (frame_length (x ∷ s) - 1) s (omega arith))
+    | false ↦ none_from q (p + 1) 0 s (omega arith)
+    ]
+
+-- how the two counts go on over one frame
+over_frame : (before ahead inside behind all bytes from offset size to : ℕ) → ahead ≡ before + (offset - from) → inside ≡ ahead → behind + bytes ≡ inside + (to - (offset + size))
+    → all ≡ size + bytes → from ≤ offset → offset + size ≤ to → behind + all ≡ before + (to - from)
+over_frame before ahead inside behind all bytes from offset size to a b c d e f = omega arith
+
+-- between two places, those in none of the frames there
+count_left : (e : Bool) (b : List ℕ) (from to : ℕ) (fs : List Framed) (t : ℕ → Bool) → Scanned e b from to fs → ((q : ℕ) → from ≤ q → q < to → t q ≡ not (list_any (is_within q) fs))
+    → count_by t (places to) + sum_by (λ f. length f.message + 6) fs ≡ count_by t (places from) + (to - from)
+count_left e b from to [] t s h =
+    let l : from ≤ to = s.0 in
+    let z : from + (to - from) ≡ to = omega arith in
+    let r : count_by t (places (from + (to - from))) ≡ count_by t (places from) + (to - from) = count_all t from (to - from) (λ q i j. h q i (omega arith)) in
+    let r' : count_by t (places to) ≡ count_by t (places from) + (to - from) = ap (λ n. count_by t (places n)) (sym z) ∙ r in
+    omega arith
+count_left e b from to (f ∷ fs) t s h =
+    let i : from ≤ f.offset = s.0 in
+    let l : end_of f ≤ to = scanned_le e b (end_of f) to fs s.3 in
+    let z : from + (f.offset - from) ≡ f.offset = omega arith in
+    let a : count_by t (places (from + (f.offset - from))) ≡ count_by t (places from) + (f.offset - from) = count_all t from (f.offset - from) (λ q j k.
+        let n : (leb f.offset q && ltb q (end_of f)) ≡ false = and_left _ _ (lt-leb f.offset q (omega arith)) in
+        let m : list_any (is_within q) fs ≡ false = none_ahead e b (end_of f) to q fs s.3 (omega arith) in
+        h q j (omega arith) ∙ rw (n, m) refl) in
+    let a' : count_by t (places f.offset) ≡ count_by t (places from) + (f.offset - from) = ap (λ n. count_by t (places n)) (sym z) ∙ a in
+    let c : count_by t (places (end_of f)) ≡ count_by t (places f.offset) = count_none t f.offset (length f.message + 6) (λ q j k.
+        let x : leb f.offset q ≡ true = le-leb f.offset q j in
+        let y : ltb q (end_of f) ≡ true = lt-ltb q (end_of f) k in
+        h q (omega arith) (omega arith) ∙ rw (x, y) refl) in
+    let r : count_by t (places to) + sum_by (λ f. length f.message + 6) fs ≡ count_by t (places (end_of f)) + (to - end_of f) = count_left e b (end_of f) to fs t s.3 (λ q j k.
+        let n : (leb f.offset q && ltb q (end_of f)) ≡ false = and_right (leb f.offset q) _ (le-ltb q (end_of f) j) in
+        h q (omega arith) k ∙ rw n refl) in
+    over_frame (count_by t (places from)) (count_by t (places f.offset)) (count_by t (places (end_of f))) (count_by t (places to)) _ (sum_by (λ f. length f.message + 6) fs)
+      from f.offset (length f.message + 6) to a' c r (sum_by-cons (λ f. length f.message + 6) f fs) i l
+
+or_none : (x y : Bool) → y ≡ false → (x || y) ≡ x
+or_none true y h = refl
+or_none false y h = h
+
+pub given_up_is : (e : Bool) (b : List ℕ) (p : ℕ) (fs : List Framed) → p ≤ length b → Scanned e b 0 p fs → given_up p (frames_of b) + sum_by (λ f. length f.message + 6) fs ≡ p
+unfolding places
+given_up_is e b p fs h s =
+    let r : given_up p (frames_of b) + sum_by (λ f. length f.message + 6) fs ≡ 0 + (p - 0) = count_left e b 0 p fs (λ q. not (list_any (is_within q) (frames_of b))) s
+        (λ q i j. ap not (ap (list_any (is_within q)) (frames_split e b p fs h s) ∙ list_any-append (is_within q) fs (frames_from p 0 (drop p b)) ∙ or_none _ _ (none_from q p 0 (drop p b) j))) in
+    omega arith

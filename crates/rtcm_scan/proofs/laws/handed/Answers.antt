@@ -1,0 +1,4 @@
+use Rattle.rtcm_scan.proofs.laws.handed.Goals as goal
+
+pub returns : goal.returns
+returns c = λ v b fs s. s.first

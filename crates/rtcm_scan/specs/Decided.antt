@@ -1,0 +1,46 @@
+-- How much of a stream is decided by the bytes that are there.
+use Rattle.std.specs.Prelude.{ℕ, zero, suc, ◌+◌, ◌&&◌, min, not, nat_lt, nat_le, Bool, List, [], ◌∷◌, ◌++◌, length, drop, if◌then◌else◌}
+use Rattle.std.specs.List.{filter, list_any, position_or_len, count_by}
+use Rattle.rtcm_scan.specs.Frame.{has_preamble, frame_length, is_open}
+use Rattle.rtcm_scan.specs.Frames.{Framed, end_of, frames_of}
+
+-- the places from 0 up to n
+unfoldable pub places : ℕ → List ℕ
+places zero = []
+places (suc n) = places n ++ n ∷ []
+
+-- whether a place is behind the first byte of a frame and before its end
+abbrev pub is_inside : ℕ → Framed → Bool
+is_inside p f = nat_lt f.offset p && nat_lt p (end_of f)
+
+-- a place that begins a frame or is in none
+unfoldable pub is_tried : List ℕ → ℕ → Bool
+is_tried b p = not (list_any (is_inside p) (frames_of b))
+
+-- the tried places
+unfoldable pub tried : List ℕ → List ℕ
+tried b = filter (is_tried b) (places (length b))
+
+-- the least tried place at which bytes of a frame are missing, or the end
+unfoldable pub decided : List ℕ → ℕ
+decided b = position_or_len (λ p. is_tried b p && is_open (drop p b)) (places (length b))
+
+-- the frames that begin before a place
+unfoldable pub frames_before : ℕ → List Framed → List Framed
+frames_before p fs = filter (λ f. nat_lt f.offset p) fs
+
+-- the frames that are decided
+unfoldable pub decided_frames : List ℕ → List Framed
+decided_frames b = frames_before (decided b) (frames_of b)
+
+-- whether a place is one of a frame's
+abbrev pub is_within : ℕ → Framed → Bool
+is_within p f = nat_le f.offset p && nat_lt p (end_of f)
+
+-- how many of the places before p are in none of these frames
+abbrev pub given_up : ℕ → List Framed → ℕ
+given_up p fs = count_by (λ q. not (list_any (is_within q) fs)) (places p)
+
+-- what trying place p examines: the bytes of the frame that may stand there, as far as they are there, or one byte
+abbrev pub cost : List ℕ → ℕ → ℕ
+cost b p = (if has_preamble (drop p b) then min (frame_length (drop p b)) (length (drop p b)) else 1)

@@ -1,0 +1,13 @@
+pub mod Frame
+pub mod Frames
+pub mod Decided
+pub mod Known
+pub mod Scan
+pub mod Drained
+pub mod Answers
+pub mod Looks
+pub mod Candidate
+pub mod Pending
+pub mod Examined
+pub mod Local
+pub mod View

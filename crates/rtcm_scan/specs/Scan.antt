@@ -1,0 +1,67 @@
+-- What a contract sees of a framer, and the streams that it stands for.
+use Rattle.std.specs.Prelude.{◌≡◌, ℕ, zero, suc, ◌+◌, ◌-◌, ◌<◌, ◌≤◌, Bool, true, false, List, [], ◌∷◌, length, drop}
+use Rattle.std.specs.List.{sum_by}
+use Rattle.rtcm_scan.specs.Frame.{begins_frame, is_open}
+use Rattle.rtcm_scan.specs.Frames.{Framed, IsFrameOf, end_of}
+use Rattle.rtcm_scan.specs.Known.{IsPrefix, known_frames}
+use Rattle.rtcm_bits.specs.Window.{Held}
+
+-- limit: the most bytes that it takes; taken: how many it took; held: the held bytes; has_ended: no byte follows;
+-- is_ready: nothing was taken since all was decided; skipped: bytes given up that are in no frame;
+-- tried: how many of the held bytes were examined as a candidate; looks: how often each held byte was looked at;
+-- examined: all looks; most: the greatest count that any byte reached
+pub record Scan : Type 0 where
+  pub limit : ℕ
+  pub taken : ℕ
+  pub held : List ℕ
+  pub has_ended : Bool
+  pub is_ready : Bool
+  pub skipped : ℕ
+  pub tried : ℕ
+  pub looks : List ℕ
+  pub examined : ℕ
+  pub most : ℕ
+
+-- by its parts
+abbrev pub scan_of : ℕ → ℕ → Held → Bool → Bool → ℕ → ℕ → Scan
+scan_of limit place w has_ended is_ready skipped tried =
+    record { limit = limit; taken = place + length w.bytes; held = w.bytes; has_ended = has_ended; is_ready = is_ready; skipped = skipped;
+             tried = tried; looks = w.looks; examined = w.examined; most = w.most }
+
+-- its window
+abbrev pub window_of : Scan → Held
+window_of v = record { bytes = v.held; looks = v.looks; examined = v.examined; most = v.most }
+
+-- with other counts, and a candidate that was examined so far
+abbrev pub with_looks : Scan → Held → ℕ → Scan
+with_looks v w tried = record v { looks = w.looks; examined = w.examined; most = w.most; tried = tried }
+
+-- with another window, whose candidate was examined so far
+abbrev pub with_window : Scan → Held → ℕ → Scan
+with_window v w tried = record v { held = w.bytes; looks = w.looks; examined = w.examined; most = w.most; tried = tried }
+
+-- the place of the first held byte
+abbrev pub first_held : Scan → ℕ
+first_held v = v.taken - length v.held
+
+-- no frame stands at the front, and before the end none can come to stand there
+pub record IsPassed (has_ended : Bool) (s : List ℕ) : Type 0 where
+  pub none : begins_frame s ≡ false
+  pub closed : has_ended ≡ false → is_open s ≡ false
+
+abbrev pub AllPassed : Bool → List ℕ → ℕ → ℕ → Type 0
+AllPassed has_ended b from to = (q : ℕ) → from ≤ q → q < to → IsPassed has_ended (drop q b)
+
+-- from one place up to another, b has these frames and between them places that are passed
+abbrev pub Scanned : Bool → List ℕ → ℕ → ℕ → List Framed → Type 0
+Scanned has_ended b from to [] = (from ≤ to) × AllPassed has_ended b from to
+Scanned has_ended b from to (f ∷ fs) = (from ≤ f.offset) × AllPassed has_ended b from f.offset × IsFrameOf b f × Scanned has_ended b (end_of f) to fs
+
+-- the framer has taken b, and handed out these frames of it, the first of those that are known
+pub record StandsFor (v : Scan) (b : List ℕ) (fs : List Framed) : Type 0 where
+  pub taken : v.taken ≡ length b
+  pub held : v.held ≡ drop (first_held v) b
+  pub fits : length v.held ≤ v.taken
+  pub scanned : Scanned v.has_ended b 0 (first_held v) fs
+  pub first : IsPrefix fs (known_frames v.has_ended b)
+  pub skipped : v.skipped + sum_by (λ f. length f.message + 6) fs ≡ first_held v

@@ -1,0 +1,343 @@
+//! The frames of a stream that comes byte by byte.
+ghost use Rattle.std.specs.Prelude.{◌≡◌, ◌+◌, ◌-◌, ◌*◌, ◌<◌, ◌≤◌, ◌^◌, ℕ, List, [], ◌∷◌, ◌++◌, min, length, slice_index, take, drop, true, false, IsTrue, IfOk, OnOk, OnErr, IfSome, IfNone, OnSome, ◌↔◌};
+ghost use Rattle.rtcm_bits.specs.Check.{check};
+ghost use Rattle.rtcm_scan.specs.Frame.{begins_frame, frame_length, message_length, message_of, sent_check};
+ghost use Rattle.rtcm_scan.specs.Frames.{Framed};
+ghost use Rattle.rtcm_scan.specs.Scan.{StandsFor, first_held, window_of, with_window};
+ghost use Rattle.rtcm_scan.specs.Candidate.{HasTaken, wanted_by};
+ghost use Rattle.rtcm_scan.specs.Examined.{HasExamined, IsCounted, IsCountedTo};
+ghost use Rattle.rtcm_scan.specs.Pending.{asked, with_candidate_examined};
+ghost use Rattle.rtcm_bits.specs.Window.{looked_through, without_front, pushed};
+ghost use Rattle.rtcm_scan.specs.Drained.{IsDrained};
+ghost use Rattle.rtcm_scan.specs.Answers.{framed, push_answer, decision, if_missing, new_scan};
+
+use arrayvec::ArrayVec;
+use crate::candidate::Candidate;
+use rtcm_bits::{Window, laws};
+use std::alloc::Global;
+use std::marker::Model;
+use thiserror::Error;
+
+/// The most bytes of a stream.
+pub const MOST_BYTES: u64 = 1 << 48;
+
+/// Why a framer refused.
+#[derive(Clone, Copy, Debug, PartialEq, Eq, Error)]
+pub enum ScanFault {
+    /// No memory for the window.
+    #[error("no memory for the window")]
+    Memory,
+    /// A limit of more than 2^48 bytes.
+    #[error("the limit is above 2^48 bytes")]
+    BadLimit,
+    /// As many bytes as the limit allows were taken.
+    #[error("the stream is longer than its limit")]
+    TooLong,
+    /// The stream has ended.
+    #[error("the stream has ended")]
+    Ended,
+}
+
+/// A frame: the place of its first byte, and its message.
+#[derive(Drop)]
+pub struct Frame {
+    pub offset: u64,
+    pub message: ArrayVec<u8, 1023>,
+}
+
+/// What stands at the front of the held bytes.
+#[derive(Clone, Copy)]
+enum Decision {
+    /// Not enough bytes to say.
+    Open,
+    /// No frame.
+    Passed,
+    /// A frame of so many bytes.
+    Found(usize),
+}
+
+/// Takes a stream byte by byte, and hands out its frames.
+#[derive(Drop)]
+pub struct Framer {
+    window: Window,
+    candidate: Candidate,
+    limit: u64,
+    place: u64,
+    given_up: u64,
+    ended: bool,
+    drained: bool,
+}
+
+impl Model for Framer {
+    ghost use Rattle.std.specs.Prelude.{◌≡◌, ◌+◌, ◌<◌, ◌≤◌, ◌^◌, length, take, true};
+    ghost use Rattle.rtcm_scan.specs.Scan.{Scan, scan_of};
+    ghost use Rattle.rtcm_scan.specs.Candidate.{HasTaken};
+
+    ghost Value = { Scan };
+
+    ghost view = { λ f. scan_of f.limit f.place f.window f.ended f.drained f.given_up f.candidate.count };
+
+    ghost invariant = { λ f. (f.place + length f.window.bytes ≤ f.limit) × (f.limit ≤ 2 ^ 48) × (f.given_up ≤ f.place)
+        × (length f.window.bytes ≤ 1029) × (f.drained ≡ true → length f.window.bytes < 1029)
+        × HasTaken f.candidate (take f.candidate.count f.window.bytes) × (f.candidate.count ≤ length f.window.bytes) };
+}
+
+impl Framer {
+    /// A framer that takes at most so many bytes.
+    pub fn new(alloc: Global, limit: u64) -> Result<Framer, ScanFault>
+        ensures new { IfOk result (λ f. f ≡ new_scan limit) }
+        ensures stands { IfOk result (λ f. StandsFor f [] []) }
+        ensures counts { IfOk result (λ f. HasExamined f [] []) }
+        ensures drained { IfOk result (λ f. IsDrained f [] []) }
+        ensures counted { IfOk result (λ f. IsCounted f []) }
+        ensures bad_limit { result ≡ Err ScanFault.BadLimit ↔ 2 ^ 48 < limit }
+    {
+        if limit > MOST_BYTES {
+            return Err(ScanFault::BadLimit);
+        }
+        match Window::new(alloc) {
+            Ok(window) => Ok(Framer {
+                window,
+                candidate: Candidate::new(),
+                limit,
+                place: 0,
+                given_up: 0,
+                ended: false,
+                drained: true,
+            }),
+            Err(_) => Err(ScanFault::Memory),
+        }
+    }
+
+    /// Whether nothing was taken since all was decided.
+    pub fn ready(&self) -> bool
+        ensures { result ≡ self.now.is_ready }
+    {
+        self.drained
+    }
+
+    /// Takes one more byte.
+    pub fn push(&mut self, byte: u8) -> Result<(), ScanFault>
+        requires { IsTrue self.old.is_ready }
+        ensures answer { result ≡ push_answer self.old }
+        ensures stands { OnOk result ((b : List ℕ) (fs : List Framed) → StandsFor self.old b fs → StandsFor self.new (b ++ byte ∷ []) fs) }
+        ensures counts { OnOk result ((b : List ℕ) (fs : List Framed) → HasExamined self.old b fs → HasExamined self.new (b ++ byte ∷ []) fs) }
+        ensures ok { OnOk result (self.new ≡ record self.old { taken = self.old.taken + 1; held = self.old.held ++ byte ∷ []; looks = self.old.looks ++ 0 ∷ []; is_ready = false }) }
+        ensures full { OnErr result (self.old.has_ended ≡ false → self.old.taken ≡ self.old.limit) }
+        ensures err { OnErr result (self.new ≡ self.old) }
+        ensures within { self.new.taken ≤ self.new.limit }
+        ensures same { (self.new.limit ≡ self.old.limit) × (self.new.has_ended ≡ self.old.has_ended) }
+    {
+        if self.ended {
+            return Err(ScanFault::Ended);
+        }
+        if self.place + self.window.held() as u64 == self.limit {
+            return Err(ScanFault::TooLong);
+        }
+        self.window.push(byte);
+        self.drained = false;
+        Ok(())
+    }
+
+    /// Says that no byte follows.
+    pub fn end(&mut self)
+        ensures ended { self.new ≡ record self.old { has_ended = true } }
+        ensures stands { (b : List ℕ) (fs : List Framed) → StandsFor self.old b fs → StandsFor self.new b fs }
+        ensures counts { (b : List ℕ) (fs : List Framed) → HasExamined self.old b fs → HasExamined self.new b fs }
+    {
+        self.ended = true;
+    }
+
+    /// How many bytes it holds.
+    pub fn held(&self) -> usize
+        ensures value { result ≡ length self.now.held }
+        ensures bound { result ≤ 1029 }
+        ensures decided { self.now.is_ready ≡ true → result ≤ 1028 }
+    {
+        self.window.held()
+    }
+
+    /// How many bytes it took.
+    pub fn taken(&self) -> u64
+        ensures value { result ≡ self.now.taken }
+        ensures within { (result ≤ self.now.limit) × (self.now.limit ≤ 2 ^ 48) }
+    {
+        self.place + self.window.held() as u64
+    }
+
+    /// The bytes given up that are in no frame.
+    pub fn skipped(&self) -> u64
+        ensures { result ≡ self.now.skipped }
+    {
+        self.given_up
+    }
+
+    /// All looks at bytes so far.
+    pub fn examined(&self) -> u64
+        ensures value { result ≡ self.now.examined }
+        ensures bound { (b : List ℕ) (fs : List Framed) → HasExamined self.now b fs → result ≤ 1030 * length b }
+    {
+        self.window.examined()
+    }
+
+    /// The greatest number of looks at one byte so far.
+    pub fn most(&self) -> u16
+        ensures value { result ≡ self.now.most }
+        ensures bound { (b : List ℕ) (fs : List Framed) → HasExamined self.now b fs → result ≤ 1030 }
+    {
+        self.window.most()
+    }
+
+    /// The next frame that the bytes so far decide.
+    pub fn next(&mut self) -> Option<Frame>
+        ensures some { IfSome result (λ f. (b : List ℕ) (fs : List Framed) → StandsFor self.old b fs → StandsFor self.new b (fs ++ framed f ∷ [])) }
+        ensures none { IfNone result ((b : List ℕ) (fs : List Framed) → StandsFor self.old b fs → StandsFor self.new b fs × IsDrained self.new b fs) }
+        ensures some_counts { IfSome result (λ f. (b : List ℕ) (fs : List Framed) → HasExamined self.old b fs → HasExamined self.new b (fs ++ framed f ∷ []) × IsCountedTo self.new b f.offset (fs ++ framed f ∷ [])) }
+        ensures none_counts { IfNone result ((b : List ℕ) (fs : List Framed) → HasExamined self.old b fs → HasExamined self.new b fs × IsCounted self.new b) }
+        ensures ready { IfNone result (self.new.is_ready ≡ true) }
+        ensures waits { OnSome result (self.new.is_ready ≡ self.old.is_ready) }
+        ensures less { OnSome result (length self.new.held < length self.old.held) }
+        ensures held { length self.new.held ≤ length self.old.held }
+        ensures limit { self.new.limit ≡ self.old.limit }
+        ensures taken { self.new.taken ≡ self.old.taken }
+        ensures ended { self.new.has_ended ≡ self.old.has_ended }
+    {
+        match self.seek() {
+            Some(size) => Some(self.take_frame(size)),
+            None => None,
+        }
+    }
+
+    /// Makes the decisions that the held bytes allow, up to the next frame, and tells whether one stands. A loop that runs
+    /// once for each byte asks this first, and so makes room for a frame only where there is one.
+    pub fn settle(&mut self) -> bool
+        ensures stands { (b : List ℕ) (fs : List Framed) → StandsFor self.old b fs → StandsFor self.new b fs }
+        ensures counts { (b : List ℕ) (fs : List Framed) → HasExamined self.old b fs → HasExamined self.new b fs }
+        ensures begins { result ≡ true → begins_frame self.new.held ≡ true }
+        ensures none { result ≡ false → (b : List ℕ) (fs : List Framed) → StandsFor self.old b fs → IsDrained self.new b fs }
+        ensures none_counts { result ≡ false → (b : List ℕ) (fs : List Framed) → HasExamined self.old b fs → IsCounted self.new b }
+        ensures ready { result ≡ false → self.new.is_ready ≡ true }
+        ensures waits { result ≡ true → self.new.is_ready ≡ self.old.is_ready }
+        ensures held { length self.new.held ≤ length self.old.held }
+        ensures limit { self.new.limit ≡ self.old.limit }
+        ensures taken { self.new.taken ≡ self.old.taken }
+        ensures ended { self.new.has_ended ≡ self.old.has_ended }
+    {
+        self.seek().is_some()
+    }
+
+    /// Gives up places until a whole frame stands at the front, and answers its size. None where no further place is
+    /// decided. It runs once for each byte, and so has no buffer for a message among its locals.
+    fn seek(&mut self) -> Option<usize>
+        ensures begins { IfSome result (λ size. (begins_frame self.new.held ≡ true) × (size ≡ frame_length self.new.held) × (self.new.tried ≡ asked self.new.held)) }
+        ensures stands { (b : List ℕ) (fs : List Framed) → StandsFor self.old b fs → StandsFor self.new b fs }
+        ensures counts { (b : List ℕ) (fs : List Framed) → HasExamined self.old b fs → HasExamined self.new b fs }
+        ensures none { IfNone result ((b : List ℕ) (fs : List Framed) → StandsFor self.old b fs → IsDrained self.new b fs) }
+        ensures none_counts { IfNone result ((b : List ℕ) (fs : List Framed) → HasExamined self.old b fs → IsCounted self.new b) }
+        ensures ready { IfNone result (self.new.is_ready ≡ true) }
+        ensures waits { OnSome result (self.new.is_ready ≡ self.old.is_ready) }
+        ensures held { length self.new.held ≤ length self.old.held }
+        ensures limit { self.new.limit ≡ self.old.limit }
+        ensures taken { self.new.taken ≡ self.old.taken }
+        ensures ended { self.new.has_ended ≡ self.old.has_ended }
+    {
+        while self.held() > 0 {
+            match self.decide() {
+                Decision::Open => break,
+                Decision::Passed => self.give_up(),
+                Decision::Found(size) => return Some(size),
+            }
+        }
+        self.set_drained();
+        None
+    }
+
+    fn decide(&mut self) -> Decision
+        requires { 0 < length self.old.held }
+        ensures examined { self.new ≡ with_candidate_examined self.old }
+        ensures tried { self.old.tried ≤ asked self.old.held }
+        ensures decision { result ≡ decision self.old.has_ended self.old.held }
+    {
+        examine(&mut self.window, &mut self.candidate);
+        judge(&self.candidate, self.ended)
+    }
+
+    fn give_up(&mut self)
+        requires { 0 < length self.old.held }
+        ensures { self.new ≡ record (with_window self.old (without_front (window_of self.old) 1) 0) { skipped = self.old.skipped + 1 } }
+    {
+        self.window.drop_front(1);
+        self.candidate = Candidate::new();
+        self.place += 1;
+        self.given_up += 1;
+    }
+
+    fn take_frame(&mut self, size: usize) -> Frame
+        requires begins { begins_frame self.old.held ≡ true }
+        requires size { size ≡ frame_length self.old.held }
+        ensures offset { result.offset ≡ first_held self.old }
+        ensures message { result.message.items ≡ message_of self.old.held }
+        ensures taken { self.new ≡ with_window self.old (without_front (looked_through (window_of self.old) 3 (size - 6)) size) 0 }
+    {
+        let mut message = ArrayVec::new();
+        self.window.hand_over(3, size - 6, &mut message);
+        let offset = self.place;
+        self.window.drop_front(size);
+        self.candidate = Candidate::new();
+        self.place += size as u64;
+        Frame { offset, message }
+    }
+
+    fn set_drained(&mut self)
+        requires { length self.old.held < 1029 }
+        ensures { self.new ≡ record self.old { is_ready = true } }
+    {
+        self.drained = true;
+    }
+}
+
+/// Examines the rest of the candidate at the front, as far as its bytes are there.
+fn examine(window: &mut Window, candidate: &mut Candidate)
+    requires taken { HasTaken candidate.old (take candidate.old.count window.old.bytes) }
+    requires within { candidate.old.count ≤ length window.old.bytes }
+    requires some { 0 < length window.old.bytes }
+    ensures taken { HasTaken candidate.new (take candidate.new.count window.old.bytes) }
+    ensures all { candidate.new.count ≡ min (wanted_by window.old.bytes) (length window.old.bytes) }
+    ensures more { candidate.old.count ≤ candidate.new.count }
+    ensures window { window.new ≡ looked_through window.old candidate.old.count (candidate.new.count - candidate.old.count) }
+    ensures bytes { window.new.bytes ≡ window.old.bytes }
+    ensures numbers { (i : ℕ) → slice_index window.old.bytes i < 256 }
+{
+    let held = window.held();
+    while candidate.count < candidate.wanted && candidate.count < held {
+        let byte = window.look(candidate.count);
+        candidate.take(byte);
+    }
+}
+
+/// What a candidate comes to of which all bytes that are there were taken.
+fn judge(candidate: &Candidate, has_ended: bool) -> Decision
+    ensures { (s : List ℕ) → 0 < length s → ((i : ℕ) → slice_index s i < 256) → HasTaken candidate.now (take candidate.now.count s) → candidate.now.count ≡ min (wanted_by s) (length s)
+        → result ≡ decision has_ended s }
+{
+    if candidate.count < candidate.wanted {
+        return missing(has_ended);
+    }
+    laws::residue();
+    if candidate.wanted > 1 && candidate.register.value() == 0 {
+        Decision::Found(candidate.count)
+    } else {
+        Decision::Passed
+    }
+}
+
+/// What stands where bytes are missing.
+fn missing(has_ended: bool) -> Decision
+    ensures { result ≡ if_missing has_ended }
+{
+    if has_ended {
+        Decision::Passed
+    } else {
+        Decision::Open
+    }
+}
