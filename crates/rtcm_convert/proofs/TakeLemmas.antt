@@ -7,11 +7,14 @@ use Rattle.std.proofs.lemmas.List.Sums.{sum_by-append}
 use Rattle.rtcm_bits.specs.Device.{AppendsPrefix}
 use Rattle.rtcm_scan.specs.Frames.{Framed}
 use Rattle.rtcm_msg.specs.declared.message.Message.{Message}
-use Rattle.rtcm_msg.specs.declared.message.MsgFault.{MsgFault}
+use Rattle.rtcm_msg.specs.declared.fault.MsgFault.{MsgFault}
 use Rattle.rtcm_msg.specs.Reading.{message_at}
-use Rattle.obs_epoch.specs.declared.gatherer.Kind.{Kind}
-use Rattle.obs_epoch.specs.Epochs.{Setup, Heard, heard, Closed, closed_epochs, all_epochs, known_epochs, kind_of}
-use Rattle.obs_epoch.specs.Gathered.{Gathered, Gathers, Fits, closed_by, is_close_first}
+use Rattle.obs_epoch.specs.declared.taken.Kind.{Kind}
+use Rattle.obs_epoch.specs.Values.{Closed}
+use Rattle.obs_epoch.specs.Heard.{Setup, Heard, heard}
+use Rattle.obs_epoch.specs.Kinds.{is_close_first, kind_of}
+use Rattle.obs_epoch.specs.Gather.{Gathered}
+use Rattle.obs_epoch.specs.Gathering.{Gathers, Fits, closed_by, closed_in, plan_in, closed_epochs, all_epochs, known_epochs}
 use Rattle.rtcm_convert.specs.Converted.{Settings, text_with, so_far, file, epochs_in, messages_of, heard_in}
 use Rattle.rtcm_convert.specs.Outcomes.{outcome, outcomes, outcomes_after, capped, both, total, tally_of, tally_of_one}
 use Rattle.rtcm_convert.specs.Fed.{GoesOn, BreaksOff}
@@ -145,7 +148,7 @@ files_part v f m a b e t s fs x =
 
 -- the rest of the file
 pub file_whole : (v w : Filer) (g : Gathered) (a b : Option (List ℕ)) → Wrote v w g a b → g.has_ended ≡ true
-    → ((s : Setup) (ms : List Heard) (es : List Closed) → Gathers v.gatherer s ms es None → Gathers g s ms (es ++ closed_by g.closed g.values) None)
+    → ((s : Setup) (ms : List Heard) (es : List Closed) → Gathers v.gatherer s ms es None → Gathers g s ms (es ++ closed_by (closed_in g) g.values) None)
     → (s : Settings) (fs : List Framed) → Files v s fs → GoesOn a b (so_far s fs) (file s fs) × (w.epochs ≡ capped (epochs_in s fs))
 file_whole v w g a b o over t s fs x =
     let ms = messages_of fs in
@@ -154,16 +157,16 @@ file_whole v w g a b o over t s fs x =
     let e : p.0 ≡ all_epochs s.gather ms = p.1.gatherer.epochs refl ∙ ap (λ (h : Gathered). known_epochs h.has_ended s.gather ms) o.gatherer ∙ ap (λ h. known_epochs h s.gather ms) over in
     (subst (λ (all : List Closed). GoesOn a b (so_far s fs) (text_with s all)) e p.2, p.1.epochs ∙ ap count e)
 
-pub file_part : (v : Filer) (g : Gathered) (a b : Option (List ℕ)) → AppendsPrefix a b (added v.texts g.plan v.epochs g.closed g.values) → g.has_ended ≡ true
-    → ((s : Setup) (ms : List Heard) (es : List Closed) → Gathers v.gatherer s ms es None → Gathers g s ms (es ++ closed_by g.closed g.values) None)
+pub file_part : (v : Filer) (g : Gathered) (a b : Option (List ℕ)) → AppendsPrefix a b (added v.texts (plan_in g) v.epochs (closed_in g) g.values) → g.has_ended ≡ true
+    → ((s : Setup) (ms : List Heard) (es : List Closed) → Gathers v.gatherer s ms es None → Gathers g s ms (es ++ closed_by (closed_in g) g.values) None)
     → (s : Settings) (fs : List Framed) → Files v s fs → BreaksOff a b (so_far s fs) (file s fs)
 file_part v g a b p over t s fs x =
     let ms = messages_of fs in
     let es = closed_epochs s.gather ms in
     let now = t s.gather ms es x.settled.gatherer in
-    let e : es ++ closed_by g.closed g.values ≡ all_epochs s.gather ms = now.epochs refl ∙ ap (λ h. known_epochs h s.gather ms) over in
-    let out : AppendsPrefix a b (added s.texts s.gather.plan (count es) g.closed g.values) = part_of v g a b s ms es None x.settled now.plan p in
-    subst (λ (all : List Closed). BreaksOff a b (so_far s fs) (text_with s all)) e (breaks_off-by a b _ _ _ (text-closed s es g.closed g.values) out)
+    let e : es ++ closed_by (closed_in g) g.values ≡ all_epochs s.gather ms = now.epochs refl ∙ ap (λ h. known_epochs h s.gather ms) over in
+    let out : AppendsPrefix a b (added s.texts s.gather.plan (count es) (closed_in g) g.values) = part_of v g a b s ms es None x.settled now.plan p in
+    subst (λ (all : List Closed). BreaksOff a b (so_far s fs) (text_with s all)) e (breaks_off-by a b _ _ _ (text-closed s es (closed_in g) g.values) out)
 
 -- a message that was handed in twice
 pub taken_again : {E : Type 0} (v w x : Filer) (m : Heard) (a b c : Option (List ℕ)) (r : Result Kind E) → x.gatherer.has_ended ≡ false

@@ -7,11 +7,12 @@ use Rattle.std.specs.Io.KnownBytes.{Appends}
 use Rattle.rtcm_bits.specs.Device.{AppendsPrefix}
 use Rattle.rtcm_scan.specs.Frames.{Framed}
 use Rattle.rtcm_scan.specs.Known.{IsPrefix}
-use Rattle.obs_epoch.specs.Values.{Planned, EpochValue, satellites}
-use Rattle.obs_epoch.specs.declared.value.StationValues.{StationValues}
-use Rattle.obs_epoch.specs.Epochs.{Setup, Heard, Closed, closed_epochs, all_epochs}
-use Rattle.obs_epoch.specs.Gathered.{closed_by}
-use Rattle.rinex_file.specs.Texts.{TextsValue, header_text, epoch_text}
+use Rattle.obs_epoch.specs.Values.{PlanValue, EpochValue, Closed, satellites}
+use Rattle.obs_epoch.specs.declared.cell.StationValues.{StationValues}
+use Rattle.obs_epoch.specs.Heard.{Setup, Heard}
+use Rattle.obs_epoch.specs.Gathering.{closed_epochs, all_epochs, closed_by}
+use Rattle.rinex_file.specs.Texts.{HeaderLists}
+use Rattle.rinex_file.specs.File.{header_text, epoch_text}
 use Rattle.rtcm_convert.specs.Converted.{Settings, messages_of, heard_in, written, text_of, text_with, so_far, file}
 use Rattle.rtcm_convert.specs.Outcomes.{capped}
 use Rattle.rtcm_convert.specs.Filed.{opening, added, epochs_after}
@@ -32,7 +33,7 @@ pub cap_over : (n m : ℕ) → m ≡ capped n → (m ≡ 0 → ⊥) → 0 < n
 cap_over n m e none = grind arith
 
 -- more epochs go behind a file with one, and make one where there is none
-pub text_of-append : (t : TextsValue) (p : Planned) (es fs : List Closed) → IsPrefix (text_of t p es) (text_of t p (es ++ fs))
+pub text_of-append : (t : HeaderLists) (p : PlanValue) (es fs : List Closed) → IsPrefix (text_of t p es) (text_of t p (es ++ fs))
 unfolding text_of
 text_of-append t p [] fs = (text_of t p fs, refl)
 text_of-append t p (e ∷ es) fs = (
@@ -44,11 +45,11 @@ text_of-append t p (e ∷ es) fs = (
 some : (n : ℕ) → nat_lt 0 (suc n) ≡ true
 some n = grind arith
 
-opening_next : (t : TextsValue) (p : Planned) (n : ℕ) (e : EpochValue) (v : StationValues) → opening t p (suc n) e v ≡ []
+opening_next : (t : HeaderLists) (p : PlanValue) (n : ℕ) (e : EpochValue) (v : StationValues) → opening t p (suc n) e v ≡ []
 opening_next t p n e v = ap (λ (b : Bool). if b then [] else header_text t p v e.time) (some n)
 
 -- one epoch more
-text_of-one : (t : TextsValue) (p : Planned) (es : List Closed) (c : Closed)
+text_of-one : (t : HeaderLists) (p : PlanValue) (es : List Closed) (c : Closed)
     → text_of t p (es ++ c ∷ []) ≡ text_of t p es ++ (opening t p (length es) c.epoch c.values ++ epoch_text p c.epoch)
 unfolding text_of
 text_of-one t p [] c = ap (λ l. header_text t p c.values c.epoch.time ++ l) (append-nil (epoch_text p c.epoch))
@@ -57,11 +58,11 @@ text_of-one t p (e ∷ es) c =
     ∙ sym (append_assoc (header_text t p e.values e.epoch.time) _ _)
     ∙ ap (λ l. text_of t p (e ∷ es) ++ (l ++ epoch_text p c.epoch)) (sym (opening_next t p (length es) c.epoch c.values))
 
-opening_capped : (t : TextsValue) (p : Planned) (n : ℕ) (e : EpochValue) (v : StationValues) → opening t p n e v ≡ opening t p (capped n) e v
+opening_capped : (t : HeaderLists) (p : PlanValue) (n : ℕ) (e : EpochValue) (v : StationValues) → opening t p n e v ≡ opening t p (capped n) e v
 opening_capped t p n e v = ap (λ (b : Bool). if b then [] else header_text t p v e.time) (sym (cap_some n))
 
 -- one epoch more, if it is written
-text_of-maybe : (t : TextsValue) (p : Planned) (es : List Closed) (c : Closed) (b : Bool)
+text_of-maybe : (t : HeaderLists) (p : PlanValue) (es : List Closed) (c : Closed) (b : Bool)
     → text_of t p (es ++ (if b then c ∷ [] else [])) ≡ text_of t p es ++ (if b then opening t p (capped (length es)) c.epoch c.values ++ epoch_text p c.epoch else [])
 text_of-maybe t p es c true = text_of-one t p es c ∙ ap (λ l. text_of t p es ++ (l ++ epoch_text p c.epoch)) (opening_capped t p (length es) c.epoch c.values)
 text_of-maybe t p es c false = ap (text_of t p) (append-nil es) ∙ sym (append-nil (text_of t p es))
@@ -107,20 +108,20 @@ so_far-all stay s fs more =
     (rw filter_map-append (stay s.gather (messages_of fs) (messages_of more)))
 
 -- what an epoch with a satellite adds
-added_is : (t : TextsValue) (p : Planned) (n k : ℕ) (o : Option EpochValue) (e : EpochValue) (v : StationValues) → Some e ≡ o → k ≡ satellites e → (k ≡ 0 → ⊥)
+added_is : (t : HeaderLists) (p : PlanValue) (n k : ℕ) (o : Option EpochValue) (e : EpochValue) (v : StationValues) → Some e ≡ o → k ≡ satellites e → (k ≡ 0 → ⊥)
     → added t p n o v ≡ opening t p n e v ++ epoch_text p e
 added_is t p n k o e v is count none = grind arith
 
 -- the writer failed in what stands before the epoch
-pub part_open : (a b : Option (List ℕ)) (t : TextsValue) (p : Planned) (n k : ℕ) (o : Option EpochValue) (e : EpochValue) (v : StationValues) → Some e ≡ o → k ≡ satellites e → (k ≡ 0 → ⊥)
+pub part_open : (a b : Option (List ℕ)) (t : HeaderLists) (p : PlanValue) (n k : ℕ) (o : Option EpochValue) (e : EpochValue) (v : StationValues) → Some e ≡ o → k ≡ satellites e → (k ≡ 0 → ⊥)
     → AppendsPrefix a b (opening t p n e v) → AppendsPrefix a b (added t p n o v)
 part_open a b t p n k o e v is count none x = rw (added_is t p n k o e v is count none) (prefix_more a b (opening t p n e v) (epoch_text p e) x)
 
 -- and in the epoch
-pub part_epoch : (a b c : Option (List ℕ)) (t : TextsValue) (p q : Planned) (n k : ℕ) (o : Option EpochValue) (e : EpochValue) (v : StationValues) → Some e ≡ o → k ≡ satellites e → (k ≡ 0 → ⊥) → q ≡ p
+pub part_epoch : (a b c : Option (List ℕ)) (t : HeaderLists) (p q : PlanValue) (n k : ℕ) (o : Option EpochValue) (e : EpochValue) (v : StationValues) → Some e ≡ o → k ≡ satellites e → (k ≡ 0 → ⊥) → q ≡ p
     → Appends a b (opening t p n e v) → AppendsPrefix b c (epoch_text q e) → AppendsPrefix a c (added t p n o v)
 part_epoch a b c t p q n k o e v is count none same first x =
-    let y : AppendsPrefix b c (epoch_text p e) = subst (λ (r : Planned). AppendsPrefix b c (epoch_text r e)) same x in
+    let y : AppendsPrefix b c (epoch_text p e) = subst (λ (r : PlanValue). AppendsPrefix b c (epoch_text r e)) same x in
     rw (added_is t p n k o e v is count none) (prefix_after a b c (opening t p n e v) (epoch_text p e) first y)
 
 -- nothing is written of no frames

@@ -3,16 +3,18 @@ use Rattle.std.specs.Prelude.{ℕ, nat_lt, List, [], ◌∷◌, ◌++◌, length
 use Rattle.std.specs.List.{filter_map}
 use Rattle.rtcm_scan.specs.Frames.{Framed}
 use Rattle.rtcm_msg.specs.declared.message.Message.{Message}
-use Rattle.rtcm_msg.specs.declared.message.MsgFault.{MsgFault}
+use Rattle.rtcm_msg.specs.declared.fault.MsgFault.{MsgFault}
 use Rattle.rtcm_msg.specs.Reading.{message_at}
-use Rattle.obs_epoch.specs.Values.{Planned, satellites}
-use Rattle.obs_epoch.specs.Epochs.{Setup, Heard, heard, Closed, all_epochs, closed_epochs}
-use Rattle.rinex_file.specs.Texts.{TextsValue, header_text, epoch_text}
+use Rattle.obs_epoch.specs.Values.{PlanValue, Closed, satellites}
+use Rattle.obs_epoch.specs.Heard.{Setup, Heard, heard}
+use Rattle.obs_epoch.specs.Gathering.{all_epochs, closed_epochs}
+use Rattle.rinex_file.specs.Texts.{HeaderLists}
+use Rattle.rinex_file.specs.File.{header_text, epoch_text}
 
 -- what a conversion is told at first
 pub record Settings : Type 0 where
   pub gather : Setup
-  pub texts : TextsValue
+  pub texts : HeaderLists
 
 -- what is heard of a message that was read; nothing of one that was refused
 abbrev pub heard_of : Result Message MsgFault → Option Heard
@@ -32,7 +34,7 @@ abbrev pub written : List Closed → List Closed
 written es = filter (λ e. nat_lt 0 (satellites e.epoch)) es
 
 -- a header with the first epoch's time and the station values known when it was closed, then the epochs; nothing where there is none
-unfoldable pub text_of : TextsValue → Planned → List Closed → List ℕ
+unfoldable pub text_of : HeaderLists → PlanValue → List Closed → List ℕ
 text_of texts plan [] = []
 text_of texts plan (e ∷ es) = header_text texts plan e.values e.epoch.time ++ flat_map (λ c. epoch_text plan c.epoch) (e ∷ es)
 

@@ -1,21 +1,22 @@
 -- What stands in the file when the epochs of some messages were written.
 use Rattle.std.specs.Prelude.{◌≡◌, ℕ, ◌+◌, nat_lt, List, [], ◌++◌, length, Option, Some, None, if◌then◌else◌}
 use Rattle.rtcm_scan.specs.Frames.{Framed}
-use Rattle.obs_epoch.specs.Values.{Planned, EpochValue, satellites}
-use Rattle.obs_epoch.specs.declared.value.StationValues.{StationValues}
-use Rattle.obs_epoch.specs.Epochs.{Heard, Closed, closed_epochs}
-use Rattle.obs_epoch.specs.Gathered.{Gathers}
-use Rattle.rinex_file.specs.Texts.{TextsValue, header_text, epoch_text}
+use Rattle.obs_epoch.specs.Values.{PlanValue, EpochValue, Closed, satellites}
+use Rattle.obs_epoch.specs.declared.cell.StationValues.{StationValues}
+use Rattle.obs_epoch.specs.Heard.{Heard}
+use Rattle.obs_epoch.specs.Gathering.{Gathers, closed_epochs}
+use Rattle.rinex_file.specs.Texts.{HeaderLists}
+use Rattle.rinex_file.specs.File.{header_text, epoch_text}
 use Rattle.rtcm_convert.specs.Converted.{Settings, messages_of, written}
 use Rattle.rtcm_convert.specs.Outcomes.{outcomes, tally_of, capped}
 use Rattle.rtcm_convert.specs.declared.filer.Filer.{Filer}
 
 -- what stands before an epoch in a file of so many: the header before the first
-abbrev pub opening : TextsValue → Planned → ℕ → EpochValue → StationValues → List ℕ
+abbrev pub opening : HeaderLists → PlanValue → ℕ → EpochValue → StationValues → List ℕ
 opening texts plan n e values = (if nat_lt 0 n then [] else header_text texts plan values e.time)
 
 -- what an epoch that was closed adds to a file of so many
-abbrev pub added : TextsValue → Planned → ℕ → Option EpochValue → StationValues → List ℕ
+abbrev pub added : HeaderLists → PlanValue → ℕ → Option EpochValue → StationValues → List ℕ
 added texts plan n None values = []
 added texts plan n (Some e) values = (if nat_lt 0 (satellites e) then opening texts plan n e values ++ epoch_text plan e else [])
 

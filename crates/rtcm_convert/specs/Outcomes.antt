@@ -2,9 +2,9 @@
 use Rattle.std.specs.Prelude.{ℕ, ◌+◌, ◌-◌, ◌^◌, min, List, [], ◌∷◌, ◌++◌, length, sum_by, Option, Some, None, option_map}
 use Rattle.rtcm_scan.specs.Frames.{Framed, frames_of}
 use Rattle.rtcm_scan.specs.Decided.{given_up}
-use Rattle.obs_epoch.specs.declared.gatherer.Kind.{Kind}
-use Rattle.obs_epoch.specs.declared.gatherer.Kind.TheVariants as kind
-use Rattle.obs_epoch.specs.Epochs.{kind_of}
+use Rattle.obs_epoch.specs.declared.taken.Kind.{Kind}
+use Rattle.obs_epoch.specs.declared.taken.Kind.TheVariants as kind
+use Rattle.obs_epoch.specs.Kinds.{kind_of}
 use Rattle.rtcm_convert.specs.Converted.{Settings, messages_of, heard_in, epochs_in}
 use Rattle.rtcm_convert.specs.declared.report.Report.{Report}
 use Rattle.rtcm_convert.specs.declared.tally.Tally.{Tally}

@@ -1,6 +1,7 @@
 -- What a conversion is told at first, as its definitions see it.
-use Rattle.std.specs.Prelude.{◌^◌, ◌<◌, ◌⊎◌, IsSomeAnd}
-use Rattle.obs_epoch.specs.Gathered.{is_by_bit}
+use Rattle.std.specs.Prelude.{◌≡◌, ◌^◌, ◌<◌, ◌≤◌, ◌⊎◌, true}
+use Rattle.obs_epoch.specs.Weeks.{weeks}
+use Rattle.obs_epoch.specs.Kinds.{is_by_bit, is_no_station}
 use Rattle.rtcm_convert.specs.declared.setup.Setup.{Setup}
 use Rattle.rtcm_convert.specs.Converted.{Settings}
 
@@ -12,4 +13,4 @@ settings x = record {
 
 -- a limit of more than 2^48 bytes, a week that there is not, or a station that there is not
 abbrev pub IsBad : Setup → Type 0
-IsBad x = (2 ^ 48 < x.limit) ⊎ ((99_999 < x.start_week) ⊎ IsSomeAnd x.station (λ n. 4_095 < n))
+IsBad x = (2 ^ 48 < x.limit) ⊎ ((weeks ≤ x.start_week) ⊎ (is_no_station x.station ≡ true))

@@ -5,6 +5,7 @@ ghost use Rattle.rtcm_bits.specs.Device.{HasFailed};
 ghost use Rattle.rtcm_scan.specs.Frames.{frames_of};
 ghost use Rattle.rtcm_scan.specs.Decided.{decided};
 ghost use Rattle.rtcm_scan.specs.Looks.{examined, examined_now, most, most_now};
+ghost use Rattle.obs_epoch.specs.Values.{most_cells};
 ghost use Rattle.rtcm_convert.specs.Converted.{Settings};
 ghost use Rattle.rtcm_convert.specs.Told.{settings, IsBad};
 ghost use Rattle.rtcm_convert.specs.Outcomes.{report_with};
@@ -273,14 +274,15 @@ impl Converter {
 
     /// How many cells of a system are held: those of the pending epoch or, where none is pending, of the one last closed.
     pub fn cells(&self, system: System) -> usize
-        ensures { result ≤ 64 }
+        ensures bound { result ≤ most_cells }
     {
         self.filer.gatherer.cells(system)
     }
 
     /// How many lock records are held, one at most for each satellite and signal.
     pub fn locks(&self) -> usize
-        ensures { result ≤ 1_164 }
+        ensures count { result ≡ length self.now.filer.gatherer.locks }
+        ensures bound { result ≤ 1_164 }
     {
         self.filer.gatherer.locks()
     }

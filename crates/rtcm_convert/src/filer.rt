@@ -4,9 +4,10 @@ ghost use Rattle.std.specs.Io.KnownBytes.{Appends};
 ghost use Rattle.rtcm_bits.specs.Device.{AppendsPrefix, HasFailed};
 ghost use Rattle.rtcm_scan.specs.Frames.{Framed};
 ghost use Rattle.rtcm_scan.specs.Answers.{framed};
-ghost use Rattle.obs_epoch.specs.Values.{satellites};
-ghost use Rattle.obs_epoch.specs.Epochs.{Heard, heard, Closed, closed_epochs, kind_of};
-ghost use Rattle.obs_epoch.specs.Gathered.{Fits, is_close_first};
+ghost use Rattle.obs_epoch.specs.Values.{Closed};
+ghost use Rattle.obs_epoch.specs.Heard.{Heard, heard};
+ghost use Rattle.obs_epoch.specs.Kinds.{is_close_first, kind_of};
+ghost use Rattle.obs_epoch.specs.Gathering.{Fits, closed_epochs, closed_in, plan_in};
 ghost use Rattle.rtcm_convert.specs.Converted.{Settings, so_far, file, epochs_in, text_with};
 ghost use Rattle.rtcm_convert.specs.Outcomes.{capped};
 ghost use Rattle.rtcm_convert.specs.Fed.{GoesOn, BreaksOff};
@@ -34,9 +35,9 @@ impl Filer {
     /// Writes the header where no epoch stands in the file.
     fn open<W: Write>(&self, first: &Epoch, writer: &mut Counted<W>) -> Result<(), DeviceFailed>
         ensures whole { OnOk result (Appends (W.contents writer.old.inner) (W.contents writer.new.inner)
-            (opening self.now.texts self.now.gatherer.plan self.now.epochs first.now self.now.gatherer.values)) }
+            (opening self.now.texts (plan_in self.now.gatherer) self.now.epochs first.now self.now.gatherer.values)) }
         ensures part { OnErr result (AppendsPrefix (W.contents writer.old.inner) (W.contents writer.new.inner)
-            (opening self.now.texts self.now.gatherer.plan self.now.epochs first.now self.now.gatherer.values)) }
+            (opening self.now.texts (plan_in self.now.gatherer) self.now.epochs first.now self.now.gatherer.values)) }
         ensures failed { OnErr result (HasFailed writer.old.failures writer.new.failures) }
         ensures fine { OnOk result (writer.new.failures ≡ writer.old.failures) }
         ensures widest { writer.new.widest ≡ writer.old.widest }
@@ -59,13 +60,13 @@ impl Filer {
     /// Writes the epoch that the gatherer closed last where a satellite in it has a value, and the header before the first.
     fn write_closed<W: Write>(&mut self, writer: &mut Counted<W>) -> Result<(), DeviceFailed>
         ensures whole { OnOk result (Appends (W.contents writer.old.inner) (W.contents writer.new.inner)
-            (added self.old.texts self.old.gatherer.plan self.old.epochs self.old.gatherer.closed self.old.gatherer.values)) }
+            (added self.old.texts (plan_in self.old.gatherer) self.old.epochs (closed_in self.old.gatherer) self.old.gatherer.values)) }
         ensures part { OnErr result (AppendsPrefix (W.contents writer.old.inner) (W.contents writer.new.inner)
-            (added self.old.texts self.old.gatherer.plan self.old.epochs self.old.gatherer.closed self.old.gatherer.values)) }
+            (added self.old.texts (plan_in self.old.gatherer) self.old.epochs (closed_in self.old.gatherer) self.old.gatherer.values)) }
         ensures failed { OnErr result (HasFailed writer.old.failures writer.new.failures) }
         ensures fine { OnOk result (writer.new.failures ≡ writer.old.failures) }
         ensures widest { writer.new.widest ≡ writer.old.widest }
-        ensures epochs { OnOk result (self.new.epochs ≡ epochs_after self.old.epochs self.old.gatherer.closed) }
+        ensures epochs { OnOk result (self.new.epochs ≡ epochs_after self.old.epochs (closed_in self.old.gatherer)) }
         ensures same { (self.new.gatherer ≡ self.old.gatherer) × (self.new.texts ≡ self.old.texts) × (self.new.tally ≡ self.old.tally) }
     {
         let Some(epoch) = self.gatherer.closed() else {
@@ -131,7 +132,7 @@ impl Filer {
         ensures ended { self.new.gatherer.has_ended ≡ false }
     {
         let kind = self.step(message, writer)?;
-        if !is_close_first(kind) {
+        if !kind.is_close_first() {
             return Ok(kind);
         }
         self.step(message, writer)
@@ -185,11 +186,4 @@ impl Filer {
         self.gatherer.end();
         self.write_closed(writer)
     }
-}
-
-/// Whether the message is to be handed in again.
-fn is_close_first(kind: Kind) -> bool
-    ensures { result ≡ is_close_first kind }
-{
-    matches!(kind, Kind::CloseFirst)
 }

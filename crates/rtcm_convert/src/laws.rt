@@ -1,5 +1,5 @@
 //! Laws of the definitions that the contracts cite.
-ghost use Rattle.rtcm_convert.specs.Laws.{WrittenStays, WrittenGrows, NothingYet, FiledStays, FiledGrows, NothingFiled};
+ghost use Rattle.rtcm_convert.specs.Laws.{WrittenStays, WrittenGrows, NothingYet, FiledStays, FiledGrows, NothingFiled, CountedOnce};
 
 /// What is written of some bytes stands at the front of the file, however the stream goes on.
 pub fn prefix()
@@ -18,4 +18,12 @@ pub fn filed()
     ensures nothing { NothingFiled }
 {
     obs_epoch::laws::closed_stay();
+}
+
+/// Each frame of a stream is counted once, and no count of frames comes near the greatest number that is counted.
+pub fn counts()
+    ensures { CountedOnce }
+{
+    rtcm_scan::laws::prefix();
+    obs_epoch::laws::kinds();
 }

@@ -1,6 +1,7 @@
 use Rattle.std.proofs.Common.{sym, None}
 use Rattle.std.proofs.lemmas.Result.{on_err_weaker}
-use Rattle.obs_epoch.specs.Epochs.{heard, closed_epochs}
+use Rattle.obs_epoch.specs.Heard.{heard}
+use Rattle.obs_epoch.specs.Gathering.{closed_epochs}
 use Rattle.rtcm_convert.proofs.PartLemmas.{on_err}
 use Rattle.rtcm_convert.proofs.TakeLemmas.{settle, taken_again, kind_again, part_alone, part_again}
 use Rattle.rtcm_convert.proofs.filer.Filer.take.Goals as goal
