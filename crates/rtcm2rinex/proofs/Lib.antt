@@ -2,3 +2,4 @@ mod FrameLemmas
 mod LineLemmas
 mod ListedLemmas
 mod ShowLemmas
+mod ReadBackLemmas

@@ -1,5 +1,5 @@
 -- What listing does, step by step.
-use Rattle.std.proofs.Common.{◌≡◌, ℕ, ◌+◌, ◌-◌, ◌<◌, ◌≤◌, Bool, true, false, Option, List, [], ◌∷◌, ◌++◌, ◌∙◌, ap, sym, refl, rules, arith, length, take, drop, flat_map, append_assoc, append-nil, subst, take-append-drop, length-drop, take_all, length-append, zero-add, suc, slice_index, None, Some, Result, Ok, Err, inl, inr, ◌⊎◌}
+use Rattle.std.proofs.Common.{◌≡◌, ℕ, ◌+◌, ◌-◌, ◌<◌, ◌≤◌, Bool, true, false, Option, List, [], ◌∷◌, ◌++◌, ◌∙◌, ap, sym, refl, rules, arith, length, take, drop, flat_map, append_assoc, append-nil, subst, take-append-drop, length-drop, take_all, length-append, zero-add, suc, slice_index, None, Some, Result, Ok, Err, OnOk, OnErr, inl, inr, ◌⊎◌}
 use Rattle.std.proofs.lemmas.List.{take_more}
 use Rattle.std.specs.Io.KnownBytes.{Appends, Consumes, IsAtEnd}
 use Rattle.std.proofs.KnownBytes.{Appends-trans, Consumes-trans}
@@ -50,55 +50,47 @@ list_written k w w1 w2 page v b fs a s = record {
   joined = append-nil (s.sent ++ page) ∙ s.joined;
 }
 
+-- what is known stays so
+abbrev pub StaysDecided : Type 0
+StaysDecided = (b t : List ℕ) → IsPrefix (decided_frames b) (decided_frames (b ++ t))
+
+known_later : (e : Bool) (b t : List ℕ) → StaysDecided → (e ≡ true → length t ≡ 0) → IsPrefix (known_frames e b) (known_frames e (b ++ t))
+known_later true b [] law h = ([], ap frames_of (append-nil b) ∙ sym (append-nil (frames_of b)))
+known_later true b (x ∷ t) law h = absurd (omega (arith, h refl))
+known_later false b t law h = law b t
+
+-- a prefix of the lines of some frames is one of the lines of more
+part_more : (k : Listing) (w w2 : Option (List ℕ)) (fs gs : List Framed) → IsPrefix fs gs → AppendsPrefix w w2 (lines_of k fs) → AppendsPrefix w w2 (lines_of k gs)
+part_more k w w2 fs gs p a =
+    (a.0 ++ lines_of k p.0, (a.1.0, ap (lines_of k) p.1 ∙ lines_join k fs p.0 ∙ ap (λ (l : List ℕ). l ++ lines_of k p.0) a.1.1 ∙ append_assoc a.1.0 a.0 (lines_of k p.0), a.1.2))
+
 -- a prefix of the page was written
-pub list_part : (k : Listing) (w w1 w2 : Option (List ℕ)) (page : List ℕ) (v : Scan) (b : List ℕ) (fs gs : List Framed) → IsPrefix fs gs → AppendsPrefix w1 w2 page → Lists (lines_of k) w w1 page v b fs
-    → AppendsPrefix w w2 (lines_of k gs)
-list_part k w w1 w2 page v b fs gs p a s =
-    let rest = a.0 in
-    let sent = a.1.0 in (
-      rest ++ lines_of k p.0,
-      (
-        s.sent ++ sent,
-        ap (lines_of k) p.1 ∙ lines_join k fs p.0 ∙ ap (λ (l : List ℕ). l ++ lines_of k p.0) (sym s.joined ∙ ap (λ (l : List ℕ). s.sent ++ l) a.1.1 ∙ sym (append_assoc s.sent sent rest))
-            ∙ append_assoc (s.sent ++ sent) rest (lines_of k p.0),
-        Appends-trans w w1 w2 s.sent sent s.out a.1.2,
-      ),
-    )
+pub list_part : (k : Listing) (w w1 w2 : Option (List ℕ)) (page : List ℕ) (v : Scan) (e : Bool) (b : List ℕ) (fs : List Framed) → v.has_ended ≡ e → AppendsPrefix w1 w2 page → Lists (lines_of k) w w1 page v b fs
+    → AppendsPrefix w w2 (lines_of k (known_frames e b))
+list_part k w w1 w2 page v e b fs ended a s =
+    let sent = a.1.0 in
+    let part : AppendsPrefix w w2 (lines_of k fs) =
+    (a.0, (s.sent ++ sent, sym s.joined ∙ ap (λ (l : List ℕ). s.sent ++ l) a.1.1 ∙ sym (append_assoc s.sent sent a.0), Appends-trans w w1 w2 s.sent sent s.out a.1.2)) in
+    part_more k w w2 fs (known_frames e b) (subst (λ (x : Bool). IsPrefix fs (known_frames x b)) ended s.framer.first) part
 
--- what was handed out stays the first of what is known
-abbrev pub StaysHanded : Type 0
-StaysHanded = (v : Scan) (b t : List ℕ) (fs : List Framed) → StandsFor v b fs → (v.has_ended ≡ true → length t ≡ 0) → IsPrefix fs (known_frames v.has_ended (b ++ t))
-
-pub handed_later : (e : Bool) (b t : List ℕ) (fs : List Framed) → IsPrefix fs (known_frames e b) → IsPrefix (decided_frames b) (decided_frames (b ++ t)) → (e ≡ true → length t ≡ 0)
-    → IsPrefix fs (known_frames e (b ++ t))
-handed_later true b [] fs p d h = (p.0, ap frames_of (append-nil b) ∙ p.1)
-handed_later true b (x ∷ t) fs p d h = absurd (omega (arith, h refl))
-handed_later false b t fs p d h = (p.0 ++ d.0, d.1 ∙ ap (λ (l : List Framed). l ++ d.0) p.1 ∙ append_assoc fs p.0 d.0)
-
--- a prefix of the page was written after the first n bytes of a piece
-pub piece_part : (k : Listing) (w w1 w2 : Option (List ℕ)) (page : List ℕ) (v : Scan) (e : Bool) (b piece : List ℕ) (n : ℕ) (fs : List Framed) → StaysHanded → v.has_ended ≡ e → (e ≡ true → length piece ≡ 0)
-    → AppendsPrefix w1 w2 page → Lists (lines_of k) w w1 page v (b ++ take n piece) fs → AppendsPrefix w w2 (lines_of k (known_frames e (b ++ piece)))
-piece_part k w w1 w2 page v e b piece n fs law ended going a s =
-    let none : v.has_ended ≡ true → length (drop n piece) ≡ 0 = λ h. omega (arith, going (sym ended ∙ h), length-drop n piece) in
-    let p = law v (b ++ take n piece) (drop n piece) fs s.framer none in
+-- a prefix of the lines that the first n bytes of a piece decide is one of those that the piece decides
+pub piece_part : (k : Listing) (w w2 : Option (List ℕ)) (e : Bool) (b piece : List ℕ) (n : ℕ) → StaysDecided → (e ≡ true → length piece ≡ 0)
+    → AppendsPrefix w w2 (lines_of k (known_frames e (b ++ take n piece))) → AppendsPrefix w w2 (lines_of k (known_frames e (b ++ piece)))
+piece_part k w w2 e b piece n law going a =
+    let none : e ≡ true → length (drop n piece) ≡ 0 = λ h. omega (arith, going h, length-drop n piece) in
     let whole : (b ++ take n piece) ++ drop n piece ≡ b ++ piece = append_assoc b (take n piece) (drop n piece) ∙ ap (λ (l : List ℕ). b ++ l) (take-append-drop n piece) in
-    let known : known_frames e (b ++ piece) ≡ fs ++ p.0 = ap (known_frames e) (sym whole) ∙ ap (λ (x : Bool). known_frames x ((b ++ take n piece) ++ drop n piece)) (sym ended) ∙ p.1 in
-    list_part k w w1 w2 page v (b ++ take n piece) fs (known_frames e (b ++ piece)) (p.0, known) a s
+    let later = known_later e (b ++ take n piece) (drop n piece) law none in
+    part_more k w w2 (known_frames e (b ++ take n piece)) (known_frames e (b ++ piece)) (later.0, ap (known_frames e) (sym whole) ∙ later.1) a
 
 -- an empty page
 pub list_empty : (k : Listing) (w w1 : Option (List ℕ)) (page : List ℕ) (v : Scan) (b : List ℕ) (fs : List Framed) → page ≡ [] → Lists (lines_of k) w w1 [] v b fs → Lists (lines_of k) w w1 page v b fs
 list_empty k w w1 page v b fs e s = subst (λ (p : List ℕ). Lists (lines_of k) w w1 p v b fs) (sym e) s
 
 -- all that the bytes decide was handed out
-pub list_drained : (k : Listing) (w w1 : Option (List ℕ)) (page : List ℕ) (v v2 : Scan) (b piece : List ℕ) (n m : ℕ) (fs : List Framed) → take n piece ≡ take m piece
-    → StandsFor v2 (b ++ take n piece) fs → IsDrained v2 (b ++ take n piece) fs → Lists (lines_of k) w w1 page v (b ++ take n piece) fs → ListsKnown (lines_of k) w w1 page v2 (b ++ take m piece)
-list_drained k w w1 page v v2 b piece n m fs same stands drained s =
-    let all : ListsKnown (lines_of k) w w1 page v2 (b ++ take n piece) =
-    subst (λ (gs : List Framed). Lists (lines_of k) w w1 page v2 (b ++ take n piece) gs) drained.frames (list_same k w w1 page v v2 (b ++ take n piece) (b ++ take n piece) fs stands s) in
-    subst (λ (l : List ℕ). ListsKnown (lines_of k) w w1 page v2 (b ++ l)) same all
-
-pub take_both : (piece : List ℕ) (n m : ℕ) → n ≡ length piece → n ≤ m → take n piece ≡ take m piece
-take_both piece n m e h = take_all n piece (omega (arith, e)) ∙ sym (take_all m piece (omega (arith, e, h)))
+pub list_drained : (k : Listing) (w w1 : Option (List ℕ)) (page : List ℕ) (v v2 : Scan) (b : List ℕ) (fs : List Framed)
+    → StandsFor v2 b fs → IsDrained v2 b fs → Lists (lines_of k) w w1 page v b fs → ListsKnown (lines_of k) w w1 page v2 b
+list_drained k w w1 page v v2 b fs stands drained s =
+    subst (λ (gs : List Framed). Lists (lines_of k) w w1 page v2 b gs) drained.frames (list_same k w w1 page v v2 b b fs stands s)
 
 pub take_next : (b piece : List ℕ) (n : ℕ) → n < length piece → (b ++ take n piece) ++ slice_index piece n ∷ [] ≡ b ++ take (n + 1) piece
 take_next b piece n h = append_assoc b (take n piece) (slice_index piece n ∷ []) ∙ ap (λ (l : List ℕ). b ++ l) (sym (take_more piece n 0 h))
@@ -177,6 +169,24 @@ listed_part k r r1 r2 w w1 w2 v u piece same law ended read s =
         → AppendsPrefix w w2 (lines_of k (decided_frames b)) ⊎ (IsAtEnd r2 × AppendsPrefix w w2 (lines_of k (frames_of b)))
     known_part k w w2 r2 e b (inl h) p = inl (subst (λ (x : Bool). AppendsPrefix w w2 (lines_of k (known_frames x b))) h p)
     known_part k w w2 r2 e b (inr h) p = inr (h.1, subst (λ (x : Bool). AppendsPrefix w w2 (lines_of k (known_frames x b))) h.0 p)
+
+-- what holds on one answer holds on it in other words
+pub on_ok : {A E : Type 0} (r : Result A E) (P Q : Type 0) → (P → Q) → OnOk r P → OnOk r Q
+on_ok (Ok x) P Q f p = f p
+on_ok (Err e) P Q f p = p
+
+pub on_err : {A E : Type 0} (r : Result A E) (P Q : Type 0) → (P → Q) → OnErr r P → OnErr r Q
+on_err (Ok x) P Q f p = p
+on_err (Err e) P Q f p = f p
+
+-- the framer took one byte more
+pub list_pushed : (k : Listing) (w w1 : Option (List ℕ)) (page : List ℕ) (v v2 : Scan) (b piece : List ℕ) (n : ℕ) → n < length piece
+    → ((a : List ℕ) (fs : List Framed) → StandsFor v a fs → StandsFor v2 (a ++ slice_index piece n ∷ []) fs) → ListsKnown (lines_of k) w w1 page v (b ++ take n piece)
+    → Lists (lines_of k) w w1 page v2 (b ++ take (n + 1) piece) (known_frames v.has_ended (b ++ take n piece))
+list_pushed k w w1 page v v2 b piece n more push s =
+    let fs : List Framed = known_frames v.has_ended (b ++ take n piece) in
+    let stands : StandsFor v2 (b ++ take (n + 1) piece) fs = subst (λ (l : List ℕ). StandsFor v2 l fs) (take_next b piece n more) (push (b ++ take n piece) fs s.framer) in
+    list_same k w w1 page v v2 (b ++ take n piece) (b ++ take (n + 1) piece) fs stands s
 
 -- all was read
 pub listed_all : (k : Listing) (r r1 w w1 : Option (List ℕ)) (v : Scan) → v.has_ended ≡ true → IsAtEnd r1 → IsListed (lines_of k) r r1 w w1 v → ListsAll (lines_of k) r r1 w w1

@@ -6,3 +6,4 @@ pub mod Kinds
 pub mod Listing
 pub mod Listed
 pub mod Paging
+pub mod ReadBack

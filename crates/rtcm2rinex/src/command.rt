@@ -1,5 +1,8 @@
 //! The whole program, over a reader, a writer and a fault writer.
-ghost use Rattle.std.specs.Prelude.{◌≡◌, ◌≤◌};
+ghost use Rattle.std.specs.Prelude.{◌≡◌, ◌⊎◌, ◌≤◌};
+ghost use Rattle.rtcm2rinex.specs.FrameLines.{frame_lines};
+ghost use Rattle.rtcm2rinex.specs.ShowLines.{show_lines};
+ghost use Rattle.rtcm2rinex.specs.Listing.{ListsAll};
 
 use crate::cli::program;
 use crate::fault::ToolFault;
@@ -21,6 +24,11 @@ pub fn command<R: Read, W: Write, E: Write>(
 ) -> u8
     ensures status { result ≤ 2 }
 
+    // Good is only a stream that was read to its end and listed.
+    ensures good { result ≡ 0 →
+        ListsAll frame_lines (R.remaining reader.old.inner) (R.remaining reader.new.inner) (W.contents writer.old.inner) (W.contents writer.new.inner)
+        ⊎ ListsAll show_lines (R.remaining reader.old.inner) (R.remaining reader.new.inner) (W.contents writer.old.inner) (W.contents writer.new.inner) }
+
     // Of a command line that isn't accepted nothing comes but its text.
     ensures unread { result ≡ 2 → reader.new ≡ reader.old }
     ensures unwritten { result ≡ 2 → writer.new ≡ writer.old }
@@ -36,7 +44,7 @@ pub fn command<R: Read, W: Write, E: Write>(
     let outcome = match matches.subcommand() {
         Some(("frames", _)) => run_frames(alloc, reader, writer),
         Some(("show", _)) => run_show(alloc, reader, writer),
-        _ => Ok(()),
+        _ => return 2,
     };
     match outcome {
         Ok(()) => 0,
@@ -46,7 +54,7 @@ pub fn command<R: Read, W: Write, E: Write>(
 
 /// Says why the words of the command line can't be had, and answers the exit status: memory ran out, or a word isn't UTF-8.
 pub fn refuse_words<E: Write>(error: &io::Error, faults: &mut E) -> u8
-    ensures { result ≤ 2 }
+    ensures { (1 ≤ result) × (result ≤ 2) }
 {
     if error.kind() == io::ErrorKind::OutOfMemory {
         let _ = faults.write_all(b"rtcm2rinex: Memory\n");
@@ -59,7 +67,7 @@ pub fn refuse_words<E: Write>(error: &io::Error, faults: &mut E) -> u8
 
 /// Says what is wrong with the words, or that memory ran out. A failure of this writer is ignored.
 fn refuse<E: Write>(error: &clap::Error, faults: &mut E) -> u8
-    ensures { result ≤ 2 }
+    ensures { (1 ≤ result) × (result ≤ 2) }
 {
     if error.kind() == ErrorKind::OutOfMemory {
         let _ = faults.write_all(b"rtcm2rinex: Memory\n");

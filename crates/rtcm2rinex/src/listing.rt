@@ -4,7 +4,7 @@ ghost use Rattle.rtcm_bits.specs.Device.{HasFailed, AppendsPrefix};
 ghost use Rattle.rtcm_scan.specs.Frames.{Framed, frames_of};
 ghost use Rattle.rtcm_scan.specs.Decided.{decided_frames};
 ghost use Rattle.rtcm_scan.specs.Drained.{IsDrained};
-ghost use Rattle.rtcm_scan.specs.Known.{IsPrefix, known_frames};
+ghost use Rattle.rtcm_scan.specs.Known.{known_frames};
 ghost use Rattle.rtcm_scan.specs.Scan.{Scan, StandsFor};
 ghost use Rattle.std.specs.Io.KnownBytes.{Appends, IsAtEnd};
 ghost use Rattle.rtcm_scan.specs.Answers.{framed};
@@ -103,7 +103,8 @@ pub fn list<R: Read, W: Write>(
 {
     let mut framer = match Framer::new(alloc, limit) {
         Ok(framer) => framer,
-        Err(fault) => return Err(ToolFault::Scan(fault)),
+        // The limit is good, so that memory is all that can be wanting.
+        Err(_) => return Err(ToolFault::Scan(ScanFault::Memory)),
     };
     list_frames(listing, &mut framer, reader, writer)
 }
@@ -206,7 +207,7 @@ fn list_piece<W: Write>(
         Ok(refusal) => refusal,
         Err(failed) => return Err(failed),
     };
-    stays_handed();
+    laws::prefix();
     match page.write_out(writer) {
         Ok(()) => Ok(refusal),
         Err(failed) => Err(failed),
@@ -235,33 +236,72 @@ fn take_piece<W: Write>(
     ensures limit { framer.new.limit ≡ framer.old.limit }
     ensures ended { framer.new.has_ended ≡ framer.old.has_ended }
 {
-    stays_handed();
-    let mut done = 0;
-    loop {
-        match framer.next() {
-            Some(frame) => match add_line(listing, &frame, page, writer) {
-                Ok(()) => {}
-                Err(failed) => return Err(failed),
-            },
-            None => {
-                if done == piece.len() {
-                    return Ok(None);
-                }
-                match framer.push(piece[done]) {
-                    Ok(()) => done += 1,
-                    Err(fault) => return Ok(Some(fault)),
-                }
-            }
+    laws::prefix();
+    if let Err(failed) = list_decided(listing, framer, page, writer) {
+        return Err(failed);
+    }
+    for byte in piece {
+        if let Err(fault) = framer.push(*byte) {
+            return Ok(Some(fault));
         }
+        if let Err(failed) = list_decided(listing, framer, page, writer) {
+            return Err(failed);
+        }
+    }
+    Ok(None)
+}
+
+/// Puts the lines of the frames that are decided on the page. It runs once for each byte, and so makes room for a frame
+/// only where one stands.
+fn list_decided<W: Write>(
+    listing: Listing,
+    framer: &mut Framer,
+    page: &mut Page,
+    writer: &mut Counted<W>,
+) -> Result<(), DeviceFailed>
+    ensures listed { OnOk result ((w : Option (List ℕ)) (b : List ℕ) (fs : List Framed) → Lists (lines_of listing) w (W.contents writer.old.inner) page.old framer.old b fs
+        → ListsKnown (lines_of listing) w (W.contents writer.new.inner) page.new framer.new b) }
+    ensures part { OnErr result ((w : Option (List ℕ)) (b : List ℕ) (fs : List Framed) → Lists (lines_of listing) w (W.contents writer.old.inner) page.old framer.old b fs
+        → AppendsPrefix w (W.contents writer.new.inner) (lines_of listing (known_frames framer.old.has_ended b))) }
+    ensures failed { OnErr result (HasFailed writer.old.failures writer.new.failures) }
+    ensures fine { OnOk result (writer.new.failures ≡ writer.old.failures) }
+    ensures ready { OnOk result (framer.new.is_ready ≡ true) }
+    ensures limit { framer.new.limit ≡ framer.old.limit }
+    ensures taken { framer.new.taken ≡ framer.old.taken }
+    ensures ended { framer.new.has_ended ≡ framer.old.has_ended }
+{
+    if framer.settle() {
+        list_standing(listing, framer, page, writer)
+    } else {
+        Ok(())
     }
 }
 
-/// The frames that were handed out are the first of those that are known when more bytes have come.
-fn stays_handed()
-    ensures { (v : Scan) (b t : List ℕ) (fs : List Framed) → StandsFor v b fs → (v.has_ended ≡ true → length t ≡ 0) → IsPrefix fs (known_frames v.has_ended (b ++ t)) }
+/// Puts the lines of the frames that stand on the page, one after the other.
+fn list_standing<W: Write>(
+    listing: Listing,
+    framer: &mut Framer,
+    page: &mut Page,
+    writer: &mut Counted<W>,
+) -> Result<(), DeviceFailed>
+    ensures listed { OnOk result ((w : Option (List ℕ)) (b : List ℕ) (fs : List Framed) → Lists (lines_of listing) w (W.contents writer.old.inner) page.old framer.old b fs
+        → ListsKnown (lines_of listing) w (W.contents writer.new.inner) page.new framer.new b) }
+    ensures part { OnErr result ((w : Option (List ℕ)) (b : List ℕ) (fs : List Framed) → Lists (lines_of listing) w (W.contents writer.old.inner) page.old framer.old b fs
+        → AppendsPrefix w (W.contents writer.new.inner) (lines_of listing (known_frames framer.old.has_ended b))) }
+    ensures failed { OnErr result (HasFailed writer.old.failures writer.new.failures) }
+    ensures fine { OnOk result (writer.new.failures ≡ writer.old.failures) }
+    ensures ready { OnOk result (framer.new.is_ready ≡ true) }
+    ensures limit { framer.new.limit ≡ framer.old.limit }
+    ensures taken { framer.new.taken ≡ framer.old.taken }
+    ensures ended { framer.new.has_ended ≡ framer.old.has_ended }
 {
-    laws::handed();
-    laws::prefix();
+    while let Some(frame) = framer.next() {
+        match add_line(listing, &frame, page, writer) {
+            Ok(()) => {}
+            Err(failed) => return Err(failed),
+        }
+    }
+    Ok(())
 }
 
 /// Puts the line of a frame on the page, where it has one.

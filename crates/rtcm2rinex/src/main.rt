@@ -5,6 +5,7 @@ mod cli;
 mod command;
 mod fault;
 mod frames;
+pub mod laws;
 mod line;
 mod listing;
 mod page;

@@ -1,19 +1,17 @@
 -- How far a stream is decided.
-use Rattle.std.proofs.Common.{ℕ, ◌≡◌, ◌+◌, ◌-◌, ◌<◌, ◌≤◌, Bool, true, false, not, cond, ◌&&◌, ◌||◌, ltb, List, [], ◌∷◌, ◌++◌, length, take, drop, get_or, refl, sym, ap, ◌∙◌, arith, suc, zero, ◌⊎◌, ⊎_elim, inl, inr, length-append, sum_by}
-use Rattle.std.specs.List.{filter, list_any, position_or_len, prefix_len}
+use Rattle.std.proofs.Common.{ℕ, ◌≡◌, ◌+◌, ◌-◌, ◌<◌, ◌≤◌, Bool, true, false, not, cond, ◌&&◌, ◌||◌, ltb, List, [], ◌∷◌, ◌++◌, length, drop, get_or, refl, ap, ◌∙◌, arith, suc, zero, ◌⊎◌, ⊎_elim, inl, inr}
+use Rattle.std.specs.List.{filter, list_any}
 use Rattle.std.proofs.lemmas.Bool.{cases_lt, cases_eq, lt-ltb, le-ltb, and_from, and_left, and_right}
-use Rattle.std.proofs.lemmas.List.{length-drop, drop_all, length_push, append-nil, get_or_push, get_or_append_left}
+use Rattle.std.proofs.lemmas.List.{length_push, append-nil, get_or_push, get_or_append_left}
 use Rattle.std.proofs.lemmas.List.Sums.{prefix_len_is}
 use Rattle.std.proofs.lemmas.List.Folds.{list_any-append}
 use Rattle.std.proofs.lemmas.List.Elements.{filter-append}
-use Rattle.rtcm_scan.specs.Frame.{begins_frame, is_open, message_length, frame_length, has_preamble, message_of}
-use Rattle.rtcm_scan.specs.Frames.{Framed, IsFrameOf, end_of, frames_from, frames_of}
+use Rattle.rtcm_scan.specs.Frame.{begins_frame, is_open, frame_length, message_of}
+use Rattle.rtcm_scan.specs.Frames.{Framed, end_of, frames_from, frames_of}
 use Rattle.rtcm_scan.specs.Decided.{places, is_inside, is_tried, decided, frames_before, decided_frames}
-use Rattle.rtcm_scan.specs.Scan.{Scan, StandsFor, first_held, IsPassed, AllPassed, Scanned}
-use Rattle.rtcm_scan.specs.Drained.{IsDrained}
-use Rattle.rtcm_scan.specs.Known.{known_place, known_frames}
+use Rattle.rtcm_scan.specs.Scan.{Scanned}
 use Rattle.rtcm_scan.proofs.FrameLemmas.{begins_parts, closed_whole}
-use Rattle.rtcm_scan.proofs.ScanLemmas.{scanned_le, scanned_frames, scanned_all}
+use Rattle.rtcm_scan.proofs.ScanLemmas.{scanned_le, scanned_frames}
 
 pub length-places : (n : ℕ) → length (places n) ≡ n
 unfolding places
@@ -26,7 +24,7 @@ get_or-places zero k d h = absurd (omega arith)
 get_or-places (suc n) k d h =
     let l : length (places n) ≡ n = length-places n in
     ⊎_elim (λ (e : k ≡ n). rw e (get_or_push (places n) n d n l))
-           (λ (e : k ≡ n → ⊥). let i : k < n = omega arith in get_or_append_left (places n) (n ∷ []) d k (omega arith) ∙ get_or-places n k d i) (cases_eq k n)
+    (λ (e : k ≡ n → ⊥). let i : k < n = omega arith in get_or_append_left (places n) (n ∷ []) d k (omega arith) ∙ get_or-places n k d i) (cases_eq k n)
 
 or_first : (x y : Bool) → x ≡ true → (x || y) ≡ true
 or_first x y h = rw h refl
@@ -40,17 +38,17 @@ pub place_scanned : (b : List ℕ) (from to k : ℕ) (fs : List Framed) → Scan
 place_scanned b from to k [] s h i = inl ((s.1 k h i).closed refl)
 place_scanned b from to k (f ∷ fs) s h i =
     ⊎_elim (λ (l : k < f.offset). inl ((s.1 k h l).closed refl))
-           (λ (g : f.offset ≤ k).
-              ⊎_elim (λ (e : k ≡ f.offset). inl (rw e (closed_whole (drop f.offset b) (begins_parts (drop f.offset b) s.2.begins).1)))
-                     (λ (n : k ≡ f.offset → ⊥).
-                        ⊎_elim (λ (m : k < end_of f). inr (or_first (is_inside k f) (list_any (is_inside k) fs) (and_from _ _ (lt-ltb f.offset k (omega arith)) (lt-ltb k (end_of f) m))))
-                               (λ (m : end_of f ≤ k).
-                                  ⊎_elim (λ (q : is_open (drop k b) ≡ false). inl q)
-                                         (λ (q : list_any (is_inside k) fs ≡ true). inr (or_second (is_inside k f) (list_any (is_inside k) fs) q))
-                                         (place_scanned b (end_of f) to k fs s.3 m i))
-                               (cases_lt k (end_of f)))
-                     (cases_eq k f.offset))
-           (cases_lt k f.offset)
+    (λ (g : f.offset ≤ k).
+    ⊎_elim (λ (e : k ≡ f.offset). inl (rw e (closed_whole (drop f.offset b) (begins_parts (drop f.offset b) s.2.begins).1)))
+    (λ (n : k ≡ f.offset → ⊥).
+    ⊎_elim (λ (m : k < end_of f). inr (or_first (is_inside k f) (list_any (is_inside k) fs) (and_from _ _ (lt-ltb f.offset k (omega arith)) (lt-ltb k (end_of f) m))))
+    (λ (m : end_of f ≤ k).
+    ⊎_elim (λ (q : is_open (drop k b) ≡ false). inl q)
+    (λ (q : list_any (is_inside k) fs ≡ true). inr (or_second (is_inside k f) (list_any (is_inside k) fs) q))
+    (place_scanned b (end_of f) to k fs s.3 m i))
+    (cases_lt k (end_of f)))
+    (cases_eq k f.offset))
+    (cases_lt k f.offset)
 
 -- no frame that was scanned goes past the end
 pub none_past : (e : Bool) (b : List ℕ) (from to : ℕ) (fs : List Framed) → Scanned e b from to fs → list_any (is_inside to) fs ≡ false
@@ -67,8 +65,8 @@ none_later to p (suc k) (x ∷ s) h = none_later to (p + 1) k s (omega arith)
 none_later to p zero (x ∷ s) h =
     let n : (ltb p to && ltb to (p + (length (message_of (x ∷ s)) + 6))) ≡ false = and_left _ _ (le-ltb p to h) in
     elim (begins_frame (x ∷ s)) as (λ v. list_any (is_inside to) (cond v (record { offset = p; message = message_of (x ∷ s) } ∷ frames_from (p + 1) (frame_length (x ∷ s) - 1) s) (frames_from (p + 1) 0 s)) ≡ false) [
-      true ↦ rw n (none_later to (p + 1) (frame_length (x ∷ s) - 1) s (omega arith))
-    | false ↦ none_later to (p + 1) 0 s (omega arith)
+      | true ↦ rw n (none_later to (p + 1) (frame_length (x ∷ s) - 1) s (omega arith))
+      | false ↦ none_later to (p + 1) 0 s (omega arith)
     ]
 
 all_before : (e : Bool) (b : List ℕ) (from to : ℕ) (fs : List Framed) → Scanned e b from to fs → frames_before to fs ≡ fs
@@ -86,8 +84,8 @@ none_before to p (suc k) (x ∷ s) h = none_before to (p + 1) k s (omega arith)
 none_before to p zero (x ∷ s) h =
     let n : ltb p to ≡ false = le-ltb p to h in
     elim (begins_frame (x ∷ s)) as (λ v. filter (λ f. ltb f.offset to) (cond v (record { offset = p; message = message_of (x ∷ s) } ∷ frames_from (p + 1) (frame_length (x ∷ s) - 1) s) (frames_from (p + 1) 0 s)) ≡ []) [
-      true ↦ rw n (none_before to (p + 1) (frame_length (x ∷ s) - 1) s (omega arith))
-    | false ↦ none_before to (p + 1) 0 s (omega arith)
+      | true ↦ rw n (none_before to (p + 1) (frame_length (x ∷ s) - 1) s (omega arith))
+      | false ↦ none_before to (p + 1) 0 s (omega arith)
     ]
 
 -- the frames of b are those scanned and those from there on
@@ -101,20 +99,20 @@ decided_is b to fs h s o =
     let split = frames_split false b to fs h s in
     let l : length (places (length b)) ≡ length b = length-places (length b) in
     prefix_len_is (λ k. not (not (list_any (is_inside k) (frames_of b)) && is_open (drop k b))) (places (length b)) to 0 (omega arith)
-      (λ k i.
-        let g : get_or (places (length b)) k 0 ≡ k = get_or-places (length b) k 0 (omega arith) in
-        rw g (⊎_elim (λ (q : is_open (drop k b) ≡ false). ap not (and_right (not (list_any (is_inside k) (frames_of b))) (is_open (drop k b)) q))
-               (λ (q : list_any (is_inside k) fs ≡ true).
-                  let r : list_any (is_inside k) (frames_of b) ≡ true = ap (list_any (is_inside k)) split ∙ list_any-append (is_inside k) fs (frames_from to 0 (drop to b)) ∙ or_first _ _ q in
-                  rw r refl)
-               (place_scanned b 0 to k fs s (omega arith) i)))
-      (λ i.
-        let g : get_or (places (length b)) to 0 ≡ to = get_or-places (length b) to 0 (omega arith) in
-        let n : list_any (is_inside to) fs ≡ false = none_past false b 0 to fs s in
-        let m : list_any (is_inside to) (frames_from to 0 (drop to b)) ≡ false = none_later to to 0 (drop to b) (omega arith) in
-        let r : list_any (is_inside to) (frames_of b) ≡ false = ap (list_any (is_inside to)) split ∙ list_any-append (is_inside to) fs (frames_from to 0 (drop to b)) ∙ (rw (n, m) refl) in
-        let t : is_open (drop to b) ≡ true = o (omega arith) in
-        rw (g, r, t) refl)
+    (λ k i.
+    let g : get_or (places (length b)) k 0 ≡ k = get_or-places (length b) k 0 (omega arith) in
+    rw g (⊎_elim (λ (q : is_open (drop k b) ≡ false). ap not (and_right (not (list_any (is_inside k) (frames_of b))) (is_open (drop k b)) q))
+    (λ (q : list_any (is_inside k) fs ≡ true).
+    let r : list_any (is_inside k) (frames_of b) ≡ true = ap (list_any (is_inside k)) split ∙ list_any-append (is_inside k) fs (frames_from to 0 (drop to b)) ∙ or_first _ _ q in
+    rw r refl)
+    (place_scanned b 0 to k fs s (omega arith) i)))
+    (λ i.
+    let g : get_or (places (length b)) to 0 ≡ to = get_or-places (length b) to 0 (omega arith) in
+    let n : list_any (is_inside to) fs ≡ false = none_past false b 0 to fs s in
+    let m : list_any (is_inside to) (frames_from to 0 (drop to b)) ≡ false = none_later to to 0 (drop to b) (omega arith) in
+    let r : list_any (is_inside to) (frames_of b) ≡ false = ap (list_any (is_inside to)) split ∙ list_any-append (is_inside to) fs (frames_from to 0 (drop to b)) ∙ (rw (n, m) refl) in
+    let t : is_open (drop to b) ≡ true = o (omega arith) in
+    rw (g, r, t) refl)
 
 pub decided_frames_are : (b : List ℕ) (to : ℕ) (fs : List Framed) → to ≤ length b → Scanned false b 0 to fs → (to < length b → is_open (drop to b) ≡ true) → decided_frames b ≡ fs
 unfolding decided_frames frames_before

@@ -1,5 +1,5 @@
 -- When all is decided that can be.
-use Rattle.std.proofs.Common.{ℕ, ◌≡◌, ◌+◌, ◌-◌, ◌<◌, ◌≤◌, true, false, List, [], length, drop, sym, ap, ◌∙◌, arith, sum_by}
+use Rattle.std.proofs.Common.{ℕ, ◌≡◌, ◌+◌, ◌<◌, ◌≤◌, true, false, List, [], length, drop, sym, ap, ◌∙◌, arith, sum_by}
 use Rattle.std.proofs.lemmas.List.{drop_all}
 use Rattle.rtcm_scan.specs.Frame.{is_open}
 use Rattle.rtcm_scan.specs.Frames.{Framed}

@@ -1,15 +1,14 @@
 -- What a candidate comes to.
-use Rattle.std.proofs.Common.{ℕ, ◌≡◌, ◌+◌, ◌-◌, ◌*◌, ◌%◌, ◌<◌, ◌≤◌, ◌↔◌, min, Bool, true, false, not, cond, eqb, List, [], ◌∷◌, ◌++◌, length, take, drop, get_or, slice_index, refl, sym, ap, ◌∙◌, arith, suc, zero, ◌⊎◌, ⊎_elim, inl, inr, take-append-drop, append_assoc}
-use Rattle.std.proofs.lemmas.Bool.{cases_Bool, cases_lt, cases_eq, true≢false, eqb-true, eqb-false, eq-eqb, ne_eqb}
-use Rattle.std.proofs.lemmas.List.{length-take-le, take_all, take_more}
+use Rattle.std.proofs.Common.{ℕ, ◌≡◌, ◌+◌, ◌*◌, ◌<◌, ◌≤◌, ◌↔◌, Bool, true, false, cond, eqb, List, [], ◌∷◌, ◌++◌, length, take, drop, get_or, slice_index, refl, sym, ap, ◌∙◌, arith, ◌⊎◌, ⊎_elim, inl, inr, take-append-drop, append_assoc}
+use Rattle.std.proofs.lemmas.Bool.{cases_lt, cases_eq, eq-eqb, ne_eqb}
+use Rattle.std.proofs.lemmas.List.{length-take-le, take_more}
 use Rattle.rtcm_bits.specs.Check.{check}
-use Rattle.rtcm_scan.specs.Frame.{begins_frame, is_open, message_length, frame_length, has_preamble, sent_check}
+use Rattle.rtcm_scan.specs.Frame.{message_length, frame_length, has_preamble, sent_check}
 use Rattle.rtcm_scan.specs.declared.candidate.Candidate.{Candidate}
 use Rattle.rtcm_scan.specs.Candidate.{wanted_by, HasTaken}
 use Rattle.rtcm_scan.specs.Pending.{asked}
 use Rattle.rtcm_scan.specs.Answers.{decision, if_missing}
-use Rattle.rtcm_scan.specs.declared.framer.Decision.{Decision}
-use Rattle.rtcm_scan.specs.declared.framer.Decision.TheVariants.{Open, Passed, Found}
+use Rattle.rtcm_scan.specs.declared.framer.Decision.TheVariants.{Passed, Found}
 use Rattle.rtcm_scan.proofs.FrameLemmas.{length_stays, preamble_stays}
 use Rattle.rtcm_scan.proofs.CandidateLemmas.{wanted_stays, wanted_bound}
 use Rattle.rtcm_scan.proofs.DecisionLemmas.{decision_without, decision_short, decision_found, decision_wrong}
@@ -35,13 +34,13 @@ wanted_take s k h e =
     let b = wanted_bound s in
     let p : has_preamble s ≡ has_preamble (take k s) = ap has_preamble (sym t) ∙ preamble_stays (take k s) (drop k s) (omega arith) in
     ⊎_elim
-      (λ (c : (slice_index s 0 ≡ 0xD3) × (wanted_by s ≡ frame_length s)).
-        let f : message_length s ≡ message_length (take k s) = ap message_length (sym t) ∙ length_stays (take k s) (drop k s) (let d : wanted_by s ≡ frame_length s = c.1 in omega arith) in
-        ap (λ q. cond q (frame_length (take k s)) 1) (sym p) ∙ ap (λ n. cond (has_preamble s) (n + 6) 1) (sym f))
-      (λ (c : (slice_index s 0 ≡ 0xD3 → ⊥) × (wanted_by s ≡ 1)).
-        let q : has_preamble s ≡ false = ne_eqb _ _ c.0 in
-        ap (λ q. cond q (frame_length (take k s)) 1) (sym p ∙ q) ∙ sym c.1)
-      (wanted_cases s)
+    (λ (c : (slice_index s 0 ≡ 0xD3) × (wanted_by s ≡ frame_length s)).
+    let f : message_length s ≡ message_length (take k s) = ap message_length (sym t) ∙ length_stays (take k s) (drop k s) (let d : wanted_by s ≡ frame_length s = c.1 in omega arith) in
+    ap (λ q. cond q (frame_length (take k s)) 1) (sym p) ∙ ap (λ n. cond (has_preamble s) (n + 6) 1) (sym f))
+    (λ (c : (slice_index s 0 ≡ 0xD3 → ⊥) × (wanted_by s ≡ 1)).
+    let q : has_preamble s ≡ false = ne_eqb _ _ c.0 in
+    ap (λ q. cond q (frame_length (take k s)) 1) (sym p ∙ q) ∙ sym c.1)
+    (wanted_cases s)
 
 take_three : (s : List ℕ) (n : ℕ) → n + 6 ≤ length s → take (n + 6) s ≡ take (n + 3) s ++ get_or s (n + 3) 0 ∷ get_or s (n + 3 + 1) 0 ∷ get_or s (n + 3 + 2) 0 ∷ []
 take_three s n h =
@@ -69,14 +68,14 @@ pub judge_missing : (c : Candidate) (e : Bool) (s : List ℕ) → 0 < length s �
 judge_missing c e s l t a h =
     let w : c.wanted ≡ wanted_by (take c.count s) = t.wanted in
     ⊎_elim
-      (λ (g : length s < wanted_by s). ⊎_elim
-        (λ (k : (slice_index s 0 ≡ 0xD3) × (wanted_by s ≡ frame_length s)). let d : wanted_by s ≡ frame_length s = k.1 in decision_short e s k.0 (omega arith))
-        (λ (k : (slice_index s 0 ≡ 0xD3 → ⊥) × (wanted_by s ≡ 1)). let d : wanted_by s ≡ 1 = k.1 in absurd (omega arith))
-        (wanted_cases s))
-      (λ (g : wanted_by s ≤ length s).
-        let k : c.count ≡ wanted_by s = omega arith in
-        let x : wanted_by (take c.count s) ≡ wanted_by s = wanted_take s c.count (omega arith) k in absurd (omega arith))
-      (cases_lt (length s) (wanted_by s))
+    (λ (g : length s < wanted_by s). ⊎_elim
+    (λ (k : (slice_index s 0 ≡ 0xD3) × (wanted_by s ≡ frame_length s)). let d : wanted_by s ≡ frame_length s = k.1 in decision_short e s k.0 (omega arith))
+    (λ (k : (slice_index s 0 ≡ 0xD3 → ⊥) × (wanted_by s ≡ 1)). let d : wanted_by s ≡ 1 = k.1 in absurd (omega arith))
+    (wanted_cases s))
+    (λ (g : wanted_by s ≤ length s).
+    let k : c.count ≡ wanted_by s = omega arith in
+    let x : wanted_by (take c.count s) ≡ wanted_by s = wanted_take s c.count (omega arith) k in absurd (omega arith))
+    (cases_lt (length s) (wanted_by s))
 
 -- a candidate that asks for no more
 whole : (c : Candidate) (s : List ℕ) → HasTaken c (take c.count s) → c.count ≡ asked s → (c.count < c.wanted → ⊥) → (c.count ≡ wanted_by s) × (c.wanted ≡ wanted_by s)
@@ -95,13 +94,13 @@ judge_found law c e s b t a h g r =
     let w0 : c.count ≡ wanted_by s = w.0 in
     let w1 : c.wanted ≡ wanted_by s = w.1 in
     ⊎_elim
-      (λ (k : (slice_index s 0 ≡ 0xD3) × (wanted_by s ≡ frame_length s)).
-        let d : wanted_by s ≡ frame_length s = k.1 in
-        let n : c.count ≡ frame_length s = omega arith in
-        let z : check (take (frame_length s) s) ≡ 0 = ap (λ q. check (take q s)) (sym n) ∙ sym t.register ∙ r in
-        ap Found n ∙ decision_found e s k.0 (omega arith) (right_check law s b (omega arith) z))
-      (λ (k : (slice_index s 0 ≡ 0xD3 → ⊥) × (wanted_by s ≡ 1)). let d : wanted_by s ≡ 1 = k.1 in absurd (omega arith))
-      (wanted_cases s)
+    (λ (k : (slice_index s 0 ≡ 0xD3) × (wanted_by s ≡ frame_length s)).
+    let d : wanted_by s ≡ frame_length s = k.1 in
+    let n : c.count ≡ frame_length s = omega arith in
+    let z : check (take (frame_length s) s) ≡ 0 = ap (λ q. check (take q s)) (sym n) ∙ sym t.register ∙ r in
+    ap Found n ∙ decision_found e s k.0 (omega arith) (right_check law s b (omega arith) z))
+    (λ (k : (slice_index s 0 ≡ 0xD3 → ⊥) × (wanted_by s ≡ 1)). let d : wanted_by s ≡ 1 = k.1 in absurd (omega arith))
+    (wanted_cases s)
 
 pub judge_wrong : Residue → (c : Candidate) (e : Bool) (s : List ℕ) → AreBytes s → HasTaken c (take c.count s) → c.count ≡ asked s → (c.count < c.wanted → ⊥) → 1 < c.wanted → (c.register ≡ 0 → ⊥) → Passed ≡ decision e s
 judge_wrong law c e s b t a h g r =
@@ -109,18 +108,18 @@ judge_wrong law c e s b t a h g r =
     let w0 : c.count ≡ wanted_by s = w.0 in
     let w1 : c.wanted ≡ wanted_by s = w.1 in
     ⊎_elim
-      (λ (k : (slice_index s 0 ≡ 0xD3) × (wanted_by s ≡ frame_length s)).
-        let d : wanted_by s ≡ frame_length s = k.1 in
-        let n : c.count ≡ frame_length s = omega arith in
-        decision_wrong e s (omega arith) (λ q. r (t.register ∙ ap (λ q. check (take q s)) n ∙ wrong_check law s b (omega arith) q)))
-      (λ (k : (slice_index s 0 ≡ 0xD3 → ⊥) × (wanted_by s ≡ 1)). let d : wanted_by s ≡ 1 = k.1 in absurd (omega arith))
-      (wanted_cases s)
+    (λ (k : (slice_index s 0 ≡ 0xD3) × (wanted_by s ≡ frame_length s)).
+    let d : wanted_by s ≡ frame_length s = k.1 in
+    let n : c.count ≡ frame_length s = omega arith in
+    decision_wrong e s (omega arith) (λ q. r (t.register ∙ ap (λ q. check (take q s)) n ∙ wrong_check law s b (omega arith) q)))
+    (λ (k : (slice_index s 0 ≡ 0xD3 → ⊥) × (wanted_by s ≡ 1)). let d : wanted_by s ≡ 1 = k.1 in absurd (omega arith))
+    (wanted_cases s)
 
 pub judge_none : (c : Candidate) (e : Bool) (s : List ℕ) → HasTaken c (take c.count s) → c.count ≡ asked s → (c.count < c.wanted → ⊥) → (1 < c.wanted → ⊥) → Passed ≡ decision e s
 judge_none c e s t a h g =
     let w = whole c s t a h in
     let w1 : c.wanted ≡ wanted_by s = w.1 in
     ⊎_elim
-      (λ (k : (slice_index s 0 ≡ 0xD3) × (wanted_by s ≡ frame_length s)). let d : wanted_by s ≡ frame_length s = k.1 in absurd (g (omega arith)))
-      (λ (k : (slice_index s 0 ≡ 0xD3 → ⊥) × (wanted_by s ≡ 1)). decision_without e s k.0)
-      (wanted_cases s)
+    (λ (k : (slice_index s 0 ≡ 0xD3) × (wanted_by s ≡ frame_length s)). let d : wanted_by s ≡ frame_length s = k.1 in absurd (g (omega arith)))
+    (λ (k : (slice_index s 0 ≡ 0xD3 → ⊥) × (wanted_by s ≡ 1)). decision_without e s k.0)
+    (wanted_cases s)

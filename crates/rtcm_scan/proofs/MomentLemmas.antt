@@ -1,12 +1,12 @@
 -- What holds at every moment.
-use Rattle.std.proofs.Common.{ℕ, ◌≡◌, ◌+◌, ◌-◌, ◌*◌, ◌<◌, ◌≤◌, ◌^◌, Bool, true, false, List, [], ◌∷◌, ◌++◌, length, drop, refl, sym, ap, ◌∙◌, arith, suc, zero}
+use Rattle.std.proofs.Common.{ℕ, ◌≡◌, ◌*◌, ◌≤◌, ◌^◌, true, false, List, [], length, refl, arith}
 use Rattle.rtcm_scan.specs.Frames.{Framed, frames_of, frames_from}
 use Rattle.rtcm_bits.specs.Window.{Held, nothing_held}
-use Rattle.rtcm_scan.specs.Scan.{Scan, scan_of, StandsFor, first_held, Scanned}
+use Rattle.rtcm_scan.specs.Scan.{Scan, scan_of, StandsFor, first_held}
 use Rattle.rtcm_scan.specs.Answers.{new_scan}
 use Rattle.rtcm_scan.specs.Decided.{places, tried, decided, decided_frames, frames_before}
 use Rattle.rtcm_scan.specs.Drained.{IsDrained}
-use Rattle.rtcm_scan.specs.Looks.{greatest, spans_now, looks_at, all_looks, spans_at, tried_before, Counts}
+use Rattle.rtcm_scan.specs.Looks.{greatest, spans_now, looks_at, all_looks, spans_at, tried_before}
 use Rattle.rtcm_scan.specs.Examined.{HasExamined, IsCounted}
 use Rattle.rtcm_scan.proofs.BoundLemmas.{looks_bound, all_bound, greatest_bound}
 use Rattle.rtcm_scan.proofs.StandsLemmas.{stands_end, stands_by}
@@ -18,7 +18,7 @@ most_moment v b fs h x =
     let k : v.tried ≤ length v.held = x.tried in
     let e : v.most ≡ greatest (looks_at (spans_at b fs (first_held v) v.tried)) (length b) = x.counts.greatest_is in
     let g : greatest (looks_at (spans_at b fs (first_held v) v.tried)) (length b) ≤ 1030 =
-        greatest_bound (looks_at (spans_at b fs (first_held v) v.tried)) (length b) 1030 (λ i. looks_bound v.has_ended b fs (first_held v) v.tried i s.scanned (omega arith)) in
+    greatest_bound (looks_at (spans_at b fs (first_held v) v.tried)) (length b) 1030 (λ i. looks_bound v.has_ended b fs (first_held v) v.tried i s.scanned (omega arith)) in
     rw e g
 
 pub examined_moment : (v : Scan) (b : List ℕ) (fs : List Framed) → length v.held ≤ 1029 → HasExamined v b fs → v.examined ≤ 1030 * length b
@@ -39,8 +39,14 @@ stands_new limit = stands_by (new_scan limit) [] [] refl refl (omega arith) (sca
 
 counts_empty : (limit : ℕ) → limit ≤ 2 ^ 48 → StandsFor (new_scan limit) [] [] → HasExamined (new_scan limit) [] []
 unfolding tried_before places greatest
-counts_empty limit h s = record { stands = s; limit = h; within = omega arith; each = refl; tried = omega arith;
-    counts = record { each = λ j l. absurd (omega arith); total = refl; greatest_is = refl } }
+counts_empty limit h s = record {
+  stands = s;
+  limit = h;
+  within = omega arith;
+  each = refl;
+  tried = omega arith;
+  counts = record { each = λ j l. absurd (omega arith); total = refl; greatest_is = refl };
+}
 
 pub counts_new : (limit tried : ℕ) (w : Held) → limit ≤ 2 ^ 48 → w ≡ nothing_held → tried ≡ 0 → HasExamined (scan_of limit 0 w false true 0 tried) [] []
 counts_new limit tried w h e z = rw (e, z) (counts_empty limit h (stands_new limit))

@@ -1,5 +1,5 @@
 -- What the steps of `next` leave.
-use Rattle.std.proofs.Common.{ℕ, ◌≡◌, ◌+◌, ◌-◌, ◌<◌, ◌≤◌, Bool, true, false, List, [], ◌∷◌, ◌++◌, length, drop, refl, sym, ap, ◌∙◌, arith, ⊎_elim}
+use Rattle.std.proofs.Common.{ℕ, ◌≡◌, ◌+◌, ◌-◌, ◌<◌, ◌≤◌, true, false, List, [], ◌∷◌, ◌++◌, length, drop, refl, sym, ap, ◌∙◌, arith, ⊎_elim}
 use Rattle.std.proofs.lemmas.Bool.{cases_Bool}
 use Rattle.std.proofs.lemmas.List.{nil_from_length}
 use Rattle.rtcm_scan.specs.Frame.{begins_frame, is_open, frame_length, message_of}
@@ -63,9 +63,9 @@ step_found v w b fs size f g z h o m s =
     let x : f ≡ found v = same_framed f (found v) o m in
     let n = stands_take v b fs h s in
     let d : drop (frame_length v.held) (looked_through (window_of v) 3 (frame_length v.held - 6)).bytes ≡ drop (frame_length v.held) v.held =
-        ap (drop (frame_length v.held)) (looked_bytes (window_of v) 3 (frame_length v.held - 6)) in
+    ap (drop (frame_length v.held)) (looked_bytes (window_of v) 3 (frame_length v.held - 6)) in
     rw (g, z, x) (subst (λ (r : List ℕ). StandsFor (record (frame_taken v (frame_length v.held)) { held = r }) b (fs ++ found v ∷ [])) (sym d)
-      (record { taken = n.taken; held = n.held; fits = n.fits; scanned = n.scanned; first = n.first; skipped = n.skipped }))
+    (record { taken = n.taken; held = n.held; fits = n.fits; scanned = n.scanned; first = n.first; skipped = n.skipped }))
 
 pub left_found : (v w : Scan) (size : ℕ) → w ≡ frame_taken v size → length w.held ≡ length v.held - size
 left_found v w size g = ap (λ (y : Scan). length y.held) g ∙ length-drop size _ ∙ ap (λ q. length q - size) (looked_bytes (window_of v) 3 (size - 6))
@@ -81,9 +81,9 @@ pub counts_found : (v w : Scan) (b : List ℕ) (fs : List Framed) (size : ℕ) (
 counts_found v w b fs size f g z h o m t x =
     let y : f ≡ found v = same_framed f (found v) o m in
     let r : HasExamined (frame_taken v (message_length v.held + 6)) b (fs ++ found v ∷ []) =
-        (let q : message_length v.held ≡ message_length v.held + 6 - 6 = omega arith in
-         subst (λ (k : ℕ). HasExamined (with_window v (without_front (looked_through (window_of v) 3 k) (frame_length v.held)) 0) b (fs ++ found v ∷ [])) q
-           (step_take v b fs h t x)) in
+    (let q : message_length v.held ≡ message_length v.held + 6 - 6 = omega arith in
+    subst (λ (k : ℕ). HasExamined (with_window v (without_front (looked_through (window_of v) 3 k) (frame_length v.held)) 0) b (fs ++ found v ∷ [])) q
+    (step_take v b fs h t x)) in
     let k : frame_taken v (frame_length v.held) ≡ w = sym (rw (g, z) refl) in
     let r' : HasExamined w b (fs ++ found v ∷ []) = subst (λ (y : Scan). HasExamined y b (fs ++ found v ∷ [])) k r in
     let s : StandsFor v b fs = x.stands in
@@ -108,7 +108,7 @@ finish_empty v d w b fs e f h s =
     let n : d.held ≡ [] = nil_from_length d.held (ap (λ (y : Scan). length y.held) e ∙ h) in
     let l : length d.held ≡ 0 = ap length n in
     ⊎_elim (λ (t : d.has_ended ≡ true). finish d w b fs f s' (drained_ended d b fs t n s'))
-           (λ (t : d.has_ended ≡ false). finish d w b fs f s' (drained_waiting d b fs t (λ i. absurd (omega arith)) s')) (cases_Bool d.has_ended)
+    (λ (t : d.has_ended ≡ false). finish d w b fs f s' (drained_waiting d b fs t (λ i. absurd (omega arith)) s')) (cases_Bool d.has_ended)
 
 pub counts_empty : (v d w : Scan) (b : List ℕ) (fs : List Framed) → d ≡ v → w ≡ record d { is_ready = true } → length v.held ≡ 0 → HasExamined v b fs → HasExamined w b fs × IsCounted w b
 counts_empty v d w b fs e f h x = let x' : HasExamined d b fs = rw e x in counts_finish d w b fs f x' (counted_empty d b fs (ap (λ (y : Scan). length y.held) e ∙ h) x')

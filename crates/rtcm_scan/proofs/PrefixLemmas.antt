@@ -1,11 +1,11 @@
 -- What is decided stays so when bytes follow.
-use Rattle.std.proofs.Common.{ℕ, ◌≡◌, ◌+◌, ◌-◌, ◌*◌, ◌<◌, ◌≤◌, Bool, true, false, List, [], ◌∷◌, ◌++◌, length, drop, refl, sym, ap, ◌∙◌, arith, suc, zero, ◌⊎◌, ⊎_elim, inl, inr, length-append}
+use Rattle.std.proofs.Common.{ℕ, ◌≡◌, ◌+◌, ◌-◌, ◌*◌, ◌<◌, ◌≤◌, Bool, true, false, List, [], ◌∷◌, ◌++◌, length, drop, refl, sym, ap, ◌∙◌, arith, suc, zero, ⊎_elim, length-append}
 use Rattle.std.proofs.lemmas.Bool.{cases_Bool, cases_lt}
 use Rattle.rtcm_scan.specs.Frame.{begins_frame, is_open}
 use Rattle.rtcm_scan.specs.Frames.{Framed, IsFrameOf, end_of, frames_of, frames_from, framed_at}
 use Rattle.rtcm_scan.specs.Decided.{decided, decided_frames, frames_before}
 use Rattle.rtcm_scan.specs.Known.{IsPrefix, known_frames}
-use Rattle.rtcm_scan.specs.Scan.{IsPassed, AllPassed, Scanned}
+use Rattle.rtcm_scan.specs.Scan.{AllPassed, Scanned}
 use Rattle.rtcm_scan.proofs.ScanLemmas.{scanned_none, scanned_le, scanned_longer, frame_within}
 use Rattle.rtcm_scan.proofs.DecidedLemmas.{decided_is, decided_frames_are, frames_split}
 use Rattle.rtcm_scan.proofs.LawLemmas.{scanned_prepend, framed_valid, frames_scanned}
@@ -24,18 +24,18 @@ scan_on : (d : ℕ) (b : List ℕ) (from : ℕ) → length b - from ≤ d → fr
 scan_on zero b from k h = record { to = from; frames = []; scanned = scanned_none false b from; within = h; stops = λ l. absurd (omega arith) }
 scan_on (suc d) b from k h = ⊎_elim
     (λ (l : from < length b). ⊎_elim
-      (λ (o : is_open (drop from b) ≡ true). let r : ScannedOn b from = record { to = from; frames = []; scanned = scanned_none false b from; within = h; stops = λ l. o } in r)
-      (λ (o : is_open (drop from b) ≡ false). ⊎_elim
-        (λ (e : begins_frame (drop from b) ≡ true).
-          let v : IsFrameOf b (framed_at b from) = framed_valid b from e in
-          let w : end_of (framed_at b from) ≤ length b = frame_within b (framed_at b from) v in
-          let r : ScannedOn b (end_of (framed_at b from)) = scan_on d b (end_of (framed_at b from)) (omega arith) w in
-          let x : ScannedOn b from = record { to = r.to; frames = framed_at b from ∷ r.frames; scanned = (omega arith, (λ q i j. absurd (omega arith)), v, r.scanned); within = r.within; stops = r.stops } in x)
-        (λ (e : begins_frame (drop from b) ≡ false).
-          let r : ScannedOn b (from + 1) = scan_on d b (from + 1) (omega arith) (omega arith) in
-          let x : ScannedOn b from = record { to = r.to; frames = r.frames; scanned = scanned_prepend false b from r.to r.frames (record { none = e; closed = λ z. o }) r.scanned; within = r.within; stops = r.stops } in x)
-        (cases_Bool (begins_frame (drop from b))))
-      (cases_Bool (is_open (drop from b))))
+    (λ (o : is_open (drop from b) ≡ true). let r : ScannedOn b from = record { to = from; frames = []; scanned = scanned_none false b from; within = h; stops = λ l. o } in r)
+    (λ (o : is_open (drop from b) ≡ false). ⊎_elim
+    (λ (e : begins_frame (drop from b) ≡ true).
+    let v : IsFrameOf b (framed_at b from) = framed_valid b from e in
+    let w : end_of (framed_at b from) ≤ length b = frame_within b (framed_at b from) v in
+    let r : ScannedOn b (end_of (framed_at b from)) = scan_on d b (end_of (framed_at b from)) (omega arith) w in
+    let x : ScannedOn b from = record { to = r.to; frames = framed_at b from ∷ r.frames; scanned = (omega arith, (λ q i j. absurd (omega arith)), v, r.scanned); within = r.within; stops = r.stops } in x)
+    (λ (e : begins_frame (drop from b) ≡ false).
+    let r : ScannedOn b (from + 1) = scan_on d b (from + 1) (omega arith) (omega arith) in
+    let x : ScannedOn b from = record { to = r.to; frames = r.frames; scanned = scanned_prepend false b from r.to r.frames (record { none = e; closed = λ z. o }) r.scanned; within = r.within; stops = r.stops } in x)
+    (cases_Bool (begins_frame (drop from b))))
+    (cases_Bool (is_open (drop from b))))
     (λ (g : length b ≤ from). let r : ScannedOn b from = record { to = from; frames = []; scanned = scanned_none false b from; within = h; stops = λ l. absurd (omega arith) } in r)
     (cases_lt from (length b))
 
@@ -61,10 +61,11 @@ stays_decided b t =
     let j : Scanned false (b ++ t) 0 u.to (r.frames ++ u.frames) = scanned_join false (b ++ t) 0 r.to u.to r.frames u.frames s' u.scanned in
     let d' : decided (b ++ t) ≡ u.to = decided_is (b ++ t) u.to (r.frames ++ u.frames) u.within j u.stops in
     let e' : decided_frames (b ++ t) ≡ r.frames ++ u.frames = decided_frames_are (b ++ t) u.to (r.frames ++ u.frames) u.within j u.stops in
-    let m : r.to ≤ u.to = scanned_le false (b ++ t) r.to u.to u.frames u.scanned in
-    ((u.frames, e' ∙ ap (λ q. q ++ u.frames) (sym e)),
-     (frames_from r.to 0 (drop r.to (b ++ t)), frames_split false (b ++ t) r.to r.frames (omega arith) s' ∙ ap (λ q. q ++ frames_from r.to 0 (drop r.to (b ++ t))) (sym e)),
-     omega arith)
+    let m : r.to ≤ u.to = scanned_le false (b ++ t) r.to u.to u.frames u.scanned in (
+      (u.frames, e' ∙ ap (λ q. q ++ u.frames) (sym e)),
+      (frames_from r.to 0 (drop r.to (b ++ t)), frames_split false (b ++ t) r.to r.frames (omega arith) s' ∙ ap (λ q. q ++ frames_from r.to 0 (drop r.to (b ++ t))) (sym e)),
+      omega arith,
+    )
 
 -- what was scanned begins the decided frames
 scanned_first : (b : List ℕ) (to : ℕ) (fs : List Framed) → to ≤ length b → Scanned false b 0 to fs → IsPrefix fs (decided_frames b)
@@ -86,9 +87,9 @@ decided_near b =
     let w : r.to ≤ length b = r.within in
     let k : length (drop r.to b) ≡ length b - r.to = length-drop r.to b in
     let n : length b ≤ r.to + 1028 = ⊎_elim
-        (λ (l : r.to < length b). let o : length (drop r.to b) < 1029 = open_bound (drop r.to b) (r.stops l) in omega arith)
-        (λ (l : length b ≤ r.to). omega arith)
-        (cases_lt r.to (length b)) in
+    (λ (l : r.to < length b). let o : length (drop r.to b) < 1029 = open_bound (drop r.to b) (r.stops l) in omega arith)
+    (λ (l : length b ≤ r.to). omega arith)
+    (cases_lt r.to (length b)) in
     (omega arith, omega arith)
 
 -- nothing is decided of nothing

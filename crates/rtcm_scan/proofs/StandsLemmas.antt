@@ -1,11 +1,11 @@
 -- What a framer stands for after each of its steps.
-use Rattle.std.proofs.Common.{ℕ, ◌≡◌, ◌+◌, ◌-◌, ◌<◌, ◌≤◌, Bool, true, false, not, cond, List, [], ◌∷◌, ◌++◌, length, take, drop, get_or, refl, sym, ap, ◌∙◌, arith, suc, zero, ◌⊎◌, ⊎_elim, inl, inr, length-append, subst, sum_by}
-use Rattle.std.proofs.lemmas.List.{drop-append-le, length-drop, drop-drop, drop_all, append-nil}
+use Rattle.std.proofs.Common.{ℕ, ◌≡◌, ◌+◌, ◌-◌, ◌<◌, ◌≤◌, Bool, true, false, List, [], ◌∷◌, ◌++◌, length, drop, refl, ap, ◌∙◌, arith, length-append, sum_by}
+use Rattle.std.proofs.lemmas.List.{drop-append-le, length-drop, drop-drop}
 use Rattle.std.proofs.lemmas.List.Sums.{sum_by_push}
-use Rattle.rtcm_scan.specs.Frame.{begins_frame, is_open, message_length, frame_length, has_preamble, message_of}
-use Rattle.rtcm_scan.specs.Frames.{Framed, IsFrameOf, end_of, frames_from, frames_of}
-use Rattle.rtcm_bits.specs.Window.{Held, pushed, without_front, looked_through}
-use Rattle.rtcm_scan.specs.Scan.{Scan, scan_of, window_of, with_window, StandsFor, first_held, IsPassed, AllPassed, Scanned}
+use Rattle.rtcm_scan.specs.Frame.{begins_frame, message_length, frame_length, message_of}
+use Rattle.rtcm_scan.specs.Frames.{Framed, IsFrameOf}
+use Rattle.rtcm_bits.specs.Window.{Held, pushed, without_front}
+use Rattle.rtcm_scan.specs.Scan.{Scan, scan_of, with_window, StandsFor, first_held, IsPassed, Scanned}
 use Rattle.rtcm_scan.proofs.FrameLemmas.{begins_parts, length-message}
 use Rattle.rtcm_scan.proofs.ScanLemmas.{scanned_skip, scanned_frame, scanned_longer, scanned_ended}
 use Rattle.rtcm_scan.proofs.PrefixLemmas.{known_first}
@@ -29,11 +29,11 @@ stands_push v b fs x n s =
     let d : drop (first_held v) (b ++ x ∷ []) ≡ drop (first_held v) b ++ x ∷ [] = drop-append-le (first_held v) b (x ∷ []) (omega arith) in
     let c : Scanned false b 0 (first_held v) fs = (let k = s.scanned in rw n at k) in
     stands_by (record v { taken = v.taken + 1; held = v.held ++ x ∷ []; looks = v.looks ++ 0 ∷ []; is_ready = false }) (b ++ x ∷ []) fs
-      (omega arith)
-      (rw (e, d) (ap (λ h. h ++ x ∷ []) s.held))
-      (omega arith)
-      (rw (n, e) (scanned_longer b (x ∷ []) 0 (first_held v) fs (omega arith) c))
-      (rw e s.skipped)
+    (omega arith)
+    (rw (e, d) (ap (λ h. h ++ x ∷ []) s.held))
+    (omega arith)
+    (rw (n, e) (scanned_longer b (x ∷ []) 0 (first_held v) fs (omega arith) c))
+    (rw e s.skipped)
 
 pub stands_end : (v : Scan) (b : List ℕ) (fs : List Framed) → StandsFor v b fs → StandsFor (record v { has_ended = true }) b fs
 stands_end v b fs s = stands_by (record v { has_ended = true }) b fs s.taken s.held s.fits (scanned_ended v.has_ended b 0 (first_held v) fs s.scanned) s.skipped
@@ -50,11 +50,11 @@ stands_give_up v b fs h p s =
     let k : v.skipped + sum_by size_of fs ≡ first_held v = s.skipped in
     let g : IsPassed v.has_ended (drop (first_held v) b) = (let q = s.held in rw q at p) in
     stands_by (record v { held = drop 1 v.held; skipped = v.skipped + 1 }) b fs
-      s.taken
-      (rw e (ap (drop 1) s.held ∙ drop-drop 1 (first_held v) b))
-      (omega arith)
-      (rw e (scanned_skip v.has_ended b 0 (first_held v) fs s.scanned g))
-      (rw e (omega arith))
+    s.taken
+    (rw e (ap (drop 1) s.held ∙ drop-drop 1 (first_held v) b))
+    (omega arith)
+    (rw e (scanned_skip v.has_ended b 0 (first_held v) fs s.scanned g))
+    (rw e (omega arith))
 
 pub stands_take : (v : Scan) (b : List ℕ) (fs : List Framed) → begins_frame v.held ≡ true → StandsFor v b fs
     → StandsFor (record v { held = drop (frame_length v.held) v.held }) b (fs ++ record { offset = first_held v; message = message_of v.held } ∷ [])
@@ -70,12 +70,12 @@ stands_take v b fs h s =
     let j : sum_by size_of (fs ++ g ∷ []) ≡ sum_by size_of fs + (length (message_of v.held) + 6) = sum_by_push size_of fs g in
     let i : IsFrameOf b g = record { begins = (let q = s.held in rw q at h); message = ap message_of s.held } in
     stands_by (record v { held = drop (frame_length v.held) v.held }) b (fs ++ record { offset = first_held v; message = message_of v.held } ∷ [])
-      s.taken
-      (let x : first_held v + frame_length v.held ≡ v.taken - length (drop (frame_length v.held) v.held) = omega arith in
-        ap (drop (frame_length v.held)) s.held ∙ drop-drop (frame_length v.held) (first_held v) b ∙ ap (λ q. drop q b) x)
-      (omega arith)
-      (rw e (scanned_frame v.has_ended b 0 (first_held v) fs g s.scanned refl i))
-      (rw (e, j) (omega arith))
+    s.taken
+    (let x : first_held v + frame_length v.held ≡ v.taken - length (drop (frame_length v.held) v.held) = omega arith in
+    ap (drop (frame_length v.held)) s.held ∙ drop-drop (frame_length v.held) (first_held v) b ∙ ap (λ q. drop q b) x)
+    (omega arith)
+    (rw e (scanned_frame v.has_ended b 0 (first_held v) fs g s.scanned refl i))
+    (rw (e, j) (omega arith))
 
 -- the framer's view after each change of its window
 pub view_pushed : (v : Scan) (limit place skipped tried : ℕ) (w w' : Held) (ended ready : Bool) (x : ℕ) → scan_of limit place w ended ready skipped tried ≡ v → w' ≡ pushed w x

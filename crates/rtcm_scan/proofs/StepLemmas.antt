@@ -1,25 +1,24 @@
 -- The counts of a framer as it goes on.
-use Rattle.std.proofs.Common.{ℕ, ◌≡◌, ◌+◌, ◌-◌, ◌*◌, ◌<◌, ◌≤◌, ◌^◌, min, max, Bool, true, false, not, cond, ◌&&◌, ltb, leb, List, [], ◌∷◌, ◌++◌, length, map, drop, take, set, get_or, refl, sym, ap, ◌∙◌, arith, suc, zero, ◌⊎◌, ⊎_elim, inl, inr, subst, length-set, length-append, length-drop, lit≤}
+use Rattle.std.proofs.Common.{ℕ, ◌≡◌, ◌+◌, ◌-◌, ◌*◌, ◌<◌, ◌≤◌, ◌^◌, min, max, Bool, true, false, not, cond, ◌&&◌, ltb, leb, List, [], ◌∷◌, ◌++◌, length, map, drop, set, get_or, refl, sym, ap, ◌∙◌, arith, suc, zero, ⊎_elim, subst, length-set, length-append, length-drop}
 use Rattle.std.specs.List.{filter, list_any, AllByRecursion as ByRecursion}
-use Rattle.std.proofs.lemmas.Bool.{cases_Bool, cases_lt, cases_eq, lt-ltb, le-ltb, le-leb, lt-leb, true≢false}
-use Rattle.std.proofs.lemmas.List.{get_or-set_same, append-nil, drop-append-le, map-append}
+use Rattle.std.proofs.lemmas.Bool.{cases_lt, lt-ltb, le-ltb}
+use Rattle.std.proofs.lemmas.List.{get_or-set_same, map-append}
 use Rattle.std.proofs.lemmas.List.Elements.{filter-append}
 use Rattle.rtcm_bits.specs.Window.{Held, looked, looked_through, without_front}
-use Rattle.rtcm_scan.specs.Frame.{begins_frame, is_open, message_length, frame_length, has_preamble, message_of}
-use Rattle.rtcm_scan.specs.Frames.{Framed, IsFrameOf, end_of, frames_of}
-use Rattle.rtcm_scan.specs.Decided.{places, is_inside, is_tried, tried, cost, decided, decided_frames}
-use Rattle.rtcm_scan.specs.Candidate.{wanted_by}
-use Rattle.rtcm_scan.specs.Scan.{Scan, StandsFor, first_held, IsPassed, Scanned, window_of, with_window, with_looks}
+use Rattle.rtcm_scan.specs.Frame.{begins_frame, message_length, frame_length, has_preamble, message_of}
+use Rattle.rtcm_scan.specs.Frames.{Framed, IsFrameOf, end_of}
+use Rattle.rtcm_scan.specs.Decided.{places, is_inside, cost}
+use Rattle.rtcm_scan.specs.Scan.{Scan, StandsFor, first_held, IsPassed, Scanned, window_of, with_window}
 use Rattle.rtcm_scan.specs.Pending.{asked, with_candidate_examined}
-use Rattle.rtcm_scan.specs.Looks.{Span, span, covers, looks_at, all_looks, greatest, examined_spans, tried_before, spans_at, Counts}
+use Rattle.rtcm_scan.specs.Looks.{Span, span, covers, looks_at, all_looks, tried_before, spans_at, Counts}
 use Rattle.rtcm_scan.specs.Examined.{HasExamined}
-use Rattle.rtcm_scan.proofs.LooksLemmas.{one_if, looks_push, all_push, counts_look, counts_push, counts_moved, none_cover, greatest_same}
+use Rattle.rtcm_scan.proofs.LooksLemmas.{one_if, looks_push, all_push, counts_look, counts_push, none_cover, greatest_same}
 use Rattle.rtcm_scan.proofs.TriedLemmas.{counts_skip, counts_frame, looks_frame, all_frame}
 use Rattle.rtcm_scan.proofs.CostLemmas.{spans_longer, cost_within}
 use Rattle.rtcm_scan.proofs.BoundLemmas.{covers_before, looks_bound, all_bound}
 use Rattle.rtcm_scan.proofs.CandidateLemmas.{wanted_bound}
 use Rattle.rtcm_scan.proofs.DecidedLemmas.{none_past}
-use Rattle.rtcm_scan.proofs.ScanLemmas.{scanned_le, scanned_frame, frame_within}
+use Rattle.rtcm_scan.proofs.ScanLemmas.{scanned_le, scanned_frame}
 use Rattle.rtcm_scan.proofs.StandsLemmas.{stands_push, stands_give_up, stands_take}
 use Rattle.rtcm_scan.proofs.FrameLemmas.{begins_parts, length-message}
 
@@ -51,14 +50,15 @@ record Fit (xs : List Span) : Type 0 where
 
 fit_less : (xs : List Span) (q k n : ℕ) → k ≤ n → Fit (xs ++ span q n ∷ []) → Fit (xs ++ span q k ∷ [])
 fit_less xs q k n h f = record {
-    looks = λ i. (let a : looks_at (xs ++ span q k ∷ []) i ≤ looks_at (xs ++ span q n ∷ []) i = looks_more xs q k n i h in le_trans _ _ _ a (f.looks i));
-    all = (let a : all_looks (xs ++ span q k ∷ []) ≡ all_looks xs + k = all_push xs (span q k) in
-           let b : all_looks (xs ++ span q n ∷ []) ≡ all_looks xs + n = all_push xs (span q n) in
-           let c : all_looks (xs ++ span q n ∷ []) ≤ 18446744073709551615 = f.all in le_sum _ _ _ a b c);
-  }
+  looks = λ i. (let a : looks_at (xs ++ span q k ∷ []) i ≤ looks_at (xs ++ span q n ∷ []) i = looks_more xs q k n i h in le_trans _ _ _ a (f.looks i));
+  all = (let a : all_looks (xs ++ span q k ∷ []) ≡ all_looks xs + k = all_push xs (span q k) in
+      let b : all_looks (xs ++ span q n ∷ []) ≡ all_looks xs + n = all_push xs (span q n) in
+      let c : all_looks (xs ++ span q n ∷ []) ≤ 18446744073709551615 = f.all in le_sum _ _ _ a b c);
+}
   where
     le_trans : (a c d : ℕ) → a ≤ c → c ≤ d → a ≤ d
     le_trans a c d h k = omega arith
+
     le_sum : (u v x : ℕ) → u ≡ x + k → v ≡ x + n → v ≤ 18446744073709551615 → u ≤ 18446744073709551615
     le_sum u v x a b c = omega arith
 
@@ -78,7 +78,7 @@ counts_looked : (xs : List Span) (q k p n j : ℕ) (w : Held) → q + k ≡ p + 
     → Counted (xs ++ span q k ∷ []) p n w → Counted (xs ++ span q (k + 1) ∷ []) p n (looked w j)
 counts_looked xs q k p n j w e l h f c =
     let d : Counts (xs ++ span q (k + 1) ∷ []) p n (set w.looks j (get_or w.looks j 0 + 1)) (w.examined + 1) (max w.most (get_or w.looks j 0 + 1)) =
-        counts_look xs q k p n j w.looks w.examined w.most e l h c in
+    counts_look xs q k p n j w.looks w.examined w.most e l h c in
     let g : get_or (set w.looks j (get_or w.looks j 0 + 1)) j 0 ≡ get_or w.looks j 0 + 1 = get_or-set_same w.looks j (get_or w.looks j 0 + 1) 0 l in
     let a : get_or (set w.looks j (get_or w.looks j 0 + 1)) j 0 ≡ looks_at (xs ++ span q (k + 1) ∷ []) (p + j) = d.each j (omega (arith, l, length-set w.looks j (get_or w.looks j 0 + 1))) in
     let b : looks_at (xs ++ span q (k + 1) ∷ []) (p + j) ≤ 65535 = f.looks (p + j) in
@@ -90,6 +90,7 @@ counts_looked xs q k p n j w e l h f c =
   where
     fits : (x y z : ℕ) → y ≡ x → y ≡ z → z ≤ 65535 → min x 65535 ≡ x
     fits x y z a b c = omega arith
+
     fits_all : (x y : ℕ) → x ≡ y → y ≤ 18446744073709551615 → min x 18446744073709551615 ≡ x
     fits_all x y a b = omega arith
 
@@ -104,17 +105,18 @@ counts_through xs q k p n start (suc m) w e l h f c =
     let r : Counted (xs ++ span q (k + m) ∷ []) p n (looked_through w start m) = counts_through xs q k p n start m w e (omega arith) (omega arith) g c in
     let b : length (looked_through w start m).looks ≡ length w.looks = looked_length w start m in
     subst (λ (t : ℕ). Counted (xs ++ span q t ∷ []) p n (looked_through w start (suc m))) z
-      (counts_looked xs q (k + m) p n (start + m) (looked_through w start m) (omega arith) (omega arith) (omega arith) g' r)
+    (counts_looked xs q (k + m) p n (start + m) (looked_through w start m) (omega arith) (omega arith) (omega arith) g' r)
 
 -- at every moment the counts fit
 bound_fits : (e : Bool) (b : List ℕ) (fs : List Framed) (p k : ℕ) → Scanned e b 0 p fs → k ≤ 1029 → p + k ≤ length b → length b ≤ 2 ^ 48 → Fit (spans_at b fs p k)
 bound_fits e b fs p k s h l t = record {
-    looks = λ i. (let r : looks_at (spans_at b fs p k) i ≤ 1030 = looks_bound e b fs p k i s h in small _ r);
-    all = (let r : all_looks (spans_at b fs p k) ≤ 1030 * length b = all_bound e b fs p k (length b) s h l in small_all _ (length b) r t);
-  }
+  looks = λ i. (let r : looks_at (spans_at b fs p k) i ≤ 1030 = looks_bound e b fs p k i s h in small _ r);
+  all = (let r : all_looks (spans_at b fs p k) ≤ 1030 * length b = all_bound e b fs p k (length b) s h l in small_all _ (length b) r t);
+}
   where
     small : (x : ℕ) → x ≤ 1030 → x ≤ 65535
     small x h = omega arith
+
     small_all : (x n : ℕ) → x ≤ 1030 * n → n ≤ 2 ^ 48 → x ≤ 18446744073709551615
     small_all x n h k = omega arith
 
@@ -141,11 +143,12 @@ step_examined v b fs h x =
     let wit : v.taken ≤ v.limit = x.within in
     let k : Fit (spans_at b fs (first_held v) (asked v.held)) = bound_fits v.has_ended b fs (first_held v) (asked v.held) sc a0 (omega arith) (omega arith) in
     let c : Counted (spans_at b fs (first_held v) (v.tried + (asked v.held - v.tried))) (first_held v) (length b) (looked_through (window_of v) v.tried (asked v.held - v.tried)) =
-        counts_through _ (first_held v) v.tried (first_held v) (length b) v.tried (asked v.held - v.tried) (window_of v) refl (omega arith) (omega arith)
-          (subst (λ (q : ℕ). Fit (spans_at b fs (first_held v) q)) (sym n) k) x.counts in
+    counts_through _ (first_held v) v.tried (first_held v) (length b) v.tried (asked v.held - v.tried) (window_of v) refl (omega arith) (omega arith)
+    (subst (λ (q : ℕ). Fit (spans_at b fs (first_held v) q)) (sym n) k) x.counts in
     record {
       stands = record { taken = s.taken; held = s.held; fits = s.fits; scanned = s.scanned; first = s.first; skipped = s.skipped };
-      limit = x.limit; within = x.within;
+      limit = x.limit;
+      within = x.within;
       each = looked_length (window_of v) v.tried (asked v.held - v.tried) ∙ e;
       tried = a1;
       counts = subst (λ (q : ℕ). Counted (spans_at b fs (first_held v) q) (first_held v) (length b) (looked_through (window_of v) v.tried (asked v.held - v.tried))) n c;
@@ -165,12 +168,13 @@ step_give_up v b fs h a p x =
     let y : v.held ≡ drop (first_held v) b = s.held in
     let k : v.tried ≡ cost b (first_held v) = a ∙ ap asked y ∙ sym (cost_asked b (first_held v) (let q = ap length y in omega arith)) in
     let c : Counts (spans_at b fs (first_held v) (cost b (first_held v))) (first_held v) (length b) v.looks v.examined v.most =
-        subst (λ (q : ℕ). Counts (spans_at b fs (first_held v) q) (first_held v) (length b) v.looks v.examined v.most) k x.counts in
+    subst (λ (q : ℕ). Counts (spans_at b fs (first_held v) q) (first_held v) (length b) v.looks v.examined v.most) k x.counts in
     let d : Counts (spans_at b fs (first_held v + 1) 0) (first_held v + 1) (length b) (drop 1 v.looks) v.examined v.most =
-        counts_skip v.has_ended b fs (first_held v) (length b) v.looks v.examined v.most s.scanned (omega arith) c in
+    counts_skip v.has_ended b fs (first_held v) (length b) v.looks v.examined v.most s.scanned (omega arith) c in
     record {
       stands = record { taken = n.taken; held = n.held; fits = n.fits; scanned = n.scanned; first = n.first; skipped = n.skipped };
-      limit = x.limit; within = x.within;
+      limit = x.limit;
+      within = x.within;
       each = length-drop 1 v.looks ∙ ap (λ q. q - 1) g ∙ sym l;
       tried = omega arith;
       counts = subst (λ (q : ℕ). Counts (spans_at b fs q 0) q (length b) (drop 1 v.looks) v.examined v.most) e d;
@@ -179,10 +183,10 @@ step_give_up v b fs h a p x =
 -- spans that look alike
 pub counts_same : (xs ys : List Span) (p n : ℕ) (looks : List ℕ) (all most : ℕ) → ((i : ℕ) → looks_at xs i ≡ looks_at ys i) → all_looks xs ≡ all_looks ys → Counts xs p n looks all most → Counts ys p n looks all most
 counts_same xs ys p n looks all most e t c = record {
-    each = λ j l. c.each j l ∙ e (p + j);
-    total = c.total ∙ t;
-    greatest_is = c.greatest_is ∙ greatest_same (looks_at xs) (looks_at ys) n (λ i l. e i);
-  }
+  each = λ j l. c.each j l ∙ e (p + j);
+  total = c.total ∙ t;
+  greatest_is = c.greatest_is ∙ greatest_same (looks_at xs) (looks_at ys) n (λ i l. e i);
+}
 
 no_covers : (i p : ℕ) → one_if (covers i (span p 0)) ≡ 0
 no_covers i p = ⊎_elim (λ (l : i < p). covers_before i p 0 l) (λ (l : p ≤ i). let y : ltb i (p + 0) ≡ false = le-ltb i (p + 0) (omega arith) in (rw y (none (leb p i)))) (cases_lt i p)
@@ -226,30 +230,30 @@ step_take v b fs h a x =
     let o : list_any (is_inside (first_held v)) fs ≡ false = none_past v.has_ended b 0 (first_held v) fs s.scanned in
     let k : v.tried ≡ cost b (first_held v) = a ∙ ap asked y ∙ sym (cost_asked b (first_held v) (let z = ap length y in omega arith)) in
     let c : Counts (spans_at b fs (first_held v) (cost b (first_held v))) (first_held v) (length b) v.looks v.examined v.most =
-        subst (λ (q : ℕ). Counts (spans_at b fs (first_held v) q) (first_held v) (length b) v.looks v.examined v.most) k x.counts in
+    subst (λ (q : ℕ). Counts (spans_at b fs (first_held v) q) (first_held v) (length b) v.looks v.examined v.most) k x.counts in
     let xs = spans_at b fs (first_held v) (cost b (first_held v)) in
     let c0 : Counted (spans_at b fs (first_held v) (cost b (first_held v)) ++ span (first_held v + 3) 0 ∷ []) (first_held v) (length b) (window_of v) =
-        counts_same xs (xs ++ span (first_held v + 3) 0 ∷ []) (first_held v) (length b) v.looks v.examined v.most (λ j. looks_empty xs (first_held v + 3) j) (all_empty xs (first_held v + 3)) c in
+    counts_same xs (xs ++ span (first_held v + 3) 0 ∷ []) (first_held v) (length b) v.looks v.examined v.most (λ j. looks_empty xs (first_held v + 3) j) (all_empty xs (first_held v + 3)) c in
     let v' : IsFrameOf b g = record { begins = (let r = s.held in rw r at h); message = ap message_of s.held } in
     let sc' : Scanned v.has_ended b 0 (end_of g) (fs ++ g ∷ []) = scanned_frame v.has_ended b 0 (first_held v) fs g sc refl v' in
     let k' : Fit (spans_at b (fs ++ g ∷ []) (end_of g) 0) = bound_fits v.has_ended b (fs ++ g ∷ []) (end_of g) 0 sc' (omega arith) (omega arith) (omega arith) in
     let fit : Fit (spans_at b fs (first_held v) (cost b (first_held v)) ++ span (first_held v + 3) (length g.message) ∷ []) = record {
-        looks = λ j. (let r : looks_at (spans_at b fs (first_held v) (cost b (first_held v)) ++ span (first_held v + 3) (length g.message) ∷ []) j ≡ looks_at (spans_at b (fs ++ g ∷ []) (end_of g) 0) j = looks_frame b fs g j o in
-                 let u : looks_at (spans_at b (fs ++ g ∷ []) (end_of g) 0) j ≤ 65535 = k'.looks j in rw r u);
-        all = (let r : all_looks (spans_at b fs (first_held v) (cost b (first_held v)) ++ span (first_held v + 3) (length g.message) ∷ []) ≡ all_looks (spans_at b (fs ++ g ∷ []) (end_of g) 0) = all_frame b fs g o in
-                 let u : all_looks (spans_at b (fs ++ g ∷ []) (end_of g) 0) ≤ 18446744073709551615 = k'.all in rw r u);
-      } in
+      looks = λ j. (let r : looks_at (spans_at b fs (first_held v) (cost b (first_held v)) ++ span (first_held v + 3) (length g.message) ∷ []) j ≡ looks_at (spans_at b (fs ++ g ∷ []) (end_of g) 0) j = looks_frame b fs g j o in
+          let u : looks_at (spans_at b (fs ++ g ∷ []) (end_of g) 0) j ≤ 65535 = k'.looks j in rw r u);
+      all = (let r : all_looks (spans_at b fs (first_held v) (cost b (first_held v)) ++ span (first_held v + 3) (length g.message) ∷ []) ≡ all_looks (spans_at b (fs ++ g ∷ []) (end_of g) 0) = all_frame b fs g o in
+          let u : all_looks (spans_at b (fs ++ g ∷ []) (end_of g) 0) ≤ 18446744073709551615 = k'.all in rw r u);
+    } in
     let fit' : Fit (spans_at b fs (first_held v) (cost b (first_held v)) ++ span (first_held v + 3) (0 + message_length v.held) ∷ []) =
-        (let z : length g.message ≡ 0 + message_length v.held = omega arith in subst (λ (q : ℕ). Fit (spans_at b fs (first_held v) (cost b (first_held v)) ++ span (first_held v + 3) q ∷ [])) z fit) in
+    (let z : length g.message ≡ 0 + message_length v.held = omega arith in subst (λ (q : ℕ). Fit (spans_at b fs (first_held v) (cost b (first_held v)) ++ span (first_held v + 3) q ∷ [])) z fit) in
     let c1 : Counted (spans_at b fs (first_held v) (cost b (first_held v)) ++ span (first_held v + 3) (0 + message_length v.held) ∷ []) (first_held v) (length b) (looked_through (window_of v) 3 (message_length v.held)) =
-        counts_through xs (first_held v + 3) 0 (first_held v) (length b) 3 (message_length v.held) (window_of v) (omega arith) (omega arith) (omega arith) fit' c0 in
+    counts_through xs (first_held v + 3) 0 (first_held v) (length b) 3 (message_length v.held) (window_of v) (omega arith) (omega arith) (omega arith) fit' c0 in
     let u = looked_through (window_of v) 3 (message_length v.held) in
     let c2 : Counts (spans_at b fs g.offset (cost b g.offset) ++ span (g.offset + 3) (length g.message) ∷ []) g.offset (length b) u.looks u.examined u.most =
-        (let z : 0 + message_length v.held ≡ length g.message = omega arith in
-         subst (λ (q : ℕ). Counts (spans_at b fs (first_held v) (cost b (first_held v)) ++ span (first_held v + 3) q ∷ []) (first_held v) (length b) u.looks u.examined u.most) z c1) in
+    (let z : 0 + message_length v.held ≡ length g.message = omega arith in
+    subst (λ (q : ℕ). Counts (spans_at b fs (first_held v) (cost b (first_held v)) ++ span (first_held v + 3) q ∷ []) (first_held v) (length b) u.looks u.examined u.most) z c1) in
     let j : length u.looks ≡ length v.looks = looked_length (window_of v) 3 (message_length v.held) in
     let c3 : Counts (spans_at b (fs ++ g ∷ []) (end_of g) 0) (end_of g) (length b) (drop (length g.message + 6) u.looks) u.examined u.most =
-        counts_frame v.has_ended b fs g (length b) u.looks u.examined u.most sc (omega arith) c2 in
+    counts_frame v.has_ended b fs g (length b) u.looks u.examined u.most sc (omega arith) c2 in
     let d : drop (length g.message + 6) u.looks ≡ drop (frame_length v.held) u.looks = ap (λ z. drop (z + 6) u.looks) q in
     let bs : drop (frame_length v.held) u.bytes ≡ drop (frame_length v.held) v.held = ap (drop (frame_length v.held)) (looked_bytes (window_of v) 3 (message_length v.held)) in
     let lb : length (drop (frame_length v.held) u.bytes) ≡ length (drop (frame_length v.held) v.held) = ap length bs in
@@ -257,7 +261,8 @@ step_take v b fs h a x =
     record {
       stands = subst (λ (r : List ℕ). StandsFor (record (with_window v (without_front u (frame_length v.held)) 0) { held = r }) b (fs ++ g ∷ [])) (sym bs)
           (record { taken = n.taken; held = n.held; fits = n.fits; scanned = n.scanned; first = n.first; skipped = n.skipped });
-      limit = x.limit; within = x.within;
+      limit = x.limit;
+      within = x.within;
       each = length-drop (frame_length v.held) u.looks ∙ ap (λ z. z - frame_length v.held) (j ∙ i) ∙ sym l ∙ sym lb;
       tried = omega arith;
       counts = subst (λ (q : ℕ). Counts (spans_at b (fs ++ g ∷ []) q 0) q (length b) (drop (frame_length v.held) u.looks) u.examined u.most) e'
@@ -273,9 +278,9 @@ spans_end e b fs p s h t (suc n) l =
     let d : length (drop n b) ≡ length b - n = length-drop n b in
     let c : cost b n ≤ length (drop n b) = cost_within (drop n b) (omega arith) in
     let g : map (λ q. span q (cost b q)) (filter t (places n ++ n ∷ [])) ≡ map (λ q. span q (cost b q)) (filter t (places n)) ++ map (λ q. span q (cost b q)) (filter t (n ∷ [])) =
-        ap (map (λ q. span q (cost b q))) (filter-append t (places n) (n ∷ [])) ∙ map-append (λ q. span q (cost b q)) (filter t (places n)) (filter t (n ∷ [])) in
+    ap (map (λ q. span q (cost b q))) (filter-append t (places n) (n ∷ [])) ∙ map-append (λ q. span q (cost b q)) (filter t (places n)) (filter t (n ∷ [])) in
     subst (ByRecursion (λ (s : Span). s.start + s.size ≤ length b)) (sym g) (rec_append _ _ _ a
-      (elim (t n) as (λ v. ByRecursion (λ (s : Span). s.start + s.size ≤ length b) (map (λ q. span q (cost b q)) (cond v (n ∷ []) []))) [ true ↦ (omega arith, tt) | false ↦ tt ]))
+    (elim (t n) as (λ v. ByRecursion (λ (s : Span). s.start + s.size ≤ length b) (map (λ q. span q (cost b q)) (cond v (n ∷ []) []))) [ true ↦ (omega arith, tt) | false ↦ tt ]))
   where
     rec_append : (P : Span → Type 0) (xs ys : List Span) → ByRecursion P xs → ByRecursion P ys → ByRecursion P (xs ++ ys)
     rec_append P [] ys a c = c
@@ -306,16 +311,17 @@ step_push v b fs x n lt h =
     let ll : length (v.looks ++ 0 ∷ []) ≡ length v.looks + 1 = length-append v.looks (0 ∷ []) in
     let e : first_held v ≡ v.taken + 1 - length (v.held ++ x ∷ []) = omega arith in
     let z : looks_at (spans_at b fs (first_held v) v.tried) (length b) ≡ 0 = none_cover (spans_at b fs (first_held v) v.tried) (length b)
-        (rec_both _ _ _ (rec_both _ _ _ (spans_end false b fs (first_held v) sc (omega arith) (λ q. not (list_any (is_inside q) fs)) (first_held v) (omega arith)) (messages_end false b 0 (first_held v) fs sc (omega arith))) (omega arith, tt)) in
+    (rec_both _ _ _ (rec_both _ _ _ (spans_end false b fs (first_held v) sc (omega arith) (λ q. not (list_any (is_inside q) fs)) (first_held v) (omega arith)) (messages_end false b 0 (first_held v) fs sc (omega arith))) (omega arith, tt)) in
     let c : Counts (spans_at b fs (first_held v) v.tried) (first_held v) (length b + 1) (v.looks ++ 0 ∷ []) v.examined v.most =
-        counts_push (spans_at b fs (first_held v) v.tried) (first_held v) (length b) v.looks v.examined v.most (omega arith) z h.counts in
+    counts_push (spans_at b fs (first_held v) v.tried) (first_held v) (length b) v.looks v.examined v.most (omega arith) z h.counts in
     let w : spans_at (b ++ x ∷ []) fs (first_held v) v.tried ≡ spans_at b fs (first_held v) v.tried = spans_longer b (x ∷ []) (first_held v) v.tried fs (omega arith) sc in
     let d : Counts (spans_at (b ++ x ∷ []) fs (first_held v) v.tried) (first_held v) (length (b ++ x ∷ [])) (v.looks ++ 0 ∷ []) v.examined v.most =
-        subst (λ (q : ℕ). Counts (spans_at (b ++ x ∷ []) fs (first_held v) v.tried) (first_held v) q (v.looks ++ 0 ∷ []) v.examined v.most) (sym m)
-          (subst (λ (q : List Span). Counts q (first_held v) (length b + 1) (v.looks ++ 0 ∷ []) v.examined v.most) (sym w) c) in
+    subst (λ (q : ℕ). Counts (spans_at (b ++ x ∷ []) fs (first_held v) v.tried) (first_held v) q (v.looks ++ 0 ∷ []) v.examined v.most) (sym m)
+    (subst (λ (q : List Span). Counts q (first_held v) (length b + 1) (v.looks ++ 0 ∷ []) v.examined v.most) (sym w) c) in
     record {
       stands = r;
-      limit = h.limit; within = omega arith;
+      limit = h.limit;
+      within = omega arith;
       each = ll ∙ ap (λ q. q + 1) g ∙ sym l;
       tried = omega arith;
       counts = subst (λ (q : ℕ). Counts (spans_at (b ++ x ∷ []) fs q v.tried) q (length (b ++ x ∷ [])) (v.looks ++ 0 ∷ []) v.examined v.most) e d;

@@ -1,5 +1,5 @@
 -- How much of a stream is decided by the bytes that are there.
-use Rattle.std.specs.Prelude.{ℕ, zero, suc, ◌+◌, ◌&&◌, min, not, nat_lt, nat_le, Bool, List, [], ◌∷◌, ◌++◌, length, drop, if◌then◌else◌}
+use Rattle.std.specs.Prelude.{ℕ, zero, suc, ◌&&◌, min, not, nat_lt, nat_le, Bool, List, [], ◌∷◌, ◌++◌, length, drop, if◌then◌else◌}
 use Rattle.std.specs.List.{filter, list_any, position_or_len, count_by}
 use Rattle.rtcm_scan.specs.Frame.{has_preamble, frame_length, is_open}
 use Rattle.rtcm_scan.specs.Frames.{Framed, end_of, frames_of}

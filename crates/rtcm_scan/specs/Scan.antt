@@ -1,5 +1,5 @@
 -- What a contract sees of a framer, and the streams that it stands for.
-use Rattle.std.specs.Prelude.{◌≡◌, ℕ, zero, suc, ◌+◌, ◌-◌, ◌<◌, ◌≤◌, Bool, true, false, List, [], ◌∷◌, length, drop}
+use Rattle.std.specs.Prelude.{◌≡◌, ℕ, ◌+◌, ◌-◌, ◌<◌, ◌≤◌, Bool, false, List, [], ◌∷◌, length, drop}
 use Rattle.std.specs.List.{sum_by}
 use Rattle.rtcm_scan.specs.Frame.{begins_frame, is_open}
 use Rattle.rtcm_scan.specs.Frames.{Framed, IsFrameOf, end_of}
@@ -25,8 +25,18 @@ pub record Scan : Type 0 where
 -- by its parts
 abbrev pub scan_of : ℕ → ℕ → Held → Bool → Bool → ℕ → ℕ → Scan
 scan_of limit place w has_ended is_ready skipped tried =
-    record { limit = limit; taken = place + length w.bytes; held = w.bytes; has_ended = has_ended; is_ready = is_ready; skipped = skipped;
-             tried = tried; looks = w.looks; examined = w.examined; most = w.most }
+    record {
+      limit = limit;
+      taken = place + length w.bytes;
+      held = w.bytes;
+      has_ended = has_ended;
+      is_ready = is_ready;
+      skipped = skipped;
+      tried = tried;
+      looks = w.looks;
+      examined = w.examined;
+      most = w.most;
+    }
 
 -- its window
 abbrev pub window_of : Scan → Held

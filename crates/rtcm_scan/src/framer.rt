@@ -1,27 +1,30 @@
 //! The frames of a stream that comes byte by byte.
-ghost use Rattle.std.specs.Prelude.{◌≡◌, ◌+◌, ◌-◌, ◌*◌, ◌<◌, ◌≤◌, ◌^◌, ℕ, List, [], ◌∷◌, ◌++◌, min, length, slice_index, take, drop, true, false, IsTrue, IfOk, OnOk, OnErr, IfSome, IfNone, OnSome, ◌↔◌};
-ghost use Rattle.rtcm_bits.specs.Check.{check};
-ghost use Rattle.rtcm_scan.specs.Frame.{begins_frame, frame_length, message_length, message_of, sent_check};
+//!
+//! The scan goes from the left: at the first undecided place either a whole frame with a right check stands, which is
+//! handed out and passed over, or none can, and the scan goes on one byte further, or bytes are missing, and it waits.
+//! So a frame inside a damaged frame is found. Each byte of a candidate is looked at once, however the stream is cut.
+ghost use Rattle.std.specs.Prelude.{◌≡◌, ◌+◌, ◌-◌, ◌*◌, ◌<◌, ◌≤◌, ◌^◌, ℕ, List, [], ◌∷◌, ◌++◌, min, length, slice_index, take, true, false, IsTrue, IfOk, OnOk, OnErr, IfSome, IfNone, OnSome, ◌↔◌};
+ghost use Rattle.rtcm_scan.specs.Frame.{begins_frame, frame_length, message_of};
 ghost use Rattle.rtcm_scan.specs.Frames.{Framed};
 ghost use Rattle.rtcm_scan.specs.Scan.{StandsFor, first_held, window_of, with_window};
 ghost use Rattle.rtcm_scan.specs.Candidate.{HasTaken, wanted_by};
 ghost use Rattle.rtcm_scan.specs.Examined.{HasExamined, IsCounted, IsCountedTo};
 ghost use Rattle.rtcm_scan.specs.Pending.{asked, with_candidate_examined};
-ghost use Rattle.rtcm_bits.specs.Window.{looked_through, without_front, pushed};
+ghost use Rattle.rtcm_bits.specs.Window.{looked_through, without_front};
 ghost use Rattle.rtcm_scan.specs.Drained.{IsDrained};
 ghost use Rattle.rtcm_scan.specs.Answers.{framed, push_answer, decision, if_missing, new_scan};
 
-use arrayvec::ArrayVec;
 use crate::candidate::Candidate;
+use arrayvec::ArrayVec;
 use rtcm_bits::{Window, laws};
 use std::alloc::Global;
 use std::marker::Model;
 use thiserror::Error;
 
-/// The most bytes of a stream.
+/// The most bytes of a stream, 2^48.
 pub const MOST_BYTES: u64 = 1 << 48;
 
-/// Why a framer refused.
+/// Why a framer refused. A refused call changes nothing.
 #[derive(Clone, Copy, Debug, PartialEq, Eq, Error)]
 pub enum ScanFault {
     /// No memory for the window.
@@ -38,7 +41,7 @@ pub enum ScanFault {
     Ended,
 }
 
-/// A frame: the place of its first byte, and its message.
+/// A frame: the place of its first byte in the stream, from 0, and its message, without header and check.
 #[derive(Drop)]
 pub struct Frame {
     pub offset: u64,
@@ -56,15 +59,23 @@ enum Decision {
     Found(usize),
 }
 
-/// Takes a stream byte by byte, and hands out its frames.
+/// Takes a stream byte by byte, and hands out its frames. It holds the undecided bytes alone, at most 1,029, in room
+/// that is reserved when it is made.
 #[derive(Drop)]
 pub struct Framer {
+    /// The held bytes.
     window: Window,
+    /// What is known of the candidate at the front of the held bytes. It is kept from one call to the next.
     candidate: Candidate,
+    /// The most bytes that may come.
     limit: u64,
+    /// The place of the first held byte in the stream.
     place: u64,
+    /// How many places before it are in no frame.
     given_up: u64,
+    /// Whether no byte follows.
     ended: bool,
+    /// Whether all is decided that can be.
     drained: bool,
 }
 
@@ -83,7 +94,11 @@ impl Model for Framer {
 }
 
 impl Framer {
-    /// A framer that takes at most so many bytes.
+    /// A framer that takes at most `limit` bytes.
+    ///
+    /// # Errors
+    ///
+    /// `BadLimit` where the limit is above 2^48, else `Memory` where there is no room for the window.
     pub fn new(alloc: Global, limit: u64) -> Result<Framer, ScanFault>
         ensures new { IfOk result (λ f. f ≡ new_scan limit) }
         ensures stands { IfOk result (λ f. StandsFor f [] []) }
@@ -109,14 +124,18 @@ impl Framer {
         }
     }
 
-    /// Whether nothing was taken since all was decided.
+    /// Whether a byte may be pushed: nothing was since `next` last answered None, or since the framer was made.
     pub fn ready(&self) -> bool
         ensures { result ≡ self.now.is_ready }
     {
         self.drained
     }
 
-    /// Takes one more byte.
+    /// Takes one more byte, and looks at none. Then `next` is due until it answers None.
+    ///
+    /// # Errors
+    ///
+    /// `Ended` after `end`, else `TooLong` where as many bytes as the limit were taken.
     pub fn push(&mut self, byte: u8) -> Result<(), ScanFault>
         requires { IsTrue self.old.is_ready }
         ensures answer { result ≡ push_answer self.old }
@@ -139,7 +158,7 @@ impl Framer {
         Ok(())
     }
 
-    /// Says that no byte follows.
+    /// Says that no byte follows: what bytes are missing never comes, and `next` decides all that is left.
     pub fn end(&mut self)
         ensures ended { self.new ≡ record self.old { has_ended = true } }
         ensures stands { (b : List ℕ) (fs : List Framed) → StandsFor self.old b fs → StandsFor self.new b fs }
@@ -148,7 +167,7 @@ impl Framer {
         self.ended = true;
     }
 
-    /// How many bytes it holds.
+    /// How many bytes it holds: those from the first undecided place on, at most 1,028 once `next` answered None.
     pub fn held(&self) -> usize
         ensures value { result ≡ length self.now.held }
         ensures bound { result ≤ 1029 }
@@ -157,7 +176,7 @@ impl Framer {
         self.window.held()
     }
 
-    /// How many bytes it took.
+    /// How many bytes it has taken.
     pub fn taken(&self) -> u64
         ensures value { result ≡ self.now.taken }
         ensures within { (result ≤ self.now.limit) × (self.now.limit ≤ 2 ^ 48) }
@@ -165,14 +184,14 @@ impl Framer {
         self.place + self.window.held() as u64
     }
 
-    /// The bytes given up that are in no frame.
+    /// How many of the decided places are in no frame.
     pub fn skipped(&self) -> u64
         ensures { result ≡ self.now.skipped }
     {
         self.given_up
     }
 
-    /// All looks at bytes so far.
+    /// How often bytes were looked at in all, at most 1,030 times the bytes taken.
     pub fn examined(&self) -> u64
         ensures value { result ≡ self.now.examined }
         ensures bound { (b : List ℕ) (fs : List Framed) → HasExamined self.now b fs → result ≤ 1030 * length b }
@@ -180,7 +199,7 @@ impl Framer {
         self.window.examined()
     }
 
-    /// The greatest number of looks at one byte so far.
+    /// How often a byte was looked at, at most: 1,030.
     pub fn most(&self) -> u16
         ensures value { result ≡ self.now.most }
         ensures bound { (b : List ℕ) (fs : List Framed) → HasExamined self.now b fs → result ≤ 1030 }
@@ -188,7 +207,7 @@ impl Framer {
         self.window.most()
     }
 
-    /// The next frame that the bytes so far decide.
+    /// The next frame that the bytes so far decide, or None where they decide no further one.
     pub fn next(&mut self) -> Option<Frame>
         ensures some { IfSome result (λ f. (b : List ℕ) (fs : List Framed) → StandsFor self.old b fs → StandsFor self.new b (fs ++ framed f ∷ [])) }
         ensures none { IfNone result ((b : List ℕ) (fs : List Framed) → StandsFor self.old b fs → StandsFor self.new b fs × IsDrained self.new b fs) }
@@ -252,6 +271,7 @@ impl Framer {
         None
     }
 
+    /// Examines the candidate at the front, as far as its bytes are there, and judges it.
     fn decide(&mut self) -> Decision
         requires { 0 < length self.old.held }
         ensures examined { self.new ≡ with_candidate_examined self.old }
@@ -262,6 +282,7 @@ impl Framer {
         judge(&self.candidate, self.ended)
     }
 
+    /// Goes on one byte further.
     fn give_up(&mut self)
         requires { 0 < length self.old.held }
         ensures { self.new ≡ record (with_window self.old (without_front (window_of self.old) 1) 0) { skipped = self.old.skipped + 1 } }
@@ -272,6 +293,7 @@ impl Framer {
         self.given_up += 1;
     }
 
+    /// Hands out the frame at the front, and goes on behind it.
     fn take_frame(&mut self, size: usize) -> Frame
         requires begins { begins_frame self.old.held ≡ true }
         requires size { size ≡ frame_length self.old.held }
@@ -288,6 +310,7 @@ impl Framer {
         Frame { offset, message }
     }
 
+    /// Notes that all is decided that can be.
     fn set_drained(&mut self)
         requires { length self.old.held < 1029 }
         ensures { self.new ≡ record self.old { is_ready = true } }

@@ -13,8 +13,7 @@ ghost use Rattle.rtcm_scan.specs.Frames.{Framed, AreFrames, frames_of};
 pub fn frames()
     ensures are { (b : List ℕ) → AreFrames b (frames_of b) }
     ensures only { (b : List ℕ) (fs : List Framed) → AreFrames b fs → fs ≡ frames_of b }
-{
-}
+{}
 
 /// No byte of a stream is looked at more than 1030 times, at its end or before.
 pub fn looks()
@@ -22,20 +21,17 @@ pub fn looks()
     ensures examined { (b : List ℕ) → examined b ≤ 1030 * length b }
     ensures most_now { (b : List ℕ) → most_now b ≤ 1030 }
     ensures examined_now { (b : List ℕ) → examined_now b ≤ 1030 * length b }
-{
-}
+{}
 
 /// Damage stays local: frames that begin far enough behind it are found, whatever their messages hold.
 pub fn local()
     ensures { (junk : List ℕ) (messages : List (List ℕ)) (k : ℕ) → StaysLocal junk messages k }
-{
-}
+{}
 
 /// Frames alone, one behind the other, are found, each where it stands.
 pub fn joined()
     ensures { (messages : List (List ℕ)) → All (λ m. length m ≤ 1023) messages → frames_of (flat_map frame_bytes messages) ≡ placed 0 messages }
-{
-}
+{}
 
 /// What is decided stays so: the decided frames begin those of each longer stream, decided or not.
 /// A stream has at most one frame for each six bytes.
@@ -45,18 +41,15 @@ pub fn prefix()
     ensures place { (b t : List ℕ) → decided b ≤ decided (b ++ t) }
     ensures empty { decided_frames [] ≡ [] }
     ensures few { (b : List ℕ) → 6 * length (frames_of b) ≤ length b }
-{
-}
+{}
 
 /// Fewer bytes are undecided than the longest frame has.
 pub fn undecided()
     ensures within { (b : List ℕ) → decided b ≤ length b }
     ensures near { (b : List ℕ) → length b ≤ decided b + 1028 }
-{
-}
+{}
 
 /// The frames that a framer has handed out are the first of those that are known.
 pub fn handed()
     ensures { (v : Scan) (b : List ℕ) (fs : List Framed) → StandsFor v b fs → IsPrefix fs (known_frames v.has_ended b) }
-{
-}
+{}

@@ -1,4 +1,5 @@
-//! The frames of a stream or a slice.
+//! The frames of RTCM 3 streams (RTCM 10403.3, transport layer): of a stream that comes byte by byte, with exact counts of
+//! how often each byte is looked at, and of a slice.
 #![tactic(auto)]
 
 mod candidate;

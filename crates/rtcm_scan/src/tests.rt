@@ -173,7 +173,10 @@ fn messages_of_four_frames(rt: HostRuntime) {
         if framer.settle() {
             let (offset, message) = *wanted.next().expect(&rt, "no more frames");
             let frame = framer.next().expect(&rt, "a frame");
-            assert_eq!(rt; (frame.offset, frame.message.as_slice()), (offset as u64, message));
+            assert_eq!(rt;
+                (frame.offset, frame.message.as_slice()),
+                (offset as u64, message)
+            );
             let view = frames.next().expect(&rt, "a frame");
             assert_eq!(rt; (view.offset, view.message), (offset, message));
             assert!(rt; framer.next().is_none());
@@ -207,7 +210,10 @@ fn counts_while_bytes_are_missing(rt: HostRuntime) -> Result<(), Fail> {
     let mut framer = Framer::new(rt.alloc(), MOST_BYTES).expect(&rt, "room");
     let mut found = Vec::new(rt.alloc());
     assert!(rt; feed(&mut framer, &LATE_FRAME, &mut found)?);
-    assert_eq!(rt; (framer.examined(), framer.most(), framer.skipped()), (7, 1, 0));
+    assert_eq!(rt;
+        (framer.examined(), framer.most(), framer.skipped()),
+        (7, 1, 0)
+    );
     Ok(())
 }
 
@@ -219,7 +225,10 @@ fn preambles_alone(rt: HostRuntime) -> Result<(), Fail> {
         assert!(rt; feed(&mut framer, &[0xD3; 10], &mut found)?);
     }
     let got = finish(&mut framer, &mut found)?;
-    assert_eq!(rt; (got.frames, got.skipped, got.examined, got.most), (0, 2_000, 1_485_380, 985));
+    assert_eq!(rt;
+        (got.frames, got.skipped, got.examined, got.most),
+        (0, 2_000, 1_485_380, 985)
+    );
     Ok(())
 }
 
@@ -277,7 +286,9 @@ fn slowly(alloc: std::alloc::Global, bytes: &[u8]) -> Result<Slow, AllocError> {
             next = place.saturating_add(claim);
         }
     }
-    let examined = looks.iter().fold(0u64, |all, look| all.saturating_add(u64::from(*look)));
+    let examined = looks
+        .iter()
+        .fold(0u64, |all, look| all.saturating_add(u64::from(*look)));
     let most = looks.iter().fold(0u16, |most, look| most.max(*look));
     Ok(Slow {
         frames,
@@ -301,23 +312,31 @@ fn agrees(alloc: std::alloc::Global, bytes: &[u8]) -> Result<bool, AllocError> {
     for view in Frames::new(bytes) {
         views.push((view.offset as u64, view.message.len()))?;
     }
-    Ok(found.as_slice() == want.frames.as_slice()
-        && views.as_slice() == want.frames.as_slice()
-        && (got.examined, got.most) == (want.examined, want.most))
+    Ok(
+        found.as_slice() == want.frames.as_slice()
+            && views.as_slice() == want.frames.as_slice()
+            && (got.examined, got.most) == (want.examined, want.most),
+    )
 }
 
 #[test]
 fn cut_and_damaged_streams(rt: HostRuntime) -> Result<(), Fail> {
     for from in [0, 25, 52, 94] {
         for to in from..=FOUR_FRAMES.len() {
-            assert!(rt; agrees(rt.alloc(), &FOUR_FRAMES[from..to])?, "from {from} to {to}");
+            assert!(rt;
+                agrees(rt.alloc(), &FOUR_FRAMES[from..to])?,
+                "from {from} to {to}"
+            );
         }
     }
     for place in 0..FOUR_FRAMES.len() {
         let mut damaged = FOUR_FRAMES;
         damaged[place] = !damaged[place];
         assert!(rt; agrees(rt.alloc(), &damaged)?, "damaged at {place}");
-        assert!(rt; agrees(rt.alloc(), &damaged[52..94])?, "third frame, damaged at {place}");
+        assert!(rt;
+            agrees(rt.alloc(), &damaged[52..94])?,
+            "third frame, damaged at {place}"
+        );
     }
     Ok(())
 }

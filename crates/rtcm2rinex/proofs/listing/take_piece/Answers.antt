@@ -1,67 +1,65 @@
-use Rattle.std.proofs.Common.{◌≡◌, ◌++◌, ◌∷◌, [], ◌∙◌, refl, sym, ap, subst, ◌+◌, ◌-◌, ◌≤◌, ◌<◌, arith, ℕ, List, length, take, slice_index}
-use Rattle.rtcm_scan.specs.Answers.{framed}
-use Rattle.rtcm_scan.specs.Scan.{StandsFor}
-use Rattle.rtcm2rinex.specs.Kinds.{line_of}
-use Rattle.rtcm2rinex.proofs.ListedLemmas.{list_frame, list_same, list_drained, piece_part, take_both, take_next}
+use Rattle.std.proofs.Common.{◌≡◌, ◌++◌, ◌∷◌, [], ◌∙◌, sym, ap, subst, ◌+◌, ◌-◌, ◌≤◌, ◌<◌, arith, append-nil, take_all, Bool, ℕ, List, length, take}
+use Rattle.rtcm_bits.specs.Device.{AppendsPrefix}
+use Rattle.rtcm_scan.specs.Frames.{Framed}
+use Rattle.rtcm_scan.specs.Scan.{Scan}
+use Rattle.rtcm_scan.specs.Known.{known_frames}
+use Rattle.rtcm2rinex.specs.Listed.{ListsKnown}
+use Rattle.rtcm2rinex.specs.Kinds.{lines_of}
+use Rattle.rtcm2rinex.proofs.ListedLemmas.{list_pushed, piece_part}
 use Rattle.rtcm2rinex.proofs.listing.take_piece.Goals as goal
-
-pub loop-frame-preserved-in-Ok : goal.loop-frame-preserved-in-Ok
-loop-frame-preserved-in-Ok g c =
-    let contents = g.W.Write.contents in
-    let kept = c.loop-frame.invariant in
-    let piece : List ℕ = c.args.piece.now in
-    let done : ℕ = c.loop-frame.done in
-    record {
-      lists = λ w b fs s. (let l = kept.lists w b fs s in (
-        l.0 ++ framed c.in-Some.frame ∷ [],
-        list_frame c.args.listing w (contents c.loop-frame.writer.inner) (contents c.add_line.new.writer.inner) c.loop-frame.page c.add_line.new.page (line_of c.args.listing (framed c.in-Some.frame)) c.loop-frame.framer c.next.new.self
-            (b ++ take done piece) l.0 (framed c.in-Some.frame) refl c.in-Ok.ensures.moves (c.in-Some.ensures.some (b ++ take done piece) l.0 l.1.framer) l.1,
-      ));
-      done = kept.done;
-      taken = c.in-Some.ensures.taken ∙ kept.taken;
-      within = omega (arith, c.in-Some.ensures.taken, kept.within);
-      limit = c.in-Some.ensures.limit ∙ kept.limit;
-      ended = c.in-Some.ensures.ended ∙ kept.ended;
-      fine = c.in-Ok.ensures.fine ∙ kept.fine;
-    }
 
 pub returns-in-Err-clause-part : goal.returns-in-Err-clause-part
 returns-in-Err-clause-part g c = λ w b fs s.
-    let contents = g.W.Write.contents in
-    let l = c.loop-frame.invariant.lists w b fs s in
-    piece_part c.args.listing w (contents c.loop-frame.writer.inner) (contents c.add_line.new.writer.inner) c.loop-frame.page c.loop-frame.framer c.args.framer.now.has_ended b c.args.piece.now c.loop-frame.done l.0
-    c.stays_handed.ensures c.loop-frame.invariant.ended c.requires.going c.in-Err.ensures.part l.1
+    let after = g.W.Write.contents c.list_decided.new.writer.inner in
+    let e : Bool = c.args.framer.now.has_ended in
+    let part : AppendsPrefix w after (lines_of c.args.listing (known_frames e (b ++ []))) =
+    subst (λ (l : List ℕ). AppendsPrefix w after (lines_of c.args.listing (known_frames e l))) (sym (append-nil b)) (c.in-Err.ensures.part w b fs s) in
+    piece_part c.args.listing w after e b c.args.piece.now 0 c.prefix.ensures.decided c.requires.going part
 
-pub returns-then-done-piece-clause-listed : goal.returns-then-done-piece-clause-listed
-returns-then-done-piece-clause-listed g c = λ w b fs s.
+pub returns-in-Err-list_decided-clause-part : goal.returns-in-Err-list_decided-clause-part
+returns-in-Err-list_decided-clause-part g c = λ w b fs s.
     let contents = g.W.Write.contents in
-    let kept = c.loop-frame.invariant in
-    let l = kept.lists w b fs s in
+    let after = contents c.list_decided-in-loop-byte.new.writer.inner in
+    let kept = c.loop-byte.invariant in
     let piece : List ℕ = c.args.piece.now in
-    let done : ℕ = c.loop-frame.done in
-    let n = c.in-None.ensures.none (b ++ take done piece) l.0 l.1.framer in
-    list_drained c.args.listing w (contents c.loop-frame.writer.inner) c.loop-frame.page c.loop-frame.framer c.next.new.self b piece done (c.args.framer.now.limit - c.args.framer.now.taken) l.0
-    (take_both piece done (c.args.framer.now.limit - c.args.framer.now.taken) c.if-done-piece.true (omega (arith, kept.within, kept.taken))) n.0 n.1 l.1
+    let n : ℕ = c.loop-byte.byte-index in
+    let e : Bool = c.args.framer.now.has_ended in
+    let before : List Framed = known_frames c.loop-byte.framer.has_ended (b ++ take n piece) in
+    let pushed = list_pushed c.args.listing w (contents c.loop-byte.writer.inner) c.loop-byte.page c.loop-byte.framer c.push.new.self b piece n c.loop-byte-test.true c.in_default-push.ensures.stands
+    (kept.listed w b fs s) in
+    let part : AppendsPrefix w after (lines_of c.args.listing (known_frames e (b ++ take (n + 1) piece))) =
+    subst (λ (x : Bool). AppendsPrefix w after (lines_of c.args.listing (known_frames x (b ++ take (n + 1) piece)))) (c.in_default-push.ensures.same.1 ∙ kept.ended)
+    (c.in-Err-list_decided.ensures.part w (b ++ take (n + 1) piece) before pushed) in
+    piece_part c.args.listing w after e b piece (n + 1) c.prefix.ensures.decided c.requires.going part
 
-pub loop-frame-preserved : goal.loop-frame-preserved
-loop-frame-preserved g c =
+pub loop-byte-preserved : goal.loop-byte-preserved
+loop-byte-preserved g c =
     let contents = g.W.Write.contents in
-    let kept = c.loop-frame.invariant in
+    let kept = c.loop-byte.invariant in
     let piece : List ℕ = c.args.piece.now in
-    let done : ℕ = c.loop-frame.done in
-    let left : done < length piece = omega (arith, kept.done, c.if-done-piece.false) in
-    let same = c.in-Ok-push.ensures.same in
-    let taken : c.push.new.self.taken ≡ c.next.new.self.taken + 1 = ap (λ v. v.taken) c.in-Ok-push.ensures.ok in
+    let n : ℕ = c.loop-byte.byte-index in
+    let same = c.in_default-push.ensures.same in
+    let end = c.in_default-list_decided.ensures in
+    let taken : c.push.new.self.taken ≡ c.loop-byte.framer.taken + 1 = ap (λ (v : Scan). v.taken) c.in_default-push.ensures.ok in
     record {
-      lists = λ w b fs s. (let l = kept.lists w b fs s in
-          let n = c.in-None.ensures.none (b ++ take done piece) l.0 l.1.framer in
-          let p : StandsFor c.push.new.self (b ++ take (done + 1) piece) l.0 =
-          subst (λ (x : List ℕ). StandsFor c.push.new.self x l.0) (take_next b piece done left) (c.in-Ok-push.ensures.stands (b ++ take done piece) l.0 n.0) in
-          (l.0, list_same c.args.listing w (contents c.loop-frame.writer.inner) c.loop-frame.page c.loop-frame.framer c.push.new.self (b ++ take done piece) (b ++ take (done + 1) piece) l.0 p l.1));
-      done = omega (arith, left);
-      taken = omega (arith, taken, c.in-None.ensures.taken, kept.taken);
-      within = omega (arith, c.in-Ok-push.ensures.within, same.0, c.in-None.ensures.limit, kept.limit);
-      limit = same.0 ∙ c.in-None.ensures.limit ∙ kept.limit;
-      ended = same.1 ∙ c.in-None.ensures.ended ∙ kept.ended;
-      fine = kept.fine;
+      listed = λ w b fs s. end.listed w (b ++ take (n + 1) piece) (known_frames c.loop-byte.framer.has_ended (b ++ take n piece))
+          (list_pushed c.args.listing w (contents c.loop-byte.writer.inner) c.loop-byte.page c.loop-byte.framer c.push.new.self b piece n c.loop-byte-test.true c.in_default-push.ensures.stands (kept.listed w b fs s));
+      ready = end.ready;
+      taken = omega (arith, taken, end.taken, kept.taken);
+      within = omega (arith, end.taken, c.in_default-push.ensures.within, same.0, kept.limit);
+      limit = end.limit ∙ same.0 ∙ kept.limit;
+      ended = end.ended ∙ same.1 ∙ kept.ended;
+      fine = end.fine ∙ kept.fine;
     }
+
+pub returns-clause-listed : goal.returns-clause-listed
+returns-clause-listed g c = λ w b fs s.
+    let kept = c.loop-byte.invariant in
+    let piece : List ℕ = c.args.piece.now in
+    let n : ℕ = c.loop-byte.byte-index in
+    let m : ℕ = c.args.framer.now.limit - c.args.framer.now.taken in
+    let all : length piece ≤ n = omega (arith, c.loop-byte-test.false) in
+    let end : n ≤ length piece = omega (arith, c.loop-byte.auto.byte-index-end) in
+    let few : length piece ≤ m = omega (arith, kept.taken, kept.within, all, end) in
+    let same : take n piece ≡ take m piece = take_all n piece all ∙ sym (take_all m piece few) in
+    subst (λ (l : List ℕ). ListsKnown (lines_of c.args.listing) w (g.W.Write.contents c.loop-byte.writer.inner) c.loop-byte.page c.loop-byte.framer (b ++ l)) same (kept.listed w b fs s)

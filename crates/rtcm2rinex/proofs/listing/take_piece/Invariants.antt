@@ -1,22 +1,19 @@
-use Rattle.std.proofs.Common.{◌≡◌, ◌+◌, ◌-◌, ◌*◌, ◌≤◌, ◌++◌, List, ℕ, Option, length, take}
+use Rattle.std.proofs.Common.{◌≡◌, ◌+◌, ◌≤◌, ◌++◌, List, ℕ, Option, true, take}
 use Rattle.rtcm_scan.specs.Frames.{Framed}
-use Rattle.rtcm2rinex.specs.Listed.{Lists}
+use Rattle.rtcm2rinex.specs.Listed.{Lists, ListsKnown}
 use Rattle.rtcm2rinex.specs.Kinds.{lines_of}
 use Rattle.rtcm2rinex.proofs.listing.take_piece.Given as goal
 
-abbrev pub invariant-loop-frame : goal.invariant-loop-frame
-invariant-loop-frame g l =
+abbrev pub invariant-loop-byte : goal.invariant-loop-byte
+invariant-loop-byte g l =
     let contents = g.W.Write.contents in
     record {
-      lists : (w : Option (List ℕ)) (b : List ℕ) (fs : List Framed) → Lists (lines_of l.listing) w (contents l.fn.writer.inner) l.fn.page l.fn.framer b fs
-          → (gs : List Framed) × Lists (lines_of l.listing) w (contents l.writer.inner) l.page l.framer (b ++ take l.done l.piece) gs;
-      done : l.done ≤ length l.piece;
-      taken : l.framer.taken ≡ l.fn.framer.taken + l.done;
+      listed : (w : Option (List ℕ)) (b : List ℕ) (fs : List Framed) → Lists (lines_of l.listing) w (contents l.fn.writer.inner) l.fn.page l.fn.framer b fs
+          → ListsKnown (lines_of l.listing) w (contents l.writer.inner) l.page l.framer (b ++ take l.byte-index l.piece);
+      ready : l.framer.is_ready ≡ true;
+      taken : l.framer.taken ≡ l.fn.framer.taken + l.byte-index;
       within : l.framer.taken ≤ l.fn.framer.limit;
       limit : l.framer.limit ≡ l.fn.framer.limit;
       ended : l.framer.has_ended ≡ l.fn.framer.has_ended;
       fine : l.writer.failures ≡ l.fn.writer.failures;
     }
-
-abbrev pub decreases-loop-frame : goal.decreases-loop-frame
-decreases-loop-frame g l = 2 * (length l.piece - l.done) + length l.framer.held

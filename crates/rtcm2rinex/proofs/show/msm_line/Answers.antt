@@ -10,9 +10,9 @@ pub returns : goal.returns
 unfolding msm_line
 returns g c =
     let m = c.args.msm.now in
-    let h = c.header-header.ensures in
+    let h = c.header-header.ensures.value in
     let first = c.starting_with-line.ensures.text in
-    let number = add_word c.add_number.ensures.text first (ap decimal (c.from.ensures ∙ c.number.ensures)) in
+    let number = add_word c.add_number.ensures.text first (ap decimal (c.from.ensures ∙ c.number.ensures.value)) in
     let station = add_word c.add_number-2.ensures.text number (ap decimal (c.from-2.ensures ∙ ap (λ (x : MsmHeader). x.station) h)) in
     let time = add_word c.add_number-3.ensures.text station (ap decimal (c.from-3.ensures ∙ ap (λ (x : MsmHeader). x.time) h)) in
     let more = add_word c.add_number-4.ensures.text time (ap decimal (c.from-4.ensures ∙ ap (λ (x : MsmHeader). bit x.more) h)) in

@@ -1,4 +1,4 @@
-use Rattle.std.proofs.Common.{◌≡◌, ◌-◌, ◌<◌, sym, ap, ◌∙◌, length, arith, length-drop}
+use Rattle.std.proofs.Common.{◌≡◌, ◌-◌, ◌<◌, ap, ◌∙◌, length, arith, length-drop}
 use Rattle.rtcm_scan.specs.Scan.{Scan}
 use Rattle.rtcm_scan.proofs.DecisionLemmas.{from_found, from_passed, from_open, open_bound}
 use Rattle.rtcm_scan.proofs.NextLemmas.{step_passed, counts_passed, found_begins, found_stands, found_counts, finish_empty, finish_open, counts_empty, counts_open}
@@ -10,9 +10,9 @@ loop-self-preserved c =
     let h : 0 < length c.loop-self.self.held = omega (arith, c.held.ensures.value, c.loop-self-test.true) in
     record {
       stands = λ b fs s. step_passed c.loop-self.self c.decide.new.self c.give_up.new.self b fs c.in-Passed.ensures.examined c.give_up.ensures h
-        (from_passed c.loop-self.self.has_ended c.loop-self.self.held c.in-Passed.ensures.decision) (c.loop-self.invariant.stands b fs s);
+          (from_passed c.loop-self.self.has_ended c.loop-self.self.held c.in-Passed.ensures.decision) (c.loop-self.invariant.stands b fs s);
       counts = λ b fs s. counts_passed c.loop-self.self c.decide.new.self c.give_up.new.self b fs c.in-Passed.ensures.examined c.give_up.ensures h
-        (from_passed c.loop-self.self.has_ended c.loop-self.self.held c.in-Passed.ensures.decision) c.in-Passed.ensures.tried (c.loop-self.invariant.counts b fs s);
+          (from_passed c.loop-self.self.has_ended c.loop-self.self.held c.in-Passed.ensures.decision) c.in-Passed.ensures.tried (c.loop-self.invariant.counts b fs s);
       limit = ap (λ (y : Scan). y.limit) c.give_up.ensures ∙ ap (λ (y : Scan). y.limit) c.in-Passed.ensures.examined ∙ c.loop-self.invariant.limit;
       taken = ap (λ (y : Scan). y.taken) c.give_up.ensures ∙ ap (λ (y : Scan). y.taken) c.in-Passed.ensures.examined ∙ c.loop-self.invariant.taken;
       ended = ap (λ (y : Scan). y.has_ended) c.give_up.ensures ∙ ap (λ (y : Scan). y.has_ended) c.in-Passed.ensures.examined ∙ c.loop-self.invariant.ended;
@@ -32,43 +32,43 @@ returns-in-Found-clause-counts c = λ b fs s. found_counts c.loop-self.self c.de
 
 pub set_drained-requires : goal.set_drained-requires
 set_drained-requires c = elim c.loop-self-test.branch [
-    else-loop-self-test w ↦ (let e : length c.loop-self-test.self.held ≡ length c.loop-self.self.held = ap (λ (y : Scan). length y.held) w.self-is in
-        omega (arith, e, c.held.ensures.value, w.loop-self-test.false))
+  | else-loop-self-test w ↦ (let e : length c.loop-self-test.self.held ≡ length c.loop-self.self.held = ap (λ (y : Scan). length y.held) w.self-is in
+      omega (arith, e, c.held.ensures.value, w.loop-self-test.false))
   | then-loop-self-test+in-Open w ↦ (let e : length c.loop-self-test.self.held ≡ length c.loop-self.self.held = ap (λ (y : Scan). length y.held) (w.self-is ∙ w.in-Open.ensures.examined) in
-        let o = from_open c.loop-self.self.has_ended c.loop-self.self.held w.in-Open.ensures.decision in
-        let l : length c.loop-self.self.held < 1029 = open_bound c.loop-self.self.held o.1 in omega (arith, e, l))
-  ]
+      let o = from_open c.loop-self.self.has_ended c.loop-self.self.held w.in-Open.ensures.decision in
+      let l : length c.loop-self.self.held < 1029 = open_bound c.loop-self.self.held o.1 in omega (arith, e, l))
+]
 
 pub returns-clause-stands : goal.returns-clause-stands
 returns-clause-stands c = λ b fs s. elim c.loop-self-test.branch [
-    else-loop-self-test w ↦ (finish_empty c.loop-self.self c.loop-self-test.self c.set_drained.new.self b fs w.self-is c.set_drained.ensures
-        (omega (arith, c.held.ensures.value, w.loop-self-test.false)) (c.loop-self.invariant.stands b fs s)).0
+  | else-loop-self-test w ↦ (finish_empty c.loop-self.self c.loop-self-test.self c.set_drained.new.self b fs w.self-is c.set_drained.ensures
+      (omega (arith, c.held.ensures.value, w.loop-self-test.false)) (c.loop-self.invariant.stands b fs s)).0
   | then-loop-self-test+in-Open w ↦ (let o = from_open c.loop-self.self.has_ended c.loop-self.self.held w.in-Open.ensures.decision in
       (finish_open c.loop-self.self w.decide.new.self c.loop-self-test.self c.set_drained.new.self b fs w.in-Open.ensures.examined w.self-is c.set_drained.ensures o.2 o.1 (c.loop-self.invariant.stands b fs s)).0)
-  ]
+]
 
 pub returns-clause-none : goal.returns-clause-none
 returns-clause-none c = λ b fs s. elim c.loop-self-test.branch [
-    else-loop-self-test w ↦ (finish_empty c.loop-self.self c.loop-self-test.self c.set_drained.new.self b fs w.self-is c.set_drained.ensures
-        (omega (arith, c.held.ensures.value, w.loop-self-test.false)) (c.loop-self.invariant.stands b fs s)).1
+  | else-loop-self-test w ↦ (finish_empty c.loop-self.self c.loop-self-test.self c.set_drained.new.self b fs w.self-is c.set_drained.ensures
+      (omega (arith, c.held.ensures.value, w.loop-self-test.false)) (c.loop-self.invariant.stands b fs s)).1
   | then-loop-self-test+in-Open w ↦ (let o = from_open c.loop-self.self.has_ended c.loop-self.self.held w.in-Open.ensures.decision in
       (finish_open c.loop-self.self w.decide.new.self c.loop-self-test.self c.set_drained.new.self b fs w.in-Open.ensures.examined w.self-is c.set_drained.ensures o.2 o.1 (c.loop-self.invariant.stands b fs s)).1)
-  ]
+]
 
 pub returns-clause-counts : goal.returns-clause-counts
 returns-clause-counts c = λ b fs s. elim c.loop-self-test.branch [
-    else-loop-self-test w ↦ (counts_empty c.loop-self.self c.loop-self-test.self c.set_drained.new.self b fs w.self-is c.set_drained.ensures
-        (omega (arith, c.held.ensures.value, w.loop-self-test.false)) (c.loop-self.invariant.counts b fs s)).0
+  | else-loop-self-test w ↦ (counts_empty c.loop-self.self c.loop-self-test.self c.set_drained.new.self b fs w.self-is c.set_drained.ensures
+      (omega (arith, c.held.ensures.value, w.loop-self-test.false)) (c.loop-self.invariant.counts b fs s)).0
   | then-loop-self-test+in-Open w ↦ (let o = from_open c.loop-self.self.has_ended c.loop-self.self.held w.in-Open.ensures.decision in
       (counts_open c.loop-self.self w.decide.new.self c.loop-self-test.self c.set_drained.new.self b fs w.in-Open.ensures.examined w.self-is c.set_drained.ensures o.2
-        (omega (arith, c.held.ensures.value, w.loop-self-test.true)) o.1 w.in-Open.ensures.tried (c.loop-self.invariant.counts b fs s)).0)
-  ]
+      (omega (arith, c.held.ensures.value, w.loop-self-test.true)) o.1 w.in-Open.ensures.tried (c.loop-self.invariant.counts b fs s)).0)
+]
 
 pub returns-clause-none_counts : goal.returns-clause-none_counts
 returns-clause-none_counts c = λ b fs s. elim c.loop-self-test.branch [
-    else-loop-self-test w ↦ (counts_empty c.loop-self.self c.loop-self-test.self c.set_drained.new.self b fs w.self-is c.set_drained.ensures
-        (omega (arith, c.held.ensures.value, w.loop-self-test.false)) (c.loop-self.invariant.counts b fs s)).1
+  | else-loop-self-test w ↦ (counts_empty c.loop-self.self c.loop-self-test.self c.set_drained.new.self b fs w.self-is c.set_drained.ensures
+      (omega (arith, c.held.ensures.value, w.loop-self-test.false)) (c.loop-self.invariant.counts b fs s)).1
   | then-loop-self-test+in-Open w ↦ (let o = from_open c.loop-self.self.has_ended c.loop-self.self.held w.in-Open.ensures.decision in
       (counts_open c.loop-self.self w.decide.new.self c.loop-self-test.self c.set_drained.new.self b fs w.in-Open.ensures.examined w.self-is c.set_drained.ensures o.2
-        (omega (arith, c.held.ensures.value, w.loop-self-test.true)) o.1 w.in-Open.ensures.tried (c.loop-self.invariant.counts b fs s)).1)
-  ]
+      (omega (arith, c.held.ensures.value, w.loop-self-test.true)) o.1 w.in-Open.ensures.tried (c.loop-self.invariant.counts b fs s)).1)
+]

@@ -1,0 +1,260 @@
+-- The closed epochs of a list that grows by one message.
+use Rattle.std.proofs.Common.{◌≡◌, ℕ, ◌<◌, ◌≤◌, ◌⊎◌, inl, inr, Bool, true, false, not, ◌||◌, ◌&&◌, List, [], ◌∷◌, ◌++◌, filter, refl, sym, ap, ap₂, ◌∙◌, subst, arith, Option, Some, None, nat_lt, append_assoc, append-nil}
+use Rattle.std.specs.Prelude.{if◌then◌else◌, cond}
+use Rattle.std.specs.Option.{option_map_or}
+use Rattle.std.proofs.lemmas.List.Elements.{filter-append}
+use Rattle.std.proofs.lemmas.Bool.{cases_Bool}
+use Rattle.obs_epoch.specs.Heard.{Setup, Heard, is_mark}
+use Rattle.obs_epoch.specs.Times.{Timed, max_known, greatest, is_closed, taken_at, timed, time_of, is_late}
+use Rattle.obs_epoch.specs.Loss.{times}
+use Rattle.obs_epoch.specs.Epochs.{is_shut, closed_times}
+use Rattle.obs_epoch.proofs.TimesLemmas.{some_eq, greatest-push, max_known-none, greatest-present, greater-absent, none-absent, closed-push, closed-new, next, timed-push}
+use Rattle.obs_epoch.proofs.ClockLemmas.{at_self, Follows, follows, first, greater, equal}
+
+-- all below g
+abbrev pub Below : ℕ → List ℕ → Type 0
+Below g [] = Unit {0}
+Below g (t ∷ ts) = (t < g) × Below g ts
+
+below_cond : (g : ℕ) (t : ℕ) (ts : List ℕ) (b : Bool) → t < g → Below g ts → Below g (cond b (t ∷ ts) ts)
+below_cond g t ts true lt h = (lt, h)
+below_cond g t ts false lt h = h
+
+pub Below-filter : (g : ℕ) (p : ℕ → Bool) (ts : List ℕ) → Below g ts → Below g (filter p ts)
+Below-filter g p [] h = tt
+Below-filter g p (t ∷ ts) h = below_cond g t (filter p ts) (p t) h.0 (Below-filter g p ts h.1)
+
+passes_none : (p : ℕ → Bool) (g : ℕ) (ts : List ℕ) → ((t : ℕ) → t < g → p t ≡ false) → Below g ts → filter p ts ≡ []
+passes_none p g [] all h = refl
+passes_none p g (t ∷ ts) all h = ap (λ b. cond b (t ∷ filter p ts) (filter p ts)) (all t h.0) ∙ passes_none p g ts all h.1
+
+pub passes_all : (p : ℕ → Bool) (g : ℕ) (ts : List ℕ) → ((t : ℕ) → t < g → p t ≡ true) → Below g ts → filter p ts ≡ ts
+passes_all p g [] all h = refl
+passes_all p g (t ∷ ts) all h = ap (λ b. cond b (t ∷ filter p ts) (filter p ts)) (all t h.0) ∙ ap (λ l. t ∷ l) (passes_all p g ts all h.1)
+
+one_passes : (p : ℕ → Bool) (t : ℕ) → p t ≡ true → filter p (t ∷ []) ≡ t ∷ []
+one_passes p t e = ap (λ b. cond b (t ∷ []) []) e
+
+pub one_fails : (p : ℕ → Bool) (t : ℕ) → p t ≡ false → filter p (t ∷ []) ≡ []
+one_fails p t e = ap (λ b. cond b (t ∷ []) []) e
+
+-- the greatest comes last
+pub record Ends (ts : List ℕ) (g : ℕ) : Type 0 where
+  pub init : List ℕ
+  pub is : ts ≡ init ++ g ∷ []
+  pub below : Below g init
+
+pub less_true : (t u : ℕ) → t < u → nat_lt t u ≡ true
+less_true t u h = grind arith
+
+pub less_false : (t u : ℕ) → u ≤ t → nat_lt t u ≡ false
+less_false t u h = grind arith
+
+by_less : (t u : ℕ) → (t < u) ⊎ (u ≤ t)
+by_less t u = elim (cases_Bool (nat_lt t u)) [ inl e ↦ inl (grind arith) | inr e ↦ inr (grind arith) ]
+
+abbrev pub front : Option ℕ → List ℕ → List ℕ
+front time ts = option_map_or (λ t. t ∷ filter (λ u. nat_lt t u) ts) time ts
+
+ends_step : (time rest : Option ℕ) (ts : List ℕ) (g : ℕ) → max_known time rest ≡ Some g → ((h : ℕ) → rest ≡ Some h → Ends ts h) → (rest ≡ None → ts ≡ [])
+    → Ends (front time ts) g
+ends_step None rest ts g e some none = some g e
+ends_step (Some t) None ts g e some none = record {
+  init = [];
+  is = ap (λ l. t ∷ filter (λ u. nat_lt t u) l) (none refl) ∙ ap (λ v. v ∷ []) (some_eq t g e);
+  below = tt;
+}
+ends_step (Some t) (Some h) ts g e some none = by (by_less t h) where
+  last : Ends ts h
+  last = some h refl
+
+  cut : filter (λ u. nat_lt t u) ts ≡ filter (λ u. nat_lt t u) last.init ++ filter (λ u. nat_lt t u) (h ∷ [])
+  cut = ap (filter (λ u. nat_lt t u)) last.is ∙ filter-append (λ u. nat_lt t u) last.init (h ∷ [])
+
+  by : (t < h) ⊎ (h ≤ t) → Ends (t ∷ filter (λ u. nat_lt t u) ts) g
+  by (inl lt) =
+      let same : h ≡ g = omega (arith, some_eq _ _ e, lt) in
+      subst (λ v. Ends (t ∷ filter (λ u. nat_lt t u) ts) v) same (record {
+        init = t ∷ filter (λ u. nat_lt t u) last.init;
+        is = ap (λ l. t ∷ l) (cut ∙ ap (λ l. filter (λ u. nat_lt t u) last.init ++ l) (one_passes (λ u. nat_lt t u) h (less_true t h lt)));
+        below = (lt, Below-filter h (λ u. nat_lt t u) last.init last.below);
+      })
+  by (inr le) =
+      let same : t ≡ g = omega (arith, some_eq _ _ e, le) in
+      let nothing : filter (λ u. nat_lt t u) ts ≡ [] =
+      cut ∙ ap₂ (λ a b. a ++ b) (passes_none (λ u. nat_lt t u) h last.init (λ u lt. less_false t u (omega arith)) last.below) (one_fails (λ u. nat_lt t u) h (less_false t h le)) in
+      record { init = []; is = ap₂ (λ a l. a ∷ l) same nothing; below = tt }
+
+no_times_step : (time rest : Option ℕ) (ts : List ℕ) → max_known time rest ≡ None → (rest ≡ None → ts ≡ []) → front time ts ≡ []
+no_times_step None rest ts e none = none e
+no_times_step (Some t) None ts e none = grind arith
+no_times_step (Some t) (Some h) ts e none = grind arith
+
+pub no_times : (xs : List Timed) → greatest xs ≡ None → times xs ≡ []
+no_times [] e = refl
+no_times (x ∷ xs) e = no_times_step x.time (greatest xs) (times xs) e (no_times xs)
+
+pub ends : (xs : List Timed) (g : ℕ) → greatest xs ≡ Some g → Ends (times xs) g
+ends [] g e = absurd (grind arith)
+ends (x ∷ xs) g e = ends_step x.time (greatest xs) (times xs) g e (ends xs) (no_times xs)
+
+-- ---- one message more
+
+pub times-push_none : (xs : List Timed) (x : Timed) → x.time ≡ None → times (xs ++ x ∷ []) ≡ times xs
+times-push_none [] x e = ap (λ t. front t []) e
+times-push_none (y ∷ ys) x e = ap (front y.time) (times-push_none ys x e)
+
+abbrev pub IsLess : ℕ → Option ℕ → Type 0
+IsLess u None = Unit {0}
+IsLess u (Some g) = g < u
+
+push_step : (time rest : Option ℕ) (u : ℕ) (ts new : List ℕ) → IsLess u (max_known time rest) → (IsLess u rest → new ≡ ts ++ u ∷ []) → front time new ≡ front time ts ++ u ∷ []
+push_step None rest u ts new h r = r h
+push_step (Some t) None u ts new h r =
+    ap (λ l. t ∷ filter (λ v. nat_lt t v) l) (r tt) ∙ ap (λ l. t ∷ l) (filter-append (λ v. nat_lt t v) ts (u ∷ []) ∙ ap (λ l. filter (λ v. nat_lt t v) ts ++ l) (one_passes (λ v. nat_lt t v) u (less_true t u h)))
+push_step (Some t) (Some g) u ts new h r =
+    ap (λ l. t ∷ filter (λ v. nat_lt t v) l) (r (omega (arith, h))) ∙ ap (λ l. t ∷ l) (filter-append (λ v. nat_lt t v) ts (u ∷ []) ∙ ap (λ l. filter (λ v. nat_lt t v) ts ++ l) (one_passes (λ v. nat_lt t v) u (less_true t u (omega (arith, h)))))
+
+pub times-push_new : (xs : List Timed) (x : Timed) (u : ℕ) → x.time ≡ Some u → IsLess u (greatest xs) → times (xs ++ x ∷ []) ≡ times xs ++ u ∷ []
+times-push_new [] x u e h = ap (λ t. front t []) e
+times-push_new (y ∷ ys) x u e h = push_step y.time (greatest ys) u (times ys) (times (ys ++ x ∷ [])) h (times-push_new ys x u e)
+
+same_step : (time rest : Option ℕ) (u : ℕ) (ts new : List ℕ) → max_known time rest ≡ Some u → (rest ≡ Some u → new ≡ ts) → (IsLess u rest → new ≡ ts ++ u ∷ [])
+    → front time new ≡ front time ts
+same_step None rest u ts new e same more = same e
+same_step (Some t) rest u ts new e same more = by rest e same more where
+  dropped : t ≡ u → new ≡ ts ++ u ∷ [] → front (Some t) new ≡ front (Some t) ts
+  dropped is n =
+      ap (λ l. t ∷ filter (λ v. nat_lt t v) l) n
+      ∙ ap (λ l. t ∷ l) (filter-append (λ v. nat_lt t v) ts (u ∷ []) ∙ ap (λ l. filter (λ v. nat_lt t v) ts ++ l) (one_fails (λ v. nat_lt t v) u (less_false t u (omega (arith, is)))) ∙ append-nil _)
+
+  by : (r : Option ℕ) → max_known (Some t) r ≡ Some u → (r ≡ Some u → new ≡ ts) → (IsLess u r → new ≡ ts ++ u ∷ []) → front (Some t) new ≡ front (Some t) ts
+  by None e' same' more' = dropped (some_eq t u e') (more' tt)
+  by (Some g) e' same' more' = elim (by_less g u) [
+    | inl lt ↦ dropped (omega (arith, some_eq _ _ e', lt)) (more' lt)
+    | inr le ↦ ap (front (Some t)) (same' (ap Some (omega (arith, some_eq _ _ e', le))))
+  ]
+
+pub times-push_same : (xs : List Timed) (x : Timed) (u : ℕ) → x.time ≡ Some u → greatest xs ≡ Some u → times (xs ++ x ∷ []) ≡ times xs
+times-push_same [] x u e h = absurd (grind arith)
+times-push_same (y ∷ ys) x u e h =
+    same_step y.time (greatest ys) u (times ys) (times (ys ++ x ∷ [])) h (times-push_same ys x u e) (times-push_new ys x u e)
+
+-- ---- which of them are closed
+
+or_true : (a b : Bool) → b ≡ true → (a || b) ≡ true
+or_true true b h = refl
+or_true false b h = h
+
+or_false : (a b : Bool) → b ≡ false → (a || b) ≡ a
+or_false true b h = refl
+or_false false b h = h
+
+shut_below : (s : Setup) (ys : List Timed) (g t : ℕ) → greatest ys ≡ Some g → t < g → is_shut s ys t ≡ true
+shut_below s ys g t e lt = or_true (is_closed s t ys) _ (ap (λ o. option_map_or (λ u. nat_lt t u) o false) e ∙ less_true t g lt)
+
+shut_at : (s : Setup) (ys : List Timed) (g : ℕ) → greatest ys ≡ Some g → is_shut s ys g ≡ is_closed s g ys
+shut_at s ys g e = or_false (is_closed s g ys) _ (ap (λ o. option_map_or (λ u. nat_lt g u) o false) e ∙ less_false g g (omega arith))
+
+abbrev pub when : Bool → ℕ → List ℕ
+when b g = if b then g ∷ [] else []
+
+-- the closed ones are all but the last, and the last where it is closed
+pub closed_is : (s : Setup) (ys : List Timed) (g : ℕ) (init : List ℕ) → greatest ys ≡ Some g → times ys ≡ init ++ g ∷ [] → Below g init
+    → closed_times s ys ≡ init ++ when (is_closed s g ys) g
+closed_is s ys g init e is below =
+    ap (filter (is_shut s ys)) is ∙ filter-append (is_shut s ys) init (g ∷ [])
+    ∙ ap₂ (λ a b. a ++ b) (passes_all (is_shut s ys) g init (λ t. shut_below s ys g t e) below) (ap (λ b. cond b (g ∷ []) []) (shut_at s ys g e))
+
+pub Below-more : (u g : ℕ) (ts : List ℕ) → g < u → Below g ts → Below u (ts ++ g ∷ [])
+Below-more u g [] lt h = (lt, tt)
+Below-more u g (t ∷ ts) lt h = (omega (arith, lt, h.0), Below-more u g ts lt h.1)
+
+-- a message that isn't taken closes what is pending, where it is a mark
+pub closed-push_none : (s : Setup) (xs : List Timed) (x : Timed) (g : ℕ) → x.time ≡ None → greatest xs ≡ Some g
+    → closed_times s (xs ++ x ∷ []) ≡ closed_times s xs ++ when (not (is_closed s g xs) && is_mark s x.message) g
+closed-push_none s xs x g none e =
+    let last = ends xs g e in
+    let latest : greatest (xs ++ x ∷ []) ≡ Some g = greatest-push xs x ∙ ap (max_known (greatest xs)) none ∙ max_known-none _ ∙ e in
+    closed_is s (xs ++ x ∷ []) g last.init latest (times-push_none xs x none ∙ last.is) last.below
+    ∙ ap (λ b. last.init ++ when b g) (closed-push s g xs x (greatest-present xs g e))
+    ∙ either last.init (is_closed s g xs) (is_mark s x.message) g
+    ∙ ap (λ l. l ++ when (not (is_closed s g xs) && is_mark s x.message) g) (sym (closed_is s xs g last.init e last.is last.below)) where
+      either : (init : List ℕ) (c m : Bool) (g : ℕ) → init ++ when (c || m) g ≡ (init ++ when c g) ++ when (not c && m) g
+      either init true m g = sym (append-nil _)
+      either init false true g = ap (λ l. l ++ g ∷ []) (sym (append-nil init))
+      either init false false g = sym (append-nil _)
+
+-- a taken message of a greater time closes what is pending, and its own epoch where it is a mark
+pub closed-push_greater : (s : Setup) (xs : List Timed) (x : Timed) (g u : ℕ) → x.time ≡ Some u → greatest xs ≡ Some g → g < u
+    → closed_times s (xs ++ x ∷ []) ≡ (closed_times s xs ++ when (not (is_closed s g xs)) g) ++ when (is_mark s x.message) u
+closed-push_greater s xs x g u some e lt =
+    let last = ends xs g e in
+    let latest : greatest (xs ++ x ∷ []) ≡ Some u = greatest-push xs x ∙ ap₂ max_known e some ∙ ap Some (omega (arith, lt)) in
+    let less : IsLess u (greatest xs) = subst (IsLess u) (sym e) lt in
+    closed_is s (xs ++ x ∷ []) u (times xs) latest (times-push_new xs x u some less) (subst (Below u) (sym last.is) (Below-more u g last.init lt last.below))
+    ∙ ap (λ b. times xs ++ when b u) (closed-new s u xs x (greater-absent xs g u e lt) (at_self u x.time some))
+    ∙ ap (λ l. l ++ when (is_mark s x.message) u) (last.is ∙ all_of last.init (is_closed s g xs) g ∙ ap (λ l. l ++ when (not (is_closed s g xs)) g) (sym (closed_is s xs g last.init e last.is last.below))) where
+      all_of : (init : List ℕ) (c : Bool) (g : ℕ) → init ++ g ∷ [] ≡ (init ++ when c g) ++ when (not c) g
+      all_of init true g = sym (append-nil _)
+      all_of init false g = ap (λ l. l ++ g ∷ []) (sym (append-nil init))
+
+-- a taken message of the greatest time closes its epoch, where it is a mark
+pub closed-push_same : (s : Setup) (xs : List Timed) (x : Timed) (g : ℕ) → x.time ≡ Some g → greatest xs ≡ Some g → is_closed s g xs ≡ false
+    → closed_times s (xs ++ x ∷ []) ≡ closed_times s xs ++ when (is_mark s x.message) g
+closed-push_same s xs x g some e not_closed =
+    let last = ends xs g e in
+    let latest : greatest (xs ++ x ∷ []) ≡ Some g = greatest-push xs x ∙ ap₂ max_known e some ∙ ap Some (omega arith) in
+    closed_is s (xs ++ x ∷ []) g last.init latest (times-push_same xs x g some e ∙ last.is) last.below
+    ∙ ap (λ b. last.init ++ when b g) (closed-push s g xs x (greatest-present xs g e) ∙ ap (λ c. c || is_mark s x.message) not_closed)
+    ∙ ap (λ l. l ++ when (is_mark s x.message) g) (sym (append-nil last.init) ∙ ap (λ c. last.init ++ when c g) (sym not_closed) ∙ sym (closed_is s xs g last.init e last.is last.below))
+
+-- the first taken message
+pub closed-push_first : (s : Setup) (xs : List Timed) (x : Timed) (u : ℕ) → x.time ≡ Some u → greatest xs ≡ None
+    → closed_times s (xs ++ x ∷ []) ≡ closed_times s xs ++ when (is_mark s x.message) u
+closed-push_first s xs x u some e =
+    let latest : greatest (xs ++ x ∷ []) ≡ Some u = greatest-push xs x ∙ ap₂ max_known e some in
+    let less : IsLess u (greatest xs) = subst (IsLess u) (sym e) tt in
+    closed_is s (xs ++ x ∷ []) u [] latest (times-push_new xs x u some less ∙ ap (λ l. l ++ u ∷ []) (no_times xs e)) tt
+    ∙ ap (λ b. when b u) (closed-new s u xs x (none-absent xs u e) (at_self u x.time some))
+    ∙ ap (λ l. filter (is_shut s xs) l ++ when (is_mark s x.message) u) (sym (no_times xs e))
+
+pub no_greatest : (s : Setup) (xs : List Timed) (x : Timed) → x.time ≡ None → greatest xs ≡ None → closed_times s (xs ++ x ∷ []) ≡ closed_times s xs ++ []
+no_greatest s xs x none e =
+    ap (filter (is_shut s (xs ++ x ∷ []))) (times-push_none xs x none ∙ no_times xs e)
+    ∙ ap (λ l. filter (is_shut s xs) l) (sym (no_times xs e)) ∙ sym (append-nil _)
+
+-- whatever comes, what is closed stays, and more may follow
+pub grows : (s : Setup) (xs : List Timed) (x : Timed) → ((u : ℕ) → x.time ≡ Some u → Follows s xs u)
+    → (more : List ℕ) × (closed_times s (xs ++ x ∷ []) ≡ closed_times s xs ++ more)
+grows s xs x follow = by_time x.time (greatest xs) refl refl where
+  by_follows : (u : ℕ) → x.time ≡ Some u → Follows s xs u → (more : List ℕ) × (closed_times s (xs ++ x ∷ []) ≡ closed_times s xs ++ more)
+  by_follows u some (first e) = (when (is_mark s x.message) u, closed-push_first s xs x u some e)
+  by_follows u some (greater t e lt) = (
+    when (not (is_closed s t xs)) t ++ when (is_mark s x.message) u,
+    closed-push_greater s xs x t u some e lt ∙ append_assoc (closed_times s xs) (when (not (is_closed s t xs)) t) (when (is_mark s x.message) u),
+  )
+  by_follows u some (equal e c) = (when (is_mark s x.message) u, closed-push_same s xs x u some e c)
+
+  by_time : (time g : Option ℕ) → x.time ≡ time → greatest xs ≡ g → (more : List ℕ) × (closed_times s (xs ++ x ∷ []) ≡ closed_times s xs ++ more)
+  by_time None None none e = ([], no_greatest s xs x none e)
+  by_time None (Some g) none e = (when (not (is_closed s g xs) && is_mark s x.message) g, closed-push_none s xs x g none e)
+  by_time (Some u) g some e = by_follows u some (follow u some)
+
+-- a taken message isn't late
+pub taken_follows : (s : Setup) (xs : List Timed) (m : Heard) (u : ℕ) → taken_at s xs m ≡ Some u → Follows s xs u
+taken_follows s xs m u e = by_tow m.tow refl where
+  by_late : (tow : ℕ) (late : Bool) → m.tow ≡ Some tow → is_late s xs tow ≡ late → Follows s xs u
+  by_late tow true some late = absurd (grind (arith, e, some, late))
+  by_late tow false some late =
+      let same : time_of s xs tow ≡ u = grind (arith, e, some, late) in
+      subst (Follows s xs) same (follows s xs tow late)
+
+  by_tow : (tow : Option ℕ) → m.tow ≡ tow → Follows s xs u
+  by_tow None none = absurd (grind (arith, e, none))
+  by_tow (Some tow) some = by_late tow (is_late s xs tow) some refl
+
+pub grows_by : (s : Setup) (ms : List Heard) (m : Heard) → (more : List ℕ) × (closed_times s (timed s (ms ++ m ∷ [])) ≡ closed_times s (timed s ms) ++ more)
+grows_by s ms m =
+    let step = grows s (timed s ms) (next s (timed s ms) m) (taken_follows s (timed s ms) m) in
+    (step.0, ap (closed_times s) (timed-push s ms m) ∙ step.1)

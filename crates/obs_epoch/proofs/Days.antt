@@ -1,0 +1,45 @@
+-- The days from 1980-01-06 on.
+use Rattle.std.proofs.Common.{◌≡◌, ℕ, ◌+◌, ◌-◌, ◌<◌, ◌≤◌, ◌⊎◌, ◌^◌, inl, inr, refl, sym, ap, ◌∙◌, arith, rules, ℤ, pos, negsuc, ◌+ℤ◌, ◌-ℤ◌, ◌<ℤ◌, ◌≤ℤ◌}
+use Rattle.std.proofs.Common.{FitsSigned, Fits, w16, to_z, of_z, to_z-of_z, nat_abs, T}
+use lib.Signed.{non_neg}
+use Rattle.jiff_core.specs.declared.civil.date.Date.{Date}
+use Rattle.std.specs.Int.{IsInRange}
+use Rattle.jiff_core.specs.Calendar.{IsYear, days_in_month, day_count, days_from_civil, days_of_years, days_of_months}
+use Rattle.jiff_core.specs.Date.{epoch_day}
+use Rattle.jiff_core.proofs.SignedLemmas.{signed_arith}
+use Rattle.jiff_core.proofs.DateLemmas.{cases_date, epoch_day-lt, IsEarlier}
+
+pub first_day : days_from_civil (pos 1980) 1 6 ≡ pos 3657
+unfolding days_from_civil day_count days_of_years days_of_months
+first_day = refl
+
+first_year : IsYear (pos 1980)
+first_year = search rules
+
+first_month : IsInRange 1 12 1
+first_month = search rules
+
+first_date : IsInRange 1 (days_in_month (pos 1980) 1) 6
+first_date = search rules
+
+abbrev first : Date
+first = record { year = pos 1980; month = 1; day = 6; year_in = first_year; month_in = first_month; day_in = first_date }
+
+-- from that day on the year is 1980 or later
+pub year_from : (d : Date) → pos 3657 ≤ℤ epoch_day d → pos 1980 ≤ℤ d.year
+year_from d h =
+    elim (cases_date d first) [
+      | inl earlier ↦ let less = epoch_day-lt d first earlier in absurd (omega (arith, signed_arith, first_day))
+      | inr (inl (inl year)) ↦ omega (arith, signed_arith)
+      | inr (inl (inr same)) ↦ omega (arith, signed_arith)
+      | inr (inr same) ↦ omega (arith, signed_arith)
+    ]
+
+-- the year of such a date, cast to a signed number and back
+pub plain_year : (z : ℤ) → pos 1980 ≤ℤ z → z ≤ℤ pos 9999 → pos (nat_abs (to_z w16 (of_z w16 z))) ≡ z
+plain_year (pos n) low high = let fits : FitsSigned w16 (pos n) = omega (arith, signed_arith, high) in rw (to_z-of_z fits) refl
+plain_year (negsuc n) low high = absurd (omega (arith, signed_arith, low))
+
+pub casts : (z : ℤ) → pos 1980 ≤ℤ z → z ≤ℤ pos 9999 → (T (non_neg (to_z w16 (of_z w16 z)))) × Fits w16 (nat_abs (to_z w16 (of_z w16 z)))
+casts (pos n) low high = let fits : FitsSigned w16 (pos n) = omega (arith, signed_arith, high) in rw (to_z-of_z fits) (search rules)
+casts (negsuc n) low high = absurd (omega (arith, signed_arith, low))

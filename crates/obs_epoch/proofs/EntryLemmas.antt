@@ -1,0 +1,60 @@
+-- The cells of a message come one by one: those that are listed, and how many others there are.
+use Rattle.std.proofs.Common.{◌≡◌, ℕ, ◌+◌, List, [], ◌∷◌, Bool, true, false, not, refl, sym, ap, ap₂, ◌∙◌, arith, Option, Some, None, is_some}
+use Rattle.std.specs.Prelude.{filter_map, cond}
+use Rattle.std.specs.Option.{option_map_or}
+use Rattle.std.specs.List.{cons_option}
+use Rattle.gnss_obs.specs.declared.system.System.{System}
+use Rattle.rtcm_msg.specs.declared.entry.Entry.{Entry}
+use Rattle.obs_epoch.specs.declared.seen.Seen.{Seen}
+use Rattle.obs_epoch.specs.declared.seen.Counts.{Counts}
+use Rattle.obs_epoch.specs.declared.seen.Fate.{Fate}
+use Rattle.obs_epoch.specs.declared.seen.Fate.TheVariants.{Skipped, Repeated, Crowded, Kept}
+use Rattle.obs_epoch.specs.Heard.{seen_in, unlisted_in}
+use Rattle.obs_epoch.specs.Cells.{with_skipped}
+use Rattle.obs_epoch.specs.Held.{count_in}
+use Rattle.obs_epoch.specs.Gather.{Loaded, load, load_one, load_entries, with_unlisted, fate_in, hold}
+
+later_count : (k : Fate) (n : ℕ) (c : Counts) → count_in k (with_skipped n c) ≡ with_skipped n (count_in k c)
+later_count Kept n c = refl
+later_count Repeated n c = refl
+later_count Crowded n c = refl
+later_count Skipped n c = ap (λ v. record c { skipped = v }) (swap c.skipped n) where
+  swap : (a b : ℕ) → a + b + 1 ≡ a + 1 + b
+  swap a b = omega arith
+
+later_one : (n : ℕ) (l : Loaded) (x : Seen) → load_one (with_unlisted n l) x ≡ with_unlisted n (load_one l x)
+later_one n l x = ap (λ c. record { state = hold l.state x; counts = c }) (later_count (fate_in l.state x) n l.counts)
+
+later : (n : ℕ) (l : Loaded) (xs : List Seen) → load (with_unlisted n l) xs ≡ with_unlisted n (load l xs)
+later n l [] = refl
+later n l (x ∷ xs) = ap (λ v. load v xs) (later_one n l x) ∙ later n (load_one l x) xs
+
+twice : (n m : ℕ) (l : Loaded) → with_unlisted n (with_unlisted m l) ≡ with_unlisted (m + n) l
+twice n m l = ap (λ v. record { state = l.state; counts = record l.counts { skipped = v } }) (sum l.counts.skipped m n) where
+  sum : (a b c : ℕ) → a + b + c ≡ a + (b + c)
+  sum a b c = omega arith
+
+abbrev listed : Bool → System → List Entry → List Seen
+listed is_long system es = filter_map (seen_in is_long system) es
+
+abbrev others : Bool → System → List Entry → ℕ
+others is_long system es = unlisted_in is_long system es
+
+none_more : (l : Loaded) → l ≡ with_unlisted 0 l
+none_more l = ap (λ v. record { state = l.state; counts = record l.counts { skipped = v } }) (plus-zero l.counts.skipped) where
+  plus-zero : (n : ℕ) → n ≡ n + 0
+  plus-zero n = omega arith
+
+pub load_entries_is : (is_long : Bool) (system : System) (l : Loaded) (es : List Entry)
+    → load_entries is_long system l es ≡ with_unlisted (others is_long system es) (load l (listed is_long system es))
+load_entries_is is_long system l [] = none_more l
+load_entries_is is_long system l (e ∷ es) = by (seen_in is_long system e) (λ v. load_entries_is is_long system v es) where
+  by : (o : Option Seen) → ((v : Loaded) → load_entries is_long system v es ≡ with_unlisted (others is_long system es) (load v (listed is_long system es)))
+      → load_entries is_long system (option_map_or (load_one l) o (with_unlisted 1 l)) es
+      ≡ with_unlisted (cond (is_some o) 0 1 + others is_long system es) (load l (cons_option o (listed is_long system es)))
+  by None more =
+      more (with_unlisted 1 l) ∙ ap (with_unlisted (others is_long system es)) (later 1 l (listed is_long system es))
+      ∙ twice (others is_long system es) 1 (load l (listed is_long system es))
+  by (Some x) more = more (load_one l x) ∙ ap (λ n. with_unlisted n (load (load_one l x) (listed is_long system es))) (zero-plus (others is_long system es)) where
+    zero-plus : (n : ℕ) → n ≡ 0 + n
+    zero-plus n = omega arith

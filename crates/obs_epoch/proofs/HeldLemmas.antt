@@ -1,0 +1,73 @@
+-- The held epoch in its two parts.
+use Rattle.std.proofs.Common.{◌≡◌, ◌<◌, ◌≤◌, ℕ, suc, true, Bool, List, [], ◌∷◌, ◌++◌, refl, sym, ap, ap₂, ◌∙◌, subst, arith, length, length-append, map, drop}
+use Rattle.std.specs.List.{list_any}
+use Rattle.std.specs.Prelude.{◌||◌}
+use Rattle.gnss_obs.specs.declared.system.System.{System}
+use Rattle.gnss_obs.specs.declared.system.System.TheVariants.{Gps, Galileo}
+use Rattle.obs_epoch.specs.declared.cell.Cell.{Cell}
+use Rattle.obs_epoch.specs.declared.seen.Seen.{Seen}
+use Rattle.obs_epoch.specs.declared.seen.Tracking.{Tracking}
+use Rattle.obs_epoch.specs.Values.{EpochValue, cells_of}
+use Rattle.obs_epoch.specs.Marked.{Marked, MarkedEpoch, cell_of, seen_of, tracking_of, paired, shown, with_cell_of}
+use Rattle.obs_epoch.specs.Gather.{cells_in, more_in, with_more}
+use Rattle.obs_epoch.specs.Cells.{same_key, has_same_key}
+use Rattle.obs_epoch.specs.Held.{is_held}
+
+pub paired_push : (cs : List Cell) (ts : List Tracking) (c : Cell) (t : Tracking) → length cs ≡ length ts
+    → paired (cs ++ c ∷ []) (ts ++ t ∷ []) ≡ paired cs ts ++ record { seen = seen_of c t; mark = c.mark } ∷ []
+paired_push [] [] c t e = refl
+paired_push [] (u ∷ ts) c t e = absurd (omega (arith, e))
+paired_push (b ∷ cs) [] c t e = absurd (omega (arith, e))
+paired_push (b ∷ cs) (u ∷ ts) c t e = ap (λ l. record { seen = seen_of b u; mark = b.mark } ∷ l) (paired_push cs ts c t (omega (arith, e)))
+
+pub cells_paired : (cs : List Cell) (ts : List Tracking) → length cs ≡ length ts → map cell_of (paired cs ts) ≡ cs
+cells_paired [] ts e = refl
+cells_paired (c ∷ cs) [] e = absurd (omega (arith, e))
+cells_paired (c ∷ cs) (t ∷ ts) e = ap (λ l. c ∷ l) (cells_paired cs ts (omega (arith, e)))
+
+pub length_paired : (cs : List Cell) (ts : List Tracking) → length cs ≡ length ts → length (paired cs ts) ≡ length cs
+length_paired [] ts e = refl
+length_paired (c ∷ cs) [] e = absurd (omega (arith, e))
+length_paired (c ∷ cs) (t ∷ ts) e = ap suc (length_paired cs ts (omega (arith, e)))
+
+pub held_paired : (cs : List Cell) (ts : List Tracking) (x : Seen) → length cs ≡ length ts
+    → is_held (paired cs ts) x ≡ list_any (λ c. same_key x.satellite x.signal c.satellite c.signal) cs
+held_paired [] ts x e = refl
+held_paired (c ∷ cs) [] x e = absurd (omega (arith, e))
+held_paired (c ∷ cs) (t ∷ ts) x e = ap (λ b. same_key x.satellite x.signal c.satellite c.signal || b) (held_paired cs ts x (omega (arith, e)))
+
+-- ---- the held epoch as it is seen
+
+abbrev pub seen_as : EpochValue → List Tracking → List Tracking → MarkedEpoch
+seen_as e gs vs = record { time = e.time; gps = paired e.gps gs; galileo = paired e.galileo vs }
+
+pub shown_is : (e : EpochValue) (gs vs : List Tracking) → length e.gps ≡ length gs → length e.galileo ≡ length vs → shown (seen_as e gs vs) ≡ e
+shown_is e gs vs a b = ap₂ (λ l r. record { time = e.time; gps = l; galileo = r }) (cells_paired e.gps gs a) (cells_paired e.galileo vs b)
+
+pub length_in : (system : System) (e : EpochValue) (gs vs : List Tracking) → length e.gps ≡ length gs → length e.galileo ≡ length vs
+    → length (cells_in system (seen_as e gs vs)) ≡ length (cells_of system e)
+length_in Gps e gs vs a b = length_paired e.gps gs a
+length_in Galileo e gs vs a b = length_paired e.galileo vs b
+
+pub held_in : (system : System) (e : EpochValue) (gs vs : List Tracking) (x : Seen) → length e.gps ≡ length gs → length e.galileo ≡ length vs
+    → is_held (cells_in system (seen_as e gs vs)) x ≡ list_any (λ c. same_key x.satellite x.signal c.satellite c.signal) (cells_of system e)
+held_in Gps e gs vs x a b = held_paired e.gps gs x a
+held_in Galileo e gs vs x a b = held_paired e.galileo vs x b
+
+pub grow_gps : (e new : EpochValue) (gs hs vs : List Tracking) (x : Seen) (mark : ℕ) (now : MarkedEpoch) → x.satellite.system ≡ Gps → length e.gps ≡ length gs
+    → new ≡ with_cell_of x.satellite.system e (cell_of (record { seen = x; mark = mark })) → hs ≡ gs ++ tracking_of x ∷ [] → seen_as e gs vs ≡ now
+    → seen_as new hs vs ≡ with_more now (record { seen = x; mark = mark })
+grow_gps e new gs hs vs x mark now is len n t same =
+    let one : Marked = record { seen = x; mark = mark } in
+    ap₂ (λ v l. seen_as v l vs) (n ∙ ap (λ s. with_cell_of s e (cell_of one)) is) t
+    ∙ ap (λ l. record { time = e.time; gps = l; galileo = paired e.galileo vs }) (paired_push e.gps gs (cell_of one) (tracking_of x) len)
+    ∙ sym (ap (λ s. more_in s (seen_as e gs vs) one) is) ∙ ap (λ v. with_more v one) same
+
+pub grow_galileo : (e new : EpochValue) (gs vs ws : List Tracking) (x : Seen) (mark : ℕ) (now : MarkedEpoch) → x.satellite.system ≡ Galileo → length e.galileo ≡ length vs
+    → new ≡ with_cell_of x.satellite.system e (cell_of (record { seen = x; mark = mark })) → ws ≡ vs ++ tracking_of x ∷ [] → seen_as e gs vs ≡ now
+    → seen_as new gs ws ≡ with_more now (record { seen = x; mark = mark })
+grow_galileo e new gs vs ws x mark now is len n t same =
+    let one : Marked = record { seen = x; mark = mark } in
+    ap₂ (λ v l. seen_as v gs l) (n ∙ ap (λ s. with_cell_of s e (cell_of one)) is) t
+    ∙ ap (λ l. record { time = e.time; gps = paired e.gps gs; galileo = l }) (paired_push e.galileo vs (cell_of one) (tracking_of x) len)
+    ∙ sym (ap (λ s. more_in s (seen_as e gs vs) one) is) ∙ ap (λ v. with_more v one) same

@@ -1,0 +1,142 @@
+-- A closing: the locks of the held epoch are noted.
+use Rattle.std.proofs.Common.{◌≡◌, ℕ, Bool, true, false, not, ◌||◌, ◌&&◌, List, [], ◌∷◌, ◌++◌, filter, refl, sym, ap, ap₂, ◌∙◌, subst, arith, length, append_assoc, append-nil, Option, Some, None, nat_le}
+use Rattle.std.specs.Prelude.{if◌then◌else◌, find, option_and_then, filter_map, unwrap_or}
+use Rattle.std.specs.Option.{option_or}
+use Rattle.std.specs.List.{IsDistinct, cons_option}
+use Rattle.std.proofs.lemmas.List.Elements.{filter-append}
+use Rattle.std.proofs.lemmas.Grind.{flat_map-append}
+use Rattle.std.proofs.lemmas.Map.Keys.{IsDistinct-push}
+use Rattle.gnss_obs.specs.declared.system.System.{System}
+use Rattle.gnss_obs.specs.declared.system.System.TheVariants.{Gps, Galileo}
+use Rattle.obs_epoch.specs.declared.seen.Seen.{Seen}
+use Rattle.obs_epoch.specs.Marked.{Marked}
+use Rattle.obs_epoch.specs.declared.seen.KnownLock.{KnownLock}
+use Rattle.obs_epoch.specs.declared.seen.LockRecord.{LockRecord}
+use Rattle.obs_epoch.specs.Heard.{Setup}
+use Rattle.obs_epoch.specs.Times.{Timed}
+use Rattle.obs_epoch.specs.Cells.{is_of, has_same_key, is_among, kept, kept_at, add, offered}
+use Rattle.obs_epoch.specs.Values.{most_cells}
+use Rattle.obs_epoch.specs.Loss.{lock_of, locked_at, latest_in, last_of, is_locked}
+use Rattle.obs_epoch.specs.Marked.{MarkedEpoch}
+use Rattle.obs_epoch.specs.Epochs.{marked, epoch_at}
+use Rattle.obs_epoch.specs.Held.{lookup, note_all, Tracks}
+use Rattle.obs_epoch.specs.Gather.{Gathered, noted}
+use Rattle.obs_epoch.specs.Standing.{locked_in, Locked}
+use Rattle.obs_epoch.proofs.CellsLemmas.{kept-add, same_key_laws, among-push, key_system}
+use Rattle.obs_epoch.proofs.LockLemmas.{seens, lookup-note_all, tracks_all, locked, find_none}
+
+-- ---- the kept cells have different keys, all of one system
+
+add_distinct : (system : System) (ks : List Seen) (y : Seen) → IsDistinct has_same_key ks → IsDistinct has_same_key (add system ks y)
+add_distinct system ks y d = by (is_of system y) (is_among ks y) (nat_le most_cells (length ks)) refl where
+  by : (o a n : Bool) → is_among ks y ≡ a → IsDistinct has_same_key (if o && not (a || n) then ks ++ y ∷ [] else ks)
+  by false a n e = d
+  by true true n e = d
+  by true false true e = d
+  by true false false e = IsDistinct-push same_key_laws ks y d e
+
+distinct_more : (system : System) (xs ys : List Seen) → IsDistinct has_same_key (kept system xs) → IsDistinct has_same_key (kept system (xs ++ ys))
+distinct_more system xs [] d = subst (λ l. IsDistinct has_same_key (kept system l)) (sym (append-nil xs)) d
+distinct_more system xs (y ∷ ys) d =
+    subst (λ l. IsDistinct has_same_key (kept system l)) (append_assoc xs (y ∷ []) ys)
+    (distinct_more system (xs ++ y ∷ []) ys (subst (IsDistinct has_same_key) (sym (kept-add system xs y)) (add_distinct system (kept system xs) y d)))
+
+kept_none : (system : System) → kept system [] ≡ []
+kept_none Gps = refl
+kept_none Galileo = refl
+
+pub kept_distinct : (system : System) (xs : List Seen) → IsDistinct has_same_key (kept system xs)
+unfolding IsDistinct
+kept_distinct system xs = distinct_more system [] xs (subst (IsDistinct has_same_key) (sym (kept_none system)) tt)
+
+add_apart : (system : System) (ks : List Seen) (y key : Seen) → is_of system key ≡ false → is_among ks key ≡ false → is_among (add system ks y) key ≡ false
+add_apart system ks y key o h = by (is_of system y) (is_among ks y || nat_le most_cells (length ks)) refl where
+  by : (b n : Bool) → is_of system y ≡ b → is_among (if b && not n then ks ++ y ∷ [] else ks) key ≡ false
+  by false n e = h
+  by true true e = h
+  by true false e = among-push ks y key ∙ ap (λ v. v || has_same_key key y) h ∙ other (has_same_key key y) refl where
+    other : (v : Bool) → has_same_key key y ≡ v → v ≡ false
+    other false f = refl
+    other true f = let same = key_system system key y f in absurd (grind (arith, same, e, o))
+
+apart_more : (system : System) (xs ys : List Seen) (key : Seen) → is_of system key ≡ false → is_among (kept system xs) key ≡ false → is_among (kept system (xs ++ ys)) key ≡ false
+apart_more system xs [] key o h = subst (λ l. is_among (kept system l) key ≡ false) (sym (append-nil xs)) h
+apart_more system xs (y ∷ ys) key o h =
+    subst (λ l. is_among (kept system l) key ≡ false) (append_assoc xs (y ∷ []) ys)
+    (apart_more system (xs ++ y ∷ []) ys key o (ap (λ l. is_among l key) (kept-add system xs y) ∙ add_apart system (kept system xs) y key o h))
+
+pub kept_apart : (system : System) (xs : List Seen) (key : Seen) → is_of system key ≡ false → is_among (kept system xs) key ≡ false
+kept_apart system xs key o = apart_more system [] xs key o (ap (λ l. is_among l key) (kept_none system))
+
+-- ---- one epoch more
+
+last_push : (xs : List KnownLock) (o : Option KnownLock) → last_of (xs ++ cons_option o []) ≡ option_or o (last_of xs)
+last_push [] None = refl
+last_push [] (Some l) = refl
+last_push (x ∷ xs) None = ap last_of (append-nil (x ∷ xs))
+last_push (x ∷ xs) (Some l) = ap (λ o. Some (unwrap_or o x)) (last_push xs (Some l))
+
+filter_map_push : (f : ℕ → Option KnownLock) (ts : List ℕ) (t : ℕ) → filter_map f (ts ++ t ∷ []) ≡ filter_map f ts ++ cons_option (f t) []
+filter_map_push f [] t = refl
+filter_map_push f (u ∷ ts) t = ap (cons_option (f u)) (filter_map_push f ts t) ∙ by (f u) where
+  by : (o : Option KnownLock) → cons_option o (filter_map f ts ++ cons_option (f t) []) ≡ cons_option o (filter_map f ts) ++ cons_option (f t) []
+  by None = refl
+  by (Some l) = refl
+
+pub latest_in-push : (s : Setup) (xs : List Timed) (ts : List ℕ) (t : ℕ) (key : Seen)
+    → latest_in s xs (ts ++ t ∷ []) key ≡ option_or (locked_at s xs key t) (latest_in s xs ts key)
+latest_in-push s xs ts t key = ap last_of (filter_map_push (locked_at s xs key) ts t) ∙ last_push (filter_map (locked_at s xs key) ts) (locked_at s xs key t)
+
+seens_marked : (s : Setup) (xs : List Timed) (t : ℕ) (ks : List Seen) → seens (marked s xs t ks) ≡ ks
+seens_marked s xs t [] = refl
+seens_marked s xs t (k ∷ ks) = ap (λ l. k ∷ l) (seens_marked s xs t ks)
+
+-- what is found after an epoch is noted
+noted_found : (s : Setup) (xs : List Timed) (ts : List ℕ) (t : ℕ) (rs : List LockRecord) (key : Seen) → lookup rs key ≡ latest_in s xs ts key
+    → lookup (note_all t (note_all t rs (marked s xs t (kept_at s t xs Gps))) (marked s xs t (kept_at s t xs Galileo))) key ≡ latest_in s xs (ts ++ t ∷ []) key
+noted_found s xs ts t rs key h =
+    lookup-note_all t (note_all t rs gps) galileo key (subst (IsDistinct has_same_key) (sym (seens_marked s xs t (kept_at s t xs Galileo))) (kept_distinct Galileo (offered s t xs)))
+    ∙ ap₂ (λ l o. option_or (option_and_then (lock_of t) (find (has_same_key key) l)) o) (seens_marked s xs t (kept_at s t xs Galileo))
+    (lookup-note_all t rs gps key (subst (IsDistinct has_same_key) (sym (seens_marked s xs t (kept_at s t xs Gps))) (kept_distinct Gps (offered s t xs)))
+    ∙ ap₂ (λ l o. option_or (option_and_then (lock_of t) (find (has_same_key key) l)) o) (seens_marked s xs t (kept_at s t xs Gps)) h)
+    ∙ by key.satellite.system refl ∙ sym (latest_in-push s xs ts t key) where
+      gps : List Marked
+      gps = marked s xs t (kept_at s t xs Gps)
+
+      galileo : List Marked
+      galileo = marked s xs t (kept_at s t xs Galileo)
+
+      by : (system : System) → key.satellite.system ≡ system
+          → option_or (option_and_then (lock_of t) (find (has_same_key key) (kept_at s t xs Galileo))) (option_or (option_and_then (lock_of t) (find (has_same_key key) (kept_at s t xs Gps))) (latest_in s xs ts key))
+          ≡ option_or (option_and_then (lock_of t) (find (has_same_key key) (kept_at s t xs key.satellite.system))) (latest_in s xs ts key)
+      by Gps e =
+          ap (λ o. option_or (option_and_then (lock_of t) o) (option_or (option_and_then (lock_of t) (find (has_same_key key) (kept_at s t xs Gps))) (latest_in s xs ts key)))
+          (find_none key (kept_at s t xs Galileo) (kept_apart Galileo (offered s t xs) key (grind (arith, e))))
+          ∙ ap (λ c. option_or (option_and_then (lock_of t) (find (has_same_key key) (kept_at s t xs c))) (latest_in s xs ts key)) (sym e)
+      by Galileo e =
+          ap (λ o. option_or (option_and_then (lock_of t) (find (has_same_key key) (kept_at s t xs Galileo))) (option_or (option_and_then (lock_of t) o) (latest_in s xs ts key)))
+          (find_none key (kept_at s t xs Gps) (kept_apart Gps (offered s t xs) key (grind (arith, e))))
+          ∙ ap (λ c. option_or (option_and_then (lock_of t) (find (has_same_key key) (kept_at s t xs c))) (latest_in s xs ts key)) (sym e)
+
+noted_tracks : (s : Setup) (xs : List Timed) (ts : List ℕ) (t : ℕ) (rs : List LockRecord) → Tracks rs (locked_in s xs ts)
+    → Tracks (note_all t (note_all t rs (marked s xs t (kept_at s t xs Gps))) (marked s xs t (kept_at s t xs Galileo))) (locked_in s xs (ts ++ t ∷ []))
+noted_tracks s xs ts t rs h =
+    let gps = kept_at s t xs Gps in
+    let galileo = kept_at s t xs Galileo in
+    let first = tracks_all t rs (locked_in s xs ts) (marked s xs t gps) h in
+    let second = tracks_all t _ _ (marked s xs t galileo) first in
+    let is : (locked_in s xs ts ++ locked (seens (marked s xs t gps))) ++ locked (seens (marked s xs t galileo)) ≡ locked_in s xs (ts ++ t ∷ []) =
+    ap₂ (λ a b. (locked_in s xs ts ++ locked a) ++ locked b) (seens_marked s xs t gps) (seens_marked s xs t galileo)
+    ∙ append_assoc (locked_in s xs ts) (locked gps) (locked galileo) ∙ ap (λ l. locked_in s xs ts ++ l) (sym (filter-append is_locked gps galileo) ∙ sym (append-nil _))
+    ∙ sym (flat_map-append (λ u. filter is_locked (kept_at s u xs Gps ++ kept_at s u xs Galileo)) ts (t ∷ [])) in
+    subst (Tracks (note_all t (note_all t rs (marked s xs t gps)) (marked s xs t galileo))) is second
+
+-- the held epoch closes
+pub noted_locked : (g : Gathered) (s : Setup) (xs : List Timed) (ts : List ℕ) (t : ℕ) → g.epoch ≡ epoch_at s xs t → Locked g s xs ts → Locked (noted g) s xs (ts ++ t ∷ [])
+noted_locked g s xs ts t e h =
+    let is : (noted g).locks ≡ note_all t (note_all t g.locks (marked s xs t (kept_at s t xs Gps))) (marked s xs t (kept_at s t xs Galileo)) =
+    ap (λ (v : MarkedEpoch). note_all v.time (note_all v.time g.locks v.gps) v.galileo) e in
+    record {
+      found = λ key. ap (λ l. lookup l key) is ∙ noted_found s xs ts t g.locks key (h.found key);
+      tracks = subst (λ l. Tracks l (locked_in s xs (ts ++ t ∷ []))) (sym is) (noted_tracks s xs ts t g.locks h.tracks);
+    }

@@ -1,0 +1,71 @@
+-- The definitions on small lists: they compute.
+use Rattle.std.proofs.Common.{◌≡◌, ℕ, ◌+◌, ◌*◌, Bool, true, false, List, [], ◌∷◌, map, refl, Option, Some, None}
+use Rattle.std.specs.Prelude.{pos, ℤ}
+use Rattle.gnss_obs.specs.declared.system.System.TheVariants.{Gps}
+use Rattle.obs_epoch.specs.Heard.{Setup, Heard}
+use Rattle.obs_epoch.specs.declared.seen.Seen.{Seen}
+use Rattle.obs_epoch.specs.Times.{timed}
+use Rattle.obs_epoch.specs.Weeks.{week}
+use Rattle.obs_epoch.specs.Cells.{counts_of}
+use Rattle.obs_epoch.specs.Marked.{MarkedEpoch}
+use Rattle.obs_epoch.specs.Epochs.{epochs, closed_epochs}
+use Rattle.obs_epoch.specs.Marked.{Marked}
+
+abbrev setup : Setup
+setup = record { plan = record { gps = 2 ∷ []; galileo = 2 ∷ [] }; start_week = 2300; station = Some 7; by_bit = true }
+
+abbrev observed : ℕ → Bool → List Seen → Heard
+observed tow more cells = record { station = Some 7; tow = Some tow; more = Some more; cells = cells; unlisted = 0; point = None }
+
+abbrev other : Bool → Heard
+other more = record { station = Some 7; tow = None; more = Some more; cells = []; unlisted = 0; point = None }
+
+-- two weeks, exactly half a week on, and too far
+abbrev four : List Heard
+four = observed 604_799_000 false [] ∷ observed 0 false [] ∷ observed 302_400_000 false [] ∷ observed 1 false [] ∷ []
+
+pub four_times : map (λ x. x.time) (timed setup four)
+    ≡ Some (2300 * week + 604_799_000) ∷ Some (2301 * week) ∷ Some (2301 * week + 302_400_000) ∷ None ∷ []
+four_times = refl
+
+-- an unsupported message closes, and the last comes too late
+abbrev closing : List Heard
+closing = observed 5 true [] ∷ observed 5 true [] ∷ other false ∷ observed 5 true [] ∷ []
+
+pub closing_times : map (λ x. x.time) (timed setup closing) ≡ Some (2300 * week + 5) ∷ Some (2300 * week + 5) ∷ None ∷ None ∷ []
+closing_times = refl
+
+pub not_by_bit : map (λ x. x.time) (timed (record setup { by_bit = false }) closing)
+    ≡ Some (2300 * week + 5) ∷ Some (2300 * week + 5) ∷ None ∷ Some (2300 * week + 5) ∷ []
+not_by_bit = refl
+
+abbrev cell : Option ℤ → Option ℕ → Seen
+cell l least = record {
+  satellite = record { system = Gps; id = 5 };
+  signal = record { system = Gps; index = 2 };
+  c = Some (pos 1);
+  l = l;
+  d = None;
+  s = None;
+  lock = record { least = least; upper = Some 4 };
+  half_cycle = false;
+}
+
+abbrev marks : List MarkedEpoch → List (List ℕ)
+marks es = map (λ (e : MarkedEpoch). map (λ (m : Marked). m.mark) e.gps) es
+
+-- a lock of 4,096 ms, then an invalid phase, then a lock of 2,048 ms
+abbrev three : List Heard
+three =
+    observed 1000 false (cell (Some (pos 1)) (Some 4096) ∷ []) ∷ observed 2000 false (cell None (Some 0) ∷ [])
+    ∷ observed 3000 true (cell (Some (pos 1)) (Some 2048) ∷ cell None None ∷ []) ∷ []
+
+pub three_marks : marks (epochs setup (timed setup three)) ≡ (0 ∷ []) ∷ (0 ∷ []) ∷ (1 ∷ []) ∷ []
+three_marks = refl
+
+pub two_closed : marks (closed_epochs setup (timed setup three)) ≡ (0 ∷ []) ∷ (0 ∷ []) ∷ []
+two_closed = refl
+
+pub one_repeated : counts_of setup [] (cell None None ∷ cell None (Some 1) ∷ [])
+    ≡ record { kept = 1; skipped = 0; repeated = 1; crowded = 0 }
+one_repeated = refl

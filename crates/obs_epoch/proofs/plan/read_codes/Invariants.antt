@@ -1,0 +1,14 @@
+use Rattle.std.proofs.Common.{◌≡◌, ◌+◌, [], length}
+use Rattle.std.specs.Option.{option_map, option_map_or}
+use Rattle.std.specs.Prelude.{ℕ, List}
+use Rattle.obs_epoch.specs.Signals.{indices, IsOf, codes_in}
+use Rattle.obs_epoch.specs.Plans.{signals_after, between_commas}
+use Rattle.obs_epoch.proofs.plan.read_codes.Given as goal
+
+abbrev pub invariant-loop-rest : goal.invariant-loop-rest
+invariant-loop-rest l =
+    (signals_after l.system (indices l.signals.items) (codes_in (option_map (λ r. r.now) l.rest)) ≡ signals_after l.system [] (between_commas l.text))
+    × IsOf l.system l.signals.items
+
+abbrev pub decreases-loop-rest : goal.decreases-loop-rest
+decreases-loop-rest l = option_map_or (λ r. length r.now + 1) l.rest 0

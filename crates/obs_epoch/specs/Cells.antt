@@ -1,0 +1,94 @@
+-- The cells of an epoch: of each key the first, and of these the first 64 of a system.
+use Rattle.std.specs.Prelude.{ℕ, ◌+◌, ◌-◌, ◌==◌, ◌&&◌, ◌||◌, Bool, true, false, not, nat_le, nat_lt, List, [], ◌∷◌, ◌++◌, filter, flat_map, take, length, count_by, is_some, if◌then◌else◌}
+use Rattle.std.specs.List.{list_any}
+use Rattle.gnss_obs.specs.declared.system.System.{System}
+use Rattle.gnss_obs.specs.declared.system.System.TheVariants.{Gps, Galileo}
+use Rattle.gnss_obs.specs.Satellites.{Satellite}
+use Rattle.gnss_obs.specs.Signals.{SignalAt}
+use Rattle.obs_epoch.specs.Values.{planned_of, most_cells}
+use Rattle.obs_epoch.specs.Plans.{place_in}
+use Rattle.obs_epoch.specs.Heard.{Setup}
+use Rattle.obs_epoch.specs.declared.seen.Seen.{Seen}
+use Rattle.obs_epoch.specs.Times.{Timed, is_at}
+use Rattle.obs_epoch.specs.declared.seen.Counts.{Counts}
+
+abbrev pub is_gps : System → Bool
+is_gps Gps = true
+is_gps Galileo = false
+
+abbrev pub is_system : System → System → Bool
+is_system Gps s = is_gps s
+is_system Galileo s = not (is_gps s)
+
+abbrev pub is_of : System → Seen → Bool
+is_of system x = is_system system x.satellite.system
+
+-- of one system, satellite and signal
+abbrev pub same_key : Satellite → SignalAt → Satellite → SignalAt → Bool
+same_key satellite signal other_satellite other_signal =
+    is_system satellite.system other_satellite.system && (satellite.id == other_satellite.id) && (signal.index == other_signal.index)
+
+abbrev pub has_same_key : Seen → Seen → Bool
+has_same_key a b = same_key a.satellite a.signal b.satellite b.signal
+
+-- the satellites that are taken, and the signals that are listed
+abbrev pub most_satellites : System → ℕ
+most_satellites Gps = 32
+most_satellites Galileo = 36
+
+abbrev pub listed_signals : System → ℕ
+listed_signals Gps = 15
+listed_signals Galileo = 19
+
+-- the signal is planned
+abbrev pub is_planned : Setup → Seen → Bool
+is_planned s x = is_some (place_in x.signal (planned_of x.signal.system s.plan))
+
+-- the planned cells of the taken messages of time t, in order
+abbrev pub offered : Setup → ℕ → List Timed → List Seen
+offered s t xs = flat_map (λ x. filter (is_planned s) x.message.cells) (filter (is_at t) xs)
+
+abbrev pub is_among : List Seen → Seen → Bool
+is_among xs x = list_any (has_same_key x) xs
+
+-- of these, after the earlier ones, those whose key none before has
+abbrev pub firsts_after : List Seen → List Seen → List Seen
+firsts_after earlier [] = []
+firsts_after earlier (x ∷ xs) =
+    (if is_among earlier x then [] else x ∷ []) ++ firsts_after (earlier ++ x ∷ []) xs
+
+-- the first of each key
+abbrev pub firsts : List Seen → List Seen
+firsts xs = firsts_after [] xs
+
+-- those that are kept of a system
+abbrev pub kept : System → List Seen → List Seen
+kept system xs = take most_cells (filter (is_of system) (firsts xs))
+
+-- one cell more: it is kept where it is of the system, where none of its key is kept, and where there is room
+abbrev pub add : System → List Seen → Seen → List Seen
+add system ks y = if is_of system y && not (is_among ks y || nat_le most_cells (length ks)) then ks ++ y ∷ [] else ks
+
+-- the kept cells of the epoch of time t, of a system
+abbrev pub kept_at : Setup → ℕ → List Timed → System → List Seen
+kept_at s t xs system = kept system (offered s t xs)
+
+abbrev pub both : List Seen → List Seen
+both xs = kept Gps xs ++ kept Galileo xs
+
+-- of the cells that a message brings behind those before it: how many were kept, weren't planned, are repeated, are one too many
+abbrev pub counts_of : Setup → List Seen → List Seen → Counts
+counts_of s before cells =
+    let planned = filter (is_planned s) cells in
+    let all = both (before ++ planned) in
+    let newly = length all - length (both before) in
+    record {
+      kept = newly;
+      skipped = count_by (λ x. not (is_planned s x)) cells;
+      repeated = count_by (is_among all) planned - newly;
+      crowded = count_by (λ x. not (is_among all x)) planned;
+    }
+
+-- and of so many more that neither satellite nor signal lists
+abbrev pub with_skipped : ℕ → Counts → Counts
+with_skipped n c = record c { skipped = c.skipped + n }

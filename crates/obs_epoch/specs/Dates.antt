@@ -1,0 +1,70 @@
+-- GPS time as a civil date and time of day: what it is by the calendar, and a walk from 1980 on that computes it.
+use Rattle.std.specs.Prelude.{◌≡◌, ℕ, zero, suc, ◌+◌, ◌-◌, ◌*◌, ◌/◌, ◌%◌, ◌<◌, ◌==◌, ◌&&◌, ◌||◌, Bool, not, nat_lt, pos, ◌+ℤ◌, ◌-ℤ◌, if◌then◌else◌}
+use Rattle.jiff_core.specs.Calendar.{IsCivilDate, days_from_civil}
+use Rattle.obs_epoch.specs.declared.civil.Civil.{Civil}
+use Rattle.obs_epoch.specs.Weeks.{day as day_length}
+
+-- ---- by the calendar
+
+-- the calendar and the clock have it
+pub record IsCivil (c : Civil) : Type 0 where
+  pub date : IsCivilDate (pos c.year) c.month c.day
+  pub hour : c.hour < 24
+  pub minute : c.minute < 60
+  pub millisecond : c.millisecond < 60_000
+
+-- the milliseconds since midnight
+abbrev pub clock_of : Civil → ℕ
+clock_of c = c.hour * 3_600_000 + c.minute * 60_000 + c.millisecond
+
+-- it is so many milliseconds after 1980-01-06 00:00:00: whole days by the calendar, and the rest by the clock
+pub record IsCivilOf (t : ℕ) (c : Civil) : Type 0 where
+  pub valid : IsCivil c
+  pub days : days_from_civil (pos c.year) c.month c.day -ℤ days_from_civil (pos 1980) 1 6 ≡ pos (t / day_length)
+  pub clock : clock_of c ≡ t % day_length
+
+-- ---- by a walk: year after year from 1980 on, and then month after month
+
+abbrev pub is_leap : ℕ → Bool
+is_leap y = (y % 4 == 0) && (not (y % 100 == 0) || (y % 400 == 0))
+
+abbrev pub year_length : ℕ → ℕ
+year_length y = if is_leap y then 366 else 365
+
+abbrev pub month_length : ℕ → ℕ → ℕ
+month_length y m =
+    if m == 2 then (if is_leap y then 29 else 28) else (if (m == 4) || (m == 6) || (m == 9) || (m == 11) then 30 else 31)
+
+pub record YearMonthDay : Type 0 where
+  pub year : ℕ
+  pub month : ℕ
+  pub day : ℕ
+
+-- so many days on from the first of a month, at most so many months on
+abbrev pub month_on : ℕ → ℕ → ℕ → ℕ → YearMonthDay
+month_on zero y m days = record { year = y; month = m; day = days + 1 }
+month_on (suc months) y m days =
+    if nat_lt days (month_length y m) then record { year = y; month = m; day = days + 1 } else month_on months y (m + 1) (days - month_length y m)
+
+-- so many days on from the first of a year, at most so many years on
+abbrev pub year_on : ℕ → ℕ → ℕ → YearMonthDay
+year_on zero y days = month_on 11 y 1 days
+year_on (suc years) y days = if nat_lt days (year_length y) then month_on 11 y 1 days else year_on years (y + 1) (days - year_length y)
+
+-- the date so many days after 1980-01-06
+abbrev pub date_of : ℕ → YearMonthDay
+date_of days = year_on 1920 1980 (days + 5)
+
+abbrev pub civil_with : YearMonthDay → ℕ → Civil
+civil_with d clock = record {
+  year = d.year;
+  month = d.month;
+  day = d.day;
+  hour = clock / 3_600_000;
+  minute = clock / 60_000 % 60;
+  millisecond = clock % 60_000;
+}
+
+-- the date and time of day so many milliseconds after 1980-01-06 00:00:00, before week 100,000
+abbrev pub civil_of : ℕ → Civil
+civil_of t = civil_with (date_of (t / day_length)) (t % day_length)

@@ -1,0 +1,54 @@
+-- The epochs of a list of messages.
+use Rattle.std.specs.Prelude.{ℕ, ◌||◌, Bool, false, nat_lt, List, [], ◌∷◌, ◌++◌, filter, fold, map, if◌then◌else◌, option_to_list, pos}
+use Rattle.std.specs.Option.{option_map_or}
+use Rattle.gnss_obs.specs.declared.system.System.TheVariants.{Gps, Galileo}
+use Rattle.rtcm_msg.specs.declared.station.StationParts.{StationParts}
+use Rattle.obs_epoch.specs.declared.seen.Seen.{Seen}
+use Rattle.obs_epoch.specs.Marked.{Marked, MarkedEpoch}
+use Rattle.obs_epoch.specs.declared.cell.StationValues.{StationValues}
+use Rattle.obs_epoch.specs.Heard.{Setup, Heard, is_own}
+use Rattle.obs_epoch.specs.Times.{Timed, greatest, is_closed}
+use Rattle.obs_epoch.specs.Cells.{kept_at}
+use Rattle.obs_epoch.specs.Loss.{times, mark_of}
+
+abbrev pub marked : Setup → List Timed → ℕ → List Seen → List Marked
+marked s xs t [] = []
+marked s xs t (c ∷ cs) = record { seen = c; mark = mark_of s xs t c } ∷ marked s xs t cs
+
+-- the epoch of time t
+abbrev pub epoch_at : Setup → List Timed → ℕ → MarkedEpoch
+epoch_at s xs t = record {
+  time = t;
+  gps = marked s xs t (kept_at s t xs Gps);
+  galileo = marked s xs t (kept_at s t xs Galileo);
+}
+
+-- all epochs, closed or not
+abbrev pub epochs : Setup → List Timed → List MarkedEpoch
+epochs s xs = map (epoch_at s xs) (times xs)
+
+-- closed within the list: by a mark, or by a taken message of a greater time
+abbrev pub is_shut : Setup → List Timed → ℕ → Bool
+is_shut s xs t = is_closed s t xs || option_map_or (λ u. nat_lt t u) (greatest xs) false
+
+-- the epochs that are closed within the list
+abbrev pub closed_epochs : Setup → List Timed → List MarkedEpoch
+closed_epochs s xs = map (epoch_at s xs) (filter (is_shut s xs) (times xs))
+
+abbrev pub told : Setup → StationValues → Heard → StationValues
+told s v m = if is_own s m then option_map_or (λ (p : StationParts). record { x = p.x; y = p.y; z = p.z; height = option_map_or (λ h. h) p.height v.height }) m.point v else v
+
+abbrev pub no_values : StationValues
+no_values = record { x = pos 0; y = pos 0; z = pos 0; height = 0 }
+
+-- the point of the last own message that told one, and the last height; 0 where there was none
+abbrev pub values_of : Setup → List Heard → StationValues
+values_of s ms = fold (told s) no_values ms
+
+-- the times of the epochs that are closed within the list
+abbrev pub closed_times : Setup → List Timed → List ℕ
+closed_times s xs = filter (is_shut s xs) (times xs)
+
+-- the times of the epochs that are closed, and of the pending one where `shut` says that it was closed since
+abbrev pub closed_so_far : Setup → List Timed → Bool → List ℕ
+closed_so_far s xs shut = closed_times s xs ++ (if shut then option_to_list (greatest xs) else [])

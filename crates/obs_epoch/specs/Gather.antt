@@ -1,0 +1,132 @@
+-- What a gatherer is seen as, and its steps by its parts.
+use Rattle.std.specs.Prelude.{ℕ, ◌≡◌, ◌≤◌, ◌==◌, Bool, true, false, List, [], ◌∷◌, ◌++◌, length, if◌then◌else◌, Option, Some, None, is_some}
+use Rattle.std.specs.Option.{option_map_or}
+use Rattle.gnss_obs.specs.declared.system.System.{System}
+use Rattle.gnss_obs.specs.declared.system.System.TheVariants.{Gps, Galileo}
+use Rattle.obs_epoch.specs.declared.seen.Seen.{Seen}
+use Rattle.obs_epoch.specs.Marked.{Marked}
+use Rattle.obs_epoch.specs.declared.seen.LockRecord.{LockRecord}
+use Rattle.obs_epoch.specs.declared.cell.StationValues.{StationValues}
+use Rattle.obs_epoch.specs.declared.seen.Counts.{Counts}
+use Rattle.obs_epoch.specs.declared.seen.Fate.{Fate}
+use Rattle.obs_epoch.specs.declared.seen.Fate.TheVariants.{Kept}
+use Rattle.obs_epoch.specs.declared.clock.Answer.{Answer}
+use Rattle.obs_epoch.specs.declared.clock.Answer.TheVariants as answers
+use Rattle.rtcm_msg.specs.declared.entry.Entry.{Entry}
+use Rattle.obs_epoch.specs.Heard.{Heard, seen_in}
+use Rattle.obs_epoch.specs.Values.{most_cells}
+use Rattle.obs_epoch.specs.Cells.{with_skipped}
+use Rattle.obs_epoch.specs.Loss.{mark_with}
+use Rattle.obs_epoch.specs.Marked.{MarkedEpoch}
+use Rattle.obs_epoch.specs.Epochs.{told}
+use Rattle.obs_epoch.specs.Held.{lookup, note_all, fate_of, count_in}
+use Rattle.obs_epoch.specs.Clock.{State}
+use Rattle.obs_epoch.specs.Step.{answer_by, step_by, closed_by}
+
+-- ---- the epoch that is held
+
+abbrev pub no_epoch : MarkedEpoch
+no_epoch = record { time = 0; gps = []; galileo = [] }
+
+abbrev pub cells_in : System → MarkedEpoch → List Marked
+cells_in Gps e = e.gps
+cells_in Galileo e = e.galileo
+
+abbrev pub more_in : System → MarkedEpoch → Marked → MarkedEpoch
+more_in Gps e m = record e { gps = e.gps ++ m ∷ [] }
+more_in Galileo e m = record e { galileo = e.galileo ++ m ∷ [] }
+
+abbrev pub with_more : MarkedEpoch → Marked → MarkedEpoch
+with_more e m = more_in m.seen.satellite.system e m
+
+-- ---- the gatherer
+
+pub record Gathered : Type 0 where
+  pub clock : State
+  pub epoch : MarkedEpoch
+  pub locks : List LockRecord
+  pub values : StationValues
+  pub handed : Bool
+  pub has_ended : Bool
+
+abbrev pub fate_in : Gathered → Seen → Fate
+fate_in g x = fate_of g.clock.setup (cells_in x.satellite.system g.epoch) x
+
+abbrev pub hold_by : Fate → Gathered → Seen → Gathered
+hold_by Kept g x = record g { epoch = with_more g.epoch (record { seen = x; mark = mark_with g.epoch.time x (lookup g.locks x) }) }
+hold_by _ g x = g
+
+-- a cell comes
+abbrev pub hold : Gathered → Seen → Gathered
+hold g x = hold_by (fate_in g x) g x
+
+pub record Loaded : Type 0 where
+  pub state : Gathered
+  pub counts : Counts
+
+abbrev pub no_counts : Counts
+no_counts = record { kept = 0; skipped = 0; repeated = 0; crowded = 0 }
+
+abbrev pub load_one : Loaded → Seen → Loaded
+load_one l x = record { state = hold l.state x; counts = count_in (fate_in l.state x) l.counts }
+
+-- cells come, one by one
+abbrev pub load : Loaded → List Seen → Loaded
+load l [] = l
+load l (x ∷ xs) = load (load_one l x) xs
+
+-- so many more cells were skipped
+abbrev pub with_unlisted : ℕ → Loaded → Loaded
+with_unlisted n l = record { state = l.state; counts = with_skipped n l.counts }
+
+abbrev pub load_entry : Bool → System → Loaded → Entry → Loaded
+load_entry is_long system l e = option_map_or (load_one l) (seen_in is_long system e) (with_unlisted 1 l)
+
+-- the cells of a message come, one by one
+abbrev pub load_entries : Bool → System → Loaded → List Entry → Loaded
+load_entries is_long system l [] = l
+load_entries is_long system l (e ∷ es) = load_entries is_long system (load_entry is_long system l e) es
+
+-- the cells of a message
+abbrev pub load_heard : Loaded → Heard → Loaded
+load_heard l m = with_unlisted m.unlisted (load l m.cells)
+
+-- the locks of the held epoch are noted
+abbrev pub noted : Gathered → Gathered
+noted g = record g { locks = note_all g.epoch.time (note_all g.epoch.time g.locks g.epoch.gps) g.epoch.galileo }
+
+-- ---- a whole message
+
+abbrev pub is_same : Option ℕ → Option ℕ → Bool
+is_same None None = true
+is_same None (Some b) = false
+is_same (Some a) None = false
+is_same (Some a) (Some b) = a == b
+
+-- the epoch of the greatest time, with no cell yet where that time is new
+abbrev pub begun : Option ℕ → Gathered → Gathered
+begun before g =
+    if is_same before g.clock.latest then g else record g { epoch = record { time = option_map_or (λ t. t) g.clock.latest 0; gps = []; galileo = [] } }
+
+abbrev pub loaded_by : Answer → Option ℕ → Gathered → Heard → Loaded
+loaded_by answers.Kept before g m = load_heard (record { state = begun before g; counts = no_counts }) m
+loaded_by _ before g m = record { state = g; counts = no_counts }
+
+-- the clock and the station values are told of the message
+abbrev pub ticked : Gathered → Heard → Gathered
+ticked g m = record g { clock = step_by g.clock m; values = told g.clock.setup g.values m; handed = is_some (closed_by g.clock m) }
+
+abbrev pub closed_if : Bool → Loaded → Loaded
+closed_if b l = record { state = if b then noted l.state else l.state; counts = l.counts }
+
+abbrev pub take_step : Gathered → Heard → Loaded
+take_step g m = closed_if (is_some (closed_by g.clock m)) (loaded_by (answer_by g.clock m) g.clock.latest (ticked g m) m)
+
+abbrev pub stopped : State → State
+stopped c = record c { pending = false }
+
+-- no message follows
+abbrev pub end_step : Gathered → Gathered
+end_step g =
+    let h = record g { clock = stopped g.clock; handed = g.clock.pending; has_ended = true } in
+    if g.clock.pending then noted h else h

@@ -1,0 +1,51 @@
+-- What becomes of a message.
+use Rattle.std.specs.Prelude.{ℕ, Bool, true, false, List, Option, is_some, if◌then◌else◌}
+use Rattle.obs_epoch.specs.declared.clock.Answer.{Answer}
+use Rattle.obs_epoch.specs.declared.clock.Answer.TheVariants as answers
+use Rattle.obs_epoch.specs.declared.taken.Kind.{Kind}
+use Rattle.obs_epoch.specs.declared.taken.Kind.TheVariants as kinds
+use Rattle.std.specs.Prelude.{nat_lt}
+use Rattle.std.specs.Option.{option_map_or}
+use Rattle.obs_epoch.specs.declared.taken.Gather.{Gather}
+use Rattle.obs_epoch.specs.declared.taken.Gather.TheVariants as gathers
+use Rattle.obs_epoch.specs.declared.seen.Counts.{Counts}
+use Rattle.obs_epoch.specs.Heard.{Setup, Heard}
+use Rattle.obs_epoch.specs.Times.{timed}
+use Rattle.obs_epoch.specs.Clock.{answer_of}
+use Rattle.obs_epoch.specs.Standing.{counts_in}
+
+abbrev pub is_close_first : Kind → Bool
+is_close_first kinds.CloseFirst = true
+is_close_first _ = false
+
+-- of observations: by their time
+abbrev pub kind_at : Answer → Counts → Kind
+kind_at answers.OtherStation n = kinds.OtherStation
+kind_at answers.Ignored n = kinds.Ignored
+kind_at answers.Late n = kinds.Late
+kind_at answers.PastWeeks n = kinds.PastWeeks
+kind_at answers.CloseFirst n = kinds.CloseFirst
+kind_at answers.Kept n = kinds.Kept n.kept n.skipped n.repeated n.crowded
+
+-- of a station message: by its station
+abbrev pub station_kind : Answer → Kind
+station_kind answers.OtherStation = kinds.OtherStation
+station_kind _ = kinds.Station
+
+-- of a message that tells a time of week, that tells a point, or that tells neither
+abbrev pub kind_by : Heard → Answer → Counts → Kind
+kind_by m answer n =
+    if is_some m.tow then kind_at answer n else (if is_some m.point then station_kind answer else kinds.Ignored)
+
+-- what becomes of a message after these
+abbrev pub kind_of : Setup → List Heard → Heard → Kind
+kind_of s ms m = kind_by m (answer_of s (timed s ms) m) (counts_in s (timed s ms) m)
+
+-- a message may close an epoch by its bit
+abbrev pub is_by_bit : Gather → Bool
+is_by_bit gathers.Bit = true
+is_by_bit gathers.Time = false
+
+-- no station has this number
+abbrev pub is_no_station : Option ℕ → Bool
+is_no_station station = option_map_or (λ n. nat_lt 4_095 n) station false

@@ -1,0 +1,85 @@
+-- Kept cells with their marks, and the two parts in which they are held.
+use Rattle.std.specs.Prelude.{Bool, if◌then◌else◌, ◌≡◌, ℕ, ◌≤◌, List, [], ◌∷◌, ◌++◌, map, IfSome, All}
+use Rattle.gnss_obs.specs.declared.system.System.{System}
+use Rattle.gnss_obs.specs.declared.system.System.TheVariants.{Gps, Galileo}
+use Rattle.gnss_obs.specs.Satellites.{IsSatellite}
+use Rattle.gnss_obs.specs.Signals.{IsSignal}
+use Rattle.obs_epoch.specs.declared.cell.Cell.{Cell}
+use Rattle.obs_epoch.specs.declared.seen.Seen.{Seen}
+use Rattle.obs_epoch.specs.declared.seen.Tracking.{Tracking}
+use Rattle.obs_epoch.specs.Values.{EpochValue, Fits, IsHeld}
+
+-- a kept cell with its mark
+pub record Marked : Type 0 where
+  pub seen : Seen
+  pub mark : ℕ
+
+-- an epoch: its time, and the kept cells of each system with their marks
+pub record MarkedEpoch : Type 0 where
+  pub time : ℕ
+  pub gps : List Marked
+  pub galileo : List Marked
+
+-- a listed satellite and a listed signal of one system
+pub record IsKey (x : Seen) : Type 0 where
+  pub satellite : IsSatellite x.satellite
+  pub signal : IsSignal x.signal
+  pub same : x.signal.system ≡ x.satellite.system
+
+-- a cell of a listed satellite and signal of one system, with values of a bounded size
+pub record IsObserved (x : Seen) : Type 0 where
+  pub key : IsKey x
+  pub c : IfSome x.c Fits
+  pub l : IfSome x.l Fits
+  pub d : IfSome x.d Fits
+  pub s : IfSome x.s Fits
+
+-- one cell more of a system
+abbrev pub with_cell_of : System → EpochValue → Cell → EpochValue
+with_cell_of Gps e c = record e { gps = e.gps ++ c ∷ [] }
+with_cell_of Galileo e c = record e { galileo = e.galileo ++ c ∷ [] }
+
+-- the cells of either system that may be held
+abbrev pub AreKept : List Cell → Type 0
+AreKept cells = All (λ c. IsHeld c.satellite.system c) cells
+
+-- ---- what is held: the cell that others see, and beside it how it is tracked
+
+abbrev pub cell_of : Marked → Cell
+cell_of m = record {
+  satellite = m.seen.satellite;
+  signal = m.seen.signal;
+  c = m.seen.c;
+  l = m.seen.l;
+  d = m.seen.d;
+  s = m.seen.s;
+  mark = m.mark;
+}
+
+abbrev pub tracking_of : Seen → Tracking
+tracking_of x = record { lock = x.lock; half_cycle = x.half_cycle }
+
+abbrev pub seen_of : Cell → Tracking → Seen
+seen_of c t = record {
+  satellite = c.satellite;
+  signal = c.signal;
+  c = c.c;
+  l = c.l;
+  d = c.d;
+  s = c.s;
+  lock = t.lock;
+  half_cycle = t.half_cycle;
+}
+
+abbrev pub paired : List Cell → List Tracking → List Marked
+paired [] ts = []
+paired (c ∷ cs) [] = []
+paired (c ∷ cs) (t ∷ ts) = record { seen = seen_of c t; mark = c.mark } ∷ paired cs ts
+
+-- the epoch that others see
+abbrev pub shown : MarkedEpoch → EpochValue
+shown e = record { time = e.time; gps = map cell_of e.gps; galileo = map cell_of e.galileo }
+
+-- so many lock codes there are: DF407 of the long form, DF402 of the short one
+abbrev pub lock_codes : Bool → ℕ
+lock_codes is_long = if is_long then 1024 else 16

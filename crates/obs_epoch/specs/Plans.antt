@@ -1,0 +1,67 @@
+-- The signals that texts plan.
+use Rattle.std.specs.Prelude.{ℕ, zero, suc, ◌+◌, ◌==◌, Bool, List, [], ◌∷◌, ◌++◌, length, codes, nat_eq, if◌then◌else◌, Option, Some, None, Result, Ok, Err, position}
+use Rattle.std.specs.List.{list_any}
+use Rattle.std.specs.Str.{bytes_eq}
+use Rattle.gnss_obs.specs.declared.system.System.{System}
+use Rattle.gnss_obs.specs.declared.system.System.TheVariants.{Gps, Galileo}
+use Rattle.gnss_obs.specs.Signals.{SignalAt, table, signal_of_code}
+use Rattle.obs_epoch.specs.Values.{PlanValue, planned_of}
+use Rattle.obs_epoch.specs.declared.fault.PlanFault.{PlanFault}
+use Rattle.obs_epoch.specs.declared.fault.PlanFault.TheVariants.{UnknownCode, RepeatedCode, NothingPlanned}
+
+-- the place of a signal among those that are planned of its system
+abbrev pub place_in : SignalAt → List ℕ → Option ℕ
+place_in signal planned = position (λ i. i == signal.index) planned
+
+-- the texts between commas; an empty text is one empty code
+abbrev pub onto_first : ℕ → List (List ℕ) → List (List ℕ)
+onto_first b [] = (b ∷ []) ∷ []
+onto_first b (x ∷ xs) = (b ∷ x) ∷ xs
+
+abbrev pub between_commas : List ℕ → List (List ℕ)
+between_commas [] = [] ∷ []
+between_commas (b ∷ bs) = if b == 44 then [] ∷ between_commas bs else onto_first b (between_commas bs)
+
+-- one signal more, and what follows it; or its fault
+abbrev pub one_more : System → List ℕ → Option SignalAt → (List ℕ → Result (List ℕ) PlanFault) → Result (List ℕ) PlanFault
+one_more system earlier None rest = Err (UnknownCode system (length earlier))
+one_more system earlier (Some s) rest =
+    if list_any (nat_eq s.index) earlier
+    then Err (RepeatedCode system (length earlier))
+    else rest (earlier ++ s.index ∷ [])
+
+-- the signals that codes plan, behind those of the codes before them: from the left the first code that the table doesn't
+-- have, or whose signal came before, is the fault, with its place from 0
+abbrev pub signals_after : System → List ℕ → List (List ℕ) → Result (List ℕ) PlanFault
+signals_after system earlier [] = Ok earlier
+signals_after system earlier (code ∷ rest) =
+    one_more system earlier (signal_of_code system code) (λ signals. signals_after system signals rest)
+
+-- the numbers below n, rising
+abbrev pub below : ℕ → List ℕ
+below zero = []
+below (suc n) = below n ++ n ∷ []
+
+-- the signals of a system that a text plans: all of its table, none, or those of its codes
+abbrev pub signals_of : System → List ℕ → Result (List ℕ) PlanFault
+signals_of system text =
+    if bytes_eq text (codes "all") then Ok (below (length (table system)))
+    else (if bytes_eq text (codes "none") then Ok []
+    else signals_after system [] (between_commas text))
+
+abbrev some_planned : List ℕ → List ℕ → Result PlanValue PlanFault
+some_planned [] [] = Err NothingPlanned
+some_planned [] (g ∷ gs) = Ok (record { gps = []; galileo = g ∷ gs })
+some_planned (p ∷ ps) gs = Ok (record { gps = p ∷ ps; galileo = gs })
+
+abbrev with_galileo : List ℕ → Result (List ℕ) PlanFault → Result PlanValue PlanFault
+with_galileo gps (Err e) = Err e
+with_galileo gps (Ok galileo) = some_planned gps galileo
+
+abbrev with_gps : Result (List ℕ) PlanFault → Result (List ℕ) PlanFault → Result PlanValue PlanFault
+with_gps (Err e) galileo = Err e
+with_gps (Ok gps) galileo = with_galileo gps galileo
+
+-- the plan of two texts, or the first fault of theirs
+abbrev pub plan_of : List ℕ → List ℕ → Result PlanValue PlanFault
+plan_of gps galileo = with_gps (signals_of Gps gps) (signals_of Galileo galileo)

@@ -1,0 +1,76 @@
+-- What others see of plans, cells and epochs.
+use Rattle.std.specs.Prelude.{◌≡◌, ℕ, zero, suc, ℤ, ◌+◌, ◌<◌, ◌≤◌, ◌^◌, ◌==◌, ◌&&◌, ◌||◌, Bool, List, length, All, IfSome, is_some, unsigned_abs, if◌then◌else◌}
+use Rattle.std.specs.List.{list_any}
+use Rattle.gnss_obs.specs.Satellites.{satellites as satellites_in, IsSatellite}
+use Rattle.gnss_obs.specs.Signals.{IsSignal}
+use Rattle.gnss_obs.specs.declared.system.System.{System}
+use Rattle.gnss_obs.specs.declared.system.System.TheVariants.{Gps, Galileo}
+use Rattle.obs_epoch.specs.declared.cell.Cell.{Cell}
+use Rattle.obs_epoch.specs.declared.cell.StationValues.{StationValues}
+
+-- ---- plans: the signals that are wanted of each system, in order, by their places in the system's table
+
+pub record PlanValue : Type 0 where
+  pub gps : List ℕ
+  pub galileo : List ℕ
+
+abbrev pub planned_of : System → PlanValue → List ℕ
+planned_of Gps p = p.gps
+planned_of Galileo p = p.galileo
+
+-- ---- epochs: the time in milliseconds since 1980-01-06 00:00:00, and the kept cells of each system
+
+pub record EpochValue : Type 0 where
+  pub time : ℕ
+  pub gps : List Cell
+  pub galileo : List Cell
+
+abbrev pub cells_of : System → EpochValue → List Cell
+cells_of Gps e = e.gps
+cells_of Galileo e = e.galileo
+
+-- so many cells of a system are kept
+abbrev pub most_cells : ℕ
+most_cells = 64
+
+-- a value that fourteen columns have room for
+abbrev pub Fits : ℤ → Type 0
+Fits v = unsigned_abs v < 10 ^ 12
+
+-- a kept cell of a system
+pub record IsHeld (system : System) (cell : Cell) : Type 0 where
+  pub satellite : cell.satellite.system ≡ system
+  pub signal : cell.signal.system ≡ system
+  pub number : IsSatellite cell.satellite
+  pub place : IsSignal cell.signal
+  pub c : IfSome cell.c Fits
+  pub l : IfSome cell.l Fits
+  pub d : IfSome cell.d Fits
+  pub s : IfSome cell.s Fits
+  pub mark : cell.mark < 4
+
+pub record AreHeld (system : System) (cells : List Cell) : Type 0 where
+  pub each : All (IsHeld system) cells
+  pub few : length cells ≤ most_cells
+
+-- a cell that says something
+abbrev pub has_value : Cell → Bool
+has_value c = is_some c.c || is_some c.l || is_some c.d || is_some c.s
+
+-- a cell of the satellite of this number says something
+abbrev pub is_written : List Cell → ℕ → Bool
+is_written cells id = list_any (λ c. (c.satellite.id == id) && has_value c) cells
+
+-- of the first n satellites so many are to be written
+abbrev pub written_among : List Cell → ℕ → ℕ
+written_among cells zero = 0
+written_among cells (suc n) = written_among cells n + (if is_written cells (suc n) then 1 else 0)
+
+-- the satellites that are to be written: those with a cell that says something
+abbrev pub satellites : EpochValue → ℕ
+satellites e = written_among e.gps (satellites_in Gps) + written_among e.galileo (satellites_in Galileo)
+
+-- an epoch that was closed, with the station values that were known then
+pub record Closed : Type 0 where
+  pub epoch : EpochValue
+  pub values : StationValues

@@ -1,0 +1,35 @@
+//! What is kept of a message: cells, and where the station stands.
+use gnss_obs::{Sat, Signal, Thousandths};
+
+/// What was observed of one signal of one satellite.
+#[derive(Clone, Copy, Debug, PartialEq, Eq)]
+pub struct Cell {
+    /// The satellite.
+    pub satellite: Sat,
+    /// The signal, of the satellite's system.
+    pub signal: Signal,
+    /// The pseudorange in thousandths of a metre.
+    pub c: Option<Thousandths>,
+    /// The carrier phase in thousandths of a cycle.
+    pub l: Option<Thousandths>,
+    /// The Doppler shift in thousandths of a hertz.
+    pub d: Option<Thousandths>,
+    /// The strength in thousandths of a dB-Hz.
+    pub s: Option<Thousandths>,
+    /// RINEX's loss of lock indicator: bit 0 where lock was lost since the latest epoch with a phase of this key, bit 1 where
+    /// the phase may be off by half a cycle (DF420); 0 without a phase.
+    pub mark: u8,
+}
+
+/// Where the station's antenna stands, by the last messages that told it; 0 where none did.
+#[derive(Clone, Copy, Debug, PartialEq, Eq)]
+pub struct StationValues {
+    /// DF025 of the last 1005 or 1006, in 0.0001 m, as y and z are.
+    pub x: i64,
+    /// DF026.
+    pub y: i64,
+    /// DF027.
+    pub z: i64,
+    /// DF028 of the last 1006, in 0.0001 m.
+    pub height: u16,
+}

@@ -1,0 +1,212 @@
+//! The time of each message.
+ghost use Rattle.std.specs.Prelude.{option_to_list, ◌==◌, ◌≡◌, ◌<◌, ◌≤◌, ◌*◌, ◌^◌, ◌++◌, ◌∷◌, [], ℕ, Bool, true, false, List};
+ghost use Rattle.std.specs.Option.{ForSome};
+ghost use Rattle.std.specs.List.{list_any};
+ghost use Rattle.obs_epoch.specs.Cells.{is_planned as is_planned_lem};
+ghost use Rattle.obs_epoch.specs.Heard.{Setup, Heard};
+ghost use Rattle.obs_epoch.specs.Weeks.{week, weeks};
+ghost use Rattle.obs_epoch.specs.Times.{timed};
+
+use crate::plan::Plan;
+use crate::seen::Seen;
+use crate::time::{WEEK, WEEKS};
+use std::marker::Model;
+
+/// What becomes of a message by its station and time.
+#[derive(Clone, Copy, Debug, PartialEq, Eq)]
+pub enum Answer {
+    OtherStation,
+    Ignored,
+    Late,
+    PastWeeks,
+    Kept,
+    CloseFirst,
+}
+
+/// What becomes of a message, and the time of the epoch that was closed.
+#[derive(Clone, Copy, Debug, PartialEq, Eq)]
+pub struct Ticked {
+    pub answer: Answer,
+    pub closed: Option<u64>,
+}
+
+/// What a message tells of station and time.
+#[derive(Clone, Copy, Debug, PartialEq, Eq)]
+pub struct Told {
+    pub station: Option<u16>,
+    pub tow: Option<u32>,
+    pub more: Option<bool>,
+}
+
+ghost use Rattle.obs_epoch.specs.Step.{closed_of as closed_of_lem};
+
+/// The times of the messages of a station.
+#[derive(Drop)]
+pub struct Clock {
+    plan: Plan,
+    start_week: u32,
+    station: Option<u16>,
+    by_bit: bool,
+    latest: Option<u64>,
+    pending: bool,
+}
+
+impl Model for Clock {
+    ghost use Rattle.std.specs.Prelude.{[]};
+    ghost use Rattle.obs_epoch.specs.Clock.{State, IsWithin};
+
+    ghost Value = { State };
+
+    ghost view = { λ c. record {
+      setup = record { plan = c.plan; start_week = c.start_week; station = c.station; by_bit = c.by_bit };
+      latest = c.latest;
+      pending = c.pending;
+    } };
+
+    ghost invariant = { λ c. IsWithin c.start_week c.latest };
+}
+
+impl Clock {
+    ghost use Rattle.obs_epoch.specs.Clock.{Stands, heard_of};
+    ghost use Rattle.obs_epoch.specs.Step.{answer_by, step_by, answer_at, step_at, is_told_own, closed_by};
+    ghost use Rattle.obs_epoch.specs.declared.clock.Answer.{Answer};
+
+    /// No message was taken.
+    pub fn new(plan: Plan, start_week: u32, station: Option<u16>, by_bit: bool) -> Clock
+        requires { start_week < weeks }
+        ensures setup { result.setup ≡ record { plan = plan; start_week = start_week; station = station; by_bit = by_bit } }
+        ensures stands { Stands result result.setup [] false }
+    {
+        Clock {
+            plan,
+            start_week,
+            station,
+            by_bit,
+            latest: None,
+            pending: false,
+        }
+    }
+
+    /// Whether a cell is wanted.
+    pub fn is_planned(&self, x: &Seen) -> bool
+        ensures { result ≡ is_planned_lem self.now.setup x.now }
+    {
+        self.plan.place(x.signal).is_some()
+    }
+
+    /// The signals that are wanted.
+    pub fn plan(&self) -> &Plan
+        ensures { result.now ≡ self.now.setup.plan }
+    {
+        &self.plan
+    }
+
+    /// No message follows: whether an epoch was pending.
+    pub fn end(&mut self) -> bool
+        ensures was { result ≡ self.old.pending }
+        ensures step { self.new ≡ record self.old { pending = false } }
+    {
+        let was = self.pending;
+        self.pending = false;
+        was
+    }
+
+    /// The greatest time.
+    pub fn latest(&self) -> Option<u64>
+        ensures value { result ≡ self.now.latest }
+        ensures bound { ForSome result (λ t. t < weeks * week) }
+    {
+        self.latest
+    }
+
+    pub fn step_closing(&mut self, told: Told) -> Ticked
+        requires { ForSome told.tow (λ tow. tow < week) }
+        ensures answer { result.answer ≡ answer_by self.old (heard_of told) }
+        ensures closed { result.closed ≡ closed_by self.old (heard_of told) }
+        ensures step { self.new ≡ step_by self.old (heard_of told) }
+    {
+        let is_mark = self.by_bit && told.more == Some(false);
+        let was = self.pending;
+        let before = self.latest;
+        let answer = self.step(told);
+        Ticked {
+            answer,
+            closed: closed_of(answer, is_mark, was, before, self.latest),
+        }
+    }
+
+    fn step(&mut self, told: Told) -> Answer
+        requires { ForSome told.tow (λ tow. tow < week) }
+        ensures answer { result ≡ answer_by self.old (heard_of told) }
+        ensures step { self.new ≡ step_by self.old (heard_of told) }
+    {
+        if !self.is_own(told.station) {
+            return Answer::OtherStation;
+        }
+        let is_mark = self.by_bit && told.more == Some(false);
+        let answer = match told.tow {
+            None => Answer::Ignored,
+            Some(tow) => self.place(tow),
+        };
+        if is_mark && answer != Answer::CloseFirst {
+            self.pending = false;
+        }
+        answer
+    }
+
+    pub fn is_own(&self, station: Option<u16>) -> bool
+        ensures { result ≡ is_told_own self.now station }
+    {
+        match (station, self.station) {
+            (None, _) => false,
+            (Some(_), None) => true,
+            (Some(from), Some(wanted)) => from == wanted,
+        }
+    }
+
+    // A message with observations at this time of week.
+    fn place(&mut self, tow: u32) -> Answer
+        requires { tow < week }
+        ensures answer { result ≡ answer_at self.old tow }
+        ensures step { self.new ≡ step_at self.old tow }
+    {
+        let mut time = self.start_week as u64 * WEEK + tow as u64;
+        if let Some(latest) = self.latest {
+            let ahead = (tow as u64 + (WEEK - latest % WEEK)) % WEEK;
+            if ahead > WEEK / 2 || ahead == 0 && !self.pending {
+                return Answer::Late;
+            }
+            time = latest + ahead;
+            if time < WEEKS * WEEK && ahead > 0 && self.pending {
+                self.pending = false;
+                return Answer::CloseFirst;
+            }
+        }
+        if time >= WEEKS * WEEK {
+            return Answer::PastWeeks;
+        }
+        self.latest = Some(time);
+        self.pending = true;
+        Answer::Kept
+    }
+}
+
+// What a step closes.
+fn closed_of(
+    answer: Answer,
+    is_mark: bool,
+    was: bool,
+    before: Option<u64>,
+    after: Option<u64>,
+) -> Option<u64>
+    ensures { result ≡ closed_of_lem answer is_mark was before after }
+{
+    match answer {
+        Answer::CloseFirst => before,
+        Answer::OtherStation => None,
+        Answer::Kept => { if is_mark { after } else { None } }
+        Answer::Ignored | Answer::Late | Answer::PastWeeks => {
+            if is_mark && was { after } else { None }
+        }
+    }
+}

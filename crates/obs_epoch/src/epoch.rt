@@ -1,0 +1,146 @@
+//! An epoch: what was observed at one time.
+ghost use Rattle.std.specs.Prelude.{◌≡◌, ◌+◌, ◌<◌, ◌≤◌, [], length, IfOk, ◌++◌, ◌∷◌};
+ghost use Rattle.std.specs.Vec.{vec_len, vec_capacity};
+ghost use Rattle.obs_epoch.specs.Values.{EpochValue, AreHeld, IsHeld, cells_of, satellites, is_written, written_among, has_value, most_cells};
+ghost use Rattle.obs_epoch.specs.Marked.{with_cell_of, cell_of, IsObserved};
+ghost use Rattle.gnss_obs.specs.Satellites.{satellites as satellites_in};
+
+use crate::cell::Cell;
+use crate::locks::push_within;
+use crate::seen::Seen;
+use crate::time::GpsTime;
+use gnss_obs::System;
+use std::alloc::{AllocError, Global};
+use std::marker::Model;
+
+/// So many cells of a system are kept in an epoch.
+pub(crate) const MOST_CELLS: usize = 64;
+
+/// An epoch: its time, and the cells of each system that are kept.
+#[derive(Drop)]
+pub struct Epoch {
+    time: GpsTime,
+    gps: Vec<Cell>,
+    galileo: Vec<Cell>,
+}
+
+impl Model for Epoch {
+    ghost use Rattle.std.specs.Prelude.{◌≤◌};
+    ghost use Rattle.std.specs.Vec.{vec_capacity};
+    ghost use Rattle.gnss_obs.specs.declared.system.System.TheVariants.{Gps, Galileo};
+    ghost use Rattle.obs_epoch.specs.Values.{EpochValue, AreHeld, most_cells};
+
+    ghost Value = { EpochValue };
+
+    ghost view = { λ e. record { time = e.time; gps = e.gps.items; galileo = e.galileo.items } };
+
+    ghost invariant = { λ e. AreHeld Gps e.gps.items × AreHeld Galileo e.galileo.items × (most_cells ≤ vec_capacity e.gps) × (most_cells ≤ vec_capacity e.galileo) };
+}
+
+impl Epoch {
+    // No cell; there is room for as many as are kept.
+    pub(crate) fn new(alloc: Global) -> Result<Epoch, AllocError>
+        ensures { IfOk result (λ e. e ≡ record { time = 0; gps = []; galileo = [] }) }
+    {
+        let gps = Vec::with_capacity(alloc, MOST_CELLS)?;
+        let galileo = Vec::with_capacity(alloc, MOST_CELLS)?;
+        Ok(Epoch {
+            time: GpsTime::within(0),
+            gps,
+            galileo,
+        })
+    }
+
+    // The epoch of another time, with no cell.
+    pub(crate) fn begin(&mut self, time: GpsTime)
+        ensures { self.new ≡ record { time = time; gps = []; galileo = [] } }
+    {
+        self.time = time;
+        self.gps.clear();
+        self.galileo.clear();
+    }
+
+    // One cell more, with its mark.
+    pub(crate) fn hold(&mut self, x: &Seen, mark: u8)
+        requires observed { IsObserved x.now }
+        requires mark { mark < 4 }
+        requires room { length (cells_of x.now.satellite.system self.old) < most_cells }
+        ensures { self.new ≡ with_cell_of x.now.satellite.system self.old (cell_of (record { seen = x.now; mark = mark })) }
+    {
+        match x.satellite.system() {
+            System::Gps => push_cell(&mut self.gps, x, mark),
+            System::Galileo => push_cell(&mut self.galileo, x, mark),
+        }
+    }
+
+    /// Its time.
+    pub fn time(&self) -> GpsTime
+        ensures { result ≡ self.now.time }
+    {
+        self.time
+    }
+
+    /// The kept cells of a system, at most 64, in no stated order: each of a listed satellite and signal of that system.
+    pub fn cells(&self, system: System) -> &[Cell]
+        ensures cells { result.now ≡ cells_of system self.now }
+        ensures held { AreHeld system result.now }
+    {
+        match system {
+            System::Gps => self.gps.as_slice(),
+            System::Galileo => self.galileo.as_slice(),
+        }
+    }
+
+    /// How many satellites are to be written: those with a cell that has a pseudorange, a phase, a Doppler shift or a strength.
+    pub fn satellites(&self) -> usize
+        ensures count { result ≡ satellites self.now }
+        ensures bound { result ≤ 68 }
+    {
+        written(self.gps.as_slice(), System::Gps)
+            + written(self.galileo.as_slice(), System::Galileo)
+    }
+}
+
+// Of a system's satellites, how many have a cell that says something.
+fn written(cells: &[Cell], system: System) -> usize
+    ensures count { result ≡ written_among cells.now (satellites_in system) }
+    ensures bound { result ≤ satellites_in system }
+{
+    let mut count = 0;
+    for id in 0..system.satellites() {
+        if is_written(cells, id + 1) {
+            count += 1;
+        }
+    }
+    count
+}
+
+fn is_written(cells: &[Cell], id: u8) -> bool
+    ensures { result ≡ is_written cells.now id }
+{
+    cells.iter().any(|c| c.satellite.id() == id && has_value(c))
+}
+
+fn has_value(c: &Cell) -> bool
+    ensures { result ≡ has_value c.now }
+{
+    c.c.is_some() || c.l.is_some() || c.d.is_some() || c.s.is_some()
+}
+
+fn push_cell(cells: &mut Vec<Cell>, x: &Seen, mark: u8)
+    requires { vec_len cells.old < vec_capacity cells.old }
+    ensures items { cells.new.items ≡ cells.old.items ++ cell_of (record { seen = x.now; mark = mark }) ∷ [] }
+    ensures len { vec_len cells.new ≡ vec_len cells.old + 1 }
+    ensures room { vec_capacity cells.old ≤ vec_capacity cells.new }
+{
+    let cell = Cell {
+        satellite: x.satellite,
+        signal: x.signal,
+        c: x.c,
+        l: x.l,
+        d: x.d,
+        s: x.s,
+        mark,
+    };
+    push_within(cells, cell);
+}

@@ -1,0 +1,375 @@
+//! Messages into epochs, with the marks of lost lock.
+ghost use Rattle.std.specs.Prelude.{◌≡◌, ◌↔◌, ◌⊎◌, ◌+◌, ◌<◌, ◌≤◌, [], true, false, length, None, Some, is_some, IfOk, IfErr, IsOk, Err, option_map, ◌&&◌, ◌||◌, not, List, Bool, Option, ◌++◌, ◌∷◌, All};
+ghost use Rattle.std.specs.Option.{ForSome, option_map_or};
+ghost use Rattle.rtcm_msg.specs.Entries.{IsEntry};
+ghost use Rattle.obs_epoch.specs.Weeks.{week, weeks};
+ghost use Rattle.obs_epoch.specs.Heard.{Setup, Heard, heard, seen_in, system_of};
+ghost use Rattle.obs_epoch.specs.Times.{timed};
+ghost use Rattle.obs_epoch.specs.Cells.{firsts};
+ghost use Rattle.obs_epoch.specs.Marked.{IsObserved, lock_codes, shown};
+ghost use Rattle.obs_epoch.specs.Epochs.{told as values_told, no_values, values_of, closed_so_far};
+ghost use Rattle.obs_epoch.specs.Held.{count_in};
+ghost use Rattle.obs_epoch.specs.Step.{answer_by, closed_by as closes};
+ghost use Rattle.obs_epoch.specs.Clock.{closes_first, answer_of, is_pending};
+ghost use Rattle.obs_epoch.specs.Standing.{Standing, held_at, locked_in};
+ghost use Rattle.obs_epoch.specs.Values.{Closed, most_cells};
+ghost use Rattle.obs_epoch.specs.Kinds.{is_close_first, kind_of, is_by_bit, is_no_station};
+ghost use Rattle.obs_epoch.specs.Gathering.{Gathers, Fits, closed_by, closed_in, is_done, plan_in};
+ghost use Rattle.obs_epoch.specs.declared.fault.PlanFault.{PlanFault};
+ghost use Rattle.obs_epoch.specs.Gather.{take_step, end_step, loaded_by, load_heard, load_entry, load_entries, begun, is_same as is_same_lem, no_epoch, no_counts, cells_in, load, noted, fate_in, hold};
+ghost use Rattle.obs_epoch.specs.declared.seen.Counts.{Counts};
+
+use crate::cell::StationValues;
+use crate::clock::{Answer, Clock};
+use crate::epoch::{Epoch, MOST_CELLS};
+use crate::fault::PlanFault;
+use crate::hear::{system_of, told_of, values_of};
+use crate::held::Held;
+use crate::locks::Locks;
+use crate::mark::mark;
+use crate::observe::observe;
+use crate::plan::Plan;
+use crate::seen::{Counts, Fate, Seen, counted, no_counts};
+use crate::taken::{Gather, Taken, is_by_bit, is_no_station, kind_by};
+use crate::time::{GpsTime, WEEKS};
+use gnss_obs::System;
+use rtcm_msg::{Entry, Message, entries};
+use std::alloc::{AllocError, Global};
+use std::marker::Model;
+
+/// What becomes of a message, and of its cells.
+#[derive(Clone, Copy, Debug, PartialEq, Eq)]
+pub struct Outcome {
+    pub answer: Answer,
+    pub counts: Counts,
+    pub closed: bool,
+}
+
+/// Messages of a station, gathered into epochs.
+#[derive(Drop)]
+pub struct Gatherer {
+    clock: Clock,
+    held: Held,
+    locks: Locks,
+    values: StationValues,
+    handed: bool,
+    has_ended: bool,
+}
+
+impl Model for Gatherer {
+    ghost use Rattle.obs_epoch.specs.Gather.{Gathered};
+
+    ghost Value = { Gathered };
+
+    ghost view = { λ a. record { clock = a.clock; epoch = a.held; locks = a.locks; values = a.values; handed = a.handed; has_ended = a.has_ended } };
+}
+
+impl Gatherer {
+    ghost use Rattle.obs_epoch.specs.declared.clock.Answer.{Answer};
+
+    /// Gathers the messages of a station, or of every station as those of one where none is told. The first time lies in the
+    /// starting week. Refused are a week over 99,999, and then a station over 4,095. All room is reserved here: no other call
+    /// takes memory.
+    pub fn new(
+        alloc: Global,
+        plan: Plan,
+        start_week: u32,
+        station: Option<u16>,
+        gather: Gather,
+    ) -> Result<Gatherer, PlanFault>
+        ensures stands { IfOk result (λ g. Gathers g (record { plan = plan; start_week = start_week; station = station; by_bit = is_by_bit gather }) [] [] None) }
+        ensures going { IfOk result (λ g. g.has_ended ≡ false) }
+        ensures accepted { IsOk result → (start_week < weeks) × (is_no_station station ≡ false) }
+        ensures week { (result ≡ Err PlanFault.BadWeek) ↔ (weeks ≤ start_week) }
+        ensures station { (result ≡ Err PlanFault.BadStation) ↔ ((start_week < weeks) × (is_no_station station ≡ true)) }
+        ensures only { IfErr result (λ e. (e ≡ PlanFault.BadWeek) ⊎ ((e ≡ PlanFault.BadStation) ⊎ (e ≡ PlanFault.Memory))) }
+    {
+        if start_week as u64 >= WEEKS {
+            return Err(PlanFault::BadWeek);
+        }
+        if is_no_station(station) {
+            return Err(PlanFault::BadStation);
+        }
+        match Gatherer::made(alloc, plan, start_week, station, is_by_bit(gather)) {
+            Ok(g) => Ok(g),
+            Err(_) => Err(PlanFault::Memory),
+        }
+    }
+
+    // No message was taken.
+    fn made(
+        alloc: Global,
+        plan: Plan,
+        start_week: u32,
+        station: Option<u16>,
+        by_bit: bool,
+    ) -> Result<Gatherer, AllocError>
+        requires { start_week < weeks }
+        ensures stands { IfOk result (λ g. Standing g (record { plan = plan; start_week = start_week; station = station; by_bit = by_bit }) [] false) }
+        ensures going { IfOk result (λ g. g.has_ended ≡ false) }
+    {
+        let held = Held::new(alloc)?;
+        let locks = Locks::new(alloc)?;
+        Ok(Gatherer {
+            clock: Clock::new(plan, start_week, station, by_bit),
+            held,
+            locks,
+            values: StationValues {
+                x: 0,
+                y: 0,
+                z: 0,
+                height: 0,
+            },
+            handed: false,
+            has_ended: false,
+        })
+    }
+
+    /// Takes a message, whatever it is; `end` must not have been called. Where the answer is `CloseFirst`, the pending epoch was
+    /// closed, the message wasn't taken, and it is to be handed in again at once.
+    pub fn take(&mut self, m: &Message) -> Taken
+        requires { self.old.has_ended ≡ false }
+        // The pending epoch is closed first exactly where this message's time is greater and within the weeks.
+        ensures exactly { (s : Setup) (ms : List Heard) (es : List Closed) → Gathers self.old s ms es None
+            → is_close_first result.kind ≡ closes_first s (timed s ms) (heard m.now) }
+        ensures first { (s : Setup) (ms : List Heard) (es : List Closed) → Gathers self.old s ms es None → is_close_first result.kind ≡ true
+            → Gathers self.new s ms (es ++ closed_by (closed_in self.new) self.new.values) (Some (heard m.now)) }
+        // A message that comes again is taken.
+        ensures again { (s : Setup) (ms : List Heard) (es : List Closed) → Gathers self.old s ms es (Some (heard m.now)) → is_close_first result.kind ≡ false }
+        // Every other message is taken, and hands out the epoch that it closes.
+        ensures taken { (s : Setup) (ms : List Heard) (es : List Closed) (again : Option Heard) → Gathers self.old s ms es again → Fits again (heard m.now)
+            → is_close_first result.kind ≡ false
+            → Gathers self.new s (ms ++ heard m.now ∷ []) (es ++ closed_by (closed_in self.new) self.new.values) None }
+        ensures kind { (s : Setup) (ms : List Heard) (es : List Closed) (again : Option Heard) → Gathers self.old s ms es again → Fits again (heard m.now)
+            → is_close_first result.kind ≡ false → result.kind ≡ kind_of s ms (heard m.now) }
+        ensures closed { result.closed ≡ is_some (closed_in self.new) }
+        ensures going { self.new.has_ended ≡ false }
+    {
+        let outcome = self.step(m);
+        Taken {
+            kind: kind_by(m, outcome.answer, outcome.counts),
+            closed: outcome.closed,
+        }
+    }
+
+    /// No message follows: closes the pending epoch, and says whether there was one.
+    pub fn end(&mut self) -> bool
+        ensures closes { (s : Setup) (ms : List Heard) (es : List Closed) → Gathers self.old s ms es None → self.old.has_ended ≡ false
+            → (result ≡ is_pending s (timed s ms)) × Gathers self.new s ms (es ++ closed_by (closed_in self.new) self.new.values) None }
+        ensures closed { result ≡ is_some (closed_in self.new) }
+        ensures ended { self.new.has_ended ≡ true }
+    {
+        self.finish()
+    }
+
+    /// The epoch that the last `take` or `end` closed, or None where that call closed none, and before the first call.
+    pub fn closed(&self) -> Option<&Epoch>
+        ensures { option_map (λ e. e.now) result ≡ closed_in self.now }
+    {
+        if self.handed {
+            Some(self.held.epoch())
+        } else {
+            None
+        }
+    }
+
+    /// Whether `end` was called.
+    pub fn ended(&self) -> bool
+        ensures { result ≡ self.now.has_ended }
+    {
+        self.has_ended
+    }
+
+    /// How many cells of a system are held: those of the pending epoch or, where none is pending, of the one last closed.
+    pub fn cells(&self, system: System) -> usize
+        ensures count { result ≡ length (cells_in system self.now.epoch) }
+        ensures held { (s : Setup) (ms : List Heard) (es : List Closed) (again : Option Heard) → Gathers self.now s ms es again
+            → result ≡ length (cells_in system (held_at s (timed s ms))) }
+        ensures bound { result ≤ most_cells }
+    {
+        self.held.len(system)
+    }
+
+    /// How many lock records are held: one for each satellite and signal of which a closed epoch has a kept cell with a
+    /// valid phase and a known lock.
+    pub fn locks(&self) -> usize
+        ensures count { result ≡ length self.now.locks }
+        ensures keys { (s : Setup) (ms : List Heard) (es : List Closed) (again : Option Heard) → Gathers self.now s ms es again
+            → result ≡ length (firsts (locked_in s (timed s ms) (closed_so_far s (timed s ms) (is_done self.now s ms again)))) }
+        ensures bound { result ≤ 1_164 }
+    {
+        self.locks.len()
+    }
+
+    /// The station values so far.
+    pub fn station_values(&self) -> StationValues
+        ensures now { result ≡ self.now.values }
+        ensures told { (s : Setup) (ms : List Heard) (es : List Closed) (again : Option Heard) → Gathers self.now s ms es again → result ≡ values_of s ms }
+    {
+        self.values
+    }
+
+    /// The signals that are wanted.
+    pub fn plan(&self) -> &Plan
+        ensures { result.now ≡ plan_in self.now }
+    {
+        self.clock.plan()
+    }
+
+    fn step(&mut self, m: &Message) -> Outcome
+        ensures answer { result.answer ≡ answer_by self.old.clock (heard m.now) }
+        ensures closed { result.closed ≡ is_some (closes self.old.clock (heard m.now)) }
+        ensures step { record { state = self.new; counts = result.counts } ≡ take_step self.old (heard m.now) }
+    {
+        let before = self.clock.latest();
+        self.values = self.told(m);
+        let step = self.clock.step_closing(told_of(m));
+        self.handed = step.closed.is_some();
+        let counts = self.load(step.answer, before, m);
+        if step.closed.is_some() {
+            self.note_locks();
+        }
+        Outcome {
+            answer: step.answer,
+            counts,
+            closed: step.closed.is_some(),
+        }
+    }
+
+    fn finish(&mut self) -> bool
+        ensures was { result ≡ self.old.clock.pending }
+        ensures step { self.new ≡ end_step self.old }
+        ensures handed { self.new.handed ≡ result }
+    {
+        let was = self.clock.end();
+        self.has_ended = true;
+        self.handed = was;
+        if was {
+            self.note_locks();
+        }
+        was
+    }
+
+    fn told(&self, m: &Message) -> StationValues
+        ensures { result ≡ values_told self.now.clock.setup self.now.values (heard m.now) }
+    {
+        match m {
+            Message::Station(station) => {
+                let parts = station.parts();
+                if self.clock.is_own(Some(parts.station)) {
+                    values_of(&parts, self.values.height)
+                } else {
+                    self.values
+                }
+            }
+            Message::Msm4(_) | Message::Msm7(_) => self.values,
+            Message::Other { number: _, set: _ } => self.values,
+        }
+    }
+
+    fn load(&mut self, answer: Answer, before: Option<u64>, m: &Message) -> Counts
+        ensures { record { state = self.new; counts = result } ≡ loaded_by answer before self.old (heard m.now) }
+    {
+        match answer {
+            Answer::Kept => {
+                self.begin(before);
+                self.take_all(m)
+            }
+            Answer::OtherStation
+            | Answer::Ignored
+            | Answer::Late
+            | Answer::PastWeeks
+            | Answer::CloseFirst => no_counts(),
+        }
+    }
+
+    fn take_all(&mut self, m: &Message) -> Counts
+        ensures { record { state = self.new; counts = result } ≡ load_heard (record { state = self.old; counts = no_counts }) (heard m.now) }
+    {
+        match m {
+            Message::Msm4(m) => self.take_entries(
+                false,
+                system_of(m.is_galileo()),
+                entries(m).as_slice(),
+            ),
+            Message::Msm7(m) => self.take_entries(
+                true,
+                system_of(m.is_galileo()),
+                entries(m).as_slice(),
+            ),
+            Message::Station(_) | Message::Other { number: _, set: _ } => no_counts(),
+        }
+    }
+
+    fn begin(&mut self, before: Option<u64>)
+        ensures { self.new ≡ begun before self.old }
+    {
+        let latest = self.clock.latest();
+        if !is_same(before, latest) {
+            self.held.begin(match latest {
+                None => GpsTime::within(0),
+                Some(time) => GpsTime::within(time),
+            });
+        }
+    }
+
+    // A cell of the message that is taken.
+    fn take_cell(&mut self, x: Seen) -> Fate
+        requires { IsObserved x }
+        ensures fate { result ≡ fate_in self.old x }
+        ensures step { self.new ≡ hold self.old x }
+    {
+        if !self.clock.is_planned(&x) {
+            return Fate::Skipped;
+        }
+        if self.held.has(&x) {
+            return Fate::Repeated;
+        }
+        if self.held.len(x.satellite.system()) >= MOST_CELLS {
+            return Fate::Crowded;
+        }
+        let mark = mark(&x, self.held.time(), self.locks.latest(&x));
+        self.held.hold(x, mark);
+        Fate::Kept
+    }
+
+    // The cells of the message that is taken, of the long form or the short one.
+    fn take_entries(&mut self, is_long: bool, system: System, entries: &[Entry]) -> Counts
+        requires { All (IsEntry (lock_codes is_long)) entries.now }
+        ensures { record { state = self.new; counts = result } ≡ load_entries is_long system (record { state = self.old; counts = no_counts }) entries.now }
+    {
+        let mut counts = no_counts();
+        for i in 0..entries.len() {
+            counts = counted(self.take_entry(is_long, system, &entries[i]), counts);
+        }
+        counts
+    }
+
+    // A cell of the message that is taken.
+    fn take_entry(&mut self, is_long: bool, system: System, entry: &Entry) -> Fate
+        requires { IsEntry (lock_codes is_long) entry.now }
+        ensures { (n : Counts) → record { state = self.new; counts = count_in result n } ≡ load_entry is_long system (record { state = self.old; counts = n }) entry.now }
+    {
+        match observe(is_long, system, entry) {
+            None => Fate::Skipped,
+            Some(x) => self.take_cell(x),
+        }
+    }
+
+    // The pending epoch closes.
+    fn note_locks(&mut self)
+        ensures { self.new ≡ noted self.old }
+    {
+        self.held.note(&mut self.locks);
+    }
+}
+
+fn is_same(a: Option<u64>, b: Option<u64>) -> bool
+    ensures { result ≡ is_same_lem a b }
+{
+    match (a, b) {
+        (None, None) => true,
+        (Some(a), Some(b)) => a == b,
+        _ => false,
+    }
+}

@@ -1,0 +1,76 @@
+//! What a gatherer hears of a message.
+ghost use Rattle.std.specs.Prelude.{◌≡◌, ◌<◌, Some};
+ghost use Rattle.std.specs.Option.{ForSome, option_map_or};
+ghost use Rattle.obs_epoch.specs.Weeks.{week};
+ghost use Rattle.obs_epoch.specs.Heard.{heard, system_of};
+
+use crate::cell::StationValues;
+use crate::clock::Told;
+use gnss_obs::System;
+use rtcm_msg::{Message, MsmHeader, StationParts};
+
+/// What a clock is told of a message.
+pub fn told_of(m: &Message) -> Told
+    ensures station { result.station ≡ (heard m.now).station }
+    ensures tow { result.tow ≡ (heard m.now).tow }
+    ensures more { result.more ≡ (heard m.now).more }
+    ensures week { ForSome result.tow (λ tow. tow < week) }
+{
+    match m {
+        Message::Station(station) => Told {
+            station: Some(station.parts().station),
+            tow: None,
+            more: None,
+        },
+        Message::Msm4(m) => told_by(&m.header()),
+        Message::Msm7(m) => told_by(&m.header()),
+        Message::Other { number: _, set } => match set {
+            None => Told {
+                station: None,
+                tow: None,
+                more: None,
+            },
+            Some(set) => Told {
+                station: Some(set.0),
+                tow: None,
+                more: Some(set.1),
+            },
+        },
+    }
+}
+
+fn told_by(header: &MsmHeader) -> Told
+    ensures { result ≡ record { station = Some header.now.station; tow = Some header.now.time; more = Some header.now.more } }
+{
+    Told {
+        station: Some(header.station),
+        tow: Some(header.time),
+        more: Some(header.more),
+    }
+}
+
+/// The system of a message with observations.
+pub fn system_of(is_galileo: bool) -> System
+    ensures { result ≡ system_of is_galileo }
+{
+    if is_galileo {
+        System::Galileo
+    } else {
+        System::Gps
+    }
+}
+
+/// The station values of a station message; its height is that before, where it tells none.
+pub fn values_of(parts: &StationParts, height: u16) -> StationValues
+    ensures { result ≡ record { x = parts.now.x; y = parts.now.y; z = parts.now.z; height = option_map_or (λ h. h) parts.now.height height } }
+{
+    StationValues {
+        x: parts.x,
+        y: parts.y,
+        z: parts.z,
+        height: match parts.height {
+            None => height,
+            Some(height) => height,
+        },
+    }
+}

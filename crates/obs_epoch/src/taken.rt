@@ -1,0 +1,123 @@
+//! What becomes of a message.
+ghost use Rattle.std.specs.Prelude.{◌≡◌};
+ghost use Rattle.obs_epoch.specs.Heard.{heard};
+ghost use Rattle.obs_epoch.specs.Kinds.{is_close_first, kind_at, station_kind, kind_by, is_by_bit, is_no_station};
+
+use crate::clock::Answer;
+use crate::seen::Counts;
+use rtcm_msg::Message;
+
+/// How the epochs of a station are closed.
+#[derive(Clone, Copy, Debug, PartialEq, Eq)]
+pub enum Gather {
+    /// By a message of a later time, and by the multiple message bit: a message of the station with DF393 = 0.
+    Bit,
+    /// By a message of a later time alone.
+    Time,
+}
+
+/// What became of a message.
+#[derive(Clone, Copy, Debug, PartialEq, Eq)]
+pub enum Kind {
+    /// A message of another number than 1005, 1006, 1074, 1077, 1094 and 1097, of whatever station.
+    Ignored,
+    /// A station message, 1005 or 1006.
+    Station,
+    /// A message of another station.
+    OtherStation,
+    /// Observations of a time that lies back, or of an epoch that is closed.
+    Late,
+    /// Observations of week 100,000 or later.
+    PastWeeks,
+    /// Observations that were taken, and what became of their cells.
+    Kept {
+        /// Cells that were kept.
+        kept: usize,
+        /// Cells of an unlisted satellite or signal, or of a signal that isn't planned.
+        skipped: usize,
+        /// Cells of a satellite and signal of which the epoch has one already.
+        repeated: usize,
+        /// Cells that came when 64 of their system were kept.
+        crowded: usize,
+    },
+    /// Observations of a later epoch: the pending epoch was closed, and the message is to be handed in again.
+    CloseFirst,
+}
+
+/// What became of a message, and whether an epoch was closed.
+#[derive(Clone, Copy, Debug, PartialEq, Eq)]
+pub struct Taken {
+    /// What became of it.
+    pub kind: Kind,
+    /// Whether the call closed an epoch: `Gatherer::closed` lends it.
+    pub closed: bool,
+}
+
+impl Kind {
+    /// Whether the message is to be handed in again.
+    pub fn is_close_first(self) -> bool
+        ensures { result ≡ is_close_first self }
+    {
+        matches!(self, Kind::CloseFirst)
+    }
+
+    // The kind of a message with observations.
+    pub(crate) fn of_observations(answer: Answer, counts: Counts) -> Kind
+        ensures { result ≡ kind_at answer counts }
+    {
+        match answer {
+            Answer::OtherStation => Kind::OtherStation,
+            Answer::Ignored => Kind::Ignored,
+            Answer::Late => Kind::Late,
+            Answer::PastWeeks => Kind::PastWeeks,
+            Answer::CloseFirst => Kind::CloseFirst,
+            Answer::Kept => Kind::Kept {
+                kept: counts.kept,
+                skipped: counts.skipped,
+                repeated: counts.repeated,
+                crowded: counts.crowded,
+            },
+        }
+    }
+
+    // The kind of a station message.
+    pub(crate) fn of_station(answer: Answer) -> Kind
+        ensures { result ≡ station_kind answer }
+    {
+        match answer {
+            Answer::OtherStation => Kind::OtherStation,
+            Answer::Ignored
+            | Answer::Late
+            | Answer::PastWeeks
+            | Answer::CloseFirst
+            | Answer::Kept => Kind::Station,
+        }
+    }
+}
+
+// What became of a message, by its time and its cells.
+pub(crate) fn kind_by(m: &Message, answer: Answer, counts: Counts) -> Kind
+    ensures { result ≡ kind_by (heard m.now) answer counts }
+{
+    match m {
+        Message::Station(_) => Kind::of_station(answer),
+        Message::Msm4(_) | Message::Msm7(_) => Kind::of_observations(answer, counts),
+        Message::Other { number: _, set: _ } => Kind::Ignored,
+    }
+}
+
+pub(crate) fn is_by_bit(gather: Gather) -> bool
+    ensures { result ≡ is_by_bit gather }
+{
+    matches!(gather, Gather::Bit)
+}
+
+// No station has this number: it has more than 12 bits.
+pub(crate) fn is_no_station(station: Option<u16>) -> bool
+    ensures { result ≡ is_no_station station }
+{
+    match station {
+        None => false,
+        Some(station) => station > 4_095,
+    }
+}

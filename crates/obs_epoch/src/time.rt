@@ -1,0 +1,60 @@
+//! GPS time.
+ghost use Rattle.std.specs.Prelude.{◌≡◌, ◌<◌, ◌*◌, ◌↔◌, IsSome, IfSome};
+ghost use Rattle.obs_epoch.specs.Weeks.{week, weeks};
+
+use std::marker::Model;
+
+/// The milliseconds of a week.
+pub(crate) const WEEK: u64 = 604_800_000;
+
+/// So many weeks have a number: 0 to 99,999.
+pub(crate) const WEEKS: u64 = 100_000;
+
+/// A time: milliseconds since 1980-01-06 00:00:00 GPS time, in the weeks 0 to 99,999. There are no leap seconds in it.
+#[derive(Clone, Copy, Debug, PartialEq, Eq, PartialOrd, Ord)]
+pub struct GpsTime {
+    milliseconds: u64,
+}
+
+impl Model for GpsTime {
+    ghost use Rattle.std.specs.Prelude.{ℕ, ◌<◌, ◌*◌};
+    ghost use Rattle.obs_epoch.specs.Weeks.{week, weeks};
+
+    ghost Value = { ℕ };
+
+    ghost view = { λ t. t.milliseconds };
+
+    ghost inverse = { λ n. record { milliseconds = n } };
+
+    ghost invariant = { λ t. t.milliseconds < weeks * week };
+}
+
+impl GpsTime {
+    /// The time so many milliseconds after 1980-01-06 00:00:00, or None from week 100,000 on.
+    pub fn new(milliseconds: u64) -> Option<GpsTime>
+        ensures some { IsSome result ↔ (milliseconds < weeks * week) }
+        ensures value { IfSome result (λ t. t ≡ milliseconds) }
+    {
+        if milliseconds < WEEKS * WEEK {
+            Some(GpsTime { milliseconds })
+        } else {
+            None
+        }
+    }
+
+    // The time of a number that is known to lie within the weeks.
+    pub(crate) fn within(milliseconds: u64) -> GpsTime
+        requires { milliseconds < weeks * week }
+        ensures { result ≡ milliseconds }
+    {
+        GpsTime { milliseconds }
+    }
+
+    /// The milliseconds since 1980-01-06 00:00:00.
+    pub fn milliseconds(self) -> u64
+        ensures value { result ≡ self }
+        ensures bound { result < weeks * week }
+    {
+        self.milliseconds
+    }
+}

@@ -1,0 +1,46 @@
+-- Messages, their encodings in frames, and what is read back.
+use Rattle.std.specs.Prelude.{◌≡◌, ℕ, Bool, false, List, [], ◌∷◌, map, ⊤}
+use Rattle.std.specs.List.{flat_map}
+use Rattle.rtcm_bits.specs.Bits.{bits_of, filled}
+use Rattle.rtcm_bits.specs.FrameOf.{frame_bytes}
+use Rattle.rtcm_scan.specs.Frames.{Framed, AreFrames}
+use Rattle.rtcm_scan.specs.Local.{placed}
+use Rattle.rtcm_msg.specs.declared.message.Message.{Message}
+use Rattle.rtcm_msg.specs.Spelling.{IsMessage, Reads, is_other, message_bits}
+
+-- a message whose layout is known
+abbrev pub IsKnown : Message → Type 0
+IsKnown v = IsMessage v × (is_other v ≡ false)
+
+-- the bytes encode the message: they are its bits with 0 for what is reserved, filled up with zero bits to a byte
+abbrev pub Encodes : List ℕ → Message → Type 0
+Encodes bytes v = bits_of bytes ≡ filled (message_bits v 0)
+
+-- each encoding in its turn
+abbrev pub AreEncoded : List (List ℕ) → List Message → Type 0
+AreEncoded [] [] = ⊤
+AreEncoded [] (v ∷ vs) = ⊥
+AreEncoded (bytes ∷ es) [] = ⊥
+AreEncoded (bytes ∷ es) (v ∷ vs) = IsKnown v × Encodes bytes v × AreEncoded es vs
+
+-- the bytes are read as this message, and as no other
+pub record IsReadAs (bytes : List ℕ) (v : Message) : Type 0 where
+  pub reads : Reads (bits_of bytes) v
+  pub only : (w : Message) → Reads (bits_of bytes) w → w ≡ v
+
+-- the message of each frame in its turn
+abbrev pub AreReadAs : List Framed → List Message → Type 0
+AreReadAs [] [] = ⊤
+AreReadAs [] (v ∷ vs) = ⊥
+AreReadAs (f ∷ fs) [] = ⊥
+AreReadAs (f ∷ fs) (v ∷ vs) = IsReadAs f.message v × AreReadAs fs vs
+
+-- The frames of encoded messages, joined, have exactly these frames, one behind the other from place 0 on, with the
+-- encodings as their messages; and these are read back as the messages.
+abbrev pub ReadsBack : List (List ℕ) → List Message → Type 0
+ReadsBack es vs = AreFrames (flat_map frame_bytes es) (placed 0 es) × (map (λ f. f.message) (placed 0 es) ≡ es) × AreReadAs (placed 0 es) vs
+
+-- each message is of a known layout
+abbrev pub AreKnown : List Message → Type 0
+AreKnown [] = ⊤
+AreKnown (v ∷ vs) = IsKnown v × AreKnown vs

@@ -1,0 +1,18 @@
+//! Laws over all layers.
+ghost use Rattle.std.specs.Prelude.{List, ℕ};
+ghost use Rattle.rtcm_msg.specs.declared.message.Message.{Message};
+ghost use Rattle.rtcm2rinex.specs.ReadBack.{AreKnown, AreEncoded, ReadsBack};
+
+/// For every list of messages of known layouts: they have encodings, and whatever these are, their frames, joined, have
+/// exactly these frames, and are read back as that list.
+pub fn read_back()
+    ensures encoded { (vs : List Message) → AreKnown vs → (es : List (List ℕ)) × AreEncoded es vs }
+    ensures back { (es : List (List ℕ)) (vs : List Message) → AreEncoded es vs → ReadsBack es vs }
+{
+    rtcm_bits::laws::numbers();
+    rtcm_bits::laws::bytes();
+    rtcm_scan::laws::frames();
+    rtcm_scan::laws::joined();
+    rtcm_msg::laws::read_back();
+    rtcm_msg::laws::one_value();
+}
