@@ -62,9 +62,7 @@ fn small_coordinates_are_shown(rt: HostRuntime) -> Result<(), Fail> {
         z: 10_000,
         height: Some(65_535),
     };
-    let Ok(station) = Station::new(parts) else {
-        return Err(Fail);
-    };
+    let station = Station::new(parts).expect(&rt, "parts in range");
     let mut message = ArrayVec::new();
     encode(&Message::Station(station), &mut message);
     let stream = framed(rt.alloc(), [message.as_slice()].as_slice())?;
