@@ -1,0 +1,102 @@
+-- Each frame is counted once.
+use Rattle.std.proofs.Common.{◌≡◌, ℕ, ◌+◌, ◌*◌, ◌≤◌, ◌^◌, List, [], ◌∷◌, ◌++◌, Bool, true, false, refl, sym, ap, ◌∙◌, arith, length, suc, Option, Some, None}
+use Rattle.std.specs.Prelude.{sum_by, option_map}
+use Rattle.std.proofs.lemmas.List.Sums.{sum_by-cons}
+use Rattle.rtcm_scan.specs.Frames.{Framed, frames_of}
+use Rattle.obs_epoch.specs.declared.taken.Kind.{Kind}
+use Rattle.obs_epoch.specs.declared.taken.Kind.TheVariants as kind
+use Rattle.obs_epoch.specs.Heard.{Setup, Heard}
+use Rattle.obs_epoch.specs.Kinds.{is_close_first, kind_of}
+use Rattle.rtcm_convert.specs.Converted.{Settings, messages_of, heard_in}
+use Rattle.rtcm_convert.specs.Outcomes.{outcome, outcomes, outcomes_after, capped, tally_of_one, report_of}
+use Rattle.rtcm_convert.specs.Laws.{IsCountedOnce}
+use Rattle.rtcm_convert.specs.declared.tally.Tally.{Tally}
+
+-- what no frame becomes
+abbrev is_first : Option Kind → Bool
+is_first None = false
+is_first (Some k) = is_close_first k
+
+abbrev AreDone : List (Option Kind) → Type 0
+AreDone [] = Unit {0}
+AreDone (o ∷ os) = (is_first o ≡ false) × AreDone os
+
+abbrev Kinds : Type 0
+Kinds = (s : Setup) (ms : List Heard) (m : Heard) → is_close_first (kind_of s ms m) ≡ false
+
+heard_done : Kinds → (s : Setup) (ms : List Heard) (o : Option Heard) → is_first (option_map (λ m. kind_of s ms m) o) ≡ false
+heard_done kinds s ms None = refl
+heard_done kinds s ms (Some m) = kinds s ms m
+
+outcomes_done : Kinds → (s : Settings) (before fs : List Framed) → AreDone (outcomes_after s before fs)
+outcomes_done kinds s before [] = tt
+outcomes_done kinds s before (f ∷ fs) = (heard_done kinds s.gather (messages_of before) (heard_in f), outcomes_done kinds s (before ++ f ∷ []) fs)
+
+outcomes_length : (s : Settings) (before fs : List Framed) → length (outcomes_after s before fs) ≡ length fs
+outcomes_length s before [] = refl
+outcomes_length s before (f ∷ fs) = ap (λ n. suc n) (outcomes_length s (before ++ f ∷ []) fs)
+
+-- what a frame adds to the seven kinds
+abbrev seven : Tally → ℕ
+seven t = t.faulty + (t.station + (t.other + (t.ignored + (t.late + (t.past + t.taken)))))
+
+one_each : (o : Option Kind) → is_first o ≡ false → seven (tally_of_one o) ≡ 1
+one_each None e = refl
+one_each (Some kind.Ignored) e = refl
+one_each (Some kind.Station) e = refl
+one_each (Some kind.OtherStation) e = refl
+one_each (Some kind.Late) e = refl
+one_each (Some kind.PastWeeks) e = refl
+one_each (Some (kind.Kept kept skipped repeated crowded)) e = refl
+one_each (Some kind.CloseFirst) e = absurd (grind (arith, e))
+
+abbrev sum : (Tally → ℕ) → List (Option Kind) → ℕ
+sum count os = sum_by (λ o. count (tally_of_one o)) os
+
+sum-cons : (count : Tally → ℕ) (o : Option Kind) (os : List (Option Kind)) → sum count (o ∷ os) ≡ count (tally_of_one o) + sum count os
+sum-cons count o os = sum_by-cons (λ o. count (tally_of_one o)) o os
+
+add : (n a b c d e f g a' b' c' d' e' f' g' A B C D E F G : ℕ) → A ≡ a + a' → B ≡ b + b' → C ≡ c + c' → D ≡ d + d' → E ≡ e + e' → F ≡ f + f' → G ≡ g + g'
+    → a + (b + (c + (d + (e + (f + g))))) ≡ 1 → a' + (b' + (c' + (d' + (e' + (f' + g'))))) ≡ n → A + (B + (C + (D + (E + (F + G))))) ≡ suc n
+add n a b c d e f g a' b' c' d' e' f' g' A B C D E F G p q r s t u v one rest = omega arith
+
+all_once : (os : List (Option Kind)) → AreDone os
+    → sum (λ t. t.faulty) os + (sum (λ t. t.station) os + (sum (λ t. t.other) os + (sum (λ t. t.ignored) os + (sum (λ t. t.late) os + (sum (λ t. t.past) os + sum (λ t. t.taken) os))))) ≡ length os
+all_once [] d = refl
+all_once (o ∷ os) d =
+    add (length os) _ _ _ _ _ _ _ _ _ _ _ _ _ _ _ _ _ _ _ _ _ (sum-cons (λ t. t.faulty) o os) (sum-cons (λ t. t.station) o os) (sum-cons (λ t. t.other) o os) (sum-cons (λ t. t.ignored) o os)
+    (sum-cons (λ t. t.late) o os) (sum-cons (λ t. t.past) o os) (sum-cons (λ t. t.taken) o os) (one_each o d.0) (all_once os d.1)
+
+one_frame : (o : Option Kind) → (tally_of_one o).frames ≡ 1
+one_frame None = refl
+one_frame (Some kind.Ignored) = refl
+one_frame (Some kind.Station) = refl
+one_frame (Some kind.OtherStation) = refl
+one_frame (Some kind.Late) = refl
+one_frame (Some kind.PastWeeks) = refl
+one_frame (Some (kind.Kept kept skipped repeated crowded)) = refl
+one_frame (Some kind.CloseFirst) = refl
+
+one_more : (a b c n : ℕ) → c ≡ a + b → a ≡ 1 → b ≡ n → c ≡ suc n
+one_more a b c n e one rest = omega arith
+
+sum_frames : (os : List (Option Kind)) → sum (λ t. t.frames) os ≡ length os
+sum_frames [] = refl
+sum_frames (o ∷ os) = one_more _ _ _ (length os) (sum-cons (λ t. t.frames) o os) (one_frame o) (sum_frames os)
+
+-- below the cap, a count is as it is
+uncapped_one : (a n most : ℕ) → 6 * n ≤ most → most ≤ 2 ^ 48 → a ≡ n → capped a ≡ n
+uncapped_one a n most few small is = omega arith
+
+uncapped : (a b c d e f g n most : ℕ) → 6 * n ≤ most → most ≤ 2 ^ 48 → a + (b + (c + (d + (e + (f + g))))) ≡ n
+    → capped a + (capped b + (capped c + (capped d + (capped e + (capped f + capped g))))) ≡ n
+uncapped a b c d e f g n most few small is = omega arith
+
+pub counted_once : Kinds → ((b : List ℕ) → 6 * length (frames_of b) ≤ length b) → (s : Settings) (b : List ℕ) → length b ≤ 2 ^ 48 → IsCountedOnce (report_of s b) (length (frames_of b))
+counted_once kinds few s b small =
+    let os = outcomes s (frames_of b) in
+    let n : length os ≡ length (frames_of b) = outcomes_length s [] (frames_of b) in
+    record {
+      all = uncapped_one _ (length (frames_of b)) (length b) (few b) small (sum_frames os ∙ n);
+      once = uncapped _ _ _ _ _ _ _ (length (frames_of b)) (length b) (few b) small (all_once os (outcomes_done kinds s [] (frames_of b)) ∙ n);
+    }

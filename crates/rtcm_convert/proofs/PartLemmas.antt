@@ -1,0 +1,67 @@
+-- Bytes that go out one part after the other.
+use Rattle.std.proofs.Common.{◌≡◌, ℕ, List, [], ◌++◌, sym, ap, ◌∙◌, Option, Result, Ok, Err, OnErr, append_assoc, append-nil}
+use Rattle.std.specs.Prelude.{IsErrOf}
+use Rattle.std.specs.Io.KnownBytes.{Appends}
+use Rattle.std.proofs.KnownBytes.{Appends-trans, Appends-nil}
+use Rattle.rtcm_bits.specs.Device.{AppendsPrefix}
+use Rattle.rtcm_scan.specs.Known.{IsPrefix}
+use Rattle.rtcm_convert.specs.Fed.{GoesOn, BreaksOff}
+
+pub on_err : {A E : Type 0} (r : Result A E) (P : Type 0) → P → OnErr r P
+on_err (Ok v) P p = tt
+on_err (Err e) P p = p
+
+pub prefix_more : (a b : Option (List ℕ)) (x y : List ℕ) → AppendsPrefix a b x → AppendsPrefix a b (x ++ y)
+prefix_more a b x y p = (p.0 ++ y, (p.1.0, ap (λ l. l ++ y) p.1.1 ∙ append_assoc p.1.0 p.0 y, p.1.2))
+
+pub prefix_after : (a b c : Option (List ℕ)) (x y : List ℕ) → Appends a b x → AppendsPrefix b c y → AppendsPrefix a c (x ++ y)
+prefix_after a b c x y e p = (p.0, (x ++ p.1.0, ap (λ l. x ++ l) p.1.1 ∙ sym (append_assoc x p.1.0 p.0), Appends-trans a b c x p.1.0 e p.1.2))
+
+pub goes_on-refl : (a : Option (List ℕ)) (x : List ℕ) → GoesOn a a x x
+goes_on-refl a x = record { part = []; text = sym (append-nil x); out = Appends-nil a }
+
+pub goes_on-trans : (a b c : Option (List ℕ)) (x y z : List ℕ) → GoesOn a b x y → GoesOn b c y z → GoesOn a c x z
+goes_on-trans a b c x y z f g = record {
+  part = f.part ++ g.part;
+  text = g.text ∙ ap (λ l. l ++ g.part) f.text ∙ append_assoc x f.part g.part;
+  out = Appends-trans a b c f.part g.part f.out g.out;
+}
+
+pub breaks_off-after : (a b c : Option (List ℕ)) (x y z : List ℕ) → GoesOn a b x y → BreaksOff b c y z → BreaksOff a c x z
+breaks_off-after a b c x y z f g = record {
+  part = f.part ++ g.part;
+  rest = g.rest;
+  text = g.text ∙ ap (λ l. (l ++ g.part) ++ g.rest) f.text ∙ ap (λ l. l ++ g.rest) (append_assoc x f.part g.part);
+  out = Appends-trans a b c f.part g.part f.out g.out;
+}
+
+pub breaks_off-before : (a b : Option (List ℕ)) (x y z : List ℕ) → BreaksOff a b x y → IsPrefix y z → BreaksOff a b x z
+breaks_off-before a b x y z f p = record {
+  part = f.part;
+  rest = f.rest ++ p.0;
+  text = p.1 ∙ ap (λ l. l ++ p.0) f.text ∙ append_assoc (x ++ f.part) f.rest p.0;
+  out = f.out;
+}
+
+-- all of what the text went on by
+pub goes_on-by : (a b : Option (List ℕ)) (x y z : List ℕ) → z ≡ x ++ y → Appends a b y → GoesOn a b x z
+goes_on-by a b x y z e o = record { part = y; text = e; out = o }
+
+-- a part of it
+pub breaks_off-by : (a b : Option (List ℕ)) (x y z : List ℕ) → z ≡ x ++ y → AppendsPrefix a b y → BreaksOff a b x z
+breaks_off-by a b x y z e p = record {
+  part = p.1.0;
+  rest = p.0;
+  text = e ∙ ap (λ l. x ++ l) p.1.1 ∙ sym (append_assoc x p.1.0 p.0);
+  out = p.1.2;
+}
+
+pub prefix-refl : {A : Type 0} (xs : List A) → IsPrefix xs xs
+prefix-refl xs = ([], sym (append-nil xs))
+
+pub prefix-trans : {A : Type 0} (xs ys zs : List A) → IsPrefix xs ys → IsPrefix ys zs → IsPrefix xs zs
+prefix-trans xs ys zs p q = (p.0 ++ q.0, q.1 ∙ ap (λ l. l ++ q.0) p.1 ∙ append_assoc xs p.0 q.0)
+
+-- the fault of a call, handed on as the fault of another
+pub same_fault : {T U E : Type 0} (x e : E) → IsErrOf {T = T} {E = E} (Err x) e → IsErrOf {T = U} {E = E} (Err x) e
+same_fault x e h = let same : x ≡ e = cc in ap Err same

@@ -1,0 +1,56 @@
+-- A piece that is taken byte by byte.
+use Rattle.std.proofs.Common.{◌≡◌, ℕ, ◌+◌, ◌<◌, ◌≤◌, List, [], ◌∷◌, ◌++◌, sym, ap, subst, ◌∙◌, arith, Option, length, take, drop, get_or, append_assoc, take-append-drop}
+use Rattle.std.proofs.lemmas.List.{take_more}
+use Rattle.std.proofs.Math.Seq.{take-append_seam, take-length}
+use Rattle.rtcm_scan.specs.Decided.{decided_frames}
+use Rattle.rtcm_scan.specs.Known.{IsPrefix}
+use Rattle.rtcm_scan.specs.Scan.{Scan}
+use Rattle.rtcm_convert.specs.Converted.{Settings, so_far}
+use Rattle.rtcm_convert.specs.Laws.{WrittenGrows}
+use Rattle.rtcm_convert.specs.Stream.{Drained, Extends, Breaks}
+use Rattle.rtcm_convert.specs.declared.filer.Filer.{Filer}
+use Rattle.rtcm_convert.proofs.PartLemmas.{goes_on-trans, breaks_off-after, breaks_off-before}
+
+piece_more : (b p : List ℕ) (i : ℕ) → i < length p → (b ++ take i p) ++ get_or p i 0 ∷ [] ≡ b ++ take (i + 1) p
+piece_more b p i lt = append_assoc b (take i p) (get_or p i 0 ∷ []) ∙ ap (λ l. b ++ l) (sym (take_more p i 0 lt))
+
+piece_rest : (b p : List ℕ) (i : ℕ) → (b ++ take i p) ++ drop i p ≡ b ++ p
+piece_rest b p i = append_assoc b (take i p) (drop i p) ∙ ap (λ l. b ++ l) (take-append-drop i p)
+
+-- from the first framer and filer to these, these bytes were taken
+abbrev pub Fed : Scan → Filer → Scan → Filer → Option (List ℕ) → Option (List ℕ) → List ℕ → Type 0
+Fed v w v' w' a b front = (s : Settings) (bytes : List ℕ) → Drained v w s bytes → Drained v' w' s (bytes ++ front) × Extends a b s bytes (bytes ++ front)
+
+pub fed_more : (v0 v v' : Scan) (w0 w w' : Filer) (a b c : Option (List ℕ)) (p : List ℕ) (i : ℕ) → Fed v0 w0 v w a b (take i p) → i < length p
+    → Fed v w v' w' b c (get_or p i 0 ∷ []) → Fed v0 w0 v' w' a c (take (i + 1) p)
+fed_more v0 v v' w0 w w' a b c p i first lt next s bytes d =
+    let x = first s bytes d in
+    let y = next s (bytes ++ take i p) x.0 in
+    let e = piece_more bytes p i lt in
+    (subst (λ (l : List ℕ). Drained v' w' s l) e y.0, subst (λ (l : List ℕ). Extends a c s bytes l) e (goes_on-trans a b c _ _ _ x.1 y.1))
+
+pub fed_part : WrittenGrows → (v0 v : Scan) (w0 w : Filer) (a b c : Option (List ℕ)) (p : List ℕ) (i : ℕ) → Fed v0 w0 v w a b (take i p) → i < length p
+    → ((s : Settings) (bytes : List ℕ) → Drained v w s bytes → Breaks b c s bytes (bytes ++ get_or p i 0 ∷ []))
+    → (s : Settings) (bytes : List ℕ) → Drained v0 w0 s bytes → Breaks a c s bytes (bytes ++ p)
+fed_part grows v0 v w0 w a b c p i first lt next s bytes d =
+    let x = first s bytes d in
+    let y = next s (bytes ++ take i p) x.0 in
+    let z : Breaks a c s bytes (bytes ++ take (i + 1) p) = subst (λ (l : List ℕ). Breaks a c s bytes l) (piece_more bytes p i lt) (breaks_off-after a b c _ _ _ x.1 y) in
+    breaks_off-before a c _ _ _ z
+    (subst (λ (l : List ℕ). IsPrefix (so_far s (decided_frames (bytes ++ take (i + 1) p))) (so_far s (decided_frames l))) (piece_rest bytes p (i + 1)) (grows s _ (drop (i + 1) p)))
+
+pub fed_long : (v0 v : Scan) (w0 w : Filer) (a b c : Option (List ℕ)) (p : List ℕ) (i n : ℕ) → Fed v0 w0 v w a b (take i p) → v.taken ≡ n → c ≡ b
+    → (s : Settings) (bytes : List ℕ) → Drained v0 w0 s bytes → Extends a c s bytes (take n (bytes ++ p))
+fed_long v0 v w0 w a b c p i n first full same s bytes d =
+    let x = first s bytes d in
+    let at : bytes ++ take i p ≡ take n (bytes ++ p) =
+    sym (ap (λ (l : List ℕ). take n l) (sym (piece_rest bytes p i)) ∙ ap (λ k. take k ((bytes ++ take i p) ++ drop i p)) (sym full ∙ x.0.framer.stands.taken)
+    ∙ take-append_seam (bytes ++ take i p) (drop i p)) in
+    subst (λ (o : Option (List ℕ)). Extends a o s bytes (take n (bytes ++ p))) (sym same) (subst (λ (l : List ℕ). Extends a b s bytes l) at x.1)
+
+pub fed_whole : (v0 v : Scan) (w0 w : Filer) (a b : Option (List ℕ)) (p : List ℕ) (i : ℕ) → Fed v0 w0 v w a b (take i p) → i ≤ length p → length p ≤ i → Fed v0 w0 v w a b p
+fed_whole v0 v w0 w a b p i first le ge s bytes d =
+    let e : i ≡ length p = omega arith in
+    let all : bytes ++ take i p ≡ bytes ++ p = ap (λ l. bytes ++ l) (ap (λ k. take k p) e ∙ take-length p) in
+    let x = first s bytes d in
+    (subst (λ (l : List ℕ). Drained v w s l) all x.0, subst (λ (l : List ℕ). Extends a b s bytes l) all x.1)

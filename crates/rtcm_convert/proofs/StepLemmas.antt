@@ -1,0 +1,81 @@
+-- One message handed to the gatherer, and what that adds to the file.
+use Rattle.std.proofs.Common.{◌≡◌, ℕ, List, [], ◌∷◌, ◌++◌, Bool, true, false, append-nil, sym, ap, subst, ◌∙◌, Option, Some, None, inl, inr}
+use Rattle.std.specs.Prelude.{option_to_list}
+use Rattle.std.specs.Io.KnownBytes.{Appends}
+use Rattle.std.proofs.lemmas.Bool.{cases_Bool}
+use Rattle.rtcm_bits.specs.Device.{AppendsPrefix}
+use Rattle.rtcm_scan.specs.Known.{IsPrefix}
+use Rattle.obs_epoch.specs.declared.taken.Kind.{Kind}
+use Rattle.obs_epoch.specs.Values.{Closed}
+use Rattle.obs_epoch.specs.Heard.{Setup, Heard}
+use Rattle.obs_epoch.specs.Kinds.{is_close_first}
+use Rattle.obs_epoch.specs.Gather.{Gathered}
+use Rattle.obs_epoch.specs.Gathering.{Gathers, Fits, closed_by, closed_in, plan_in, closed_epochs, known_epochs}
+use Rattle.rtcm_convert.specs.Converted.{Settings, text_with}
+use Rattle.rtcm_convert.specs.Fed.{GoesOn, BreaksOff}
+use Rattle.rtcm_convert.specs.Filed.{added, epochs_after, Writes}
+use Rattle.rtcm_convert.specs.declared.filer.Filer.{Filer}
+use Rattle.rtcm_convert.proofs.PartLemmas.{goes_on-by, breaks_off-by, breaks_off-before}
+use Rattle.rtcm_convert.proofs.TextLemmas.{count, text-closed, count-closed, text-more}
+
+-- what the gatherer says of a message that it was handed
+pub record Took (old new : Gathered) (kind : Kind) (m : Heard) : Type 0 where
+  pub first : (s : Setup) (ms : List Heard) (es : List Closed) → Gathers old s ms es None → is_close_first kind ≡ true
+      → Gathers new s ms (es ++ closed_by (closed_in new) new.values) (Some m)
+  pub taken : (s : Setup) (ms : List Heard) (es : List Closed) (again : Option Heard) → Gathers old s ms es again → Fits again m → is_close_first kind ≡ false
+      → Gathers new s (ms ++ m ∷ []) (es ++ closed_by (closed_in new) new.values) None
+  pub again : (s : Setup) (ms : List Heard) (es : List Closed) → Gathers old s ms es (Some m) → is_close_first kind ≡ false
+  pub ended : new.has_ended ≡ false
+
+-- what the filer wrote of the epoch that was closed
+pub record Wrote (old new : Filer) (now : Gathered) (a b : Option (List ℕ)) : Type 0 where
+  pub gatherer : new.gatherer ≡ now
+  pub texts : new.texts ≡ old.texts
+  pub epochs : new.epochs ≡ epochs_after old.epochs (closed_in now)
+  pub out : Appends a b (added old.texts (plan_in now) old.epochs (closed_in now) now.values)
+
+pub wrote_all : (v w : Filer) (g : Gathered) (a b : Option (List ℕ)) (s : Settings) (ms ms' : List Heard) (es : List Closed) (again again' : Option Heard)
+    → Wrote v w g a b → Writes v s ms es again → Gathers g s.gather ms' (es ++ closed_by (closed_in g) g.values) again'
+    → (all : List Closed) × Writes w s ms' all again' × GoesOn a b (text_with s es) (text_with s all)
+wrote_all v w g a b s ms ms' es again again' o x y =
+    let out : Appends a b (added s.texts s.gather.plan (count es) (closed_in g) g.values) = rw (← x.texts, ← y.plan, ← x.epochs) o.out in (
+      es ++ closed_by (closed_in g) g.values,
+      record { texts = o.texts ∙ x.texts; gatherer = rw o.gatherer y; epochs = o.epochs ∙ ap (λ n. epochs_after n (closed_in g)) x.epochs ∙ sym (count-closed es (closed_in g) g.values) },
+      goes_on-by a b _ _ _ (text-closed s es (closed_in g) g.values) out,
+    )
+
+-- a gatherer of that plan, which closed these epochs among those that these messages close
+abbrev Front : Gathered → Setup → List Heard → List Closed → Type 0
+Front g s ms es = (plan_in g ≡ s.plan) × IsPrefix es (closed_epochs s ms)
+
+front : (g : Gathered) (s : Setup) (ms : List Heard) (es : List Closed) (again : Option Heard) → g.has_ended ≡ false → Gathers g s ms es again → Front g s (ms ++ option_to_list again) es
+front g s ms es again going x = (x.plan, subst (λ (e : Bool). IsPrefix es (known_epochs e s (ms ++ option_to_list again))) going x.first)
+
+front_none : (g : Gathered) (s : Setup) (ms : List Heard) (es : List Closed) → g.has_ended ≡ false → Gathers g s ms es None → Front g s ms es
+front_none g s ms es going x = subst (λ (l : List Heard). Front g s l es) (append-nil ms) (front g s ms es None going x)
+
+-- what was closed stands among the epochs that the message closes
+closed_front : (v g : Gathered) (k : Kind) (m : Heard) (s : Setup) (ms : List Heard) (es : List Closed) (again : Option Heard)
+    → Took v g k m → Fits again m → Gathers v s ms es again → Front g s (ms ++ m ∷ []) (es ++ closed_by (closed_in g) g.values)
+closed_front v g k m s ms es None t f x = elim (cases_Bool (is_close_first k)) [
+  | inl shut ↦ front g s ms _ (Some m) t.ended (t.first s ms es x shut)
+  | inr kept ↦ front_none g s (ms ++ m ∷ []) _ t.ended (t.taken s ms es None x f kept)
+]
+closed_front v g k m s ms es (Some n) t f x =
+    let y : Gathers v s ms es (Some m) = subst (λ (q : Heard). Gathers v s ms es (Some q)) (sym f) x in
+    front_none g s (ms ++ m ∷ []) _ t.ended (t.taken s ms es (Some n) x f (t.again s ms es y))
+
+-- what was added, by the words of the definitions
+pub part_of : (v : Filer) (g : Gathered) (a b : Option (List ℕ)) (s : Settings) (ms : List Heard) (es : List Closed) (again : Option Heard) → Writes v s ms es again → plan_in g ≡ s.gather.plan
+    → AppendsPrefix a b (added v.texts (plan_in g) v.epochs (closed_in g) g.values) → AppendsPrefix a b (added s.texts s.gather.plan (count es) (closed_in g) g.values)
+part_of v g a b s ms es again x plan p = rw (← x.texts, ← plan, ← x.epochs) p
+
+pub wrote_part : (v : Filer) (g : Gathered) (k : Kind) (m : Heard) (a b : Option (List ℕ))
+    → Took v.gatherer g k m → AppendsPrefix a b (added v.texts (plan_in g) v.epochs (closed_in g) g.values)
+    → (s : Settings) (ms : List Heard) (es : List Closed) (again : Option Heard) → Fits again m → Writes v s ms es again
+    → BreaksOff a b (text_with s es) (text_with s (closed_epochs s.gather (ms ++ m ∷ [])))
+wrote_part v g k m a b t p s ms es again f x =
+    let c = closed_front v.gatherer g k m s.gather ms es again t f x.gatherer in
+    let out : AppendsPrefix a b (added s.texts s.gather.plan (count es) (closed_in g) g.values) = part_of v g a b s ms es again x c.0 p in
+    breaks_off-before a b _ (text_with s (es ++ closed_by (closed_in g) g.values)) _ (breaks_off-by a b _ _ _ (text-closed s es (closed_in g) g.values) out)
+    (text-more s _ _ c.1)

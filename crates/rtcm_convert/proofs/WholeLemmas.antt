@@ -1,0 +1,109 @@
+-- Whole streams.
+use Rattle.std.proofs.Common.{◌≡◌, ℕ, ◌+◌, ◌<◌, ◌≤◌, ◌⊎◌, inl, inr, refl, List, [], ◌∷◌, ◌++◌, sym, ap, subst, ◌∙◌, arith, Option, Some, None, Result, Ok, Err, OnOk, IfOk, append-nil, length, take, get_or}
+use Rattle.std.specs.Prelude.{IfSome, flat_map}
+use Rattle.std.proofs.lemmas.List.{take_more}
+use Rattle.std.proofs.lemmas.Grind.{flat_map-append}
+use Rattle.std.proofs.Math.Seq.{take-length}
+use Rattle.std.specs.Io.KnownBytes.{Appends, Consumes}
+use Rattle.std.proofs.KnownBytes.{Appends-trans}
+use Rattle.rtcm_bits.specs.Device.{AppendsPrefix}
+use Rattle.rtcm_scan.specs.Frames.{frames_of}
+use Rattle.rtcm_scan.specs.Decided.{decided_frames}
+use Rattle.rtcm_convert.specs.Converted.{Settings, so_far, file, epochs_in}
+use Rattle.rtcm_convert.specs.Outcomes.{report_of}
+use Rattle.rtcm_convert.specs.Fed.{GoesOn}
+use Rattle.rtcm_convert.specs.Laws.{NothingYet}
+use Rattle.rtcm_convert.specs.Stream.{Extends, BreaksAtEnd}
+use Rattle.rtcm_convert.specs.Broken.{IsBroken, Broke, BrokeAtEnd}
+use Rattle.rtcm_convert.specs.Conversion.{Conversion, StandsFor, Goes, GoesLong, Adds, Finishes, FinishesEmpty, StopsAt, StopsFeeding, StopsFinishing}
+use Rattle.rtcm_convert.specs.declared.report.Report.{Report}
+use Rattle.rtcm_convert.proofs.PartLemmas.{goes_on-trans}
+use Rattle.rtcm_convert.proofs.RunLemmas.{FinishesNow}
+
+pub from_nothing : NothingYet → (a b : Option (List ℕ)) (s : Settings) (y : List ℕ) → GoesOn a b (so_far s (decided_frames [])) y → Appends a b y
+from_nothing nothing a b s y g =
+    let e : y ≡ g.part = g.text ∙ ap (λ l. l ++ g.part) (nothing s) in
+    subst (λ (l : List ℕ). Appends a b l) (sym e) g.out
+
+some_weaker : (o : Option (List ℕ)) (P Q : List ℕ → Type 0) → ((x : List ℕ) → P x → Q x) → IfSome o P → IfSome o Q
+some_weaker None P Q f h = h
+some_weaker (Some x) P Q f h = f x h
+
+pub run_whole : {E : Type 0} (v w : Conversion) (s : Settings) (r a b : Option (List ℕ)) (result : Result Report E) → NothingYet → StandsFor v s [] → IfOk result (λ report. IfSome r (Finishes v w a b report))
+    → OnOk result (IfSome r (λ x. Appends a b (file s (frames_of x))))
+run_whole v w s r a b (Ok report) nothing x h =
+    some_weaker r (Finishes v w a b report) (λ x. Appends a b (file s (frames_of x))) (λ l f. from_nothing nothing a b s (file s (frames_of l)) (f s [] x).out) h
+run_whole v w s r a b (Err e) nothing x h = tt
+
+pub run_report : {E : Type 0} (v w : Conversion) (s : Settings) (r a b : Option (List ℕ)) (result : Result Report E) → StandsFor v s [] → IfOk result (λ report. IfSome r (Finishes v w a b report))
+    → IfOk result (λ report. IfSome r (λ x. report ≡ report_of s x))
+run_report v w s r a b (Ok report) x h =
+    some_weaker r (Finishes v w a b report) (λ x. report ≡ report_of s x) (λ l f. (f s [] x).report_is) h
+run_report v w s r a b (Err e) x h = tt
+
+pub run_empty : (v w : Conversion) (s : Settings) (r a b : Option (List ℕ)) → NothingYet → StandsFor v s [] → IfSome r (FinishesEmpty v w a b)
+    → IfSome r (λ x. (epochs_in s (frames_of x) ≡ 0) × Appends a b (file s (frames_of x)))
+run_empty v w s r a b nothing x h =
+    some_weaker r (FinishesEmpty v w a b) (λ x. (epochs_in s (frames_of x) ≡ 0) × Appends a b (file s (frames_of x)))
+    (λ l f. let p = f s [] x in (p.none, from_nothing nothing a b s (file s (frames_of l)) p.out)) h
+
+pub run_read : (v : Conversion) (s : Settings) (r r' a b : Option (List ℕ)) → NothingYet → StandsFor v s [] → ((front : List ℕ) × Consumes r r' front × Adds v a b front)
+    → (front : List ℕ) × Consumes r r' front × Appends a b (so_far s (decided_frames front))
+run_read v s r r' a b nothing x p = (p.0, p.1, from_nothing nothing a b s (so_far s (decided_frames p.0)) (p.2 s [] x))
+
+pub run_long : (v : Conversion) (s : Settings) (r r' a b : Option (List ℕ)) (limit : ℕ) → NothingYet → StandsFor v s [] → v.scan.limit ≡ limit → ((front : List ℕ) × Consumes r r' front × GoesLong v a b front)
+    → (front : List ℕ) × Consumes r r' front × Appends a b (so_far s (decided_frames (take limit front)))
+run_long v s r r' a b limit nothing x e p =
+    (p.0, p.1, subst (λ (n : ℕ). Appends a b (so_far s (decided_frames (take n p.0)))) e (from_nothing nothing a b s (so_far s (decided_frames (take v.scan.limit p.0))) (p.2 s [] x)))
+
+broken : (a b : Option (List ℕ)) (s : Settings) (front piece : List ℕ) → NothingYet → StopsAt a b s [] piece front → IsBroken a b s front piece
+broken a b s front piece nothing p = record {
+  out = so_far s (decided_frames front) ++ p.last.part;
+  went = Appends-trans a p.mid b (so_far s (decided_frames front)) p.last.part (from_nothing nothing a p.mid s (so_far s (decided_frames front)) p.before) p.last.out;
+  least = (p.last.part, refl);
+  most = (p.last.rest, p.last.text);
+  near = p.near;
+}
+
+broken_at_end : (a b : Option (List ℕ)) (s : Settings) (front : List ℕ) → NothingYet → BreaksAtEnd a b s [] front → AppendsPrefix a b (file s (frames_of front))
+broken_at_end a b s front nothing p =
+    let e : file s (frames_of front) ≡ p.part ++ p.rest = p.text ∙ ap (λ l. (l ++ p.part) ++ p.rest) (nothing s) in
+    (p.rest, (p.part, e, p.out))
+
+pub run_write : (v : Conversion) (s : Settings) (r r' a b : Option (List ℕ)) → NothingYet → StandsFor v s [] → (StopsFeeding v r r' a b ⊎ StopsFinishing v r r' a b)
+    → Broke r r' a b s ⊎ BrokeAtEnd r r' a b s
+run_write v s r r' a b nothing x (inl p) = inl (p.0, p.1, p.2, broken a b s p.0 p.1 nothing (p.3 s [] x))
+run_write v s r r' a b nothing x (inr p) = inr (p.0, p.1, p.2, broken_at_end a b s p.0 nothing (p.3 s [] x))
+
+pub run_over : (v : Conversion) (s : Settings) (r : Option (List ℕ)) (limit : ℕ) → StandsFor v s [] → v.scan.limit ≡ limit
+    → IfSome r (λ rest. (s : Settings) (b : List ℕ) → StandsFor v s b → v.scan.limit < length (b ++ rest)) → IfSome r (λ b. limit < length b)
+run_over v s r limit x e h =
+    some_weaker r (λ rest. (s : Settings) (b : List ℕ) → StandsFor v s b → v.scan.limit < length (b ++ rest)) (λ b. limit < length b)
+    (λ l f. subst (λ (n : ℕ). n < length l) e (f s [] x)) h
+
+pub pieces_whole : {E : Type 0} (v w : Conversion) (s : Settings) (a b c : Option (List ℕ)) (bytes all : List ℕ) (result : Result Report E) → NothingYet → StandsFor v s bytes → Extends a b s [] bytes → bytes ≡ all
+    → IfOk result (λ report. FinishesNow v w b c report) → OnOk result (Appends a c (file s (frames_of all)))
+pieces_whole v w s a b c bytes all (Ok report) nothing x out e h =
+    subst (λ (l : List ℕ). Appends a c (file s (frames_of l))) e
+    (from_nothing nothing a c s (file s (frames_of bytes)) (goes_on-trans a b c _ _ _ out (h s bytes x).out))
+pieces_whole v w s a b c bytes all (Err d) nothing x out e h = tt
+
+pub pieces_report : {E : Type 0} (v w : Conversion) (s : Settings) (b c : Option (List ℕ)) (bytes all : List ℕ) (result : Result Report E) → StandsFor v s bytes → bytes ≡ all
+    → IfOk result (λ report. FinishesNow v w b c report) → IfOk result (λ report. report ≡ report_of s all)
+pieces_report v w s b c bytes all (Ok report) x e h = subst (λ (l : List ℕ). report ≡ report_of s l) e (h s bytes x).report_is
+pieces_report v w s b c bytes all (Err d) x e h = tt
+
+pub pieces_more : {X : Type 0} (bytes : X → List ℕ) (pieces : List X) (i : ℕ) (d : X) → i < length pieces
+    → flat_map bytes (take i pieces) ++ bytes (get_or pieces i d) ≡ flat_map bytes (take (i + 1) pieces)
+pieces_more bytes pieces i d lt =
+    sym (ap (flat_map bytes) (take_more pieces i d lt) ∙ flat_map-append bytes (take i pieces) (get_or pieces i d ∷ [])
+    ∙ ap (λ l. flat_map bytes (take i pieces) ++ l) (append-nil (bytes (get_or pieces i d))))
+
+pub pieces_all : {X : Type 0} (bytes : X → List ℕ) (pieces : List X) (i : ℕ) → i ≤ length pieces → length pieces ≤ i → flat_map bytes (take i pieces) ≡ flat_map bytes pieces
+pieces_all bytes pieces i le ge = let e : i ≡ length pieces = omega arith in ap (λ k. flat_map bytes (take k pieces)) e ∙ ap (flat_map bytes) (take-length pieces)
+
+pub piece_more : (v w : Conversion) (s : Settings) (a b c : Option (List ℕ)) (bytes piece more : List ℕ) → StandsFor v s bytes → Extends a b s [] bytes → Goes v w b c piece → bytes ++ piece ≡ more
+    → StandsFor w s more × Extends a c s [] more
+piece_more v w s a b c bytes piece more x out go e =
+    let p = go s bytes x in
+    (subst (λ (l : List ℕ). StandsFor w s l) e p.0, subst (λ (l : List ℕ). Extends a c s [] l) e (goes_on-trans a b c _ _ _ out p.1))

@@ -1,0 +1,61 @@
+use Rattle.std.proofs.Common.{arith, ◌∙◌, inl, inr, refl}
+use Rattle.rtcm_convert.proofs.PartLemmas.{same_fault}
+use Rattle.rtcm_convert.proofs.RunLemmas.{going_on, ran_start, ran-trans, ran_whole, ran_empty, ran_long, run_long, run_feeding, run_finishing}
+use Rattle.rtcm_convert.proofs.converter.Converter.run.Goals as goal
+
+pub returns-in-Ok-eq0-clause-whole : goal.returns-in-Ok-eq0-clause-whole
+returns-in-Ok-eq0-clause-whole g c =
+    let p = c.in-Ok-eq0.ensures.whole in
+    ran_whole c.args.self.now c.pull.new.self c.finish.new.self _ _ _ _ _ c.finish.result
+    (ran-trans c.args.self.now c.loop-self.self c.pull.new.self _ _ _ _ _ _ c.loop-self.invariant.came (p.0, p.2, p.4))
+    (p.3 c.in-Ok-eq0.field-0-test) c.finish.ensures.whole
+
+pub loop-self-preserved : goal.loop-self-preserved
+loop-self-preserved g c =
+    let i = c.loop-self.invariant in
+    let p = c.in-Ok.ensures.whole in
+    let n = c.in-Ok.ensures in
+    record {
+      came = ran-trans c.args.self.now c.loop-self.self c.pull.new.self _ _ _ _ _ _ i.came (p.0, p.2, p.4);
+      going = n.going.0;
+      limit = n.going.1 ∙ i.limit;
+      reader = n.fine.0 ∙ i.reader;
+      writer = n.fine.1 ∙ i.writer;
+      widest = omega (arith, n.widest, i.widest);
+    }
+
+pub returns-in-Ok-eq0-clause-write : goal.returns-in-Ok-eq0-clause-write
+returns-in-Ok-eq0-clause-write g c = λ e.
+    let p = c.in-Ok-eq0.ensures.whole in
+    inr (run_finishing c.args.self.now c.pull.new.self _ _ _ _ _
+    (ran-trans c.args.self.now c.loop-self.self c.pull.new.self _ _ _ _ _ _ c.loop-self.invariant.came (p.0, p.2, p.4))
+    (p.3 c.in-Ok-eq0.field-0-test) (c.finish.ensures.part e))
+
+pub returns-in-Err-clause-long : goal.returns-in-Err-clause-long
+returns-in-Err-clause-long g c = λ e.
+    run_long c.args.self.now c.loop-self.self _ _ _ _ _ _ c.loop-self.invariant.came c.loop-self.invariant.limit (c.in-Err.ensures.long (same_fault _ _ e))
+
+pub returns-in-Err-clause-write : goal.returns-in-Err-clause-write
+returns-in-Err-clause-write g c = λ e.
+    inl (run_feeding c.args.self.now c.loop-self.self _ _ _ _ _ _ c.loop-self.invariant.came c.pull.ensures.listening (c.in-Err.ensures.part (same_fault _ _ e)))
+
+pub loop-self-init : goal.loop-self-init
+loop-self-init g c = record {
+  came = ran_start c.args.self.now _ _;
+  going = going_on c.args.self.now c.in_default.ensures;
+  limit = refl;
+  reader = refl;
+  writer = refl;
+  widest = omega arith;
+}
+
+pub returns-in-Ok-eq0-clause-no_epoch : goal.returns-in-Ok-eq0-clause-no_epoch
+returns-in-Ok-eq0-clause-no_epoch g c = λ e.
+    let p = c.in-Ok-eq0.ensures.whole in
+    ran_empty c.args.self.now c.pull.new.self c.finish.new.self _ _ _ _ _
+    (ran-trans c.args.self.now c.loop-self.self c.pull.new.self _ _ _ _ _ _ c.loop-self.invariant.came (p.0, p.2, p.4))
+    (p.3 c.in-Ok-eq0.field-0-test) (c.finish.ensures.no_epoch e)
+
+pub returns-in-Err-clause-too_long : goal.returns-in-Err-clause-too_long
+returns-in-Err-clause-too_long g c = λ e.
+    ran_long c.args.self.now c.loop-self.self _ _ _ _ _ _ c.loop-self.invariant.came c.loop-self.invariant.limit (c.in-Err.ensures.long (same_fault _ _ e))

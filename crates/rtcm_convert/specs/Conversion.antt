@@ -1,0 +1,110 @@
+-- What a contract sees of a converter, and the bytes that it stands for.
+use Rattle.std.specs.Prelude.{◌≡◌, ℕ, Bool, true, false, List, take, length, ◌+◌, ◌-◌, ◌<◌, ◌≤◌, ◌++◌, Option, Some, None, if◌then◌else◌}
+use Rattle.std.specs.Io.KnownBytes.{Consumes, IsAtEnd}
+use Rattle.rtcm_scan.specs.Frames.{frames_of}
+use Rattle.rtcm_scan.specs.Decided.{decided}
+use Rattle.rtcm_scan.specs.Scan.{Scan}
+use Rattle.rtcm_scan.specs.Drained.{IsDrained}
+use Rattle.rtcm_scan.specs.Examined.{IsCounted}
+use Rattle.rtcm_convert.specs.Converted.{Settings, epochs_in}
+use Rattle.rtcm_convert.specs.Outcomes.{report_of}
+use Rattle.rtcm_convert.specs.Stream.{Drained, StandsForSome, Extends, Breaks, Completes, BreaksAtEnd}
+use Rattle.rtcm_convert.specs.declared.filer.Filer.{Filer}
+use Rattle.rtcm_convert.specs.declared.report.Report.{Report}
+use Rattle.rtcm_convert.specs.declared.fault.Fault.{Fault}
+use Rattle.rtcm_convert.specs.declared.fault.Fault.TheVariants.{Failed, Finished, NoEpoch}
+
+-- scan: what is seen of its framer; filer: what writes the epochs; has_failed: an earlier call failed; has_ended: the
+-- stream was ended
+pub record Conversion : Type 0 where
+  pub scan : Scan
+  pub filer : Filer
+  pub has_failed : Bool
+  pub has_ended : Bool
+
+-- nothing failed, and the stream goes on
+pub record IsGoing (v : Conversion) : Type 0 where
+  pub fine : v.has_failed ≡ false
+  pub more : v.has_ended ≡ false
+
+-- a converter that goes on can take bytes; the framer stands for some bytes at every moment
+pub record IsFit (v : Conversion) : Type 0 where
+  pub going : IsGoing v → v.filer.gatherer.has_ended ≡ false
+  pub listening : IsGoing v → v.scan.has_ended ≡ false
+  pub ready : IsGoing v → v.scan.is_ready ≡ true
+  pub examined : StandsForSome v.scan
+
+-- the fault that every call answers from then on
+abbrev pub refusal : Conversion → Option Fault
+refusal v = (if v.has_ended then Some Finished else if v.has_failed then Some Failed else None)
+
+-- Made with these settings, the converter took these bytes: it holds those that are not decided, examined what the
+-- decided ones ask for, and wrote the epochs that their frames close.
+pub record StandsFor (v : Conversion) (s : Settings) (b : List ℕ) : Type 0 where
+  pub going : IsGoing v
+  pub drained : Drained v.scan v.filer s b
+
+-- the stream of these bytes was ended: all of it was decided and examined
+pub record HasFinished (v : Conversion) (b : List ℕ) : Type 0 where
+  pub ended : v.scan.has_ended ≡ true
+  pub drained : IsDrained v.scan b (frames_of b)
+  pub counted : IsCounted v.scan b
+
+-- it took these bytes more, and what they add went out
+abbrev pub Goes : Conversion → Conversion → Option (List ℕ) → Option (List ℕ) → List ℕ → Type 0
+Goes v w a b piece = (s : Settings) (bytes : List ℕ) → StandsFor v s bytes → StandsFor w s (bytes ++ piece) × Extends a b s bytes (bytes ++ piece)
+
+-- it took these bytes up to its limit, and what they add went out
+abbrev pub GoesLong : Conversion → Option (List ℕ) → Option (List ℕ) → List ℕ → Type 0
+GoesLong v a b piece = (s : Settings) (bytes : List ℕ) → StandsFor v s bytes → Extends a b s bytes (take v.scan.limit (bytes ++ piece))
+
+-- the front of what these bytes add went out
+abbrev pub Stops : Conversion → Option (List ℕ) → Option (List ℕ) → List ℕ → Type 0
+Stops v a b piece = (s : Settings) (bytes : List ℕ) → StandsFor v s bytes → Breaks a b s bytes (bytes ++ piece)
+
+-- what these bytes add went out
+abbrev pub Adds : Conversion → Option (List ℕ) → Option (List ℕ) → List ℕ → Type 0
+Adds v a b front = (s : Settings) (bytes : List ℕ) → StandsFor v s bytes → Extends a b s bytes (bytes ++ front)
+
+-- What these bytes add went out, up to `mid`, and the front of what a last piece adds; the piece fits behind the bytes that were not decided.
+pub record StopsAt (a b : Option (List ℕ)) (s : Settings) (bytes piece : List ℕ) (all : List ℕ) : Type 0 where
+  pub mid : Option (List ℕ)
+  pub before : Extends a mid s bytes all
+  pub last : Breaks mid b s all (all ++ piece)
+  pub near : (length all - decided all) + length piece ≤ 1029
+
+-- the bytes that were read split into some that were taken and a last piece at which the writer failed
+abbrev pub StopsFeeding : Conversion → Option (List ℕ) → Option (List ℕ) → Option (List ℕ) → Option (List ℕ) → Type 0
+StopsFeeding v r r' a b = (front : List ℕ) × (piece : List ℕ) × Consumes r r' (front ++ piece)
+    × ((s : Settings) (bytes : List ℕ) → StandsFor v s bytes → StopsAt a b s bytes piece (bytes ++ front))
+
+-- all was read, and the writer failed in what was left to write
+abbrev pub StopsFinishing : Conversion → Option (List ℕ) → Option (List ℕ) → Option (List ℕ) → Option (List ℕ) → Type 0
+StopsFinishing v r r' a b = (front : List ℕ) × Consumes r r' front × IsAtEnd r'
+    × ((s : Settings) (bytes : List ℕ) → StandsFor v s bytes → BreaksAtEnd a b s bytes (bytes ++ front))
+
+-- The rest of the file of all these bytes went out, which has an epoch; that is the report; and all was decided and examined.
+pub record Completed (w : Conversion) (a b : Option (List ℕ)) (s : Settings) (bytes all : List ℕ) (report : Report) : Type 0 where
+  pub out : Completes a b s bytes all
+  pub some : 0 < epochs_in s (frames_of all)
+  pub report_is : report ≡ report_of s all
+  pub finished : HasFinished w all
+
+-- No epoch stands in the file of all these bytes; the rest of it, which is nothing, went out; and all was decided and examined.
+pub record CompletedEmpty (w : Conversion) (a b : Option (List ℕ)) (s : Settings) (bytes all : List ℕ) : Type 0 where
+  pub none : epochs_in s (frames_of all) ≡ 0
+  pub out : Completes a b s bytes all
+  pub finished : HasFinished w all
+
+-- with these bytes more, the file was completed
+abbrev pub Finishes : Conversion → Conversion → Option (List ℕ) → Option (List ℕ) → Report → List ℕ → Type 0
+Finishes v w a b report rest = (s : Settings) (bytes : List ℕ) → StandsFor v s bytes → Completed w a b s bytes (bytes ++ rest) report
+
+-- with these bytes more, it was completed and is empty
+abbrev pub FinishesEmpty : Conversion → Conversion → Option (List ℕ) → Option (List ℕ) → List ℕ → Type 0
+FinishesEmpty v w a b rest = (s : Settings) (bytes : List ℕ) → StandsFor v s bytes → CompletedEmpty w a b s bytes (bytes ++ rest)
+
+-- what a refused call leaves of a converter that went on: one that is finished, or one that has failed
+abbrev pub LeftBy : Fault → Conversion → Type 0
+LeftBy NoEpoch v = v.has_ended ≡ true
+LeftBy _ v = (v.has_failed ≡ true) × (v.has_ended ≡ false)

@@ -1,0 +1,55 @@
+-- The file that frames make.
+use Rattle.std.specs.Prelude.{ℕ, nat_lt, List, [], ◌∷◌, ◌++◌, length, filter, flat_map, Option, Some, None, Result, Ok, Err}
+use Rattle.std.specs.List.{filter_map}
+use Rattle.rtcm_scan.specs.Frames.{Framed}
+use Rattle.rtcm_msg.specs.declared.message.Message.{Message}
+use Rattle.rtcm_msg.specs.declared.fault.MsgFault.{MsgFault}
+use Rattle.rtcm_msg.specs.Reading.{message_at}
+use Rattle.obs_epoch.specs.Values.{PlanValue, Closed, satellites}
+use Rattle.obs_epoch.specs.Heard.{Setup, Heard, heard}
+use Rattle.obs_epoch.specs.Gathering.{all_epochs, closed_epochs}
+use Rattle.rinex_file.specs.Texts.{HeaderLists}
+use Rattle.rinex_file.specs.File.{header_text, epoch_text}
+
+-- what a conversion is told at first
+pub record Settings : Type 0 where
+  pub gather : Setup
+  pub texts : HeaderLists
+
+-- what is heard of a message that was read; nothing of one that was refused
+abbrev pub heard_of : Result Message MsgFault → Option Heard
+heard_of (Ok m) = Some (heard m)
+heard_of (Err e) = None
+
+-- what is heard in a frame
+abbrev pub heard_in : Framed → Option Heard
+heard_in f = heard_of (message_at f.message)
+
+-- the messages of these frames in order, refused ones left out
+abbrev pub messages_of : List Framed → List Heard
+messages_of fs = filter_map heard_in fs
+
+-- the epochs in which a satellite has a value
+abbrev pub written : List Closed → List Closed
+written es = filter (λ e. nat_lt 0 (satellites e.epoch)) es
+
+-- a header with the first epoch's time and the station values known when it was closed, then the epochs; nothing where there is none
+unfoldable pub text_of : HeaderLists → PlanValue → List Closed → List ℕ
+text_of texts plan [] = []
+text_of texts plan (e ∷ es) = header_text texts plan e.values e.epoch.time ++ flat_map (λ c. epoch_text plan c.epoch) (e ∷ es)
+
+-- the text of those of these epochs in which a satellite has a value
+abbrev pub text_with : Settings → List Closed → List ℕ
+text_with s es = text_of s.texts s.gather.plan (written es)
+
+-- the file that these frames make
+abbrev pub file : Settings → List Framed → List ℕ
+file s fs = text_with s (all_epochs s.gather (messages_of fs))
+
+-- as far as its epochs are closed by these frames
+abbrev pub so_far : Settings → List Framed → List ℕ
+so_far s fs = text_with s (closed_epochs s.gather (messages_of fs))
+
+-- how many epochs stand in the file
+abbrev pub epochs_in : Settings → List Framed → ℕ
+epochs_in s fs = length (written (all_epochs s.gather (messages_of fs)))

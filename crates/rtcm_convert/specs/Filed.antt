@@ -1,0 +1,41 @@
+-- What stands in the file when the epochs of some messages were written.
+use Rattle.std.specs.Prelude.{◌≡◌, ℕ, ◌+◌, nat_lt, List, [], ◌++◌, length, Option, Some, None, if◌then◌else◌}
+use Rattle.rtcm_scan.specs.Frames.{Framed}
+use Rattle.obs_epoch.specs.Values.{PlanValue, EpochValue, Closed, satellites}
+use Rattle.obs_epoch.specs.declared.cell.StationValues.{StationValues}
+use Rattle.obs_epoch.specs.Heard.{Heard}
+use Rattle.obs_epoch.specs.Gathering.{Gathers, closed_epochs}
+use Rattle.rinex_file.specs.Texts.{HeaderLists}
+use Rattle.rinex_file.specs.File.{header_text, epoch_text}
+use Rattle.rtcm_convert.specs.Converted.{Settings, messages_of, written}
+use Rattle.rtcm_convert.specs.Outcomes.{outcomes, tally_of, capped}
+use Rattle.rtcm_convert.specs.declared.filer.Filer.{Filer}
+
+-- what stands before an epoch in a file of so many: the header before the first
+abbrev pub opening : HeaderLists → PlanValue → ℕ → EpochValue → StationValues → List ℕ
+opening texts plan n e values = (if nat_lt 0 n then [] else header_text texts plan values e.time)
+
+-- what an epoch that was closed adds to a file of so many
+abbrev pub added : HeaderLists → PlanValue → ℕ → Option EpochValue → StationValues → List ℕ
+added texts plan n None values = []
+added texts plan n (Some e) values = (if nat_lt 0 (satellites e) then opening texts plan n e values ++ epoch_text plan e else [])
+
+-- how many epochs the file has then
+abbrev pub epochs_after : ℕ → Option EpochValue → ℕ
+epochs_after n None = n
+epochs_after n (Some e) = (if nat_lt 0 (satellites e) then capped (n + 1) else n)
+
+-- the filer took these messages and wrote these epochs; where `again` is a message, it is to be handed in again
+pub record Writes (v : Filer) (s : Settings) (ms : List Heard) (es : List Closed) (again : Option Heard) : Type 0 where
+  pub texts : v.texts ≡ s.texts
+  pub gatherer : Gathers v.gatherer s.gather ms es again
+  pub epochs : v.epochs ≡ capped (length (written es))
+
+-- the filer took these messages and wrote the epochs that they close
+abbrev pub Settled : Filer → Settings → List Heard → Type 0
+Settled v s ms = Writes v s ms (closed_epochs s.gather ms) None
+
+-- the filer took the messages of these frames and wrote the epochs that they close
+pub record Files (v : Filer) (s : Settings) (fs : List Framed) : Type 0 where
+  pub settled : Settled v s (messages_of fs)
+  pub tally : v.tally ≡ tally_of (outcomes s fs)

@@ -1,0 +1,39 @@
+-- Laws of the files that frames make.
+use Rattle.std.specs.Prelude.{◌≡◌, ◌+◌, ◌≤◌, ◌^◌, ℕ, List, [], ◌++◌, length}
+use Rattle.rtcm_scan.specs.Frames.{Framed, frames_of}
+use Rattle.rtcm_scan.specs.Decided.{decided_frames}
+use Rattle.rtcm_scan.specs.Known.{IsPrefix}
+use Rattle.rtcm_convert.specs.Converted.{Settings, so_far, file}
+use Rattle.rtcm_convert.specs.Outcomes.{report_of}
+use Rattle.rtcm_convert.specs.declared.report.Report.{Report}
+
+-- what is written of some bytes stands at the front of the file, however the stream goes on
+abbrev pub WrittenStays : Type 0
+WrittenStays = (s : Settings) (b more : List ℕ) → IsPrefix (so_far s (decided_frames b)) (file s (frames_of (b ++ more)))
+
+-- and at the front of what is written of more bytes
+abbrev pub WrittenGrows : Type 0
+WrittenGrows = (s : Settings) (b more : List ℕ) → IsPrefix (so_far s (decided_frames b)) (so_far s (decided_frames (b ++ more)))
+
+-- the same over frames
+abbrev pub FiledStays : Type 0
+FiledStays = (s : Settings) (fs more : List Framed) → IsPrefix (so_far s fs) (file s (fs ++ more))
+
+abbrev pub FiledGrows : Type 0
+FiledGrows = (s : Settings) (fs more : List Framed) → IsPrefix (so_far s fs) (so_far s (fs ++ more))
+
+-- nothing is written of no bytes
+abbrev pub NothingYet : Type 0
+NothingYet = (s : Settings) → so_far s (decided_frames []) ≡ []
+
+abbrev pub NothingFiled : Type 0
+NothingFiled = (s : Settings) → so_far s [] ≡ []
+
+-- so many frames were counted, and each of them once among the seven kinds
+pub record IsCountedOnce (r : Report) (frames : ℕ) : Type 0 where
+  pub all : r.frames ≡ frames
+  pub once : r.faulty + (r.station + (r.other + (r.ignored + (r.late + (r.past + r.taken))))) ≡ frames
+
+-- so it is in the report of each stream that a converter takes
+abbrev pub CountedOnce : Type 0
+CountedOnce = (s : Settings) (b : List ℕ) → length b ≤ 2 ^ 48 → IsCountedOnce (report_of s b) (length (frames_of b))

@@ -1,0 +1,310 @@
+//! The converter: a stream goes in piece by piece, and its observation file comes out.
+ghost use Rattle.std.specs.Prelude.{◌≡◌, ◌<◌, ◌≤◌, ◌+◌, ◌*◌, ◌++◌, ◌⊎◌, ◌↔◌, [], List, ℕ, Ok, true, false, OnOk, OnErr, IfOk, IfErr, IfSome, IsErrOf, length, take, drop, Err, ◌≢◌, ◌^◌, max};
+ghost use Rattle.std.specs.Io.KnownBytes.{Consumes, Keeps, IsAtEnd};
+ghost use Rattle.rtcm_bits.specs.Device.{HasFailed};
+ghost use Rattle.rtcm_scan.specs.Frames.{frames_of};
+ghost use Rattle.rtcm_scan.specs.Decided.{decided};
+ghost use Rattle.rtcm_scan.specs.Looks.{examined, examined_now, most, most_now};
+ghost use Rattle.obs_epoch.specs.Values.{most_cells};
+ghost use Rattle.rtcm_convert.specs.Converted.{Settings};
+ghost use Rattle.rtcm_convert.specs.Told.{settings, IsBad};
+ghost use Rattle.rtcm_convert.specs.Outcomes.{report_with};
+ghost use Rattle.rtcm_convert.specs.Stream.{Extends, Breaks, BreaksAtEnd};
+ghost use Rattle.rtcm_convert.specs.Conversion.{StandsFor, HasFinished, IsGoing, Goes, GoesLong, Adds, Completed, CompletedEmpty, Finishes, FinishesEmpty, Stops, StopsFeeding, StopsFinishing, LeftBy, refusal};
+
+use crate::fault::Fault;
+use crate::filer::Filer;
+use crate::report::Report;
+use crate::setup::Setup;
+use crate::stream::{end_stream, feed_bytes};
+use crate::tally::Tally;
+use gnss_obs::System;
+use obs_epoch::{Gatherer, PlanFault};
+use rtcm_bits::Counted;
+use rtcm_scan::{Framer, MOST_BYTES};
+use std::alloc::Global;
+use std::io::{Read, Write};
+use std::marker::Model;
+
+/// Makes an observation file of a stream.
+#[derive(Drop)]
+pub struct Converter {
+    framer: Framer,
+    filer: Filer,
+    failed: bool,
+    finished: bool,
+}
+
+impl Model for Converter {
+    ghost use Rattle.std.specs.Prelude.{◌≡◌, true, false};
+    ghost use Rattle.rtcm_convert.specs.Conversion.{Conversion, IsFit};
+
+    ghost Value = { Conversion };
+
+    ghost view = { λ c. record { scan = c.framer; filer = c.filer; has_failed = c.failed; has_ended = c.finished } };
+
+    ghost invariant = { λ c. IsFit (record { scan = c.framer; filer = c.filer; has_failed = c.failed; has_ended = c.finished }) };
+}
+
+impl Converter {
+    /// A converter that has taken no byte. A setup whose limit, week or station is out of range is `BadSetup`; want of
+    /// memory is `Memory`. Only this call takes memory.
+    pub fn new(alloc: Global, setup: Setup) -> Result<Converter, Fault>
+        ensures stands { IfOk result (λ c. StandsFor c (settings setup) []) }
+        ensures fresh { IfOk result (λ c. (c.scan.limit ≡ setup.limit) × (c.scan.taken ≡ 0)) }
+        ensures bad { result ≡ Err Fault.BadSetup ↔ IsBad setup }
+        ensures only { IfErr result (λ fault. (fault ≡ Fault.BadSetup) ⊎ (fault ≡ Fault.Memory)) }
+    {
+        if setup.limit > MOST_BYTES {
+            return Err(Fault::BadSetup);
+        }
+        let gatherer = match Gatherer::new(
+            alloc,
+            setup.plan,
+            setup.start_week,
+            setup.station,
+            setup.gather,
+        ) {
+            Ok(gatherer) => gatherer,
+            Err(PlanFault::BadWeek) => return Err(Fault::BadSetup),
+            Err(PlanFault::BadStation) => return Err(Fault::BadSetup),
+            Err(_) => return Err(Fault::Memory),
+        };
+        let framer = match Framer::new(alloc, setup.limit) {
+            Ok(framer) => framer,
+            Err(_) => return Err(Fault::Memory),
+        };
+        Ok(Converter {
+            framer,
+            filer: Filer {
+                gatherer,
+                texts: setup.texts,
+                epochs: 0,
+                tally: Tally::new(),
+            },
+            failed: false,
+            finished: false,
+        })
+    }
+
+    /// Takes a piece of the stream, and writes every epoch that it closes.
+    pub fn feed<W: Write>(&mut self, piece: &[u8], writer: &mut Counted<W>) -> Result<(), Fault>
+        ensures refused { IfSome (refusal self.old) (λ fault. (result ≡ Err fault) × (self.new ≡ self.old) × (writer.new ≡ writer.old)) }
+        // All was taken, and what went out is what these bytes add.
+        ensures whole { OnOk result ((s : Settings) (b : List ℕ) → StandsFor self.old s b → StandsFor self.new s (b ++ piece.now)
+            × Extends (W.contents writer.old.inner) (W.contents writer.new.inner) s b (b ++ piece.now)) }
+        ensures going { OnOk result (IsGoing self.new × (self.new.scan.limit ≡ self.old.scan.limit) × (self.new.scan.taken ≡ self.old.scan.taken + length piece.now)) }
+        ensures fine { OnOk result (writer.new.failures ≡ writer.old.failures) }
+        ensures within { OnOk result (0 < length piece.now → self.new.scan.taken ≤ self.new.scan.limit) }
+        // What went out is a front of that.
+        ensures part { IsErrOf result Fault.Write → (s : Settings) (b : List ℕ) → StandsFor self.old s b
+            → Breaks (W.contents writer.old.inner) (W.contents writer.new.inner) s b (b ++ piece.now) }
+        ensures failed { IsErrOf result Fault.Write → HasFailed writer.old.failures writer.new.failures }
+        // The bytes up to the limit were taken, and what they add went out.
+        ensures long { IsErrOf result Fault.TooLong → (s : Settings) (b : List ℕ) → StandsFor self.old s b
+            → Extends (W.contents writer.old.inner) (W.contents writer.new.inner) s b (take self.old.scan.limit (b ++ piece.now)) }
+        ensures limit { IsErrOf result Fault.TooLong → self.old.scan.limit < self.old.scan.taken + length piece.now }
+        ensures only { IsGoing self.old → IfErr result (λ fault. (fault ≡ Fault.TooLong) ⊎ (fault ≡ Fault.Write)) }
+        ensures err { IsGoing self.old → IfErr result (λ fault. LeftBy fault self.new) }
+    {
+        if let Some(fault) = self.refusal() {
+            return Err(fault);
+        }
+        match feed_bytes(&mut self.framer, &mut self.filer, piece, writer) {
+            Ok(()) => Ok(()),
+            Err(fault) => {
+                self.failed = true;
+                Err(fault)
+            }
+        }
+    }
+
+    /// Ends the stream, and writes the rest of the file. Where no epoch of the whole stream was written, nothing is, and
+    /// the answer is `NoEpoch`; after that, as after `Ok`, the converter is finished.
+    pub fn finish<W: Write>(&mut self, writer: &mut Counted<W>) -> Result<Report, Fault>
+        ensures refused { IfSome (refusal self.old) (λ fault. (result ≡ Err fault) × (self.new ≡ self.old) × (writer.new ≡ writer.old)) }
+        // The rest of the file went out, and that is the report.
+        ensures whole { IfOk result (λ report. (s : Settings) (b : List ℕ) → StandsFor self.old s b
+            → Completed self.new (W.contents writer.old.inner) (W.contents writer.new.inner) s b b report) }
+        // No epoch of the whole stream was written, so nothing was.
+        ensures no_epoch { IsErrOf result Fault.NoEpoch → (s : Settings) (b : List ℕ) → StandsFor self.old s b
+            → CompletedEmpty self.new (W.contents writer.old.inner) (W.contents writer.new.inner) s b b }
+        // A front of the rest of the file went out.
+        ensures part { IsErrOf result Fault.Write → (s : Settings) (b : List ℕ) → StandsFor self.old s b
+            → BreaksAtEnd (W.contents writer.old.inner) (W.contents writer.new.inner) s b b }
+        ensures failed { IsErrOf result Fault.Write → HasFailed writer.old.failures writer.new.failures }
+        ensures only { IsGoing self.old → IfErr result (λ fault. (fault ≡ Fault.NoEpoch) ⊎ (fault ≡ Fault.Write)) }
+        ensures ended { OnOk result (self.new.has_ended ≡ true) }
+        ensures err { IsGoing self.old → IfErr result (λ fault. LeftBy fault self.new) }
+        ensures same { (self.new.scan.taken ≡ self.old.scan.taken) × (self.new.scan.limit ≡ self.old.scan.limit) }
+    {
+        if let Some(fault) = self.refusal() {
+            return Err(fault);
+        }
+        match end_stream(&mut self.framer, &mut self.filer, writer) {
+            Ok(()) => {
+                self.finished = true;
+                if self.filer.epochs == 0 {
+                    return Err(Fault::NoEpoch);
+                }
+                Ok(self.report())
+            }
+            Err(_) => {
+                self.failed = true;
+                Err(Fault::Write)
+            }
+        }
+    }
+
+    /// The fault that every call answers of a converter that is finished or has failed.
+    fn refusal(&self) -> Option<Fault>
+        ensures { result ≡ refusal self.now }
+    {
+        if self.finished {
+            return Some(Fault::Finished);
+        }
+        if self.failed {
+            return Some(Fault::Failed);
+        }
+        None
+    }
+
+    /// The report of a stream that was ended.
+    fn report(&self) -> Report
+        ensures { result ≡ report_with self.now.scan.taken self.now.scan.skipped self.now.filer.tally self.now.filer.epochs }
+    {
+        let bytes = self.framer.taken();
+        let skipped = self.framer.skipped();
+        self.filer.tally.report(bytes, skipped, self.filer.epochs)
+    }
+
+    /// Reads a piece, and takes it: how many bytes it has.
+    fn pull<R: Read, W: Write>(
+        &mut self,
+        reader: &mut Counted<R>,
+        writer: &mut Counted<W>,
+    ) -> Result<usize, Fault>
+        requires { IsGoing self.old }
+        ensures whole { IfOk result (λ n. (piece : List ℕ) × (length piece ≡ n) × Consumes (R.remaining reader.old.inner) (R.remaining reader.new.inner) piece
+            × (n ≡ 0 → IsAtEnd (R.remaining reader.new.inner)) × Goes self.old self.new (W.contents writer.old.inner) (W.contents writer.new.inner) piece) }
+        ensures going { IfOk result (λ n. IsGoing self.new × (self.new.scan.limit ≡ self.old.scan.limit) × (self.new.scan.taken ≡ self.old.scan.taken + n) × (0 < n → self.new.scan.taken ≤ self.new.scan.limit)) }
+        ensures read { IsErrOf result Fault.Read → Keeps (R.remaining reader.old.inner) (R.remaining reader.new.inner) × (writer.new ≡ writer.old) }
+        ensures long { IsErrOf result Fault.TooLong → (piece : List ℕ) × Consumes (R.remaining reader.old.inner) (R.remaining reader.new.inner) piece
+            × GoesLong self.old (W.contents writer.old.inner) (W.contents writer.new.inner) piece × (self.old.scan.limit < self.old.scan.taken + length piece) }
+        ensures part { IsErrOf result Fault.Write → (piece : List ℕ) × Consumes (R.remaining reader.old.inner) (R.remaining reader.new.inner) piece
+            × (length self.old.scan.held + length piece ≤ 1029) × Stops self.old (W.contents writer.old.inner) (W.contents writer.new.inner) piece }
+        ensures listening { self.old.scan.has_ended ≡ false }
+        ensures fine { OnOk result ((reader.new.failures ≡ reader.old.failures) × (writer.new.failures ≡ writer.old.failures)) }
+        ensures read_failed { IsErrOf result Fault.Read → HasFailed reader.old.failures reader.new.failures }
+        ensures write_failed { IsErrOf result Fault.Write → HasFailed writer.old.failures writer.new.failures }
+        ensures widest { reader.new.widest ≤ max reader.old.widest 1029 }
+        ensures only { IfErr result (λ fault. (fault ≡ Fault.Read) ⊎ ((fault ≡ Fault.TooLong) ⊎ (fault ≡ Fault.Write))) }
+        ensures err { IfErr result (λ fault. LeftBy fault self.new) }
+    {
+        let room = 1029 - self.held();
+        let mut buffer = [0u8; 1029];
+        let piece = &mut buffer[..room];
+        match reader.read(piece) {
+            Ok(n) => match self.feed(&piece[..n], writer) {
+                Ok(()) => Ok(n),
+                Err(fault) => Err(fault),
+            },
+            Err(_) => {
+                self.failed = true;
+                Err(Fault::Read)
+            }
+        }
+    }
+
+    /// Reads to the end, and makes the file of all that was read.
+    pub fn run<R: Read, W: Write>(
+        &mut self,
+        reader: &mut Counted<R>,
+        writer: &mut Counted<W>,
+    ) -> Result<Report, Fault>
+        ensures refused { IfSome (refusal self.old) (λ fault. (result ≡ Err fault) × (self.new ≡ self.old) × (writer.new ≡ writer.old) × (reader.new ≡ reader.old)) }
+        // The rest of the file of all the bytes went out, and that is the report.
+        ensures whole { IfOk result (λ report. IfSome (R.remaining reader.old.inner)
+            (Finishes self.old self.new (W.contents writer.old.inner) (W.contents writer.new.inner) report)) }
+        // No epoch of the whole stream was written, so nothing was.
+        ensures no_epoch { IsErrOf result Fault.NoEpoch → IfSome (R.remaining reader.old.inner)
+            (FinishesEmpty self.old self.new (W.contents writer.old.inner) (W.contents writer.new.inner)) }
+        // The stream is longer than the limit.
+        ensures too_long { IsErrOf result Fault.TooLong → IfSome (R.remaining reader.old.inner) (λ rest. (s : Settings) (b : List ℕ) → StandsFor self.old s b → self.old.scan.limit < length (b ++ rest)) }
+        ensures read_failed { IsErrOf result Fault.Read → HasFailed reader.old.failures reader.new.failures }
+        ensures write_failed { IsErrOf result Fault.Write → HasFailed writer.old.failures writer.new.failures }
+        // The reader failed: what the bytes that were read add went out.
+        ensures read { IsErrOf result Fault.Read → (front : List ℕ) × Consumes (R.remaining reader.old.inner) (R.remaining reader.new.inner) front
+            × Adds self.old (W.contents writer.old.inner) (W.contents writer.new.inner) front }
+        // The bytes up to the limit were taken, and what they add went out.
+        ensures long { IsErrOf result Fault.TooLong → (front : List ℕ) × Consumes (R.remaining reader.old.inner) (R.remaining reader.new.inner) front
+            × GoesLong self.old (W.contents writer.old.inner) (W.contents writer.new.inner) front }
+        // The writer failed, at one of the pieces or at the end.
+        ensures write { IsErrOf result Fault.Write →
+            StopsFeeding self.old (R.remaining reader.old.inner) (R.remaining reader.new.inner) (W.contents writer.old.inner) (W.contents writer.new.inner)
+            ⊎ StopsFinishing self.old (R.remaining reader.old.inner) (R.remaining reader.new.inner) (W.contents writer.old.inner) (W.contents writer.new.inner) }
+        ensures only { IsGoing self.old → IfErr result (λ fault. (fault ≡ Fault.Read) ⊎ ((fault ≡ Fault.TooLong) ⊎ ((fault ≡ Fault.NoEpoch) ⊎ (fault ≡ Fault.Write)))) }
+        ensures ended { OnOk result (self.new.has_ended ≡ true) }
+        ensures err { IsGoing self.old → IfErr result (λ fault. LeftBy fault self.new) }
+        ensures widest { reader.new.widest ≤ max reader.old.widest 1029 }
+    {
+        if let Some(fault) = self.refusal() {
+            return Err(fault);
+        }
+        loop {
+            match self.pull(reader, writer) {
+                Ok(0) => return self.finish(writer),
+                Ok(_) => {}
+                Err(fault) => return Err(fault),
+            }
+        }
+    }
+
+    /// How many bytes are held: those that are not decided, at most 1,029.
+    pub fn held(&self) -> usize
+        ensures value { result ≡ length self.now.scan.held }
+        ensures bound { result ≤ 1029 }
+        ensures room { IsGoing self.now → result ≤ 1028 }
+        // The held bytes are those from the first undecided place on; when the stream was ended, none.
+        ensures undecided { (s : Settings) (b : List ℕ) → StandsFor self.now s b → self.now.scan.held ≡ drop (decided b) b }
+        ensures nothing { (b : List ℕ) → HasFinished self.now b → result ≡ 0 }
+    {
+        self.framer.held()
+    }
+
+    /// How many cells of a system are held: those of the pending epoch or, where none is pending, of the one last closed.
+    pub fn cells(&self, system: System) -> usize
+        ensures bound { result ≤ most_cells }
+    {
+        self.filer.gatherer.cells(system)
+    }
+
+    /// How many lock records are held, one at most for each satellite and signal.
+    pub fn locks(&self) -> usize
+        ensures count { result ≡ length self.now.filer.gatherer.locks }
+        ensures bound { result ≤ 1_164 }
+    {
+        self.filer.gatherer.locks()
+    }
+
+    /// How often bytes were looked at in all.
+    pub fn examined(&self) -> u64
+        ensures value { result ≡ self.now.scan.examined }
+        // Not more than 1,030 times the bytes taken, at every moment.
+        ensures bound { result ≤ 1030 * self.now.scan.taken }
+        ensures now { (s : Settings) (b : List ℕ) → StandsFor self.now s b → result ≡ examined_now b }
+        ensures all { (b : List ℕ) → HasFinished self.now b → result ≡ examined b }
+    {
+        self.framer.examined()
+    }
+
+    /// How often that byte was looked at which was looked at most.
+    pub fn most(&self) -> u16
+        ensures value { result ≡ self.now.scan.most }
+        ensures bound { result ≤ 1030 }
+        ensures now { (s : Settings) (b : List ℕ) → StandsFor self.now s b → result ≡ most_now b }
+        ensures all { (b : List ℕ) → HasFinished self.now b → result ≡ most b }
+    {
+        self.framer.most()
+    }
+}

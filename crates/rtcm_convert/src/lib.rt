@@ -1,0 +1,19 @@
+//! Observation files of streams: the frames of a stream are read as messages, these are gathered to epochs, and each
+//! epoch is written as it is closed.
+#![tactic(auto)]
+
+mod converter;
+mod fault;
+mod filer;
+pub mod laws;
+mod report;
+mod setup;
+mod stream;
+mod tally;
+mod whole;
+
+pub use converter::Converter;
+pub use fault::Fault;
+pub use report::Report;
+pub use setup::Setup;
+pub use whole::{convert_pieces, convert_stream};

@@ -1,0 +1,174 @@
+//! From bytes to the bytes of a file.
+ghost use Rattle.std.specs.Prelude.{◌≡◌, ◌<◌, ◌≤◌, ◌+◌, ◌++◌, ◌∷◌, [], List, ℕ, false, true, OnOk, OnErr, IfErr, IsErrOf, length, take, ◌⊎◌};
+ghost use Rattle.rtcm_bits.specs.Device.{HasFailed};
+ghost use Rattle.rtcm_scan.specs.Frames.{Framed, frames_of};
+ghost use Rattle.rtcm_scan.specs.Decided.{decided_frames};
+ghost use Rattle.rtcm_scan.specs.Known.{known_frames};
+ghost use Rattle.rtcm_scan.specs.Drained.{IsDrained};
+ghost use Rattle.rtcm_scan.specs.Examined.{HasExamined, IsCounted};
+ghost use Rattle.rtcm_convert.specs.Converted.{Settings, so_far, file, epochs_in};
+ghost use Rattle.rtcm_convert.specs.Fed.{GoesOn, BreaksOff};
+ghost use Rattle.rtcm_convert.specs.Filed.{Files};
+ghost use Rattle.rtcm_convert.specs.Outcomes.{outcomes, tally_of, capped};
+ghost use Rattle.rtcm_convert.specs.Stream.{Drained, StandsForSome, Extends, Breaks, Completes, BreaksAtEnd};
+
+use crate::fault::Fault;
+use crate::filer::Filer;
+use crate::laws;
+use rtcm_bits::{Counted, DeviceFailed};
+use rtcm_scan::Framer;
+use std::io::Write;
+
+/// Takes frame after frame until no more are decided.
+fn take_frames<W: Write>(
+    framer: &mut Framer,
+    filer: &mut Filer,
+    writer: &mut Counted<W>,
+) -> Result<(), DeviceFailed>
+    requires { filer.old.gatherer.has_ended ≡ false }
+    ensures whole { OnOk result ((s : Settings) (b : List ℕ) (fs : List Framed) → HasExamined framer.old b fs → Files filer.old s fs → Drained framer.new filer.new s b
+        × GoesOn (W.contents writer.old.inner) (W.contents writer.new.inner) (so_far s fs) (so_far s (known_frames framer.old.has_ended b))) }
+    ensures part { OnErr result ((s : Settings) (b : List ℕ) (fs : List Framed) → HasExamined framer.old b fs → Files filer.old s fs
+        → BreaksOff (W.contents writer.old.inner) (W.contents writer.new.inner) (so_far s fs) (so_far s (known_frames framer.old.has_ended b))) }
+    ensures failed { OnErr result (HasFailed writer.old.failures writer.new.failures) }
+    ensures fine { OnOk result (writer.new.failures ≡ writer.old.failures) }
+    ensures widest { writer.new.widest ≡ writer.old.widest }
+    ensures ended { filer.new.gatherer.has_ended ≡ false }
+    ensures ready { OnOk result (framer.new.is_ready ≡ true) }
+    ensures examined { StandsForSome framer.old → StandsForSome framer.new }
+    ensures same { (framer.new.limit ≡ framer.old.limit) × (framer.new.taken ≡ framer.old.taken) × (framer.new.has_ended ≡ framer.old.has_ended) }
+{
+    laws::filed();
+    while let Some(frame) = framer.next() {
+        filer.take_frame(&frame, writer)?;
+    }
+    Ok(())
+}
+
+/// Takes all frames that are decided. Most bytes decide none: the room of a frame is made only where one stands.
+pub(crate) fn drain<W: Write>(
+    framer: &mut Framer,
+    filer: &mut Filer,
+    writer: &mut Counted<W>,
+) -> Result<(), DeviceFailed>
+    requires { filer.old.gatherer.has_ended ≡ false }
+    ensures whole { OnOk result ((s : Settings) (b : List ℕ) (fs : List Framed) → HasExamined framer.old b fs → Files filer.old s fs → Drained framer.new filer.new s b
+        × GoesOn (W.contents writer.old.inner) (W.contents writer.new.inner) (so_far s fs) (so_far s (known_frames framer.old.has_ended b))) }
+    ensures part { OnErr result ((s : Settings) (b : List ℕ) (fs : List Framed) → HasExamined framer.old b fs → Files filer.old s fs
+        → BreaksOff (W.contents writer.old.inner) (W.contents writer.new.inner) (so_far s fs) (so_far s (known_frames framer.old.has_ended b))) }
+    ensures failed { OnErr result (HasFailed writer.old.failures writer.new.failures) }
+    ensures fine { OnOk result (writer.new.failures ≡ writer.old.failures) }
+    ensures widest { writer.new.widest ≡ writer.old.widest }
+    ensures ended { filer.new.gatherer.has_ended ≡ false }
+    ensures ready { OnOk result (framer.new.is_ready ≡ true) }
+    ensures examined { StandsForSome framer.old → StandsForSome framer.new }
+    ensures same { (framer.new.limit ≡ framer.old.limit) × (framer.new.taken ≡ framer.old.taken) × (framer.new.has_ended ≡ framer.old.has_ended) }
+{
+    if !framer.settle() {
+        return Ok(());
+    }
+    take_frames(framer, filer, writer)
+}
+
+/// Takes one more byte.
+fn feed_byte<W: Write>(
+    framer: &mut Framer,
+    filer: &mut Filer,
+    byte: u8,
+    writer: &mut Counted<W>,
+) -> Result<(), Fault>
+    requires ready { framer.old.is_ready ≡ true }
+    requires going { filer.old.gatherer.has_ended ≡ false }
+    requires listening { framer.old.has_ended ≡ false }
+    ensures whole { OnOk result ((s : Settings) (b : List ℕ) → Drained framer.old filer.old s b → Drained framer.new filer.new s (b ++ byte ∷ [])
+        × Extends (W.contents writer.old.inner) (W.contents writer.new.inner) s b (b ++ byte ∷ [])) }
+    ensures part { IsErrOf result Fault.Write → (s : Settings) (b : List ℕ) → Drained framer.old filer.old s b
+        → Breaks (W.contents writer.old.inner) (W.contents writer.new.inner) s b (b ++ byte ∷ []) }
+    ensures failed { IsErrOf result Fault.Write → HasFailed writer.old.failures writer.new.failures }
+    ensures long { IsErrOf result Fault.TooLong → (framer.old.taken ≡ framer.old.limit) × (writer.new ≡ writer.old) }
+    ensures only { IfErr result (λ fault. (fault ≡ Fault.TooLong) ⊎ (fault ≡ Fault.Write)) }
+    ensures fine { OnOk result (writer.new.failures ≡ writer.old.failures) }
+    ensures widest { writer.new.widest ≡ writer.old.widest }
+    ensures going { filer.new.gatherer.has_ended ≡ false }
+    ensures ready { OnOk result (framer.new.is_ready ≡ true) }
+    ensures taken { OnOk result (framer.new.taken ≡ framer.old.taken + 1) }
+    ensures within { framer.new.taken ≤ framer.new.limit }
+    ensures examined { StandsForSome framer.old → StandsForSome framer.new }
+    ensures same { (framer.new.limit ≡ framer.old.limit) × (framer.new.has_ended ≡ false) }
+{
+    match framer.push(byte) {
+        Err(_) => Err(Fault::TooLong),
+        Ok(()) => match drain(framer, filer, writer) {
+            Ok(()) => Ok(()),
+            Err(_) => Err(Fault::Write),
+        },
+    }
+}
+
+/// Takes these bytes.
+pub(crate) fn feed_bytes<W: Write>(
+    framer: &mut Framer,
+    filer: &mut Filer,
+    piece: &[u8],
+    writer: &mut Counted<W>,
+) -> Result<(), Fault>
+    requires ready { framer.old.is_ready ≡ true }
+    requires going { filer.old.gatherer.has_ended ≡ false }
+    requires listening { framer.old.has_ended ≡ false }
+    ensures whole { OnOk result ((s : Settings) (b : List ℕ) → Drained framer.old filer.old s b → Drained framer.new filer.new s (b ++ piece.now)
+        × Extends (W.contents writer.old.inner) (W.contents writer.new.inner) s b (b ++ piece.now)) }
+    ensures part { IsErrOf result Fault.Write → (s : Settings) (b : List ℕ) → Drained framer.old filer.old s b
+        → Breaks (W.contents writer.old.inner) (W.contents writer.new.inner) s b (b ++ piece.now) }
+    ensures failed { IsErrOf result Fault.Write → HasFailed writer.old.failures writer.new.failures }
+    // The bytes up to the limit were taken.
+    ensures long { IsErrOf result Fault.TooLong → (s : Settings) (b : List ℕ) → Drained framer.old filer.old s b
+        → Extends (W.contents writer.old.inner) (W.contents writer.new.inner) s b (take framer.old.limit (b ++ piece.now)) }
+    ensures limit { IsErrOf result Fault.TooLong → framer.old.limit < framer.old.taken + length piece.now }
+    ensures only { IfErr result (λ fault. (fault ≡ Fault.TooLong) ⊎ (fault ≡ Fault.Write)) }
+    ensures fine { OnOk result (writer.new.failures ≡ writer.old.failures) }
+    ensures widest { writer.new.widest ≡ writer.old.widest }
+    ensures going { filer.new.gatherer.has_ended ≡ false }
+    ensures ready { OnOk result (framer.new.is_ready ≡ true) }
+    ensures taken { OnOk result (framer.new.taken ≡ framer.old.taken + length piece.now) }
+    ensures within { OnOk result (0 < length piece.now → framer.new.taken ≤ framer.new.limit) }
+    ensures examined { StandsForSome framer.old → StandsForSome framer.new }
+    ensures same { (framer.new.limit ≡ framer.old.limit) × (framer.new.has_ended ≡ false) }
+{
+    laws::prefix();
+    for byte in piece {
+        if let Err(fault) = feed_byte(framer, filer, *byte, writer) {
+            return Err(fault);
+        }
+    }
+    Ok(())
+}
+
+/// Ends the stream: takes the frames that are left, and writes the rest of the file.
+pub(crate) fn end_stream<W: Write>(
+    framer: &mut Framer,
+    filer: &mut Filer,
+    writer: &mut Counted<W>,
+) -> Result<(), DeviceFailed>
+    requires going { filer.old.gatherer.has_ended ≡ false }
+    requires listening { framer.old.has_ended ≡ false }
+    ensures whole { OnOk result ((s : Settings) (b : List ℕ) → Drained framer.old filer.old s b
+        → Completes (W.contents writer.old.inner) (W.contents writer.new.inner) s b b) }
+    ensures epochs { OnOk result ((s : Settings) (b : List ℕ) → Drained framer.old filer.old s b → filer.new.epochs ≡ capped (epochs_in s (frames_of b))) }
+    ensures drained { OnOk result ((s : Settings) (b : List ℕ) → Drained framer.old filer.old s b → IsDrained framer.new b (frames_of b) × IsCounted framer.new b) }
+    ensures tally { OnOk result ((s : Settings) (b : List ℕ) → Drained framer.old filer.old s b → filer.new.tally ≡ tally_of (outcomes s (frames_of b))) }
+    ensures part { OnErr result ((s : Settings) (b : List ℕ) → Drained framer.old filer.old s b
+        → BreaksAtEnd (W.contents writer.old.inner) (W.contents writer.new.inner) s b b) }
+    ensures failed { OnErr result (HasFailed writer.old.failures writer.new.failures) }
+    ensures fine { OnOk result (writer.new.failures ≡ writer.old.failures) }
+    ensures widest { writer.new.widest ≡ writer.old.widest }
+    ensures examined { StandsForSome framer.old → StandsForSome framer.new }
+    ensures same { (framer.new.limit ≡ framer.old.limit) × (framer.new.taken ≡ framer.old.taken) × (framer.new.has_ended ≡ true) }
+{
+    laws::prefix();
+    laws::filed();
+    framer.end();
+    match drain(framer, filer, writer) {
+        Ok(()) => filer.end(writer),
+        Err(fault) => Err(fault),
+    }
+}

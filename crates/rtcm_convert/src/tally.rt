@@ -1,0 +1,107 @@
+//! What is counted of the frames so far.
+ghost use Rattle.std.specs.Prelude.{◌≡◌};
+ghost use Rattle.rtcm_convert.specs.Outcomes.{no_tally, tally_of_one, both, report_with};
+
+use crate::report::Report;
+use obs_epoch::Kind;
+
+/// What was counted of the frames so far; the fields are those of `Report`.
+#[derive(Clone, Copy)]
+pub(crate) struct Tally {
+    pub(crate) frames: u64,
+    pub(crate) faulty: u64,
+    pub(crate) station: u64,
+    pub(crate) other: u64,
+    pub(crate) ignored: u64,
+    pub(crate) late: u64,
+    pub(crate) past: u64,
+    pub(crate) taken: u64,
+    pub(crate) skipped: u64,
+    pub(crate) repeated: u64,
+    pub(crate) crowded: u64,
+}
+
+impl Tally {
+    /// No frame.
+    pub(crate) fn new() -> Tally
+        ensures { result ≡ no_tally }
+    {
+        Tally {
+            frames: 0,
+            faulty: 0,
+            station: 0,
+            other: 0,
+            ignored: 0,
+            late: 0,
+            past: 0,
+            taken: 0,
+            skipped: 0,
+            repeated: 0,
+            crowded: 0,
+        }
+    }
+
+    /// One frame: refused, or with what became of its message.
+    fn of(outcome: Option<Kind>) -> Tally
+        ensures { result ≡ tally_of_one outcome }
+    {
+        let mut one = Tally::new();
+        one.frames = 1;
+        match outcome {
+            None => one.faulty = 1,
+            Some(Kind::Station) => one.station = 1,
+            Some(Kind::OtherStation) => one.other = 1,
+            Some(Kind::Ignored) => one.ignored = 1,
+            Some(Kind::Late) => one.late = 1,
+            Some(Kind::PastWeeks) => one.past = 1,
+            Some(Kind::Kept { skipped, repeated, crowded, .. }) => {
+                one.taken = 1;
+                one.skipped = skipped as u64;
+                one.repeated = repeated as u64;
+                one.crowded = crowded as u64;
+            }
+            Some(Kind::CloseFirst) => {}
+        }
+        one
+    }
+
+    /// Counts a frame: refused, or with what became of its message.
+    pub(crate) fn count(&mut self, outcome: Option<Kind>)
+        ensures { self.new ≡ both self.old (tally_of_one outcome) }
+    {
+        let one = Tally::of(outcome);
+        self.frames = self.frames.saturating_add(one.frames);
+        self.faulty = self.faulty.saturating_add(one.faulty);
+        self.station = self.station.saturating_add(one.station);
+        self.other = self.other.saturating_add(one.other);
+        self.ignored = self.ignored.saturating_add(one.ignored);
+        self.late = self.late.saturating_add(one.late);
+        self.past = self.past.saturating_add(one.past);
+        self.taken = self.taken.saturating_add(one.taken);
+        self.skipped = self.skipped.saturating_add(one.skipped);
+        self.repeated = self.repeated.saturating_add(one.repeated);
+        self.crowded = self.crowded.saturating_add(one.crowded);
+    }
+
+    /// The report of so many bytes, of which some are in no frame, with these counts and so many epochs.
+    pub(crate) fn report(&self, bytes: u64, skipped_bytes: u64, epochs: u64) -> Report
+        ensures { result ≡ report_with bytes skipped_bytes self.now epochs }
+    {
+        Report {
+            bytes,
+            skipped_bytes,
+            frames: self.frames,
+            faulty: self.faulty,
+            station: self.station,
+            other: self.other,
+            ignored: self.ignored,
+            late: self.late,
+            past: self.past,
+            taken: self.taken,
+            skipped: self.skipped,
+            repeated: self.repeated,
+            crowded: self.crowded,
+            epochs,
+        }
+    }
+}
