@@ -76,7 +76,7 @@ pub put_in : (old new d tail : List ℕ) (r : ℕ) → old ≡ replicate 10 32 +
 put_in old new d tail r begun there behind before =
     let rest : drop 10 old ≡ tail = ap (drop 10) begun in
     let shape : old ≡ replicate r 32 ++ (replicate (length d) 32 ++ tail) =
-        begun ∙ ap (λ t. t ++ tail) (split_blanks r (length d) there) ∙ append_assoc (replicate r 32) (replicate (length d) 32) tail in
+    begun ∙ ap (λ t. t ++ tail) (split_blanks r (length d) there) ∙ append_assoc (replicate r 32) (replicate (length d) 32) tail in
     let front : take r old ≡ replicate r 32 = ap (take r) shape ∙ take_at (replicate r 32) (replicate (length d) 32 ++ tail) r (length-replicate r 32) in
     sym (take-append-drop r new) ∙ ap (λ t. t ++ drop r new) (before ∙ front) ∙ ap (λ t. replicate r 32 ++ t) (behind ∙ ap (λ t. d ++ t) rest)
 
@@ -96,7 +96,7 @@ last_blank : (r : ℕ) (t : List ℕ) → 1 ≤ r → set (replicate r 32 ++ t) 
 last_blank r t h =
     let e : r ≡ (r - 1) + 1 = omega arith in
     let shape : replicate r 32 ++ t ≡ replicate (r - 1) 32 ++ 32 ∷ t =
-        ap (λ n. replicate n 32 ++ t) e ∙ ap (λ l. l ++ t) (sym (replicate-append-replicate {A = ℕ} (r - 1) 1 32)) ∙ append_assoc (replicate (r - 1) 32) (32 ∷ []) t in
+    ap (λ n. replicate n 32 ++ t) e ∙ ap (λ l. l ++ t) (sym (replicate-append-replicate {A = ℕ} (r - 1) 1 32)) ∙ append_assoc (replicate (r - 1) 32) (32 ∷ []) t in
     ap (λ l. set l (r - 1) 45) shape ∙ set_at (replicate (r - 1) 32) 32 t 45 (r - 1) (length-replicate (r - 1) 32)
 
 -- a minus in the last blank

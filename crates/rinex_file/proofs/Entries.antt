@@ -29,10 +29,10 @@ pub row_more : (g : ℕ → Entry) (signals : List ℕ) (i x : ℕ) (front text 
 row_more g signals i x front text new less is before more =
     let done = flat_map entry_text (map g (take i signals)) in
     let all : flat_map entry_text (map g (take (i + 1) signals)) ≡ done ++ entry_text (g x) =
-        ap (λ l. flat_map entry_text (map g l)) (take_more signals i 0 less ∙ ap (λ y. take i signals ++ y ∷ []) (sym is))
-        ∙ ap (flat_map entry_text) (map-append g (take i signals) (x ∷ []))
-        ∙ flat_map-append entry_text (map g (take i signals)) (g x ∷ [])
-        ∙ ap (λ l. done ++ l) (append-nil (entry_text (g x))) in
+    ap (λ l. flat_map entry_text (map g l)) (take_more signals i 0 less ∙ ap (λ y. take i signals ++ y ∷ []) (sym is))
+    ∙ ap (flat_map entry_text) (map-append g (take i signals) (x ∷ []))
+    ∙ flat_map-append entry_text (map g (take i signals)) (g x ∷ [])
+    ∙ ap (λ l. done ++ l) (append-nil (entry_text (g x))) in
     more ∙ ap (λ l. l ++ entry_text (g x)) before ∙ append_assoc front done (entry_text (g x)) ∙ ap (λ l. front ++ l) (sym all)
 
 -- all signals stand there

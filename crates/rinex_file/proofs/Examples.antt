@@ -12,8 +12,19 @@ use Rattle.rinex_file.specs.Numbers.{joined}
 use Rattle.rinex_file.specs.File.{file_text}
 
 abbrev texts : HeaderLists
-texts = record { run_by = []; date = codes "20240204 000001 UTC"; marker = []; marker_type = codes "GEODETIC"; observer = []; agency = [];
-  rec_number = []; rec_type = []; rec_version = []; ant_number = []; ant_type = [] }
+texts = record {
+  run_by = [];
+  date = codes "20240204 000001 UTC";
+  marker = [];
+  marker_type = codes "GEODETIC";
+  observer = [];
+  agency = [];
+  rec_number = [];
+  rec_type = [];
+  rec_version = [];
+  ant_number = [];
+  ant_type = [];
+}
 
 -- one epoch of one satellite, GPS 5 with 1C
 abbrev one : FileValue
@@ -32,23 +43,23 @@ abbrev lines : List (List ℕ) → List ℕ
 lines texts = joined (map (λ line. line ++ 10 ∷ []) texts)
 
 pub one_text : file_text one ≡ lines (
-  codes "     3.05           OBSERVATION DATA    G                   RINEX VERSION / TYPE"
-  ∷ codes "rtcm2rinex                              20240204 000001 UTC PGM / RUN BY / DATE "
-  ∷ codes "                                                            MARKER NAME         "
-  ∷ codes "GEODETIC                                                    MARKER TYPE         "
-  ∷ codes "                                                            OBSERVER / AGENCY   "
-  ∷ codes "                                                            REC # / TYPE / VERS "
-  ∷ codes "                                                            ANT # / TYPE        "
-  ∷ codes "        0.0000        0.0000        0.0000                  APPROX POSITION XYZ "
-  ∷ codes "        0.0000        0.0000        0.0000                  ANTENNA: DELTA H/E/N"
-  ∷ codes "G    4 C1C L1C D1C S1C                                      SYS / # / OBS TYPES "
-  ∷ codes "DBHZ                                                        SIGNAL STRENGTH UNIT"
-  ∷ codes "  2024     2     4     0     0    1.0000000     GPS         TIME OF FIRST OBS   "
-  ∷ codes "G                                                           SYS / PHASE SHIFT   "
-  ∷ codes "                                                            END OF HEADER       "
-  ∷ codes "> 2024 02 04 00 00  1.0000000  0  1"
-  ∷ codes "G05  20985472.060 7 110279400.000 7      -525.504          45.063"
-  ∷ [])
+    codes "     3.05           OBSERVATION DATA    G                   RINEX VERSION / TYPE"
+    ∷ codes "rtcm2rinex                              20240204 000001 UTC PGM / RUN BY / DATE "
+    ∷ codes "                                                            MARKER NAME         "
+    ∷ codes "GEODETIC                                                    MARKER TYPE         "
+    ∷ codes "                                                            OBSERVER / AGENCY   "
+    ∷ codes "                                                            REC # / TYPE / VERS "
+    ∷ codes "                                                            ANT # / TYPE        "
+    ∷ codes "        0.0000        0.0000        0.0000                  APPROX POSITION XYZ "
+    ∷ codes "        0.0000        0.0000        0.0000                  ANTENNA: DELTA H/E/N"
+    ∷ codes "G    4 C1C L1C D1C S1C                                      SYS / # / OBS TYPES "
+    ∷ codes "DBHZ                                                        SIGNAL STRENGTH UNIT"
+    ∷ codes "  2024     2     4     0     0    1.0000000     GPS         TIME OF FIRST OBS   "
+    ∷ codes "G                                                           SYS / PHASE SHIFT   "
+    ∷ codes "                                                            END OF HEADER       "
+    ∷ codes "> 2024 02 04 00 00  1.0000000  0  1"
+    ∷ codes "G05  20985472.060 7 110279400.000 7      -525.504          45.063"
+    ∷ [])
 unfolding digits header_line header_lines lines_of epoch_line seen_line trimmed entry_text field
 one_text = refl
 

@@ -1,5 +1,5 @@
 -- The text of a file is that of its header and its epochs, one after the other.
-use Rattle.std.proofs.Common.{arith, ◌≡◌, ◌≢◌, ◌∙◌, sym, ap, refl, ℕ, List, [], ◌∷◌, ◌++◌, length, append_assoc, length-append}
+use Rattle.std.proofs.Common.{◌≡◌, ◌≢◌, ◌∙◌, sym, ap, refl, ℕ, List, [], ◌∷◌, ◌++◌, drop}
 use Rattle.std.specs.Prelude.{map, flat_map}
 use Rattle.obs_epoch.specs.declared.cell.StationValues.{StationValues}
 use Rattle.obs_epoch.specs.Dates.{civil_of}
@@ -37,4 +37,6 @@ header_line-some content label rest e = some_line (left 60 content) (left 20 lab
 
 pub header_text-some : (x : HeaderLists) (p : PlanValue) (v : StationValues) (first : ℕ) → header_text x p v first ≢ []
 unfolding header_text header_lines lines_of
-header_text-some x p v first e = ?
+header_text-some x p v first e =
+    let shape : header_text x p v first ≡ version_line p ++ joined (drop 1 (header_lines x p v (civil_of first))) = refl in
+    header_line-some _ _ (joined (drop 1 (header_lines x p v (civil_of first)))) (sym shape ∙ e)

@@ -70,9 +70,9 @@ pub sole : (lines : Section → List (List ℕ)) (count : Section → ℕ) (s t 
 sole lines count s t x y row same here single less e =
     let few : row < 1 = subst (λ n. row < n) (ap count same ∙ single) less in
     only x y row few e ∙ ap (λ l. get_or l row []) (sym here ∙ ap lines (sym same)) where
-  only : (x y : List ℕ) (row : ℕ) → row < 1 → y ≡ x → y ≡ get_or (x ∷ []) row []
-  only x y zero h e = e
-  only x y (suc row) h e = absurd (omega (arith, h))
+      only : (x y : List ℕ) (row : ℕ) → row < 1 → y ≡ x → y ≡ get_or (x ∷ []) row []
+      only x y zero h e = e
+      only x y (suc row) h e = absurd (omega (arith, h))
 
 from_start : (a : ℕ) → a ≡ a + 0
 from_start a = omega arith

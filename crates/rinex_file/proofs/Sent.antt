@@ -19,10 +19,14 @@ use Rattle.rinex_file.proofs.Entries.{flat_map-append}
 
 -- behind what went out, a part of what follows
 pub part_behind : (a b c : Option (List ℕ)) (text done next rest : List ℕ) → text ≡ done ++ (next ++ rest) → Appends a b done → AppendsPrefix b c next → AppendsPrefix a c text
-part_behind a b c text done next rest is out (left, (sent, split, more)) =
-    (left ++ rest, (done ++ sent,
+part_behind a b c text done next rest is out (left, (sent, split, more)) = (
+  left ++ rest,
+  (
+    done ++ sent,
     is ∙ ap (λ l. done ++ (l ++ rest)) split ∙ ap (λ l. done ++ l) (append_assoc sent left rest) ∙ sym (append_assoc done sent (left ++ rest)),
-    Appends-trans a b c done sent out more))
+    Appends-trans a b c done sent out more,
+  ),
+)
 
 -- a part of the first is a part of both
 pub part_first : (a c : Option (List ℕ)) (text next rest : List ℕ) → text ≡ next ++ rest → AppendsPrefix a c next → AppendsPrefix a c text
@@ -88,10 +92,11 @@ lines_rest p e s n zero m is =
     ([], ap (lines_up_to p e s) same ∙ sym (append-nil (lines_up_to p e s n)))
 lines_rest p e s n (suc k) m is =
     let same : m ≡ suc (n + k) = omega (arith, is) in
-    let (rest, before) = lines_rest p e s n k (n + k) refl in
-    (rest ++ line_or_none p e s (suc (n + k)),
-    ap (lines_up_to p e s) same ∙ lines_suc p e s (n + k) ∙ ap (λ l. l ++ line_or_none p e s (suc (n + k))) before
-    ∙ append_assoc (lines_up_to p e s n) rest (line_or_none p e s (suc (n + k))))
+    let (rest, before) = lines_rest p e s n k (n + k) refl in (
+      rest ++ line_or_none p e s (suc (n + k)),
+      ap (lines_up_to p e s) same ∙ lines_suc p e s (n + k) ∙ ap (λ l. l ++ line_or_none p e s (suc (n + k))) before
+          ∙ append_assoc (lines_up_to p e s n) rest (line_or_none p e s (suc (n + k))),
+    )
 
 -- a part of one satellite's line is a part of all
 pub part_lines : (a b c : Option (List ℕ)) (p : PlanValue) (e : EpochValue) (s : System) (n m most : ℕ) → m ≡ suc n → m ≤ most → Appends a b (lines_up_to p e s n)

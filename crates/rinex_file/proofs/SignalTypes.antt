@@ -88,7 +88,7 @@ type_more types start i x front text new low high is before more =
     let here : get_or rest k [] ≡ x = get_or-drop start types k [] ∙ ap (λ n. get_or types n []) (place_of start i low) ∙ sym is in
     let all : take ((i + 1) - start) rest ≡ take k rest ++ x ∷ [] = ap (λ n. take n rest) (next_place start i low) ∙ take_more rest k [] less ∙ ap (λ y. take k rest ++ y ∷ []) here in
     let grown : columns (take ((i + 1) - start) rest) ≡ columns (take k rest) ++ 32 ∷ x =
-        ap columns all ∙ flat_map-append (λ t. 32 ∷ t) (take k rest) (x ∷ []) ∙ ap (λ l. columns (take k rest) ++ l) (append-nil (32 ∷ x)) in
+    ap columns all ∙ flat_map-append (λ t. 32 ∷ t) (take k rest) (x ∷ []) ∙ ap (λ l. columns (take k rest) ++ l) (append-nil (32 ∷ x)) in
     more ∙ ap (λ l. l ++ 32 ∷ x) before ∙ append_assoc front (columns (take k rest)) (32 ∷ x) ∙ ap (λ l. front ++ l) (sym grown)
 
 same_take : (types : List (List ℕ)) (m n : ℕ) → length types ≤ m → length types ≤ n → take m types ≡ take n types

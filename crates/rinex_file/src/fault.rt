@@ -1,6 +1,8 @@
 //! What can be wrong with a header or with writing.
 ghost use Rattle.std.specs.Prelude.{◌≡◌};
 
+use thiserror::Error;
+
 /// A text of the header that is handed in.
 #[derive(Clone, Copy, Debug, PartialEq, Eq)]
 pub enum HeaderField {
@@ -29,13 +31,16 @@ pub enum HeaderField {
 }
 
 /// Why a header or an epoch was refused or not written.
-#[derive(Clone, Copy, Debug, PartialEq, Eq)]
+#[derive(Clone, Copy, Debug, PartialEq, Eq, Error)]
 pub enum HeadFault {
     /// The text has more bytes than columns, blanks at its end apart.
+    #[error("a text of the header has more bytes than columns")]
     TooLong(HeaderField),
     /// The text has a byte outside 0x20 to 0x7E.
+    #[error("a text of the header has a byte that is not printable")]
     NotPrintable(HeaderField),
     /// The writer failed.
+    #[error("the writer failed")]
     Write,
 }
 

@@ -14,5 +14,4 @@ pub fn file()
     ensures none { (texts : HeaderLists) (plan : PlanValue) (values : StationValues) → file_text (gathered texts plan values []) ≡ [] }
     // A header isn't empty.
     ensures some { (texts : HeaderLists) (plan : PlanValue) (values : StationValues) (first : ℕ) → header_text texts plan values first ≢ [] }
-{
-}
+{}

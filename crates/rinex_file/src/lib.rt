@@ -20,3 +20,6 @@ pub use numbers::Line;
 pub use satellite::satellite_line;
 pub use texts::{HeaderTexts, Texts};
 pub use write::{write_epoch, write_header};
+
+#[cfg(test)]
+mod tests;

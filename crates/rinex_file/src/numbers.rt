@@ -82,7 +82,7 @@ pub(crate) fn put_digits(line: &mut Line, places: usize, number: u64)
 }
 
 /// A number of 10 to the minus `places`.
-fn fixed_text(places: usize, scale: u64, value: i64) -> ArrayVec<u8, 64>
+pub(crate) fn fixed_text(places: usize, scale: u64, value: i64) -> ArrayVec<u8, 64>
     requires places { places ≤ 20 }
     requires scale { scale ≡ 10 ^ places }
     ensures { result.items ≡ fixed places value }
@@ -119,5 +119,11 @@ pub(crate) fn put_seconds(line: &mut Line, width: usize, milliseconds: u16)
     ensures text { line.new.items ≡ line.old.items ++ right width (fixed 7 (pos (milliseconds * 10_000))) }
     ensures size { array_vec_len line.new ≤ array_vec_len line.old + 84 }
 {
-    put_fixed(line, width, 7, 10_000_000, (milliseconds as u64 * 10_000) as i64);
+    put_fixed(
+        line,
+        width,
+        7,
+        10_000_000,
+        (milliseconds as u64 * 10_000) as i64,
+    );
 }

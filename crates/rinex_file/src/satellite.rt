@@ -22,7 +22,8 @@ fn behind_whole(part: u64, lost: u8, strength: u8) -> [u8; 16]
     let tens = b'0' + (part / 10 % 10) as u8;
     let ones = b'0' + (part % 10) as u8;
     [
-        b' ', b' ', b' ', b' ', b' ', b' ', b' ', b' ', b' ', b' ', b'.', hundreds, tens, ones, lost, strength,
+        b' ', b' ', b' ', b' ', b' ', b' ', b' ', b' ', b' ', b' ', b'.', hundreds, tens, ones,
+        lost, strength,
     ]
 }
 
@@ -90,9 +91,7 @@ fn put_cell(line: &mut Line, cell: &Cell)
 fn cell_of(cells: &[Cell], id: u8, index: usize) -> Option<&Cell>
     ensures { option_map (λ c. c.now) result ≡ find (is_of id index) cells.now }
 {
-    cells
-        .iter()
-        .find(|cell| cell.satellite.id() == id && cell.signal.index() == index)
+    cells.iter().find(|cell| cell.satellite.id() == id && cell.signal.index() == index)
 }
 
 // Appends the 64 columns of a satellite's signal, blank where it has no cell.

@@ -60,9 +60,18 @@ impl Model for HeaderTexts {
     ghost Value = { HeaderLists };
 
     ghost view = { λ t. record {
-        run_by = t.run_by.items; date = t.date.items; marker = t.marker.items; marker_type = t.marker_type.items;
-        observer = t.observer.items; agency = t.agency.items; rec_number = t.rec_number.items; rec_type = t.rec_type.items;
-        rec_version = t.rec_version.items; ant_number = t.ant_number.items; ant_type = t.ant_type.items } };
+      run_by = t.run_by.items;
+      date = t.date.items;
+      marker = t.marker.items;
+      marker_type = t.marker_type.items;
+      observer = t.observer.items;
+      agency = t.agency.items;
+      rec_number = t.rec_number.items;
+      rec_type = t.rec_type.items;
+      rec_version = t.rec_version.items;
+      ant_number = t.ant_number.items;
+      ant_type = t.ant_type.items;
+    } };
 }
 
 // Whether all bytes are printable.

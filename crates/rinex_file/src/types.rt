@@ -77,7 +77,12 @@ pub(crate) fn type_line(plan: &Plan, system: System, row: usize) -> Line
     ensures { result.items ≡ type_line (letter_of system) (types_of (codes_of system (planned_of system plan.now))) row }
 {
     let mut content = Line::new();
-    put_front(&mut content, letter_of(system), 4 * plan.signals(system), row);
+    put_front(
+        &mut content,
+        letter_of(system),
+        4 * plan.signals(system),
+        row,
+    );
     put_types(&mut content, plan, system, row);
     labelled(content.as_slice(), b"SYS / # / OBS TYPES")
 }

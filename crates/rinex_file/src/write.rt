@@ -50,7 +50,9 @@ fn has_value(cell: &Cell) -> bool
 fn is_written(cells: &[Cell], id: u8) -> bool
     ensures { result ≡ is_written cells.now id }
 {
-    cells.iter().any(|cell| cell.satellite.id() == id && has_value(cell))
+    cells
+        .iter()
+        .any(|cell| cell.satellite.id() == id && has_value(cell))
 }
 
 // Writes the line of a satellite where it has a value.

@@ -9,8 +9,26 @@ pub returns : goal.returns
 returns c =
     let t = c.args.civil.now in
     let content = grown_whole c.new-content.result.items
-        (right 6 (decimal t.year) ∷ right 6 (decimal t.month) ∷ right 6 (decimal t.day) ∷ right 6 (decimal t.hour) ∷ right 6 (decimal t.minute)
-        ∷ right 13 (fixed 7 (pos (t.millisecond * 10_000))) ∷ codes "     GPS" ∷ []) c.put.new.line.items c.new-content.ensures
-        (_, c.put_whole.ensures.text, (_, c.put_whole-2.ensures.text, (_, c.put_whole-3.ensures.text, (_, c.put_whole-4.ensures.text, (_, c.put_whole-5.ensures.text,
-        (_, c.put_seconds.ensures.text, (_, c.put.ensures.text, refl))))))) in
+    (right 6 (decimal t.year) ∷ right 6 (decimal t.month) ∷ right 6 (decimal t.day) ∷ right 6 (decimal t.hour) ∷ right 6 (decimal t.minute)
+    ∷ right 13 (fixed 7 (pos (t.millisecond * 10_000))) ∷ codes "     GPS" ∷ []) c.put.new.line.items c.new-content.ensures (
+      _,
+      c.put_whole.ensures.text,
+      (
+        _,
+        c.put_whole-2.ensures.text,
+        (
+          _,
+          c.put_whole-3.ensures.text,
+          (
+            _,
+            c.put_whole-4.ensures.text,
+            (
+              _,
+              c.put_whole-5.ensures.text,
+              (_, c.put_seconds.ensures.text, (_, c.put.ensures.text, refl)),
+            ),
+          ),
+        ),
+      ),
+    ) in
     c.labelled.ensures ∙ ap (λ l. header_line l (codes "TIME OF FIRST OBS")) (c.as_slice.ensures.value ∙ content)

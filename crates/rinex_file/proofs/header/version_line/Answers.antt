@@ -13,5 +13,5 @@ returns c =
     let one : c.put_fixed.new.line.items ≡ c.new-content.result.items ++ a = search rules in
     let four : c.push.new.self.items ≡ c.put_left.new.line.items ++ file_system c.args.plan.now ∷ [] = search rules in
     let content = grown_whole c.new-content.result.items (a ∷ b ∷ d ∷ (file_system c.args.plan.now ∷ []) ∷ []) c.push.new.self.items c.new-content.ensures
-        (_, one, (_, c.put.ensures.text, (_, c.put_left.ensures.text, (_, four, refl)))) in
+    (_, one, (_, c.put.ensures.text, (_, c.put_left.ensures.text, (_, four, refl)))) in
     c.labelled.ensures ∙ ap (λ t. header_line t (codes "RINEX VERSION / TYPE")) (c.as_slice.ensures.value ∙ content)

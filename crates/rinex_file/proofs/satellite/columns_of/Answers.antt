@@ -27,8 +27,8 @@ plain : (v : ℤ) (n lost strength r : ℕ) (new : List ℕ) → n ≡ unsigned_
 unfolding field
 plain v n lost strength r new size sign there is =
     let text : fixed 3 v ≡ decimal (n / 1000) ++ 46 ∷ padded 3 (n % 1000) =
-        ap (λ b. (sign_text b ++ decimal (unsigned_abs v / 1000)) ++ 46 ∷ padded 3 (unsigned_abs v % 1000)) sign
-        ∙ ap (λ k. decimal (k / 1000) ++ 46 ∷ padded 3 (k % 1000)) (sym size) in
+    ap (λ b. (sign_text b ++ decimal (unsigned_abs v / 1000)) ++ 46 ∷ padded 3 (unsigned_abs v % 1000)) sign
+    ∙ ap (λ k. decimal (k / 1000) ++ 46 ∷ padded 3 (k % 1000)) (sym size) in
     is ∙ columns-plain (decimal (n / 1000)) (padded 3 (n % 1000)) lost strength r there (length-three (n % 1000) (omega arith))
     ∙ ap (λ t. right 14 t ++ lost ∷ strength ∷ []) (sym text)
 
@@ -39,8 +39,8 @@ signed : (v : ℤ) (n lost strength r : ℕ) (new : List ℕ) → n ≡ unsigned
 unfolding field
 signed v n lost strength r new size sign some there is =
     let text : fixed 3 v ≡ (45 ∷ decimal (n / 1000)) ++ 46 ∷ padded 3 (n % 1000) =
-        ap (λ b. (sign_text b ++ decimal (unsigned_abs v / 1000)) ++ 46 ∷ padded 3 (unsigned_abs v % 1000)) sign
-        ∙ ap (λ k. (45 ∷ decimal (k / 1000)) ++ 46 ∷ padded 3 (k % 1000)) (sym size) in
+    ap (λ b. (sign_text b ++ decimal (unsigned_abs v / 1000)) ++ 46 ∷ padded 3 (unsigned_abs v % 1000)) sign
+    ∙ ap (λ k. (45 ∷ decimal (k / 1000)) ++ 46 ∷ padded 3 (k % 1000)) (sym size) in
     ap (λ t. set t (r - 1) 45) is ∙ columns-signed (decimal (n / 1000)) (padded 3 (n % 1000)) lost strength r there some (length-three (n % 1000) (omega arith))
     ∙ ap (λ t. right 14 t ++ lost ∷ strength ∷ []) (sym text)
 
@@ -52,7 +52,7 @@ returns-then-value-lt0 c =
     let sign : is_negative c.args.value ≡ true = sym (ap is_negative same) ∙ c.if-value-lt0.true in
     let w = c.write_digits-start.ensures in
     let is = put_in c.behind_whole-columns.result c.write_digits-start.new.buf (decimal (n / 1000)) (46 ∷ padded 3 (n % 1000) ++ c.args.lost ∷ c.args.strength ∷ []) c.write_digits-start.result
-        c.behind_whole-columns.ensures w.start w.written w.before in
+    c.behind_whole-columns.ensures w.start w.written w.before in
     let some : 1 ≤ c.write_digits-start.result = omega (arith, (few_digits n (search rules)).1, w.start) in
     signed c.args.value n c.args.lost c.args.strength c.write_digits-start.result c.write_digits-start.new.buf size sign some w.start is
 
@@ -64,5 +64,5 @@ returns-else-value-lt0 c =
     let sign : is_negative c.args.value ≡ false = sym (ap is_negative same) ∙ c.if-value-lt0.false in
     let w = c.write_digits-start.ensures in
     let is = put_in c.behind_whole-columns.result c.write_digits-start.new.buf (decimal (n / 1000)) (46 ∷ padded 3 (n % 1000) ++ c.args.lost ∷ c.args.strength ∷ []) c.write_digits-start.result
-        c.behind_whole-columns.ensures w.start w.written w.before in
+    c.behind_whole-columns.ensures w.start w.written w.before in
     plain c.args.value n c.args.lost c.args.strength c.write_digits-start.result c.write_digits-start.new.buf size sign w.start is

@@ -20,7 +20,7 @@ returns-in-Err-clause-part g c =
     let gps = lines_up_to p e Gps (satellites_in Gps) in
     let galileo = lines_up_to p e Galileo (satellites_in Galileo) in
     let line : c.as_slice.result.now ≡ own =
-        c.as_slice.ensures.value ∙ c.epoch_line.ensures ∙ ap (λ t. epoch_line (civil_of t) c.satellites.result) c.time.ensures ∙ ap (λ n. epoch_line (civil_of e.time) n) c.satellites.ensures.count in
+    c.as_slice.ensures.value ∙ c.epoch_line.ensures ∙ ap (λ t. epoch_line (civil_of t) c.satellites.result) c.time.ensures ∙ ap (λ n. epoch_line (civil_of e.time) n) c.satellites.ensures.count in
     let a = contents c.args.writer.now.inner in
     let b = contents c.write_whole.new.self.inner in
     part_first a b (epoch_text p e) own (gps ++ galileo) (epoch_parts p e) (subst (λ l. AppendsPrefix a b l) line c.in-Err.ensures.part)
@@ -34,7 +34,7 @@ returns-in-Err-write_system-clause-part g c =
     let gps = lines_up_to p e Gps (satellites_in Gps) in
     let galileo = lines_up_to p e Galileo (satellites_in Galileo) in
     let line : c.as_slice.result.now ≡ own =
-        c.as_slice.ensures.value ∙ c.epoch_line.ensures ∙ ap (λ t. epoch_line (civil_of t) c.satellites.result) c.time.ensures ∙ ap (λ n. epoch_line (civil_of e.time) n) c.satellites.ensures.count in
+    c.as_slice.ensures.value ∙ c.epoch_line.ensures ∙ ap (λ t. epoch_line (civil_of t) c.satellites.result) c.time.ensures ∙ ap (λ n. epoch_line (civil_of e.time) n) c.satellites.ensures.count in
     let a = contents c.args.writer.now.inner in
     let b = contents c.write_whole.new.self.inner in
     let d = contents c.write_system.new.writer.inner in
@@ -50,7 +50,7 @@ returns-clause-whole g c =
     let gps = lines_up_to p e Gps (satellites_in Gps) in
     let galileo = lines_up_to p e Galileo (satellites_in Galileo) in
     let line : c.as_slice.result.now ≡ own =
-        c.as_slice.ensures.value ∙ c.epoch_line.ensures ∙ ap (λ t. epoch_line (civil_of t) c.satellites.result) c.time.ensures ∙ ap (λ n. epoch_line (civil_of e.time) n) c.satellites.ensures.count in
+    c.as_slice.ensures.value ∙ c.epoch_line.ensures ∙ ap (λ t. epoch_line (civil_of t) c.satellites.result) c.time.ensures ∙ ap (λ n. epoch_line (civil_of e.time) n) c.satellites.ensures.count in
     let a = contents c.args.writer.now.inner in
     let b = contents c.write_whole.new.self.inner in
     let d = contents c.write_system.new.writer.inner in
@@ -69,7 +69,7 @@ returns-clause-part g c =
     let gps = lines_up_to p e Gps (satellites_in Gps) in
     let galileo = lines_up_to p e Galileo (satellites_in Galileo) in
     let line : c.as_slice.result.now ≡ own =
-        c.as_slice.ensures.value ∙ c.epoch_line.ensures ∙ ap (λ t. epoch_line (civil_of t) c.satellites.result) c.time.ensures ∙ ap (λ n. epoch_line (civil_of e.time) n) c.satellites.ensures.count in
+    c.as_slice.ensures.value ∙ c.epoch_line.ensures ∙ ap (λ t. epoch_line (civil_of t) c.satellites.result) c.time.ensures ∙ ap (λ n. epoch_line (civil_of e.time) n) c.satellites.ensures.count in
     let a = contents c.args.writer.now.inner in
     let b = contents c.write_whole.new.self.inner in
     let d = contents c.write_system.new.writer.inner in
@@ -77,6 +77,6 @@ returns-clause-part g c =
     let out = subst (λ l. Appends a b l) line c.in-Ok.ensures.whole in
     let both = Appends-trans a b d own gps out c.in-Ok-write_system.ensures.whole in
     let text : epoch_text p e ≡ (own ++ gps) ++ (galileo ++ []) =
-        epoch_parts p e ∙ sym (append_assoc own gps galileo) ∙ ap (λ l. (own ++ gps) ++ l) (sym (append-nil galileo)) in
+    epoch_parts p e ∙ sym (append_assoc own gps galileo) ∙ ap (λ l. (own ++ gps) ++ l) (sym (append-nil galileo)) in
     on_err (AppendsPrefix d f galileo) (AppendsPrefix a f (epoch_text p e)) c.write_system-2.result
     (λ part. part_behind a d f (epoch_text p e) (own ++ gps) galileo [] text both part) c.write_system-2.ensures.part

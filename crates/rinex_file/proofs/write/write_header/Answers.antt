@@ -22,9 +22,13 @@ loop-line-preserved g c =
     let a = contents c.args.writer.now.inner in
     let b = contents c.loop-line.writer.inner in
     let d = contents c.write_whole.new.self.inner in
-    let whole = subst (λ l. Appends b d l) c.as_slice.ensures.value c.in-Ok.ensures.whole in
-    (tt, tt, (done ++ line, text ∙ ap (λ l. done ++ joined l) c.in-Some.ensures.steps ∙ sym (append_assoc done line rest), Appends-trans a b d done line out whole),
-    c.in-Ok.ensures.fine ∙ fine, c.in-Ok.ensures.widest ∙ widest)
+    let whole = subst (λ l. Appends b d l) c.as_slice.ensures.value c.in-Ok.ensures.whole in (
+      tt,
+      tt,
+      (done ++ line, text ∙ ap (λ l. done ++ joined l) c.in-Some.ensures.steps ∙ sym (append_assoc done line rest), Appends-trans a b d done line out whole),
+      c.in-Ok.ensures.fine ∙ fine,
+      c.in-Ok.ensures.widest ∙ widest,
+    )
 
 pub returns-in-Err-clause-part : goal.returns-in-Err-clause-part
 returns-in-Err-clause-part g c =
