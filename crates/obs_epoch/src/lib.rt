@@ -4,22 +4,22 @@
 //! messages of a station one by one and hands out each [`Epoch`] as soon as it is closed.
 #![tactic(auto)]
 
-pub mod cell;
-pub mod civil;
-pub mod clock;
-pub mod epoch;
-pub mod fault;
-pub mod gather;
-pub mod hear;
-pub mod held;
+mod cell;
+mod civil;
+mod clock;
+mod epoch;
+mod fault;
+mod gather;
+mod hear;
+mod held;
 pub mod laws;
-pub mod locks;
-pub mod mark;
-pub mod observe;
-pub mod plan;
-pub mod seen;
-pub mod taken;
-pub mod time;
+mod locks;
+mod mark;
+mod observe;
+mod plan;
+mod seen;
+mod taken;
+mod time;
 
 pub use cell::{Cell, StationValues};
 pub use civil::Civil;
@@ -29,3 +29,6 @@ pub use gather::Gatherer;
 pub use plan::Plan;
 pub use taken::{Gather, Kind, Taken};
 pub use time::GpsTime;
+
+#[cfg(test)]
+mod tests;
