@@ -214,6 +214,7 @@ impl Framer {
         ensures some_counts { IfSome result (λ f. (b : List ℕ) (fs : List Framed) → HasExamined self.old b fs → HasExamined self.new b (fs ++ framed f ∷ []) × IsCountedTo self.new b f.offset (fs ++ framed f ∷ [])) }
         ensures none_counts { IfNone result ((b : List ℕ) (fs : List Framed) → HasExamined self.old b fs → HasExamined self.new b fs × IsCounted self.new b) }
         ensures ready { IfNone result (self.new.is_ready ≡ true) }
+        ensures room { IfNone result (length self.new.held < 1029) }
         ensures waits { OnSome result (self.new.is_ready ≡ self.old.is_ready) }
         ensures less { OnSome result (length self.new.held < length self.old.held) }
         ensures held { length self.new.held ≤ length self.old.held }
@@ -236,6 +237,7 @@ impl Framer {
         ensures none { result ≡ false → (b : List ℕ) (fs : List Framed) → StandsFor self.old b fs → IsDrained self.new b fs }
         ensures none_counts { result ≡ false → (b : List ℕ) (fs : List Framed) → HasExamined self.old b fs → IsCounted self.new b }
         ensures ready { result ≡ false → self.new.is_ready ≡ true }
+        ensures room { result ≡ false → length self.new.held < 1029 }
         ensures waits { result ≡ true → self.new.is_ready ≡ self.old.is_ready }
         ensures held { length self.new.held ≤ length self.old.held }
         ensures limit { self.new.limit ≡ self.old.limit }
@@ -254,6 +256,7 @@ impl Framer {
         ensures none { IfNone result ((b : List ℕ) (fs : List Framed) → StandsFor self.old b fs → IsDrained self.new b fs) }
         ensures none_counts { IfNone result ((b : List ℕ) (fs : List Framed) → HasExamined self.old b fs → IsCounted self.new b) }
         ensures ready { IfNone result (self.new.is_ready ≡ true) }
+        ensures room { IfNone result (length self.new.held < 1029) }
         ensures waits { OnSome result (self.new.is_ready ≡ self.old.is_ready) }
         ensures held { length self.new.held ≤ length self.old.held }
         ensures limit { self.new.limit ≡ self.old.limit }
@@ -313,7 +316,8 @@ impl Framer {
     /// Notes that all is decided that can be.
     fn set_drained(&mut self)
         requires { length self.old.held < 1029 }
-        ensures { self.new ≡ record self.old { is_ready = true } }
+        ensures drained { self.new ≡ record self.old { is_ready = true } }
+        ensures room { length self.new.held < 1029 }
     {
         self.drained = true;
     }

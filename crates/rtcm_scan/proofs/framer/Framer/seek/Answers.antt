@@ -41,34 +41,34 @@ set_drained-requires c = elim c.loop-self-test.branch [
 
 pub returns-clause-stands : goal.returns-clause-stands
 returns-clause-stands c = λ b fs s. elim c.loop-self-test.branch [
-  | else-loop-self-test w ↦ (finish_empty c.loop-self.self c.loop-self-test.self c.set_drained.new.self b fs w.self-is c.set_drained.ensures
+  | else-loop-self-test w ↦ (finish_empty c.loop-self.self c.loop-self-test.self c.set_drained.new.self b fs w.self-is c.set_drained.ensures.drained
       (omega (arith, c.held.ensures.value, w.loop-self-test.false)) (c.loop-self.invariant.stands b fs s)).0
   | then-loop-self-test+in-Open w ↦ (let o = from_open c.loop-self.self.has_ended c.loop-self.self.held w.in-Open.ensures.decision in
-      (finish_open c.loop-self.self w.decide.new.self c.loop-self-test.self c.set_drained.new.self b fs w.in-Open.ensures.examined w.self-is c.set_drained.ensures o.2 o.1 (c.loop-self.invariant.stands b fs s)).0)
+      (finish_open c.loop-self.self w.decide.new.self c.loop-self-test.self c.set_drained.new.self b fs w.in-Open.ensures.examined w.self-is c.set_drained.ensures.drained o.2 o.1 (c.loop-self.invariant.stands b fs s)).0)
 ]
 
 pub returns-clause-none : goal.returns-clause-none
 returns-clause-none c = λ b fs s. elim c.loop-self-test.branch [
-  | else-loop-self-test w ↦ (finish_empty c.loop-self.self c.loop-self-test.self c.set_drained.new.self b fs w.self-is c.set_drained.ensures
+  | else-loop-self-test w ↦ (finish_empty c.loop-self.self c.loop-self-test.self c.set_drained.new.self b fs w.self-is c.set_drained.ensures.drained
       (omega (arith, c.held.ensures.value, w.loop-self-test.false)) (c.loop-self.invariant.stands b fs s)).1
   | then-loop-self-test+in-Open w ↦ (let o = from_open c.loop-self.self.has_ended c.loop-self.self.held w.in-Open.ensures.decision in
-      (finish_open c.loop-self.self w.decide.new.self c.loop-self-test.self c.set_drained.new.self b fs w.in-Open.ensures.examined w.self-is c.set_drained.ensures o.2 o.1 (c.loop-self.invariant.stands b fs s)).1)
+      (finish_open c.loop-self.self w.decide.new.self c.loop-self-test.self c.set_drained.new.self b fs w.in-Open.ensures.examined w.self-is c.set_drained.ensures.drained o.2 o.1 (c.loop-self.invariant.stands b fs s)).1)
 ]
 
 pub returns-clause-counts : goal.returns-clause-counts
 returns-clause-counts c = λ b fs s. elim c.loop-self-test.branch [
-  | else-loop-self-test w ↦ (counts_empty c.loop-self.self c.loop-self-test.self c.set_drained.new.self b fs w.self-is c.set_drained.ensures
+  | else-loop-self-test w ↦ (counts_empty c.loop-self.self c.loop-self-test.self c.set_drained.new.self b fs w.self-is c.set_drained.ensures.drained
       (omega (arith, c.held.ensures.value, w.loop-self-test.false)) (c.loop-self.invariant.counts b fs s)).0
   | then-loop-self-test+in-Open w ↦ (let o = from_open c.loop-self.self.has_ended c.loop-self.self.held w.in-Open.ensures.decision in
-      (counts_open c.loop-self.self w.decide.new.self c.loop-self-test.self c.set_drained.new.self b fs w.in-Open.ensures.examined w.self-is c.set_drained.ensures o.2
+      (counts_open c.loop-self.self w.decide.new.self c.loop-self-test.self c.set_drained.new.self b fs w.in-Open.ensures.examined w.self-is c.set_drained.ensures.drained o.2
       (omega (arith, c.held.ensures.value, w.loop-self-test.true)) o.1 w.in-Open.ensures.tried (c.loop-self.invariant.counts b fs s)).0)
 ]
 
 pub returns-clause-none_counts : goal.returns-clause-none_counts
 returns-clause-none_counts c = λ b fs s. elim c.loop-self-test.branch [
-  | else-loop-self-test w ↦ (counts_empty c.loop-self.self c.loop-self-test.self c.set_drained.new.self b fs w.self-is c.set_drained.ensures
+  | else-loop-self-test w ↦ (counts_empty c.loop-self.self c.loop-self-test.self c.set_drained.new.self b fs w.self-is c.set_drained.ensures.drained
       (omega (arith, c.held.ensures.value, w.loop-self-test.false)) (c.loop-self.invariant.counts b fs s)).1
   | then-loop-self-test+in-Open w ↦ (let o = from_open c.loop-self.self.has_ended c.loop-self.self.held w.in-Open.ensures.decision in
-      (counts_open c.loop-self.self w.decide.new.self c.loop-self-test.self c.set_drained.new.self b fs w.in-Open.ensures.examined w.self-is c.set_drained.ensures o.2
+      (counts_open c.loop-self.self w.decide.new.self c.loop-self-test.self c.set_drained.new.self b fs w.in-Open.ensures.examined w.self-is c.set_drained.ensures.drained o.2
       (omega (arith, c.held.ensures.value, w.loop-self-test.true)) o.1 w.in-Open.ensures.tried (c.loop-self.invariant.counts b fs s)).1)
 ]
