@@ -1,21 +1,24 @@
 # make build   proves the program and leaves it at crates/rtcm2rinex/out/rtcm2rinex
-# make run     builds it, lists the frames of a real recording and shows what it printed
+# make run     builds it, converts a real recording and shows the head of the file and the report
 # make test    the gate: every proof from nothing, the must-fail edits, the tests and the program
 PROGRAM := crates/rtcm2rinex/out/rtcm2rinex
 SAMPLE := samples/zed-f9t-2019-10-17
+MADE := out/zed-f9t-2019-10-17
+OPTIONS := --week 2075 --date "20240204 000001 UTC" --gps 1C,2W,2X,2L,5X --galileo 1X,1C,7X,7Q,5X
 
 .PHONY: build run test
 
-# `rt run` proves, compiles and links, and runs the program once: on no input it prints nothing.
+# `rt run` proves, compiles and links, and runs the program once: on no input `frames` prints nothing.
 build:
 	cd crates/rtcm2rinex && rt run -- frames < /dev/null
 
 run: build
-	@echo "rtcm2rinex frames < $(SAMPLE).rtcm3: offset, message length, number"
-	@$(PROGRAM) frames < $(SAMPLE).rtcm3 > /tmp/rtcm2rinex.frames
-	@head -n 12 /tmp/rtcm2rinex.frames
-	@echo ".. $$(wc -l < /tmp/rtcm2rinex.frames) frames in all"
-	@cmp /tmp/rtcm2rinex.frames $(SAMPLE).frames && echo "as in $(SAMPLE).frames"
+	@mkdir -p out
+	$(PROGRAM) convert $(OPTIONS) < $(SAMPLE).rtcm3 > $(MADE).obs 2> $(MADE).report
+	@head -n 22 $(MADE).obs
+	@echo ".. $$(wc -l < $(MADE).obs) lines in $(MADE).obs, and the report:"
+	@cat $(MADE).report
+	@cmp $(MADE).obs $(SAMPLE).obs && cmp $(MADE).report $(SAMPLE).report && echo "both as stored in samples/"
 
 test:
 	rt ci
