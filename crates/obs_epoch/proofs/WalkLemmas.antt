@@ -86,7 +86,7 @@ same_date : (y z : ℤ) (m n d e : ℕ) → IsCivilDate y m d → IsCivilDate z 
 same_date y z m n d e a b same = epoch_day_injective (date y m d a) (date z n e b) same
 
 -- so many days after 1980-01-06
-date_of_is : (days : ℕ) → days < 700_000
+pub date_of_is : (days : ℕ) → days < 700_000
     → IsCivilDate (pos (date_of days).year) (date_of days).month (date_of days).day
     × (days_from_civil (pos (date_of days).year) (date_of days).month (date_of days).day -ℤ days_from_civil (pos 1980) 1 6 ≡ pos days)
 date_of_is days lt =

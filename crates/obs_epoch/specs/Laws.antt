@@ -1,5 +1,9 @@
 -- Laws of the epochs of a list.
-use Rattle.std.specs.Prelude.{◌≡◌, false, List, [], ◌++◌}
+use Rattle.std.specs.Prelude.{◌≡◌, ℕ, false, List, [], ◌∷◌, ◌++◌, nat_eq, Ok, Some}
+use Rattle.std.specs.List.{IsDistinct}
+use Rattle.gnss_obs.specs.declared.system.System.{System}
+use Rattle.gnss_obs.specs.Signals.{signal_of_code}
+use Rattle.obs_epoch.specs.Plans.{signals_after}
 use Rattle.obs_epoch.specs.Heard.{Setup, Heard}
 use Rattle.obs_epoch.specs.Kinds.{is_close_first, kind_of}
 use Rattle.obs_epoch.specs.Gathering.{IsPrefix, closed_epochs, all_epochs}
@@ -19,3 +23,15 @@ NoneClosed = (s : Setup) → closed_epochs s [] ≡ []
 -- over a list no message is to come again
 abbrev pub NeverFirst : Type 0
 NeverFirst = (s : Setup) (ms : List Heard) (m : Heard) → is_close_first (kind_of s ms m) ≡ false
+
+-- the codes name these signals of a system, one by one
+abbrev pub Spells : System → List (List ℕ) → List ℕ → Type 0
+Spells system [] [] = Unit {0}
+Spells system [] (i ∷ signals) = ⊥
+Spells system (code ∷ codes) [] = ⊥
+Spells system (code ∷ codes) (i ∷ signals) = (signal_of_code system code ≡ Some (record { system = system; index = i })) × Spells system codes signals
+
+-- where codes are no fault, they name their signals, and no two of these are the same
+abbrev pub CodesAreSpelled : Type 0
+CodesAreSpelled = (system : System) (codes : List (List ℕ)) (signals : List ℕ) → signals_after system [] codes ≡ Ok signals
+    → Spells system codes signals × IsDistinct nat_eq signals
