@@ -6,10 +6,13 @@ ghost use Rattle.rtcm_msg.specs.declared.fault.Field.{Field};
 
 use crate::fault::Field;
 
-/// The data of a satellite and of a cell, in one of the two precisions.
+/// One of the two precisions of multiple signal messages: what a satellite and a cell hold, in which
+/// fields, and what it means. Reading and writing are the same in both.
 pub trait Grid {
+    /// The data of a satellite.
     type Satellite: Copy + Drop;
 
+    /// The data of a cell: of a satellite and a signal.
     type Cell: Copy + Drop;
 
     /// The widths of a satellite's fields, in order.
@@ -18,20 +21,25 @@ pub trait Grid {
     /// The widths of a cell's fields, in order.
     ghost cell_widths: { List ℕ };
 
-    /// The parts of a satellite are in range.
+    /// Each part of a satellite fits its field.
     ghost is_satellite: { Self.Satellite → Type 0 };
 
-    /// The parts of a cell are in range.
+    /// Each part of a cell fits its field.
     ghost is_cell: { Self.Cell → Type 0 };
 
+    /// A satellite's fields in one number, the first in the most significant bits.
     ghost satellite_packed: { Self.Satellite → ℕ };
 
+    /// The satellite whose fields are in the number.
     ghost satellite_at: { ℕ → Self.Satellite };
 
+    /// A cell's fields in one number, the first in the most significant bits.
     ghost cell_packed: { Self.Cell → ℕ };
 
+    /// The cell whose fields are in the number.
     ghost cell_at: { ℕ → Self.Cell };
 
+    /// The message number of GPS, or where it is true of Galileo.
     ghost number_of: { Bool → ℕ };
 
     /// The message number, DF002.
@@ -39,8 +47,10 @@ pub trait Grid {
         ensures value { result ≡ number_of is_galileo }
         ensures bound { result < 2 ^ 12 };
 
+    /// The first field, in the order of the layout, that some satellite does not fit.
     ghost satellite_fault_of: { List Self.Satellite → Option Field };
 
+    /// The first field, in the order of the layout, that some cell does not fit.
     ghost cell_fault_of: { List Self.Cell → Option Field };
 
     /// The first field, in the order of the layout, that does not fit its bits in some satellite.
@@ -53,18 +63,25 @@ pub trait Grid {
         ensures first { result ≡ cell_fault_of cells.now }
         ensures none { IfNone result (All is_cell cells.now) };
 
+    /// The pseudorange in 2^-31 ms.
     ghost range_of: { Self.Satellite → Self.Cell → Option ℤ };
 
+    /// The phase range in 2^-31 ms.
     ghost phase_of: { Self.Satellite → Self.Cell → Option ℤ };
 
+    /// The phase range rate in 0.0001 m/s.
     ghost rate_of: { Self.Satellite → Self.Cell → Option ℤ };
 
+    /// The carrier to noise ratio in 1/16 dB-Hz.
     ghost strength_of: { Self.Cell → Option ℕ };
 
+    /// The lock time indicator.
     ghost lock_code_of: { Self.Cell → ℕ };
 
+    /// Whether a half-cycle ambiguity is possible.
     ghost half_cycle_of: { Self.Cell → Bool };
 
+    /// How many lock time indicators there are.
     ghost lock_codes: { ℕ };
 
     /// The pseudorange in 2^-31 ms: the rough range and the cell's fine pseudorange. None where either
@@ -163,7 +180,7 @@ pub trait Grid {
 
     ghost cell_same: { (n : ℕ) → n < 2 ^ total cell_widths → cell_packed (cell_at n) ≡ n };
 
-    // There are so many lock time indicators.
+    // A lock time indicator is one of these.
     ghost lock_fits: { (c : Self.Cell) → is_cell c → lock_code_of c < lock_codes };
 }
 
