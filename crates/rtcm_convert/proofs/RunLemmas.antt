@@ -130,3 +130,11 @@ ran_long v w r r' r'' a b c p same q =
     let over = q.3 in
     let lt : v.scan.limit < length (bytes ++ (p.0 ++ q.0)) = omega arith in
     longer v.scan.limit bytes xs (p.0 ++ q.0) ys lt e)
+
+pub pulled_long : (v : Conversion) (r r' a b : Option (List ℕ)) (piece : List ℕ) → Consumes r r' piece → GoesLong v a b piece → v.scan.limit < v.scan.taken + length piece
+    → (p : List ℕ) × Consumes r r' p × GoesLong v a b p × (v.scan.limit < v.scan.taken + length p)
+pulled_long v r r' a b piece c g l = (piece, c, g, l)
+
+pub pulled_part : (v : Conversion) (r r' a b : Option (List ℕ)) (piece : List ℕ) → Consumes r r' piece → length v.scan.held + length piece ≤ 1029 → Stops v a b piece
+    → (p : List ℕ) × Consumes r r' p × (length v.scan.held + length p ≤ 1029) × Stops v a b p
+pulled_part v r r' a b piece c l g = (piece, c, l, g)

@@ -1,9 +1,10 @@
 -- The text of a file as its epochs come.
 use Rattle.std.proofs.Common.{◌≡◌, ℕ, List, [], ◌∷◌, ◌++◌, Bool, true, false, refl, sym, ap, subst, ◌∙◌, arith, Option, Some, None, append_assoc, append-nil, nat_lt, suc, length, length-append, ◌+◌, ◌<◌}
-use Rattle.std.specs.Prelude.{flat_map, if◌then◌else◌}
+use Rattle.std.specs.Prelude.{map, flat_map, if◌then◌else◌}
 use Rattle.std.proofs.lemmas.Grind.{flat_map-append}
 use Rattle.std.proofs.lemmas.List.Elements.{filter-append, filter_map-append}
 use Rattle.std.specs.Io.KnownBytes.{Appends}
+use Rattle.std.proofs.KnownBytes.{Appends-trans, Appends-nil}
 use Rattle.rtcm_bits.specs.Device.{AppendsPrefix}
 use Rattle.rtcm_scan.specs.Frames.{Framed}
 use Rattle.rtcm_scan.specs.Known.{IsPrefix}
@@ -12,7 +13,7 @@ use Rattle.obs_epoch.specs.declared.cell.StationValues.{StationValues}
 use Rattle.obs_epoch.specs.Heard.{Setup, Heard}
 use Rattle.obs_epoch.specs.Gathering.{closed_epochs, all_epochs, closed_by}
 use Rattle.rinex_file.specs.Texts.{HeaderLists}
-use Rattle.rinex_file.specs.File.{header_text, epoch_text}
+use Rattle.rinex_file.specs.File.{header_text, epoch_text, file_text, gathered}
 use Rattle.rtcm_convert.specs.Converted.{Settings, messages_of, heard_in, written, text_of, text_with, so_far, file}
 use Rattle.rtcm_convert.specs.Outcomes.{capped}
 use Rattle.rtcm_convert.specs.Filed.{opening, added, epochs_after}
@@ -107,10 +108,32 @@ so_far-all stay s fs more =
     text-more s (closed_epochs s.gather (messages_of fs)) (all_epochs s.gather (messages_of (fs ++ more)))
     (rw filter_map-append (stay s.gather (messages_of fs) (messages_of more)))
 
+lt_true : (k : ℕ) → (k ≡ 0 → ⊥) → nat_lt 0 k ≡ true
+lt_true k some = grind arith
+
+lt_false : (k : ℕ) → k ≡ 0 → nat_lt 0 k ≡ false
+lt_false k none = ap (λ n. nat_lt 0 n) none
+
 -- what an epoch with a satellite adds
 added_is : (t : HeaderLists) (p : PlanValue) (n k : ℕ) (o : Option EpochValue) (e : EpochValue) (v : StationValues) → Some e ≡ o → k ≡ satellites e → (k ≡ 0 → ⊥)
     → added t p n o v ≡ opening t p n e v ++ epoch_text p e
-added_is t p n k o e v is count none = grind arith
+added_is t p n k o e v is count none =
+    sym (ap (λ q. added t p n q v) is) ∙ ap (λ (b : Bool). if b then opening t p n e v ++ epoch_text p e else []) (sym (ap (λ m. nat_lt 0 m) count) ∙ lt_true k none)
+
+-- one without adds nothing
+added_not : (t : HeaderLists) (p : PlanValue) (n k : ℕ) (o : Option EpochValue) (e : EpochValue) (v : StationValues) → Some e ≡ o → k ≡ satellites e → k ≡ 0 → added t p n o v ≡ []
+added_not t p n k o e v is count none =
+    sym (ap (λ q. added t p n q v) is) ∙ ap (λ (b : Bool). if b then opening t p n e v ++ epoch_text p e else []) (sym (ap (λ m. nat_lt 0 m) count) ∙ lt_false k none)
+
+pub whole_none : (a : Option (List ℕ)) (t : HeaderLists) (p : PlanValue) (n k : ℕ) (o : Option EpochValue) (e : EpochValue) (v : StationValues) → Some e ≡ o → k ≡ satellites e → k ≡ 0
+    → Appends a a (added t p n o v)
+whole_none a t p n k o e v is count none = subst (λ (l : List ℕ). Appends a a l) (sym (added_not t p n k o e v is count none)) (Appends-nil a)
+
+pub whole_epoch : (a b c : Option (List ℕ)) (t : HeaderLists) (p q : PlanValue) (n k : ℕ) (o : Option EpochValue) (e : EpochValue) (v : StationValues) → Some e ≡ o → k ≡ satellites e → (k ≡ 0 → ⊥) → q ≡ p
+    → Appends a b (opening t p n e v) → Appends b c (epoch_text q e) → Appends a c (added t p n o v)
+whole_epoch a b c t p q n k o e v is count none same first x =
+    let y : Appends b c (epoch_text p e) = subst (λ (r : PlanValue). Appends b c (epoch_text r e)) same x in
+    subst (λ (l : List ℕ). Appends a c l) (sym (added_is t p n k o e v is count none)) (Appends-trans a b c (opening t p n e v) (epoch_text p e) first y)
 
 -- the writer failed in what stands before the epoch
 pub part_open : (a b : Option (List ℕ)) (t : HeaderLists) (p : PlanValue) (n k : ℕ) (o : Option EpochValue) (e : EpochValue) (v : StationValues) → Some e ≡ o → k ≡ satellites e → (k ≡ 0 → ⊥)
@@ -128,3 +151,13 @@ part_epoch a b c t p q n k o e v is count none same first x =
 pub so_far-none : ((s : Setup) → closed_epochs s [] ≡ []) → (s : Settings) → so_far s [] ≡ []
 unfolding text_of
 so_far-none none s = ap (text_with s) (none s.gather)
+
+epochs_apart : (p : PlanValue) (cs : List Closed) → flat_map (λ c. epoch_text p c.epoch) cs ≡ flat_map (epoch_text p) (map (λ c. c.epoch) cs)
+epochs_apart p [] = refl
+epochs_apart p (c ∷ cs) = ap (λ l. epoch_text p c.epoch ++ l) (epochs_apart p cs)
+
+-- the text of one epoch and more is that of a file value
+pub text_of-file : ((t : HeaderLists) (p : PlanValue) (v : StationValues) (e : EpochValue) (es : List EpochValue) → header_text t p v e.time ++ flat_map (epoch_text p) (e ∷ es) ≡ file_text (gathered t p v (e ∷ es)))
+    → (t : HeaderLists) (p : PlanValue) (c : Closed) (cs : List Closed) → text_of t p (c ∷ cs) ≡ file_text (gathered t p c.values (map (λ c. c.epoch) (c ∷ cs)))
+unfolding text_of
+text_of-file law t p c cs = ap (λ l. header_text t p c.values c.epoch.time ++ l) (epochs_apart p (c ∷ cs)) ∙ law t p c.values c.epoch (map (λ c. c.epoch) cs)

@@ -1,9 +1,12 @@
 -- Laws of the files that frames make.
-use Rattle.std.specs.Prelude.{◌≡◌, ◌+◌, ◌≤◌, ◌^◌, ℕ, List, [], ◌++◌, length}
+use Rattle.std.specs.Prelude.{◌≡◌, ◌+◌, ◌≤◌, ◌^◌, ℕ, List, [], ◌∷◌, ◌++◌, length, map}
 use Rattle.rtcm_scan.specs.Frames.{Framed, frames_of}
 use Rattle.rtcm_scan.specs.Decided.{decided_frames}
 use Rattle.rtcm_scan.specs.Known.{IsPrefix}
-use Rattle.rtcm_convert.specs.Converted.{Settings, so_far, file}
+use Rattle.obs_epoch.specs.Values.{PlanValue, Closed}
+use Rattle.rinex_file.specs.Texts.{HeaderLists}
+use Rattle.rinex_file.specs.File.{file_text, gathered}
+use Rattle.rtcm_convert.specs.Converted.{Settings, text_of, so_far, file}
 use Rattle.rtcm_convert.specs.Outcomes.{report_of}
 use Rattle.rtcm_convert.specs.declared.report.Report.{Report}
 
@@ -37,3 +40,8 @@ pub record IsCountedOnce (r : Report) (frames : ℕ) : Type 0 where
 -- so it is in the report of each stream that a converter takes
 abbrev pub CountedOnce : Type 0
 CountedOnce = (s : Settings) (b : List ℕ) → length b ≤ 2 ^ 48 → IsCountedOnce (report_of s b) (length (frames_of b))
+
+-- epochs in which a satellite has a value make the text of a file value, with the station values known when the first was closed
+abbrev pub IsFileText : Type 0
+IsFileText = (texts : HeaderLists) (plan : PlanValue) (e : Closed) (es : List Closed)
+    → text_of texts plan (e ∷ es) ≡ file_text (gathered texts plan e.values (map (λ c. c.epoch) (e ∷ es)))

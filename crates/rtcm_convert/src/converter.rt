@@ -6,6 +6,7 @@ ghost use Rattle.rtcm_scan.specs.Frames.{frames_of};
 ghost use Rattle.rtcm_scan.specs.Decided.{decided};
 ghost use Rattle.rtcm_scan.specs.Looks.{examined, examined_now, most, most_now};
 ghost use Rattle.obs_epoch.specs.Values.{most_cells};
+ghost use Rattle.obs_epoch.specs.Gather.{cells_in};
 ghost use Rattle.rtcm_convert.specs.Converted.{Settings};
 ghost use Rattle.rtcm_convert.specs.Told.{settings, IsBad};
 ghost use Rattle.rtcm_convert.specs.Outcomes.{report_with};
@@ -274,6 +275,7 @@ impl Converter {
 
     /// How many cells of a system are held: those of the pending epoch or, where none is pending, of the one last closed.
     pub fn cells(&self, system: System) -> usize
+        ensures count { result ≡ length (cells_in system self.now.filer.gatherer.epoch) }
         ensures bound { result ≤ most_cells }
     {
         self.filer.gatherer.cells(system)

@@ -1,5 +1,5 @@
 //! Laws of the definitions that the contracts cite.
-ghost use Rattle.rtcm_convert.specs.Laws.{WrittenStays, WrittenGrows, NothingYet, FiledStays, FiledGrows, NothingFiled, CountedOnce};
+ghost use Rattle.rtcm_convert.specs.Laws.{WrittenStays, WrittenGrows, NothingYet, FiledStays, FiledGrows, NothingFiled, CountedOnce, IsFileText};
 
 /// What is written of some bytes stands at the front of the file, however the stream goes on.
 pub fn prefix()
@@ -26,4 +26,11 @@ pub fn counts()
 {
     rtcm_scan::laws::prefix();
     obs_epoch::laws::kinds();
+}
+
+/// What is written is the text of a file value: of the epochs in which a satellite has a value, in order.
+pub fn text()
+    ensures { IsFileText }
+{
+    rinex_file::laws::file();
 }

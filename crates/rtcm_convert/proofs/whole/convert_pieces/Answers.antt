@@ -1,6 +1,7 @@
 use Rattle.std.proofs.Common.{◌≡◌, ◌+◌, ◌++◌, ◌∙◌, ap, take}
 use Rattle.std.specs.Prelude.{flat_map}
 use Rattle.rtcm_convert.specs.Told.{settings}
+use Rattle.rtcm_convert.proofs.PartLemmas.{goes_on-refl}
 use Rattle.rtcm_convert.proofs.WholeLemmas.{pieces_whole, pieces_report, pieces_more, pieces_all, piece_more}
 use Rattle.rtcm_convert.proofs.whole.convert_pieces.Goals as goal
 
@@ -20,3 +21,6 @@ returns-clause-file g c = pieces_whole c.loop-piece.converter c.finish.new.self 
 pub returns-clause-report : goal.returns-clause-report
 returns-clause-report g c = pieces_report c.loop-piece.converter c.finish.new.self (settings c.args.setup) _ _ _ _ c.finish.result c.loop-piece.invariant.stands
     (pieces_all (λ piece. piece.items) c.args.pieces.now c.loop-piece.piece-index c.loop-piece.auto.piece-index-end c.loop-piece-test.false) c.finish.ensures.whole
+
+pub loop-piece-init : goal.loop-piece-init
+loop-piece-init g c = record { stands = c.in-Ok.ensures.stands; out = goes_on-refl _ _ }

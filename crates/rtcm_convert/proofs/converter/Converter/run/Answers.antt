@@ -1,6 +1,6 @@
-use Rattle.std.proofs.Common.{arith, ◌∙◌, inl, inr, refl}
+use Rattle.std.proofs.Common.{ap, arith, ◌∙◌, inl, inr, refl}
 use Rattle.rtcm_convert.proofs.PartLemmas.{same_fault}
-use Rattle.rtcm_convert.proofs.RunLemmas.{going_on, ran_start, ran-trans, ran_whole, ran_empty, ran_long, run_long, run_feeding, run_finishing}
+use Rattle.rtcm_convert.proofs.RunLemmas.{going_on, ran_start, ran-trans, ran_whole, ran_empty, ran_long, run_read, run_long, run_feeding, run_finishing}
 use Rattle.rtcm_convert.proofs.converter.Converter.run.Goals as goal
 
 pub returns-in-Ok-eq0-clause-whole : goal.returns-in-Ok-eq0-clause-whole
@@ -59,3 +59,8 @@ returns-in-Ok-eq0-clause-no_epoch g c = λ e.
 pub returns-in-Err-clause-too_long : goal.returns-in-Err-clause-too_long
 returns-in-Err-clause-too_long g c = λ e.
     ran_long c.args.self.now c.loop-self.self _ _ _ _ _ _ c.loop-self.invariant.came c.loop-self.invariant.limit (c.in-Err.ensures.long (same_fault _ _ e))
+
+pub returns-in-Err-clause-read : goal.returns-in-Err-clause-read
+returns-in-Err-clause-read g c = λ e.
+    let p = c.in-Err.ensures.read (same_fault _ _ e) in
+    run_read c.args.self.now c.loop-self.self _ _ _ _ _ _ c.loop-self.invariant.came p.0 (ap (λ d. g.W.Write.contents d.inner) p.1)
