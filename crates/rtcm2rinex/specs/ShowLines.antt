@@ -30,7 +30,7 @@ station_line offset s =
 unfoldable pub msm_line : ℕ → ℕ → MsmValue → List ℕ
 msm_line offset number m =
     line (decimal offset ∷ decimal number ∷ decimal m.header.station ∷ decimal m.header.time ∷ decimal (bit m.header.more)
-        ∷ decimal (count_ones m.sets.satellites) ∷ decimal (count_ones m.sets.signals) ∷ decimal (count_ones m.sets.cells) ∷ [])
+    ∷ decimal (count_ones m.sets.satellites) ∷ decimal (count_ones m.sets.signals) ∷ decimal (count_ones m.sets.cells) ∷ [])
 
 abbrev pub fault_words : MsgFault → List (List ℕ)
 fault_words (Short bits) = codes "Short" ∷ decimal bits ∷ []

@@ -278,6 +278,8 @@ fn list_decided<W: Write>(
 }
 
 /// Puts the lines of the frames that stand on the page, one after the other.
+// Its frame is to be no local of its caller, which runs once for each byte.
+#[inline(never)]
 fn list_standing<W: Write>(
     listing: Listing,
     framer: &mut Framer,

@@ -14,7 +14,13 @@ fn a_reader_that_fails_is_told(rt: HostRuntime) -> Result<(), Fail> {
         let mut reader = Counted::new(PieceReader::new(LATE_FRAME.as_slice(), [3].as_slice(), end));
         let mut writer = Counted::new(Vec::new(rt.alloc()));
         let mut faults = Vec::new(rt.alloc());
-        let status = command(rt.alloc(), words.as_slice(), &mut reader, &mut writer, &mut faults);
+        let status = command(
+            rt.alloc(),
+            words.as_slice(),
+            &mut reader,
+            &mut writer,
+            &mut faults,
+        );
         assert_eq!(rt; status, 1);
         assert_eq!(rt; faults.as_slice(), b"rtcm2rinex: Read\n".as_slice());
         // The first preamble may still begin a frame, so that nothing is decided.
@@ -35,10 +41,19 @@ fn a_writer_that_fails_is_told(rt: HostRuntime) -> Result<(), Fail> {
             let mut reader = Counted::new(FRAMED_STATION.as_slice());
             let mut writer = Counted::new(ShortWriter::new(Vec::new(rt.alloc()), 1, 2, end));
             let mut faults = Vec::new(rt.alloc());
-            let status = command(rt.alloc(), words.as_slice(), &mut reader, &mut writer, &mut faults);
+            let status = command(
+                rt.alloc(),
+                words.as_slice(),
+                &mut reader,
+                &mut writer,
+                &mut faults,
+            );
             assert_eq!(rt; status, 1);
             assert_eq!(rt; writer.failures(), 1);
-            assert_eq!(rt; writer.into_inner().into_inner().as_slice(), b"0 ".as_slice());
+            assert_eq!(rt;
+                writer.into_inner().into_inner().as_slice(),
+                b"0 ".as_slice()
+            );
             assert_eq!(rt; faults.as_slice(), b"rtcm2rinex: Write\n".as_slice());
         }
     }
@@ -48,12 +63,20 @@ fn a_writer_that_fails_is_told(rt: HostRuntime) -> Result<(), Fail> {
 // A failure of the writer for faults changes no status.
 #[test]
 fn a_fault_writer_may_fail(rt: HostRuntime) -> Result<(), Fail> {
-    let rows: [(&[&str], u8); 2] = [(&["rtcm2rinex", "frames"], 1), (&["rtcm2rinex", "fames"], 2)];
+    let rows: [(&[&str], u8); 2] = [
+        (&["rtcm2rinex", "frames"], 1),
+        (&["rtcm2rinex", "fames"], 2),
+    ];
     for (words, status) in rows {
         let end = ReadEnd::Fails(ErrorKind::Other);
         let mut reader = Counted::new(PieceReader::new(&[], &[], end));
         let mut writer = Counted::new(Vec::new(rt.alloc()));
-        let mut faults = ShortWriter::new(Vec::new(rt.alloc()), 1, 0, WriteEnd::Fails(ErrorKind::Other));
+        let mut faults = ShortWriter::new(
+            Vec::new(rt.alloc()),
+            1,
+            0,
+            WriteEnd::Fails(ErrorKind::Other),
+        );
         let found = command(rt.alloc(), words, &mut reader, &mut writer, &mut faults);
         assert_eq!(rt; found, status);
         assert!(rt; faults.into_inner().is_empty());

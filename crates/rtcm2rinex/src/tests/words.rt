@@ -35,7 +35,11 @@ fn words_that_are_not_accepted_do_nothing(rt: HostRuntime) -> Result<(), Fail> {
 fn words_that_cannot_be_had_are_told(rt: HostRuntime) -> Result<(), Fail> {
     let rows: [(ErrorKind, u8, &[u8]); 2] = [
         (ErrorKind::OutOfMemory, 1, b"rtcm2rinex: Memory\n"),
-        (ErrorKind::InvalidData, 2, b"error: a word of the command line isn't UTF-8\n"),
+        (
+            ErrorKind::InvalidData,
+            2,
+            b"error: a word of the command line isn't UTF-8\n",
+        ),
     ];
     for (kind, status, text) in rows {
         let mut faults = Vec::new(rt.alloc());

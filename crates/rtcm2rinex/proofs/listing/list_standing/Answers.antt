@@ -9,10 +9,11 @@ loop-frame-preserved g c =
     let contents = g.W.Write.contents in
     let kept = c.loop-frame.invariant in
     record {
-      lists = λ w b fs s. (let l = kept.lists w b fs s in
-          (l.0 ++ framed c.in-Some.frame ∷ [],
-           list_frame c.args.listing w (contents c.loop-frame.writer.inner) (contents c.add_line.new.writer.inner) c.loop-frame.page c.add_line.new.page (line_of c.args.listing (framed c.in-Some.frame))
-           c.loop-frame.framer c.next.new.self b l.0 (framed c.in-Some.frame) refl c.in-Ok.ensures.moves (c.in-Some.ensures.some b l.0 l.1.framer) l.1));
+      lists = λ w b fs s. (let l = kept.lists w b fs s in (
+        l.0 ++ framed c.in-Some.frame ∷ [],
+        list_frame c.args.listing w (contents c.loop-frame.writer.inner) (contents c.add_line.new.writer.inner) c.loop-frame.page c.add_line.new.page (line_of c.args.listing (framed c.in-Some.frame))
+            c.loop-frame.framer c.next.new.self b l.0 (framed c.in-Some.frame) refl c.in-Ok.ensures.moves (c.in-Some.ensures.some b l.0 l.1.framer) l.1,
+      ));
       limit = c.in-Some.ensures.limit ∙ kept.limit;
       taken = c.in-Some.ensures.taken ∙ kept.taken;
       ended = c.in-Some.ensures.ended ∙ kept.ended;

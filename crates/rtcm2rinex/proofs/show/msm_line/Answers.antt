@@ -20,4 +20,4 @@ returns g c =
     let signals = add_word c.add_number-6.ensures.text satellites (ap decimal (c.from-5.ensures ∙ ap count_ones (c.signals.ensures ∙ ap (λ (x : Sets). x.signals) c.masks.ensures))) in
     let cells = add_word c.add_number-7.ensures.text signals (ap decimal c.cells.ensures.set) in
     end_line (decimal c.args.offset) (decimal (g.G.Grid.number_of m.is_galileo) ∷ decimal m.header.station ∷ decimal m.header.time ∷ decimal (bit m.header.more)
-        ∷ decimal (count_ones m.sets.satellites) ∷ decimal (count_ones m.sets.signals) ∷ decimal (count_ones m.sets.cells) ∷ []) c.finish.ensures cells
+    ∷ decimal (count_ones m.sets.satellites) ∷ decimal (count_ones m.sets.signals) ∷ decimal (count_ones m.sets.cells) ∷ []) c.finish.ensures cells
