@@ -54,7 +54,14 @@ impl Tally {
             Some(Kind::Ignored) => one.ignored = 1,
             Some(Kind::Late) => one.late = 1,
             Some(Kind::PastWeeks) => one.past = 1,
-            Some(Kind::Kept { skipped, repeated, crowded, .. }) => {
+            Some(
+                Kind::Kept {
+                    skipped,
+                    repeated,
+                    crowded,
+                    ..
+                },
+            ) => {
                 one.taken = 1;
                 one.skipped = skipped as u64;
                 one.repeated = repeated as u64;

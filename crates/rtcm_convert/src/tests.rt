@@ -221,13 +221,34 @@ fn streams_and_their_files(rt: HostRuntime) -> Result<(), Fail> {
     placed[7] = PLACED[0];
     placed[8] = PLACED[1];
     let two_epochs = [EPOCH[0], EPOCH[1], NEXT_EPOCH[0], NEXT_EPOCH[1]];
-    let two = Report { bytes: 84, frames: 2, taken: 2, epochs: 2, ..NOTHING };
-    let with_point = Report { bytes: 69, frames: 2, station: 1, ..ONE_TAKEN };
-    let compact = Report { bytes: 36, ..ONE_TAKEN };
+    let two = Report {
+        bytes: 84,
+        frames: 2,
+        taken: 2,
+        epochs: 2,
+        ..NOTHING
+    };
+    let with_point = Report {
+        bytes: 69,
+        frames: 2,
+        station: 1,
+        ..ONE_TAKEN
+    };
+    let compact = Report {
+        bytes: 36,
+        ..ONE_TAKEN
+    };
     let cases: [(&[&[u8]], &[&str], &[&str], Report, u64, u16); 4] = [
         (&[&FULL], &HEADER, &EPOCH, ONE_TAKEN, 78, 2),
         (&[&FULL, &next], &HEADER, &two_epochs, two, 156, 2),
-        (&[&POINT_AND_HEIGHT, &FULL], &placed, &EPOCH, with_point, 126, 2),
+        (
+            &[&POINT_AND_HEIGHT, &FULL],
+            &placed,
+            &EPOCH,
+            with_point,
+            126,
+            2,
+        ),
         (&[&COMPACT], &HEADER, &COMPACT_EPOCH, compact, 66, 2),
     ];
     for (messages, header, lines, report, examined, most) in &cases {
@@ -240,7 +261,11 @@ fn streams_and_their_files(rt: HostRuntime) -> Result<(), Fail> {
                 let got = got.expect(&rt, "no fault");
                 assert_eq!(rt; got.answer, Ok(*report), "in pieces of {size}");
                 assert_eq!(rt; got.text.as_slice(), want.as_slice(), "in pieces of {size}");
-                assert_eq!(rt; (got.examined, got.most), (*examined, *most), "in pieces of {size}");
+                assert_eq!(rt;
+                    (got.examined, got.most),
+                    (*examined, *most),
+                    "in pieces of {size}"
+                );
             }
         }
     }
@@ -283,10 +308,16 @@ fn an_epoch_goes_out_as_it_is_closed(rt: HostRuntime) -> Result<(), Fail> {
     let mut writer = Counted::new(Vec::new(alloc));
     let (front, last) = stream.split_at(stream.len().saturating_sub(1));
     assert_eq!(rt; converter.feed(front, &mut writer), Ok(()));
-    assert_eq!(rt; (converter.held(), converter.examined(), converter.most()), (41, 41, 1));
+    assert_eq!(rt;
+        (converter.held(), converter.examined(), converter.most()),
+        (41, 41, 1)
+    );
     assert_eq!(rt; (converter.cells(System::Gps), converter.locks()), (0, 0));
     assert_eq!(rt; converter.feed(last, &mut writer), Ok(()));
-    assert_eq!(rt; (converter.held(), converter.examined(), converter.most()), (0, 78, 2));
+    assert_eq!(rt;
+        (converter.held(), converter.examined(), converter.most()),
+        (0, 78, 2)
+    );
     assert_eq!(rt; (converter.cells(System::Gps), converter.locks()), (1, 1));
     assert_eq!(rt; converter.cells(System::Galileo), 0);
     assert_eq!(rt; writer.into_inner().as_slice(), want.as_slice());
@@ -322,7 +353,10 @@ fn bad_setups(rt: HostRuntime) {
         told.limit = limit;
         told.start_week = week;
         told.station = station;
-        assert!(rt; matches!(Converter::new(alloc, told), Err(Fault::BadSetup)), "{limit} {week}");
+        assert!(rt;
+            matches!(Converter::new(alloc, told), Err(Fault::BadSetup)),
+            "{limit} {week}"
+        );
     }
 }
 
@@ -335,7 +369,15 @@ fn times_past_the_weeks(rt: HostRuntime) -> Result<(), Fail> {
     let mut told = setup(alloc).expect(&rt, "a setup");
     told.start_week = 99_999;
     let got = fed(alloc, told, &stream, 1_000).expect(&rt, "no fault");
-    assert_eq!(rt; got.answer, Ok(Report { bytes: 84, frames: 2, past: 1, ..ONE_TAKEN }));
+    assert_eq!(rt;
+        got.answer,
+        Ok(Report {
+            bytes: 84,
+            frames: 2,
+            past: 1,
+            ..ONE_TAKEN
+        })
+    );
     Ok(())
 }
 
@@ -345,15 +387,31 @@ fn limits(rt: HostRuntime) -> Result<(), Fail> {
     let mut longer = framed(alloc, &[&FULL])?;
     longer.push(0)?;
     let file = text_of(alloc, &HEADER, &EPOCH)?;
-    let cases: [(&[u8], u64, &[u8]); 3] = [(&[0; 11], 10, &[]), (&longer, 41, &[]), (&longer, 42, &file)];
+    let cases: [(&[u8], u64, &[u8]); 3] = [
+        (&[0; 11], 10, &[]),
+        (&longer, 41, &[]),
+        (&longer, 42, &file),
+    ];
     for (stream, limit, want) in &cases {
         let mut told = setup(alloc).expect(&rt, "a setup");
         told.limit = *limit;
         let mut converter = Converter::new(alloc, told).expect(&rt, "room");
         let mut writer = Counted::new(Vec::new(alloc));
-        assert_eq!(rt; converter.feed(stream, &mut writer), Err(Fault::TooLong), "{limit}");
-        assert_eq!(rt; converter.feed(&[], &mut writer), Err(Fault::Failed), "{limit}");
-        assert_eq!(rt; converter.finish(&mut writer), Err(Fault::Failed), "{limit}");
+        assert_eq!(rt;
+            converter.feed(stream, &mut writer),
+            Err(Fault::TooLong),
+            "{limit}"
+        );
+        assert_eq!(rt;
+            converter.feed(&[], &mut writer),
+            Err(Fault::Failed),
+            "{limit}"
+        );
+        assert_eq!(rt;
+            converter.finish(&mut writer),
+            Err(Fault::Failed),
+            "{limit}"
+        );
         assert_eq!(rt; writer.into_inner().as_slice(), *want, "{limit}");
     }
     Ok(())
@@ -369,11 +427,23 @@ fn writers_that_fail(rt: HostRuntime) -> Result<(), Fail> {
             let told = setup(alloc).expect(&rt, "a setup");
             let mut converter = Converter::new(alloc, told).expect(&rt, "room");
             let mut writer = Counted::new(ShortWriter::new(Vec::new(alloc), 7, total, end));
-            assert_eq!(rt; converter.feed(&stream, &mut writer), Err(Fault::Write), "{total}");
-            assert_eq!(rt; converter.feed(&stream, &mut writer), Err(Fault::Failed), "{total}");
+            assert_eq!(rt;
+                converter.feed(&stream, &mut writer),
+                Err(Fault::Write),
+                "{total}"
+            );
+            assert_eq!(rt;
+                converter.feed(&stream, &mut writer),
+                Err(Fault::Failed),
+                "{total}"
+            );
             assert_eq!(rt; writer.failures(), 1, "{total}");
             let went = writer.into_inner().into_inner();
-            assert_eq!(rt; went.as_slice(), file.get(..total).unwrap_or(&[]), "{total}");
+            assert_eq!(rt;
+                went.as_slice(),
+                file.get(..total).unwrap_or(&[]),
+                "{total}"
+            );
         }
     }
     Ok(())
@@ -389,9 +459,21 @@ fn readers_that_fail(rt: HostRuntime) -> Result<(), Fail> {
         let mut converter = Converter::new(alloc, told).expect(&rt, "room");
         let mut writer = Counted::new(Vec::new(alloc));
         let bytes = stream.get(..given).unwrap_or(&[]);
-        let mut reader = Counted::new(PieceReader::new(bytes, &[8], ReadEnd::Fails(ErrorKind::Other)));
-        assert_eq!(rt; converter.run(&mut reader, &mut writer), Err(Fault::Read), "{given}");
-        assert_eq!(rt; converter.run(&mut reader, &mut writer), Err(Fault::Failed), "{given}");
+        let mut reader = Counted::new(PieceReader::new(
+            bytes,
+            &[8],
+            ReadEnd::Fails(ErrorKind::Other),
+        ));
+        assert_eq!(rt;
+            converter.run(&mut reader, &mut writer),
+            Err(Fault::Read),
+            "{given}"
+        );
+        assert_eq!(rt;
+            converter.run(&mut reader, &mut writer),
+            Err(Fault::Failed),
+            "{given}"
+        );
         assert_eq!(rt; reader.failures(), 1, "{given}");
         let want = if given < 42 { &[] } else { file.as_slice() };
         assert_eq!(rt; writer.into_inner().as_slice(), want, "{given}");
@@ -410,7 +492,10 @@ fn reads_no_more_than_there_is_room_for(rt: HostRuntime) -> Result<(), Fail> {
     let mut converter = Converter::new(alloc, told).expect(&rt, "room");
     let mut writer = Counted::new(Vec::new(alloc));
     let mut reader = Counted::new(PieceReader::new(&incomplete, &[], ReadEnd::Ends));
-    assert_eq!(rt; converter.run(&mut reader, &mut writer), Err(Fault::NoEpoch));
+    assert_eq!(rt;
+        converter.run(&mut reader, &mut writer),
+        Err(Fault::NoEpoch)
+    );
     assert_eq!(rt; reader.widest(), 1_029);
     assert_eq!(rt; reader.into_inner().asked(), 29);
     Ok(())
@@ -431,7 +516,10 @@ fn damaged_streams_by_any_pieces(rt: HostRuntime) -> Result<(), Fail> {
             let got = fed(alloc, told, &damaged, size).expect(&rt, "no fault");
             assert_eq!(rt; got.answer, Err(Fault::NoEpoch), "damaged at {place}");
             assert!(rt; got.text.is_empty(), "damaged at {place}");
-            assert!(rt; got.most <= 1_030 && got.examined <= 1_030 * 42, "damaged at {place}");
+            assert!(rt;
+                got.most <= 1_030 && got.examined <= 1_030 * 42,
+                "damaged at {place}"
+            );
         }
     }
     Ok(())
