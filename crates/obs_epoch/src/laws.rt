@@ -9,24 +9,20 @@ pub fn closed_stay()
     ensures stay { ClosedStay }
     ensures first { ClosedComeFirst }
     ensures none { NoneClosed }
-{
-}
+{}
 
 /// Over a list of messages none is answered to come again: that message is taken at once.
 pub fn kinds()
     ensures { NeverFirst }
-{
-}
+{}
 
 /// The signals of codes are those that the codes name, one by one, and no two are the same.
 pub fn plans()
     ensures { CodesAreSpelled }
-{
-}
+{}
 
 /// Each time has its date and time of day.
 pub fn calendar()
     ensures civil { (t : ℕ) → t < weeks * week → IsCivilOf t (civil_of t) }
     ensures small { (t : ℕ) → t < weeks * week → ((civil_of t).year ≤ 9999) × ((civil_of t).month ≤ 12) × ((civil_of t).day ≤ 31) }
-{
-}
+{}

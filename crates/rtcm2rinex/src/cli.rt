@@ -22,7 +22,9 @@ pub fn program<'a>(alloc: Global) -> Result<Command<'a>, Error> {
         .about(
             "Reads an RTCM 3 stream from standard input and writes what it says to standard output",
         )
-        .after_help("Example: rtcm2rinex convert --week 2300 --date \"20240204 000001 UTC\" < stream.rtcm3 > station.obs")
+        .after_help(
+            "Example: rtcm2rinex convert --week 2300 --date \"20240204 000001 UTC\" < stream.rtcm3 > station.obs",
+        )
         .subcommand_required(true)
         .subcommand(frames(alloc))?
         .subcommand(show(alloc))?
@@ -44,19 +46,33 @@ fn frames<'a>(alloc: Global) -> Command<'a> {
 /// The command that shows messages.
 fn show<'a>(alloc: Global) -> Command<'a> {
     Command::new(alloc, "show")
-        .about("Shows the messages: stations and their coordinates, heads of MSMs, and why a message is refused")
-        .after_help("Example: rtcm2rinex show < stream.rtcm3\nA line as '0 1005 2003 1114104.5999 -4850729.7108 3975521.4643' is a station: the place of its frame, the message's number, the station, and X, Y and Z in metres.\nA line as '52 1077 2003 1000 0 1 1 1' is an MSM: place, number, station, time in milliseconds of the week, DF393, and how many satellites, signals and cells it has.")
+        .about(
+            "Shows the messages: stations and their coordinates, heads of MSMs, and why a message is refused",
+        )
+        .after_help(
+            "Example: rtcm2rinex show < stream.rtcm3\nA line as '0 1005 2003 1114104.5999 -4850729.7108 3975521.4643' is a station: the place of its frame, the message's number, the station, and X, Y and Z in metres.\nA line as '52 1077 2003 1000 0 1 1 1' is an MSM: place, number, station, time in milliseconds of the week, DF393, and how many satellites, signals and cells it has.",
+        )
 }
 
 /// The command that makes an observation file.
 fn convert<'a>(alloc: Global) -> Result<Command<'a>, Error> {
     let command = Command::new(alloc, "convert")
         .about("Converts the observations to a RINEX 3.05 observation file")
-        .after_help("Example: rtcm2rinex convert --week 2300 --date \"20240204 000001 UTC\" --gps 1C,2W --galileo none < stream.rtcm3 > station.obs\nAt the end one line on standard error counts the bytes, frames, messages, cells and epochs.")
+        .after_help(
+            "Example: rtcm2rinex convert --week 2300 --date \"20240204 000001 UTC\" --gps 1C,2W --galileo none < stream.rtcm3 > station.obs\nAt the end one line on standard error counts the bytes, frames, messages, cells and epochs.",
+        )
         .arg(week(alloc))?
         .arg(date(alloc))?
-        .arg(signals(alloc, "gps", "GPS signals in the file's order: all, none, or codes as 1C,2W"))?
-        .arg(signals(alloc, "galileo", "Galileo signals in the file's order: all, none, or codes as 1C,5Q"))?
+        .arg(signals(
+            alloc,
+            "gps",
+            "GPS signals in the file's order: all, none, or codes as 1C,2W",
+        ))?
+        .arg(signals(
+            alloc,
+            "galileo",
+            "Galileo signals in the file's order: all, none, or codes as 1C,5Q",
+        ))?
         .arg(station(alloc))?
         .arg(gather(alloc))?
         .arg(limit(alloc))?;
@@ -85,16 +101,24 @@ fn option<'a>(alloc: Global, name: &'a str, help: &'a str) -> Arg<'a> {
 }
 
 fn week<'a>(alloc: Global) -> Arg<'a> {
-    option(alloc, "week", "GPS week of the first observations, counted on from 1980 without wrapping")
-        .value_name("WEEK")
-        .required(true)
-        .value_parser(value_parser!(u32).range(0..100_000))
+    option(
+        alloc,
+        "week",
+        "GPS week of the first observations, counted on from 1980 without wrapping",
+    )
+    .value_name("WEEK")
+    .required(true)
+    .value_parser(value_parser!(u32).range(0..100_000))
 }
 
 fn date<'a>(alloc: Global) -> Arg<'a> {
-    option(alloc, "date", "Date of the run, in RINEX's form 'yyyymmdd hhmmss UTC'")
-        .value_name("TEXT")
-        .required(true)
+    option(
+        alloc,
+        "date",
+        "Date of the run, in RINEX's form 'yyyymmdd hhmmss UTC'",
+    )
+    .value_name("TEXT")
+    .required(true)
 }
 
 fn signals<'a>(alloc: Global, name: &'a str, help: &'a str) -> Arg<'a> {
@@ -104,16 +128,24 @@ fn signals<'a>(alloc: Global, name: &'a str, help: &'a str) -> Arg<'a> {
 }
 
 fn station<'a>(alloc: Global) -> Arg<'a> {
-    option(alloc, "station", "Reference station (DF003) whose messages count; without it those of every station")
-        .value_name("NUMBER")
-        .value_parser(value_parser!(u16).range(0..4_096))
+    option(
+        alloc,
+        "station",
+        "Reference station (DF003) whose messages count; without it those of every station",
+    )
+    .value_name("NUMBER")
+    .value_parser(value_parser!(u16).range(0..4_096))
 }
 
 fn gather<'a>(alloc: Global) -> Arg<'a> {
-    option(alloc, "gather", "What closes an epoch: the multiple message bit (DF393) or a later time alone")
-        .value_name("RULE")
-        .default_value("bit")
-        .value_parser(["bit", "time"].as_slice())
+    option(
+        alloc,
+        "gather",
+        "What closes an epoch: the multiple message bit (DF393) or a later time alone",
+    )
+    .value_name("RULE")
+    .default_value("bit")
+    .value_parser(["bit", "time"].as_slice())
 }
 
 fn limit<'a>(alloc: Global) -> Arg<'a> {
