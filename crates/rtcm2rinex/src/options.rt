@@ -35,7 +35,8 @@ pub fn setup_of(alloc: Global, options: &ArgMatches) -> Result<Setup, ToolFault>
     })
 }
 
-fn texts_of<'a>(options: &'a ArgMatches) -> Texts<'a> {
+/// The texts of the header.
+fn texts_of<'a>(options: &ArgMatches<'a>) -> Texts<'a> {
     Texts {
         run_by: text(options, "run-by"),
         date: text(options, "date"),
@@ -52,6 +53,9 @@ fn texts_of<'a>(options: &'a ArgMatches) -> Texts<'a> {
 }
 
 /// The value of an option: each that is asked for is required or has a default.
-fn text<'a>(options: &'a ArgMatches, name: &str) -> &'a str {
-    options.get_str(name).unwrap_or("")
+fn text<'a>(options: &ArgMatches<'a>, name: &str) -> &'a str {
+    match options.get_str(name) {
+        Some(text) => text,
+        None => "",
+    }
 }
