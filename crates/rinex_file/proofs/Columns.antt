@@ -1,11 +1,10 @@
 -- The columns of a value: blanks, a sign, digits, a point and three digits.
-use Rattle.std.proofs.Common.{inl, inr, rules, arith, ◌≡◌, ◌∙◌, sym, ap, refl, ℕ, suc, ◌+◌, ◌-◌, ◌*◌, ◌/◌, ◌%◌, ◌^◌, ◌<◌, ◌≤◌, List, [], ◌∷◌, ◌++◌, length, take, drop, replicate, take-append-drop, append_assoc, length-append, Bool, true, false, ℤ, unsigned_abs, decimal}
+use Rattle.std.proofs.Common.{inl, inr, arith, ◌≡◌, ◌∙◌, sym, ap, ℕ, ◌+◌, ◌-◌, ◌/◌, ◌%◌, ◌^◌, ◌<◌, ◌≤◌, List, [], ◌∷◌, ◌++◌, length, take, drop, replicate, take-append-drop, append_assoc, length-append, decimal}
 use Rattle.std.specs.Prelude.{set}
-use Rattle.std.specs.Int.{is_negative}
 use Rattle.std.proofs.lemmas.Bool.{cases_lt}
 use Rattle.std.proofs.lemmas.Fmt.{decimal_digit, decimal_step, length-decimal-le, decimal_nonempty}
-use Rattle.std.proofs.lemmas.List.{length-replicate, replicate-append-replicate, take_at, drop_at, set_at}
-use Rattle.rinex_file.specs.Numbers.{padded, right, fixed}
+use Rattle.std.proofs.lemmas.List.{length-replicate, replicate-append-replicate, take_at, set_at}
+use Rattle.rinex_file.specs.Numbers.{padded, right}
 
 -- ---- three digits
 

@@ -1,5 +1,5 @@
 -- The columns of a satellite's signals, one after the other.
-use Rattle.std.proofs.Common.{lit≤, rules, arith, ◌≡◌, ◌∙◌, sym, ap, refl, ℕ, suc, ◌+◌, ◌*◌, ◌/◌, ◌%◌, ◌<◌, ◌≤◌, List, [], ◌∷◌, ◌++◌, length, take, replicate, append_assoc, append-nil, get_or}
+use Rattle.std.proofs.Common.{lit≤, ◌≡◌, ◌∙◌, sym, ap, refl, ℕ, ◌+◌, ◌/◌, ◌%◌, ◌<◌, ◌≤◌, List, [], ◌∷◌, ◌++◌, length, take, replicate, append_assoc, append-nil}
 use Rattle.std.specs.Prelude.{map, flat_map, slice_index}
 use Rattle.std.proofs.lemmas.List.{take_more, take_all, map-append}
 use Rattle.gnss_obs.specs.Signals.{table}

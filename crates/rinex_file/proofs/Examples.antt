@@ -1,11 +1,11 @@
 -- The text of a small file, and lines with a value that is missing, negative or at its limit.
-use Rattle.std.proofs.Common.{◌≡◌, ℕ, ◌+◌, ◌*◌, List, [], ◌∷◌, ◌++◌, refl, Option, Some, None, length, map}
+use Rattle.std.proofs.Common.{◌≡◌, ℕ, ◌+◌, ◌*◌, List, [], ◌∷◌, ◌++◌, refl, Some, None, length, map}
 use Rattle.std.specs.Prelude.{codes, pos, negsuc}
 use Rattle.std.specs.Fmt.{digits}
-use Rattle.gnss_obs.specs.declared.system.System.TheVariants.{Gps, Galileo}
+use Rattle.gnss_obs.specs.declared.system.System.TheVariants.{Gps}
 use Rattle.rinex_file.specs.Blanks.{trimmed}
 use Rattle.rinex_file.specs.Texts.{HeaderLists}
-use Rattle.rinex_file.specs.Value.{Entry, Row, Seen, Stamped, FileValue}
+use Rattle.rinex_file.specs.Value.{FileValue}
 use Rattle.rinex_file.specs.Header.{header_line, header_lines, lines_of}
 use Rattle.rinex_file.specs.Lines.{field, entry_text, seen_line, epoch_line}
 use Rattle.rinex_file.specs.Numbers.{joined}

@@ -1,8 +1,8 @@
 -- The types of a system's signals, one after the other.
 use Rattle.std.proofs.lemmas.Bool.{cases_lt}
-use Rattle.std.proofs.Common.{inl, inr, rules, arith, ◌≡◌, ◌∙◌, sym, ap, refl, ℕ, zero, suc, ◌+◌, ◌-◌, ◌*◌, ◌/◌, ◌%◌, ◌<◌, ◌≤◌, List, [], ◌∷◌, ◌++◌, length, take, drop, get_or, append_assoc, append-nil}
+use Rattle.std.proofs.Common.{inl, inr, arith, ◌≡◌, ◌∙◌, sym, ap, refl, ℕ, zero, suc, ◌+◌, ◌-◌, ◌*◌, ◌/◌, ◌%◌, ◌<◌, ◌≤◌, List, [], ◌∷◌, ◌++◌, length, take, drop, get_or, append_assoc, append-nil}
 use Rattle.std.specs.Prelude.{map, flat_map, slice_index}
-use Rattle.std.proofs.lemmas.List.{take_more, get_or-drop, length-map, length-drop, take_all}
+use Rattle.std.proofs.lemmas.List.{take_more, get_or-drop, length-drop, take_all}
 use Rattle.gnss_obs.specs.Signals.{SignalAt, code_of}
 use Rattle.gnss_obs.specs.declared.system.System.{System}
 use Rattle.rinex_file.specs.Header.{type_of, types_of, codes_of, type_columns}

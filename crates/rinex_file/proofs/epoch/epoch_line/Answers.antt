@@ -1,4 +1,4 @@
-use Rattle.std.proofs.Common.{◌≡◌, ◌∙◌, ap}
+use Rattle.std.proofs.Common.{◌∙◌, ap}
 use Rattle.rinex_file.specs.Lines.{epoch_line}
 use Rattle.rinex_file.proofs.epoch.epoch_line.Goals as goal
 

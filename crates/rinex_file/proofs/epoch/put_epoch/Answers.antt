@@ -1,4 +1,4 @@
-use Rattle.std.proofs.Common.{rules, ◌≡◌, ◌∙◌, refl}
+use Rattle.std.proofs.Common.{refl}
 use Rattle.rinex_file.specs.Lines.{epoch_fields, epoch_line}
 use Rattle.rinex_file.proofs.Grown.{grown_whole}
 use Rattle.rinex_file.proofs.epoch.put_epoch.Goals as goal

@@ -1,4 +1,3 @@
-use Rattle.std.proofs.Common.{◌≡◌}
 use Rattle.obs_epoch.specs.Dates.{civil_of}
 use Rattle.rinex_file.proofs.Sections.{all_lines}
 use Rattle.rinex_file.proofs.head.header_lines.Goals as goal

@@ -1,8 +1,8 @@
-use Rattle.std.proofs.Common.{rules, ◌≡◌, ◌∙◌, sym, ap, subst, refl, ◌∷◌, [], ◌<◌, get_or, length}
+use Rattle.std.proofs.Common.{◌∙◌, sym, ap, subst, refl, ◌∷◌, [], ◌<◌, get_or, length}
 use Rattle.std.specs.Prelude.{codes, min}
 use Rattle.obs_epoch.specs.Dates.{civil_of}
 use Rattle.obs_epoch.specs.Values.{planned_of}
-use Rattle.rinex_file.specs.declared.section.Section.TheVariants.{Version, Program, Marker, MarkerType, Observer, Receiver, Antenna, Position, Delta, Types, StrengthUnit, First, Shift, End}
+use Rattle.rinex_file.specs.declared.section.Section.TheVariants.{Version, Program, Marker, MarkerType, Observer, Receiver, Antenna, Position, Delta, StrengthUnit, First, End}
 use Rattle.rinex_file.specs.Lines.{letter_of}
 use Rattle.rinex_file.specs.Header.{header_line, lines_of, section_rows, version_line, program_line, marker_line, marker_type_line, observer_line, receiver_line, antenna_line, position_line, delta_line, strength_line, first_line, end_line, type_line, types_of, codes_of, type_rows}
 use Rattle.rinex_file.proofs.Sections.{sole, at_row, at_same}

@@ -1,4 +1,4 @@
-use Rattle.std.proofs.Common.{◌≡◌, ◌∙◌, ◌≤◌, length}
+use Rattle.std.proofs.Common.{◌∙◌, length}
 use Rattle.obs_epoch.specs.Dates.{civil_of}
 use Rattle.rinex_file.specs.Header.{lines_of, section_rows}
 use Rattle.rinex_file.proofs.Sections.{rows_at, skip, ended, at_end}

@@ -1,4 +1,4 @@
-use Rattle.std.proofs.Common.{rules, ◌≡◌, ◌∙◌, ap, ◌∷◌, ◌++◌, [], refl, ◌*◌, decimal}
+use Rattle.std.proofs.Common.{◌∙◌, ap, ◌∷◌, [], refl, ◌*◌, decimal}
 use Rattle.std.specs.Prelude.{codes, pos}
 use Rattle.rinex_file.specs.Numbers.{right, fixed}
 use Rattle.rinex_file.specs.Header.{header_line}

@@ -1,4 +1,4 @@
-use Rattle.std.proofs.Common.{◌≡◌, ◌∙◌, ap}
+use Rattle.std.proofs.Common.{◌∙◌, ap}
 use Rattle.rinex_file.specs.Header.{first_line}
 use Rattle.rinex_file.proofs.header.first_line.Goals as goal
 

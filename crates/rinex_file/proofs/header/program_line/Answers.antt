@@ -1,4 +1,4 @@
-use Rattle.std.proofs.Common.{◌≡◌, ◌∙◌, ap}
+use Rattle.std.proofs.Common.{◌∙◌, ap}
 use Rattle.std.specs.Prelude.{codes}
 use Rattle.rinex_file.specs.Header.{header_line, three}
 use Rattle.rinex_file.proofs.header.program_line.Goals as goal

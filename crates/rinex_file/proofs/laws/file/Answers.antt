@@ -1,4 +1,4 @@
-use Rattle.std.proofs.Common.{◌≡◌, refl}
+use Rattle.std.proofs.Common.{refl}
 use Rattle.rinex_file.proofs.FileText.{file_text-gathered, header_text-some}
 use Rattle.rinex_file.proofs.laws.file.Goals as goal
 

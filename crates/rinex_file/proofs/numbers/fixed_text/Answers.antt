@@ -1,7 +1,6 @@
-use Rattle.std.proofs.Common.{rules, arith, ◌+◌, ◌^◌, ◌≤◌, ◌++◌, ℕ, List, length, decimal, ◌<◌, ◌/◌, ◌%◌, ◌∷◌, [], ◌≡◌, length-append}
-use Rattle.std.proofs.Math.Nat.{div-le_self, mod-le, mod-lt}
+use Rattle.std.proofs.Common.{rules, arith, ◌≤◌, ◌++◌, ℕ, List, length, decimal, ◌/◌, ◌%◌, ◌∷◌, [], ◌≡◌, length-append}
+use Rattle.std.proofs.Math.Nat.{div-le_self, mod-le}
 use Rattle.std.proofs.lemmas.Fmt.{length-decimal-le}
-use Rattle.rinex_file.specs.Numbers.{padded}
 use Rattle.rinex_file.proofs.Digits.{ten_pow, length-padded-le}
 use Rattle.rinex_file.proofs.numbers.fixed_text.Goals as goal
 use Rattle.rinex_file.proofs.numbers.fixed_text.Goals.{then-value-lt0, else-value-lt0}

@@ -1,4 +1,4 @@
-use Rattle.std.proofs.Common.{rules, arith, ◌≡◌, ◌∙◌, ap, ℕ, List, ◌+◌, ◌≤◌, ◌<◌, ◌^◌, ◌++◌, length, length-append}
+use Rattle.std.proofs.Common.{arith, ◌≡◌, ◌∙◌, ap, ℕ, List, ◌+◌, ◌≤◌, ◌++◌, length, length-append}
 use Rattle.rinex_file.specs.Numbers.{padded}
 use Rattle.rinex_file.proofs.Digits.{length-padded-le}
 use Rattle.rinex_file.proofs.numbers.put_digits.Goals as goal

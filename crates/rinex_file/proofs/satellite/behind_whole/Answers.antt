@@ -1,4 +1,4 @@
-use Rattle.std.proofs.Common.{◌≡◌, ◌∙◌, sym, ap, ◌++◌, ◌∷◌, [], replicate}
+use Rattle.std.proofs.Common.{sym, ap, ◌++◌, ◌∷◌, [], replicate}
 use Rattle.rinex_file.proofs.Columns.{padded-three}
 use Rattle.rinex_file.proofs.satellite.behind_whole.Goals as goal
 

@@ -1,4 +1,4 @@
-use Rattle.std.proofs.Common.{rules, arith, ◌≡◌, ◌∙◌, sym, ap, ◌+◌, ◌-◌, ◌<◌, ◌≤◌, ℕ, List, take, length}
+use Rattle.std.proofs.Common.{arith, ◌≡◌, ◌∙◌, sym, ap, ◌+◌, ◌-◌, take}
 use Rattle.rinex_file.specs.Blanks.{trimmed}
 use Rattle.rinex_file.proofs.Cuts.{cut_more, cut_enough}
 use Rattle.rinex_file.proofs.satellite.cut_length.Goals as goal

@@ -1,4 +1,4 @@
-use Rattle.std.proofs.Common.{rules, arith, ◌≡◌, ◌∙◌, sym, ap, ◌++◌, ◌∷◌, [], ◌≤◌, length, take}
+use Rattle.std.proofs.Common.{arith, ◌∙◌, sym, ap, ◌++◌, ◌∷◌, [], ◌≤◌, length, take}
 use Rattle.obs_epoch.specs.Values.{cells_of, planned_of}
 use Rattle.rinex_file.specs.Blanks.{trimmed}
 use Rattle.rinex_file.specs.Value.{entry_at}

@@ -1,4 +1,4 @@
-use Rattle.std.proofs.Common.{rules, ◌≡◌, ◌∙◌, sym, ap, ◌++◌, Some, None}
+use Rattle.std.proofs.Common.{◌∙◌, sym, ap, ◌++◌}
 use Rattle.std.specs.Option.{option_map, option_map_or}
 use Rattle.obs_epoch.specs.Values.{IsHeld}
 use Rattle.rinex_file.specs.Value.{is_of, entry_of, no_entry}

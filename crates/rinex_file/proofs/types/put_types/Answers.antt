@@ -1,4 +1,4 @@
-use Rattle.std.proofs.Common.{rules, arith, ◌≡◌, ◌∙◌, sym, ap, ◌+◌, ◌-◌, ◌*◌, ◌/◌, ◌%◌, ◌<◌, ◌≤◌, length}
+use Rattle.std.proofs.Common.{arith, ◌*◌, ◌%◌, ◌<◌, length}
 use Rattle.gnss_obs.specs.Signals.{code_of}
 use Rattle.obs_epoch.specs.Values.{planned_of}
 use Rattle.rinex_file.specs.Header.{types_of, type_of, codes_of}

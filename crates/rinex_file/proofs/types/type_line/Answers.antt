@@ -1,4 +1,4 @@
-use Rattle.std.proofs.Common.{◌≡◌, ◌∙◌, sym, ap, ◌++◌, ◌*◌, length}
+use Rattle.std.proofs.Common.{◌∙◌, sym, ap, ◌++◌, ◌*◌}
 use Rattle.std.specs.Prelude.{codes}
 use Rattle.obs_epoch.specs.Values.{planned_of}
 use Rattle.rinex_file.specs.Lines.{letter_of}

@@ -1,8 +1,6 @@
-use Rattle.std.proofs.Common.{rules, arith, ◌≡◌, ◌∙◌, ap, sym, ◌≤◌, ℕ, List, length, Bool, true, false, Option, Some, None, refl}
-use Rattle.rinex_file.specs.declared.fault.HeaderField.{HeaderField}
+use Rattle.std.proofs.Common.{None}
 use Rattle.rinex_file.specs.declared.fault.HeaderField.TheVariants.{RunBy, Date, Marker, MarkerType, Observer, Agency, RecNumber, RecType, RecVersion, AntNumber, AntType}
-use Rattle.rinex_file.specs.Blanks.{trimmed}
-use Rattle.rinex_file.specs.Texts.{fields, fault_of, width_of}
+use Rattle.rinex_file.specs.Texts.{fields}
 use Rattle.rinex_file.specs.TextsOf.{lists_of}
 use Rattle.rinex_file.proofs.Faultless.{short, all_none}
 use Rattle.rinex_file.proofs.texts.HeaderTexts.taken.Goals as goal

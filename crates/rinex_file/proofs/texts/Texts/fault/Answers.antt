@@ -1,5 +1,5 @@
-use Rattle.std.proofs.Common.{◌≡◌, ◌∙◌, ap}
-use Rattle.rinex_file.specs.declared.fault.HeaderField.TheVariants.{RunBy, Date, Marker, MarkerType, Observer, Agency, RecNumber, RecType, RecVersion, AntNumber, AntType}
+use Rattle.std.proofs.Common.{◌∙◌, ap}
+use Rattle.rinex_file.specs.declared.fault.HeaderField.TheVariants.{Date, Marker, MarkerType, Observer, Agency, RecNumber, RecType, RecVersion, AntNumber, AntType}
 use Rattle.rinex_file.specs.Texts.{or_else, fault_of}
 use Rattle.rinex_file.specs.TextsOf.{lists_of}
 use Rattle.rinex_file.proofs.texts.Texts.fault.Goals as goal
