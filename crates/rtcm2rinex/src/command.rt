@@ -47,13 +47,41 @@ pub fn command<R: Read, W: Write, E: Write>(
         Ok(matches) => matches,
         Err(error) => return refuse(&error, faults),
     };
-    let outcome = match matches.subcommand() {
-        Some(("frames", _)) => run_frames(alloc, reader, writer),
-        Some(("show", _)) => run_show(alloc, reader, writer),
-        Some(("convert", options)) => return convert(alloc, options, reader, writer, faults),
-        _ => return 2,
-    };
-    match outcome {
+    match matches.subcommand() {
+        Some(("frames", _)) => frames(alloc, reader, writer, faults),
+        Some(("show", _)) => show(alloc, reader, writer, faults),
+        Some(("convert", options)) => convert(alloc, options, reader, writer, faults),
+        _ => 2,
+    }
+}
+
+/// Lists the frames, or tells the fault. Answers the exit status.
+fn frames<R: Read, W: Write, E: Write>(
+    alloc: Global,
+    reader: &mut Counted<R>,
+    writer: &mut Counted<W>,
+    faults: &mut E,
+) -> u8
+    ensures status { result ≤ 1 }
+    ensures good { result ≡ 0 → ListsAll frame_lines (R.remaining reader.old.inner) (R.remaining reader.new.inner) (W.contents writer.old.inner) (W.contents writer.new.inner) }
+{
+    match run_frames(alloc, reader, writer) {
+        Ok(()) => 0,
+        Err(fault) => stop(fault, faults),
+    }
+}
+
+/// Shows the messages, or tells the fault. Answers the exit status.
+fn show<R: Read, W: Write, E: Write>(
+    alloc: Global,
+    reader: &mut Counted<R>,
+    writer: &mut Counted<W>,
+    faults: &mut E,
+) -> u8
+    ensures status { result ≤ 1 }
+    ensures good { result ≡ 0 → ListsAll show_lines (R.remaining reader.old.inner) (R.remaining reader.new.inner) (W.contents writer.old.inner) (W.contents writer.new.inner) }
+{
+    match run_show(alloc, reader, writer) {
         Ok(()) => 0,
         Err(fault) => stop(fault, faults),
     }
