@@ -50,15 +50,16 @@ fn station_values_stand_in_the_header(rt: HostRuntime) -> Result<(), Fail> {
     let stream = framed(rt.alloc(), &[&HEIGHT, &FINE])?;
     let outcome = run(rt.alloc(), OPTIONS.as_slice(), stream.as_slice(), &[]);
     assert_eq!(rt; outcome.status, 0);
-    let line_8 = &outcome.output.as_slice()[7 * 81..8 * 81];
+    let text = outcome.output.as_slice();
+    let from_line_8 = &text[text.len().min(7 * 81)..];
+    let from_line_9 = &text[text.len().min(8 * 81)..];
     assert!(rt;
-        line_8.starts_with(
+        from_line_8.starts_with(
             b"  1114104.5999 -4850729.7108  3975521.4643                  APPROX POSITION XYZ"
         )
     );
-    let line_9 = &outcome.output.as_slice()[8 * 81..9 * 81];
     assert!(rt;
-        line_9.starts_with(
+        from_line_9.starts_with(
             b"        1.5000        0.0000        0.0000                  ANTENNA: DELTA H/E/N"
         )
     );
@@ -199,12 +200,16 @@ fn devices_that_fail_are_told(rt: HostRuntime) -> Result<(), Fail> {
         assert_eq!(rt; faults.as_slice(), b"rtcm2rinex: Write\n".as_slice());
         assert_eq!(rt;
             writer.into_inner().into_inner().as_slice(),
-            &whole.as_slice()[..taken]
+            &whole.as_slice()[..taken.min(whole.len())]
         );
     }
     for (given, written) in [(0, 0), (20, 0), (41, 0), (42, 1236)] {
         let end = ReadEnd::Fails(ErrorKind::Other);
-        let mut reader = Counted::new(PieceReader::new(&stream.as_slice()[..given], &[5], end));
+        let mut reader = Counted::new(PieceReader::new(
+            &stream.as_slice()[..given.min(stream.len())],
+            &[5],
+            end,
+        ));
         let mut writer = Counted::new(Vec::new(rt.alloc()));
         let mut faults = Vec::new(rt.alloc());
         let status = command(

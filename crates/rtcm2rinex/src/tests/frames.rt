@@ -75,11 +75,11 @@ fn many_frames_are_listed(rt: HostRuntime) -> Result<(), Fail> {
         [].as_slice(),
     );
     assert_eq!(rt; found.status, 0);
-    let mut lines = 0;
+    let mut lines: usize = 0;
     for line in found.output.as_slice().split(|byte| *byte == b'\n') {
         if !line.is_empty() {
             assert!(rt; line.ends_with(b" 0 -"));
-            lines += 1;
+            lines = lines.saturating_add(1);
         }
     }
     assert_eq!(rt; lines, 1_500);

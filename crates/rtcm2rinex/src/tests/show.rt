@@ -26,8 +26,8 @@ fn messages_are_shown(rt: HostRuntime) -> Result<(), Fail> {
         (MANY.as_slice(), b"0 1077 TooManyCells\n"),
         (PAST_WEEK.as_slice(), b"0 1077 BadTime\n"),
         (&FINE[..35], b"0 1077 Short 271\n"),
-        (&station()[..18], b"0 1005 Short 114\n"),
-        (&station()[..1], b"0 - Short 0\n"),
+        (&FRAMED_STATION[3..21], b"0 1005 Short 114\n"),
+        (&FRAMED_STATION[3..4], b"0 - Short 0\n"),
         (&[], b"0 - Short 0\n"),
         // Message 1087 isn't read.
         (&[0x43, 0xF0], b""),
