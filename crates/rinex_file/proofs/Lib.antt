@@ -10,3 +10,4 @@ mod Sent
 mod Faultless
 mod FileText
 mod Examples
+mod Judged

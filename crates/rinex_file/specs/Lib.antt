@@ -7,3 +7,6 @@ pub mod Header
 pub mod File
 pub mod Reading
 pub mod TextsOf
+pub mod FileValues
+pub mod Exact
+pub mod Progress

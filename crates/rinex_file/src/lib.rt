@@ -4,12 +4,26 @@
 //! [`satellite_line`] make lines; [`write_header`] and [`write_epoch`] send them out. None of these takes memory.
 #![tactic(auto)]
 
+mod due;
 mod epoch;
 mod fault;
+mod file;
 mod head;
+mod head_so_far;
 mod header;
+mod kept;
 pub mod laws;
+mod lines;
 mod numbers;
+mod obs_file;
+mod read_epoch;
+mod read_fault;
+mod read_numbers;
+mod read_row;
+mod read_station;
+mod read_texts;
+mod read_types;
+mod reading;
 mod satellite;
 mod section;
 mod texts;
@@ -20,6 +34,9 @@ pub use epoch::epoch_line;
 pub use fault::{HeadFault, HeaderField};
 pub use head::{Head, HeaderLines, header_lines};
 pub use numbers::Line;
+pub use obs_file::ObsFile;
+pub use read_fault::ReadFault;
+pub use file::{file_bytes, read_file};
 pub use satellite::satellite_line;
 pub use texts::{HeaderTexts, Texts};
 pub use write::{write_epoch, write_header};

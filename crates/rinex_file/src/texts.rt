@@ -1,10 +1,11 @@
 //! The texts of a header.
-ghost use Rattle.std.specs.Prelude.{◌≡◌, ◌≤◌, length, None, IfOk};
+ghost use Rattle.std.specs.Prelude.{◌≡◌, ◌≤◌, [], length, None, IfOk};
 ghost use Rattle.std.specs.Result.{result_err};
 ghost use Rattle.std.specs.List.{list_all};
 ghost use Rattle.rinex_file.specs.Blanks.{trimmed};
 ghost use Rattle.rinex_file.specs.Texts.{fields, text_of, or_else, fault_of, first_fault, trimmed_texts, is_printable};
 ghost use Rattle.rinex_file.specs.TextsOf.{lists_of};
+ghost use Rattle.rinex_file.specs.declared.fault.HeaderField.{HeaderField};
 
 use crate::fault::{HeadFault, HeaderField};
 use crate::satellite::cut_length;
@@ -175,6 +176,25 @@ impl HeaderTexts {
         match texts.fault() {
             Some(fault) => Err(fault),
             None => Ok(HeaderTexts::taken(texts)),
+        }
+    }
+
+    /// No text at all.
+    pub(crate) fn blank() -> HeaderTexts
+        ensures { (field : HeaderField) → text_of result field ≡ [] }
+    {
+        HeaderTexts {
+            run_by: ArrayVec::new(),
+            date: ArrayVec::new(),
+            marker: ArrayVec::new(),
+            marker_type: ArrayVec::new(),
+            observer: ArrayVec::new(),
+            agency: ArrayVec::new(),
+            rec_number: ArrayVec::new(),
+            rec_type: ArrayVec::new(),
+            rec_version: ArrayVec::new(),
+            ant_number: ArrayVec::new(),
+            ant_type: ArrayVec::new(),
         }
     }
 

@@ -1,0 +1,92 @@
+-- What is read from bytes that come line by line.
+use Rattle.std.specs.Prelude.{◌≡◌, ℕ, ◌+◌, ◌^◌, ◌<◌, ◌≤◌, ◌⊎◌, ◌==◌, false, List, [], ◌∷◌, ◌++◌, length, All, count_by, Option, Result, Ok, Err, ⊤}
+use Rattle.std.specs.Io.KnownBytes.{IsAtEnd}
+use Rattle.rinex_file.specs.declared.lines.Found.{Found}
+use Rattle.rinex_file.specs.declared.lines.Found.TheVariants.{Line, End, Cut, Long, Failed}
+use Rattle.rinex_file.specs.declared.read_fault.ReadFault.{ReadFault}
+use Rattle.rinex_file.specs.declared.read_fault.ReadFault.TheVariants.{Memory, Read, BadHeader, BadEpoch, BadSatellite, CutShort, TooLong}
+use Rattle.rinex_file.specs.Reading.{has}
+use Rattle.rinex_file.specs.Numbers.{joined}
+use Rattle.rinex_file.specs.Value.{FileValue}
+use Rattle.rinex_file.specs.FileValues.{IsFileValue}
+use Rattle.rinex_file.specs.File.{file_text}
+
+-- a line: bytes that end in the one line feed among them
+abbrev pub IsLine : List ℕ → Type 0
+IsLine line = (body : List ℕ) × (line ≡ body ++ 10 ∷ []) × (has 10 body ≡ false)
+
+-- what the bytes are that were taken for a line, where this is left of the input
+abbrev pub IsFound : Found → List ℕ → Option (List ℕ) → Type 0
+IsFound Line bytes left = IsLine bytes
+IsFound End bytes left = (bytes ≡ []) × IsAtEnd left
+IsFound Cut bytes left = (0 < length bytes) × (length bytes < 1220) × (has 10 bytes ≡ false) × IsAtEnd left
+IsFound Long bytes left = (length bytes ≡ 1220) × (has 10 bytes ≡ false)
+IsFound Failed bytes left = ⊤
+
+-- `lines` are the first lines of the input, and `rest` follows them
+pub record AreFirstLines (input : List ℕ) (lines : List (List ℕ)) (rest : List ℕ) : Type 0 where
+  pub are : All IsLine lines
+  pub first : input ≡ joined lines ++ rest
+
+-- the text of no file value begins with these bytes
+abbrev pub NoFileBegins : List ℕ → Type 0
+NoFileBegins front = (v : FileValue) (rest : List ℕ) → IsFileValue v → file_text v ≡ front ++ rest → ⊥
+
+-- no file value's text begins with the first k lines of the input
+pub record IsRefuted (input : List ℕ) (k : ℕ) : Type 0 where
+  pub lines : List (List ℕ)
+  pub rest : List ℕ
+  pub first : AreFirstLines input lines rest
+  pub count : length lines ≡ k
+  pub none : NoFileBegins (joined lines)
+
+-- line k of the input has no line feed in 1,220 bytes
+pub record IsOverLong (input : List ℕ) (k : ℕ) : Type 0 where
+  pub lines : List (List ℕ)
+  pub long : List ℕ
+  pub rest : List ℕ
+  pub first : AreFirstLines input lines (long ++ rest)
+  pub count : length lines + 1 ≡ k
+  pub size : length long ≡ 1220
+  pub endless : has 10 long ≡ false
+
+abbrev pub line_feeds : List ℕ → ℕ
+line_feeds text = count_by (λ b. b == 10) text
+
+-- the input ends before the line feed of line k, and is no file value's text
+pub record IsCutShort (input : List ℕ) (k : ℕ) : Type 0 where
+  pub count : line_feeds input + 1 ≡ k
+  pub none : (v : FileValue) → IsFileValue v → input ≡ file_text v → ⊥
+
+-- why line k is a fault
+abbrev pub IsFaulty : List ℕ → ℕ → Type 0
+IsFaulty input k = IsRefuted input k ⊎ IsOverLong input k
+
+-- so many lines of a file have a number
+abbrev pub most_lines : ℕ
+most_lines = 2 ^ 32
+
+-- a byte stands behind as many lines as have a number
+pub record IsTooLong (input : List ℕ) : Type 0 where
+  pub lines : List (List ℕ)
+  pub rest : List ℕ
+  pub first : AreFirstLines input lines rest
+  pub count : length lines ≡ most_lines
+  pub more : 0 < length rest
+
+-- what each fault says of the input
+abbrev pub Explains : List ℕ → ReadFault → Type 0
+Explains input Memory = ⊤
+Explains input Read = ⊤
+Explains input (BadHeader k) = IsFaulty input k
+Explains input (BadEpoch k) = IsFaulty input k
+Explains input (BadSatellite k) = IsFaulty input k
+Explains input (CutShort k) = IsCutShort input k
+Explains input TooLong = IsTooLong input
+
+-- this value, or want of memory, or a failed reader
+abbrev pub IsReadOr : FileValue → Result FileValue ReadFault → Type 0
+IsReadOr v (Ok f) = f ≡ v
+IsReadOr v (Err Memory) = ⊤
+IsReadOr v (Err Read) = ⊤
+IsReadOr v (Err _) = ⊥

@@ -1,0 +1,114 @@
+-- Which values are those of a file: what its lines have room for, in the order in which they stand.
+use Rattle.std.specs.Prelude.{◌≡◌, ℕ, ℤ, pos, neg_ℤ, ◌+◌, ◌*◌, ◌^◌, ◌<◌, ◌≤◌, ◌≤ℤ◌, ◌||◌, Bool, true, List, length, All, Any, map, Option, None, is_some, nat_eq, IfSome, IsTrue}
+use Rattle.std.specs.List.{IsDistinct, list_all}
+use Rattle.std.specs.List.Sorted.{IsStrictlyIncreasing}
+use Rattle.gnss_obs.specs.declared.system.System.{System}
+use Rattle.gnss_obs.specs.declared.system.System.TheVariants.{Gps, Galileo}
+use Rattle.gnss_obs.specs.Satellites.{satellites}
+use Rattle.gnss_obs.specs.Signals.{table}
+use Rattle.obs_epoch.specs.declared.cell.StationValues.{StationValues}
+use Rattle.obs_epoch.specs.Values.{PlanValue, planned_of}
+use Rattle.obs_epoch.specs.Weeks.{week, weeks}
+use Rattle.rinex_file.specs.declared.fault.HeaderField.{HeaderField}
+use Rattle.rinex_file.specs.Blanks.{trimmed}
+use Rattle.rinex_file.specs.Texts.{HeaderLists, width_of, text_of, is_printable}
+use Rattle.rinex_file.specs.Value.{Entry, Row, Seen, Stamped, FileValue}
+
+-- ---- the header
+
+-- printable, within its columns, and no blank at the end
+pub record IsText (width : ℕ) (text : List ℕ) : Type 0 where
+  pub short : length text ≤ width
+  pub printable : list_all is_printable text ≡ true
+  pub cut : trimmed text ≡ text
+
+abbrev pub AreTexts : HeaderLists → Type 0
+AreTexts x = (field : HeaderField) → IsText (width_of field) (text_of x field)
+
+-- listed signals, none of them twice, and at least one in all
+pub record IsPlan (p : PlanValue) : Type 0 where
+  pub listed : (system : System) → All (λ i. i < length (table system)) (planned_of system p)
+  pub apart : (system : System) → IsDistinct nat_eq (planned_of system p)
+  pub some : 0 < length p.gps + length p.galileo
+
+-- z is at least `low` and at most `high`
+abbrev pub IsFrom : ℤ → ℤ → ℤ → Type 0
+IsFrom low high z = (low ≤ℤ z) × (z ≤ℤ high)
+
+-- a coordinate of 38 bits
+abbrev pub IsCoordinate : ℤ → Type 0
+IsCoordinate z = IsFrom (neg_ℤ (pos 137_438_953_472)) (pos 137_438_953_471) z
+
+pub record AreValues (v : StationValues) : Type 0 where
+  pub x : IsCoordinate v.x
+  pub y : IsCoordinate v.y
+  pub z : IsCoordinate v.z
+  pub height : v.height < 2 ^ 16
+
+abbrev pub IsTime : ℕ → Type 0
+IsTime t = t < weeks * week
+
+-- ---- epochs
+
+-- it says something
+abbrev pub says : Entry → Bool
+says e = is_some e.c || is_some e.l || is_some e.d || is_some e.s
+
+-- a value that fourteen columns have room for
+abbrev pub FitsColumns : ℤ → Type 0
+FitsColumns v = IsFrom (neg_ℤ (pos 999_999_999_999)) (pos 9_999_999_999_999) v
+
+-- values that their columns have room for, and no mark where there is no phase
+pub record IsEntry (e : Entry) : Type 0 where
+  pub c : IfSome e.c FitsColumns
+  pub l : IfSome e.l FitsColumns
+  pub d : IfSome e.d FitsColumns
+  pub s : IfSome e.s (IsFrom (pos 1) (pos 99_999))
+  pub mark : e.mark < 4
+  pub unmarked : e.l ≡ None → e.mark ≡ 0
+
+-- a satellite of a system that has so many, of which so many signals are planned
+pub record IsRow (most signals : ℕ) (r : Row) : Type 0 where
+  pub satellite : (1 ≤ r.satellite) × (r.satellite ≤ most)
+  pub entries : All IsEntry r.entries
+  pub whole : length r.entries ≡ signals
+  pub some : Any (λ e. IsTrue (says e)) r.entries
+
+-- what stands for one system, and for the other
+abbrev pub of_system : {X : Type 0} → System → X → X → X
+of_system Gps gps galileo = gps
+of_system Galileo gps galileo = galileo
+
+-- a satellite's place among all: those of GPS come first
+abbrev pub rank_of : Seen → ℕ
+rank_of s = of_system s.system s.row.satellite (100 + s.row.satellite)
+
+-- a row of a system of which some signal is planned, where so many signals of each are
+pub record IsSeen (gps galileo : ℕ) (s : Seen) : Type 0 where
+  pub planned : 0 < of_system s.system gps galileo
+  pub row : IsRow (satellites s.system) (of_system s.system gps galileo) s.row
+
+-- satellites that rise
+pub record AreSeen (gps galileo : ℕ) (rows : List Seen) : Type 0 where
+  pub each : All (IsSeen gps galileo) rows
+  pub rise : IsStrictlyIncreasing (map rank_of rows)
+
+-- an epoch of at least one satellite, with the station values of those before
+pub record IsStamped (gps galileo : ℕ) (e : Stamped) : Type 0 where
+  pub same : e.change ≡ None
+  pub time : IsTime e.time
+  pub rows : AreSeen gps galileo e.rows
+  pub some : 0 < length e.rows
+
+abbrev pub time_of : Stamped → ℕ
+time_of e = e.time
+
+-- ---- the whole
+
+pub record IsFileValue (v : FileValue) : Type 0 where
+  pub texts : AreTexts v.texts
+  pub plan : IsPlan v.plan
+  pub values : AreValues v.values
+  pub some : 0 < length v.epochs
+  pub epochs : All (IsStamped (length v.plan.gps) (length v.plan.galileo)) v.epochs
+  pub rising : IsStrictlyIncreasing (map time_of v.epochs)

@@ -1,0 +1,22 @@
+//! What is due where a file is read line by line.
+use crate::section::Section;
+
+/// What the next line is to be.
+#[derive(Clone, Copy, Debug, PartialEq, Eq)]
+pub(crate) enum Due {
+    /// A line of the header: its section, and its place within it from 0.
+    Header(Section, usize),
+    /// The line of an epoch, or the end.
+    Epoch,
+    /// The line of a satellite; so many are left.
+    Satellite(usize),
+}
+
+/// Why a line isn't taken.
+#[derive(Clone, Copy, Debug, PartialEq, Eq)]
+pub(crate) enum Refusal {
+    /// Memory ran out.
+    Memory,
+    /// No file goes on with this line.
+    Bad,
+}

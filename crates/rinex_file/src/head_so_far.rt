@@ -1,0 +1,77 @@
+//! What was read of a header.
+ghost use Rattle.std.specs.Prelude.{◌≡◌, ◌∷◌, ◌↔◌, ℕ, List, None, IfOk, IfErr};
+ghost use Rattle.obs_epoch.specs.Dates.{civil_of};
+ghost use Rattle.rinex_file.specs.Header.{header_lines};
+ghost use Rattle.rinex_file.specs.Progress.{Shown, IsShown, IsHeaderLeft, MayFollow};
+
+use crate::due::Refusal;
+use crate::numbers::Line;
+use crate::section::Section;
+use crate::texts::HeaderTexts;
+use gnss_obs::Signal;
+use obs_epoch::{GpsTime, Plan, StationValues};
+use std::alloc::Global;
+use std::marker::Model;
+
+/// What was read of a header.
+#[derive(Drop)]
+pub(crate) struct HeadSoFar {
+    pub(crate) texts: HeaderTexts,
+    pub(crate) gps: Vec<Signal>,
+    pub(crate) galileo: Vec<Signal>,
+    pub(crate) values: StationValues,
+    pub(crate) first: GpsTime,
+    has_gps: bool,
+    has_galileo: bool,
+    signals: usize,
+}
+
+impl Model for HeadSoFar {
+    ghost use Rattle.obs_epoch.specs.Signals.{indices, IsOf};
+    ghost use Rattle.gnss_obs.specs.declared.system.System.TheVariants.{Gps, Galileo};
+    ghost use Rattle.rinex_file.specs.Progress.{Known};
+
+    ghost Value = { Known };
+
+    ghost view = { λ h. record {
+      shown = record { texts = h.texts; plan = record { gps = indices h.gps.items; galileo = indices h.galileo.items }; values = h.values; first = h.first };
+      gps = h.has_gps;
+      galileo = h.has_galileo;
+      signals = h.signals;
+    } };
+
+    ghost invariant = { λ h. IsOf Gps h.gps.items × IsOf Galileo h.galileo.items };
+}
+
+impl HeadSoFar {
+    /// Nothing was read.
+    pub(crate) fn new(alloc: Global) -> HeadSoFar
+        ensures { (h : Shown) (left : List (List ℕ))
+            → IsHeaderLeft result Section.Version 0 h left ↔ (IsShown h × (left ≡ header_lines h.texts h.plan h.values (civil_of h.first))) }
+    {
+        let zero = match GpsTime::new(0) {
+            Some(time) => time,
+            None => unreachable!(),
+        };
+        HeadSoFar {
+            texts: HeaderTexts::blank(),
+            gps: Vec::new(alloc),
+            galileo: Vec::new(alloc),
+            values: StationValues { x: 0, y: 0, z: 0, height: 0 },
+            first: zero,
+            has_gps: false,
+            has_galileo: false,
+            signals: 0,
+        }
+    }
+
+    /// Takes a line where this one is due, and answers the place of the next, or None where the header ends. What is known
+    /// then stands for the headers that have this line next.
+    pub(crate) fn take(&mut self, section: Section, row: usize, line: &[u8], again: &mut Line) -> Result<Option<(Section, usize)>, Refusal>
+        ensures taken { IfOk result (λ next. (h : Shown) (left : List (List ℕ)) → IsHeaderLeft self.old section row h (line.now ∷ left) ↔ MayFollow self.new next h left) }
+        ensures shown { IfOk result (λ next. next ≡ None → IsShown self.new.shown) }
+        ensures bad { result ≡ Err Refusal.Bad → (h : Shown) (left : List (List ℕ)) → IsHeaderLeft self.old section row h (line.now ∷ left) → ⊥ }
+    {
+        Err(Refusal::Memory)
+    }
+}

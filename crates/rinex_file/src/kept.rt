@@ -1,0 +1,58 @@
+//! What was read of an epoch, as it lies in memory.
+use arrayvec::ArrayVec;
+use gnss_obs::System;
+use obs_epoch::GpsTime;
+use std::marker::Model;
+
+/// What a line shows of a signal: pseudorange (0.001 m), phase (0.001 cycles), Doppler (0.001 Hz) and strength
+/// (0.001 dB-Hz), and the loss-of-lock mark of the phase. All are absent where nothing was observed.
+#[derive(Clone, Copy, Debug, Default, PartialEq, Eq)]
+pub(crate) struct KeptEntry {
+    pub(crate) c: Option<i64>,
+    pub(crate) l: Option<i64>,
+    pub(crate) d: Option<i64>,
+    pub(crate) s: Option<i64>,
+    pub(crate) mark: u8,
+}
+
+impl Model for KeptEntry {
+    ghost use Rattle.rinex_file.specs.Value.{Entry};
+
+    ghost Value = { Entry };
+
+    ghost view = { λ e. record { c = e.c; l = e.l; d = e.d; s = e.s; mark = e.mark } };
+
+    ghost inverse = { λ e. record { c = e.c; l = e.l; d = e.d; s = e.s; mark = e.mark } };
+}
+
+/// A satellite of a system, with an entry for each planned signal in the plan's order.
+#[derive(Clone, Debug, Drop)]
+pub(crate) struct KeptSeen {
+    pub(crate) system: System,
+    pub(crate) satellite: u8,
+    pub(crate) entries: ArrayVec<KeptEntry, 19>,
+}
+
+impl Model for KeptSeen {
+    ghost use Rattle.rinex_file.specs.Value.{Seen};
+
+    ghost Value = { Seen };
+
+    ghost view = { λ s. record { system = s.system; row = record { satellite = s.satellite; entries = s.entries.items } } };
+}
+
+/// An epoch with the satellites that were seen.
+#[derive(Drop)]
+pub(crate) struct KeptEpoch {
+    pub(crate) time: GpsTime,
+    pub(crate) rows: Vec<KeptSeen>,
+}
+
+impl Model for KeptEpoch {
+    ghost use Rattle.std.specs.Prelude.{None};
+    ghost use Rattle.rinex_file.specs.Value.{Stamped};
+
+    ghost Value = { Stamped };
+
+    ghost view = { λ e. record { change = None; time = e.time; rows = e.rows.items } };
+}
