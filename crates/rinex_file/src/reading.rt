@@ -1,7 +1,8 @@
 //! What was read of a file, line by line.
-ghost use Rattle.std.specs.Prelude.{◌≡◌, ◌∷◌, ◌↔◌, ℕ, [], List, OnOk, IfSome, IfNone, Err};
+ghost use Rattle.std.specs.Prelude.{◌≡◌, ◌<◌, ◌≤◌, ◌∷◌, ◌++◌, ◌↔◌, ℕ, [], List, OnOk, IfSome, IfNone, IfOk, IfErr, Err, None, IsTrue, map, length};
+ghost use Rattle.std.specs.List.Sorted.{IsStrictlyIncreasing};
 ghost use Rattle.rinex_file.specs.Value.{FileValue};
-ghost use Rattle.rinex_file.specs.FileValues.{IsFileValue};
+ghost use Rattle.rinex_file.specs.FileValues.{IsFileValue, rank_of, time_of, most_rows};
 ghost use Rattle.rinex_file.specs.File.{file_lines};
 ghost use Rattle.rinex_file.specs.Progress.{GoesOn};
 
@@ -10,10 +11,14 @@ use crate::head_so_far::HeadSoFar;
 use crate::kept::{KeptEpoch, KeptSeen};
 use crate::numbers::Line;
 use crate::obs_file::ObsFile;
+use crate::read_epoch::read_epoch_line;
+use crate::read_row::read_seen;
 use crate::section::Section;
-use obs_epoch::GpsTime;
+use gnss_obs::System;
+use obs_epoch::{GpsTime, Plan};
 use std::alloc::Global;
 use std::marker::Model;
+use std::mem;
 
 /// What was read of a file.
 #[derive(Drop)]
@@ -23,16 +28,59 @@ pub(crate) struct Reading {
     epochs: Vec<KeptEpoch>,
     time: GpsTime,
     rows: Vec<KeptSeen>,
-    satellites: usize,
     alloc: Global,
 }
 
 impl Model for Reading {
     ghost use Rattle.rinex_file.specs.Progress.{Progress};
+    ghost use Rattle.rinex_file.specs.Sound.{IsSound};
 
     ghost Value = { Progress };
 
     ghost view = { λ r. record { due = r.due; known = r.head; epochs = r.epochs.items; time = r.time; rows = r.rows.items } };
+
+    ghost invariant = { λ r. ∥ IsSound (record { due = r.due; known = r.head; epochs = r.epochs.items; time = r.time; rows = r.rows.items }) ∥₁ };
+}
+
+// A satellite's place among all: those of GPS come first.
+fn rank_of(seen: &KeptSeen) -> u16
+    ensures { result ≡ rank_of seen.now }
+{
+    match seen.system {
+        System::Gps => seen.satellite as u16,
+        System::Galileo => 100 + seen.satellite as u16,
+    }
+}
+
+// Whether a satellite stands behind all of these, which rise.
+fn is_behind(rows: &[KeptSeen], seen: &KeptSeen) -> bool
+    requires { IsStrictlyIncreasing (map rank_of rows.now) }
+    ensures { IsTrue result ↔ IsStrictlyIncreasing (map rank_of rows.now ++ rank_of seen.now ∷ []) }
+{
+    match rows.last() {
+        None => true,
+        Some(last) => rank_of(last) < rank_of(seen),
+    }
+}
+
+// Whether a time is later than those of all these epochs, which rise.
+fn is_later(epochs: &[KeptEpoch], time: GpsTime) -> bool
+    requires { IsStrictlyIncreasing (map time_of epochs.now) }
+    ensures { IsTrue result ↔ IsStrictlyIncreasing (map time_of epochs.now ++ time ∷ []) }
+{
+    match epochs.last() {
+        None => true,
+        Some(last) => last.time.milliseconds() < time.milliseconds(),
+    }
+}
+
+// So many satellites have the systems of which some signal is planned.
+fn most_rows(gps: usize, galileo: usize) -> usize
+    ensures { result ≡ most_rows gps galileo }
+{
+    let of_gps = if gps > 0 { 32 } else { 0 };
+    let of_galileo = if galileo > 0 { 36 } else { 0 };
+    of_gps + of_galileo
 }
 
 impl Reading {
@@ -40,27 +88,120 @@ impl Reading {
     pub(crate) fn new(alloc: Global) -> Reading
         ensures { (v : FileValue) (left : List (List ℕ)) → GoesOn result v left ↔ (IsFileValue v × (left ≡ file_lines v)) }
     {
-        let zero = match GpsTime::new(0) {
-            Some(time) => time,
-            None => unreachable!(),
-        };
+        let head = HeadSoFar::new(alloc);
+        let time = head.first;
         Reading {
             due: Due::Header(Section::Version, 0),
-            head: HeadSoFar::new(alloc),
+            head,
             epochs: Vec::new(alloc),
-            time: zero,
+            time,
             rows: Vec::new(alloc),
-            satellites: 0,
             alloc,
         }
     }
 
     /// Takes the next line; the second buffer is for what the line would be.
     pub(crate) fn take(&mut self, line: &[u8], again: &mut Line) -> Result<(), Refusal>
+        requires { length line.now ≤ 1220 }
         ensures taken { OnOk result ((v : FileValue) (left : List (List ℕ)) → GoesOn self.old v (line.now ∷ left) ↔ GoesOn self.new v left) }
         ensures bad { result ≡ Err Refusal.Bad → (v : FileValue) (left : List (List ℕ)) → GoesOn self.old v (line.now ∷ left) → ⊥ }
     {
-        Err(Refusal::Memory)
+        match self.due {
+            Due::Header(section, row) => self.take_header(section, row, line, again),
+            Due::Epoch => self.take_epoch(line, again),
+            Due::Satellite(left) => self.take_satellite(left, line, again),
+        }
+    }
+
+    // Takes a line of the header.
+    fn take_header(
+        &mut self,
+        section: Section,
+        row: usize,
+        line: &[u8],
+        again: &mut Line,
+    ) -> Result<(), Refusal>
+        requires { self.old.due ≡ Due.Header section row }
+        ensures taken { OnOk result ((v : FileValue) (left : List (List ℕ)) → GoesOn self.old v (line.now ∷ left) ↔ GoesOn self.new v left) }
+        ensures bad { result ≡ Err Refusal.Bad → (v : FileValue) (left : List (List ℕ)) → GoesOn self.old v (line.now ∷ left) → ⊥ }
+    {
+        match self.head.take(section, row, line, again) {
+            Err(refusal) => Err(refusal),
+            Ok(Some((section, row))) => {
+                self.due = Due::Header(section, row);
+                Ok(())
+            }
+            Ok(None) => {
+                self.due = Due::Epoch;
+                Ok(())
+            }
+        }
+    }
+
+    // Whether an epoch of so many satellites may follow at a time.
+    fn may_begin(&self, time: GpsTime, satellites: usize) -> bool {
+        let first = self.epochs.is_empty();
+        if first && time.milliseconds() != self.head.first.milliseconds() {
+            return false;
+        }
+        let most = most_rows(self.head.gps.len(), self.head.galileo.len());
+        is_later(self.epochs.as_slice(), time) && satellites > 0 && satellites <= most
+    }
+
+    // Takes the line of an epoch.
+    fn take_epoch(&mut self, line: &[u8], again: &mut Line) -> Result<(), Refusal>
+        requires { self.old.due ≡ Due.Epoch }
+        ensures taken { OnOk result ((v : FileValue) (left : List (List ℕ)) → GoesOn self.old v (line.now ∷ left) ↔ GoesOn self.new v left) }
+        ensures bad { result ≡ Err Refusal.Bad → (v : FileValue) (left : List (List ℕ)) → GoesOn self.old v (line.now ∷ left) → ⊥ }
+    {
+        let Some((time, satellites)) = read_epoch_line(line, again) else {
+            return Err(Refusal::Bad);
+        };
+        if !self.may_begin(time, satellites) {
+            return Err(Refusal::Bad);
+        }
+        self.time = time;
+        self.due = Due::Satellite(satellites);
+        Ok(())
+    }
+
+    // Takes the line of a satellite, where so many are left.
+    fn take_satellite(
+        &mut self,
+        left: usize,
+        line: &[u8],
+        again: &mut Line,
+    ) -> Result<(), Refusal>
+        requires due { self.old.due ≡ Due.Satellite left }
+        requires short { length line.now ≤ 1220 }
+        ensures taken { OnOk result ((v : FileValue) (left : List (List ℕ)) → GoesOn self.old v (line.now ∷ left) ↔ GoesOn self.new v left) }
+        ensures bad { result ≡ Err Refusal.Bad → (v : FileValue) (left : List (List ℕ)) → GoesOn self.old v (line.now ∷ left) → ⊥ }
+    {
+        let gps = self.head.gps.len();
+        let galileo = self.head.galileo.len();
+        let Some(seen) = read_seen(line, again, gps, galileo) else {
+            return Err(Refusal::Bad);
+        };
+        if !is_behind(self.rows.as_slice(), &seen) {
+            return Err(Refusal::Bad);
+        }
+        match self.rows.push(seen) {
+            Ok(()) => {}
+            Err(_) => return Err(Refusal::Memory),
+        }
+        if left > 1 {
+            self.due = Due::Satellite(left - 1);
+            return Ok(());
+        }
+        let rows = mem::replace(&mut self.rows, Vec::new(self.alloc));
+        let time = self.time;
+        match self.epochs.push(KeptEpoch { time, rows }) {
+            Ok(()) => {
+                self.due = Due::Epoch;
+                Ok(())
+            }
+            Err(_) => Err(Refusal::Memory),
+        }
     }
 
     /// What is due.

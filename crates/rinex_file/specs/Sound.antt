@@ -1,0 +1,33 @@
+-- What holds of all that was read of a file, wherever its reading stands.
+use Rattle.std.specs.Prelude.{◌≡◌, ℕ, ◌<◌, List, [], ◌∷◌, ◌++◌, length, map, All}
+use Rattle.std.specs.List.Sorted.{IsStrictlyIncreasing}
+use Rattle.rinex_file.specs.declared.due.Due.{Due}
+use Rattle.rinex_file.specs.declared.due.Due.TheVariants.{Header, Epoch, Satellite}
+use Rattle.rinex_file.specs.Value.{Seen, Stamped}
+use Rattle.rinex_file.specs.FileValues.{IsTime, IsStamped, AreSeen, time_of, rank_of}
+use Rattle.rinex_file.specs.Progress.{Progress, IsShown, StartsAt}
+
+abbrev pub AreStamped : Progress → List Stamped → Type 0
+AreStamped s es = All (IsStamped (length s.known.shown.plan.gps) (length s.known.shown.plan.galileo)) es
+
+-- the header and the epochs are those of a file
+pub record AreRead (s : Progress) : Type 0 where
+  pub shown : IsShown s.known.shown
+  pub epochs : AreStamped s s.epochs
+  pub rising : IsStrictlyIncreasing (map time_of s.epochs)
+  pub starts : StartsAt s.known.shown.first s.epochs
+
+-- an epoch behind these was begun
+pub record IsBegun (s : Progress) : Type 0 where
+  pub time : IsTime s.time
+  pub later : IsStrictlyIncreasing (map time_of s.epochs ++ s.time ∷ [])
+  pub rows : AreSeen (length s.known.shown.plan.gps) (length s.known.shown.plan.galileo) s.rows
+  pub first : s.epochs ≡ [] → s.known.shown.first ≡ s.time
+
+abbrev pub IsSoundAt : Progress → Due → Type 0
+IsSoundAt s (Header section row) = (s.epochs ≡ []) × (s.rows ≡ [])
+IsSoundAt s Epoch = AreRead s × (s.rows ≡ [])
+IsSoundAt s (Satellite n) = AreRead s × IsBegun s × (0 < n)
+
+abbrev pub IsSound : Progress → Type 0
+IsSound s = IsSoundAt s s.due
