@@ -1,5 +1,5 @@
 -- Which values are those of a file: what its lines have room for, in the order in which they stand.
-use Rattle.std.specs.Prelude.{◌≡◌, ℕ, ℤ, pos, neg_ℤ, ◌+◌, ◌*◌, ◌^◌, ◌<◌, ◌≤◌, ◌≤ℤ◌, ◌||◌, Bool, true, List, length, All, Any, map, Option, None, is_some, nat_eq, IfSome, IsTrue}
+use Rattle.std.specs.Prelude.{◌≡◌, ℕ, ℤ, pos, neg_ℤ, ◌+◌, ◌*◌, ◌^◌, ◌<◌, ◌≤◌, ◌≤ℤ◌, ◌||◌, Bool, true, if◌then◌else◌, nat_lt, List, length, All, Any, map, Option, None, is_some, nat_eq, IfSome, IsTrue}
 use Rattle.std.specs.List.{IsDistinct, list_all}
 use Rattle.std.specs.List.Sorted.{IsStrictlyIncreasing}
 use Rattle.gnss_obs.specs.declared.system.System.{System}
@@ -92,6 +92,10 @@ pub record IsSeen (gps galileo : ℕ) (s : Seen) : Type 0 where
 pub record AreSeen (gps galileo : ℕ) (rows : List Seen) : Type 0 where
   pub each : All (IsSeen gps galileo) rows
   pub rise : IsStrictlyIncreasing (map rank_of rows)
+
+-- the satellites that the planned systems have, where so many signals of each are planned
+abbrev pub most_rows : ℕ → ℕ → ℕ
+most_rows gps galileo = (if nat_lt 0 gps then satellites Gps else 0) + (if nat_lt 0 galileo then satellites Galileo else 0)
 
 -- an epoch of at least one satellite, with the station values of those before
 pub record IsStamped (gps galileo : ℕ) (e : Stamped) : Type 0 where
