@@ -12,3 +12,4 @@ mod FileText
 mod Examples
 mod Judged
 mod Rises
+mod FewRows

@@ -1,0 +1,113 @@
+-- A plan has no more signals than the tables, and an epoch no more satellites than the planned systems.
+use Rattle.std.proofs.Common.{arith, ◌≡◌, sym, ap, ◌∙◌, refl, subst, ℕ, suc, zero, ◌+◌, ◌-◌, ◌<◌, ◌≤◌, Bool, true, false, eqb, List, [], ◌∷◌, length}
+use Rattle.std.specs.Prelude.{◌||◌, if◌then◌else◌, All, map, nat_lt, slice_index}
+use Rattle.std.specs.List.{IsDistinct, list_any}
+use Rattle.std.specs.List.Sorted.{IsStrictlyIncreasing}
+use Rattle.std.proofs.lemmas.Bool.{eqb-true}
+use Rattle.std.proofs.lemmas.List.Elements.{All-head, All-tail}
+use Rattle.std.proofs.lemmas.Map.Steps.{length-le_from_distinct_below}
+use Rattle.gnss_obs.specs.Signals.{table}
+use Rattle.gnss_obs.specs.declared.system.System.{System}
+use Rattle.gnss_obs.specs.declared.system.System.TheVariants.{Gps, Galileo}
+use Rattle.obs_epoch.specs.Values.{PlanValue, planned_of}
+use Rattle.gnss_obs.specs.Satellites.{satellites}
+use Rattle.rinex_file.specs.Value.{Seen}
+use Rattle.rinex_file.specs.FileValues.{IsPlan, IsSeen, AreSeen, IsRow, of_system, rank_of, most_rows}
+
+-- ---- signals
+
+one_below : (q x n : ℕ) (others : Bool) → x < n → (others ≡ true → q < n) → ((eqb q x) || others) ≡ true → q < n
+one_below q x n others less more h =
+    elim (eqb q x) as (λ t. eqb q x ≡ t → (t || others) ≡ true → q < n) [
+      | true ↦ λ is k. let same = eqb-true q x is in omega (arith, same, less)
+      | false ↦ λ isnt k. more k
+    ] refl h
+
+each_below : (n : ℕ) (xs : List ℕ) → All (λ i. i < n) xs → (q : ℕ) → list_any (eqb q) xs ≡ true → q < n
+each_below n [] below q h = cc
+each_below n (x ∷ xs) below q h =
+    one_below q x n (list_any (eqb q) xs) (All-head (λ i. i < n) x xs below) (each_below n xs (All-tail (λ i. i < n) x xs below) q) h
+
+pub few_planned : (p : PlanValue) → IsPlan p → (system : System) → length (planned_of system p) ≤ length (table system)
+few_planned p is system =
+    length-le_from_distinct_below (planned_of system p) (length (table system)) (is.apart system) (each_below (length (table system)) (planned_of system p) (is.listed system))
+
+pub signals_few : (p : PlanValue) → IsPlan p → (length p.gps ≤ length (table Gps)) × (length p.galileo ≤ length (table Galileo))
+signals_few p is = (few_planned p is Gps, few_planned p is Galileo)
+
+-- ---- satellites
+
+-- the ranks from k on that the planned systems have
+room : Bool → Bool → ℕ → ℕ
+room true true k = (33 - k) + (36 - (k - 101))
+room true false k = 33 - k
+room false true k = 36 - (k - 101)
+room false false k = 0
+
+after_gps : (galileo : Bool) (k r n : ℕ) → k ≤ r → r ≤ 32 → n ≤ room true galileo (r + 1) → suc n ≤ room true galileo k
+unfolding room
+after_gps true k r n low high h = omega (arith, low, high, h)
+after_gps false k r n low high h = omega (arith, low, high, h)
+
+after_galileo : (gps : Bool) (k r n : ℕ) → k ≤ 100 + r → 1 ≤ r → r ≤ 36 → n ≤ room gps true ((100 + r) + 1) → suc n ≤ room gps true k
+unfolding room
+after_galileo true k r n low some high h = omega (arith, low, some, high, h)
+after_galileo false k r n low some high h = omega (arith, low, some, high, h)
+
+is_planned : (n : ℕ) → 0 < n → nat_lt 0 n ≡ true
+is_planned n h = grind (arith, h)
+
+-- a satellite takes one of the ranks that are left
+one_less : (gps galileo k r n : ℕ) (system : System) → 0 < of_system system gps galileo → (1 ≤ r) × (r ≤ satellites system) → k ≤ of_system system r (100 + r)
+    → n ≤ room (nat_lt 0 gps) (nat_lt 0 galileo) (of_system system r (100 + r) + 1) → suc n ≤ room (nat_lt 0 gps) (nat_lt 0 galileo) k
+one_less gps galileo k r n Gps planned number low h =
+    let is = is_planned gps planned in
+    let left : n ≤ room true (nat_lt 0 galileo) (r + 1) = subst (λ b. n ≤ room b (nat_lt 0 galileo) (r + 1)) is h in
+    subst (λ b. suc n ≤ room b (nat_lt 0 galileo) k) (sym is) (after_gps (nat_lt 0 galileo) k r n low number.1 left)
+one_less gps galileo k r n Galileo planned number low h =
+    let is = is_planned galileo planned in
+    let left : n ≤ room (nat_lt 0 gps) true ((100 + r) + 1) = subst (λ b. n ≤ room (nat_lt 0 gps) b ((100 + r) + 1)) is h in
+    subst (λ b. suc n ≤ room (nat_lt 0 gps) b k) (sym is) (after_galileo (nat_lt 0 gps) k r n low number.0 number.1 left)
+
+-- the first is not below k
+FromFirst : ℕ → List ℕ → Type 0
+FromFirst k xs = 0 < length xs → k ≤ slice_index xs 0
+
+rise-tail : (x : ℕ) (xs : List ℕ) → IsStrictlyIncreasing (x ∷ xs) → IsStrictlyIncreasing xs
+rise-tail x xs rise k h =
+    let next : suc k + 1 ≡ suc (k + 1) = omega arith in
+    subst (λ (n : ℕ). slice_index xs k < slice_index (x ∷ xs) n) next (rise (suc k) (omega (arith, h)))
+
+next_first : (x : ℕ) (xs : List ℕ) → IsStrictlyIncreasing (x ∷ xs) → FromFirst (x + 1) xs
+unfolding FromFirst
+next_first x xs rise h = let less : x < slice_index xs 0 = rise 0 (omega (arith, h)) in omega (arith, less)
+
+few_from : (gps galileo k : ℕ) (rows : List Seen) → All (IsSeen gps galileo) rows → IsStrictlyIncreasing (map rank_of rows) → FromFirst k (map rank_of rows)
+    → length rows ≤ room (nat_lt 0 gps) (nat_lt 0 galileo) k
+unfolding FromFirst
+few_from gps galileo k [] each rise low = omega arith
+few_from gps galileo k (s ∷ rows) each rise low =
+    let is = All-head (IsSeen gps galileo) s rows each in
+    let others = few_from gps galileo (rank_of s + 1) rows (All-tail (IsSeen gps galileo) s rows each) (rise-tail (rank_of s) (map rank_of rows) rise)
+        (next_first (rank_of s) (map rank_of rows) rise) in
+    one_less gps galileo k s.row.satellite (length rows) s.system is.planned is.row.satellite (low (omega arith)) others
+
+from_one : (gps galileo : Bool) → room gps galileo 1 ≡ (if gps then 32 else 0) + (if galileo then 36 else 0)
+unfolding room
+from_one true true = refl
+from_one true false = refl
+from_one false true = refl
+from_one false false = refl
+
+low_first : (gps galileo : ℕ) (rows : List Seen) → All (IsSeen gps galileo) rows → FromFirst 1 (map rank_of rows)
+unfolding FromFirst
+low_first gps galileo [] each h = absurd (omega (arith, h))
+low_first gps galileo (s ∷ rows) each h = some s.system s.row.satellite (All-head (IsSeen gps galileo) s rows each).row.satellite.0 where
+  some : (system : System) (r : ℕ) → 1 ≤ r → 1 ≤ of_system system r (100 + r)
+  some Gps r h = h
+  some Galileo r h = omega arith
+
+pub few_rows : (gps galileo : ℕ) (rows : List Seen) → AreSeen gps galileo rows → length rows ≤ most_rows gps galileo
+few_rows gps galileo rows are =
+    let few = few_from gps galileo 1 rows are.each are.rise (low_first gps galileo rows are.each) in
+    subst (λ n. length rows ≤ n) (from_one (nat_lt 0 gps) (nat_lt 0 galileo)) few
