@@ -12,4 +12,5 @@ mod FileText
 mod Examples
 mod Judged
 mod Rises
+mod BodySteps
 mod FewRows

@@ -71,10 +71,10 @@ is_less a y h = grind (arith, h)
 less_is : (a y : ℕ) → a < y → IsTrue (nat_lt a y)
 less_is a y h = grind (arith, h)
 
-pub rise_iff : {X : Type 0} (f : X → ℕ) (xs : List X) (x : X) (a y : ℕ) → IsStrictlyIncreasing (map f xs) → slice_get xs (length xs - 1) ≡ Some x → a ≡ f x
-    → IsTrue (nat_lt a y) ↔ IsStrictlyIncreasing (map f xs ++ y ∷ [])
-rise_iff f xs x a y rise last e =
+pub rise_iff : {X : Type 0} (f : X → ℕ) (xs : List X) (x : X) (a b y : ℕ) → IsStrictlyIncreasing (map f xs) → slice_get xs (length xs - 1) ≡ Some x → a ≡ f x → b ≡ y
+    → IsTrue (nat_lt a b) ↔ IsStrictlyIncreasing (map f xs ++ y ∷ [])
+rise_iff f xs x a b y rise last e same =
     let (front, shape) = last_split xs x last in
     let text : map f xs ≡ map f front ++ a ∷ [] = ap (map f) shape ∙ map-append f front (x ∷ []) ∙ ap (λ b. map f front ++ b ∷ []) (sym e) in
-    (λ h. subst (λ t. IsStrictlyIncreasing (t ++ y ∷ [])) (sym text) (rise_more (map f front) a y (subst IsStrictlyIncreasing text rise) (is_less a y h)),
-    λ r. less_is a y (rise_last (map f front) [] a y (subst (λ t. IsStrictlyIncreasing (t ++ y ∷ [])) text r)))
+    (λ h. subst (λ t. IsStrictlyIncreasing (t ++ y ∷ [])) (sym text) (rise_more (map f front) a y (subst IsStrictlyIncreasing text rise) (is_less a y (subst (λ n. IsTrue (nat_lt a n)) same h))),
+    λ r. subst (λ n. IsTrue (nat_lt a n)) (sym same) (less_is a y (rise_last (map f front) [] a y (subst (λ t. IsStrictlyIncreasing (t ++ y ∷ [])) text r))))

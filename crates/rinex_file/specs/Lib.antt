@@ -11,3 +11,4 @@ pub mod FileValues
 pub mod Exact
 pub mod Progress
 pub mod Sound
+pub mod ProgressOf

@@ -8,7 +8,7 @@ use crate::due::Refusal;
 use crate::numbers::Line;
 use crate::section::Section;
 use crate::texts::HeaderTexts;
-use gnss_obs::Signal;
+use gnss_obs::{Signal, System};
 use obs_epoch::{GpsTime, Plan, StationValues};
 use std::alloc::Global;
 use std::marker::Model;
@@ -73,5 +73,27 @@ impl HeadSoFar {
         ensures bad { result ≡ Err Refusal.Bad → (h : Shown) (left : List (List ℕ)) → IsHeaderLeft self.old section row h (line.now ∷ left) → ⊥ }
     {
         Err(Refusal::Memory)
+    }
+}
+
+impl HeadSoFar {
+    ghost use Rattle.std.specs.Prelude.{length};
+    ghost use Rattle.obs_epoch.specs.Values.{planned_of};
+
+    /// How many signals of a system were read.
+    pub(crate) fn planned(&self, system: System) -> usize
+        ensures { result ≡ length (planned_of system self.now.shown.plan) }
+    {
+        match system {
+            System::Gps => self.gps.len(),
+            System::Galileo => self.galileo.len(),
+        }
+    }
+
+    /// The time of the first epoch, as it was read.
+    pub(crate) fn first(&self) -> GpsTime
+        ensures { result ≡ self.now.shown.first }
+    {
+        self.first
     }
 }

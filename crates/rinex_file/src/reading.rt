@@ -5,6 +5,8 @@ ghost use Rattle.rinex_file.specs.Value.{FileValue};
 ghost use Rattle.rinex_file.specs.FileValues.{IsFileValue, rank_of, time_of, most_rows};
 ghost use Rattle.rinex_file.specs.File.{file_lines};
 ghost use Rattle.rinex_file.specs.Progress.{GoesOn};
+ghost use Rattle.rinex_file.specs.ProgressOf.{progress_of};
+ghost use Rattle.rinex_file.specs.Sound.{IsSound};
 
 use crate::due::{Due, Refusal};
 use crate::head_so_far::HeadSoFar;
@@ -17,7 +19,6 @@ use crate::section::Section;
 use gnss_obs::System;
 use obs_epoch::{GpsTime, Plan};
 use std::alloc::Global;
-use std::marker::Model;
 use std::mem;
 
 /// What was read of a file.
@@ -29,17 +30,6 @@ pub(crate) struct Reading {
     time: GpsTime,
     rows: Vec<KeptSeen>,
     alloc: Global,
-}
-
-impl Model for Reading {
-    ghost use Rattle.rinex_file.specs.Progress.{Progress};
-    ghost use Rattle.rinex_file.specs.Sound.{IsSound};
-
-    ghost Value = { Progress };
-
-    ghost view = { λ r. record { due = r.due; known = r.head; epochs = r.epochs.items; time = r.time; rows = r.rows.items } };
-
-    ghost invariant = { λ r. ∥ IsSound (record { due = r.due; known = r.head; epochs = r.epochs.items; time = r.time; rows = r.rows.items }) ∥₁ };
 }
 
 // A satellite's place among all: those of GPS come first.
@@ -83,13 +73,27 @@ fn most_rows(gps: usize, galileo: usize) -> usize
     of_gps + of_galileo
 }
 
+// Whether an epoch at a time may stand behind these, which rise, in a file that begins at this first time.
+fn may_begin(epochs: &[KeptEpoch], first: GpsTime, time: GpsTime) -> bool
+    requires { IsStrictlyIncreasing (map time_of epochs.now) }
+    ensures later { IsTrue result → IsStrictlyIncreasing (map time_of epochs.now ++ time ∷ []) }
+    ensures first { IsTrue result → epochs.now ≡ [] → first ≡ time }
+    ensures accepts { IsStrictlyIncreasing (map time_of epochs.now ++ time ∷ []) → (epochs.now ≡ [] → first ≡ time) → IsTrue result }
+{
+    if epochs.is_empty() {
+        return first.milliseconds() == time.milliseconds();
+    }
+    is_later(epochs, time)
+}
+
 impl Reading {
     /// Nothing was read.
     pub(crate) fn new(alloc: Global) -> Reading
-        ensures { (v : FileValue) (left : List (List ℕ)) → GoesOn result v left ↔ (IsFileValue v × (left ≡ file_lines v)) }
+        ensures sound { IsSound (progress_of result) }
+        ensures starts { (v : FileValue) (left : List (List ℕ)) → GoesOn (progress_of result) v left ↔ (IsFileValue v × (left ≡ file_lines v)) }
     {
         let head = HeadSoFar::new(alloc);
-        let time = head.first;
+        let time = head.first();
         Reading {
             due: Due::Header(Section::Version, 0),
             head,
@@ -102,9 +106,11 @@ impl Reading {
 
     /// Takes the next line; the second buffer is for what the line would be.
     pub(crate) fn take(&mut self, line: &[u8], again: &mut Line) -> Result<(), Refusal>
-        requires { length line.now ≤ 1220 }
-        ensures taken { OnOk result ((v : FileValue) (left : List (List ℕ)) → GoesOn self.old v (line.now ∷ left) ↔ GoesOn self.new v left) }
-        ensures bad { result ≡ Err Refusal.Bad → (v : FileValue) (left : List (List ℕ)) → GoesOn self.old v (line.now ∷ left) → ⊥ }
+        requires sound { IsSound (progress_of self.old) }
+        requires short { length line.now ≤ 1220 }
+        ensures sound { OnOk result (IsSound (progress_of self.new)) }
+        ensures taken { OnOk result ((v : FileValue) (left : List (List ℕ)) → GoesOn (progress_of self.old) v (line.now ∷ left) ↔ GoesOn (progress_of self.new) v left) }
+        ensures bad { result ≡ Err Refusal.Bad → (v : FileValue) (left : List (List ℕ)) → GoesOn (progress_of self.old) v (line.now ∷ left) → ⊥ }
     {
         match self.due {
             Due::Header(section, row) => self.take_header(section, row, line, again),
@@ -121,9 +127,11 @@ impl Reading {
         line: &[u8],
         again: &mut Line,
     ) -> Result<(), Refusal>
-        requires { self.old.due ≡ Due.Header section row }
-        ensures taken { OnOk result ((v : FileValue) (left : List (List ℕ)) → GoesOn self.old v (line.now ∷ left) ↔ GoesOn self.new v left) }
-        ensures bad { result ≡ Err Refusal.Bad → (v : FileValue) (left : List (List ℕ)) → GoesOn self.old v (line.now ∷ left) → ⊥ }
+        requires sound { IsSound (progress_of self.old) }
+        requires due { self.old.due ≡ Due.Header section row }
+        ensures sound { OnOk result (IsSound (progress_of self.new)) }
+        ensures taken { OnOk result ((v : FileValue) (left : List (List ℕ)) → GoesOn (progress_of self.old) v (line.now ∷ left) ↔ GoesOn (progress_of self.new) v left) }
+        ensures bad { result ≡ Err Refusal.Bad → (v : FileValue) (left : List (List ℕ)) → GoesOn (progress_of self.old) v (line.now ∷ left) → ⊥ }
     {
         match self.head.take(section, row, line, again) {
             Err(refusal) => Err(refusal),
@@ -138,26 +146,22 @@ impl Reading {
         }
     }
 
-    // Whether an epoch of so many satellites may follow at a time.
-    fn may_begin(&self, time: GpsTime, satellites: usize) -> bool {
-        let first = self.epochs.is_empty();
-        if first && time.milliseconds() != self.head.first.milliseconds() {
-            return false;
-        }
-        let most = most_rows(self.head.gps.len(), self.head.galileo.len());
-        is_later(self.epochs.as_slice(), time) && satellites > 0 && satellites <= most
-    }
-
     // Takes the line of an epoch.
     fn take_epoch(&mut self, line: &[u8], again: &mut Line) -> Result<(), Refusal>
-        requires { self.old.due ≡ Due.Epoch }
-        ensures taken { OnOk result ((v : FileValue) (left : List (List ℕ)) → GoesOn self.old v (line.now ∷ left) ↔ GoesOn self.new v left) }
-        ensures bad { result ≡ Err Refusal.Bad → (v : FileValue) (left : List (List ℕ)) → GoesOn self.old v (line.now ∷ left) → ⊥ }
+        requires sound { IsSound (progress_of self.old) }
+        requires due { self.old.due ≡ Due.Epoch }
+        ensures sound { OnOk result (IsSound (progress_of self.new)) }
+        ensures taken { OnOk result ((v : FileValue) (left : List (List ℕ)) → GoesOn (progress_of self.old) v (line.now ∷ left) ↔ GoesOn (progress_of self.new) v left) }
+        ensures bad { result ≡ Err Refusal.Bad → (v : FileValue) (left : List (List ℕ)) → GoesOn (progress_of self.old) v (line.now ∷ left) → ⊥ }
     {
         let Some((time, satellites)) = read_epoch_line(line, again) else {
             return Err(Refusal::Bad);
         };
-        if !self.may_begin(time, satellites) {
+        if !may_begin(self.epochs.as_slice(), self.head.first(), time) {
+            return Err(Refusal::Bad);
+        }
+        let most = most_rows(self.head.planned(System::Gps), self.head.planned(System::Galileo));
+        if satellites == 0 || satellites > most {
             return Err(Refusal::Bad);
         }
         self.time = time;
@@ -172,13 +176,15 @@ impl Reading {
         line: &[u8],
         again: &mut Line,
     ) -> Result<(), Refusal>
+        requires sound { IsSound (progress_of self.old) }
         requires due { self.old.due ≡ Due.Satellite left }
         requires short { length line.now ≤ 1220 }
-        ensures taken { OnOk result ((v : FileValue) (left : List (List ℕ)) → GoesOn self.old v (line.now ∷ left) ↔ GoesOn self.new v left) }
-        ensures bad { result ≡ Err Refusal.Bad → (v : FileValue) (left : List (List ℕ)) → GoesOn self.old v (line.now ∷ left) → ⊥ }
+        ensures sound { OnOk result (IsSound (progress_of self.new)) }
+        ensures taken { OnOk result ((v : FileValue) (left : List (List ℕ)) → GoesOn (progress_of self.old) v (line.now ∷ left) ↔ GoesOn (progress_of self.new) v left) }
+        ensures bad { result ≡ Err Refusal.Bad → (v : FileValue) (left : List (List ℕ)) → GoesOn (progress_of self.old) v (line.now ∷ left) → ⊥ }
     {
-        let gps = self.head.gps.len();
-        let galileo = self.head.galileo.len();
+        let gps = self.head.planned(System::Gps);
+        let galileo = self.head.planned(System::Galileo);
         let Some(seen) = read_seen(line, again, gps, galileo) else {
             return Err(Refusal::Bad);
         };
@@ -213,8 +219,9 @@ impl Reading {
 
     /// The file, or None where lines are missing.
     pub(crate) fn finish(self) -> Option<ObsFile>
-        ensures some { IfSome result (λ f. GoesOn self f [] × ((v : FileValue) → GoesOn self v [] → v ≡ f)) }
-        ensures none { IfNone result ((v : FileValue) → GoesOn self v [] → ⊥) }
+        requires sound { IsSound (progress_of self) }
+        ensures some { IfSome result (λ f. GoesOn (progress_of self) f [] × ((v : FileValue) → GoesOn (progress_of self) v [] → v ≡ f)) }
+        ensures none { IfNone result ((v : FileValue) → GoesOn (progress_of self) v [] → ⊥) }
     {
         None
     }
