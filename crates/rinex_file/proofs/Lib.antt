@@ -13,4 +13,5 @@ mod Examples
 mod Judged
 mod FewRows
 mod PlainTexts
+mod PlainHeader
 mod FileLines
