@@ -89,7 +89,7 @@ few_from gps galileo k [] each rise low = omega arith
 few_from gps galileo k (s ∷ rows) each rise low =
     let is = All-head (IsSeen gps galileo) s rows each in
     let others = few_from gps galileo (rank_of s + 1) rows (All-tail (IsSeen gps galileo) s rows each) (rise-tail (rank_of s) (map rank_of rows) rise)
-        (next_first (rank_of s) (map rank_of rows) rise) in
+    (next_first (rank_of s) (map rank_of rows) rise) in
     one_less gps galileo k s.row.satellite (length rows) s.system is.planned is.row.satellite (low (omega arith)) others
 
 from_one : (gps galileo : Bool) → room gps galileo 1 ≡ (if gps then 32 else 0) + (if galileo then 36 else 0)

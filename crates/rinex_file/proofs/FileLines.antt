@@ -42,10 +42,40 @@ unfolding epoch_line
 line_of_epoch t n is few =
     line_of_fields
     (codes "> " ∷ right 4 (decimal t.year) ∷ codes " " ∷ padded 2 t.month ∷ codes " " ∷ padded 2 t.day ∷ codes " " ∷ padded 2 t.hour ∷ codes " " ∷ padded 2 t.minute
-    ∷ right 11 (fixed 7 (pos (t.millisecond * 10_000))) ∷ codes "  0" ∷ right 3 (decimal n) ∷ [])
-    (fixed_text (codes "> ") refl (lit≤ tt), (whole_field 4 t.year (lit≤ tt) (wide is.year), (blank, (digits t.month is.month, (blank, (digits t.day is.day,
-    (blank, (digits t.hour is.hour, (blank, (digits t.minute is.minute, (second_field 11 t.millisecond (lit≤ tt) is.millisecond,
-    (fixed_text (codes "  0") refl (lit≤ tt), (whole_field 3 n (lit≤ tt) few, tt))))))))))))) (lit≤ tt) where
+    ∷ right 11 (fixed 7 (pos (t.millisecond * 10_000))) ∷ codes "  0" ∷ right 3 (decimal n) ∷ []) (
+      fixed_text (codes "> ") refl (lit≤ tt),
+      (
+        whole_field 4 t.year (lit≤ tt) (wide is.year),
+        (
+          blank,
+          (
+            digits t.month is.month,
+            (
+              blank,
+              (
+                digits t.day is.day,
+                (
+                  blank,
+                  (
+                    digits t.hour is.hour,
+                    (
+                      blank,
+                      (
+                        digits t.minute is.minute,
+                        (
+                          second_field 11 t.millisecond (lit≤ tt) is.millisecond,
+                          (fixed_text (codes "  0") refl (lit≤ tt), (whole_field 3 n (lit≤ tt) few, tt)),
+                        ),
+                      ),
+                    ),
+                  ),
+                ),
+              ),
+            ),
+          ),
+        ),
+      ),
+    ) (lit≤ tt) where
       wide : {m : ℕ} → m < 2 ^ 32 → m < 2 ^ 64
       wide h = omega (arith, h)
 
@@ -155,7 +185,7 @@ line_of_row letter signals most r is other few less =
     let small : r.satellite < 100 = omega (arith, number, few) in
     let columns = plain-append 2 (64 * length r.entries) (padded 2 r.satellite) (flat_map entry_text r.entries) (plain_number r.satellite small) (plain_entries r.entries is.entries) in
     let all = plain-append 1 (2 + 64 * length r.entries) (letter ∷ []) (padded 2 r.satellite ++ flat_map entry_text r.entries)
-        (record { clean = ap (λ c. c || false) other; short = lit≤ tt }) columns in
+    (record { clean = ap (λ c. c || false) other; short = lit≤ tt }) columns in
     as_line (1 + (2 + 64 * length r.entries)) (trimmed (row_text letter r)) (plain_trimmed (1 + (2 + 64 * length r.entries)) (row_text letter r) all) (omega (arith, count, less))
 
 line_of_seen : (gps galileo : ℕ) (s : Seen) → IsSeen gps galileo s → gps ≤ 19 → galileo ≤ 19 → IsFileLine (seen_line s)

@@ -264,9 +264,22 @@ line_of_first t is =
     header_fields
     (right 6 (decimal t.year) ∷ right 6 (decimal t.month) ∷ right 6 (decimal t.day) ∷ right 6 (decimal t.hour) ∷ right 6 (decimal t.minute)
     ∷ right 13 (fixed 7 (pos (t.millisecond * 10_000))) ∷ codes "     GPS" ∷ [])
-    (codes "TIME OF FIRST OBS")
-    (whole t.year is.year, (whole t.month is.month, (whole t.day is.day, (whole t.hour is.hour, (whole t.minute is.minute,
-    (second_field 13 t.millisecond (lit≤ tt) is.millisecond, (record { clean = refl; short = lit≤ tt }, tt)))))))
+    (codes "TIME OF FIRST OBS") (
+      whole t.year is.year,
+      (
+        whole t.month is.month,
+        (
+          whole t.day is.day,
+          (
+            whole t.hour is.hour,
+            (
+              whole t.minute is.minute,
+              (second_field 13 t.millisecond (lit≤ tt) is.millisecond, (record { clean = refl; short = lit≤ tt }, tt)),
+            ),
+          ),
+        ),
+      ),
+    )
     (lit≤ tt) (plain_label (codes "TIME OF FIRST OBS") refl (lit≤ tt)) where
       whole : (n : ℕ) → n < 2 ^ 32 → IsPlain 80 (right 6 (decimal n))
       whole n h = whole_field 6 n (lit≤ tt) (omega (arith, h))
@@ -285,9 +298,10 @@ system_byte p = byte (length p.gps == 0) (length p.galileo == 0) where
 
 version : (p : PlanValue) → IsFileLine (version_line p)
 version p =
-    header_fields (right 9 (fixed 2 (pos 305)) ∷ replicate 11 32 ∷ left 20 (codes "OBSERVATION DATA") ∷ (file_system p ∷ []) ∷ []) (codes "RINEX VERSION / TYPE")
-    (of_80 (9 + 44) (right 9 (fixed 2 (pos 305))) (plain-right 9 44 (fixed 2 (pos 305)) (plain-fixed 2 (pos 305) (lit< tt))) (lit≤ tt),
-    (record { clean = refl; short = lit≤ tt }, (record { clean = refl; short = lit≤ tt }, (system_byte p, tt))))
+    header_fields (right 9 (fixed 2 (pos 305)) ∷ replicate 11 32 ∷ left 20 (codes "OBSERVATION DATA") ∷ (file_system p ∷ []) ∷ []) (codes "RINEX VERSION / TYPE") (
+      of_80 (9 + 44) (right 9 (fixed 2 (pos 305))) (plain-right 9 44 (fixed 2 (pos 305)) (plain-fixed 2 (pos 305) (lit< tt))) (lit≤ tt),
+      (record { clean = refl; short = lit≤ tt }, (record { clean = refl; short = lit≤ tt }, (system_byte p, tt))),
+    )
     (lit≤ tt) (plain_label (codes "RINEX VERSION / TYPE") refl (lit≤ tt))
 
 pub few_signals_of : (p : PlanValue) → IsPlan p → (system : System) → length (planned_of system p) ≤ 19
