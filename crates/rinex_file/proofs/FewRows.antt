@@ -1,7 +1,7 @@
 -- A plan has no more signals than the tables, and an epoch no more satellites than the planned systems.
-use Rattle.std.proofs.Common.{arith, ◌≡◌, sym, ap, ◌∙◌, refl, subst, ℕ, suc, zero, ◌+◌, ◌-◌, ◌<◌, ◌≤◌, Bool, true, false, eqb, List, [], ◌∷◌, length}
+use Rattle.std.proofs.Common.{arith, ◌≡◌, sym, refl, subst, ℕ, suc, ◌+◌, ◌-◌, ◌<◌, ◌≤◌, Bool, true, false, eqb, List, [], ◌∷◌, length}
 use Rattle.std.specs.Prelude.{◌||◌, if◌then◌else◌, All, map, nat_lt, slice_index}
-use Rattle.std.specs.List.{IsDistinct, list_any}
+use Rattle.std.specs.List.{list_any}
 use Rattle.std.specs.List.Sorted.{IsStrictlyIncreasing}
 use Rattle.std.proofs.lemmas.Bool.{eqb-true}
 use Rattle.std.proofs.lemmas.List.Elements.{All-head, All-tail}
@@ -12,7 +12,7 @@ use Rattle.gnss_obs.specs.declared.system.System.TheVariants.{Gps, Galileo}
 use Rattle.obs_epoch.specs.Values.{PlanValue, planned_of}
 use Rattle.gnss_obs.specs.Satellites.{satellites}
 use Rattle.rinex_file.specs.Value.{Seen}
-use Rattle.rinex_file.specs.FileValues.{IsPlan, IsSeen, AreSeen, IsRow, of_system, rank_of, most_rows}
+use Rattle.rinex_file.specs.FileValues.{IsPlan, IsSeen, AreSeen, of_system, rank_of, most_rows}
 
 -- ---- signals
 
@@ -89,7 +89,7 @@ few_from gps galileo k [] each rise low = omega arith
 few_from gps galileo k (s ∷ rows) each rise low =
     let is = All-head (IsSeen gps galileo) s rows each in
     let others = few_from gps galileo (rank_of s + 1) rows (All-tail (IsSeen gps galileo) s rows each) (rise-tail (rank_of s) (map rank_of rows) rise)
-        (next_first (rank_of s) (map rank_of rows) rise) in
+    (next_first (rank_of s) (map rank_of rows) rise) in
     one_less gps galileo k s.row.satellite (length rows) s.system is.planned is.row.satellite (low (omega arith)) others
 
 from_one : (gps galileo : Bool) → room gps galileo 1 ≡ (if gps then 32 else 0) + (if galileo then 36 else 0)

@@ -14,3 +14,6 @@ mod Judged
 mod Rises
 mod BodySteps
 mod FewRows
+mod PlainTexts
+mod PlainHeader
+mod FileLines

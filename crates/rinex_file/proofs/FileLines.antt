@@ -1,0 +1,239 @@
+-- The lines of a file value are lines, and none is longer than what is read as one.
+use Rattle.std.proofs.Common.{arith, lit≤, ◌≡◌, ◌∙◌, ap, refl, sym, subst, ℕ, suc, ◌+◌, ◌*◌, ◌^◌, ◌<◌, ◌≤◌, ℤ, pos, negsuc, unsigned_abs, Bool, true, false, Option, Some, None, IfSome, List, [], ◌∷◌, ◌++◌, length, replicate, decimal, get_or, append_assoc}
+use Rattle.std.specs.Prelude.{◌==◌, ◌||◌, if◌then◌else◌, nat_lt, map, flat_map, All, codes}
+use Rattle.std.specs.Int.{is_negative}
+use Rattle.std.specs.Fmt.{sign_text}
+use Rattle.std.proofs.lemmas.Int.{ints}
+use Rattle.std.proofs.lemmas.List.Elements.{All-head, All-tail, All-cons, All-append, All-map}
+use Rattle.gnss_obs.specs.Satellites.{satellites}
+use Rattle.gnss_obs.specs.declared.system.System.{System}
+use Rattle.gnss_obs.specs.declared.system.System.TheVariants.{Gps, Galileo}
+use Rattle.obs_epoch.specs.declared.cell.StationValues.{StationValues}
+use Rattle.obs_epoch.specs.declared.civil.Civil.{Civil}
+use Rattle.obs_epoch.specs.Dates.{civil_of}
+use Rattle.obs_epoch.specs.Values.{PlanValue}
+use Rattle.rinex_file.specs.Blanks.{trimmed}
+use Rattle.rinex_file.specs.Exact.{IsLine}
+use Rattle.rinex_file.specs.File.{stamped_lines, change_lines, lines_of as lines_of_file, file_lines}
+use Rattle.rinex_file.specs.FileValues.{AreTexts, IsPlan, AreValues, FitsColumns, IsFrom, IsEntry, IsRow, IsSeen, IsStamped, IsFileValue, of_system, most_rows}
+use Rattle.rinex_file.specs.Header.{header_lines}
+use Rattle.rinex_file.specs.Lines.{epoch_line, field, mark_byte, strength_byte, entry_text, letter_of, row_text, seen_line}
+use Rattle.rinex_file.specs.Numbers.{joined, right, padded, fixed}
+use Rattle.rinex_file.specs.Reading.{has}
+use Rattle.rinex_file.specs.Texts.{HeaderLists}
+use Rattle.rinex_file.specs.Value.{Entry, Row, Seen, Stamped, FileValue}
+use Rattle.rinex_file.proofs.Cuts.{filled, length-trimmed}
+use Rattle.rinex_file.proofs.Digits.{has-append, length-right, length-fixed, length-padded, not_negative}
+use Rattle.rinex_file.proofs.FewRows.{few_rows}
+use Rattle.rinex_file.proofs.PlainTexts.{Clean, clean-fixed, clean-right, clean-padded, IsPlain, plain-wider, plain-append, plain-padded, ArePlain, plain-joined}
+use Rattle.rinex_file.proofs.PlainHeader.{IsFileLine, as_line, of_80, whole_field, second_field, no_letter, few_signals_of, IsShort, short_time, lines_of_header}
+
+-- ---- epochs
+
+line_feed_last : (ts : List (List ℕ)) → joined ts ++ 10 ∷ [] ≡ joined (ts ++ (10 ∷ []) ∷ [])
+line_feed_last [] = refl
+line_feed_last (t ∷ ts) = append_assoc t (joined ts) (10 ∷ []) ∙ ap (λ l. t ++ l) (line_feed_last ts)
+
+line_of_fields : (ts : List (List ℕ)) → ArePlain 80 ts → length ts ≤ 15 → IsFileLine (joined (ts ++ (10 ∷ []) ∷ []))
+line_of_fields ts are few = subst IsFileLine (line_feed_last ts) (as_line (length ts * 80) (joined ts) (plain-joined 80 ts are) (omega (arith, few)))
+
+line_of_epoch : (t : Civil) (n : ℕ) → IsShort t → n < 2 ^ 64 → IsFileLine (epoch_line t n)
+unfolding epoch_line
+line_of_epoch t n is few =
+    line_of_fields
+    (codes "> " ∷ right 4 (decimal t.year) ∷ codes " " ∷ padded 2 t.month ∷ codes " " ∷ padded 2 t.day ∷ codes " " ∷ padded 2 t.hour ∷ codes " " ∷ padded 2 t.minute
+    ∷ right 11 (fixed 7 (pos (t.millisecond * 10_000))) ∷ codes "  0" ∷ right 3 (decimal n) ∷ []) (
+      fixed_text (codes "> ") refl (lit≤ tt),
+      (
+        whole_field 4 t.year (lit≤ tt) (wide is.year),
+        (
+          blank,
+          (
+            digits t.month is.month,
+            (
+              blank,
+              (
+                digits t.day is.day,
+                (
+                  blank,
+                  (
+                    digits t.hour is.hour,
+                    (
+                      blank,
+                      (
+                        digits t.minute is.minute,
+                        (
+                          second_field 11 t.millisecond (lit≤ tt) is.millisecond,
+                          (fixed_text (codes "  0") refl (lit≤ tt), (whole_field 3 n (lit≤ tt) few, tt)),
+                        ),
+                      ),
+                    ),
+                  ),
+                ),
+              ),
+            ),
+          ),
+        ),
+      ),
+    ) (lit≤ tt) where
+      wide : {m : ℕ} → m < 2 ^ 32 → m < 2 ^ 64
+      wide h = omega (arith, h)
+
+      fixed_text : (text : List ℕ) → Clean text → length text ≤ 80 → IsPlain 80 text
+      fixed_text text clean short = record { clean = clean; short = short }
+
+      blank : IsPlain 80 (codes " ")
+      blank = record { clean = refl; short = lit≤ tt }
+
+      digits : (m : ℕ) → m < 2 ^ 32 → IsPlain 80 (padded 2 m)
+      digits m h = of_80 22 (padded 2 m) (plain-padded 2 m (omega (arith, h))) (lit≤ tt)
+
+-- ---- satellites
+
+most : (n : ℕ) → FitsColumns (pos n) → n ≤ 9_999_999_999_999
+most n h = let high = h.1 in omega (arith, ints, high)
+
+least : (n : ℕ) → FitsColumns (negsuc n) → suc n ≤ 999_999_999_999
+least n h = let low = h.0 in omega (arith, ints, low)
+
+small_value : (v : ℤ) → FitsColumns v → unsigned_abs v < 2 ^ 64
+small_value (pos n) h = let bound = most n h in omega (arith, bound)
+small_value (negsuc n) h = let bound = least n h in omega (arith, bound)
+
+length_value : (v : ℤ) → FitsColumns v → length (fixed 3 v) ≤ 14
+length_value (pos n) h =
+    let bound = most n h in
+    let l = length-fixed 3 10 (pos n) (omega arith) (omega arith) (omega (arith, bound)) (omega (arith, bound)) in
+    let none : length (sign_text (is_negative (pos n))) ≡ 0 = ap (λ b. length (sign_text b)) (not_negative n) in
+    omega (arith, l, none)
+length_value (negsuc n) h =
+    let bound = least n h in
+    length-fixed 3 9 (negsuc n) (omega arith) (omega arith) (omega (arith, bound)) (omega (arith, bound))
+
+plain_value : (v : ℤ) → FitsColumns v → IsPlain 14 (right 14 (fixed 3 v))
+plain_value v h = record {
+  clean = clean-right 14 (fixed 3 v) (clean-fixed 3 v (small_value v h));
+  short = let width = length-right 14 (fixed 3 v) (length_value v h) in omega (arith, width);
+}
+
+two_columns : (a b : ℕ) → (a ≡ 10 → ⊥) → (b ≡ 10 → ⊥) → IsPlain 2 (a ∷ b ∷ [])
+two_columns a b h k = record { clean = two_clean a b h k; short = lit≤ tt } where
+  two_clean : (a b : ℕ) → (a ≡ 10 → ⊥) → (b ≡ 10 → ⊥) → Clean (a ∷ b ∷ [])
+  two_clean a b h k = grind arith
+
+plain_field : (v : Option ℤ) (lost strength : ℕ) → IfSome v FitsColumns → (lost ≡ 10 → ⊥) → (strength ≡ 10 → ⊥) → IsPlain 16 (field v lost strength)
+unfolding field
+plain_field None lost strength h a b = record { clean = refl; short = lit≤ tt }
+plain_field (Some v) lost strength h a b = plain-append 14 2 (right 14 (fixed 3 v)) (lost ∷ strength ∷ []) (plain_value v h) (two_columns lost strength a b)
+
+mark_other : (m : ℕ) → m < 4 → mark_byte m ≡ 10 → ⊥
+mark_other m h e = grind arith
+
+strength_other : (s : Option ℤ) → strength_byte s ≡ 10 → ⊥
+strength_other None e = absurd (omega (arith, e))
+strength_other (Some s) e = absurd (omega (arith, e))
+
+blank_other : ◌≡◌ {A = ℕ} 32 10 → ⊥
+blank_other e = absurd (omega (arith, e))
+
+strength_fits : (s : Option ℤ) → IfSome s (IsFrom (pos 1) (pos 99_999)) → IfSome s FitsColumns
+strength_fits None h = tt
+strength_fits (Some s) h = let low = h.0 in let high = h.1 in (omega (arith, ints, low), omega (arith, ints, high))
+
+plain_entry : (e : Entry) → IsEntry e → IsPlain 64 (entry_text e)
+unfolding entry_text
+plain_entry e h =
+    let c = field e.c 32 (strength_byte e.s) in
+    let l = field e.l (mark_byte e.mark) (strength_byte e.s) in
+    let d = field e.d 32 32 in
+    let s = field e.s 32 32 in
+    plain-append 16 48 c (l ++ (d ++ s)) (plain_field e.c 32 (strength_byte e.s) h.c blank_other (strength_other e.s))
+    (plain-append 16 32 l (d ++ s) (plain_field e.l (mark_byte e.mark) (strength_byte e.s) h.l (mark_other e.mark h.mark) (strength_other e.s))
+    (plain-append 16 16 d s (plain_field e.d 32 32 h.d blank_other blank_other) (plain_field e.s 32 32 (strength_fits e.s h.s) blank_other blank_other)))
+
+plain_entries : (es : List Entry) → All IsEntry es → IsPlain (64 * length es) (flat_map entry_text es)
+plain_entries [] all = record { clean = refl; short = lit≤ tt }
+plain_entries (e ∷ es) all =
+    plain-wider (64 + 64 * length es) (64 * suc (length es)) (entry_text e ++ flat_map entry_text es) (omega arith)
+    (plain-append 64 (64 * length es) (entry_text e) (flat_map entry_text es) (plain_entry e (All-head IsEntry e es all)) (plain_entries es (All-tail IsEntry e es all)))
+
+or_false : (a b : Bool) → (a || b) ≡ false → a ≡ false
+or_false true b h = cc
+or_false false b h = refl
+
+plain_trimmed : (n : ℕ) (text : List ℕ) → IsPlain n text → IsPlain n (trimmed text)
+plain_trimmed n text is =
+    let f = filled text in
+    let all : (has 10 (trimmed text) || has 10 (replicate f.0 32)) ≡ false = sym (has-append 10 (trimmed text) (replicate f.0 32)) ∙ ap (has 10) f.1 ∙ is.clean in
+    let cut : length (trimmed text) ≤ length text = length-trimmed text in
+    let short : length text ≤ n = is.short in
+    record { clean = or_false (has 10 (trimmed text)) (has 10 (replicate f.0 32)) all; short = omega (arith, cut, short) }
+
+plain_number : (n : ℕ) → n < 100 → IsPlain 2 (padded 2 n)
+plain_number n h =
+    let width = length-padded 2 n (omega arith) (omega (arith, h)) (omega (arith, h)) in
+    record { clean = clean-padded 2 n (omega (arith, h)); short = omega (arith, width) }
+
+few_satellites : (system : System) → satellites system ≤ 36
+few_satellites Gps = lit≤ tt
+few_satellites Galileo = lit≤ tt
+
+line_of_row : (letter signals most : ℕ) (r : Row) → IsRow most signals r → (letter == 10) ≡ false → most ≤ 36 → signals ≤ 19 → IsFileLine (trimmed (row_text letter r) ++ 10 ∷ [])
+line_of_row letter signals most r is other few less =
+    let count = is.whole in
+    let number = is.satellite.1 in
+    let small : r.satellite < 100 = omega (arith, number, few) in
+    let columns = plain-append 2 (64 * length r.entries) (padded 2 r.satellite) (flat_map entry_text r.entries) (plain_number r.satellite small) (plain_entries r.entries is.entries) in
+    let all = plain-append 1 (2 + 64 * length r.entries) (letter ∷ []) (padded 2 r.satellite ++ flat_map entry_text r.entries)
+    (record { clean = ap (λ c. c || false) other; short = lit≤ tt }) columns in
+    as_line (1 + (2 + 64 * length r.entries)) (trimmed (row_text letter r)) (plain_trimmed (1 + (2 + 64 * length r.entries)) (row_text letter r) all) (omega (arith, count, less))
+
+line_of_seen : (gps galileo : ℕ) (s : Seen) → IsSeen gps galileo s → gps ≤ 19 → galileo ≤ 19 → IsFileLine (seen_line s)
+unfolding seen_line
+line_of_seen gps galileo s is few less =
+    line_of_row (letter_of s.system) (of_system s.system gps galileo) (satellites s.system) s.row is.row (no_letter s.system) (few_satellites s.system) (either_few s.system) where
+      either_few : (system : System) → of_system system gps galileo ≤ 19
+      either_few Gps = few
+      either_few Galileo = less
+
+-- ---- the whole
+
+at_most_68 : (gps galileo : ℕ) → most_rows gps galileo ≤ 68
+at_most_68 gps galileo = sums (nat_lt 0 gps) (nat_lt 0 galileo) where
+  sums : (a b : Bool) → (if a then 32 else 0) + (if b then 36 else 0) ≤ 68
+  sums true true = lit≤ tt
+  sums true false = lit≤ tt
+  sums false true = lit≤ tt
+  sums false false = lit≤ tt
+
+lines_of_stamped : (gps galileo : ℕ) (e : Stamped) → IsStamped gps galileo e → gps ≤ 19 → galileo ≤ 19 → All IsFileLine (stamped_lines e)
+lines_of_stamped gps galileo e is few less =
+    let rows = few_rows gps galileo e.rows is.rows in
+    let top = at_most_68 gps galileo in
+    let count : length e.rows < 2 ^ 64 = omega (arith, rows, top) in
+    subst (λ c. All IsFileLine (change_lines c ++ (epoch_line (civil_of e.time) (length e.rows) ∷ map seen_line e.rows))) (sym is.same)
+    (All-cons IsFileLine (epoch_line (civil_of e.time) (length e.rows)) (map seen_line e.rows) (line_of_epoch (civil_of e.time) (length e.rows) (short_time e.time is.time) count)
+    (All-map IsFileLine seen_line e.rows (λ k d h. line_of_seen gps galileo (get_or e.rows k d) (is.rows.each k d h) few less)))
+
+lines_of_epochs : (gps galileo : ℕ) (es : List Stamped) → All (IsStamped gps galileo) es → gps ≤ 19 → galileo ≤ 19 → All IsFileLine (flat_map stamped_lines es)
+lines_of_epochs gps galileo [] are few less = λ k d h. absurd (omega (arith, h))
+lines_of_epochs gps galileo (e ∷ es) are few less =
+    All-append IsFileLine (stamped_lines e) (flat_map stamped_lines es) (lines_of_stamped gps galileo e (All-head (IsStamped gps galileo) e es are) few less)
+    (lines_of_epochs gps galileo es (All-tail (IsStamped gps galileo) e es are) few less)
+
+file_lines_are : (x : HeaderLists) (p : PlanValue) (v : StationValues) (es : List Stamped) → AreTexts x → IsPlan p → AreValues v
+    → All (IsStamped (length p.gps) (length p.galileo)) es → All IsFileLine (lines_of_file x p v es)
+file_lines_are x p v [] texts plan values are = λ k d h. absurd (omega (arith, h))
+file_lines_are x p v (e ∷ es) texts plan values are =
+    let first = All-head (IsStamped (length p.gps) (length p.galileo)) e es are in
+    All-append IsFileLine (header_lines x p v (civil_of e.time)) (flat_map stamped_lines (e ∷ es)) (lines_of_header x p v (civil_of e.time) texts plan values (short_time e.time first.time))
+    (lines_of_epochs (length p.gps) (length p.galileo) (e ∷ es) are (few_signals_of p plan Gps) (few_signals_of p plan Galileo))
+
+all_are : (v : FileValue) → IsFileValue v → All IsFileLine (file_lines v)
+all_are v is = file_lines_are v.texts v.plan v.values v.epochs is.texts is.plan is.values is.epochs
+
+pub lines_are_lines : (v : FileValue) → IsFileValue v → All IsLine (file_lines v)
+lines_are_lines v is = λ k d h. (all_are v is k d h).line
+
+pub lines_are_short : (v : FileValue) → IsFileValue v → All (λ l. length l ≤ 1220) (file_lines v)
+lines_are_short v is = λ k d h. (all_are v is k d h).short

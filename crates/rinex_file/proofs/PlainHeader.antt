@@ -1,0 +1,339 @@
+-- The lines of a header are lines, and none is longer than what is read as one.
+use Rattle.std.proofs.Common.{arith, lit≤, lit<, ◌≡◌, ap, refl, subst, ℕ, zero, suc, ◌+◌, ◌-◌, ◌*◌, ◌/◌, ◌%◌, ◌^◌, ◌<◌, ◌≤◌, ℤ, pos, negsuc, unsigned_abs, Bool, true, false, List, [], ◌∷◌, ◌++◌, length, replicate, drop, decimal, get_or, append_assoc, length-append}
+use Rattle.std.specs.Prelude.{◌==◌, ◌||◌, ◌&&◌, not, if◌then◌else◌, nat_lt, nat_le, min, flat_map, All, codes, slice_get}
+use Rattle.std.specs.List.{list_all, range_with_len}
+use Rattle.std.specs.Option.{option_map_or}
+use Rattle.std.proofs.lemmas.Int.{ints}
+use Rattle.std.proofs.lemmas.List.Elements.{All-head, All-tail, All-cons, All-append, All-replicate, All-map, All-drop}
+use Rattle.gnss_obs.specs.Signals.{table, code_of}
+use Rattle.gnss_obs.specs.declared.tables.Entry.{Entry as TableEntry}
+use Rattle.gnss_obs.specs.declared.system.System.{System}
+use Rattle.gnss_obs.specs.declared.system.System.TheVariants.{Gps, Galileo}
+use Rattle.obs_epoch.specs.declared.cell.StationValues.{StationValues}
+use Rattle.obs_epoch.specs.declared.civil.Civil.{Civil}
+use Rattle.obs_epoch.specs.Dates.{YearMonthDay, month_on, year_on, month_length, year_length, date_of, civil_with, civil_of}
+use Rattle.obs_epoch.specs.Values.{PlanValue, planned_of}
+use Rattle.obs_epoch.specs.Weeks.{day as day_length}
+use Rattle.rinex_file.specs.declared.fault.HeaderField.TheVariants.{RunBy, Date, Marker, MarkerType, Observer, Agency, RecNumber, RecType, RecVersion, AntNumber, AntType}
+use Rattle.rinex_file.specs.declared.section.Section.{Section}
+use Rattle.rinex_file.specs.declared.section.Section.TheVariants.{Version, Program, Marker as MarkerSection, MarkerType as MarkerTypeSection, Observer as ObserverSection, Receiver, Antenna, Position, Delta, Types, StrengthUnit, First, Shift, End}
+use Rattle.rinex_file.specs.Exact.{IsLine}
+use Rattle.rinex_file.specs.FileValues.{AreTexts, IsPlan, AreValues, IsCoordinate, IsTime, IsFrom}
+use Rattle.rinex_file.specs.Header.{header_line, version_line, lengths, file_system, first_line, types_of, type_front, type_columns, type_line, type_rows, type_lines, shift_lines, codes_of, lines_of, all_sections, header_lines}
+use Rattle.rinex_file.specs.Lines.{letter_of}
+use Rattle.rinex_file.specs.Numbers.{joined, left, right, fixed}
+use Rattle.rinex_file.specs.Reading.{has}
+use Rattle.rinex_file.specs.Texts.{HeaderLists}
+use Rattle.rinex_file.proofs.Entries.{few_signals}
+use Rattle.rinex_file.proofs.FewRows.{few_planned}
+use Rattle.rinex_file.proofs.SignalTypes.{length-system_types}
+use Rattle.rinex_file.proofs.PlainTexts.{both, Clean, IsPlain, plain-wider, plain-append, plain-left, plain-right, plain-decimal, plain-fixed, ArePlain, plain-joined, plain-spaced, plain-text}
+
+-- ---- a line of a file
+
+pub record IsFileLine (l : List ℕ) : Type 0 where
+  pub line : IsLine l
+  pub short : length l ≤ 1220
+
+-- what a text without a line feed makes with one behind it
+pub as_line : (n : ℕ) (body : List ℕ) → IsPlain n body → n ≤ 1219 → IsFileLine (body ++ 10 ∷ [])
+as_line n body is few = record {
+  line = (body, refl, is.clean);
+  short = let short = is.short in simp length-append (omega (arith, few, short));
+}
+
+-- ---- lines of the header
+
+plain_label : (label : List ℕ) → Clean label → length label ≤ 20 → IsPlain 20 label
+plain_label label clean short = record { clean = clean; short = short }
+
+header : (n : ℕ) (content label : List ℕ) → IsPlain n content → IsPlain 20 label → n ≤ 600 → IsFileLine (header_line content label)
+unfolding header_line
+header n content label is also few =
+    subst IsFileLine (append_assoc (left 60 content) (left 20 label) (10 ∷ []))
+    (as_line ((n + 60) + 40) (left 60 content ++ left 20 label) (plain-append (n + 60) 40 (left 60 content) (left 20 label) (plain-left 60 n content is) (plain-left 20 20 label also)) (omega (arith, few)))
+
+-- fields of up to 80 bytes each
+header_fields : (parts : List (List ℕ)) (label : List ℕ) → ArePlain 80 parts → length parts ≤ 7 → IsPlain 20 label → IsFileLine (header_line (joined parts) label)
+header_fields parts label are few is = header (length parts * 80) (joined parts) label (plain-joined 80 parts are) is (omega (arith, few))
+
+pub of_80 : (n : ℕ) (text : List ℕ) → IsPlain n text → n ≤ 80 → IsPlain 80 text
+of_80 n text is h = plain-wider n 80 text h is
+
+left_20 : (text : List ℕ) → IsPlain 60 text → IsPlain 80 (left 20 text)
+left_20 text is = plain-left 20 60 text is
+
+-- ---- texts
+
+module _ (x : HeaderLists) (are : AreTexts x) where
+  run_by : IsPlain 60 x.run_by
+  run_by = plain-text 20 x.run_by (are RunBy) (lit≤ tt)
+
+  date : IsPlain 60 x.date
+  date = plain-text 20 x.date (are Date) (lit≤ tt)
+
+  marker : IsPlain 60 x.marker
+  marker = plain-text 60 x.marker (are Marker) (lit≤ tt)
+
+  marker_type : IsPlain 60 x.marker_type
+  marker_type = plain-text 20 x.marker_type (are MarkerType) (lit≤ tt)
+
+  observer : IsPlain 60 x.observer
+  observer = plain-text 20 x.observer (are Observer) (lit≤ tt)
+
+  agency : IsPlain 60 x.agency
+  agency = plain-text 40 x.agency (are Agency) (lit≤ tt)
+
+  rec_number : IsPlain 60 x.rec_number
+  rec_number = plain-text 20 x.rec_number (are RecNumber) (lit≤ tt)
+
+  rec_type : IsPlain 60 x.rec_type
+  rec_type = plain-text 20 x.rec_type (are RecType) (lit≤ tt)
+
+  rec_version : IsPlain 60 x.rec_version
+  rec_version = plain-text 20 x.rec_version (are RecVersion) (lit≤ tt)
+
+  ant_number : IsPlain 60 x.ant_number
+  ant_number = plain-text 20 x.ant_number (are AntNumber) (lit≤ tt)
+
+  ant_type : IsPlain 60 x.ant_type
+  ant_type = plain-text 20 x.ant_type (are AntType) (lit≤ tt)
+
+two_fields : (a b label : List ℕ) → IsPlain 60 a → IsPlain 60 b → IsPlain 20 label → IsFileLine (header_line (joined (left 20 a ∷ b ∷ [])) label)
+two_fields a b label p q is = header_fields (left 20 a ∷ b ∷ []) label (left_20 a p, (of_80 60 b q (lit≤ tt), tt)) (lit≤ tt) is
+
+three_fields : (a b c label : List ℕ) → IsPlain 60 a → IsPlain 60 b → IsPlain 60 c → IsPlain 20 label
+    → IsFileLine (header_line (joined (left 20 a ∷ left 20 b ∷ c ∷ [])) label)
+three_fields a b c label p q r is = header_fields (left 20 a ∷ left 20 b ∷ c ∷ []) label (left_20 a p, (left_20 b q, (of_80 60 c r (lit≤ tt), tt))) (lit≤ tt) is
+
+-- ---- numbers
+
+pub whole_field : (width n : ℕ) → width ≤ 60 → n < 2 ^ 64 → IsPlain 80 (right width (decimal n))
+whole_field width n few fits = of_80 (width + 20) (right width (decimal n)) (plain-right width 20 (decimal n) (plain-decimal n fits)) (omega (arith, few))
+
+length_field : (z : ℤ) → unsigned_abs z < 2 ^ 64 → IsPlain 80 (right 14 (fixed 4 z))
+length_field z fits = of_80 (14 + 46) (right 14 (fixed 4 z)) (plain-right 14 46 (fixed 4 z) (plain-fixed 4 z fits)) (lit≤ tt)
+
+small_number : (low high : ℕ) (z : ℤ) → IsFrom (negsuc low) (pos high) z → low < 2 ^ 60 → high < 2 ^ 60 → unsigned_abs z < 2 ^ 64
+small_number low high (pos n) h a b = let top = h.1 in let most : n ≤ high = omega (arith, ints, top) in omega (arith, most, b)
+small_number low high (negsuc n) h a b = let least = h.0 in let most : n ≤ low = omega (arith, ints, least) in omega (arith, most, a)
+
+three_lengths : (a b c : ℤ) (label : List ℕ) → unsigned_abs a < 2 ^ 64 → unsigned_abs b < 2 ^ 64 → unsigned_abs c < 2 ^ 64 → IsPlain 20 label
+    → IsFileLine (header_line (lengths a b c) label)
+three_lengths a b c label p q r is =
+    header_fields (right 14 (fixed 4 a) ∷ right 14 (fixed 4 b) ∷ right 14 (fixed 4 c) ∷ []) label (length_field a p, (length_field b q, (length_field c r, tt))) (lit≤ tt) is
+
+coordinate : (z : ℤ) → IsCoordinate z → unsigned_abs z < 2 ^ 64
+coordinate z is = small_number 137_438_953_471 137_438_953_471 z is (lit< tt) (lit< tt)
+
+-- ---- types
+
+plain_code : TableEntry → Bool
+plain_code e = not (has 10 e.1) && nat_le (length e.1) 2
+
+code_is_plain : (text : List ℕ) → (not (has 10 text) && nat_le (length text) 2) ≡ true → IsPlain 2 text
+code_is_plain text h = record { clean = is_not (has 10 text) (both (not (has 10 text)) (nat_le (length text) 2) h).0; short = most (length text) (both (not (has 10 text)) (nat_le (length text) 2) h).1 } where
+  is_not : (a : Bool) → not a ≡ true → a ≡ false
+  is_not true e = cc
+  is_not false e = refl
+
+  most : (n : ℕ) → nat_le n 2 ≡ true → n ≤ 2
+  most n e = grind (arith, e)
+
+code_at : (es : List TableEntry) → list_all plain_code es ≡ true → (i : ℕ) → IsPlain 2 (option_map_or (λ e. e.1) (slice_get es i) [])
+unfolding plain_code
+code_at [] h i = record { clean = refl; short = omega arith }
+code_at (e ∷ es) h zero = code_is_plain e.1 (both (plain_code e) (list_all plain_code es) h).0
+code_at (e ∷ es) h (suc i) = code_at es (both (plain_code e) (list_all plain_code es) h).1 i
+
+code_of_signal : (system : System) (i : ℕ) → IsPlain 2 (code_of (record { system = system; index = i }))
+unfolding plain_code
+code_of_signal Gps i = code_at (table Gps) refl i
+code_of_signal Galileo i = code_at (table Galileo) refl i
+
+codes_are_plain : (system : System) (signals : List ℕ) → All (IsPlain 2) (codes_of system signals)
+codes_are_plain system signals = All-map (IsPlain 2) (λ index. code_of (record { system = system; index = index })) signals (λ k d h. code_of_signal system (get_or signals k d))
+
+plain_type : (b : ℕ) (code : List ℕ) → IsPlain 2 code → (b == 10) ≡ false → IsPlain 3 (b ∷ code)
+plain_type b code is other = plain-append 1 2 (b ∷ []) code (record { clean = ap (λ c. c || false) other; short = lit≤ tt }) is
+
+types_are_plain : (cs : List (List ℕ)) → All (IsPlain 2) cs → All (IsPlain 3) (types_of cs)
+types_are_plain [] are = λ k d h. absurd (omega (arith, h))
+types_are_plain (c ∷ cs) are =
+    let one = All-head (IsPlain 2) c cs are in
+    let others = types_are_plain cs (All-tail (IsPlain 2) c cs are) in
+    All-cons (IsPlain 3) (67 ∷ c) ((76 ∷ c) ∷ (68 ∷ c) ∷ (83 ∷ c) ∷ types_of cs) (plain_type 67 c one refl)
+    (All-cons (IsPlain 3) (76 ∷ c) ((68 ∷ c) ∷ (83 ∷ c) ∷ types_of cs) (plain_type 76 c one refl)
+    (All-cons (IsPlain 3) (68 ∷ c) ((83 ∷ c) ∷ types_of cs) (plain_type 68 c one refl)
+    (All-cons (IsPlain 3) (83 ∷ c) (types_of cs) (plain_type 83 c one refl) others)))
+
+front_of_types : (letter types line : ℕ) → (letter == 10) ≡ false → types < 2 ^ 64 → IsPlain 26 (type_front letter types line)
+front_of_types letter types zero other few =
+    plain-append 3 23 (letter ∷ 32 ∷ 32 ∷ []) (right 3 (decimal types)) (record { clean = ap (λ c. c || false) other; short = lit≤ tt })
+    (plain-right 3 20 (decimal types) (plain-decimal types few))
+front_of_types letter types (suc line) other few = record { clean = refl; short = lit≤ tt }
+
+line_of_types : (letter : ℕ) (types : List (List ℕ)) (line : ℕ) → (letter == 10) ≡ false → length types < 2 ^ 64 → All (IsPlain 3) types → IsFileLine (type_line letter types line)
+line_of_types letter types line other few are =
+    header (26 + 52) (type_front letter (length types) line ++ type_columns types line) (codes "SYS / # / OBS TYPES")
+    (plain-append 26 52 (type_front letter (length types) line) (type_columns types line) (front_of_types letter (length types) line other few)
+    (plain-spaced 3 13 (drop (13 * line) types) (All-drop (IsPlain 3) (13 * line) types are)))
+    (plain_label (codes "SYS / # / OBS TYPES") refl (lit≤ tt)) (lit≤ tt)
+
+pub no_letter : (system : System) → (letter_of system == 10) ≡ false
+no_letter Gps = refl
+no_letter Galileo = refl
+
+lines_of_types : (system : System) (signals : List ℕ) → length signals ≤ 19 → All IsFileLine (type_lines system signals)
+lines_of_types system signals few =
+    let types = types_of (codes_of system signals) in
+    let count : length types ≡ 4 * length signals = length-system_types system signals in
+    let fits : length types < 2 ^ 64 = omega (arith, count, few) in
+    let rows = range_with_len 0 (type_rows (length signals)) in
+    All-map IsFileLine (type_line (letter_of system) types) rows
+    (λ k d h. line_of_types (letter_of system) types (get_or rows k d) (no_letter system) fits (types_are_plain (codes_of system signals) (codes_are_plain system signals)))
+
+lines_of_shift : (system : System) (signals : List ℕ) → All IsFileLine (shift_lines system signals)
+lines_of_shift system signals =
+    All-replicate IsFileLine (min (length signals) 1) (header_line (letter_of system ∷ []) (codes "SYS / PHASE SHIFT"))
+    (header 1 (letter_of system ∷ []) (codes "SYS / PHASE SHIFT") (record { clean = ap (λ c. c || false) (no_letter system); short = lit≤ tt })
+    (plain_label (codes "SYS / PHASE SHIFT") refl (lit≤ tt)) (lit≤ tt))
+
+-- ---- times
+
+record IsWithin (d : YearMonthDay) (y m k : ℕ) : Type 0 where
+  year : d.year ≤ y
+  month : d.month ≤ m
+  day : d.day ≤ k
+
+either : (b : Bool) (c d : YearMonthDay) (year month day : ℕ) → IsWithin c year month day → IsWithin d year month day → IsWithin (if b then c else d) year month day
+either true c d year month day h k = h
+either false c d year month day h k = k
+
+within_year : (months y m days year month day : ℕ) → y ≤ year → m + months ≤ month → days + 1 ≤ day → IsWithin (month_on months y m days) year month day
+within_year zero y m days year month day h k l = record { year = h; month = omega (arith, k); day = l }
+within_year (suc months) y m days year month day h k l =
+    either (nat_lt days (month_length y m)) (record { year = y; month = m; day = days + 1 }) (month_on months y (m + 1) (days - month_length y m)) year month day
+    (record { year = h; month = omega (arith, k); day = l })
+    (within_year months y (m + 1) (days - month_length y m) year month day h (omega (arith, k)) (omega (arith, l)))
+
+within_years : (years y days year day : ℕ) → y + years ≤ year → days + 1 ≤ day → IsWithin (year_on years y days) year 12 day
+within_years zero y days year day h l = within_year 11 y 1 days year 12 day (omega (arith, h)) (lit≤ tt) l
+within_years (suc years) y days year day h l =
+    either (nat_lt days (year_length y)) (month_on 11 y 1 days) (year_on years (y + 1) (days - year_length y)) year 12 day
+    (within_year 11 y 1 days year 12 day (omega (arith, h)) (lit≤ tt) l)
+    (within_years years (y + 1) (days - year_length y) year day (omega (arith, h)) (omega (arith, l)))
+
+-- each part of a date and time of day has room in 32 bits
+pub record IsShort (t : Civil) : Type 0 where
+  pub year : t.year < 2 ^ 32
+  pub month : t.month < 2 ^ 32
+  pub day : t.day < 2 ^ 32
+  pub hour : t.hour < 2 ^ 32
+  pub minute : t.minute < 2 ^ 32
+  pub millisecond : t.millisecond < 2 ^ 32
+
+short_civil : (d : YearMonthDay) (clock : ℕ) → IsWithin d 3900 12 1_000_000 → clock < 100_000_000 → IsShort (civil_with d clock)
+short_civil d clock is few =
+    let year = is.year in
+    let month = is.month in
+    let day = is.day in
+    record {
+      year = omega (arith, year);
+      month = omega (arith, month);
+      day = omega (arith, day);
+      hour = omega (arith, few);
+      minute = omega (arith, few);
+      millisecond = omega (arith, few);
+    }
+
+few_days : (t : ℕ) → IsTime t → (t / day_length + 5) + 1 ≤ 1_000_000
+few_days t h = omega (arith, h)
+
+pub short_time : (t : ℕ) → IsTime t → IsShort (civil_of t)
+short_time t h =
+    short_civil (date_of (t / day_length)) (t % day_length) (within_years 1920 1980 (t / day_length + 5) 3900 1_000_000 (lit≤ tt) (few_days t h))
+    (omega arith)
+
+pub second_field : (width m : ℕ) → width ≤ 20 → m < 2 ^ 32 → IsPlain 80 (right width (fixed 7 (pos (m * 10_000))))
+second_field width m few fits =
+    of_80 (width + 49) (right width (fixed 7 (pos (m * 10_000)))) (plain-right width 49 (fixed 7 (pos (m * 10_000))) (plain-fixed 7 (pos (m * 10_000)) (omega (arith, fits)))) (omega (arith, few))
+
+line_of_first : (t : Civil) → IsShort t → IsFileLine (first_line t)
+line_of_first t is =
+    header_fields
+    (right 6 (decimal t.year) ∷ right 6 (decimal t.month) ∷ right 6 (decimal t.day) ∷ right 6 (decimal t.hour) ∷ right 6 (decimal t.minute)
+    ∷ right 13 (fixed 7 (pos (t.millisecond * 10_000))) ∷ codes "     GPS" ∷ [])
+    (codes "TIME OF FIRST OBS") (
+      whole t.year is.year,
+      (
+        whole t.month is.month,
+        (
+          whole t.day is.day,
+          (
+            whole t.hour is.hour,
+            (
+              whole t.minute is.minute,
+              (second_field 13 t.millisecond (lit≤ tt) is.millisecond, (record { clean = refl; short = lit≤ tt }, tt)),
+            ),
+          ),
+        ),
+      ),
+    )
+    (lit≤ tt) (plain_label (codes "TIME OF FIRST OBS") refl (lit≤ tt)) where
+      whole : (n : ℕ) → n < 2 ^ 32 → IsPlain 80 (right 6 (decimal n))
+      whole n h = whole_field 6 n (lit≤ tt) (omega (arith, h))
+
+-- ---- the other lines of the header
+
+only : (l : List ℕ) → IsFileLine l → All IsFileLine (l ∷ [])
+only l is = All-cons IsFileLine l [] is (λ k d h. absurd (omega (arith, h)))
+
+system_byte : (p : PlanValue) → IsPlain 80 (file_system p ∷ [])
+system_byte p = byte (length p.gps == 0) (length p.galileo == 0) where
+  byte : (a b : Bool) → IsPlain 80 ((if a then 69 else (if b then 71 else 77)) ∷ [])
+  byte true b = record { clean = refl; short = lit≤ tt }
+  byte false true = record { clean = refl; short = lit≤ tt }
+  byte false false = record { clean = refl; short = lit≤ tt }
+
+version : (p : PlanValue) → IsFileLine (version_line p)
+version p =
+    header_fields (right 9 (fixed 2 (pos 305)) ∷ replicate 11 32 ∷ left 20 (codes "OBSERVATION DATA") ∷ (file_system p ∷ []) ∷ []) (codes "RINEX VERSION / TYPE") (
+      of_80 (9 + 44) (right 9 (fixed 2 (pos 305))) (plain-right 9 44 (fixed 2 (pos 305)) (plain-fixed 2 (pos 305) (lit< tt))) (lit≤ tt),
+      (record { clean = refl; short = lit≤ tt }, (record { clean = refl; short = lit≤ tt }, (system_byte p, tt))),
+    )
+    (lit≤ tt) (plain_label (codes "RINEX VERSION / TYPE") refl (lit≤ tt))
+
+pub few_signals_of : (p : PlanValue) → IsPlan p → (system : System) → length (planned_of system p) ≤ 19
+few_signals_of p is system = let few = few_planned p is system in let most = few_signals system in omega (arith, few, most)
+
+-- ---- sections
+
+lines_in : (x : HeaderLists) (p : PlanValue) (v : StationValues) (t : Civil) → AreTexts x → IsPlan p → AreValues v → IsShort t → (s : Section) → All IsFileLine (lines_of x p v t s)
+unfolding lines_of
+lines_in x p v t texts plan values time Version = only (version_line p) (version p)
+lines_in x p v t texts plan values time Program = only _ (three_fields (codes "rtcm2rinex") x.run_by x.date (codes "PGM / RUN BY / DATE")
+    (record { clean = refl; short = lit≤ tt }) (run_by x texts) (date x texts) (plain_label _ refl (lit≤ tt)))
+lines_in x p v t texts plan values time MarkerSection = only _ (header 60 x.marker (codes "MARKER NAME") (marker x texts) (plain_label _ refl (lit≤ tt)) (lit≤ tt))
+lines_in x p v t texts plan values time MarkerTypeSection = only _ (header 60 x.marker_type (codes "MARKER TYPE") (marker_type x texts) (plain_label _ refl (lit≤ tt)) (lit≤ tt))
+lines_in x p v t texts plan values time ObserverSection = only _ (two_fields x.observer x.agency (codes "OBSERVER / AGENCY") (observer x texts) (agency x texts) (plain_label _ refl (lit≤ tt)))
+lines_in x p v t texts plan values time Receiver = only _ (three_fields x.rec_number x.rec_type x.rec_version (codes "REC # / TYPE / VERS")
+    (rec_number x texts) (rec_type x texts) (rec_version x texts) (plain_label _ refl (lit≤ tt)))
+lines_in x p v t texts plan values time Antenna = only _ (two_fields x.ant_number x.ant_type (codes "ANT # / TYPE") (ant_number x texts) (ant_type x texts) (plain_label _ refl (lit≤ tt)))
+lines_in x p v t texts plan values time Position = only _ (three_lengths v.x v.y v.z (codes "APPROX POSITION XYZ")
+    (coordinate v.x values.x) (coordinate v.y values.y) (coordinate v.z values.z) (plain_label _ refl (lit≤ tt)))
+lines_in x p v t texts plan values time Delta = only _ (three_lengths (pos v.height) (pos 0) (pos 0) (codes "ANTENNA: DELTA H/E/N")
+    (let height = values.height in omega (arith, height)) (lit< tt) (lit< tt) (plain_label _ refl (lit≤ tt)))
+lines_in x p v t texts plan values time (Types s) = lines_of_types s (planned_of s p) (few_signals_of p plan s)
+lines_in x p v t texts plan values time StrengthUnit = only _ (header 4 (codes "DBHZ") (codes "SIGNAL STRENGTH UNIT") (record { clean = refl; short = lit≤ tt }) (plain_label _ refl (lit≤ tt)) (lit≤ tt))
+lines_in x p v t texts plan values time First = only _ (line_of_first t time)
+lines_in x p v t texts plan values time (Shift s) = lines_of_shift s (planned_of s p)
+lines_in x p v t texts plan values time End = only _ (header 0 [] (codes "END OF HEADER") (record { clean = refl; short = lit≤ tt }) (plain_label _ refl (lit≤ tt)) (lit≤ tt))
+
+lines_of_sections : (lines : Section → List (List ℕ)) → ((s : Section) → All IsFileLine (lines s)) → (sections : List Section) → All IsFileLine (flat_map lines sections)
+lines_of_sections lines each [] = λ k d h. absurd (omega (arith, h))
+lines_of_sections lines each (s ∷ sections) = All-append IsFileLine (lines s) (flat_map lines sections) (each s) (lines_of_sections lines each sections)
+
+pub lines_of_header : (x : HeaderLists) (p : PlanValue) (v : StationValues) (t : Civil) → AreTexts x → IsPlan p → AreValues v → IsShort t → All IsFileLine (header_lines x p v t)
+unfolding header_lines
+lines_of_header x p v t texts plan values time = lines_of_sections (lines_of x p v t) (lines_in x p v t texts plan values time) all_sections
