@@ -13,6 +13,7 @@ mod Examples
 mod Judged
 mod Rises
 mod BodySteps
+mod HeaderBody
 mod FewRows
 mod PlainTexts
 mod PlainHeader

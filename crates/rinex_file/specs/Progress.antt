@@ -206,3 +206,15 @@ GoesOn s v left = IsFileValue v × IsAt s s.due v left
 pub record StandsFor (s : Progress) (taken : List (List ℕ)) : Type 0 where
   pub goes : (v : FileValue) (left : List (List ℕ)) → IsFileValue v → file_lines v ≡ taken ++ left → GoesOn s v left
   pub begins : (v : FileValue) (left : List (List ℕ)) → GoesOn s v left → IsFileValue v × (file_lines v ≡ taken ++ left)
+
+-- what was read where the line of an epoch was taken
+abbrev pub begun_at : Progress → ℕ → ℕ → Progress
+begun_at s t n = record { due = Satellite n; known = s.known; epochs = s.epochs; time = t; rows = s.rows }
+
+-- what was read where the line of a satellite was taken, and so many are left
+abbrev pub with_row : Progress → Seen → ℕ → Progress
+with_row s seen n = record { due = Satellite n; known = s.known; epochs = s.epochs; time = s.time; rows = s.rows ++ seen ∷ [] }
+
+-- what was read where the last line of an epoch's satellites was taken
+abbrev pub with_epoch : Progress → Progress
+with_epoch s = record { due = Epoch; known = s.known; epochs = s.epochs ++ stamped s s.rows ∷ []; time = s.time; rows = [] }

@@ -1,10 +1,10 @@
 -- What holds of all that was read of a file, wherever its reading stands.
-use Rattle.std.specs.Prelude.{◌≡◌, ℕ, ◌<◌, List, [], ◌∷◌, ◌++◌, length, map, All}
+use Rattle.std.specs.Prelude.{◌≡◌, ℕ, ◌<◌, ◌≤◌, List, [], ◌∷◌, ◌++◌, length, map, All}
 use Rattle.std.specs.List.Sorted.{IsStrictlyIncreasing}
 use Rattle.rinex_file.specs.declared.due.Due.{Due}
 use Rattle.rinex_file.specs.declared.due.Due.TheVariants.{Header, Epoch, Satellite}
 use Rattle.rinex_file.specs.Value.{Seen, Stamped}
-use Rattle.rinex_file.specs.FileValues.{IsTime, IsStamped, AreSeen, time_of, rank_of}
+use Rattle.rinex_file.specs.FileValues.{IsTime, IsStamped, AreSeen, time_of, rank_of, most_rows}
 use Rattle.rinex_file.specs.Progress.{Progress, IsShown, StartsAt}
 
 abbrev pub AreStamped : Progress → List Stamped → Type 0
@@ -31,3 +31,11 @@ IsSoundAt s (Satellite n) = AreRead s × IsBegun s × (0 < n)
 
 abbrev pub IsSound : Progress → Type 0
 IsSound s = IsSoundAt s s.due
+
+-- an epoch of so many satellites may follow at a time: it is later than those before, or the one that the header names, and the
+-- planned systems have as many satellites
+pub record MayBegin (s : Progress) (t n : ℕ) : Type 0 where
+  pub later : IsStrictlyIncreasing (map time_of s.epochs ++ t ∷ [])
+  pub first : s.epochs ≡ [] → s.known.shown.first ≡ t
+  pub some : 0 < n
+  pub room : n ≤ most_rows (length s.known.shown.plan.gps) (length s.known.shown.plan.galileo)

@@ -4,9 +4,9 @@ ghost use Rattle.std.specs.List.Sorted.{IsStrictlyIncreasing};
 ghost use Rattle.rinex_file.specs.Value.{FileValue};
 ghost use Rattle.rinex_file.specs.FileValues.{IsFileValue, rank_of, time_of, most_rows};
 ghost use Rattle.rinex_file.specs.File.{file_lines};
-ghost use Rattle.rinex_file.specs.Progress.{GoesOn};
+ghost use Rattle.rinex_file.specs.Progress.{GoesOn, begun_at};
 ghost use Rattle.rinex_file.specs.ProgressOf.{progress_of};
-ghost use Rattle.rinex_file.specs.Sound.{IsSound};
+ghost use Rattle.rinex_file.specs.Sound.{IsSound, MayBegin};
 
 use crate::due::{Due, Refusal};
 use crate::head_so_far::HeadSoFar;
@@ -154,19 +154,36 @@ impl Reading {
         ensures taken { OnOk result ((v : FileValue) (left : List (List ℕ)) → GoesOn (progress_of self.old) v (line.now ∷ left) ↔ GoesOn (progress_of self.new) v left) }
         ensures bad { result ≡ Err Refusal.Bad → (v : FileValue) (left : List (List ℕ)) → GoesOn (progress_of self.old) v (line.now ∷ left) → ⊥ }
     {
-        let Some((time, satellites)) = read_epoch_line(line, again) else {
-            return Err(Refusal::Bad);
-        };
+        match read_epoch_line(line, again) {
+            None => Err(Refusal::Bad),
+            Some(read) => {
+                if self.begin(read.0, read.1) {
+                    Ok(())
+                } else {
+                    Err(Refusal::Bad)
+                }
+            }
+        }
+    }
+
+    // Begins an epoch of so many satellites, if one may follow at this time.
+    fn begin(&mut self, time: GpsTime, satellites: usize) -> bool
+        requires sound { IsSound (progress_of self.old) }
+        requires due { self.old.due ≡ Due.Epoch }
+        ensures may { IsTrue result → MayBegin (progress_of self.old) time satellites }
+        ensures begun { IsTrue result → progress_of self.new ≡ begun_at (progress_of self.old) time satellites }
+        ensures refused { MayBegin (progress_of self.old) time satellites → IsTrue result }
+    {
         if !may_begin(self.epochs.as_slice(), self.head.first(), time) {
-            return Err(Refusal::Bad);
+            return false;
         }
         let most = most_rows(self.head.planned(System::Gps), self.head.planned(System::Galileo));
         if satellites == 0 || satellites > most {
-            return Err(Refusal::Bad);
+            return false;
         }
         self.time = time;
         self.due = Due::Satellite(satellites);
-        Ok(())
+        true
     }
 
     // Takes the line of a satellite, where so many are left.
@@ -202,12 +219,11 @@ impl Reading {
         let rows = mem::replace(&mut self.rows, Vec::new(self.alloc));
         let time = self.time;
         match self.epochs.push(KeptEpoch { time, rows }) {
-            Ok(()) => {
-                self.due = Due::Epoch;
-                Ok(())
-            }
-            Err(_) => Err(Refusal::Memory),
+            Ok(()) => {}
+            Err(_) => return Err(Refusal::Memory),
         }
+        self.due = Due::Epoch;
+        Ok(())
     }
 
     /// What is due.

@@ -1,33 +1,31 @@
-use Rattle.std.proofs.Common.{rules, ◌≡◌, ◌<◌, ◌≤◌, ◌∷◌, ◌++◌, ◌↔◌, ℕ, [], List, OnOk, IfSome, IfNone, IfOk, IfErr, Err, None, IsTrue, map, length, ◌+◌, ◌-◌, ◌*◌, ◌/◌, ◌%◌, Bool, true, false, nat_eq, nat_lt, slice_index_or, slice_set, bit_and, bit_or, Fits, w8, w32, w64, Bor, MutBor}
-use Rattle.std.specs.List.Sorted.{IsStrictlyIncreasing}
+use Rattle.std.proofs.Common.{◌≡◌, ◌↔◌, ◌∷◌, ℕ, List, sym, subst, IsTrue, Bool, true, false}
 use Rattle.rinex_file.specs.Value.{FileValue}
-use Rattle.rinex_file.specs.FileValues.{IsFileValue, rank_of, time_of, most_rows}
-use Rattle.rinex_file.specs.File.{file_lines}
-use Rattle.rinex_file.specs.Progress.{GoesOn}
+use Rattle.rinex_file.specs.Progress.{Progress, GoesOn}
 use Rattle.rinex_file.specs.ProgressOf.{progress_of}
 use Rattle.rinex_file.specs.Sound.{IsSound}
+use Rattle.rinex_file.proofs.BodySteps.{epoch_taken, no_epoch, bad_epoch, sound_begun, sound_between}
 use Rattle.rinex_file.proofs.reading.Reading.take_epoch.Goals as goal
 
--- src/reading.rt:158:13
-pub returns-in_default-clause-bad : goal.returns-in_default-clause-bad
-returns-in_default-clause-bad c = ?
+pub returns-in-None-clause-bad : goal.returns-in-None-clause-bad
+returns-in-None-clause-bad c = λ e. no_epoch (progress_of c.args.self.now) c.args.line.now c.requires.due c.in-None.ensures
 
--- src/reading.rt:160:13
-pub may_begin-requires : goal.may_begin-requires
-may_begin-requires c = ?
+pub returns-then-begin-clause-sound : goal.returns-then-begin-clause-sound
+returns-then-begin-clause-sound c =
+    subst IsSound (sym (c.begin.ensures.begun c.if-begin.true))
+        (sound_begun (progress_of c.args.self.now) c.in-Some.read.0 c.in-Some.read.1 c.requires.due c.requires.sound (c.begin.ensures.may c.if-begin.true) c.in-Some.ensures.0.0)
 
--- src/reading.rt:161:13
-pub returns-then-not-may_begin-clause-bad : goal.returns-then-not-may_begin-clause-bad
-returns-then-not-may_begin-clause-bad c = ?
+pub returns-then-begin-clause-taken : goal.returns-then-begin-clause-taken
+returns-then-begin-clause-taken c =
+    subst (λ (p : Progress). (v : FileValue) (left : List (List ℕ)) → GoesOn (progress_of c.args.self.now) v (c.args.line.now ∷ left) ↔ GoesOn p v left)
+        (sym (c.begin.ensures.begun c.if-begin.true))
+        (epoch_taken (progress_of c.args.self.now) c.in-Some.read.0 c.in-Some.read.1 c.args.line.now c.requires.due (sound_between (progress_of c.args.self.now) c.requires.due c.requires.sound).1
+            c.in-Some.ensures.1 c.in-Some.ensures.2)
 
--- src/reading.rt:165:13
-pub returns-then-satellites-eq0-clause-bad : goal.returns-then-satellites-eq0-clause-bad
-returns-then-satellites-eq0-clause-bad c = ?
+never : (b : Bool) → b ≡ false → IsTrue b → ⊥
+never true h t = cc
+never false h t = cc
 
--- src/reading.rt:150:5
-pub returns-clause-sound : goal.returns-clause-sound
-returns-clause-sound c = ?
-
--- src/reading.rt:150:5
-pub returns-clause-taken : goal.returns-clause-taken
-returns-clause-taken c = ?
+pub returns-else-begin-clause-bad : goal.returns-else-begin-clause-bad
+returns-else-begin-clause-bad c = λ e.
+    bad_epoch (progress_of c.args.self.now) c.in-Some.read.0 c.in-Some.read.1 c.args.line.now c.requires.due c.in-Some.ensures.2
+        (λ may. never c.begin.result c.if-begin.false (c.begin.ensures.refused may))
