@@ -11,3 +11,5 @@ mod Faultless
 mod FileText
 mod Examples
 mod Judged
+mod HeaderText
+mod StationLines
