@@ -83,11 +83,10 @@ pub text-two : (n : ℕ) (a b label : List ℕ) → n ≤ 40 → IsText 20 a →
     → (text_at 0 20 (header_line (two a b) label) ≡ a) × (text_at 20 n (header_line (two a b) label) ≡ b)
 text-two n a b label within is also =
     let line = header_line (two a b) label in
-    let shape = of_two a b label is.short in
-    (
+    let shape = of_two a b label is.short in (
       ap (text_at 0 20) shape ∙ cut_left 20 20 a (left 40 b ++ tail label) is (omega arith),
       ap (λ l. trimmed (take n l)) (behind (left 20 a) (left 40 b ++ tail label) line 20 (length-left 20 a is.short) shape)
-      ∙ cut_left n 40 b (tail label) also within,
+          ∙ cut_left n 40 b (tail label) also within,
     )
 
 pub text-three : (a b c label : List ℕ) → IsText 20 a → IsText 20 b → IsText 20 c
@@ -97,11 +96,10 @@ text-three a b c label is also third =
     let last = left 20 c ++ tail label in
     let shape = of_three a b c label is.short also.short in
     let fronts : length (left 20 a ++ left 20 b) ≡ 40 =
-    length-append (left 20 a) (left 20 b) ∙ ap (λ n. n + length (left 20 b)) (length-left 20 a is.short) ∙ ap (λ n. 20 + n) (length-left 20 b also.short) in
-    (
+    length-append (left 20 a) (left 20 b) ∙ ap (λ n. n + length (left 20 b)) (length-left 20 a is.short) ∙ ap (λ n. 20 + n) (length-left 20 b also.short) in (
       ap (text_at 0 20) shape ∙ cut_left 20 20 a (left 20 b ++ last) is (omega arith),
       ap (λ l. trimmed (take 20 l)) (behind (left 20 a) (left 20 b ++ last) line 20 (length-left 20 a is.short) shape)
-      ∙ cut_left 20 20 b last also (omega arith),
+          ∙ cut_left 20 20 b last also (omega arith),
       ap (λ l. trimmed (take 20 l)) (behind (left 20 a ++ left 20 b) last line 40 fronts (shape ∙ sym (append_assoc (left 20 a) (left 20 b) last)))
-      ∙ cut_left 20 20 c (tail label) third (omega arith),
+          ∙ cut_left 20 20 c (tail label) third (omega arith),
     )

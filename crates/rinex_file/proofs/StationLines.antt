@@ -1,5 +1,5 @@
 -- The first line of a header says which systems are planned, and the lines of position and height have their numbers back.
-use Rattle.std.proofs.Common.{arith, ◌≡◌, ◌∙◌, refl, sym, ap, ℕ, suc, ◌+◌, ◌-◌, ◌/◌, ◌<◌, ◌≤◌, ◌^◌, List, [], ◌∷◌, ◌++◌, length, take, drop, get_or, replicate, append_assoc, append-nil, length-append, Bool, true, false, ℤ, pos, neg_ℤ, ◌≤ℤ◌, unsigned_abs}
+use Rattle.std.proofs.Common.{arith, ◌≡◌, ◌∙◌, refl, sym, ap, ℕ, ◌+◌, ◌-◌, ◌/◌, ◌<◌, ◌≤◌, ◌^◌, List, [], ◌∷◌, ◌++◌, length, take, drop, get_or, replicate, append_assoc, append-nil, length-append, Bool, true, false, ℤ, pos, neg_ℤ, ◌≤ℤ◌, unsigned_abs}
 use Rattle.std.specs.Prelude.{◌||◌, ◌==◌, not, codes, if◌then◌else◌}
 use Rattle.std.specs.Int.{is_negative}
 use Rattle.std.proofs.lemmas.Int.{ints}
@@ -8,7 +8,7 @@ use Rattle.std.proofs.lemmas.List.{take_at, drop_at}
 use Rattle.obs_epoch.specs.Values.{PlanValue}
 use Rattle.rinex_file.specs.Numbers.{joined, left, right, fixed}
 use Rattle.rinex_file.specs.Reading.{digits_in, number_in}
-use Rattle.rinex_file.specs.Header.{header_line, file_system, version_line, lengths}
+use Rattle.rinex_file.specs.Header.{header_line, version_line, lengths}
 use Rattle.rinex_file.specs.Progress.{is_planned, version_with}
 use Rattle.rinex_file.specs.FileValues.{IsCoordinate}
 use Rattle.rinex_file.proofs.Digits.{number_in-fixed, digits_in-right, digits_in-fixed, length-fixed, length-right}
@@ -80,9 +80,9 @@ length-column : (z : ℤ) → Fits14 z → length (right 14 (fixed 4 z)) ≡ 14
 length-column z h =
     let text = length-fixed 4 8 z (omega arith) (omega arith) (fits_64 (unsigned_abs z) h) (whole_digits (unsigned_abs z) h) in
     length-right 14 (fixed 4 z) (within (length (fixed 4 z)) (length (sign_text (is_negative z))) text (length-sign (is_negative z)))
-    where
-      within : (n k : ℕ) → n ≤ k + (8 + (1 + 4)) → k ≤ 1 → n ≤ 14
-      within n k a b = omega (arith, a, b)
+  where
+    within : (n k : ℕ) → n ≤ k + (8 + (1 + 4)) → k ≤ 1 → n ≤ 14
+    within n k a b = omega (arith, a, b)
 
 number_back : (z : ℤ) → Fits14 z → number_in (right 14 (fixed 4 z)) ≡ z
 number_back z h = number_in-fixed 14 4 z (omega arith) (fits_64 (unsigned_abs z) h)
@@ -93,13 +93,12 @@ unfolding header_line
 begins f g h label =
     let blanks = replicate (60 - length (joined (f ∷ g ∷ h ∷ []))) 32 in
     let tail = left 20 label ++ (10 ∷ []) in
-    let rest = blanks ++ tail in
-    (
+    let rest = blanks ++ tail in (
       rest,
       append_assoc (joined (f ∷ g ∷ h ∷ [])) blanks tail
-      ∙ ap (λ l. (f ++ (g ++ l)) ++ rest) (append-nil h)
-      ∙ append_assoc f (g ++ h) rest
-      ∙ ap (λ l. f ++ l) (append_assoc g h rest),
+          ∙ ap (λ l. (f ++ (g ++ l)) ++ rest) (append-nil h)
+          ∙ append_assoc f (g ++ h) rest
+          ∙ ap (λ l. f ++ l) (append_assoc g h rest),
     )
 
 -- columns of a line from one on, read as a number
@@ -117,8 +116,7 @@ lengths-back x y z label a b c =
     let g = right 14 (fixed 4 y) in
     let h = right 14 (fixed 4 z) in
     let (rest, shape) = begins f g h label in
-    let two : length (f ++ g) ≡ 28 = length-append f g ∙ ap (λ n. n + length g) (length-column x a) ∙ ap (λ n. 14 + n) (length-column y b) in
-    (
+    let two : length (f ++ g) ≡ 28 = length-append f g ∙ ap (λ n. n + length g) (length-column x a) ∙ ap (λ n. 14 + n) (length-column y b) in (
       ap number_in (field_at 0 [] f (g ++ (h ++ rest)) line refl (length-column x a) shape) ∙ number_back x a,
       ap number_in (field_at 14 f g (h ++ rest) line (length-column x a) (length-column y b) shape) ∙ number_back y b,
       ap number_in (field_at 28 (f ++ g) h rest line two (length-column z c) (shape ∙ sym (append_assoc f g (h ++ rest)))) ∙ number_back z c,

@@ -13,7 +13,7 @@ use crate::satellite::cut_length;
 use crate::texts::is_printable;
 use arrayvec::ArrayVec;
 
-/// So many columns of a line, from one on; as many as there are.
+/// The columns of a line that begin at `from`, counted from 0: `width` of them, or as many as there are.
 pub(crate) fn columns(line: &[u8], from: usize, width: usize) -> &[u8]
     ensures value { result.now ≡ take width (drop from line.now) }
     ensures bound { length result.now ≤ width }
@@ -22,7 +22,7 @@ pub(crate) fn columns(line: &[u8], from: usize, width: usize) -> &[u8]
     &rest[..width.min(rest.len())]
 }
 
-// The text in N columns of a line, from one on, without the blanks at its end; None where it isn't printable.
+// The text in N columns of a line that begin at `from`, without the blanks at its end; None where it isn't printable.
 fn text_in<const N: usize>(line: &[u8], from: usize) -> Option<ArrayVec<u8, N>>
     ensures some { IfSome result (λ t. IsText N t.items × (t.items ≡ trimmed (take N (drop from line.now)))) }
     ensures none { IfNone result ((w : List ℕ) → IsText N w → trimmed (take N (drop from line.now)) ≡ w → ⊥) }
@@ -62,7 +62,8 @@ pub(crate) fn read_two<const N: usize>(
 {
     let first = text_in(line, 0)?;
     let second = text_in(line, 20)?;
-    if !is_same(line, two_texts(first.as_slice(), second.as_slice(), label).as_slice()) {
+    let again = two_texts(first.as_slice(), second.as_slice(), label);
+    if !is_same(line, again.as_slice()) {
         return None;
     }
     Some((first, second))

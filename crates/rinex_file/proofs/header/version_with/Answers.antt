@@ -1,4 +1,4 @@
-use Rattle.std.proofs.Common.{rules, ◌≡◌, ◌∙◌, ap, ◌∷◌, ◌++◌, [], refl, replicate}
+use Rattle.std.proofs.Common.{rules, ◌≡◌, ◌∙◌, ap, ◌∷◌, ◌++◌, [], refl, replicate, ℕ, List}
 use Rattle.std.specs.Prelude.{codes, pos}
 use Rattle.rinex_file.specs.Numbers.{left, right, fixed}
 use Rattle.rinex_file.specs.Header.{header_line}
@@ -9,7 +9,7 @@ use Rattle.rinex_file.proofs.header.version_with.Goals as goal
 pub returns : goal.returns
 returns c =
     let a = right 9 (fixed 2 (pos 305)) in
-    let b = replicate 11 32 in
+    let b : List ℕ = replicate 11 32 in
     let d = left 20 (codes "OBSERVATION DATA") in
     let letter = letter_with c.args.gps c.args.galileo in
     let one : c.put_fixed.new.line.items ≡ c.new-content.result.items ++ a = search rules in

@@ -33,16 +33,16 @@ too_great {E} (Err x) n is e = OkIff-at_err {T = ℕ} {E = E} (Err x) (n < 2 ^ 1
 
 widened : (h : ℕ) → h < 2 ^ 16 → header_line (lengths (to_z w64 h) (pos 0) (pos 0)) (codes "ANTENNA: DELTA H/E/N") ≡ text h
 widened h small = ap (λ z. header_line (lengths z (pos 0) (pos 0)) (codes "ANTENNA: DELTA H/E/N")) (same h small)
-    where
-      same : (n : ℕ) → n < 2 ^ 16 → to_z w64 n ≡ pos n
-      same n small = omega (arith, ints)
+  where
+    same : (n : ℕ) → n < 2 ^ 16 → to_z w64 n ≡ pos n
+    same n small = omega (arith, ints)
 
 pub returns-in_err-height : goal.returns-in_err-height
 returns-in_err-height c =
     rw c.from_residual.ensures (
-      λ h small e.
-      let is = c.digits_in.ensures.value ∙ ap digits_in c.columns.ensures.value ∙ there c.args.line.now h small e in
-      too_great c.try_from.result c.digits_in.result c.try_from.ensures c.in_err-height.ensures.value (rw is small)
+    λ h small e.
+    let is = c.digits_in.ensures.value ∙ ap digits_in c.columns.ensures.value ∙ there c.args.line.now h small e in
+    too_great c.try_from.result c.digits_in.result c.try_from.ensures c.in_err-height.ensures.value (rw is small)
     )
 
 pub returns-then-not-is_same : goal.returns-then-not-is_same
@@ -54,8 +54,7 @@ returns-then-not-is_same c = λ h small e.
 
 pub returns : goal.returns
 returns c =
-    let found = held c.try_from.result c.digits_in.result c.in_ok-height.height c.try_from.ensures c.in_ok-height.ensures.value in
-    (
+    let found = held c.try_from.result c.digits_in.result c.in_ok-height.height c.try_from.ensures c.in_ok-height.ensures.value in (
       found.0,
       c.if-not-is_same.ensures.0 refl ∙ c.as_slice.ensures.value ∙ c.three_lengths-again.ensures ∙ widened c.in_ok-height.height found.0,
       λ h small e. sym (found.1 ∙ c.digits_in.ensures.value ∙ ap digits_in c.columns.ensures.value ∙ there c.args.line.now h small e),

@@ -42,9 +42,9 @@ returns-in_err-z c =
 -- 64 bits hold a coordinate
 stays : (z : ℤ) → IsCoordinate z → to_z w64 (of_z w64 z) ≡ z
 stays z is = to_z-of_z w64 z (fits_signed_from_abs w64 z (half (unsigned_abs z) (coordinate-fits z is)))
-    where
-      half : (n : ℕ) → n < 10 ^ 12 → n < 2 ^ 63
-      half n h = omega (arith, h)
+  where
+    half : (n : ℕ) → n < 10 ^ 12 → n < 2 ^ 63
+    half n h = omega (arith, h)
 
 all_stay : (x y z : ℤ) → Are (x, y, z) → text (to_z w64 (of_z w64 x)) (to_z w64 (of_z w64 y)) (to_z w64 (of_z w64 z)) ≡ text x y z
 all_stay x y z is =
@@ -71,6 +71,6 @@ returns c =
       are,
       c.if-not-is_same.ensures.0 refl ∙ c.as_slice.ensures.value ∙ c.three_lengths-again.ensures ∙ all_stay x y z are,
       λ w is e.
-      let all = there c.args.line.now w is e in
-      same_three x y z w (sym (c.in_ok-x.ensures.some.1 ∙ all.0)) (sym (c.in_ok-y.ensures.some.1 ∙ all.1)) (sym (c.in_ok-z.ensures.some.1 ∙ all.2)),
+          let all = there c.args.line.now w is e in
+          same_three x y z w (sym (c.in_ok-x.ensures.some.1 ∙ all.0)) (sym (c.in_ok-y.ensures.some.1 ∙ all.1)) (sym (c.in_ok-z.ensures.some.1 ∙ all.2)),
     )

@@ -22,8 +22,7 @@ returns-then-not-is_same g c = λ w is e.
 
 pub returns : goal.returns
 returns g c =
-    let text = c.in_ok-text.text.items in
-    (
+    let text = c.in_ok-text.text.items in (
       c.in_ok-text.ensures.some.0,
       c.if-not-is_same.ensures.0 refl ∙ c.as_slice-2.ensures.value ∙ c.labelled.ensures ∙ ap (λ t. header_line t c.args.label.now) c.as_slice.ensures.value,
       λ w is e. sym (c.in_ok-text.ensures.some.1 ∙ there g.row.N c.args.line.now c.args.label.now w c.requires.width is e),

@@ -44,15 +44,14 @@ returns-then-not-is_same c = λ w is e.
 
 pub returns : goal.returns
 returns c =
-    let label = c.args.label.now in
-    (
+    let label = c.args.label.now in (
       (c.in_ok-first.ensures.some.0, c.in_ok-second.ensures.some.0, c.in_ok-third.ensures.some.0),
       c.if-not-is_same.ensures.0 refl ∙ c.as_slice-4.ensures.value ∙ c.three_texts-again.ensures
-      ∙ ap (λ t. header_line (three t c.as_slice-2.result.now c.as_slice-3.result.now) label) c.as_slice.ensures.value
-      ∙ ap (λ t. header_line (three c.in_ok-first.first.items t c.as_slice-3.result.now) label) c.as_slice-2.ensures.value
-      ∙ ap (λ t. header_line (three c.in_ok-first.first.items c.in_ok-second.second.items t) label) c.as_slice-3.ensures.value,
+          ∙ ap (λ t. header_line (three t c.as_slice-2.result.now c.as_slice-3.result.now) label) c.as_slice.ensures.value
+          ∙ ap (λ t. header_line (three c.in_ok-first.first.items t c.as_slice-3.result.now) label) c.as_slice-2.ensures.value
+          ∙ ap (λ t. header_line (three c.in_ok-first.first.items c.in_ok-second.second.items t) label) c.as_slice-3.ensures.value,
       λ w is e.
-      let all = there c.args.line.now label w is e in
-      same_three c.in_ok-first.first.items c.in_ok-second.second.items c.in_ok-third.third.items w (sym (c.in_ok-first.ensures.some.1 ∙ all.0)) (sym (c.in_ok-second.ensures.some.1 ∙ all.1))
-      (sym (c.in_ok-third.ensures.some.1 ∙ all.2)),
+          let all = there c.args.line.now label w is e in
+          same_three c.in_ok-first.first.items c.in_ok-second.second.items c.in_ok-third.third.items w (sym (c.in_ok-first.ensures.some.1 ∙ all.0)) (sym (c.in_ok-second.ensures.some.1 ∙ all.1))
+          (sym (c.in_ok-third.ensures.some.1 ∙ all.2)),
     )

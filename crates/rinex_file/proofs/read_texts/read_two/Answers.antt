@@ -31,17 +31,16 @@ returns-then-not-is_same g c = λ w is e.
     let second = sym (c.as_slice-2.ensures.value ∙ c.in_ok-second.ensures.some.1 ∙ both.1) in
     refused c.is_same.result _ c.is_same.ensures c.if-not-is_same.true
     (e ∙ ap (λ t. header_line (two t w.1) label) first ∙ ap (λ t. header_line (two c.as_slice.result.now t) label) second
-    ∙ sym (c.as_slice-3.ensures.value ∙ c.two_texts.ensures))
+    ∙ sym (c.as_slice-3.ensures.value ∙ c.two_texts-again.ensures))
 
 pub returns : goal.returns
 returns g c =
-    let label = c.args.label.now in
-    (
+    let label = c.args.label.now in (
       (c.in_ok-first.ensures.some.0, c.in_ok-second.ensures.some.0),
-      c.if-not-is_same.ensures.0 refl ∙ c.as_slice-3.ensures.value ∙ c.two_texts.ensures
-      ∙ ap (λ t. header_line (two t c.as_slice-2.result.now) label) c.as_slice.ensures.value
-      ∙ ap (λ t. header_line (two c.in_ok-first.first.items t) label) c.as_slice-2.ensures.value,
+      c.if-not-is_same.ensures.0 refl ∙ c.as_slice-3.ensures.value ∙ c.two_texts-again.ensures
+          ∙ ap (λ t. header_line (two t c.as_slice-2.result.now) label) c.as_slice.ensures.value
+          ∙ ap (λ t. header_line (two c.in_ok-first.first.items t) label) c.as_slice-2.ensures.value,
       λ w is e.
-      let both = there g.row.N c.args.line.now label w c.requires.width is e in
-      same_pair c.in_ok-first.first.items c.in_ok-second.second.items w (sym (c.in_ok-first.ensures.some.1 ∙ both.0)) (sym (c.in_ok-second.ensures.some.1 ∙ both.1)),
+          let both = there g.row.N c.args.line.now label w c.requires.width is e in
+          same_pair c.in_ok-first.first.items c.in_ok-second.second.items w (sym (c.in_ok-first.ensures.some.1 ∙ both.0)) (sym (c.in_ok-second.ensures.some.1 ∙ both.1)),
     )

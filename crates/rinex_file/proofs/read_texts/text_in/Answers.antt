@@ -1,4 +1,4 @@
-use Rattle.std.proofs.Common.{rules, arith, ◌≡◌, ◌∙◌, sym, ap, ℕ, List, ◌≤◌, ◌++◌, length, take, drop, true}
+use Rattle.std.proofs.Common.{arith, ◌≡◌, ◌∙◌, sym, ap, ℕ, List, ◌≤◌, ◌++◌, length, take, true}
 use Rattle.std.specs.List.{list_all}
 use Rattle.rinex_file.specs.Blanks.{trimmed}
 use Rattle.rinex_file.specs.Texts.{is_printable}
@@ -19,8 +19,7 @@ pub returns-clause-some : goal.returns-clause-some
 returns-clause-some g c =
     let field = c.columns-field.result.now in
     let same : c.put.new.line.items ≡ take c.cut_length.result field = c.put.ensures.text ∙ ap (λ l. l ++ take c.cut_length.result field) c.new-text.ensures in
-    let is : c.put.new.line.items ≡ trimmed field = same ∙ c.cut_length.ensures.text in
-    (
+    let is : c.put.new.line.items ≡ trimmed field = same ∙ c.cut_length.ensures.text in (
       is_text g.row.N field c.put.new.line.items c.columns-field.ensures.bound is (ap (list_all is_printable) same ∙ sym c.is_printable.ensures ∙ c.if-not-is_printable.false),
       is ∙ ap trimmed c.columns-field.ensures.value,
     )
