@@ -18,3 +18,5 @@ mod FewRows
 mod PlainTexts
 mod PlainHeader
 mod FileLines
+mod HeaderText
+mod StationLines

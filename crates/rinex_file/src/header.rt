@@ -1,8 +1,9 @@
 //! The lines of a header: RINEX 3.05, table A2.
-ghost use Rattle.std.specs.Prelude.{◌≡◌, ℕ, pos, ◌+◌, ◌*◌, ◌≤◌, [], ◌∷◌, length};
+ghost use Rattle.std.specs.Prelude.{◌≡◌, ℕ, pos, ◌+◌, ◌*◌, ◌≤◌, [], ◌∷◌, length, if◌then◌else◌};
 ghost use Rattle.arrayvec.specs.ArrayVec.{array_vec_len};
 ghost use Rattle.obs_epoch.specs.Dates.{civil_of};
-ghost use Rattle.rinex_file.specs.Header.{header_line, file_system, version_line, two, three, lengths, program_line, observer_line, receiver_line, antenna_line, position_line, delta_line, first_line};
+ghost use Rattle.rinex_file.specs.Header.{header_line, version_line, two, three, lengths, program_line, observer_line, receiver_line, antenna_line, position_line, delta_line, first_line};
+ghost use Rattle.rinex_file.specs.Progress.{version_with};
 
 use crate::fault::HeaderField;
 use crate::numbers::{Line, put, put_fixed, put_left, put_seconds, put_whole};
@@ -23,8 +24,8 @@ pub(crate) fn labelled(content: &[u8], label: &[u8]) -> Line
     line
 }
 
-// Two texts, the first in 20 columns.
-fn two_texts(a: &[u8], b: &[u8], label: &[u8]) -> Line
+/// Two texts, the first in 20 columns.
+pub(crate) fn two_texts(a: &[u8], b: &[u8], label: &[u8]) -> Line
     requires { (length a.now ≤ 60) × (length b.now ≤ 60) × (length label.now ≤ 20) }
     ensures { result.items ≡ header_line (two a.now b.now) label.now }
 {
@@ -34,8 +35,8 @@ fn two_texts(a: &[u8], b: &[u8], label: &[u8]) -> Line
     labelled(content.as_slice(), label)
 }
 
-// Three texts, the first two in 20 columns each.
-fn three_texts(a: &[u8], b: &[u8], c: &[u8], label: &[u8]) -> Line
+/// Three texts, the first two in 20 columns each.
+pub(crate) fn three_texts(a: &[u8], b: &[u8], c: &[u8], label: &[u8]) -> Line
     requires { (length a.now ≤ 60) × (length b.now ≤ 60) × (length c.now ≤ 60) × (length label.now ≤ 20) }
     ensures { result.items ≡ header_line (three a.now b.now c.now) label.now }
 {
@@ -46,8 +47,8 @@ fn three_texts(a: &[u8], b: &[u8], c: &[u8], label: &[u8]) -> Line
     labelled(content.as_slice(), label)
 }
 
-// Three numbers in 0.0001 m, as F14.4 each.
-fn three_lengths(a: i64, b: i64, c: i64, label: &[u8]) -> Line
+/// Three numbers in 0.0001 m, as F14.4 each.
+pub(crate) fn three_lengths(a: i64, b: i64, c: i64, label: &[u8]) -> Line
     requires { length label.now ≤ 20 }
     ensures { result.items ≡ header_line (lengths a b c) label.now }
 {
@@ -59,28 +60,38 @@ fn three_lengths(a: i64, b: i64, c: i64, label: &[u8]) -> Line
 }
 
 // The letter of the planned systems: `M` where both are.
-fn file_system(plan: &Plan) -> u8
-    ensures { result ≡ file_system plan.now }
+fn file_system(gps: bool, galileo: bool) -> u8
+    ensures { result ≡ (if gps then (if galileo then 77 else 71) else 69) }
 {
-    if plan.signals(System::Gps) == 0 {
+    if !gps {
         return b'E';
     }
-    if plan.signals(System::Galileo) == 0 {
+    if !galileo {
         return b'G';
     }
     b'M'
 }
 
-/// Version 3.05, the file's type and its systems.
-pub(crate) fn version_line(plan: &Plan) -> Line
-    ensures { result.items ≡ version_line plan.now }
+/// Version 3.05, the file's type and its systems: whether GPS and Galileo are planned.
+pub(crate) fn version_with(gps: bool, galileo: bool) -> Line
+    ensures { result.items ≡ version_with gps galileo }
 {
     let mut content = Line::new();
     put_fixed(&mut content, 9, 2, 100, 305);
     put(&mut content, b"           ");
     put_left(&mut content, 20, b"OBSERVATION DATA");
-    content.push(file_system(plan));
+    content.push(file_system(gps, galileo));
     labelled(content.as_slice(), b"RINEX VERSION / TYPE")
+}
+
+/// Version 3.05, the file's type and the planned systems.
+pub(crate) fn version_line(plan: &Plan) -> Line
+    ensures { result.items ≡ version_line plan.now }
+{
+    version_with(
+        plan.signals(System::Gps) > 0,
+        plan.signals(System::Galileo) > 0,
+    )
 }
 
 /// The program, who ran it, and when.

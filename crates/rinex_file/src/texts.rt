@@ -75,8 +75,8 @@ impl Model for HeaderTexts {
     } };
 }
 
-// Whether all bytes are printable.
-fn is_printable(text: &[u8]) -> bool
+/// Whether all bytes are printable.
+pub(crate) fn is_printable(text: &[u8]) -> bool
     ensures { result ≡ list_all is_printable text.now }
 {
     text.iter().all(|b| *b >= 0x20 && *b <= 0x7E)

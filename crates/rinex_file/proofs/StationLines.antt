@@ -1,0 +1,140 @@
+-- The first line of a header says which systems are planned, and the lines of position and height have their numbers back.
+use Rattle.std.proofs.Common.{arith, ◌≡◌, ◌∙◌, refl, sym, ap, ℕ, ◌+◌, ◌-◌, ◌/◌, ◌<◌, ◌≤◌, ◌^◌, List, [], ◌∷◌, ◌++◌, length, take, drop, get_or, replicate, append_assoc, append-nil, length-append, Bool, true, false, ℤ, pos, neg_ℤ, ◌≤ℤ◌, unsigned_abs}
+use Rattle.std.specs.Prelude.{◌||◌, ◌==◌, not, codes, if◌then◌else◌}
+use Rattle.std.specs.Int.{is_negative}
+use Rattle.std.proofs.lemmas.Int.{ints}
+use Rattle.std.specs.Fmt.{digits, sign_text}
+use Rattle.std.proofs.lemmas.List.{take_at, drop_at}
+use Rattle.obs_epoch.specs.Values.{PlanValue}
+use Rattle.rinex_file.specs.Numbers.{joined, left, right, fixed}
+use Rattle.rinex_file.specs.Reading.{digits_in, number_in}
+use Rattle.rinex_file.specs.Header.{header_line, version_line, lengths}
+use Rattle.rinex_file.specs.Progress.{is_planned, version_with}
+use Rattle.rinex_file.specs.FileValues.{IsCoordinate}
+use Rattle.rinex_file.proofs.Digits.{number_in-fixed, digits_in-right, digits_in-fixed, length-fixed, length-right}
+
+-- ---- version
+
+-- the first line, by the letter of its systems
+abbrev version_of : ℕ → List ℕ
+version_of letter = header_line
+    (joined (right 9 (fixed 2 (pos 305)) ∷ replicate 11 32 ∷ left 20 (codes "OBSERVATION DATA") ∷ (letter ∷ []) ∷ []))
+    (codes "RINEX VERSION / TYPE")
+
+-- the letter of the planned systems
+abbrev pub letter_with : Bool → Bool → ℕ
+letter_with gps galileo = if gps then (if galileo then 77 else 71) else 69
+
+-- the letter by the systems that are not planned
+abbrev letter_without : Bool → Bool → ℕ
+letter_without gps galileo = if gps then 69 else (if galileo then 71 else 77)
+
+turned : (gps galileo : Bool) → letter_without gps galileo ≡ letter_with (not gps) (not galileo)
+turned true galileo = refl
+turned false true = refl
+turned false false = refl
+
+-- the first line says which systems are planned
+pub version_line-planned : (p : PlanValue) → version_line p ≡ version_with (is_planned p.gps) (is_planned p.galileo)
+version_line-planned p = ap version_of (turned (length p.gps == 0) (length p.galileo == 0))
+
+letter_back : (letter : ℕ) → get_or (version_of letter) 40 0 ≡ letter
+unfolding header_line digits
+letter_back letter = refl
+
+-- the systems that a letter stands for
+abbrev planned_by : ℕ → Bool × Bool
+planned_by letter = if letter == 77 then (true, true) else (if letter == 71 then (true, false) else (false, true))
+
+planned_back : (p : Bool × Bool) → (p.0 || p.1) ≡ true → planned_by (letter_with p.0 p.1) ≡ p
+planned_back (true, true) some = refl
+planned_back (true, false) some = refl
+planned_back (false, true) some = refl
+planned_back (false, false) some = cc
+
+-- the systems that the first line says are had back
+pub version_determines : (line : List ℕ) (p q : Bool × Bool) → (p.0 || p.1) ≡ true → (q.0 || q.1) ≡ true
+    → line ≡ version_with p.0 p.1 → line ≡ version_with q.0 q.1 → q ≡ p
+version_determines line p q a b e f =
+    let letters : letter_with q.0 q.1 ≡ letter_with p.0 p.1 =
+    sym (letter_back (letter_with q.0 q.1)) ∙ ap (λ l. get_or l 40 0) (sym f ∙ e) ∙ letter_back (letter_with p.0 p.1) in
+    sym (planned_back q b) ∙ ap planned_by letters ∙ planned_back p a
+
+-- ---- position and height
+
+length-sign : (b : Bool) → length (sign_text b) ≤ 1
+length-sign true = omega arith
+length-sign false = omega arith
+
+-- a number that fourteen columns have room for
+abbrev pub Fits14 : ℤ → Type 0
+Fits14 z = unsigned_abs z < 10 ^ 12
+
+fits_64 : (n : ℕ) → n < 10 ^ 12 → n < 2 ^ 64
+fits_64 n h = omega (arith, h)
+
+whole_digits : (n : ℕ) → n < 10 ^ 12 → n / 10 ^ 4 < 10 ^ 8
+whole_digits n h = omega (arith, h)
+
+length-column : (z : ℤ) → Fits14 z → length (right 14 (fixed 4 z)) ≡ 14
+length-column z h =
+    let text = length-fixed 4 8 z (omega arith) (omega arith) (fits_64 (unsigned_abs z) h) (whole_digits (unsigned_abs z) h) in
+    length-right 14 (fixed 4 z) (within (length (fixed 4 z)) (length (sign_text (is_negative z))) text (length-sign (is_negative z)))
+  where
+    within : (n k : ℕ) → n ≤ k + (8 + (1 + 4)) → k ≤ 1 → n ≤ 14
+    within n k a b = omega (arith, a, b)
+
+number_back : (z : ℤ) → Fits14 z → number_in (right 14 (fixed 4 z)) ≡ z
+number_back z h = number_in-fixed 14 4 z (omega arith) (fits_64 (unsigned_abs z) h)
+
+-- three fields in front of what stands behind
+begins : (f g h label : List ℕ) → (rest : List ℕ) × (header_line (joined (f ∷ g ∷ h ∷ [])) label ≡ f ++ (g ++ (h ++ rest)))
+unfolding header_line
+begins f g h label =
+    let blanks = replicate (60 - length (joined (f ∷ g ∷ h ∷ []))) 32 in
+    let tail = left 20 label ++ (10 ∷ []) in
+    let rest = blanks ++ tail in (
+      rest,
+      append_assoc (joined (f ∷ g ∷ h ∷ [])) blanks tail
+          ∙ ap (λ l. (f ++ (g ++ l)) ++ rest) (append-nil h)
+          ∙ append_assoc f (g ++ h) rest
+          ∙ ap (λ l. f ++ l) (append_assoc g h rest),
+    )
+
+-- columns of a line from one on, read as a number
+abbrev pub number_at : ℕ → List ℕ → ℤ
+number_at from line = number_in (take 14 (drop from line))
+
+field_at : (from : ℕ) (front field rest line : List ℕ) → length front ≡ from → length field ≡ 14 → line ≡ front ++ (field ++ rest) → take 14 (drop from line) ≡ field
+field_at from front field rest line l w e = ap (λ t. take 14 (drop from t)) e ∙ ap (take 14) (drop_at front (field ++ rest) from l) ∙ take_at field rest 14 w
+
+pub lengths-back : (x y z : ℤ) (label : List ℕ) → Fits14 x → Fits14 y → Fits14 z
+    → (number_at 0 (header_line (lengths x y z) label) ≡ x) × (number_at 14 (header_line (lengths x y z) label) ≡ y) × (number_at 28 (header_line (lengths x y z) label) ≡ z)
+lengths-back x y z label a b c =
+    let line = header_line (lengths x y z) label in
+    let f = right 14 (fixed 4 x) in
+    let g = right 14 (fixed 4 y) in
+    let h = right 14 (fixed 4 z) in
+    let (rest, shape) = begins f g h label in
+    let two : length (f ++ g) ≡ 28 = length-append f g ∙ ap (λ n. n + length g) (length-column x a) ∙ ap (λ n. 14 + n) (length-column y b) in (
+      ap number_in (field_at 0 [] f (g ++ (h ++ rest)) line refl (length-column x a) shape) ∙ number_back x a,
+      ap number_in (field_at 14 f g (h ++ rest) line (length-column x a) (length-column y b) shape) ∙ number_back y b,
+      ap number_in (field_at 28 (f ++ g) h rest line two (length-column z c) (shape ∙ sym (append_assoc f g (h ++ rest)))) ∙ number_back z c,
+    )
+
+-- the height is no less than zero
+pub height-back : (h : ℕ) (y z : ℤ) (label : List ℕ) → h < 2 ^ 16 → digits_in (take 14 (drop 0 (header_line (lengths (pos h) y z) label))) ≡ h
+height-back h y z label small =
+    let line = header_line (lengths (pos h) y z) label in
+    let f = right 14 (fixed 4 (pos h)) in
+    let (rest, shape) = begins f (right 14 (fixed 4 y)) (right 14 (fixed 4 z)) label in
+    let few : Fits14 (pos h) = omega (arith, small) in
+    ap digits_in (field_at 0 [] f (right 14 (fixed 4 y) ++ (right 14 (fixed 4 z) ++ rest)) line refl (length-column (pos h) few) shape)
+    ∙ digits_in-right 14 (fixed 4 (pos h)) ∙ digits_in-fixed 4 (pos h) (omega arith) (fits_64 h few)
+
+size_within : (z : ℤ) → neg_ℤ (pos 137_438_953_472) ≤ℤ z → z ≤ℤ pos 137_438_953_471 → unsigned_abs z < 10 ^ 12
+size_within z low high = omega (arith, ints)
+
+-- the columns have room for a coordinate
+pub coordinate-fits : (z : ℤ) → IsCoordinate z → Fits14 z
+coordinate-fits z is = size_within z is.0 is.1
