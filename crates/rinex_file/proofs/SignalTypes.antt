@@ -1,9 +1,11 @@
 -- The types of a system's signals, one after the other.
 use Rattle.std.proofs.lemmas.Bool.{cases_lt}
-use Rattle.std.proofs.Common.{inl, inr, arith, ◌≡◌, ◌∙◌, sym, ap, refl, ℕ, zero, suc, ◌+◌, ◌-◌, ◌*◌, ◌/◌, ◌%◌, ◌<◌, ◌≤◌, List, [], ◌∷◌, ◌++◌, length, take, drop, get_or, append_assoc, append-nil}
+use Rattle.std.proofs.Common.{inl, inr, arith, ◌≡◌, ◌∙◌, sym, ap, refl, subst, ℕ, zero, suc, ◌+◌, ◌-◌, ◌*◌, ◌/◌, ◌%◌, ◌<◌, ◌≤◌, List, [], ◌∷◌, ◌++◌, length, take, drop, get_or, append_assoc, append-nil}
 use Rattle.std.specs.Prelude.{map, flat_map, slice_index}
 use Rattle.std.proofs.lemmas.List.{take_more, get_or-drop, length-drop, take_all}
-use Rattle.gnss_obs.specs.Signals.{SignalAt, code_of}
+use Rattle.std.proofs.lemmas.List.Elements.{All-get_or}
+use Rattle.gnss_obs.specs.Signals.{SignalAt, IsSignal, code_of}
+use Rattle.obs_epoch.specs.Signals.{indices, IsOf}
 use Rattle.gnss_obs.specs.declared.system.System.{System}
 use Rattle.rinex_file.specs.Header.{type_of, types_of, codes_of, type_columns}
 use Rattle.rinex_file.proofs.Entries.{flat_map-append}
@@ -112,3 +114,14 @@ pub types_done : (types : List (List ℕ)) (row i : ℕ) (front text : List ℕ)
     → text ≡ front ++ columns (take (i - 13 * row) (drop (13 * row) types)) → text ≡ front ++ type_columns types row
 types_done types row i front text low high end is =
     is ∙ ap (λ l. front ++ columns l) (full_or_all types row i low high end)
+
+-- ---- signals of a system, at their places
+
+pub index_here : (ss : List SignalAt) (k : ℕ) (s : SignalAt) → k < length ss → s ≡ get_or ss k s → s.index ≡ slice_index (indices ss) k
+index_here [] k s less is = absurd (omega (arith, less))
+index_here (x ∷ ss) zero s less is = ap (λ (r : SignalAt). r.index) is
+index_here (x ∷ ss) (suc k) s less is = index_here ss k s (omega (arith, less)) is
+
+pub system_here : (system : System) (ss : List SignalAt) (k : ℕ) (s : SignalAt) → IsOf system ss → k < length ss → s ≡ get_or ss k s → s.system ≡ system
+system_here system ss k s of less is =
+    subst (λ (r : SignalAt). r.system ≡ system) (sym is) (All-get_or (λ (r : SignalAt). (r.system ≡ system) × IsSignal r) ss k s less of.each).0
