@@ -5,6 +5,7 @@ mod Columns
 mod Found
 mod Entries
 mod SignalTypes
+mod TypeCodes
 mod Sections
 mod Sent
 mod Faultless
