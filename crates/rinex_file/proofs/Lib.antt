@@ -6,6 +6,7 @@ mod Found
 mod Entries
 mod SignalTypes
 mod TypeCodes
+mod TypeRows
 mod Sections
 mod Sent
 mod Faultless

@@ -35,7 +35,7 @@ none_more r = omega arith
 steps : (q r : ℕ) → 4 * suc q + r ≡ suc (suc (suc (suc (4 * q + r))))
 steps q r = omega arith
 
-types_at : (cs : List (List ℕ)) (q r : ℕ) (d e : List ℕ) → q < length cs → r < 4 → get_or (types_of cs) (4 * q + r) e ≡ type_of r (get_or cs q d)
+pub types_at : (cs : List (List ℕ)) (q r : ℕ) (d e : List ℕ) → q < length cs → r < 4 → get_or (types_of cs) (4 * q + r) e ≡ type_of r (get_or cs q d)
 types_at [] q r d e h k = absurd (omega (arith, h))
 types_at (c ∷ cs) zero r d e h k = ap (λ n. get_or (types_of (c ∷ cs)) n e) (none_more r) ∙ first_four c (types_of cs) r e k
 types_at (c ∷ cs) (suc q) r d e h k = ap (λ n. get_or (types_of (c ∷ cs)) n e) (steps q r) ∙ types_at cs q r d e (omega (arith, h)) k
@@ -46,7 +46,7 @@ quarter i n h = omega (arith, h)
 split : (i : ℕ) → i ≡ 4 * (i / 4) + i % 4
 split i = omega arith
 
-type_here : (cs : List (List ℕ)) (i : ℕ) (e : List ℕ) → i < 4 * length cs → get_or (types_of cs) i e ≡ type_of (i % 4) (get_or cs (i / 4) [])
+pub type_here : (cs : List (List ℕ)) (i : ℕ) (e : List ℕ) → i < 4 * length cs → get_or (types_of cs) i e ≡ type_of (i % 4) (get_or cs (i / 4) [])
 type_here cs i e h = ap (λ n. get_or (types_of cs) n e) (split i) ∙ types_at cs (i / 4) (i % 4) [] e (quarter i (length cs) h) (omega arith)
 
 same_code : (s : SignalAt) (system : System) (index : ℕ) → s.index ≡ index → s.system ≡ system → code_of s ≡ code_of (record { system = system; index = index })
