@@ -1,9 +1,9 @@
 -- A line of types: the columns of the signals that begin in it, and the signals that it shows.
-use Rattle.std.proofs.Common.{arith, rules, ◌≡◌, ◌∙◌, sym, ap, ap₂, refl, subst, ℕ, zero, suc, ◌+◌, ◌-◌, ◌*◌, ◌/◌, ◌%◌, ◌<◌, ◌≤◌, ◌||◌, ◌==◌, Bool, true, false, min, List, [], ◌∷◌, ◌++◌, length, map, take, drop, get_or, replicate, decimal, nat_eq, append_assoc, length-append, length-take, length-drop}
+use Rattle.std.proofs.Common.{arith, rules, ◌≡◌, ◌∙◌, sym, ap, ap₂, refl, subst, ℕ, zero, suc, ◌+◌, ◌-◌, ◌*◌, ◌/◌, ◌%◌, ◌^◌, ◌<◌, ◌≤◌, ◌||◌, ◌==◌, Bool, true, false, min, List, [], ◌∷◌, ◌++◌, length, map, take, drop, get_or, replicate, decimal, nat_eq, append_assoc, length-append, length-take, length-drop}
 use Rattle.std.specs.Prelude.{flat_map, codes, slice_index, All}
 use Rattle.std.specs.List.{list_any, IsDistinct}
 use Rattle.std.proofs.lemmas.List.{take_more, take_all, take_at, take-take, take-map, drop_at, drop-drop, drop-take, get_or-take, get_or-drop, length-replicate}
-use Rattle.std.proofs.lemmas.List.Elements.{All-get_or}
+use Rattle.std.proofs.lemmas.List.Elements.{All-get_or, All-head, All-tail}
 use Rattle.std.proofs.lemmas.Map.Keys.{apart_from_distinct, IsDistinct-tail}
 use Rattle.std.proofs.lemmas.Map.Steps.{length-le_from_distinct_below}
 use Rattle.std.proofs.lemmas.Fmt.{length-decimal-le}
@@ -14,8 +14,9 @@ use Rattle.obs_epoch.proofs.PlanLemmas.{any_index, indices-push}
 use Rattle.rinex_file.specs.Numbers.{joined, left, right}
 use Rattle.rinex_file.specs.Lines.{letter_of}
 use Rattle.rinex_file.specs.Header.{header_line, type_of, types_of, codes_of, type_front, type_columns, type_line}
+use Rattle.rinex_file.specs.Reading.{digits_in}
 use Rattle.rinex_file.specs.Progress.{AreTypes, types_line, begun}
-use Rattle.rinex_file.proofs.Digits.{length-right}
+use Rattle.rinex_file.proofs.Digits.{length-right, digits_in-whole}
 use Rattle.rinex_file.proofs.SignalTypes.{columns, signal_type, length-types_of, length-system_types}
 use Rattle.rinex_file.proofs.TypeCodes.{length-code}
 
@@ -187,3 +188,64 @@ taken_before system all line row place old are few is low high less bad before =
     let s = signal_at system all place in
     let found = bad s (listed_at system all place are less) refl (code_here system all line row place are few is low high less) in
     not_both _ found (any_index (slice_index all place) old ∙ ap (list_any (nat_eq (slice_index all place))) before ∙ not_before all place are.apart less)
+
+-- ---- the whole line
+
+-- a line that shows as many types and the signals so far is that of all
+pub shown_line : (system : System) (all so_far : List ℕ) (row count : ℕ) → length all ≡ count → so_far ≡ take (begun (row + 1)) all
+    → header_line (type_front (letter_of system) (4 * count) row ++ type_columns (types_of (codes_of system so_far)) row) (codes "SYS / # / OBS TYPES") ≡ types_line system all row
+shown_line system all so_far row count size is =
+    ap₂ (λ (n : ℕ) ts. header_line (type_front (letter_of system) n row ++ ts) (codes "SYS / # / OBS TYPES"))
+    (ap (λ (n : ℕ). 4 * n) (sym size) ∙ sym (length-system_types system all))
+    (ap (λ l. type_columns (types_of (codes_of system l)) row) is ∙ row_shown system all row)
+
+-- ---- the number of signals
+
+either : (P : Type 0) (a b : Bool) → (a ≡ true → P) → (b ≡ true → P) → (a || b) ≡ true → P
+either P true b f g h = f refl
+either P false b f g h = g h
+
+same_number : (a b : ℕ) → nat_eq a b ≡ true → b ≡ a
+same_number a b h = grind (arith, h)
+
+among_listed : (most : ℕ) (all : List ℕ) → All (λ i. i < most) all → (q : ℕ) → list_any (nat_eq q) all ≡ true → q < most
+among_listed most [] listed q found = grind (arith, found)
+among_listed most (x ∷ all) listed q found =
+    either (q < most) (nat_eq q x) (list_any (nat_eq q) all) (λ same. subst (λ (n : ℕ). n < most) (same_number q x same) (All-head (λ i. i < most) x all listed))
+    (among_listed most all (All-tail (λ i. i < most) x all listed) q) found
+
+pub few_types : (system : System) (all : List ℕ) → AreTypes system all → length all ≤ length (table system)
+few_types system all are = length-le_from_distinct_below all (length (table system)) are.apart (among_listed (length (table system)) all are.listed)
+
+-- the first line shows the number in its columns
+pub count_shown : (system : System) (all line : List ℕ) → AreTypes system all → length (table system) ≤ 19 → line ≡ types_line system all 0
+    → take 3 (drop 3 line) ≡ right 3 (decimal (4 * length all))
+count_shown system all line are bound is =
+    let types = types_of (codes_of system all) in
+    let number = right 3 (decimal (length types)) in
+    let few = few_types system all are in
+    let size : length types < 1000 = rw (length-system_types system all) (omega (arith, few, bound)) in
+    let digits : length (decimal (length types)) ≤ 3 = length-decimal-le 3 (length types) (omega arith) (omega (arith, size)) (omega (arith, size)) in
+    let first = content_first (type_front (letter_of system) (length types) 0 ++ type_columns types 0) (codes "SYS / # / OBS TYPES") in
+    ap (λ l. take 3 (drop 3 l)) (is ∙ first.1 ∙ append_assoc (letter_of system ∷ 32 ∷ 32 ∷ number) (type_columns types 0) first.0)
+    ∙ take_at number (type_columns types 0 ++ first.0) 3 (length-right 3 (decimal (length types)) digits)
+    ∙ ap (λ (n : ℕ). right 3 (decimal n)) (length-system_types system all)
+
+pub count_read : (system : System) (all line : List ℕ) → AreTypes system all → length (table system) ≤ 19 → line ≡ types_line system all 0
+    → digits_in (take 3 (drop 3 line)) / 4 ≡ length all
+count_read system all line are bound is =
+    let few = few_types system all are in
+    let fits : 4 * length all < 2 ^ 64 = omega (arith, few, bound) in
+    ap (λ t. digits_in t / 4) (count_shown system all line are bound is) ∙ ap (λ (n : ℕ). n / 4) (digits_in-whole 3 (4 * length all) fits) ∙ fourth (length all) where
+  fourth : (k : ℕ) → 4 * k / 4 ≡ k
+  fourth k = omega arith
+
+pub count_within : (system : System) (all line : List ℕ) → AreTypes system all → length (table system) ≤ 19 → line ≡ types_line system all 0 → 6 ≤ length line
+count_within system all line are bound is =
+    let few = few_types system all are in
+    let small : 4 * length all < 1000 = omega (arith, few, bound) in
+    let digits : length (decimal (4 * length all)) ≤ 3 = length-decimal-le 3 (4 * length all) (omega arith) small (omega (arith, small)) in
+    let l : length (take 3 (drop 3 line)) ≡ 3 = ap length (count_shown system all line are bound is) ∙ length-right 3 (decimal (4 * length all)) digits in
+    reach (length line) (sym (length-take 3 (drop 3 line) ∙ ap (min 3) (length-drop 3 line)) ∙ l) where
+  reach : (n : ℕ) → min 3 (n - 3) ≡ 3 → 6 ≤ n
+  reach n h = omega (arith, h)

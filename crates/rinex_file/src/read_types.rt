@@ -20,11 +20,10 @@ pub(crate) fn read_count(line: &[u8], system: System) -> Option<usize>
 {
     let types = digits_in(line.get(3..6)?);
     let count = types as usize / 4;
-    if (1..=system.signals()).contains(&count) {
-        Some(count)
-    } else {
-        None
+    if count == 0 || count > system.signals() {
+        return None;
     }
+    Some(count)
 }
 
 /// Takes the signals whose types begin in a line, behind those of the lines before, where so many are planned.
