@@ -17,6 +17,7 @@ use Rattle.rinex_file.specs.File.{stamped_lines, change_lines, file_lines}
 use Rattle.rinex_file.specs.Progress.{Progress, Known, Shown, IsShown, shown_lines, shown_of, IsHeaderLeft, IsHeaderRead, MayFollow, file_with, stamped, StartsAt, IsInHeader, IsAt, IsBetween, IsWithin, GoesOn}
 use Rattle.rinex_file.specs.Sound.{AreRead, IsBegun, IsSoundAt, IsSound}
 use Rattle.rinex_file.proofs.Sections.{rows_at, emit}
+use Rattle.rinex_file.proofs.BodySteps.{All-midst, plain_lines}
 
 -- what is shown of a file value may be shown
 pub shown_is : (v : FileValue) (e : Stamped) (es : List Stamped) → v.epochs ≡ e ∷ es → IsFileValue v → IsShown (shown_of v e.time)
@@ -176,3 +177,111 @@ sound_start s k shown none =
 
 pub sound_header : (s : Progress) (section : Section) (row : ℕ) → s.due ≡ Header section row → IsSound s → (s.epochs ≡ []) × (s.rows ≡ [])
 sound_header s section row due sound = subst (λ d. IsSoundAt s d) due sound
+
+-- ---- the first line
+
+module _ (s : Progress) (due : s.due ≡ Header Version 0)
+    (step : (h : Shown) (left : List (List ℕ)) → IsHeaderLeft s.known Version 0 h left ↔ (IsShown h × (left ≡ header_lines h.texts h.plan h.values (civil_of h.first)))) where
+  from_first : (v : FileValue) (left : List (List ℕ)) (epochs : List Stamped) → v.epochs ≡ epochs → IsFileValue v → left ≡ file_lines v → IsInHeader s Version 0 v left
+  from_first v left [] epochs is lines =
+      let size = ap length epochs in
+      let some = is.some in
+      absurd (omega (arith, size, some))
+  from_first v left (e ∷ es) epochs is lines =
+      record {
+        first = e;
+        others = es;
+        lines = header_lines v.texts v.plan v.values (civil_of e.time);
+        epochs = epochs;
+        header = (step (shown_of v e.time) (header_lines v.texts v.plan v.values (civil_of e.time))).1 (shown_is v e es epochs is, refl);
+        rest = lines ∙ lines_by_first v e es epochs;
+      }
+
+  pub header_starts : (v : FileValue) (left : List (List ℕ)) → GoesOn s v left ↔ (IsFileValue v × (left ≡ file_lines v))
+  unfolding GoesOn
+  header_starts v left =
+      (λ on.
+          let here : IsInHeader s Version 0 v left = subst (λ d. IsAt s d v left) due on.1 in
+          let header = (step (shown_of v here.first.time) here.lines).0 here.header in
+          (on.0, here.rest ∙ ap (λ l. l ++ flat_map stamped_lines (here.first ∷ here.others)) header.1 ∙ sym (lines_by_first v here.first here.others here.epochs)),
+      λ is. (is.0, subst (λ d. IsAt s d v left) (sym due) (from_first v left v.epochs refl is.0 is.1)))
+
+-- ---- the end
+
+none_begins : (s : Progress) (section : Section) (row : ℕ) (v : FileValue) (first : Stamped) (others : List Stamped) (lines : List (List ℕ))
+    → IsHeaderLeft s.known section row (shown_of v first.time) lines → [] ≡ lines ++ flat_map stamped_lines (first ∷ others) → ⊥
+none_begins s section row v first others [] header rest = some_left s.known section row (shown_of v first.time) header
+none_begins s section row v first others (l ∷ ls) header rest = cc
+
+pub header_unfinished : (s : Progress) (section : Section) (row : ℕ) → s.due ≡ Header section row → (v : FileValue) → GoesOn s v [] → ⊥
+unfolding GoesOn
+header_unfinished s section row due v (is, at) =
+    let here : IsInHeader s section row v [] = subst (λ d. IsAt s d v []) due at in
+    none_begins s section row v here.first here.others here.lines here.header here.rest
+
+no_rows_left : (n : ℕ) (more : List Seen) (others : List Stamped) → 0 < n → length more ≡ n → [] ≡ map seen_line more ++ flat_map stamped_lines others → ⊥
+no_rows_left n [] others some count rest = omega (arith, some, count)
+no_rows_left n (m ∷ ms) others some count rest = cc
+
+pub epoch_unfinished : (s : Progress) (n : ℕ) → s.due ≡ Satellite n → IsSound s → (v : FileValue) → GoesOn s v [] → ⊥
+unfolding GoesOn
+epoch_unfinished s n due sound v (is, at) =
+    let here : IsWithin s n v [] = subst (λ d. IsAt s d v []) due at in
+    let all : AreRead s × IsBegun s × (0 < n) = subst (λ d. IsSoundAt s d) due sound in
+    no_rows_left n here.more here.others all.2 here.count here.rest
+
+-- no epoch is left where no line is
+none_left : (s : Progress) (v : FileValue) (others : List Stamped) → IsFileValue v → v ≡ file_with s (s.epochs ++ others) → [] ≡ flat_map stamped_lines others → others ≡ []
+none_left s v [] is value rest = refl
+none_left s v (e ∷ es) is value rest =
+    let valid : IsFileValue (file_with s (s.epochs ++ e ∷ es)) = subst IsFileValue value is in
+    let one = All-midst (IsStamped (length s.known.shown.plan.gps) (length s.known.shown.plan.galileo)) s.epochs es e valid.epochs in
+    let text : [] ≡ (epoch_line (civil_of e.time) (length e.rows) ∷ map seen_line e.rows) ++ flat_map stamped_lines es =
+    rest ∙ ap (λ l. l ++ flat_map stamped_lines es) (plain_lines e one.same) in
+    cc
+
+-- what was read whole is the only file that goes on without a line
+pub only_file : (s : Progress) → s.due ≡ Epoch → (v : FileValue) → GoesOn s v [] → v ≡ file_with s s.epochs
+unfolding GoesOn
+only_file s due v (is, at) =
+    let here : IsBetween s v [] = subst (λ d. IsAt s d v []) due at in
+    let none = none_left s v here.others is here.value here.rest in
+    here.value ∙ ap (file_with s) (ap (λ x. s.epochs ++ x) none ∙ append-nil s.epochs)
+
+file_value : (s : Progress) (v : FileValue) (left : List (List ℕ)) → GoesOn s v left → IsFileValue v
+unfolding GoesOn
+file_value s v left on = on.0
+
+pub no_file : (s : Progress) → s.due ≡ Epoch → s.epochs ≡ [] → (v : FileValue) → GoesOn s v [] → ⊥
+no_file s due none v on =
+    let value = only_file s due v on in
+    let is : IsFileValue v = file_value s v [] on in
+    let epochs : v.epochs ≡ [] = ap (λ w. w.epochs) value ∙ none in
+    let size = ap length epochs in
+    let some = is.some in
+    omega (arith, size, some)
+
+pub file_read : (s : Progress) → s.due ≡ Epoch → IsSound s → 0 < length s.epochs → IsFileValue (file_with s s.epochs)
+file_read s due sound some =
+    let read : AreRead s × (s.rows ≡ []) = subst (λ d. IsSoundAt s d) due sound in
+    record {
+      texts = read.0.shown.texts;
+      plan = read.0.shown.plan;
+      values = read.0.shown.values;
+      some = some;
+      epochs = read.0.epochs;
+      rising = read.0.rising;
+    }
+
+pub goes_on : (s : Progress) → s.due ≡ Epoch → IsSound s → 0 < length s.epochs → GoesOn s (file_with s s.epochs) []
+unfolding GoesOn
+goes_on s due sound some =
+    let read : AreRead s × (s.rows ≡ []) = subst (λ d. IsSoundAt s d) due sound in
+    let all : s.epochs ≡ s.epochs ++ [] = sym (append-nil s.epochs) in
+    let here : IsBetween s (file_with s s.epochs) [] = record {
+      others = [];
+      value = ap (file_with s) all;
+      starts = subst (StartsAt s.known.shown.first) all read.0.starts;
+      rest = refl;
+    } in
+    (file_read s due sound some, subst (λ d. IsAt s d (file_with s s.epochs) []) (sym due) here)

@@ -1,11 +1,11 @@
 //! What was read of a file, line by line.
-ghost use Rattle.std.specs.Prelude.{◌≡◌, ◌<◌, ◌≤◌, ◌∷◌, ◌++◌, ◌↔◌, ℕ, [], List, OnOk, IfSome, IfNone, IfOk, IfErr, Err, None, IsTrue, map, length};
+ghost use Rattle.std.specs.Prelude.{◌≡◌, ◌<◌, ◌≤◌, ◌+◌, ◌^◌, ◌∷◌, ◌++◌, ◌↔◌, ℕ, [], List, OnOk, IfSome, IfNone, IfOk, IfErr, Err, None, IsTrue, map, length};
 ghost use Rattle.std.specs.List.Sorted.{IsStrictlyIncreasing};
 ghost use Rattle.rinex_file.specs.Value.{FileValue};
 ghost use Rattle.rinex_file.specs.FileValues.{IsFileValue, rank_of, time_of, most_rows};
 ghost use Rattle.rinex_file.specs.File.{file_lines};
 ghost use Rattle.rinex_file.specs.Progress.{GoesOn, begun_at};
-ghost use Rattle.rinex_file.specs.ProgressOf.{progress_of};
+ghost use Rattle.rinex_file.specs.ProgressOf.{progress_of, IsCounted};
 ghost use Rattle.rinex_file.specs.Sound.{IsSound, MayBegin};
 
 use crate::due::{Due, Refusal};
@@ -29,6 +29,7 @@ pub(crate) struct Reading {
     epochs: Vec<KeptEpoch>,
     time: GpsTime,
     rows: Vec<KeptSeen>,
+    satellites: usize,
     alloc: Global,
 }
 
@@ -90,6 +91,8 @@ impl Reading {
     /// Nothing was read.
     pub(crate) fn new(alloc: Global) -> Reading
         ensures sound { IsSound (progress_of result) }
+        ensures counted { IsCounted result }
+        ensures none { result.satellites ≡ 0 }
         ensures starts { (v : FileValue) (left : List (List ℕ)) → GoesOn (progress_of result) v left ↔ (IsFileValue v × (left ≡ file_lines v)) }
     {
         let head = HeadSoFar::new(alloc);
@@ -100,6 +103,7 @@ impl Reading {
             epochs: Vec::new(alloc),
             time,
             rows: Vec::new(alloc),
+            satellites: 0,
             alloc,
         }
     }
@@ -107,8 +111,12 @@ impl Reading {
     /// Takes the next line; the second buffer is for what the line would be.
     pub(crate) fn take(&mut self, line: &[u8], again: &mut Line) -> Result<(), Refusal>
         requires sound { IsSound (progress_of self.old) }
+        requires counted { IsCounted self.old }
+        requires room { self.old.satellites < 2 ^ 40 }
         requires short { length line.now ≤ 1220 }
         ensures sound { OnOk result (IsSound (progress_of self.new)) }
+        ensures counted { OnOk result (IsCounted self.new) }
+        ensures grown { OnOk result (self.new.satellites ≤ self.old.satellites + 1) }
         ensures taken { OnOk result ((v : FileValue) (left : List (List ℕ)) → GoesOn (progress_of self.old) v (line.now ∷ left) ↔ GoesOn (progress_of self.new) v left) }
         ensures bad { result ≡ Err Refusal.Bad → (v : FileValue) (left : List (List ℕ)) → GoesOn (progress_of self.old) v (line.now ∷ left) → ⊥ }
     {
@@ -128,8 +136,12 @@ impl Reading {
         again: &mut Line,
     ) -> Result<(), Refusal>
         requires sound { IsSound (progress_of self.old) }
+        requires counted { IsCounted self.old }
+        requires room { self.old.satellites < 2 ^ 40 }
         requires due { self.old.due ≡ Due.Header section row }
         ensures sound { OnOk result (IsSound (progress_of self.new)) }
+        ensures counted { OnOk result (IsCounted self.new) }
+        ensures grown { OnOk result (self.new.satellites ≤ self.old.satellites + 1) }
         ensures taken { OnOk result ((v : FileValue) (left : List (List ℕ)) → GoesOn (progress_of self.old) v (line.now ∷ left) ↔ GoesOn (progress_of self.new) v left) }
         ensures bad { result ≡ Err Refusal.Bad → (v : FileValue) (left : List (List ℕ)) → GoesOn (progress_of self.old) v (line.now ∷ left) → ⊥ }
     {
@@ -149,8 +161,12 @@ impl Reading {
     // Takes the line of an epoch.
     fn take_epoch(&mut self, line: &[u8], again: &mut Line) -> Result<(), Refusal>
         requires sound { IsSound (progress_of self.old) }
+        requires counted { IsCounted self.old }
+        requires room { self.old.satellites < 2 ^ 40 }
         requires due { self.old.due ≡ Due.Epoch }
         ensures sound { OnOk result (IsSound (progress_of self.new)) }
+        ensures counted { OnOk result (IsCounted self.new) }
+        ensures grown { OnOk result (self.new.satellites ≤ self.old.satellites + 1) }
         ensures taken { OnOk result ((v : FileValue) (left : List (List ℕ)) → GoesOn (progress_of self.old) v (line.now ∷ left) ↔ GoesOn (progress_of self.new) v left) }
         ensures bad { result ≡ Err Refusal.Bad → (v : FileValue) (left : List (List ℕ)) → GoesOn (progress_of self.old) v (line.now ∷ left) → ⊥ }
     {
@@ -171,6 +187,7 @@ impl Reading {
         requires sound { IsSound (progress_of self.old) }
         requires due { self.old.due ≡ Due.Epoch }
         ensures may { IsTrue result → MayBegin (progress_of self.old) time satellites }
+        ensures same { self.new.satellites ≡ self.old.satellites }
         ensures begun { IsTrue result → progress_of self.new ≡ begun_at (progress_of self.old) time satellites }
         ensures refused { MayBegin (progress_of self.old) time satellites → IsTrue result }
     {
@@ -194,9 +211,13 @@ impl Reading {
         again: &mut Line,
     ) -> Result<(), Refusal>
         requires sound { IsSound (progress_of self.old) }
+        requires counted { IsCounted self.old }
+        requires room { self.old.satellites < 2 ^ 40 }
         requires due { self.old.due ≡ Due.Satellite left }
         requires short { length line.now ≤ 1220 }
         ensures sound { OnOk result (IsSound (progress_of self.new)) }
+        ensures counted { OnOk result (IsCounted self.new) }
+        ensures grown { OnOk result (self.new.satellites ≤ self.old.satellites + 1) }
         ensures taken { OnOk result ((v : FileValue) (left : List (List ℕ)) → GoesOn (progress_of self.old) v (line.now ∷ left) ↔ GoesOn (progress_of self.new) v left) }
         ensures bad { result ≡ Err Refusal.Bad → (v : FileValue) (left : List (List ℕ)) → GoesOn (progress_of self.old) v (line.now ∷ left) → ⊥ }
     {
@@ -212,6 +233,7 @@ impl Reading {
             Ok(()) => {}
             Err(_) => return Err(Refusal::Memory),
         }
+        self.satellites += 1;
         if left > 1 {
             self.due = Due::Satellite(left - 1);
             return Ok(());
@@ -236,9 +258,31 @@ impl Reading {
     /// The file, or None where lines are missing.
     pub(crate) fn finish(self) -> Option<ObsFile>
         requires sound { IsSound (progress_of self) }
+        requires counted { IsCounted self }
         ensures some { IfSome result (λ f. GoesOn (progress_of self) f [] × ((v : FileValue) → GoesOn (progress_of self) v [] → v ≡ f)) }
         ensures none { IfNone result ((v : FileValue) → GoesOn (progress_of self) v [] → ⊥) }
     {
-        None
+        let Reading {
+            due,
+            head,
+            epochs,
+            satellites,
+            ..
+        } = self;
+        match due {
+            Due::Epoch => {}
+            _ => return None,
+        }
+        if epochs.is_empty() {
+            return None;
+        }
+        let parts = head.into_parts()?;
+        Some(ObsFile {
+            texts: parts.texts,
+            plan: parts.plan,
+            values: parts.values,
+            epochs,
+            satellites,
+        })
     }
 }
