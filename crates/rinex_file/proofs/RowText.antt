@@ -4,7 +4,7 @@ use Rattle.std.specs.Prelude.{◌==◌, if◌then◌else◌, flat_map, All}
 use Rattle.std.specs.Int.{is_negative}
 use Rattle.std.specs.Fmt.{sign_text}
 use Rattle.std.proofs.lemmas.Int.{ints, to_z-of_z, fits_signed_from_abs}
-use Rattle.std.proofs.lemmas.List.{length-replicate, take_at, drop_at}
+use Rattle.std.proofs.lemmas.List.{length-replicate, take_at, drop_at, take_all}
 use Rattle.std.proofs.lemmas.List.Elements.{All-head, All-tail}
 use Rattle.rinex_file.specs.Numbers.{right, padded, fixed}
 use Rattle.rinex_file.specs.Reading.{digits_in, number_in, has}
@@ -16,6 +16,7 @@ use Rattle.rinex_file.specs.Value.{Entry, Row, Seen}
 use Rattle.rinex_file.specs.FileValues.{FitsColumns, IsEntry, IsFrom, IsRow}
 use Rattle.rinex_file.specs.Blanks.{trimmed}
 use Rattle.rinex_file.specs.Lines.{field, entry_text, mark_byte, strength_byte, row_text, seen_line, letter_of}
+use Rattle.rinex_file.proofs.Columns.{padded-two}
 use Rattle.rinex_file.proofs.Cuts.{fill-trimmed, trimmed-front}
 use Rattle.rinex_file.specs.RowReading.{value_in, entry_in, entries_in, row_in, seen_in}
 
@@ -247,3 +248,22 @@ same_seen_parts s t q r e f = cc
 pub same_seen : (s t : Seen) → s.system ≡ t.system → s.row ≡ t.row → s ≡ t
 unfolding made_seen
 same_seen s t e f = same_seen_parts s.system t.system s.row t.row e f
+
+-- ---- the line, entry after entry
+
+pub kept_done : (letter id : ℕ) (es fs : List Entry) (i : ℕ) (text : List ℕ) → id < 100 → length es ≤ i → es ≡ fs
+    → text ≡ (letter ∷ (48 + id / 10) ∷ (48 + id % 10) ∷ []) ++ flat_map entry_text (take i es)
+    → text ≡ (letter ∷ padded 2 id) ++ flat_map entry_text fs
+kept_done letter id es fs i text few all same is =
+    is ∙ ap (λ l. (letter ∷ (48 + id / 10) ∷ (48 + id % 10) ∷ []) ++ flat_map entry_text l) (take_all i es all ∙ same)
+    ∙ ap (λ l. (letter ∷ l) ++ flat_map entry_text fs) (sym (padded-two id few))
+
+-- ---- a satellite is read from its line, filled up with blanks
+
+pub seen_in-line : (system : System) (signals : ℕ) (v : Seen) (line filled : List ℕ) → v.system ≡ system → IsRow (satellites system) signals v.row → line ≡ seen_line v
+    → ((t : List ℕ) → line ≡ t ++ 10 ∷ [] → filled ≡ t ++ replicate (3 + 64 * signals - length t) 32) → seen_in system signals filled ≡ v
+unfolding seen_line
+seen_in-line system signals v line filled same is e fill =
+    let text = trimmed (row_text (letter_of v.system) v.row) in
+    same_seen (seen_in system signals filled) v (sym same)
+    (ap (row_in signals) (fill text e) ∙ row_in-line (letter_of v.system) signals v.row (satellites system) is (most_few system))
