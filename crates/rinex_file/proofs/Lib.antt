@@ -12,3 +12,4 @@ mod FileText
 mod Examples
 mod Judged
 mod RowText
+mod EpochText
