@@ -1,5 +1,5 @@
 -- A date and time of day is read back from its columns.
-use Rattle.std.proofs.Common.{rules, arith, lit≤, lit<, ◌≡◌, ℕ, zero, suc, ◌+◌, ◌-◌, ◌*◌, ◌/◌, ◌%◌, ◌^◌, ◌<◌, ◌≤◌, List, [], ◌∷◌, ◌++◌, refl, sym, ap, ◌∙◌, length, get_or, take, drop, replicate, append_assoc, append-nil, length-append, decimal, pos, unsigned_abs, ℤ}
+use Rattle.std.proofs.Common.{rules, arith, lit≤, lit<, ◌≡◌, ℕ, zero, suc, ◌+◌, ◌-◌, ◌*◌, ◌/◌, ◌%◌, ◌^◌, ◌<◌, ◌≤◌, List, [], ◌∷◌, ◌++◌, refl, sym, ap, ◌∙◌, length, get_or, take, drop, replicate, append_assoc, append-nil, length-append, decimal, pos, unsigned_abs, ℤ, Some, None}
 use Rattle.std.specs.Prelude.{map, codes, min}
 use Rattle.std.specs.Int.{is_negative}
 use Rattle.std.specs.Fmt.{sign_text}
@@ -237,3 +237,9 @@ are_read t a b c d e f year month day hour minute second has p q r s u v y m d' 
     same_civil (of_numbers a b c d e f) t (kept a 65_535 year t.year p y (omega (arith, has.year))) (kept b 255 month t.month q m (omega (arith, has.month)))
     (kept c 255 day t.day r d' (omega (arith, has.day))) (kept d 255 hour t.hour s h (omega (arith, has.hour)))
     (kept e 255 minute t.minute u n (omega (arith, has.minute))) (kept_second f second t.millisecond v s' has.millisecond)
+
+pub same_some : (x y : Civil) → Some x ≡ Some y → x ≡ y
+same_some x y e = cc
+
+pub none_some : (x : Civil) → None ≡ Some x → ⊥
+none_some x e = cc
