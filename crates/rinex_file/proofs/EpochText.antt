@@ -1,5 +1,5 @@
 -- A date and time of day is read back from its columns.
-use Rattle.std.proofs.Common.{rules, arith, lit≤, lit<, ◌≡◌, ℕ, zero, suc, ◌+◌, ◌-◌, ◌*◌, ◌/◌, ◌%◌, ◌^◌, ◌<◌, ◌≤◌, List, [], ◌∷◌, ◌++◌, refl, sym, ap, ◌∙◌, length, get_or, take, drop, replicate, append_assoc, append-nil, length-append, decimal, pos, unsigned_abs, ℤ, Some, None}
+use Rattle.std.proofs.Common.{arith, lit<, ◌≡◌, ℕ, zero, suc, ◌+◌, ◌-◌, ◌*◌, ◌/◌, ◌%◌, ◌^◌, ◌<◌, ◌≤◌, List, [], ◌∷◌, ◌++◌, refl, sym, ap, ◌∙◌, length, get_or, take, drop, replicate, append_assoc, append-nil, length-append, decimal, pos, Some, None}
 use Rattle.std.specs.Prelude.{map, codes, min}
 use Rattle.std.specs.Int.{is_negative}
 use Rattle.std.specs.Fmt.{sign_text}
@@ -7,11 +7,10 @@ use Rattle.std.proofs.lemmas.Fmt.{length-decimal-le}
 use Rattle.std.proofs.lemmas.List.{take_at, drop_at, drop-drop}
 use Rattle.std.proofs.lemmas.Nat.{div-add-mod'}
 use Rattle.obs_epoch.specs.declared.civil.Civil.{Civil}
-use Rattle.obs_epoch.specs.Weeks.{week, weeks, day as day_length}
-use Rattle.obs_epoch.specs.Dates.{IsCivilOf, clock_of, civil_of}
+use Rattle.obs_epoch.specs.Weeks.{day as day_length}
+use Rattle.obs_epoch.specs.Dates.{IsCivilOf, civil_of}
 use Rattle.rinex_file.specs.Numbers.{joined, left, right, padded, fixed}
 use Rattle.rinex_file.specs.Reading.{digits_in}
-use Rattle.rinex_file.specs.FileValues.{IsTime}
 use Rattle.rinex_file.specs.Lines.{epoch_fields, epoch_line}
 use Rattle.rinex_file.specs.Header.{header_line, first_line}
 use Rattle.rinex_file.proofs.Digits.{length-right, length-padded, length-fixed, not_negative, digits_in-right, digits_in-fixed, digits_in-padded, digits_in-whole}

@@ -1,14 +1,14 @@
 -- The line of a satellite is read back, so it determines the satellite.
-use Rattle.std.proofs.Common.{rules, arith, ◌≡◌, ℕ, zero, suc, ◌+◌, ◌-◌, ◌*◌, ◌/◌, ◌%◌, ◌^◌, ◌<◌, ◌≤◌, List, [], ◌∷◌, ◌++◌, length, take, drop, replicate, get_or, decimal, refl, sym, ap, ◌∙◌, Bool, true, false, append_assoc, length-append, append-nil, subst, ℤ, pos, negsuc, neg_ℤ, unsigned_abs, to_z, of_z, w64, Option, Some, None, IfSome}
-use Rattle.std.specs.Prelude.{◌==◌, if◌then◌else◌, flat_map, All}
+use Rattle.std.proofs.Common.{arith, ◌≡◌, ℕ, suc, ◌+◌, ◌-◌, ◌*◌, ◌/◌, ◌%◌, ◌^◌, ◌<◌, ◌≤◌, List, [], ◌∷◌, ◌++◌, length, take, drop, replicate, get_or, refl, sym, ap, ◌∙◌, append_assoc, length-append, append-nil, ℤ, pos, negsuc, unsigned_abs, to_z, of_z, w64, Option, Some, None, IfSome}
+use Rattle.std.specs.Prelude.{if◌then◌else◌, flat_map, All}
 use Rattle.std.specs.Int.{is_negative}
 use Rattle.std.specs.Fmt.{sign_text}
 use Rattle.std.proofs.lemmas.Int.{ints, to_z-of_z, fits_signed_from_abs}
-use Rattle.std.proofs.lemmas.List.{length-replicate, take_at, drop_at, take_all}
+use Rattle.std.proofs.lemmas.List.{take_at, drop_at, take_all}
 use Rattle.std.proofs.lemmas.List.Elements.{All-head, All-tail}
 use Rattle.rinex_file.specs.Numbers.{right, padded, fixed}
 use Rattle.rinex_file.specs.Reading.{digits_in, number_in, has}
-use Rattle.rinex_file.proofs.Digits.{number_in-fixed, has_point-fixed, length-fixed, length-right, digits_in-padded, length-padded, has-not, not_negative}
+use Rattle.rinex_file.proofs.Digits.{number_in-fixed, has_point-fixed, length-fixed, length-right, digits_in-padded, length-padded, not_negative}
 use Rattle.gnss_obs.specs.Satellites.{satellites}
 use Rattle.gnss_obs.specs.declared.system.System.{System}
 use Rattle.gnss_obs.specs.declared.system.System.TheVariants.{Gps, Galileo}

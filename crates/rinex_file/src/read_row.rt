@@ -156,12 +156,7 @@ fn system_of(line: &[u8]) -> Option<System>
 }
 
 // The satellite of this system that a line shows.
-fn read_of(
-    line: &[u8],
-    again: &mut Line,
-    system: System,
-    signals: usize,
-) -> Option<KeptSeen>
+fn read_of(line: &[u8], again: &mut Line, system: System, signals: usize) -> Option<KeptSeen>
     requires short { length line.now ≤ 1220 }
     requires few { signals ≤ 19 }
     ensures { ReadsExactly (λ s. (s.system ≡ system) × IsRow (satellites system) signals s.row) seen_line line.now result }

@@ -1,5 +1,4 @@
 use Rattle.std.proofs.Common.{arith, ◌≡◌, ◌∙◌, sym, ap, ◌++◌, ◌∷◌, [], ◌≤◌, length, take}
-use Rattle.std.specs.Prelude.{flat_map}
 use Rattle.rinex_file.specs.Value.{Seen}
 use Rattle.rinex_file.specs.Blanks.{trimmed}
 use Rattle.rinex_file.specs.Lines.{letter_of, row_text, seen_line}

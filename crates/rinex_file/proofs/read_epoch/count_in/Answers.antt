@@ -1,4 +1,4 @@
-use Rattle.std.proofs.Common.{arith, ◌≡◌, ◌∙◌, ℕ, ◌<◌, ◌≤◌}
+use Rattle.std.proofs.Common.{arith, ◌∙◌}
 use Rattle.obs_epoch.specs.Dates.{civil_of}
 use Rattle.rinex_file.proofs.EpochText.{epoch_shown, has_columns}
 use Rattle.rinex_file.proofs.read_epoch.count_in.Goals as goal

@@ -1,4 +1,4 @@
-use Rattle.std.proofs.Common.{rules, arith, ◌≡◌, ◌∙◌, sym, ap, subst, ℕ, ◌<◌, ◌≤◌, ◌*◌, Option, Some, None}
+use Rattle.std.proofs.Common.{rules, ◌≡◌, ◌∙◌, sym, subst, ℕ, ◌≤◌}
 use Rattle.obs_epoch.specs.declared.civil.Civil.{Civil}
 use Rattle.obs_epoch.specs.Dates.{IsCivilOf, civil_of}
 use Rattle.rinex_file.specs.FileValues.{IsTime}
@@ -29,10 +29,12 @@ returns-in-None-from_civil c = λ v is e. c.in-None-from_civil.ensures.none v.0 
 
 pub returns-then-is_same : goal.returns-then-is_same
 returns-then-is_same c =
-    let here = (goal.at.returns-then-is_same c).In-Some in
-    ((search rules, c.count_in-count.ensures.bound), sym (c.is_same.ensures.0 c.if-is_same.true) ∙ c.as_slice.ensures.value ∙ c.epoch_line.ensures,
-    λ w is e. same_pair w c.in-Some-from_civil.time c.count_in-count.result
-    (one_time w.0 c.in-Some-from_civil.time c.in-Some.civil (has here w.0 w.1 is.0 is.1 e) c.in-Some-from_civil.ensures.some) (c.count_in-count.ensures.all w.0 w.1 is.0 is.1 e))
+    let here = (goal.at.returns-then-is_same c).In-Some in (
+      (search rules, c.count_in-count.ensures.bound),
+      sym (c.is_same.ensures.0 c.if-is_same.true) ∙ c.as_slice.ensures.value ∙ c.epoch_line.ensures,
+      λ w is e. same_pair w c.in-Some-from_civil.time c.count_in-count.result
+          (one_time w.0 c.in-Some-from_civil.time c.in-Some.civil (has here w.0 w.1 is.0 is.1 e) c.in-Some-from_civil.ensures.some) (c.count_in-count.ensures.all w.0 w.1 is.0 is.1 e),
+    )
 
 pub returns-else-is_same : goal.returns-else-is_same
 returns-else-is_same c = λ v is e.

@@ -1,4 +1,4 @@
-use Rattle.std.proofs.Common.{rules, arith, ◌≡◌, ◌∙◌, sym, ap, subst, ℕ, ◌<◌, ◌*◌, Option, Some, None}
+use Rattle.std.proofs.Common.{rules, ◌≡◌, ◌∙◌, sym, ap, subst, ℕ}
 use Rattle.obs_epoch.specs.declared.civil.Civil.{Civil}
 use Rattle.obs_epoch.specs.Dates.{IsCivilOf, civil_of}
 use Rattle.rinex_file.specs.FileValues.{IsTime}
@@ -23,9 +23,11 @@ returns-in-None-from_civil c = λ v is e. c.in-None-from_civil.ensures.none v is
 
 pub returns-then-is_same : goal.returns-then-is_same
 returns-then-is_same c =
-    let here = (goal.at.returns-then-is_same c).In-Some in
-    (search rules, sym (c.is_same.ensures.0 c.if-is_same.true) ∙ c.as_slice.ensures.value ∙ c.first_line-again.ensures,
-    λ w is e. one_time w c.in-Some-from_civil.time c.in-Some.civil (has here w is e) c.in-Some-from_civil.ensures.some)
+    let here = (goal.at.returns-then-is_same c).In-Some in (
+      search rules,
+      sym (c.is_same.ensures.0 c.if-is_same.true) ∙ c.as_slice.ensures.value ∙ c.first_line-again.ensures,
+      λ w is e. one_time w c.in-Some-from_civil.time c.in-Some.civil (has here w is e) c.in-Some-from_civil.ensures.some,
+    )
 
 pub returns-else-is_same : goal.returns-else-is_same
 returns-else-is_same c = λ v is e.

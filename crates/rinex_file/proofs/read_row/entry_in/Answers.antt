@@ -1,6 +1,5 @@
-use Rattle.std.proofs.Common.{◌≡◌, ◌∙◌, ap, ℕ, ◌-◌, List, drop, take, length, rules}
+use Rattle.std.proofs.Common.{◌∙◌, ap}
 use Rattle.std.proofs.lemmas.List.{take_rest}
-use Rattle.rinex_file.specs.Reading.{digits_in}
 use Rattle.rinex_file.specs.RowReading.{value_in, entry_in}
 use Rattle.rinex_file.proofs.RowText.{same_entry}
 use Rattle.rinex_file.proofs.read_row.entry_in.Goals as goal

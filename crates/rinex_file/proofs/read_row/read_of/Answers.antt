@@ -1,4 +1,4 @@
-use Rattle.std.proofs.Common.{arith, ◌≡◌, ◌∙◌, sym, ap, subst, ℕ, ◌+◌, ◌-◌, ◌*◌, ◌++◌, length, replicate}
+use Rattle.std.proofs.Common.{◌≡◌, ◌∙◌, sym, ap, subst, ℕ}
 use Rattle.gnss_obs.specs.Satellites.{satellites}
 use Rattle.rinex_file.specs.FileValues.{IsRow}
 use Rattle.rinex_file.specs.Lines.{seen_line}

@@ -1,9 +1,9 @@
-use Rattle.std.proofs.Common.{arith, ◌≡◌, ◌∙◌, sym, ap, subst, ℕ, ◌<◌, length, get_or, List, Option, Some, None}
+use Rattle.std.proofs.Common.{arith, ◌≡◌, ◌∙◌, sym, ap, subst, ℕ, ◌<◌, get_or, List, Option, Some, None}
 use Rattle.gnss_obs.specs.declared.system.System.{System}
 use Rattle.gnss_obs.specs.Satellites.{satellites}
 use Rattle.rinex_file.specs.Value.{Seen}
 use Rattle.rinex_file.specs.FileValues.{IsSeen, IsRow, of_system}
-use Rattle.rinex_file.specs.Lines.{seen_line, letter_of}
+use Rattle.rinex_file.specs.Lines.{seen_line}
 use Rattle.rinex_file.specs.Reading.{ReadsExactly}
 use Rattle.rinex_file.proofs.RowText.{first_byte}
 use Rattle.rinex_file.proofs.read_row.read_seen.Goals as goal

@@ -1,4 +1,4 @@
-use Rattle.std.proofs.Common.{rules, arith, ◌≡◌, ◌∙◌, sym, ap, ℕ, suc, ◌+◌, ◌-◌, ◌*◌, ◌<◌, List, [], ◌∷◌, ◌++◌, drop, take, length, append_assoc}
+use Rattle.std.proofs.Common.{arith, ◌≡◌, ◌∙◌, sym, ap, ℕ, suc, ◌+◌, ◌-◌, ◌*◌, ◌<◌, List, [], ◌∷◌, ◌++◌, drop, take, append_assoc}
 use Rattle.std.proofs.lemmas.List.{drop-drop}
 use Rattle.rinex_file.specs.Value.{Entry}
 use Rattle.rinex_file.specs.RowReading.{entry_in, entries_in}
