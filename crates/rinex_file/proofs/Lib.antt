@@ -22,3 +22,5 @@ mod PlainHeader
 mod FileLines
 mod HeaderText
 mod StationLines
+mod RowText
+mod EpochText

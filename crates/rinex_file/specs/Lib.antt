@@ -6,6 +6,7 @@ pub mod Lines
 pub mod Header
 pub mod File
 pub mod Reading
+pub mod RowReading
 pub mod TextsOf
 pub mod FileValues
 pub mod Exact

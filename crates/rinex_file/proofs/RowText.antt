@@ -1,0 +1,269 @@
+-- The line of a satellite is read back, so it determines the satellite.
+use Rattle.std.proofs.Common.{arith, ◌≡◌, ℕ, suc, ◌+◌, ◌-◌, ◌*◌, ◌/◌, ◌%◌, ◌^◌, ◌<◌, ◌≤◌, List, [], ◌∷◌, ◌++◌, length, take, drop, replicate, get_or, refl, sym, ap, ◌∙◌, append_assoc, length-append, append-nil, ℤ, pos, negsuc, unsigned_abs, to_z, of_z, w64, Option, Some, None, IfSome}
+use Rattle.std.specs.Prelude.{if◌then◌else◌, flat_map, All}
+use Rattle.std.specs.Int.{is_negative}
+use Rattle.std.specs.Fmt.{sign_text}
+use Rattle.std.proofs.lemmas.Int.{ints, to_z-of_z, fits_signed_from_abs}
+use Rattle.std.proofs.lemmas.List.{take_at, drop_at, take_all}
+use Rattle.std.proofs.lemmas.List.Elements.{All-head, All-tail}
+use Rattle.rinex_file.specs.Numbers.{right, padded, fixed}
+use Rattle.rinex_file.specs.Reading.{digits_in, number_in, has}
+use Rattle.rinex_file.proofs.Digits.{number_in-fixed, has_point-fixed, length-fixed, length-right, digits_in-padded, length-padded, not_negative}
+use Rattle.gnss_obs.specs.Satellites.{satellites}
+use Rattle.gnss_obs.specs.declared.system.System.{System}
+use Rattle.gnss_obs.specs.declared.system.System.TheVariants.{Gps, Galileo}
+use Rattle.rinex_file.specs.Value.{Entry, Row, Seen}
+use Rattle.rinex_file.specs.FileValues.{FitsColumns, IsEntry, IsFrom, IsRow}
+use Rattle.rinex_file.specs.Blanks.{trimmed}
+use Rattle.rinex_file.specs.Lines.{field, entry_text, mark_byte, strength_byte, row_text, seen_line, letter_of}
+use Rattle.rinex_file.proofs.Columns.{padded-two}
+use Rattle.rinex_file.proofs.Cuts.{fill-trimmed, trimmed-front}
+use Rattle.rinex_file.specs.RowReading.{value_in, entry_in, entries_in, row_in, seen_in}
+
+most : (n : ℕ) → FitsColumns (pos n) → n ≤ 9_999_999_999_999
+most n h = let high = h.1 in omega (arith, ints)
+
+least : (n : ℕ) → FitsColumns (negsuc n) → suc n ≤ 999_999_999_999
+least n h = let low = h.0 in omega (arith, ints)
+
+pub length-value : (v : ℤ) → FitsColumns v → length (fixed 3 v) ≤ 14
+length-value (pos n) h =
+    let bound = most n h in
+    let l = length-fixed 3 10 (pos n) (omega arith) (omega arith) (omega (arith, bound)) (omega (arith, bound)) in
+    let none : length (sign_text (is_negative (pos n))) ≡ 0 = ap (λ b. length (sign_text b)) (not_negative n) in
+    omega (arith, l, none)
+length-value (negsuc n) h =
+    let bound = least n h in
+    length-fixed 3 9 (negsuc n) (omega arith) (omega arith) (omega (arith, bound)) (omega (arith, bound))
+
+pub small_value : (v : ℤ) → FitsColumns v → unsigned_abs v < 2 ^ 64
+small_value (pos n) h = let bound = most n h in omega (arith, bound)
+small_value (negsuc n) h = let bound = least n h in omega (arith, bound)
+
+-- it fits 64 bits, so the code's value is the number
+pub stays : (v : ℤ) → FitsColumns v → to_z w64 (of_z w64 v) ≡ v
+stays (pos n) h = let bound = most n h in to_z-of_z w64 (pos n) (fits_signed_from_abs w64 (pos n) (omega (arith, bound)))
+stays (negsuc n) h = let bound = least n h in to_z-of_z w64 (negsuc n) (fits_signed_from_abs w64 (negsuc n) (omega (arith, bound)))
+
+two_after : (xs : List ℕ) (a b : ℕ) → length xs ≡ 14 → length (xs ++ a ∷ b ∷ []) ≡ 16
+two_after xs a b l = simp length-append (omega (arith, l))
+
+pub length-field : (v : Option ℤ) (lost strength : ℕ) → IfSome v FitsColumns → length (field v lost strength) ≡ 16
+unfolding field
+length-field None lost strength h = refl
+length-field (Some v) lost strength h =
+    two_after (right 14 (fixed 3 v)) lost strength (length-right 14 (fixed 3 v) (length-value v h))
+
+pub value_in-field : (v : Option ℤ) (lost strength : ℕ) (rest : List ℕ) → IfSome v FitsColumns → value_in (field v lost strength ++ rest) ≡ v
+unfolding field value_in
+value_in-field None lost strength rest h = refl
+value_in-field (Some v) lost strength rest h =
+    let l = length-right 14 (fixed 3 v) (length-value v h) in
+    let front : take 14 ((right 14 (fixed 3 v) ++ lost ∷ strength ∷ []) ++ rest) ≡ right 14 (fixed 3 v) =
+    ap (take 14) (append_assoc (right 14 (fixed 3 v)) (lost ∷ strength ∷ []) rest) ∙ take_at (right 14 (fixed 3 v)) (lost ∷ strength ∷ rest) 14 l in
+    ap (λ t. if has 46 t then Some (number_in t) else None) front
+    ∙ ap (λ b. if b then Some (number_in (right 14 (fixed 3 v))) else None) (has_point-fixed 14 3 v)
+    ∙ ap Some (number_in-fixed 14 3 v (omega arith) (small_value v h))
+
+-- ---- the four fields of a signal
+
+second : (x a b c d e : List ℕ) → x ≡ (a ++ (b ++ (c ++ d))) ++ e → length a ≡ 16 → drop 16 x ≡ b ++ (c ++ (d ++ e))
+second x a b c d e is l =
+    let shape : x ≡ a ++ (b ++ (c ++ (d ++ e))) = is ∙ simp append_assoc in
+    ap (drop 16) shape ∙ drop_at a (b ++ (c ++ (d ++ e))) 16 l
+
+third : (x a b c d e : List ℕ) → x ≡ (a ++ (b ++ (c ++ d))) ++ e → length a ≡ 16 → length b ≡ 16 → drop 32 x ≡ c ++ (d ++ e)
+third x a b c d e is l m =
+    let shape : x ≡ (a ++ b) ++ (c ++ (d ++ e)) = is ∙ simp append_assoc in
+    ap (drop 32) shape ∙ drop_at (a ++ b) (c ++ (d ++ e)) 32 (simp length-append (omega (arith, l, m)))
+
+fourth : (x a b c d e : List ℕ) → x ≡ (a ++ (b ++ (c ++ d))) ++ e → length a ≡ 16 → length b ≡ 16 → length c ≡ 16 → drop 48 x ≡ d ++ e
+fourth x a b c d e is l m n =
+    let shape : x ≡ (a ++ (b ++ c)) ++ (d ++ e) = is ∙ simp append_assoc in
+    ap (drop 48) shape ∙ drop_at (a ++ (b ++ c)) (d ++ e) 48 (simp length-append (omega (arith, l, m, n)))
+
+-- what stands behind a value, where there is one
+abbrev shown : Option ℤ → ℕ → ℕ
+shown None b = 32
+shown (Some v) b = b
+
+-- a field is 14 columns, and two more
+abbrev InParts : Option ℤ → ℕ → ℕ → Type 0
+InParts v lost strength = (t : List ℕ) × (length t ≡ 14) × (field v lost strength ≡ t ++ shown v lost ∷ shown v strength ∷ [])
+
+in_parts : (v : Option ℤ) (lost strength : ℕ) → IfSome v FitsColumns → InParts v lost strength
+unfolding field
+in_parts None lost strength h = (replicate 14 32, refl, refl)
+in_parts (Some v) lost strength h = (right 14 (fixed 3 v), length-right 14 (fixed 3 v) (length-value v h), refl)
+
+first_of_rest : (x a t rest : List ℕ) (m n : ℕ) → x ≡ a ++ ((t ++ m ∷ n ∷ []) ++ rest) → length a ≡ 16 → length t ≡ 14 → take 1 (drop 30 x) ≡ m ∷ []
+first_of_rest x a t rest m n is l k =
+    let shape : x ≡ (a ++ t) ++ (m ∷ n ∷ rest) = is ∙ ap (λ y. a ++ y) (append_assoc t (m ∷ n ∷ []) rest) ∙ sym (append_assoc a t (m ∷ n ∷ rest)) in
+    ap (take 1) (ap (drop 30) shape ∙ drop_at (a ++ t) (m ∷ n ∷ rest) 30 (simp length-append (omega (arith, l, k))))
+
+mark_read : (m : ℕ) → m < 4 → digits_in (mark_byte m ∷ []) ≡ m
+mark_read m h = grind arith
+
+mark_shown : (v : Option ℤ) (m : ℕ) → m < 4 → (v ≡ None → m ≡ 0) → digits_in (shown v (mark_byte m) ∷ []) ≡ m
+mark_shown None m h none = sym (none refl)
+mark_shown (Some v) m h none = mark_read m h
+
+pub strength_fits : (s : Option ℤ) → IfSome s (IsFrom (pos 1) (pos 99_999)) → IfSome s FitsColumns
+strength_fits None h = tt
+strength_fits (Some s) h = let low = h.0 in let high = h.1 in (omega (arith, ints), omega (arith, ints))
+
+-- the parts of a record of five
+made : Option ℤ → Option ℤ → Option ℤ → Option ℤ → ℕ → Entry
+made c l d s m = record { c = c; l = l; d = d; s = s; mark = m }
+
+same_parts : (a b c d e f g h : Option ℤ) (m n : ℕ) → a ≡ b → c ≡ d → e ≡ f → g ≡ h → m ≡ n → made a c e g m ≡ made b d f h n
+same_parts a b c d e f g h m n p q r s t = cc
+
+pub same_entry : (x y : Entry) → x.c ≡ y.c → x.l ≡ y.l → x.d ≡ y.d → x.s ≡ y.s → x.mark ≡ y.mark → x ≡ y
+unfolding made
+same_entry x y c l d s m = same_parts x.c y.c x.l y.l x.d y.d x.s y.s x.mark y.mark c l d s m
+
+four_lengths : (a b c d : List ℕ) → length a ≡ 16 → length b ≡ 16 → length c ≡ 16 → length d ≡ 16 → length (a ++ (b ++ (c ++ d))) ≡ 64
+four_lengths a b c d k l m n = simp length-append (omega (arith, k, l, m, n))
+
+pub length-entry : (e : Entry) → IsEntry e → length (entry_text e) ≡ 64
+unfolding entry_text
+length-entry e h =
+    let c = length-field e.c 32 (strength_byte e.s) h.c in
+    let l = length-field e.l (mark_byte e.mark) (strength_byte e.s) h.l in
+    let d = length-field e.d 32 32 h.d in
+    let s = length-field e.s 32 32 (strength_fits e.s h.s) in
+    four_lengths (field e.c 32 (strength_byte e.s)) (field e.l (mark_byte e.mark) (strength_byte e.s)) (field e.d 32 32) (field e.s 32 32) c l d s
+
+pub entry_in-text : (e : Entry) (rest : List ℕ) → IsEntry e → entry_in (entry_text e ++ rest) ≡ e
+unfolding entry_in entry_text
+entry_in-text e rest h =
+    let c = field e.c 32 (strength_byte e.s) in
+    let l = field e.l (mark_byte e.mark) (strength_byte e.s) in
+    let d = field e.d 32 32 in
+    let s = field e.s 32 32 in
+    let lc = length-field e.c 32 (strength_byte e.s) h.c in
+    let ll = length-field e.l (mark_byte e.mark) (strength_byte e.s) h.l in
+    let ld = length-field e.d 32 32 h.d in
+    let x = (c ++ (l ++ (d ++ s))) ++ rest in
+    let (t, lt, parts) = in_parts e.l (mark_byte e.mark) (strength_byte e.s) h.l in
+    let front : x ≡ c ++ ((l ++ (d ++ s)) ++ rest) = append_assoc c (l ++ (d ++ s)) rest in
+    let marked : x ≡ c ++ ((t ++ shown e.l (mark_byte e.mark) ∷ shown e.l (strength_byte e.s) ∷ []) ++ ((d ++ s) ++ rest)) =
+    front ∙ ap (λ y. c ++ y) (append_assoc l (d ++ s) rest) ∙ ap (λ y. c ++ (y ++ ((d ++ s) ++ rest))) parts in
+    same_entry (entry_in x) e
+    (ap value_in front ∙ value_in-field e.c 32 (strength_byte e.s) ((l ++ (d ++ s)) ++ rest) h.c)
+    (ap value_in (second x c l d s rest refl lc) ∙ value_in-field e.l (mark_byte e.mark) (strength_byte e.s) (d ++ (s ++ rest)) h.l)
+    (ap value_in (third x c l d s rest refl lc ll) ∙ value_in-field e.d 32 32 (s ++ rest) h.d)
+    (ap value_in (fourth x c l d s rest refl lc ll ld) ∙ value_in-field e.s 32 32 rest (strength_fits e.s h.s))
+    (ap digits_in (first_of_rest x c t ((d ++ s) ++ rest) (shown e.l (mark_byte e.mark)) (shown e.l (strength_byte e.s)) marked lc lt) ∙ mark_shown e.l e.mark h.mark h.unmarked)
+
+entry_alone : (e : Entry) → IsEntry e → entry_in (entry_text e) ≡ e
+entry_alone e h = ap entry_in (sym (append-nil (entry_text e))) ∙ entry_in-text e [] h
+
+rest_lengths : (a b : List ℕ) (n : ℕ) → length a ≡ 64 → length b ≡ 64 * n → length (a ++ b) ≡ 64 * suc n
+rest_lengths a b n l m = simp length-append (omega (arith, l, m))
+
+pub entries_in-text : (es : List Entry) → All IsEntry es → entries_in (length es) (flat_map entry_text es) ≡ es
+entries_in-text [] all = refl
+entries_in-text (e ∷ es) all =
+    let one = All-head IsEntry e es all in
+    let more = All-tail IsEntry e es all in
+    let l = length-entry e one in
+    ap (λ t. entry_in t ∷ entries_in (length es) (drop 64 (entry_text e ++ flat_map entry_text es))) (take_at (entry_text e) (flat_map entry_text es) 64 l)
+    ∙ ap (λ x. x ∷ entries_in (length es) (drop 64 (entry_text e ++ flat_map entry_text es))) (entry_alone e one)
+    ∙ ap (λ t. e ∷ entries_in (length es) t) (drop_at (entry_text e) (flat_map entry_text es) 64 l)
+    ∙ ap (λ xs. e ∷ xs) (entries_in-text es more)
+
+pub length-entries : (es : List Entry) → All IsEntry es → length (flat_map entry_text es) ≡ 64 * length es
+length-entries [] all = refl
+length-entries (e ∷ es) all =
+    let l = length-entry e (All-head IsEntry e es all) in
+    let more = length-entries es (All-tail IsEntry e es all) in
+    rest_lengths (entry_text e) (flat_map entry_text es) (length es) l more
+
+-- ---- the line
+
+made_row : ℕ → List Entry → Row
+made_row n es = record { satellite = n; entries = es }
+
+same_row_parts : (m n : ℕ) (es fs : List Entry) → m ≡ n → es ≡ fs → made_row m es ≡ made_row n fs
+same_row_parts m n es fs p q = cc
+
+pub same_row : (x y : Row) → x.satellite ≡ y.satellite → x.entries ≡ y.entries → x ≡ y
+unfolding made_row
+same_row x y p q = same_row_parts x.satellite y.satellite x.entries y.entries p q
+
+row_lengths : (letter : ℕ) (p f : List ℕ) (n : ℕ) → length p ≡ 2 → length f ≡ 64 * n → length (letter ∷ (p ++ f)) ≡ 3 + 64 * n
+row_lengths letter p f n k l = ap suc (length-append p f) ∙ omega (arith, k, l)
+
+module _ (letter signals : ℕ) (r : Row) (most : ℕ) (is : IsRow most signals r) (few : most < 100) where
+  small : r.satellite < 10 ^ 2
+  small = omega (arith, is.satellite.1, few)
+
+  two : length (padded 2 r.satellite) ≡ 2
+  two = length-padded 2 r.satellite (omega arith) small (omega (arith, small))
+
+  pub length-row : length (row_text letter r) ≡ 3 + 64 * signals
+  length-row = row_lengths letter (padded 2 r.satellite) (flat_map entry_text r.entries) signals two (length-entries r.entries is.entries ∙ ap (λ n. 64 * n) is.whole)
+
+  pub row_in-text : row_in signals (row_text letter r) ≡ r
+  row_in-text =
+      let p = padded 2 r.satellite in
+      let f = flat_map entry_text r.entries in
+      same_row (row_in signals (row_text letter r)) r
+      (ap digits_in (take_at p f 2 two) ∙ digits_in-padded 2 r.satellite (omega arith) small (omega (arith, small)))
+      (ap (entries_in signals) (drop_at p f 2 two) ∙ ap (λ n. entries_in n f) (sym is.whole) ∙ entries_in-text r.entries is.entries)
+
+-- a row is read from its line: the line without the line feed, filled up with blanks
+pub row_in-line : (letter signals : ℕ) (r : Row) (most : ℕ) → IsRow most signals r → most < 100
+    → row_in signals (trimmed (row_text letter r) ++ replicate (3 + 64 * signals - length (trimmed (row_text letter r))) 32) ≡ r
+row_in-line letter signals r most is few =
+    ap (row_in signals) (fill-trimmed (3 + 64 * signals) (row_text letter r) (length-row letter signals r most is few)) ∙ row_in-text letter signals r most is few
+
+-- ---- the letter in front
+
+letter_is : (s : System) → letter_of s ≡ 32 → ⊥
+letter_is Gps e = absurd (omega (arith, e))
+letter_is Galileo e = absurd (omega (arith, e))
+
+pub front_line : (s : Seen) → seen_line s ≡ letter_of s.system ∷ (trimmed (padded 2 s.row.satellite ++ flat_map entry_text s.row.entries) ++ 10 ∷ [])
+unfolding seen_line
+front_line s = ap (λ t. t ++ 10 ∷ []) (trimmed-front (letter_of s.system) (padded 2 s.row.satellite ++ flat_map entry_text s.row.entries) (letter_is s.system))
+
+pub first_byte : (s : Seen) → (0 < length (seen_line s)) × (get_or (seen_line s) 0 0 ≡ letter_of s.system)
+first_byte s =
+    let e = front_line s in
+    (rw e (omega arith), ap (λ l. get_or l 0 0) e)
+
+pub most_few : (s : System) → satellites s < 100
+most_few Gps = omega arith
+most_few Galileo = omega arith
+
+made_seen : System → Row → Seen
+made_seen s r = record { system = s; row = r }
+
+same_seen_parts : (s t : System) (q r : Row) → s ≡ t → q ≡ r → made_seen s q ≡ made_seen t r
+same_seen_parts s t q r e f = cc
+
+pub same_seen : (s t : Seen) → s.system ≡ t.system → s.row ≡ t.row → s ≡ t
+unfolding made_seen
+same_seen s t e f = same_seen_parts s.system t.system s.row t.row e f
+
+-- ---- the line, entry after entry
+
+pub kept_done : (letter id : ℕ) (es fs : List Entry) (i : ℕ) (text : List ℕ) → id < 100 → length es ≤ i → es ≡ fs
+    → text ≡ (letter ∷ (48 + id / 10) ∷ (48 + id % 10) ∷ []) ++ flat_map entry_text (take i es)
+    → text ≡ (letter ∷ padded 2 id) ++ flat_map entry_text fs
+kept_done letter id es fs i text few all same is =
+    is ∙ ap (λ l. (letter ∷ (48 + id / 10) ∷ (48 + id % 10) ∷ []) ++ flat_map entry_text l) (take_all i es all ∙ same)
+    ∙ ap (λ l. (letter ∷ l) ++ flat_map entry_text fs) (sym (padded-two id few))
+
+-- ---- a satellite is read from its line, filled up with blanks
+
+pub seen_in-line : (system : System) (signals : ℕ) (v : Seen) (line filled : List ℕ) → v.system ≡ system → IsRow (satellites system) signals v.row → line ≡ seen_line v
+    → ((t : List ℕ) → line ≡ t ++ 10 ∷ [] → filled ≡ t ++ replicate (3 + 64 * signals - length t) 32) → seen_in system signals filled ≡ v
+unfolding seen_line
+seen_in-line system signals v line filled same is e fill =
+    let text = trimmed (row_text (letter_of v.system) v.row) in
+    same_seen (seen_in system signals filled) v (sym same)
+    (ap (row_in signals) (fill text e) ∙ row_in-line (letter_of v.system) signals v.row (satellites system) is (most_few system))
