@@ -7,6 +7,8 @@ mod Entries
 mod SignalTypes
 mod Sections
 mod Sent
+mod Splits
+mod LineByLine
 mod Faultless
 mod FileText
 mod Examples
