@@ -9,6 +9,7 @@ mod Sections
 mod Sent
 mod Splits
 mod LineByLine
+mod Appended
 mod Faultless
 mod FileText
 mod Examples

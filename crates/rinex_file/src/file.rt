@@ -1,17 +1,23 @@
 //! Reading a file whole, and writing it back.
-ghost use Rattle.std.specs.Prelude.{◌≡◌, ◌≤◌, ◌==◌, ℕ, List, Err, IfOk, IfErr, IfSome, length, if◌then◌else◌};
+ghost use Rattle.std.specs.Prelude.{◌≡◌, ◌<◌, ◌≤◌, ◌==◌, ℕ, List, ◌++◌, All, Err, OnOk, IfOk, IfErr, IfSome, length, if◌then◌else◌};
 ghost use Rattle.rtcm_bits.specs.Device.{HasFailed};
+ghost use Rattle.rinex_file.specs.Numbers.{joined};
 ghost use Rattle.rinex_file.specs.Value.{FileValue};
-ghost use Rattle.rinex_file.specs.FileValues.{IsFileValue};
-ghost use Rattle.rinex_file.specs.File.{file_text, file_lines};
+ghost use Rattle.rinex_file.specs.FileValues.{IsEntry, IsFileValue};
+ghost use Rattle.rinex_file.specs.File.{header_text, stamped_lines, file_text, file_lines};
 ghost use Rattle.rinex_file.specs.Exact.{Explains, IsFaulty, IsReadOr, most_lines};
 
 use crate::due::{Due, Refusal};
+use crate::epoch::epoch_line;
+use crate::head::{Head, header_lines};
+use crate::kept::KeptEpoch;
+use crate::kept_line::kept_line;
 use crate::lines::{Found, next_line};
 use crate::numbers::Line;
 use crate::obs_file::ObsFile;
 use crate::read_fault::ReadFault;
 use crate::reading::Reading;
+use obs_epoch::GpsTime;
 use rtcm_bits::Counted;
 use std::alloc::{AllocError, Global};
 use std::io::Read;
@@ -81,9 +87,46 @@ pub fn read_file<R: Read>(alloc: Global, reader: &mut Counted<R>) -> Result<ObsF
     }
 }
 
+// Appends the header of a file whose first epoch is at this time.
+#[tactic(auto, unfolding(crate::specs::File::header_text))]
+fn add_header(text: &mut Vec<u8>, file: &ObsFile, first: GpsTime) -> Result<(), AllocError>
+    ensures { OnOk result (text.new.items ≡ text.old.items ++ header_text file.now.texts file.now.plan file.now.values first) }
+{
+    let head = Head {
+        texts: &file.texts,
+        plan: &file.plan,
+        values: file.values,
+        first,
+    };
+    for line in header_lines(&head) {
+        text.extend_from_slice(line.as_slice())?;
+    }
+    Ok(())
+}
+
+// Appends the lines of an epoch.
+fn add_epoch(text: &mut Vec<u8>, epoch: &KeptEpoch, line: &mut Line) -> Result<(), AllocError>
+    requires { All (λ s. (s.row.satellite < 100) × All IsEntry s.row.entries) epoch.now.rows }
+    ensures { OnOk result (text.new.items ≡ text.old.items ++ joined (stamped_lines epoch.now)) }
+{
+    epoch_line(epoch.time, epoch.rows.len(), line);
+    text.extend_from_slice(line.as_slice())?;
+    for seen in &epoch.rows {
+        kept_line(seen, line);
+        text.extend_from_slice(line.as_slice())?;
+    }
+    Ok(())
+}
+
 /// The text of a file.
 pub fn file_bytes(alloc: Global, file: &ObsFile) -> Result<Vec<u8>, AllocError>
     ensures { IfOk result (λ text. text.items ≡ file_text file.now) }
 {
-    Err(AllocError)
+    let mut text = Vec::new(alloc);
+    let mut line = Line::new();
+    add_header(&mut text, file, file.epochs[0].time)?;
+    for epoch in &file.epochs {
+        add_epoch(&mut text, epoch, &mut line)?;
+    }
+    Ok(text)
 }

@@ -12,6 +12,7 @@ mod head;
 mod head_so_far;
 mod header;
 mod kept;
+mod kept_line;
 pub mod laws;
 mod lines;
 mod numbers;

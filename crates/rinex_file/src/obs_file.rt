@@ -1,4 +1,7 @@
 //! A file that was read.
+ghost use Rattle.std.specs.Prelude.{◌≡◌, length};
+ghost use Rattle.std.specs.List.{sum_by};
+
 use crate::kept::KeptEpoch;
 use crate::texts::HeaderTexts;
 use obs_epoch::{Plan, StationValues};
@@ -23,4 +26,46 @@ impl Model for ObsFile {
     ghost Value = { FileValue };
 
     ghost view = { λ f. record { texts = f.texts; plan = f.plan; values = f.values; epochs = f.epochs.items } };
+
+    // It is a file's value, and the lines of satellites are counted.
+    ghost invariant = { λ f.
+        IsFileValue (record { texts = f.texts; plan = f.plan; values = f.values; epochs = f.epochs.items })
+        × (f.satellites ≡ sum_by (λ e. length e.rows) f.epochs.items) };
+}
+
+impl ObsFile {
+    /// The texts of the header.
+    pub fn texts(&self) -> &HeaderTexts
+        ensures { result.now ≡ self.now.texts }
+    {
+        &self.texts
+    }
+
+    /// The signals whose observations the file has.
+    pub fn plan(&self) -> &Plan
+        ensures { result.now ≡ self.now.plan }
+    {
+        &self.plan
+    }
+
+    /// Position and height of the antenna.
+    pub fn station_values(&self) -> StationValues
+        ensures { result ≡ self.now.values }
+    {
+        self.values
+    }
+
+    /// The number of epochs.
+    pub fn epochs(&self) -> usize
+        ensures { result ≡ length self.now.epochs }
+    {
+        self.epochs.len()
+    }
+
+    /// The number of lines of satellites, those of all epochs together.
+    pub fn satellites(&self) -> usize
+        ensures { result ≡ sum_by (λ e. length e.rows) self.now.epochs }
+    {
+        self.satellites
+    }
 }
