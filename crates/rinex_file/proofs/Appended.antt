@@ -1,5 +1,5 @@
 -- A text to which lines are appended, one after the other.
-use Rattle.std.proofs.Common.{arith, ◌≡◌, ◌∙◌, sym, ap, subst, refl, ℕ, zero, suc, ◌+◌, ◌<◌, ◌≤◌, List, [], ◌∷◌, ◌++◌, length, drop, get_or, append_assoc, append-nil, None, Result, Ok, Err, OnOk, IfOk}
+use Rattle.std.proofs.Common.{arith, ◌≡◌, ◌∙◌, sym, ap, subst, ℕ, suc, ◌+◌, ◌<◌, ◌≤◌, List, [], ◌∷◌, ◌++◌, length, drop, get_or, append_assoc, append-nil, None, Result, Ok, Err, OnOk}
 use Rattle.std.specs.Prelude.{map, flat_map, All, IsErrAnd}
 use Rattle.std.proofs.Math.Seq.{drop-cons}
 use Rattle.std.proofs.Math.ListN.{drop_of_length-le}
@@ -12,18 +12,13 @@ use Rattle.rinex_file.specs.Value.{Seen, Stamped, FileValue}
 use Rattle.rinex_file.specs.FileValues.{IsEntry, IsSeen, IsStamped, IsFileValue}
 use Rattle.rinex_file.specs.Header.{header_lines}
 use Rattle.rinex_file.specs.Lines.{epoch_line, seen_line}
-use Rattle.rinex_file.specs.File.{header_text, change_lines, stamped_lines, lines_of, file_text}
+use Rattle.rinex_file.specs.File.{header_text, stamped_lines, lines_of, file_text}
 use Rattle.rinex_file.proofs.Sent.{joined-append}
 
 -- a call that failed promises nothing
 pub failed : {A E : Type 0} (Q : E → Type 0) (r : Result A E) (P : Type 0) → IsErrAnd r Q → OnOk r P
 failed Q (Ok x) P h = absurd h
 failed Q (Err e) P h = tt
-
--- the same where what is promised is said of the value
-pub failed_value : {A E : Type 0} (Q : E → Type 0) (r : Result A E) (P : A → Type 0) → IsErrAnd r Q → IfOk r P
-failed_value Q (Ok x) P h = absurd h
-failed_value Q (Err e) P h = tt
 
 -- a part went over from what is left to what was appended
 pub passed : (text part rest new whole : List ℕ) → text ++ (part ++ rest) ≡ whole → new ≡ text ++ part → new ++ rest ≡ whole

@@ -1,6 +1,6 @@
 -- A file that is read line by line: what was read stands for the lines that were taken.
-use Rattle.std.proofs.Common.{rules, arith, ◌≡◌, ◌∙◌, sym, ap, subst, refl, ℕ, zero, suc, ◌+◌, ◌<◌, ◌≤◌, List, [], ◌∷◌, ◌++◌, length, length-append, append_assoc, append-nil, Bool, true, false, Option, Some, None, IfSome, Result, Ok, Err, inl, inr}
-use Rattle.std.specs.Prelude.{◌==◌, ◌||◌, All, ◌↔◌, if◌then◌else◌, ⊤}
+use Rattle.std.proofs.Common.{arith, ◌≡◌, ◌∙◌, sym, ap, subst, refl, ℕ, suc, ◌+◌, ◌<◌, ◌≤◌, List, [], ◌∷◌, ◌++◌, length, length-append, append_assoc, append-nil, true, false, Option, Some, None, IfSome, Err, inl, inr}
+use Rattle.std.specs.Prelude.{◌==◌, All, ◌↔◌, if◌then◌else◌, ⊤}
 use Rattle.std.specs.Io.KnownBytes.{Consumes, IsAtEnd}
 use Rattle.std.proofs.KnownBytes.{Consumes-nil, Consumes-trans}
 use Rattle.std.proofs.lemmas.List.Elements.{All-head, All-tail, All-cons, All-append}
@@ -12,9 +12,8 @@ use Rattle.rinex_file.specs.Numbers.{joined}
 use Rattle.rinex_file.specs.Value.{FileValue}
 use Rattle.rinex_file.specs.FileValues.{IsFileValue}
 use Rattle.rinex_file.specs.File.{file_text, file_lines}
-use Rattle.rinex_file.specs.Exact.{IsLine, AreFirstLines, NoFileBegins, IsRefuted, IsOverLong, IsCutShort, IsTooLong, IsFaulty, Explains, IsReadOr, line_feeds, most_lines}
+use Rattle.rinex_file.specs.Exact.{IsLine, NoFileBegins, IsCutShort, IsTooLong, IsFaulty, Explains, IsReadOr, line_feeds, most_lines}
 use Rattle.rinex_file.specs.Progress.{Progress, GoesOn, StandsFor}
-use Rattle.rinex_file.proofs.Digits.{has-append}
 use Rattle.rinex_file.proofs.Sent.{joined-append}
 use Rattle.rinex_file.proofs.Splits.{splits, or_false, has-line}
 
@@ -23,10 +22,10 @@ use Rattle.rinex_file.proofs.Splits.{splits, or_false, has-line}
 joined-more : (taken : List (List ℕ)) (line : List ℕ) → joined (taken ++ line ∷ []) ≡ joined taken ++ line
 joined-more taken line = joined-append taken (line ∷ []) ∙ ap (λ l. joined taken ++ l) (append-nil line)
 
-pub are_more : (taken : List (List ℕ)) (line : List ℕ) → All IsLine taken → IsLine line → All IsLine (taken ++ line ∷ [])
+are_more : (taken : List (List ℕ)) (line : List ℕ) → All IsLine taken → IsLine line → All IsLine (taken ++ line ∷ [])
 are_more taken line are is = All-append IsLine taken (line ∷ []) are (All-cons IsLine line [] is (λ k d less. absurd (omega (arith, less))))
 
-pub count_more : (taken : List (List ℕ)) (line : List ℕ) (n : ℕ) → length taken ≡ n → length (taken ++ line ∷ []) ≡ n + 1
+count_more : (taken : List (List ℕ)) (line : List ℕ) (n : ℕ) → length taken ≡ n → length (taken ++ line ∷ []) ≡ n + 1
 count_more taken line n e = simp length-append (omega (arith, e))
 
 -- bytes without a line feed that are lines are none
@@ -140,7 +139,7 @@ consumed_all None b bytes P took end h = tt
 consumed_all (Some x) None bytes P took end h = absurd took
 consumed_all (Some x) (Some y) bytes P took end h = subst P (sym (took ∙ ap (λ l. bytes ++ l) end ∙ append-nil bytes)) h
 
-pub taken_more : (a b c : Option (List ℕ)) (taken : List (List ℕ)) (line : List ℕ) → Consumes a b (joined taken) → Consumes b c line → Consumes a c (joined (taken ++ line ∷ []))
+taken_more : (a b c : Option (List ℕ)) (taken : List (List ℕ)) (line : List ℕ) → Consumes a b (joined taken) → Consumes b c line → Consumes a c (joined (taken ++ line ∷ []))
 taken_more a b c taken line first next = subst (Consumes a c) (sym (joined-more taken line)) (Consumes-trans a b c (joined taken) line first next)
 
 -- ---- what was read

@@ -1,8 +1,7 @@
 -- A text of lines has no other lines.
-use Rattle.std.proofs.Common.{rules, arith, ◌≡◌, ℕ, zero, suc, ◌+◌, ◌≤◌, List, [], ◌∷◌, ◌++◌, refl, sym, ap, ◌∙◌, Bool, true, false, append_assoc, length}
+use Rattle.std.proofs.Common.{◌≡◌, ℕ, ◌+◌, List, [], ◌∷◌, ◌++◌, refl, sym, ap, ◌∙◌, Bool, true, false, append_assoc}
 use Rattle.std.specs.Prelude.{◌==◌, ◌||◌, All}
 use Rattle.std.proofs.lemmas.List.Elements.{All-head, All-tail}
-use Rattle.std.proofs.lemmas.List.{append_cancel_left}
 use Rattle.rinex_file.specs.Reading.{has}
 use Rattle.rinex_file.proofs.Digits.{has-append}
 use Rattle.rinex_file.specs.Numbers.{joined}
@@ -61,22 +60,6 @@ splits [] (d ∷ ds) rest h k e = absurd (not_empty d (joined ds ++ rest) (All-h
 splits (l ∷ ls) (d ∷ ds) rest h k e =
     let one = first_line l d (joined ls) (joined ds ++ rest) (All-head IsLine l ls h) (All-head IsLine d ds k) (e ∙ append_assoc d (joined ds) rest) in
     let (more, lines, text) = splits ls ds rest (All-tail IsLine l ls h) (All-tail IsLine d ds k) one.1 in
-    let same : l ≡ d = one.0 in
-    (more, cc, text)
-
--- the same where more bytes follow the lines, and there are enough of these
-abbrev SplitsWithin : List (List ℕ) → List (List ℕ) → List ℕ → List ℕ → Type 0
-SplitsWithin all done after rest = (more : List (List ℕ)) × (all ≡ done ++ more) × (rest ≡ joined more ++ after)
-
-pub splits_within : (all done : List (List ℕ)) (after rest : List ℕ) → All IsLine all → All IsLine done → length done ≤ length all → joined all ++ after ≡ joined done ++ rest
-    → SplitsWithin all done after rest
-splits_within all [] after rest h k few e = (all, refl, sym e)
-splits_within [] (d ∷ ds) after rest h k few e = absurd (omega (arith, few))
-splits_within (l ∷ ls) (d ∷ ds) after rest h k few e =
-    let one = first_line l d (joined ls ++ after) (joined ds ++ rest) (All-head IsLine l ls h) (All-head IsLine d ds k)
-    (sym (append_assoc l (joined ls) after) ∙ e ∙ append_assoc d (joined ds) rest) in
-    let fewer : length ds ≤ length ls = omega (arith, few) in
-    let (more, lines, text) = splits_within ls ds after rest (All-tail IsLine l ls h) (All-tail IsLine d ds k) fewer one.1 in
     let same : l ≡ d = one.0 in
     (more, cc, text)
 

@@ -1,4 +1,4 @@
-use Rattle.std.proofs.Common.{arith, ◌≡◌, ◌∙◌, sym, ap, refl, ◌+◌}
+use Rattle.std.proofs.Common.{arith, refl, ◌+◌}
 use Rattle.rinex_file.proofs.Appended.{plain, first_epoch, next_epoch, last_epoch, have_room}
 use Rattle.rinex_file.proofs.file.file_bytes.Goals as goal
 

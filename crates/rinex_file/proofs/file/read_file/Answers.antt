@@ -1,6 +1,6 @@
-use Rattle.std.proofs.Common.{arith, refl, ◌≡◌, ◌∙◌, sym, ap, subst, ℕ, ◌+◌, ◌≤◌, ◌<◌, List, Option, Err, length}
+use Rattle.std.proofs.Common.{arith, refl, ◌≡◌, ◌∙◌, ap, subst, ℕ, ◌+◌, ◌≤◌, Err}
 use Rattle.rinex_file.specs.declared.read_fault.ReadFault.TheVariants.{CutShort, TooLong}
-use Rattle.rinex_file.specs.Exact.{Explains, IsFaulty, IsLine, most_lines}
+use Rattle.rinex_file.specs.Exact.{IsFaulty, most_lines}
 use Rattle.rinex_file.proofs.FileLines.{lines_are_lines, lines_are_short}
 use Rattle.rinex_file.proofs.LineByLine.{start, one_more, refused, over_long, too_long, cut_within, cut_behind, whole, alone, only_faults, behind_fault, no_reason, said_of, line_some, long_some, Follows, Refuses}
 use Rattle.rinex_file.proofs.file.read_file.Goals as goal
@@ -12,7 +12,7 @@ pub loop-reading-init : goal.loop-reading-init
 loop-reading-init g c = record { taken = start c.new-reading.result _ c.new-reading.ensures; within = omega arith; same = refl }
 
 pub loop-reading-preserved : goal.loop-reading-preserved
-loop-reading-preserved g c = 
+loop-reading-preserved g c =
     let line = c.next_line.new.line.items in
     let follows = subst (Follows c.loop-reading.reading c.take.new.self) c.as_slice.ensures.value c.in-Ok.ensures.taken in
     record {
@@ -53,7 +53,7 @@ pub returns-in-Cut-clause-only : goal.returns-in-Cut-clause-only
 returns-in-Cut-clause-only g c = λ v is few. only_faults lines_are_lines lines_are_short _ c.fault_behind.result v (returns-in-Cut-clause-fault g c) is few
 
 pub returns-in-Long-clause-fault : goal.returns-in-Long-clause-fault
-returns-in-Long-clause-fault g c = 
+returns-in-Long-clause-fault g c =
     let long = c.in-Long.ensures in
     let bytes = c.next_line.new.line.items in
     let taken = c.loop-reading.invariant.taken in
@@ -68,7 +68,7 @@ pub returns-in-Failed-clause-only : goal.returns-in-Failed-clause-only
 returns-in-Failed-clause-only g c = λ v is few. no_reason _ v
 
 pub returns-then-count-eq-MOST_LINES-clause-fault : goal.returns-then-count-eq-MOST_LINES-clause-fault
-returns-then-count-eq-MOST_LINES-clause-fault g c = 
+returns-then-count-eq-MOST_LINES-clause-fault g c =
     let line = c.next_line.new.line.items in
     too_long c.loop-reading.reading c.loop-reading.count _ _ _ line c.loop-reading.invariant.taken c.if-count-eq-MOST_LINES.true (line_some line c.in-Line.ensures.found) c.in-Line.ensures.taken
 
@@ -79,7 +79,7 @@ pub returns-in-Err-Memory-clause-only : goal.returns-in-Err-Memory-clause-only
 returns-in-Err-Memory-clause-only g c = λ v is few. no_reason _ v
 
 pub returns-in-Err-Bad-clause-fault : goal.returns-in-Err-Bad-clause-fault
-returns-in-Err-Bad-clause-fault g c = 
+returns-in-Err-Bad-clause-fault g c =
     let line = c.next_line.new.line.items in
     let n = c.loop-reading.count in
     let bad = subst (Refuses c.loop-reading.reading) c.as_slice.ensures.value (c.in-Err-Bad.ensures.bad (ap Err c.in-Err-Bad.field-0-is)) in

@@ -1,9 +1,5 @@
-use Rattle.std.proofs.Common.{◌≡◌, ◌-◌, ◌+◌, ◌^◌, ◌≤◌, ℕ, List, length}
-use Rattle.std.specs.Prelude.{All}
-use Rattle.std.specs.Io.KnownBytes.{Consumes}
-use Rattle.rinex_file.specs.Numbers.{joined}
-use Rattle.rinex_file.specs.Exact.{IsLine, most_lines}
-use Rattle.rinex_file.specs.Progress.{Progress, StandsFor}
+use Rattle.std.proofs.Common.{◌≡◌, ◌-◌, ◌+◌, ◌≤◌}
+use Rattle.rinex_file.specs.Exact.{most_lines}
 use Rattle.rinex_file.proofs.file.read_file.Given as goal
 use Rattle.rinex_file.proofs.LineByLine.{IsTaken}
 
