@@ -9,6 +9,9 @@ mod TypeCodes
 mod TypeRows
 mod Sections
 mod Sent
+mod Splits
+mod LineByLine
+mod Appended
 mod Faultless
 mod FileText
 mod Examples

@@ -1,0 +1,343 @@
+-- A file that is read line by line: what was read stands for the lines that were taken.
+use Rattle.std.proofs.Common.{arith, ◌≡◌, ◌∙◌, sym, ap, subst, refl, ℕ, suc, ◌+◌, ◌<◌, ◌≤◌, List, [], ◌∷◌, ◌++◌, length, length-append, append_assoc, append-nil, true, false, Option, Some, None, IfSome, Err, inl, inr}
+use Rattle.std.specs.Prelude.{◌==◌, All, ◌↔◌, if◌then◌else◌, ⊤}
+use Rattle.std.specs.Io.KnownBytes.{Consumes, IsAtEnd}
+use Rattle.std.proofs.KnownBytes.{Consumes-nil, Consumes-trans}
+use Rattle.std.proofs.lemmas.List.Elements.{All-head, All-tail, All-cons, All-append}
+use Rattle.std.proofs.lemmas.List.Sums.{sum_by-append}
+use Rattle.rinex_file.specs.declared.read_fault.ReadFault.{ReadFault}
+use Rattle.rinex_file.specs.declared.read_fault.ReadFault.TheVariants.{Memory, Read, BadHeader, BadEpoch, BadSatellite, CutShort, TooLong}
+use Rattle.rinex_file.specs.Reading.{has}
+use Rattle.rinex_file.specs.Numbers.{joined}
+use Rattle.rinex_file.specs.Value.{FileValue}
+use Rattle.rinex_file.specs.FileValues.{IsFileValue}
+use Rattle.rinex_file.specs.File.{file_text, file_lines}
+use Rattle.rinex_file.specs.Exact.{IsLine, NoFileBegins, IsCutShort, IsTooLong, IsFaulty, Explains, IsReadOr, line_feeds, most_lines}
+use Rattle.rinex_file.specs.Progress.{Progress, GoesOn, StandsFor}
+use Rattle.rinex_file.proofs.Sent.{joined-append}
+use Rattle.rinex_file.proofs.Splits.{splits, or_false, has-line}
+
+-- ---- lists of lines
+
+joined-more : (taken : List (List ℕ)) (line : List ℕ) → joined (taken ++ line ∷ []) ≡ joined taken ++ line
+joined-more taken line = joined-append taken (line ∷ []) ∙ ap (λ l. joined taken ++ l) (append-nil line)
+
+are_more : (taken : List (List ℕ)) (line : List ℕ) → All IsLine taken → IsLine line → All IsLine (taken ++ line ∷ [])
+are_more taken line are is = All-append IsLine taken (line ∷ []) are (All-cons IsLine line [] is (λ k d less. absurd (omega (arith, less))))
+
+count_more : (taken : List (List ℕ)) (line : List ℕ) (n : ℕ) → length taken ≡ n → length (taken ++ line ∷ []) ≡ n + 1
+count_more taken line n e = simp length-append (omega (arith, e))
+
+-- bytes without a line feed that are lines are none
+endless_lines : (more : List (List ℕ)) (bytes : List ℕ) → All IsLine more → has 10 bytes ≡ false → bytes ≡ joined more → more ≡ []
+endless_lines [] bytes are endless e = refl
+endless_lines (m ∷ ms) bytes are endless e =
+    let some : has 10 (joined (m ∷ ms)) ≡ true = has-line m (joined ms) (All-head IsLine m ms are) in
+    let none : has 10 (joined (m ∷ ms)) ≡ false = ap (has 10) (sym e) ∙ endless in
+    cc
+
+-- a short line isn't within bytes without a line feed
+not_within : (body x long rest : List ℕ) → has 10 long ≡ false → length body < length long → body ++ 10 ∷ x ≡ long ++ rest → ⊥
+not_within body x [] rest endless less e = absurd (omega (arith, less))
+not_within [] x (b ∷ bs) rest endless less e =
+    let same : 10 ≡ b = cc in
+    let self : (b == 10) ≡ true = ap (λ n. n == 10) (sym same) in
+    let other = (or_false (b == 10) (has 10 bs) endless).0 in
+    cc
+not_within (a ∷ us) x (b ∷ bs) rest endless less e =
+    let tail : us ++ 10 ∷ x ≡ bs ++ rest = cc in
+    not_within us x bs rest (or_false (b == 10) (has 10 bs) endless).1 (omega (arith, less)) tail
+
+-- ---- line feeds
+
+no_feeds : (bytes : List ℕ) → has 10 bytes ≡ false → line_feeds bytes ≡ 0
+no_feeds [] endless = refl
+no_feeds (b ∷ bs) endless =
+    let both = or_false (b == 10) (has 10 bs) endless in
+    let rest : line_feeds bs ≡ 0 = no_feeds bs both.1 in
+    let head : (b == 10) ≡ false = both.0 in
+    rw head rest
+
+feeds-append : (xs ys : List ℕ) → line_feeds (xs ++ ys) ≡ line_feeds xs + line_feeds ys
+feeds-append xs ys = sum_by-append _ xs ys
+
+one_feed : (line : List ℕ) → IsLine line → line_feeds line ≡ 1
+one_feed line (body, e, endless) =
+    ap line_feeds e ∙ feeds-append body (10 ∷ []) ∙ ap (λ (n : ℕ). n + 1) (no_feeds body endless)
+
+line_feeds-joined : (lines : List (List ℕ)) → All IsLine lines → line_feeds (joined lines) ≡ length lines
+line_feeds-joined [] are = refl
+line_feeds-joined (l ∷ ls) are =
+    let one : line_feeds l ≡ 1 = one_feed l (All-head IsLine l ls are) in
+    let rest : line_feeds (joined ls) ≡ length ls = line_feeds-joined ls (All-tail IsLine l ls are) in
+    feeds-append l (joined ls) ∙ omega (arith, one, rest)
+
+-- so many line feeds, and then bytes without one
+feeds_taken : (lines : List (List ℕ)) (bytes : List ℕ) (n : ℕ) → All IsLine lines → length lines ≡ n → has 10 bytes ≡ false → line_feeds (joined lines ++ bytes) + 1 ≡ n + 1
+feeds_taken lines bytes n are many endless =
+    let first : line_feeds (joined lines) ≡ length lines = line_feeds-joined lines are in
+    let rest : line_feeds bytes ≡ 0 = no_feeds bytes endless in
+    let both : line_feeds (joined lines ++ bytes) ≡ line_feeds (joined lines) + line_feeds bytes = feeds-append (joined lines) bytes in
+    omega (arith, first, rest, both, many)
+
+-- ---- lines behind lines
+
+behind_are : (lines more : List (List ℕ)) → All IsLine (lines ++ more) → All IsLine more
+behind_are [] more are = are
+behind_are (l ∷ ls) more are = behind_are ls more (All-tail IsLine l (ls ++ more) are)
+
+abbrev IsShort : List ℕ → Type 0
+IsShort l = length l ≤ 1220
+
+behind_short : (lines more : List (List ℕ)) → All IsShort (lines ++ more) → All IsShort more
+behind_short [] more short = short
+behind_short (l ∷ ls) more short = behind_short ls more (All-tail IsShort l (ls ++ more) short)
+
+not_front : (m x long rest : List ℕ) → IsLine m → IsShort m → length long ≡ 1220 → has 10 long ≡ false → m ++ x ≡ long ++ rest → ⊥
+not_front m x long rest (body, e, endless) short size none same =
+    let size_m : length m ≡ length body + 1 = ap length e ∙ simp length-append refl in
+    let less : length body < length long = omega (arith, size_m, short, size) in
+    not_within body x long rest none less (sym (ap (λ l. l ++ x) e ∙ append_assoc body (10 ∷ []) x) ∙ same)
+
+not_first : (more : List (List ℕ)) (long rest : List ℕ) → All IsLine more → All IsShort more → length long ≡ 1220 → has 10 long ≡ false → long ++ rest ≡ joined more → ⊥
+not_first [] long rest are short size endless e =
+    let empty : length (long ++ rest) ≡ 0 = ap length e in
+    let both : length (long ++ rest) ≡ length long + length rest = length-append long rest in
+    omega (arith, empty, both, size)
+not_first (m ∷ ms) long rest are short size endless e =
+    not_front m (joined ms) long rest (All-head IsLine m ms are) (All-head IsShort m ms short) size endless (sym e)
+
+-- some bytes behind as many lines are one line more
+no_more : (lines more all : List (List ℕ)) (rest : List ℕ) → all ≡ lines ++ more → rest ≡ joined more → length lines ≡ most_lines → length all ≤ most_lines → 0 < length rest → ⊥
+no_more lines [] all rest split text many few some =
+    let empty : length rest ≡ 0 = ap length text in
+    omega (arith, empty, some)
+no_more lines (m ∷ ms) all rest split text many few some =
+    let both : length all ≡ length lines + suc (length ms) = ap length split ∙ length-append lines (m ∷ ms) in
+    omega (arith, both, many, few)
+
+no_bytes : (front bytes : List ℕ) → 0 < length bytes → front ++ bytes ≡ front → ⊥
+no_bytes front bytes some e =
+    let both : length (front ++ bytes) ≡ length front + length bytes = length-append front bytes in
+    let same : length (front ++ bytes) ≡ length front = ap length e in
+    omega (arith, both, same, some)
+
+same_number : (n m : ℕ) → (n == m) ≡ true → n ≡ m
+same_number n m e = grind arith
+
+-- ---- what a reader gave
+
+-- what holds of all known bytes that are these and some others holds of what a reader had
+consumed : (a b : Option (List ℕ)) (bytes : List ℕ) (P : List ℕ → Type 0) → Consumes a b bytes → ((rest : List ℕ) → P (bytes ++ rest)) → IfSome a P
+consumed None b bytes P took h = tt
+consumed (Some x) None bytes P took h = absurd took
+consumed (Some x) (Some y) bytes P took h = subst P (sym took) (h y)
+
+-- the same where nothing is left
+consumed_all : (a b : Option (List ℕ)) (bytes : List ℕ) (P : List ℕ → Type 0) → Consumes a b bytes → IsAtEnd b → P bytes → IfSome a P
+consumed_all None b bytes P took end h = tt
+consumed_all (Some x) None bytes P took end h = absurd took
+consumed_all (Some x) (Some y) bytes P took end h = subst P (sym (took ∙ ap (λ l. bytes ++ l) end ∙ append-nil bytes)) h
+
+taken_more : (a b c : Option (List ℕ)) (taken : List (List ℕ)) (line : List ℕ) → Consumes a b (joined taken) → Consumes b c line → Consumes a c (joined (taken ++ line ∷ []))
+taken_more a b c taken line first next = subst (Consumes a c) (sym (joined-more taken line)) (Consumes-trans a b c (joined taken) line first next)
+
+-- ---- what was read
+
+-- some lines were taken, so many, and what was read stands for them
+pub record IsTaken (s : Progress) (count : ℕ) (old new : Option (List ℕ)) : Type 0 where
+  pub lines : List (List ℕ)
+  pub are : All IsLine lines
+  pub many : length lines ≡ count
+  pub taken : Consumes old new (joined lines)
+  pub stands : StandsFor s lines
+
+-- nothing was read
+pub start : (s : Progress) (a : Option (List ℕ)) → ((v : FileValue) (left : List (List ℕ)) → GoesOn s v left ↔ (IsFileValue v × (left ≡ file_lines v))) → IsTaken s 0 a a
+start s a new = record {
+  lines = [];
+  are = λ k d less. absurd (omega (arith, less));
+  many = refl;
+  taken = Consumes-nil a;
+  stands = record {
+    goes = λ v left is e. (new v left).1 (is, sym e);
+    begins = λ v left goes. let both = (new v left).0 goes in (both.0, sym both.1);
+  };
+}
+
+-- the next line is the one that may follow
+abbrev pub Follows : Progress → Progress → List ℕ → Type 0
+Follows old new line = (v : FileValue) (left : List (List ℕ)) → GoesOn old v (line ∷ left) ↔ GoesOn new v left
+
+stands_more : (old new : Progress) (taken : List (List ℕ)) (line : List ℕ) → StandsFor old taken → Follows old new line → StandsFor new (taken ++ line ∷ [])
+stands_more old new taken line stands more = record {
+  goes = λ v left is e. (more v left).0 (stands.goes v (line ∷ left) is (e ∙ append_assoc taken (line ∷ []) left));
+  begins = λ v left goes.
+      let both = stands.begins v (line ∷ left) ((more v left).1 goes) in
+      (both.0, both.1 ∙ sym (append_assoc taken (line ∷ []) left));
+}
+
+-- one line more was read
+pub one_more : (old new : Progress) (n : ℕ) (a b c : Option (List ℕ)) (line : List ℕ) → IsTaken old n a b → IsLine line → Consumes b c line → Follows old new line → IsTaken new (n + 1) a c
+one_more old new n a b c line t is next more = record {
+  lines = t.lines ++ line ∷ [];
+  are = are_more t.lines line t.are is;
+  many = count_more t.lines line n t.many;
+  taken = taken_more a b c t.lines line t.taken next;
+  stands = stands_more old new t.lines line t.stands more;
+}
+
+-- no file goes on with the line
+abbrev pub Refuses : Progress → List ℕ → Type 0
+Refuses s line = (v : FileValue) (left : List (List ℕ)) → GoesOn s v (line ∷ left) → ⊥
+
+-- the next line has too many bytes
+pub over_long : (s : Progress) (n : ℕ) (a b c : Option (List ℕ)) (bytes : List ℕ) → IsTaken s n a b → length bytes ≡ 1220 → has 10 bytes ≡ false → Consumes b c bytes
+    → IfSome a (λ input. IsFaulty input (n + 1))
+over_long s n a b c bytes t size endless next =
+    consumed a c (joined t.lines ++ bytes) (λ input. IsFaulty input (n + 1)) (Consumes-trans a b c (joined t.lines) bytes t.taken next) (λ rest. inr (record {
+      lines = t.lines;
+      long = bytes;
+      rest = rest;
+      first = record { are = t.are; first = append_assoc (joined t.lines) bytes rest };
+      count = ap (λ (k : ℕ). k + 1) t.many;
+      size = size;
+      endless = endless;
+    }))
+
+-- something follows as many lines as have a number
+pub too_long : (s : Progress) (n : ℕ) (a b c : Option (List ℕ)) (bytes : List ℕ) → IsTaken s n a b → n ≡ most_lines → 0 < length bytes → Consumes b c bytes → IfSome a IsTooLong
+too_long s n a b c bytes t most some next =
+    consumed a c (joined t.lines ++ bytes) IsTooLong (Consumes-trans a b c (joined t.lines) bytes t.taken next) (λ rest. record {
+      lines = t.lines;
+      rest = bytes ++ rest;
+      first = record { are = t.are; first = append_assoc (joined t.lines) bytes rest };
+      count = t.many ∙ most;
+      more = simp length-append (omega (arith, some));
+    })
+
+module _ (are_lines : (v : FileValue) → IsFileValue v → All IsLine (file_lines v)) where
+  refuted : (s : Progress) (taken : List (List ℕ)) (line : List ℕ) → All IsLine (taken ++ line ∷ []) → StandsFor s taken → Refuses s line → NoFileBegins (joined (taken ++ line ∷ []))
+  refuted s taken line are stands bad v rest is e =
+      let (more, lines, text) = splits (file_lines v) (taken ++ line ∷ []) rest (are_lines v is) are e in
+      bad v more (stands.goes v (line ∷ more) is (lines ∙ append_assoc taken (line ∷ []) more))
+
+  -- the line is refused
+  pub refused : (s : Progress) (n : ℕ) (a b c : Option (List ℕ)) (line : List ℕ) → IsTaken s n a b → IsLine line → Consumes b c line → Refuses s line → IfSome a (λ input. IsFaulty input (n + 1))
+  refused s n a b c line t is next bad =
+      let all = are_more t.lines line t.are is in
+      consumed a c (joined (t.lines ++ line ∷ [])) (λ input. IsFaulty input (n + 1)) (taken_more a b c t.lines line t.taken next) (λ rest. inl (record {
+        lines = t.lines ++ line ∷ [];
+        rest = rest;
+        first = record { are = all; first = refl };
+        count = count_more t.lines line n t.many;
+        none = refuted s t.lines line all t.stands bad;
+      }))
+
+  -- the lines of a file behind those that were taken
+  behind : (v : FileValue) (taken : List (List ℕ)) (bytes : List ℕ) → IsFileValue v → All IsLine taken → joined taken ++ bytes ≡ file_text v → has 10 bytes ≡ false → file_lines v ≡ taken
+  behind v taken bytes is are e endless =
+      let (more, lines, text) = splits (file_lines v) taken bytes (are_lines v is) are (sym e) in
+      let none : more ≡ [] = endless_lines more bytes (behind_are taken more (subst (All IsLine) lines (are_lines v is))) endless text in
+      lines ∙ ap (λ l. taken ++ l) none ∙ append-nil taken
+
+  -- the input ends within a line
+  pub cut_within : (s : Progress) (n : ℕ) (a b c : Option (List ℕ)) (bytes : List ℕ) → IsTaken s n a b → 0 < length bytes → has 10 bytes ≡ false → IsAtEnd c → Consumes b c bytes
+      → IfSome a (λ input. IsCutShort input (n + 1))
+  cut_within s n a b c bytes t some endless end next =
+      consumed_all a c (joined t.lines ++ bytes) (λ input. IsCutShort input (n + 1)) (Consumes-trans a b c (joined t.lines) bytes t.taken next) end (record {
+        count = feeds_taken t.lines bytes n t.are t.many endless;
+        none = λ v is e. no_bytes (joined t.lines) bytes some (e ∙ ap joined (behind v t.lines bytes is t.are e endless));
+      })
+
+  -- the input ends behind a line, where more lines are due
+  pub cut_behind : (s : Progress) (n : ℕ) (a b c : Option (List ℕ)) (bytes : List ℕ) → IsTaken s n a b → bytes ≡ [] → IsAtEnd c → Consumes b c bytes
+      → ((v : FileValue) → GoesOn s v [] → ⊥) → IfSome a (λ input. IsCutShort input (n + 1))
+  cut_behind s n a b c bytes t none end next never =
+      let endless : has 10 bytes ≡ false = ap (has 10) none in
+      consumed_all a c (joined t.lines ++ bytes) (λ input. IsCutShort input (n + 1)) (Consumes-trans a b c (joined t.lines) bytes t.taken next) end (record {
+        count = feeds_taken t.lines bytes n t.are t.many endless;
+        none = λ v is e. never v (t.stands.goes v [] is (behind v t.lines bytes is t.are e endless ∙ sym (append-nil t.lines)));
+      })
+
+  -- the input is the text of the file that was read
+  pub whole : (s : Progress) (n : ℕ) (a b c : Option (List ℕ)) (bytes : List ℕ) (f : FileValue) → IsTaken s n a b → bytes ≡ [] → IsAtEnd c → Consumes b c bytes → GoesOn s f []
+      → IsFileValue f × IfSome a (λ input. input ≡ file_text f)
+  whole s n a b c bytes f t none end next goes =
+      let (is, lines) = t.stands.begins f [] goes in (
+        is,
+        consumed_all a c (joined t.lines ++ bytes) (λ input. input ≡ file_text f) (Consumes-trans a b c (joined t.lines) bytes t.taken next) end
+            (ap (λ l. joined t.lines ++ l) none ∙ append-nil (joined t.lines) ∙ sym (ap joined (lines ∙ append-nil t.lines))),
+      )
+
+  -- no other file has this text
+  pub alone : (s : Progress) (n : ℕ) (a b c : Option (List ℕ)) (bytes : List ℕ) (f v : FileValue) → IsTaken s n a b → bytes ≡ [] → IsAtEnd c → Consumes b c bytes
+      → ((w : FileValue) → GoesOn s w [] → w ≡ f) → IsFileValue v → IfSome a (λ input. input ≡ file_text v → f ≡ v)
+  alone s n a b c bytes f v t none end next only is =
+      let endless : has 10 bytes ≡ false = ap (has 10) none in
+      consumed_all a c (joined t.lines ++ bytes) (λ input. input ≡ file_text v → f ≡ v) (Consumes-trans a b c (joined t.lines) bytes t.taken next) end
+      (λ e. sym (only v (t.stands.goes v [] is (behind v t.lines bytes is t.are e endless ∙ sym (append-nil t.lines)))))
+
+  -- ---- a text of a file is no fault
+
+  module _ (are_short : (v : FileValue) → IsFileValue v → All (λ l. length l ≤ 1220) (file_lines v)) where
+    -- the lines behind those that were taken are short, too
+    not_long : (v : FileValue) (lines : List (List ℕ)) (long rest : List ℕ) → IsFileValue v → All IsLine lines → length long ≡ 1220 → has 10 long ≡ false
+        → file_text v ≡ joined lines ++ (long ++ rest) → ⊥
+    not_long v lines long rest is are size endless e =
+        let (more, split, text) = splits (file_lines v) lines (long ++ rest) (are_lines v is) are e in
+        not_first more long rest (behind_are lines more (subst (All IsLine) split (are_lines v is))) (behind_short lines more (subst (All (λ l. length l ≤ 1220)) split (are_short v is)))
+        size endless text
+
+    not_many : (v : FileValue) (lines : List (List ℕ)) (rest : List ℕ) → IsFileValue v → All IsLine lines → length lines ≡ most_lines → 0 < length rest → length (file_lines v) ≤ most_lines
+        → file_text v ≡ joined lines ++ rest → ⊥
+    not_many v lines rest is are many some few e =
+        let (more, split, text) = splits (file_lines v) lines rest (are_lines v is) are e in
+        no_more lines more (file_lines v) rest split text many few some
+
+    faulty_not : (v : FileValue) (input : List ℕ) (k : ℕ) → IsFileValue v → IsFaulty input k → input ≡ file_text v → ⊥
+    faulty_not v input k is (inl r) e = r.none v r.rest is (sym e ∙ r.first.first)
+    faulty_not v input k is (inr l) e = not_long v l.lines l.long l.rest is l.first.are l.size l.endless (sym e ∙ l.first.first)
+
+    -- a fault that is explained isn't that of a file's text
+    not_explained : (v : FileValue) (input : List ℕ) (fault : ReadFault) → IsFileValue v → length (file_lines v) ≤ most_lines → Explains input fault → input ≡ file_text v → IsReadOr v (Err fault)
+    not_explained v input Memory is few why e = tt
+    not_explained v input Read is few why e = tt
+    not_explained v input (BadHeader k) is few why e = faulty_not v input k is why e
+    not_explained v input (BadEpoch k) is few why e = faulty_not v input k is why e
+    not_explained v input (BadSatellite k) is few why e = faulty_not v input k is why e
+    not_explained v input (CutShort k) is few why e = why.none v is e
+    not_explained v input TooLong is few why e = not_many v why.lines why.rest is why.first.are why.count why.more few (sym e ∙ why.first.first)
+
+    pub only_faults : (a : Option (List ℕ)) (fault : ReadFault) (v : FileValue) → IfSome a (λ input. Explains input fault) → IsFileValue v → length (file_lines v) ≤ most_lines
+        → IfSome a (λ input. input ≡ file_text v → IsReadOr v (Err fault))
+    only_faults None fault v why is few = tt
+    only_faults (Some input) fault v why is few = not_explained v input fault is few why
+
+-- the fault where something stands behind so many lines
+pub behind_fault : (s : Progress) (n : ℕ) (a b c : Option (List ℕ)) (bytes : List ℕ) (fault result : ReadFault) → IsTaken s n a b → 0 < length bytes → Consumes b c bytes
+    → result ≡ (if n == most_lines then TooLong else fault) → IfSome a (λ input. Explains input fault) → IfSome a (λ input. Explains input result)
+behind_fault s n a b c bytes fault result t some next is why =
+    elim (n == most_lines) as (λ most. (n == most_lines) ≡ most → result ≡ (if most then TooLong else fault) → IfSome a (λ input. Explains input result)) [
+      | true ↦ λ most same. subst (λ f. IfSome a (λ input. Explains input f)) (sym same) (too_long s n a b c bytes t (same_number n most_lines most) some next)
+      | false ↦ λ most same. subst (λ f. IfSome a (λ input. Explains input f)) (sym same) why
+    ] refl is
+
+-- nothing is said of memory and readers
+pub no_reason : (a : Option (List ℕ)) (v : FileValue) → IfSome a (λ input. input ≡ file_text v → ⊤)
+no_reason None v = tt
+no_reason (Some x) v = λ e. tt
+
+-- what is said of each faulty line
+pub said_of : (a : Option (List ℕ)) (P Q : List ℕ → Type 0) → ((input : List ℕ) → P input → Q input) → IfSome a P → IfSome a Q
+said_of None P Q h p = tt
+said_of (Some x) P Q h p = h x p
+
+-- a line isn't empty
+pub line_some : (line : List ℕ) → IsLine line → 0 < length line
+line_some line (body, e, endless) =
+    let size : length line ≡ length body + 1 = ap length e ∙ simp length-append refl in
+    omega (arith, size)
+
+pub long_some : (bytes : List ℕ) → length bytes ≡ 1220 → 0 < length bytes
+long_some bytes size = omega (arith, size)
