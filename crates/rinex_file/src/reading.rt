@@ -1,5 +1,6 @@
 //! What was read of a file, line by line.
 ghost use Rattle.std.specs.Prelude.{◌≡◌, ◌<◌, ◌≤◌, ◌+◌, ◌^◌, ◌∷◌, ◌++◌, ◌↔◌, ℕ, [], List, OnOk, IfSome, IfNone, IfOk, IfErr, Err, None, IsTrue, map, length};
+ghost use Rattle.std.specs.List.{sum_by};
 ghost use Rattle.std.specs.List.Sorted.{IsStrictlyIncreasing};
 ghost use Rattle.rinex_file.specs.Value.{FileValue};
 ghost use Rattle.rinex_file.specs.FileValues.{IsFileValue, rank_of, time_of, most_rows};
@@ -9,7 +10,7 @@ ghost use Rattle.rinex_file.specs.ProgressOf.{progress_of, IsCounted};
 ghost use Rattle.rinex_file.specs.Sound.{IsSound, MayBegin};
 
 use crate::due::{Due, Refusal};
-use crate::head_so_far::HeadSoFar;
+use crate::head_so_far::{HeadParts, HeadSoFar};
 use crate::kept::{KeptEpoch, KeptSeen};
 use crate::numbers::Line;
 use crate::obs_file::ObsFile;
@@ -276,13 +277,29 @@ impl Reading {
         if epochs.is_empty() {
             return None;
         }
-        let parts = head.into_parts()?;
-        Some(ObsFile {
-            texts: parts.texts,
-            plan: parts.plan,
-            values: parts.values,
-            epochs,
-            satellites,
-        })
+        match head.into_parts() {
+            Some(parts) => Some(file_of(parts, epochs, satellites)),
+            None => None,
+        }
+    }
+}
+
+// A file of what was read.
+fn file_of(parts: HeadParts, epochs: Vec<KeptEpoch>, satellites: usize) -> ObsFile
+    requires value { IsFileValue (record { texts = parts.texts; plan = parts.plan; values = parts.values; epochs = epochs.items }) }
+    requires counted { satellites ≡ sum_by (λ e. length e.rows) epochs.items }
+    ensures { result ≡ record { texts = parts.texts; plan = parts.plan; values = parts.values; epochs = epochs.items } }
+{
+    let HeadParts {
+        texts,
+        plan,
+        values,
+    } = parts;
+    ObsFile {
+        texts,
+        plan,
+        values,
+        epochs,
+        satellites,
     }
 }
