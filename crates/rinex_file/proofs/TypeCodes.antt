@@ -1,6 +1,5 @@
 -- The codes of the listed signals: two bytes of ASCII, each the code of no other signal of its system.
-use Rattle.std.proofs.Common.{min, ◌-◌, length-take, length-drop, arith, rules, ◌≡◌, ◌∙◌, sym, ap, refl, subst, ℕ, zero, suc, ◌+◌, ◌<◌, ◌≤◌, ◌==◌, ◌&&◌, Bool, true, false, List, [], ◌∷◌, length, take, drop, Option, Some, None, nat_lt}
-use Rattle.std.specs.Prelude.{slice_index}
+use Rattle.std.proofs.Common.{min, ◌-◌, length-take, length-drop, arith, rules, ◌≡◌, ◌∙◌, ap, refl, subst, ℕ, zero, suc, ◌+◌, ◌<◌, ◌≤◌, ◌==◌, ◌&&◌, Bool, true, false, List, [], ◌∷◌, length, take, drop, Some, nat_lt}
 use Rattle.std.specs.Str.{IsAscii, IsUtf8}
 use Rattle.std.proofs.lemmas.Str.{IsUtf8-from_ascii}
 use Rattle.gnss_obs.specs.declared.system.System.{System}
@@ -56,5 +55,5 @@ code_within line column s listed is =
     let two : length (code_of s) ≡ 2 = length-code s.system s.index listed in
     let l : length (take 2 (drop column line)) ≡ length (code_of s) = ap length is in
     reach (length line) column (simp (length-take, length-drop) at (l ∙ two)) where
-  reach : (n c : ℕ) → min 2 (n - c) ≡ 2 → c + 2 ≤ n
-  reach n c h = omega (arith, h)
+      reach : (n c : ℕ) → min 2 (n - c) ≡ 2 → c + 2 ≤ n
+      reach n c h = omega (arith, h)

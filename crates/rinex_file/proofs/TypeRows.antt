@@ -1,8 +1,8 @@
 -- A line of types: the columns of the signals that begin in it, and the signals that it shows.
-use Rattle.std.proofs.Common.{arith, rules, ◌≡◌, ◌∙◌, sym, ap, ap₂, refl, subst, ℕ, zero, suc, ◌+◌, ◌-◌, ◌*◌, ◌/◌, ◌%◌, ◌^◌, ◌<◌, ◌≤◌, ◌||◌, ◌==◌, Bool, true, false, min, List, [], ◌∷◌, ◌++◌, length, map, take, drop, get_or, replicate, decimal, nat_eq, append_assoc, length-append, length-take, length-drop}
-use Rattle.std.specs.Prelude.{flat_map, codes, slice_index, All}
+use Rattle.std.proofs.Common.{arith, ◌≡◌, ◌∙◌, sym, ap, ap₂, refl, subst, ℕ, zero, suc, ◌+◌, ◌-◌, ◌*◌, ◌/◌, ◌%◌, ◌^◌, ◌<◌, ◌≤◌, ◌||◌, ◌==◌, Bool, true, false, min, List, [], ◌∷◌, ◌++◌, length, take, drop, get_or, replicate, decimal, nat_eq, append_assoc, length-take, length-drop}
+use Rattle.std.specs.Prelude.{codes, slice_index, All}
 use Rattle.std.specs.List.{list_any, IsDistinct}
-use Rattle.std.proofs.lemmas.List.{take_more, take_all, take_at, take-take, take-map, drop_at, drop-drop, drop-take, get_or-take, get_or-drop, length-replicate}
+use Rattle.std.proofs.lemmas.List.{take_more, take_all, take_at, take-take, take-map, drop_at, drop-drop, drop-take, get_or-take, get_or-drop}
 use Rattle.std.proofs.lemmas.List.Elements.{All-get_or, All-head, All-tail}
 use Rattle.std.proofs.lemmas.Map.Keys.{apart_from_distinct, IsDistinct-tail}
 use Rattle.std.proofs.lemmas.Map.Steps.{length-le_from_distinct_below}
@@ -13,11 +13,11 @@ use Rattle.obs_epoch.specs.Signals.{indices}
 use Rattle.obs_epoch.proofs.PlanLemmas.{any_index, indices-push}
 use Rattle.rinex_file.specs.Numbers.{joined, left, right}
 use Rattle.rinex_file.specs.Lines.{letter_of}
-use Rattle.rinex_file.specs.Header.{header_line, type_of, types_of, codes_of, type_front, type_columns, type_line}
+use Rattle.rinex_file.specs.Header.{header_line, type_of, types_of, codes_of, type_front, type_columns}
 use Rattle.rinex_file.specs.Reading.{digits_in}
 use Rattle.rinex_file.specs.Progress.{AreTypes, types_line, begun}
 use Rattle.rinex_file.proofs.Digits.{length-right, digits_in-whole}
-use Rattle.rinex_file.proofs.SignalTypes.{columns, signal_type, length-types_of, length-system_types}
+use Rattle.rinex_file.proofs.SignalTypes.{columns, signal_type, length-system_types}
 use Rattle.rinex_file.proofs.TypeCodes.{length-code}
 
 -- ---- a line begins with its content
@@ -111,10 +111,11 @@ code_in_line system all line row q k are few is within place less =
     ∙ ap₂ (λ (m n : ℕ). type_of m (code_of (signal_at system all n))) (none_left k) (fourth k) in
     let wide : length (code_of s) ≡ 2 = length-code system (slice_index all k) (listed_at system all k are less) in
     sym (ap (take 2) (drop-drop 2 (6 + 4 * q) line)) ∙ ap (λ l. take 2 (drop 2 l)) (at ∙ ap (λ t. 32 ∷ (t ++ column.0)) letter) ∙ take_at (code_of s) column.0 2 wide where
-  none_left : (k : ℕ) → 4 * k % 4 ≡ 0
-  none_left k = omega arith
-  fourth : (k : ℕ) → 4 * k / 4 ≡ k
-  fourth k = omega arith
+      none_left : (k : ℕ) → 4 * k % 4 ≡ 0
+      none_left k = omega arith
+
+      fourth : (k : ℕ) → 4 * k / 4 ≡ k
+      fourth k = omega arith
 
 -- ---- the signals that a line shows
 
@@ -137,8 +138,8 @@ row_shown system all row =
     ap (λ cs. columns (take 13 (drop (13 * row) (types_of cs)))) (sym (take-map f m all))
     ∙ ap (λ ts. columns (take 13 (drop (13 * row) ts))) (types_take m (codes_of system all))
     ∙ ap columns (row_take (types_of (codes_of system all)) (13 * row) (4 * m) (enough row)) where
-  enough : (row : ℕ) → 13 * row + 13 ≤ 4 * ((13 * (row + 1) + 3) / 4)
-  enough row = omega arith
+      enough : (row : ℕ) → 13 * row + 13 ≤ 4 * ((13 * (row + 1) + 3) / 4)
+      enough row = omega arith
 
 -- ---- none comes twice
 
@@ -237,8 +238,8 @@ count_read system all line are bound is =
     let few = few_types system all are in
     let fits : 4 * length all < 2 ^ 64 = omega (arith, few, bound) in
     ap (λ t. digits_in t / 4) (count_shown system all line are bound is) ∙ ap (λ (n : ℕ). n / 4) (digits_in-whole 3 (4 * length all) fits) ∙ fourth (length all) where
-  fourth : (k : ℕ) → 4 * k / 4 ≡ k
-  fourth k = omega arith
+      fourth : (k : ℕ) → 4 * k / 4 ≡ k
+      fourth k = omega arith
 
 pub count_within : (system : System) (all line : List ℕ) → AreTypes system all → length (table system) ≤ 19 → line ≡ types_line system all 0 → 6 ≤ length line
 count_within system all line are bound is =
@@ -247,5 +248,5 @@ count_within system all line are bound is =
     let digits : length (decimal (4 * length all)) ≤ 3 = length-decimal-le 3 (4 * length all) (omega arith) small (omega (arith, small)) in
     let l : length (take 3 (drop 3 line)) ≡ 3 = ap length (count_shown system all line are bound is) ∙ length-right 3 (decimal (4 * length all)) digits in
     reach (length line) (sym (length-take 3 (drop 3 line) ∙ ap (min 3) (length-drop 3 line)) ∙ l) where
-  reach : (n : ℕ) → min 3 (n - 3) ≡ 3 → 6 ≤ n
-  reach n h = omega (arith, h)
+      reach : (n : ℕ) → min 3 (n - 3) ≡ 3 → 6 ≤ n
+      reach n h = omega (arith, h)

@@ -1,4 +1,4 @@
-use Rattle.std.proofs.Common.{arith, ◌≡◌, ◌∙◌, sym, ap, List, ℕ, length, take, drop, ◌+◌, ◌/◌, ◌<◌, ◌≤◌, ◌⊎◌, inl, inr, Some}
+use Rattle.std.proofs.Common.{arith, ◌∙◌, ap, ℕ, length, ◌/◌, ◌<◌, ◌≤◌, ◌⊎◌, inl, inr, Some}
 use Rattle.rinex_file.specs.Reading.{digits_in}
 use Rattle.rinex_file.proofs.Entries.{few_signals}
 use Rattle.rinex_file.proofs.TypeRows.{few_types, count_read, count_within}

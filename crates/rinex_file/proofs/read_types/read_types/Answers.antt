@@ -1,4 +1,4 @@
-use Rattle.std.proofs.Common.{arith, ◌≡◌, ◌∙◌, sym, ap, refl, ◌++◌, ◌*◌, List, [], ℕ, Bool, true, false}
+use Rattle.std.proofs.Common.{arith, ◌≡◌, ◌∙◌, sym, ap, refl, ◌++◌, List, [], ℕ, Bool, true, false}
 use Rattle.std.specs.Prelude.{codes, IsTrue, ◌↔◌}
 use Rattle.obs_epoch.specs.Signals.{indices}
 use Rattle.rinex_file.specs.Header.{header_line}

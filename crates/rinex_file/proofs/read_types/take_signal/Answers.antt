@@ -1,4 +1,4 @@
-use Rattle.std.proofs.Common.{◌≡◌, ◌∙◌, sym, subst}
+use Rattle.std.proofs.Common.{sym, subst}
 use Rattle.obs_epoch.specs.Signals.{IsOf}
 use Rattle.obs_epoch.proofs.PlanLemmas.{is_of-push, has_now}
 use Rattle.rinex_file.proofs.read_types.take_signal.Goals as goal

@@ -1,4 +1,4 @@
-use Rattle.std.proofs.Common.{arith, ◌≡◌, ◌*◌, ◌/◌, ◌%◌, ◌<◌, length}
+use Rattle.std.proofs.Common.{arith, ◌*◌, ◌/◌, ◌%◌, ◌<◌, length}
 use Rattle.gnss_obs.specs.Signals.{code_of}
 use Rattle.obs_epoch.specs.Signals.{indices}
 use Rattle.obs_epoch.proofs.PlanLemmas.{length_indices}
