@@ -285,3 +285,18 @@ goes_on s due sound some =
       rest = refl;
     } in
     (file_read s due sound some, subst (λ d. IsAt s d (file_with s s.epochs) []) (sym due) here)
+
+unfinished_at : (s : Progress) (due : Due) → s.due ≡ due → (due ≡ Epoch → ⊥) → IsSound s → (v : FileValue) → GoesOn s v [] → ⊥
+unfinished_at s (Header section row) same other sound v on = header_unfinished s section row same v on
+unfinished_at s Epoch same other sound v on = other refl
+unfinished_at s (Satellite n) same other sound v on = epoch_unfinished s n same sound v on
+
+-- lines are missing where no epoch is due
+pub unfinished : (s : Progress) → (s.due ≡ Epoch → ⊥) → IsSound s → (v : FileValue) → GoesOn s v [] → ⊥
+unfinished s other sound v on = unfinished_at s s.due refl other sound v on
+
+-- the file that was read, by its parts
+pub file_whole : (s : Progress) (f : FileValue) → s.due ≡ Epoch → IsSound s → 0 < length s.epochs → f ≡ file_with s s.epochs
+    → GoesOn s f [] × ((v : FileValue) → GoesOn s v [] → v ≡ f)
+file_whole s f due sound some same =
+    (subst (λ x. GoesOn s x []) (sym same) (goes_on s due sound some), λ v on. only_file s due v on ∙ sym same)

@@ -28,7 +28,8 @@ pub fn program<'a>(alloc: Global) -> Result<Command<'a>, Error> {
         .subcommand_required(true)
         .subcommand(frames(alloc))?
         .subcommand(show(alloc))?
-        .subcommand(convert(alloc)?)?;
+        .subcommand(convert(alloc)?)?
+        .subcommand(check(alloc))?;
     Ok(program)
 }
 
@@ -51,6 +52,15 @@ fn show<'a>(alloc: Global) -> Command<'a> {
         )
         .after_help(
             "Example: rtcm2rinex show < stream.rtcm3\nA line as '0 1005 2003 1114104.5999 -4850729.7108 3975521.4643' is a station: the place of its frame, the message's number, the station, and X, Y and Z in metres.\nA line as '52 1077 2003 1000 0 1 1 1' is an MSM: place, number, station, time in milliseconds of the week, DF393, and how many satellites, signals and cells it has.",
+        )
+}
+
+/// The command that reads an observation file back.
+fn check<'a>(alloc: Global) -> Command<'a> {
+    Command::new(alloc, "check")
+        .about("Checks that standard input is an observation file just as convert writes it")
+        .after_help(
+            "Example: rtcm2rinex check < station.obs\nA line as 'epochs 2 satellites 17' counts the epochs and the lines of satellites. Of any other file the first line that is wrong is told on standard error, as 'rtcm2rinex: BadHeader 2'.",
         )
 }
 

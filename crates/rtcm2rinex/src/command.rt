@@ -4,8 +4,10 @@ ghost use Rattle.rtcm2rinex.specs.FrameLines.{frame_lines};
 ghost use Rattle.rtcm2rinex.specs.ShowLines.{show_lines};
 ghost use Rattle.rtcm2rinex.specs.Listing.{ListsAll};
 ghost use Rattle.rtcm2rinex.specs.Converting.{IsWhole};
+ghost use Rattle.rtcm2rinex.specs.Checking.{ChecksFile};
 ghost use Rattle.rtcm_convert.specs.Converted.{Settings};
 
+use crate::check::run_check;
 use crate::cli::program;
 use crate::convert::{run_convert, tell};
 use crate::fault::ToolFault;
@@ -29,11 +31,12 @@ pub fn command<R: Read, W: Write, E: Write>(
 ) -> u8
     ensures status { result ≤ 2 }
 
-    // Good is only a stream that was read to its end and listed, or whose file was written.
+    // Good is only a stream that was read to its end and listed, or whose file was written, or a file that was read back.
     ensures good { result ≡ 0 →
         ListsAll frame_lines (R.remaining reader.old.inner) (R.remaining reader.new.inner) (W.contents writer.old.inner) (W.contents writer.new.inner)
         ⊎ ListsAll show_lines (R.remaining reader.old.inner) (R.remaining reader.new.inner) (W.contents writer.old.inner) (W.contents writer.new.inner)
-        ⊎ ((s : Settings) × IsWhole s (R.remaining reader.old.inner) (W.contents writer.old.inner) (W.contents writer.new.inner)) }
+        ⊎ ((s : Settings) × IsWhole s (R.remaining reader.old.inner) (W.contents writer.old.inner) (W.contents writer.new.inner))
+        ⊎ ChecksFile (R.remaining reader.old.inner) (W.contents writer.old.inner) (W.contents writer.new.inner) }
 
     // Of a command line that isn't accepted nothing comes but its text.
     ensures unread { result ≡ 2 → reader.new ≡ reader.old }
@@ -51,6 +54,7 @@ pub fn command<R: Read, W: Write, E: Write>(
         Some(("frames", _)) => frames(alloc, reader, writer, faults),
         Some(("show", _)) => show(alloc, reader, writer, faults),
         Some(("convert", options)) => convert(alloc, options, reader, writer, faults),
+        Some(("check", _)) => check(alloc, reader, writer, faults),
         _ => 2,
     }
 }
@@ -107,6 +111,22 @@ fn convert<R: Read, W: Write, E: Write>(
             tell(&report, faults);
             0
         }
+        Err(fault) => stop(fault, faults),
+    }
+}
+
+/// Checks a file, or tells the fault. Answers the exit status.
+fn check<R: Read, W: Write, E: Write>(
+    alloc: Global,
+    reader: &mut Counted<R>,
+    writer: &mut Counted<W>,
+    faults: &mut E,
+) -> u8
+    ensures status { result ≤ 1 }
+    ensures good { result ≡ 0 → ChecksFile (R.remaining reader.old.inner) (W.contents writer.old.inner) (W.contents writer.new.inner) }
+{
+    match run_check(alloc, reader, writer) {
+        Ok(()) => 0,
         Err(fault) => stop(fault, faults),
     }
 }

@@ -1,7 +1,7 @@
 //! Why a command stopped.
 use gnss_obs::System;
 use obs_epoch::PlanFault;
-use rinex_file::{HeadFault, HeaderField};
+use rinex_file::{HeadFault, HeaderField, ReadFault};
 use rtcm_convert::Fault;
 use rtcm_scan::ScanFault;
 use std::fmt;
@@ -21,6 +21,8 @@ pub enum ToolFault {
     Plan(PlanFault),
     /// The converter refused.
     Convert(Fault),
+    /// The file that was to be checked was refused.
+    Check(ReadFault),
 }
 
 impl fmt::Display for ToolFault {
@@ -44,6 +46,11 @@ impl fmt::Display for ToolFault {
             }
             ToolFault::Plan(fault) => write!(f, "{fault:?}"),
             ToolFault::Convert(fault) => write!(f, "{fault:?}"),
+            ToolFault::Check(ReadFault::BadHeader(line)) => write!(f, "BadHeader {line}"),
+            ToolFault::Check(ReadFault::BadEpoch(line)) => write!(f, "BadEpoch {line}"),
+            ToolFault::Check(ReadFault::BadSatellite(line)) => write!(f, "BadSatellite {line}"),
+            ToolFault::Check(ReadFault::CutShort(line)) => write!(f, "CutShort {line}"),
+            ToolFault::Check(fault) => write!(f, "{fault:?}"),
         }
     }
 }

@@ -38,6 +38,18 @@ impl Line {
         line
     }
 
+    /// A line with this first word.
+    pub fn starting_with_word(word: &str) -> Line
+        requires { length word.now ≤ 256 }
+        ensures text { result ≡ word.now }
+    {
+        let mut line = Line {
+            text: ArrayVec::new(),
+        };
+        line.put(word.as_bytes());
+        line
+    }
+
     /// One more word, a number.
     pub fn add_number(&mut self, number: u64)
         requires { length self.old ≤ 235 }

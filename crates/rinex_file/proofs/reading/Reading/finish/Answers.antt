@@ -1,22 +1,33 @@
-use Rattle.std.proofs.Common.{rules, ◌≡◌, ◌<◌, ◌≤◌, ◌+◌, ◌^◌, ◌∷◌, ◌++◌, ◌↔◌, ℕ, [], List, OnOk, IfSome, IfNone, IfOk, IfErr, Err, None, IsTrue, map, length, ◌-◌, ◌*◌, ◌/◌, ◌%◌, Bool, true, false, nat_eq, nat_lt, slice_index_or, slice_set, bit_and, bit_or, Fits, w8, w32, w64, Bor, MutBor}
+use Rattle.std.proofs.Common.{rules, arith, ◌≡◌, ◌∙◌, ◌<◌, ◌+◌, ℕ, List, [], sym, ap, subst, refl, length, Bool, true, false}
+use Rattle.std.specs.Prelude.{◌==◌}
 use Rattle.std.specs.List.{sum_by}
-use Rattle.std.specs.List.Sorted.{IsStrictlyIncreasing}
-use Rattle.rinex_file.specs.Value.{FileValue}
-use Rattle.rinex_file.specs.FileValues.{IsFileValue, rank_of, time_of, most_rows}
-use Rattle.rinex_file.specs.File.{file_lines}
-use Rattle.rinex_file.specs.Progress.{GoesOn, begun_at}
-use Rattle.rinex_file.specs.ProgressOf.{progress_of, IsCounted}
-use Rattle.rinex_file.specs.Sound.{IsSound, MayBegin}
+use Rattle.obs_epoch.specs.declared.cell.StationValues.{StationValues}
+use Rattle.obs_epoch.specs.Values.{PlanValue}
+use Rattle.rinex_file.specs.Texts.{HeaderLists}
+use Rattle.rinex_file.specs.Value.{FileValue, Stamped}
+use Rattle.rinex_file.specs.Progress.{Progress, file_with}
+use Rattle.rinex_file.specs.ProgressOf.{progress_of}
+use Rattle.rinex_file.proofs.HeaderBody.{unfinished, no_file, file_whole, file_read}
 use Rattle.rinex_file.proofs.reading.Reading.finish.Goals as goal
 
--- src/reading.rt:275:18
+-- a file by its parts
+abbrev file_by : HeaderLists → PlanValue → StationValues → List Stamped → FileValue
+file_by t p x es = record { texts = t; plan = p; values = x; epochs = es }
+
+made : (s : Progress) (t : HeaderLists) (p : PlanValue) (x : StationValues) → t ≡ s.known.shown.texts → p ≡ s.known.shown.plan → x ≡ s.known.shown.values
+    → file_with s s.epochs ≡ file_by t p x s.epochs
+made s t p x a b c = sym (ap (λ y. file_by y p x s.epochs) a ∙ ap (λ y. file_by s.known.shown.texts y x s.epochs) b ∙ ap (λ y. file_by s.known.shown.texts s.known.shown.plan y s.epochs) c)
+
 pub returns-in_default : goal.returns-in_default
-returns-in_default c = ?
+returns-in_default c = record { some = tt; none = unfinished (progress_of c.args.self) c.in_default.not-Epoch c.requires.sound }
 
--- src/reading.rt:278:13
 pub returns-then-is_empty-clause-none : goal.returns-then-is_empty-clause-none
-returns-then-is_empty-clause-none c = ?
+returns-then-is_empty-clause-none c = no_file (progress_of c.args.self) c.in-Epoch.is (search rules)
 
--- src/reading.rt:265:5
 pub returns-in-Some-clause-some : goal.returns-in-Some-clause-some
-returns-in-Some-clause-some c = ?
+returns-in-Some-clause-some c =
+    let s = progress_of c.args.self in
+    let some : 0 < length s.epochs = search rules in
+    let parts = c.in-Some.ensures.parts in
+    file_whole s c.file_of.result c.in-Epoch.is c.requires.sound some
+        (c.file_of.ensures ∙ sym (made s c.in-Some.parts.texts c.in-Some.parts.plan c.in-Some.parts.values parts.0 parts.1 parts.2))

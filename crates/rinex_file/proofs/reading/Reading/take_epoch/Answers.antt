@@ -1,5 +1,6 @@
-use Rattle.std.proofs.Common.{◌≡◌, ◌↔◌, ◌∷◌, ℕ, List, sym, subst, IsTrue, Bool, true, false}
-use Rattle.rinex_file.specs.Value.{FileValue}
+use Rattle.std.proofs.Common.{◌≡◌, ◌∙◌, ◌+◌, ◌↔◌, ◌∷◌, ℕ, List, length, ap, sym, subst, IsTrue, Bool, true, false}
+use Rattle.std.specs.List.{sum_by}
+use Rattle.rinex_file.specs.Value.{FileValue, Seen, Stamped}
 use Rattle.rinex_file.specs.Progress.{Progress, GoesOn}
 use Rattle.rinex_file.specs.ProgressOf.{progress_of}
 use Rattle.rinex_file.specs.Sound.{IsSound}
@@ -29,3 +30,12 @@ pub returns-else-begin-clause-bad : goal.returns-else-begin-clause-bad
 returns-else-begin-clause-bad c = λ e.
     bad_epoch (progress_of c.args.self.now) c.in-Some.read.0 c.in-Some.read.1 c.args.line.now c.requires.due c.in-Some.ensures.2
         (λ may. never c.begin.result c.if-begin.false (c.begin.ensures.refused may))
+
+pub returns-then-begin-clause-counted : goal.returns-then-begin-clause-counted
+returns-then-begin-clause-counted c =
+    let begun = c.begin.ensures.begun c.if-begin.true in
+    let epochs : c.begin.new.self.epochs.items ≡ c.args.self.now.epochs.items = ap (λ p. p.epochs) begun in
+    let rows : c.begin.new.self.rows.items ≡ c.args.self.now.rows.items = ap (λ p. p.rows) begun in
+    c.begin.ensures.same ∙ c.requires.counted
+    ∙ ap (λ (es : List Stamped). sum_by (λ e. length e.rows) es + length c.args.self.now.rows.items) (sym epochs)
+    ∙ ap (λ (rs : List Seen). sum_by (λ e. length e.rows) c.begin.new.self.epochs.items + length rs) (sym rows)

@@ -1,0 +1,36 @@
+-- What the command `check` writes. `r` and `w` are what the reader and the writer held before, and w' what the writer holds after.
+use Rattle.std.specs.Prelude.{◌≡◌, ℕ, ◌^◌, List, [], ◌∷◌, length, codes, decimal, Option, Result, Ok, Err, IfSome, ⊤}
+use Rattle.std.specs.List.{sum_by}
+use Rattle.std.specs.Io.KnownBytes.{Appends}
+use Rattle.rtcm_bits.specs.Device.{AppendsPrefix}
+use Rattle.rinex_file.specs.Value.{FileValue}
+use Rattle.rinex_file.specs.FileValues.{IsFileValue}
+use Rattle.rinex_file.specs.File.{file_text}
+use Rattle.rinex_file.specs.declared.read_fault.ReadFault.TheVariants as reading
+use Rattle.rtcm2rinex.specs.declared.fault.ToolFault.{ToolFault}
+use Rattle.rtcm2rinex.specs.declared.fault.ToolFault.TheVariants as faults
+use Rattle.rtcm2rinex.specs.Lines.{line}
+
+-- how many epochs a file has, and how many lines of satellites in all
+unfoldable pub check_line : FileValue → List ℕ
+check_line v = line (codes "epochs" ∷ decimal (length v.epochs) ∷ codes "satellites" ∷ decimal (sum_by (λ e. length e.rows) v.epochs) ∷ [])
+
+-- the reader had the text of a file value, and of this one's counts so much was written
+abbrev pub IsFileWith : (List ℕ → Type 0) → Option (List ℕ) → Type 0
+IsFileWith Writes r = (v : FileValue) × IsFileValue v × IfSome r (λ input. input ≡ file_text v) × Writes (check_line v)
+
+-- the counts were written whole
+abbrev pub ChecksFile : (r w w' : Option (List ℕ)) → Type 0
+ChecksFile r w w' = IsFileWith (Appends w w') r
+
+-- the writer took a prefix of the counts
+abbrev pub ChecksPart : (r w w' : Option (List ℕ)) → Type 0
+ChecksPart r w w' = IsFileWith (AppendsPrefix w w') r
+
+-- what may come of the text of this file value: its counts, unless memory or a device fails
+abbrev pub IsCheckedOr : FileValue → Result ⊤ ToolFault → (w w' : Option (List ℕ)) → Type 0
+IsCheckedOr v (Ok u) w w' = Appends w w' (check_line v)
+IsCheckedOr v (Err faults.Write) w w' = AppendsPrefix w w' (check_line v)
+IsCheckedOr v (Err (faults.Check reading.Memory)) w w' = ⊤
+IsCheckedOr v (Err (faults.Check reading.Read)) w w' = ⊤
+IsCheckedOr v (Err other) w w' = ⊥

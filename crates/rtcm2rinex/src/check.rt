@@ -1,0 +1,62 @@
+//! The command `check`: whether the input is a file as `convert` writes it, and how much it holds.
+ghost use Rattle.std.specs.Prelude.{◌≡◌, ◌≤◌, Err, OnOk, IfErr, IfSome, length};
+ghost use Rattle.rtcm_bits.specs.Device.{HasFailed};
+ghost use Rattle.rinex_file.specs.declared.read_fault.ReadFault.{ReadFault};
+ghost use Rattle.rinex_file.specs.Value.{FileValue};
+ghost use Rattle.rinex_file.specs.FileValues.{IsFileValue};
+ghost use Rattle.rinex_file.specs.File.{file_text, file_lines};
+ghost use Rattle.rinex_file.specs.Exact.{Explains, most_lines};
+ghost use Rattle.rtcm2rinex.specs.Checking.{check_line, ChecksFile, ChecksPart, IsCheckedOr};
+
+use crate::fault::ToolFault;
+use crate::line::Line;
+use rinex_file::{ObsFile, ReadFault, read_file};
+use rtcm_bits::Counted;
+use std::alloc::Global;
+use std::io::{Read, Write};
+
+/// The line of a file: how many epochs it has, and how many lines of satellites.
+#[tactic(auto, unfolding(crate::specs::Checking::check_line))]
+fn check_line(file: &ObsFile) -> Line
+    ensures { result ≡ check_line file.now }
+{
+    let mut line = Line::starting_with_word("epochs");
+    line.add_number(file.epochs() as u64);
+    line.add_word("satellites");
+    line.add_number(file.satellites() as u64);
+    line.finish();
+    line
+}
+
+/// Reads a file to its end and writes how many epochs and satellites it has. It is accepted exactly where it is spelled as
+/// `convert` spells files; else the first line that isn't is told.
+pub fn run_check<R: Read, W: Write>(
+    alloc: Global,
+    reader: &mut Counted<R>,
+    writer: &mut Counted<W>,
+) -> Result<(), ToolFault>
+    ensures whole { OnOk result (ChecksFile (R.remaining reader.old.inner) (W.contents writer.old.inner) (W.contents writer.new.inner)) }
+
+    // Why the input isn't a file; nothing was written.
+    ensures fault { (e : ReadFault) → result ≡ Err (ToolFault.Check e) → IfSome (R.remaining reader.old.inner) (λ input. Explains input e) }
+    ensures unwritten { (e : ReadFault) → result ≡ Err (ToolFault.Check e) → writer.new ≡ writer.old }
+    ensures read_failed { result ≡ Err (ToolFault.Check ReadFault.Read) → HasFailed reader.old.failures reader.new.failures }
+
+    // The writer failed: what it took is a prefix of the counts.
+    ensures write { result ≡ Err ToolFault.Write → ChecksPart (R.remaining reader.old.inner) (W.contents writer.old.inner) (W.contents writer.new.inner) }
+    ensures write_failed { result ≡ Err ToolFault.Write → HasFailed writer.old.failures writer.new.failures }
+
+    // The text of each file value is accepted.
+    ensures only { (v : FileValue) → IsFileValue v → length (file_lines v) ≤ most_lines → IfSome (R.remaining reader.old.inner) (λ input. input ≡ file_text v
+        → IsCheckedOr v result (W.contents writer.old.inner) (W.contents writer.new.inner)) }
+{
+    let file = match read_file(alloc, reader) {
+        Ok(file) => file,
+        Err(fault) => return Err(ToolFault::Check(fault)),
+    };
+    let line = check_line(&file);
+    match writer.write_whole(line.as_bytes()) {
+        Ok(()) => Ok(()),
+        Err(_) => Err(ToolFault::Write),
+    }
+}
