@@ -11,3 +11,4 @@ mod Faultless
 mod FileText
 mod Examples
 mod Judged
+mod HeaderSteps

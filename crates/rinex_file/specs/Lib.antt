@@ -10,3 +10,4 @@ pub mod TextsOf
 pub mod FileValues
 pub mod Exact
 pub mod Progress
+pub mod HeaderSteps
