@@ -1,6 +1,6 @@
 -- From one line of a header to the next, as its lines are read.
 use Rattle.std.proofs.Common.{arith, ◌≡◌, ◌∙◌, sym, ap, refl, subst, ℕ, zero, suc, ◌+◌, ◌<◌, ◌≤◌, Bool, true, false, List, [], ◌∷◌, ◌++◌, length, drop, get_or, Option, Some, None, ◌↔◌}
-use Rattle.std.specs.Prelude.{flat_map, min}
+use Rattle.std.specs.Prelude.{flat_map, min, IfSome, IfNone}
 use Rattle.std.proofs.lemmas.Bool.Decides.{nat_tests}
 use Rattle.obs_epoch.specs.Dates.{civil_of}
 use Rattle.obs_epoch.specs.Values.{PlanValue, planned_of}
@@ -204,14 +204,14 @@ past_reached s n k h left e =
 
 -- ---- sections without lines
 
-said_version : (n : ℕ) (k : Known) (h : Shown) → SaidOf (suc n) k h → Says Version k h
+pub said_version : (n : ℕ) (k : Known) (h : Shown) → SaidOf (suc n) k h → Says Version k h
 said_version zero k h said = said.1
 said_version (suc n) k h said = said_version n k h said.0
 
 more_planned : (x : ℕ) (xs : List ℕ) → is_planned (x ∷ xs) ≡ true
 more_planned x xs = grind (arith, nat_tests)
 
-none_planned : (b : Bool) (signals : List ℕ) → b ≡ is_planned signals → b ≡ false → signals ≡ []
+pub none_planned : (b : Bool) (signals : List ℕ) → b ≡ is_planned signals → b ≡ false → signals ≡ []
 none_planned b [] e f = refl
 none_planned b (x ∷ xs) e f = let m = more_planned x xs in cc
 
@@ -347,3 +347,38 @@ last_has_lines First k e = cc
 last_has_lines (Shift Gps) k e = cc
 last_has_lines (Shift Galileo) k e = cc
 last_has_lines End k e = refl
+
+-- ---- from a line to the next
+
+-- the place of the next line, behind a section of one line
+steps_by : (s : Section) (line : List ℕ) (old new : Known) (next : Section × ℕ) → IsSole s → Learns s line old new
+    → ((h : Shown) (left : List (List ℕ)) → IsPast new s h left ↔ IsHeaderLeft new next.0 next.1 h left) → StepsTo old s 0 line new (Some next)
+steps_by s line old new next sole learned behind h left = both_ways (past_line s line old new sole learned h left) (behind h left)
+
+-- there is a section behind one of one line
+sole_next : (s : Section) → IsSole s → after s ≡ [] → ⊥
+sole_next Version sole e = cc
+sole_next Program sole e = cc
+sole_next Marker sole e = cc
+sole_next MarkerType sole e = cc
+sole_next Observer sole e = cc
+sole_next Receiver sole e = cc
+sole_next Antenna sole e = cc
+sole_next Position sole e = cc
+sole_next Delta sole e = cc
+sole_next (Types system) sole e = sole
+sole_next StrengthUnit sole e = cc
+sole_next First sole e = cc
+sole_next (Shift Gps) sole e = cc
+sole_next (Shift Galileo) sole e = cc
+sole_next End sole e = sole
+
+pub steps_on : (s : Section) (line : List ℕ) (old new : Known) (r : Option (Section × ℕ)) → IsSole s → Learns s line old new
+    → IfSome r (λ next. (h : Shown) (left : List (List ℕ)) → IsPast new s h left ↔ IsHeaderLeft new next.0 next.1 h left) → IfNone r (after s ≡ [])
+    → StepsTo old s 0 line new r
+steps_on s line old new (Some next) sole learned here last = steps_by s line old new next sole learned here
+steps_on s line old new None sole learned here last = absurd (sole_next s sole last)
+
+pub not_last : (s : Section) (r : Option (Section × ℕ)) → IsSole s → IfNone r (after s ≡ []) → r ≡ None → ⊥
+not_last s (Some next) sole last e = cc
+not_last s None sole last e = sole_next s sole last

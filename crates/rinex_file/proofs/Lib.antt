@@ -12,3 +12,5 @@ mod FileText
 mod Examples
 mod Judged
 mod HeaderSteps
+mod PutTexts
+mod HeaderLearned

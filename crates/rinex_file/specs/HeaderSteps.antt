@@ -95,3 +95,7 @@ with_first k first = record {
   galileo = k.galileo;
   signals = k.signals;
 }
+
+-- with what the first line says
+abbrev pub with_systems : Known → Bool → Bool → Known
+with_systems k gps galileo = record { shown = k.shown; gps = gps; galileo = galileo; signals = k.signals }

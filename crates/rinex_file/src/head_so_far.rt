@@ -269,7 +269,10 @@ impl HeadSoFar {
     fn take_shift(&mut self, system: System, line: &[u8]) -> bool
         ensures { Learned (Section.Shift system) line.now self.old self.new result }
     {
-        self.plans(system) && is_header_line(line, &[letter_of(system)], b"SYS / PHASE SHIFT")
+        if !self.plans(system) {
+            return false;
+        }
+        is_header_line(line, &[letter_of(system)], b"SYS / PHASE SHIFT")
     }
 
     // Takes the line of a section, and answers whether it is one.
@@ -307,7 +310,10 @@ impl HeadSoFar {
         ensures some { IfOk result (λ next. next ≡ None → ⊥) }
         ensures bad { result ≡ Err Refusal.Bad → NoneGoesOn self.old section row line.now }
     {
-        if row != 0 || !self.learn(section, line) {
+        if row != 0 {
+            return Err(Refusal::Bad);
+        }
+        if !self.learn(section, line) {
             return Err(Refusal::Bad);
         }
         Ok(self.place_behind(section))
