@@ -9,7 +9,9 @@ invariant_of-self c =
     (held.0, held.1, marker_kept c.self.inside.texts c.set_marker.new.self c.in-Some.text.items c.set_marker.ensures held.2 c.in-Some.ensures.0, held.3)
 
 pub returns-in-Some : goal.returns-in-Some
-returns-in-Some c = put_texts Marker c.args.line.now c.args.self.now _ c.set_marker.new.self _ c.self.view_is c.set_marker.ensures (learn_marker _ c.in-Some.text.items c.args.line.now c.in-Some.ensures)
+returns-in-Some c =
+    put_texts Marker c.args.line.now c.args.self.now _ c.set_marker.new.self _ c.self.view_is c.set_marker.ensures
+    (learn_marker _ c.in-Some.text.items c.args.line.now c.in-Some.ensures)
 
 pub returns-in-None : goal.returns-in-None
 returns-in-None c = refuse_marker c.args.self.now c.args.line.now c.in-None.ensures
