@@ -1,16 +1,17 @@
 -- From one line of a header to the next, as its lines are read.
 use Rattle.std.proofs.Common.{arith, ◌≡◌, ◌∙◌, sym, ap, refl, subst, ℕ, zero, suc, ◌+◌, ◌<◌, ◌≤◌, Bool, true, false, List, [], ◌∷◌, ◌++◌, length, drop, get_or, Option, Some, None, ◌↔◌}
-use Rattle.std.specs.Prelude.{flat_map, min, IfSome, IfNone}
+use Rattle.std.specs.Prelude.{flat_map, min, IfSome, IfNone, IfOk, Result, Ok, Err}
 use Rattle.std.proofs.lemmas.Bool.Decides.{nat_tests}
 use Rattle.obs_epoch.specs.Dates.{civil_of}
 use Rattle.obs_epoch.specs.Values.{PlanValue, planned_of}
 use Rattle.gnss_obs.specs.declared.system.System.{System}
 use Rattle.gnss_obs.specs.declared.system.System.TheVariants.{Gps, Galileo}
+use Rattle.rinex_file.specs.declared.due.Refusal.{Refusal}
 use Rattle.rinex_file.specs.declared.section.Section.{Section}
 use Rattle.rinex_file.specs.declared.section.Section.TheVariants.{Version, Program, Marker, MarkerType, Observer, Receiver, Antenna, Position, Delta, Types, StrengthUnit, First, Shift, End}
 use Rattle.rinex_file.specs.Header.{lines_from, section_rows, after, all_sections, type_rows}
 use Rattle.rinex_file.specs.Progress.{Known, Shown, IsShown, Says, SaidOf, SaidBefore, SaidWithin, NoneYet, IsHeaderLeft, MayFollow, shown_lines, is_planned}
-use Rattle.rinex_file.specs.HeaderSteps.{IsSole, has_lines, Unread, Learns, Refuses, IsPast, IsReached, StepsTo, NoneGoesOn}
+use Rattle.rinex_file.specs.HeaderSteps.{IsSole, has_lines, Unread, Learns, Refuses, Learned, IsPast, IsReached, StepsTo, NoneGoesOn}
 use Rattle.rinex_file.proofs.Sections.{rows_at, skip}
 
 pub both_ways : {A B C : Type 0} → (A ↔ B) → (B ↔ C) → A ↔ C
@@ -121,7 +122,7 @@ none_past s line old sole refuses h left i =
     refuses h i.is i.before both.0
 
 -- there is one row
-pub no_row : (s : Section) (row : ℕ) (line : List ℕ) (old : Known) → IsSole s → 0 < row → NoneGoesOn old s row line
+pub no_row : (s : Section) (row : ℕ) (line : List ℕ) (old : Known) → IsSole s → (row ≡ 0 → ⊥) → NoneGoesOn old s row line
 no_row s row line old sole far h left i =
     let due = i.due in
     let few = few_rows h.plan s sole in
@@ -382,3 +383,39 @@ steps_on s line old new None sole learned here last = absurd (sole_next s sole l
 pub not_last : (s : Section) (r : Option (Section × ℕ)) → IsSole s → IfNone r (after s ≡ []) → r ≡ None → ⊥
 not_last s (Some next) sole last e = cc
 not_last s None sole last e = sole_next s sole last
+
+pub same_section : (s t : Section) (line : List ℕ) (old new : Known) (taken : Bool) → s ≡ t → Learned t line old new taken → Learned s line old new taken
+same_section s t line old new taken e l = subst (λ u. Learned u line old new taken) (sym e) l
+
+-- ---- whichever section it is
+
+pub sole_by : (s : Section) → ((system : System) → s ≡ Types system → ⊥) → (s ≡ End → ⊥) → IsSole s
+sole_by Version types last = tt
+sole_by Program types last = tt
+sole_by Marker types last = tt
+sole_by MarkerType types last = tt
+sole_by Observer types last = tt
+sole_by Receiver types last = tt
+sole_by Antenna types last = tt
+sole_by Position types last = tt
+sole_by Delta types last = tt
+sole_by (Types system) types last = types system refl
+sole_by StrengthUnit types last = tt
+sole_by First types last = tt
+sole_by (Shift system) types last = tt
+sole_by End types last = last refl
+
+pub steps_at : (s t : Section) (row : ℕ) (line : List ℕ) (old new : Known) (r : Result (Option (Section × ℕ)) Refusal) → s ≡ t
+    → IfOk r (λ next. StepsTo old t row line new next) → IfOk r (λ next. StepsTo old s row line new next)
+steps_at s t row line old new r e steps = subst (λ u. IfOk r (λ next. StepsTo old u row line new next)) (sym e) steps
+
+pub never_shown : (k : Known) (r : Result (Option (Section × ℕ)) Refusal) → IfOk r (λ next. next ≡ None → ⊥) → IfOk r (λ next. next ≡ None → IsShown k.shown)
+never_shown k (Ok next) some = λ e. absurd (some e)
+never_shown k (Err e) some = tt
+
+pub always_shown : (k : Known) (r : Result (Option (Section × ℕ)) Refusal) → IfOk r (λ next. IsShown k.shown) → IfOk r (λ next. next ≡ None → IsShown k.shown)
+always_shown k (Ok next) is = λ e. is
+always_shown k (Err e) is = tt
+
+pub refused_at : (s t : Section) (row : ℕ) (line : List ℕ) (old : Known) → s ≡ t → NoneGoesOn old t row line → NoneGoesOn old s row line
+refused_at s t row line old e none = subst (λ u. NoneGoesOn old u row line) (sym e) none

@@ -14,3 +14,4 @@ mod Judged
 mod HeaderSteps
 mod PutTexts
 mod HeaderLearned
+mod HeaderEnd

@@ -9,7 +9,7 @@ use Rattle.rinex_file.specs.declared.section.Section.TheVariants.{Version, Progr
 use Rattle.rinex_file.specs.Texts.{HeaderLists}
 use Rattle.rinex_file.specs.FileValues.{of_system}
 use Rattle.rinex_file.specs.Header.{lines_from, after}
-use Rattle.rinex_file.specs.Progress.{Known, Shown, IsShown, Says, SaidBefore, SaidWithin, NoneYet, IsHeaderLeft, MayFollow, shown_lines}
+use Rattle.rinex_file.specs.Progress.{Known, Shown, IsShown, Says, SaidBefore, SaidWithin, NoneYet, IsHeaderLeft, MayFollow, shown_lines, is_planned}
 
 -- a section of at most one line, with another section behind it
 abbrev pub IsSole : Section → Type 0
@@ -61,6 +61,10 @@ pub record IsReached (k : Known) (section : Section) (h : Shown) (left : List (L
   pub before : SaidBefore section k h
   pub within : SaidWithin section 0 k h
   pub lines : left ≡ lines_from (shown_lines h) section 0
+
+-- signals were read of exactly the planned systems, and there is one
+abbrev pub IsWhole : Known → Type 0
+IsWhole k = (k.gps ≡ is_planned k.shown.plan.gps) × (k.galileo ≡ is_planned k.shown.plan.galileo) × (0 < length k.shown.plan.gps + length k.shown.plan.galileo)
 
 -- the headers that go on from one place are those that go on from another
 abbrev pub StepsTo : Known → Section → ℕ → List ℕ → Known → Option (Section × ℕ) → Type 0

@@ -1,12 +1,12 @@
 //! What was read of a header.
-ghost use Rattle.std.specs.Prelude.{◌≡◌, ◌+◌, ◌*◌, ◌/◌, ◌<◌, ◌≤◌, ◌∷◌, [], ◌↔◌, ℕ, List, length, take, Err, None, IfOk, IfErr, IfSome, IfNone, OnOk, MatchOption};
+ghost use Rattle.std.specs.Prelude.{◌≡◌, ◌+◌, ◌*◌, ◌/◌, ◌<◌, ◌≤◌, ◌∷◌, [], ◌↔◌, ℕ, List, length, take, Err, None, IfOk, IfErr, IfSome, IfNone, OnOk, MatchOption, IsTrue};
 ghost use Rattle.gnss_obs.specs.Signals.{table};
 ghost use Rattle.obs_epoch.specs.Dates.{civil_of};
 ghost use Rattle.obs_epoch.specs.Signals.{indices, IsOf};
 ghost use Rattle.rinex_file.specs.FileValues.{of_system};
 ghost use Rattle.rinex_file.specs.Header.{header_lines, type_rows, after};
 ghost use Rattle.rinex_file.specs.Progress.{Shown, IsShown, IsHeaderLeft, MayFollow, AreTypes, types_line, begun};
-ghost use Rattle.rinex_file.specs.HeaderSteps.{IsSole, has_lines, Learned, IsPast, IsReached, StepsTo, NoneGoesOn};
+ghost use Rattle.rinex_file.specs.HeaderSteps.{IsSole, has_lines, Learned, IsPast, IsReached, IsWhole, StepsTo, NoneGoesOn};
 
 use crate::due::Refusal;
 use crate::numbers::Line;
@@ -40,7 +40,7 @@ impl Model for HeadSoFar {
     ghost use Rattle.obs_epoch.specs.Signals.{indices, IsOf};
     ghost use Rattle.gnss_obs.specs.declared.system.System.TheVariants.{Gps, Galileo};
     ghost use Rattle.rinex_file.specs.Progress.{Known};
-    ghost use Rattle.rinex_file.specs.FileValues.{AreTexts, AreValues};
+    ghost use Rattle.rinex_file.specs.FileValues.{AreTexts, AreValues, IsTime};
 
     ghost Value = { Known };
 
@@ -51,7 +51,7 @@ impl Model for HeadSoFar {
       signals = h.signals;
     } };
 
-    ghost invariant = { λ h. IsOf Gps h.gps.items × IsOf Galileo h.galileo.items × AreTexts h.texts × AreValues h.values };
+    ghost invariant = { λ h. IsOf Gps h.gps.items × IsOf Galileo h.galileo.items × AreTexts h.texts × AreValues h.values × IsTime h.first };
 }
 
 impl HeadSoFar {
@@ -319,13 +319,36 @@ impl HeadSoFar {
         Ok(self.place_behind(section))
     }
 
+    // Whether signals were read of exactly the planned systems, and some system is planned.
+    fn is_whole(&self) -> bool
+        ensures { IsTrue result ↔ IsWhole self.now }
+    {
+        if self.gps.is_empty() == self.has_gps {
+            return false;
+        }
+        if self.galileo.is_empty() == self.has_galileo {
+            return false;
+        }
+        self.has_gps || self.has_galileo
+    }
+
     // Takes the last line.
     fn take_end(&self, row: usize, line: &[u8]) -> Result<Option<(Section, usize)>, Refusal>
         ensures taken { IfOk result (λ next. StepsTo self.now Section.End row line.now self.now next) }
         ensures shown { IfOk result (λ next. IsShown self.now.shown) }
         ensures bad { result ≡ Err Refusal.Bad → NoneGoesOn self.now Section.End row line.now }
     {
-        Err(Refusal::Memory)
+        let _ = &self.texts;
+        if row != 0 {
+            return Err(Refusal::Bad);
+        }
+        if !is_header_line(line, b"", b"END OF HEADER") {
+            return Err(Refusal::Bad);
+        }
+        if !self.is_whole() {
+            return Err(Refusal::Bad);
+        }
+        Ok(None)
     }
 
     // Takes a line of the types of a system.

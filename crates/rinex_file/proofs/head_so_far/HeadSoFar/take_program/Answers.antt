@@ -11,7 +11,7 @@ invariant_of-self c =
     (held.0, held.1,
       program_kept c.self.inside.texts c.set_program.new.self c.in-Some.run_by.items c.in-Some.date.items c.set_program.ensures held.2
       c.in-Some.ensures.0.1 c.in-Some.ensures.0.2,
-      held.3)
+      held.3, held.4)
 
 pub returns : goal.returns
 returns c =
