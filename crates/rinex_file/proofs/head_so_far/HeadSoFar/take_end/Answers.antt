@@ -30,4 +30,4 @@ returns-then-not-is_whole-clause-bad c bad =
     (not_whole c.args.self.now c.args.line.now (refused _ _ c.is_whole.ensures c.if-not-is_whole.true))
 
 pub returns-clause-bad : goal.returns-clause-bad
-returns-clause-bad c bad = ok_bad _ _ _ refl bad
+returns-clause-bad c bad h left i = ok_bad _ _ _ refl bad
