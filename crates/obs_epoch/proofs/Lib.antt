@@ -16,6 +16,7 @@ pub mod ClockLemmas
 pub mod Rows
 pub mod EntryLemmas
 pub mod PlanLemmas
+pub mod FitLemmas
 pub mod GatheringLemmas
 pub mod HandingLemmas
 pub mod KindLemmas

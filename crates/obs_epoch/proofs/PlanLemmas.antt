@@ -57,7 +57,7 @@ first_some text r x split is =
 
 -- ---- the signals of a plan
 
-any_index : (n : ℕ) (ss : List SignalAt) → list_any (λ (s : SignalAt). n == s.index) ss ≡ list_any (nat_eq n) (indices ss)
+pub any_index : (n : ℕ) (ss : List SignalAt) → list_any (λ (s : SignalAt). n == s.index) ss ≡ list_any (nat_eq n) (indices ss)
 any_index n [] = refl
 any_index n (s ∷ ss) = ap (λ b. (n == s.index) || b) (any_index n ss)
 
@@ -72,7 +72,7 @@ length_indices (s ∷ ss) = ap suc (length_indices ss)
 pub place_index : (n : ℕ) (ss : List SignalAt) → position (λ (s : SignalAt). s.index == n) ss ≡ position (λ i. i == n) (indices ss)
 place_index n ss = ap₂ (λ (k m : ℕ). cond (nat_lt k m) (Some k) None) (first_index n ss) (sym (length_indices ss))
 
-indices-push : (ss : List SignalAt) (s : SignalAt) → indices (ss ++ s ∷ []) ≡ indices ss ++ s.index ∷ []
+pub indices-push : (ss : List SignalAt) (s : SignalAt) → indices (ss ++ s ∷ []) ≡ indices ss ++ s.index ∷ []
 indices-push [] s = refl
 indices-push (r ∷ ss) s = ap (λ l. r.index ∷ l) (indices-push ss s)
 

@@ -1,10 +1,14 @@
 -- Signals as a plan holds them.
-use Rattle.std.specs.Prelude.{◌≡◌, ℕ, ◌≤◌, List, [], map, length, All, Option, Some, None}
+use Rattle.std.specs.Prelude.{◌≡◌, ℕ, ◌+◌, ◌<◌, List, [], ◌∷◌, ◌++◌, map, length, All, Option, Some, None, true, ◌==◌}
 use Rattle.gnss_obs.specs.declared.system.System.{System}
-use Rattle.gnss_obs.specs.Signals.{SignalAt, IsSignal, table}
-use Rattle.std.specs.List.{IsDistinct}
+use Rattle.gnss_obs.specs.Signals.{SignalAt, IsSignal}
+use Rattle.gnss_obs.specs.declared.system.System.TheVariants.{Gps, Galileo}
+use Rattle.std.specs.List.{IsDistinct, list_any}
 use Rattle.std.specs.Prelude.{nat_eq}
 use Rattle.obs_epoch.specs.Plans.{between_commas}
+use Rattle.obs_epoch.specs.declared.fault.PlanFault.{PlanFault}
+use Rattle.obs_epoch.specs.declared.fault.PlanFault.TheVariants.{UnknownCode, RepeatedCode, NothingPlanned}
+use Rattle.obs_epoch.specs.Values.{PlanValue}
 
 -- their places in the table of their system
 abbrev pub indices : List SignalAt → List ℕ
@@ -19,3 +23,35 @@ pub record IsOf (system : System) (ss : List SignalAt) : Type 0 where
 abbrev pub codes_in : Option (List ℕ) → List (List ℕ)
 codes_in None = []
 codes_in (Some text) = between_commas text
+
+-- a signal of another system, or one that came before, behind signals of a system
+abbrev pub IsUnfitBehind : System → List SignalAt → SignalAt → PlanFault → Type 0
+IsUnfitBehind system before s (UnknownCode named place) = (named ≡ system) × (place ≡ length before) × (s.system ≡ system → ⊥)
+IsUnfitBehind system before s (RepeatedCode named place) =
+    (named ≡ system) × (place ≡ length before) × (s.system ≡ system) × (list_any (λ r. s.index == r.index) before ≡ true)
+IsUnfitBehind system before s other = ⊥
+
+-- the first of the signals that a plan can't have
+pub record IsUnfit (system : System) (ss : List SignalAt) (fault : PlanFault) : Type 0 where
+  pub before : List SignalAt
+  pub signal : SignalAt
+  pub rest : List SignalAt
+  pub split : ss ≡ before ++ signal ∷ rest
+  pub fits : IsOf system before
+  pub unfit : IsUnfitBehind system before signal fault
+
+-- why signals are none of a plan: those of GPS come first
+abbrev pub IsUnplanned : List SignalAt → List SignalAt → PlanFault → Type 0
+IsUnplanned gps galileo (UnknownCode Gps place) = IsUnfit Gps gps (UnknownCode Gps place)
+IsUnplanned gps galileo (UnknownCode Galileo place) = IsOf Gps gps × IsUnfit Galileo galileo (UnknownCode Galileo place)
+IsUnplanned gps galileo (RepeatedCode Gps place) = IsUnfit Gps gps (RepeatedCode Gps place)
+IsUnplanned gps galileo (RepeatedCode Galileo place) = IsOf Gps gps × IsUnfit Galileo galileo (RepeatedCode Galileo place)
+IsUnplanned gps galileo NothingPlanned = (gps ≡ []) × (galileo ≡ [])
+IsUnplanned gps galileo other = ⊥
+
+-- the plan of signals in their order
+pub record IsPlanOf (gps galileo : List SignalAt) (p : PlanValue) : Type 0 where
+  pub first : IsOf Gps gps
+  pub second : IsOf Galileo galileo
+  pub some : 0 < length gps + length galileo
+  pub value : p ≡ record { gps = indices gps; galileo = indices galileo }

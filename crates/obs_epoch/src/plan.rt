@@ -1,10 +1,11 @@
 //! Plans: the signals that are wanted.
-ghost use Rattle.std.specs.Prelude.{◌≡◌, ◌<◌, ◌≤◌, ◌+◌, ◌⊎◌, ◌++◌, ◌∷◌, [], ◌==◌, ℕ, length, slice_index, map, MatchOption, MatchResult, IfOk, IfErr, IfSome, Ok, Err, All, option_map, position, Result, List};
+ghost use Rattle.std.specs.Prelude.{◌≡◌, ◌<◌, ◌≤◌, ◌+◌, ◌⊎◌, ◌++◌, ◌∷◌, [], ◌==◌, ℕ, length, slice_index, map, MatchOption, MatchResult, IfOk, IfErr, IfSome, IsOk, IsTrue, ◌↔◌, false, Ok, Err, All, option_map, position, Result, List};
 ghost use Rattle.std.specs.List.{list_any};
+ghost use Rattle.gnss_obs.specs.declared.system.System.TheVariants.{Gps, Galileo};
 ghost use Rattle.obs_epoch.specs.Values.{planned_of};
 ghost use Rattle.obs_epoch.specs.Plans.{plan_of, signals_of, signals_after, one_more, between_commas, below, place_in};
-ghost use Rattle.obs_epoch.specs.Signals.{indices, IsOf, codes_in};
-ghost use Rattle.gnss_obs.specs.Signals.{table, signal_of_code};
+ghost use Rattle.obs_epoch.specs.Signals.{indices, IsOf, codes_in, IsUnfitBehind, IsUnfit, IsUnplanned, IsPlanOf};
+ghost use Rattle.gnss_obs.specs.Signals.{IsSignal, table, signal_of_code};
 
 use crate::fault::PlanFault;
 use gnss_obs::{Signal, System};
@@ -46,6 +47,22 @@ impl Plan {
         Ok(Plan { gps, galileo })
     }
 
+    /// The plan of these signals in this order. A signal of another system and one that came before are refused, those of
+    /// GPS first and from the left, and so is no signal at all.
+    pub fn from_signals(gps: Vec<Signal>, galileo: Vec<Signal>) -> Result<Plan, PlanFault>
+        ensures cases { MatchResult result
+            (λ p. IsPlanOf gps.items galileo.items p)
+            (λ e. IsUnplanned gps.items galileo.items e) }
+        ensures planned { IsOf Gps gps.items → IsOf Galileo galileo.items → 0 < length gps.items + length galileo.items → IsOk result }
+    {
+        judge_signals(System::Gps, gps.as_slice())?;
+        judge_signals(System::Galileo, galileo.as_slice())?;
+        if galileo.is_empty() && gps.is_empty() {
+            return Err(PlanFault::NothingPlanned);
+        }
+        Ok(Plan { gps, galileo })
+    }
+
     /// How many signals of a system are wanted.
     pub fn signals(&self, system: System) -> usize
         ensures count { result ≡ length (planned_of system self.now) }
@@ -54,6 +71,17 @@ impl Plan {
         match system {
             System::Gps => self.gps.len(),
             System::Galileo => self.galileo.len(),
+        }
+    }
+
+    /// The signals of a system that are wanted, in their order.
+    pub fn of(&self, system: System) -> &[Signal]
+        ensures indices { indices result.now ≡ planned_of system self.now }
+        ensures system { IsOf system result.now }
+    {
+        match system {
+            System::Gps => self.gps.as_slice(),
+            System::Galileo => self.galileo.as_slice(),
         }
     }
 
@@ -77,6 +105,41 @@ impl Plan {
             System::Gps => place_of(self.gps.as_slice(), signal.index()),
             System::Galileo => place_of(self.galileo.as_slice(), signal.index()),
         }
+    }
+}
+
+// Whether these are signals of a system, none of them twice.
+fn judge_signals(system: System, signals: &[Signal]) -> Result<(), PlanFault>
+    ensures { MatchResult result (λ _. IsOf system signals.now) (λ e. IsUnfit system signals.now e) }
+{
+    for place in 0..signals.len() {
+        judge_signal(system, &signals[..place], signals[place])?;
+    }
+    Ok(())
+}
+
+// Whether a signal is of a system and came not before.
+fn judge_signal(system: System, before: &[Signal], signal: Signal) -> Result<(), PlanFault>
+    ensures { MatchResult result
+        (λ _. (signal.system ≡ system) × IsSignal signal × (list_any (λ s. signal.index == s.index) before.now ≡ false))
+        (λ e. IsUnfitBehind system before.now signal e) }
+{
+    if !is_of(signal, system) {
+        return Err(PlanFault::UnknownCode(system, before.len()));
+    }
+    if has_signal(before, signal.index()) {
+        return Err(PlanFault::RepeatedCode(system, before.len()));
+    }
+    Ok(())
+}
+
+fn is_of(signal: Signal, system: System) -> bool
+    ensures { IsTrue result ↔ (signal.system ≡ system) }
+{
+    match (signal.system(), system) {
+        (System::Gps, System::Gps) => true,
+        (System::Galileo, System::Galileo) => true,
+        _ => false,
     }
 }
 

@@ -424,6 +424,52 @@ fn plans_are_read(rt: HostRuntime) -> Result<(), PlanFault> {
     Ok(())
 }
 
+// The signals of these codes of a system.
+fn signals_of(alloc: Global, system: System, codes: &[&str]) -> Result<Vec<Signal>, PlanFault> {
+    let mut signals = Vec::new(alloc);
+    for code in codes {
+        if let Some(signal) = Signal::from_code(system, code)
+            && signals.push(signal).is_err()
+        {
+            return Err(PlanFault::Memory);
+        }
+    }
+    Ok(signals)
+}
+
+#[test]
+fn plans_are_made_of_signals(rt: HostRuntime) -> Result<(), PlanFault> {
+    let alloc = rt.alloc();
+    let gps = signals_of(alloc, System::Gps, &["2W", "1C"])?;
+    let plan = Plan::from_signals(gps, Vec::new(alloc))?;
+    let [first, second] = plan.of(System::Gps) else {
+        return Err(PlanFault::NothingPlanned);
+    };
+    assert_eq!(rt; (first.code(), second.code()), (*b"2W", *b"1C"));
+    assert!(rt; plan.of(System::Galileo).is_empty());
+    let twice = signals_of(alloc, System::Gps, &["1C", "1C"])?;
+    assert!(rt;
+        matches!(
+            Plan::from_signals(twice, Vec::new(alloc)),
+            Err(PlanFault::RepeatedCode(System::Gps, 1))
+        )
+    );
+    let other = signals_of(alloc, System::Gps, &["1C"])?;
+    assert!(rt;
+        matches!(
+            Plan::from_signals(Vec::new(alloc), other),
+            Err(PlanFault::UnknownCode(System::Galileo, 0))
+        )
+    );
+    assert!(rt;
+        matches!(
+            Plan::from_signals(Vec::new(alloc), Vec::new(alloc)),
+            Err(PlanFault::NothingPlanned)
+        )
+    );
+    Ok(())
+}
+
 #[test]
 fn dates_go_both_ways(rt: HostRuntime) {
     let leap = Civil {

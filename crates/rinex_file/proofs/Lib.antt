@@ -5,6 +5,8 @@ mod Columns
 mod Found
 mod Entries
 mod SignalTypes
+mod TypeCodes
+mod TypeRows
 mod Sections
 mod Sent
 mod Faultless

@@ -1,9 +1,11 @@
 -- The types of a system's signals, one after the other.
 use Rattle.std.proofs.lemmas.Bool.{cases_lt}
-use Rattle.std.proofs.Common.{inl, inr, arith, ◌≡◌, ◌∙◌, sym, ap, refl, ℕ, zero, suc, ◌+◌, ◌-◌, ◌*◌, ◌/◌, ◌%◌, ◌<◌, ◌≤◌, List, [], ◌∷◌, ◌++◌, length, take, drop, get_or, append_assoc, append-nil}
+use Rattle.std.proofs.Common.{inl, inr, arith, ◌≡◌, ◌∙◌, sym, ap, refl, subst, ℕ, zero, suc, ◌+◌, ◌-◌, ◌*◌, ◌/◌, ◌%◌, ◌<◌, ◌≤◌, List, [], ◌∷◌, ◌++◌, length, take, drop, get_or, append_assoc, append-nil}
 use Rattle.std.specs.Prelude.{map, flat_map, slice_index}
 use Rattle.std.proofs.lemmas.List.{take_more, get_or-drop, length-drop, take_all}
-use Rattle.gnss_obs.specs.Signals.{SignalAt, code_of}
+use Rattle.std.proofs.lemmas.List.Elements.{All-get_or}
+use Rattle.gnss_obs.specs.Signals.{SignalAt, IsSignal, code_of}
+use Rattle.obs_epoch.specs.Signals.{indices, IsOf}
 use Rattle.gnss_obs.specs.declared.system.System.{System}
 use Rattle.rinex_file.specs.Header.{type_of, types_of, codes_of, type_columns}
 use Rattle.rinex_file.proofs.Entries.{flat_map-append}
@@ -33,7 +35,7 @@ none_more r = omega arith
 steps : (q r : ℕ) → 4 * suc q + r ≡ suc (suc (suc (suc (4 * q + r))))
 steps q r = omega arith
 
-types_at : (cs : List (List ℕ)) (q r : ℕ) (d e : List ℕ) → q < length cs → r < 4 → get_or (types_of cs) (4 * q + r) e ≡ type_of r (get_or cs q d)
+pub types_at : (cs : List (List ℕ)) (q r : ℕ) (d e : List ℕ) → q < length cs → r < 4 → get_or (types_of cs) (4 * q + r) e ≡ type_of r (get_or cs q d)
 types_at [] q r d e h k = absurd (omega (arith, h))
 types_at (c ∷ cs) zero r d e h k = ap (λ n. get_or (types_of (c ∷ cs)) n e) (none_more r) ∙ first_four c (types_of cs) r e k
 types_at (c ∷ cs) (suc q) r d e h k = ap (λ n. get_or (types_of (c ∷ cs)) n e) (steps q r) ∙ types_at cs q r d e (omega (arith, h)) k
@@ -44,7 +46,7 @@ quarter i n h = omega (arith, h)
 split : (i : ℕ) → i ≡ 4 * (i / 4) + i % 4
 split i = omega arith
 
-type_here : (cs : List (List ℕ)) (i : ℕ) (e : List ℕ) → i < 4 * length cs → get_or (types_of cs) i e ≡ type_of (i % 4) (get_or cs (i / 4) [])
+pub type_here : (cs : List (List ℕ)) (i : ℕ) (e : List ℕ) → i < 4 * length cs → get_or (types_of cs) i e ≡ type_of (i % 4) (get_or cs (i / 4) [])
 type_here cs i e h = ap (λ n. get_or (types_of cs) n e) (split i) ∙ types_at cs (i / 4) (i % 4) [] e (quarter i (length cs) h) (omega arith)
 
 same_code : (s : SignalAt) (system : System) (index : ℕ) → s.index ≡ index → s.system ≡ system → code_of s ≡ code_of (record { system = system; index = index })
@@ -112,3 +114,14 @@ pub types_done : (types : List (List ℕ)) (row i : ℕ) (front text : List ℕ)
     → text ≡ front ++ columns (take (i - 13 * row) (drop (13 * row) types)) → text ≡ front ++ type_columns types row
 types_done types row i front text low high end is =
     is ∙ ap (λ l. front ++ columns l) (full_or_all types row i low high end)
+
+-- ---- signals of a system, at their places
+
+pub index_here : (ss : List SignalAt) (k : ℕ) (s : SignalAt) → k < length ss → s ≡ get_or ss k s → s.index ≡ slice_index (indices ss) k
+index_here [] k s less is = absurd (omega (arith, less))
+index_here (x ∷ ss) zero s less is = ap (λ (r : SignalAt). r.index) is
+index_here (x ∷ ss) (suc k) s less is = index_here ss k s (omega (arith, less)) is
+
+pub system_here : (system : System) (ss : List SignalAt) (k : ℕ) (s : SignalAt) → IsOf system ss → k < length ss → s ≡ get_or ss k s → s.system ≡ system
+system_here system ss k s of less is =
+    subst (λ (r : SignalAt). r.system ≡ system) (sym is) (All-get_or (λ (r : SignalAt). (r.system ≡ system) × IsSignal r) ss k s less of.each).0

@@ -1,7 +1,8 @@
 //! The observation types of a header: RINEX 3.05, table A2, "SYS / # / OBS TYPES".
 ghost use Rattle.std.specs.Prelude.{◌≡◌, ℕ, ◌+◌, ◌*◌, ◌/◌, ◌≤◌, ◌<◌, ◌++◌, [], ◌∷◌, length};
 ghost use Rattle.arrayvec.specs.ArrayVec.{array_vec_len};
-ghost use Rattle.gnss_obs.specs.Signals.{code_of};
+ghost use Rattle.gnss_obs.specs.Signals.{table, code_of};
+ghost use Rattle.obs_epoch.specs.Signals.{indices, IsOf};
 ghost use Rattle.obs_epoch.specs.Values.{planned_of};
 ghost use Rattle.rinex_file.specs.Lines.{letter_of};
 ghost use Rattle.rinex_file.specs.Header.{type_line, type_front, type_columns, type_rows, types_of, codes_of, type_of};
@@ -56,19 +57,40 @@ fn put_type(content: &mut Line, signal: Signal, kind: usize)
     put(content, &signal.code());
 }
 
-// Appends a line's types.
-fn put_types(content: &mut Line, plan: &Plan, system: System, row: usize)
-    requires row { row < type_rows (length (planned_of system plan.now)) }
+// Appends a line's types, as far as the signals go.
+fn put_types(content: &mut Line, system: System, signals: &[Signal], row: usize)
+    requires of { IsOf system signals.now }
+    requires row { row ≤ 5 }
     requires room { array_vec_len content.old ≤ 100 }
-    ensures text { content.new.items ≡ content.old.items ++ type_columns (types_of (codes_of system (planned_of system plan.now))) row }
+    ensures text { content.new.items ≡ content.old.items ++ type_columns (types_of (codes_of system (indices signals.now))) row }
     ensures size { array_vec_len content.new ≤ array_vec_len content.old + 52 }
 {
-    let types = 4 * plan.signals(system);
+    let types = 4 * signals.len();
     let first = TYPES * row;
     let end = types.min(first + TYPES);
     for i in first..end {
-        put_type(content, plan.signal(system, i / 4), i % 4);
+        put_type(content, signals[i / 4], i % 4);
     }
+}
+
+/// Appends what a line of a system's types shows where so many signals are planned and these are the first of them.
+pub(crate) fn put_row(
+    content: &mut Line,
+    system: System,
+    count: usize,
+    signals: &[Signal],
+    row: usize,
+)
+    requires of { IsOf system signals.now }
+    requires count { count ≤ length (table system) }
+    requires row { row < type_rows count }
+    requires room { array_vec_len content.old ≤ 30 }
+    ensures text { content.new.items ≡ content.old.items
+        ++ (type_front (letter_of system) (4 * count) row ++ type_columns (types_of (codes_of system (indices signals.now))) row) }
+    ensures size { array_vec_len content.new ≤ array_vec_len content.old + 115 }
+{
+    put_front(content, letter_of(system), 4 * count, row);
+    put_types(content, system, signals, row);
 }
 
 /// A line of a system's types.
@@ -76,13 +98,8 @@ pub(crate) fn type_line(plan: &Plan, system: System, row: usize) -> Line
     requires { row < type_rows (length (planned_of system plan.now)) }
     ensures { result.items ≡ type_line (letter_of system) (types_of (codes_of system (planned_of system plan.now))) row }
 {
+    let signals = plan.of(system);
     let mut content = Line::new();
-    put_front(
-        &mut content,
-        letter_of(system),
-        4 * plan.signals(system),
-        row,
-    );
-    put_types(&mut content, plan, system, row);
+    put_row(&mut content, system, signals.len(), signals, row);
     labelled(content.as_slice(), b"SYS / # / OBS TYPES")
 }

@@ -1,0 +1,252 @@
+-- A line of types: the columns of the signals that begin in it, and the signals that it shows.
+use Rattle.std.proofs.Common.{arith, ◌≡◌, ◌∙◌, sym, ap, ap₂, refl, subst, ℕ, zero, suc, ◌+◌, ◌-◌, ◌*◌, ◌/◌, ◌%◌, ◌^◌, ◌<◌, ◌≤◌, ◌||◌, ◌==◌, Bool, true, false, min, List, [], ◌∷◌, ◌++◌, length, take, drop, get_or, replicate, decimal, nat_eq, append_assoc, length-take, length-drop}
+use Rattle.std.specs.Prelude.{codes, slice_index, All}
+use Rattle.std.specs.List.{list_any, IsDistinct}
+use Rattle.std.proofs.lemmas.List.{take_more, take_all, take_at, take-take, take-map, drop_at, drop-drop, drop-take, get_or-take, get_or-drop}
+use Rattle.std.proofs.lemmas.List.Elements.{All-get_or, All-head, All-tail}
+use Rattle.std.proofs.lemmas.Map.Keys.{apart_from_distinct, IsDistinct-tail}
+use Rattle.std.proofs.lemmas.Map.Steps.{length-le_from_distinct_below}
+use Rattle.std.proofs.lemmas.Fmt.{length-decimal-le}
+use Rattle.gnss_obs.specs.declared.system.System.{System}
+use Rattle.gnss_obs.specs.Signals.{SignalAt, IsSignal, table, code_of}
+use Rattle.obs_epoch.specs.Signals.{indices}
+use Rattle.obs_epoch.proofs.PlanLemmas.{any_index, indices-push}
+use Rattle.rinex_file.specs.Numbers.{joined, left, right}
+use Rattle.rinex_file.specs.Lines.{letter_of}
+use Rattle.rinex_file.specs.Header.{header_line, type_of, types_of, codes_of, type_front, type_columns}
+use Rattle.rinex_file.specs.Reading.{digits_in}
+use Rattle.rinex_file.specs.Progress.{AreTypes, types_line, begun}
+use Rattle.rinex_file.proofs.Digits.{length-right, digits_in-whole}
+use Rattle.rinex_file.proofs.SignalTypes.{columns, signal_type, length-system_types}
+use Rattle.rinex_file.proofs.TypeCodes.{length-code}
+
+-- ---- a line begins with its content
+
+abbrev Behind : List ℕ → List ℕ → Type 0
+Behind content line = (rest : List ℕ) × (line ≡ content ++ rest)
+
+pub content_first : (content label : List ℕ) → Behind content (header_line content label)
+unfolding header_line
+content_first content label = (
+  replicate (60 - length content) 32 ++ joined (left 20 label ∷ (10 ∷ []) ∷ []),
+  append_assoc content (replicate (60 - length content) 32) (joined (left 20 label ∷ (10 ∷ []) ∷ [])),
+)
+
+pub length-front : (letter types row : ℕ) → types < 1000 → length (type_front letter types row) ≡ 6
+length-front letter types zero few =
+    let digits : length (decimal types) ≤ 3 = length-decimal-le 3 types (omega arith) (omega (arith, few)) (omega (arith, few)) in
+    ap (λ n. suc (suc (suc n))) (length-right 3 (decimal types) digits)
+length-front letter types (suc row) few = refl
+
+-- ---- columns of types of three bytes
+
+abbrev Column : List ℕ → List ℕ → Type 0
+Column text t = (rest : List ℕ) × (text ≡ 32 ∷ (t ++ rest))
+
+pub column_at : (ts : List (List ℕ)) (q : ℕ) (rest : List ℕ) → ((i : ℕ) → i < length ts → length (get_or ts i []) ≡ 3) → q < length ts
+    → Column (drop (4 * q) (columns ts ++ rest)) (get_or ts q [])
+column_at [] q rest three less = absurd (omega (arith, less))
+column_at (t ∷ ts) zero rest three less = (columns ts ++ rest, append_assoc (32 ∷ t) (columns ts) rest)
+column_at (t ∷ ts) (suc q) rest three less =
+    let wide : length t ≡ 3 = three 0 (omega arith) in
+    let one : length (32 ∷ t) ≡ 4 = omega (arith, wide) in
+    let steps : 4 * suc q ≡ 4 + 4 * q = omega arith in
+    let behind : drop 4 (columns (t ∷ ts) ++ rest) ≡ columns ts ++ rest = ap (drop 4) (append_assoc (32 ∷ t) (columns ts) rest) ∙ drop_at (32 ∷ t) (columns ts ++ rest) 4 one in
+    let more = column_at ts q rest (λ i h. three (suc i) (omega (arith, h))) (omega (arith, less)) in
+    (more.0, ap (λ n. drop n (columns (t ∷ ts) ++ rest)) steps ∙ sym (drop-drop (4 * q) 4 (columns (t ∷ ts) ++ rest)) ∙ ap (drop (4 * q)) behind ∙ more.1)
+
+-- ---- the types of a line
+
+abbrev here : System → List ℕ → ℕ → List (List ℕ)
+here system all row = take 13 (drop (13 * row) (types_of (codes_of system all)))
+
+abbrev signal_at : System → List ℕ → ℕ → SignalAt
+signal_at system all k = record { system = system; index = slice_index all k }
+
+length-here : (system : System) (all : List ℕ) (row : ℕ) → length (here system all row) ≡ min 13 (4 * length all - 13 * row)
+length-here system all row = length-take 13 (drop (13 * row) (types_of (codes_of system all))) ∙ ap (min 13) (length-drop (13 * row) (types_of (codes_of system all)))
+    ∙ ap (λ n. min 13 (n - 13 * row)) (length-system_types system all)
+
+pub type_in : (system : System) (all : List ℕ) (row q : ℕ) → q < 13 → 13 * row + q < 4 * length all
+    → get_or (here system all row) q [] ≡ type_of ((13 * row + q) % 4) (code_of (signal_at system all ((13 * row + q) / 4)))
+type_in system all row q few less =
+    let types = types_of (codes_of system all) in
+    get_or-take 13 (drop (13 * row) types) q [] few ∙ get_or-drop (13 * row) types q []
+    ∙ sym (signal_type system all (signal_at system all ((13 * row + q) / 4)) (13 * row + q) less refl refl)
+
+quarter : (i n : ℕ) → i < 4 * n → i / 4 < n
+quarter i n h = omega (arith, h)
+
+pub listed_at : (system : System) (all : List ℕ) (k : ℕ) → AreTypes system all → k < length all → slice_index all k < length (table system)
+listed_at system all k are less = All-get_or (λ i. i < length (table system)) all k 0 less are.listed
+
+within_here : (q a b : ℕ) → q < min 13 (a - b) → (q < 13) × (b + q < a)
+within_here q a b h = (omega (arith, h), omega (arith, h))
+
+three_bytes : (system : System) (all : List ℕ) (row : ℕ) → AreTypes system all → (i : ℕ) → i < length (here system all row) → length (get_or (here system all row) i []) ≡ 3
+three_bytes system all row are i less =
+    let size = length-here system all row in
+    let w = within_here i (4 * length all) (13 * row) (subst (λ (n : ℕ). i < n) size less) in
+    let k = (13 * row + i) / 4 in
+    let listed = listed_at system all k are (quarter (13 * row + i) (length all) w.1) in
+    ap length (type_in system all row i w.0 w.1) ∙ ap suc (length-code system (slice_index all k) listed)
+
+-- the code of a signal stands in the line where its first type does
+pub code_in_line : (system : System) (all line : List ℕ) (row q k : ℕ) → AreTypes system all → 4 * length all < 1000 → line ≡ types_line system all row
+    → q < 13 → 13 * row + q ≡ 4 * k → k < length all → take 2 (drop (6 + 4 * q + 2) line) ≡ code_of (signal_at system all k)
+code_in_line system all line row q k are few is within place less =
+    let types = types_of (codes_of system all) in
+    let front = type_front (letter_of system) (length types) row in
+    let ts = here system all row in
+    let s = signal_at system all k in
+    let size : length types < 1000 = rw (length-system_types system all) few in
+    let first = content_first (front ++ columns ts) (codes "SYS / # / OBS TYPES") in
+    let shape : line ≡ front ++ (columns ts ++ first.0) = is ∙ first.1 ∙ append_assoc front (columns ts) first.0 in
+    let many : q < length ts = rw (length-here system all row) (omega (arith, within, place, less)) in
+    let column = column_at ts q first.0 (three_bytes system all row are) many in
+    let at : drop (6 + 4 * q) line ≡ 32 ∷ (get_or ts q [] ++ column.0) =
+    sym (drop-drop (4 * q) 6 line) ∙ ap (λ l. drop (4 * q) (drop 6 l)) shape
+    ∙ ap (drop (4 * q)) (drop_at front (columns ts ++ first.0) 6 (length-front (letter_of system) (length types) row size)) ∙ column.1 in
+    let letter : get_or ts q [] ≡ 67 ∷ code_of s = type_in system all row q within (omega (arith, place, less)) ∙ ap (λ (n : ℕ). type_of (n % 4) (code_of (signal_at system all (n / 4)))) place
+    ∙ ap₂ (λ (m n : ℕ). type_of m (code_of (signal_at system all n))) (none_left k) (fourth k) in
+    let wide : length (code_of s) ≡ 2 = length-code system (slice_index all k) (listed_at system all k are less) in
+    sym (ap (take 2) (drop-drop 2 (6 + 4 * q) line)) ∙ ap (λ l. take 2 (drop 2 l)) (at ∙ ap (λ t. 32 ∷ (t ++ column.0)) letter) ∙ take_at (code_of s) column.0 2 wide where
+      none_left : (k : ℕ) → 4 * k % 4 ≡ 0
+      none_left k = omega arith
+
+      fourth : (k : ℕ) → 4 * k / 4 ≡ k
+      fourth k = omega arith
+
+-- ---- the signals that a line shows
+
+types_take : (m : ℕ) (cs : List (List ℕ)) → types_of (take m cs) ≡ take (4 * m) (types_of cs)
+types_take zero cs = refl
+types_take (suc m) [] = sym (take_all (4 * suc m) [] (omega arith))
+types_take (suc m) (c ∷ cs) =
+    let e : 4 * suc m ≡ suc (suc (suc (suc (4 * m)))) = omega arith in
+    ap (λ l. type_of 0 c ∷ type_of 1 c ∷ type_of 2 c ∷ type_of 3 c ∷ l) (types_take m cs) ∙ ap (λ n. take n (types_of (c ∷ cs))) (sym e)
+
+row_take : (ts : List (List ℕ)) (n m : ℕ) → n + 13 ≤ m → take 13 (drop n (take m ts)) ≡ take 13 (drop n ts)
+row_take ts n m enough =
+    let e : m ≡ n + (m - n) = omega (arith, enough) in
+    ap (λ k. take 13 (drop n (take k ts))) e ∙ ap (take 13) (drop-take n (m - n) ts) ∙ take-take 13 (m - n) (drop n ts) (omega (arith, enough))
+
+pub row_shown : (system : System) (all : List ℕ) (row : ℕ) → type_columns (types_of (codes_of system (take (begun (row + 1)) all))) row ≡ type_columns (types_of (codes_of system all)) row
+row_shown system all row =
+    let f : ℕ → List ℕ = λ index. code_of (record { system = system; index = index }) in
+    let m = begun (row + 1) in
+    ap (λ cs. columns (take 13 (drop (13 * row) (types_of cs)))) (sym (take-map f m all))
+    ∙ ap (λ ts. columns (take 13 (drop (13 * row) ts))) (types_take m (codes_of system all))
+    ∙ ap columns (row_take (types_of (codes_of system all)) (13 * row) (4 * m) (enough row)) where
+      enough : (row : ℕ) → 13 * row + 13 ≤ 4 * ((13 * (row + 1) + 3) / 4)
+      enough row = omega arith
+
+-- ---- none comes twice
+
+flip_false : (a b : ℕ) → nat_eq a b ≡ false → nat_eq b a ≡ false
+flip_false a b h = grind (arith, h)
+
+pub not_before : (all : List ℕ) (k : ℕ) → IsDistinct nat_eq all → k < length all → list_any (nat_eq (slice_index all k)) (take k all) ≡ false
+not_before [] k apart less = absurd (omega (arith, less))
+not_before (x ∷ all) zero apart less = refl
+not_before (x ∷ all) (suc k) apart less =
+    let other = flip_false x (slice_index all k) (apart_from_distinct nat_eq (x ∷ all) 0 (suc k) 0 apart (omega arith) less) in
+    ap₂ (λ a b. a || b) other (not_before all k (IsDistinct-tail nat_eq x all apart) (omega (arith, less)))
+
+-- ---- one signal more
+
+same_place : (row place : ℕ) → (13 * row + 3) / 4 ≤ place → 13 * row + (4 * place - 13 * row) ≡ 4 * place
+same_place row place low = omega (arith, low)
+
+in_row : (row place : ℕ) → place < (13 * (row + 1) + 3) / 4 → 4 * place - 13 * row < 13
+in_row row place high = omega (arith, high)
+
+abbrev CodeOf : System → List ℕ → ℕ → ℕ → SignalAt → Type 0
+CodeOf system line row place s = take 2 (drop (6 + 4 * (4 * place - 13 * row) + 2) line) ≡ code_of s
+
+code_here : (system : System) (all line : List ℕ) (row place : ℕ) → AreTypes system all → 4 * length all < 1000 → line ≡ types_line system all row
+    → begun row ≤ place → place < begun (row + 1) → place < length all → CodeOf system line row place (signal_at system all place)
+code_here system all line row place are few is low high less =
+    code_in_line system all line row (4 * place - 13 * row) place are few is (in_row row place high) (same_place row place low) less
+
+pub taken_more : (system : System) (all line : List ℕ) (row place : ℕ) (old new : List SignalAt) → AreTypes system all → 4 * length all < 1000 → line ≡ types_line system all row
+    → begun row ≤ place → place < begun (row + 1) → place < length all
+    → ((s : SignalAt) → IsSignal s → s.system ≡ system → CodeOf system line row place s → new ≡ old ++ s ∷ [])
+    → indices old ≡ take place all → indices new ≡ take (place + 1) all
+taken_more system all line row place old new are few is low high less more before =
+    let s = signal_at system all place in
+    let grown = more s (listed_at system all place are less) refl (code_here system all line row place are few is low high less) in
+    ap indices grown ∙ indices-push old s ∙ ap (λ l. l ++ slice_index all place ∷ []) before ∙ sym (take_more all place 0 less)
+
+not_both : (b : Bool) → b ≡ true → b ≡ false → ⊥
+not_both b h k = grind (arith, h, k)
+
+pub taken_before : (system : System) (all line : List ℕ) (row place : ℕ) (old : List SignalAt) → AreTypes system all → 4 * length all < 1000 → line ≡ types_line system all row
+    → begun row ≤ place → place < begun (row + 1) → place < length all
+    → ((s : SignalAt) → IsSignal s → s.system ≡ system → CodeOf system line row place s → list_any (λ (r : SignalAt). s.index == r.index) old ≡ true)
+    → indices old ≡ take place all → ⊥
+taken_before system all line row place old are few is low high less bad before =
+    let s = signal_at system all place in
+    let found = bad s (listed_at system all place are less) refl (code_here system all line row place are few is low high less) in
+    not_both _ found (any_index (slice_index all place) old ∙ ap (list_any (nat_eq (slice_index all place))) before ∙ not_before all place are.apart less)
+
+-- ---- the whole line
+
+-- a line that shows as many types and the signals so far is that of all
+pub shown_line : (system : System) (all so_far : List ℕ) (row count : ℕ) → length all ≡ count → so_far ≡ take (begun (row + 1)) all
+    → header_line (type_front (letter_of system) (4 * count) row ++ type_columns (types_of (codes_of system so_far)) row) (codes "SYS / # / OBS TYPES") ≡ types_line system all row
+shown_line system all so_far row count size is =
+    ap₂ (λ (n : ℕ) ts. header_line (type_front (letter_of system) n row ++ ts) (codes "SYS / # / OBS TYPES"))
+    (ap (λ (n : ℕ). 4 * n) (sym size) ∙ sym (length-system_types system all))
+    (ap (λ l. type_columns (types_of (codes_of system l)) row) is ∙ row_shown system all row)
+
+-- ---- the number of signals
+
+either : (P : Type 0) (a b : Bool) → (a ≡ true → P) → (b ≡ true → P) → (a || b) ≡ true → P
+either P true b f g h = f refl
+either P false b f g h = g h
+
+same_number : (a b : ℕ) → nat_eq a b ≡ true → b ≡ a
+same_number a b h = grind (arith, h)
+
+among_listed : (most : ℕ) (all : List ℕ) → All (λ i. i < most) all → (q : ℕ) → list_any (nat_eq q) all ≡ true → q < most
+among_listed most [] listed q found = grind (arith, found)
+among_listed most (x ∷ all) listed q found =
+    either (q < most) (nat_eq q x) (list_any (nat_eq q) all) (λ same. subst (λ (n : ℕ). n < most) (same_number q x same) (All-head (λ i. i < most) x all listed))
+    (among_listed most all (All-tail (λ i. i < most) x all listed) q) found
+
+pub few_types : (system : System) (all : List ℕ) → AreTypes system all → length all ≤ length (table system)
+few_types system all are = length-le_from_distinct_below all (length (table system)) are.apart (among_listed (length (table system)) all are.listed)
+
+-- the first line shows the number in its columns
+pub count_shown : (system : System) (all line : List ℕ) → AreTypes system all → length (table system) ≤ 19 → line ≡ types_line system all 0
+    → take 3 (drop 3 line) ≡ right 3 (decimal (4 * length all))
+count_shown system all line are bound is =
+    let types = types_of (codes_of system all) in
+    let number = right 3 (decimal (length types)) in
+    let few = few_types system all are in
+    let size : length types < 1000 = rw (length-system_types system all) (omega (arith, few, bound)) in
+    let digits : length (decimal (length types)) ≤ 3 = length-decimal-le 3 (length types) (omega arith) (omega (arith, size)) (omega (arith, size)) in
+    let first = content_first (type_front (letter_of system) (length types) 0 ++ type_columns types 0) (codes "SYS / # / OBS TYPES") in
+    ap (λ l. take 3 (drop 3 l)) (is ∙ first.1 ∙ append_assoc (letter_of system ∷ 32 ∷ 32 ∷ number) (type_columns types 0) first.0)
+    ∙ take_at number (type_columns types 0 ++ first.0) 3 (length-right 3 (decimal (length types)) digits)
+    ∙ ap (λ (n : ℕ). right 3 (decimal n)) (length-system_types system all)
+
+pub count_read : (system : System) (all line : List ℕ) → AreTypes system all → length (table system) ≤ 19 → line ≡ types_line system all 0
+    → digits_in (take 3 (drop 3 line)) / 4 ≡ length all
+count_read system all line are bound is =
+    let few = few_types system all are in
+    let fits : 4 * length all < 2 ^ 64 = omega (arith, few, bound) in
+    ap (λ t. digits_in t / 4) (count_shown system all line are bound is) ∙ ap (λ (n : ℕ). n / 4) (digits_in-whole 3 (4 * length all) fits) ∙ fourth (length all) where
+      fourth : (k : ℕ) → 4 * k / 4 ≡ k
+      fourth k = omega arith
+
+pub count_within : (system : System) (all line : List ℕ) → AreTypes system all → length (table system) ≤ 19 → line ≡ types_line system all 0 → 6 ≤ length line
+count_within system all line are bound is =
+    let few = few_types system all are in
+    let small : 4 * length all < 1000 = omega (arith, few, bound) in
+    let digits : length (decimal (4 * length all)) ≤ 3 = length-decimal-le 3 (4 * length all) (omega arith) small (omega (arith, small)) in
+    let l : length (take 3 (drop 3 line)) ≡ 3 = ap length (count_shown system all line are bound is) ∙ length-right 3 (decimal (4 * length all)) digits in
+    reach (length line) (sym (length-take 3 (drop 3 line) ∙ ap (min 3) (length-drop 3 line)) ∙ l) where
+      reach : (n : ℕ) → min 3 (n - 3) ≡ 3 → 6 ≤ n
+      reach n h = omega (arith, h)
