@@ -27,3 +27,7 @@ mod HeaderText
 mod StationLines
 mod RowText
 mod EpochText
+mod HeaderSteps
+mod PutTexts
+mod HeaderLearned
+mod HeaderEnd

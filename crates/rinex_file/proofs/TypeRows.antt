@@ -250,3 +250,12 @@ count_within system all line are bound is =
     reach (length line) (sym (length-take 3 (drop 3 line) ∙ ap (min 3) (length-drop 3 line)) ∙ l) where
       reach : (n : ℕ) → min 3 (n - 3) ≡ 3 → 6 ≤ n
       reach n h = omega (arith, h)
+
+shorter_still : {X : Type 0} (n : ℕ) (xs : List X) → length (take n xs) ≤ length xs
+shorter_still n xs = simp length-take (omega arith)
+
+-- what was read first still stands in front
+pub still_grows : {X : Type 0} (old xs ys : List X) → take (length old) xs ≡ old → take (length xs) ys ≡ xs → take (length old) ys ≡ old
+still_grows old xs ys e f =
+    let few : length old ≤ length xs = subst (λ n. n ≤ length xs) (ap length e) (shorter_still (length old) xs) in
+    sym (take-take (length old) (length xs) ys few) ∙ ap (take (length old)) f ∙ e

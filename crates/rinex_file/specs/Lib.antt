@@ -13,3 +13,4 @@ pub mod Exact
 pub mod Progress
 pub mod Sound
 pub mod ProgressOf
+pub mod HeaderSteps

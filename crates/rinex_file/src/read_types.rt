@@ -38,7 +38,8 @@ pub(crate) fn read_types(
     requires count { count ≤ length (table system) }
     requires row { row < type_rows count }
     requires signals { IsOf system signals.old.items }
-    ensures signals { OnOk result (IsOf system signals.new.items) }
+    ensures signals { IsOf system signals.new.items }
+    ensures grows { OnOk result (take (length signals.old.items) signals.new.items ≡ signals.old.items) }
     ensures taken { OnOk result ((all : List ℕ) → AreTypes system all → length all ≡ count → indices signals.old.items ≡ take (begun row) all
         → (line.now ≡ types_line system all row) ↔ (indices signals.new.items ≡ take (begun (row + 1)) all)) }
     ensures bad { result ≡ Err Refusal.Bad → (all : List ℕ) → AreTypes system all → length all ≡ count → indices signals.old.items ≡ take (begun row) all
@@ -65,7 +66,8 @@ fn take_signals(
     requires count { count ≤ length (table system) }
     requires row { row < type_rows count }
     requires signals { IsOf system signals.old.items }
-    ensures signals { OnOk result (IsOf system signals.new.items) }
+    ensures signals { IsOf system signals.new.items }
+    ensures grows { OnOk result (take (length signals.old.items) signals.new.items ≡ signals.old.items) }
     ensures taken { OnOk result ((all : List ℕ) → AreTypes system all → length all ≡ count → indices signals.old.items ≡ take (begun row) all
         → line.now ≡ types_line system all row → indices signals.new.items ≡ take (begun (row + 1)) all) }
     ensures bad { result ≡ Err Refusal.Bad → (all : List ℕ) → AreTypes system all → length all ≡ count → indices signals.old.items ≡ take (begun row) all
@@ -96,7 +98,8 @@ fn take_signal(
 ) -> Result<(), Refusal>
     requires column { column ≤ 100 }
     requires signals { IsOf system signals.old.items }
-    ensures signals { OnOk result (IsOf system signals.new.items) }
+    ensures signals { IsOf system signals.new.items }
+    ensures grows { OnOk result (take (length signals.old.items) signals.new.items ≡ signals.old.items) }
     ensures taken { OnOk result ((s : SignalAt) → IsSignal s → s.system ≡ system → take 2 (drop column line.now) ≡ code_of s
         → signals.new.items ≡ signals.old.items ++ s ∷ []) }
     ensures bad { result ≡ Err Refusal.Bad → (s : SignalAt) → IsSignal s → s.system ≡ system → take 2 (drop column line.now) ≡ code_of s

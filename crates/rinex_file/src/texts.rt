@@ -198,6 +198,58 @@ impl HeaderTexts {
         }
     }
 
+    /// Puts in who ran the program, and when.
+    pub(crate) fn set_program(&mut self, run_by: ArrayVec<u8, 20>, date: ArrayVec<u8, 20>)
+        ensures { self.new ≡ record self.old { run_by = run_by.items; date = date.items } }
+    {
+        self.run_by = run_by;
+        self.date = date;
+    }
+
+    /// Puts in the marker's name.
+    pub(crate) fn set_marker(&mut self, name: ArrayVec<u8, 60>)
+        ensures { self.new ≡ record self.old { marker = name.items } }
+    {
+        self.marker = name;
+    }
+
+    /// Puts in the marker's type.
+    pub(crate) fn set_marker_type(&mut self, kind: ArrayVec<u8, 20>)
+        ensures { self.new ≡ record self.old { marker_type = kind.items } }
+    {
+        self.marker_type = kind;
+    }
+
+    /// Puts in observer and agency.
+    pub(crate) fn set_observer(&mut self, observer: ArrayVec<u8, 20>, agency: ArrayVec<u8, 40>)
+        ensures { self.new ≡ record self.old { observer = observer.items; agency = agency.items } }
+    {
+        self.observer = observer;
+        self.agency = agency;
+    }
+
+    /// Puts in number, type and version of the receiver.
+    pub(crate) fn set_receiver(
+        &mut self,
+        number: ArrayVec<u8, 20>,
+        kind: ArrayVec<u8, 20>,
+        version: ArrayVec<u8, 20>,
+    )
+        ensures { self.new ≡ record self.old { rec_number = number.items; rec_type = kind.items; rec_version = version.items } }
+    {
+        self.rec_number = number;
+        self.rec_type = kind;
+        self.rec_version = version;
+    }
+
+    /// Puts in number and type of the antenna.
+    pub(crate) fn set_antenna(&mut self, number: ArrayVec<u8, 20>, kind: ArrayVec<u8, 20>)
+        ensures { self.new ≡ record self.old { ant_number = number.items; ant_type = kind.items } }
+    {
+        self.ant_number = number;
+        self.ant_type = kind;
+    }
+
     /// The bytes of a text.
     pub(crate) fn text(&self, field: HeaderField) -> &[u8]
         ensures value { result.now ≡ text_of self.now field }

@@ -3,7 +3,7 @@ use Rattle.std.specs.Prelude.{Err}
 use Rattle.std.proofs.lemmas.Result.{err_from_is_err_and}
 use Rattle.rinex_file.specs.Progress.{begun}
 use Rattle.rinex_file.proofs.Entries.{few_signals}
-use Rattle.rinex_file.proofs.TypeRows.{taken_more, taken_before}
+use Rattle.rinex_file.proofs.TypeRows.{still_grows, taken_more, taken_before}
 use Rattle.rinex_file.proofs.read_types.take_signals.Goals as goal
 
 few : (n count most : ℕ) → n ≡ count → count ≤ most → most ≤ 19 → 4 * n < 1000
@@ -24,7 +24,8 @@ returns-in_err-take_signal-clause-bad c = λ refused all are size begins is.
 
 pub loop-place-preserved : goal.loop-place-preserved
 loop-place-preserved c = record {
-  of = c.in_ok-take_signal.ensures.signals;
+  of = c.take_signal.ensures.signals;
+  grows = still_grows c.args.signals.now.items c.loop-place.signals.items c.take_signal.new.signals.items c.loop-place.invariant.grows c.in_ok-take_signal.ensures.grows;
   from = omega (arith, c.loop-place.invariant.from);
   to = omega arith;
   read = λ all are size begins is.

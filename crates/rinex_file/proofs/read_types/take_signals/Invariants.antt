@@ -7,6 +7,7 @@ use Rattle.rinex_file.proofs.read_types.take_signals.Given as goal
 abbrev pub invariant-loop-place : goal.invariant-loop-place
 invariant-loop-place l = record {
   of : IsOf l.fn.system l.signals.items;
+  grows : take (length l.fn.signals.items) l.signals.items ≡ l.fn.signals.items;
   from : begun l.row ≤ l.place;
   to : l.place ≤ l.end;
   read : (all : List ℕ) → AreTypes l.fn.system all → length all ≡ l.fn.count → indices l.fn.signals.items ≡ take (begun l.row) all → l.line ≡ types_line l.fn.system all l.row

@@ -1,0 +1,17 @@
+use Rattle.rinex_file.specs.declared.section.Section.TheVariants.{Observer}
+use Rattle.rinex_file.proofs.PutTexts.{observer_kept}
+use Rattle.rinex_file.proofs.HeaderLearned.{put_texts, learn_observer, refuse_observer}
+use Rattle.rinex_file.proofs.head_so_far.HeadSoFar.take_observer.Goals as goal
+
+pub invariant_of-self : goal.invariant_of-self
+invariant_of-self c =
+    let held = c.self.invariant in
+    (held.0, held.1, observer_kept c.self.inside.texts c.set_observer.new.self c.in-Some.observer.items c.in-Some.agency.items c.set_observer.ensures held.2 c.in-Some.ensures.0.0 c.in-Some.ensures.0.1, held.3, held.4)
+
+pub returns-in-Some : goal.returns-in-Some
+returns-in-Some c =
+    put_texts Observer c.args.line.now c.args.self.now _ c.set_observer.new.self _ c.self.view_is c.set_observer.ensures
+    (learn_observer _ c.in-Some.observer.items c.in-Some.agency.items c.args.line.now c.in-Some.ensures)
+
+pub returns-in-None : goal.returns-in-None
+returns-in-None c = refuse_observer c.args.self.now c.args.line.now c.in-None.ensures
