@@ -17,3 +17,4 @@ mod HeaderSteps
 mod PutTexts
 mod HeaderLearned
 mod HeaderEnd
+mod HeaderTypes
