@@ -125,15 +125,16 @@ whole_by k h said is =
 
 pub end_steps : (k : Known) (line : List ℕ) → line ≡ end_line → IsWhole k → StepsTo k End 0 line k None
 unfolding lines_of
-end_steps k line e whole h left =
-    (λ i. record { is = i.is; same = sym (all_said k h i.before); lines = (end_lines k h line left i).1 },
-    λ r. record {
-      is = r.is;
-      before = subst (λ g. SaidBefore End k g) (sym r.same) (said_of_itself k whole);
-      within = tt;
-      due = omega arith;
-      lines = ap (λ l. l ∷ left) e ∙ ap (λ l. end_line ∷ l) r.lines;
-    })
+end_steps k line e whole h left = (
+  λ i. record { is = i.is; same = sym (all_said k h i.before); lines = (end_lines k h line left i).1 },
+  λ r. record {
+    is = r.is;
+    before = subst (λ g. SaidBefore End k g) (sym r.same) (said_of_itself k whole);
+    within = tt;
+    due = omega arith;
+    lines = ap (λ l. l ∷ left) e ∙ ap (λ l. end_line ∷ l) r.lines;
+  },
+)
 
 pub no_end_row : (k : Known) (row : ℕ) (line : List ℕ) → (row ≡ 0 → ⊥) → NoneGoesOn k End row line
 no_end_row k row line far h left i = let due = i.due in omega (arith, due)
@@ -155,6 +156,7 @@ planned_by gps galileo g e some = record { listed = listed; apart = apart; some 
   listed : (system : System) → All (λ i. i < length (table system)) (planned_of system (made_plan (indices gps) (indices galileo)))
   listed Gps = listed_by Gps gps g.each
   listed Galileo = listed_by Galileo galileo e.each
+
   apart : (system : System) → IsDistinct nat_eq (planned_of system (made_plan (indices gps) (indices galileo)))
   apart Gps = g.apart
   apart Galileo = e.apart

@@ -64,9 +64,10 @@ same_pair : {A B : Type 0} (a c : A) (b d : B) → (pair a b ≡ pair c d) ↔ (
 same_pair a c b d = (λ e. (ap (λ p. p.0) e, ap (λ p. p.1) e), λ e. ap (λ x. pair x b) e.0 ∙ ap (λ y. pair c y) e.1)
 
 same_triple : {A B C : Type 0} (a d : A) (b e : B) (c f : C) → (triple a b c ≡ triple d e f) ↔ ((a ≡ d) × (b ≡ e) × (c ≡ f))
-same_triple a d b e c f =
-    (λ p. (ap (λ t. t.0) p, ap (λ t. t.1) p, ap (λ t. t.2) p),
-    λ p. ap (λ x. triple x b c) p.0 ∙ ap (λ y. triple d y c) p.1 ∙ ap (λ z. triple d e z) p.2)
+same_triple a d b e c f = (
+  λ p. (ap (λ t. t.0) p, ap (λ t. t.1) p, ap (λ t. t.2) p),
+  λ p. ap (λ x. triple x b c) p.0 ∙ ap (λ y. triple d y c) p.1 ∙ ap (λ z. triple d e z) p.2,
+)
 
 -- texts that are put in
 pub put_texts : (s : Section) (line : List ℕ) (old k : Known) (x t : HeaderLists) → k ≡ old → x ≡ t → Learns s line k (with_texts k t) → Learns s line old (with_texts k x)
@@ -102,9 +103,9 @@ learn_observer k a b line r = record {
   plan = refl;
   before = λ h. (λ b. b, λ b. b);
   says = λ h is before.
-    both_ways (reads (λ (t : List ℕ × List ℕ). IsText 20 t.0 × IsText 40 t.1) (λ (t : List ℕ × List ℕ). header_line (two t.0 t.1) (codes "OBSERVER / AGENCY")) line
+      both_ways (reads (λ (t : List ℕ × List ℕ). IsText 20 t.0 × IsText 40 t.1) (λ (t : List ℕ × List ℕ). header_line (two t.0 t.1) (codes "OBSERVER / AGENCY")) line
       (pair a b) (pair h.texts.observer h.texts.agency) r (is.texts ObserverName, is.texts Agency))
-    (same_pair a h.texts.observer b h.texts.agency);
+      (same_pair a h.texts.observer b h.texts.agency);
 }
 
 pub refuse_observer : (k : Known) (line : List ℕ) → TwoTexts 40 (codes "OBSERVER / AGENCY") line None → Refuses Observer line k
@@ -119,9 +120,9 @@ learn_antenna k a b line r = record {
   plan = refl;
   before = λ h. (λ b. b, λ b. b);
   says = λ h is before.
-    both_ways (reads (λ (t : List ℕ × List ℕ). IsText 20 t.0 × IsText 20 t.1) (λ (t : List ℕ × List ℕ). header_line (two t.0 t.1) (codes "ANT # / TYPE")) line
+      both_ways (reads (λ (t : List ℕ × List ℕ). IsText 20 t.0 × IsText 20 t.1) (λ (t : List ℕ × List ℕ). header_line (two t.0 t.1) (codes "ANT # / TYPE")) line
       (pair a b) (pair h.texts.ant_number h.texts.ant_type) r (is.texts AntNumber, is.texts AntType))
-    (same_pair a h.texts.ant_number b h.texts.ant_type);
+      (same_pair a h.texts.ant_number b h.texts.ant_type);
 }
 
 pub refuse_antenna : (k : Known) (line : List ℕ) → TwoTexts 20 (codes "ANT # / TYPE") line None → Refuses Antenna line k
@@ -137,10 +138,10 @@ learn_receiver k a b c line r = record {
   plan = refl;
   before = λ h. (λ b. b, λ b. b);
   says = λ h is before.
-    both_ways (reads (λ (t : List ℕ × List ℕ × List ℕ). IsText 20 t.0 × IsText 20 t.1 × IsText 20 t.2)
+      both_ways (reads (λ (t : List ℕ × List ℕ × List ℕ). IsText 20 t.0 × IsText 20 t.1 × IsText 20 t.2)
       (λ (t : List ℕ × List ℕ × List ℕ). header_line (three t.0 t.1 t.2) (codes "REC # / TYPE / VERS")) line
       (triple a b c) (triple h.texts.rec_number h.texts.rec_type h.texts.rec_version) r (is.texts RecNumber, is.texts RecType, is.texts RecVersion))
-    (same_triple a h.texts.rec_number b h.texts.rec_type c h.texts.rec_version);
+      (same_triple a h.texts.rec_number b h.texts.rec_type c h.texts.rec_version);
 }
 
 pub refuse_receiver : (k : Known) (line : List ℕ) → ThreeTexts (codes "REC # / TYPE / VERS") line None → Refuses Receiver line k
@@ -160,8 +161,8 @@ program_reads : (line : List ℕ) (a b c : List ℕ) (h : Shown) → IsShown h �
 unfolding lines_of
 program_reads line a b c h is r =
     both_ways (reads (λ (t : List ℕ × List ℕ × List ℕ). IsText 20 t.0 × IsText 20 t.1 × IsText 20 t.2)
-      (λ (t : List ℕ × List ℕ × List ℕ). header_line (three t.0 t.1 t.2) (codes "PGM / RUN BY / DATE")) line
-      (triple a b c) (triple (codes "rtcm2rinex") h.texts.run_by h.texts.date) r (is_name, is.texts RunBy, is.texts Date))
+    (λ (t : List ℕ × List ℕ × List ℕ). header_line (three t.0 t.1 t.2) (codes "PGM / RUN BY / DATE")) line
+    (triple a b c) (triple (codes "rtcm2rinex") h.texts.run_by h.texts.date) r (is_name, is.texts RunBy, is.texts Date))
     (same_triple a (codes "rtcm2rinex") b h.texts.run_by c h.texts.date)
 
 pub learn_program : (k : Known) (a b c line : List ℕ) → a ≡ codes "rtcm2rinex" → ThreeTexts (codes "PGM / RUN BY / DATE") line (Some (a, b, c))
@@ -170,8 +171,8 @@ learn_program k a b c line name r = record {
   plan = refl;
   before = λ h. (λ b. b, λ b. b);
   says = λ h is before.
-    let read = program_reads line a b c h is r in
-    (λ e. let all = read.0 e in (all.1, all.2), λ s. read.1 (name, s.0, s.1));
+      let read = program_reads line a b c h is r in
+      (λ e. let all = read.0 e in (all.1, all.2), λ s. read.1 (name, s.0, s.1));
 }
 
 pub refuse_program : (k : Known) (line : List ℕ) → ThreeTexts (codes "PGM / RUN BY / DATE") line None → Refuses Program line k
@@ -202,10 +203,10 @@ learn_position k x y z line r = record {
   plan = refl;
   before = λ h. (λ b. b, λ b. b);
   says = λ h is before.
-    both_ways (reads (λ (p : ℤ × ℤ × ℤ). IsCoordinate p.0 × IsCoordinate p.1 × IsCoordinate p.2)
+      both_ways (reads (λ (p : ℤ × ℤ × ℤ). IsCoordinate p.0 × IsCoordinate p.1 × IsCoordinate p.2)
       (λ (p : ℤ × ℤ × ℤ). header_line (lengths p.0 p.1 p.2) (codes "APPROX POSITION XYZ")) line
       (triple x y z) (triple h.values.x h.values.y h.values.z) r (is.values.x, is.values.y, is.values.z))
-    (same_triple x h.values.x y h.values.y z h.values.z);
+      (same_triple x h.values.x y h.values.y z h.values.z);
 }
 
 pub refuse_position : (k : Known) (line : List ℕ) → Coordinates line None → Refuses Position line k
@@ -225,7 +226,7 @@ learn_delta k height line r = record {
   plan = refl;
   before = λ h. (λ b. b, λ b. b);
   says = λ h is before.
-    reads (λ n. n < 2 ^ 16) (λ n. header_line (lengths (pos n) (pos 0) (pos 0)) (codes "ANTENNA: DELTA H/E/N")) line height h.values.height r is.values.height;
+      reads (λ n. n < 2 ^ 16) (λ n. header_line (lengths (pos n) (pos 0) (pos 0)) (codes "ANTENNA: DELTA H/E/N")) line height h.values.height r is.values.height;
 }
 
 pub refuse_delta : (k : Known) (line : List ℕ) → Height line None → Refuses Delta line k
@@ -283,8 +284,8 @@ learn_shift system k line true planned is = record {
   plan = refl;
   before = λ h. (λ b. b, λ b. b);
   says = λ h shown before.
-    let some = some_planned (of_system system k.gps k.galileo) (planned_of system h.plan) (planned_before system k h before) planned in
-    (λ e. tt, λ s. one_shift system (planned_of system h.plan) some ∙ ap (λ l. l ∷ []) (sym (is.0 refl)));
+      let some = some_planned (of_system system k.gps k.galileo) (planned_of system h.plan) (planned_before system k h before) planned in
+      (λ e. tt, λ s. one_shift system (planned_of system h.plan) some ∙ ap (λ l. l ∷ []) (sym (is.0 refl)));
 }
 learn_shift system k line false planned is = λ h shown before e.
     let some = some_planned (of_system system k.gps k.galileo) (planned_of system h.plan) (planned_before system k h before) planned in
@@ -317,8 +318,8 @@ same_system false false = refl
 pub version_same : (p : PlanValue) → version_line p ≡ version_with (is_planned p.gps) (is_planned p.galileo)
 version_same p =
     ap (λ (b : ℕ). header_line
-      (joined (right 9 (fixed 2 (pos 305)) ∷ replicate 11 32 ∷ left 20 (codes "OBSERVATION DATA") ∷ (b ∷ []) ∷ []))
-      (codes "RINEX VERSION / TYPE"))
+    (joined (right 9 (fixed 2 (pos 305)) ∷ replicate 11 32 ∷ left 20 (codes "OBSERVATION DATA") ∷ (b ∷ []) ∷ []))
+    (codes "RINEX VERSION / TYPE"))
     (same_system (length p.gps == 0) (length p.galileo == 0))
 
 either_planned : (a b : ℕ) → 0 < a + b → (not (a == 0) || not (b == 0)) ≡ true
@@ -338,11 +339,11 @@ learn_version k gps galileo line r = record {
   plan = refl;
   before = λ h. (λ b. b, λ b. b);
   says = λ h is before.
-    let same = version_same h.plan in
-    let read = reads (λ (p : Bool × Bool). (p.0 || p.1) ≡ true) (λ (p : Bool × Bool). version_with p.0 p.1) line (pair gps galileo)
-        (pair (is_planned h.plan.gps) (is_planned h.plan.galileo)) r (either_planned (length h.plan.gps) (length h.plan.galileo) is.plan.some) in
-    let pairs = same_pair gps (is_planned h.plan.gps) galileo (is_planned h.plan.galileo) in
-    (λ e. pairs.0 (read.0 (ap (λ l. l ∷ []) (sym same) ∙ e)), λ s. ap (λ l. l ∷ []) same ∙ read.1 (pairs.1 s));
+      let same = version_same h.plan in
+      let read = reads (λ (p : Bool × Bool). (p.0 || p.1) ≡ true) (λ (p : Bool × Bool). version_with p.0 p.1) line (pair gps galileo)
+      (pair (is_planned h.plan.gps) (is_planned h.plan.galileo)) r (either_planned (length h.plan.gps) (length h.plan.galileo) is.plan.some) in
+      let pairs = same_pair gps (is_planned h.plan.gps) galileo (is_planned h.plan.galileo) in
+      (λ e. pairs.0 (read.0 (ap (λ l. l ∷ []) (sym same) ∙ e)), λ s. ap (λ l. l ∷ []) same ∙ read.1 (pairs.1 s));
 }
 
 pub refuse_version : (k : Known) (line : List ℕ) → Systems line None → Refuses Version line k
@@ -366,5 +367,5 @@ put_position line old k x y z e r =
     let made = λ (a b c : ℤ). with_values k (record { x = a; y = b; z = c; height = k.shown.values.height }) in
     put_values Position line old k _ e
     (subst (λ a. Learns Position line k (made a (to_z w64 (of_z w64 y)) (to_z w64 (of_z w64 z)))) (sym (coordinate_same x r.0.0))
-      (subst (λ b. Learns Position line k (made x b (to_z w64 (of_z w64 z)))) (sym (coordinate_same y r.0.1))
-        (subst (λ c. Learns Position line k (made x y c)) (sym (coordinate_same z r.0.2)) (learn_position k x y z line r))))
+    (subst (λ b. Learns Position line k (made x b (to_z w64 (of_z w64 z)))) (sym (coordinate_same y r.0.1))
+    (subst (λ c. Learns Position line k (made x y c)) (sym (coordinate_same z r.0.2)) (learn_position k x y z line r))))

@@ -87,6 +87,7 @@ pub past_line : (s : Section) (line : List ℕ) (old new : Known) → IsSole s �
 past_line s line old new sole learned h left = (on, back) where
   rows : length (shown_lines h s) ≡ section_rows h.plan s
   rows = shown_rows h s
+
   on : IsHeaderLeft old s 0 h (line ∷ left) → IsPast new s h left
   on i =
       let due = i.due in
@@ -100,6 +101,7 @@ past_line s line old new sole learned h left = (on, back) where
         unread = still_unread s old new h sole learned.plan i.within;
         lines = both.1;
       }
+
   back : IsPast new s h left → IsHeaderLeft old s 0 h (line ∷ left)
   back p =
       let only : shown_lines h s ≡ line ∷ [] = (learned.says h p.is p.before).1 p.says in
@@ -199,9 +201,10 @@ is_behind s n e = sym (ap (λ l. get_or l 0 End) e)
 pub past_reached : (s n : Section) (k : Known) (h : Shown) (left : List (List ℕ)) → after s ≡ n ∷ after n → IsPast k s h left ↔ IsReached k n h left
 past_reached s n k h left e =
     let next = some_next s n e in
-    let at = is_behind s n e in
-    (λ p. subst (λ m. IsReached k m h left) (sym at) (past_to s k h left next p),
-    λ r. past_from s k h left next (subst (λ m. IsReached k m h left) at r))
+    let at = is_behind s n e in (
+      λ p. subst (λ m. IsReached k m h left) (sym at) (past_to s k h left next p),
+      λ r. past_from s k h left next (subst (λ m. IsReached k m h left) at r),
+    )
 
 -- ---- sections without lines
 
@@ -294,9 +297,10 @@ skip_from End k h left lacks r = cc
 -- a section without lines is passed over
 pub skipped : (m n : Section) (k : Known) (h : Shown) (left : List (List ℕ)) → has_lines k m ≡ false → after m ≡ n ∷ after n → IsReached k m h left ↔ IsReached k n h left
 skipped m n k h left lacks e =
-    let at = is_behind m n e in
-    (λ r. subst (λ s. IsReached k s h left) (sym at) (skip_to m k h left lacks r),
-    λ r. skip_from m k h left lacks (subst (λ s. IsReached k s h left) at r))
+    let at = is_behind m n e in (
+      λ r. subst (λ s. IsReached k s h left) (sym at) (skip_to m k h left lacks r),
+      λ r. skip_from m k h left lacks (subst (λ s. IsReached k s h left) at r),
+    )
 
 -- ---- sections with lines
 
@@ -326,9 +330,10 @@ due_here End k h has_some said = omega arith
 
 -- a section with lines is the place of the next
 pub reached_left : (m : Section) (k : Known) (h : Shown) (left : List (List ℕ)) → has_lines k m ≡ true → IsReached k m h left ↔ IsHeaderLeft k m 0 h left
-reached_left m k h left has_some =
-    (λ r. record { is = r.is; before = r.before; within = r.within; due = due_here m k h has_some r.before; lines = r.lines },
-    λ i. record { is = i.is; before = i.before; within = i.within; lines = i.lines })
+reached_left m k h left has_some = (
+  λ r. record { is = r.is; before = r.before; within = r.within; due = due_here m k h has_some r.before; lines = r.lines },
+  λ i. record { is = i.is; before = i.before; within = i.within; lines = i.lines },
+)
 
 -- behind the last section there is none, and it has a line
 pub last_has_lines : (m : Section) (k : Known) → after m ≡ [] → has_lines k m ≡ true

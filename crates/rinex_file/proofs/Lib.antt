@@ -31,3 +31,4 @@ mod HeaderSteps
 mod PutTexts
 mod HeaderLearned
 mod HeaderEnd
+mod HeaderTypes

@@ -1,5 +1,5 @@
 -- From one line of a header to the next, as its lines are read.
-use Rattle.std.specs.Prelude.{◌≡◌, ℕ, zero, ◌+◌, ◌<◌, Bool, true, false, List, [], ◌∷◌, length, flat_map, take, Option, Some, None, ⊤, ◌↔◌, MatchBool}
+use Rattle.std.specs.Prelude.{◌≡◌, ℕ, zero, ◌+◌, ◌<◌, Bool, true, false, List, [], ◌∷◌, length, flat_map, take, min, Option, Some, None, ⊤, ◌↔◌, MatchBool}
 use Rattle.obs_epoch.specs.declared.cell.StationValues.{StationValues}
 use Rattle.obs_epoch.specs.Values.{PlanValue, planned_of}
 use Rattle.gnss_obs.specs.declared.system.System.{System}
@@ -9,7 +9,7 @@ use Rattle.rinex_file.specs.declared.section.Section.TheVariants.{Version, Progr
 use Rattle.rinex_file.specs.Texts.{HeaderLists}
 use Rattle.rinex_file.specs.FileValues.{of_system}
 use Rattle.rinex_file.specs.Header.{lines_from, after}
-use Rattle.rinex_file.specs.Progress.{Known, Shown, IsShown, Says, SaidBefore, SaidWithin, NoneYet, IsHeaderLeft, MayFollow, shown_lines, is_planned}
+use Rattle.rinex_file.specs.Progress.{Known, Shown, IsShown, Says, SaidBefore, SaidWithin, NoneYet, IsHeaderLeft, MayFollow, shown_lines, is_planned, AreTypes, types_line, begun}
 
 -- a section of at most one line, with another section behind it
 abbrev pub IsSole : Section → Type 0
@@ -103,3 +103,37 @@ with_first k first = record {
 -- with what the first line says
 abbrev pub with_systems : Known → Bool → Bool → Known
 with_systems k gps galileo = record { shown = k.shown; gps = gps; galileo = galileo; signals = k.signals }
+
+-- with the signals of a system
+abbrev pub with_signals : System → Known → List ℕ → Known
+with_signals Gps k signals = record {
+  shown = record { texts = k.shown.texts; plan = record { gps = signals; galileo = k.shown.plan.galileo }; values = k.shown.values; first = k.shown.first };
+  gps = k.gps;
+  galileo = k.galileo;
+  signals = k.signals;
+}
+with_signals Galileo k signals = record {
+  shown = record { texts = k.shown.texts; plan = record { gps = k.shown.plan.gps; galileo = signals }; values = k.shown.values; first = k.shown.first };
+  gps = k.gps;
+  galileo = k.galileo;
+  signals = k.signals;
+}
+
+-- with the number of a system's signals
+abbrev pub with_count : Known → ℕ → Known
+with_count k count = record { shown = k.shown; gps = k.gps; galileo = k.galileo; signals = count }
+
+-- ---- lines of types
+
+-- so many signals are all, and these are those that begin in the lines in front of one
+abbrev pub AreBegun : ℕ → ℕ → List ℕ → List ℕ → Type 0
+AreBegun count row signals all = (length all ≡ count) × (signals ≡ take (begun row) all)
+
+-- the signals that begin in a line were taken behind those of the lines before
+pub record TakesRow (system : System) (count row : ℕ) (line old new : List ℕ) : Type 0 where
+  pub taken : (all : List ℕ) → AreTypes system all → (AreBegun count row old all × (line ≡ types_line system all row)) ↔ AreBegun count (row + 1) new all
+  pub size : length new ≡ min (begun (row + 1)) count
+
+-- the line is no line of types behind these signals
+abbrev pub RefusesRow : System → ℕ → ℕ → List ℕ → List ℕ → Type 0
+RefusesRow system count row line old = (all : List ℕ) → AreTypes system all → AreBegun count row old all → line ≡ types_line system all row → ⊥

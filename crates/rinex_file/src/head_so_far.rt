@@ -1,12 +1,13 @@
 //! What was read of a header.
-ghost use Rattle.std.specs.Prelude.{◌≡◌, ◌+◌, ◌*◌, ◌/◌, ◌<◌, ◌≤◌, ◌∷◌, [], ◌↔◌, ℕ, List, length, take, Err, None, IfOk, IfErr, IfSome, IfNone, OnOk, MatchOption, IsTrue};
+ghost use Rattle.std.specs.Prelude.{◌≡◌, ◌+◌, ◌*◌, ◌/◌, ◌<◌, ◌≤◌, ◌∷◌, [], ◌↔◌, ℕ, List, length, Err, Some, None, IfOk, IfErr, IfSome, IfNone, OnOk, MatchOption, IsTrue};
 ghost use Rattle.gnss_obs.specs.Signals.{table};
 ghost use Rattle.obs_epoch.specs.Dates.{civil_of};
 ghost use Rattle.obs_epoch.specs.Signals.{indices, IsOf};
+ghost use Rattle.obs_epoch.specs.Values.{planned_of};
 ghost use Rattle.rinex_file.specs.FileValues.{of_system};
 ghost use Rattle.rinex_file.specs.Header.{header_lines, type_rows, after};
-ghost use Rattle.rinex_file.specs.Progress.{Shown, IsShown, IsHeaderLeft, MayFollow, AreTypes, types_line, begun};
-ghost use Rattle.rinex_file.specs.HeaderSteps.{IsSole, has_lines, Learned, IsPast, IsReached, IsWhole, StepsTo, NoneGoesOn};
+ghost use Rattle.rinex_file.specs.Progress.{Shown, IsShown, IsHeaderLeft, MayFollow, AreTypes, types_line};
+ghost use Rattle.rinex_file.specs.HeaderSteps.{IsSole, has_lines, Learned, IsPast, IsReached, IsWhole, StepsTo, NoneGoesOn, TakesRow, RefusesRow, with_signals};
 
 use crate::due::Refusal;
 use crate::numbers::Line;
@@ -14,7 +15,7 @@ use crate::read_epoch::read_first;
 use crate::read_numbers::is_same;
 use crate::read_station::{is_header_line, read_delta, read_position, read_version};
 use crate::read_texts::{read_one, read_three, read_two};
-use crate::read_types::{read_count, read_types};
+use crate::read_types::{begun, read_count, read_types};
 use crate::satellite::letter_of;
 use crate::section::Section;
 use crate::texts::HeaderTexts;
@@ -52,6 +53,40 @@ impl Model for HeadSoFar {
     } };
 
     ghost invariant = { λ h. IsOf Gps h.gps.items × IsOf Galileo h.galileo.items × AreTexts h.texts × AreValues h.values × IsTime h.first };
+}
+
+// So many lines are needed for the types of so many signals.
+fn rows_of(signals: usize) -> usize
+    requires { signals ≤ 19 }
+    ensures { result ≡ type_rows signals }
+{
+    (4 * signals + 12) / 13
+}
+
+// Takes the signals whose types begin in a line, behind as many as begin in the lines before.
+fn take_row(
+    signals: &mut Vec<Signal>,
+    system: System,
+    count: usize,
+    row: usize,
+    line: &[u8],
+    again: &mut Line,
+) -> Result<(), Refusal>
+    requires count { count ≤ length (table system) }
+    requires row { row < type_rows count }
+    requires signals { IsOf system signals.old.items }
+    ensures signals { IsOf system signals.new.items }
+    ensures taken { OnOk result (TakesRow system count row line.now (indices signals.old.items) (indices signals.new.items)) }
+    ensures bad { result ≡ Err Refusal.Bad → RefusesRow system count row line.now (indices signals.old.items) }
+{
+    if signals.len() != begun(row) {
+        return Err(Refusal::Bad);
+    }
+    read_types(signals, system, count, row, line, again)?;
+    if signals.len() != begun(row + 1).min(count) {
+        return Err(Refusal::Bad);
+    }
+    Ok(())
 }
 
 impl HeadSoFar {
@@ -351,6 +386,54 @@ impl HeadSoFar {
         Ok(None)
     }
 
+    // So many signals of a system are planned, where this line of its types is due.
+    fn count_due(&self, system: System, row: usize, line: &[u8]) -> Option<usize>
+        ensures bound { IfSome result (λ n. n ≤ length (table system)) }
+        ensures rows { IfSome result (λ n. row < type_rows n) }
+        ensures later { IfSome result (λ n. 0 < row → self.now.signals ≡ n) }
+        ensures due { (all : List ℕ) → AreTypes system all → (0 < row → self.now.signals ≡ length all) → row < type_rows (length all)
+            → line.now ≡ types_line system all row → result ≡ Some (length all) }
+    {
+        if row == 0 {
+            return read_count(line, system);
+        }
+        if self.signals > system.signals() {
+            return None;
+        }
+        if row >= rows_of(self.signals) {
+            return None;
+        }
+        Some(self.signals)
+    }
+
+    // Takes the signals of a system whose types begin in a line.
+    fn take_signals(
+        &mut self,
+        system: System,
+        count: usize,
+        row: usize,
+        line: &[u8],
+        again: &mut Line,
+    ) -> Result<(), Refusal>
+        requires count { count ≤ length (table system) }
+        requires row { row < type_rows count }
+        ensures kept { OnOk result (self.new ≡ with_signals system self.old (planned_of system self.new.shown.plan)) }
+        ensures taken { OnOk result (TakesRow system count row line.now (planned_of system self.old.shown.plan) (planned_of system self.new.shown.plan)) }
+        ensures bad { result ≡ Err Refusal.Bad → RefusesRow system count row line.now (planned_of system self.old.shown.plan) }
+    {
+        match system {
+            System::Gps => take_row(&mut self.gps, System::Gps, count, row, line, again),
+            System::Galileo => take_row(
+                &mut self.galileo,
+                System::Galileo,
+                count,
+                row,
+                line,
+                again,
+            ),
+        }
+    }
+
     // Takes a line of the types of a system.
     fn take_types(
         &mut self,
@@ -363,7 +446,18 @@ impl HeadSoFar {
         ensures some { IfOk result (λ next. next ≡ None → ⊥) }
         ensures bad { result ≡ Err Refusal.Bad → NoneGoesOn self.old (Section.Types system) row line.now }
     {
-        Err(Refusal::Memory)
+        if !self.plans(system) {
+            return Err(Refusal::Bad);
+        }
+        let Some(count) = self.count_due(system, row, line) else {
+            return Err(Refusal::Bad);
+        };
+        self.take_signals(system, count, row, line, again)?;
+        self.signals = count;
+        if row + 1 < rows_of(count) {
+            return Ok(Some((Section::Types(system), row + 1)));
+        }
+        Ok(self.place_behind(Section::Types(system)))
     }
 
     /// Takes a line where this one is due, and answers the place of the next, or None where the header ends. What is known

@@ -81,8 +81,8 @@ fn take_signals(
     Ok(())
 }
 
-// So many signals begin in the lines in front of one.
-fn begun(row: usize) -> usize
+/// So many signals begin in the lines in front of one.
+pub(crate) fn begun(row: usize) -> usize
     requires { row ≤ 6 }
     ensures { result ≡ begun row }
 {

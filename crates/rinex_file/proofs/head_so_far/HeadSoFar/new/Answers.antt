@@ -8,9 +8,10 @@ pub returns : goal.returns
 returns c = begins_header _ c.blank.result (ap indices c.new-2.ensures.items) (ap indices c.new-3.ensures.items)
 
 pub invariant_of-result : goal.invariant_of-result
-invariant_of-result c =
-    (none_read Gps c.new-2.result.items c.new-2.ensures.items,
-    none_read Galileo c.new-3.result.items c.new-3.ensures.items,
-    blank_texts c.blank.result c.blank.ensures,
-    zero_values,
-    zero_time c.in-Some.time c.in-Some.ensures.value)
+invariant_of-result c = (
+  none_read Gps c.new-2.result.items c.new-2.ensures.items,
+  none_read Galileo c.new-3.result.items c.new-3.ensures.items,
+  blank_texts c.blank.result c.blank.ensures,
+  zero_values,
+  zero_time c.in-Some.time c.in-Some.ensures.value,
+)

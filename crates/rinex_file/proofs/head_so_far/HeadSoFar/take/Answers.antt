@@ -5,8 +5,8 @@ use Rattle.rinex_file.proofs.head_so_far.HeadSoFar.take.Goals as goal
 pub returns-in-Types : goal.returns-in-Types
 returns-in-Types c = record {
   taken =
-    steps_at c.args.section (Types c.in-Types.system) c.args.row c.args.line.now c.args.self.now c.take_types.new.self c.take_types.result c.in-Types.is
-    c.take_types.ensures.taken;
+      steps_at c.args.section (Types c.in-Types.system) c.args.row c.args.line.now c.args.self.now c.take_types.new.self c.take_types.result c.in-Types.is
+      c.take_types.ensures.taken;
   shown = never_shown c.take_types.new.self c.take_types.result c.take_types.ensures.some;
   bad = λ e. refused_at c.args.section (Types c.in-Types.system) c.args.row c.args.line.now c.args.self.now c.in-Types.is (c.take_types.ensures.bad e);
 }

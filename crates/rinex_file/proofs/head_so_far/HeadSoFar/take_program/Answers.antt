@@ -7,17 +7,20 @@ use Rattle.rinex_file.proofs.head_so_far.HeadSoFar.take_program.Goals as goal
 
 pub invariant_of-self : goal.invariant_of-self
 invariant_of-self c =
-    let held = c.self.invariant in
-    (held.0, held.1,
+    let held = c.self.invariant in (
+      held.0,
+      held.1,
       program_kept c.self.inside.texts c.set_program.new.self c.in-Some.run_by.items c.in-Some.date.items c.set_program.ensures held.2
-      c.in-Some.ensures.0.1 c.in-Some.ensures.0.2,
-      held.3, held.4)
+          c.in-Some.ensures.0.1 c.in-Some.ensures.0.2,
+      held.3,
+      held.4,
+    )
 
 pub returns : goal.returns
 returns c =
     put_texts Program c.args.line.now c.args.self.now _ c.set_program.new.self _ c.self.view_is c.set_program.ensures
     (learn_program _ c.in-Some.program.items c.in-Some.run_by.items c.in-Some.date.items c.args.line.now
-      (sym c.as_slice.ensures.value ∙ c.if-not-is_same.ensures.0 refl) c.in-Some.ensures)
+    (sym c.as_slice.ensures.value ∙ c.if-not-is_same.ensures.0 refl) c.in-Some.ensures)
 
 pub returns-then-not-is_same : goal.returns-then-not-is_same
 returns-then-not-is_same c =

@@ -15,7 +15,7 @@ pub returns-clause-taken : goal.returns-clause-taken
 returns-clause-taken c =
     subst (λ row. StepsTo c.args.self.now c.args.section row c.args.line.now c.learn.new.self c.place_behind.result) (sym c.if-row-ne0.false)
     (steps_on c.args.section c.args.line.now c.args.self.now c.learn.new.self c.place_behind.result c.requires c.if-not-learn.ensures
-      c.place_behind.ensures.some c.place_behind.ensures.none)
+    c.place_behind.ensures.some c.place_behind.ensures.none)
 
 pub returns-clause-some : goal.returns-clause-some
 returns-clause-some c = not_last c.args.section c.place_behind.result c.requires c.place_behind.ensures.none
