@@ -9,6 +9,7 @@ mod epoch;
 mod fault;
 mod file;
 mod head;
+mod head_parts;
 mod head_so_far;
 mod header;
 mod kept;

@@ -10,7 +10,8 @@ ghost use Rattle.rinex_file.specs.ProgressOf.{progress_of, IsCounted};
 ghost use Rattle.rinex_file.specs.Sound.{IsSound, MayBegin};
 
 use crate::due::{Due, Refusal};
-use crate::head_so_far::{HeadParts, HeadSoFar};
+use crate::head_parts::HeadParts;
+use crate::head_so_far::HeadSoFar;
 use crate::kept::{KeptEpoch, KeptSeen};
 use crate::numbers::Line;
 use crate::obs_file::ObsFile;

@@ -1,0 +1,57 @@
+//! What a header shows, once its lines were read.
+ghost use Rattle.std.specs.Prelude.{◌≡◌, ◌+◌, ◌<◌, length, IfSome, IsSome};
+ghost use Rattle.obs_epoch.specs.Values.{planned_of};
+
+use crate::head_so_far::HeadSoFar;
+use crate::texts::HeaderTexts;
+use gnss_obs::System;
+use obs_epoch::{GpsTime, Plan, StationValues};
+
+/// What a header shows besides the time of the first epoch.
+#[derive(Drop)]
+pub(crate) struct HeadParts {
+    pub(crate) texts: HeaderTexts,
+    pub(crate) plan: Plan,
+    pub(crate) values: StationValues,
+}
+
+impl HeadSoFar {
+    /// How many signals of a system were read.
+    pub(crate) fn planned(&self, system: System) -> usize
+        ensures { result ≡ length (planned_of system self.now.shown.plan) }
+    {
+        match system {
+            System::Gps => self.gps.len(),
+            System::Galileo => self.galileo.len(),
+        }
+    }
+
+    /// Texts, plan and station values, or None where no signal was read.
+    pub(crate) fn into_parts(self) -> Option<HeadParts>
+        ensures parts { IfSome result (λ p. (p.texts ≡ self.shown.texts) × (p.plan ≡ self.shown.plan) × (p.values ≡ self.shown.values)) }
+        ensures some { 0 < length self.shown.plan.gps + length self.shown.plan.galileo → IsSome result }
+    {
+        let HeadSoFar {
+            texts,
+            gps,
+            galileo,
+            values,
+            ..
+        } = self;
+        match Plan::from_signals(gps, galileo) {
+            Ok(plan) => Some(HeadParts {
+                texts,
+                plan,
+                values,
+            }),
+            Err(_) => None,
+        }
+    }
+
+    /// The time of the first epoch, as it was read.
+    pub(crate) fn first(&self) -> GpsTime
+        ensures { result ≡ self.now.shown.first }
+    {
+        self.first
+    }
+}
