@@ -1,5 +1,5 @@
 # make build   proves the program and leaves it at crates/rtcm2rinex/out/rtcm2rinex
-# make run     builds it, converts a real recording and shows the head of the file and the report
+# make run     builds it, converts a real recording, shows the head of the file and the report, and reads the file back
 # make test    the gate: every proof from nothing, the must-fail edits, the tests and the program
 PROGRAM := crates/rtcm2rinex/out/rtcm2rinex
 SAMPLE := samples/zed-f9t-2019-10-17
@@ -19,6 +19,7 @@ run: build
 	@echo ".. $$(wc -l < $(MADE).obs) lines in $(MADE).obs, and the report:"
 	@cat $(MADE).report
 	@cmp $(MADE).obs $(SAMPLE).obs && cmp $(MADE).report $(SAMPLE).report && echo "both as stored in samples/"
+	@echo "read back: $$($(PROGRAM) check < $(MADE).obs)"
 
 test:
 	rt ci

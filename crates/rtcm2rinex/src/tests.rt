@@ -1,4 +1,5 @@
 //! The program by its words, over readers and writers that cut and fail.
+mod check;
 mod convert;
 mod faults;
 mod frames;

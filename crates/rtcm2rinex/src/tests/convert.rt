@@ -6,7 +6,7 @@ use rtcm_bits::devices::{PieceReader, ReadEnd, ShortWriter, WriteEnd};
 use std::io::ErrorKind;
 use std::test::Fail;
 
-const OPTIONS: [&str; 10] = [
+pub const OPTIONS: [&str; 10] = [
     "rtcm2rinex",
     "convert",
     "--week",
