@@ -1,23 +1,22 @@
 -- The last line of a header, and the header that was read.
-use Rattle.std.proofs.Common.{arith, ◌≡◌, ◌∙◌, sym, ap, refl, subst, ℕ, ℤ, pos, lit≤, zero, suc, ◌+◌, ◌<◌, ◌≤◌, List, [], ◌∷◌, length, Bool, true, false, Option, Some, None, ◌↔◌, All, nat_eq}
+use Rattle.std.proofs.Common.{arith, ◌≡◌, ◌∙◌, sym, ap, refl, subst, ℕ, ℤ, pos, lit≤, ◌+◌, ◌<◌, List, [], ◌∷◌, length, None, ◌↔◌, All, nat_eq}
 use Rattle.std.specs.List.{IsDistinct}
 use Rattle.std.proofs.lemmas.List.Elements.{All-map, All-weaker}
-use Rattle.std.specs.Prelude.{codes, IfOk, Result, Ok, Err, map}
+use Rattle.std.specs.Prelude.{Result, Ok, Err}
 use Rattle.gnss_obs.specs.Signals.{SignalAt, IsSignal, table}
 use Rattle.gnss_obs.specs.declared.system.System.{System}
 use Rattle.gnss_obs.specs.declared.system.System.TheVariants.{Gps, Galileo}
 use Rattle.obs_epoch.specs.Signals.{indices, IsOf}
 use Rattle.obs_epoch.specs.Values.{PlanValue, planned_of}
 use Rattle.obs_epoch.specs.declared.cell.StationValues.{StationValues}
-use Rattle.rinex_file.specs.declared.section.Section.{Section}
-use Rattle.rinex_file.specs.declared.section.Section.TheVariants.{Version, Types, End}
+use Rattle.rinex_file.specs.declared.section.Section.TheVariants.{Version, End}
 use Rattle.rinex_file.specs.declared.fault.HeaderField.{HeaderField}
 use Rattle.rinex_file.specs.Blanks.{trimmed}
 use Rattle.rinex_file.specs.Texts.{HeaderLists, width_of, text_of}
 use Rattle.rinex_file.specs.FileValues.{IsText, AreTexts, AreValues, IsPlan, IsTime}
-use Rattle.rinex_file.specs.Header.{lines_of, header_lines, end_line, header_line}
-use Rattle.rinex_file.specs.Progress.{Known, Shown, IsShown, SaidOf, SaidBefore, IsHeaderLeft, IsHeaderRead, MayFollow, shown_lines, is_planned}
-use Rattle.rinex_file.specs.HeaderSteps.{IsSole, IsWhole, StepsTo, NoneGoesOn}
+use Rattle.rinex_file.specs.Header.{lines_of, header_lines, end_line}
+use Rattle.rinex_file.specs.Progress.{Known, Shown, IsShown, SaidOf, SaidBefore, IsHeaderLeft, is_planned}
+use Rattle.rinex_file.specs.HeaderSteps.{IsWhole, StepsTo, NoneGoesOn}
 use Rattle.obs_epoch.specs.Dates.{civil_of}
 use Rattle.std.proofs.lemmas.Int.{ints}
 use Rattle.obs_epoch.proofs.PlanLemmas.{none_of}
@@ -169,9 +168,9 @@ shown_by k made e whole texts plan values first =
 
 -- ---- no header
 
-pub begins_header : (k : Known) (texts : HeaderLists) → k.shown.plan.gps ≡ [] → k.shown.plan.galileo ≡ [] → (h : Shown) (left : List (List ℕ))
+pub begins_header : (k : Known) → k.shown.plan.gps ≡ [] → k.shown.plan.galileo ≡ [] → (h : Shown) (left : List (List ℕ))
     → IsHeaderLeft k Version 0 h left ↔ (IsShown h × (left ≡ header_lines h.texts h.plan h.values (civil_of h.first)))
-begins_header k texts a b h left =
+begins_header k a b h left =
     let all = all_lines h.texts h.plan h.values (civil_of h.first) in
     (λ i. (i.is, i.lines ∙ all), λ s. record { is = s.0; before = tt; within = (a, b); due = omega arith; lines = s.1 ∙ sym all })
 

@@ -1,5 +1,5 @@
 -- What is learned of each line of a header.
-use Rattle.std.proofs.Common.{arith, ◌≡◌, ◌∙◌, sym, ap, refl, subst, ℕ, ℤ, pos, zero, suc, lit≤, ◌+◌, ◌<◌, ◌≤◌, ◌^◌, Bool, true, false, List, [], ◌∷◌, length, replicate, Option, Some, None, IsTrue, ◌↔◌}
+use Rattle.std.proofs.Common.{arith, ◌≡◌, ◌∙◌, sym, ap, refl, subst, ℕ, ℤ, pos, zero, suc, lit≤, ◌+◌, ◌<◌, ◌^◌, Bool, true, false, List, [], ◌∷◌, length, replicate, Option, Some, None, IsTrue, ◌↔◌}
 use Rattle.std.specs.Prelude.{codes, not, min, ◌==◌, ◌||◌, if◌then◌else◌}
 use Rattle.obs_epoch.specs.Dates.{civil_of}
 use Rattle.obs_epoch.specs.Values.{PlanValue, planned_of}
@@ -8,7 +8,7 @@ use Rattle.gnss_obs.specs.declared.system.System.{System}
 use Rattle.gnss_obs.specs.declared.system.System.TheVariants.{Gps, Galileo}
 use Rattle.rinex_file.specs.declared.fault.HeaderField.TheVariants.{RunBy, Date, Marker as MarkerName, MarkerType as MarkerKind, Observer as ObserverName, Agency, RecNumber, RecType, RecVersion, AntNumber, AntType}
 use Rattle.rinex_file.specs.declared.section.Section.{Section}
-use Rattle.rinex_file.specs.declared.section.Section.TheVariants.{Version, Program, Marker, MarkerType, Observer, Receiver, Antenna, Position, Delta, Types, StrengthUnit, First, Shift, End}
+use Rattle.rinex_file.specs.declared.section.Section.TheVariants.{Version, Program, Marker, MarkerType, Observer, Receiver, Antenna, Position, Delta, StrengthUnit, First, Shift}
 use Rattle.rinex_file.specs.Blanks.{trimmed}
 use Rattle.rinex_file.specs.Texts.{HeaderLists}
 use Rattle.rinex_file.specs.FileValues.{IsText, IsCoordinate, IsTime, of_system}

@@ -1,16 +1,16 @@
 -- From one line of a header to the next, as its lines are read.
-use Rattle.std.proofs.Common.{arith, ◌≡◌, ◌∙◌, sym, ap, refl, subst, ℕ, zero, suc, ◌+◌, ◌<◌, ◌≤◌, Bool, true, false, List, [], ◌∷◌, ◌++◌, length, drop, get_or, Option, Some, None, ◌↔◌}
+use Rattle.std.proofs.Common.{arith, ◌≡◌, ◌∙◌, sym, ap, refl, subst, ℕ, zero, suc, ◌<◌, ◌≤◌, Bool, true, false, List, [], ◌∷◌, ◌++◌, length, drop, get_or, Option, Some, None, ◌↔◌}
 use Rattle.std.specs.Prelude.{flat_map, min, IfSome, IfNone, IfOk, Result, Ok, Err}
 use Rattle.std.proofs.lemmas.Bool.Decides.{nat_tests}
 use Rattle.obs_epoch.specs.Dates.{civil_of}
-use Rattle.obs_epoch.specs.Values.{PlanValue, planned_of}
+use Rattle.obs_epoch.specs.Values.{PlanValue}
 use Rattle.gnss_obs.specs.declared.system.System.{System}
 use Rattle.gnss_obs.specs.declared.system.System.TheVariants.{Gps, Galileo}
 use Rattle.rinex_file.specs.declared.due.Refusal.{Refusal}
 use Rattle.rinex_file.specs.declared.section.Section.{Section}
 use Rattle.rinex_file.specs.declared.section.Section.TheVariants.{Version, Program, Marker, MarkerType, Observer, Receiver, Antenna, Position, Delta, Types, StrengthUnit, First, Shift, End}
-use Rattle.rinex_file.specs.Header.{lines_from, section_rows, after, all_sections, type_rows}
-use Rattle.rinex_file.specs.Progress.{Known, Shown, IsShown, Says, SaidOf, SaidBefore, SaidWithin, NoneYet, IsHeaderLeft, MayFollow, shown_lines, is_planned}
+use Rattle.rinex_file.specs.Header.{lines_from, section_rows, after, type_rows}
+use Rattle.rinex_file.specs.Progress.{Known, Shown, IsShown, Says, SaidOf, SaidBefore, SaidWithin, NoneYet, IsHeaderLeft, shown_lines, is_planned}
 use Rattle.rinex_file.specs.HeaderSteps.{IsSole, has_lines, Unread, Learns, Refuses, Learned, IsPast, IsReached, StepsTo, NoneGoesOn}
 use Rattle.rinex_file.proofs.Sections.{rows_at, skip}
 

@@ -1,13 +1,12 @@
 -- The lines of types of a header, as they are read one after the other.
-use Rattle.std.proofs.Common.{arith, ◌≡◌, ◌∙◌, sym, ap, refl, subst, ℕ, zero, suc, ◌+◌, ◌*◌, ◌/◌, ◌<◌, ◌≤◌, add-one, Bool, true, false, List, [], ◌∷◌, ◌++◌, length, take, drop, get_or, min, Option, Some, None, nat_eq, ◌↔◌}
+use Rattle.std.proofs.Common.{arith, ◌≡◌, ◌∙◌, sym, ap, refl, subst, ℕ, zero, suc, ◌+◌, ◌<◌, ◌≤◌, true, false, List, [], ◌∷◌, ◌++◌, length, take, min, Option, Some, None, ◌↔◌}
 use Rattle.std.specs.Prelude.{flat_map, IfSome, IfNone, Result, Err}
-use Rattle.std.proofs.lemmas.List.{drop_all, take_all, take-take, take-map, length-take}
+use Rattle.std.proofs.lemmas.List.{drop_all, take_all, take-take, take-map}
 use Rattle.gnss_obs.specs.Signals.{SignalAt, table}
 use Rattle.gnss_obs.specs.declared.system.System.{System}
 use Rattle.gnss_obs.specs.declared.system.System.TheVariants.{Gps, Galileo}
-use Rattle.obs_epoch.specs.Dates.{civil_of}
 use Rattle.obs_epoch.specs.Signals.{indices}
-use Rattle.obs_epoch.specs.Values.{PlanValue, planned_of}
+use Rattle.obs_epoch.specs.Values.{planned_of}
 use Rattle.obs_epoch.proofs.PlanLemmas.{length_indices}
 use Rattle.rinex_file.specs.declared.due.Refusal.{Refusal}
 use Rattle.rinex_file.specs.declared.section.Section.{Section}
@@ -15,7 +14,7 @@ use Rattle.rinex_file.specs.declared.section.Section.TheVariants.{Types}
 use Rattle.rinex_file.specs.FileValues.{of_system}
 use Rattle.rinex_file.specs.Lines.{letter_of}
 use Rattle.rinex_file.specs.Header.{lines_of, lines_from, after, type_line, type_rows, types_of, codes_of}
-use Rattle.rinex_file.specs.Progress.{Known, Shown, IsShown, Says, SaidBefore, SaidWithin, IsHeaderLeft, shown_lines, is_planned, AreTypes, types_line, begun}
+use Rattle.rinex_file.specs.Progress.{Known, Shown, IsShown, Says, SaidBefore, SaidWithin, IsHeaderLeft, shown_lines, AreTypes, types_line, begun}
 use Rattle.rinex_file.specs.HeaderSteps.{Unread, IsPast, StepsTo, NoneGoesOn, AreBegun, TakesRow, RefusesRow, with_signals, with_count}
 use Rattle.rinex_file.proofs.TypeRows.{few_types}
 use Rattle.rinex_file.proofs.Sections.{emit, at_row}
@@ -27,18 +26,8 @@ use Rattle.rinex_file.proofs.HeaderSteps.{both_ways, said_version, none_planned,
 last_begins : (count row : ℕ) → type_rows count ≤ row + 1 → count ≤ begun (row + 1)
 last_begins count row last = omega (arith, last)
 
-begun_before : (count row : ℕ) → row < type_rows count → begun row ≤ count
-begun_before count row less = omega (arith, less)
-
 begun_more : (row : ℕ) → begun row ≤ begun (row + 1)
 begun_more row = omega arith
-
--- all that begin were taken
-size_taken : (new all : List ℕ) (row count : ℕ) → AreBegun count (row + 1) new all → length new ≡ min (begun (row + 1)) count
-size_taken new all row count begins = ap length begins.1 ∙ length-take (begun (row + 1)) all ∙ ap (λ n. min (begun (row + 1)) n) begins.0
-
-size_begun : (old all : List ℕ) (row count : ℕ) → AreBegun count row old all → length old ≡ min (begun row) count
-size_begun old all row count begins = ap length begins.1 ∙ length-take (begun row) all ∙ ap (λ n. min (begun row) n) begins.0
 
 -- what stands in front was taken before
 pub begun_in_front : (old new all : List ℕ) (row : ℕ) → take (length old) new ≡ old → length old ≡ begun row → new ≡ take (begun (row + 1)) all → old ≡ take (begun row) all

@@ -1,8 +1,7 @@
 -- The texts of a header stay printable, cut and short where one is put in.
 use Rattle.std.proofs.Common.{◌≡◌, sym, subst, ℕ, List}
-use Rattle.rinex_file.specs.declared.fault.HeaderField.{HeaderField}
 use Rattle.rinex_file.specs.declared.fault.HeaderField.TheVariants.{RunBy, Date, Marker, MarkerType, Observer, Agency, RecNumber, RecType, RecVersion, AntNumber, AntType}
-use Rattle.rinex_file.specs.Texts.{HeaderLists, width_of, text_of}
+use Rattle.rinex_file.specs.Texts.{HeaderLists}
 use Rattle.rinex_file.specs.FileValues.{IsText, AreTexts}
 
 program_put : (x : HeaderLists) (a b : List ℕ) → AreTexts x → IsText 20 a → IsText 20 b → AreTexts (record x { run_by = a; date = b })

@@ -1,4 +1,4 @@
-use Rattle.std.proofs.Common.{◌≡◌, ◌+◌, ◌∙◌, arith, length, min, refl}
+use Rattle.std.proofs.Common.{◌≡◌, ◌+◌, arith, length, min}
 use Rattle.std.proofs.lemmas.Grind.{common_steps}
 use Rattle.rinex_file.specs.Progress.{begun}
 use Rattle.rinex_file.proofs.HeaderTypes.{row_taken}

@@ -1,4 +1,4 @@
-use Rattle.std.proofs.Common.{◌≡◌, ◌∙◌, ◌<◌, ap, subst, length}
+use Rattle.std.proofs.Common.{◌∙◌, ◌<◌, ap, subst, length}
 use Rattle.gnss_obs.specs.Signals.{table}
 use Rattle.rinex_file.specs.Progress.{types_line, Known}
 use Rattle.rinex_file.proofs.HeaderTypes.{later_due}

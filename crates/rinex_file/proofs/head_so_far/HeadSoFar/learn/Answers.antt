@@ -1,6 +1,5 @@
-use Rattle.std.proofs.Common.{sym, subst}
-use Rattle.rinex_file.specs.declared.section.Section.TheVariants.{Version, Program, Marker, MarkerType, Observer, Receiver, Antenna, Position, Delta, Types, StrengthUnit, First, Shift, End}
-use Rattle.rinex_file.specs.HeaderSteps.{IsSole, Learned}
+use Rattle.std.proofs.Common.{subst}
+use Rattle.rinex_file.specs.HeaderSteps.{IsSole}
 use Rattle.rinex_file.proofs.HeaderSteps.{same_section}
 use Rattle.rinex_file.proofs.head_so_far.HeadSoFar.learn.Goals as goal
 

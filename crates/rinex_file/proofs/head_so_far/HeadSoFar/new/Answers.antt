@@ -1,11 +1,11 @@
-use Rattle.std.proofs.Common.{ap, map}
+use Rattle.std.proofs.Common.{ap}
 use Rattle.obs_epoch.specs.Signals.{indices}
 use Rattle.gnss_obs.specs.declared.system.System.TheVariants.{Gps, Galileo}
 use Rattle.rinex_file.proofs.HeaderEnd.{begins_header, blank_texts, none_read, zero_time, zero_values}
 use Rattle.rinex_file.proofs.head_so_far.HeadSoFar.new.Goals as goal
 
 pub returns : goal.returns
-returns c = begins_header _ c.blank.result (ap indices c.new-2.ensures.items) (ap indices c.new-3.ensures.items)
+returns c = begins_header _ (ap indices c.new-2.ensures.items) (ap indices c.new-3.ensures.items)
 
 pub invariant_of-result : goal.invariant_of-result
 invariant_of-result c = (

@@ -1,4 +1,4 @@
-use Rattle.std.proofs.Common.{◌≡◌, ◌∙◌, sym}
+use Rattle.std.proofs.Common.{◌∙◌, sym}
 use Rattle.rinex_file.proofs.HeaderSteps.{skipped, reached_left, last_has_lines, both_ways}
 use Rattle.rinex_file.proofs.head_so_far.HeadSoFar.section_from.Goals as goal
 

@@ -1,4 +1,4 @@
-use Rattle.std.proofs.Common.{◌≡◌, sym, subst, refl, None}
+use Rattle.std.proofs.Common.{sym, subst, refl, None}
 use Rattle.rinex_file.specs.declared.section.Section.TheVariants.{End}
 use Rattle.rinex_file.specs.HeaderSteps.{StepsTo, NoneGoesOn}
 use Rattle.rinex_file.proofs.Judged.{refused}

@@ -1,6 +1,4 @@
-use Rattle.std.proofs.Common.{◌∙◌, sym, ap, [], ◌∷◌}
-use Rattle.std.specs.Prelude.{codes}
-use Rattle.rinex_file.specs.Header.{header_line}
+use Rattle.std.proofs.Common.{◌∙◌, sym}
 use Rattle.rinex_file.proofs.HeaderLearned.{learn_shift, refuse_shift, other_letter}
 use Rattle.rinex_file.proofs.head_so_far.HeadSoFar.take_shift.Goals as goal
 

@@ -1,4 +1,4 @@
-use Rattle.std.proofs.Common.{◌≡◌, ◌∙◌, ap, sym, subst, ℕ, ◌+◌, ◌<◌, ◌≤◌, ◌↔◌, List, ◌∷◌, Some}
+use Rattle.std.proofs.Common.{◌∙◌, ap, sym, subst, ℕ, ◌+◌, ◌<◌, ◌≤◌, ◌↔◌, List, ◌∷◌, Some}
 use Rattle.obs_epoch.specs.Values.{planned_of}
 use Rattle.rinex_file.specs.declared.section.Section.TheVariants.{Types}
 use Rattle.rinex_file.specs.Header.{type_rows}
