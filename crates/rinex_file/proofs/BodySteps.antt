@@ -100,33 +100,36 @@ pub epoch_taken : (s : Progress) (t n : ℕ) (line : List ℕ) → s.due ≡ Epo
     → ((w : ℕ × ℕ) → IsTime w.0 × (w.1 ≤ 999) → line ≡ epoch_line (civil_of w.0) w.1 → w ≡ (t, n))
     → (v : FileValue) (left : List (List ℕ)) → GoesOn s v (line ∷ left) ↔ GoesOn (begun_at s t n) v left
 unfolding GoesOn
-epoch_taken s t n line due none shown only v left =
-    (λ on.
-        let next = epoch_next s v line left due on in
-        let same : SameLine next.e.time (length next.e.rows) t n = only (next.e.time, length next.e.rows) (fits_line (length s.known.shown.plan.gps) (length s.known.shown.plan.galileo) next.e next.is) next.shown in
-        let time : next.e.time ≡ t = ap (λ w. w.0) same in
-        let epoch : next.e ≡ at_time t (s.rows ++ next.e.rows) = same_epoch next.e t next.is.same time ∙ ap (λ r. at_time t (r ++ next.e.rows)) (sym none) in
-        (on.0, record {
+epoch_taken s t n line due none shown only v left = (
+  λ on.
+      let next = epoch_next s v line left due on in
+      let same : SameLine next.e.time (length next.e.rows) t n = only (next.e.time, length next.e.rows) (fits_line (length s.known.shown.plan.gps) (length s.known.shown.plan.galileo) next.e next.is) next.shown in
+      let time : next.e.time ≡ t = ap (λ w. w.0) same in
+      let epoch : next.e ≡ at_time t (s.rows ++ next.e.rows) = same_epoch next.e t next.is.same time ∙ ap (λ r. at_time t (r ++ next.e.rows)) (sym none) in (
+        on.0,
+        record {
           more = next.e.rows;
           others = next.es;
           count = ap (λ w. w.1) same;
           value = next.value ∙ ap (λ x. file_with s (s.epochs ++ x ∷ next.es)) epoch;
           starts = subst (λ x. StartsAt s.known.shown.first (s.epochs ++ x ∷ next.es)) epoch next.starts;
           rest = next.rest;
-        }),
-    λ on.
-        let here : IsWithin (begun_at s t n) n v left = on.1 in
-        let rows : s.rows ++ here.more ≡ here.more = ap (λ r. r ++ here.more) none in
-        let lines : line ∷ left ≡ flat_map stamped_lines (at_time t (s.rows ++ here.more) ∷ here.others) =
-        ap (λ l. l ∷ left) shown ∙ ap (λ k. epoch_line (civil_of t) k ∷ left) (sym here.count) ∙ ap (λ l. epoch_line (civil_of t) (length here.more) ∷ l) here.rest
-        ∙ ap (λ r. epoch_line (civil_of t) (length r) ∷ (map seen_line r ++ flat_map stamped_lines here.others)) (sym rows) in
-        let between : IsBetween s v (line ∷ left) = record {
-          others = at_time t (s.rows ++ here.more) ∷ here.others;
-          value = here.value;
-          starts = here.starts;
-          rest = lines;
-        } in
-        (on.0, subst (λ d. IsAt s d v (line ∷ left)) (sym due) between))
+        },
+      ),
+  λ on.
+      let here : IsWithin (begun_at s t n) n v left = on.1 in
+      let rows : s.rows ++ here.more ≡ here.more = ap (λ r. r ++ here.more) none in
+      let lines : line ∷ left ≡ flat_map stamped_lines (at_time t (s.rows ++ here.more) ∷ here.others) =
+      ap (λ l. l ∷ left) shown ∙ ap (λ k. epoch_line (civil_of t) k ∷ left) (sym here.count) ∙ ap (λ l. epoch_line (civil_of t) (length here.more) ∷ l) here.rest
+      ∙ ap (λ r. epoch_line (civil_of t) (length r) ∷ (map seen_line r ++ flat_map stamped_lines here.others)) (sym rows) in
+      let between : IsBetween s v (line ∷ left) = record {
+        others = at_time t (s.rows ++ here.more) ∷ here.others;
+        value = here.value;
+        starts = here.starts;
+        rest = lines;
+      } in
+      (on.0, subst (λ d. IsAt s d v (line ∷ left)) (sym due) between),
+)
 
 -- ---- why the line of an epoch isn't taken, and what holds where it is
 
@@ -150,7 +153,7 @@ module _ (s : Progress) (t n : ℕ) (line : List ℕ) (due : s.due ≡ Epoch) (o
       let count : length next.e.rows ≡ n = ap (λ w. w.1) same in
       let later : IsStrictlyIncreasing (map time_of s.epochs ++ next.e.time ∷ []) =
       rise_front (map time_of s.epochs ++ next.e.time ∷ []) (map time_of next.es)
-          (subst IsStrictlyIncreasing (sym (append_assoc (map time_of s.epochs) (next.e.time ∷ []) (map time_of next.es))) next.rising) in
+      (subst IsStrictlyIncreasing (sym (append_assoc (map time_of s.epochs) (next.e.time ∷ []) (map time_of next.es))) next.rising) in
       never (record {
         later = subst (λ u. IsStrictlyIncreasing (map time_of s.epochs ++ u ∷ [])) time later;
         first = λ none.
@@ -168,15 +171,16 @@ sound_between s due sound = subst (λ d. IsSoundAt s d) due sound
 
 pub sound_begun : (s : Progress) (t n : ℕ) → s.due ≡ Epoch → IsSound s → MayBegin s t n → IsTime t → IsSound (begun_at s t n)
 sound_begun s t n due sound may time =
-    let (read, none) = sound_between s due sound in
-    (record { shown = read.shown; epochs = read.epochs; rising = read.rising; starts = read.starts },
-    record {
-      time = time;
-      later = may.later;
-      rows = subst (AreSeen (length s.known.shown.plan.gps) (length s.known.shown.plan.galileo)) (sym none) (no_rows (length s.known.shown.plan.gps) (length s.known.shown.plan.galileo));
-      first = may.first;
-    },
-    may.some)
+    let (read, none) = sound_between s due sound in (
+      record { shown = read.shown; epochs = read.epochs; rising = read.rising; starts = read.starts },
+      record {
+        time = time;
+        later = may.later;
+        rows = subst (AreSeen (length s.known.shown.plan.gps) (length s.known.shown.plan.galileo)) (sym none) (no_rows (length s.known.shown.plan.gps) (length s.known.shown.plan.galileo));
+        first = may.first;
+      },
+      may.some,
+    )
 
 -- ---- the line of a satellite
 
@@ -232,38 +236,41 @@ module _ (s : Progress) (n : ℕ) (line : List ℕ) (due : s.due ≡ Satellite (
       let same : next.seen ≡ seen = only next.seen next.is next.shown in
       let rise : IsStrictlyIncreasing (map rank_of s.rows ++ rank_of next.seen ∷ []) =
       rise_front (map rank_of s.rows ++ rank_of next.seen ∷ []) (map rank_of next.more)
-          (subst IsStrictlyIncreasing (sym (append_assoc (map rank_of s.rows) (rank_of next.seen ∷ []) (map rank_of next.more))) next.rising) in
+      (subst IsStrictlyIncreasing (sym (append_assoc (map rank_of s.rows) (rank_of next.seen ∷ []) (map rank_of next.more))) next.rising) in
       never (subst (λ w. IsStrictlyIncreasing (map rank_of s.rows ++ rank_of w ∷ [])) same rise)
 
   pub row_taken : (seen : Seen) → line ≡ seen_line seen → ((w : Seen) → IsSeen (length s.known.shown.plan.gps) (length s.known.shown.plan.galileo) w → line ≡ seen_line w → w ≡ seen)
       → (v : FileValue) (left : List (List ℕ)) → GoesOn s v (line ∷ left) ↔ GoesOn (with_row s seen n) v left
   unfolding GoesOn
-  row_taken seen shown only v left =
-      (λ on.
-          let next = row_next s n v line left due on in
-          let same : next.seen ≡ seen = only next.seen next.is next.shown in
-          let rows : s.rows ++ next.seen ∷ next.more ≡ (s.rows ++ seen ∷ []) ++ next.more =
-          ap (λ w. s.rows ++ w ∷ next.more) same ∙ sym (append_assoc s.rows (seen ∷ []) next.more) in
-          (on.0, record {
+  row_taken seen shown only v left = (
+    λ on.
+        let next = row_next s n v line left due on in
+        let same : next.seen ≡ seen = only next.seen next.is next.shown in
+        let rows : s.rows ++ next.seen ∷ next.more ≡ (s.rows ++ seen ∷ []) ++ next.more =
+        ap (λ w. s.rows ++ w ∷ next.more) same ∙ sym (append_assoc s.rows (seen ∷ []) next.more) in (
+          on.0,
+          record {
             more = next.more;
             others = next.others;
             count = next.count;
             value = next.value ∙ ap (λ r. file_with s (s.epochs ++ stamped s r ∷ next.others)) rows;
             starts = subst (λ r. StartsAt s.known.shown.first (s.epochs ++ stamped s r ∷ next.others)) rows next.starts;
             rest = next.rest;
-          }),
-      λ on.
-          let here : IsWithin (with_row s seen n) n v left = on.1 in
-          let rows : (s.rows ++ seen ∷ []) ++ here.more ≡ s.rows ++ seen ∷ here.more = append_assoc s.rows (seen ∷ []) here.more in
-          let within : IsWithin s (suc n) v (line ∷ left) = record {
-            more = seen ∷ here.more;
-            others = here.others;
-            count = omega (arith, here.count);
-            value = here.value ∙ ap (λ r. file_with s (s.epochs ++ stamped s r ∷ here.others)) rows;
-            starts = subst (λ r. StartsAt s.known.shown.first (s.epochs ++ stamped s r ∷ here.others)) rows here.starts;
-            rest = ap (λ l. l ∷ left) shown ∙ ap (λ l. seen_line seen ∷ l) here.rest;
-          } in
-          (on.0, subst (λ d. IsAt s d v (line ∷ left)) (sym due) within))
+          },
+        ),
+    λ on.
+        let here : IsWithin (with_row s seen n) n v left = on.1 in
+        let rows : (s.rows ++ seen ∷ []) ++ here.more ≡ s.rows ++ seen ∷ here.more = append_assoc s.rows (seen ∷ []) here.more in
+        let within : IsWithin s (suc n) v (line ∷ left) = record {
+          more = seen ∷ here.more;
+          others = here.others;
+          count = omega (arith, here.count);
+          value = here.value ∙ ap (λ r. file_with s (s.epochs ++ stamped s r ∷ here.others)) rows;
+          starts = subst (λ r. StartsAt s.known.shown.first (s.epochs ++ stamped s r ∷ here.others)) rows here.starts;
+          rest = ap (λ l. l ∷ left) shown ∙ ap (λ l. seen_line seen ∷ l) here.rest;
+        } in
+        (on.0, subst (λ d. IsAt s d v (line ∷ left)) (sym due) within),
+  )
 
 from_none : (s : Progress) (v : FileValue) (left : List (List ℕ)) (more : List Seen) (others : List Stamped) → length more ≡ 0
     → v ≡ file_with s (s.epochs ++ stamped s (s.rows ++ more) ∷ others) → StartsAt s.known.shown.first (s.epochs ++ stamped s (s.rows ++ more) ∷ others)
@@ -283,23 +290,24 @@ from_none s v left [] others count value starts rest =
 -- an epoch whose satellites were all read
 pub epoch_closed : (s : Progress) → s.due ≡ Satellite 0 → (v : FileValue) (left : List (List ℕ)) → GoesOn s v left ↔ GoesOn (with_epoch s) v left
 unfolding GoesOn
-epoch_closed s due v left =
-    (λ on.
-        let here : IsWithin s 0 v left = subst (λ d. IsAt s d v left) due on.1 in
-        (on.0, from_none s v left here.more here.others here.count here.value here.starts here.rest),
-    λ on.
-        let here : IsBetween (with_epoch s) v left = on.1 in
-        let all : (s.epochs ++ stamped s s.rows ∷ []) ++ here.others ≡ s.epochs ++ stamped s (s.rows ++ []) ∷ here.others =
-        append_assoc s.epochs (stamped s s.rows ∷ []) here.others ∙ ap (λ r. s.epochs ++ stamped s r ∷ here.others) (sym (append-nil s.rows)) in
-        let within : IsWithin s 0 v left = record {
-          more = [];
-          others = here.others;
-          count = refl;
-          value = here.value ∙ ap (file_with s) all;
-          starts = subst (StartsAt s.known.shown.first) all here.starts;
-          rest = here.rest;
-        } in
-        (on.0, subst (λ d. IsAt s d v left) (sym due) within))
+epoch_closed s due v left = (
+  λ on.
+      let here : IsWithin s 0 v left = subst (λ d. IsAt s d v left) due on.1 in
+      (on.0, from_none s v left here.more here.others here.count here.value here.starts here.rest),
+  λ on.
+      let here : IsBetween (with_epoch s) v left = on.1 in
+      let all : (s.epochs ++ stamped s s.rows ∷ []) ++ here.others ≡ s.epochs ++ stamped s (s.rows ++ []) ∷ here.others =
+      append_assoc s.epochs (stamped s s.rows ∷ []) here.others ∙ ap (λ r. s.epochs ++ stamped s r ∷ here.others) (sym (append-nil s.rows)) in
+      let within : IsWithin s 0 v left = record {
+        more = [];
+        others = here.others;
+        count = refl;
+        value = here.value ∙ ap (file_with s) all;
+        starts = subst (StartsAt s.known.shown.first) all here.starts;
+        rest = here.rest;
+      } in
+      (on.0, subst (λ d. IsAt s d v left) (sym due) within),
+)
 
 -- ---- what holds where the line of a satellite is taken
 
@@ -334,27 +342,29 @@ module _ (s : Progress) (n left : ℕ) (due : s.due ≡ Satellite left) (sound :
 
   pub sound_row : 0 < n → IsSound (with_row s seen n)
   sound_row some =
-      let (read, begun, all) = sound_open s left due sound in
-      (record { shown = read.shown; epochs = read.epochs; rising = read.rising; starts = read.starts },
-      record { time = begun.time; later = begun.later; rows = rows_more; first = begun.first },
-      some)
+      let (read, begun, all) = sound_open s left due sound in (
+        record { shown = read.shown; epochs = read.epochs; rising = read.rising; starts = read.starts },
+        record { time = begun.time; later = begun.later; rows = rows_more; first = begun.first },
+        some,
+      )
 
   pub sound_closed : IsSound (with_epoch (with_row s seen n))
   sound_closed =
       let (read, begun, all) = sound_open s left due sound in
-      let size : length (s.rows ++ seen ∷ []) ≡ length s.rows + 1 = length-append s.rows (seen ∷ []) in
-      (record {
-        shown = read.shown;
-        epochs = All-push (IsStamped (length s.known.shown.plan.gps) (length s.known.shown.plan.galileo)) s.epochs (stamped s (s.rows ++ seen ∷ [])) read.epochs (record {
-          same = refl;
-          time = begun.time;
-          rows = rows_more;
-          some = omega (arith, size);
-        });
-        rising = subst IsStrictlyIncreasing (sym (map-append time_of s.epochs (stamped s (s.rows ++ seen ∷ []) ∷ []))) begun.later;
-        starts = starts_more s.known.shown.first s.epochs (stamped s (s.rows ++ seen ∷ [])) read.starts begun.first;
-      },
-      refl)
+      let size : length (s.rows ++ seen ∷ []) ≡ length s.rows + 1 = length-append s.rows (seen ∷ []) in (
+        record {
+          shown = read.shown;
+          epochs = All-push (IsStamped (length s.known.shown.plan.gps) (length s.known.shown.plan.galileo)) s.epochs (stamped s (s.rows ++ seen ∷ [])) read.epochs (record {
+            same = refl;
+            time = begun.time;
+            rows = rows_more;
+            some = omega (arith, size);
+          });
+          rising = subst IsStrictlyIncreasing (sym (map-append time_of s.epochs (stamped s (s.rows ++ seen ∷ []) ∷ []))) begun.later;
+          starts = starts_more s.known.shown.first s.epochs (stamped s (s.rows ++ seen ∷ [])) read.starts begun.first;
+        },
+        refl,
+      )
 
 -- the last line of an epoch's satellites
 pub last_taken : (s : Progress) (line : List ℕ) → s.due ≡ Satellite 1 → (seen : Seen) → line ≡ seen_line seen

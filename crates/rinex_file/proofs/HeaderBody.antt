@@ -97,28 +97,31 @@ module _ (s : Progress) (section : Section) (row : ℕ) (line : List ℕ) (due :
       → ((h : Shown) (left : List (List ℕ)) → IsHeaderLeft s.known section row h (line ∷ left) ↔ IsHeaderLeft k section' row' h left)
       → (v : FileValue) (left : List (List ℕ)) → GoesOn s v (line ∷ left) ↔ GoesOn (known_as s k (Header section' row')) v left
   unfolding GoesOn
-  header_taken k section' row' step v left =
-      (λ on.
-          let next = header_next s section row v line left due on in
-          (on.0, record {
+  header_taken k section' row' step v left = (
+    λ on.
+        let next = header_next s section row v line left due on in (
+          on.0,
+          record {
             first = next.first;
             others = next.others;
             lines = next.lines;
             epochs = next.epochs;
             header = (step (shown_of v next.first.time) next.lines).0 next.header;
             rest = next.rest;
-          }),
-      λ on.
-          let here : IsInHeader (known_as s k (Header section' row')) section' row' v left = on.1 in
-          let before : IsInHeader s section row v (line ∷ left) = record {
-            first = here.first;
-            others = here.others;
-            lines = line ∷ here.lines;
-            epochs = here.epochs;
-            header = (step (shown_of v here.first.time) here.lines).1 here.header;
-            rest = ap (λ l. line ∷ l) here.rest;
-          } in
-          (on.0, subst (λ d. IsAt s d v (line ∷ left)) (sym due) before))
+          },
+        ),
+    λ on.
+        let here : IsInHeader (known_as s k (Header section' row')) section' row' v left = on.1 in
+        let before : IsInHeader s section row v (line ∷ left) = record {
+          first = here.first;
+          others = here.others;
+          lines = line ∷ here.lines;
+          epochs = here.epochs;
+          header = (step (shown_of v here.first.time) here.lines).1 here.header;
+          rest = ap (λ l. line ∷ l) here.rest;
+        } in
+        (on.0, subst (λ d. IsAt s d v (line ∷ left)) (sym due) before),
+  )
 
   module _ (k : Known) (none : s.epochs ≡ [])
       (step : (h : Shown) (left : List (List ℕ)) → IsHeaderLeft s.known section row h (line ∷ left) ↔ IsHeaderRead k h left) where
@@ -159,11 +162,12 @@ module _ (s : Progress) (section : Section) (row : ℕ) (line : List ℕ) (due :
 
     pub header_ended : (v : FileValue) (left : List (List ℕ)) → GoesOn s v (line ∷ left) ↔ GoesOn (known_as s k Epoch) v left
     unfolding GoesOn
-    header_ended v left =
-        (λ on. (on.0, ended v left (header_next s section row v line left due on)),
-        λ on.
-            let here : IsBetween (known_as s k Epoch) v left = on.1 in
-            (on.0, subst (λ d. IsAt s d v (line ∷ left)) (sym due) (before_end v left here.others on.0 here.value here.starts here.rest)))
+    header_ended v left = (
+      λ on. (on.0, ended v left (header_next s section row v line left due on)),
+      λ on.
+          let here : IsBetween (known_as s k Epoch) v left = on.1 in
+          (on.0, subst (λ d. IsAt s d v (line ∷ left)) (sym due) (before_end v left here.others on.0 here.value here.starts here.rest)),
+    )
 
 -- the header was read, and nothing more
 pub sound_start : (s : Progress) (k : Known) → IsShown k.shown → s.epochs ≡ [] → AreRead (known_as s k Epoch)
@@ -199,12 +203,13 @@ module _ (s : Progress) (due : s.due ≡ Header Version 0)
 
   pub header_starts : (v : FileValue) (left : List (List ℕ)) → GoesOn s v left ↔ (IsFileValue v × (left ≡ file_lines v))
   unfolding GoesOn
-  header_starts v left =
-      (λ on.
-          let here : IsInHeader s Version 0 v left = subst (λ d. IsAt s d v left) due on.1 in
-          let header = (step (shown_of v here.first.time) here.lines).0 here.header in
-          (on.0, here.rest ∙ ap (λ l. l ++ flat_map stamped_lines (here.first ∷ here.others)) header.1 ∙ sym (lines_by_first v here.first here.others here.epochs)),
-      λ is. (is.0, subst (λ d. IsAt s d v left) (sym due) (from_first v left v.epochs refl is.0 is.1)))
+  header_starts v left = (
+    λ on.
+        let here : IsInHeader s Version 0 v left = subst (λ d. IsAt s d v left) due on.1 in
+        let header = (step (shown_of v here.first.time) here.lines).0 here.header in
+        (on.0, here.rest ∙ ap (λ l. l ++ flat_map stamped_lines (here.first ∷ here.others)) header.1 ∙ sym (lines_by_first v here.first here.others here.epochs)),
+    λ is. (is.0, subst (λ d. IsAt s d v left) (sym due) (from_first v left v.epochs refl is.0 is.1)),
+  )
 
 -- ---- the end
 

@@ -75,6 +75,7 @@ pub rise_iff : {X : Type 0} (f : X → ℕ) (xs : List X) (x : X) (a b y : ℕ) 
     → IsTrue (nat_lt a b) ↔ IsStrictlyIncreasing (map f xs ++ y ∷ [])
 rise_iff f xs x a b y rise last e same =
     let (front, shape) = last_split xs x last in
-    let text : map f xs ≡ map f front ++ a ∷ [] = ap (map f) shape ∙ map-append f front (x ∷ []) ∙ ap (λ b. map f front ++ b ∷ []) (sym e) in
-    (λ h. subst (λ t. IsStrictlyIncreasing (t ++ y ∷ [])) (sym text) (rise_more (map f front) a y (subst IsStrictlyIncreasing text rise) (is_less a y (subst (λ n. IsTrue (nat_lt a n)) same h))),
-    λ r. subst (λ n. IsTrue (nat_lt a n)) (sym same) (less_is a y (rise_last (map f front) [] a y (subst (λ t. IsStrictlyIncreasing (t ++ y ∷ [])) text r))))
+    let text : map f xs ≡ map f front ++ a ∷ [] = ap (map f) shape ∙ map-append f front (x ∷ []) ∙ ap (λ b. map f front ++ b ∷ []) (sym e) in (
+      λ h. subst (λ t. IsStrictlyIncreasing (t ++ y ∷ [])) (sym text) (rise_more (map f front) a y (subst IsStrictlyIncreasing text rise) (is_less a y (subst (λ n. IsTrue (nat_lt a n)) same h))),
+      λ r. subst (λ n. IsTrue (nat_lt a n)) (sym same) (less_is a y (rise_last (map f front) [] a y (subst (λ t. IsStrictlyIncreasing (t ++ y ∷ [])) text r))),
+    )

@@ -34,11 +34,11 @@ mod write;
 
 pub use epoch::epoch_line;
 pub use fault::{HeadFault, HeaderField};
+pub use file::{file_bytes, read_file};
 pub use head::{Head, HeaderLines, header_lines};
 pub use numbers::Line;
 pub use obs_file::ObsFile;
 pub use read_fault::ReadFault;
-pub use file::{file_bytes, read_file};
 pub use satellite::satellite_line;
 pub use texts::{HeaderTexts, Texts};
 pub use write::{write_epoch, write_header};

@@ -196,7 +196,10 @@ impl Reading {
         if !may_begin(self.epochs.as_slice(), self.head.first(), time) {
             return false;
         }
-        let most = most_rows(self.head.planned(System::Gps), self.head.planned(System::Galileo));
+        let most = most_rows(
+            self.head.planned(System::Gps),
+            self.head.planned(System::Galileo),
+        );
         if satellites == 0 || satellites > most {
             return false;
         }
@@ -206,12 +209,7 @@ impl Reading {
     }
 
     // Takes the line of a satellite, where so many are left.
-    fn take_satellite(
-        &mut self,
-        left: usize,
-        line: &[u8],
-        again: &mut Line,
-    ) -> Result<(), Refusal>
+    fn take_satellite(&mut self, left: usize, line: &[u8], again: &mut Line) -> Result<(), Refusal>
         requires sound { IsSound (progress_of self.old) }
         requires counted { IsCounted self.old }
         requires room { self.old.satellites < 2 ^ 40 }

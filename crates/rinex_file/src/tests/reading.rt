@@ -146,7 +146,11 @@ fn a_line_spelled_otherwise_is_refused(rt: HostRuntime) {
     ];
     for (place, line, wanted) in cases {
         let lines = with_line(place, line);
-        assert!(rt; fault(rt.alloc(), lines.as_slice(), b"") == Some(wanted), "{}", line);
+        assert!(rt;
+            fault(rt.alloc(), lines.as_slice(), b"") == Some(wanted),
+            "{}",
+            line
+        );
     }
 }
 

@@ -11,13 +11,13 @@ one_within n most other = grind arith
 
 pub loop-reading-init : goal.loop-reading-init
 loop-reading-init g c = record {
-      taken = start (progress_of c.new-reading.result) _ c.new-reading.ensures.starts;
-      sound = c.new-reading.ensures.sound;
-      counted = c.new-reading.ensures.counted;
-      room = let none = c.new-reading.ensures.none in omega (arith, none);
-      within = omega arith;
-      same = refl;
-    }
+  taken = start (progress_of c.new-reading.result) _ c.new-reading.ensures.starts;
+  sound = c.new-reading.ensures.sound;
+  counted = c.new-reading.ensures.counted;
+  room = let none = c.new-reading.ensures.none in omega (arith, none);
+  within = omega arith;
+  same = refl;
+}
 
 pub loop-reading-preserved : goal.loop-reading-preserved
 loop-reading-preserved g c =

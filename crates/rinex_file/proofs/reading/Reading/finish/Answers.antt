@@ -30,4 +30,4 @@ returns-in-Some-clause-some c =
     let some : 0 < length s.epochs = search rules in
     let parts = c.in-Some.ensures.parts in
     file_whole s c.file_of.result c.in-Epoch.is c.requires.sound some
-        (c.file_of.ensures ∙ sym (made s c.in-Some.parts.texts c.in-Some.parts.plan c.in-Some.parts.values parts.0 parts.1 parts.2))
+    (c.file_of.ensures ∙ sym (made s c.in-Some.parts.texts c.in-Some.parts.plan c.in-Some.parts.values parts.0 parts.1 parts.2))

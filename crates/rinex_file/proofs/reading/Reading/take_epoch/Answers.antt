@@ -13,14 +13,14 @@ returns-in-None-clause-bad c = λ e. no_epoch (progress_of c.args.self.now) c.ar
 pub returns-then-begin-clause-sound : goal.returns-then-begin-clause-sound
 returns-then-begin-clause-sound c =
     subst IsSound (sym (c.begin.ensures.begun c.if-begin.true))
-        (sound_begun (progress_of c.args.self.now) c.in-Some.read.0 c.in-Some.read.1 c.requires.due c.requires.sound (c.begin.ensures.may c.if-begin.true) c.in-Some.ensures.0.0)
+    (sound_begun (progress_of c.args.self.now) c.in-Some.read.0 c.in-Some.read.1 c.requires.due c.requires.sound (c.begin.ensures.may c.if-begin.true) c.in-Some.ensures.0.0)
 
 pub returns-then-begin-clause-taken : goal.returns-then-begin-clause-taken
 returns-then-begin-clause-taken c =
     subst (λ (p : Progress). (v : FileValue) (left : List (List ℕ)) → GoesOn (progress_of c.args.self.now) v (c.args.line.now ∷ left) ↔ GoesOn p v left)
-        (sym (c.begin.ensures.begun c.if-begin.true))
-        (epoch_taken (progress_of c.args.self.now) c.in-Some.read.0 c.in-Some.read.1 c.args.line.now c.requires.due (sound_between (progress_of c.args.self.now) c.requires.due c.requires.sound).1
-            c.in-Some.ensures.1 c.in-Some.ensures.2)
+    (sym (c.begin.ensures.begun c.if-begin.true))
+    (epoch_taken (progress_of c.args.self.now) c.in-Some.read.0 c.in-Some.read.1 c.args.line.now c.requires.due (sound_between (progress_of c.args.self.now) c.requires.due c.requires.sound).1
+    c.in-Some.ensures.1 c.in-Some.ensures.2)
 
 never : (b : Bool) → b ≡ false → IsTrue b → ⊥
 never true h t = cc
@@ -29,7 +29,7 @@ never false h t = cc
 pub returns-else-begin-clause-bad : goal.returns-else-begin-clause-bad
 returns-else-begin-clause-bad c = λ e.
     bad_epoch (progress_of c.args.self.now) c.in-Some.read.0 c.in-Some.read.1 c.args.line.now c.requires.due c.in-Some.ensures.2
-        (λ may. never c.begin.result c.if-begin.false (c.begin.ensures.refused may))
+    (λ may. never c.begin.result c.if-begin.false (c.begin.ensures.refused may))
 
 pub returns-then-begin-clause-counted : goal.returns-then-begin-clause-counted
 returns-then-begin-clause-counted c =

@@ -31,7 +31,7 @@ returns-in-Err-clause-bad c = λ bad.
 pub returns-in-Ok-Some-clause-taken : goal.returns-in-Ok-Some-clause-taken
 returns-in-Ok-Some-clause-taken c =
     header_taken (progress_of c.args.self.now) c.args.section c.args.row c.args.line.now c.requires.due c.take.new.self c.in-Ok-Some.section c.in-Ok-Some.row
-        (follows c.args.self.now.head c.take.new.self c.args.section c.args.row c.args.line.now c.in-Ok-Some.field-0 (Some (c.in-Ok-Some.section, c.in-Ok-Some.row)) c.in-Ok-Some.field-0-is c.in-Ok-Some.ensures.taken)
+    (follows c.args.self.now.head c.take.new.self c.args.section c.args.row c.args.line.now c.in-Ok-Some.field-0 (Some (c.in-Ok-Some.section, c.in-Ok-Some.row)) c.in-Ok-Some.field-0-is c.in-Ok-Some.ensures.taken)
 
 pub returns-in-Ok-None-clause-sound : goal.returns-in-Ok-None-clause-sound
 returns-in-Ok-None-clause-sound c =
@@ -42,4 +42,4 @@ pub returns-in-Ok-None-clause-taken : goal.returns-in-Ok-None-clause-taken
 returns-in-Ok-None-clause-taken c =
     let (epochs, rows) = sound_header (progress_of c.args.self.now) c.args.section c.args.row c.requires.due c.requires.sound in
     header_ended (progress_of c.args.self.now) c.args.section c.args.row c.args.line.now c.requires.due c.take.new.self epochs
-        (follows c.args.self.now.head c.take.new.self c.args.section c.args.row c.args.line.now c.in-Ok-None.field-0 None c.in-Ok-None.field-0-is c.in-Ok-None.ensures.taken)
+    (follows c.args.self.now.head c.take.new.self c.args.section c.args.row c.args.line.now c.in-Ok-None.field-0 None c.in-Ok-None.field-0-is c.in-Ok-None.ensures.taken)

@@ -40,7 +40,7 @@ returns-in_default-clause-bad c = λ same.
     let s = progress_of c.args.self.now in
     let some = (sound_open s c.args.left c.requires.due c.requires.sound).2 in
     no_row s (c.args.left - 1) c.args.line.now (one_due c.args.left s c.requires.due some)
-        (shows_none c.planned-gps.result c.planned-galileo.result (length s.known.shown.plan.gps) (length s.known.shown.plan.galileo) c.args.line.now c.planned-gps.ensures c.planned-galileo.ensures c.in_default.ensures)
+    (shows_none c.planned-gps.result c.planned-galileo.result (length s.known.shown.plan.gps) (length s.known.shown.plan.galileo) c.args.line.now c.planned-gps.ensures c.planned-galileo.ensures c.in_default.ensures)
 
 never : (b : Bool) → b ≡ false → IsTrue b → ⊥
 never true h t = cc
@@ -52,8 +52,8 @@ returns-then-not-is_behind-clause-bad c = λ same.
     let some = (sound_open s c.args.left c.requires.due c.requires.sound).2 in
     let shown = shows c.planned-gps.result c.planned-galileo.result (length s.known.shown.plan.gps) (length s.known.shown.plan.galileo) c.args.line.now c.in-Some.seen c.planned-gps.ensures c.planned-galileo.ensures c.in-Some.ensures in
     bad_row s (c.args.left - 1) c.args.line.now (one_due c.args.left s c.requires.due some) c.in-Some.seen shown.2
-        (λ rise. never c.is_behind.result c.if-not-is_behind.true
-            (c.is_behind.ensures.1 (subst (λ (rows : List Seen). IsStrictlyIncreasing (map rank_of rows ++ rank_of c.in-Some.seen ∷ [])) (sym c.as_slice.ensures.value) rise)))
+    (λ rise. never c.is_behind.result c.if-not-is_behind.true
+    (c.is_behind.ensures.1 (subst (λ (rows : List Seen). IsStrictlyIncreasing (map rank_of rows ++ rank_of c.in-Some.seen ∷ [])) (sym c.as_slice.ensures.value) rise)))
 
 -- the rows rise with the one that was read
 rises : (rows slice : List Seen) (seen : Seen) (b : Bool) → slice ≡ rows → (IsTrue b ↔ IsStrictlyIncreasing (map rank_of slice ++ rank_of seen ∷ [])) → b ≡ true
@@ -71,7 +71,7 @@ returns-then-left-gt1-clause-sound c =
     let rise = rises s.rows c.as_slice.result.now c.in-Some.seen c.is_behind.result c.as_slice.ensures.value c.is_behind.ensures c.if-not-is_behind.false in
     let some : 0 < c.args.left - 1 = let h = c.if-left-gt1.true in omega (arith, h) in
     subst (λ (rows : List Seen). IsSound (rows_as s.known s.epochs s.time (c.args.left - 1) rows)) (sym c.in-Ok.ensures.items)
-        (sound_row s (c.args.left - 1) c.args.left c.requires.due c.requires.sound c.in-Some.seen shown.0 rise some)
+    (sound_row s (c.args.left - 1) c.args.left c.requires.due c.requires.sound c.in-Some.seen shown.0 rise some)
 
 pub returns-then-left-gt1-clause-taken : goal.returns-then-left-gt1-clause-taken
 returns-then-left-gt1-clause-taken c =
@@ -79,7 +79,7 @@ returns-then-left-gt1-clause-taken c =
     let some = (sound_open s c.args.left c.requires.due c.requires.sound).2 in
     let shown = shows c.planned-gps.result c.planned-galileo.result (length s.known.shown.plan.gps) (length s.known.shown.plan.galileo) c.args.line.now c.in-Some.seen c.planned-gps.ensures c.planned-galileo.ensures c.in-Some.ensures in
     subst (λ (rows : List Seen). (v : FileValue) (left : List (List ℕ)) → GoesOn s v (c.args.line.now ∷ left) ↔ GoesOn (rows_as s.known s.epochs s.time (c.args.left - 1) rows) v left) (sym c.in-Ok.ensures.items)
-        (row_taken s (c.args.left - 1) c.args.line.now (one_due c.args.left s c.requires.due some) c.in-Some.seen shown.1 shown.2)
+    (row_taken s (c.args.left - 1) c.args.line.now (one_due c.args.left s c.requires.due some) c.in-Some.seen shown.1 shown.2)
 
 -- what was read, with other epochs
 abbrev epochs_as : Known → ℕ → List Stamped → List Seen → Progress
@@ -102,7 +102,7 @@ returns-clause-sound c =
     let shown = shows c.planned-gps.result c.planned-galileo.result (length s.known.shown.plan.gps) (length s.known.shown.plan.galileo) c.args.line.now c.in-Some.seen c.planned-gps.ensures c.planned-galileo.ensures c.in-Some.ensures in
     let rise = rises s.rows c.as_slice.result.now c.in-Some.seen c.is_behind.result c.as_slice.ensures.value c.is_behind.ensures c.if-not-is_behind.false in
     subst IsSound (same_closed s c.in-Some.seen 0 c.push-2.new.self.items c.replace-rows.result.items c.replace-rows.new.dest.items _ (moved c.replace-rows.result.items c.push.new.self.items _ (search rules) c.in-Ok.ensures.items) refl c.in-Ok-push.ensures.items (search rules))
-        (sound_closed s 0 c.args.left c.requires.due c.requires.sound c.in-Some.seen shown.0 rise)
+    (sound_closed s 0 c.args.left c.requires.due c.requires.sound c.in-Some.seen shown.0 rise)
 
 pub returns-clause-taken : goal.returns-clause-taken
 returns-clause-taken c =
@@ -111,5 +111,5 @@ returns-clause-taken c =
     let shown = shows c.planned-gps.result c.planned-galileo.result (length s.known.shown.plan.gps) (length s.known.shown.plan.galileo) c.args.line.now c.in-Some.seen c.planned-gps.ensures c.planned-galileo.ensures c.in-Some.ensures in
     let last : c.args.left ≡ suc 0 = let h = c.if-left-gt1.false in omega (arith, h, some) in
     subst (λ (p : Progress). (v : FileValue) (left : List (List ℕ)) → GoesOn s v (c.args.line.now ∷ left) ↔ GoesOn p v left)
-        (same_closed s c.in-Some.seen 0 c.push-2.new.self.items c.replace-rows.result.items c.replace-rows.new.dest.items _ (moved c.replace-rows.result.items c.push.new.self.items _ (search rules) c.in-Ok.ensures.items) refl c.in-Ok-push.ensures.items (search rules))
-        (last_taken s c.args.line.now (c.requires.due ∙ ap Satellite last) c.in-Some.seen shown.1 shown.2)
+    (same_closed s c.in-Some.seen 0 c.push-2.new.self.items c.replace-rows.result.items c.replace-rows.new.dest.items _ (moved c.replace-rows.result.items c.push.new.self.items _ (search rules) c.in-Ok.ensures.items) refl c.in-Ok-push.ensures.items (search rules))
+    (last_taken s c.args.line.now (c.requires.due ∙ ap Satellite last) c.in-Some.seen shown.1 shown.2)
