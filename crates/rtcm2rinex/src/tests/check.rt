@@ -25,7 +25,10 @@ fn a_file_that_was_made_is_good(rt: HostRuntime) -> Result<(), Fail> {
         for sizes in [[1].as_slice(), [100, 7].as_slice(), [].as_slice()] {
             let outcome = run(rt.alloc(), &WORDS, text, sizes);
             assert_eq!(rt; outcome.status, 0);
-            assert_eq!(rt; outcome.output.as_slice(), b"epochs 1 satellites 1\n".as_slice());
+            assert_eq!(rt;
+                outcome.output.as_slice(),
+                b"epochs 1 satellites 1\n".as_slice()
+            );
             assert!(rt; outcome.faults.is_empty());
         }
     }
@@ -71,7 +74,10 @@ fn a_device_that_fails_is_told(rt: HostRuntime) -> Result<(), Fail> {
     let mut writer = Counted::new(ShortWriter::new(out, 4, 8, end));
     let status = command(rt.alloc(), &WORDS, &mut reader, &mut writer, &mut faults);
     assert_eq!(rt; status, 1);
-    assert_eq!(rt; writer.into_inner().into_inner().as_slice(), b"epochs 1".as_slice());
+    assert_eq!(rt;
+        writer.into_inner().into_inner().as_slice(),
+        b"epochs 1".as_slice()
+    );
     assert_eq!(rt; faults.as_slice(), b"rtcm2rinex: Write\n".as_slice());
     Ok(())
 }
