@@ -21,7 +21,11 @@ use crate::command::{command, refuse_words};
 use rtcm_bits::Counted;
 use std::alloc::Global;
 use std::io;
+use std::io::BufReader;
 use std::process::ExitCode;
+
+/// So many bytes of standard input are asked for at a time: what a pipe holds.
+const INPUT_BYTES: usize = 65_536;
 
 fn main(rt: HostRuntime) -> ExitCode {
     let status = match run(&rt) {
@@ -39,7 +43,9 @@ fn run(rt: &HostRuntime) -> io::Result<u8> {
     for word in &owned {
         words.push(word.as_str())?;
     }
-    let mut reader = Counted::new(rt.stdin());
+    // A file is read line by line and a stream in small pieces: neither should ask the system for each.
+    let input = BufReader::with_capacity(alloc, INPUT_BYTES, rt.stdin())?;
+    let mut reader = Counted::new(input);
     let mut writer = Counted::new(rt.stdout());
     Ok(command(
         alloc,
