@@ -1,7 +1,7 @@
 //! The check of a frame, CRC-24Q (RTCM 10403.3, transport layer): the generator is 0x1864CFB, the register begins at 0,
 //! the most significant bit goes first, and nothing is changed at the end.
 ghost use Rattle.std.specs.Prelude.{◌≡◌, ◌^◌, ◌<◌, List, ℕ, [], ◌∷◌, ◌++◌};
-ghost use Rattle.rtcm_bits.specs.Bits.{uint};
+ghost use Rattle.rtcm_bits.specs.Bits.{uint, bits_of};
 ghost use Rattle.rtcm_bits.specs.Check.{check};
 ghost use Rattle.rtcm_bits.specs.Register.{after_bits};
 
@@ -69,6 +69,13 @@ impl CheckRegister {
         self.register = by_table(self.register, byte);
     }
 
+    /// Takes these bytes, one after the other.
+    pub fn take_all(&mut self, bytes: &[u8])
+        ensures { (front : List ℕ) → self.old ≡ check front → self.new ≡ check (front ++ bytes.now) }
+    {
+        self.register = after_all(self.register, bytes);
+    }
+
     /// The check of the bytes taken, 24 bits.
     pub fn value(&self) -> u32
         ensures value { result ≡ self.now }
@@ -84,10 +91,21 @@ pub fn crc24q(bytes: &[u8]) -> u32
     ensures bound { result < 2 ^ 24 }
 {
     let mut register = CheckRegister::new();
-    for byte in bytes {
-        register.take(*byte);
-    }
+    register.take_all(bytes);
     register.value()
+}
+
+/// The register after these bytes.
+fn after_all(register: u32, bytes: &[u8]) -> u32
+    requires { register < 2 ^ 24 }
+    ensures bound { result < 2 ^ 24 }
+    ensures steps { uint 24 result ≡ after_bits (uint 24 register) (bits_of bytes.now) }
+{
+    let mut after = register;
+    for byte in bytes {
+        after = by_table(after, *byte);
+    }
+    after
 }
 
 /// The register after the eight bits of a byte, by the table.

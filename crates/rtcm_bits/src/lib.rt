@@ -7,6 +7,7 @@ mod counted;
 pub mod devices;
 mod framing;
 pub mod laws;
+mod looking;
 mod reader;
 #[cfg(test)]
 mod tests;
