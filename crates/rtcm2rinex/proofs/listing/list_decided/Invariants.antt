@@ -2,10 +2,10 @@ use Rattle.std.proofs.Common.{◌≡◌, List, ℕ, Option, length}
 use Rattle.rtcm_scan.specs.Frames.{Framed}
 use Rattle.rtcm2rinex.specs.Listed.{Lists}
 use Rattle.rtcm2rinex.specs.Kinds.{lines_of}
-use Rattle.rtcm2rinex.proofs.listing.list_standing.Given as goal
+use Rattle.rtcm2rinex.proofs.listing.list_decided.Given as goal
 
-abbrev pub invariant-loop-frame : goal.invariant-loop-frame
-invariant-loop-frame g l =
+abbrev pub invariant-loop-offset : goal.invariant-loop-offset
+invariant-loop-offset g l =
     let contents = g.W.Write.contents in
     record {
       lists : (w : Option (List ℕ)) (b : List ℕ) (fs : List Framed) → Lists (lines_of l.listing) w (contents l.fn.writer.inner) l.fn.page l.fn.framer b fs
@@ -16,5 +16,5 @@ invariant-loop-frame g l =
       fine : l.writer.failures ≡ l.fn.writer.failures;
     }
 
-abbrev pub decreases-loop-frame : goal.decreases-loop-frame
-decreases-loop-frame g l = length l.framer.held
+abbrev pub decreases-loop-offset : goal.decreases-loop-offset
+decreases-loop-offset g l = length l.framer.held
