@@ -1,7 +1,7 @@
 -- What a window's calls do to its rings, as a contract sees them.
 use Rattle.std.proofs.Common.{◌≡◌, ℕ, ◌+◌, ◌-◌, ◌<◌, ◌≤◌, min, max, List, [], ◌∷◌, ◌++◌, length, take, drop, replicate, slice_range, refl, sym, ap, ◌∙◌, get_or, arith, suc, zero, length-append, length-drop, ⊎_elim}
 use Rattle.std.proofs.lemmas.Bool.{cases_lt}
-use Rattle.std.proofs.lemmas.List.{take-append-le, drop-append-le, append-nil, take_rest, get_or_default, length-replicate}
+use Rattle.std.proofs.lemmas.List.{take-append-le, drop-append-le, append-nil, take_rest, take_all, drop_all, get_or_default, length-replicate}
 use Rattle.std.proofs.Math.Seq.{take-append-add, drop-append-add}
 use Rattle.rtcm_bits.specs.Window.{Held, held_of, counts_alone, looked_through, pushed_all}
 use Rattle.std.specs.List.{All, refill}
@@ -64,6 +64,20 @@ pub kept : (b b' : Buffer ℕ) (more : List ℕ) → length b.items + length mor
 kept b b' more h e =
     let z : length (b.items ++ more) - b.capacity ≡ 0 = omega (arith, h, length-append b.items more) in
     e ∙ ap (λ (n : ℕ). buffer (drop n (b.items ++ more)) b.capacity) z
+
+-- all items were taken out, and put back
+pub moved_through : (b b' b'' : Buffer ℕ) (z z' : List ℕ) (n : ℕ) → length b.items ≤ length z → length z ≤ b.capacity → n ≡ min (length z) (length b.items)
+    → z' ≡ take n b.items ++ drop n z → b' ≡ buffer (drop n b.items) b.capacity → b'' ≡ buffer (keep_last b'.capacity (b'.items ++ take n z')) b'.capacity → b'' ≡ b
+moved_through b b' b'' z z' n h g m r d e =
+    let k : n ≡ length b.items = omega (arith, h, m) in
+    let x : drop n b.items ≡ [] = ap (λ (q : ℕ). drop q b.items) k ∙ drop_all (length b.items) b.items (omega arith) in
+    let y : take n b.items ≡ b.items = ap (λ (q : ℕ). take q b.items) k ∙ take_all (length b.items) b.items (omega arith) in
+    let w : take n z' ≡ b.items = ap (take n) (r ∙ ap (λ (t : List ℕ). t ++ drop n z) y) ∙ take-append-le n b.items (drop n z) (omega (arith, k)) ∙ y in
+    let u : b' ≡ buffer [] b.capacity = d ∙ ap (λ (t : List ℕ). buffer t b.capacity) x in
+    let t : length b'.items ≡ 0 = ap (λ (v : Buffer ℕ). length v.items) u in
+    let c : b'.capacity ≡ b.capacity = ap (λ (v : Buffer ℕ). v.capacity) u in
+    let f : length (take n z') ≡ length b.items = ap length w in
+    kept b' b'' (take n z') (omega (arith, t, c, f, h, g)) e ∙ ap (λ (q : List ℕ). buffer (b'.items ++ q) b'.capacity) w ∙ ap (λ (v : Buffer ℕ). buffer (v.items ++ b.items) v.capacity) u
 
 abbrev pub AreBytes : List ℕ → Type 0
 AreBytes xs = All (λ (b : ℕ). b < 256) xs

@@ -2,6 +2,8 @@
 ghost use Rattle.std.specs.Prelude.{◌≡◌, ◌+◌, ◌≤◌, ◌++◌, length, slice_range, max};
 ghost use Rattle.rtcm_bits.specs.Window.{looked_through, counts_alone};
 
+use circular_buffer::HeapCircularBuffer;
+
 /// Adds one look to each of the n counts from start on, up to 65,535, and answers the greatest of them and of the count
 /// that was the greatest.
 pub(crate) fn look_at_each(counts: &mut [u16], start: usize, n: usize, greatest: u16) -> u16
@@ -16,6 +18,40 @@ pub(crate) fn look_at_each(counts: &mut [u16], start: usize, n: usize, greatest:
         most = most.max(looks);
     }
     most
+}
+
+/// Sees that the counts lie in one slice, for `make_contiguous` moves wrapped items one by one and leaves them at the end of
+/// the room, where the next ones wrap round again.
+pub(crate) fn unwrap_counts(counts: &mut HeapCircularBuffer<u16>)
+    requires few { length counts.old.items ≤ 1029 }
+    requires room { 1029 ≤ counts.old.capacity }
+    ensures { counts.new ≡ counts.old }
+{
+    let (_, wrapped) = counts.as_slices();
+    if !wrapped.is_empty() {
+        begin_anew(counts);
+    }
+}
+
+/// As `move_through`, with room of its own, which most looks needn't make.
+#[inline(never)]
+fn begin_anew(counts: &mut HeapCircularBuffer<u16>)
+    requires few { length counts.old.items ≤ 1029 }
+    requires room { 1029 ≤ counts.old.capacity }
+    ensures { counts.new ≡ counts.old }
+{
+    let mut spare = [0; 1029];
+    move_through(counts, &mut spare);
+}
+
+/// Takes all counts out and puts them back: they then begin where they ended before.
+fn move_through(counts: &mut HeapCircularBuffer<u16>, spare: &mut [u16])
+    requires few { length counts.old.items ≤ length spare.old }
+    requires room { length spare.old ≤ counts.old.capacity }
+    ensures { counts.new ≡ counts.old }
+{
+    let n = counts.read_into(spare);
+    counts.extend_from_slice(&spare[..n]);
 }
 
 /// Raises the greatest count where this one is above it. It stores nothing otherwise, so that a look needn't wait for
