@@ -1,5 +1,5 @@
 -- What a window's calls do to its rings, as a contract sees them.
-use Rattle.std.proofs.Common.{◌≡◌, ℕ, ◌+◌, ◌-◌, ◌<◌, ◌≤◌, min, max, List, [], ◌∷◌, ◌++◌, length, take, drop, replicate, slice_range, refl, sym, ap, ◌∙◌, get_or, arith, suc, zero, length-append, length-drop, ⊎_elim}
+use Rattle.std.proofs.Common.{◌≡◌, ℕ, ◌+◌, ◌-◌, ◌<◌, ◌≤◌, min, List, [], ◌∷◌, ◌++◌, length, take, drop, replicate, slice_range, refl, sym, ap, ◌∙◌, get_or, arith, suc, zero, length-append, length-drop, ⊎_elim}
 use Rattle.std.proofs.lemmas.Bool.{cases_lt}
 use Rattle.std.proofs.lemmas.List.{take-append-le, drop-append-le, append-nil, take_rest, take_all, drop_all, get_or_default, length-replicate}
 use Rattle.std.proofs.Math.Seq.{take-append-add, drop-append-add}
@@ -117,4 +117,3 @@ pub view_looked : (b xs ys : List ℕ) (e e' m m' start n : ℕ) (w : Held) → 
 view_looked b xs ys e e' m m' start n w v h l r y k i =
     let t : refill (length xs) xs ys ≡ ys = r ys l in
     rw (t, y, k, i) (sym (through_counts b xs e m start n h)) ∙ ap (λ (u : Held). looked_through u start n) v
-

@@ -9,6 +9,7 @@ mod framing;
 pub mod laws;
 mod looking;
 mod reader;
+mod tables;
 #[cfg(test)]
 mod tests;
 mod window;

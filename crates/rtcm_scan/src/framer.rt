@@ -180,15 +180,14 @@ impl Framer {
         ensures same { (self.new.limit ≡ self.old.limit) × (self.new.has_ended ≡ self.old.has_ended) }
     {
         if self.ended {
-            return Err(ScanFault::Ended);
+            Err(ScanFault::Ended)
+        } else if self.limit - self.taken() < bytes.len() as u64 {
+            Err(ScanFault::TooLong)
+        } else {
+            self.window.push_all(bytes);
+            self.drained = false;
+            Ok(())
         }
-        let taken = self.place + self.window.held() as u64;
-        if self.limit - taken < bytes.len() as u64 {
-            return Err(ScanFault::TooLong);
-        }
-        self.window.push_all(bytes);
-        self.drained = false;
-        Ok(())
     }
 
     /// Says that no byte follows: what bytes are missing never comes, and `next` decides all that is left.
@@ -216,9 +215,8 @@ impl Framer {
         ensures within { self.now.taken + result ≤ self.now.limit }
         ensures some { self.now.is_ready ≡ true → self.now.taken < self.now.limit → 0 < result }
     {
-        let held = self.window.held();
-        let allowed = self.limit - (self.place + held as u64);
-        (MOST_HELD - held).min(allowed.min(MOST_HELD as u64) as usize)
+        let allowed = (self.limit - self.taken()).min(MOST_HELD as u64);
+        (MOST_HELD - self.held()).min(allowed as usize)
     }
 
     /// How many bytes it has taken.

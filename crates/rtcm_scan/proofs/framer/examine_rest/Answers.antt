@@ -1,4 +1,4 @@
-use Rattle.std.proofs.Common.{◌≡◌, ◌∙◌, ap, refl, take, length, min}
+use Rattle.std.proofs.Common.{◌∙◌, ap, refl, take, min}
 use Rattle.rtcm_scan.proofs.CandidateLemmas.{taken_rest}
 use Rattle.rtcm_scan.proofs.framer.examine_rest.Goals as goal
 

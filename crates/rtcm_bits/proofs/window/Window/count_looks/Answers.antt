@@ -1,6 +1,6 @@
-use Rattle.std.proofs.Common.{◌≡◌, ◌≤◌, ◌∙◌, ap, length, arith, rules}
+use Rattle.std.proofs.Common.{◌∙◌, ap, rules}
 use Rattle.circular_buffer.specs.Buffer.{Buffer}
-use Rattle.rtcm_bits.specs.Window.{held_of, looked_through, counts_alone}
+use Rattle.rtcm_bits.specs.Window.{held_of}
 use Rattle.rtcm_bits.proofs.WindowLemmas.{view_looked}
 use Rattle.rtcm_bits.proofs.window.Window.count_looks.Goals as goal
 use Rattle.std.proofs.Common.{ℕ}

@@ -1,4 +1,4 @@
-use Rattle.std.proofs.Common.{◌≡◌, [], ◌∷◌, length, ap, sym, refl, arith}
+use Rattle.std.proofs.Common.{◌≡◌, [], ◌∷◌, length, ap, refl, arith}
 use Rattle.rtcm_bits.proofs.WindowLemmas.{in_step, one_byte}
 use Rattle.rtcm_bits.proofs.window.Window.push.Goals as goal
 

@@ -1,4 +1,4 @@
-use Rattle.std.proofs.Common.{List, ℕ, ◌≡◌, ◌+◌, ◌++◌, ◌≤◌, length, replicate, ap, ◌∙◌, arith}
+use Rattle.std.proofs.Common.{List, ℕ, ◌≡◌, ◌++◌, length, ap, ◌∙◌, arith}
 use Rattle.std.proofs.lemmas.List.{length-replicate}
 use Rattle.circular_buffer.specs.Buffer.{buffer, keep_last}
 use Rattle.rtcm_bits.specs.Window.{pushed_all}
