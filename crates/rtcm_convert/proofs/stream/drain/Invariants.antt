@@ -1,10 +1,10 @@
 use Rattle.std.proofs.Common.{◌≡◌, false, length}
 use Rattle.rtcm_convert.proofs.StreamLemmas.{Came}
 use Rattle.rtcm_convert.specs.Stream.{StandsForSome}
-use Rattle.rtcm_convert.proofs.stream.take_frames.Given as goal
+use Rattle.rtcm_convert.proofs.stream.drain.Given as goal
 
-abbrev pub invariant-loop-frame : goal.invariant-loop-frame
-invariant-loop-frame g l =
+abbrev pub invariant-loop-offset : goal.invariant-loop-offset
+invariant-loop-offset g l =
     let contents = g.W.Write.contents in
     record {
       came : Came l.fn.framer l.fn.filer l.framer l.filer (contents l.fn.writer.inner) (contents l.writer.inner);
@@ -17,5 +17,5 @@ invariant-loop-frame g l =
       ended : l.framer.has_ended ≡ l.fn.framer.has_ended;
     }
 
-abbrev pub decreases-loop-frame : goal.decreases-loop-frame
-decreases-loop-frame g l = length l.framer.held
+abbrev pub decreases-loop-offset : goal.decreases-loop-offset
+decreases-loop-offset g l = length l.framer.held
