@@ -104,4 +104,3 @@ some_drained v v' counts h = (h.0, h.1, (counts h.0 h.1 h.2).0)
 
 pub some_ended : (v v' : Scan) → ((bytes : List ℕ) (fs : List Framed) → HasExamined v bytes fs → HasExamined v' bytes fs) → StandsForSome v → StandsForSome v'
 some_ended v v' counts h = (h.0, h.1, counts h.0 h.1 h.2)
-
