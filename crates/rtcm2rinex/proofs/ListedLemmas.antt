@@ -1,6 +1,6 @@
 -- What listing does, step by step.
-use Rattle.std.proofs.Common.{◌≡◌, ℕ, ◌+◌, ◌-◌, ◌<◌, ◌≤◌, Bool, true, false, Option, List, [], ◌∷◌, ◌++◌, ◌∙◌, ap, sym, refl, rules, arith, length, take, drop, flat_map, append_assoc, append-nil, subst, take-append-drop, length-drop, take_all, length-append, zero-add, suc, slice_index, None, Some, Result, Ok, Err, OnOk, OnErr, inl, inr, ◌⊎◌}
-use Rattle.std.proofs.lemmas.List.{take_more}
+use Rattle.std.proofs.Common.{◌≡◌, ℕ, ◌+◌, ◌-◌, ◌<◌, ◌≤◌, Bool, true, false, Option, List, [], ◌∷◌, ◌++◌, ◌∙◌, ap, sym, refl, rules, arith, length, take, drop, flat_map, append_assoc, append-nil, subst, take-append-drop, length-drop, take_all, length-append, zero-add, suc, slice_range, None, Some, Result, Ok, Err, OnOk, OnErr, inl, inr, ◌⊎◌}
+use Rattle.std.proofs.Math.Seq.{take-add}
 use Rattle.std.specs.Io.KnownBytes.{Appends, Consumes, IsAtEnd}
 use Rattle.std.proofs.KnownBytes.{Appends-trans, Consumes-trans}
 use Rattle.rtcm_bits.specs.Device.{AppendsPrefix}
@@ -92,8 +92,10 @@ pub list_drained : (k : Listing) (w w1 : Option (List ℕ)) (page : List ℕ) (v
 list_drained k w w1 page v v2 b fs stands drained s =
     subst (λ (gs : List Framed). Lists (lines_of k) w w1 page v2 b gs) drained.frames (list_same k w w1 page v v2 b b fs stands s)
 
-pub take_next : (b piece : List ℕ) (n : ℕ) → n < length piece → (b ++ take n piece) ++ slice_index piece n ∷ [] ≡ b ++ take (n + 1) piece
-take_next b piece n h = append_assoc b (take n piece) (slice_index piece n ∷ []) ∙ ap (λ (l : List ℕ). b ++ l) (sym (take_more piece n 0 h))
+pub take_block : (b piece : List ℕ) (n m : ℕ) → (b ++ take n piece) ++ slice_range piece n (n + m) ≡ b ++ take (n + m) piece
+take_block b piece n m =
+    let size : n + m - n ≡ m = omega arith in
+    append_assoc b (take n piece) (slice_range piece n (n + m)) ∙ ap (λ (q : ℕ). b ++ (take n piece ++ take q (drop n piece))) size ∙ ap (λ (l : List ℕ). b ++ l) (sym (take-add n m piece))
 
 -- the lines of all that is known were written
 pub known_out : (k : Listing) (w w1 : Option (List ℕ)) (v : Scan) (b : List ℕ) → ListsKnown (lines_of k) w w1 [] v b → Appends w w1 (lines_of k (known_frames v.has_ended b))
@@ -179,14 +181,14 @@ pub on_err : {A E : Type 0} (r : Result A E) (P Q : Type 0) → (P → Q) → On
 on_err (Ok x) P Q f p = p
 on_err (Err e) P Q f p = f p
 
--- the framer took one byte more
-pub list_pushed : (k : Listing) (w w1 : Option (List ℕ)) (page : List ℕ) (v v2 : Scan) (b piece : List ℕ) (n : ℕ) → n < length piece
-    → ((a : List ℕ) (fs : List Framed) → StandsFor v a fs → StandsFor v2 (a ++ slice_index piece n ∷ []) fs) → ListsKnown (lines_of k) w w1 page v (b ++ take n piece)
-    → Lists (lines_of k) w w1 page v2 (b ++ take (n + 1) piece) (known_frames v.has_ended (b ++ take n piece))
-list_pushed k w w1 page v v2 b piece n more push s =
+-- the framer took the next m bytes of a piece
+pub list_pushed : (k : Listing) (w w1 : Option (List ℕ)) (page : List ℕ) (v v2 : Scan) (b piece : List ℕ) (n m : ℕ)
+    → ((a : List ℕ) (fs : List Framed) → StandsFor v a fs → StandsFor v2 (a ++ slice_range piece n (n + m)) fs) → ListsKnown (lines_of k) w w1 page v (b ++ take n piece)
+    → Lists (lines_of k) w w1 page v2 (b ++ take (n + m) piece) (known_frames v.has_ended (b ++ take n piece))
+list_pushed k w w1 page v v2 b piece n m push s =
     let fs : List Framed = known_frames v.has_ended (b ++ take n piece) in
-    let stands : StandsFor v2 (b ++ take (n + 1) piece) fs = subst (λ (l : List ℕ). StandsFor v2 l fs) (take_next b piece n more) (push (b ++ take n piece) fs s.framer) in
-    list_same k w w1 page v v2 (b ++ take n piece) (b ++ take (n + 1) piece) fs stands s
+    let stands : StandsFor v2 (b ++ take (n + m) piece) fs = subst (λ (l : List ℕ). StandsFor v2 l fs) (take_block b piece n m) (push (b ++ take n piece) fs s.framer) in
+    list_same k w w1 page v v2 (b ++ take n piece) (b ++ take (n + m) piece) fs stands s
 
 -- all was read
 pub listed_all : (k : Listing) (r r1 w w1 : Option (List ℕ)) (v : Scan) → v.has_ended ≡ true → IsAtEnd r1 → IsListed (lines_of k) r r1 w w1 v → ListsAll (lines_of k) r r1 w w1

@@ -19,6 +19,7 @@ use crate::fault::ToolFault;
 use crate::frames::frame_line;
 use crate::page::Page;
 use crate::show::message_line;
+use arrayvec::ArrayVec;
 use rtcm_bits::{Counted, DeviceFailed};
 use rtcm_scan::{Frame, Framer, MOST_BYTES, ScanFault, laws};
 use std::alloc::Global;
@@ -240,19 +241,24 @@ fn take_piece<W: Write>(
     if let Err(failed) = list_decided(listing, framer, page, writer) {
         return Err(failed);
     }
-    for byte in piece {
-        if let Err(fault) = framer.push(*byte) {
+    let mut taken = 0;
+    while taken < piece.len() {
+        let next = taken + framer.room().min(piece.len() - taken);
+        if next == taken {
+            return Ok(Some(ScanFault::TooLong));
+        }
+        if let Err(fault) = framer.push_all(&piece[taken..next]) {
             return Ok(Some(fault));
         }
         if let Err(failed) = list_decided(listing, framer, page, writer) {
             return Err(failed);
         }
+        taken = next;
     }
     Ok(None)
 }
 
-/// Puts the lines of the frames that are decided on the page. It runs once for each byte, and so makes room for a frame
-/// only where one stands.
+/// Puts the lines of the frames that are decided on the page, one after the other.
 fn list_decided<W: Write>(
     listing: Listing,
     framer: &mut Framer,
@@ -270,34 +276,12 @@ fn list_decided<W: Write>(
     ensures taken { framer.new.taken ≡ framer.old.taken }
     ensures ended { framer.new.has_ended ≡ framer.old.has_ended }
 {
-    if framer.settle() {
-        list_standing(listing, framer, page, writer)
-    } else {
-        Ok(())
-    }
-}
-
-/// Puts the lines of the frames that stand on the page, one after the other.
-// Its frame is to be no local of its caller, which runs once for each byte.
-#[inline(never)]
-fn list_standing<W: Write>(
-    listing: Listing,
-    framer: &mut Framer,
-    page: &mut Page,
-    writer: &mut Counted<W>,
-) -> Result<(), DeviceFailed>
-    ensures listed { OnOk result ((w : Option (List ℕ)) (b : List ℕ) (fs : List Framed) → Lists (lines_of listing) w (W.contents writer.old.inner) page.old framer.old b fs
-        → ListsKnown (lines_of listing) w (W.contents writer.new.inner) page.new framer.new b) }
-    ensures part { OnErr result ((w : Option (List ℕ)) (b : List ℕ) (fs : List Framed) → Lists (lines_of listing) w (W.contents writer.old.inner) page.old framer.old b fs
-        → AppendsPrefix w (W.contents writer.new.inner) (lines_of listing (known_frames framer.old.has_ended b))) }
-    ensures failed { OnErr result (HasFailed writer.old.failures writer.new.failures) }
-    ensures fine { OnOk result (writer.new.failures ≡ writer.old.failures) }
-    ensures ready { OnOk result (framer.new.is_ready ≡ true) }
-    ensures limit { framer.new.limit ≡ framer.old.limit }
-    ensures taken { framer.new.taken ≡ framer.old.taken }
-    ensures ended { framer.new.has_ended ≡ framer.old.has_ended }
-{
-    while let Some(frame) = framer.next() {
+    let mut frame = Frame {
+        offset: 0,
+        message: ArrayVec::new(),
+    };
+    while let Some(offset) = framer.next_into(&mut frame.message) {
+        frame.offset = offset;
         match add_line(listing, &frame, page, writer) {
             Ok(()) => {}
             Err(failed) => return Err(failed),

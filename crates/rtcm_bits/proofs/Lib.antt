@@ -7,6 +7,7 @@ pub mod CheckLemmas
 pub mod RegisterLemmas
 pub mod ResidueLemmas
 pub mod TableLemmas
+pub mod EightLemmas
 pub mod WindowLemmas
 pub mod DeviceLemmas
 pub mod Examples

@@ -1,11 +1,11 @@
 -- The register as a number.
-use Rattle.std.proofs.Common.{◌≡◌, ℕ, ◌^◌, ◌<◌, List, [], ◌∷◌, ◌++◌, length, refl, sym, ap, ◌∙◌}
+use Rattle.std.proofs.Common.{◌≡◌, ℕ, ◌^◌, ◌<◌, Bool, List, [], ◌∷◌, ◌++◌, length, refl, sym, ap, ◌∙◌}
 use Rattle.rtcm_bits.specs.Bits.{uint, number, number_from, bits_of}
 use Rattle.rtcm_bits.specs.Check.{check, bits_remainder}
 use Rattle.rtcm_bits.specs.Register.{after_bits}
-use Rattle.rtcm_bits.proofs.BitLemmas.{uint-number, number-fits, bits_of-push}
+use Rattle.rtcm_bits.proofs.BitLemmas.{uint-number, number-fits, bits_of-push, bits_of-append}
 use Rattle.rtcm_bits.proofs.RegisterBits.{number_of-uint}
-use Rattle.rtcm_bits.proofs.CheckLemmas.{remainder-append, length-bits_remainder}
+use Rattle.rtcm_bits.proofs.CheckLemmas.{after_bits-append, remainder-append, length-bits_remainder}
 
 -- the bits of a check are the remainder
 pub check_is : (m : List ℕ) → uint 24 (check m) ≡ bits_remainder (bits_of m)
@@ -31,3 +31,26 @@ check_push m x y b e h f =
 pub check_nil : 0 ≡ check []
 unfolding check bits_remainder Rattle.rtcm_bits.specs.Check.remainder number_from bits_of
 check_nil = refl
+
+-- more bytes, one after the other
+pub steps_push : (r : List Bool) (bytes more : List ℕ) (x y b : ℕ) → more ≡ bytes ++ b ∷ [] → uint 24 x ≡ after_bits r (bits_of bytes) → uint 24 y ≡ after_bits (uint 24 x) (uint 8 b)
+    → uint 24 y ≡ after_bits r (bits_of more)
+steps_push r bytes more x y b m e f =
+    f ∙ ap (λ t. after_bits t (uint 8 b)) e ∙ sym (after_bits-append r (bits_of bytes) (uint 8 b)) ∙ ap (after_bits r) (sym (bits_of-push bytes b) ∙ ap bits_of (sym m))
+
+pub steps_more : (r : List Bool) (bytes more all : List ℕ) (x y : ℕ) → all ≡ bytes ++ more → uint 24 x ≡ after_bits r (bits_of bytes) → uint 24 y ≡ after_bits (uint 24 x) (bits_of more)
+    → uint 24 y ≡ after_bits r (bits_of all)
+steps_more r bytes more all x y m e f =
+    f ∙ ap (λ t. after_bits t (bits_of more)) e ∙ sym (after_bits-append r (bits_of bytes) (bits_of more)) ∙ ap (after_bits r) (sym (bits_of-append bytes more) ∙ ap bits_of (sym m))
+
+-- many bytes more
+pub check_append : (m bytes : List ℕ) (x y : ℕ) → x ≡ check m → y < 2 ^ 24 → uint 24 y ≡ after_bits (uint 24 x) (bits_of bytes) → y ≡ check (m ++ bytes)
+check_append m bytes x y e h f =
+    let g : uint 24 x ≡ bits_remainder (bits_of m) = ap (uint 24) e ∙ check_is m in
+    let k : bits_of (m ++ bytes) ≡ bits_of m ++ bits_of bytes = bits_of-append m bytes in
+    let s : uint 24 y ≡ uint 24 (check (m ++ bytes)) = f ∙ ap (λ r. after_bits r (bits_of bytes)) g ∙ sym (remainder-append (bits_of m) (bits_of bytes)) ∙ sym (ap bits_remainder k) ∙ sym (check_is (m ++ bytes)) in
+    sym (number_of-uint 24 y h) ∙ ap number s ∙ number_of-uint 24 (check (m ++ bytes)) (check_below (m ++ bytes))
+
+pub no_steps : (r : List Bool) → r ≡ after_bits r (bits_of [])
+unfolding bits_of after_bits
+no_steps r = refl

@@ -8,16 +8,16 @@ use Rattle.std.proofs.lemmas.Nat.{div-add-mod'}
 use Rattle.rtcm_bits.specs.Bits.{uint, number_from, bits_of}
 use Rattle.rtcm_bits.specs.Check.{plus, add_front, generator, remainder, bits_remainder, check}
 use Rattle.rtcm_bits.specs.Register.{after_bits}
-use Rattle.rtcm_bits.specs.declared.check.TheConstants.{TABLE}
+use Rattle.rtcm_bits.specs.declared.tables.TheConstants.{TABLES}
 use Rattle.rtcm_bits.proofs.BitLemmas.{length-uint}
 use Rattle.rtcm_bits.proofs.RegisterBits.{uint-xor, uint-split}
 use Rattle.rtcm_bits.proofs.CheckLemmas.{divide_all, remainder_is, length-add_front, add_front_to_zeros, zeros_to_front, add_front_assoc, length-generator}
 use Rattle.rtcm_bits.proofs.ResidueLemmas.{add_front-append, add_front-same}
 use Rattle.rtcm_bits.proofs.RegisterLemmas.{check_is, check_below}
 
-pub table_right : (i : ℕ) → i < 256 → get_or TABLE i 0 ≡ check (i ∷ [])
+pub table_right : (i : ℕ) → i < 256 → get_or TABLES i 0 ≡ check (i ∷ [])
 unfolding check bits_remainder remainder add_front generator uint number_from bits_of
-table_right i h = eqb-true (get_or TABLE i 0) (check (i ∷ [])) (agree_below_at (λ k. eqb (get_or TABLE k 0) (check (k ∷ []))) (λ k. true) 256 i refl h)
+table_right i h = eqb-true (get_or TABLES i 0) (check (i ∷ [])) (agree_below_at (λ k. eqb (get_or TABLES k 0) (check (k ∷ []))) (λ k. true) 256 i refl h)
 
 plus_comm : (a b : Bool) → plus a b ≡ plus b a
 plus_comm true true = refl
@@ -43,7 +43,7 @@ step_second : (g p q : List Bool) → length p ≡ length q → length g ≤ len
 step_second g p q h k =
     add_front_comm p (add_front g q) (h ∙ sym (length-add_front g q)) ∙ sym (add_front_assoc g q p (omega (arith, h, k))) ∙ ap (add_front g) (add_front_comm q p (sym h))
 
-remainder_sum : (n : ℕ) (p q : List Bool) → length p ≡ length q → n + 24 ≤ length p → remainder n (add_front p q) ≡ add_front (remainder n p) (remainder n q)
+pub remainder_sum : (n : ℕ) (p q : List Bool) → length p ≡ length q → n + 24 ≤ length p → remainder n (add_front p q) ≡ add_front (remainder n p) (remainder n q)
 unfolding remainder add_front
 remainder_sum zero p q h k = refl
 remainder_sum (suc n) [] q h k = absurd (omega arith)
@@ -75,7 +75,7 @@ unfolding remainder
 remainder_zeros zero q = refl
 remainder_zeros (suc n) q = remainder_zeros n q
 
-add_split : (a b x y : List Bool) → length a ≡ length b → add_front (a ++ x) (b ++ y) ≡ add_front a b ++ add_front x y
+pub add_split : (a b x y : List Bool) → length a ≡ length b → add_front (a ++ x) (b ++ y) ≡ add_front a b ++ add_front x y
 unfolding add_front
 add_split [] [] x y h = refl
 add_split [] (d ∷ b) x y h = absurd (omega arith)

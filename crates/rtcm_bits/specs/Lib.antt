@@ -4,5 +4,4 @@ pub mod Check
 pub mod Register
 pub mod FrameOf
 pub mod Window
-pub mod Places
 pub mod Device

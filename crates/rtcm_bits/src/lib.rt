@@ -7,7 +7,9 @@ mod counted;
 pub mod devices;
 mod framing;
 pub mod laws;
+mod looking;
 mod reader;
+mod tables;
 #[cfg(test)]
 mod tests;
 mod window;

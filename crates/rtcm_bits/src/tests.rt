@@ -38,6 +38,33 @@ fn window_counts_looks(rt: HostRuntime) -> Result<(), Fail> {
 }
 
 #[test]
+fn ranges_of_a_window(rt: HostRuntime) -> Result<(), Fail> {
+    let mut window = Window::new(rt.alloc())?;
+    // The bytes wrap round in their room now and then.
+    for round in 0..100 {
+        assert_eq!(rt; window.held(), 0, "{round}");
+        window.push_all(&STATION_FRAME);
+        assert_eq!(rt; window.held(), 25, "{round}");
+        let mut register = CheckRegister::new();
+        window.check_range(0, 22, &mut register);
+        assert_eq!(rt; register.value(), 0x36_0B98, "{round}");
+        assert_eq!(rt; window.held(), 25, "{round}");
+        assert_eq!(rt; window.looks(21), 1, "{round}");
+        assert_eq!(rt; window.held(), 25, "{round}");
+        assert_eq!(rt; window.looks(22), 0, "{round}");
+        let mut bytes = ArrayVec::<u8, 1023>::new();
+        assert_eq!(rt; window.held(), 25, "{round}");
+        window.hand_over(3, 19, &mut bytes);
+        assert_eq!(rt; bytes.as_slice(), &STATION_FRAME[3..22], "{round}");
+        assert_eq!(rt; window.held(), 25, "{round}");
+        window.drop_front(25);
+    }
+    assert_eq!(rt; window.examined(), 4_100);
+    assert_eq!(rt; window.most(), 2);
+    Ok(())
+}
+
+#[test]
 fn check_of_a_frame(rt: HostRuntime) {
     assert_eq!(rt; crc24q(&STATION_FRAME[..22]), 0x36_0B98);
     assert_eq!(rt; crc24q(&STATION_FRAME), 0);
@@ -46,6 +73,12 @@ fn check_of_a_frame(rt: HostRuntime) {
         register.take(byte);
     }
     assert_eq!(rt; register.value(), 0x47_EA4B);
+    for cut in 0..=22 {
+        let mut register = CheckRegister::new();
+        register.take_all(&STATION_FRAME[..cut]);
+        register.take_all(&STATION_FRAME[cut..22]);
+        assert_eq!(rt; register.value(), 0x36_0B98, "cut at {cut}");
+    }
 }
 
 #[test]

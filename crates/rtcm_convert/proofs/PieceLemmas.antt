@@ -1,7 +1,7 @@
--- A piece that is taken byte by byte.
-use Rattle.std.proofs.Common.{◌≡◌, ℕ, ◌+◌, ◌<◌, ◌≤◌, List, [], ◌∷◌, ◌++◌, sym, ap, subst, ◌∙◌, arith, Option, length, take, drop, get_or, append_assoc, take-append-drop}
-use Rattle.std.proofs.lemmas.List.{take_more}
-use Rattle.std.proofs.Math.Seq.{take-append_seam, take-length}
+-- A piece that is taken block by block.
+use Rattle.std.proofs.Common.{◌≡◌, ℕ, ◌+◌, ◌-◌, ◌<◌, ◌≤◌, List, ◌++◌, sym, ap, subst, ◌∙◌, arith, Option, length, take, drop, slice_range, append_assoc, take-append-drop, ⊎_elim}
+use Rattle.std.proofs.lemmas.Bool.{cases_lt}
+use Rattle.std.proofs.Math.Seq.{take-add, take-append_seam, take-length}
 use Rattle.rtcm_scan.specs.Decided.{decided_frames}
 use Rattle.rtcm_scan.specs.Known.{IsPrefix}
 use Rattle.rtcm_scan.specs.Scan.{Scan}
@@ -11,8 +11,10 @@ use Rattle.rtcm_convert.specs.Stream.{Drained, Extends, Breaks}
 use Rattle.rtcm_convert.specs.declared.filer.Filer.{Filer}
 use Rattle.rtcm_convert.proofs.PartLemmas.{goes_on-trans, breaks_off-after, breaks_off-before}
 
-piece_more : (b p : List ℕ) (i : ℕ) → i < length p → (b ++ take i p) ++ get_or p i 0 ∷ [] ≡ b ++ take (i + 1) p
-piece_more b p i lt = append_assoc b (take i p) (get_or p i 0 ∷ []) ∙ ap (λ l. b ++ l) (sym (take_more p i 0 lt))
+piece_more : (b p : List ℕ) (i m : ℕ) → (b ++ take i p) ++ slice_range p i (i + m) ≡ b ++ take (i + m) p
+piece_more b p i m =
+    let size : i + m - i ≡ m = omega arith in
+    append_assoc b (take i p) (slice_range p i (i + m)) ∙ ap (λ (n : ℕ). b ++ (take i p ++ take n (drop i p))) size ∙ ap (λ (l : List ℕ). b ++ l) (sym (take-add i m p))
 
 piece_rest : (b p : List ℕ) (i : ℕ) → (b ++ take i p) ++ drop i p ≡ b ++ p
 piece_rest b p i = append_assoc b (take i p) (drop i p) ∙ ap (λ l. b ++ l) (take-append-drop i p)
@@ -21,23 +23,23 @@ piece_rest b p i = append_assoc b (take i p) (drop i p) ∙ ap (λ l. b ++ l) (t
 abbrev pub Fed : Scan → Filer → Scan → Filer → Option (List ℕ) → Option (List ℕ) → List ℕ → Type 0
 Fed v w v' w' a b front = (s : Settings) (bytes : List ℕ) → Drained v w s bytes → Drained v' w' s (bytes ++ front) × Extends a b s bytes (bytes ++ front)
 
-pub fed_more : (v0 v v' : Scan) (w0 w w' : Filer) (a b c : Option (List ℕ)) (p : List ℕ) (i : ℕ) → Fed v0 w0 v w a b (take i p) → i < length p
-    → Fed v w v' w' b c (get_or p i 0 ∷ []) → Fed v0 w0 v' w' a c (take (i + 1) p)
-fed_more v0 v v' w0 w w' a b c p i first lt next s bytes d =
+pub fed_more : (v0 v v' : Scan) (w0 w w' : Filer) (a b c : Option (List ℕ)) (p : List ℕ) (i m : ℕ) → Fed v0 w0 v w a b (take i p)
+    → Fed v w v' w' b c (slice_range p i (i + m)) → Fed v0 w0 v' w' a c (take (i + m) p)
+fed_more v0 v v' w0 w w' a b c p i m first next s bytes d =
     let x = first s bytes d in
     let y = next s (bytes ++ take i p) x.0 in
-    let e = piece_more bytes p i lt in
+    let e = piece_more bytes p i m in
     (subst (λ (l : List ℕ). Drained v' w' s l) e y.0, subst (λ (l : List ℕ). Extends a c s bytes l) e (goes_on-trans a b c _ _ _ x.1 y.1))
 
-pub fed_part : WrittenGrows → (v0 v : Scan) (w0 w : Filer) (a b c : Option (List ℕ)) (p : List ℕ) (i : ℕ) → Fed v0 w0 v w a b (take i p) → i < length p
-    → ((s : Settings) (bytes : List ℕ) → Drained v w s bytes → Breaks b c s bytes (bytes ++ get_or p i 0 ∷ []))
+pub fed_part : WrittenGrows → (v0 v : Scan) (w0 w : Filer) (a b c : Option (List ℕ)) (p : List ℕ) (i m : ℕ) → Fed v0 w0 v w a b (take i p)
+    → ((s : Settings) (bytes : List ℕ) → Drained v w s bytes → Breaks b c s bytes (bytes ++ slice_range p i (i + m)))
     → (s : Settings) (bytes : List ℕ) → Drained v0 w0 s bytes → Breaks a c s bytes (bytes ++ p)
-fed_part grows v0 v w0 w a b c p i first lt next s bytes d =
+fed_part grows v0 v w0 w a b c p i m first next s bytes d =
     let x = first s bytes d in
     let y = next s (bytes ++ take i p) x.0 in
-    let z : Breaks a c s bytes (bytes ++ take (i + 1) p) = subst (λ (l : List ℕ). Breaks a c s bytes l) (piece_more bytes p i lt) (breaks_off-after a b c _ _ _ x.1 y) in
+    let z : Breaks a c s bytes (bytes ++ take (i + m) p) = subst (λ (l : List ℕ). Breaks a c s bytes l) (piece_more bytes p i m) (breaks_off-after a b c _ _ _ x.1 y) in
     breaks_off-before a c _ _ _ z
-    (subst (λ (l : List ℕ). IsPrefix (so_far s (decided_frames (bytes ++ take (i + 1) p))) (so_far s (decided_frames l))) (piece_rest bytes p (i + 1)) (grows s _ (drop (i + 1) p)))
+    (subst (λ (l : List ℕ). IsPrefix (so_far s (decided_frames (bytes ++ take (i + m) p))) (so_far s (decided_frames l))) (piece_rest bytes p (i + m)) (grows s _ (drop (i + m) p)))
 
 pub fed_long : (v0 v : Scan) (w0 w : Filer) (a b c : Option (List ℕ)) (p : List ℕ) (i n : ℕ) → Fed v0 w0 v w a b (take i p) → v.taken ≡ n → c ≡ b
     → (s : Settings) (bytes : List ℕ) → Drained v0 w0 s bytes → Extends a c s bytes (take n (bytes ++ p))
@@ -54,3 +56,8 @@ fed_whole v0 v w0 w a b p i first le ge s bytes d =
     let all : bytes ++ take i p ≡ bytes ++ p = ap (λ l. bytes ++ l) (ap (λ k. take k p) e ∙ take-length p) in
     let x = first s bytes d in
     (subst (λ (l : List ℕ). Drained v w s l) all x.0, subst (λ (l : List ℕ). Extends a b s bytes l) all x.1)
+
+-- where there is no room, the limit is reached
+pub at_limit : (taken limit room : ℕ) → (taken < limit → 0 < room) → room ≡ 0 → taken + room ≤ limit → taken ≡ limit
+at_limit taken limit room some none within =
+    ⊎_elim (λ (h : taken < limit). absurd (let k : 0 < room = some h in omega (arith, k, none))) (λ (h : limit ≤ taken). omega (arith, h, none, within)) (cases_lt taken limit)

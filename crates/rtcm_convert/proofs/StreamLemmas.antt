@@ -1,6 +1,5 @@
 -- A framer and a filer that go on together.
-use Rattle.std.proofs.Common.{◌≡◌, ℕ, List, [], ◌∷◌, ◌++◌, Bool, false, sym, ap, subst, ◌∙◌, Option, Result, OnOk, OnErr}
-use Rattle.std.proofs.lemmas.Result.{on_ok_weaker, on_err_weaker}
+use Rattle.std.proofs.Common.{◌≡◌, ℕ, List, [], ◌∷◌, ◌++◌, Bool, false, sym, ap, subst, ◌∙◌, Option}
 use Rattle.rtcm_scan.specs.Frames.{Framed}
 use Rattle.rtcm_scan.specs.Decided.{decided_frames}
 use Rattle.rtcm_scan.specs.Known.{IsPrefix, known_frames}
@@ -68,8 +67,8 @@ came_end v0 v v' w0 w a b came none counts same s bytes fs x y =
       subst (λ (l : List Framed). GoesOn a b (so_far s fs) (so_far s l)) (e ∙ ap (λ h. known_frames h bytes) same) p.3,
     )
 
-abbrev pub Pushes : Scan → Scan → ℕ → Type 0
-Pushes v v' x = (b : List ℕ) (fs : List Framed) → HasExamined v b fs → HasExamined v' (b ++ x ∷ []) fs
+abbrev pub Pushes : Scan → Scan → List ℕ → Type 0
+Pushes v v' x = (b : List ℕ) (fs : List Framed) → HasExamined v b fs → HasExamined v' (b ++ x) fs
 
 abbrev pub Drains : Scan → Filer → Scan → Filer → Option (List ℕ) → Option (List ℕ) → Type 0
 Drains v w v' w' a b = (s : Settings) (bytes : List ℕ) (fs : List Framed) → HasExamined v bytes fs → Files w s fs
@@ -79,23 +78,23 @@ abbrev pub DrainsPart : Scan → Filer → Option (List ℕ) → Option (List �
 DrainsPart v w a b = (s : Settings) (bytes : List ℕ) (fs : List Framed) → HasExamined v bytes fs → Files w s fs
     → BreaksOff a b (so_far s fs) (so_far s (known_frames v.has_ended bytes))
 
-pub byte_whole : (v0 v1 v2 : Scan) (w0 w2 : Filer) (x : ℕ) (a b : Option (List ℕ)) → v0.has_ended ≡ false → v1.has_ended ≡ false → Pushes v0 v1 x → Drains v1 w0 v2 w2 a b
-    → (s : Settings) (bytes : List ℕ) → Drained v0 w0 s bytes → Drained v2 w2 s (bytes ++ x ∷ []) × Extends a b s bytes (bytes ++ x ∷ [])
-byte_whole v0 v1 v2 w0 w2 x a b h0 h1 push drain s bytes d =
-    let p = drain s (bytes ++ x ∷ []) (known_frames v0.has_ended bytes) (push bytes _ d.framer) d.filer in
-    let q = subst (λ (e : Bool). GoesOn a b (so_far s (known_frames e bytes)) (so_far s (known_frames v1.has_ended (bytes ++ x ∷ [])))) h0 p.1 in
-    (p.0, subst (λ (e : Bool). GoesOn a b (so_far s (decided_frames bytes)) (so_far s (known_frames e (bytes ++ x ∷ [])))) h1 q)
+pub block_whole : (v0 v1 v2 : Scan) (w0 w2 : Filer) (x : List ℕ) (a b : Option (List ℕ)) → v0.has_ended ≡ false → v1.has_ended ≡ false → Pushes v0 v1 x → Drains v1 w0 v2 w2 a b
+    → (s : Settings) (bytes : List ℕ) → Drained v0 w0 s bytes → Drained v2 w2 s (bytes ++ x) × Extends a b s bytes (bytes ++ x)
+block_whole v0 v1 v2 w0 w2 x a b h0 h1 push drain s bytes d =
+    let p = drain s (bytes ++ x) (known_frames v0.has_ended bytes) (push bytes _ d.framer) d.filer in
+    let q = subst (λ (e : Bool). GoesOn a b (so_far s (known_frames e bytes)) (so_far s (known_frames v1.has_ended (bytes ++ x)))) h0 p.1 in
+    (p.0, subst (λ (e : Bool). GoesOn a b (so_far s (decided_frames bytes)) (so_far s (known_frames e (bytes ++ x)))) h1 q)
 
-pub byte_part : (v0 v1 : Scan) (w0 : Filer) (x : ℕ) (a b : Option (List ℕ)) → v0.has_ended ≡ false → v1.has_ended ≡ false → Pushes v0 v1 x → DrainsPart v1 w0 a b
-    → (s : Settings) (bytes : List ℕ) → Drained v0 w0 s bytes → Breaks a b s bytes (bytes ++ x ∷ [])
-byte_part v0 v1 w0 x a b h0 h1 push drain s bytes d =
-    let p = drain s (bytes ++ x ∷ []) (known_frames v0.has_ended bytes) (push bytes _ d.framer) d.filer in
-    let q = subst (λ (e : Bool). BreaksOff a b (so_far s (known_frames e bytes)) (so_far s (known_frames v1.has_ended (bytes ++ x ∷ [])))) h0 p in
-    subst (λ (e : Bool). BreaksOff a b (so_far s (decided_frames bytes)) (so_far s (known_frames e (bytes ++ x ∷ [])))) h1 q
+pub block_part : (v0 v1 : Scan) (w0 : Filer) (x : List ℕ) (a b : Option (List ℕ)) → v0.has_ended ≡ false → v1.has_ended ≡ false → Pushes v0 v1 x → DrainsPart v1 w0 a b
+    → (s : Settings) (bytes : List ℕ) → Drained v0 w0 s bytes → Breaks a b s bytes (bytes ++ x)
+block_part v0 v1 w0 x a b h0 h1 push drain s bytes d =
+    let p = drain s (bytes ++ x) (known_frames v0.has_ended bytes) (push bytes _ d.framer) d.filer in
+    let q = subst (λ (e : Bool). BreaksOff a b (so_far s (known_frames e bytes)) (so_far s (known_frames v1.has_ended (bytes ++ x)))) h0 p in
+    subst (λ (e : Bool). BreaksOff a b (so_far s (decided_frames bytes)) (so_far s (known_frames e (bytes ++ x)))) h1 q
 
--- the framer stands for some bytes still: after a byte, after a frame, when all was decided, and at the end
-pub some_pushed : (v v' : Scan) (x : ℕ) → Pushes v v' x → StandsForSome v → StandsForSome v'
-some_pushed v v' x push h = (h.0 ++ x ∷ [], h.1, push h.0 h.1 h.2)
+-- the framer stands for some bytes still: after some bytes, after a frame, when all was decided, and at the end
+pub some_pushed : (v v' : Scan) (x : List ℕ) → Pushes v v' x → StandsForSome v → StandsForSome v'
+some_pushed v v' x push h = (h.0 ++ x, h.1, push h.0 h.1 h.2)
 
 pub some_handed : (v v' : Scan) (f : Framed) → Hands v v' f → StandsForSome v → StandsForSome v'
 some_handed v v' f hands h = (h.0, h.1 ++ f ∷ [], (hands h.0 h.1 h.2).0)
@@ -105,25 +104,3 @@ some_drained v v' counts h = (h.0, h.1, (counts h.0 h.1 h.2).0)
 
 pub some_ended : (v v' : Scan) → ((bytes : List ℕ) (fs : List Framed) → HasExamined v bytes fs → HasExamined v' bytes fs) → StandsForSome v → StandsForSome v'
 some_ended v v' counts h = (h.0, h.1, counts h.0 h.1 h.2)
-
--- a framer that was asked whether a frame stands, where none does
-abbrev Holds : Scan → Scan → Type 0
-Holds v v' = (bytes : List ℕ) (fs : List Framed) → HasExamined v bytes fs → HasExamined v' bytes fs
-
-pub settled_whole : (v v' : Scan) (w : Filer) (a : Option (List ℕ)) → ((bytes : List ℕ) (fs : List Framed) → StandsFor v bytes fs → StandsFor v' bytes fs) → Holds v v'
-    → ((bytes : List ℕ) (fs : List Framed) → StandsFor v bytes fs → IsDrained v' bytes fs) → ((bytes : List ℕ) (fs : List Framed) → HasExamined v bytes fs → IsCounted v' bytes)
-    → v'.has_ended ≡ v.has_ended → Drains v w v' w a a
-settled_whole v v' w a stands counts none none_counts same =
-    came_end v v v' w w a a (came_start v w a) (λ bytes fs x. (stands bytes fs x, none bytes fs x)) (λ bytes fs x. (counts bytes fs x, none_counts bytes fs x)) same
-
--- and where one does
-pub settled_drain : {T E : Type 0} (v v1 v2 : Scan) (w w2 : Filer) (a b : Option (List ℕ)) (result : Result T E) → Holds v v1 → v1.has_ended ≡ v.has_ended
-    → OnOk result (Drains v1 w v2 w2 a b) → OnOk result (Drains v w v2 w2 a b)
-settled_drain v v1 v2 w w2 a b result holds same d = on_ok_weaker result (λ (f : Drains v1 w v2 w2 a b) s bytes fs x y.
-    let p = f s bytes fs (holds bytes fs x) y in
-    (p.0, subst (λ (e : Bool). GoesOn a b (so_far s fs) (so_far s (known_frames e bytes))) same p.1)) d
-
-pub settled_part : {T E : Type 0} (v v1 : Scan) (w : Filer) (a b : Option (List ℕ)) (result : Result T E) → Holds v v1 → v1.has_ended ≡ v.has_ended
-    → OnErr result (DrainsPart v1 w a b) → OnErr result (DrainsPart v w a b)
-settled_part v v1 w a b result holds same d = on_err_weaker result (λ (f : DrainsPart v1 w a b) s bytes fs x y.
-    subst (λ (e : Bool). BreaksOff a b (so_far s fs) (so_far s (known_frames e bytes))) same (f s bytes fs (holds bytes fs x) y)) d

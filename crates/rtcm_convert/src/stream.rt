@@ -15,37 +15,12 @@ ghost use Rattle.rtcm_convert.specs.Stream.{Drained, StandsForSome, Extends, Bre
 use crate::fault::Fault;
 use crate::filer::Filer;
 use crate::laws;
+use arrayvec::ArrayVec;
 use rtcm_bits::{Counted, DeviceFailed};
-use rtcm_scan::Framer;
+use rtcm_scan::{Frame, Framer};
 use std::io::Write;
 
 /// Takes frame after frame until no more are decided.
-fn take_frames<W: Write>(
-    framer: &mut Framer,
-    filer: &mut Filer,
-    writer: &mut Counted<W>,
-) -> Result<(), DeviceFailed>
-    requires { filer.old.gatherer.has_ended ≡ false }
-    ensures whole { OnOk result ((s : Settings) (b : List ℕ) (fs : List Framed) → HasExamined framer.old b fs → Files filer.old s fs → Drained framer.new filer.new s b
-        × GoesOn (W.contents writer.old.inner) (W.contents writer.new.inner) (so_far s fs) (so_far s (known_frames framer.old.has_ended b))) }
-    ensures part { OnErr result ((s : Settings) (b : List ℕ) (fs : List Framed) → HasExamined framer.old b fs → Files filer.old s fs
-        → BreaksOff (W.contents writer.old.inner) (W.contents writer.new.inner) (so_far s fs) (so_far s (known_frames framer.old.has_ended b))) }
-    ensures failed { OnErr result (HasFailed writer.old.failures writer.new.failures) }
-    ensures fine { OnOk result (writer.new.failures ≡ writer.old.failures) }
-    ensures widest { writer.new.widest ≡ writer.old.widest }
-    ensures ended { filer.new.gatherer.has_ended ≡ false }
-    ensures ready { OnOk result (framer.new.is_ready ≡ true) }
-    ensures examined { StandsForSome framer.old → StandsForSome framer.new }
-    ensures same { (framer.new.limit ≡ framer.old.limit) × (framer.new.taken ≡ framer.old.taken) × (framer.new.has_ended ≡ framer.old.has_ended) }
-{
-    laws::filed();
-    while let Some(frame) = framer.next() {
-        filer.take_frame(&frame, writer)?;
-    }
-    Ok(())
-}
-
-/// Takes all frames that are decided. Most bytes decide none: the room of a frame is made only where one stands.
 pub(crate) fn drain<W: Write>(
     framer: &mut Framer,
     filer: &mut Filer,
@@ -64,39 +39,46 @@ pub(crate) fn drain<W: Write>(
     ensures examined { StandsForSome framer.old → StandsForSome framer.new }
     ensures same { (framer.new.limit ≡ framer.old.limit) × (framer.new.taken ≡ framer.old.taken) × (framer.new.has_ended ≡ framer.old.has_ended) }
 {
-    if !framer.settle() {
-        return Ok(());
+    laws::filed();
+    let mut frame = Frame {
+        offset: 0,
+        message: ArrayVec::new(),
+    };
+    while let Some(offset) = framer.next_into(&mut frame.message) {
+        frame.offset = offset;
+        filer.take_frame(&frame, writer)?;
     }
-    take_frames(framer, filer, writer)
+    Ok(())
 }
 
-/// Takes one more byte.
-fn feed_byte<W: Write>(
+/// Takes the next bytes, for which there is room.
+fn feed_block<W: Write>(
     framer: &mut Framer,
     filer: &mut Filer,
-    byte: u8,
+    block: &[u8],
     writer: &mut Counted<W>,
 ) -> Result<(), Fault>
     requires ready { framer.old.is_ready ≡ true }
     requires going { filer.old.gatherer.has_ended ≡ false }
     requires listening { framer.old.has_ended ≡ false }
-    ensures whole { OnOk result ((s : Settings) (b : List ℕ) → Drained framer.old filer.old s b → Drained framer.new filer.new s (b ++ byte ∷ [])
-        × Extends (W.contents writer.old.inner) (W.contents writer.new.inner) s b (b ++ byte ∷ [])) }
-    ensures part { IsErrOf result Fault.Write → (s : Settings) (b : List ℕ) → Drained framer.old filer.old s b
-        → Breaks (W.contents writer.old.inner) (W.contents writer.new.inner) s b (b ++ byte ∷ []) }
-    ensures failed { IsErrOf result Fault.Write → HasFailed writer.old.failures writer.new.failures }
-    ensures long { IsErrOf result Fault.TooLong → (framer.old.taken ≡ framer.old.limit) × (writer.new ≡ writer.old) }
-    ensures only { IfErr result (λ fault. (fault ≡ Fault.TooLong) ⊎ (fault ≡ Fault.Write)) }
+    requires room { length framer.old.held + length block.now ≤ 1029 }
+    requires within { framer.old.taken + length block.now ≤ framer.old.limit }
+    ensures whole { OnOk result ((s : Settings) (b : List ℕ) → Drained framer.old filer.old s b → Drained framer.new filer.new s (b ++ block.now)
+        × Extends (W.contents writer.old.inner) (W.contents writer.new.inner) s b (b ++ block.now)) }
+    ensures part { OnErr result ((s : Settings) (b : List ℕ) → Drained framer.old filer.old s b
+        → Breaks (W.contents writer.old.inner) (W.contents writer.new.inner) s b (b ++ block.now)) }
+    ensures failed { OnErr result (HasFailed writer.old.failures writer.new.failures) }
+    ensures only { IfErr result (λ fault. fault ≡ Fault.Write) }
     ensures fine { OnOk result (writer.new.failures ≡ writer.old.failures) }
     ensures widest { writer.new.widest ≡ writer.old.widest }
     ensures going { filer.new.gatherer.has_ended ≡ false }
     ensures ready { OnOk result (framer.new.is_ready ≡ true) }
-    ensures taken { OnOk result (framer.new.taken ≡ framer.old.taken + 1) }
+    ensures taken { OnOk result (framer.new.taken ≡ framer.old.taken + length block.now) }
     ensures within { framer.new.taken ≤ framer.new.limit }
     ensures examined { StandsForSome framer.old → StandsForSome framer.new }
     ensures same { (framer.new.limit ≡ framer.old.limit) × (framer.new.has_ended ≡ false) }
 {
-    match framer.push(byte) {
+    match framer.push_all(block) {
         Err(_) => Err(Fault::TooLong),
         Ok(()) => match drain(framer, filer, writer) {
             Ok(()) => Ok(()),
@@ -135,10 +117,16 @@ pub(crate) fn feed_bytes<W: Write>(
     ensures same { (framer.new.limit ≡ framer.old.limit) × (framer.new.has_ended ≡ false) }
 {
     laws::prefix();
-    for byte in piece {
-        if let Err(fault) = feed_byte(framer, filer, *byte, writer) {
+    let mut taken = 0;
+    while taken < piece.len() {
+        let next = taken + framer.room().min(piece.len() - taken);
+        if next == taken {
+            return Err(Fault::TooLong);
+        }
+        if let Err(fault) = feed_block(framer, filer, &piece[taken..next], writer) {
             return Err(fault);
         }
+        taken = next;
     }
     Ok(())
 }

@@ -15,6 +15,7 @@ pub mod BoundLemmas
 pub mod CandidateLemmas
 pub mod JudgeLemmas
 pub mod StepLemmas
+pub mod PushLemmas
 pub mod KnownLemmas
 pub mod MomentLemmas
 pub mod LocalLemmas

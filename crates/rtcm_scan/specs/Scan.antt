@@ -1,5 +1,5 @@
 -- What a contract sees of a framer, and the streams that it stands for.
-use Rattle.std.specs.Prelude.{◌≡◌, ℕ, ◌+◌, ◌-◌, ◌<◌, ◌≤◌, Bool, false, List, [], ◌∷◌, length, drop}
+use Rattle.std.specs.Prelude.{◌≡◌, ℕ, ◌+◌, ◌-◌, ◌<◌, ◌≤◌, Bool, false, List, [], ◌∷◌, ◌++◌, length, drop, replicate}
 use Rattle.std.specs.List.{sum_by}
 use Rattle.rtcm_scan.specs.Frame.{begins_frame, is_open}
 use Rattle.rtcm_scan.specs.Frames.{Framed, IsFrameOf, end_of}
@@ -49,6 +49,10 @@ with_looks v w tried = record v { looks = w.looks; examined = w.examined; most =
 -- with another window, whose candidate was examined so far
 abbrev pub with_window : Scan → Held → ℕ → Scan
 with_window v w tried = record v { held = w.bytes; looks = w.looks; examined = w.examined; most = w.most; tried = tried }
+
+-- with these bytes more, which nothing has looked at
+abbrev pub with_bytes : Scan → List ℕ → Scan
+with_bytes v bytes = record v { taken = v.taken + length bytes; held = v.held ++ bytes; looks = v.looks ++ replicate (length bytes) 0; is_ready = false }
 
 -- the place of the first held byte
 abbrev pub first_held : Scan → ℕ

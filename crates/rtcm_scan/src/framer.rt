@@ -3,16 +3,16 @@
 //! The scan goes from the left: at the first undecided place either a whole frame with a right check stands, which is
 //! handed out and passed over, or none can, and the scan goes on one byte further, or bytes are missing, and it waits.
 //! So a frame inside a damaged frame is found. Each byte of a candidate is looked at once, however the stream is cut.
-ghost use Rattle.std.specs.Prelude.{◌≡◌, ◌+◌, ◌-◌, ◌*◌, ◌<◌, ◌≤◌, ◌^◌, ℕ, List, [], ◌∷◌, ◌++◌, min, length, slice_index, take, true, false, IsTrue, IfOk, OnOk, OnErr, IfSome, IfNone, OnSome, ◌↔◌};
+ghost use Rattle.std.specs.Prelude.{◌≡◌, ◌+◌, ◌-◌, ◌*◌, ◌<◌, ◌≤◌, ◌^◌, ◌⊎◌, ℕ, List, [], ◌∷◌, ◌++◌, min, length, slice_index, take, true, false, IsTrue, IfOk, OnOk, OnErr, IfErr, IfSome, IfNone, OnSome, ◌↔◌};
 ghost use Rattle.rtcm_scan.specs.Frame.{begins_frame, frame_length, message_of};
 ghost use Rattle.rtcm_scan.specs.Frames.{Framed};
-ghost use Rattle.rtcm_scan.specs.Scan.{StandsFor, first_held, window_of, with_window};
+ghost use Rattle.rtcm_scan.specs.Scan.{StandsFor, first_held, window_of, with_window, with_bytes};
 ghost use Rattle.rtcm_scan.specs.Candidate.{HasTaken, wanted_by};
 ghost use Rattle.rtcm_scan.specs.Examined.{HasExamined, IsCounted, IsCountedTo};
 ghost use Rattle.rtcm_scan.specs.Pending.{asked, with_candidate_examined};
 ghost use Rattle.rtcm_bits.specs.Window.{looked_through, without_front};
 ghost use Rattle.rtcm_scan.specs.Drained.{IsDrained};
-ghost use Rattle.rtcm_scan.specs.Answers.{framed, push_answer, decision, if_missing, new_scan};
+ghost use Rattle.rtcm_scan.specs.Answers.{framed, frame_at, push_answer, push_all_answer, decision, if_missing, new_scan};
 
 use crate::candidate::Candidate;
 use arrayvec::ArrayVec;
@@ -23,6 +23,9 @@ use thiserror::Error;
 
 /// The most bytes of a stream, 2^48.
 pub const MOST_BYTES: u64 = 1 << 48;
+
+/// The most bytes that a framer holds, those of the longest frame.
+const MOST_HELD: usize = 1029;
 
 /// Why a framer refused. A refused call changes nothing.
 #[derive(Clone, Copy, Debug, PartialEq, Eq, Error)]
@@ -106,6 +109,7 @@ impl Framer {
         ensures drained { IfOk result (λ f. IsDrained f [] []) }
         ensures counted { IfOk result (λ f. IsCounted f []) }
         ensures bad_limit { result ≡ Err ScanFault.BadLimit ↔ 2 ^ 48 < limit }
+        ensures only { IfErr result (λ fault. (fault ≡ ScanFault.BadLimit) ⊎ (fault ≡ ScanFault.Memory)) }
     {
         if limit > MOST_BYTES {
             return Err(ScanFault::BadLimit);
@@ -158,6 +162,34 @@ impl Framer {
         Ok(())
     }
 
+    /// Takes these bytes, and looks at none. Then `next` is due until it answers None.
+    ///
+    /// # Errors
+    ///
+    /// `Ended` after `end`, else `TooLong` where these bytes pass the limit; then none of them is taken.
+    pub fn push_all(&mut self, bytes: &[u8]) -> Result<(), ScanFault>
+        requires ready { IsTrue self.old.is_ready }
+        requires room { length self.old.held + length bytes.now ≤ 1029 }
+        ensures answer { result ≡ push_all_answer self.old (length bytes.now) }
+        ensures stands { OnOk result ((b : List ℕ) (fs : List Framed) → StandsFor self.old b fs → StandsFor self.new (b ++ bytes.now) fs) }
+        ensures counts { OnOk result ((b : List ℕ) (fs : List Framed) → HasExamined self.old b fs → HasExamined self.new (b ++ bytes.now) fs) }
+        ensures ok { OnOk result (self.new ≡ with_bytes self.old bytes.now) }
+        ensures long { OnErr result (self.old.has_ended ≡ false → self.old.limit < self.old.taken + length bytes.now) }
+        ensures err { OnErr result (self.new ≡ self.old) }
+        ensures within { self.new.taken ≤ self.new.limit }
+        ensures same { (self.new.limit ≡ self.old.limit) × (self.new.has_ended ≡ self.old.has_ended) }
+    {
+        if self.ended {
+            Err(ScanFault::Ended)
+        } else if self.limit - self.taken() < bytes.len() as u64 {
+            Err(ScanFault::TooLong)
+        } else {
+            self.window.push_all(bytes);
+            self.drained = false;
+            Ok(())
+        }
+    }
+
     /// Says that no byte follows: what bytes are missing never comes, and `next` decides all that is left.
     pub fn end(&mut self)
         ensures ended { self.new ≡ record self.old { has_ended = true } }
@@ -174,6 +206,17 @@ impl Framer {
         ensures decided { self.now.is_ready ≡ true → result ≤ 1028 }
     {
         self.window.held()
+    }
+
+    /// How many bytes may be pushed at once: as many as there is room for, and as the limit allows.
+    pub fn room(&self) -> usize
+        ensures value { result ≡ min (1029 - length self.now.held) (self.now.limit - self.now.taken) }
+        ensures fits { length self.now.held + result ≤ 1029 }
+        ensures within { self.now.taken + result ≤ self.now.limit }
+        ensures some { self.now.is_ready ≡ true → self.now.taken < self.now.limit → 0 < result }
+    {
+        let allowed = (self.limit - self.taken()).min(MOST_HELD as u64);
+        (MOST_HELD - self.held()).min(allowed as usize)
     }
 
     /// How many bytes it has taken.
@@ -222,8 +265,33 @@ impl Framer {
         ensures taken { self.new.taken ≡ self.old.taken }
         ensures ended { self.new.has_ended ≡ self.old.has_ended }
     {
+        let mut message = ArrayVec::new();
+        match self.next_into(&mut message) {
+            Some(offset) => Some(Frame { offset, message }),
+            None => None,
+        }
+    }
+
+    /// As `next`, but the message replaces what the caller's buffer has, so that a loop over frames needs one buffer. It
+    /// answers the place of the frame's first byte in the stream; where it answers None, the buffer keeps what it had.
+    pub fn next_into(&mut self, message: &mut ArrayVec<u8, 1023>) -> Option<u64>
+        ensures some { IfSome result (λ offset. (b : List ℕ) (fs : List Framed) → StandsFor self.old b fs → StandsFor self.new b (fs ++ frame_at offset message.new.items ∷ [])) }
+        ensures none { IfNone result ((b : List ℕ) (fs : List Framed) → StandsFor self.old b fs → StandsFor self.new b fs × IsDrained self.new b fs) }
+        ensures some_counts { IfSome result (λ offset. (b : List ℕ) (fs : List Framed) → HasExamined self.old b fs
+            → HasExamined self.new b (fs ++ frame_at offset message.new.items ∷ []) × IsCountedTo self.new b offset (fs ++ frame_at offset message.new.items ∷ [])) }
+        ensures none_counts { IfNone result ((b : List ℕ) (fs : List Framed) → HasExamined self.old b fs → HasExamined self.new b fs × IsCounted self.new b) }
+        ensures ready { IfNone result (self.new.is_ready ≡ true) }
+        ensures room { IfNone result (length self.new.held < 1029) }
+        ensures waits { OnSome result (self.new.is_ready ≡ self.old.is_ready) }
+        ensures less { OnSome result (length self.new.held < length self.old.held) }
+        ensures kept { IfNone result (message.new ≡ message.old) }
+        ensures held { length self.new.held ≤ length self.old.held }
+        ensures limit { self.new.limit ≡ self.old.limit }
+        ensures taken { self.new.taken ≡ self.old.taken }
+        ensures ended { self.new.has_ended ≡ self.old.has_ended }
+    {
         match self.seek() {
-            Some(size) => Some(self.take_frame(size)),
+            Some(size) => Some(self.take_frame(size, message)),
             None => None,
         }
     }
@@ -296,21 +364,20 @@ impl Framer {
         self.given_up += 1;
     }
 
-    /// Hands out the frame at the front, and goes on behind it.
-    fn take_frame(&mut self, size: usize) -> Frame
+    /// Hands out the message of the frame at the front, answers the frame's place, and goes on behind it.
+    fn take_frame(&mut self, size: usize, message: &mut ArrayVec<u8, 1023>) -> u64
         requires begins { begins_frame self.old.held ≡ true }
         requires size { size ≡ frame_length self.old.held }
-        ensures offset { result.offset ≡ first_held self.old }
-        ensures message { result.message.items ≡ message_of self.old.held }
+        ensures offset { result ≡ first_held self.old }
+        ensures message { message.new.items ≡ message_of self.old.held }
         ensures taken { self.new ≡ with_window self.old (without_front (looked_through (window_of self.old) 3 (size - 6)) size) 0 }
     {
-        let mut message = ArrayVec::new();
-        self.window.hand_over(3, size - 6, &mut message);
+        self.window.hand_over(3, size - 6, message);
         let offset = self.place;
         self.window.drop_front(size);
         self.candidate = Candidate::new();
         self.place += size as u64;
-        Frame { offset, message }
+        offset
     }
 
     /// Notes that all is decided that can be.
@@ -335,10 +402,45 @@ fn examine(window: &mut Window, candidate: &mut Candidate)
     ensures bytes { window.new.bytes ≡ window.old.bytes }
     ensures numbers { (i : ℕ) → slice_index window.old.bytes i < 256 }
 {
-    let held = window.held();
-    while candidate.count < candidate.wanted && candidate.count < held {
+    examine_header(window, candidate);
+    examine_rest(window, candidate);
+}
+
+/// Examines the candidate's header, byte by byte, since each byte of it may change how many are asked for.
+fn examine_header(window: &mut Window, candidate: &mut Candidate)
+    requires taken { HasTaken candidate.old (take candidate.old.count window.old.bytes) }
+    requires within { candidate.old.count ≤ length window.old.bytes }
+    ensures taken { HasTaken candidate.new (take candidate.new.count window.old.bytes) }
+    ensures within { candidate.new.count ≤ length window.old.bytes }
+    ensures all { candidate.new.count < candidate.new.wanted → min (length window.old.bytes) 3 ≤ candidate.new.count }
+    ensures more { candidate.old.count ≤ candidate.new.count }
+    ensures window { window.new ≡ looked_through window.old candidate.old.count (candidate.new.count - candidate.old.count) }
+    ensures bytes { window.new.bytes ≡ window.old.bytes }
+{
+    let header = window.held().min(3);
+    while candidate.count < candidate.wanted && candidate.count < header {
         let byte = window.look(candidate.count);
         candidate.take(byte);
+    }
+}
+
+/// Examines the bytes behind the candidate's header, all that are there at once.
+fn examine_rest(window: &mut Window, candidate: &mut Candidate)
+    requires taken { HasTaken candidate.old (take candidate.old.count window.old.bytes) }
+    requires within { candidate.old.count ≤ length window.old.bytes }
+    requires header { candidate.old.count < candidate.old.wanted → min (length window.old.bytes) 3 ≤ candidate.old.count }
+    ensures taken { HasTaken candidate.new (take candidate.new.count window.old.bytes) }
+    ensures all { candidate.new.count ≡ asked window.old.bytes }
+    ensures more { candidate.old.count ≤ candidate.new.count }
+    ensures window { window.new ≡ looked_through window.old candidate.old.count (candidate.new.count - candidate.old.count) }
+    ensures bytes { window.new.bytes ≡ window.old.bytes }
+    ensures numbers { (i : ℕ) → slice_index window.old.bytes i < 256 }
+{
+    let end = candidate.wanted.min(window.held());
+    if candidate.count < end {
+        let more = end - candidate.count;
+        window.check_range(candidate.count, more, &mut candidate.register);
+        candidate.count = end;
     }
 }
 

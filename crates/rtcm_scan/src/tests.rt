@@ -1,6 +1,9 @@
 //! What no clause says: worked streams, and that each call can succeed.
 
+ghost use Rattle.std.specs.Prelude.{◌<◌};
+
 use crate::{Framer, Frames, MOST_BYTES, ScanFault};
+use arrayvec::ArrayVec;
 use rtcm_bits::crc24q;
 use std::alloc::AllocError;
 use std::test::Fail;
@@ -83,6 +86,42 @@ fn feed(
     Ok(true)
 }
 
+/// Feeds a piece block by block, each followed by all frames that it decides. False where a block is refused.
+fn feed_blocks(
+    framer: &mut Framer,
+    piece: &[u8],
+    size: usize,
+    found: &mut Vec<(u64, usize)>,
+) -> Result<bool, AllocError>
+    requires { 0 < size }
+{
+    for block in piece.chunks(size) {
+        if !framer.ready() {
+            return Ok(false);
+        }
+        if framer.room() < block.len() {
+            return Ok(false);
+        }
+        if framer.push_all(block).is_err() {
+            return Ok(false);
+        }
+        drain_into(framer, found)?;
+    }
+    Ok(true)
+}
+
+/// As `drain`, with one buffer for all messages.
+fn drain_into(framer: &mut Framer, found: &mut Vec<(u64, usize)>) -> Result<(), AllocError> {
+    let mut message = ArrayVec::new();
+    for _ in 0..2_000 {
+        match framer.next_into(&mut message) {
+            Some(offset) => found.push((offset, message.len()))?,
+            None => return Ok(()),
+        }
+    }
+    Ok(())
+}
+
 /// Ends the stream, and counts.
 fn finish(framer: &mut Framer, found: &mut Vec<(u64, usize)>) -> Result<Counts, AllocError> {
     let decided = found.len();
@@ -126,6 +165,13 @@ fn worked_streams(rt: HostRuntime) -> Result<(), Fail> {
             assert!(rt; feed(&mut framer, &bytes[..cut], &mut found)?);
             assert!(rt; feed(&mut framer, &bytes[cut..], &mut found)?);
             assert_eq!(rt; framer.taken(), bytes.len() as u64);
+            assert_eq!(rt; finish(&mut framer, &mut found)?, want);
+            assert_eq!(rt; found.as_slice(), frames);
+        }
+        for size in 1..=bytes.len() {
+            let mut framer = Framer::new(rt.alloc(), MOST_BYTES).expect(&rt, "room");
+            let mut found = Vec::new(rt.alloc());
+            assert!(rt; feed_blocks(&mut framer, bytes, size, &mut found)?);
             assert_eq!(rt; finish(&mut framer, &mut found)?, want);
             assert_eq!(rt; found.as_slice(), frames);
         }
@@ -196,7 +242,11 @@ fn limits(rt: HostRuntime) -> Result<(), Fail> {
         let preambles = [0xD3; 10];
         assert!(rt; feed(&mut framer, &preambles[..limit as usize], &mut found)?);
         assert!(rt; framer.ready());
+        assert_eq!(rt; framer.room(), 0);
         assert_eq!(rt; framer.push(0xD3), Err(ScanFault::TooLong));
+        assert!(rt; framer.ready());
+        assert!(rt; framer.held() <= 10);
+        assert_eq!(rt; framer.push_all(&[0xD3]), Err(ScanFault::TooLong));
         assert_eq!(rt; framer.held() as u64, limit);
         framer.end();
         assert!(rt; framer.ready());

@@ -1,19 +1,28 @@
-use Rattle.std.proofs.Common.{◌≡◌, ◌∙◌, ap, subst, Bool, List, ℕ, Option}
-use Rattle.rtcm_bits.specs.Device.{AppendsPrefix}
-use Rattle.rtcm_scan.specs.Frames.{Framed}
-use Rattle.rtcm_scan.specs.Known.{known_frames}
-use Rattle.rtcm2rinex.specs.Kinds.{lines_of}
-use Rattle.rtcm2rinex.proofs.ListedLemmas.{list_same, on_ok, on_err}
+use Rattle.std.proofs.Common.{◌≡◌, ◌++◌, ◌∷◌, [], ◌∙◌, refl}
+use Rattle.rtcm_scan.specs.Answers.{frame_at}
+use Rattle.rtcm2rinex.specs.Kinds.{line_of}
+use Rattle.rtcm2rinex.proofs.ListedLemmas.{list_frame, list_drained, list_part}
 use Rattle.rtcm2rinex.proofs.listing.list_decided.Goals as goal
 
-pub returns-then-settle-clause-listed : goal.returns-then-settle-clause-listed
-returns-then-settle-clause-listed g c =
-    on_ok c.list_standing.result _ _ (λ law w b fs s. law w b fs (list_same c.args.listing w (g.W.Write.contents c.args.writer.now.inner) c.args.page.now c.args.framer.now c.settle.new.self b b fs
-    (c.if-settle.ensures.stands b fs s.framer) s)) c.list_standing.ensures.listed
+pub loop-offset-preserved : goal.loop-offset-preserved
+loop-offset-preserved g c =
+    let contents = g.W.Write.contents in
+    let kept = c.loop-offset.invariant in
+    record {
+      lists = λ w b fs s. (let l = kept.lists w b fs s in (
+        l.0 ++ frame_at c.in-Some.offset c.next_into.new.message.items ∷ [],
+        list_frame c.args.listing w (contents c.loop-offset.writer.inner) (contents c.add_line.new.writer.inner) c.loop-offset.page c.add_line.new.page (line_of c.args.listing (frame_at c.in-Some.offset c.next_into.new.message.items))
+            c.loop-offset.framer c.next_into.new.self b l.0 (frame_at c.in-Some.offset c.next_into.new.message.items) refl c.in-Ok.ensures.moves (c.in-Some.ensures.some b l.0 l.1.framer) l.1,
+      ));
+      limit = c.in-Some.ensures.limit ∙ kept.limit;
+      taken = c.in-Some.ensures.taken ∙ kept.taken;
+      ended = c.in-Some.ensures.ended ∙ kept.ended;
+      fine = c.in-Ok.ensures.fine ∙ kept.fine;
+    }
 
-pub returns-then-settle-clause-part : goal.returns-then-settle-clause-part
-returns-then-settle-clause-part g c =
-    on_err c.list_standing.result _ _ (λ law w b fs s.
-    subst (λ (e : Bool). AppendsPrefix w (g.W.Write.contents c.list_standing.new.writer.inner) (lines_of c.args.listing (known_frames e b))) c.if-settle.ensures.ended
-    (law w b fs (list_same c.args.listing w (g.W.Write.contents c.args.writer.now.inner) c.args.page.now c.args.framer.now c.settle.new.self b b fs (c.if-settle.ensures.stands b fs s.framer) s)))
-    c.list_standing.ensures.part
+pub returns-in-Err-clause-part : goal.returns-in-Err-clause-part
+returns-in-Err-clause-part g c = λ w b fs s.
+    let contents = g.W.Write.contents in
+    let l = c.loop-offset.invariant.lists w b fs s in
+    list_part c.args.listing w (contents c.loop-offset.writer.inner) (contents c.add_line.new.writer.inner) c.loop-offset.page c.loop-offset.framer c.args.framer.now.has_ended b l.0
+    c.loop-offset.invariant.ended c.in-Err.ensures.part l.1

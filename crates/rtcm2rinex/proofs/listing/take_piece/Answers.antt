@@ -1,4 +1,4 @@
-use Rattle.std.proofs.Common.{◌≡◌, ◌++◌, ◌∷◌, [], ◌∙◌, sym, ap, subst, ◌+◌, ◌-◌, ◌≤◌, ◌<◌, arith, append-nil, take_all, Bool, ℕ, List, length, take}
+use Rattle.std.proofs.Common.{◌≡◌, ◌++◌, ◌∷◌, [], ◌∙◌, sym, ap, subst, ◌+◌, ◌-◌, ◌≤◌, ◌<◌, arith, append-nil, take_all, Bool, ℕ, List, length, take, slice_range}
 use Rattle.rtcm_bits.specs.Device.{AppendsPrefix}
 use Rattle.rtcm_scan.specs.Frames.{Framed}
 use Rattle.rtcm_scan.specs.Scan.{Scan}
@@ -19,34 +19,37 @@ returns-in-Err-clause-part g c = λ w b fs s.
 pub returns-in-Err-list_decided-clause-part : goal.returns-in-Err-list_decided-clause-part
 returns-in-Err-list_decided-clause-part g c = λ w b fs s.
     let contents = g.W.Write.contents in
-    let after = contents c.list_decided-in-loop-byte.new.writer.inner in
-    let kept = c.loop-byte.invariant in
+    let after = contents c.list_decided-in-loop-taken.new.writer.inner in
+    let kept = c.loop-taken.invariant in
     let piece : List ℕ = c.args.piece.now in
-    let n : ℕ = c.loop-byte.byte-index in
+    let n : ℕ = c.loop-taken.taken in
+    let m : ℕ = c.min.result in
     let e : Bool = c.args.framer.now.has_ended in
-    let before : List Framed = known_frames c.loop-byte.framer.has_ended (b ++ take n piece) in
-    let pushed = list_pushed c.args.listing w (contents c.loop-byte.writer.inner) c.loop-byte.page c.loop-byte.framer c.push.new.self b piece n c.loop-byte-test.true c.in_default-push.ensures.stands
+    let before : List Framed = known_frames c.loop-taken.framer.has_ended (b ++ take n piece) in
+    let pushed = list_pushed c.args.listing w (contents c.loop-taken.writer.inner) c.loop-taken.page c.loop-taken.framer c.push_all.new.self b piece n m c.in_default-push_all.ensures.stands
     (kept.listed w b fs s) in
-    let part : AppendsPrefix w after (lines_of c.args.listing (known_frames e (b ++ take (n + 1) piece))) =
-    subst (λ (x : Bool). AppendsPrefix w after (lines_of c.args.listing (known_frames x (b ++ take (n + 1) piece)))) (c.in_default-push.ensures.same.1 ∙ kept.ended)
-    (c.in-Err-list_decided.ensures.part w (b ++ take (n + 1) piece) before pushed) in
-    piece_part c.args.listing w after e b piece (n + 1) c.prefix.ensures.decided c.requires.going part
+    let part : AppendsPrefix w after (lines_of c.args.listing (known_frames e (b ++ take (n + m) piece))) =
+    subst (λ (x : Bool). AppendsPrefix w after (lines_of c.args.listing (known_frames x (b ++ take (n + m) piece)))) (c.in_default-push_all.ensures.same.1 ∙ kept.ended)
+    (c.in-Err-list_decided.ensures.part w (b ++ take (n + m) piece) before pushed) in
+    piece_part c.args.listing w after e b piece (n + m) c.prefix.ensures.decided c.requires.going part
 
-pub loop-byte-preserved : goal.loop-byte-preserved
-loop-byte-preserved g c =
+pub loop-taken-preserved : goal.loop-taken-preserved
+loop-taken-preserved g c =
     let contents = g.W.Write.contents in
-    let kept = c.loop-byte.invariant in
+    let kept = c.loop-taken.invariant in
     let piece : List ℕ = c.args.piece.now in
-    let n : ℕ = c.loop-byte.byte-index in
-    let same = c.in_default-push.ensures.same in
+    let n : ℕ = c.loop-taken.taken in
+    let m : ℕ = c.min.result in
+    let same = c.in_default-push_all.ensures.same in
     let end = c.in_default-list_decided.ensures in
-    let taken : c.push.new.self.taken ≡ c.loop-byte.framer.taken + 1 = ap (λ (v : Scan). v.taken) c.in_default-push.ensures.ok in
+    let taken : c.push_all.new.self.taken ≡ c.loop-taken.framer.taken + length (slice_range piece n (n + m)) = ap (λ (v : Scan). v.taken) c.in_default-push_all.ensures.ok in
     record {
-      listed = λ w b fs s. end.listed w (b ++ take (n + 1) piece) (known_frames c.loop-byte.framer.has_ended (b ++ take n piece))
-          (list_pushed c.args.listing w (contents c.loop-byte.writer.inner) c.loop-byte.page c.loop-byte.framer c.push.new.self b piece n c.loop-byte-test.true c.in_default-push.ensures.stands (kept.listed w b fs s));
+      listed = λ w b fs s. end.listed w (b ++ take (n + m) piece) (known_frames c.loop-taken.framer.has_ended (b ++ take n piece))
+          (list_pushed c.args.listing w (contents c.loop-taken.writer.inner) c.loop-taken.page c.loop-taken.framer c.push_all.new.self b piece n m c.in_default-push_all.ensures.stands (kept.listed w b fs s));
       ready = end.ready;
+      bound = omega (arith, c.min.ensures, kept.bound);
       taken = omega (arith, taken, end.taken, kept.taken);
-      within = omega (arith, end.taken, c.in_default-push.ensures.within, same.0, kept.limit);
+      within = omega (arith, end.taken, c.in_default-push_all.ensures.within, same.0, kept.limit);
       limit = end.limit ∙ same.0 ∙ kept.limit;
       ended = end.ended ∙ same.1 ∙ kept.ended;
       fine = end.fine ∙ kept.fine;
@@ -54,12 +57,12 @@ loop-byte-preserved g c =
 
 pub returns-clause-listed : goal.returns-clause-listed
 returns-clause-listed g c = λ w b fs s.
-    let kept = c.loop-byte.invariant in
+    let kept = c.loop-taken.invariant in
     let piece : List ℕ = c.args.piece.now in
-    let n : ℕ = c.loop-byte.byte-index in
+    let n : ℕ = c.loop-taken.taken in
     let m : ℕ = c.args.framer.now.limit - c.args.framer.now.taken in
-    let all : length piece ≤ n = omega (arith, c.loop-byte-test.false) in
-    let end : n ≤ length piece = omega (arith, c.loop-byte.auto.byte-index-end) in
+    let all : length piece ≤ n = omega (arith, c.loop-taken-test.false) in
+    let end : n ≤ length piece = c.loop-taken.invariant.bound in
     let few : length piece ≤ m = omega (arith, kept.taken, kept.within, all, end) in
     let same : take n piece ≡ take m piece = take_all n piece all ∙ sym (take_all m piece few) in
-    subst (λ (l : List ℕ). ListsKnown (lines_of c.args.listing) w (g.W.Write.contents c.loop-byte.writer.inner) c.loop-byte.page c.loop-byte.framer (b ++ l)) same (kept.listed w b fs s)
+    subst (λ (l : List ℕ). ListsKnown (lines_of c.args.listing) w (g.W.Write.contents c.loop-taken.writer.inner) c.loop-taken.page c.loop-taken.framer (b ++ l)) same (kept.listed w b fs s)

@@ -1,19 +1,23 @@
-use Rattle.std.proofs.Common.{◌≡◌, ◌+◌, ◌≤◌, ◌++◌, List, ℕ, Option, true, take}
+use Rattle.std.proofs.Common.{◌≡◌, ◌+◌, ◌-◌, ◌≤◌, ◌++◌, List, ℕ, Option, true, take, length}
 use Rattle.rtcm_scan.specs.Frames.{Framed}
 use Rattle.rtcm2rinex.specs.Listed.{Lists, ListsKnown}
 use Rattle.rtcm2rinex.specs.Kinds.{lines_of}
 use Rattle.rtcm2rinex.proofs.listing.take_piece.Given as goal
 
-abbrev pub invariant-loop-byte : goal.invariant-loop-byte
-invariant-loop-byte g l =
+abbrev pub invariant-loop-taken : goal.invariant-loop-taken
+invariant-loop-taken g l =
     let contents = g.W.Write.contents in
     record {
       listed : (w : Option (List ℕ)) (b : List ℕ) (fs : List Framed) → Lists (lines_of l.listing) w (contents l.fn.writer.inner) l.fn.page l.fn.framer b fs
-          → ListsKnown (lines_of l.listing) w (contents l.writer.inner) l.page l.framer (b ++ take l.byte-index l.piece);
+          → ListsKnown (lines_of l.listing) w (contents l.writer.inner) l.page l.framer (b ++ take l.taken l.piece);
       ready : l.framer.is_ready ≡ true;
-      taken : l.framer.taken ≡ l.fn.framer.taken + l.byte-index;
+      bound : l.taken ≤ length l.piece;
+      taken : l.framer.taken ≡ l.fn.framer.taken + l.taken;
       within : l.framer.taken ≤ l.fn.framer.limit;
       limit : l.framer.limit ≡ l.fn.framer.limit;
       ended : l.framer.has_ended ≡ l.fn.framer.has_ended;
       fine : l.writer.failures ≡ l.fn.writer.failures;
     }
+
+abbrev pub decreases-loop-taken : goal.decreases-loop-taken
+decreases-loop-taken g l = length l.piece - l.taken

@@ -1,24 +1,27 @@
-use Rattle.std.proofs.Common.{◌∙◌, ap, arith}
-use Rattle.rtcm_convert.proofs.PieceLemmas.{fed_more, fed_part, fed_long, fed_whole}
+use Rattle.std.proofs.Common.{◌∙◌, arith, refl}
+use Rattle.rtcm_convert.proofs.PieceLemmas.{fed_more, fed_part, fed_long, fed_whole, at_limit}
 use Rattle.rtcm_convert.proofs.stream.feed_bytes.Goals as goal
 
 pub returns-in-Err-clause-part : goal.returns-in-Err-clause-part
 returns-in-Err-clause-part g c = λ e.
-    fed_part c.prefix.ensures.grows c.args.framer.now c.loop-byte.framer c.args.filer.now c.loop-byte.filer _ _ _ c.args.piece.now c.loop-byte.byte-index
-    c.loop-byte.invariant.came c.loop-byte-test.true (c.in-Err.ensures.part e)
+    fed_part c.prefix.ensures.grows c.args.framer.now c.loop-taken.framer c.args.filer.now c.loop-taken.filer _ _ _ c.args.piece.now c.loop-taken.taken c.min.result
+    c.loop-taken.invariant.came c.in-Err.ensures.part
 
-pub returns-in-Err-clause-long : goal.returns-in-Err-clause-long
-returns-in-Err-clause-long g c = λ e.
-    fed_long c.args.framer.now c.loop-byte.framer c.args.filer.now c.loop-byte.filer _ _ _ c.args.piece.now c.loop-byte.byte-index c.args.framer.now.limit
-    c.loop-byte.invariant.came ((c.in-Err.ensures.long e).0 ∙ c.loop-byte.invariant.limit) (ap (λ d. g.W.Write.contents d.inner) (c.in-Err.ensures.long e).1)
+pub returns-then-next-taken-clause-long : goal.returns-then-next-taken-clause-long
+returns-then-next-taken-clause-long g c = λ e.
+    fed_long c.args.framer.now c.loop-taken.framer c.args.filer.now c.loop-taken.filer _ _ _ c.args.piece.now c.loop-taken.taken c.args.framer.now.limit
+    c.loop-taken.invariant.came
+    (at_limit c.loop-taken.framer.taken c.loop-taken.framer.limit c.room.result (c.room.ensures.some c.loop-taken.invariant.ready) (omega (arith, c.min.ensures, c.if-next-taken.true, c.loop-taken-test.true)) c.room.ensures.within
+    ∙ c.loop-taken.invariant.limit) refl
 
-pub loop-byte-preserved : goal.loop-byte-preserved
-loop-byte-preserved g c =
-    let i = c.loop-byte.invariant in
+pub loop-taken-preserved : goal.loop-taken-preserved
+loop-taken-preserved g c =
+    let i = c.loop-taken.invariant in
     let n = c.in_default.ensures in
     record {
-      came = fed_more c.args.framer.now c.loop-byte.framer c.feed_byte.new.framer c.args.filer.now c.loop-byte.filer c.feed_byte.new.filer _ _ _ c.args.piece.now c.loop-byte.byte-index
-          i.came c.loop-byte-test.true n.whole;
+      came = fed_more c.args.framer.now c.loop-taken.framer c.feed_block.new.framer c.args.filer.now c.loop-taken.filer c.feed_block.new.filer _ _ _ c.args.piece.now c.loop-taken.taken c.min.result
+          i.came n.whole;
+      bound = omega (arith, c.min.ensures, i.bound);
       ready = n.ready;
       going = n.going;
       listening = n.same.1;
@@ -32,8 +35,8 @@ loop-byte-preserved g c =
 
 pub returns-clause-whole : goal.returns-clause-whole
 returns-clause-whole g c =
-    fed_whole c.args.framer.now c.loop-byte.framer c.args.filer.now c.loop-byte.filer _ _ c.args.piece.now c.loop-byte.byte-index
-    c.loop-byte.invariant.came c.loop-byte.auto.byte-index-end c.loop-byte-test.false
+    fed_whole c.args.framer.now c.loop-taken.framer c.args.filer.now c.loop-taken.filer _ _ c.args.piece.now c.loop-taken.taken
+    c.loop-taken.invariant.came c.loop-taken.invariant.bound c.loop-taken-test.false
 
 pub returns-in-Err-clause-examined : goal.returns-in-Err-clause-examined
-returns-in-Err-clause-examined g c = λ h. c.in-Err.ensures.examined (c.loop-byte.invariant.examined h)
+returns-in-Err-clause-examined g c = λ h. c.in-Err.ensures.examined (c.loop-taken.invariant.examined h)

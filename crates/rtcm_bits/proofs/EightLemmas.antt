@@ -1,0 +1,180 @@
+-- Eight bytes at once: the register is added to the first three of them, and then each byte has a table of its own, whose
+-- entries are the checks of that byte with the others 0.
+use Rattle.std.proofs.Common.{◌≡◌, ℕ, ◌+◌, ◌*◌, ◌/◌, ◌%◌, ◌^◌, ◌<◌, ◌≤◌, Bool, false, List, [], ◌∷◌, ◌++◌, length, drop, take, map, get_or, replicate, refl, sym, ap, ◌∙◌, arith, suc, zero, bit_and, bit_xor, length-append, lit<, lit≤}
+use Rattle.std.specs.Int.Bits.{xor_zero_r}
+use Rattle.std.proofs.lemmas.List.{get_or-drop, get_or-map, get_or-take, length-take-le, length-replicate, replicate-append-replicate}
+use Rattle.std.proofs.lemmas.Nat.{xor_lt, and_mask}
+use Rattle.rtcm_bits.specs.Bits.{uint, number, bits_of}
+use Rattle.rtcm_bits.specs.Check.{add_front, remainder, bits_remainder, check}
+use Rattle.rtcm_bits.specs.Register.{after_bits}
+use Rattle.rtcm_bits.specs.declared.tables.TheConstants.{TABLES}
+use Rattle.rtcm_bits.proofs.BitLemmas.{length-uint}
+use Rattle.rtcm_bits.proofs.RegisterBits.{uint-xor, uint-split, number_of-uint}
+use Rattle.rtcm_bits.proofs.CheckLemmas.{divide_all, length-add_front, add_front_to_zeros, zeros_to_front}
+use Rattle.rtcm_bits.proofs.ResidueLemmas.{add_front-append}
+use Rattle.rtcm_bits.proofs.RegisterLemmas.{check_is, check_below, check_push}
+use Rattle.rtcm_bits.proofs.TableLemmas.{add_split, remainder_sum, table_right, table_step}
+
+-- the register is added to the first bits
+into_front : (r m : List Bool) → length r ≡ 24 → 24 ≤ length m → after_bits r m ≡ bits_remainder (add_front r m)
+unfolding bits_remainder
+into_front r m h k =
+    sym (divide_all r m h) ∙ ap (remainder (length m)) (add_front-append r m (replicate 24 false) (omega (arith, h, k)))
+    ∙ ap (λ (n : ℕ). remainder n (add_front r m ++ replicate 24 false)) (sym (length-add_front r m))
+
+-- the remainder of a sum
+sum_remainder : (p q : List Bool) → length p ≡ length q → bits_remainder (add_front p q) ≡ add_front (bits_remainder p) (bits_remainder q)
+unfolding bits_remainder
+sum_remainder p q h =
+    let z : List Bool = replicate 24 false in
+    let lp : length (p ++ replicate 24 false) ≡ length p + 24 = length-append p (replicate 24 false) in
+    let lq : length (q ++ replicate 24 false) ≡ length q + 24 = length-append q (replicate 24 false) in
+    let s : add_front (p ++ replicate 24 false) (q ++ replicate 24 false) ≡ add_front p q ++ replicate 24 false = add_split p q z z h ∙ ap (λ (t : List Bool). add_front p q ++ t) (zeros_to_front 24 (replicate 24 false)) in
+    ap (λ (n : ℕ). remainder n (add_front p q ++ replicate 24 false)) (length-add_front p q) ∙ ap (remainder (length q)) (sym s)
+    ∙ remainder_sum (length q) (p ++ replicate 24 false) (q ++ replicate 24 false) (omega (arith, lp, lq, h)) (omega (arith, lp, h))
+    ∙ ap (λ (n : ℕ). add_front (remainder n (p ++ replicate 24 false)) (remainder (length q) (q ++ replicate 24 false))) (sym h)
+
+-- zeros in front count for nothing
+zeros_first : (m : List Bool) → bits_remainder (replicate 8 false ++ m) ≡ bits_remainder m
+unfolding bits_remainder remainder
+zeros_first m = refl
+
+zero_bits : (xs : List ℕ) → bits_of (replicate (length xs) 0) ≡ replicate (length (bits_of xs)) false
+unfolding bits_of uint
+zero_bits [] = refl
+zero_bits (x ∷ xs) = ap (λ (t : List Bool). replicate 8 false ++ t) (zero_bits xs)
+
+-- the check of bytes is the sum of that of the first, with zeros behind it, and that of the others
+front_bits : (c : ℕ) (rest : List ℕ) → uint 8 c ++ bits_of rest ≡ add_front (replicate 8 false ++ bits_of rest) (uint 8 c ++ bits_of (replicate (length rest) 0))
+front_bits c rest =
+    let r : List Bool = bits_of rest in
+    sym (ap (λ (t : List Bool). add_front (replicate 8 false ++ bits_of rest) (uint 8 c ++ t)) (zero_bits rest)
+    ∙ add_split (replicate 8 false) (uint 8 c) (bits_of rest) (replicate (length (bits_of rest)) false) (sym (length-uint 8 c))
+    ∙ ap (λ (t : List Bool). t ++ add_front (bits_of rest) (replicate (length (bits_of rest)) false)) (zeros_to_front 8 (uint 8 c))
+    ∙ ap (λ (t : List Bool). uint 8 c ++ t) (add_front_to_zeros (bits_of rest)))
+
+front_sizes : (c : ℕ) (rest : List ℕ) → length (replicate 8 false ++ bits_of rest) ≡ length (uint 8 c ++ bits_of (replicate (length rest) 0))
+front_sizes c rest =
+    let z : length (bits_of (replicate (length rest) 0)) ≡ length (bits_of rest) = ap length (zero_bits rest) ∙ length-replicate (length (bits_of rest)) false in
+    omega (arith, z, length-uint 8 c, length-append (uint 8 c) (bits_of (replicate (length rest) 0)), length-append (replicate 8 false) (bits_of rest))
+
+number_is : (x y : ℕ) → x < 2 ^ 24 → y < 2 ^ 24 → uint 24 x ≡ uint 24 y → x ≡ y
+number_is x y h k e = sym (number_of-uint 24 x h) ∙ ap number e ∙ number_of-uint 24 y k
+
+check_front : (c : ℕ) (rest : List ℕ) → check (c ∷ rest) ≡ bit_xor (check rest) (check (c ∷ replicate (length rest) 0))
+unfolding bits_of
+check_front c rest =
+    let zeros : List ℕ = replicate (length rest) 0 in
+    let e : uint 24 (check (c ∷ rest)) ≡ uint 24 (bit_xor (check rest) (check (c ∷ replicate (length rest) 0))) =
+    check_is (c ∷ rest) ∙ ap bits_remainder (front_bits c rest) ∙ sum_remainder (replicate 8 false ++ bits_of rest) (uint 8 c ++ bits_of (replicate (length rest) 0)) (front_sizes c rest)
+    ∙ ap (λ (t : List Bool). add_front t (bits_remainder (bits_of (c ∷ replicate (length rest) 0)))) (zeros_first (bits_of rest) ∙ sym (check_is rest))
+    ∙ ap (add_front (uint 24 (check rest))) (sym (check_is (c ∷ replicate (length rest) 0)))
+    ∙ sym (uint-xor 24 (check rest) (check (c ∷ replicate (length rest) 0))) in
+    number_is (check (c ∷ rest)) (bit_xor (check rest) (check (c ∷ replicate (length rest) 0))) (check_below (c ∷ rest))
+    (xor_lt 24 (check rest) (check (c ∷ replicate (length rest) 0)) (check_below rest) (check_below (c ∷ replicate (length rest) 0))) e
+
+-- the register goes into the first three bytes
+three_bytes : (h m l : ℕ) → m < 256 → l < 256 → uint 24 (h * 65536 + (m * 256 + l)) ≡ uint 8 h ++ (uint 8 m ++ uint 8 l)
+three_bytes h m l j k = uint-split 8 16 h (m * 256 + l) (omega (arith, j, k)) ∙ ap (λ (t : List Bool). uint 8 h ++ t) (uint-split 8 8 m l k)
+
+taken_in : (h m l a b c : ℕ) (rest : List Bool) → add_front (uint 8 h ++ (uint 8 m ++ uint 8 l)) (uint 8 a ++ (uint 8 b ++ (uint 8 c ++ rest)))
+    ≡ uint 8 (bit_xor h a) ++ (uint 8 (bit_xor m b) ++ (uint 8 (bit_xor l c) ++ rest))
+taken_in h m l a b c rest =
+    let same : (x y : ℕ) → length (uint 8 x) ≡ length (uint 8 y) = λ x y. length-uint 8 x ∙ sym (length-uint 8 y) in
+    add_split (uint 8 h) (uint 8 a) (uint 8 m ++ uint 8 l) (uint 8 b ++ (uint 8 c ++ rest)) (same h a)
+    ∙ ap (λ (t : List Bool). t ++ add_front (uint 8 m ++ uint 8 l) (uint 8 b ++ (uint 8 c ++ rest))) (sym (uint-xor 8 h a))
+    ∙ ap (λ (t : List Bool). uint 8 (bit_xor h a) ++ t)
+    (add_split (uint 8 m) (uint 8 b) (uint 8 l) (uint 8 c ++ rest) (same m b)
+    ∙ ap (λ (t : List Bool). t ++ add_front (uint 8 l) (uint 8 c ++ rest)) (sym (uint-xor 8 m b))
+    ∙ ap (λ (t : List Bool). uint 8 (bit_xor m b) ++ t)
+    (add_front-append (uint 8 l) (uint 8 c) rest (omega (arith, length-uint 8 l, length-uint 8 c)) ∙ ap (λ (t : List Bool). t ++ rest) (sym (uint-xor 8 l c))))
+
+into_bytes : (x h m l a b c : ℕ) (rest : List ℕ) → x ≡ h * 65536 + (m * 256 + l) → m < 256 → l < 256
+    → after_bits (uint 24 x) (bits_of (a ∷ b ∷ c ∷ rest)) ≡ uint 24 (check (bit_xor h a ∷ bit_xor m b ∷ bit_xor l c ∷ rest))
+unfolding bits_of
+into_bytes x h m l a b c rest e j k =
+    let s : uint 24 x ≡ uint 8 h ++ (uint 8 m ++ uint 8 l) = ap (uint 24) e ∙ three_bytes h m l j k in
+    let n : length (bits_of (a ∷ b ∷ c ∷ rest)) ≡ 24 + length (bits_of rest) =
+    omega (arith, length-uint 8 a, length-uint 8 b, length-uint 8 c, length-append (uint 8 a) (uint 8 b ++ (uint 8 c ++ bits_of rest)), length-append (uint 8 b) (uint 8 c ++ bits_of rest), length-append (uint 8 c) (bits_of rest)) in
+    into_front (uint 24 x) (bits_of (a ∷ b ∷ c ∷ rest)) (length-uint 24 x) (omega (arith, n))
+    ∙ ap (λ (t : List Bool). bits_remainder (add_front t (bits_of (a ∷ b ∷ c ∷ rest)))) s
+    ∙ ap bits_remainder (taken_in h m l a b c (bits_of rest)) ∙ sym (check_is (bit_xor h a ∷ bit_xor m b ∷ bit_xor l c ∷ rest))
+
+-- each table is the one before it, with eight bits of 0 more
+abbrev next_entry : ℕ → ℕ
+next_entry x = bit_xor (bit_and x 65535 * 256) (get_or TABLES (x / 65536) 0)
+
+tables_go_on : drop 256 TABLES ≡ map next_entry (take 1792 TABLES)
+tables_go_on = refl
+
+entry_after : (j : ℕ) → j < 1792 → get_or TABLES (256 + j) 0 ≡ next_entry (get_or TABLES j 0)
+entry_after j h =
+    sym (get_or-drop 256 TABLES j 0) ∙ ap (λ (t : List ℕ). get_or t j 0) tables_go_on ∙ get_or-map next_entry (take 1792 TABLES) j 0 0 (omega (arith, h, length-take-le 1792 TABLES (lit≤ tt)))
+    ∙ ap next_entry (get_or-take 1792 TABLES j 0 h)
+
+zero_behind : (m : List ℕ) → next_entry (check m) ≡ check (m ++ 0 ∷ [])
+zero_behind m =
+    let x : ℕ = check m in
+    let t : ℕ = get_or TABLES (check m / 65536) 0 in
+    let b : check m < 2 ^ 24 = check_below m in
+    let i : check m / 65536 < 256 = omega (arith, b) in
+    let e : get_or TABLES (check m / 65536) 0 ≡ check (bit_xor (check m / 65536) 0 ∷ []) = table_right (check m / 65536) i ∙ ap (λ (n : ℕ). check (n ∷ [])) (sym (xor_zero_r (check m / 65536))) in
+    let a : bit_and (check m) 65535 ≡ check m % 65536 = and_mask (check m) 16 in
+    let l : bit_and (check m) 65535 * 256 < 2 ^ 24 = omega (arith, a) in
+    let r : get_or TABLES (check m / 65536) 0 < 2 ^ 24 = rw e (check_below (bit_xor (check m / 65536) 0 ∷ [])) in
+    check_push m (check m) (next_entry (check m)) 0 refl (xor_lt 24 (bit_and (check m) 65535 * 256) (get_or TABLES (check m / 65536) 0) l r)
+    (table_step (check m) (next_entry (check m)) 0 (get_or TABLES (check m / 65536) 0) b (lit< tt) e refl)
+
+pub entry_right : (k i : ℕ) → i < 256 → k < 8 → get_or TABLES (k * 256 + i) 0 ≡ check (i ∷ replicate k 0)
+entry_right zero i h l = let z : 0 * 256 + i ≡ i = omega arith in ap (λ (n : ℕ). get_or TABLES n 0) z ∙ table_right i h
+entry_right (suc k) i h l =
+    let z : suc k * 256 + i ≡ 256 + (k * 256 + i) = omega arith in
+    let y : k + 1 ≡ suc k = omega arith in
+    ap (λ (n : ℕ). get_or TABLES n 0) z ∙ entry_after (k * 256 + i) (omega (arith, h, l)) ∙ ap next_entry (entry_right k i h (omega (arith, l))) ∙ zero_behind (i ∷ replicate k 0)
+    ∙ ap (λ (t : List ℕ). check (i ∷ t)) (replicate-append-replicate k 1 0 ∙ ap (λ (n : ℕ). replicate n 0) y)
+
+-- the sum of the entries
+abbrev pub entries : List ℕ → ℕ
+entries [] = 0
+entries (c ∷ []) = check (c ∷ [])
+entries (c ∷ (d ∷ rest)) = bit_xor (entries (d ∷ rest)) (check (c ∷ replicate (length (d ∷ rest)) 0))
+
+entries_check : (c : ℕ) (rest : List ℕ) → check (c ∷ rest) ≡ entries (c ∷ rest)
+entries_check c [] = refl
+entries_check c (d ∷ rest) = check_front c (d ∷ rest) ∙ ap (λ (n : ℕ). bit_xor n (check (c ∷ replicate (length (d ∷ rest)) 0))) (entries_check d rest)
+
+eight_steps_sum : (x h m l a b c d e f g i y : ℕ) → x ≡ h * 65536 + (m * 256 + l) → m < 256 → l < 256
+    → y ≡ entries (bit_xor h a ∷ bit_xor m b ∷ bit_xor l c ∷ d ∷ e ∷ f ∷ g ∷ i ∷ []) → uint 24 y ≡ after_bits (uint 24 x) (bits_of (a ∷ b ∷ c ∷ d ∷ e ∷ f ∷ g ∷ i ∷ []))
+eight_steps_sum x h m l a b c d e f g i y p j k q =
+    let rest : List ℕ = d ∷ e ∷ f ∷ g ∷ i ∷ [] in
+    ap (uint 24) (q ∙ sym (entries_check (bit_xor h a) (bit_xor m b ∷ bit_xor l c ∷ rest))) ∙ sym (into_bytes x h m l a b c rest p j k)
+
+-- eight bytes, one by one
+eight_of : (xs : List ℕ) → length xs ≡ 8 → xs ≡ get_or xs 0 0 ∷ get_or xs 1 0 ∷ get_or xs 2 0 ∷ get_or xs 3 0 ∷ get_or xs 4 0 ∷ get_or xs 5 0 ∷ get_or xs 6 0 ∷ get_or xs 7 0 ∷ []
+eight_of [] h = absurd (omega (arith, h))
+eight_of (a ∷ []) h = absurd (omega (arith, h))
+eight_of (a ∷ b ∷ []) h = absurd (omega (arith, h))
+eight_of (a ∷ b ∷ c ∷ []) h = absurd (omega (arith, h))
+eight_of (a ∷ b ∷ c ∷ d ∷ []) h = absurd (omega (arith, h))
+eight_of (a ∷ b ∷ c ∷ d ∷ e ∷ []) h = absurd (omega (arith, h))
+eight_of (a ∷ b ∷ c ∷ d ∷ e ∷ f ∷ []) h = absurd (omega (arith, h))
+eight_of (a ∷ b ∷ c ∷ d ∷ e ∷ f ∷ g ∷ []) h = absurd (omega (arith, h))
+eight_of (a ∷ b ∷ c ∷ d ∷ e ∷ f ∷ g ∷ i ∷ []) h = refl
+eight_of (a ∷ b ∷ c ∷ d ∷ e ∷ f ∷ g ∷ i ∷ x ∷ xs) h = absurd (omega (arith, h))
+
+pub eight_right : (x : ℕ) (xs : List ℕ) (e0 e1 e2 e3 e4 e5 e6 e7 : ℕ) → x < 2 ^ 24 → length xs ≡ 8
+    → e0 ≡ check (get_or xs 7 0 ∷ []) → e1 ≡ check (get_or xs 6 0 ∷ replicate 1 0) → e2 ≡ check (get_or xs 5 0 ∷ replicate 2 0) → e3 ≡ check (get_or xs 4 0 ∷ replicate 3 0)
+    → e4 ≡ check (get_or xs 3 0 ∷ replicate 4 0) → e5 ≡ check (bit_xor (x % 256) (get_or xs 2 0) ∷ replicate 5 0) → e6 ≡ check (bit_xor (x / 256 % 256) (get_or xs 1 0) ∷ replicate 6 0)
+    → e7 ≡ check (bit_xor (x / 65536) (get_or xs 0 0) ∷ replicate 7 0)
+    → (bit_xor (bit_xor (bit_xor (bit_xor (bit_xor (bit_xor (bit_xor e0 e1) e2) e3) e4) e5) e6) e7 < 2 ^ 24)
+    × (uint 24 (bit_xor (bit_xor (bit_xor (bit_xor (bit_xor (bit_xor (bit_xor e0 e1) e2) e3) e4) e5) e6) e7) ≡ after_bits (uint 24 x) (bits_of xs))
+eight_right x xs e0 e1 e2 e3 e4 e5 e6 e7 h n p0 p1 p2 p3 p4 p5 p6 p7 =
+    let y : ℕ = bit_xor (bit_xor (bit_xor (bit_xor (bit_xor (bit_xor (bit_xor e0 e1) e2) e3) e4) e5) e6) e7 in
+    let first : ℕ = bit_xor (x / 65536) (get_or xs 0 0) in
+    let rest : List ℕ = bit_xor (x / 256 % 256) (get_or xs 1 0) ∷ bit_xor (x % 256) (get_or xs 2 0) ∷ get_or xs 3 0 ∷ get_or xs 4 0 ∷ get_or xs 5 0 ∷ get_or xs 6 0 ∷ get_or xs 7 0 ∷ [] in
+    let q : y ≡ entries (first ∷ rest) = rw (p0, p1, p2, p3, p4, p5, p6, p7) refl in
+    let b : entries (first ∷ rest) < 2 ^ 24 = rw (← entries_check first rest) (check_below (first ∷ rest)) in (
+      rw q b,
+      eight_steps_sum x (x / 65536) (x / 256 % 256) (x % 256) (get_or xs 0 0) (get_or xs 1 0) (get_or xs 2 0) (get_or xs 3 0) (get_or xs 4 0) (get_or xs 5 0) (get_or xs 6 0) (get_or xs 7 0) y
+          (omega arith) (omega arith) (omega arith) q ∙ ap (λ (t : List ℕ). after_bits (uint 24 x) (bits_of t)) (sym (eight_of xs n)),
+    )

@@ -1,0 +1,14 @@
+use Rattle.std.proofs.Common.{◌≡◌, ◌-◌, ◌^◌, ◌<◌, ◌≤◌, length, take}
+use Rattle.rtcm_bits.specs.Bits.{uint, bits_of}
+use Rattle.rtcm_bits.specs.Register.{after_bits}
+use Rattle.rtcm_bits.proofs.check.after_all.Given as goal
+
+abbrev pub invariant-loop-taken : goal.invariant-loop-taken
+invariant-loop-taken l = record {
+  within : l.taken ≤ length l.bytes;
+  bound : l.after < 2 ^ 24;
+  steps : uint 24 l.after ≡ after_bits (uint 24 l.register) (bits_of (take l.taken l.bytes));
+}
+
+abbrev pub decreases-loop-taken : goal.decreases-loop-taken
+decreases-loop-taken l = length l.bytes - l.taken

@@ -1,0 +1,10 @@
+use Rattle.std.proofs.Common.{◌≡◌, ◌^◌, ◌<◌, take}
+use Rattle.rtcm_bits.specs.Bits.{uint, bits_of}
+use Rattle.rtcm_bits.specs.Register.{after_bits}
+use Rattle.rtcm_bits.proofs.check.after_each.Given as goal
+
+abbrev pub invariant-loop-byte : goal.invariant-loop-byte
+invariant-loop-byte l = record {
+  bound : l.after < 2 ^ 24;
+  steps : uint 24 l.after ≡ after_bits (uint 24 l.register) (bits_of (take l.byte-index l.bytes));
+}

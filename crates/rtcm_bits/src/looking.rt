@@ -1,0 +1,81 @@
+//! Looks at the bytes of a window.
+ghost use Rattle.std.specs.Prelude.{◌≡◌, ◌+◌, ◌≤◌, ◌++◌, length, slice_range, max};
+ghost use Rattle.rtcm_bits.specs.Window.{looked_through, counts_alone};
+
+use circular_buffer::HeapCircularBuffer;
+
+/// Adds one look to each of the n counts from start on, up to 65,535, and answers the greatest of them and of the count
+/// that was the greatest.
+pub(crate) fn look_at_each(counts: &mut [u16], start: usize, n: usize, greatest: u16) -> u16
+    requires { start + n ≤ length counts.old }
+    ensures counts { counts.new ≡ (looked_through (counts_alone counts.old greatest) start n).looks }
+    ensures greatest { result ≡ (looked_through (counts_alone counts.old greatest) start n).most }
+{
+    let mut most = greatest;
+    for i in 0..n {
+        let looks = counts[start + i].saturating_add(1);
+        counts[start + i] = looks;
+        most = most.max(looks);
+    }
+    most
+}
+
+/// Sees that the counts lie in one slice, for `make_contiguous` moves wrapped items one by one and leaves them at the end of
+/// the room, where the next ones wrap round again.
+pub(crate) fn unwrap_counts(counts: &mut HeapCircularBuffer<u16>)
+    requires few { length counts.old.items ≤ 1029 }
+    requires room { 1029 ≤ counts.old.capacity }
+    ensures { counts.new ≡ counts.old }
+{
+    let (_, wrapped) = counts.as_slices();
+    if !wrapped.is_empty() {
+        begin_anew(counts);
+    }
+}
+
+/// As `move_through`, with room of its own, which most looks needn't make.
+#[inline(never)]
+fn begin_anew(counts: &mut HeapCircularBuffer<u16>)
+    requires few { length counts.old.items ≤ 1029 }
+    requires room { 1029 ≤ counts.old.capacity }
+    ensures { counts.new ≡ counts.old }
+{
+    let mut spare = [0; 1029];
+    move_through(counts, &mut spare);
+}
+
+/// Takes all counts out and puts them back: they then begin where they ended before.
+fn move_through(counts: &mut HeapCircularBuffer<u16>, spare: &mut [u16])
+    requires few { length counts.old.items ≤ length spare.old }
+    requires room { length spare.old ≤ counts.old.capacity }
+    ensures { counts.new ≡ counts.old }
+{
+    let n = counts.read_into(spare);
+    counts.extend_from_slice(&spare[..n]);
+}
+
+/// Raises the greatest count where this one is above it. It stores nothing otherwise, so that a look needn't wait for
+/// the look before it.
+pub(crate) fn raise(greatest: &mut u16, looks: u16)
+    ensures { greatest.new ≡ max greatest.old looks }
+{
+    if *greatest < looks {
+        *greatest = looks;
+    }
+}
+
+/// The n bytes from start on of two slices that stand one behind the other.
+pub(crate) fn part_of<'a>(
+    front: &'a [u8],
+    back: &'a [u8],
+    start: usize,
+    n: usize,
+) -> (&'a [u8], &'a [u8])
+    requires { start + n ≤ length front.now + length back.now }
+    ensures bytes { result.0.now ++ result.1.now ≡ slice_range (front.now ++ back.now) start (start + n) }
+    ensures size { length result.0.now + length result.1.now ≡ n }
+{
+    let from = start.min(front.len());
+    let to = (start + n).min(front.len());
+    (&front[from..to], &back[start - from..start + n - to])
+}

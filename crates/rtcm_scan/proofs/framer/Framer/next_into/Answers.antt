@@ -1,0 +1,28 @@
+use Rattle.std.proofs.Common.{arith}
+use Rattle.rtcm_scan.specs.Answers.{frame_at}
+use Rattle.rtcm_scan.proofs.NextLemmas.{step_found, counts_found, less_found}
+use Rattle.rtcm_scan.proofs.framer.Framer.next_into.Goals as goal
+
+pub returns-in-Some-clause-some : goal.returns-in-Some-clause-some
+returns-in-Some-clause-some c = λ b fs s.
+    let f = c.in-Some.ensures.begins in
+    step_found c.seek.new.self c.take_frame.new.self b fs c.in-Some.size (frame_at c.take_frame.result c.take_frame.new.message.items) c.take_frame.ensures.taken f.1 f.0 c.take_frame.ensures.offset c.take_frame.ensures.message
+    (c.in-Some.ensures.stands b fs s)
+
+pub returns-in-Some-clause-some_counts : goal.returns-in-Some-clause-some_counts
+returns-in-Some-clause-some_counts c = λ b fs s.
+    let f = c.in-Some.ensures.begins in
+    counts_found c.seek.new.self c.take_frame.new.self b fs c.in-Some.size (frame_at c.take_frame.result c.take_frame.new.message.items) c.take_frame.ensures.taken f.1 f.0 c.take_frame.ensures.offset c.take_frame.ensures.message
+    f.2 (c.in-Some.ensures.counts b fs s)
+
+pub returns-in-Some-clause-less : goal.returns-in-Some-clause-less
+returns-in-Some-clause-less c =
+    let f = c.in-Some.ensures.begins in
+    let l = less_found c.seek.new.self c.take_frame.new.self c.in-Some.size c.take_frame.ensures.taken f.1 f.0 in
+    omega (arith, l, c.in-Some.ensures.held)
+
+pub returns-in-Some-clause-held : goal.returns-in-Some-clause-held
+returns-in-Some-clause-held c =
+    let f = c.in-Some.ensures.begins in
+    let l = less_found c.seek.new.self c.take_frame.new.self c.in-Some.size c.take_frame.ensures.taken f.1 f.0 in
+    omega (arith, l, c.in-Some.ensures.held)
