@@ -1,5 +1,5 @@
 -- The held epoch in its two parts.
-use Rattle.std.proofs.Common.{◌≡◌, ◌<◌, ◌≤◌, ℕ, suc, true, Bool, List, [], ◌∷◌, ◌++◌, refl, sym, ap, ap₂, ◌∙◌, subst, arith, length, length-append, map, drop}
+use Rattle.std.proofs.Common.{◌≡◌, ℕ, suc, List, [], ◌∷◌, ◌++◌, refl, sym, ap, ap₂, ◌∙◌, arith, length, map}
 use Rattle.std.specs.List.{list_any}
 use Rattle.std.specs.Prelude.{◌||◌}
 use Rattle.gnss_obs.specs.declared.system.System.{System}
@@ -10,7 +10,7 @@ use Rattle.obs_epoch.specs.declared.seen.Tracking.{Tracking}
 use Rattle.obs_epoch.specs.Values.{EpochValue, cells_of}
 use Rattle.obs_epoch.specs.Marked.{Marked, MarkedEpoch, cell_of, seen_of, tracking_of, paired, shown, with_cell_of}
 use Rattle.obs_epoch.specs.Gather.{cells_in, more_in, with_more}
-use Rattle.obs_epoch.specs.Cells.{same_key, has_same_key}
+use Rattle.obs_epoch.specs.Cells.{same_key}
 use Rattle.obs_epoch.specs.Held.{is_held}
 
 pub paired_push : (cs : List Cell) (ts : List Tracking) (c : Cell) (t : Tracking) → length cs ≡ length ts

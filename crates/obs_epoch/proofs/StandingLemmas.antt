@@ -1,5 +1,5 @@
 -- A step of the gatherer is one more message of the list.
-use Rattle.std.proofs.Common.{◌≡◌, ℕ, ◌-◌, ◌<◌, Bool, true, false, not, ◌||◌, List, [], ◌∷◌, ◌++◌, filter, take, refl, sym, ap, ap₂, ◌∙◌, subst, arith, length, append-nil, length-append, Option, Some, None, nat_lt}
+use Rattle.std.proofs.Common.{◌≡◌, ℕ, zero, suc, replicate, is_some, ◌-◌, ◌<◌, Bool, true, false, not, ◌||◌, List, [], ◌∷◌, ◌++◌, filter, take, refl, sym, ap, ap₂, ◌∙◌, subst, arith, length, append-nil, length-append, Option, Some, None, nat_lt}
 use Rattle.std.specs.Prelude.{if◌then◌else◌, cond, filter_map, flat_map, option_and_then, find}
 use Rattle.std.specs.Option.{option_map_or}
 use Rattle.std.specs.List.{list_any, cons_option}
@@ -14,7 +14,7 @@ use Rattle.obs_epoch.specs.Times.{Timed, is_at, greatest, is_closed, taken_at, t
 use Rattle.obs_epoch.specs.Cells.{kept_at, offered, is_planned, has_same_key}
 use Rattle.obs_epoch.specs.Loss.{lock_of, locked_at, latest_in, previous, times, last_of, is_locked, mark_with}
 use Rattle.obs_epoch.specs.Epochs.{marked, epoch_at, closed_so_far}
-use Rattle.obs_epoch.specs.Held.{lookup, Tracks}
+use Rattle.obs_epoch.specs.Held.{lookup, no_locks, most_locks, recorded, Tracks}
 use Rattle.obs_epoch.specs.Clock.{State, closes_first}
 use Rattle.obs_epoch.specs.Gather.{Gathered, no_epoch, no_counts, load, begun, is_same}
 use Rattle.obs_epoch.specs.Standing.{locked_in, held_at, Locked}
@@ -23,6 +23,7 @@ use Rattle.obs_epoch.proofs.ClockLemmas.{standing, same_time, Follows, first, gr
 use Rattle.obs_epoch.proofs.ClosedLemmas.{Below, when, ends, closed_is, passes_all, one_fails, less_true, less_false, taken_follows, times-push_same}
 use Rattle.obs_epoch.proofs.ClosingLemmas.{taken_by}
 use Rattle.obs_epoch.proofs.EpochLemmas.{IsLater, AllLater, all_none, all_below, kept_at-push, times_before, epoch_at-push}
+use Rattle.obs_epoch.proofs.LockLemmas.{none_found, none_recorded}
 use Rattle.obs_epoch.proofs.LoadLemmas.{marked_by, epoch_of, load_is, counts_after}
 
 -- ---- what was closed stays, whatever comes
@@ -189,3 +190,22 @@ held_same s xs m none =
       by : (g : Option ℕ) → option_map_or (epoch_at s (xs ++ next s xs m ∷ [])) g no_epoch ≡ option_map_or (epoch_at s xs) g no_epoch
       by None = refl
       by (Some t) = epoch_at-push s xs (next s xs m) t (later t) (times_before s xs (next s xs m) t (λ u e. taken_follows s xs m u e) (later t))
+
+-- ---- before the first message
+
+abbrev none_known : Option KnownLock
+none_known = None
+
+none_sized : (n : ℕ) → length (replicate n none_known) ≡ n
+none_sized zero = refl
+none_sized (suc n) = ap suc (none_sized n)
+
+pub none_locked : (g : Gathered) (s : Setup) → g.locks ≡ no_locks → Locked g s [] (closed_so_far s [] false)
+none_locked g s e = record {
+  found = λ key. ap (λ l. lookup l key) e ∙ none_found key;
+  tracks = record {
+    has = λ key. ap (λ l. is_some (lookup l key)) e ∙ ap is_some (none_found key);
+    count = ap recorded e ∙ none_recorded;
+    size = ap length e ∙ none_sized most_locks;
+  };
+}

@@ -40,9 +40,13 @@ abbrev pub listed_signals : System → ℕ
 listed_signals Gps = 15
 listed_signals Galileo = 19
 
--- the signal is planned
+abbrev pub is_listed : Seen → Bool
+is_listed x =
+    nat_lt 0 x.satellite.id && nat_le x.satellite.id (most_satellites x.satellite.system) && nat_lt x.signal.index (listed_signals x.satellite.system)
+
+-- satellite and signal are listed, and the signal is planned
 abbrev pub is_planned : Setup → Seen → Bool
-is_planned s x = is_some (place_in x.signal (planned_of x.signal.system s.plan))
+is_planned s x = is_listed x && is_some (place_in x.signal (planned_of x.satellite.system s.plan))
 
 -- the planned cells of the taken messages of time t, in order
 abbrev pub offered : Setup → ℕ → List Timed → List Seen

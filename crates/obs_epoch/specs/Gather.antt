@@ -1,11 +1,11 @@
 -- What a gatherer is seen as, and its steps by its parts.
-use Rattle.std.specs.Prelude.{ℕ, ◌≡◌, ◌≤◌, ◌==◌, Bool, true, false, List, [], ◌∷◌, ◌++◌, length, if◌then◌else◌, Option, Some, None, is_some}
+use Rattle.std.specs.Prelude.{ℕ, ◌==◌, Bool, true, false, List, [], ◌∷◌, ◌++◌, if◌then◌else◌, Option, Some, None, is_some}
 use Rattle.std.specs.Option.{option_map_or}
 use Rattle.gnss_obs.specs.declared.system.System.{System}
 use Rattle.gnss_obs.specs.declared.system.System.TheVariants.{Gps, Galileo}
 use Rattle.obs_epoch.specs.declared.seen.Seen.{Seen}
 use Rattle.obs_epoch.specs.Marked.{Marked}
-use Rattle.obs_epoch.specs.declared.seen.LockRecord.{LockRecord}
+use Rattle.obs_epoch.specs.declared.seen.KnownLock.{KnownLock}
 use Rattle.obs_epoch.specs.declared.cell.StationValues.{StationValues}
 use Rattle.obs_epoch.specs.declared.seen.Counts.{Counts}
 use Rattle.obs_epoch.specs.declared.seen.Fate.{Fate}
@@ -14,7 +14,6 @@ use Rattle.obs_epoch.specs.declared.clock.Answer.{Answer}
 use Rattle.obs_epoch.specs.declared.clock.Answer.TheVariants as answers
 use Rattle.rtcm_msg.specs.declared.entry.Entry.{Entry}
 use Rattle.obs_epoch.specs.Heard.{Heard, seen_in}
-use Rattle.obs_epoch.specs.Values.{most_cells}
 use Rattle.obs_epoch.specs.Cells.{with_skipped}
 use Rattle.obs_epoch.specs.Loss.{mark_with}
 use Rattle.obs_epoch.specs.Marked.{MarkedEpoch}
@@ -44,7 +43,7 @@ with_more e m = more_in m.seen.satellite.system e m
 pub record Gathered : Type 0 where
   pub clock : State
   pub epoch : MarkedEpoch
-  pub locks : List LockRecord
+  pub locks : List (Option KnownLock)
   pub values : StationValues
   pub handed : Bool
   pub has_ended : Bool

@@ -8,7 +8,7 @@ ghost use Rattle.obs_epoch.specs.Times.{timed};
 ghost use Rattle.obs_epoch.specs.Cells.{firsts};
 ghost use Rattle.obs_epoch.specs.Marked.{IsObserved, lock_codes, shown};
 ghost use Rattle.obs_epoch.specs.Epochs.{told as values_told, no_values, values_of, closed_so_far};
-ghost use Rattle.obs_epoch.specs.Held.{count_in};
+ghost use Rattle.obs_epoch.specs.Held.{count_in, recorded};
 ghost use Rattle.obs_epoch.specs.Step.{answer_by, closed_by as closes};
 ghost use Rattle.obs_epoch.specs.Clock.{closes_first, answer_of, is_pending};
 ghost use Rattle.obs_epoch.specs.Standing.{Standing, held_at, locked_in};
@@ -193,7 +193,7 @@ impl Gatherer {
     /// How many lock records are held: one for each satellite and signal of which a closed epoch has a kept cell with a
     /// valid phase and a known lock.
     pub fn locks(&self) -> usize
-        ensures count { result ≡ length self.now.locks }
+        ensures count { result ≡ recorded self.now.locks }
         ensures keys { (s : Setup) (ms : List Heard) (es : List Closed) (again : Option Heard) → Gathers self.now s ms es again
             → result ≡ length (firsts (locked_in s (timed s ms) (closed_so_far s (timed s ms) (is_done self.now s ms again)))) }
         ensures bound { result ≤ 1_164 }
