@@ -20,3 +20,5 @@ pub mod FitLemmas
 pub mod GatheringLemmas
 pub mod HandingLemmas
 pub mod KindLemmas
+mod OrderLemmas
+mod StandLemmas

@@ -54,7 +54,6 @@ listed x h = record {
   signal_of Gps i h = h
   signal_of Galileo i h = h
 
-
 abbrev listed_at : System → ℕ → ℕ → Bool
 listed_at system id index = nat_lt 0 id && nat_le id (most_satellites system) && nat_lt index (listed_signals system)
 

@@ -14,7 +14,8 @@ use Rattle.obs_epoch.specs.declared.seen.KnownLock.{KnownLock}
 use Rattle.obs_epoch.specs.Heard.{Setup}
 use Rattle.obs_epoch.specs.Times.{Timed, is_at}
 use Rattle.obs_epoch.specs.Cells.{is_of, is_listed, is_planned, has_same_key, is_among, kept, kept_at, add, offered}
-use Rattle.obs_epoch.specs.Values.{most_cells}
+use Rattle.obs_epoch.specs.Values.{most_cells, planned_of}
+use Rattle.obs_epoch.proofs.OrderLemmas.{among-sorted, all-sorted, distinct-sorted}
 use Rattle.obs_epoch.specs.Loss.{lock_of, locked_at, latest_in, last_of, is_locked}
 use Rattle.obs_epoch.specs.Marked.{MarkedEpoch}
 use Rattle.obs_epoch.specs.Epochs.{marked, epoch_at}
@@ -67,6 +68,13 @@ apart_more system xs (y ∷ ys) key o h =
 pub kept_apart : (system : System) (xs : List Seen) (key : Seen) → is_of system key ≡ false → is_among (kept system xs) key ≡ false
 kept_apart system xs key o = apart_more system [] xs key o (ap (λ l. is_among l key) (kept_none system))
 
+-- the same in their order
+at_distinct : (s : Setup) (t : ℕ) (xs : List Timed) (system : System) → IsDistinct has_same_key (kept_at s t xs system)
+at_distinct s t xs system = distinct-sorted (planned_of system s.plan) (kept system (offered s t xs)) (kept_distinct system (offered s t xs))
+
+at_apart : (s : Setup) (t : ℕ) (xs : List Timed) (system : System) (key : Seen) → is_of system key ≡ false → is_among (kept_at s t xs system) key ≡ false
+at_apart s t xs system key o = among-sorted (planned_of system s.plan) (kept system (offered s t xs)) key ∙ kept_apart system (offered s t xs) key o
+
 -- ---- the kept cells are listed
 
 listed_append : (xs ys : List Seen) → AllListed xs → AllListed ys → AllListed (xs ++ ys)
@@ -97,7 +105,7 @@ listed_more system xs (y ∷ ys) l d =
     (listed_more system (xs ++ y ∷ []) ys l.1 (subst AllListed (sym (kept-add system xs y)) (add_listed system (kept system xs) y l.0 d)))
 
 kept_listed : (s : Setup) (t : ℕ) (xs : List Timed) (system : System) → AllListed (kept_at s t xs system)
-kept_listed s t xs system = listed_more system [] (offered s t xs) (listed_offered s (filter (is_at t) xs)) (subst AllListed (sym (kept_none system)) tt)
+kept_listed s t xs system = all-sorted (λ x. is_listed x ≡ true) (planned_of system s.plan) (kept system (offered s t xs)) (listed_more system [] (offered s t xs) (listed_offered s (filter (is_at t) xs)) (subst AllListed (sym (kept_none system)) tt))
 
 -- ---- one epoch more
 
@@ -126,10 +134,10 @@ seens_marked s xs t (k ∷ ks) = ap (λ l. k ∷ l) (seens_marked s xs t ks)
 noted_found : (s : Setup) (xs : List Timed) (ts : List ℕ) (t : ℕ) (rs : List (Option KnownLock)) (key : Seen) → length rs ≡ most_locks → lookup rs key ≡ latest_in s xs ts key
     → lookup (note_all t (note_all t rs (marked s xs t (kept_at s t xs Gps))) (marked s xs t (kept_at s t xs Galileo))) key ≡ latest_in s xs (ts ++ t ∷ []) key
 noted_found s xs ts t rs key size h =
-    lookup-note_all t (note_all t rs gps) galileo key (subst (IsDistinct has_same_key) (sym (seens_marked s xs t (kept_at s t xs Galileo))) (kept_distinct Galileo (offered s t xs)))
+    lookup-note_all t (note_all t rs gps) galileo key (subst (IsDistinct has_same_key) (sym (seens_marked s xs t (kept_at s t xs Galileo))) (at_distinct s t xs Galileo))
     (are_listed Galileo) (note_all_size t rs gps ∙ size)
     ∙ ap₂ (λ l o. option_or (option_and_then (lock_of t) (find (has_same_key key) l)) o) (seens_marked s xs t (kept_at s t xs Galileo))
-    (lookup-note_all t rs gps key (subst (IsDistinct has_same_key) (sym (seens_marked s xs t (kept_at s t xs Gps))) (kept_distinct Gps (offered s t xs))) (are_listed Gps) size
+    (lookup-note_all t rs gps key (subst (IsDistinct has_same_key) (sym (seens_marked s xs t (kept_at s t xs Gps))) (at_distinct s t xs Gps)) (are_listed Gps) size
     ∙ ap₂ (λ l o. option_or (option_and_then (lock_of t) (find (has_same_key key) l)) o) (seens_marked s xs t (kept_at s t xs Gps)) h)
     ∙ by key.satellite.system refl ∙ sym (latest_in-push s xs ts t key) where
       gps : List Marked
@@ -146,11 +154,11 @@ noted_found s xs ts t rs key size h =
           ≡ option_or (option_and_then (lock_of t) (find (has_same_key key) (kept_at s t xs key.satellite.system))) (latest_in s xs ts key)
       by Gps e =
           ap (λ o. option_or (option_and_then (lock_of t) o) (option_or (option_and_then (lock_of t) (find (has_same_key key) (kept_at s t xs Gps))) (latest_in s xs ts key)))
-          (find_none key (kept_at s t xs Galileo) (kept_apart Galileo (offered s t xs) key (grind (arith, e))))
+          (find_none key (kept_at s t xs Galileo) (at_apart s t xs Galileo key (grind (arith, e))))
           ∙ ap (λ c. option_or (option_and_then (lock_of t) (find (has_same_key key) (kept_at s t xs c))) (latest_in s xs ts key)) (sym e)
       by Galileo e =
           ap (λ o. option_or (option_and_then (lock_of t) (find (has_same_key key) (kept_at s t xs Galileo))) (option_or (option_and_then (lock_of t) o) (latest_in s xs ts key)))
-          (find_none key (kept_at s t xs Gps) (kept_apart Gps (offered s t xs) key (grind (arith, e))))
+          (find_none key (kept_at s t xs Gps) (at_apart s t xs Gps key (grind (arith, e))))
           ∙ ap (λ c. option_or (option_and_then (lock_of t) (find (has_same_key key) (kept_at s t xs c))) (latest_in s xs ts key)) (sym e)
 
 noted_tracks : (s : Setup) (xs : List Timed) (ts : List ℕ) (t : ℕ) (rs : List (Option KnownLock)) → Tracks rs (locked_in s xs ts)

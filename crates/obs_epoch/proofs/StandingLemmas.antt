@@ -103,7 +103,7 @@ marked_is : (s : Setup) (xs : List Timed) (f : Seen → Option KnownLock) (t : �
 marked_is s xs f t [] h = refl
 marked_is s xs f t (k ∷ ks) h = ap₂ (λ o l. record { seen = k; mark = mark_with t k o } ∷ l) (h k) (marked_is s xs f t ks h)
 
-epoch_is : (s : Setup) (xs : List Timed) (f : Seen → Option KnownLock) (t : ℕ) → ((key : Seen) → f key ≡ previous s xs t key) → epoch_of f t (offered s t xs) ≡ epoch_at s xs t
+epoch_is : (s : Setup) (xs : List Timed) (f : Seen → Option KnownLock) (t : ℕ) → ((key : Seen) → f key ≡ previous s xs t key) → epoch_of s.plan f t (offered s t xs) ≡ epoch_at s xs t
 epoch_is s xs f t h = ap₂ (λ a b. record { time = t; gps = a; galileo = b }) (marked_is s xs f t (kept_at s t xs Gps) h) (marked_is s xs f t (kept_at s t xs Galileo) h)
 
 offered-more : (s : Setup) (xs : List Timed) (m : Heard) (u : ℕ) → taken_at s xs m ≡ Some u → offered s u (xs ++ next s xs m ∷ []) ≡ offered s u xs ++ filter (is_planned s) m.cells
@@ -131,17 +131,17 @@ not_known t u h = grind arith
 -- the epoch that a taken message's cells come into
 begun_is : (g : Gathered) (s : Setup) (xs : List Timed) (m : Heard) (u : ℕ) (shut : Bool) → taken_at s xs m ≡ Some u → closes_first s xs m ≡ shut
     → g.epoch ≡ held_at s xs → Locked g s xs (closed_so_far s xs shut) → g.clock.latest ≡ Some u
-    → begun (greatest xs) g ≡ record g { epoch = epoch_of (lookup g.locks) u (offered s u xs) }
+    → begun (greatest xs) g ≡ record g { epoch = epoch_of s.plan (lookup g.locks) u (offered s u xs) }
 begun_is g s xs m u shut some h held locks now = ap (λ o. begun_to (greatest xs) o) now ∙ by (taken_follows s xs m u some) where
   begun_to : Option ℕ → Option ℕ → Gathered
   begun_to a b = if is_same a b then g else record g { epoch = record { time = option_map_or (λ t. t) b 0; gps = []; galileo = [] } }
 
-  fresh : is_same (greatest xs) (Some u) ≡ false → list_any (is_at u) xs ≡ false → begun_to (greatest xs) (Some u) ≡ record g { epoch = epoch_of (lookup g.locks) u (offered s u xs) }
+  fresh : is_same (greatest xs) (Some u) ≡ false → list_any (is_at u) xs ≡ false → begun_to (greatest xs) (Some u) ≡ record g { epoch = epoch_of s.plan (lookup g.locks) u (offered s u xs) }
   fresh other none =
       ap (λ b. if b then g else record g { epoch = record { time = u; gps = []; galileo = [] } }) other
-      ∙ ap (λ l. record g { epoch = epoch_of (lookup g.locks) u l }) (sym (none_offered s xs u none))
+      ∙ ap (λ l. record g { epoch = epoch_of s.plan (lookup g.locks) u l }) (sym (none_offered s xs u none))
 
-  by : Follows s xs u → begun_to (greatest xs) (Some u) ≡ record g { epoch = epoch_of (lookup g.locks) u (offered s u xs) }
+  by : Follows s xs u → begun_to (greatest xs) (Some u) ≡ record g { epoch = epoch_of s.plan (lookup g.locks) u (offered s u xs) }
   by (first e) = fresh (ap (λ o. is_same o (Some u)) e) (none-absent xs u e)
   by (greater t e lt) = fresh (ap (λ o. is_same o (Some u)) e ∙ not_known t u lt) (greater-absent xs t u e lt)
   by (equal e c) =
@@ -175,9 +175,9 @@ loaded_taken g s xs m u shut some h held locks clock =
     let known : (key : Seen) → lookup g.locks key ≡ previous s ys u key =
     λ key. later.found key ∙ ap (λ ts. latest_in s ys ts key) (sym (before_taken s xs m u shut some h).0) in
     ap (λ v. load (record { state = v; counts = no_counts }) m.cells) (begun_is g s xs m u shut some h held locks now)
-    ∙ load_is (record g { epoch = epoch_of f u (offered s u xs) }) no_counts u (offered s u xs) m.cells refl
-    ∙ ap (λ c. record { state = record g { epoch = epoch_of f u (offered s u xs ++ filter (is_planned c) m.cells) }; counts = counts_after c (offered s u xs) no_counts m.cells }) setup
-    ∙ ap (λ l. record { state = record g { epoch = epoch_of f u l }; counts = counts_after s (offered s u xs) no_counts m.cells }) (sym (offered-more s xs m u some))
+    ∙ load_is (record g { epoch = epoch_of s.plan f u (offered s u xs) }) no_counts u (offered s u xs) m.cells (ap (λ c. epoch_of c.plan f u (offered s u xs)) (sym setup))
+    ∙ ap (λ c. record { state = record g { epoch = epoch_of c.plan f u (offered s u xs ++ filter (is_planned c) m.cells) }; counts = counts_after c (offered s u xs) no_counts m.cells }) setup
+    ∙ ap (λ l. record { state = record g { epoch = epoch_of s.plan f u l }; counts = counts_after s (offered s u xs) no_counts m.cells }) (sym (offered-more s xs m u some))
     ∙ ap (λ e. record { state = record g { epoch = e }; counts = counts_after s (offered s u xs) no_counts m.cells }) (epoch_is s ys f u known)
 
 -- a message that isn't taken leaves the epoch

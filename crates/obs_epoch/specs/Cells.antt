@@ -7,6 +7,7 @@ use Rattle.gnss_obs.specs.Satellites.{Satellite}
 use Rattle.gnss_obs.specs.Signals.{SignalAt}
 use Rattle.obs_epoch.specs.Values.{planned_of, most_cells}
 use Rattle.obs_epoch.specs.Plans.{place_in}
+use Rattle.obs_epoch.specs.Order.{sorted}
 use Rattle.obs_epoch.specs.Heard.{Setup}
 use Rattle.obs_epoch.specs.declared.seen.Seen.{Seen}
 use Rattle.obs_epoch.specs.Times.{Timed, is_at}
@@ -73,9 +74,9 @@ kept system xs = take most_cells (filter (is_of system) (firsts xs))
 abbrev pub add : System → List Seen → Seen → List Seen
 add system ks y = if is_of system y && not (is_among ks y || nat_le most_cells (length ks)) then ks ++ y ∷ [] else ks
 
--- the kept cells of the epoch of time t, of a system
+-- the kept cells of the epoch of time t, of a system, by satellite and within it by the plan
 abbrev pub kept_at : Setup → ℕ → List Timed → System → List Seen
-kept_at s t xs system = kept system (offered s t xs)
+kept_at s t xs system = sorted (planned_of system s.plan) (kept system (offered s t xs))
 
 abbrev pub both : List Seen → List Seen
 both xs = kept Gps xs ++ kept Galileo xs

@@ -1,11 +1,12 @@
 //! Messages into epochs, with the marks of lost lock.
-ghost use Rattle.std.specs.Prelude.{◌≡◌, ◌↔◌, ◌⊎◌, ◌+◌, ◌<◌, ◌≤◌, [], true, false, length, None, Some, is_some, IfOk, IfErr, IsOk, Err, option_map, ◌&&◌, ◌||◌, not, List, Bool, Option, ◌++◌, ◌∷◌, All};
+ghost use Rattle.std.specs.Prelude.{◌≡◌, ◌↔◌, ◌⊎◌, ◌+◌, ◌<◌, ◌≤◌, [], true, false, length, None, Some, is_some, IfOk, IfErr, IfSome, IsOk, Err, option_map, ◌&&◌, ◌||◌, not, List, Bool, Option, ◌++◌, ◌∷◌, All};
 ghost use Rattle.std.specs.Option.{ForSome, option_map_or};
 ghost use Rattle.rtcm_msg.specs.Entries.{IsEntry};
 ghost use Rattle.obs_epoch.specs.Weeks.{week, weeks};
 ghost use Rattle.obs_epoch.specs.Heard.{Setup, Heard, heard, seen_in, system_of};
 ghost use Rattle.obs_epoch.specs.Times.{timed};
 ghost use Rattle.obs_epoch.specs.Cells.{firsts};
+ghost use Rattle.obs_epoch.specs.Order.{StandBy};
 ghost use Rattle.obs_epoch.specs.Marked.{IsObserved, lock_codes, shown};
 ghost use Rattle.obs_epoch.specs.Epochs.{told as values_told, no_values, values_of, closed_so_far};
 ghost use Rattle.obs_epoch.specs.Held.{count_in, recorded};
@@ -58,10 +59,13 @@ pub struct Gatherer {
 
 impl Model for Gatherer {
     ghost use Rattle.obs_epoch.specs.Gather.{Gathered};
+    ghost use Rattle.obs_epoch.specs.Gather.{AreInOrder};
 
     ghost Value = { Gathered };
 
     ghost view = { λ a. record { clock = a.clock; epoch = a.held; locks = a.locks; values = a.values; handed = a.handed; has_ended = a.has_ended } };
+
+    ghost invariant = { λ a. AreInOrder a.clock.setup.plan a.held };
 }
 
 impl Gatherer {
@@ -164,7 +168,8 @@ impl Gatherer {
 
     /// The epoch that the last `take` or `end` closed, or None where that call closed none, and before the first call.
     pub fn closed(&self) -> Option<&Epoch>
-        ensures { option_map (λ e. e.now) result ≡ closed_in self.now }
+        ensures order { IfSome (option_map (λ e. e.now) result) (λ e. StandBy (plan_in self.now).gps e.gps × StandBy (plan_in self.now).galileo e.galileo) }
+        ensures closed { option_map (λ e. e.now) result ≡ closed_in self.now }
     {
         if self.handed {
             Some(self.held.epoch())
@@ -322,14 +327,15 @@ impl Gatherer {
         if !self.clock.is_planned(&x) {
             return Fate::Skipped;
         }
-        if self.held.has(&x) {
+        let spot = self.held.seek(self.clock.plan(), &x);
+        if spot.is_held {
             return Fate::Repeated;
         }
         if self.held.len(x.satellite.system()) >= MOST_CELLS {
             return Fate::Crowded;
         }
         let mark = mark(&x, self.held.time(), self.locks.latest(&x));
-        self.held.hold(x, mark);
+        self.held.hold(spot.at, x, mark);
         Fate::Kept
     }
 

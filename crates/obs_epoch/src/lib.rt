@@ -16,6 +16,7 @@ pub mod laws;
 mod locks;
 mod mark;
 mod observe;
+mod order;
 mod plan;
 mod seen;
 mod taken;

@@ -1,5 +1,5 @@
 //! Lock records: one of a key, for the latest closed epoch in which it had a known lock.
-ghost use Rattle.std.specs.Prelude.{◌≡◌, ◌+◌, ◌<◌, ◌≤◌, [], None, is_none, length, IfOk, ◌++◌, ◌∷◌, if◌then◌else◌};
+ghost use Rattle.std.specs.Prelude.{◌≡◌, ◌+◌, ◌<◌, ◌≤◌, [], length, IfOk, ◌++◌, ◌∷◌, insert};
 ghost use Rattle.std.specs.Vec.{vec_len, vec_capacity};
 ghost use Rattle.obs_epoch.specs.Held.{entry_of, lookup, no_locks, note, one_if_new, put, recorded};
 ghost use Rattle.obs_epoch.specs.Cells.{is_system, same_key};
@@ -134,6 +134,17 @@ pub fn push_within<T: Drop>(xs: &mut Vec<T>, x: T)
     ensures room { vec_capacity xs.old ≤ vec_capacity xs.new }
 {
     let _ = xs.push(x);
+}
+
+/// Inserts where there is room, and takes no memory.
+pub fn insert_within<T: Drop>(xs: &mut Vec<T>, at: usize, x: T)
+    requires room { vec_len xs.old < vec_capacity xs.old }
+    requires within { at ≤ vec_len xs.old }
+    ensures items { xs.new.items ≡ insert xs.old.items at x }
+    ensures len { vec_len xs.new ≡ vec_len xs.old + 1 }
+    ensures room { vec_capacity xs.old ≤ vec_capacity xs.new }
+{
+    let _ = xs.insert(at, x);
 }
 
 /// Whether two satellites and signals are of one system, number and place.
