@@ -1,5 +1,5 @@
 -- What a file holds.
-use Rattle.std.specs.Prelude.{ℕ, ℤ, ◌==◌, ◌&&◌, Bool, List, [], ◌∷◌, ◌++◌, zero, suc, map, filter, find, Option, None}
+use Rattle.std.specs.Prelude.{ℕ, ℤ, ◌==◌, ◌&&◌, Bool, List, [], ◌∷◌, ◌++◌, zero, suc, map, filter, find, if◌then◌else◌, Option, None}
 use Rattle.std.specs.Option.{option_map_or}
 use Rattle.gnss_obs.specs.declared.system.System.{System}
 use Rattle.gnss_obs.specs.declared.system.System.TheVariants.{Gps, Galileo}
@@ -69,8 +69,21 @@ entry_at cells id index = option_map_or entry_of (find (is_of id index) cells) n
 abbrev pub row_of : List ℕ → List Cell → ℕ → Row
 row_of signals cells id = record { satellite = id; entries = map (entry_at cells id) signals }
 
+-- a satellite of a system with these cells, with its entries
+abbrev pub seen_among : PlanValue → System → List Cell → ℕ → Seen
+seen_among plan system cells id = record { system = system; row = row_of (planned_of system plan) cells id }
+
 abbrev pub seen_of : PlanValue → EpochValue → System → ℕ → Seen
-seen_of plan epoch system id = record { system = system; row = row_of (planned_of system plan) (cells_of system epoch) id }
+seen_of plan epoch system id = seen_among plan system (cells_of system epoch) id
+
+-- a cell of the satellite of this number
+abbrev pub is_from : ℕ → Cell → Bool
+is_from id c = c.satellite.id == id
+
+-- how many cells of the satellite of this number stand in front
+abbrev pub run : ℕ → List Cell → ℕ
+run id [] = 0
+run id (c ∷ cells) = if is_from id c then suc (run id cells) else 0
 
 -- the satellites of a system that are written
 abbrev pub rows_of : PlanValue → EpochValue → System → List Seen
