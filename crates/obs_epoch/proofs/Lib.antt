@@ -22,3 +22,4 @@ pub mod HandingLemmas
 pub mod KindLemmas
 mod OrderLemmas
 mod StandLemmas
+pub mod GroupLemmas

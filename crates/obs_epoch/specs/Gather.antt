@@ -146,6 +146,10 @@ closed_if b l = record { state = if b then noted l.state else l.state; counts = 
 abbrev pub take_step : Gathered → Heard → Loaded
 take_step g m = closed_if (is_some (closed_by g.clock m)) (loaded_by (answer_by g.clock m) g.clock.latest (ticked g m) m)
 
+-- the last call closed no epoch
+abbrev pub rested : Gathered → Gathered
+rested g = record g { handed = false }
+
 abbrev pub stopped : State → State
 stopped c = record c { pending = false }
 

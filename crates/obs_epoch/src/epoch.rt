@@ -1,7 +1,7 @@
 //! An epoch: what was observed at one time.
-ghost use Rattle.std.specs.Prelude.{◌≡◌, ◌+◌, ◌<◌, ◌≤◌, [], length, IfOk, insert};
+ghost use Rattle.std.specs.Prelude.{◌≡◌, ◌+◌, ◌<◌, ◌≤◌, [], length, drop, IfOk, insert};
 ghost use Rattle.std.specs.Vec.{vec_len, vec_capacity};
-ghost use Rattle.obs_epoch.specs.Values.{EpochValue, AreHeld, IsHeld, cells_of, satellites, is_written, written_among, has_value, most_cells};
+ghost use Rattle.obs_epoch.specs.Values.{EpochValue, AreHeld, IsHeld, cells_of, satellites, is_written, written_among, has_value, most_cells, run};
 ghost use Rattle.obs_epoch.specs.Marked.{with_cell_of, cell_of, IsObserved};
 ghost use Rattle.obs_epoch.specs.Order.{AreSorted};
 ghost use Rattle.gnss_obs.specs.Satellites.{satellites as satellites_in};
@@ -107,16 +107,35 @@ impl Epoch {
     }
 }
 
+/// Where the cells of a satellite end that stand from this place on.
+pub fn end_of(cells: &[Cell], from: usize, id: u8) -> usize
+    requires { from ≤ length cells.now }
+    ensures end { result ≡ from + run id (drop from cells.now) }
+    ensures bound { result ≤ length cells.now }
+{
+    for at in from..cells.len() {
+        if cells[at].satellite.id() != id {
+            return at;
+        }
+    }
+    cells.len()
+}
+
 // Of a system's satellites, how many have a cell that says something.
 fn written(cells: &[Cell], system: System) -> usize
+    requires held { AreHeld system cells.now }
+    requires order { AreSorted cells.now }
     ensures count { result ≡ written_among cells.now (satellites_in system) }
     ensures bound { result ≤ satellites_in system }
 {
     let mut count = 0;
-    for id in 0..system.satellites() {
-        if is_written(cells, id + 1) {
+    let mut from = 0;
+    for before in 0..system.satellites() {
+        let to = end_of(cells, from, before + 1);
+        if is_written(&cells[from..to], before + 1) {
             count += 1;
         }
+        from = to;
     }
     count
 }

@@ -17,7 +17,7 @@ ghost use Rattle.obs_epoch.specs.Values.{Closed, most_cells};
 ghost use Rattle.obs_epoch.specs.Kinds.{is_close_first, kind_of, is_by_bit, is_no_station};
 ghost use Rattle.obs_epoch.specs.Gathering.{Gathers, Fits, closed_by, closed_in, is_done, plan_in};
 ghost use Rattle.obs_epoch.specs.declared.fault.PlanFault.{PlanFault};
-ghost use Rattle.obs_epoch.specs.Gather.{take_step, end_step, loaded_by, load_heard, load_entry, load_entries, begun, is_same as is_same_lem, no_epoch, no_counts, cells_in, load, noted, fate_in, hold};
+ghost use Rattle.obs_epoch.specs.Gather.{take_step, end_step, loaded_by, load_heard, load_entry, load_entries, begun, is_same as is_same_lem, no_epoch, no_counts, cells_in, load, noted, rested, fate_in, hold};
 ghost use Rattle.obs_epoch.specs.declared.seen.Counts.{Counts};
 
 use crate::cell::StationValues;
@@ -83,6 +83,7 @@ impl Gatherer {
     ) -> Result<Gatherer, PlanFault>
         ensures stands { IfOk result (λ g. Gathers g (record { plan = plan; start_week = start_week; station = station; by_bit = is_by_bit gather }) [] [] None) }
         ensures going { IfOk result (λ g. g.has_ended ≡ false) }
+        ensures none { IfOk result (λ g. closed_in g ≡ None) }
         ensures accepted { IsOk result → (start_week < weeks) × (is_no_station station ≡ false) }
         ensures week { (result ≡ Err PlanFault.BadWeek) ↔ (weeks ≤ start_week) }
         ensures station { (result ≡ Err PlanFault.BadStation) ↔ ((start_week < weeks) × (is_no_station station ≡ true)) }
@@ -111,6 +112,7 @@ impl Gatherer {
         requires { start_week < weeks }
         ensures stands { IfOk result (λ g. Standing g (record { plan = plan; start_week = start_week; station = station; by_bit = by_bit }) [] false) }
         ensures going { IfOk result (λ g. g.has_ended ≡ false) }
+        ensures none { IfOk result (λ g. closed_in g ≡ None) }
     {
         let held = Held::new(alloc)?;
         let locks = Locks::new(alloc)?;
@@ -156,13 +158,20 @@ impl Gatherer {
         }
     }
 
-    /// No message follows: closes the pending epoch, and says whether there was one.
+    /// No message follows: closes the pending epoch, and says whether there was one. After the first `end` there is none.
     pub fn end(&mut self) -> bool
         ensures closes { (s : Setup) (ms : List Heard) (es : List Closed) → Gathers self.old s ms es None → self.old.has_ended ≡ false
             → (result ≡ is_pending s (timed s ms)) × Gathers self.new s ms (es ++ closed_by (closed_in self.new) self.new.values) None }
         ensures closed { result ≡ is_some (closed_in self.new) }
         ensures ended { self.new.has_ended ≡ true }
+        ensures twice { self.old.has_ended ≡ true → (result ≡ false) × (self.new ≡ rested self.old) }
+        ensures stays { (s : Setup) (ms : List Heard) (es : List Closed) (again : Option Heard) → Gathers self.old s ms es again → self.old.has_ended ≡ true
+            → Gathers self.new s ms es again }
     {
+        if self.has_ended {
+            self.handed = false;
+            return false;
+        }
         self.finish()
     }
 

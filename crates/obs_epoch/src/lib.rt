@@ -24,7 +24,7 @@ mod time;
 
 pub use cell::{Cell, StationValues};
 pub use civil::Civil;
-pub use epoch::Epoch;
+pub use epoch::{Epoch, end_of};
 pub use fault::PlanFault;
 pub use gather::Gatherer;
 pub use plan::Plan;

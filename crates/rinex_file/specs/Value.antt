@@ -1,5 +1,5 @@
 -- What a file holds.
-use Rattle.std.specs.Prelude.{ℕ, ℤ, ◌==◌, ◌&&◌, Bool, List, [], ◌∷◌, ◌++◌, zero, suc, map, filter, find, if◌then◌else◌, Option, None}
+use Rattle.std.specs.Prelude.{ℕ, ℤ, ◌==◌, ◌&&◌, Bool, List, [], ◌∷◌, ◌++◌, zero, suc, map, filter, find, Option, None}
 use Rattle.std.specs.Option.{option_map_or}
 use Rattle.gnss_obs.specs.declared.system.System.{System}
 use Rattle.gnss_obs.specs.declared.system.System.TheVariants.{Gps, Galileo}
@@ -75,15 +75,6 @@ seen_among plan system cells id = record { system = system; row = row_of (planne
 
 abbrev pub seen_of : PlanValue → EpochValue → System → ℕ → Seen
 seen_of plan epoch system id = seen_among plan system (cells_of system epoch) id
-
--- a cell of the satellite of this number
-abbrev pub is_from : ℕ → Cell → Bool
-is_from id c = c.satellite.id == id
-
--- how many cells of the satellite of this number stand in front
-abbrev pub run : ℕ → List Cell → ℕ
-run id [] = 0
-run id (c ∷ cells) = if is_from id c then suc (run id cells) else 0
 
 -- the satellites of a system that are written
 abbrev pub rows_of : PlanValue → EpochValue → System → List Seen

@@ -5,7 +5,6 @@ ghost use Rattle.rtcm_bits.specs.Device.{AppendsPrefix, HasFailed};
 ghost use Rattle.obs_epoch.specs.Values.{AreHeld, cells_of, has_value, is_written};
 ghost use Rattle.gnss_obs.specs.Satellites.{satellites};
 ghost use Rattle.rinex_file.specs.File.{header_text, epoch_text, line_among, lines_up_to};
-ghost use Rattle.rinex_file.specs.Value.{run};
 
 use crate::epoch::epoch_line;
 use crate::fault::HeadFault;
@@ -13,7 +12,7 @@ use crate::head::{Head, header_lines};
 use crate::numbers::Line;
 use crate::satellite::put_seen;
 use gnss_obs::System;
-use obs_epoch::{Cell, Epoch, Plan};
+use obs_epoch::{Cell, Epoch, Plan, end_of};
 use rtcm_bits::Counted;
 use std::io::Write;
 
@@ -54,20 +53,6 @@ fn is_written(cells: &[Cell], id: u8) -> bool
     cells
         .iter()
         .any(|cell| cell.satellite.id() == id && has_value(cell))
-}
-
-// Where the cells of a satellite end that begin here.
-fn end_of(cells: &[Cell], from: usize, id: u8) -> usize
-    requires { from ≤ length cells.now }
-    ensures end { result ≡ from + run id (drop from cells.now) }
-    ensures bound { result ≤ length cells.now }
-{
-    for at in from..cells.len() {
-        if cells[at].satellite.id() != id {
-            return at;
-        }
-    }
-    cells.len()
 }
 
 // Writes the line of a satellite where one of its cells has a value.

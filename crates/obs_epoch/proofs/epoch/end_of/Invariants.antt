@@ -1,6 +1,6 @@
 use Rattle.std.proofs.Common.{◌≡◌, ◌+◌, ◌≤◌, drop, length}
-use Rattle.rinex_file.specs.Value.{run}
-use Rattle.rinex_file.proofs.write.end_of.Given as goal
+use Rattle.obs_epoch.specs.Values.{run}
+use Rattle.obs_epoch.proofs.epoch.end_of.Given as goal
 
 -- up to here the cells are of that satellite
 abbrev pub invariant-loop-at : goal.invariant-loop-at
