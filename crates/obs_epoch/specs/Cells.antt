@@ -1,4 +1,4 @@
--- The cells of an epoch: of each key the first, and of these the first 64 of a system.
+-- The cells of an epoch: of each key the first, and of these the first 256 of a system.
 use Rattle.std.specs.Prelude.{ℕ, ◌+◌, ◌-◌, ◌==◌, ◌&&◌, ◌||◌, Bool, true, false, not, nat_le, nat_lt, List, [], ◌∷◌, ◌++◌, filter, flat_map, take, length, count_by, is_some, if◌then◌else◌}
 use Rattle.std.specs.List.{list_any}
 use Rattle.gnss_obs.specs.declared.system.System.{System}

@@ -31,7 +31,7 @@ cells_of Galileo e = e.galileo
 
 -- so many cells of a system are kept
 abbrev pub most_cells : ℕ
-most_cells = 64
+most_cells = 256
 
 -- a value that fourteen columns have room for
 abbrev pub Fits : ℤ → Type 0

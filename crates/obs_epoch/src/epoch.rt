@@ -15,7 +15,7 @@ use std::alloc::{AllocError, Global};
 use std::marker::Model;
 
 /// So many cells of a system are kept in an epoch.
-pub(crate) const MOST_CELLS: usize = 64;
+pub(crate) const MOST_CELLS: usize = 256;
 
 /// An epoch: its time, and the cells of each system that are kept.
 #[derive(Drop)]
@@ -84,7 +84,7 @@ impl Epoch {
         self.time
     }
 
-    /// The kept cells of a system, at most 64, by satellite and within it by the plan, no two of one key: each of a listed
+    /// The kept cells of a system, at most 256, by satellite and within it by the plan, no two of one key: each of a listed
     /// satellite and signal of that system.
     pub fn cells(&self, system: System) -> &[Cell]
         ensures cells { result.now ≡ cells_of system self.now }
