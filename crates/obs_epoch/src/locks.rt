@@ -136,7 +136,7 @@ pub fn push_within<T: Drop>(xs: &mut Vec<T>, x: T)
     let _ = xs.push(x);
 }
 
-/// Inserts where there is room, and takes no memory.
+/// Inserts where there is room, and takes no memory. Most come behind all others.
 pub fn insert_within<T: Drop>(xs: &mut Vec<T>, at: usize, x: T)
     requires room { vec_len xs.old < vec_capacity xs.old }
     requires within { at ≤ vec_len xs.old }
@@ -144,7 +144,11 @@ pub fn insert_within<T: Drop>(xs: &mut Vec<T>, at: usize, x: T)
     ensures len { vec_len xs.new ≡ vec_len xs.old + 1 }
     ensures room { vec_capacity xs.old ≤ vec_capacity xs.new }
 {
-    let _ = xs.insert(at, x);
+    if at == xs.len() {
+        push_within(xs, x);
+    } else {
+        let _ = xs.insert(at, x);
+    }
 }
 
 /// Whether two satellites and signals are of one system, number and place.

@@ -14,10 +14,10 @@ loop-before-preserved c =
     let own = c.is_written.ensures ∙ ap (λ l. is_written l (n + 1)) (sym part.group) ∙ any_from (n + 1) cells in
     elim c.if-is_written.branch [
       | then-is_written w ↦
-        let new : c.if-is_written.count ≡ c.loop-before.count + 1 = w.count-is in
-        (count_more cells n (n + 1) c.loop-before.count c.if-is_written.count true next (sym own ∙ w.if-is_written.true) inv.0 new, omega (arith, new, inv.1), part.left)
+          let new : c.if-is_written.count ≡ c.loop-before.count + 1 = w.count-is in
+          (count_more cells n (n + 1) c.loop-before.count c.if-is_written.count true next (sym own ∙ w.if-is_written.true) inv.0 new, omega (arith, new, inv.1), part.left)
       | else-is_written w ↦
-        let new : c.if-is_written.count ≡ c.loop-before.count = w.count-is in
-        let none : c.if-is_written.count ≡ c.loop-before.count + 0 = omega (arith, new) in
-        (count_more cells n (n + 1) c.loop-before.count c.if-is_written.count false next (sym own ∙ w.if-is_written.false) inv.0 none, omega (arith, new, inv.1), part.left)
+          let new : c.if-is_written.count ≡ c.loop-before.count = w.count-is in
+          let none : c.if-is_written.count ≡ c.loop-before.count + 0 = omega (arith, new) in
+          (count_more cells n (n + 1) c.loop-before.count c.if-is_written.count false next (sym own ∙ w.if-is_written.false) inv.0 none, omega (arith, new, inv.1), part.left)
     ]
