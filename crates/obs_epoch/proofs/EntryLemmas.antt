@@ -1,5 +1,5 @@
 -- The cells of a message come one by one: those that are listed, and how many others there are.
-use Rattle.std.proofs.Common.{◌≡◌, ℕ, ◌+◌, List, [], ◌∷◌, Bool, true, false, not, refl, sym, ap, ap₂, ◌∙◌, arith, Option, Some, None, is_some}
+use Rattle.std.proofs.Common.{◌≡◌, ℕ, ◌+◌, List, [], ◌∷◌, Bool, refl, ap, ◌∙◌, arith, Option, Some, None, is_some}
 use Rattle.std.specs.Prelude.{filter_map, cond}
 use Rattle.std.specs.Option.{option_map_or}
 use Rattle.std.specs.List.{cons_option}

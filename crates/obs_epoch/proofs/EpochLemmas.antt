@@ -10,6 +10,8 @@ use Rattle.obs_epoch.specs.Heard.{Setup, Heard}
 use Rattle.obs_epoch.specs.declared.seen.Seen.{Seen}
 use Rattle.obs_epoch.specs.Times.{Timed, is_at, greatest}
 use Rattle.obs_epoch.specs.Cells.{offered, kept, kept_at, is_planned, has_same_key}
+use Rattle.obs_epoch.specs.Order.{sorted}
+use Rattle.obs_epoch.specs.Values.{planned_of}
 use Rattle.obs_epoch.specs.Loss.{times, lock_of, locked_at, previous, last_of, mark_of, mark_with}
 use Rattle.std.specs.List.{cons_option}
 use Rattle.obs_epoch.specs.Marked.{MarkedEpoch}
@@ -35,7 +37,7 @@ offered-push s t xs x h =
     (filter-append (is_at t) xs (x ∷ []) ∙ ap (λ b. filter (is_at t) xs ++ cond b (x ∷ []) []) (not_at t x.time h) ∙ append-nil _)
 
 pub kept_at-push : (s : Setup) (t : ℕ) (xs : List Timed) (x : Timed) (system : System) → IsLater t x.time → kept_at s t (xs ++ x ∷ []) system ≡ kept_at s t xs system
-kept_at-push s t xs x system h = ap (kept system) (offered-push s t xs x h)
+kept_at-push s t xs x system h = ap (λ l. sorted (planned_of system s.plan) (kept system l)) (offered-push s t xs x h)
 
 earlier : (u t : ℕ) (time : Option ℕ) → u < t → IsLater t time → IsLater u time
 earlier u t None lt h = tt

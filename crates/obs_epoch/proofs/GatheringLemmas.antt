@@ -1,23 +1,19 @@
 -- The epochs of a list that grows by one message, with their station values.
-use Rattle.std.proofs.Common.{◌≡◌, ℕ, ◌<◌, ◌≤◌, Bool, true, false, not, ◌||◌, ◌&&◌, List, [], ◌∷◌, ◌++◌, map, filter, refl, sym, ap, ap₂, ◌∙◌, subst, arith, Option, Some, None, is_some, nat_lt, append_assoc, append-nil, max}
+use Rattle.std.proofs.Common.{◌≡◌, ℕ, Bool, true, false, not, ◌||◌, List, [], ◌∷◌, ◌++◌, filter, refl, sym, ap, ap₂, ◌∙◌, subst, arith, Option, Some, None, nat_lt, append_assoc, append-nil}
 use Rattle.std.specs.Prelude.{if◌then◌else◌, cond, option_to_list}
 use Rattle.std.specs.Option.{option_map_or}
 use Rattle.std.specs.List.{list_any}
 use Rattle.std.proofs.lemmas.List.{map-append}
 use Rattle.obs_epoch.specs.Heard.{Setup, Heard, is_mark}
-use Rattle.obs_epoch.specs.Values.{Closed}
 use Rattle.obs_epoch.specs.Marked.{MarkedEpoch, shown}
 use Rattle.obs_epoch.specs.Times.{Timed, is_at, max_known, greatest, from_first, is_closed, taken_at, timed}
 use Rattle.obs_epoch.specs.Loss.{times}
-use Rattle.obs_epoch.specs.Epochs.{is_shut, closed_times, closed_so_far, epoch_at, values_of}
-use Rattle.obs_epoch.specs.Clock.{is_pending, closes_first}
+use Rattle.obs_epoch.specs.Epochs.{is_shut, closed_times, epoch_at, values_of}
+use Rattle.obs_epoch.specs.Clock.{is_pending}
 use Rattle.obs_epoch.specs.Gathering.{IsPrefix, open_after, before_closing, closed_at, closed_list_at, closed_epochs, all_epochs}
 use Rattle.obs_epoch.proofs.TimesLemmas.{next, timed-push, greatest-push}
-use Rattle.obs_epoch.proofs.ClockLemmas.{Follows, standing}
-use Rattle.obs_epoch.proofs.ClosedLemmas.{Below, ends, no_times, closed_is, when, taken_follows, grows_by}
-use Rattle.obs_epoch.proofs.ClosingLemmas.{closing}
-use Rattle.obs_epoch.proofs.EpochLemmas.{AllLater, IsLater, Known, epoch_at-push, times_before, all_later}
-use Rattle.obs_epoch.proofs.StandingLemmas.{closed_later}
+use Rattle.obs_epoch.proofs.ClosedLemmas.{ends, no_times, closed_is, when, taken_follows, grows_by}
+use Rattle.obs_epoch.proofs.EpochLemmas.{AllLater, IsLater, epoch_at-push, times_before, all_later}
 
 -- ---- what is closed stays closed
 

@@ -1,5 +1,5 @@
 -- A call of the gatherer hands out what the longer list has closed since.
-use Rattle.std.proofs.Common.{◌≡◌, ℕ, ◌<◌, Bool, true, false, not, ◌||◌, ◌&&◌, List, [], ◌∷◌, ◌++◌, map, refl, sym, ap, ap₂, ◌∙◌, subst, arith, Option, Some, None, is_some, nat_lt, append_assoc, append-nil}
+use Rattle.std.proofs.Common.{◌≡◌, ℕ, ◌<◌, Bool, true, false, ◌||◌, ◌&&◌, List, [], ◌∷◌, ◌++◌, refl, sym, ap, ap₂, ◌∙◌, subst, arith, Option, Some, None, is_some, nat_lt, append-nil}
 use Rattle.std.specs.Prelude.{if◌then◌else◌, option_to_list}
 use Rattle.std.specs.Option.{option_map_or}
 use Rattle.std.specs.List.{list_any}
@@ -10,19 +10,18 @@ use Rattle.obs_epoch.specs.Marked.{MarkedEpoch, shown}
 use Rattle.obs_epoch.specs.Times.{Timed, is_at, greatest, from_first, is_closed, taken_at, timed}
 use Rattle.obs_epoch.specs.Loss.{times}
 use Rattle.obs_epoch.specs.Epochs.{is_shut, closed_times, closed_so_far, epoch_at, values_of}
-use Rattle.obs_epoch.specs.Clock.{is_pending, closes_first, answer_of}
-use Rattle.obs_epoch.specs.Step.{closed_by as closes, answer_by}
-use Rattle.obs_epoch.specs.Gather.{Gathered, Loaded, no_epoch, take_step, end_step, noted}
+use Rattle.obs_epoch.specs.Clock.{is_pending, closes_first}
+use Rattle.obs_epoch.specs.Step.{closed_by as closes}
+use Rattle.obs_epoch.specs.Gather.{Gathered, no_epoch, take_step, end_step, noted}
 use Rattle.obs_epoch.specs.Standing.{Standing, held_at}
-use Rattle.obs_epoch.specs.declared.clock.Answer.TheVariants as answers
-use Rattle.obs_epoch.specs.Gathering.{IsPrefix, before_closing, closed_at, closed_list_at, closed_epochs, all_epochs, known_epochs, closed_by, closed_in, handed_over, is_done, Fits, Gathers}
+use Rattle.obs_epoch.specs.Gathering.{IsPrefix, before_closing, closed_at, closed_list_at, known_epochs, closed_by, closed_in, handed_over, is_done, Gathers}
 use Rattle.obs_epoch.proofs.TimesLemmas.{next, timed-push, greater-absent, none-absent}
 use Rattle.obs_epoch.proofs.ClockLemmas.{Follows, first, greater, equal, new_time, same_time, standing as standing_at}
 use Rattle.obs_epoch.proofs.ClosedLemmas.{taken_follows}
 use Rattle.obs_epoch.proofs.ClosingLemmas.{closing}
 use Rattle.obs_epoch.proofs.StandingLemmas.{closed_later}
 use Rattle.obs_epoch.proofs.TakeLemmas.{taken, closes_it, ended, Ended, times_taken, time_taken, pending_taken, IsTold, no_point_told, same_values, handed_is, ended_is}
-use Rattle.obs_epoch.proofs.GatheringLemmas.{Each, each_filter, each_front, each_back, list-push, before_all, before-push, pending_open, pending_in, with_pending, all-prefix, prefix_self, epochs-push}
+use Rattle.obs_epoch.proofs.GatheringLemmas.{Each, each_filter, each_front, each_back, list-push, before_all, before-push, pending_open, with_pending, prefix_self}
 
 -- ---- which epoch is new
 

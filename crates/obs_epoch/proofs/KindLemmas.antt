@@ -1,5 +1,5 @@
 -- The kind of a message: whether it is to come again.
-use Rattle.std.proofs.Common.{◌≡◌, ℕ, Bool, true, false, ◌⊎◌, inl, inr, List, refl, sym, ap, ap₂, ◌∙◌, subst, arith, Option, Some, None, is_some}
+use Rattle.std.proofs.Common.{◌≡◌, ℕ, Bool, true, false, List, refl, sym, ap, ap₂, ◌∙◌, subst, arith, Option, Some, None, is_some}
 use Rattle.std.specs.Prelude.{if◌then◌else◌}
 use Rattle.obs_epoch.specs.declared.taken.Kind.TheVariants as kinds
 use Rattle.obs_epoch.specs.declared.clock.Answer.{Answer}
@@ -8,7 +8,7 @@ use Rattle.obs_epoch.specs.declared.seen.Counts.{Counts}
 use Rattle.obs_epoch.specs.Heard.{Setup, Heard}
 use Rattle.obs_epoch.specs.Values.{Closed}
 use Rattle.obs_epoch.specs.Times.{Timed, timed}
-use Rattle.obs_epoch.specs.Clock.{closes_first, answer_of}
+use Rattle.obs_epoch.specs.Clock.{closes_first}
 use Rattle.obs_epoch.specs.Step.{answer_by}
 use Rattle.obs_epoch.specs.Kinds.{is_close_first, kind_at, station_kind, kind_by, kind_of}
 use Rattle.obs_epoch.specs.Gather.{Gathered, take_step}

@@ -20,3 +20,6 @@ pub mod FitLemmas
 pub mod GatheringLemmas
 pub mod HandingLemmas
 pub mod KindLemmas
+mod OrderLemmas
+mod StandLemmas
+pub mod GroupLemmas

@@ -11,21 +11,36 @@ use Rattle.obs_epoch.specs.declared.seen.Fate.{Fate}
 use Rattle.obs_epoch.specs.declared.seen.Fate.TheVariants.{Skipped, Repeated, Crowded, Kept}
 use Rattle.obs_epoch.specs.Heard.{Setup}
 use Rattle.obs_epoch.specs.Cells.{is_of, has_same_key, is_among, kept, add, is_planned}
-use Rattle.obs_epoch.specs.Values.{most_cells}
 use Rattle.obs_epoch.specs.Loss.{mark_with}
 use Rattle.obs_epoch.specs.Marked.{MarkedEpoch}
 use Rattle.obs_epoch.specs.Held.{lookup, is_held, fate_of, count_in}
 use Rattle.obs_epoch.specs.Gather.{Gathered, cells_in, more_in, with_more, fate_in, hold, hold_by, load}
+use Rattle.obs_epoch.specs.Values.{PlanValue, planned_of, most_cells}
+use Rattle.obs_epoch.specs.Order.{insert_by, is_before, seat_of, marked_seat, sorted}
 use Rattle.obs_epoch.proofs.CellsLemmas.{kept-add}
+use Rattle.obs_epoch.proofs.OrderLemmas.{sorted-push, among-sorted, length-sorted}
 
 -- cells with their marks, where the locks of their keys before are known
 abbrev pub marked_by : (Seen → Option KnownLock) → ℕ → List Seen → List Marked
 marked_by f t [] = []
 marked_by f t (x ∷ xs) = record { seen = x; mark = mark_with t x (f x) } ∷ marked_by f t xs
 
-pub marked_by-push : (f : Seen → Option KnownLock) (t : ℕ) (xs : List Seen) (x : Seen) → marked_by f t (xs ++ x ∷ []) ≡ marked_by f t xs ++ record { seen = x; mark = mark_with t x (f x) } ∷ []
-marked_by-push f t [] x = refl
-marked_by-push f t (y ∷ xs) x = ap (λ l. record { seen = y; mark = mark_with t y (f y) } ∷ l) (marked_by-push f t xs x)
+marked_by-insert : (planned : List ℕ) (f : Seen → Option KnownLock) (t : ℕ) (xs : List Seen) (x : Seen)
+    → marked_by f t (insert_by (seat_of planned) x xs) ≡ insert_by (marked_seat planned) (record { seen = x; mark = mark_with t x (f x) }) (marked_by f t xs)
+marked_by-insert planned f t [] x = refl
+marked_by-insert planned f t (y ∷ xs) x = by (is_before (seat_of planned x) (seat_of planned y)) (marked_by-insert planned f t xs x) where
+  one : Seen → Marked
+  one z = record { seen = z; mark = mark_with t z (f z) }
+
+  by : (b : Bool) → marked_by f t (insert_by (seat_of planned) x xs) ≡ insert_by (marked_seat planned) (one x) (marked_by f t xs)
+      → marked_by f t (if b then x ∷ y ∷ xs else y ∷ insert_by (seat_of planned) x xs) ≡ (if b then one x ∷ one y ∷ marked_by f t xs else one y ∷ insert_by (marked_seat planned) (one x) (marked_by f t xs))
+  by true e = refl
+  by false e = ap (λ l. one y ∷ l) e
+
+-- a kept cell comes to its place in the order
+marked_by-push : (planned : List ℕ) (f : Seen → Option KnownLock) (t : ℕ) (xs : List Seen) (x : Seen)
+    → marked_by f t (sorted planned (xs ++ x ∷ [])) ≡ insert_by (marked_seat planned) (record { seen = x; mark = mark_with t x (f x) }) (marked_by f t (sorted planned xs))
+marked_by-push planned f t xs x = ap (marked_by f t) (sorted-push planned xs x) ∙ marked_by-insert planned f t (sorted planned xs) x
 
 pub marked_by-same : (f g : Seen → Option KnownLock) (t : ℕ) (xs : List Seen) → ((key : Seen) → f key ≡ g key) → marked_by f t xs ≡ marked_by g t xs
 marked_by-same f g t [] h = refl
@@ -40,8 +55,8 @@ marked_by-held f t [] y = refl
 marked_by-held f t (x ∷ xs) y = ap (λ b. has_same_key y x || b) (marked_by-held f t xs y)
 
 -- the epoch of time t in which these cells were offered
-abbrev pub epoch_of : (Seen → Option KnownLock) → ℕ → List Seen → MarkedEpoch
-epoch_of f t xs = record { time = t; gps = marked_by f t (kept Gps xs); galileo = marked_by f t (kept Galileo xs) }
+abbrev pub epoch_of : PlanValue → (Seen → Option KnownLock) → ℕ → List Seen → MarkedEpoch
+epoch_of p f t xs = record { time = t; gps = marked_by f t (sorted p.gps (kept Gps xs)); galileo = marked_by f t (sorted p.galileo (kept Galileo xs)) }
 
 -- what becomes of a cell after these
 abbrev pub fate_after : Setup → List Seen → Seen → Fate
@@ -51,15 +66,18 @@ fate_after s xs x =
 abbrev pub planned_one : Setup → Seen → List Seen
 planned_one s x = if is_planned s x then x ∷ [] else []
 
-cells_in_of : (system : System) (f : Seen → Option KnownLock) (t : ℕ) (xs : List Seen) → cells_in system (epoch_of f t xs) ≡ marked_by f t (kept system xs)
-cells_in_of Gps f t xs = refl
-cells_in_of Galileo f t xs = refl
+cells_in_of : (system : System) (p : PlanValue) (f : Seen → Option KnownLock) (t : ℕ) (xs : List Seen) → cells_in system (epoch_of p f t xs) ≡ marked_by f t (sorted (planned_of system p) (kept system xs))
+cells_in_of Gps p f t xs = refl
+cells_in_of Galileo p f t xs = refl
 
-pub fate_is : (s : Setup) (f : Seen → Option KnownLock) (t : ℕ) (xs : List Seen) (x : Seen) → fate_of s (cells_in x.satellite.system (epoch_of f t xs)) x ≡ fate_after s xs x
+pub fate_is : (s : Setup) (f : Seen → Option KnownLock) (t : ℕ) (xs : List Seen) (x : Seen) → fate_of s (cells_in x.satellite.system (epoch_of s.plan f t xs)) x ≡ fate_after s xs x
 fate_is s f t xs x =
-    ap (λ ms. fate_of s ms x) (cells_in_of x.satellite.system f t xs)
+    ap (λ ms. fate_of s ms x) (cells_in_of x.satellite.system s.plan f t xs)
     ∙ ap₂ (λ b n. if is_planned s x then (if b then Repeated else (if nat_le most_cells n then Crowded else Kept)) else Skipped)
-    (marked_by-held f t (kept x.satellite.system xs) x) (marked_by-length f t (kept x.satellite.system xs))
+    (marked_by-held f t (sorted planned (kept x.satellite.system xs)) x ∙ among-sorted planned (kept x.satellite.system xs) x)
+    (marked_by-length f t (sorted planned (kept x.satellite.system xs)) ∙ length-sorted planned (kept x.satellite.system xs)) where
+      planned : List ℕ
+      planned = planned_of x.satellite.system s.plan
 
 -- the other system's cells stay
 add_other : (system : System) (ks : List Seen) (x : Seen) → is_of system x ≡ false → add system ks x ≡ ks
@@ -72,15 +90,15 @@ add_own system ks x h =
       by true = refl
       by false = refl
 
-abbrev pub epoch_by : Fate → (Seen → Option KnownLock) → MarkedEpoch → Seen → MarkedEpoch
-epoch_by Kept f e x = with_more e (record { seen = x; mark = mark_with e.time x (f x) })
-epoch_by _ f e x = e
+abbrev pub epoch_by : PlanValue → Fate → (Seen → Option KnownLock) → MarkedEpoch → Seen → MarkedEpoch
+epoch_by p Kept f e x = with_more p e (record { seen = x; mark = mark_with e.time x (f x) })
+epoch_by p _ f e x = e
 
 -- a cell of GPS
 one_gps : (s : Setup) (f : Seen → Option KnownLock) (t : ℕ) (xs : List Seen) (x : Seen) (p a n : Bool) → x.satellite.system ≡ Gps
     → is_planned s x ≡ p → is_among (kept Gps xs) x ≡ a → nat_le most_cells (length (kept Gps xs)) ≡ n
-    → epoch_by (if p then (if a then Repeated else (if n then Crowded else Kept)) else Skipped) f (epoch_of f t xs) x ≡ epoch_of f t (xs ++ (if p then x ∷ [] else []))
-one_gps s f t xs x false a n g e h k = ap (epoch_of f t) (sym (append-nil xs))
+    → epoch_by s.plan (if p then (if a then Repeated else (if n then Crowded else Kept)) else Skipped) f (epoch_of s.plan f t xs) x ≡ epoch_of s.plan f t (xs ++ (if p then x ∷ [] else []))
+one_gps s f t xs x false a n g e h k = ap (epoch_of s.plan f t) (sym (append-nil xs))
 one_gps s f t xs x true a n g e h k = by a n h k where
   other : kept Galileo (xs ++ x ∷ []) ≡ kept Galileo xs
   other = kept-add Galileo xs x ∙ add_other Galileo (kept Galileo xs) x (grind (arith, g))
@@ -88,17 +106,17 @@ one_gps s f t xs x true a n g e h k = by a n h k where
   own : kept Gps (xs ++ x ∷ []) ≡ (if is_among (kept Gps xs) x || nat_le most_cells (length (kept Gps xs)) then kept Gps xs else kept Gps xs ++ x ∷ [])
   own = kept-add Gps xs x ∙ add_own Gps (kept Gps xs) x (grind (arith, g))
 
-  same : kept Gps (xs ++ x ∷ []) ≡ kept Gps xs → epoch_of f t xs ≡ epoch_of f t (xs ++ x ∷ [])
-  same e = sym (ap₂ (λ u v. record { time = t; gps = marked_by f t u; galileo = marked_by f t v }) e other)
+  same : kept Gps (xs ++ x ∷ []) ≡ kept Gps xs → epoch_of s.plan f t xs ≡ epoch_of s.plan f t (xs ++ x ∷ [])
+  same e = sym (ap₂ (λ u v. record { time = t; gps = marked_by f t (sorted s.plan.gps u); galileo = marked_by f t (sorted s.plan.galileo v) }) e other)
 
-  more : kept Gps (xs ++ x ∷ []) ≡ kept Gps xs ++ x ∷ [] → with_more (epoch_of f t xs) (record { seen = x; mark = mark_with t x (f x) }) ≡ epoch_of f t (xs ++ x ∷ [])
+  more : kept Gps (xs ++ x ∷ []) ≡ kept Gps xs ++ x ∷ [] → with_more s.plan (epoch_of s.plan f t xs) (record { seen = x; mark = mark_with t x (f x) }) ≡ epoch_of s.plan f t (xs ++ x ∷ [])
   more e =
-      ap (λ c. more_in c (epoch_of f t xs) (record { seen = x; mark = mark_with t x (f x) })) g
-      ∙ ap (λ l. record { time = t; gps = l; galileo = marked_by f t (kept Galileo xs) }) (sym (marked_by-push f t (kept Gps xs) x))
-      ∙ sym (ap₂ (λ u v. record { time = t; gps = marked_by f t u; galileo = marked_by f t v }) e other)
+      ap (λ c. more_in c s.plan (epoch_of s.plan f t xs) (record { seen = x; mark = mark_with t x (f x) })) g
+      ∙ ap (λ l. record { time = t; gps = l; galileo = marked_by f t (sorted s.plan.galileo (kept Galileo xs)) }) (sym (marked_by-push s.plan.gps f t (kept Gps xs) x))
+      ∙ sym (ap₂ (λ u v. record { time = t; gps = marked_by f t (sorted s.plan.gps u); galileo = marked_by f t (sorted s.plan.galileo v) }) e other)
 
   by : (a n : Bool) → is_among (kept Gps xs) x ≡ a → nat_le most_cells (length (kept Gps xs)) ≡ n
-      → epoch_by (if a then Repeated else (if n then Crowded else Kept)) f (epoch_of f t xs) x ≡ epoch_of f t (xs ++ x ∷ [])
+      → epoch_by s.plan (if a then Repeated else (if n then Crowded else Kept)) f (epoch_of s.plan f t xs) x ≡ epoch_of s.plan f t (xs ++ x ∷ [])
   by true n h k = same (own ∙ ap (λ b. if b || nat_le most_cells (length (kept Gps xs)) then kept Gps xs else kept Gps xs ++ x ∷ []) h)
   by false true h k = same (own ∙ ap₂ (λ b c. if b || c then kept Gps xs else kept Gps xs ++ x ∷ []) h k)
   by false false h k = more (own ∙ ap₂ (λ b c. if b || c then kept Gps xs else kept Gps xs ++ x ∷ []) h k)
@@ -106,8 +124,8 @@ one_gps s f t xs x true a n g e h k = by a n h k where
 -- a cell of Galileo
 one_galileo : (s : Setup) (f : Seen → Option KnownLock) (t : ℕ) (xs : List Seen) (x : Seen) (p a n : Bool) → x.satellite.system ≡ Galileo
     → is_planned s x ≡ p → is_among (kept Galileo xs) x ≡ a → nat_le most_cells (length (kept Galileo xs)) ≡ n
-    → epoch_by (if p then (if a then Repeated else (if n then Crowded else Kept)) else Skipped) f (epoch_of f t xs) x ≡ epoch_of f t (xs ++ (if p then x ∷ [] else []))
-one_galileo s f t xs x false a n g e h k = ap (epoch_of f t) (sym (append-nil xs))
+    → epoch_by s.plan (if p then (if a then Repeated else (if n then Crowded else Kept)) else Skipped) f (epoch_of s.plan f t xs) x ≡ epoch_of s.plan f t (xs ++ (if p then x ∷ [] else []))
+one_galileo s f t xs x false a n g e h k = ap (epoch_of s.plan f t) (sym (append-nil xs))
 one_galileo s f t xs x true a n g e h k = by a n h k where
   other : kept Gps (xs ++ x ∷ []) ≡ kept Gps xs
   other = kept-add Gps xs x ∙ add_other Gps (kept Gps xs) x (grind (arith, g))
@@ -115,33 +133,33 @@ one_galileo s f t xs x true a n g e h k = by a n h k where
   own : kept Galileo (xs ++ x ∷ []) ≡ (if is_among (kept Galileo xs) x || nat_le most_cells (length (kept Galileo xs)) then kept Galileo xs else kept Galileo xs ++ x ∷ [])
   own = kept-add Galileo xs x ∙ add_own Galileo (kept Galileo xs) x (grind (arith, g))
 
-  same : kept Galileo (xs ++ x ∷ []) ≡ kept Galileo xs → epoch_of f t xs ≡ epoch_of f t (xs ++ x ∷ [])
-  same e = sym (ap₂ (λ u v. record { time = t; gps = marked_by f t u; galileo = marked_by f t v }) other e)
+  same : kept Galileo (xs ++ x ∷ []) ≡ kept Galileo xs → epoch_of s.plan f t xs ≡ epoch_of s.plan f t (xs ++ x ∷ [])
+  same e = sym (ap₂ (λ u v. record { time = t; gps = marked_by f t (sorted s.plan.gps u); galileo = marked_by f t (sorted s.plan.galileo v) }) other e)
 
-  more : kept Galileo (xs ++ x ∷ []) ≡ kept Galileo xs ++ x ∷ [] → with_more (epoch_of f t xs) (record { seen = x; mark = mark_with t x (f x) }) ≡ epoch_of f t (xs ++ x ∷ [])
+  more : kept Galileo (xs ++ x ∷ []) ≡ kept Galileo xs ++ x ∷ [] → with_more s.plan (epoch_of s.plan f t xs) (record { seen = x; mark = mark_with t x (f x) }) ≡ epoch_of s.plan f t (xs ++ x ∷ [])
   more e =
-      ap (λ c. more_in c (epoch_of f t xs) (record { seen = x; mark = mark_with t x (f x) })) g
-      ∙ ap (λ l. record { time = t; gps = marked_by f t (kept Gps xs); galileo = l }) (sym (marked_by-push f t (kept Galileo xs) x))
-      ∙ sym (ap₂ (λ u v. record { time = t; gps = marked_by f t u; galileo = marked_by f t v }) other e)
+      ap (λ c. more_in c s.plan (epoch_of s.plan f t xs) (record { seen = x; mark = mark_with t x (f x) })) g
+      ∙ ap (λ l. record { time = t; gps = marked_by f t (sorted s.plan.gps (kept Gps xs)); galileo = l }) (sym (marked_by-push s.plan.galileo f t (kept Galileo xs) x))
+      ∙ sym (ap₂ (λ u v. record { time = t; gps = marked_by f t (sorted s.plan.gps u); galileo = marked_by f t (sorted s.plan.galileo v) }) other e)
 
   by : (a n : Bool) → is_among (kept Galileo xs) x ≡ a → nat_le most_cells (length (kept Galileo xs)) ≡ n
-      → epoch_by (if a then Repeated else (if n then Crowded else Kept)) f (epoch_of f t xs) x ≡ epoch_of f t (xs ++ x ∷ [])
+      → epoch_by s.plan (if a then Repeated else (if n then Crowded else Kept)) f (epoch_of s.plan f t xs) x ≡ epoch_of s.plan f t (xs ++ x ∷ [])
   by true n h k = same (own ∙ ap (λ b. if b || nat_le most_cells (length (kept Galileo xs)) then kept Galileo xs else kept Galileo xs ++ x ∷ []) h)
   by false true h k = same (own ∙ ap₂ (λ b c. if b || c then kept Galileo xs else kept Galileo xs ++ x ∷ []) h k)
   by false false h k = more (own ∙ ap₂ (λ b c. if b || c then kept Galileo xs else kept Galileo xs ++ x ∷ []) h k)
 
 -- a cell more: the held epoch is that of the longer list
 one_more : (s : Setup) (f : Seen → Option KnownLock) (t : ℕ) (xs : List Seen) (x : Seen)
-    → epoch_by (fate_after s xs x) f (epoch_of f t xs) x ≡ epoch_of f t (xs ++ planned_one s x)
+    → epoch_by s.plan (fate_after s xs x) f (epoch_of s.plan f t xs) x ≡ epoch_of s.plan f t (xs ++ planned_one s x)
 one_more s f t xs x = by x.satellite.system refl where
   by : (system : System) → x.satellite.system ≡ system
-      → epoch_by (if is_planned s x then (if is_among (kept x.satellite.system xs) x then Repeated else (if nat_le most_cells (length (kept x.satellite.system xs)) then Crowded else Kept)) else Skipped) f (epoch_of f t xs) x
-      ≡ epoch_of f t (xs ++ planned_one s x)
+      → epoch_by s.plan (if is_planned s x then (if is_among (kept x.satellite.system xs) x then Repeated else (if nat_le most_cells (length (kept x.satellite.system xs)) then Crowded else Kept)) else Skipped) f (epoch_of s.plan f t xs) x
+      ≡ epoch_of s.plan f t (xs ++ planned_one s x)
   by Gps g =
-      ap (λ c. epoch_by (if is_planned s x then (if is_among (kept c xs) x then Repeated else (if nat_le most_cells (length (kept c xs)) then Crowded else Kept)) else Skipped) f (epoch_of f t xs) x) g
+      ap (λ c. epoch_by s.plan (if is_planned s x then (if is_among (kept c xs) x then Repeated else (if nat_le most_cells (length (kept c xs)) then Crowded else Kept)) else Skipped) f (epoch_of s.plan f t xs) x) g
       ∙ one_gps s f t xs x _ _ _ g refl refl refl
   by Galileo g =
-      ap (λ c. epoch_by (if is_planned s x then (if is_among (kept c xs) x then Repeated else (if nat_le most_cells (length (kept c xs)) then Crowded else Kept)) else Skipped) f (epoch_of f t xs) x) g
+      ap (λ c. epoch_by s.plan (if is_planned s x then (if is_among (kept c xs) x then Repeated else (if nat_le most_cells (length (kept c xs)) then Crowded else Kept)) else Skipped) f (epoch_of s.plan f t xs) x) g
       ∙ one_galileo s f t xs x _ _ _ g refl refl refl
 
 -- counts of cells that come after these, one by one
@@ -149,27 +167,27 @@ abbrev pub counts_after : Setup → List Seen → Counts → List Seen → Count
 counts_after s xs n [] = n
 counts_after s xs n (y ∷ ys) = counts_after s (xs ++ planned_one s y) (count_in (fate_after s xs y) n) ys
 
-pub hold_is : (k : Fate) (g : Gathered) (x : Seen) → hold_by k g x ≡ record g { epoch = epoch_by k (lookup g.locks) g.epoch x }
+pub hold_is : (k : Fate) (g : Gathered) (x : Seen) → hold_by k g x ≡ record g { epoch = epoch_by g.clock.setup.plan k (lookup g.locks) g.epoch x }
 hold_is Kept g x = refl
 hold_is Skipped g x = refl
 hold_is Repeated g x = refl
 hold_is Crowded g x = refl
 
 -- the cells of a message, held one by one
-pub load_is : (g : Gathered) (n : Counts) (t : ℕ) (xs ys : List Seen) → g.epoch ≡ epoch_of (lookup g.locks) t xs
+pub load_is : (g : Gathered) (n : Counts) (t : ℕ) (xs ys : List Seen) → g.epoch ≡ epoch_of g.clock.setup.plan (lookup g.locks) t xs
     → load (record { state = g; counts = n }) ys
-    ≡ record { state = record g { epoch = epoch_of (lookup g.locks) t (xs ++ filter (is_planned g.clock.setup) ys) }; counts = counts_after g.clock.setup xs n ys }
-load_is g n t xs [] h = ap (λ e. record { state = record g { epoch = e }; counts = n }) (h ∙ ap (epoch_of (lookup g.locks) t) (sym (append-nil xs)))
+    ≡ record { state = record g { epoch = epoch_of g.clock.setup.plan (lookup g.locks) t (xs ++ filter (is_planned g.clock.setup) ys) }; counts = counts_after g.clock.setup xs n ys }
+load_is g n t xs [] h = ap (λ e. record { state = record g { epoch = e }; counts = n }) (h ∙ ap (epoch_of g.clock.setup.plan (lookup g.locks) t) (sym (append-nil xs)))
 load_is g n t xs (y ∷ ys) h =
     let s = g.clock.setup in
     let f = lookup g.locks in
     let fate : fate_in g y ≡ fate_after s xs y = ap (λ e. fate_of s (cells_in y.satellite.system e) y) h ∙ fate_is s f t xs y in
-    let after : hold g y ≡ record g { epoch = epoch_of f t (xs ++ planned_one s y) } =
+    let after : hold g y ≡ record g { epoch = epoch_of s.plan f t (xs ++ planned_one s y) } =
     ap (λ k. hold_by k g y) fate ∙ hold_is (fate_after s xs y) g y
-    ∙ ap (λ e. record g { epoch = e }) (ap (λ e. epoch_by (fate_after s xs y) f e y) h ∙ one_more s f t xs y) in
+    ∙ ap (λ e. record g { epoch = e }) (ap (λ e. epoch_by s.plan (fate_after s xs y) f e y) h ∙ one_more s f t xs y) in
     ap₂ (λ v k. load (record { state = v; counts = count_in k n }) ys) after fate
-    ∙ load_is (record g { epoch = epoch_of f t (xs ++ planned_one s y) }) (count_in (fate_after s xs y) n) t (xs ++ planned_one s y) ys refl
-    ∙ ap (λ l. record { state = record g { epoch = epoch_of f t l }; counts = counts_after s (xs ++ planned_one s y) (count_in (fate_after s xs y) n) ys })
+    ∙ load_is (record g { epoch = epoch_of s.plan f t (xs ++ planned_one s y) }) (count_in (fate_after s xs y) n) t (xs ++ planned_one s y) ys refl
+    ∙ ap (λ l. record { state = record g { epoch = epoch_of s.plan f t l }; counts = counts_after s (xs ++ planned_one s y) (count_in (fate_after s xs y) n) ys })
     (append_assoc xs (planned_one s y) (filter (is_planned s) ys) ∙ ap (λ l. xs ++ l) (split (is_planned s y) y (filter (is_planned s) ys))) where
       split : (b : Bool) (y : Seen) (l : List Seen) → (if b then y ∷ [] else []) ++ l ≡ cond b (y ∷ l) l
       split true y l = refl

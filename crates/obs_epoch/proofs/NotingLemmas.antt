@@ -1,6 +1,6 @@
 -- A closing: the locks of the held epoch are noted.
 use Rattle.std.proofs.Common.{◌≡◌, ℕ, Bool, true, false, not, ◌||◌, ◌&&◌, List, [], ◌∷◌, ◌++◌, filter, refl, sym, ap, ap₂, ◌∙◌, subst, arith, length, append_assoc, append-nil, Option, Some, None, nat_le}
-use Rattle.std.specs.Prelude.{if◌then◌else◌, find, option_and_then, filter_map, unwrap_or}
+use Rattle.std.specs.Prelude.{if◌then◌else◌, cond, flat_map, find, option_and_then, filter_map, unwrap_or}
 use Rattle.std.specs.Option.{option_or}
 use Rattle.std.specs.List.{IsDistinct, cons_option}
 use Rattle.std.proofs.lemmas.List.Elements.{filter-append}
@@ -11,19 +11,19 @@ use Rattle.gnss_obs.specs.declared.system.System.TheVariants.{Gps, Galileo}
 use Rattle.obs_epoch.specs.declared.seen.Seen.{Seen}
 use Rattle.obs_epoch.specs.Marked.{Marked}
 use Rattle.obs_epoch.specs.declared.seen.KnownLock.{KnownLock}
-use Rattle.obs_epoch.specs.declared.seen.LockRecord.{LockRecord}
 use Rattle.obs_epoch.specs.Heard.{Setup}
-use Rattle.obs_epoch.specs.Times.{Timed}
-use Rattle.obs_epoch.specs.Cells.{is_of, has_same_key, is_among, kept, kept_at, add, offered}
-use Rattle.obs_epoch.specs.Values.{most_cells}
+use Rattle.obs_epoch.specs.Times.{Timed, is_at}
+use Rattle.obs_epoch.specs.Cells.{is_of, is_listed, is_planned, has_same_key, is_among, kept, kept_at, add, offered}
+use Rattle.obs_epoch.specs.Values.{most_cells, planned_of}
+use Rattle.obs_epoch.proofs.OrderLemmas.{among-sorted, all-sorted, distinct-sorted}
 use Rattle.obs_epoch.specs.Loss.{lock_of, locked_at, latest_in, last_of, is_locked}
 use Rattle.obs_epoch.specs.Marked.{MarkedEpoch}
 use Rattle.obs_epoch.specs.Epochs.{marked, epoch_at}
-use Rattle.obs_epoch.specs.Held.{lookup, note_all, Tracks}
+use Rattle.obs_epoch.specs.Held.{lookup, note_all, most_locks, Tracks}
 use Rattle.obs_epoch.specs.Gather.{Gathered, noted}
 use Rattle.obs_epoch.specs.Standing.{locked_in, Locked}
 use Rattle.obs_epoch.proofs.CellsLemmas.{kept-add, same_key_laws, among-push, key_system}
-use Rattle.obs_epoch.proofs.LockLemmas.{seens, lookup-note_all, tracks_all, locked, find_none}
+use Rattle.obs_epoch.proofs.LockLemmas.{seens, lookup-note_all, note_all_size, tracks_all, locked, find_none, AllListed}
 
 -- ---- the kept cells have different keys, all of one system
 
@@ -68,6 +68,45 @@ apart_more system xs (y ∷ ys) key o h =
 pub kept_apart : (system : System) (xs : List Seen) (key : Seen) → is_of system key ≡ false → is_among (kept system xs) key ≡ false
 kept_apart system xs key o = apart_more system [] xs key o (ap (λ l. is_among l key) (kept_none system))
 
+-- the same in their order
+at_distinct : (s : Setup) (t : ℕ) (xs : List Timed) (system : System) → IsDistinct has_same_key (kept_at s t xs system)
+at_distinct s t xs system = distinct-sorted (planned_of system s.plan) (kept system (offered s t xs)) (kept_distinct system (offered s t xs))
+
+at_apart : (s : Setup) (t : ℕ) (xs : List Timed) (system : System) (key : Seen) → is_of system key ≡ false → is_among (kept_at s t xs system) key ≡ false
+at_apart s t xs system key o = among-sorted (planned_of system s.plan) (kept system (offered s t xs)) key ∙ kept_apart system (offered s t xs) key o
+
+-- ---- the kept cells are listed
+
+listed_append : (xs ys : List Seen) → AllListed xs → AllListed ys → AllListed (xs ++ ys)
+listed_append [] ys h k = k
+listed_append (x ∷ xs) ys h k = (h.0, listed_append xs ys h.1 k)
+
+listed_planned : (s : Setup) (xs : List Seen) → AllListed (filter (is_planned s) xs)
+listed_planned s [] = tt
+listed_planned s (x ∷ xs) = by (is_planned s x) refl (listed_planned s xs) where
+  by : (b : Bool) → is_planned s x ≡ b → AllListed (filter (is_planned s) xs) → AllListed (cond b (x ∷ filter (is_planned s) xs) (filter (is_planned s) xs))
+  by true e h = (grind (arith, e), h)
+  by false e h = h
+
+listed_offered : (s : Setup) (xs : List Timed) → AllListed (flat_map (λ (x : Timed). filter (is_planned s) x.message.cells) xs)
+listed_offered s [] = tt
+listed_offered s (x ∷ xs) = listed_append (filter (is_planned s) x.message.cells) _ (listed_planned s x.message.cells) (listed_offered s xs)
+
+add_listed : (system : System) (ks : List Seen) (y : Seen) → is_listed y ≡ true → AllListed ks → AllListed (add system ks y)
+add_listed system ks y l h = by (is_of system y && not (is_among ks y || nat_le most_cells (length ks))) where
+  by : (b : Bool) → AllListed (if b then ks ++ y ∷ [] else ks)
+  by true = listed_append ks (y ∷ []) h (l, tt)
+  by false = h
+
+listed_more : (system : System) (xs ys : List Seen) → AllListed ys → AllListed (kept system xs) → AllListed (kept system (xs ++ ys))
+listed_more system xs [] l d = subst (λ v. AllListed (kept system v)) (sym (append-nil xs)) d
+listed_more system xs (y ∷ ys) l d =
+    subst (λ v. AllListed (kept system v)) (append_assoc xs (y ∷ []) ys)
+    (listed_more system (xs ++ y ∷ []) ys l.1 (subst AllListed (sym (kept-add system xs y)) (add_listed system (kept system xs) y l.0 d)))
+
+kept_listed : (s : Setup) (t : ℕ) (xs : List Timed) (system : System) → AllListed (kept_at s t xs system)
+kept_listed s t xs system = all-sorted (λ x. is_listed x ≡ true) (planned_of system s.plan) (kept system (offered s t xs)) (listed_more system [] (offered s t xs) (listed_offered s (filter (is_at t) xs)) (subst AllListed (sym (kept_none system)) tt))
+
 -- ---- one epoch more
 
 last_push : (xs : List KnownLock) (o : Option KnownLock) → last_of (xs ++ cons_option o []) ≡ option_or o (last_of xs)
@@ -92,12 +131,13 @@ seens_marked s xs t [] = refl
 seens_marked s xs t (k ∷ ks) = ap (λ l. k ∷ l) (seens_marked s xs t ks)
 
 -- what is found after an epoch is noted
-noted_found : (s : Setup) (xs : List Timed) (ts : List ℕ) (t : ℕ) (rs : List LockRecord) (key : Seen) → lookup rs key ≡ latest_in s xs ts key
+noted_found : (s : Setup) (xs : List Timed) (ts : List ℕ) (t : ℕ) (rs : List (Option KnownLock)) (key : Seen) → length rs ≡ most_locks → lookup rs key ≡ latest_in s xs ts key
     → lookup (note_all t (note_all t rs (marked s xs t (kept_at s t xs Gps))) (marked s xs t (kept_at s t xs Galileo))) key ≡ latest_in s xs (ts ++ t ∷ []) key
-noted_found s xs ts t rs key h =
-    lookup-note_all t (note_all t rs gps) galileo key (subst (IsDistinct has_same_key) (sym (seens_marked s xs t (kept_at s t xs Galileo))) (kept_distinct Galileo (offered s t xs)))
+noted_found s xs ts t rs key size h =
+    lookup-note_all t (note_all t rs gps) galileo key (subst (IsDistinct has_same_key) (sym (seens_marked s xs t (kept_at s t xs Galileo))) (at_distinct s t xs Galileo))
+    (are_listed Galileo) (note_all_size t rs gps ∙ size)
     ∙ ap₂ (λ l o. option_or (option_and_then (lock_of t) (find (has_same_key key) l)) o) (seens_marked s xs t (kept_at s t xs Galileo))
-    (lookup-note_all t rs gps key (subst (IsDistinct has_same_key) (sym (seens_marked s xs t (kept_at s t xs Gps))) (kept_distinct Gps (offered s t xs)))
+    (lookup-note_all t rs gps key (subst (IsDistinct has_same_key) (sym (seens_marked s xs t (kept_at s t xs Gps))) (at_distinct s t xs Gps)) (are_listed Gps) size
     ∙ ap₂ (λ l o. option_or (option_and_then (lock_of t) (find (has_same_key key) l)) o) (seens_marked s xs t (kept_at s t xs Gps)) h)
     ∙ by key.satellite.system refl ∙ sym (latest_in-push s xs ts t key) where
       gps : List Marked
@@ -106,25 +146,28 @@ noted_found s xs ts t rs key h =
       galileo : List Marked
       galileo = marked s xs t (kept_at s t xs Galileo)
 
+      are_listed : (system : System) → AllListed (seens (marked s xs t (kept_at s t xs system)))
+      are_listed system = subst AllListed (sym (seens_marked s xs t (kept_at s t xs system))) (kept_listed s t xs system)
+
       by : (system : System) → key.satellite.system ≡ system
           → option_or (option_and_then (lock_of t) (find (has_same_key key) (kept_at s t xs Galileo))) (option_or (option_and_then (lock_of t) (find (has_same_key key) (kept_at s t xs Gps))) (latest_in s xs ts key))
           ≡ option_or (option_and_then (lock_of t) (find (has_same_key key) (kept_at s t xs key.satellite.system))) (latest_in s xs ts key)
       by Gps e =
           ap (λ o. option_or (option_and_then (lock_of t) o) (option_or (option_and_then (lock_of t) (find (has_same_key key) (kept_at s t xs Gps))) (latest_in s xs ts key)))
-          (find_none key (kept_at s t xs Galileo) (kept_apart Galileo (offered s t xs) key (grind (arith, e))))
+          (find_none key (kept_at s t xs Galileo) (at_apart s t xs Galileo key (grind (arith, e))))
           ∙ ap (λ c. option_or (option_and_then (lock_of t) (find (has_same_key key) (kept_at s t xs c))) (latest_in s xs ts key)) (sym e)
       by Galileo e =
           ap (λ o. option_or (option_and_then (lock_of t) (find (has_same_key key) (kept_at s t xs Galileo))) (option_or (option_and_then (lock_of t) o) (latest_in s xs ts key)))
-          (find_none key (kept_at s t xs Gps) (kept_apart Gps (offered s t xs) key (grind (arith, e))))
+          (find_none key (kept_at s t xs Gps) (at_apart s t xs Gps key (grind (arith, e))))
           ∙ ap (λ c. option_or (option_and_then (lock_of t) (find (has_same_key key) (kept_at s t xs c))) (latest_in s xs ts key)) (sym e)
 
-noted_tracks : (s : Setup) (xs : List Timed) (ts : List ℕ) (t : ℕ) (rs : List LockRecord) → Tracks rs (locked_in s xs ts)
+noted_tracks : (s : Setup) (xs : List Timed) (ts : List ℕ) (t : ℕ) (rs : List (Option KnownLock)) → Tracks rs (locked_in s xs ts)
     → Tracks (note_all t (note_all t rs (marked s xs t (kept_at s t xs Gps))) (marked s xs t (kept_at s t xs Galileo))) (locked_in s xs (ts ++ t ∷ []))
 noted_tracks s xs ts t rs h =
     let gps = kept_at s t xs Gps in
     let galileo = kept_at s t xs Galileo in
-    let first = tracks_all t rs (locked_in s xs ts) (marked s xs t gps) h in
-    let second = tracks_all t _ _ (marked s xs t galileo) first in
+    let first = tracks_all t rs (locked_in s xs ts) (marked s xs t gps) (subst AllListed (sym (seens_marked s xs t gps)) (kept_listed s t xs Gps)) h in
+    let second = tracks_all t _ _ (marked s xs t galileo) (subst AllListed (sym (seens_marked s xs t galileo)) (kept_listed s t xs Galileo)) first in
     let is : (locked_in s xs ts ++ locked (seens (marked s xs t gps))) ++ locked (seens (marked s xs t galileo)) ≡ locked_in s xs (ts ++ t ∷ []) =
     ap₂ (λ a b. (locked_in s xs ts ++ locked a) ++ locked b) (seens_marked s xs t gps) (seens_marked s xs t galileo)
     ∙ append_assoc (locked_in s xs ts) (locked gps) (locked galileo) ∙ ap (λ l. locked_in s xs ts ++ l) (sym (filter-append is_locked gps galileo) ∙ sym (append-nil _))
@@ -137,6 +180,6 @@ noted_locked g s xs ts t e h =
     let is : (noted g).locks ≡ note_all t (note_all t g.locks (marked s xs t (kept_at s t xs Gps))) (marked s xs t (kept_at s t xs Galileo)) =
     ap (λ (v : MarkedEpoch). note_all v.time (note_all v.time g.locks v.gps) v.galileo) e in
     record {
-      found = λ key. ap (λ l. lookup l key) is ∙ noted_found s xs ts t g.locks key (h.found key);
+      found = λ key. ap (λ l. lookup l key) is ∙ noted_found s xs ts t g.locks key h.tracks.size (h.found key);
       tracks = subst (λ l. Tracks l (locked_in s xs (ts ++ t ∷ []))) (sym is) (noted_tracks s xs ts t g.locks h.tracks);
     }

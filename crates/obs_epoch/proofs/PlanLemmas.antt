@@ -1,5 +1,5 @@
 -- Codes between commas, and the signals of a plan.
-use Rattle.std.proofs.Common.{◌≡◌, ℕ, suc, zero, ◌+◌, ◌-◌, ◌<◌, ◌≤◌, ◌==◌, ◌||◌, Bool, true, false, not, List, [], ◌∷◌, ◌++◌, length, map, take, drop, All, nat_eq, nat_lt, refl, sym, ap, ap₂, ◌∙◌, subst, arith, Option, Some, None, Result, Ok, Err, length-append, rules}
+use Rattle.std.proofs.Common.{◌≡◌, ℕ, suc, zero, ◌+◌, ◌<◌, ◌≤◌, ◌==◌, ◌||◌, Bool, true, false, not, List, [], ◌∷◌, ◌++◌, length, take, drop, All, nat_eq, nat_lt, refl, sym, ap, ap₂, ◌∙◌, subst, arith, Option, Some, None, Result, Ok, Err, rules}
 use Rattle.std.specs.Prelude.{cond, position, if◌then◌else◌, option_map, unwrap_or, codes}
 use Rattle.std.specs.Str.{bytes_eq}
 use Rattle.std.proofs.Common.{Bor}
@@ -12,10 +12,9 @@ use Rattle.gnss_obs.specs.declared.tables.Entry.{Entry}
 use Rattle.obs_epoch.specs.declared.fault.PlanFault.TheVariants.{UnknownCode, RepeatedCode}
 use Rattle.std.specs.List.{list_any, position_or_len, before_first, after_first, IsDistinct}
 use Rattle.gnss_obs.specs.declared.system.System.{System}
-use Rattle.gnss_obs.specs.declared.system.System.TheVariants.{Gps, Galileo}
 use Rattle.gnss_obs.specs.Signals.{SignalAt, IsSignal, table, signal_where, signal_at}
 use Rattle.obs_epoch.specs.declared.fault.PlanFault.{PlanFault}
-use Rattle.obs_epoch.specs.Plans.{between_commas, onto_first, one_more, below, place_in, signals_of, signals_after}
+use Rattle.obs_epoch.specs.Plans.{between_commas, onto_first, one_more, below, signals_of, signals_after}
 use Rattle.obs_epoch.specs.Signals.{indices, IsOf}
 
 abbrev comma : ℕ → Bool

@@ -1,5 +1,5 @@
 -- A step of the gatherer is one more message of the list.
-use Rattle.std.proofs.Common.{◌≡◌, ℕ, ◌-◌, ◌<◌, Bool, true, false, not, ◌||◌, List, [], ◌∷◌, ◌++◌, filter, take, refl, sym, ap, ap₂, ◌∙◌, subst, arith, length, append-nil, length-append, Option, Some, None, nat_lt}
+use Rattle.std.proofs.Common.{◌≡◌, ℕ, zero, suc, replicate, is_some, ◌-◌, ◌<◌, Bool, true, false, not, ◌||◌, List, [], ◌∷◌, ◌++◌, filter, take, refl, sym, ap, ap₂, ◌∙◌, subst, arith, length, append-nil, length-append, Option, Some, None, nat_lt}
 use Rattle.std.specs.Prelude.{if◌then◌else◌, cond, filter_map, flat_map, option_and_then, find}
 use Rattle.std.specs.Option.{option_map_or}
 use Rattle.std.specs.List.{list_any, cons_option}
@@ -14,7 +14,7 @@ use Rattle.obs_epoch.specs.Times.{Timed, is_at, greatest, is_closed, taken_at, t
 use Rattle.obs_epoch.specs.Cells.{kept_at, offered, is_planned, has_same_key}
 use Rattle.obs_epoch.specs.Loss.{lock_of, locked_at, latest_in, previous, times, last_of, is_locked, mark_with}
 use Rattle.obs_epoch.specs.Epochs.{marked, epoch_at, closed_so_far}
-use Rattle.obs_epoch.specs.Held.{lookup, Tracks}
+use Rattle.obs_epoch.specs.Held.{lookup, no_locks, most_locks, recorded, Tracks}
 use Rattle.obs_epoch.specs.Clock.{State, closes_first}
 use Rattle.obs_epoch.specs.Gather.{Gathered, no_epoch, no_counts, load, begun, is_same}
 use Rattle.obs_epoch.specs.Standing.{locked_in, held_at, Locked}
@@ -23,6 +23,7 @@ use Rattle.obs_epoch.proofs.ClockLemmas.{standing, same_time, Follows, first, gr
 use Rattle.obs_epoch.proofs.ClosedLemmas.{Below, when, ends, closed_is, passes_all, one_fails, less_true, less_false, taken_follows, times-push_same}
 use Rattle.obs_epoch.proofs.ClosingLemmas.{taken_by}
 use Rattle.obs_epoch.proofs.EpochLemmas.{IsLater, AllLater, all_none, all_below, kept_at-push, times_before, epoch_at-push}
+use Rattle.obs_epoch.proofs.LockLemmas.{none_found, none_recorded}
 use Rattle.obs_epoch.proofs.LoadLemmas.{marked_by, epoch_of, load_is, counts_after}
 
 -- ---- what was closed stays, whatever comes
@@ -102,7 +103,7 @@ marked_is : (s : Setup) (xs : List Timed) (f : Seen → Option KnownLock) (t : �
 marked_is s xs f t [] h = refl
 marked_is s xs f t (k ∷ ks) h = ap₂ (λ o l. record { seen = k; mark = mark_with t k o } ∷ l) (h k) (marked_is s xs f t ks h)
 
-epoch_is : (s : Setup) (xs : List Timed) (f : Seen → Option KnownLock) (t : ℕ) → ((key : Seen) → f key ≡ previous s xs t key) → epoch_of f t (offered s t xs) ≡ epoch_at s xs t
+epoch_is : (s : Setup) (xs : List Timed) (f : Seen → Option KnownLock) (t : ℕ) → ((key : Seen) → f key ≡ previous s xs t key) → epoch_of s.plan f t (offered s t xs) ≡ epoch_at s xs t
 epoch_is s xs f t h = ap₂ (λ a b. record { time = t; gps = a; galileo = b }) (marked_is s xs f t (kept_at s t xs Gps) h) (marked_is s xs f t (kept_at s t xs Galileo) h)
 
 offered-more : (s : Setup) (xs : List Timed) (m : Heard) (u : ℕ) → taken_at s xs m ≡ Some u → offered s u (xs ++ next s xs m ∷ []) ≡ offered s u xs ++ filter (is_planned s) m.cells
@@ -130,17 +131,17 @@ not_known t u h = grind arith
 -- the epoch that a taken message's cells come into
 begun_is : (g : Gathered) (s : Setup) (xs : List Timed) (m : Heard) (u : ℕ) (shut : Bool) → taken_at s xs m ≡ Some u → closes_first s xs m ≡ shut
     → g.epoch ≡ held_at s xs → Locked g s xs (closed_so_far s xs shut) → g.clock.latest ≡ Some u
-    → begun (greatest xs) g ≡ record g { epoch = epoch_of (lookup g.locks) u (offered s u xs) }
+    → begun (greatest xs) g ≡ record g { epoch = epoch_of s.plan (lookup g.locks) u (offered s u xs) }
 begun_is g s xs m u shut some h held locks now = ap (λ o. begun_to (greatest xs) o) now ∙ by (taken_follows s xs m u some) where
   begun_to : Option ℕ → Option ℕ → Gathered
   begun_to a b = if is_same a b then g else record g { epoch = record { time = option_map_or (λ t. t) b 0; gps = []; galileo = [] } }
 
-  fresh : is_same (greatest xs) (Some u) ≡ false → list_any (is_at u) xs ≡ false → begun_to (greatest xs) (Some u) ≡ record g { epoch = epoch_of (lookup g.locks) u (offered s u xs) }
+  fresh : is_same (greatest xs) (Some u) ≡ false → list_any (is_at u) xs ≡ false → begun_to (greatest xs) (Some u) ≡ record g { epoch = epoch_of s.plan (lookup g.locks) u (offered s u xs) }
   fresh other none =
       ap (λ b. if b then g else record g { epoch = record { time = u; gps = []; galileo = [] } }) other
-      ∙ ap (λ l. record g { epoch = epoch_of (lookup g.locks) u l }) (sym (none_offered s xs u none))
+      ∙ ap (λ l. record g { epoch = epoch_of s.plan (lookup g.locks) u l }) (sym (none_offered s xs u none))
 
-  by : Follows s xs u → begun_to (greatest xs) (Some u) ≡ record g { epoch = epoch_of (lookup g.locks) u (offered s u xs) }
+  by : Follows s xs u → begun_to (greatest xs) (Some u) ≡ record g { epoch = epoch_of s.plan (lookup g.locks) u (offered s u xs) }
   by (first e) = fresh (ap (λ o. is_same o (Some u)) e) (none-absent xs u e)
   by (greater t e lt) = fresh (ap (λ o. is_same o (Some u)) e ∙ not_known t u lt) (greater-absent xs t u e lt)
   by (equal e c) =
@@ -174,9 +175,9 @@ loaded_taken g s xs m u shut some h held locks clock =
     let known : (key : Seen) → lookup g.locks key ≡ previous s ys u key =
     λ key. later.found key ∙ ap (λ ts. latest_in s ys ts key) (sym (before_taken s xs m u shut some h).0) in
     ap (λ v. load (record { state = v; counts = no_counts }) m.cells) (begun_is g s xs m u shut some h held locks now)
-    ∙ load_is (record g { epoch = epoch_of f u (offered s u xs) }) no_counts u (offered s u xs) m.cells refl
-    ∙ ap (λ c. record { state = record g { epoch = epoch_of f u (offered s u xs ++ filter (is_planned c) m.cells) }; counts = counts_after c (offered s u xs) no_counts m.cells }) setup
-    ∙ ap (λ l. record { state = record g { epoch = epoch_of f u l }; counts = counts_after s (offered s u xs) no_counts m.cells }) (sym (offered-more s xs m u some))
+    ∙ load_is (record g { epoch = epoch_of s.plan f u (offered s u xs) }) no_counts u (offered s u xs) m.cells (ap (λ c. epoch_of c.plan f u (offered s u xs)) (sym setup))
+    ∙ ap (λ c. record { state = record g { epoch = epoch_of c.plan f u (offered s u xs ++ filter (is_planned c) m.cells) }; counts = counts_after c (offered s u xs) no_counts m.cells }) setup
+    ∙ ap (λ l. record { state = record g { epoch = epoch_of s.plan f u l }; counts = counts_after s (offered s u xs) no_counts m.cells }) (sym (offered-more s xs m u some))
     ∙ ap (λ e. record { state = record g { epoch = e }; counts = counts_after s (offered s u xs) no_counts m.cells }) (epoch_is s ys f u known)
 
 -- a message that isn't taken leaves the epoch
@@ -189,3 +190,22 @@ held_same s xs m none =
       by : (g : Option ℕ) → option_map_or (epoch_at s (xs ++ next s xs m ∷ [])) g no_epoch ≡ option_map_or (epoch_at s xs) g no_epoch
       by None = refl
       by (Some t) = epoch_at-push s xs (next s xs m) t (later t) (times_before s xs (next s xs m) t (λ u e. taken_follows s xs m u e) (later t))
+
+-- ---- before the first message
+
+abbrev none_known : Option KnownLock
+none_known = None
+
+none_sized : (n : ℕ) → length (replicate n none_known) ≡ n
+none_sized zero = refl
+none_sized (suc n) = ap suc (none_sized n)
+
+pub none_locked : (g : Gathered) (s : Setup) → g.locks ≡ no_locks → Locked g s [] (closed_so_far s [] false)
+none_locked g s e = record {
+  found = λ key. ap (λ l. lookup l key) e ∙ none_found key;
+  tracks = record {
+    has = λ key. ap (λ l. is_some (lookup l key)) e ∙ ap is_some (none_found key);
+    count = ap recorded e ∙ none_recorded;
+    size = ap length e ∙ none_sized most_locks;
+  };
+}

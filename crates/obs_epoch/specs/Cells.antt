@@ -1,4 +1,4 @@
--- The cells of an epoch: of each key the first, and of these the first 64 of a system.
+-- The cells of an epoch: of each key the first, and of these the first 256 of a system.
 use Rattle.std.specs.Prelude.{ℕ, ◌+◌, ◌-◌, ◌==◌, ◌&&◌, ◌||◌, Bool, true, false, not, nat_le, nat_lt, List, [], ◌∷◌, ◌++◌, filter, flat_map, take, length, count_by, is_some, if◌then◌else◌}
 use Rattle.std.specs.List.{list_any}
 use Rattle.gnss_obs.specs.declared.system.System.{System}
@@ -7,6 +7,7 @@ use Rattle.gnss_obs.specs.Satellites.{Satellite}
 use Rattle.gnss_obs.specs.Signals.{SignalAt}
 use Rattle.obs_epoch.specs.Values.{planned_of, most_cells}
 use Rattle.obs_epoch.specs.Plans.{place_in}
+use Rattle.obs_epoch.specs.Order.{sorted}
 use Rattle.obs_epoch.specs.Heard.{Setup}
 use Rattle.obs_epoch.specs.declared.seen.Seen.{Seen}
 use Rattle.obs_epoch.specs.Times.{Timed, is_at}
@@ -40,9 +41,13 @@ abbrev pub listed_signals : System → ℕ
 listed_signals Gps = 15
 listed_signals Galileo = 19
 
--- the signal is planned
+abbrev pub is_listed : Seen → Bool
+is_listed x =
+    nat_lt 0 x.satellite.id && nat_le x.satellite.id (most_satellites x.satellite.system) && nat_lt x.signal.index (listed_signals x.satellite.system)
+
+-- satellite and signal are listed, and the signal is planned
 abbrev pub is_planned : Setup → Seen → Bool
-is_planned s x = is_some (place_in x.signal (planned_of x.signal.system s.plan))
+is_planned s x = is_listed x && is_some (place_in x.signal (planned_of x.satellite.system s.plan))
 
 -- the planned cells of the taken messages of time t, in order
 abbrev pub offered : Setup → ℕ → List Timed → List Seen
@@ -69,9 +74,9 @@ kept system xs = take most_cells (filter (is_of system) (firsts xs))
 abbrev pub add : System → List Seen → Seen → List Seen
 add system ks y = if is_of system y && not (is_among ks y || nat_le most_cells (length ks)) then ks ++ y ∷ [] else ks
 
--- the kept cells of the epoch of time t, of a system
+-- the kept cells of the epoch of time t, of a system, by satellite and within it by the plan
 abbrev pub kept_at : Setup → ℕ → List Timed → System → List Seen
-kept_at s t xs system = kept system (offered s t xs)
+kept_at s t xs system = sorted (planned_of system s.plan) (kept system (offered s t xs))
 
 abbrev pub both : List Seen → List Seen
 both xs = kept Gps xs ++ kept Galileo xs

@@ -1,11 +1,11 @@
 -- What a gatherer is seen as, and its steps by its parts.
-use Rattle.std.specs.Prelude.{ℕ, ◌≡◌, ◌≤◌, ◌==◌, Bool, true, false, List, [], ◌∷◌, ◌++◌, length, if◌then◌else◌, Option, Some, None, is_some}
+use Rattle.std.specs.Prelude.{ℕ, ◌≡◌, ◌==◌, Bool, true, false, List, [], ◌∷◌, map, insert, if◌then◌else◌, Option, Some, None, is_some}
 use Rattle.std.specs.Option.{option_map_or}
 use Rattle.gnss_obs.specs.declared.system.System.{System}
 use Rattle.gnss_obs.specs.declared.system.System.TheVariants.{Gps, Galileo}
 use Rattle.obs_epoch.specs.declared.seen.Seen.{Seen}
 use Rattle.obs_epoch.specs.Marked.{Marked}
-use Rattle.obs_epoch.specs.declared.seen.LockRecord.{LockRecord}
+use Rattle.obs_epoch.specs.declared.seen.KnownLock.{KnownLock}
 use Rattle.obs_epoch.specs.declared.cell.StationValues.{StationValues}
 use Rattle.obs_epoch.specs.declared.seen.Counts.{Counts}
 use Rattle.obs_epoch.specs.declared.seen.Fate.{Fate}
@@ -14,8 +14,11 @@ use Rattle.obs_epoch.specs.declared.clock.Answer.{Answer}
 use Rattle.obs_epoch.specs.declared.clock.Answer.TheVariants as answers
 use Rattle.rtcm_msg.specs.declared.entry.Entry.{Entry}
 use Rattle.obs_epoch.specs.Heard.{Heard, seen_in}
-use Rattle.obs_epoch.specs.Values.{most_cells}
 use Rattle.obs_epoch.specs.Cells.{with_skipped}
+use Rattle.std.specs.List.{AllByRecursion}
+use Rattle.obs_epoch.specs.Values.{PlanValue, planned_of}
+use Rattle.obs_epoch.specs.Plans.{place_in}
+use Rattle.obs_epoch.specs.Order.{Rise, insert_by, spot, seat_of, marked_seat}
 use Rattle.obs_epoch.specs.Loss.{mark_with}
 use Rattle.obs_epoch.specs.Marked.{MarkedEpoch}
 use Rattle.obs_epoch.specs.Epochs.{told}
@@ -32,19 +35,40 @@ abbrev pub cells_in : System → MarkedEpoch → List Marked
 cells_in Gps e = e.gps
 cells_in Galileo e = e.galileo
 
-abbrev pub more_in : System → MarkedEpoch → Marked → MarkedEpoch
-more_in Gps e m = record e { gps = e.gps ++ m ∷ [] }
-more_in Galileo e m = record e { galileo = e.galileo ++ m ∷ [] }
+-- one cell more, at its place in the order of a plan
+abbrev pub more_in : System → PlanValue → MarkedEpoch → Marked → MarkedEpoch
+more_in Gps p e m = record e { gps = insert_by (marked_seat p.gps) m e.gps }
+more_in Galileo p e m = record e { galileo = insert_by (marked_seat p.galileo) m e.galileo }
 
-abbrev pub with_more : MarkedEpoch → Marked → MarkedEpoch
-with_more e m = more_in m.seen.satellite.system e m
+abbrev pub with_more : PlanValue → MarkedEpoch → Marked → MarkedEpoch
+with_more p e m = more_in m.seen.satellite.system p e m
+
+-- one cell more, behind so many of its system
+abbrev pub more_at : System → ℕ → MarkedEpoch → Marked → MarkedEpoch
+more_at Gps at e m = record e { gps = insert e.gps at m }
+more_at Galileo at e m = record e { galileo = insert e.galileo at m }
+
+-- how many cells don't stand behind a cell of that key
+abbrev pub spot_in : PlanValue → MarkedEpoch → Seen → ℕ
+spot_in p e x =
+    let planned = planned_of x.satellite.system p in
+    spot (seat_of planned x) (map (marked_seat planned) (cells_in x.satellite.system e))
+
+-- planned cells of a system stand in the order of a plan
+pub record Stand (system : System) (planned : List ℕ) (ms : List Marked) : Type 0 where
+  pub each : AllByRecursion (λ m. (m.seen.satellite.system ≡ system) × (is_some (place_in m.seen.signal planned) ≡ true)) ms
+  pub rise : Rise (map (marked_seat planned) ms)
+
+pub record AreInOrder (p : PlanValue) (e : MarkedEpoch) : Type 0 where
+  pub gps : Stand Gps p.gps e.gps
+  pub galileo : Stand Galileo p.galileo e.galileo
 
 -- ---- the gatherer
 
 pub record Gathered : Type 0 where
   pub clock : State
   pub epoch : MarkedEpoch
-  pub locks : List LockRecord
+  pub locks : List (Option KnownLock)
   pub values : StationValues
   pub handed : Bool
   pub has_ended : Bool
@@ -53,7 +77,7 @@ abbrev pub fate_in : Gathered → Seen → Fate
 fate_in g x = fate_of g.clock.setup (cells_in x.satellite.system g.epoch) x
 
 abbrev pub hold_by : Fate → Gathered → Seen → Gathered
-hold_by Kept g x = record g { epoch = with_more g.epoch (record { seen = x; mark = mark_with g.epoch.time x (lookup g.locks x) }) }
+hold_by Kept g x = record g { epoch = with_more g.clock.setup.plan g.epoch (record { seen = x; mark = mark_with g.epoch.time x (lookup g.locks x) }) }
 hold_by _ g x = g
 
 -- a cell comes
@@ -121,6 +145,10 @@ closed_if b l = record { state = if b then noted l.state else l.state; counts = 
 
 abbrev pub take_step : Gathered → Heard → Loaded
 take_step g m = closed_if (is_some (closed_by g.clock m)) (loaded_by (answer_by g.clock m) g.clock.latest (ticked g m) m)
+
+-- the last call closed no epoch
+abbrev pub rested : Gathered → Gathered
+rested g = record g { handed = false }
 
 abbrev pub stopped : State → State
 stopped c = record c { pending = false }

@@ -1,11 +1,11 @@
 -- What a gatherer stands for: its messages, the epochs that it handed out, and a message that is to come again.
-use Rattle.std.specs.Prelude.{ℕ, ◌≡◌, ◌&&◌, ◌||◌, Bool, true, List, [], ◌∷◌, ◌++◌, map, filter, if◌then◌else◌, Option, Some, None, is_some, option_to_list}
+use Rattle.std.specs.Prelude.{ℕ, ◌≡◌, ◌&&◌, ◌||◌, Bool, true, List, [], ◌∷◌, ◌++◌, map, if◌then◌else◌, Option, Some, None, is_some, option_to_list}
 use Rattle.std.specs.Option.{IfSome, option_map_or}
 use Rattle.obs_epoch.specs.declared.cell.StationValues.{StationValues}
 use Rattle.obs_epoch.specs.Heard.{Setup, Heard}
 use Rattle.obs_epoch.specs.Values.{EpochValue, PlanValue, Closed}
 use Rattle.obs_epoch.specs.Marked.{shown}
-use Rattle.obs_epoch.specs.Times.{Timed, timed}
+use Rattle.obs_epoch.specs.Times.{timed}
 use Rattle.obs_epoch.specs.Loss.{times}
 use Rattle.obs_epoch.specs.Epochs.{epoch_at, is_shut, closed_times, closed_so_far, values_of}
 use Rattle.obs_epoch.specs.Clock.{is_pending, closes_first}

@@ -1,73 +1,65 @@
 -- Cells and lock records as they are held, and one step of each.
-use Rattle.std.specs.Prelude.{ℕ, suc, ◌+◌, ◌-◌, ◌*◌, ◌≡◌, ◌<◌, ◌≤◌, ◌==◌, ◌&&◌, Bool, nat_le, nat_eq, List, [], ◌∷◌, ◌++◌, length, map, if◌then◌else◌, Option, Some, None, is_some}
+use Rattle.std.specs.Prelude.{ℕ, ◌+◌, ◌-◌, ◌*◌, ◌≡◌, Bool, nat_le, List, [], ◌∷◌, ◌++◌, length, get_or, set, replicate, count_by, if◌then◌else◌, Option, Some, None, is_some}
 use Rattle.std.specs.Option.{option_map_or}
-use Rattle.std.specs.List.{list_any, IsDistinct}
+use Rattle.std.specs.List.{list_any}
 use Rattle.gnss_obs.specs.declared.system.System.{System}
 use Rattle.gnss_obs.specs.declared.system.System.TheVariants.{Gps, Galileo}
 use Rattle.obs_epoch.specs.declared.seen.Seen.{Seen}
 use Rattle.obs_epoch.specs.declared.seen.KnownLock.{KnownLock}
 use Rattle.obs_epoch.specs.Marked.{Marked}
-use Rattle.obs_epoch.specs.declared.seen.LockRecord.{LockRecord}
 use Rattle.obs_epoch.specs.declared.seen.Counts.{Counts}
 use Rattle.obs_epoch.specs.declared.seen.Fate.{Fate}
 use Rattle.obs_epoch.specs.declared.seen.Fate.TheVariants.{Skipped, Repeated, Crowded, Kept}
 use Rattle.obs_epoch.specs.Heard.{Setup}
-use Rattle.obs_epoch.specs.Cells.{is_among, firsts, same_key, has_same_key, is_planned, most_satellites, listed_signals}
+use Rattle.obs_epoch.specs.Cells.{is_among, firsts, has_same_key, is_planned, is_listed}
 use Rattle.obs_epoch.specs.Values.{most_cells}
 use Rattle.obs_epoch.specs.Loss.{lock_of}
 
--- ---- lock records: one of a key
+-- ---- lock records: an entry for each key that there is, 32 satellites of 15 signals and 36 of 19
 
-abbrev pub has_key : LockRecord → Seen → Bool
-has_key r x = same_key r.satellite r.signal x.satellite x.signal
+abbrev pub most_locks : ℕ
+most_locks = 1164
 
--- what is recorded of that key
-abbrev pub lookup : List LockRecord → Seen → Option KnownLock
-lookup [] x = None
-lookup (r ∷ rs) x = if has_key r x then Some (record { time = r.time; lock = r.lock }) else lookup rs x
+-- no key has a record
+abbrev pub no_locks : List (Option KnownLock)
+no_locks = replicate most_locks None
 
-abbrev pub record_of : Seen → KnownLock → LockRecord
-record_of x l = record { satellite = x.satellite; signal = x.signal; time = l.time; lock = l.lock }
+-- the entry of a key
+abbrev pub entry_in : System → ℕ → ℕ → ℕ
+entry_in Gps id index = 15 * (id - 1) + index
+entry_in Galileo id index = 480 + (19 * (id - 1) + index)
 
--- in place of the record of that key, or behind all where there is none
-abbrev pub put : List LockRecord → Seen → KnownLock → List LockRecord
-put [] x l = record_of x l ∷ []
-put (r ∷ rs) x l = if has_key r x then record_of x l ∷ rs else r ∷ put rs x l
+abbrev pub entry_of : Seen → ℕ
+entry_of x = entry_in x.satellite.system x.satellite.id x.signal.index
 
--- the place of the record of that key, or behind all
-abbrev pub index_of : List LockRecord → Seen → ℕ
-index_of [] x = 0
-index_of (r ∷ rs) x = if has_key r x then 0 else suc (index_of rs x)
+-- what is recorded of a key
+abbrev pub lookup : List (Option KnownLock) → Seen → Option KnownLock
+lookup locks key = if is_listed key then get_or locks (entry_of key) None else None
+
+-- how many keys have a record
+abbrev pub recorded : List (Option KnownLock) → ℕ
+recorded locks = count_by is_some locks
+
+-- a key without a record adds one
+abbrev pub one_if_new : Option KnownLock → ℕ
+one_if_new before = if is_some before then 0 else 1
+
+abbrev pub put : List (Option KnownLock) → Seen → KnownLock → List (Option KnownLock)
+put locks x l = set locks (entry_of x) (Some l)
 
 -- a kept cell of time t is noted, where it is locked
-abbrev pub note : ℕ → List LockRecord → Seen → List LockRecord
-note t rs x = option_map_or (put rs x) (lock_of t x) rs
+abbrev pub note : ℕ → List (Option KnownLock) → Seen → List (Option KnownLock)
+note t locks x = option_map_or (put locks x) (lock_of t x) locks
 
-abbrev pub note_all : ℕ → List LockRecord → List Marked → List LockRecord
-note_all t rs [] = rs
-note_all t rs (m ∷ ms) = note_all t (note t rs m.seen) ms
+abbrev pub note_all : ℕ → List (Option KnownLock) → List Marked → List (Option KnownLock)
+note_all t locks [] = locks
+note_all t locks (m ∷ ms) = note_all t (note t locks m.seen) ms
 
--- the place of a key among all that there are
-abbrev pub place_in : System → ℕ → ℕ → ℕ
-place_in Gps satellite signal = 15 * (satellite - 1) + signal
-place_in Galileo satellite signal = 480 + (19 * (satellite - 1) + signal)
-
-abbrev pub place_of : LockRecord → ℕ
-place_of r = place_in r.satellite.system r.satellite.id r.signal.index
-
-abbrev pub AllListed : List LockRecord → Type 0
-AllListed [] = Unit {0}
-AllListed (r ∷ rs) = (0 < r.satellite.id) × (r.satellite.id ≤ most_satellites r.satellite.system) × (r.signal.index < listed_signals r.satellite.system) × AllListed rs
-
--- each of a key that is listed, and no two of one key
-pub record AreSound (rs : List LockRecord) : Type 0 where
-  pub listed : AllListed rs
-  pub apart : IsDistinct nat_eq (map place_of rs)
-
--- the records are of the keys of these cells, one of each
-pub record Tracks (rs : List LockRecord) (noted : List Seen) : Type 0 where
-  pub has : (key : Seen) → is_some (lookup rs key) ≡ is_among noted key
-  pub count : length rs ≡ length (firsts noted)
+-- the keys of these cells have records, and no others
+pub record Tracks (locks : List (Option KnownLock)) (noted : List Seen) : Type 0 where
+  pub has : (key : Seen) → is_some (lookup locks key) ≡ is_among noted key
+  pub count : recorded locks ≡ length (firsts noted)
+  pub size : length locks ≡ most_locks
 
 -- ---- cells: of a key the first, and of these as many as there is room for
 

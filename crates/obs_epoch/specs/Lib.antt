@@ -4,6 +4,7 @@ pub mod Values
 pub mod Plans
 pub mod Signals
 pub mod Heard
+pub mod Order
 pub mod Times
 pub mod Cells
 pub mod Loss

@@ -1,5 +1,5 @@
 -- Marks of a phase that lost its lock.
-use Rattle.std.specs.Prelude.{ℕ, ◌+◌, ◌-◌, ◌&&◌, ◌||◌, Bool, false, nat_lt, nat_le, List, [], ◌∷◌, filter, filter_map, find, unwrap_or, if◌then◌else◌, Option, Some, None, is_some, option_map, option_and_then}
+use Rattle.std.specs.Prelude.{ℕ, ◌+◌, ◌-◌, ◌&&◌, Bool, false, nat_lt, List, [], ◌∷◌, filter, filter_map, find, unwrap_or, if◌then◌else◌, Option, Some, None, is_some, option_and_then}
 use Rattle.std.specs.Option.{option_map_or}
 use Rattle.gnss_obs.specs.LockTimes.{lost}
 use Rattle.obs_epoch.specs.Heard.{Setup}

@@ -1,5 +1,5 @@
 -- Kept cells with their marks, and the two parts in which they are held.
-use Rattle.std.specs.Prelude.{Bool, if◌then◌else◌, ◌≡◌, ℕ, ◌≤◌, List, [], ◌∷◌, ◌++◌, map, IfSome, All}
+use Rattle.std.specs.Prelude.{Bool, if◌then◌else◌, ◌≡◌, ℕ, List, [], ◌∷◌, map, insert, IfSome, All}
 use Rattle.gnss_obs.specs.declared.system.System.{System}
 use Rattle.gnss_obs.specs.declared.system.System.TheVariants.{Gps, Galileo}
 use Rattle.gnss_obs.specs.Satellites.{IsSatellite}
@@ -34,10 +34,10 @@ pub record IsObserved (x : Seen) : Type 0 where
   pub d : IfSome x.d Fits
   pub s : IfSome x.s Fits
 
--- one cell more of a system
-abbrev pub with_cell_of : System → EpochValue → Cell → EpochValue
-with_cell_of Gps e c = record e { gps = e.gps ++ c ∷ [] }
-with_cell_of Galileo e c = record e { galileo = e.galileo ++ c ∷ [] }
+-- one cell more of a system, behind so many
+abbrev pub with_cell_of : System → ℕ → EpochValue → Cell → EpochValue
+with_cell_of Gps at e c = record e { gps = insert e.gps at c }
+with_cell_of Galileo at e c = record e { galileo = insert e.galileo at c }
 
 -- the cells of either system that may be held
 abbrev pub AreKept : List Cell → Type 0

@@ -1,5 +1,5 @@
 -- What others see of plans, cells and epochs.
-use Rattle.std.specs.Prelude.{◌≡◌, ℕ, zero, suc, ℤ, ◌+◌, ◌<◌, ◌≤◌, ◌^◌, ◌==◌, ◌&&◌, ◌||◌, Bool, List, length, All, IfSome, is_some, unsigned_abs, if◌then◌else◌}
+use Rattle.std.specs.Prelude.{◌≡◌, ℕ, zero, suc, ℤ, ◌+◌, ◌<◌, ◌≤◌, ◌^◌, ◌==◌, ◌&&◌, ◌||◌, Bool, List, [], ◌∷◌, length, All, IfSome, is_some, unsigned_abs, if◌then◌else◌}
 use Rattle.std.specs.List.{list_any}
 use Rattle.gnss_obs.specs.Satellites.{satellites as satellites_in, IsSatellite}
 use Rattle.gnss_obs.specs.Signals.{IsSignal}
@@ -31,7 +31,7 @@ cells_of Galileo e = e.galileo
 
 -- so many cells of a system are kept
 abbrev pub most_cells : ℕ
-most_cells = 64
+most_cells = 256
 
 -- a value that fourteen columns have room for
 abbrev pub Fits : ℤ → Type 0
@@ -60,6 +60,15 @@ has_value c = is_some c.c || is_some c.l || is_some c.d || is_some c.s
 -- a cell of the satellite of this number says something
 abbrev pub is_written : List Cell → ℕ → Bool
 is_written cells id = list_any (λ c. (c.satellite.id == id) && has_value c) cells
+
+-- a cell of the satellite of this number
+abbrev pub is_from : ℕ → Cell → Bool
+is_from id c = c.satellite.id == id
+
+-- how many cells of the satellite of this number stand in front
+abbrev pub run : ℕ → List Cell → ℕ
+run id [] = 0
+run id (c ∷ cells) = if is_from id c then suc (run id cells) else 0
 
 -- of the first n satellites so many are to be written
 abbrev pub written_among : List Cell → ℕ → ℕ

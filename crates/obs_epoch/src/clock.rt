@@ -5,6 +5,7 @@ ghost use Rattle.std.specs.List.{list_any};
 ghost use Rattle.obs_epoch.specs.Cells.{is_planned as is_planned_lem};
 ghost use Rattle.obs_epoch.specs.Heard.{Setup, Heard};
 ghost use Rattle.obs_epoch.specs.Weeks.{week, weeks};
+ghost use Rattle.obs_epoch.specs.Marked.{IsKey};
 ghost use Rattle.obs_epoch.specs.Times.{timed};
 
 use crate::plan::Plan;
@@ -89,6 +90,7 @@ impl Clock {
 
     /// Whether a cell is wanted.
     pub fn is_planned(&self, x: &Seen) -> bool
+        requires { IsKey x.now }
         ensures { result ≡ is_planned_lem self.now.setup x.now }
     {
         self.plan.place(x.signal).is_some()

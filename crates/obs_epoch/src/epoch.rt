@@ -1,12 +1,13 @@
 //! An epoch: what was observed at one time.
-ghost use Rattle.std.specs.Prelude.{◌≡◌, ◌+◌, ◌<◌, ◌≤◌, [], length, IfOk, ◌++◌, ◌∷◌};
+ghost use Rattle.std.specs.Prelude.{◌≡◌, ◌+◌, ◌<◌, ◌≤◌, [], length, drop, IfOk, insert};
 ghost use Rattle.std.specs.Vec.{vec_len, vec_capacity};
-ghost use Rattle.obs_epoch.specs.Values.{EpochValue, AreHeld, IsHeld, cells_of, satellites, is_written, written_among, has_value, most_cells};
+ghost use Rattle.obs_epoch.specs.Values.{EpochValue, AreHeld, IsHeld, cells_of, satellites, is_written, written_among, has_value, most_cells, run};
 ghost use Rattle.obs_epoch.specs.Marked.{with_cell_of, cell_of, IsObserved};
+ghost use Rattle.obs_epoch.specs.Order.{AreSorted};
 ghost use Rattle.gnss_obs.specs.Satellites.{satellites as satellites_in};
 
 use crate::cell::Cell;
-use crate::locks::push_within;
+use crate::locks::insert_within;
 use crate::seen::Seen;
 use crate::time::GpsTime;
 use gnss_obs::System;
@@ -14,7 +15,7 @@ use std::alloc::{AllocError, Global};
 use std::marker::Model;
 
 /// So many cells of a system are kept in an epoch.
-pub(crate) const MOST_CELLS: usize = 64;
+pub(crate) const MOST_CELLS: usize = 256;
 
 /// An epoch: its time, and the cells of each system that are kept.
 #[derive(Drop)]
@@ -29,12 +30,13 @@ impl Model for Epoch {
     ghost use Rattle.std.specs.Vec.{vec_capacity};
     ghost use Rattle.gnss_obs.specs.declared.system.System.TheVariants.{Gps, Galileo};
     ghost use Rattle.obs_epoch.specs.Values.{EpochValue, AreHeld, most_cells};
+    ghost use Rattle.obs_epoch.specs.Order.{AreSorted};
 
     ghost Value = { EpochValue };
 
     ghost view = { λ e. record { time = e.time; gps = e.gps.items; galileo = e.galileo.items } };
 
-    ghost invariant = { λ e. AreHeld Gps e.gps.items × AreHeld Galileo e.galileo.items × (most_cells ≤ vec_capacity e.gps) × (most_cells ≤ vec_capacity e.galileo) };
+    ghost invariant = { λ e. AreHeld Gps e.gps.items × AreHeld Galileo e.galileo.items × (most_cells ≤ vec_capacity e.gps) × (most_cells ≤ vec_capacity e.galileo) × AreSorted e.gps.items × AreSorted e.galileo.items };
 }
 
 impl Epoch {
@@ -60,16 +62,18 @@ impl Epoch {
         self.galileo.clear();
     }
 
-    // One cell more, with its mark.
-    pub(crate) fn hold(&mut self, x: &Seen, mark: u8)
+    // One cell more, with its mark, behind so many of its system.
+    pub(crate) fn hold(&mut self, at: usize, x: &Seen, mark: u8)
         requires observed { IsObserved x.now }
         requires mark { mark < 4 }
         requires room { length (cells_of x.now.satellite.system self.old) < most_cells }
-        ensures { self.new ≡ with_cell_of x.now.satellite.system self.old (cell_of (record { seen = x.now; mark = mark })) }
+        requires within { at ≤ length (cells_of x.now.satellite.system self.old) }
+        requires order { AreSorted (insert (cells_of x.now.satellite.system self.old) at (cell_of (record { seen = x.now; mark = mark }))) }
+        ensures { self.new ≡ with_cell_of x.now.satellite.system at self.old (cell_of (record { seen = x.now; mark = mark })) }
     {
         match x.satellite.system() {
-            System::Gps => push_cell(&mut self.gps, x, mark),
-            System::Galileo => push_cell(&mut self.galileo, x, mark),
+            System::Gps => insert_cell(&mut self.gps, at, x, mark),
+            System::Galileo => insert_cell(&mut self.galileo, at, x, mark),
         }
     }
 
@@ -80,10 +84,12 @@ impl Epoch {
         self.time
     }
 
-    /// The kept cells of a system, at most 64, in no stated order: each of a listed satellite and signal of that system.
+    /// The kept cells of a system, at most 256, by satellite and within it by the plan, no two of one key: each of a listed
+    /// satellite and signal of that system.
     pub fn cells(&self, system: System) -> &[Cell]
         ensures cells { result.now ≡ cells_of system self.now }
         ensures held { AreHeld system result.now }
+        ensures order { AreSorted result.now }
     {
         match system {
             System::Gps => self.gps.as_slice(),
@@ -101,16 +107,35 @@ impl Epoch {
     }
 }
 
+/// Where the cells of a satellite end that stand from this place on.
+pub fn end_of(cells: &[Cell], from: usize, id: u8) -> usize
+    requires { from ≤ length cells.now }
+    ensures end { result ≡ from + run id (drop from cells.now) }
+    ensures bound { result ≤ length cells.now }
+{
+    for at in from..cells.len() {
+        if cells[at].satellite.id() != id {
+            return at;
+        }
+    }
+    cells.len()
+}
+
 // Of a system's satellites, how many have a cell that says something.
 fn written(cells: &[Cell], system: System) -> usize
+    requires held { AreHeld system cells.now }
+    requires order { AreSorted cells.now }
     ensures count { result ≡ written_among cells.now (satellites_in system) }
     ensures bound { result ≤ satellites_in system }
 {
     let mut count = 0;
-    for id in 0..system.satellites() {
-        if is_written(cells, id + 1) {
+    let mut from = 0;
+    for before in 0..system.satellites() {
+        let to = end_of(cells, from, before + 1);
+        if is_written(&cells[from..to], before + 1) {
             count += 1;
         }
+        from = to;
     }
     count
 }
@@ -127,9 +152,10 @@ fn has_value(c: &Cell) -> bool
     c.c.is_some() || c.l.is_some() || c.d.is_some() || c.s.is_some()
 }
 
-fn push_cell(cells: &mut Vec<Cell>, x: &Seen, mark: u8)
-    requires { vec_len cells.old < vec_capacity cells.old }
-    ensures items { cells.new.items ≡ cells.old.items ++ cell_of (record { seen = x.now; mark = mark }) ∷ [] }
+fn insert_cell(cells: &mut Vec<Cell>, at: usize, x: &Seen, mark: u8)
+    requires room { vec_len cells.old < vec_capacity cells.old }
+    requires within { at ≤ vec_len cells.old }
+    ensures items { cells.new.items ≡ insert cells.old.items at (cell_of (record { seen = x.now; mark = mark })) }
     ensures len { vec_len cells.new ≡ vec_len cells.old + 1 }
     ensures room { vec_capacity cells.old ≤ vec_capacity cells.new }
 {
@@ -142,5 +168,5 @@ fn push_cell(cells: &mut Vec<Cell>, x: &Seen, mark: u8)
         s: x.s,
         mark,
     };
-    push_within(cells, cell);
+    insert_within(cells, at, cell);
 }

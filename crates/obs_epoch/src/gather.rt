@@ -1,14 +1,15 @@
 //! Messages into epochs, with the marks of lost lock.
-ghost use Rattle.std.specs.Prelude.{◌≡◌, ◌↔◌, ◌⊎◌, ◌+◌, ◌<◌, ◌≤◌, [], true, false, length, None, Some, is_some, IfOk, IfErr, IsOk, Err, option_map, ◌&&◌, ◌||◌, not, List, Bool, Option, ◌++◌, ◌∷◌, All};
+ghost use Rattle.std.specs.Prelude.{◌≡◌, ◌↔◌, ◌⊎◌, ◌+◌, ◌<◌, ◌≤◌, [], true, false, length, None, Some, is_some, IfOk, IfErr, IfSome, IsOk, Err, option_map, ◌&&◌, ◌||◌, not, List, Bool, Option, ◌++◌, ◌∷◌, All};
 ghost use Rattle.std.specs.Option.{ForSome, option_map_or};
 ghost use Rattle.rtcm_msg.specs.Entries.{IsEntry};
 ghost use Rattle.obs_epoch.specs.Weeks.{week, weeks};
 ghost use Rattle.obs_epoch.specs.Heard.{Setup, Heard, heard, seen_in, system_of};
 ghost use Rattle.obs_epoch.specs.Times.{timed};
 ghost use Rattle.obs_epoch.specs.Cells.{firsts};
+ghost use Rattle.obs_epoch.specs.Order.{StandBy};
 ghost use Rattle.obs_epoch.specs.Marked.{IsObserved, lock_codes, shown};
 ghost use Rattle.obs_epoch.specs.Epochs.{told as values_told, no_values, values_of, closed_so_far};
-ghost use Rattle.obs_epoch.specs.Held.{count_in};
+ghost use Rattle.obs_epoch.specs.Held.{count_in, recorded};
 ghost use Rattle.obs_epoch.specs.Step.{answer_by, closed_by as closes};
 ghost use Rattle.obs_epoch.specs.Clock.{closes_first, answer_of, is_pending};
 ghost use Rattle.obs_epoch.specs.Standing.{Standing, held_at, locked_in};
@@ -16,7 +17,7 @@ ghost use Rattle.obs_epoch.specs.Values.{Closed, most_cells};
 ghost use Rattle.obs_epoch.specs.Kinds.{is_close_first, kind_of, is_by_bit, is_no_station};
 ghost use Rattle.obs_epoch.specs.Gathering.{Gathers, Fits, closed_by, closed_in, is_done, plan_in};
 ghost use Rattle.obs_epoch.specs.declared.fault.PlanFault.{PlanFault};
-ghost use Rattle.obs_epoch.specs.Gather.{take_step, end_step, loaded_by, load_heard, load_entry, load_entries, begun, is_same as is_same_lem, no_epoch, no_counts, cells_in, load, noted, fate_in, hold};
+ghost use Rattle.obs_epoch.specs.Gather.{take_step, end_step, loaded_by, load_heard, load_entry, load_entries, begun, is_same as is_same_lem, no_epoch, no_counts, cells_in, load, noted, rested, fate_in, hold};
 ghost use Rattle.obs_epoch.specs.declared.seen.Counts.{Counts};
 
 use crate::cell::StationValues;
@@ -58,10 +59,13 @@ pub struct Gatherer {
 
 impl Model for Gatherer {
     ghost use Rattle.obs_epoch.specs.Gather.{Gathered};
+    ghost use Rattle.obs_epoch.specs.Gather.{AreInOrder};
 
     ghost Value = { Gathered };
 
     ghost view = { λ a. record { clock = a.clock; epoch = a.held; locks = a.locks; values = a.values; handed = a.handed; has_ended = a.has_ended } };
+
+    ghost invariant = { λ a. AreInOrder a.clock.setup.plan a.held };
 }
 
 impl Gatherer {
@@ -79,6 +83,7 @@ impl Gatherer {
     ) -> Result<Gatherer, PlanFault>
         ensures stands { IfOk result (λ g. Gathers g (record { plan = plan; start_week = start_week; station = station; by_bit = is_by_bit gather }) [] [] None) }
         ensures going { IfOk result (λ g. g.has_ended ≡ false) }
+        ensures none { IfOk result (λ g. closed_in g ≡ None) }
         ensures accepted { IsOk result → (start_week < weeks) × (is_no_station station ≡ false) }
         ensures week { (result ≡ Err PlanFault.BadWeek) ↔ (weeks ≤ start_week) }
         ensures station { (result ≡ Err PlanFault.BadStation) ↔ ((start_week < weeks) × (is_no_station station ≡ true)) }
@@ -107,6 +112,7 @@ impl Gatherer {
         requires { start_week < weeks }
         ensures stands { IfOk result (λ g. Standing g (record { plan = plan; start_week = start_week; station = station; by_bit = by_bit }) [] false) }
         ensures going { IfOk result (λ g. g.has_ended ≡ false) }
+        ensures none { IfOk result (λ g. closed_in g ≡ None) }
     {
         let held = Held::new(alloc)?;
         let locks = Locks::new(alloc)?;
@@ -152,19 +158,27 @@ impl Gatherer {
         }
     }
 
-    /// No message follows: closes the pending epoch, and says whether there was one.
+    /// No message follows: closes the pending epoch, and says whether there was one. After the first `end` there is none.
     pub fn end(&mut self) -> bool
         ensures closes { (s : Setup) (ms : List Heard) (es : List Closed) → Gathers self.old s ms es None → self.old.has_ended ≡ false
             → (result ≡ is_pending s (timed s ms)) × Gathers self.new s ms (es ++ closed_by (closed_in self.new) self.new.values) None }
         ensures closed { result ≡ is_some (closed_in self.new) }
         ensures ended { self.new.has_ended ≡ true }
+        ensures twice { self.old.has_ended ≡ true → (result ≡ false) × (self.new ≡ rested self.old) }
+        ensures stays { (s : Setup) (ms : List Heard) (es : List Closed) (again : Option Heard) → Gathers self.old s ms es again → self.old.has_ended ≡ true
+            → Gathers self.new s ms es again }
     {
+        if self.has_ended {
+            self.handed = false;
+            return false;
+        }
         self.finish()
     }
 
     /// The epoch that the last `take` or `end` closed, or None where that call closed none, and before the first call.
     pub fn closed(&self) -> Option<&Epoch>
-        ensures { option_map (λ e. e.now) result ≡ closed_in self.now }
+        ensures order { IfSome (option_map (λ e. e.now) result) (λ e. StandBy (plan_in self.now).gps e.gps × StandBy (plan_in self.now).galileo e.galileo) }
+        ensures closed { option_map (λ e. e.now) result ≡ closed_in self.now }
     {
         if self.handed {
             Some(self.held.epoch())
@@ -193,7 +207,7 @@ impl Gatherer {
     /// How many lock records are held: one for each satellite and signal of which a closed epoch has a kept cell with a
     /// valid phase and a known lock.
     pub fn locks(&self) -> usize
-        ensures count { result ≡ length self.now.locks }
+        ensures count { result ≡ recorded self.now.locks }
         ensures keys { (s : Setup) (ms : List Heard) (es : List Closed) (again : Option Heard) → Gathers self.now s ms es again
             → result ≡ length (firsts (locked_in s (timed s ms) (closed_so_far s (timed s ms) (is_done self.now s ms again)))) }
         ensures bound { result ≤ 1_164 }
@@ -322,14 +336,15 @@ impl Gatherer {
         if !self.clock.is_planned(&x) {
             return Fate::Skipped;
         }
-        if self.held.has(&x) {
+        let spot = self.held.seek(self.clock.plan(), &x);
+        if spot.is_held {
             return Fate::Repeated;
         }
         if self.held.len(x.satellite.system()) >= MOST_CELLS {
             return Fate::Crowded;
         }
         let mark = mark(&x, self.held.time(), self.locks.latest(&x));
-        self.held.hold(x, mark);
+        self.held.hold(spot.at, x, mark);
         Fate::Kept
     }
 

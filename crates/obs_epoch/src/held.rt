@@ -1,16 +1,19 @@
 //! The epoch that is held: its cells as they came, and how each is tracked.
-ghost use Rattle.std.specs.Prelude.{◌≡◌, ◌+◌, ◌<◌, ◌≤◌, [], length, IfOk, ◌++◌, ◌∷◌};
-ghost use Rattle.std.specs.List.{list_any};
+ghost use Rattle.std.specs.Prelude.{◌≡◌, ◌<◌, ◌≤◌, [], length, IfOk, ◌-◌, false, map, insert, slice_index_or};
 ghost use Rattle.obs_epoch.specs.Weeks.{week, weeks};
 ghost use Rattle.obs_epoch.specs.Values.{AreHeld, cells_of, most_cells};
-ghost use Rattle.obs_epoch.specs.Marked.{IsObserved, AreKept, shown, paired};
+ghost use Rattle.obs_epoch.specs.Marked.{IsKey, IsObserved, AreKept, cell_of, shown, paired};
 ghost use Rattle.obs_epoch.specs.Held.{is_held as is_held_lem, note_all};
-ghost use Rattle.obs_epoch.specs.Gather.{no_epoch, cells_in, with_more};
+ghost use Rattle.obs_epoch.specs.Gather.{no_epoch, cells_in, more_at, spot_in, AreInOrder};
+ghost use Rattle.obs_epoch.specs.Order.{AreSorted};
+ghost use Rattle.obs_epoch.specs.declared.cell.Cell.{Cell};
 ghost use Rattle.obs_epoch.specs.Cells.{same_key};
 
 use crate::cell::Cell;
 use crate::epoch::{Epoch, MOST_CELLS};
-use crate::locks::{Locks, is_same_key, push_within};
+use crate::locks::{Locks, insert_within, is_same_key};
+use crate::order::{seat_at, spot};
+use crate::plan::Plan;
 use crate::seen::{Seen, Tracking};
 use crate::time::GpsTime;
 use gnss_obs::System;
@@ -23,6 +26,13 @@ pub struct Held {
     epoch: Epoch,
     gps: Vec<Tracking>,
     galileo: Vec<Tracking>,
+}
+
+/// Where a cell stands or is to stand: so many cells of its system don't stand behind it. And whether its key is held.
+#[derive(Clone, Copy, Debug, PartialEq, Eq)]
+pub struct Spot {
+    pub at: usize,
+    pub is_held: bool,
 }
 
 impl Model for Held {
@@ -86,29 +96,41 @@ impl Held {
         self.epoch.cells(system).len()
     }
 
-    /// Whether there is a cell of that key.
-    pub fn has(&self, x: &Seen) -> bool
-        ensures { result ≡ is_held_lem (cells_in x.now.satellite.system self.now) x.now }
+    /// Where a cell of that key stands or is to stand.
+    pub fn seek(&self, plan: &Plan, x: &Seen) -> Spot
+        requires key { IsKey x.now }
+        requires order { AreInOrder plan.now self.now }
+        ensures at { result.at ≡ spot_in plan.now self.now x.now }
+        ensures held { result.is_held ≡ is_held_lem (cells_in x.now.satellite.system self.now) x.now }
+        ensures within { result.at ≤ length (cells_in x.now.satellite.system self.now) }
     {
         let _ = &self.gps;
-        has_key(self.epoch.cells(x.satellite.system()), x)
+        let system = x.satellite.system();
+        let cells = self.epoch.cells(system);
+        let at = spot(cells, plan, seat_at(plan, x.satellite, x.signal), system);
+        Spot {
+            at,
+            is_held: is_last(cells, at, x),
+        }
     }
 
-    /// One cell more.
-    pub fn hold(&mut self, x: Seen, mark: u8)
+    /// One cell more, behind so many of its system.
+    pub fn hold(&mut self, at: usize, x: Seen, mark: u8)
         requires observed { IsObserved x }
         requires mark { mark < 4 }
         requires room { length (cells_in x.satellite.system self.old) < most_cells }
-        ensures { self.new ≡ with_more self.old (record { seen = x; mark = mark }) }
+        requires within { at ≤ length (cells_in x.satellite.system self.old) }
+        requires order { AreSorted (insert (map cell_of (cells_in x.satellite.system self.old)) at (cell_of (record { seen = x; mark = mark }))) }
+        ensures { self.new ≡ more_at x.satellite.system at self.old (record { seen = x; mark = mark }) }
     {
         match x.satellite.system() {
             System::Gps => {
-                self.epoch.hold(&x, mark);
-                push_within(&mut self.gps, x.tracking());
+                self.epoch.hold(at, &x, mark);
+                insert_within(&mut self.gps, at, x.tracking());
             }
             System::Galileo => {
-                self.epoch.hold(&x, mark);
-                push_within(&mut self.galileo, x.tracking());
+                self.epoch.hold(at, &x, mark);
+                insert_within(&mut self.galileo, at, x.tracking());
             }
         }
     }
@@ -133,10 +155,17 @@ impl Held {
     }
 }
 
-fn has_key(cells: &[Cell], x: &Seen) -> bool
-    ensures { result ≡ list_any (λ c. same_key x.now.satellite x.now.signal c.satellite c.signal) cells.now }
+// Whether the last of the first cells has that key.
+fn is_last(cells: &[Cell], at: usize, x: &Seen) -> bool
+    requires { at ≤ length cells.now }
+    ensures none { at ≡ 0 → result ≡ false }
+    ensures last { (d : Cell) → 0 < at → result ≡ same_key x.now.satellite x.now.signal (slice_index_or cells.now (at - 1) d).satellite (slice_index_or cells.now (at - 1) d).signal }
 {
-    cells.iter().any(|c| is_same_key(x.satellite, x.signal, c.satellite, c.signal))
+    if at == 0 {
+        return false;
+    }
+    let c = &cells[at - 1];
+    is_same_key(x.satellite, x.signal, c.satellite, c.signal)
 }
 
 fn note_cells(locks: &mut Locks, time: u64, cells: &[Cell], tracking: &[Tracking])

@@ -16,6 +16,7 @@ pub mod laws;
 mod locks;
 mod mark;
 mod observe;
+mod order;
 mod plan;
 mod seen;
 mod taken;
@@ -23,7 +24,7 @@ mod time;
 
 pub use cell::{Cell, StationValues};
 pub use civil::Civil;
-pub use epoch::Epoch;
+pub use epoch::{Epoch, end_of};
 pub use fault::PlanFault;
 pub use gather::Gatherer;
 pub use plan::Plan;

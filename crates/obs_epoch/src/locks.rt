@@ -1,70 +1,62 @@
 //! Lock records: one of a key, for the latest closed epoch in which it had a known lock.
-ghost use Rattle.std.specs.Prelude.{◌≡◌, ◌+◌, ◌<◌, ◌≤◌, [], true, length, IfOk, ◌++◌, ◌∷◌};
+ghost use Rattle.std.specs.Prelude.{◌≡◌, ◌+◌, ◌<◌, ◌≤◌, [], length, IfOk, ◌++◌, ◌∷◌, insert};
 ghost use Rattle.std.specs.Vec.{vec_len, vec_capacity};
-ghost use Rattle.obs_epoch.specs.Held.{lookup, note, put, has_key, index_of};
+ghost use Rattle.obs_epoch.specs.Held.{entry_of, lookup, no_locks, note, one_if_new, put, recorded};
 ghost use Rattle.obs_epoch.specs.Cells.{is_system, same_key};
 ghost use Rattle.obs_epoch.specs.Marked.{IsKey};
-ghost use Rattle.gnss_obs.specs.declared.system.System.TheVariants.{Gps, Galileo};
 ghost use Rattle.obs_epoch.specs.Loss.{lock_of};
 
-use crate::seen::{KnownLock, LockRecord, Seen};
+use crate::seen::{KnownLock, Seen};
 use gnss_obs::{Sat, Signal, System};
 use std::alloc::{AllocError, Global};
 use std::marker::Model;
 
-/// As many as there are keys: 32 satellites of 15 signals, and 36 of 19.
+/// So many keys there are: 32 satellites of 15 signals, and 36 of 19.
 pub const MOST_LOCKS: usize = 1_164;
 
-/// The lock records.
+/// The lock records: an entry for each key, and how many keys have one.
 #[derive(Drop)]
 pub struct Locks {
-    records: Vec<LockRecord>,
+    entries: Vec<Option<KnownLock>>,
+    count: usize,
 }
 
 impl Model for Locks {
-    ghost use Rattle.std.specs.Prelude.{List, ◌≤◌};
-    ghost use Rattle.std.specs.Vec.{vec_capacity};
-    ghost use Rattle.obs_epoch.specs.declared.seen.LockRecord.{LockRecord};
-    ghost use Rattle.obs_epoch.specs.Held.{AreSound};
+    ghost use Rattle.std.specs.Prelude.{List, Option, ◌≡◌, length};
+    ghost use Rattle.obs_epoch.specs.declared.seen.KnownLock.{KnownLock};
+    ghost use Rattle.obs_epoch.specs.Held.{most_locks, recorded};
 
-    ghost Value = { List LockRecord };
+    ghost Value = { List (Option KnownLock) };
 
-    ghost view = { λ a. a.records.items };
+    ghost view = { λ a. a.entries.items };
 
-    ghost invariant = { λ a. AreSound a.records.items × (1_164 ≤ vec_capacity a.records) };
+    ghost invariant = { λ a. (length a.entries.items ≡ most_locks) × (a.count ≡ recorded a.entries.items) };
 }
 
 impl Locks {
     /// No lock is recorded; there is room for one of each key.
     pub fn new(alloc: Global) -> Result<Locks, AllocError>
-        ensures { IfOk result (λ l. l ≡ []) }
+        ensures { IfOk result (λ l. l ≡ no_locks) }
     {
-        let records = Vec::with_capacity(alloc, MOST_LOCKS)?;
-        Ok(Locks { records })
+        let mut entries = Vec::with_capacity(alloc, MOST_LOCKS)?;
+        clear(&mut entries);
+        Ok(Locks { entries, count: 0 })
     }
 
     /// How many are recorded.
     pub fn len(&self) -> usize
-        ensures count { result ≡ length self.now }
+        ensures count { result ≡ recorded self.now }
         ensures bound { result ≤ 1_164 }
     {
-        self.records.len()
+        self.count
     }
 
     /// What is recorded of that key.
     pub fn latest(&self, x: &Seen) -> Option<KnownLock>
+        requires { IsKey x.now }
         ensures { result ≡ lookup self.now x.now }
     {
-        let i = index(self.records.as_slice(), x);
-        if i < self.records.len() {
-            let r = &self.records[i];
-            Some(KnownLock {
-                time: r.time,
-                lock: r.lock,
-            })
-        } else {
-            None
-        }
+        self.entries[entry_of(x)]
     }
 
     /// A kept cell of an epoch that closes: its lock, where it is known.
@@ -81,18 +73,45 @@ impl Locks {
         requires { IsKey x.now }
         ensures { self.new ≡ put self.old x.now lock }
     {
-        let i = index(self.records.as_slice(), x);
-        let record = LockRecord {
-            satellite: x.satellite,
-            signal: x.signal,
-            time: lock.time,
-            lock: lock.lock,
-        };
-        if i < self.records.len() {
-            self.records[i] = record;
-        } else {
-            push_within(&mut self.records, record);
-        }
+        let entry = entry_of(x);
+        let count = self.count + one_if_new(self.entries[entry]);
+        self.entries[entry] = Some(lock);
+        self.count = count;
+    }
+}
+
+// An entry for each key, with no record.
+fn clear(entries: &mut Vec<Option<KnownLock>>)
+    requires empty { entries.old.items ≡ [] }
+    requires room { MOST_LOCKS ≤ vec_capacity entries.old }
+    ensures { entries.new.items ≡ no_locks }
+{
+    for _ in 0..MOST_LOCKS {
+        push_within(entries, None);
+    }
+}
+
+// A key without a record adds one.
+fn one_if_new(before: Option<KnownLock>) -> usize
+    ensures { result ≡ one_if_new before }
+{
+    match before {
+        None => 1,
+        Some(_) => 0,
+    }
+}
+
+// The entry of a key.
+fn entry_of(x: &Seen) -> usize
+    requires { IsKey x.now }
+    ensures entry { result ≡ entry_of x.now }
+    ensures bound { result < 1_164 }
+{
+    let id = x.satellite.id() as usize;
+    let index = x.signal.index();
+    match x.satellite.system() {
+        System::Gps => 15 * (id - 1) + index,
+        System::Galileo => 480 + 19 * (id - 1) + index,
     }
 }
 
@@ -117,22 +136,19 @@ pub fn push_within<T: Drop>(xs: &mut Vec<T>, x: T)
     let _ = xs.push(x);
 }
 
-fn is_for(r: &LockRecord, x: &Seen) -> bool
-    ensures { result ≡ has_key r.now x.now }
+/// Inserts where there is room, and takes no memory. Most come behind all others.
+pub fn insert_within<T: Drop>(xs: &mut Vec<T>, at: usize, x: T)
+    requires room { vec_len xs.old < vec_capacity xs.old }
+    requires within { at ≤ vec_len xs.old }
+    ensures items { xs.new.items ≡ insert xs.old.items at x }
+    ensures len { vec_len xs.new ≡ vec_len xs.old + 1 }
+    ensures room { vec_capacity xs.old ≤ vec_capacity xs.new }
 {
-    is_same_key(r.satellite, r.signal, x.satellite, x.signal)
-}
-
-// The place of the record of that key, or behind all.
-fn index(records: &[LockRecord], x: &Seen) -> usize
-    ensures { result ≡ index_of records.now x.now }
-{
-    for i in 0..records.len() {
-        if is_for(&records[i], x) {
-            return i;
-        }
+    if at == xs.len() {
+        push_within(xs, x);
+    } else {
+        let _ = xs.insert(at, x);
     }
-    records.len()
 }
 
 /// Whether two satellites and signals are of one system, number and place.

@@ -34,15 +34,6 @@ pub struct KnownLock {
     pub lock: Lock,
 }
 
-/// The lock of the latest closed epoch in which a key had one.
-#[derive(Clone, Copy, Debug, PartialEq, Eq)]
-pub struct LockRecord {
-    pub satellite: Sat,
-    pub signal: Signal,
-    pub time: u64,
-    pub lock: Lock,
-}
-
 /// What became of the cells of a message.
 #[derive(Clone, Copy, Debug, PartialEq, Eq)]
 pub struct Counts {

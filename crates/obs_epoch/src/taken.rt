@@ -37,7 +37,7 @@ pub enum Kind {
         skipped: usize,
         /// Cells of a satellite and signal of which the epoch has one already.
         repeated: usize,
-        /// Cells that came when 64 of their system were kept.
+        /// Cells that came when 256 of their system were kept.
         crowded: usize,
     },
     /// Observations of a later epoch: the pending epoch was closed, and the message is to be handed in again.

@@ -237,47 +237,102 @@ fn the_first_cell_of_a_key_is_kept(rt: HostRuntime) -> Result<(), PlanFault> {
     Ok(())
 }
 
-#[test]
-fn cells_past_the_bound_are_crowded(rt: HostRuntime) -> Result<(), PlanFault> {
-    let mut g = gatherer(rt.alloc(), 2_300, Gather::Bit)?;
+/// A message of the long form: every GPS satellite with two signals, by their IDs, or the first with one.
+fn wide(more: bool, satellites: u64, signals: u32) -> Message {
     let satellite = Satellite7 {
         whole: 70,
         extended: 0,
         fraction: 0,
         rate: 100,
     };
-    let full = match Masks::new(0xFFFF_FFFF << 32, 1 << 30 | 1 << 22, u64::MAX) {
-        Ok(masks) => match Msm::new(
-            false,
-            header(1_000, true),
-            masks,
-            &[satellite; 32],
-            &[long_cell(true, 64); 64],
-        ) {
-            Ok(msm) => Message::Msm7(msm),
-            Err(_) => nothing(),
-        },
-        Err(_) => nothing(),
+    let cells = (satellites.count_ones() * signals.count_ones()) as usize;
+    if satellites.count_ones() > 32 || cells > 64 || cells == 0 {
+        return nothing();
+    }
+    let masks = match Masks::new(satellites, signals, u64::MAX >> (64 - cells)) {
+        Ok(masks) => masks,
+        Err(_) => return nothing(),
     };
-    let more = match Masks::new(1 << 63, 1 << 8, 1) {
-        Ok(masks) => match Msm::new(
-            false,
-            header(1_000, false),
-            masks,
-            &[satellite],
-            &[long_cell(true, 64)],
-        ) {
-            Ok(msm) => Message::Msm7(msm),
-            Err(_) => nothing(),
-        },
+    let all = [satellite; 32];
+    let every = [long_cell(true, 64); 64];
+    match Msm::new(
+        false,
+        header(1_000, more),
+        masks,
+        &all[..satellites.count_ones() as usize],
+        &every[..cells],
+    ) {
+        Ok(msm) => Message::Msm7(msm),
         Err(_) => nothing(),
-    };
-    assert_eq!(rt; g.take(&full).kind, kept(64, 0, 0));
-    assert_eq!(rt; g.take(&more).kind, kept(0, 0, 1));
-    assert!(rt;
-        g.closed().is_some_and(|e| e.satellites() == 32 && e.cells(System::Gps).len() == 64)
+    }
+}
+
+const ALL_GPS: u64 = 0xFFFF_FFFF << 32;
+
+#[test]
+fn a_set_split_over_messages_is_kept(rt: HostRuntime) -> Result<(), PlanFault> {
+    let mut g = gatherer(rt.alloc(), 2_300, Gather::Bit)?;
+    assert_eq!(rt;
+        g.take(&wide(true, ALL_GPS, 1 << 30 | 1 << 22)).kind,
+        kept(64, 0, 0)
     );
-    assert_eq!(rt; g.locks(), 64);
+    assert_eq!(rt; g.take(&wide(false, 1 << 63, 1 << 8)).kind, kept(1, 0, 0));
+    assert!(rt;
+        g.closed().is_some_and(|e| e.satellites() == 32 && e.cells(System::Gps).len() == 65)
+    );
+    assert_eq!(rt; g.locks(), 65);
+    Ok(())
+}
+
+#[test]
+fn cells_past_the_bound_are_crowded(rt: HostRuntime) -> Result<(), PlanFault> {
+    let mut g = gatherer(rt.alloc(), 2_300, Gather::Bit)?;
+    assert_eq!(rt;
+        g.take(&wide(true, ALL_GPS, 1 << 30 | 1 << 22)).kind,
+        kept(64, 0, 0)
+    );
+    assert_eq!(rt;
+        g.take(&wide(true, ALL_GPS, 1 << 29 | 1 << 23)).kind,
+        kept(64, 0, 0)
+    );
+    assert_eq!(rt;
+        g.take(&wide(true, ALL_GPS, 1 << 28 | 1 << 16)).kind,
+        kept(64, 0, 0)
+    );
+    assert_eq!(rt;
+        g.take(&wide(true, ALL_GPS, 1 << 10 | 1 << 9)).kind,
+        kept(64, 0, 0)
+    );
+    assert_eq!(rt; g.take(&wide(false, 1 << 63, 1 << 8)).kind, kept(0, 0, 1));
+    assert!(rt;
+        g.closed().is_some_and(|e| e.satellites() == 32 && e.cells(System::Gps).len() == 256)
+    );
+    assert_eq!(rt; g.locks(), 256);
+    Ok(())
+}
+
+#[test]
+fn cells_stand_by_satellite_and_plan(rt: HostRuntime) -> Result<(), PlanFault> {
+    let plan = Plan::parse(rt.alloc(), "5X,2W,1C", "none")?;
+    let mut g = Gatherer::new(rt.alloc(), plan, 2_300, Some(7), Gather::Bit)?;
+    g.take(&wide(true, 1 << 63 | 1 << 61, 1 << 30 | 1 << 22));
+    g.take(&wide(false, 1 << 63 | 1 << 62, 1 << 8));
+    let Some(epoch) = g.closed() else {
+        return Err(PlanFault::NothingPlanned);
+    };
+    let order = [
+        (1, *b"5X"),
+        (1, *b"2W"),
+        (1, *b"1C"),
+        (2, *b"5X"),
+        (3, *b"2W"),
+        (3, *b"1C"),
+    ];
+    let cells = epoch.cells(System::Gps);
+    assert_eq!(rt; cells.len(), 6);
+    for (cell, (id, code)) in cells.iter().zip(order) {
+        assert!(rt; cell.satellite.id() == id && cell.signal.code() == code);
+    }
     Ok(())
 }
 

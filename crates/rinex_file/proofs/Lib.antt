@@ -32,3 +32,4 @@ mod PutTexts
 mod HeaderLearned
 mod HeaderEnd
 mod HeaderTypes
+mod Groups

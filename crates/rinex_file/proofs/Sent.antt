@@ -12,9 +12,9 @@ use Rattle.obs_epoch.specs.declared.cell.Cell.{Cell}
 use Rattle.obs_epoch.specs.Dates.{civil_of}
 use Rattle.obs_epoch.specs.Values.{PlanValue, EpochValue, cells_of, is_written, written_among, satellites}
 use Rattle.rinex_file.specs.Numbers.{joined}
-use Rattle.rinex_file.specs.Value.{numbers, written, seen_of, rows_of}
+use Rattle.rinex_file.specs.Value.{numbers, written, seen_among, seen_of, rows_of}
 use Rattle.rinex_file.specs.Lines.{seen_line, epoch_line}
-use Rattle.rinex_file.specs.File.{line_or_none, lines_up_to, epoch_text}
+use Rattle.rinex_file.specs.File.{line_among, line_or_none, lines_up_to, epoch_text}
 use Rattle.rinex_file.proofs.Entries.{flat_map-append}
 
 -- behind what went out, a part of what follows
@@ -51,7 +51,7 @@ one_of p e s n true = append-nil (seen_line (seen_of p e s (suc n)))
 one_of p e s n false = refl
 
 lines_suc : (p : PlanValue) (e : EpochValue) (s : System) (n : ℕ) → lines_up_to p e s (suc n) ≡ lines_up_to p e s n ++ line_or_none p e s (suc n)
-unfolding lines_up_to line_or_none
+unfolding lines_up_to line_among
 lines_suc p e s n =
     let cells = cells_of s e in
     let split : written cells (suc n) ≡ written cells n ++ (if is_written cells (suc n) then suc n ∷ [] else []) = filter-append (is_written cells) (numbers n) (suc n ∷ []) in
@@ -68,13 +68,13 @@ pub no_lines : (p : PlanValue) (e : EpochValue) (s : System) → lines_up_to p e
 unfolding lines_up_to
 no_lines p e s = refl
 
-pub not_written : (p : PlanValue) (e : EpochValue) (s : System) (id : ℕ) → is_written (cells_of s e) id ≡ false → line_or_none p e s id ≡ []
-unfolding line_or_none
-not_written p e s id h = ap (λ b. if b then seen_line (seen_of p e s id) else []) h
+pub not_written : (p : PlanValue) (s : System) (cells : List Cell) (id : ℕ) → is_written cells id ≡ false → line_among p s cells id ≡ []
+unfolding line_among
+not_written p s cells id h = ap (λ b. if b then seen_line (seen_among p s cells id) else []) h
 
-pub is_shown : (p : PlanValue) (e : EpochValue) (s : System) (id : ℕ) → is_written (cells_of s e) id ≡ true → line_or_none p e s id ≡ seen_line (seen_of p e s id)
-unfolding line_or_none
-is_shown p e s id h = ap (λ b. if b then seen_line (seen_of p e s id) else []) h
+pub is_shown : (p : PlanValue) (s : System) (cells : List Cell) (id : ℕ) → is_written cells id ≡ true → line_among p s cells id ≡ seen_line (seen_among p s cells id)
+unfolding line_among
+is_shown p s cells id h = ap (λ b. if b then seen_line (seen_among p s cells id) else []) h
 
 -- one satellite more went out
 pub grown_lines : (a b c : Option (List ℕ)) (p : PlanValue) (e : EpochValue) (s : System) (n m : ℕ) → m ≡ suc n → Appends a b (lines_up_to p e s n) → Appends b c (line_or_none p e s m)

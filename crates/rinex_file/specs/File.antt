@@ -5,7 +5,8 @@ use Rattle.obs_epoch.specs.declared.cell.StationValues.{StationValues}
 use Rattle.obs_epoch.specs.Values.{EpochValue, PlanValue, cells_of, is_written}
 use Rattle.obs_epoch.specs.Dates.{civil_of}
 use Rattle.rinex_file.specs.Texts.{HeaderLists}
-use Rattle.rinex_file.specs.Value.{Stamped, FileValue, stamped_of, seen_of, written}
+use Rattle.rinex_file.specs.Value.{Stamped, FileValue, stamped_of, seen_among, seen_of, written}
+use Rattle.obs_epoch.specs.declared.cell.Cell.{Cell}
 use Rattle.rinex_file.specs.Header.{header_lines, position_line, delta_line}
 use Rattle.rinex_file.specs.Lines.{epoch_line, seen_line}
 use Rattle.rinex_file.specs.Numbers.{joined}
@@ -28,8 +29,11 @@ unfoldable pub epoch_text : PlanValue → EpochValue → List ℕ
 epoch_text plan epoch = joined (stamped_lines (stamped_of plan epoch))
 
 -- the line of a satellite, where it is written
-unfoldable pub line_or_none : PlanValue → EpochValue → System → ℕ → List ℕ
-line_or_none plan epoch system id = if is_written (cells_of system epoch) id then seen_line (seen_of plan epoch system id) else []
+unfoldable pub line_among : PlanValue → System → List Cell → ℕ → List ℕ
+line_among plan system cells id = if is_written cells id then seen_line (seen_among plan system cells id) else []
+
+abbrev pub line_or_none : PlanValue → EpochValue → System → ℕ → List ℕ
+line_or_none plan epoch system id = line_among plan system (cells_of system epoch) id
 
 -- the lines of a system's satellites up to a number
 unfoldable pub lines_up_to : PlanValue → EpochValue → System → ℕ → List ℕ

@@ -69,8 +69,12 @@ entry_at cells id index = option_map_or entry_of (find (is_of id index) cells) n
 abbrev pub row_of : List ℕ → List Cell → ℕ → Row
 row_of signals cells id = record { satellite = id; entries = map (entry_at cells id) signals }
 
+-- a satellite of a system with these cells, with its entries
+abbrev pub seen_among : PlanValue → System → List Cell → ℕ → Seen
+seen_among plan system cells id = record { system = system; row = row_of (planned_of system plan) cells id }
+
 abbrev pub seen_of : PlanValue → EpochValue → System → ℕ → Seen
-seen_of plan epoch system id = record { system = system; row = row_of (planned_of system plan) (cells_of system epoch) id }
+seen_of plan epoch system id = seen_among plan system (cells_of system epoch) id
 
 -- the satellites of a system that are written
 abbrev pub rows_of : PlanValue → EpochValue → System → List Seen

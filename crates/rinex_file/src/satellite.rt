@@ -3,7 +3,7 @@ ghost use Rattle.std.specs.Prelude.{◌≡◌, ℕ, ◌+◌, ◌*◌, ◌≤◌,
 ghost use Rattle.std.specs.Option.{option_map};
 ghost use Rattle.arrayvec.specs.ArrayVec.{array_vec_len};
 ghost use Rattle.obs_epoch.specs.Values.{Fits, AreHeld};
-ghost use Rattle.rinex_file.specs.Value.{Entry, entry_of, no_entry, entry_at, is_of, seen_of};
+ghost use Rattle.rinex_file.specs.Value.{Entry, entry_of, no_entry, entry_at, is_of, seen_among, seen_of};
 ghost use Rattle.rinex_file.specs.Numbers.{padded};
 ghost use Rattle.rinex_file.specs.Blanks.{trimmed};
 ghost use Rattle.rinex_file.specs.Lines.{field, strength_byte, mark_byte, entry_text, letter_of, seen_line};
@@ -129,16 +129,16 @@ pub(crate) fn letter_of(system: System) -> u8
     }
 }
 
-/// Appends the line of a satellite of an epoch to an empty line.
-pub(crate) fn put_seen(line: &mut Line, epoch: &Epoch, plan: &Plan, system: System, id: u8)
+/// Appends the line of a satellite with these cells to an empty line.
+pub(crate) fn put_seen(line: &mut Line, cells: &[Cell], plan: &Plan, system: System, id: u8)
     requires empty { line.old.items ≡ [] }
+    requires held { AreHeld system cells.now }
     requires id { id < 100 }
-    ensures { line.new.items ≡ seen_line (seen_of plan.now epoch.now system id) }
+    ensures { line.new.items ≡ seen_line (seen_among plan.now system cells.now id) }
 {
     line.push(letter_of(system));
     line.push(b'0' + id / 10);
     line.push(b'0' + id % 10);
-    let cells = epoch.cells(system);
     for i in 0..plan.signals(system) {
         put_signal(line, system, cells, id, plan.signal(system, i).index());
     }
@@ -155,5 +155,6 @@ pub fn satellite_line(epoch: &Epoch, plan: &Plan, satellite: Sat, line: &mut Lin
     ensures { line.new.items ≡ seen_line (seen_of plan.now epoch.now satellite.system satellite.id) }
 {
     line.clear();
-    put_seen(line, epoch, plan, satellite.system(), satellite.id());
+    let cells = epoch.cells(satellite.system());
+    put_seen(line, cells, plan, satellite.system(), satellite.id());
 }

@@ -1,10 +1,10 @@
 //! Writing a file, one line at a time.
-ghost use Rattle.std.specs.Prelude.{◌≡◌, ◌<◌, OnOk, OnErr, IfErr};
+ghost use Rattle.std.specs.Prelude.{◌≡◌, ◌+◌, ◌<◌, ◌≤◌, drop, length, OnOk, OnErr, IfErr};
 ghost use Rattle.std.specs.Io.KnownBytes.{Appends};
 ghost use Rattle.rtcm_bits.specs.Device.{AppendsPrefix, HasFailed};
-ghost use Rattle.obs_epoch.specs.Values.{cells_of, has_value, is_written};
+ghost use Rattle.obs_epoch.specs.Values.{AreHeld, cells_of, has_value, is_written};
 ghost use Rattle.gnss_obs.specs.Satellites.{satellites};
-ghost use Rattle.rinex_file.specs.File.{header_text, epoch_text, line_or_none, lines_up_to};
+ghost use Rattle.rinex_file.specs.File.{header_text, epoch_text, line_among, lines_up_to};
 
 use crate::epoch::epoch_line;
 use crate::fault::HeadFault;
@@ -12,7 +12,7 @@ use crate::head::{Head, header_lines};
 use crate::numbers::Line;
 use crate::satellite::put_seen;
 use gnss_obs::System;
-use obs_epoch::{Cell, Epoch, Plan};
+use obs_epoch::{Cell, Epoch, Plan, end_of};
 use rtcm_bits::Counted;
 use std::io::Write;
 
@@ -55,28 +55,29 @@ fn is_written(cells: &[Cell], id: u8) -> bool
         .any(|cell| cell.satellite.id() == id && has_value(cell))
 }
 
-// Writes the line of a satellite where it has a value.
+// Writes the line of a satellite where one of its cells has a value.
 fn write_satellite<W: Write>(
-    epoch: &Epoch,
+    cells: &[Cell],
     plan: &Plan,
     system: System,
     id: u8,
     line: &mut Line,
     writer: &mut Counted<W>,
 ) -> Result<(), HeadFault>
-    requires { id < 100 }
-    ensures whole { OnOk result (Appends (W.contents writer.old.inner) (W.contents writer.new.inner) (line_or_none plan.now epoch.now system id)) }
-    ensures part { OnErr result (AppendsPrefix (W.contents writer.old.inner) (W.contents writer.new.inner) (line_or_none plan.now epoch.now system id)) }
+    requires held { AreHeld system cells.now }
+    requires id { id < 100 }
+    ensures whole { OnOk result (Appends (W.contents writer.old.inner) (W.contents writer.new.inner) (line_among plan.now system cells.now id)) }
+    ensures part { OnErr result (AppendsPrefix (W.contents writer.old.inner) (W.contents writer.new.inner) (line_among plan.now system cells.now id)) }
     ensures only { IfErr result (λ fault. fault ≡ HeadFault.Write) }
     ensures failed { OnErr result (HasFailed writer.old.failures writer.new.failures) }
     ensures fine { OnOk result (writer.new.failures ≡ writer.old.failures) }
     ensures widest { writer.new.widest ≡ writer.old.widest }
 {
-    if !is_written(epoch.cells(system), id) {
+    if !is_written(cells, id) {
         return Ok(());
     }
     line.clear();
-    put_seen(line, epoch, plan, system, id);
+    put_seen(line, cells, plan, system, id);
     match writer.write_whole(line.as_slice()) {
         Ok(()) => Ok(()),
         Err(_) => Err(HeadFault::Write),
@@ -98,11 +99,15 @@ fn write_system<W: Write>(
     ensures fine { OnOk result (writer.new.failures ≡ writer.old.failures) }
     ensures widest { writer.new.widest ≡ writer.old.widest }
 {
+    let cells = epoch.cells(system);
+    let mut from = 0;
     for before in 0..system.satellites() {
-        match write_satellite(epoch, plan, system, before + 1, line, writer) {
+        let to = end_of(cells, from, before + 1);
+        match write_satellite(&cells[from..to], plan, system, before + 1, line, writer) {
             Ok(()) => {}
             Err(fault) => return Err(fault),
         }
+        from = to;
     }
     Ok(())
 }

@@ -7,6 +7,7 @@ ghost use Rattle.rtcm_scan.specs.Decided.{decided};
 ghost use Rattle.rtcm_scan.specs.Looks.{examined, examined_now, most, most_now};
 ghost use Rattle.obs_epoch.specs.Values.{most_cells};
 ghost use Rattle.obs_epoch.specs.Gather.{cells_in};
+ghost use Rattle.obs_epoch.specs.Held.{recorded};
 ghost use Rattle.rtcm_convert.specs.Converted.{Settings};
 ghost use Rattle.rtcm_convert.specs.Told.{settings, IsBad};
 ghost use Rattle.rtcm_convert.specs.Outcomes.{report_with};
@@ -283,7 +284,7 @@ impl Converter {
 
     /// How many lock records are held, one at most for each satellite and signal.
     pub fn locks(&self) -> usize
-        ensures count { result ≡ length self.now.filer.gatherer.locks }
+        ensures count { result ≡ recorded self.now.filer.gatherer.locks }
         ensures bound { result ≤ 1_164 }
     {
         self.filer.gatherer.locks()

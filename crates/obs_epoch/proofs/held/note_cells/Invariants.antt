@@ -1,4 +1,4 @@
-use Rattle.std.proofs.Common.{◌≡◌, drop, length}
+use Rattle.std.proofs.Common.{◌≡◌, drop}
 use Rattle.obs_epoch.specs.Held.{note_all}
 use Rattle.obs_epoch.specs.Marked.{AreKept, paired}
 use Rattle.obs_epoch.proofs.held.note_cells.Given as goal

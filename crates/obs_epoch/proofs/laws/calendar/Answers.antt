@@ -1,9 +1,8 @@
 use Rattle.std.proofs.Common.{arith, ◌≡◌, ℕ, ◌+◌, ◌*◌, ◌/◌, ◌%◌, ◌<◌, ◌≤◌, pos}
-use Rattle.jiff_core.specs.Calendar.{IsCivilDate, days_in_month}
+use Rattle.jiff_core.specs.Calendar.{IsCivilDate}
 use Rattle.jiff_core.proofs.SignedLemmas.{signed_arith}
 use Rattle.jiff_core.proofs.CalendarLemmas.{days_in_month_bounds}
-use Rattle.obs_epoch.specs.Weeks.{week, weeks}
-use Rattle.obs_epoch.specs.Dates.{IsCivil, IsCivilOf, civil_of, date_of}
+use Rattle.obs_epoch.specs.Dates.{date_of}
 use Rattle.obs_epoch.proofs.WalkLemmas.{date_of_is}
 use Rattle.obs_epoch.proofs.laws.calendar.Goals as goal
 

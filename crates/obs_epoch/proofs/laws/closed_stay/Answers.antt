@@ -1,4 +1,4 @@
-use Rattle.std.proofs.Common.{refl, ◌++◌}
+use Rattle.std.proofs.Common.{◌++◌}
 use Rattle.obs_epoch.proofs.GatheringLemmas.{epochs-more, all-prefix, prefix_trans}
 use Rattle.obs_epoch.proofs.laws.closed_stay.Goals as goal
 

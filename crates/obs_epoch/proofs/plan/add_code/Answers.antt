@@ -1,10 +1,8 @@
-use Rattle.std.proofs.Common.{◌≡◌, ◌++◌, ◌∷◌, [], inr, sym, ap, ◌∙◌, subst, length, true, false, arith, ◌==◌}
-use Rattle.std.specs.List.{list_any}
+use Rattle.std.proofs.Common.{◌≡◌, inr, sym, ap, ◌∙◌, subst, length, arith}
 use Rattle.std.specs.Prelude.{Err}
-use Rattle.gnss_obs.specs.Signals.{SignalAt, signal_of_code}
+use Rattle.gnss_obs.specs.Signals.{signal_of_code}
 use Rattle.obs_epoch.specs.declared.fault.PlanFault.TheVariants.{RepeatedCode}
 use Rattle.obs_epoch.specs.Signals.{indices, IsOf}
-use Rattle.obs_epoch.specs.Plans.{one_more}
 use Rattle.obs_epoch.proofs.PlanLemmas.{repeated, accepted, of_where, is_of-push, has_now}
 use Rattle.obs_epoch.proofs.plan.add_code.Goals as goal
 

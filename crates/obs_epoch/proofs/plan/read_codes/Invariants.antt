@@ -1,6 +1,5 @@
 use Rattle.std.proofs.Common.{◌≡◌, ◌+◌, [], length}
 use Rattle.std.specs.Option.{option_map, option_map_or}
-use Rattle.std.specs.Prelude.{ℕ, List}
 use Rattle.obs_epoch.specs.Signals.{indices, IsOf, codes_in}
 use Rattle.obs_epoch.specs.Plans.{signals_after, between_commas}
 use Rattle.obs_epoch.proofs.plan.read_codes.Given as goal

@@ -1,32 +1,29 @@
-use Rattle.std.proofs.Common.{◌≡◌, ◌∙◌, sym, ap, subst, true, false}
+use Rattle.std.proofs.Common.{◌≡◌, ◌∙◌, sym, subst, true, false}
 use Rattle.std.specs.Io.KnownBytes.{Appends}
 use Rattle.std.proofs.KnownBytes.{Appends-nil}
 use Rattle.rtcm_bits.specs.Device.{AppendsPrefix}
-use Rattle.obs_epoch.specs.Values.{cells_of, is_written}
+use Rattle.obs_epoch.specs.Values.{is_written}
 use Rattle.rinex_file.proofs.Sent.{not_written, is_shown}
 use Rattle.rinex_file.proofs.write.write_satellite.Goals as goal
 
 pub returns-then-not-is_written-clause-whole : goal.returns-then-not-is_written-clause-whole
 returns-then-not-is_written-clause-whole g c =
     let a = g.W.Write.contents c.args.writer.now.inner in
-    let isnt : is_written (cells_of c.args.system c.args.epoch.now) c.args.id ≡ false =
-    sym (c.is_written.ensures ∙ ap (λ l. is_written l c.args.id) c.cells.ensures.cells) ∙ c.if-not-is_written.true in
-    subst (λ l. Appends a a l) (sym (not_written c.args.plan.now c.args.epoch.now c.args.system c.args.id isnt)) (Appends-nil a)
+    let isnt : is_written c.args.cells.now c.args.id ≡ false = sym c.is_written.ensures ∙ c.if-not-is_written.true in
+    subst (λ l. Appends a a l) (sym (not_written c.args.plan.now c.args.system c.args.cells.now c.args.id isnt)) (Appends-nil a)
 
 pub returns-in-Ok-clause-whole : goal.returns-in-Ok-clause-whole
 returns-in-Ok-clause-whole g c =
     let a = g.W.Write.contents c.args.writer.now.inner in
     let b = g.W.Write.contents c.write_whole.new.self.inner in
-    let is : is_written (cells_of c.args.system c.args.epoch.now) c.args.id ≡ true =
-    sym (c.is_written.ensures ∙ ap (λ l. is_written l c.args.id) c.cells.ensures.cells) ∙ c.if-not-is_written.false in
-    let line = c.as_slice.ensures.value ∙ c.put_seen.ensures ∙ sym (is_shown c.args.plan.now c.args.epoch.now c.args.system c.args.id is) in
+    let is : is_written c.args.cells.now c.args.id ≡ true = sym c.is_written.ensures ∙ c.if-not-is_written.false in
+    let line = c.as_slice.ensures.value ∙ c.put_seen.ensures ∙ sym (is_shown c.args.plan.now c.args.system c.args.cells.now c.args.id is) in
     subst (λ l. Appends a b l) line c.in-Ok.ensures.whole
 
 pub returns-in-Err-clause-part : goal.returns-in-Err-clause-part
 returns-in-Err-clause-part g c =
     let a = g.W.Write.contents c.args.writer.now.inner in
     let b = g.W.Write.contents c.write_whole.new.self.inner in
-    let is : is_written (cells_of c.args.system c.args.epoch.now) c.args.id ≡ true =
-    sym (c.is_written.ensures ∙ ap (λ l. is_written l c.args.id) c.cells.ensures.cells) ∙ c.if-not-is_written.false in
-    let line = c.as_slice.ensures.value ∙ c.put_seen.ensures ∙ sym (is_shown c.args.plan.now c.args.epoch.now c.args.system c.args.id is) in
+    let is : is_written c.args.cells.now c.args.id ≡ true = sym c.is_written.ensures ∙ c.if-not-is_written.false in
+    let line = c.as_slice.ensures.value ∙ c.put_seen.ensures ∙ sym (is_shown c.args.plan.now c.args.system c.args.cells.now c.args.id is) in
     subst (λ l. AppendsPrefix a b l) line c.in-Err.ensures.part

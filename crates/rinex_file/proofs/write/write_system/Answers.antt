@@ -2,6 +2,10 @@ use Rattle.std.proofs.Common.{arith, ◌≡◌, ◌∙◌, sym, subst, refl, suc
 use Rattle.std.specs.Io.KnownBytes.{Appends}
 use Rattle.std.proofs.KnownBytes.{Appends-nil}
 use Rattle.gnss_obs.specs.Satellites.{satellites}
+use Rattle.rtcm_bits.specs.Device.{AppendsPrefix}
+use Rattle.obs_epoch.specs.Values.{cells_of}
+use Rattle.obs_epoch.proofs.GroupLemmas.{left_all, further, sorted_climbs}
+use Rattle.rinex_file.proofs.Groups.{same_line}
 use Rattle.rinex_file.proofs.Sent.{no_lines, grown_lines, part_lines}
 use Rattle.rinex_file.proofs.write.write_system.Goals as goal
 
@@ -11,6 +15,7 @@ loop-before-init g c =
     record {
       out = subst (λ l. Appends a a l) (sym (no_lines c.args.plan.now c.args.epoch.now c.args.system)) (Appends-nil a);
       fine = refl;
+      left = left_all c.args.system c.cells-cells.result.now c.cells-cells.ensures.held;
       widest = refl;
     }
 
@@ -20,10 +25,16 @@ loop-before-preserved g c =
     let n = c.loop-before.before in
     let next : n + 1 ≡ suc n = omega arith in
     let inv = c.loop-before.invariant in
+    let cells = c.cells-cells.result.now in
+    let part = further n c.loop-before.from c.end_of-to.result (n + 1) cells next c.end_of-to.ensures.end c.end_of-to.ensures.bound (sorted_climbs cells c.cells-cells.ensures.order) inv.left in
+    let line = same_line c.args.plan.now c.args.system cells (cells_of c.args.system c.args.epoch.now) (n + 1) _ part.group c.cells-cells.ensures.cells in
+    let b = contents c.loop-before.writer.inner in
+    let d = contents c.write_satellite.new.writer.inner in
     record {
       out = grown_lines (contents c.args.writer.now.inner) (contents c.loop-before.writer.inner) (contents c.write_satellite.new.writer.inner) c.args.plan.now c.args.epoch.now c.args.system n (n + 1) next
-          inv.out c.in-Ok.ensures.whole;
+          inv.out (subst (λ l. Appends b d l) line c.in-Ok.ensures.whole);
       fine = c.in-Ok.ensures.fine ∙ inv.fine;
+      left = part.left;
       widest = c.in-Ok.ensures.widest ∙ inv.widest;
     }
 
@@ -33,5 +44,10 @@ returns-in-Err-clause-part g c =
     let n = c.loop-before.before in
     let next : n + 1 ≡ suc n = omega arith in
     let within : n + 1 ≤ satellites c.args.system = omega (arith, c.loop-before-test.true, c.satellites-before-end.ensures.value) in
+    let cells = c.cells-cells.result.now in
+    let part = further n c.loop-before.from c.end_of-to.result (n + 1) cells next c.end_of-to.ensures.end c.end_of-to.ensures.bound (sorted_climbs cells c.cells-cells.ensures.order) c.loop-before.invariant.left in
+    let line = same_line c.args.plan.now c.args.system cells (cells_of c.args.system c.args.epoch.now) (n + 1) _ part.group c.cells-cells.ensures.cells in
+    let b = contents c.loop-before.writer.inner in
+    let d = contents c.write_satellite.new.writer.inner in
     part_lines (contents c.args.writer.now.inner) (contents c.loop-before.writer.inner) (contents c.write_satellite.new.writer.inner) c.args.plan.now c.args.epoch.now c.args.system n (n + 1)
-    (satellites c.args.system) next within c.loop-before.invariant.out c.in-Err.ensures.part
+    (satellites c.args.system) next within c.loop-before.invariant.out (subst (λ l. AppendsPrefix b d l) line c.in-Err.ensures.part)

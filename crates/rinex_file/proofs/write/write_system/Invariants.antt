@@ -1,6 +1,7 @@
 use Rattle.std.proofs.Common.{◌≡◌}
 use Rattle.std.specs.Io.KnownBytes.{Appends}
 use Rattle.rinex_file.specs.File.{lines_up_to}
+use Rattle.obs_epoch.proofs.GroupLemmas.{Left}
 use Rattle.rinex_file.proofs.write.write_system.Given as goal
 
 -- the lines of the satellites so far went out
@@ -10,5 +11,6 @@ invariant-loop-before g l =
     record {
       out : Appends (contents l.fn.writer.inner) (contents l.writer.inner) (lines_up_to l.plan l.epoch l.system l.before);
       fine : l.writer.failures ≡ l.fn.writer.failures;
+      left : Left l.before l.from l.cells;
       widest : l.writer.widest ≡ l.fn.writer.widest;
     }

@@ -1,5 +1,5 @@
-use Rattle.std.proofs.Common.{refl, ◌++◌, false, None, sym, ap, ◌∙◌, subst}
-use Rattle.obs_epoch.specs.Gather.{Gathered, end_step}
+use Rattle.std.proofs.Common.{refl, ◌++◌, None, sym, ap, ◌∙◌, subst}
+use Rattle.obs_epoch.specs.Gather.{Gathered}
 use Rattle.obs_epoch.specs.Gathering.{Gathers, handed_over}
 use Rattle.obs_epoch.proofs.HandingLemmas.{gathers_ended, has_closed, end_ended}
 use Rattle.obs_epoch.proofs.gather.Gatherer.end.Goals as goal

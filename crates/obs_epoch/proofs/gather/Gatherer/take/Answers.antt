@@ -1,9 +1,8 @@
-use Rattle.std.proofs.Common.{◌≡◌, ◌++◌, ◌∷◌, [], true, false, sym, ap, ap₂, ◌∙◌, subst, Some, None, is_some}
+use Rattle.std.proofs.Common.{◌++◌, ◌∷◌, [], sym, ap, ap₂, ◌∙◌, subst, Some, None}
 use Rattle.obs_epoch.specs.Heard.{heard}
 use Rattle.obs_epoch.specs.Times.{timed}
-use Rattle.obs_epoch.specs.Step.{answer_by}
-use Rattle.obs_epoch.specs.Gather.{Gathered, Loaded, take_step}
-use Rattle.obs_epoch.specs.Kinds.{is_close_first, kind_by, kind_of}
+use Rattle.obs_epoch.specs.Gather.{Gathered, Loaded}
+use Rattle.obs_epoch.specs.Kinds.{is_close_first, kind_by}
 use Rattle.obs_epoch.specs.Gathering.{Gathers, handed_over}
 use Rattle.obs_epoch.proofs.TakeLemmas.{no_point, told_alone, handed_is, ended_is}
 use Rattle.obs_epoch.proofs.HandingLemmas.{gathers_first, gathers_taken, has_closed}

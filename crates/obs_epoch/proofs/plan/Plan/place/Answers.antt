@@ -1,4 +1,4 @@
-use Rattle.std.proofs.Common.{◌≡◌, ◌==◌, ap, ap₂, sym, ◌∙◌}
+use Rattle.std.proofs.Common.{◌==◌, ap, ap₂, sym, ◌∙◌}
 use Rattle.std.specs.Prelude.{position}
 use Rattle.gnss_obs.specs.Signals.{SignalAt}
 use Rattle.obs_epoch.specs.Values.{PlanValue, planned_of}

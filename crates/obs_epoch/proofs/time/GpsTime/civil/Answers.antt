@@ -1,11 +1,10 @@
-use Rattle.std.proofs.Common.{rules, arith, ◌≡◌, ◌≤◌, ◌<◌, ◌*◌, ℕ, ◌+◌, ◌-◌, ◌/◌, ◌%◌, ℤ, pos, ◌+ℤ◌, ◌-ℤ◌, ◌≤ℤ◌, FitsSigned, w16, to_z, of_z, to_z-of_z, subst, sym}
+use Rattle.std.proofs.Common.{arith, pos, ◌≤ℤ◌, subst, sym}
 use Rattle.jiff_core.specs.Calendar.{IsCivilDate}
 use Rattle.jiff_core.specs.Date.{epoch_day}
 use Rattle.jiff_core.proofs.SignedLemmas.{signed_arith}
 use Rattle.jiff_core.proofs.DateLemmas.{civil as valid_date}
 use Rattle.obs_epoch.proofs.WalkLemmas.{walk_is}
 use Rattle.obs_epoch.proofs.Days.{first_day, year_from, plain_year, casts}
-use Rattle.obs_epoch.specs.Dates.{IsCivilOf}
 use Rattle.obs_epoch.proofs.time.GpsTime.civil.Goals as goal
 
 pub overflow_cast-result : goal.overflow_cast-result

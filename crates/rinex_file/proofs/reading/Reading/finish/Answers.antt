@@ -1,13 +1,11 @@
-use Rattle.std.proofs.Common.{rules, arith, ◌≡◌, ◌∙◌, ◌<◌, ◌+◌, ℕ, List, [], sym, ap, subst, refl, length, Bool, true, false}
-use Rattle.std.specs.Prelude.{◌==◌}
-use Rattle.std.specs.List.{sum_by}
+use Rattle.std.proofs.Common.{rules, ◌≡◌, ◌∙◌, ◌<◌, List, sym, ap, length}
 use Rattle.obs_epoch.specs.declared.cell.StationValues.{StationValues}
 use Rattle.obs_epoch.specs.Values.{PlanValue}
 use Rattle.rinex_file.specs.Texts.{HeaderLists}
 use Rattle.rinex_file.specs.Value.{FileValue, Stamped}
 use Rattle.rinex_file.specs.Progress.{Progress, file_with}
 use Rattle.rinex_file.specs.ProgressOf.{progress_of}
-use Rattle.rinex_file.proofs.HeaderBody.{unfinished, no_file, file_whole, file_read}
+use Rattle.rinex_file.proofs.HeaderBody.{unfinished, no_file, file_whole}
 use Rattle.rinex_file.proofs.reading.Reading.finish.Goals as goal
 
 -- a file by its parts

@@ -1,6 +1,5 @@
 use Rattle.std.proofs.Common.{refl}
-use Rattle.rinex_file.specs.ProgressOf.{progress_of}
-use Rattle.rinex_file.proofs.HeaderBody.{header_starts, goes_on, no_file}
+use Rattle.rinex_file.proofs.HeaderBody.{header_starts}
 use Rattle.rinex_file.proofs.reading.Reading.new.Goals as goal
 
 pub returns-clause-starts : goal.returns-clause-starts

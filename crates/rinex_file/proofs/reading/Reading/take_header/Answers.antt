@@ -1,4 +1,4 @@
-use Rattle.std.proofs.Common.{◌≡◌, ◌↔◌, ◌∷◌, ℕ, List, refl, ap, subst, Option, Some, None, Result, Ok, Err}
+use Rattle.std.proofs.Common.{◌≡◌, ◌↔◌, ◌∷◌, ℕ, List, ap, subst, Option, Some, None, Result, Err}
 use Rattle.rinex_file.specs.declared.due.Refusal.{Refusal}
 use Rattle.rinex_file.specs.declared.due.Refusal.TheVariants.{Bad}
 use Rattle.rinex_file.specs.declared.section.Section.{Section}

@@ -1,0 +1,221 @@
+-- Cells that stand in order, and one more of them.
+use Rattle.std.proofs.Common.{◌≡◌, ℕ, zero, suc, ◌+◌, ◌-◌, ◌<◌, ◌≤◌, Bool, true, false, ◌||◌, List, [], ◌∷◌, ◌++◌, map, drop, refl, sym, ap, ap₂, ◌∙◌, subst, arith, length, get_or, insert}
+use Rattle.std.specs.Prelude.{if◌then◌else◌, fold}
+use Rattle.std.proofs.lemmas.List.{drop-map, get_or-map, length-map}
+use Rattle.std.specs.List.{list_any, AllByRecursion, IsDistinct}
+use Rattle.std.proofs.lemmas.Map.Keys.{IsDistinct-head, IsDistinct-tail, IsDistinct-cons}
+use Rattle.obs_epoch.specs.declared.seen.Seen.{Seen}
+use Rattle.obs_epoch.specs.declared.order.Seat.{Seat}
+use Rattle.obs_epoch.specs.Cells.{has_same_key, is_among}
+use Rattle.obs_epoch.proofs.CellsLemmas.{same_key_laws}
+use Rattle.obs_epoch.specs.Order.{is_before, Rise, insert_by, spot, seat_of, sorted}
+
+-- ---- seats
+
+pub before_self : (a : Seat) → is_before a a ≡ false
+before_self a = grind arith
+
+pub before_trans : (a b c : Seat) → is_before a b ≡ true → is_before b c ≡ true → is_before a c ≡ true
+before_trans a b c h k = grind (arith, h, k)
+
+pub before_other : (a b : Seat) → is_before a b ≡ false → (a ≡ b → ⊥) → is_before b a ≡ true
+before_other a b h other = by (is_before b a) refl where
+  by : (v : Bool) → is_before b a ≡ v → v ≡ true
+  by true e = refl
+  by false e =
+      let one : a.satellite ≡ b.satellite = grind (arith, h, e) in
+      let two : a.place ≡ b.place = grind (arith, h, e) in
+      absurd (other (ap₂ (λ s p. record { satellite = s; place = p }) one two))
+
+abbrev pub Before : Seat → List Seat → Type 0
+Before s ts = AllByRecursion (λ t. is_before s t ≡ true) ts
+
+pub before_all : (a b : Seat) (ts : List Seat) → is_before a b ≡ true → Before b ts → Before a ts
+before_all a b [] h k = tt
+before_all a b (t ∷ ts) h k = (before_trans a b t h k.0, before_all a b ts h k.1)
+
+-- ---- one more
+
+pub length-insert_by : {X : Type 0} (at : X → Seat) (x : X) (ys : List X) → length (insert_by at x ys) ≡ suc (length ys)
+length-insert_by at x [] = refl
+length-insert_by at x (y ∷ ys) = by (is_before (at x) (at y)) (length-insert_by at x ys) where
+  by : (b : Bool) → length (insert_by at x ys) ≡ suc (length ys) → length (if b then x ∷ y ∷ ys else y ∷ insert_by at x ys) ≡ suc (length (y ∷ ys))
+  by true e = refl
+  by false e = ap suc e
+
+pub any-insert_by : {X : Type 0} (p : X → Bool) (at : X → Seat) (x : X) (ys : List X) → list_any p (insert_by at x ys) ≡ (p x || list_any p ys)
+any-insert_by p at x [] = refl
+any-insert_by p at x (y ∷ ys) = by (is_before (at x) (at y)) (any-insert_by p at x ys) where
+  turn : (a b c : Bool) → (b || (a || c)) ≡ (a || (b || c))
+  turn true true c = refl
+  turn true false c = refl
+  turn false true c = refl
+  turn false false c = refl
+
+  by : (b : Bool) → list_any p (insert_by at x ys) ≡ (p x || list_any p ys) → list_any p (if b then x ∷ y ∷ ys else y ∷ insert_by at x ys) ≡ (p x || (p y || list_any p ys))
+  by true e = refl
+  by false e = ap (λ v. p y || v) e ∙ turn (p x) (p y) (list_any p ys)
+
+pub all-insert_by : {X : Type 0} (P : X → Type 0) (at : X → Seat) (x : X) (ys : List X) → P x → AllByRecursion P ys → AllByRecursion P (insert_by at x ys)
+all-insert_by P at x [] h k = (h, tt)
+all-insert_by P at x (y ∷ ys) h k = by (is_before (at x) (at y)) (all-insert_by P at x ys h k.1) where
+  by : (b : Bool) → AllByRecursion P (insert_by at x ys) → AllByRecursion P (if b then x ∷ y ∷ ys else y ∷ insert_by at x ys)
+  by true e = (h, k)
+  by false e = (k.0, e)
+
+pub map-insert_by : {X Y : Type 0} (f : X → Y) (at : X → Seat) (to : Y → Seat) → ((x : X) → to (f x) ≡ at x) → (x : X) (ys : List X)
+    → map f (insert_by at x ys) ≡ insert_by to (f x) (map f ys)
+map-insert_by f at to same x [] = refl
+map-insert_by f at to same x (y ∷ ys) =
+    by (is_before (at x) (at y)) (map-insert_by f at to same x ys)
+    ∙ ap₂ (λ s t. if is_before s t then f x ∷ f y ∷ map f ys else f y ∷ insert_by to (f x) (map f ys)) (sym (same x)) (sym (same y)) where
+      by : (b : Bool) → map f (insert_by at x ys) ≡ insert_by to (f x) (map f ys)
+          → map f (if b then x ∷ y ∷ ys else y ∷ insert_by at x ys) ≡ (if b then f x ∷ f y ∷ map f ys else f y ∷ insert_by to (f x) (map f ys))
+      by true e = refl
+      by false e = ap (λ l. f y ∷ l) e
+
+-- it goes to its spot
+pub insert_spot : {X : Type 0} (at : X → Seat) (x : X) (ys : List X) → insert ys (spot (at x) (map at ys)) x ≡ insert_by at x ys
+insert_spot at x [] = refl
+insert_spot at x (y ∷ ys) = by (is_before (at x) (at y)) (insert_spot at x ys) where
+  by : (b : Bool) → insert ys (spot (at x) (map at ys)) x ≡ insert_by at x ys
+      → insert (y ∷ ys) (if b then 0 else suc (spot (at x) (map at ys))) x ≡ (if b then x ∷ y ∷ ys else y ∷ insert_by at x ys)
+  by true e = refl
+  by false e = ap (λ l. y ∷ l) e
+
+pub rise-insert_by : {X : Type 0} (at : X → Seat) (x : X) (ys : List X) → Rise (map at ys) → AllByRecursion (λ y. at x ≡ at y → ⊥) ys → Rise (map at (insert_by at x ys))
+rise-insert_by at x [] r other = (tt, tt)
+rise-insert_by at x (y ∷ ys) r other = by (is_before (at x) (at y)) refl (rise-insert_by at x ys r.1 other.1) where
+  by : (b : Bool) → is_before (at x) (at y) ≡ b → Rise (map at (insert_by at x ys)) → Rise (map at (if b then x ∷ y ∷ ys else y ∷ insert_by at x ys))
+  by true e h = ((e, before_all (at x) (at y) (map at ys) e r.0), r)
+  by false e h =
+      let first = before_other (at x) (at y) e other.0 in
+      let all : Before (at y) (insert_by (λ (s : Seat). s) (at x) (map at ys)) = all-insert_by (λ t. is_before (at y) t ≡ true) (λ (s : Seat). s) (at x) (map at ys) first r.0 in
+      (subst (Before (at y)) (sym (map-insert_by at at (λ (s : Seat). s) (λ z. refl) x ys)) all, h)
+
+-- ---- where it is sought
+
+abbrev pub Later : Seat → List Seat → Type 0
+Later s ts = Before s ts
+
+pub spot_first : (s : Seat) (ts : List Seat) → Later s ts → spot s ts ≡ 0
+spot_first s [] h = refl
+spot_first s (t ∷ ts) h = ap (λ b. if b then 0 else suc (spot s ts)) h.0
+
+not_before : (s a b : Seat) → is_before a b ≡ true → is_before s b ≡ false → is_before s a ≡ false
+not_before s a b h k = by (is_before s a) refl where
+  by : (v : Bool) → is_before s a ≡ v → v ≡ false
+  by false e = refl
+  by true e = let l = before_trans s a b e h in absurd (grind (arith, l, k))
+
+pub get_before : (a : Seat) (ts : List Seat) (k : ℕ) (d : Seat) → k < length ts → Before a ts → is_before a (get_or ts k d) ≡ true
+get_before a [] k d h all = absurd (omega (arith, h))
+get_before a (t ∷ ts) zero d h all = all.0
+get_before a (t ∷ ts) (suc k) d h all = get_before a ts k d (omega (arith, h)) all.1
+
+pub spot_at : (s : Seat) (ts : List Seat) (k : ℕ) (d : Seat) → Rise ts → k < length ts → is_before s (get_or ts k d) ≡ false → Later s (drop (suc k) ts) → spot s ts ≡ suc k
+spot_at s [] k d r h before later = absurd (omega (arith, h))
+spot_at s (t ∷ ts) zero d r h before later = ap (λ b. if b then 0 else suc (spot s ts)) before ∙ ap suc (spot_first s ts later)
+spot_at s (t ∷ ts) (suc k) d r h before later =
+    let less : k < length ts = omega (arith, h) in
+    ap (λ b. if b then 0 else suc (spot s ts)) (not_before s t (get_or ts k d) (get_before t ts k d less r.0) before)
+    ∙ ap suc (spot_at s ts k d r.1 less before later)
+
+pub spot_here : {X : Type 0} (s : Seat) (f : X → Seat) (xs : List X) (at : ℕ) (x : X) → Rise (map f xs) → 0 < at → at ≤ length xs → x ≡ get_or xs (at - 1) x
+    → is_before s (f x) ≡ false → Before s (map f (drop at xs)) → at ≡ spot s (map f xs)
+spot_here s f xs at x r one most is before later =
+    let less : at - 1 < length xs = omega (arith, one, most) in
+    let next : at ≡ suc (at - 1) = omega (arith, one) in
+    let here : get_or (map f xs) (at - 1) (f x) ≡ f x = get_or-map f xs (at - 1) x (f x) less ∙ ap f (sym is) in
+    let within : at - 1 < length (map f xs) = subst (λ n. at - 1 < n) (sym (length-map xs f)) less in
+    next ∙ sym (spot_at s (map f xs) (at - 1) (f x) r within (ap (is_before s) here ∙ before)
+    (subst (Before s) (sym (drop-map f (suc (at - 1)) xs)) (subst (λ n. Before s (map f (drop n xs))) next later)))
+
+-- ---- the same cells
+
+pub sorted-push : (planned : List ℕ) (xs : List Seen) (x : Seen) → sorted planned (xs ++ x ∷ []) ≡ insert_by (seat_of planned) x (sorted planned xs)
+sorted-push planned xs x = from [] xs where
+  from : (ys xs : List Seen) → fold (λ zs z. insert_by (seat_of planned) z zs) ys (xs ++ x ∷ []) ≡ insert_by (seat_of planned) x (fold (λ zs z. insert_by (seat_of planned) z zs) ys xs)
+  from ys [] = refl
+  from ys (z ∷ xs) = from (insert_by (seat_of planned) z ys) xs
+
+abbrev onto : List ℕ → List Seen → List Seen → List Seen
+onto planned ys xs = fold (λ zs z. insert_by (seat_of planned) z zs) ys xs
+
+among-onto : (planned : List ℕ) (key : Seen) (ys xs : List Seen) → is_among (onto planned ys xs) key ≡ (is_among ys key || is_among xs key)
+among-onto planned key ys [] = by (is_among ys key) where
+  by : (b : Bool) → b ≡ (b || false)
+  by true = refl
+  by false = refl
+among-onto planned key ys (x ∷ xs) =
+    among-onto planned key (insert_by (seat_of planned) x ys) xs
+    ∙ ap (λ b. b || is_among xs key) (any-insert_by (has_same_key key) (seat_of planned) x ys)
+    ∙ by (has_same_key key x) (is_among ys key) (is_among xs key) where
+      by : (a b c : Bool) → ((a || b) || c) ≡ (b || (a || c))
+      by true true c = refl
+      by true false c = refl
+      by false true c = refl
+      by false false c = refl
+
+pub among-sorted : (planned : List ℕ) (xs : List Seen) (key : Seen) → is_among (sorted planned xs) key ≡ is_among xs key
+among-sorted planned xs key = among-onto planned key [] xs
+
+length-onto : (planned : List ℕ) (ys xs : List Seen) → length (onto planned ys xs) ≡ length ys + length xs
+length-onto planned ys [] = omega arith
+length-onto planned ys (x ∷ xs) =
+    let more = length-onto planned (insert_by (seat_of planned) x ys) xs in
+    let one = length-insert_by (seat_of planned) x ys in
+    omega (arith, more, one)
+
+pub length-sorted : (planned : List ℕ) (xs : List Seen) → length (sorted planned xs) ≡ length xs
+length-sorted planned xs = let is = length-onto planned [] xs in omega (arith, is)
+
+all-onto : (P : Seen → Type 0) (planned : List ℕ) (ys xs : List Seen) → AllByRecursion P ys → AllByRecursion P xs → AllByRecursion P (onto planned ys xs)
+all-onto P planned ys [] h k = h
+all-onto P planned ys (x ∷ xs) h k = all-onto P planned (insert_by (seat_of planned) x ys) xs (all-insert_by P (seat_of planned) x ys k.0 h) k.1
+
+pub all-sorted : (P : Seen → Type 0) (planned : List ℕ) (xs : List Seen) → AllByRecursion P xs → AllByRecursion P (sorted planned xs)
+all-sorted P planned xs h = all-onto P planned [] xs tt h
+
+unlike : (xs : List Seen) (x : Seen) → is_among xs x ≡ false → AllByRecursion (λ y. has_same_key x y ≡ false) xs
+unlike [] x h = tt
+unlike (y ∷ xs) x h = by (has_same_key x y) refl (unlike xs x) where
+  by : (b : Bool) → has_same_key x y ≡ b → (is_among xs x ≡ false → AllByRecursion (λ z. has_same_key x z ≡ false) xs) → AllByRecursion (λ z. has_same_key x z ≡ false) (y ∷ xs)
+  by true e more = absurd (grind (arith, e, h))
+  by false e more = (e, more (ap (λ b. b || is_among xs x) (sym e) ∙ h))
+
+distinct-insert : (planned : List ℕ) (x : Seen) (ys : List Seen) → IsDistinct has_same_key ys → is_among ys x ≡ false → IsDistinct has_same_key (insert_by (seat_of planned) x ys)
+distinct-insert planned x [] d h = IsDistinct-cons has_same_key x [] tt d
+distinct-insert planned x (y ∷ ys) d h =
+    let other = unlike (y ∷ ys) x h in
+    let tail = IsDistinct-tail has_same_key y ys d in
+    by (is_before (seat_of planned x) (seat_of planned y)) (distinct-insert planned x ys tail (ap (λ b. b || is_among ys x) (sym other.0) ∙ h)) where
+      by : (b : Bool) → IsDistinct has_same_key (insert_by (seat_of planned) x ys) → IsDistinct has_same_key (if b then x ∷ y ∷ ys else y ∷ insert_by (seat_of planned) x ys)
+      by true e = IsDistinct-cons has_same_key x (y ∷ ys) (unlike (y ∷ ys) x h) d
+      by false e =
+          IsDistinct-cons has_same_key y (insert_by (seat_of planned) x ys)
+          (all-insert_by (λ z. has_same_key y z ≡ false) (seat_of planned) x ys (same_key_laws.symm y x ∙ (unlike (y ∷ ys) x h).0) (IsDistinct-head has_same_key y ys d)) e
+
+abbrev Apart : List Seen → List Seen → Type 0
+Apart ys xs = AllByRecursion (λ x. is_among ys x ≡ false) xs
+
+still_apart : (planned : List ℕ) (x : Seen) (ys xs : List Seen) → AllByRecursion (λ z. has_same_key x z ≡ false) xs → Apart ys xs → Apart (insert_by (seat_of planned) x ys) xs
+still_apart planned x ys [] h k = tt
+still_apart planned x ys (z ∷ xs) h k = (
+  any-insert_by (has_same_key z) (seat_of planned) x ys ∙ ap₂ (λ a b. a || b) (same_key_laws.symm z x ∙ h.0) k.0,
+  still_apart planned x ys xs h.1 k.1,
+)
+
+distinct-onto : (planned : List ℕ) (ys xs : List Seen) → IsDistinct has_same_key ys → IsDistinct has_same_key xs → Apart ys xs → IsDistinct has_same_key (onto planned ys xs)
+distinct-onto planned ys [] d e a = d
+distinct-onto planned ys (x ∷ xs) d e a =
+    distinct-onto planned (insert_by (seat_of planned) x ys) xs (distinct-insert planned x ys d a.0) (IsDistinct-tail has_same_key x xs e)
+    (still_apart planned x ys xs (IsDistinct-head has_same_key x xs e) a.1)
+
+none_apart : (xs : List Seen) → Apart [] xs
+none_apart [] = tt
+none_apart (x ∷ xs) = (refl, none_apart xs)
+
+pub distinct-sorted : (planned : List ℕ) (xs : List Seen) → IsDistinct has_same_key xs → IsDistinct has_same_key (sorted planned xs)
+unfolding IsDistinct
+distinct-sorted planned xs d = distinct-onto planned [] xs tt d (none_apart xs)

@@ -1,0 +1,266 @@
+-- The order in which an epoch's cells stand, and one more of them.
+use Rattle.std.proofs.Common.{◌≡◌, ℕ, zero, suc, ◌-◌, ◌<◌, ◌≤◌, ◌==◌, Bool, true, false, ◌||◌, ◌&&◌, List, [], ◌∷◌, map, refl, sym, ap, ap₂, ◌∙◌, subst, arith, length, get_or, insert, Option, Some, None, is_some, nat_le, not}
+use Rattle.std.specs.Prelude.{if◌then◌else◌, position}
+use Rattle.std.specs.Option.{option_map_or}
+use Rattle.std.specs.List.{list_any, AllByRecursion}
+use Rattle.std.proofs.lemmas.List.Quantifiers.{position-Some}
+use Rattle.gnss_obs.specs.declared.system.System.{System}
+use Rattle.gnss_obs.specs.declared.system.System.TheVariants.{Gps, Galileo}
+use Rattle.obs_epoch.specs.declared.cell.Cell.{Cell}
+use Rattle.obs_epoch.specs.declared.seen.Seen.{Seen}
+use Rattle.obs_epoch.specs.declared.seen.Tracking.{Tracking}
+use Rattle.obs_epoch.specs.declared.order.Seat.{Seat}
+use Rattle.obs_epoch.specs.Values.{EpochValue, PlanValue, planned_of, cells_of, most_cells}
+use Rattle.obs_epoch.specs.Marked.{Marked, MarkedEpoch, cell_of, paired}
+use Rattle.obs_epoch.specs.Plans.{place_in}
+use Rattle.obs_epoch.specs.Cells.{has_same_key, same_key, is_listed, is_planned}
+use Rattle.obs_epoch.specs.Heard.{Setup, Heard}
+use Rattle.obs_epoch.specs.Order.{is_before, Rise, insert_by, spot, seat_of, marked_seat, cell_seat, StandBy, AreSorted}
+use Rattle.obs_epoch.specs.Held.{is_held, lookup}
+use Rattle.obs_epoch.specs.Gather.{Gathered, cells_in, more_in, more_at, with_more, spot_in, Stand, AreInOrder, fate_in, hold, hold_by}
+use Rattle.obs_epoch.specs.declared.seen.Fate.TheVariants.{Kept, Skipped, Repeated, Crowded}
+use Rattle.obs_epoch.specs.Clock.{State}
+use Rattle.obs_epoch.specs.Step.{step_by, step_at, marked, is_told_own, is_late_at, is_first_at, time_at}
+use Rattle.obs_epoch.specs.Times.{is_past}
+use Rattle.obs_epoch.specs.Loss.{mark_with}
+use Rattle.obs_epoch.proofs.OrderLemmas.{before_self, before_all, Before, get_before, insert_spot, rise-insert_by, all-insert_by}
+use Rattle.obs_epoch.proofs.HeldLemmas.{seen_as}
+
+-- ---- of a system
+
+pub stand_in : (system : System) (p : PlanValue) (e : MarkedEpoch) → AreInOrder p e → Stand system (planned_of system p) (cells_in system e)
+stand_in Gps p e h = h.gps
+stand_in Galileo p e h = h.galileo
+
+seats_paired : (planned : List ℕ) (cs : List Cell) (ts : List Tracking) → length cs ≡ length ts → map (marked_seat planned) (paired cs ts) ≡ map (cell_seat planned) cs
+seats_paired planned [] ts e = refl
+seats_paired planned (c ∷ cs) [] e = absurd (omega (arith, e))
+seats_paired planned (c ∷ cs) (t ∷ ts) e = ap (λ l. cell_seat planned c ∷ l) (seats_paired planned cs ts (omega (arith, e)))
+
+pub seats_in : (system : System) (planned : List ℕ) (e : EpochValue) (gs vs : List Tracking) → length e.gps ≡ length gs → length e.galileo ≡ length vs
+    → map (marked_seat planned) (cells_in system (seen_as e gs vs)) ≡ map (cell_seat planned) (cells_of system e)
+seats_in Gps planned e gs vs a b = seats_paired planned e.gps gs a
+seats_in Galileo planned e gs vs a b = seats_paired planned e.galileo vs b
+
+-- ---- the last before the spot
+
+spot_below : (s : Seat) (ts : List Seat) → spot s ts ≤ length ts
+spot_below s [] = omega arith
+spot_below s (t ∷ ts) = by (is_before s t) (spot_below s ts) where
+  by : (b : Bool) → spot s ts ≤ length ts → (if b then 0 else suc (spot s ts)) ≤ length (t ∷ ts)
+  by true h = omega arith
+  by false h = omega (arith, h)
+
+last_step : (s t : Seat) (ts : List Seat) (d : Seat) → is_before s t ≡ false → ((m : ℕ) → spot s ts ≡ suc m → is_before s (get_or ts m d) ≡ false)
+    → (n m : ℕ) → spot s ts ≡ n → suc n ≡ suc m → is_before s (get_or (t ∷ ts) m d) ≡ false
+last_step s t ts d h more n zero f e = h
+last_step s t ts d h more n (suc m) f e = more m (f ∙ omega (arith, e))
+
+last_by : (s t : Seat) (ts : List Seat) (m : ℕ) (d : Seat) (b : Bool) → is_before s t ≡ b → ((k : ℕ) → spot s ts ≡ suc k → is_before s (get_or ts k d) ≡ false)
+    → (if b then 0 else suc (spot s ts)) ≡ suc m → is_before s (get_or (t ∷ ts) m d) ≡ false
+last_by s t ts m d true h more e = absurd (omega (arith, e))
+last_by s t ts m d false h more e = last_step s t ts d h more (spot s ts) m refl e
+
+spot_last : (s : Seat) (ts : List Seat) (m : ℕ) (d : Seat) → spot s ts ≡ suc m → is_before s (get_or ts m d) ≡ false
+spot_last s [] m d e = absurd (omega (arith, e))
+spot_last s (t ∷ ts) m d e = last_by s t ts m d (is_before s t) refl (λ k f. spot_last s ts k d f) e
+
+abbrev Agrees : {X : Type 0} → (X → Bool) → (X → Seat) → Seat → Type 0
+Agrees {X} p f s = (x : X) → p x ≡ true → f x ≡ s
+
+none_later : {X : Type 0} (p : X → Bool) (f : X → Seat) (s : Seat) → Agrees p f s → (xs : List X) → Before s (map f xs) → list_any p xs ≡ false
+none_later p f s a [] h = refl
+none_later p f s a (x ∷ xs) h = by (p x) refl (none_later p f s a xs h.1) where
+  by : (b : Bool) → p x ≡ b → list_any p xs ≡ false → (b || list_any p xs) ≡ false
+  by false e k = k
+  by true e k =
+      let self = before_self s in
+      let one : is_before s s ≡ true = ap (is_before s) (sym (a x e)) ∙ h.0 in
+      absurd (grind (arith, self, one))
+
+pub any_none : {X : Type 0} (p : X → Bool) (f : X → Seat) (s : Seat) → Agrees p f s → (xs : List X) → Rise (map f xs) → spot s (map f xs) ≡ 0 → list_any p xs ≡ false
+any_none p f s a [] r e = refl
+any_none p f s a (x ∷ xs) r e = by (is_before s (f x)) refl e where
+  by : (b : Bool) → is_before s (f x) ≡ b → (if b then 0 else suc (spot s (map f xs))) ≡ 0 → list_any p (x ∷ xs) ≡ false
+  by true h k = none_later p f s a (x ∷ xs) (h, before_all s (f x) (map f xs) h r.0)
+  by false h k = absurd (omega (arith, k))
+
+or_false : (b : Bool) → (b || false) ≡ b
+or_false true = refl
+or_false false = refl
+
+not_first : {X : Type 0} (p : X → Bool) (f : X → Seat) (s : Seat) → Agrees p f s → (x : X) (xs : List X) (m : ℕ) → Before (f x) (map f xs) → spot s (map f xs) ≡ suc m → (b : Bool) → p x ≡ b → b ≡ false
+not_first p f s a x xs m r g false h = refl
+not_first p f s a x xs m r g true h =
+    let less : m < length (map f xs) = let most = spot_below s (map f xs) in omega (arith, most, g) in
+    let one : is_before s (get_or (map f xs) m s) ≡ true = ap (λ t. is_before t (get_or (map f xs) m s)) (sym (a x h)) ∙ get_before (f x) (map f xs) m s less r in
+    let other = spot_last s (map f xs) m s g in
+    absurd (grind (arith, one, other))
+
+any_at : {X : Type 0} (p : X → Bool) (f : X → Seat) (s : Seat) → Agrees p f s → (x : X) (xs : List X) (n : ℕ) (d : X) → Rise (map f (x ∷ xs))
+    → ((m : ℕ) → spot s (map f xs) ≡ suc m → list_any p xs ≡ p (get_or xs m d)) → spot s (map f xs) ≡ n → list_any p (x ∷ xs) ≡ p (get_or (x ∷ xs) n d)
+any_at p f s a x xs zero d r more g = ap (λ b. p x || b) (any_none p f s a xs r.1 g) ∙ or_false (p x)
+any_at p f s a x xs (suc m) d r more g = ap₂ (λ b c. b || c) (not_first p f s a x xs m r.0 g (p x) refl) (more m g)
+
+any_by : {X : Type 0} (p : X → Bool) (f : X → Seat) (s : Seat) → Agrees p f s → (x : X) (xs : List X) (n : ℕ) (d : X) → Rise (map f (x ∷ xs))
+    → ((m : ℕ) → spot s (map f xs) ≡ suc m → list_any p xs ≡ p (get_or xs m d)) → (b : Bool) → (if b then 0 else suc (spot s (map f xs))) ≡ suc n → list_any p (x ∷ xs) ≡ p (get_or (x ∷ xs) n d)
+any_by p f s a x xs n d r more true e = absurd (omega (arith, e))
+any_by p f s a x xs n d r more false e = any_at p f s a x xs n d r more (omega (arith, e))
+
+pub any_last : {X : Type 0} (p : X → Bool) (f : X → Seat) (s : Seat) → Agrees p f s → (xs : List X) (n : ℕ) (d : X) → Rise (map f xs) → spot s (map f xs) ≡ suc n → list_any p xs ≡ p (get_or xs n d)
+any_last p f s a [] n d r e = absurd (omega (arith, e))
+any_last p f s a (x ∷ xs) n d r e = any_by p f s a x xs n d r (λ m g. any_last p f s a xs m d r.1 g) (is_before s (f x)) e
+
+-- a key's cell has the key's seat
+same_seat : (planned : List ℕ) (x : Seen) (c : Cell) → same_key x.satellite x.signal c.satellite c.signal ≡ true → cell_seat planned c ≡ seat_of planned x
+same_seat planned x c h = by x.satellite.system c.satellite.system refl refl where
+  of : x.satellite.id ≡ c.satellite.id → x.signal.index ≡ c.signal.index → cell_seat planned c ≡ seat_of planned x
+  of e f = ap₂ (λ i j. record { satellite = i; place = option_map_or (λ q. q) (position (λ k. k == j) planned) 0 }) (sym e) (sym f)
+
+  by : (a b : System) → x.satellite.system ≡ a → c.satellite.system ≡ b → cell_seat planned c ≡ seat_of planned x
+  by Gps Gps p q = of (grind (arith, p, q, h)) (grind (arith, p, q, h))
+  by Galileo Galileo p q = of (grind (arith, p, q, h)) (grind (arith, p, q, h))
+  by Gps Galileo p q = absurd (grind (arith, p, q, h))
+  by Galileo Gps p q = absurd (grind (arith, p, q, h))
+
+-- whether a key is held is told by the last cell before its spot
+pub held_is_last : (planned : List ℕ) (x : Seen) (cells : List Cell) (at : ℕ) (r : Bool) → StandBy planned cells → at ≡ spot (seat_of planned x) (map (cell_seat planned) cells)
+    → (at ≡ 0 → r ≡ false)
+    → ((d : Cell) → 0 < at → r ≡ same_key x.satellite x.signal (get_or cells (at - 1) d).satellite (get_or cells (at - 1) d).signal)
+    → r ≡ list_any (λ c. same_key x.satellite x.signal c.satellite c.signal) cells
+held_is_last planned x [] at r rise e none last = none e
+held_is_last planned x (c ∷ cells) at r rise e none last = by at refl where
+  by : (n : ℕ) → at ≡ n → r ≡ list_any (λ d. same_key x.satellite x.signal d.satellite d.signal) (c ∷ cells)
+  by zero f =
+      none f ∙ sym (any_none (λ d. same_key x.satellite x.signal d.satellite d.signal) (cell_seat planned) (seat_of planned x) (same_seat planned x) (c ∷ cells) rise (sym e ∙ f))
+  by (suc n) f =
+      let one : at - 1 ≡ n = omega (arith, f) in
+      last c (omega (arith, f)) ∙ ap (λ k. same_key x.satellite x.signal (get_or (c ∷ cells) k c).satellite (get_or (c ∷ cells) k c).signal) one
+      ∙ sym (any_last (λ d. same_key x.satellite x.signal d.satellite d.signal) (cell_seat planned) (seat_of planned x) (same_seat planned x) (c ∷ cells) n c rise (sym e ∙ f))
+
+-- ---- one more
+
+of_place : (planned : List ℕ) (i j : ℕ) (a b : Option ℕ) → position (λ k. k == i) planned ≡ a → position (λ k. k == j) planned ≡ b → is_some a ≡ true → is_some b ≡ true
+    → option_map_or (λ q. q) a 0 ≡ option_map_or (λ q. q) b 0 → i ≡ j
+of_place planned i j None b e f h k g = absurd (grind (arith, h))
+of_place planned i j (Some p) None e f h k g = absurd (grind (arith, k))
+of_place planned i j (Some p) (Some q) e f h k g =
+    let one = (position-Some (λ n. n == i) planned p 0 e).1 in
+    let two = (position-Some (λ n. n == j) planned q 0 f).1 in
+    let first : get_or planned p 0 ≡ i = grind (arith, one) in
+    let second : get_or planned q 0 ≡ j = grind (arith, two) in
+    sym first ∙ ap (λ n. get_or planned n 0) g ∙ second
+
+other_seat : (system : System) (planned : List ℕ) (x y : Seen) → x.satellite.system ≡ system → y.satellite.system ≡ system → is_some (place_in x.signal planned) ≡ true → is_some (place_in y.signal planned) ≡ true
+    → has_same_key x y ≡ false → seat_of planned x ≡ seat_of planned y → ⊥
+other_seat system planned x y a b h k other same =
+    let id : x.satellite.id ≡ y.satellite.id = ap (λ (s : Seat). s.satellite) same in
+    let index : x.signal.index ≡ y.signal.index = of_place planned x.signal.index y.signal.index _ _ refl refl h k (ap (λ (s : Seat). s.place) same) in
+    by system a b id index other where
+      by : (c : System) → x.satellite.system ≡ c → y.satellite.system ≡ c → x.satellite.id ≡ y.satellite.id → x.signal.index ≡ y.signal.index → has_same_key x y ≡ false → ⊥
+      by Gps p q i j o = grind (arith, p, q, i, j, o)
+      by Galileo p q i j o = grind (arith, p, q, i, j, o)
+
+others : (system : System) (planned : List ℕ) (x : Seen) (ms : List Marked) → x.satellite.system ≡ system → is_some (place_in x.signal planned) ≡ true
+    → AllByRecursion (λ (m : Marked). (m.seen.satellite.system ≡ system) × (is_some (place_in m.seen.signal planned) ≡ true)) ms → is_held ms x ≡ false
+    → AllByRecursion (λ (m : Marked). seat_of planned x ≡ marked_seat planned m → ⊥) ms
+others system planned x [] a h all none = tt
+others system planned x (m ∷ ms) a h all none = by (has_same_key x m.seen) refl (others system planned x ms a h all.1) where
+  by : (b : Bool) → has_same_key x m.seen ≡ b → (is_held ms x ≡ false → AllByRecursion (λ (n : Marked). seat_of planned x ≡ marked_seat planned n → ⊥) ms)
+      → AllByRecursion (λ (n : Marked). seat_of planned x ≡ marked_seat planned n → ⊥) (m ∷ ms)
+  by true e more = absurd (grind (arith, e, none))
+  by false e more = (other_seat system planned x m.seen a all.0.0 h all.0.1 e, more (ap (λ b. b || is_held ms x) (sym e) ∙ none))
+
+stand_more : (system : System) (planned : List ℕ) (m : Marked) (ms : List Marked) → m.seen.satellite.system ≡ system → is_some (place_in m.seen.signal planned) ≡ true
+    → Stand system planned ms → is_held ms m.seen ≡ false → Stand system planned (insert_by (marked_seat planned) m ms)
+stand_more system planned m ms a h s none = record {
+  each = all-insert_by (λ (n : Marked). (n.seen.satellite.system ≡ system) × (is_some (place_in n.seen.signal planned) ≡ true)) (marked_seat planned) m ms (a, h) s.each;
+  rise = rise-insert_by (marked_seat planned) m ms s.rise (others system planned m.seen ms a h s.each none);
+}
+
+-- the epoch with one cell more stands in order
+pub order_more : (p : PlanValue) (e : MarkedEpoch) (m : Marked) → is_some (place_in m.seen.signal (planned_of m.seen.satellite.system p)) ≡ true → AreInOrder p e
+    → is_held (cells_in m.seen.satellite.system e) m.seen ≡ false → AreInOrder p (with_more p e m)
+order_more p e m h o none = by m.seen.satellite.system refl where
+  by : (system : System) → m.seen.satellite.system ≡ system → AreInOrder p (more_in m.seen.satellite.system p e m)
+  by Gps f = subst (λ s. AreInOrder p (more_in s p e m)) (sym f) (record {
+    gps = stand_more Gps p.gps m e.gps f (ap (λ s. is_some (place_in m.seen.signal (planned_of s p))) (sym f) ∙ h) o.gps (ap (λ s. is_held (cells_in s e) m.seen) (sym f) ∙ none);
+    galileo = o.galileo;
+  })
+  by Galileo f = subst (λ s. AreInOrder p (more_in s p e m)) (sym f) (record {
+    gps = o.gps;
+    galileo = stand_more Galileo p.galileo m e.galileo f (ap (λ s. is_some (place_in m.seen.signal (planned_of s p))) (sym f) ∙ h) o.galileo (ap (λ s. is_held (cells_in s e) m.seen) (sym f) ∙ none);
+  })
+
+-- it comes to its spot
+pub more_is : (p : PlanValue) (e : MarkedEpoch) (m : Marked) → more_at m.seen.satellite.system (spot_in p e m.seen) e m ≡ with_more p e m
+more_is p e m = by m.seen.satellite.system where
+  by : (system : System) → more_at system (spot (seat_of (planned_of system p) m.seen) (map (marked_seat (planned_of system p)) (cells_in system e))) e m ≡ more_in system p e m
+  by Gps = ap (λ l. record e { gps = l }) (insert_spot (marked_seat p.gps) m e.gps)
+  by Galileo = ap (λ l. record e { galileo = l }) (insert_spot (marked_seat p.galileo) m e.galileo)
+
+map_insert : (ms : List Marked) (at : ℕ) (m : Marked) → map cell_of (insert ms at m) ≡ insert (map cell_of ms) at (cell_of m)
+map_insert ms zero m = refl
+map_insert [] (suc at) m = refl
+map_insert (n ∷ ms) (suc at) m = ap (λ l. cell_of n ∷ l) (map_insert ms at m)
+
+seats_shown : (planned : List ℕ) (ms : List Marked) → map (cell_seat planned) (map cell_of ms) ≡ map (marked_seat planned) ms
+seats_shown planned [] = refl
+seats_shown planned (m ∷ ms) = ap (λ l. marked_seat planned m ∷ l) (seats_shown planned ms)
+
+pub stand_shown : (system : System) (planned : List ℕ) (ms : List Marked) → Stand system planned ms → StandBy planned (map cell_of ms)
+stand_shown system planned ms s = subst Rise (sym (seats_shown planned ms)) s.rise
+
+pub sorted_more : (p : PlanValue) (e : MarkedEpoch) (m : Marked) → AreInOrder p (with_more p e m)
+    → AreSorted (insert (map cell_of (cells_in m.seen.satellite.system e)) (spot_in p e m.seen) (cell_of m))
+sorted_more p e m o = by m.seen.satellite.system o where
+  at : (system : System) → map cell_of (insert_by (marked_seat (planned_of system p)) m (cells_in system e))
+      ≡ insert (map cell_of (cells_in system e)) (spot (seat_of (planned_of system p) m.seen) (map (marked_seat (planned_of system p)) (cells_in system e))) (cell_of m)
+  at system =
+      ap (map cell_of) (sym (insert_spot (marked_seat (planned_of system p)) m (cells_in system e)))
+      ∙ map_insert (cells_in system e) (spot (seat_of (planned_of system p) m.seen) (map (marked_seat (planned_of system p)) (cells_in system e))) m
+
+  by : (system : System) → AreInOrder p (more_in system p e m)
+      → AreSorted (insert (map cell_of (cells_in system e)) (spot (seat_of (planned_of system p) m.seen) (map (marked_seat (planned_of system p)) (cells_in system e))) (cell_of m))
+  by Gps o = (p.gps, subst (StandBy p.gps) (at Gps) (stand_shown Gps p.gps _ o.gps))
+  by Galileo o = (p.galileo, subst (StandBy p.galileo) (at Galileo) (stand_shown Galileo p.galileo _ o.galileo))
+
+-- a planned cell's signal has a place
+pub planned_place : (s : Setup) (x : Seen) → is_planned s x ≡ true → is_some (place_in x.signal (planned_of x.satellite.system s.plan)) ≡ true
+planned_place s x h = by (is_listed x) h where
+  by : (b : Bool) → (b && is_some (place_in x.signal (planned_of x.satellite.system s.plan))) ≡ true → is_some (place_in x.signal (planned_of x.satellite.system s.plan)) ≡ true
+  by true h = h
+  by false h = absurd (grind (arith, h))
+
+-- a cell that is kept comes into the held epoch
+pub kept_is : (g : Gathered) (x : Seen) (at mark : ℕ) (e : MarkedEpoch) → is_planned g.clock.setup x ≡ true → is_held (cells_in x.satellite.system g.epoch) x ≡ false
+    → nat_le most_cells (length (cells_in x.satellite.system g.epoch)) ≡ false → mark ≡ mark_with g.epoch.time x (lookup g.locks x) → at ≡ spot_in g.clock.setup.plan g.epoch x
+    → e ≡ more_at x.satellite.system at g.epoch (record { seen = x; mark = mark }) → record g { epoch = e } ≡ hold g x
+kept_is g x at mark e planned held room mark_is at_is e_is =
+    let fate : fate_in g x ≡ Kept =
+    ap (λ b. if b then (if is_held (cells_in x.satellite.system g.epoch) x then Repeated else (if nat_le most_cells (length (cells_in x.satellite.system g.epoch)) then Crowded else Kept)) else Skipped) planned
+    ∙ ap₂ (λ b c. if b then Repeated else (if c then Crowded else Kept)) held room in
+    let m : Marked = record { seen = x; mark = mark_with g.epoch.time x (lookup g.locks x) } in
+    ap (λ v. record g { epoch = v }) (e_is ∙ ap₂ (λ i n. more_at x.satellite.system i g.epoch (record { seen = x; mark = n })) at_is mark_is ∙ more_is g.clock.setup.plan g.epoch m)
+    ∙ ap (λ k. hold_by k g x) (sym fate)
+
+-- a step of the clock leaves the plan
+step_at_setup : (g : State) (tow : ℕ) → (step_at g tow).setup ≡ g.setup
+step_at_setup g tow = by (is_late_at g tow) (is_past (time_at g tow)) (is_first_at g tow) where
+  by : (a b c : Bool) → (if a then g else (if b then g else (if c then record g { pending = false } else record g { latest = Some (time_at g tow); pending = true }))).setup ≡ g.setup
+  by true b c = refl
+  by false true c = refl
+  by false false true = refl
+  by false false false = refl
+
+pub step_setup : (g : State) (m : Heard) → (step_by g m).setup ≡ g.setup
+step_setup g m = by (is_told_own g m.station) (g.setup.by_bit && option_map_or not m.more false) m.tow where
+  by : (a b : Bool) (tow : Option ℕ) → (if a then marked b (option_map_or (step_at g) tow g) else g).setup ≡ g.setup
+  by false b tow = refl
+  by true true None = refl
+  by true false None = refl
+  by true true (Some tow) = step_at_setup g tow
+  by true false (Some tow) = step_at_setup g tow
+
+pub not_full : (n : ℕ) → n < most_cells → nat_le most_cells n ≡ false
+not_full n h = grind (arith, h)

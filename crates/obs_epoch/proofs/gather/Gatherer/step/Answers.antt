@@ -1,0 +1,10 @@
+use Rattle.std.proofs.Common.{◌∙◌, sym, ap, subst}
+use Rattle.obs_epoch.specs.Gather.{AreInOrder}
+use Rattle.obs_epoch.specs.Clock.{State, heard_of}
+use Rattle.obs_epoch.proofs.StandLemmas.{step_setup}
+use Rattle.obs_epoch.proofs.gather.Gatherer.step.Goals as goal
+
+pub invariant_of-self : goal.invariant_of-self
+invariant_of-self c =
+    let same = ap (λ (g : State). g.setup.plan) c.step_closing-step.ensures.step ∙ ap (λ s. s.plan) (step_setup c.self.inside.clock (heard_of c.told_of.result)) in
+    subst (λ p. AreInOrder p c.self.inside.held) (sym same) c.self.invariant

@@ -1,0 +1,9 @@
+use Rattle.std.proofs.Common.{◌≡◌, ◌∙◌, ap, arith, replicate, None, Option}
+use Rattle.obs_epoch.specs.declared.seen.KnownLock.{KnownLock}
+use Rattle.obs_epoch.specs.Held.{most_locks}
+use Rattle.obs_epoch.proofs.locks.clear.Goals as goal
+
+pub returns : goal.returns
+returns c =
+    let all : c.loop.counter ≡ most_locks = omega (arith, c.loop-test.false, c.loop.auto.counter-end) in
+    c.loop.invariant.0 ∙ ap (λ n. replicate {A = Option KnownLock} n None) all

@@ -1,0 +1,57 @@
+-- The order in which kept cells stand: by satellite, and within it by the plan.
+use Rattle.std.specs.Prelude.{ℕ, suc, ◌≡◌, ◌==◌, ◌&&◌, ◌||◌, ⊤, Bool, true, nat_lt, List, [], ◌∷◌, fold, map, if◌then◌else◌}
+use Rattle.std.specs.Option.{option_map_or}
+use Rattle.std.specs.List.{AllByRecursion}
+use Rattle.gnss_obs.specs.Satellites.{Satellite}
+use Rattle.gnss_obs.specs.Signals.{SignalAt}
+use Rattle.obs_epoch.specs.declared.cell.Cell.{Cell}
+use Rattle.obs_epoch.specs.declared.seen.Seen.{Seen}
+use Rattle.obs_epoch.specs.declared.order.Seat.{Seat}
+use Rattle.obs_epoch.specs.Plans.{place_in}
+use Rattle.obs_epoch.specs.Marked.{Marked}
+
+-- the seat of a key: its satellite's number, and its signal's place among those that are planned
+abbrev pub seat : List ℕ → Satellite → SignalAt → Seat
+seat planned satellite signal = record { satellite = satellite.id; place = option_map_or (λ p. p) (place_in signal planned) 0 }
+
+-- by satellite, and within it by place
+abbrev pub is_before : Seat → Seat → Bool
+is_before a b = nat_lt a.satellite b.satellite || ((a.satellite == b.satellite) && nat_lt a.place b.place)
+
+-- each before all behind it
+abbrev pub Rise : List Seat → Type 0
+Rise [] = ⊤
+Rise (s ∷ ss) = AllByRecursion (λ t. is_before s t ≡ true) ss × Rise ss
+
+-- before the first that stands behind it
+abbrev pub insert_by : {X : Type 0} → (X → Seat) → X → List X → List X
+insert_by at x [] = x ∷ []
+insert_by at x (y ∷ ys) = if is_before (at x) (at y) then x ∷ y ∷ ys else y ∷ insert_by at x ys
+
+-- how many don't stand behind that seat
+abbrev pub spot : Seat → List Seat → ℕ
+spot s [] = 0
+spot s (t ∷ ts) = if is_before s t then 0 else suc (spot s ts)
+
+-- ---- cells
+
+abbrev pub seat_of : List ℕ → Seen → Seat
+seat_of planned x = seat planned x.satellite x.signal
+
+abbrev pub marked_seat : List ℕ → Marked → Seat
+marked_seat planned m = seat_of planned m.seen
+
+abbrev pub cell_seat : List ℕ → Cell → Seat
+cell_seat planned c = seat planned c.satellite c.signal
+
+-- cells in the order of their seats
+abbrev pub sorted : List ℕ → List Seen → List Seen
+sorted planned xs = fold (λ ys x. insert_by (seat_of planned) x ys) [] xs
+
+-- cells stand by satellite, and within it by the place of their signals among these; no two have one seat
+abbrev pub StandBy : List ℕ → List Cell → Type 0
+StandBy planned cells = Rise (map (cell_seat planned) cells)
+
+-- cells stand by satellite, and within it in some order of signals
+abbrev pub AreSorted : List Cell → Type 0
+AreSorted cells = (planned : List ℕ) × StandBy planned cells
