@@ -1,5 +1,5 @@
 -- Each frame is counted once.
-use Rattle.std.proofs.Common.{◌≡◌, ℕ, ◌+◌, ◌*◌, ◌≤◌, ◌^◌, List, [], ◌∷◌, ◌++◌, Bool, true, false, refl, sym, ap, ◌∙◌, arith, length, suc, Option, Some, None}
+use Rattle.std.proofs.Common.{◌≡◌, ℕ, ◌+◌, ◌*◌, ◌≤◌, ◌^◌, List, [], ◌∷◌, ◌++◌, Bool, false, refl, ap, ◌∙◌, arith, length, suc, Option, Some, None}
 use Rattle.std.specs.Prelude.{sum_by, option_map}
 use Rattle.std.proofs.lemmas.List.Sums.{sum_by-cons}
 use Rattle.rtcm_scan.specs.Frames.{Framed, frames_of}
@@ -8,7 +8,7 @@ use Rattle.obs_epoch.specs.declared.taken.Kind.TheVariants as kind
 use Rattle.obs_epoch.specs.Heard.{Setup, Heard}
 use Rattle.obs_epoch.specs.Kinds.{is_close_first, kind_of}
 use Rattle.rtcm_convert.specs.Converted.{Settings, messages_of, heard_in}
-use Rattle.rtcm_convert.specs.Outcomes.{outcome, outcomes, outcomes_after, capped, tally_of_one, report_of}
+use Rattle.rtcm_convert.specs.Outcomes.{outcomes, outcomes_after, capped, tally_of_one, report_of}
 use Rattle.rtcm_convert.specs.Laws.{IsCountedOnce}
 use Rattle.rtcm_convert.specs.declared.tally.Tally.{Tally}
 

@@ -1,5 +1,5 @@
 -- The end of a stream.
-use Rattle.std.proofs.Common.{◌≡◌, ℕ, List, [], ◌++◌, Bool, true, false, sym, ap, subst, ◌∙◌, Option, append-nil, Result, Ok, Err, OnOk}
+use Rattle.std.proofs.Common.{◌≡◌, ℕ, List, [], ◌++◌, true, false, sym, ap, subst, ◌∙◌, Option, append-nil, Result, Ok, Err, OnOk}
 use Rattle.rtcm_scan.specs.Frames.{Framed, frames_of}
 use Rattle.rtcm_scan.specs.Decided.{decided_frames}
 use Rattle.rtcm_scan.specs.Known.{IsPrefix, known_frames}
@@ -12,7 +12,7 @@ use Rattle.rtcm_convert.specs.declared.tally.Tally.{Tally}
 use Rattle.rtcm_convert.specs.Fed.{GoesOn, BreaksOff}
 use Rattle.rtcm_convert.specs.Filed.{Files}
 use Rattle.rtcm_convert.specs.Laws.{FiledStays, FiledGrows, WrittenStays, WrittenGrows}
-use Rattle.rtcm_convert.specs.Stream.{Drained, Completes, BreaksAtEnd}
+use Rattle.rtcm_convert.specs.Stream.{Drained}
 use Rattle.rtcm_convert.specs.declared.filer.Filer.{Filer}
 use Rattle.rtcm_convert.proofs.PartLemmas.{goes_on-trans, breaks_off-after, breaks_off-before}
 use Rattle.rtcm_convert.proofs.StreamLemmas.{Drains, DrainsPart}

@@ -5,5 +5,6 @@ pub mod Filed
 pub mod Stream
 pub mod Conversion
 pub mod Told
+pub mod Made
 pub mod Laws
 pub mod Broken

@@ -86,6 +86,8 @@ fn feed_byte<W: Write>(
         → Breaks (W.contents writer.old.inner) (W.contents writer.new.inner) s b (b ++ byte ∷ []) }
     ensures failed { IsErrOf result Fault.Write → HasFailed writer.old.failures writer.new.failures }
     ensures long { IsErrOf result Fault.TooLong → (framer.old.taken ≡ framer.old.limit) × (writer.new ≡ writer.old) }
+    ensures full { IsErrOf result Fault.TooLong → framer.new.taken ≡ framer.old.taken }
+    ensures most { (framer.old.taken ≤ framer.new.taken) × (framer.new.taken ≤ framer.old.taken + 1) }
     ensures only { IfErr result (λ fault. (fault ≡ Fault.TooLong) ⊎ (fault ≡ Fault.Write)) }
     ensures fine { OnOk result (writer.new.failures ≡ writer.old.failures) }
     ensures widest { writer.new.widest ≡ writer.old.widest }
@@ -130,6 +132,9 @@ pub(crate) fn feed_bytes<W: Write>(
     ensures going { filer.new.gatherer.has_ended ≡ false }
     ensures ready { OnOk result (framer.new.is_ready ≡ true) }
     ensures taken { OnOk result (framer.new.taken ≡ framer.old.taken + length piece.now) }
+    // At a fault no byte behind the one at which it came was taken, and at `TooLong` all up to the limit.
+    ensures most { (framer.old.taken ≤ framer.new.taken) × (framer.new.taken ≤ framer.old.taken + length piece.now) }
+    ensures full { IsErrOf result Fault.TooLong → framer.new.taken ≡ framer.old.limit }
     ensures within { OnOk result (0 < length piece.now → framer.new.taken ≤ framer.new.limit) }
     ensures examined { StandsForSome framer.old → StandsForSome framer.new }
     ensures same { (framer.new.limit ≡ framer.old.limit) × (framer.new.has_ended ≡ false) }
@@ -155,6 +160,7 @@ pub(crate) fn end_stream<W: Write>(
         → Completes (W.contents writer.old.inner) (W.contents writer.new.inner) s b b) }
     ensures epochs { OnOk result ((s : Settings) (b : List ℕ) → Drained framer.old filer.old s b → filer.new.epochs ≡ capped (epochs_in s (frames_of b))) }
     ensures drained { OnOk result ((s : Settings) (b : List ℕ) → Drained framer.old filer.old s b → IsDrained framer.new b (frames_of b) × IsCounted framer.new b) }
+    ensures within { (s : Settings) (b : List ℕ) → Drained framer.old filer.old s b → (framer.new.taken ≡ length b) × (length b ≤ framer.new.limit) }
     ensures tally { OnOk result ((s : Settings) (b : List ℕ) → Drained framer.old filer.old s b → filer.new.tally ≡ tally_of (outcomes s (frames_of b))) }
     ensures part { OnErr result ((s : Settings) (b : List ℕ) → Drained framer.old filer.old s b
         → BreaksAtEnd (W.contents writer.old.inner) (W.contents writer.new.inner) s b b) }
