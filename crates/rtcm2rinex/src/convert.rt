@@ -9,6 +9,7 @@ ghost use Rattle.rtcm_convert.specs.Made.{IsMade, IsMadeEmpty};
 ghost use Rattle.rtcm_convert.specs.Outcomes.{report_of};
 ghost use Rattle.rtcm_convert.specs.Told.{settings, IsBad};
 ghost use Rattle.rtcm2rinex.specs.Converting.{IsConvertFault};
+ghost use Rattle.rtcm2rinex.specs.Listing.{IsUntouched};
 
 use crate::fault::ToolFault;
 use rtcm_bits::Counted;
@@ -47,6 +48,7 @@ pub fn run_convert<R: Read, W: Write>(
         ⊎ BrokeAtEnd (R.remaining reader.old.inner) (R.remaining reader.new.inner) (W.contents writer.old.inner) (W.contents writer.new.inner) (settings setup) }
     ensures write_failed { result ≡ Err ToolFault.Write → HasFailed writer.old.failures writer.new.failures }
     ensures bad_setup { result ≡ Err (ToolFault.Convert Fault.BadSetup) ↔ IsBad setup }
+    ensures untouched { (result ≡ Err (ToolFault.Convert Fault.BadSetup)) ⊎ (result ≡ Err (ToolFault.Convert Fault.Memory)) → IsUntouched reader.old reader.new writer.old writer.new }
     ensures only { IfErr result IsConvertFault }
     ensures widest { reader.new.widest ≤ max reader.old.widest 1029 }
 {
