@@ -8,7 +8,7 @@ use Rattle.obs_epoch.specs.Gathering.{Gathers, closed_epochs}
 use Rattle.rinex_file.specs.Texts.{HeaderLists}
 use Rattle.rinex_file.specs.File.{header_text, epoch_text}
 use Rattle.rtcm_convert.specs.Converted.{Settings, messages_of, written}
-use Rattle.rtcm_convert.specs.Outcomes.{outcomes, tally_of, capped}
+use Rattle.rtcm_convert.specs.Outcomes.{outcomes, tally_of, capped, capped_tally, AreFew}
 use Rattle.rtcm_convert.specs.declared.filer.Filer.{Filer}
 
 -- what stands before an epoch in a file of so many: the header before the first
@@ -38,4 +38,5 @@ Settled v s ms = Writes v s ms (closed_epochs s.gather ms) None
 -- the filer took the messages of these frames and wrote the epochs that they close
 pub record Files (v : Filer) (s : Settings) (fs : List Framed) : Type 0 where
   pub settled : Settled v s (messages_of fs)
-  pub tally : v.tally ≡ tally_of (outcomes s fs)
+  pub tally : v.tally ≡ capped_tally (tally_of (outcomes s fs))
+  pub few : AreFew (outcomes s fs)

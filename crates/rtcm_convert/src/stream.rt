@@ -9,7 +9,7 @@ ghost use Rattle.rtcm_scan.specs.Examined.{HasExamined, IsCounted};
 ghost use Rattle.rtcm_convert.specs.Converted.{Settings, so_far, file, epochs_in};
 ghost use Rattle.rtcm_convert.specs.Fed.{GoesOn, BreaksOff};
 ghost use Rattle.rtcm_convert.specs.Filed.{Files};
-ghost use Rattle.rtcm_convert.specs.Outcomes.{outcomes, tally_of, capped};
+ghost use Rattle.rtcm_convert.specs.Outcomes.{outcomes, tally_of};
 ghost use Rattle.rtcm_convert.specs.Stream.{Drained, StandsForSome, Extends, Breaks, Completes, BreaksAtEnd};
 
 use crate::fault::Fault;
@@ -158,7 +158,7 @@ pub(crate) fn end_stream<W: Write>(
     requires listening { framer.old.has_ended ≡ false }
     ensures whole { OnOk result ((s : Settings) (b : List ℕ) → Drained framer.old filer.old s b
         → Completes (W.contents writer.old.inner) (W.contents writer.new.inner) s b b) }
-    ensures epochs { OnOk result ((s : Settings) (b : List ℕ) → Drained framer.old filer.old s b → filer.new.epochs ≡ capped (epochs_in s (frames_of b))) }
+    ensures epochs { OnOk result ((s : Settings) (b : List ℕ) → Drained framer.old filer.old s b → filer.new.epochs ≡ epochs_in s (frames_of b)) }
     ensures drained { OnOk result ((s : Settings) (b : List ℕ) → Drained framer.old filer.old s b → IsDrained framer.new b (frames_of b) × IsCounted framer.new b) }
     ensures within { (s : Settings) (b : List ℕ) → Drained framer.old filer.old s b → (framer.new.taken ≡ length b) × (length b ≤ framer.new.limit) }
     ensures tally { OnOk result ((s : Settings) (b : List ℕ) → Drained framer.old filer.old s b → filer.new.tally ≡ tally_of (outcomes s (frames_of b))) }
@@ -172,6 +172,7 @@ pub(crate) fn end_stream<W: Write>(
 {
     laws::prefix();
     laws::filed();
+    rtcm_scan::laws::prefix();
     framer.end();
     match drain(framer, filer, writer) {
         Ok(()) => filer.end(writer),

@@ -13,7 +13,7 @@ returns-in-Ok-clause-whole g c =
 pub returns-in-Ok-clause-epochs : goal.returns-in-Ok-clause-epochs
 returns-in-Ok-clause-epochs g c =
     let e : Ends c.args.framer.now c.end.new.self = record { before = c.requires.listening; after = ap (λ (v : Scan). v.has_ended) c.end.ensures.ended; stands = c.end.ensures.counts } in
-    on_ok_weaker c.end-in-Ok.result (ended_epochs c.args.framer.now c.end.new.self c.drain.new.framer c.args.filer.now c.drain.new.filer _ _ _ e c.in-Ok.ensures.whole c.drain.ensures.same.2) c.end-in-Ok.ensures.epochs
+    on_ok_weaker c.end-in-Ok.result (ended_epochs c.prefix-2.ensures.few c.args.framer.now c.end.new.self c.drain.new.framer c.args.filer.now c.drain.new.filer _ _ _ e c.in-Ok.ensures.whole c.drain.ensures.same.2) c.end-in-Ok.ensures.epochs
 
 pub returns-in-Ok-clause-part : goal.returns-in-Ok-clause-part
 returns-in-Ok-clause-part g c =
@@ -28,7 +28,7 @@ returns-in-Err-clause-part g c =
 pub returns-in-Ok-clause-tally : goal.returns-in-Ok-clause-tally
 returns-in-Ok-clause-tally g c =
     let e : Ends c.args.framer.now c.end.new.self = record { before = c.requires.listening; after = ap (λ (v : Scan). v.has_ended) c.end.ensures.ended; stands = c.end.ensures.counts } in
-    ended_tally c.args.framer.now c.end.new.self c.drain.new.framer c.args.filer.now c.drain.new.filer _ _ _ c.end-in-Ok.result e c.in-Ok.ensures.whole c.drain.ensures.same.2 c.end-in-Ok.ensures.same
+    ended_tally c.prefix-2.ensures.few c.args.framer.now c.end.new.self c.drain.new.framer c.args.filer.now c.drain.new.filer _ _ _ c.end-in-Ok.result e c.in-Ok.ensures.whole c.drain.ensures.same.2 c.end-in-Ok.ensures.same
 
 pub returns-in-Ok-clause-drained : goal.returns-in-Ok-clause-drained
 returns-in-Ok-clause-drained g c =
