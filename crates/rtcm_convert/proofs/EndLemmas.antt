@@ -10,7 +10,7 @@ use Rattle.rtcm_convert.specs.Converted.{Settings, so_far, file, epochs_in}
 use Rattle.rtcm_convert.specs.Outcomes.{outcomes, tally_of, capped}
 use Rattle.rtcm_convert.specs.declared.tally.Tally.{Tally}
 use Rattle.rtcm_convert.specs.Fed.{GoesOn, BreaksOff}
-use Rattle.rtcm_convert.specs.Filed.{Files}
+use Rattle.rtcm_convert.specs.Filed.{Files, HasGathered}
 use Rattle.rtcm_convert.specs.Laws.{FiledStays, FiledGrows, WrittenStays, WrittenGrows}
 use Rattle.rtcm_convert.specs.Stream.{Drained}
 use Rattle.rtcm_convert.specs.declared.filer.Filer.{Filer}
@@ -56,6 +56,12 @@ pub ended_epochs : Few → (v v1 v2 : Scan) (w w2 : Filer) (n : ℕ) (a b : Opti
 ended_epochs few v v1 v2 w w2 n a b e drain same end s bytes d =
     end s (frames_of bytes) (ended v v1 v2 w w2 a b e drain same s bytes d).0
     ∙ whole_epochs (epochs_in s (frames_of bytes)) (length (frames_of bytes)) (length bytes) (epochs_few s (frames_of bytes)) (few bytes) (within v w s bytes d)
+
+pub ended_gathered : {T E : Type 0} (v v1 v2 : Scan) (w w2 w3 : Filer) (a b : Option (List ℕ)) (result : Result T E) → Ends v v1 → Drains v1 w v2 w2 a b → v2.has_ended ≡ v1.has_ended
+    → ((s : Settings) (fs : List Framed) → Files w2 s fs → HasGathered w3 s fs)
+    → OnOk result ((s : Settings) (bytes : List ℕ) → Drained v w s bytes → HasGathered w3 s (frames_of bytes))
+ended_gathered v v1 v2 w w2 w3 a b (Ok x) e drain same end = λ s bytes d. end s (frames_of bytes) (ended v v1 v2 w w2 a b e drain same s bytes d).0
+ended_gathered v v1 v2 w w2 w3 a b (Err x) e drain same end = tt
 
 pub ended_part : (v v1 v2 : Scan) (w w2 : Filer) (a b c : Option (List ℕ)) → Ends v v1 → Drains v1 w v2 w2 a b → v2.has_ended ≡ v1.has_ended
     → ((s : Settings) (fs : List Framed) → Files w2 s fs → BreaksOff b c (so_far s fs) (file s fs))

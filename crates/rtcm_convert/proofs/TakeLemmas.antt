@@ -19,7 +19,7 @@ use Rattle.obs_epoch.specs.Gathering.{Gathers, Fits, closed_by, closed_in, plan_
 use Rattle.rtcm_convert.specs.Converted.{Settings, text_with, so_far, file, epochs_in, messages_of, heard_in}
 use Rattle.rtcm_convert.specs.Outcomes.{outcome, outcomes, outcomes_after, capped, capped_tally, both, total, tally_of, tally_of_one, IsFew, AreFew}
 use Rattle.rtcm_convert.specs.Fed.{GoesOn, BreaksOff}
-use Rattle.rtcm_convert.specs.Filed.{added, Writes, Settled, Files}
+use Rattle.rtcm_convert.specs.Filed.{added, Writes, Settled, Files, HasGathered}
 use Rattle.rtcm_convert.specs.declared.tally.Tally.{Tally}
 use Rattle.rtcm_convert.specs.declared.filer.Filer.{Filer}
 use Rattle.rtcm_convert.proofs.PartLemmas.{goes_on-refl, goes_on-trans, breaks_off-after, breaks_off-by}
@@ -165,6 +165,19 @@ file_whole v w g a b o over t s fs x =
     let p = wrote_all v w g a b s ms ms es None None o x.settled (t s.gather ms es x.settled.gatherer) in
     let e : p.0 ≡ all_epochs s.gather ms = p.1.gatherer.epochs refl ∙ ap (λ (h : Gathered). known_epochs h.has_ended s.gather ms) o.gatherer ∙ ap (λ h. known_epochs h s.gather ms) over in
     (subst (λ (all : List Closed). GoesOn a b (so_far s fs) (text_with s all)) e p.2, p.1.epochs ∙ ap count e)
+
+-- no message follows
+pub gathered : (v w : Filer) (g : Gathered) → w.gatherer ≡ g → g.has_ended ≡ true
+    → ((s : Setup) (ms : List Heard) (es : List Closed) → Gathers v.gatherer s ms es None → Gathers g s ms (es ++ closed_by (closed_in g) g.values) None)
+    → (s : Settings) (fs : List Framed) → Files v s fs → HasGathered w s fs
+gathered v w g is over t s fs x =
+    let es = closed_epochs s.gather (messages_of fs) in
+    let all = es ++ closed_by (closed_in g) g.values in
+    record {
+      ended = ap (λ (h : Gathered). h.has_ended) is ∙ over;
+      epochs = all;
+      gathers = subst (λ (h : Gathered). Gathers h s.gather (messages_of fs) all None) (sym is) (t s.gather (messages_of fs) es x.settled.gatherer);
+    }
 
 pub file_part : (v : Filer) (g : Gathered) (a b : Option (List ℕ)) → AppendsPrefix a b (added v.texts (plan_in g) v.epochs (closed_in g) g.values) → g.has_ended ≡ true
     → ((s : Setup) (ms : List Heard) (es : List Closed) → Gathers v.gatherer s ms es None → Gathers g s ms (es ++ closed_by (closed_in g) g.values) None)

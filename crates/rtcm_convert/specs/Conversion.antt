@@ -7,6 +7,7 @@ use Rattle.rtcm_scan.specs.Scan.{Scan}
 use Rattle.rtcm_scan.specs.Drained.{IsDrained}
 use Rattle.rtcm_scan.specs.Examined.{IsCounted}
 use Rattle.rtcm_convert.specs.Converted.{Settings, epochs_in}
+use Rattle.rtcm_convert.specs.Filed.{HasGathered}
 use Rattle.rtcm_convert.specs.Outcomes.{report_of}
 use Rattle.rtcm_convert.specs.Stream.{Drained, StandsForSome, Extends, Breaks, Completes, BreaksAtEnd}
 use Rattle.rtcm_convert.specs.declared.filer.Filer.{Filer}
@@ -44,13 +45,14 @@ pub record StandsFor (v : Conversion) (s : Settings) (b : List ℕ) : Type 0 whe
   pub going : IsGoing v
   pub drained : Drained v.scan v.filer s b
 
--- the stream of these bytes, which are no more than the limit, was ended: all of it was taken, decided and examined
-pub record HasFinished (v : Conversion) (b : List ℕ) : Type 0 where
+-- the stream of these bytes, which are no more than the limit, was ended: all of it was taken, decided, examined and gathered
+pub record HasFinished (v : Conversion) (s : Settings) (b : List ℕ) : Type 0 where
   pub ended : v.scan.has_ended ≡ true
   pub taken : v.scan.taken ≡ length b
   pub within : length b ≤ v.scan.limit
   pub drained : IsDrained v.scan b (frames_of b)
   pub counted : IsCounted v.scan b
+  pub gathered : HasGathered v.filer s (frames_of b)
 
 -- it took these bytes more, and what they add went out
 abbrev pub Goes : Conversion → Conversion → Option (List ℕ) → Option (List ℕ) → List ℕ → Type 0
@@ -99,13 +101,13 @@ pub record Completed (w : Conversion) (a b : Option (List ℕ)) (s : Settings) (
   pub out : Completes a b s bytes all
   pub some : 0 < epochs_in s (frames_of all)
   pub report_is : report ≡ report_of s all
-  pub finished : HasFinished w all
+  pub finished : HasFinished w s all
 
 -- No epoch stands in the file of all these bytes; the rest of it, which is nothing, went out; and all was decided and examined.
 pub record CompletedEmpty (w : Conversion) (a b : Option (List ℕ)) (s : Settings) (bytes all : List ℕ) : Type 0 where
   pub none : epochs_in s (frames_of all) ≡ 0
   pub out : Completes a b s bytes all
-  pub finished : HasFinished w all
+  pub finished : HasFinished w s all
 
 -- with these bytes more, the file was completed
 abbrev pub Finishes : Conversion → Conversion → Option (List ℕ) → Option (List ℕ) → Report → List ℕ → Type 0

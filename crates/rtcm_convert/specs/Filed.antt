@@ -1,5 +1,5 @@
 -- What stands in the file when the epochs of some messages were written.
-use Rattle.std.specs.Prelude.{◌≡◌, ℕ, ◌+◌, nat_lt, List, [], ◌++◌, length, Option, Some, None, if◌then◌else◌}
+use Rattle.std.specs.Prelude.{◌≡◌, ℕ, ◌+◌, nat_lt, true, List, [], ◌++◌, length, Option, Some, None, if◌then◌else◌}
 use Rattle.rtcm_scan.specs.Frames.{Framed}
 use Rattle.obs_epoch.specs.Values.{PlanValue, EpochValue, Closed, satellites}
 use Rattle.obs_epoch.specs.declared.cell.StationValues.{StationValues}
@@ -34,6 +34,12 @@ pub record Writes (v : Filer) (s : Settings) (ms : List Heard) (es : List Closed
 -- the filer took these messages and wrote the epochs that they close
 abbrev pub Settled : Filer → Settings → List Heard → Type 0
 Settled v s ms = Writes v s ms (closed_epochs s.gather ms) None
+
+-- the filer took the messages of these frames, and no more will come
+pub record HasGathered (v : Filer) (s : Settings) (fs : List Framed) : Type 0 where
+  pub ended : v.gatherer.has_ended ≡ true
+  pub epochs : List Closed
+  pub gathers : Gathers v.gatherer s.gather (messages_of fs) epochs None
 
 -- the filer took the messages of these frames and wrote the epochs that they close
 pub record Files (v : Filer) (s : Settings) (fs : List Framed) : Type 0 where

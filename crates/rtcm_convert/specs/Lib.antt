@@ -6,5 +6,6 @@ pub mod Stream
 pub mod Conversion
 pub mod Told
 pub mod Made
+pub mod Kept
 pub mod Laws
 pub mod Broken

@@ -3,10 +3,10 @@ ghost use Rattle.std.specs.Prelude.{◌≡◌, ◌<◌, ◌≤◌, ◌+◌, ◌*
 ghost use Rattle.std.specs.Io.KnownBytes.{Consumes, Keeps, IsAtEnd};
 ghost use Rattle.rtcm_bits.specs.Device.{HasFailed};
 ghost use Rattle.rtcm_scan.specs.Frames.{frames_of};
-ghost use Rattle.rtcm_scan.specs.Decided.{decided};
+ghost use Rattle.rtcm_scan.specs.Decided.{decided, decided_frames};
 ghost use Rattle.rtcm_scan.specs.Looks.{examined, examined_now, most, most_now};
 ghost use Rattle.obs_epoch.specs.Values.{most_cells};
-ghost use Rattle.obs_epoch.specs.Gather.{cells_in};
+ghost use Rattle.rtcm_convert.specs.Kept.{cells_kept, locks_kept, locks_in_all};
 ghost use Rattle.rtcm_convert.specs.Converted.{Settings};
 ghost use Rattle.rtcm_convert.specs.Told.{settings, IsBad};
 ghost use Rattle.rtcm_convert.specs.Outcomes.{report_with};
@@ -276,22 +276,25 @@ impl Converter {
         ensures room { IsGoing self.now → result ≤ 1028 }
         // The held bytes are those from the first undecided place on; when the stream was ended, none.
         ensures undecided { (s : Settings) (b : List ℕ) → StandsFor self.now s b → self.now.scan.held ≡ drop (decided b) b }
-        ensures nothing { (b : List ℕ) → HasFinished self.now b → result ≡ 0 }
+        ensures nothing { (s : Settings) (b : List ℕ) → HasFinished self.now s b → result ≡ 0 }
     {
         self.framer.held()
     }
 
     /// How many cells of a system are held: those of the pending epoch or, where none is pending, of the one last closed.
     pub fn cells(&self, system: System) -> usize
-        ensures count { result ≡ length (cells_in system self.now.filer.gatherer.epoch) }
+        ensures now { (s : Settings) (b : List ℕ) → StandsFor self.now s b → result ≡ cells_kept s system (decided_frames b) }
+        ensures all { (s : Settings) (b : List ℕ) → HasFinished self.now s b → result ≡ cells_kept s system (frames_of b) }
         ensures bound { result ≤ most_cells }
     {
         self.filer.gatherer.cells(system)
     }
 
-    /// How many lock records are held, one at most for each satellite and signal.
+    /// How many lock records are held: one for each satellite and signal of which a closed epoch has a kept cell with a valid
+    /// phase and a known lock.
     pub fn locks(&self) -> usize
-        ensures count { result ≡ length self.now.filer.gatherer.locks }
+        ensures now { (s : Settings) (b : List ℕ) → StandsFor self.now s b → result ≡ locks_kept s (decided_frames b) }
+        ensures all { (s : Settings) (b : List ℕ) → HasFinished self.now s b → result ≡ locks_in_all s (frames_of b) }
         ensures bound { result ≤ 1_164 }
     {
         self.filer.gatherer.locks()
@@ -303,7 +306,7 @@ impl Converter {
         // Not more than 1,030 times the bytes taken, at every moment.
         ensures bound { result ≤ 1030 * self.now.scan.taken }
         ensures now { (s : Settings) (b : List ℕ) → StandsFor self.now s b → result ≡ examined_now b }
-        ensures all { (b : List ℕ) → HasFinished self.now b → result ≡ examined b }
+        ensures all { (s : Settings) (b : List ℕ) → HasFinished self.now s b → result ≡ examined b }
     {
         self.framer.examined()
     }
@@ -313,7 +316,7 @@ impl Converter {
         ensures value { result ≡ self.now.scan.most }
         ensures bound { result ≤ 1030 }
         ensures now { (s : Settings) (b : List ℕ) → StandsFor self.now s b → result ≡ most_now b }
-        ensures all { (b : List ℕ) → HasFinished self.now b → result ≡ most b }
+        ensures all { (s : Settings) (b : List ℕ) → HasFinished self.now s b → result ≡ most b }
     {
         self.framer.most()
     }

@@ -8,7 +8,7 @@ ghost use Rattle.rtcm_scan.specs.Drained.{IsDrained};
 ghost use Rattle.rtcm_scan.specs.Examined.{HasExamined, IsCounted};
 ghost use Rattle.rtcm_convert.specs.Converted.{Settings, so_far, file, epochs_in};
 ghost use Rattle.rtcm_convert.specs.Fed.{GoesOn, BreaksOff};
-ghost use Rattle.rtcm_convert.specs.Filed.{Files};
+ghost use Rattle.rtcm_convert.specs.Filed.{Files, HasGathered};
 ghost use Rattle.rtcm_convert.specs.Outcomes.{outcomes, tally_of};
 ghost use Rattle.rtcm_convert.specs.Stream.{Drained, StandsForSome, Extends, Breaks, Completes, BreaksAtEnd};
 
@@ -160,6 +160,7 @@ pub(crate) fn end_stream<W: Write>(
         → Completes (W.contents writer.old.inner) (W.contents writer.new.inner) s b b) }
     ensures epochs { OnOk result ((s : Settings) (b : List ℕ) → Drained framer.old filer.old s b → filer.new.epochs ≡ epochs_in s (frames_of b)) }
     ensures drained { OnOk result ((s : Settings) (b : List ℕ) → Drained framer.old filer.old s b → IsDrained framer.new b (frames_of b) × IsCounted framer.new b) }
+    ensures gathered { OnOk result ((s : Settings) (b : List ℕ) → Drained framer.old filer.old s b → HasGathered filer.new s (frames_of b)) }
     ensures within { (s : Settings) (b : List ℕ) → Drained framer.old filer.old s b → (framer.new.taken ≡ length b) × (length b ≤ framer.new.limit) }
     ensures tally { OnOk result ((s : Settings) (b : List ℕ) → Drained framer.old filer.old s b → filer.new.tally ≡ tally_of (outcomes s (frames_of b))) }
     ensures part { OnErr result ((s : Settings) (b : List ℕ) → Drained framer.old filer.old s b

@@ -1,7 +1,7 @@
 use Rattle.std.proofs.Common.{ap}
 use Rattle.std.proofs.lemmas.Result.{on_ok_weaker, on_err_weaker}
 use Rattle.rtcm_scan.specs.Scan.{Scan}
-use Rattle.rtcm_convert.proofs.EndLemmas.{Ends, ended_whole, ended_epochs, ended_part, ended_tally, ended_drained, drain_part}
+use Rattle.rtcm_convert.proofs.EndLemmas.{Ends, ended_whole, ended_epochs, ended_part, ended_tally, ended_drained, ended_gathered, drain_part}
 use Rattle.rtcm_convert.proofs.StreamLemmas.{some_ended}
 use Rattle.rtcm_convert.proofs.stream.end_stream.Goals as goal
 
@@ -40,3 +40,8 @@ returns-in-Ok-clause-examined g c = λ h. c.drain.ensures.examined (some_ended c
 
 pub returns-in-Err-clause-examined : goal.returns-in-Err-clause-examined
 returns-in-Err-clause-examined g c = λ h. c.drain.ensures.examined (some_ended c.args.framer.now c.end.new.self c.end.ensures.counts h)
+
+pub returns-in-Ok-clause-gathered : goal.returns-in-Ok-clause-gathered
+returns-in-Ok-clause-gathered g c =
+    let e : Ends c.args.framer.now c.end.new.self = record { before = c.requires.listening; after = ap (λ (v : Scan). v.has_ended) c.end.ensures.ended; stands = c.end.ensures.counts } in
+    ended_gathered c.args.framer.now c.end.new.self c.drain.new.framer c.args.filer.now c.drain.new.filer c.end-in-Ok.new.self _ _ c.end-in-Ok.result e c.in-Ok.ensures.whole c.drain.ensures.same.2 c.end-in-Ok.ensures.gathered
