@@ -2,6 +2,7 @@
 use Rattle.std.proofs.Common.{◌≡◌, ℕ, ◌+◌, ◌<◌, ◌≤◌, List, [], ◌∷◌, ◌++◌, sym, ap, subst, ◌∙◌, arith, Option, length, take, drop, get_or, append_assoc, take-append-drop}
 use Rattle.std.proofs.lemmas.List.{take_more}
 use Rattle.std.proofs.Math.Seq.{take-append_seam, take-length}
+use Rattle.std.specs.Io.KnownBytes.{Keeps}
 use Rattle.rtcm_scan.specs.Decided.{decided_frames}
 use Rattle.rtcm_scan.specs.Known.{IsPrefix}
 use Rattle.rtcm_scan.specs.Scan.{Scan}
@@ -9,7 +10,7 @@ use Rattle.rtcm_convert.specs.Converted.{Settings, so_far}
 use Rattle.rtcm_convert.specs.Laws.{WrittenGrows}
 use Rattle.rtcm_convert.specs.Stream.{Drained, Extends, Breaks}
 use Rattle.rtcm_convert.specs.declared.filer.Filer.{Filer}
-use Rattle.rtcm_convert.proofs.PartLemmas.{goes_on-trans, breaks_off-after, breaks_off-before}
+use Rattle.rtcm_convert.proofs.PartLemmas.{goes_on-trans, goes_on-kept, goes_on-front, breaks_off-after, breaks_off-before}
 
 piece_more : (b p : List ℕ) (i : ℕ) → i < length p → (b ++ take i p) ++ get_or p i 0 ∷ [] ≡ b ++ take (i + 1) p
 piece_more b p i lt = append_assoc b (take i p) (get_or p i 0 ∷ []) ∙ ap (λ l. b ++ l) (sym (take_more p i 0 lt))
@@ -54,3 +55,13 @@ fed_whole v0 v w0 w a b p i first le ge s bytes d =
     let all : bytes ++ take i p ≡ bytes ++ p = ap (λ l. bytes ++ l) (ap (λ k. take k p) e ∙ take-length p) in
     let x = first s bytes d in
     (subst (λ (l : List ℕ). Drained v w s l) all x.0, subst (λ (l : List ℕ). Extends a b s bytes l) all x.1)
+
+-- what these bytes make was written and couldn't be sent on
+pub sent_part : (a b c : Option (List ℕ)) (s : Settings) (x y : List ℕ) → Extends a b s x y → Keeps b c → Breaks a c s x y
+sent_part a b c s x y e k = goes_on-front a c _ _ (goes_on-kept a b c _ _ e k)
+
+-- the same of a front of these bytes
+pub sent_part_long : WrittenGrows → (a b c : Option (List ℕ)) (s : Settings) (x y : List ℕ) (n : ℕ) → Extends a b s x (take n y) → Keeps b c → Breaks a c s x y
+sent_part_long grows a b c s x y n e k =
+    breaks_off-before a c _ _ _ (sent_part a b c s x (take n y) e k)
+    (subst (λ (l : List ℕ). IsPrefix (so_far s (decided_frames (take n y))) (so_far s (decided_frames l))) (take-append-drop n y) (grows s (take n y) (drop n y)))

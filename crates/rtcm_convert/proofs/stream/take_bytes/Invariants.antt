@@ -1,7 +1,7 @@
 use Rattle.std.proofs.Common.{◌≡◌, ◌+◌, ◌<◌, ◌≤◌, ◌++◌, ℕ, List, true, false, take}
 use Rattle.rtcm_convert.specs.Converted.{Settings}
 use Rattle.rtcm_convert.specs.Stream.{Drained, StandsForSome, Extends}
-use Rattle.rtcm_convert.proofs.stream.feed_bytes.Given as goal
+use Rattle.rtcm_convert.proofs.stream.take_bytes.Given as goal
 
 abbrev pub invariant-loop-byte : goal.invariant-loop-byte
 invariant-loop-byte g l =
