@@ -8,12 +8,12 @@ use Rattle.rtcm2rinex.proofs.listing.list_decided.Goals as goal
 
 pub returns-then-settle-clause-listed : goal.returns-then-settle-clause-listed
 returns-then-settle-clause-listed g c =
-    on_ok c.list_standing.result _ _ (λ law w b fs s. law w b fs (list_same c.args.listing w (g.W.Write.contents c.args.writer.now.inner) c.args.page.now c.args.framer.now c.settle.new.self b b fs
+    on_ok c.list_standing.result _ _ (λ law w b fs s. law w b fs (list_same c.args.listing w (g.W.Write.contents c.args.writer.now.inner) c.args.framer.now c.settle.new.self b b fs
     (c.if-settle.ensures.stands b fs s.framer) s)) c.list_standing.ensures.listed
 
 pub returns-then-settle-clause-part : goal.returns-then-settle-clause-part
 returns-then-settle-clause-part g c =
     on_err c.list_standing.result _ _ (λ law w b fs s.
     subst (λ (e : Bool). AppendsPrefix w (g.W.Write.contents c.list_standing.new.writer.inner) (lines_of c.args.listing (known_frames e b))) c.if-settle.ensures.ended
-    (law w b fs (list_same c.args.listing w (g.W.Write.contents c.args.writer.now.inner) c.args.page.now c.args.framer.now c.settle.new.self b b fs (c.if-settle.ensures.stands b fs s.framer) s)))
+    (law w b fs (list_same c.args.listing w (g.W.Write.contents c.args.writer.now.inner) c.args.framer.now c.settle.new.self b b fs (c.if-settle.ensures.stands b fs s.framer) s)))
     c.list_standing.ensures.part

@@ -1,6 +1,5 @@
-use Rattle.std.proofs.Common.{◌≡◌, ◌++◌, ◌∷◌, [], ◌∙◌, refl}
+use Rattle.std.proofs.Common.{◌≡◌, ◌++◌, ◌∷◌, [], ◌∙◌}
 use Rattle.rtcm_scan.specs.Answers.{framed}
-use Rattle.rtcm2rinex.specs.Kinds.{line_of}
 use Rattle.rtcm2rinex.proofs.ListedLemmas.{list_frame, list_drained, list_part}
 use Rattle.rtcm2rinex.proofs.listing.list_standing.Goals as goal
 
@@ -11,8 +10,8 @@ loop-frame-preserved g c =
     record {
       lists = λ w b fs s. (let l = kept.lists w b fs s in (
         l.0 ++ framed c.in-Some.frame ∷ [],
-        list_frame c.args.listing w (contents c.loop-frame.writer.inner) (contents c.add_line.new.writer.inner) c.loop-frame.page c.add_line.new.page (line_of c.args.listing (framed c.in-Some.frame))
-            c.loop-frame.framer c.next.new.self b l.0 (framed c.in-Some.frame) refl c.in-Ok.ensures.moves (c.in-Some.ensures.some b l.0 l.1.framer) l.1,
+        list_frame c.args.listing w (contents c.loop-frame.writer.inner) (contents c.write_line.new.writer.inner)
+            c.loop-frame.framer c.next.new.self b l.0 (framed c.in-Some.frame) c.in-Ok.ensures.whole (c.in-Some.ensures.some b l.0 l.1.framer) l.1,
       ));
       limit = c.in-Some.ensures.limit ∙ kept.limit;
       taken = c.in-Some.ensures.taken ∙ kept.taken;
@@ -24,5 +23,5 @@ pub returns-in-Err-clause-part : goal.returns-in-Err-clause-part
 returns-in-Err-clause-part g c = λ w b fs s.
     let contents = g.W.Write.contents in
     let l = c.loop-frame.invariant.lists w b fs s in
-    list_part c.args.listing w (contents c.loop-frame.writer.inner) (contents c.add_line.new.writer.inner) c.loop-frame.page c.loop-frame.framer c.args.framer.now.has_ended b l.0
-    c.loop-frame.invariant.ended c.in-Err.ensures.part l.1
+    list_part c.args.listing w (contents c.loop-frame.writer.inner) (contents c.write_line.new.writer.inner) c.loop-frame.framer c.next.new.self c.args.framer.now.has_ended b l.0
+    (framed c.in-Some.frame) (c.in-Some.ensures.ended ∙ c.loop-frame.invariant.ended) c.in-Err.ensures.part (c.in-Some.ensures.some b l.0 l.1.framer) l.1
