@@ -3,3 +3,4 @@ mod LineLemmas
 mod ListedLemmas
 mod ShowLemmas
 mod ReadBackLemmas
+pub mod CheckLemmas

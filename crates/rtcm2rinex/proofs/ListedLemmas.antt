@@ -1,8 +1,8 @@
 -- What listing does, step by step.
 use Rattle.std.proofs.Common.{◌≡◌, ℕ, ◌+◌, ◌-◌, ◌<◌, ◌≤◌, Bool, true, false, Option, List, [], ◌∷◌, ◌++◌, ◌∙◌, ap, sym, refl, rules, arith, length, take, drop, flat_map, append_assoc, append-nil, subst, take-append-drop, length-drop, take_all, length-append, zero-add, suc, slice_range, None, Some, Result, Ok, Err, OnOk, OnErr, inl, inr, ◌⊎◌}
 use Rattle.std.proofs.Math.Seq.{take-add}
-use Rattle.std.specs.Io.KnownBytes.{Appends, Consumes, IsAtEnd}
-use Rattle.std.proofs.KnownBytes.{Appends-trans, Consumes-trans}
+use Rattle.std.specs.Io.KnownBytes.{Appends, Keeps, Consumes, IsAtEnd}
+use Rattle.std.proofs.KnownBytes.{Appends-trans, Appends-kept, Consumes-trans}
 use Rattle.rtcm_bits.specs.Device.{AppendsPrefix}
 use Rattle.rtcm_scan.specs.Frames.{Framed, frames_of}
 use Rattle.rtcm_scan.specs.Decided.{decided_frames}
@@ -15,7 +15,6 @@ use Rattle.rtcm2rinex.specs.declared.listing.Listing.{Listing}
 use Rattle.rtcm2rinex.specs.Kinds.{line_of, lines_of}
 use Rattle.rtcm2rinex.specs.Listed.{Lists, ListsKnown, IsListed, IsRefusal, up_to_limit}
 use Rattle.rtcm2rinex.specs.Listing.{ListsAll, ListsPart, ListsToLimit}
-use Rattle.rtcm2rinex.specs.Paging.{Moves}
 
 -- the lines of one frame more
 pub lines_more : (k : Listing) (fs : List Framed) (f : Framed) → lines_of k (fs ++ f ∷ []) ≡ lines_of k fs ++ line_of k f
@@ -26,29 +25,21 @@ pub lines_join : (k : Listing) (fs gs : List Framed) → lines_of k (fs ++ gs) �
 lines_join k [] gs = refl
 lines_join k (f ∷ fs) gs = ap (λ (l : List ℕ). line_of k f ++ l) (lines_join k fs gs) ∙ sym (append_assoc (line_of k f) (lines_of k fs) (lines_of k gs))
 
--- a frame was handed out, and its line put on the page
-pub list_frame : (k : Listing) (w w1 w2 : Option (List ℕ)) (page page2 text : List ℕ) (v v2 : Scan) (b : List ℕ) (fs : List Framed) (f : Framed)
-    → text ≡ line_of k f → Moves w1 w2 page text page2 → StandsFor v2 b (fs ++ f ∷ []) → Lists (lines_of k) w w1 page v b fs → Lists (lines_of k) w w2 page2 v2 b (fs ++ f ∷ [])
-list_frame k w w1 w2 page page2 text v v2 b fs f e m stands s = record {
+-- a frame was handed out, and its line written
+pub list_frame : (k : Listing) (w w1 w2 : Option (List ℕ)) (v v2 : Scan) (b : List ℕ) (fs : List Framed) (f : Framed)
+    → Appends w1 w2 (line_of k f) → StandsFor v2 b (fs ++ f ∷ []) → Lists (lines_of k) w w1 v b fs → Lists (lines_of k) w w2 v2 b (fs ++ f ∷ [])
+list_frame k w w1 w2 v v2 b fs f line stands s = record {
   framer = stands;
-  sent = s.sent ++ m.0;
-  out = Appends-trans w w1 w2 s.sent m.0 s.out m.1;
-  joined = append_assoc s.sent m.0 page2 ∙ ap (λ (l : List ℕ). s.sent ++ l) m.2 ∙ sym (append_assoc s.sent page text)
-      ∙ ap (λ (l : List ℕ). l ++ text) s.joined ∙ ap (λ (l : List ℕ). lines_of k fs ++ l) e ∙ sym (lines_more k fs f);
+  out = subst (λ (l : List ℕ). Appends w w2 l) (sym (lines_more k fs f)) (Appends-trans w w1 w2 (lines_of k fs) (line_of k f) s.out line);
 }
 
 -- the framer moved on and nothing was written
-pub list_same : (k : Listing) (w w1 : Option (List ℕ)) (page : List ℕ) (v v2 : Scan) (b b2 : List ℕ) (fs : List Framed) → StandsFor v2 b2 fs → Lists (lines_of k) w w1 page v b fs → Lists (lines_of k) w w1 page v2 b2 fs
-list_same k w w1 page v v2 b b2 fs stands s = record { framer = stands; sent = s.sent; out = s.out; joined = s.joined }
+pub list_same : (k : Listing) (w w1 : Option (List ℕ)) (v v2 : Scan) (b b2 : List ℕ) (fs : List Framed) → StandsFor v2 b2 fs → Lists (lines_of k) w w1 v b fs → Lists (lines_of k) w w1 v2 b2 fs
+list_same k w w1 v v2 b b2 fs stands s = record { framer = stands; out = s.out }
 
--- the page was written
-pub list_written : (k : Listing) (w w1 w2 : Option (List ℕ)) (page : List ℕ) (v : Scan) (b : List ℕ) (fs : List Framed) → Appends w1 w2 page → Lists (lines_of k) w w1 page v b fs → Lists (lines_of k) w w2 [] v b fs
-list_written k w w1 w2 page v b fs a s = record {
-  framer = s.framer;
-  sent = s.sent ++ page;
-  out = Appends-trans w w1 w2 s.sent page s.out a;
-  joined = append-nil (s.sent ++ page) ∙ s.joined;
-}
+-- what was written was sent on
+pub list_sent : (k : Listing) (w w1 w2 : Option (List ℕ)) (v : Scan) (b : List ℕ) (fs : List Framed) → Keeps w1 w2 → Lists (lines_of k) w w1 v b fs → Lists (lines_of k) w w2 v b fs
+list_sent k w w1 w2 v b fs kept s = record { framer = s.framer; out = Appends-kept w w1 w2 (lines_of k fs) s.out kept }
 
 -- what is known stays so
 abbrev pub StaysDecided : Type 0
@@ -64,14 +55,21 @@ part_more : (k : Listing) (w w2 : Option (List ℕ)) (fs gs : List Framed) → I
 part_more k w w2 fs gs p a =
     (a.0 ++ lines_of k p.0, (a.1.0, ap (lines_of k) p.1 ∙ lines_join k fs p.0 ∙ ap (λ (l : List ℕ). l ++ lines_of k p.0) a.1.1 ∙ append_assoc a.1.0 a.0 (lines_of k p.0), a.1.2))
 
--- a prefix of the page was written
-pub list_part : (k : Listing) (w w1 w2 : Option (List ℕ)) (page : List ℕ) (v : Scan) (e : Bool) (b : List ℕ) (fs : List Framed) → v.has_ended ≡ e → AppendsPrefix w1 w2 page → Lists (lines_of k) w w1 page v b fs
-    → AppendsPrefix w w2 (lines_of k (known_frames e b))
-list_part k w w1 w2 page v e b fs ended a s =
+-- a frame was handed out, and a prefix of its line was written
+pub list_part : (k : Listing) (w w1 w2 : Option (List ℕ)) (v v2 : Scan) (e : Bool) (b : List ℕ) (fs : List Framed) (f : Framed) → v2.has_ended ≡ e → AppendsPrefix w1 w2 (line_of k f)
+    → StandsFor v2 b (fs ++ f ∷ []) → Lists (lines_of k) w w1 v b fs → AppendsPrefix w w2 (lines_of k (known_frames e b))
+list_part k w w1 w2 v v2 e b fs f ended a stands s =
     let sent = a.1.0 in
-    let part : AppendsPrefix w w2 (lines_of k fs) =
-    (a.0, (s.sent ++ sent, sym s.joined ∙ ap (λ (l : List ℕ). s.sent ++ l) a.1.1 ∙ sym (append_assoc s.sent sent a.0), Appends-trans w w1 w2 s.sent sent s.out a.1.2)) in
-    part_more k w w2 fs (known_frames e b) (subst (λ (x : Bool). IsPrefix fs (known_frames x b)) ended s.framer.first) part
+    let part : AppendsPrefix w w2 (lines_of k (fs ++ f ∷ [])) =
+    (a.0, (lines_of k fs ++ sent, lines_more k fs f ∙ ap (λ (l : List ℕ). lines_of k fs ++ l) a.1.1 ∙ sym (append_assoc (lines_of k fs) sent a.0), Appends-trans w w1 w2 (lines_of k fs) sent s.out a.1.2)) in
+    part_more k w w2 (fs ++ f ∷ []) (known_frames e b) (subst (λ (x : Bool). IsPrefix (fs ++ f ∷ []) (known_frames x b)) ended stands.first) part
+
+-- what was written couldn't be sent on
+pub list_front : (k : Listing) (w w1 w2 : Option (List ℕ)) (v : Scan) (e : Bool) (b : List ℕ) → v.has_ended ≡ e → Keeps w1 w2 → ListsKnown (lines_of k) w w1 v b → AppendsPrefix w w2 (lines_of k (known_frames e b))
+list_front k w w1 w2 v e b ended kept s =
+    let all : List ℕ = lines_of k (known_frames v.has_ended b) in
+    let part : AppendsPrefix w w2 all = ([], (all, sym (append-nil all), Appends-kept w w1 w2 all s.out kept)) in
+    subst (λ (x : Bool). AppendsPrefix w w2 (lines_of k (known_frames x b))) ended part
 
 -- a prefix of the lines that the first n bytes of a piece decide is one of those that the piece decides
 pub piece_part : (k : Listing) (w w2 : Option (List ℕ)) (e : Bool) (b piece : List ℕ) (n : ℕ) → StaysDecided → (e ≡ true → length piece ≡ 0)
@@ -82,15 +80,11 @@ piece_part k w w2 e b piece n law going a =
     let later = known_later e (b ++ take n piece) (drop n piece) law none in
     part_more k w w2 (known_frames e (b ++ take n piece)) (known_frames e (b ++ piece)) (later.0, ap (known_frames e) (sym whole) ∙ later.1) a
 
--- an empty page
-pub list_empty : (k : Listing) (w w1 : Option (List ℕ)) (page : List ℕ) (v : Scan) (b : List ℕ) (fs : List Framed) → page ≡ [] → Lists (lines_of k) w w1 [] v b fs → Lists (lines_of k) w w1 page v b fs
-list_empty k w w1 page v b fs e s = subst (λ (p : List ℕ). Lists (lines_of k) w w1 p v b fs) (sym e) s
-
 -- all that the bytes decide was handed out
-pub list_drained : (k : Listing) (w w1 : Option (List ℕ)) (page : List ℕ) (v v2 : Scan) (b : List ℕ) (fs : List Framed)
-    → StandsFor v2 b fs → IsDrained v2 b fs → Lists (lines_of k) w w1 page v b fs → ListsKnown (lines_of k) w w1 page v2 b
-list_drained k w w1 page v v2 b fs stands drained s =
-    subst (λ (gs : List Framed). Lists (lines_of k) w w1 page v2 b gs) drained.frames (list_same k w w1 page v v2 b b fs stands s)
+pub list_drained : (k : Listing) (w w1 : Option (List ℕ)) (v v2 : Scan) (b : List ℕ) (fs : List Framed)
+    → StandsFor v2 b fs → IsDrained v2 b fs → Lists (lines_of k) w w1 v b fs → ListsKnown (lines_of k) w w1 v2 b
+list_drained k w w1 v v2 b fs stands drained s =
+    subst (λ (gs : List Framed). Lists (lines_of k) w w1 v2 b gs) drained.frames (list_same k w w1 v v2 b b fs stands s)
 
 pub take_block : (b piece : List ℕ) (n m : ℕ) → (b ++ take n piece) ++ slice_range piece n (n + m) ≡ b ++ take (n + m) piece
 take_block b piece n m =
@@ -98,8 +92,8 @@ take_block b piece n m =
     append_assoc b (take n piece) (slice_range piece n (n + m)) ∙ ap (λ (q : ℕ). b ++ (take n piece ++ take q (drop n piece))) size ∙ ap (λ (l : List ℕ). b ++ l) (sym (take-add n m piece))
 
 -- the lines of all that is known were written
-pub known_out : (k : Listing) (w w1 : Option (List ℕ)) (v : Scan) (b : List ℕ) → ListsKnown (lines_of k) w w1 [] v b → Appends w w1 (lines_of k (known_frames v.has_ended b))
-known_out k w w1 v b s = subst (λ (l : List ℕ). Appends w w1 l) (sym (append-nil s.sent) ∙ s.joined) s.out
+pub known_out : (k : Listing) (w w1 : Option (List ℕ)) (v : Scan) (b : List ℕ) → ListsKnown (lines_of k) w w1 v b → Appends w w1 (lines_of k (known_frames v.has_ended b))
+known_out k w w1 v b s = s.out
 
 pub all_taken : (v : Scan) (piece : List ℕ) → IsRefusal v (length piece) None → up_to_limit v piece ≡ piece
 all_taken v piece (inl h) = take_all (v.limit - v.taken) piece (omega (arith, h.1))
@@ -123,18 +117,18 @@ take_behind (x ∷ b) piece m =
 
 -- a piece was read and taken whole
 pub listed_more : (k : Listing) (r r1 r2 w w1 w2 : Option (List ℕ)) (v u v2 : Scan) (piece : List ℕ) → ((b : List ℕ) (fs : List Framed) → StandsFor v b fs → StandsFor u b fs)
-    → ((w : Option (List ℕ)) (b : List ℕ) (fs : List Framed) → Lists (lines_of k) w w1 [] u b fs → ListsKnown (lines_of k) w w2 [] v2 (b ++ up_to_limit u piece))
+    → ((w : Option (List ℕ)) (b : List ℕ) (fs : List Framed) → Lists (lines_of k) w w1 u b fs → ListsKnown (lines_of k) w w2 v2 (b ++ up_to_limit u piece))
     → IsRefusal u (length piece) None → Consumes r1 r2 piece → IsListed (lines_of k) r r1 w w1 v → IsListed (lines_of k) r r2 w w2 v2
 listed_more k r r1 r2 w w1 w2 v u v2 piece same law none read s =
     let b : List ℕ = s.0 in
     let fs : List Framed = known_frames v.has_ended b in
-    let done = law w b fs (list_same k w w1 [] v u b b fs (same b fs s.2.framer) s.2) in
-    let whole : ListsKnown (lines_of k) w w2 [] v2 (b ++ piece) = subst (λ (l : List ℕ). ListsKnown (lines_of k) w w2 [] v2 (b ++ l)) (all_taken u piece none) done in
+    let done = law w b fs (list_same k w w1 v u b b fs (same b fs s.2.framer) s.2) in
+    let whole : ListsKnown (lines_of k) w w2 v2 (b ++ piece) = subst (λ (l : List ℕ). ListsKnown (lines_of k) w w2 v2 (b ++ l)) (all_taken u piece none) done in
     (b ++ piece, Consumes-trans r r1 r2 b piece s.1 read, whole)
 
 -- a piece was read that goes over the limit
 to_limit : (k : Listing) (r r1 r2 w w1 w2 : Option (List ℕ)) (v v2 : Scan) (piece : List ℕ) (fault : ScanFault)
-    → ((w : Option (List ℕ)) (b : List ℕ) (fs : List Framed) → Lists (lines_of k) w w1 [] v b fs → ListsKnown (lines_of k) w w2 [] v2 (b ++ up_to_limit v piece))
+    → ((w : Option (List ℕ)) (b : List ℕ) (fs : List Framed) → Lists (lines_of k) w w1 v b fs → ListsKnown (lines_of k) w w2 v2 (b ++ up_to_limit v piece))
     → v2.has_ended ≡ false → v.taken ≤ v.limit → IsRefusal v (length piece) (Some fault) → Consumes r1 r2 piece → IsListed (lines_of k) r r1 w w1 v → ListsToLimit v.limit (lines_of k) r r2 w w2
 to_limit k r r1 r2 w w1 w2 v v2 piece fault law going within refused read s =
     let b : List ℕ = s.0 in
@@ -149,22 +143,22 @@ to_limit k r r1 r2 w w1 w2 v v2 piece fault law going within refused read s =
     (b ++ piece, Consumes-trans r r1 r2 b piece s.1 read, omega (arith, size, more, taken), subst (λ (gs : List Framed). Appends w w2 (lines_of k gs)) known out)
 
 pub listed_to_limit : (k : Listing) (r r1 r2 w w1 w2 : Option (List ℕ)) (u v v2 : Scan) (piece : List ℕ) (fault : ScanFault) → v ≡ u
-    → ((w : Option (List ℕ)) (b : List ℕ) (fs : List Framed) → Lists (lines_of k) w w1 [] v b fs → ListsKnown (lines_of k) w w2 [] v2 (b ++ up_to_limit v piece))
+    → ((w : Option (List ℕ)) (b : List ℕ) (fs : List Framed) → Lists (lines_of k) w w1 v b fs → ListsKnown (lines_of k) w w2 v2 (b ++ up_to_limit v piece))
     → v2.has_ended ≡ false → u.taken ≤ u.limit → IsRefusal v (length piece) (Some fault) → Consumes r1 r2 piece → IsListed (lines_of k) r r1 w w1 u → ListsToLimit u.limit (lines_of k) r r2 w w2
 listed_to_limit k r r1 r2 w w1 w2 u v v2 piece fault same law going within refused read s =
-    let law2 : (w : Option (List ℕ)) (b : List ℕ) (fs : List Framed) → Lists (lines_of k) w w1 [] u b fs → ListsKnown (lines_of k) w w2 [] v2 (b ++ up_to_limit u piece) =
-    subst (λ (x : Scan). (w : Option (List ℕ)) (b : List ℕ) (fs : List Framed) → Lists (lines_of k) w w1 [] x b fs → ListsKnown (lines_of k) w w2 [] v2 (b ++ up_to_limit x piece)) same law in
+    let law2 : (w : Option (List ℕ)) (b : List ℕ) (fs : List Framed) → Lists (lines_of k) w w1 u b fs → ListsKnown (lines_of k) w w2 v2 (b ++ up_to_limit u piece) =
+    subst (λ (x : Scan). (w : Option (List ℕ)) (b : List ℕ) (fs : List Framed) → Lists (lines_of k) w w1 x b fs → ListsKnown (lines_of k) w w2 v2 (b ++ up_to_limit x piece)) same law in
     let refused2 : IsRefusal u (length piece) (Some fault) = subst (λ (x : Scan). IsRefusal x (length piece) (Some fault)) same refused in
     to_limit k r r1 r2 w w1 w2 u v2 piece fault law2 going within refused2 read s
 
 -- the writer failed in a piece, before the end or at it
 pub listed_part : (k : Listing) (r r1 r2 w w1 w2 : Option (List ℕ)) (v u : Scan) (piece : List ℕ) → ((b : List ℕ) (fs : List Framed) → StandsFor v b fs → StandsFor u b fs)
-    → ((w : Option (List ℕ)) (b : List ℕ) (fs : List Framed) → Lists (lines_of k) w w1 [] u b fs → AppendsPrefix w w2 (lines_of k (known_frames u.has_ended (b ++ piece))))
+    → ((w : Option (List ℕ)) (b : List ℕ) (fs : List Framed) → Lists (lines_of k) w w1 u b fs → AppendsPrefix w w2 (lines_of k (known_frames u.has_ended (b ++ piece))))
     → (u.has_ended ≡ false) ⊎ ((u.has_ended ≡ true) × IsAtEnd r2) → Consumes r1 r2 piece → IsListed (lines_of k) r r1 w w1 v → ListsPart (lines_of k) r r2 w w2
 listed_part k r r1 r2 w w1 w2 v u piece same law ended read s =
     let b : List ℕ = s.0 in
     let fs : List Framed = known_frames v.has_ended b in
-    let part : AppendsPrefix w w2 (lines_of k (known_frames u.has_ended (b ++ piece))) = law w b fs (list_same k w w1 [] v u b b fs (same b fs s.2.framer) s.2) in
+    let part : AppendsPrefix w w2 (lines_of k (known_frames u.has_ended (b ++ piece))) = law w b fs (list_same k w w1 v u b b fs (same b fs s.2.framer) s.2) in
     (b ++ piece, Consumes-trans r r1 r2 b piece s.1 read, known_part k w w2 r2 u.has_ended (b ++ piece) ended part)
   where
     known_part : (k : Listing) (w w2 r2 : Option (List ℕ)) (e : Bool) (b : List ℕ) → (e ≡ false) ⊎ ((e ≡ true) × IsAtEnd r2) → AppendsPrefix w w2 (lines_of k (known_frames e b))
@@ -182,13 +176,13 @@ on_err (Ok x) P Q f p = p
 on_err (Err e) P Q f p = f p
 
 -- the framer took the next m bytes of a piece
-pub list_pushed : (k : Listing) (w w1 : Option (List ℕ)) (page : List ℕ) (v v2 : Scan) (b piece : List ℕ) (n m : ℕ)
-    → ((a : List ℕ) (fs : List Framed) → StandsFor v a fs → StandsFor v2 (a ++ slice_range piece n (n + m)) fs) → ListsKnown (lines_of k) w w1 page v (b ++ take n piece)
-    → Lists (lines_of k) w w1 page v2 (b ++ take (n + m) piece) (known_frames v.has_ended (b ++ take n piece))
-list_pushed k w w1 page v v2 b piece n m push s =
+pub list_pushed : (k : Listing) (w w1 : Option (List ℕ)) (v v2 : Scan) (b piece : List ℕ) (n m : ℕ)
+    → ((a : List ℕ) (fs : List Framed) → StandsFor v a fs → StandsFor v2 (a ++ slice_range piece n (n + m)) fs) → ListsKnown (lines_of k) w w1 v (b ++ take n piece)
+    → Lists (lines_of k) w w1 v2 (b ++ take (n + m) piece) (known_frames v.has_ended (b ++ take n piece))
+list_pushed k w w1 v v2 b piece n m push s =
     let fs : List Framed = known_frames v.has_ended (b ++ take n piece) in
     let stands : StandsFor v2 (b ++ take (n + m) piece) fs = subst (λ (l : List ℕ). StandsFor v2 l fs) (take_block b piece n m) (push (b ++ take n piece) fs s.framer) in
-    list_same k w w1 page v v2 (b ++ take n piece) (b ++ take (n + m) piece) fs stands s
+    list_same k w w1 v v2 (b ++ take n piece) (b ++ take (n + m) piece) fs stands s
 
 -- all was read
 pub listed_all : (k : Listing) (r r1 w w1 : Option (List ℕ)) (v : Scan) → v.has_ended ≡ true → IsAtEnd r1 → IsListed (lines_of k) r r1 w w1 v → ListsAll (lines_of k) r r1 w w1

@@ -5,7 +5,6 @@ pub mod ShowLines
 pub mod Kinds
 pub mod Listing
 pub mod Listed
-pub mod Paging
 pub mod Converting
 pub mod ReadBack
 pub mod Checking

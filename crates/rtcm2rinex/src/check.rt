@@ -1,6 +1,7 @@
 //! The command `check`: whether the input is a file as `convert` writes it, and how much it holds.
-ghost use Rattle.std.specs.Prelude.{◌≡◌, ◌≤◌, Err, OnOk, IfErr, IfSome, length};
-ghost use Rattle.rtcm_bits.specs.Device.{HasFailed};
+ghost use Rattle.std.specs.Prelude.{◌≡◌, ◌≤◌, Err, OnOk, OnErr, IfErr, IfSome, length};
+ghost use Rattle.std.specs.Io.KnownBytes.{Appends};
+ghost use Rattle.rtcm_bits.specs.Device.{HasFailed, AppendsPrefix};
 ghost use Rattle.rinex_file.specs.declared.read_fault.ReadFault.{ReadFault};
 ghost use Rattle.rinex_file.specs.Value.{FileValue};
 ghost use Rattle.rinex_file.specs.FileValues.{IsFileValue};
@@ -11,7 +12,7 @@ ghost use Rattle.rtcm2rinex.specs.Checking.{check_line, ChecksFile, ChecksPart, 
 use crate::fault::ToolFault;
 use crate::line::Line;
 use rinex_file::{ObsFile, ReadFault, read_file};
-use rtcm_bits::Counted;
+use rtcm_bits::{Counted, DeviceFailed};
 use std::alloc::Global;
 use std::io::{Read, Write};
 
@@ -55,8 +56,18 @@ pub fn run_check<R: Read, W: Write>(
         Err(fault) => return Err(ToolFault::Check(fault)),
     };
     let line = check_line(&file);
-    match writer.write_whole(line.as_bytes()) {
+    match write_line(&line, writer) {
         Ok(()) => Ok(()),
         Err(_) => Err(ToolFault::Write),
     }
+}
+
+/// Writes a line, and sends it on.
+fn write_line<W: Write>(line: &Line, writer: &mut Counted<W>) -> Result<(), DeviceFailed>
+    ensures whole { OnOk result (Appends (W.contents writer.old.inner) (W.contents writer.new.inner) line.now) }
+    ensures part { OnErr result (AppendsPrefix (W.contents writer.old.inner) (W.contents writer.new.inner) line.now) }
+    ensures failed { OnErr result (HasFailed writer.old.failures writer.new.failures) }
+{
+    writer.write_whole(line.as_bytes())?;
+    writer.flush_whole()
 }

@@ -3,9 +3,8 @@ ghost use Rattle.std.specs.Prelude.{◌≡◌, ◌⊎◌, ◌≤◌};
 ghost use Rattle.rtcm2rinex.specs.FrameLines.{frame_lines};
 ghost use Rattle.rtcm2rinex.specs.ShowLines.{show_lines};
 ghost use Rattle.rtcm2rinex.specs.Listing.{ListsAll};
-ghost use Rattle.rtcm2rinex.specs.Converting.{IsWhole};
+ghost use Rattle.rtcm2rinex.specs.Converting.{IsConverted};
 ghost use Rattle.rtcm2rinex.specs.Checking.{ChecksFile};
-ghost use Rattle.rtcm_convert.specs.Converted.{Settings};
 
 use crate::check::run_check;
 use crate::cli::program;
@@ -31,11 +30,11 @@ pub fn command<R: Read, W: Write, E: Write>(
 ) -> u8
     ensures status { result ≤ 2 }
 
-    // Good is only a stream that was read to its end and listed, or whose file was written, or a file that was read back.
+    // Good is only a stream that was read to its end and listed, or whose file was written and has an epoch, or a file that was read back.
     ensures good { result ≡ 0 →
         ListsAll frame_lines (R.remaining reader.old.inner) (R.remaining reader.new.inner) (W.contents writer.old.inner) (W.contents writer.new.inner)
         ⊎ ListsAll show_lines (R.remaining reader.old.inner) (R.remaining reader.new.inner) (W.contents writer.old.inner) (W.contents writer.new.inner)
-        ⊎ ((s : Settings) × IsWhole s (R.remaining reader.old.inner) (W.contents writer.old.inner) (W.contents writer.new.inner))
+        ⊎ IsConverted (R.remaining reader.old.inner) (W.contents writer.old.inner) (W.contents writer.new.inner)
         ⊎ ChecksFile (R.remaining reader.old.inner) (W.contents writer.old.inner) (W.contents writer.new.inner) }
 
     // Of a command line that isn't accepted nothing comes but its text.
@@ -100,7 +99,7 @@ fn convert<R: Read, W: Write, E: Write>(
     faults: &mut E,
 ) -> u8
     ensures status { result ≤ 1 }
-    ensures good { result ≡ 0 → (s : Settings) × IsWhole s (R.remaining reader.old.inner) (W.contents writer.old.inner) (W.contents writer.new.inner) }
+    ensures good { result ≡ 0 → IsConverted (R.remaining reader.old.inner) (W.contents writer.old.inner) (W.contents writer.new.inner) }
 {
     let setup = match setup_of(alloc, options) {
         Ok(setup) => setup,

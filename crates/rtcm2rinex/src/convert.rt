@@ -2,13 +2,14 @@
 ghost use Rattle.std.specs.Prelude.{◌≡◌, ◌≢◌, ◌<◌, ◌≤◌, ◌⊎◌, ◌↔◌, List, ℕ, Err, OnOk, IfOk, IfErr, IfSome, max, length, take};
 ghost use Rattle.std.specs.Io.KnownBytes.{Appends, Consumes};
 ghost use Rattle.rtcm_bits.specs.Device.{HasFailed};
-ghost use Rattle.rtcm_scan.specs.Frames.{frames_of};
 ghost use Rattle.rtcm_scan.specs.Decided.{decided_frames};
-ghost use Rattle.rtcm_convert.specs.Converted.{so_far, file, epochs_in};
+ghost use Rattle.rtcm_convert.specs.Converted.{so_far};
 ghost use Rattle.rtcm_convert.specs.Broken.{Broke, BrokeAtEnd};
+ghost use Rattle.rtcm_convert.specs.Made.{IsMade, IsMadeEmpty};
 ghost use Rattle.rtcm_convert.specs.Outcomes.{report_of};
 ghost use Rattle.rtcm_convert.specs.Told.{settings, IsBad};
-ghost use Rattle.rtcm2rinex.specs.Converting.{IsConvertFault, IsWhole};
+ghost use Rattle.rtcm2rinex.specs.Converting.{IsConvertFault};
+ghost use Rattle.rtcm2rinex.specs.Listing.{IsUntouched};
 
 use crate::fault::ToolFault;
 use rtcm_bits::Counted;
@@ -17,19 +18,19 @@ use std::alloc::Global;
 use std::io::{Read, Write};
 
 /// Makes the observation file of a stream that is read to its end: for every stream, however the reader cuts it, and every
-/// starting week and plan, the file written is exactly the one defined from the stream's valid frames in order.
+/// starting week and plan, the file written is exactly the one defined from the stream's valid frames in order. It has an epoch;
+/// where there is none, the answer is `NoEpoch`.
 pub fn run_convert<R: Read, W: Write>(
     alloc: Global,
     setup: Setup,
     reader: &mut Counted<R>,
     writer: &mut Counted<W>,
 ) -> Result<Report, ToolFault>
-    ensures file { OnOk result (IsWhole (settings setup) (R.remaining reader.old.inner) (W.contents writer.old.inner) (W.contents writer.new.inner)) }
+    ensures file { OnOk result (IfSome (R.remaining reader.old.inner) (IsMade setup (W.contents writer.old.inner) (W.contents writer.new.inner))) }
     ensures report { IfOk result (λ report. IfSome (R.remaining reader.old.inner) (λ b. report ≡ report_of (settings setup) b)) }
 
     // No epoch stands in that file, and it is empty.
-    ensures no_epoch { result ≡ Err (ToolFault.Convert Fault.NoEpoch) → IfSome (R.remaining reader.old.inner) (λ b.
-        (epochs_in (settings setup) (frames_of b) ≡ 0) × Appends (W.contents writer.old.inner) (W.contents writer.new.inner) (file (settings setup) (frames_of b))) }
+    ensures no_epoch { result ≡ Err (ToolFault.Convert Fault.NoEpoch) → IfSome (R.remaining reader.old.inner) (IsMadeEmpty setup (W.contents writer.old.inner) (W.contents writer.new.inner)) }
 
     // The bytes up to the limit were taken, and what went out is the file of the epochs that they close.
     ensures too_long { result ≡ Err (ToolFault.Convert Fault.TooLong) → IfSome (R.remaining reader.old.inner) (λ b. setup.limit < length b) }
@@ -47,6 +48,7 @@ pub fn run_convert<R: Read, W: Write>(
         ⊎ BrokeAtEnd (R.remaining reader.old.inner) (R.remaining reader.new.inner) (W.contents writer.old.inner) (W.contents writer.new.inner) (settings setup) }
     ensures write_failed { result ≡ Err ToolFault.Write → HasFailed writer.old.failures writer.new.failures }
     ensures bad_setup { result ≡ Err (ToolFault.Convert Fault.BadSetup) ↔ IsBad setup }
+    ensures untouched { (result ≡ Err (ToolFault.Convert Fault.BadSetup)) ⊎ (result ≡ Err (ToolFault.Convert Fault.Memory)) → IsUntouched reader.old reader.new writer.old writer.new }
     ensures only { IfErr result IsConvertFault }
     ensures widest { reader.new.widest ≤ max reader.old.widest 1029 }
 {

@@ -10,14 +10,12 @@ ghost use Rattle.std.specs.Io.KnownBytes.{Appends, IsAtEnd};
 ghost use Rattle.rtcm_scan.specs.Answers.{framed};
 ghost use Rattle.rtcm2rinex.specs.FrameLines.{frame_lines};
 ghost use Rattle.rtcm2rinex.specs.ShowLines.{show_lines};
-ghost use Rattle.rtcm2rinex.specs.Paging.{Moves};
 ghost use Rattle.rtcm2rinex.specs.Listing.{ListsAll, ListsDecided, ListsToLimit, ListsPart, IsListFault, IsUntouched};
 ghost use Rattle.rtcm2rinex.specs.Listed.{Lists, ListsKnown, IsListed, IsRefusal, up_to_limit};
 ghost use Rattle.rtcm2rinex.specs.Kinds.{line_of, lines_of};
 
 use crate::fault::ToolFault;
 use crate::frames::frame_line;
-use crate::page::Page;
 use crate::show::message_line;
 use arrayvec::ArrayVec;
 use rtcm_bits::{Counted, DeviceFailed};
@@ -182,8 +180,8 @@ fn list_next<R: Read, W: Write>(
     }
 }
 
-/// Takes a piece of the stream up to the framer's limit, and writes the lines of the frames that it decides. Answers why
-/// the framer refused a byte, if it did.
+/// Takes a piece of the stream up to the framer's limit, writes the lines of the frames that it decides, and sends them on, so
+/// that none waits for the next piece. Answers why the framer refused a byte, if it did.
 fn list_piece<W: Write>(
     listing: Listing,
     framer: &mut Framer,
@@ -192,9 +190,9 @@ fn list_piece<W: Write>(
 ) -> Result<Option<ScanFault>, DeviceFailed>
     requires going { framer.old.has_ended ≡ true → length piece.now ≡ 0 }
     requires within { framer.old.taken ≤ framer.old.limit }
-    ensures listed { OnOk result ((w : Option (List ℕ)) (b : List ℕ) (fs : List Framed) → Lists (lines_of listing) w (W.contents writer.old.inner) [] framer.old b fs
-        → ListsKnown (lines_of listing) w (W.contents writer.new.inner) [] framer.new (b ++ up_to_limit framer.old piece.now)) }
-    ensures part { OnErr result ((w : Option (List ℕ)) (b : List ℕ) (fs : List Framed) → Lists (lines_of listing) w (W.contents writer.old.inner) [] framer.old b fs
+    ensures listed { OnOk result ((w : Option (List ℕ)) (b : List ℕ) (fs : List Framed) → Lists (lines_of listing) w (W.contents writer.old.inner) framer.old b fs
+        → ListsKnown (lines_of listing) w (W.contents writer.new.inner) framer.new (b ++ up_to_limit framer.old piece.now)) }
+    ensures part { OnErr result ((w : Option (List ℕ)) (b : List ℕ) (fs : List Framed) → Lists (lines_of listing) w (W.contents writer.old.inner) framer.old b fs
         → AppendsPrefix w (W.contents writer.new.inner) (lines_of listing (known_frames framer.old.has_ended (b ++ piece.now)))) }
     ensures failed { OnErr result (HasFailed writer.old.failures writer.new.failures) }
     ensures fine { OnOk result (writer.new.failures ≡ writer.old.failures) }
@@ -203,32 +201,30 @@ fn list_piece<W: Write>(
     ensures limit { framer.new.limit ≡ framer.old.limit }
     ensures ended { framer.new.has_ended ≡ framer.old.has_ended }
 {
-    let mut page = Page::new();
-    let refusal = match take_piece(listing, framer, piece, &mut page, writer) {
+    let refusal = match take_piece(listing, framer, piece, writer) {
         Ok(refusal) => refusal,
         Err(failed) => return Err(failed),
     };
     laws::prefix();
-    match page.write_out(writer) {
+    match writer.flush_whole() {
         Ok(()) => Ok(refusal),
         Err(failed) => Err(failed),
     }
 }
 
-/// Takes a piece of the stream up to the framer's limit, and puts the lines of the frames that it decides on the page.
-/// Answers why the framer refused a byte, if it did.
+/// Takes a piece of the stream up to the framer's limit, and writes the lines of the frames that it decides. Answers why
+/// the framer refused a byte, if it did.
 fn take_piece<W: Write>(
     listing: Listing,
     framer: &mut Framer,
     piece: &[u8],
-    page: &mut Page,
     writer: &mut Counted<W>,
 ) -> Result<Option<ScanFault>, DeviceFailed>
     requires going { framer.old.has_ended ≡ true → length piece.now ≡ 0 }
     requires within { framer.old.taken ≤ framer.old.limit }
-    ensures listed { OnOk result ((w : Option (List ℕ)) (b : List ℕ) (fs : List Framed) → Lists (lines_of listing) w (W.contents writer.old.inner) page.old framer.old b fs
-        → ListsKnown (lines_of listing) w (W.contents writer.new.inner) page.new framer.new (b ++ up_to_limit framer.old piece.now)) }
-    ensures part { OnErr result ((w : Option (List ℕ)) (b : List ℕ) (fs : List Framed) → Lists (lines_of listing) w (W.contents writer.old.inner) page.old framer.old b fs
+    ensures listed { OnOk result ((w : Option (List ℕ)) (b : List ℕ) (fs : List Framed) → Lists (lines_of listing) w (W.contents writer.old.inner) framer.old b fs
+        → ListsKnown (lines_of listing) w (W.contents writer.new.inner) framer.new (b ++ up_to_limit framer.old piece.now)) }
+    ensures part { OnErr result ((w : Option (List ℕ)) (b : List ℕ) (fs : List Framed) → Lists (lines_of listing) w (W.contents writer.old.inner) framer.old b fs
         → AppendsPrefix w (W.contents writer.new.inner) (lines_of listing (known_frames framer.old.has_ended (b ++ piece.now)))) }
     ensures failed { OnErr result (HasFailed writer.old.failures writer.new.failures) }
     ensures fine { OnOk result (writer.new.failures ≡ writer.old.failures) }
@@ -238,7 +234,7 @@ fn take_piece<W: Write>(
     ensures ended { framer.new.has_ended ≡ framer.old.has_ended }
 {
     laws::prefix();
-    if let Err(failed) = list_decided(listing, framer, page, writer) {
+    if let Err(failed) = list_decided(listing, framer, writer) {
         return Err(failed);
     }
     let mut taken = 0;
@@ -250,7 +246,7 @@ fn take_piece<W: Write>(
         if let Err(fault) = framer.push_all(&piece[taken..next]) {
             return Ok(Some(fault));
         }
-        if let Err(failed) = list_decided(listing, framer, page, writer) {
+        if let Err(failed) = list_decided(listing, framer, writer) {
             return Err(failed);
         }
         taken = next;
@@ -258,16 +254,15 @@ fn take_piece<W: Write>(
     Ok(None)
 }
 
-/// Puts the lines of the frames that are decided on the page, one after the other.
+/// Writes the lines of the frames that are decided, one after the other.
 fn list_decided<W: Write>(
     listing: Listing,
     framer: &mut Framer,
-    page: &mut Page,
     writer: &mut Counted<W>,
 ) -> Result<(), DeviceFailed>
-    ensures listed { OnOk result ((w : Option (List ℕ)) (b : List ℕ) (fs : List Framed) → Lists (lines_of listing) w (W.contents writer.old.inner) page.old framer.old b fs
-        → ListsKnown (lines_of listing) w (W.contents writer.new.inner) page.new framer.new b) }
-    ensures part { OnErr result ((w : Option (List ℕ)) (b : List ℕ) (fs : List Framed) → Lists (lines_of listing) w (W.contents writer.old.inner) page.old framer.old b fs
+    ensures listed { OnOk result ((w : Option (List ℕ)) (b : List ℕ) (fs : List Framed) → Lists (lines_of listing) w (W.contents writer.old.inner) framer.old b fs
+        → ListsKnown (lines_of listing) w (W.contents writer.new.inner) framer.new b) }
+    ensures part { OnErr result ((w : Option (List ℕ)) (b : List ℕ) (fs : List Framed) → Lists (lines_of listing) w (W.contents writer.old.inner) framer.old b fs
         → AppendsPrefix w (W.contents writer.new.inner) (lines_of listing (known_frames framer.old.has_ended b))) }
     ensures failed { OnErr result (HasFailed writer.old.failures writer.new.failures) }
     ensures fine { OnOk result (writer.new.failures ≡ writer.old.failures) }
@@ -282,7 +277,7 @@ fn list_decided<W: Write>(
     };
     while let Some(offset) = framer.next_into(&mut frame.message) {
         frame.offset = offset;
-        match add_line(listing, &frame, page, writer) {
+        match write_line(listing, &frame, writer) {
             Ok(()) => {}
             Err(failed) => return Err(failed),
         }
@@ -290,22 +285,21 @@ fn list_decided<W: Write>(
     Ok(())
 }
 
-/// Puts the line of a frame on the page, where it has one.
-fn add_line<W: Write>(
+/// Writes the line of a frame, where it has one.
+fn write_line<W: Write>(
     listing: Listing,
     frame: &Frame,
-    page: &mut Page,
     writer: &mut Counted<W>,
 ) -> Result<(), DeviceFailed>
-    ensures moves { OnOk result (Moves (W.contents writer.old.inner) (W.contents writer.new.inner) page.old (line_of listing (framed frame.now)) page.new) }
-    ensures part { OnErr result (AppendsPrefix (W.contents writer.old.inner) (W.contents writer.new.inner) page.old) }
+    ensures whole { OnOk result (Appends (W.contents writer.old.inner) (W.contents writer.new.inner) (line_of listing (framed frame.now))) }
+    ensures part { OnErr result (AppendsPrefix (W.contents writer.old.inner) (W.contents writer.new.inner) (line_of listing (framed frame.now))) }
     ensures failed { OnErr result (HasFailed writer.old.failures writer.new.failures) }
     ensures fine { OnOk result (writer.new.failures ≡ writer.old.failures) }
 {
     match listing {
-        Listing::Frames => page.add(&frame_line(frame), writer),
+        Listing::Frames => writer.write_whole(frame_line(frame).as_bytes()),
         Listing::Messages => match message_line(frame) {
-            Some(line) => page.add(&line, writer),
+            Some(line) => writer.write_whole(line.as_bytes()),
             None => Ok(()),
         },
     }

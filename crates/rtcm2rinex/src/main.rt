@@ -12,7 +12,6 @@ pub mod laws;
 mod line;
 mod listing;
 mod options;
-mod page;
 mod show;
 #[cfg(test)]
 mod tests;
@@ -21,11 +20,14 @@ use crate::command::{command, refuse_words};
 use rtcm_bits::Counted;
 use std::alloc::Global;
 use std::io;
-use std::io::BufReader;
+use std::io::{BufReader, BufWriter};
 use std::process::ExitCode;
 
 /// So many bytes of standard input are asked for at a time: what a pipe holds.
 const INPUT_BYTES: usize = 65_536;
+
+/// So many bytes wait at most for standard output: what a pipe holds. The commands send on what waits before they ask for more.
+const OUTPUT_BYTES: usize = 65_536;
 
 fn main(rt: HostRuntime) -> ExitCode {
     let status = match run(&rt) {
@@ -43,10 +45,11 @@ fn run(rt: &HostRuntime) -> io::Result<u8> {
     for word in &owned {
         words.push(word.as_str())?;
     }
-    // A file is read line by line and a stream in small pieces: neither should ask the system for each.
+    // A file is read line by line and a stream in small pieces, and lines are written one by one: none should ask the system for each.
     let input = BufReader::with_capacity(alloc, INPUT_BYTES, rt.stdin())?;
     let mut reader = Counted::new(input);
-    let mut writer = Counted::new(rt.stdout());
+    let output = BufWriter::with_capacity(alloc, OUTPUT_BYTES, rt.stdout())?;
+    let mut writer = Counted::new(output);
     Ok(command(
         alloc,
         words.as_slice(),

@@ -1,5 +1,5 @@
 -- Each frame is counted once.
-use Rattle.std.proofs.Common.{◌≡◌, ℕ, ◌+◌, ◌*◌, ◌≤◌, ◌^◌, List, [], ◌∷◌, ◌++◌, Bool, true, false, refl, sym, ap, ◌∙◌, arith, length, suc, Option, Some, None}
+use Rattle.std.proofs.Common.{◌≡◌, ℕ, ◌+◌, List, [], ◌∷◌, ◌++◌, Bool, false, refl, ◌∙◌, arith, length, suc, Option, Some, None}
 use Rattle.std.specs.Prelude.{sum_by, option_map}
 use Rattle.std.proofs.lemmas.List.Sums.{sum_by-cons}
 use Rattle.rtcm_scan.specs.Frames.{Framed, frames_of}
@@ -8,7 +8,8 @@ use Rattle.obs_epoch.specs.declared.taken.Kind.TheVariants as kind
 use Rattle.obs_epoch.specs.Heard.{Setup, Heard}
 use Rattle.obs_epoch.specs.Kinds.{is_close_first, kind_of}
 use Rattle.rtcm_convert.specs.Converted.{Settings, messages_of, heard_in}
-use Rattle.rtcm_convert.specs.Outcomes.{outcome, outcomes, outcomes_after, capped, tally_of_one, report_of}
+use Rattle.rtcm_convert.specs.Outcomes.{outcomes, outcomes_after, tally_of_one, report_of}
+use Rattle.rtcm_convert.proofs.ExactLemmas.{outcomes_length}
 use Rattle.rtcm_convert.specs.Laws.{IsCountedOnce}
 use Rattle.rtcm_convert.specs.declared.tally.Tally.{Tally}
 
@@ -31,10 +32,6 @@ heard_done kinds s ms (Some m) = kinds s ms m
 outcomes_done : Kinds → (s : Settings) (before fs : List Framed) → AreDone (outcomes_after s before fs)
 outcomes_done kinds s before [] = tt
 outcomes_done kinds s before (f ∷ fs) = (heard_done kinds s.gather (messages_of before) (heard_in f), outcomes_done kinds s (before ++ f ∷ []) fs)
-
-outcomes_length : (s : Settings) (before fs : List Framed) → length (outcomes_after s before fs) ≡ length fs
-outcomes_length s before [] = refl
-outcomes_length s before (f ∷ fs) = ap (λ n. suc n) (outcomes_length s (before ++ f ∷ []) fs)
 
 -- what a frame adds to the seven kinds
 abbrev seven : Tally → ℕ
@@ -84,19 +81,8 @@ sum_frames : (os : List (Option Kind)) → sum (λ t. t.frames) os ≡ length os
 sum_frames [] = refl
 sum_frames (o ∷ os) = one_more _ _ _ (length os) (sum-cons (λ t. t.frames) o os) (one_frame o) (sum_frames os)
 
--- below the cap, a count is as it is
-uncapped_one : (a n most : ℕ) → 6 * n ≤ most → most ≤ 2 ^ 48 → a ≡ n → capped a ≡ n
-uncapped_one a n most few small is = omega arith
-
-uncapped : (a b c d e f g n most : ℕ) → 6 * n ≤ most → most ≤ 2 ^ 48 → a + (b + (c + (d + (e + (f + g))))) ≡ n
-    → capped a + (capped b + (capped c + (capped d + (capped e + (capped f + capped g))))) ≡ n
-uncapped a b c d e f g n most few small is = omega arith
-
-pub counted_once : Kinds → ((b : List ℕ) → 6 * length (frames_of b) ≤ length b) → (s : Settings) (b : List ℕ) → length b ≤ 2 ^ 48 → IsCountedOnce (report_of s b) (length (frames_of b))
-counted_once kinds few s b small =
+pub counted_once : Kinds → (s : Settings) (b : List ℕ) → IsCountedOnce (report_of s b) (length (frames_of b))
+counted_once kinds s b =
     let os = outcomes s (frames_of b) in
     let n : length os ≡ length (frames_of b) = outcomes_length s [] (frames_of b) in
-    record {
-      all = uncapped_one _ (length (frames_of b)) (length b) (few b) small (sum_frames os ∙ n);
-      once = uncapped _ _ _ _ _ _ _ (length (frames_of b)) (length b) (few b) small (all_once os (outcomes_done kinds s [] (frames_of b)) ∙ n);
-    }
+    record { all = sum_frames os ∙ n; once = all_once os (outcomes_done kinds s [] (frames_of b)) ∙ n }

@@ -1,5 +1,5 @@
 -- The end of a stream.
-use Rattle.std.proofs.Common.{◌≡◌, ℕ, List, [], ◌++◌, Bool, true, false, sym, ap, subst, ◌∙◌, Option, append-nil, Result, Ok, Err, OnOk}
+use Rattle.std.proofs.Common.{◌≡◌, ℕ, List, [], ◌++◌, true, false, sym, ap, subst, ◌∙◌, Option, append-nil, Result, Ok, Err, OnOk, arith, length, ◌*◌, ◌≤◌, ◌^◌}
 use Rattle.rtcm_scan.specs.Frames.{Framed, frames_of}
 use Rattle.rtcm_scan.specs.Decided.{decided_frames}
 use Rattle.rtcm_scan.specs.Known.{IsPrefix, known_frames}
@@ -10,11 +10,12 @@ use Rattle.rtcm_convert.specs.Converted.{Settings, so_far, file, epochs_in}
 use Rattle.rtcm_convert.specs.Outcomes.{outcomes, tally_of, capped}
 use Rattle.rtcm_convert.specs.declared.tally.Tally.{Tally}
 use Rattle.rtcm_convert.specs.Fed.{GoesOn, BreaksOff}
-use Rattle.rtcm_convert.specs.Filed.{Files}
+use Rattle.rtcm_convert.specs.Filed.{Files, HasGathered}
 use Rattle.rtcm_convert.specs.Laws.{FiledStays, FiledGrows, WrittenStays, WrittenGrows}
-use Rattle.rtcm_convert.specs.Stream.{Drained, Completes, BreaksAtEnd}
+use Rattle.rtcm_convert.specs.Stream.{Drained}
 use Rattle.rtcm_convert.specs.declared.filer.Filer.{Filer}
 use Rattle.rtcm_convert.proofs.PartLemmas.{goes_on-trans, breaks_off-after, breaks_off-before}
+use Rattle.rtcm_convert.proofs.ExactLemmas.{tally_whole, whole_epochs, epochs_few, outcomes_length}
 use Rattle.rtcm_convert.proofs.StreamLemmas.{Drains, DrainsPart}
 
 -- a framer that was told that no byte follows
@@ -42,10 +43,25 @@ ended_whole v v1 v2 w w2 a b c e drain same end s bytes d =
     let p = ended v v1 v2 w w2 a b e drain same s bytes d in
     goes_on-trans a b c _ _ _ p.1 (end s (frames_of bytes) p.0)
 
-pub ended_epochs : (v v1 v2 : Scan) (w w2 : Filer) (n : ℕ) (a b : Option (List ℕ)) → Ends v v1 → Drains v1 w v2 w2 a b → v2.has_ended ≡ v1.has_ended
+-- no byte behind the limit was taken
+within : (v : Scan) (w : Filer) (s : Settings) (bytes : List ℕ) → Drained v w s bytes → length bytes ≤ 2 ^ 48
+within v w s bytes d = let t = d.framer.stands.taken in let a = d.framer.within in let b = d.framer.limit in omega arith
+
+abbrev pub Few : Type 0
+Few = (b : List ℕ) → 6 * length (frames_of b) ≤ length b
+
+pub ended_epochs : Few → (v v1 v2 : Scan) (w w2 : Filer) (n : ℕ) (a b : Option (List ℕ)) → Ends v v1 → Drains v1 w v2 w2 a b → v2.has_ended ≡ v1.has_ended
     → ((s : Settings) (fs : List Framed) → Files w2 s fs → n ≡ capped (epochs_in s fs))
-    → (s : Settings) (bytes : List ℕ) → Drained v w s bytes → n ≡ capped (epochs_in s (frames_of bytes))
-ended_epochs v v1 v2 w w2 n a b e drain same end s bytes d = end s (frames_of bytes) (ended v v1 v2 w w2 a b e drain same s bytes d).0
+    → (s : Settings) (bytes : List ℕ) → Drained v w s bytes → n ≡ epochs_in s (frames_of bytes)
+ended_epochs few v v1 v2 w w2 n a b e drain same end s bytes d =
+    end s (frames_of bytes) (ended v v1 v2 w w2 a b e drain same s bytes d).0
+    ∙ whole_epochs (epochs_in s (frames_of bytes)) (length (frames_of bytes)) (length bytes) (epochs_few s (frames_of bytes)) (few bytes) (within v w s bytes d)
+
+pub ended_gathered : {T E : Type 0} (v v1 v2 : Scan) (w w2 w3 : Filer) (a b : Option (List ℕ)) (result : Result T E) → Ends v v1 → Drains v1 w v2 w2 a b → v2.has_ended ≡ v1.has_ended
+    → ((s : Settings) (fs : List Framed) → Files w2 s fs → HasGathered w3 s fs)
+    → OnOk result ((s : Settings) (bytes : List ℕ) → Drained v w s bytes → HasGathered w3 s (frames_of bytes))
+ended_gathered v v1 v2 w w2 w3 a b (Ok x) e drain same end = λ s bytes d. end s (frames_of bytes) (ended v v1 v2 w w2 a b e drain same s bytes d).0
+ended_gathered v v1 v2 w w2 w3 a b (Err x) e drain same end = tt
 
 pub ended_part : (v v1 v2 : Scan) (w w2 : Filer) (a b c : Option (List ℕ)) → Ends v v1 → Drains v1 w v2 w2 a b → v2.has_ended ≡ v1.has_ended
     → ((s : Settings) (fs : List Framed) → Files w2 s fs → BreaksOff b c (so_far s fs) (file s fs))
@@ -83,10 +99,13 @@ written_grows grows frames s b more =
     let p = frames b more in
     subst (λ (l : List Framed). IsPrefix (so_far s (decided_frames b)) (so_far s l)) (sym p.1) (grows s (decided_frames b) p.0)
 
-pub ended_tally : {T E : Type 0} (v v1 v2 : Scan) (w w2 : Filer) (r : Tally) (a b : Option (List ℕ)) (result : Result T E) → Ends v v1 → Drains v1 w v2 w2 a b → v2.has_ended ≡ v1.has_ended → r ≡ w2.tally
+pub ended_tally : Few → {T E : Type 0} (v v1 v2 : Scan) (w w2 : Filer) (r : Tally) (a b : Option (List ℕ)) (result : Result T E) → Ends v v1 → Drains v1 w v2 w2 a b → v2.has_ended ≡ v1.has_ended → r ≡ w2.tally
     → OnOk result ((s : Settings) (bytes : List ℕ) → Drained v w s bytes → r ≡ tally_of (outcomes s (frames_of bytes)))
-ended_tally v v1 v2 w w2 r a b (Ok x) e drain same is = λ s bytes d. is ∙ (ended v v1 v2 w w2 a b e drain same s bytes d).0.tally
-ended_tally v v1 v2 w w2 r a b (Err x) e drain same is = tt
+ended_tally few v v1 v2 w w2 r a b (Ok x) e drain same is = λ s bytes d.
+    let f = (ended v v1 v2 w w2 a b e drain same s bytes d).0 in
+    let n : length (outcomes s (frames_of bytes)) ≡ length (frames_of bytes) = outcomes_length s [] (frames_of bytes) in
+    is ∙ f.tally ∙ tally_whole (outcomes s (frames_of bytes)) (length bytes) f.few (subst (λ (k : ℕ). 6 * k ≤ length bytes) (sym n) (few bytes)) (within v w s bytes d)
+ended_tally few v v1 v2 w w2 r a b (Err x) e drain same is = tt
 
 pub ended_drained : {T E : Type 0} (v v1 v2 : Scan) (w w2 : Filer) (a b : Option (List ℕ)) (result : Result T E) → Ends v v1 → Drains v1 w v2 w2 a b → v2.has_ended ≡ v1.has_ended
     → OnOk result ((s : Settings) (bytes : List ℕ) → Drained v w s bytes → IsDrained v2 bytes (frames_of bytes) × IsCounted v2 bytes)

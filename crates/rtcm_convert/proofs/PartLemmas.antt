@@ -1,8 +1,8 @@
 -- Bytes that go out one part after the other.
 use Rattle.std.proofs.Common.{◌≡◌, ℕ, List, [], ◌++◌, sym, ap, ◌∙◌, Option, Result, Ok, Err, OnErr, append_assoc, append-nil}
 use Rattle.std.specs.Prelude.{IsErrOf}
-use Rattle.std.specs.Io.KnownBytes.{Appends}
-use Rattle.std.proofs.KnownBytes.{Appends-trans, Appends-nil}
+use Rattle.std.specs.Io.KnownBytes.{Appends, Keeps}
+use Rattle.std.proofs.KnownBytes.{Appends-trans, Appends-nil, Appends-kept}
 use Rattle.rtcm_bits.specs.Device.{AppendsPrefix}
 use Rattle.rtcm_scan.specs.Known.{IsPrefix}
 use Rattle.rtcm_convert.specs.Fed.{GoesOn, BreaksOff}
@@ -55,6 +55,14 @@ breaks_off-by a b x y z e p = record {
   text = e ∙ ap (λ l. x ++ l) p.1.1 ∙ sym (append_assoc x p.1.0 p.0);
   out = p.1.2;
 }
+
+-- what is sent on stays as it is known
+pub goes_on-kept : (a b c : Option (List ℕ)) (x y : List ℕ) → GoesOn a b x y → Keeps b c → GoesOn a c x y
+goes_on-kept a b c x y f k = record { part = f.part; text = f.text; out = Appends-kept a b c f.part f.out k }
+
+-- what went on whole is a front
+pub goes_on-front : (a b : Option (List ℕ)) (x y : List ℕ) → GoesOn a b x y → BreaksOff a b x y
+goes_on-front a b x y f = record { part = f.part; rest = []; text = f.text ∙ sym (append-nil (x ++ f.part)); out = f.out }
 
 pub prefix-refl : {A : Type 0} (xs : List A) → IsPrefix xs xs
 prefix-refl xs = ([], sym (append-nil xs))

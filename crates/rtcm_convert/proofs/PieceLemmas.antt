@@ -2,6 +2,7 @@
 use Rattle.std.proofs.Common.{◌≡◌, ℕ, ◌+◌, ◌-◌, ◌<◌, ◌≤◌, List, ◌++◌, sym, ap, subst, ◌∙◌, arith, Option, length, take, drop, slice_range, append_assoc, take-append-drop, ⊎_elim}
 use Rattle.std.proofs.lemmas.Bool.{cases_lt}
 use Rattle.std.proofs.Math.Seq.{take-add, take-append_seam, take-length}
+use Rattle.std.specs.Io.KnownBytes.{Keeps}
 use Rattle.rtcm_scan.specs.Decided.{decided_frames}
 use Rattle.rtcm_scan.specs.Known.{IsPrefix}
 use Rattle.rtcm_scan.specs.Scan.{Scan}
@@ -9,7 +10,7 @@ use Rattle.rtcm_convert.specs.Converted.{Settings, so_far}
 use Rattle.rtcm_convert.specs.Laws.{WrittenGrows}
 use Rattle.rtcm_convert.specs.Stream.{Drained, Extends, Breaks}
 use Rattle.rtcm_convert.specs.declared.filer.Filer.{Filer}
-use Rattle.rtcm_convert.proofs.PartLemmas.{goes_on-trans, breaks_off-after, breaks_off-before}
+use Rattle.rtcm_convert.proofs.PartLemmas.{goes_on-trans, goes_on-kept, goes_on-front, breaks_off-after, breaks_off-before}
 
 piece_more : (b p : List ℕ) (i m : ℕ) → (b ++ take i p) ++ slice_range p i (i + m) ≡ b ++ take (i + m) p
 piece_more b p i m =
@@ -61,3 +62,13 @@ fed_whole v0 v w0 w a b p i first le ge s bytes d =
 pub at_limit : (taken limit room : ℕ) → (taken < limit → 0 < room) → room ≡ 0 → taken + room ≤ limit → taken ≡ limit
 at_limit taken limit room some none within =
     ⊎_elim (λ (h : taken < limit). absurd (let k : 0 < room = some h in omega (arith, k, none))) (λ (h : limit ≤ taken). omega (arith, h, none, within)) (cases_lt taken limit)
+
+-- what these bytes make was written and couldn't be sent on
+pub sent_part : (a b c : Option (List ℕ)) (s : Settings) (x y : List ℕ) → Extends a b s x y → Keeps b c → Breaks a c s x y
+sent_part a b c s x y e k = goes_on-front a c _ _ (goes_on-kept a b c _ _ e k)
+
+-- the same of a front of these bytes
+pub sent_part_long : WrittenGrows → (a b c : Option (List ℕ)) (s : Settings) (x y : List ℕ) (n : ℕ) → Extends a b s x (take n y) → Keeps b c → Breaks a c s x y
+sent_part_long grows a b c s x y n e k =
+    breaks_off-before a c _ _ _ (sent_part a b c s x (take n y) e k)
+    (subst (λ (l : List ℕ). IsPrefix (so_far s (decided_frames (take n y))) (so_far s (decided_frames l))) (take-append-drop n y) (grows s (take n y) (drop n y)))

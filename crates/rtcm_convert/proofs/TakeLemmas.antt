@@ -9,6 +9,7 @@ use Rattle.rtcm_scan.specs.Frames.{Framed}
 use Rattle.rtcm_msg.specs.declared.message.Message.{Message}
 use Rattle.rtcm_msg.specs.declared.fault.MsgFault.{MsgFault}
 use Rattle.rtcm_msg.specs.Reading.{message_at}
+use Rattle.rtcm_msg.specs.Spelling.{IsMessage}
 use Rattle.obs_epoch.specs.declared.taken.Kind.{Kind}
 use Rattle.obs_epoch.specs.Values.{Closed}
 use Rattle.obs_epoch.specs.Heard.{Setup, Heard, heard}
@@ -16,13 +17,14 @@ use Rattle.obs_epoch.specs.Kinds.{is_close_first, kind_of}
 use Rattle.obs_epoch.specs.Gather.{Gathered}
 use Rattle.obs_epoch.specs.Gathering.{Gathers, Fits, closed_by, closed_in, plan_in, closed_epochs, all_epochs, known_epochs}
 use Rattle.rtcm_convert.specs.Converted.{Settings, text_with, so_far, file, epochs_in, messages_of, heard_in}
-use Rattle.rtcm_convert.specs.Outcomes.{outcome, outcomes, outcomes_after, capped, both, total, tally_of, tally_of_one}
+use Rattle.rtcm_convert.specs.Outcomes.{outcome, outcomes, outcomes_after, capped, capped_tally, both, total, tally_of, tally_of_one, IsFew, AreFew}
 use Rattle.rtcm_convert.specs.Fed.{GoesOn, BreaksOff}
-use Rattle.rtcm_convert.specs.Filed.{added, Writes, Settled, Files}
+use Rattle.rtcm_convert.specs.Filed.{added, Writes, Settled, Files, HasGathered}
 use Rattle.rtcm_convert.specs.declared.tally.Tally.{Tally}
 use Rattle.rtcm_convert.specs.declared.filer.Filer.{Filer}
 use Rattle.rtcm_convert.proofs.PartLemmas.{goes_on-refl, goes_on-trans, breaks_off-after, breaks_off-by}
 use Rattle.rtcm_convert.proofs.TextLemmas.{cap_more, count, text-closed}
+use Rattle.rtcm_convert.proofs.ExactLemmas.{few_more, message_few, refused_few}
 use Rattle.rtcm_convert.proofs.StepLemmas.{Wrote, wrote_all, part_of}
 
 pub if_ok_both : {T E : Type 0} (r : Result T E) (A B : T → Type 0) (P : Type 0) → ((k : T) → A k → B k → P) → IfOk r A → IfOk r B → OnOk r P
@@ -84,10 +86,10 @@ sum_one w os o =
     let one : sum_by w (o ∷ []) ≡ w o = grind (arith, common_steps) in
     cap_more (sum_by w os) (w o) ∙ ap capped (ap (λ k. sum_by w os + k) (sym one) ∙ sym (sum_by-append w os (o ∷ [])))
 
-total_one : (count : Tally → ℕ) (os : List (Option Kind)) (o : Option Kind) → capped (total count os + count (tally_of_one o)) ≡ total count (os ++ o ∷ [])
+total_one : (count : Tally → ℕ) (os : List (Option Kind)) (o : Option Kind) → capped (capped (total count os) + count (tally_of_one o)) ≡ capped (total count (os ++ o ∷ []))
 total_one count os o = sum_one (λ o. count (tally_of_one o)) os o
 
-tally_more : (os : List (Option Kind)) (o : Option Kind) → both (tally_of os) (tally_of_one o) ≡ tally_of (os ++ o ∷ [])
+tally_more : (os : List (Option Kind)) (o : Option Kind) → both (capped_tally (tally_of os)) (tally_of_one o) ≡ capped_tally (tally_of (os ++ o ∷ []))
 tally_more os o =
     let frames = total_one (λ t. t.frames) os o in
     let faulty = total_one (λ t. t.faulty) os o in
@@ -102,9 +104,14 @@ tally_more os o =
     let crowded = total_one (λ t. t.crowded) os o in
     cc
 
-tally_one : (s : Settings) (fs : List Framed) (f : Framed) (r r' : Tally) (o : Option Kind) → o ≡ outcome s fs f → r ≡ tally_of (outcomes s fs) → r' ≡ both r (tally_of_one o) → r' ≡ tally_of (outcomes s (fs ++ f ∷ []))
+tally_one : (s : Settings) (fs : List Framed) (f : Framed) (r r' : Tally) (o : Option Kind) → o ≡ outcome s fs f → r ≡ capped_tally (tally_of (outcomes s fs)) → r' ≡ both r (tally_of_one o) → r' ≡ capped_tally (tally_of (outcomes s (fs ++ f ∷ [])))
 tally_one s fs f r r' o is old new =
-    new ∙ ap (λ x. both x (tally_of_one o)) old ∙ tally_more (outcomes s fs) o ∙ ap (λ x. tally_of (outcomes s fs ++ x ∷ [])) is ∙ ap tally_of (sym (outcomes_after-one s [] fs f))
+    new ∙ ap (λ x. both x (tally_of_one o)) old ∙ tally_more (outcomes s fs) o ∙ ap (λ x. capped_tally (tally_of (outcomes s fs ++ x ∷ []))) is ∙ ap (λ l. capped_tally (tally_of l)) (sym (outcomes_after-one s [] fs f))
+
+-- so few cells as that no count is capped
+few_one : (s : Settings) (fs : List Framed) (f : Framed) (o : Option Kind) → o ≡ outcome s fs f → AreFew (outcomes s fs) → IsFew (tally_of_one o) → AreFew (outcomes s (fs ++ f ∷ []))
+few_one s fs f o is few one =
+    subst (λ (l : List (Option Kind)). AreFew l) (sym (outcomes_after-one s [] fs f)) (subst (λ (x : Option Kind). AreFew (outcomes s fs ++ x ∷ [])) is (few_more (outcomes s fs) o few one))
 
 outcome_ok : (s : Settings) (fs : List Framed) (f : Framed) (m : Message) (k : Kind) → message_at f.message ≡ Ok m → k ≡ kind_of s.gather (messages_of fs) (heard m) → Some k ≡ outcome s fs f
 outcome_ok s fs f m k e is = rw e (ap Some is)
@@ -112,18 +119,19 @@ outcome_ok s fs f m k e is = rw e (ap Some is)
 outcome_err : (s : Settings) (fs : List Framed) (f : Framed) (d : MsgFault) → message_at f.message ≡ Err d → None ≡ outcome s fs f
 outcome_err s fs f d e = rw e refl
 
-pub files_more : (v w x : Filer) (s : Settings) (fs : List Framed) (f : Framed) (m : Message) (k : Kind) (a b : Option (List ℕ)) → message_at f.message ≡ Ok m
+pub files_more : (v w x : Filer) (s : Settings) (fs : List Framed) (f : Framed) (m : Message) (k : Kind) (a b : Option (List ℕ)) → message_at f.message ≡ Ok m → IsMessage m
     → ((s : Settings) (ms : List Heard) → Settled v s ms → Settled w s (ms ++ heard m ∷ []) × Goes a b s ms (ms ++ heard m ∷ []))
     → ((s : Settings) (ms : List Heard) → Settled v s ms → k ≡ kind_of s.gather ms (heard m))
     → w.tally ≡ v.tally → x ≡ record w { tally = both w.tally (tally_of_one (Some k)) }
     → Files v s fs → Files x s (fs ++ f ∷ []) × GoesOn a b (so_far s fs) (so_far s (fs ++ f ∷ []))
-files_more v w x s fs f m k a b e t kind same now y =
+files_more v w x s fs f m k a b e valid t kind same now y =
     let p = t s (messages_of fs) y.settled in
     let ms = sym (messages_more fs f m e) in
     let z : Settled w s (messages_of (fs ++ f ∷ [])) = subst (λ (ms : List Heard). Settled w s ms) ms p.0 in (
       rw now record {
         settled = record { texts = z.texts; gatherer = z.gatherer; epochs = z.epochs };
         tally = tally_one s fs f w.tally _ (Some k) (outcome_ok s fs f m k e (kind s (messages_of fs) y.settled)) (same ∙ y.tally) refl;
+        few = few_one s fs f (Some (kind_of s.gather (messages_of fs) (heard m))) (outcome_ok s fs f m _ e refl) y.few (message_few s.gather (messages_of fs) m valid);
       },
       subst (λ (ns : List Heard). Goes a b s (messages_of fs) ns) ms p.1,
     )
@@ -136,6 +144,7 @@ files_same v x s fs f d a e now y =
       rw now record {
         settled = record { texts = z.texts; gatherer = z.gatherer; epochs = z.epochs };
         tally = tally_one s fs f v.tally _ None (outcome_err s fs f d e) y.tally refl;
+        few = few_one s fs f None (outcome_err s fs f d e) y.few refused_few;
       },
       subst (λ (ns : List Heard). Goes a a s (messages_of fs) ns) ms (goes_on-refl a _),
     )
@@ -156,6 +165,19 @@ file_whole v w g a b o over t s fs x =
     let p = wrote_all v w g a b s ms ms es None None o x.settled (t s.gather ms es x.settled.gatherer) in
     let e : p.0 ≡ all_epochs s.gather ms = p.1.gatherer.epochs refl ∙ ap (λ (h : Gathered). known_epochs h.has_ended s.gather ms) o.gatherer ∙ ap (λ h. known_epochs h s.gather ms) over in
     (subst (λ (all : List Closed). GoesOn a b (so_far s fs) (text_with s all)) e p.2, p.1.epochs ∙ ap count e)
+
+-- no message follows
+pub gathered : (v w : Filer) (g : Gathered) → w.gatherer ≡ g → g.has_ended ≡ true
+    → ((s : Setup) (ms : List Heard) (es : List Closed) → Gathers v.gatherer s ms es None → Gathers g s ms (es ++ closed_by (closed_in g) g.values) None)
+    → (s : Settings) (fs : List Framed) → Files v s fs → HasGathered w s fs
+gathered v w g is over t s fs x =
+    let es = closed_epochs s.gather (messages_of fs) in
+    let all = es ++ closed_by (closed_in g) g.values in
+    record {
+      ended = ap (λ (h : Gathered). h.has_ended) is ∙ over;
+      epochs = all;
+      gathers = subst (λ (h : Gathered). Gathers h s.gather (messages_of fs) all None) (sym is) (t s.gather (messages_of fs) es x.settled.gatherer);
+    }
 
 pub file_part : (v : Filer) (g : Gathered) (a b : Option (List ℕ)) → AppendsPrefix a b (added v.texts (plan_in g) v.epochs (closed_in g) g.values) → g.has_ended ≡ true
     → ((s : Setup) (ms : List Heard) (es : List Closed) → Gathers v.gatherer s ms es None → Gathers g s ms (es ++ closed_by (closed_in g) g.values) None)

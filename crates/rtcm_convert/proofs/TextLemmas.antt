@@ -14,7 +14,7 @@ use Rattle.obs_epoch.specs.Heard.{Setup, Heard}
 use Rattle.obs_epoch.specs.Gathering.{closed_epochs, all_epochs, closed_by}
 use Rattle.rinex_file.specs.Texts.{HeaderLists}
 use Rattle.rinex_file.specs.File.{header_text, epoch_text, file_text, gathered}
-use Rattle.rtcm_convert.specs.Converted.{Settings, messages_of, heard_in, written, text_of, text_with, so_far, file}
+use Rattle.rtcm_convert.specs.Converted.{Settings, messages_of, written, text_of, text_with, so_far, file}
 use Rattle.rtcm_convert.specs.Outcomes.{capped}
 use Rattle.rtcm_convert.specs.Filed.{opening, added, epochs_after}
 use Rattle.rtcm_convert.proofs.PartLemmas.{prefix_more, prefix_after}

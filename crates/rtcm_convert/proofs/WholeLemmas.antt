@@ -9,16 +9,19 @@ use Rattle.std.proofs.KnownBytes.{Appends-trans}
 use Rattle.rtcm_bits.specs.Device.{AppendsPrefix}
 use Rattle.rtcm_scan.specs.Frames.{frames_of}
 use Rattle.rtcm_scan.specs.Decided.{decided_frames}
-use Rattle.rtcm_convert.specs.Converted.{Settings, so_far, file, epochs_in}
+use Rattle.rtcm_convert.specs.Converted.{Settings, so_far, file}
 use Rattle.rtcm_convert.specs.Outcomes.{report_of}
 use Rattle.rtcm_convert.specs.Fed.{GoesOn}
 use Rattle.rtcm_convert.specs.Laws.{NothingYet}
 use Rattle.rtcm_convert.specs.Stream.{Extends, BreaksAtEnd}
+use Rattle.rtcm_convert.specs.Told.{settings}
+use Rattle.rtcm_convert.specs.Made.{IsMade, IsMadeEmpty}
+use Rattle.rtcm_convert.specs.declared.setup.Setup.{Setup}
 use Rattle.rtcm_convert.specs.Broken.{IsBroken, Broke, BrokeAtEnd}
-use Rattle.rtcm_convert.specs.Conversion.{Conversion, StandsFor, Goes, GoesLong, Adds, Finishes, FinishesEmpty, StopsAt, StopsFeeding, StopsFinishing}
+use Rattle.rtcm_convert.specs.Conversion.{Conversion, StandsFor, Goes, GoesLong, Adds, Completed, CompletedEmpty, Finishes, FinishesEmpty, StopsAt, StopsFeeding, StopsFinishing}
 use Rattle.rtcm_convert.specs.declared.report.Report.{Report}
 use Rattle.rtcm_convert.proofs.PartLemmas.{goes_on-trans}
-use Rattle.rtcm_convert.proofs.RunLemmas.{FinishesNow}
+use Rattle.rtcm_convert.proofs.RunLemmas.{FinishesNow, FinishesEmptyNow, completed_after, empty_after}
 
 pub from_nothing : NothingYet → (a b : Option (List ℕ)) (s : Settings) (y : List ℕ) → GoesOn a b (so_far s (decided_frames [])) y → Appends a b y
 from_nothing nothing a b s y g =
@@ -29,11 +32,31 @@ some_weaker : (o : Option (List ℕ)) (P Q : List ℕ → Type 0) → ((x : List
 some_weaker None P Q f h = h
 some_weaker (Some x) P Q f h = f x h
 
-pub run_whole : {E : Type 0} (v w : Conversion) (s : Settings) (r a b : Option (List ℕ)) (result : Result Report E) → NothingYet → StandsFor v s [] → IfOk result (λ report. IfSome r (Finishes v w a b report))
-    → OnOk result (IfSome r (λ x. Appends a b (file s (frames_of x))))
-run_whole v w s r a b (Ok report) nothing x h =
-    some_weaker r (Finishes v w a b report) (λ x. Appends a b (file s (frames_of x))) (λ l f. from_nothing nothing a b s (file s (frames_of l)) (f s [] x).out) h
-run_whole v w s r a b (Err e) nothing x h = tt
+-- where all was taken within the limit that a setup says
+same_limit : (v w : Conversion) (n limit : ℕ) → n ≤ w.scan.limit → w.scan.limit ≡ v.scan.limit → v.scan.limit ≡ limit → n ≤ limit
+same_limit v w n limit le same e = subst (λ (k : ℕ). n ≤ k) (same ∙ e) le
+
+pub made : (v w : Conversion) (x : Setup) (a b : Option (List ℕ)) (bytes : List ℕ) (report : Report) → NothingYet → w.scan.limit ≡ v.scan.limit → v.scan.limit ≡ x.limit
+    → Completed w a b (settings x) [] bytes report → IsMade x a b bytes
+made v w x a b bytes report nothing same e p = record {
+  within = same_limit v w (length bytes) x.limit p.finished.within same e;
+  some = p.some;
+  out = from_nothing nothing a b (settings x) (file (settings x) (frames_of bytes)) p.out;
+}
+
+pub made_empty : (v w : Conversion) (x : Setup) (a b : Option (List ℕ)) (bytes : List ℕ) → NothingYet → w.scan.limit ≡ v.scan.limit → v.scan.limit ≡ x.limit
+    → CompletedEmpty w a b (settings x) [] bytes → IsMadeEmpty x a b bytes
+made_empty v w x a b bytes nothing same e p = record {
+  within = same_limit v w (length bytes) x.limit p.finished.within same e;
+  none = p.none;
+  out = from_nothing nothing a b (settings x) (file (settings x) (frames_of bytes)) p.out;
+}
+
+pub run_whole : {E : Type 0} (v w : Conversion) (x : Setup) (r a b : Option (List ℕ)) (result : Result Report E) → NothingYet → StandsFor v (settings x) [] → w.scan.limit ≡ v.scan.limit → v.scan.limit ≡ x.limit
+    → IfOk result (λ report. IfSome r (Finishes v w a b report)) → OnOk result (IfSome r (IsMade x a b))
+run_whole v w x r a b (Ok report) nothing y same e h =
+    some_weaker r (Finishes v w a b report) (IsMade x a b) (λ l f. made v w x a b l report nothing same e (f (settings x) [] y)) h
+run_whole v w x r a b (Err d) nothing y same e h = tt
 
 pub run_report : {E : Type 0} (v w : Conversion) (s : Settings) (r a b : Option (List ℕ)) (result : Result Report E) → StandsFor v s [] → IfOk result (λ report. IfSome r (Finishes v w a b report))
     → IfOk result (λ report. IfSome r (λ x. report ≡ report_of s x))
@@ -41,15 +64,14 @@ run_report v w s r a b (Ok report) x h =
     some_weaker r (Finishes v w a b report) (λ x. report ≡ report_of s x) (λ l f. (f s [] x).report_is) h
 run_report v w s r a b (Err e) x h = tt
 
-pub run_empty : (v w : Conversion) (s : Settings) (r a b : Option (List ℕ)) → NothingYet → StandsFor v s [] → IfSome r (FinishesEmpty v w a b)
-    → IfSome r (λ x. (epochs_in s (frames_of x) ≡ 0) × Appends a b (file s (frames_of x)))
-run_empty v w s r a b nothing x h =
-    some_weaker r (FinishesEmpty v w a b) (λ x. (epochs_in s (frames_of x) ≡ 0) × Appends a b (file s (frames_of x)))
-    (λ l f. let p = f s [] x in (p.none, from_nothing nothing a b s (file s (frames_of l)) p.out)) h
+pub run_empty : (v w : Conversion) (x : Setup) (r a b : Option (List ℕ)) → NothingYet → StandsFor v (settings x) [] → w.scan.limit ≡ v.scan.limit → v.scan.limit ≡ x.limit
+    → IfSome r (FinishesEmpty v w a b) → IfSome r (IsMadeEmpty x a b)
+run_empty v w x r a b nothing y same e h =
+    some_weaker r (FinishesEmpty v w a b) (IsMadeEmpty x a b) (λ l f. made_empty v w x a b l nothing same e (f (settings x) [] y)) h
 
-pub run_read : (v : Conversion) (s : Settings) (r r' a b : Option (List ℕ)) → NothingYet → StandsFor v s [] → ((front : List ℕ) × Consumes r r' front × Adds v a b front)
+pub run_read : (v w : Conversion) (s : Settings) (r r' a b : Option (List ℕ)) → NothingYet → StandsFor v s [] → ((front : List ℕ) × Consumes r r' front × (w.scan.taken ≡ v.scan.taken + length front) × Adds v a b front)
     → (front : List ℕ) × Consumes r r' front × Appends a b (so_far s (decided_frames front))
-run_read v s r r' a b nothing x p = (p.0, p.1, from_nothing nothing a b s (so_far s (decided_frames p.0)) (p.2 s [] x))
+run_read v w s r r' a b nothing x p = (p.0, p.1, from_nothing nothing a b s (so_far s (decided_frames p.0)) (p.3 s [] x))
 
 pub run_long : (v : Conversion) (s : Settings) (r r' a b : Option (List ℕ)) (limit : ℕ) → NothingYet → StandsFor v s [] → v.scan.limit ≡ limit → ((front : List ℕ) × Consumes r r' front × GoesLong v a b front)
     → (front : List ℕ) × Consumes r r' front × Appends a b (so_far s (decided_frames (take limit front)))
@@ -70,10 +92,10 @@ broken_at_end a b s front nothing p =
     let e : file s (frames_of front) ≡ p.part ++ p.rest = p.text ∙ ap (λ l. (l ++ p.part) ++ p.rest) (nothing s) in
     (p.rest, (p.part, e, p.out))
 
-pub run_write : (v : Conversion) (s : Settings) (r r' a b : Option (List ℕ)) → NothingYet → StandsFor v s [] → (StopsFeeding v r r' a b ⊎ StopsFinishing v r r' a b)
+pub run_write : (v w : Conversion) (s : Settings) (r r' a b : Option (List ℕ)) → NothingYet → StandsFor v s [] → (StopsFeeding v w r r' a b ⊎ StopsFinishing v w r r' a b)
     → Broke r r' a b s ⊎ BrokeAtEnd r r' a b s
-run_write v s r r' a b nothing x (inl p) = inl (p.0, p.1, p.2, broken a b s p.0 p.1 nothing (p.3 s [] x))
-run_write v s r r' a b nothing x (inr p) = inr (p.0, p.1, p.2, broken_at_end a b s p.0 nothing (p.3 s [] x))
+run_write v w s r r' a b nothing x (inl p) = inl (p.0, p.1, p.2, broken a b s p.0 p.1 nothing (p.4 s [] x))
+run_write v w s r r' a b nothing x (inr p) = inr (p.0, p.1, p.2, broken_at_end a b s p.0 nothing (p.4 s [] x))
 
 pub run_over : (v : Conversion) (s : Settings) (r : Option (List ℕ)) (limit : ℕ) → StandsFor v s [] → v.scan.limit ≡ limit
     → IfSome r (λ rest. (s : Settings) (b : List ℕ) → StandsFor v s b → v.scan.limit < length (b ++ rest)) → IfSome r (λ b. limit < length b)
@@ -81,12 +103,16 @@ run_over v s r limit x e h =
     some_weaker r (λ rest. (s : Settings) (b : List ℕ) → StandsFor v s b → v.scan.limit < length (b ++ rest)) (λ b. limit < length b)
     (λ l f. subst (λ (n : ℕ). n < length l) e (f s [] x)) h
 
-pub pieces_whole : {E : Type 0} (v w : Conversion) (s : Settings) (a b c : Option (List ℕ)) (bytes all : List ℕ) (result : Result Report E) → NothingYet → StandsFor v s bytes → Extends a b s [] bytes → bytes ≡ all
-    → IfOk result (λ report. FinishesNow v w b c report) → OnOk result (Appends a c (file s (frames_of all)))
-pieces_whole v w s a b c bytes all (Ok report) nothing x out e h =
-    subst (λ (l : List ℕ). Appends a c (file s (frames_of l))) e
-    (from_nothing nothing a c s (file s (frames_of bytes)) (goes_on-trans a b c _ _ _ out (h s bytes x).out))
-pieces_whole v w s a b c bytes all (Err d) nothing x out e h = tt
+pub pieces_whole : {E : Type 0} (v w : Conversion) (x : Setup) (a b c : Option (List ℕ)) (bytes all : List ℕ) (result : Result Report E) → NothingYet → StandsFor v (settings x) bytes
+    → Extends a b (settings x) [] bytes → bytes ≡ all → w.scan.limit ≡ v.scan.limit → v.scan.limit ≡ x.limit → IfOk result (λ report. FinishesNow v w b c report) → OnOk result (IsMade x a c all)
+pieces_whole v w x a b c bytes all (Ok report) nothing y out e same limit h =
+    subst (λ (l : List ℕ). IsMade x a c l) e (made v w x a c bytes report nothing same limit (completed_after w a b c (settings x) [] bytes report out (h (settings x) bytes y)))
+pieces_whole v w x a b c bytes all (Err d) nothing y out e same limit h = tt
+
+pub pieces_empty : (v w : Conversion) (x : Setup) (a b c : Option (List ℕ)) (bytes all : List ℕ) → NothingYet → StandsFor v (settings x) bytes
+    → Extends a b (settings x) [] bytes → bytes ≡ all → w.scan.limit ≡ v.scan.limit → v.scan.limit ≡ x.limit → FinishesEmptyNow v w b c → IsMadeEmpty x a c all
+pieces_empty v w x a b c bytes all nothing y out e same limit h =
+    subst (λ (l : List ℕ). IsMadeEmpty x a c l) e (made_empty v w x a c bytes nothing same limit (empty_after w a b c (settings x) [] bytes out (h (settings x) bytes y)))
 
 pub pieces_report : {E : Type 0} (v w : Conversion) (s : Settings) (b c : Option (List ℕ)) (bytes all : List ℕ) (result : Result Report E) → StandsFor v s bytes → bytes ≡ all
     → IfOk result (λ report. FinishesNow v w b c report) → IfOk result (λ report. report ≡ report_of s all)

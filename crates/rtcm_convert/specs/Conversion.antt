@@ -7,6 +7,7 @@ use Rattle.rtcm_scan.specs.Scan.{Scan}
 use Rattle.rtcm_scan.specs.Drained.{IsDrained}
 use Rattle.rtcm_scan.specs.Examined.{IsCounted}
 use Rattle.rtcm_convert.specs.Converted.{Settings, epochs_in}
+use Rattle.rtcm_convert.specs.Filed.{HasGathered}
 use Rattle.rtcm_convert.specs.Outcomes.{report_of}
 use Rattle.rtcm_convert.specs.Stream.{Drained, StandsForSome, Extends, Breaks, Completes, BreaksAtEnd}
 use Rattle.rtcm_convert.specs.declared.filer.Filer.{Filer}
@@ -44,11 +45,14 @@ pub record StandsFor (v : Conversion) (s : Settings) (b : List ℕ) : Type 0 whe
   pub going : IsGoing v
   pub drained : Drained v.scan v.filer s b
 
--- the stream of these bytes was ended: all of it was decided and examined
-pub record HasFinished (v : Conversion) (b : List ℕ) : Type 0 where
+-- the stream of these bytes, which are no more than the limit, was ended: all of it was taken, decided, examined and gathered
+pub record HasFinished (v : Conversion) (s : Settings) (b : List ℕ) : Type 0 where
   pub ended : v.scan.has_ended ≡ true
+  pub taken : v.scan.taken ≡ length b
+  pub within : length b ≤ v.scan.limit
   pub drained : IsDrained v.scan b (frames_of b)
   pub counted : IsCounted v.scan b
+  pub gathered : HasGathered v.filer s (frames_of b)
 
 -- it took these bytes more, and what they add went out
 abbrev pub Goes : Conversion → Conversion → Option (List ℕ) → Option (List ℕ) → List ℕ → Type 0
@@ -62,6 +66,10 @@ GoesLong v a b piece = (s : Settings) (bytes : List ℕ) → StandsFor v s bytes
 abbrev pub Stops : Conversion → Option (List ℕ) → Option (List ℕ) → List ℕ → Type 0
 Stops v a b piece = (s : Settings) (bytes : List ℕ) → StandsFor v s bytes → Breaks a b s bytes (bytes ++ piece)
 
+-- some bytes more were read and taken, and what they add went out
+abbrev pub Ran : Conversion → Conversion → Option (List ℕ) → Option (List ℕ) → Option (List ℕ) → Option (List ℕ) → Type 0
+Ran v w r r' a b = (front : List ℕ) × Consumes r r' front × (w.scan.taken ≡ v.scan.taken + length front) × Goes v w a b front
+
 -- what these bytes add went out
 abbrev pub Adds : Conversion → Option (List ℕ) → Option (List ℕ) → List ℕ → Type 0
 Adds v a b front = (s : Settings) (bytes : List ℕ) → StandsFor v s bytes → Extends a b s bytes (bytes ++ front)
@@ -73,14 +81,19 @@ pub record StopsAt (a b : Option (List ℕ)) (s : Settings) (bytes piece : List 
   pub last : Breaks mid b s all (all ++ piece)
   pub near : (length all - decided all) + length piece ≤ 1029
 
+-- at least n bytes more were taken, and at most m
+pub record IsTakenFrom (v w : Conversion) (n m : ℕ) : Type 0 where
+  pub least : v.scan.taken + n ≤ w.scan.taken
+  pub most : w.scan.taken ≤ v.scan.taken + m
+
 -- the bytes that were read split into some that were taken and a last piece at which the writer failed
-abbrev pub StopsFeeding : Conversion → Option (List ℕ) → Option (List ℕ) → Option (List ℕ) → Option (List ℕ) → Type 0
-StopsFeeding v r r' a b = (front : List ℕ) × (piece : List ℕ) × Consumes r r' (front ++ piece)
+abbrev pub StopsFeeding : Conversion → Conversion → Option (List ℕ) → Option (List ℕ) → Option (List ℕ) → Option (List ℕ) → Type 0
+StopsFeeding v w r r' a b = (front : List ℕ) × (piece : List ℕ) × Consumes r r' (front ++ piece) × IsTakenFrom v w (length front) (length front + length piece)
     × ((s : Settings) (bytes : List ℕ) → StandsFor v s bytes → StopsAt a b s bytes piece (bytes ++ front))
 
 -- all was read, and the writer failed in what was left to write
-abbrev pub StopsFinishing : Conversion → Option (List ℕ) → Option (List ℕ) → Option (List ℕ) → Option (List ℕ) → Type 0
-StopsFinishing v r r' a b = (front : List ℕ) × Consumes r r' front × IsAtEnd r'
+abbrev pub StopsFinishing : Conversion → Conversion → Option (List ℕ) → Option (List ℕ) → Option (List ℕ) → Option (List ℕ) → Type 0
+StopsFinishing v w r r' a b = (front : List ℕ) × Consumes r r' front × IsAtEnd r' × (w.scan.taken ≡ v.scan.taken + length front)
     × ((s : Settings) (bytes : List ℕ) → StandsFor v s bytes → BreaksAtEnd a b s bytes (bytes ++ front))
 
 -- The rest of the file of all these bytes went out, which has an epoch; that is the report; and all was decided and examined.
@@ -88,13 +101,13 @@ pub record Completed (w : Conversion) (a b : Option (List ℕ)) (s : Settings) (
   pub out : Completes a b s bytes all
   pub some : 0 < epochs_in s (frames_of all)
   pub report_is : report ≡ report_of s all
-  pub finished : HasFinished w all
+  pub finished : HasFinished w s all
 
 -- No epoch stands in the file of all these bytes; the rest of it, which is nothing, went out; and all was decided and examined.
 pub record CompletedEmpty (w : Conversion) (a b : Option (List ℕ)) (s : Settings) (bytes all : List ℕ) : Type 0 where
   pub none : epochs_in s (frames_of all) ≡ 0
   pub out : Completes a b s bytes all
-  pub finished : HasFinished w all
+  pub finished : HasFinished w s all
 
 -- with these bytes more, the file was completed
 abbrev pub Finishes : Conversion → Conversion → Option (List ℕ) → Option (List ℕ) → Report → List ℕ → Type 0

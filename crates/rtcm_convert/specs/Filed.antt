@@ -1,5 +1,5 @@
 -- What stands in the file when the epochs of some messages were written.
-use Rattle.std.specs.Prelude.{◌≡◌, ℕ, ◌+◌, nat_lt, List, [], ◌++◌, length, Option, Some, None, if◌then◌else◌}
+use Rattle.std.specs.Prelude.{◌≡◌, ℕ, ◌+◌, nat_lt, true, List, [], ◌++◌, length, Option, Some, None, if◌then◌else◌}
 use Rattle.rtcm_scan.specs.Frames.{Framed}
 use Rattle.obs_epoch.specs.Values.{PlanValue, EpochValue, Closed, satellites}
 use Rattle.obs_epoch.specs.declared.cell.StationValues.{StationValues}
@@ -8,7 +8,7 @@ use Rattle.obs_epoch.specs.Gathering.{Gathers, closed_epochs}
 use Rattle.rinex_file.specs.Texts.{HeaderLists}
 use Rattle.rinex_file.specs.File.{header_text, epoch_text}
 use Rattle.rtcm_convert.specs.Converted.{Settings, messages_of, written}
-use Rattle.rtcm_convert.specs.Outcomes.{outcomes, tally_of, capped}
+use Rattle.rtcm_convert.specs.Outcomes.{outcomes, tally_of, capped, capped_tally, AreFew}
 use Rattle.rtcm_convert.specs.declared.filer.Filer.{Filer}
 
 -- what stands before an epoch in a file of so many: the header before the first
@@ -35,7 +35,14 @@ pub record Writes (v : Filer) (s : Settings) (ms : List Heard) (es : List Closed
 abbrev pub Settled : Filer → Settings → List Heard → Type 0
 Settled v s ms = Writes v s ms (closed_epochs s.gather ms) None
 
+-- the filer took the messages of these frames, and no more will come
+pub record HasGathered (v : Filer) (s : Settings) (fs : List Framed) : Type 0 where
+  pub ended : v.gatherer.has_ended ≡ true
+  pub epochs : List Closed
+  pub gathers : Gathers v.gatherer s.gather (messages_of fs) epochs None
+
 -- the filer took the messages of these frames and wrote the epochs that they close
 pub record Files (v : Filer) (s : Settings) (fs : List Framed) : Type 0 where
   pub settled : Settled v s (messages_of fs)
-  pub tally : v.tally ≡ tally_of (outcomes s fs)
+  pub tally : v.tally ≡ capped_tally (tally_of (outcomes s fs))
+  pub few : AreFew (outcomes s fs)

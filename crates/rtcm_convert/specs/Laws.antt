@@ -1,5 +1,5 @@
 -- Laws of the files that frames make.
-use Rattle.std.specs.Prelude.{◌≡◌, ◌+◌, ◌≤◌, ◌^◌, ℕ, List, [], ◌∷◌, ◌++◌, length, map}
+use Rattle.std.specs.Prelude.{◌≡◌, ◌+◌, ℕ, List, [], ◌∷◌, ◌++◌, length, map}
 use Rattle.rtcm_scan.specs.Frames.{Framed, frames_of}
 use Rattle.rtcm_scan.specs.Decided.{decided_frames}
 use Rattle.rtcm_scan.specs.Known.{IsPrefix}
@@ -39,7 +39,7 @@ pub record IsCountedOnce (r : Report) (frames : ℕ) : Type 0 where
 
 -- so it is in the report of each stream that a converter takes
 abbrev pub CountedOnce : Type 0
-CountedOnce = (s : Settings) (b : List ℕ) → length b ≤ 2 ^ 48 → IsCountedOnce (report_of s b) (length (frames_of b))
+CountedOnce = (s : Settings) (b : List ℕ) → IsCountedOnce (report_of s b) (length (frames_of b))
 
 -- epochs in which a satellite has a value make the text of a file value, with the station values known when the first was closed
 abbrev pub IsFileText : Type 0

@@ -5,5 +5,7 @@ pub mod Filed
 pub mod Stream
 pub mod Conversion
 pub mod Told
+pub mod Made
+pub mod Kept
 pub mod Laws
 pub mod Broken

@@ -1,5 +1,5 @@
 -- What becomes of each frame, and the counts of that.
-use Rattle.std.specs.Prelude.{ℕ, ◌+◌, ◌-◌, ◌^◌, min, List, [], ◌∷◌, ◌++◌, length, sum_by, Option, Some, None, option_map}
+use Rattle.std.specs.Prelude.{ℕ, ◌≤◌, ◌+◌, ◌-◌, ◌^◌, min, List, [], ◌∷◌, ◌++◌, length, sum_by, Option, Some, None, option_map}
 use Rattle.rtcm_scan.specs.Frames.{Framed, frames_of}
 use Rattle.rtcm_scan.specs.Decided.{given_up}
 use Rattle.obs_epoch.specs.declared.taken.Kind.{Kind}
@@ -62,9 +62,43 @@ both a b = record {
   crowded = capped (a.crowded + b.crowded);
 }
 
+-- each count up to the greatest number that is counted; no stream that a converter takes comes near it
+abbrev pub capped_tally : Tally → Tally
+capped_tally t = record {
+  frames = capped t.frames;
+  faulty = capped t.faulty;
+  station = capped t.station;
+  other = capped t.other;
+  ignored = capped t.ignored;
+  late = capped t.late;
+  past = capped t.past;
+  taken = capped t.taken;
+  skipped = capped t.skipped;
+  repeated = capped t.repeated;
+  crowded = capped t.crowded;
+}
+
+-- one frame adds so little to each count
+pub record IsFew (t : Tally) : Type 0 where
+  pub frames : t.frames ≤ 128
+  pub faulty : t.faulty ≤ 128
+  pub station : t.station ≤ 128
+  pub other : t.other ≤ 128
+  pub ignored : t.ignored ≤ 128
+  pub late : t.late ≤ 128
+  pub past : t.past ≤ 128
+  pub taken : t.taken ≤ 128
+  pub skipped : t.skipped ≤ 128
+  pub repeated : t.repeated ≤ 128
+  pub crowded : t.crowded ≤ 128
+
+abbrev pub AreFew : List (Option Kind) → Type 0
+AreFew [] = Unit {0}
+AreFew (o ∷ os) = IsFew (tally_of_one o) × AreFew os
+
 -- the sum over these outcomes of what each adds to a count
 abbrev pub total : (Tally → ℕ) → List (Option Kind) → ℕ
-total count os = capped (sum_by (λ o. count (tally_of_one o)) os)
+total count os = sum_by (λ o. count (tally_of_one o)) os
 
 -- the counts of these outcomes
 abbrev pub tally_of : List (Option Kind) → Tally
@@ -103,4 +137,4 @@ report_with bytes skipped_bytes t epochs = record {
 
 -- the report of a stream
 abbrev pub report_of : Settings → List ℕ → Report
-report_of s b = report_with (length b) (given_up (length b) (frames_of b)) (tally_of (outcomes s (frames_of b))) (capped (epochs_in s (frames_of b)))
+report_of s b = report_with (length b) (given_up (length b) (frames_of b)) (tally_of (outcomes s (frames_of b))) (epochs_in s (frames_of b))

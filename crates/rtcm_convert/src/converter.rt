@@ -3,16 +3,15 @@ ghost use Rattle.std.specs.Prelude.{◌≡◌, ◌<◌, ◌≤◌, ◌+◌, ◌*
 ghost use Rattle.std.specs.Io.KnownBytes.{Consumes, Keeps, IsAtEnd};
 ghost use Rattle.rtcm_bits.specs.Device.{HasFailed};
 ghost use Rattle.rtcm_scan.specs.Frames.{frames_of};
-ghost use Rattle.rtcm_scan.specs.Decided.{decided};
+ghost use Rattle.rtcm_scan.specs.Decided.{decided, decided_frames};
 ghost use Rattle.rtcm_scan.specs.Looks.{examined, examined_now, most, most_now};
 ghost use Rattle.obs_epoch.specs.Values.{most_cells};
-ghost use Rattle.obs_epoch.specs.Gather.{cells_in};
-ghost use Rattle.obs_epoch.specs.Held.{recorded};
+ghost use Rattle.rtcm_convert.specs.Kept.{cells_kept, locks_kept, locks_in_all};
 ghost use Rattle.rtcm_convert.specs.Converted.{Settings};
 ghost use Rattle.rtcm_convert.specs.Told.{settings, IsBad};
 ghost use Rattle.rtcm_convert.specs.Outcomes.{report_with};
 ghost use Rattle.rtcm_convert.specs.Stream.{Extends, Breaks, BreaksAtEnd};
-ghost use Rattle.rtcm_convert.specs.Conversion.{StandsFor, HasFinished, IsGoing, Goes, GoesLong, Adds, Completed, CompletedEmpty, Finishes, FinishesEmpty, Stops, StopsFeeding, StopsFinishing, LeftBy, refusal};
+ghost use Rattle.rtcm_convert.specs.Conversion.{StandsFor, HasFinished, IsGoing, GoesLong, Ran, Adds, Completed, CompletedEmpty, Finishes, FinishesEmpty, IsTakenFrom, Stops, StopsFeeding, StopsFinishing, LeftBy, refusal};
 
 use crate::fault::Fault;
 use crate::filer::Filer;
@@ -98,6 +97,10 @@ impl Converter {
         ensures going { OnOk result (IsGoing self.new × (self.new.scan.limit ≡ self.old.scan.limit) × (self.new.scan.taken ≡ self.old.scan.taken + length piece.now)) }
         ensures fine { OnOk result (writer.new.failures ≡ writer.old.failures) }
         ensures within { OnOk result (0 < length piece.now → self.new.scan.taken ≤ self.new.scan.limit) }
+        // At a fault no more than this piece was taken, and at `TooLong` all up to the limit.
+        ensures taken { (self.old.scan.taken ≤ self.new.scan.taken) × (self.new.scan.taken ≤ self.old.scan.taken + length piece.now) }
+        ensures full { IsErrOf result Fault.TooLong → self.new.scan.taken ≡ self.old.scan.limit }
+        ensures same { self.new.scan.limit ≡ self.old.scan.limit }
         // What went out is a front of that.
         ensures part { IsErrOf result Fault.Write → (s : Settings) (b : List ℕ) → StandsFor self.old s b
             → Breaks (W.contents writer.old.inner) (W.contents writer.new.inner) s b (b ++ piece.now) }
@@ -187,14 +190,16 @@ impl Converter {
         writer: &mut Counted<W>,
     ) -> Result<usize, Fault>
         requires { IsGoing self.old }
-        ensures whole { IfOk result (λ n. (piece : List ℕ) × (length piece ≡ n) × Consumes (R.remaining reader.old.inner) (R.remaining reader.new.inner) piece
-            × (n ≡ 0 → IsAtEnd (R.remaining reader.new.inner)) × Goes self.old self.new (W.contents writer.old.inner) (W.contents writer.new.inner) piece) }
+        ensures whole { OnOk result (Ran self.old self.new (R.remaining reader.old.inner) (R.remaining reader.new.inner) (W.contents writer.old.inner) (W.contents writer.new.inner)) }
+        ensures end { IfOk result (λ n. n ≡ 0 → IsAtEnd (R.remaining reader.new.inner)) }
         ensures going { IfOk result (λ n. IsGoing self.new × (self.new.scan.limit ≡ self.old.scan.limit) × (self.new.scan.taken ≡ self.old.scan.taken + n) × (0 < n → self.new.scan.taken ≤ self.new.scan.limit)) }
-        ensures read { IsErrOf result Fault.Read → Keeps (R.remaining reader.old.inner) (R.remaining reader.new.inner) × (writer.new ≡ writer.old) }
+        ensures read { IsErrOf result Fault.Read → Keeps (R.remaining reader.old.inner) (R.remaining reader.new.inner) × (writer.new ≡ writer.old) × (self.new.scan.taken ≡ self.old.scan.taken) }
+        ensures full { IsErrOf result Fault.TooLong → self.new.scan.taken ≡ self.old.scan.limit }
+        ensures same { self.new.scan.limit ≡ self.old.scan.limit }
         ensures long { IsErrOf result Fault.TooLong → (piece : List ℕ) × Consumes (R.remaining reader.old.inner) (R.remaining reader.new.inner) piece
             × GoesLong self.old (W.contents writer.old.inner) (W.contents writer.new.inner) piece × (self.old.scan.limit < self.old.scan.taken + length piece) }
         ensures part { IsErrOf result Fault.Write → (piece : List ℕ) × Consumes (R.remaining reader.old.inner) (R.remaining reader.new.inner) piece
-            × (length self.old.scan.held + length piece ≤ 1029) × Stops self.old (W.contents writer.old.inner) (W.contents writer.new.inner) piece }
+            × (length self.old.scan.held + length piece ≤ 1029) × IsTakenFrom self.old self.new 0 (length piece) × Stops self.old (W.contents writer.old.inner) (W.contents writer.new.inner) piece }
         ensures listening { self.old.scan.has_ended ≡ false }
         ensures fine { OnOk result ((reader.new.failures ≡ reader.old.failures) × (writer.new.failures ≡ writer.old.failures)) }
         ensures read_failed { IsErrOf result Fault.Read → HasFailed reader.old.failures reader.new.failures }
@@ -237,14 +242,16 @@ impl Converter {
         ensures write_failed { IsErrOf result Fault.Write → HasFailed writer.old.failures writer.new.failures }
         // The reader failed: what the bytes that were read add went out.
         ensures read { IsErrOf result Fault.Read → (front : List ℕ) × Consumes (R.remaining reader.old.inner) (R.remaining reader.new.inner) front
-            × Adds self.old (W.contents writer.old.inner) (W.contents writer.new.inner) front }
+            × (self.new.scan.taken ≡ self.old.scan.taken + length front) × Adds self.old (W.contents writer.old.inner) (W.contents writer.new.inner) front }
         // The bytes up to the limit were taken, and what they add went out.
         ensures long { IsErrOf result Fault.TooLong → (front : List ℕ) × Consumes (R.remaining reader.old.inner) (R.remaining reader.new.inner) front
             × GoesLong self.old (W.contents writer.old.inner) (W.contents writer.new.inner) front }
+        ensures full { IsErrOf result Fault.TooLong → self.new.scan.taken ≡ self.old.scan.limit }
+        ensures same { self.new.scan.limit ≡ self.old.scan.limit }
         // The writer failed, at one of the pieces or at the end.
         ensures write { IsErrOf result Fault.Write →
-            StopsFeeding self.old (R.remaining reader.old.inner) (R.remaining reader.new.inner) (W.contents writer.old.inner) (W.contents writer.new.inner)
-            ⊎ StopsFinishing self.old (R.remaining reader.old.inner) (R.remaining reader.new.inner) (W.contents writer.old.inner) (W.contents writer.new.inner) }
+            StopsFeeding self.old self.new (R.remaining reader.old.inner) (R.remaining reader.new.inner) (W.contents writer.old.inner) (W.contents writer.new.inner)
+            ⊎ StopsFinishing self.old self.new (R.remaining reader.old.inner) (R.remaining reader.new.inner) (W.contents writer.old.inner) (W.contents writer.new.inner) }
         ensures only { IsGoing self.old → IfErr result (λ fault. (fault ≡ Fault.Read) ⊎ ((fault ≡ Fault.TooLong) ⊎ ((fault ≡ Fault.NoEpoch) ⊎ (fault ≡ Fault.Write)))) }
         ensures ended { OnOk result (self.new.has_ended ≡ true) }
         ensures err { IsGoing self.old → IfErr result (λ fault. LeftBy fault self.new) }
@@ -269,22 +276,25 @@ impl Converter {
         ensures room { IsGoing self.now → result ≤ 1028 }
         // The held bytes are those from the first undecided place on; when the stream was ended, none.
         ensures undecided { (s : Settings) (b : List ℕ) → StandsFor self.now s b → self.now.scan.held ≡ drop (decided b) b }
-        ensures nothing { (b : List ℕ) → HasFinished self.now b → result ≡ 0 }
+        ensures nothing { (s : Settings) (b : List ℕ) → HasFinished self.now s b → result ≡ 0 }
     {
         self.framer.held()
     }
 
     /// How many cells of a system are held: those of the pending epoch or, where none is pending, of the one last closed.
     pub fn cells(&self, system: System) -> usize
-        ensures count { result ≡ length (cells_in system self.now.filer.gatherer.epoch) }
+        ensures now { (s : Settings) (b : List ℕ) → StandsFor self.now s b → result ≡ cells_kept s system (decided_frames b) }
+        ensures all { (s : Settings) (b : List ℕ) → HasFinished self.now s b → result ≡ cells_kept s system (frames_of b) }
         ensures bound { result ≤ most_cells }
     {
         self.filer.gatherer.cells(system)
     }
 
-    /// How many lock records are held, one at most for each satellite and signal.
+    /// How many lock records are held: one for each satellite and signal of which a closed epoch has a kept cell with a valid
+    /// phase and a known lock.
     pub fn locks(&self) -> usize
-        ensures count { result ≡ recorded self.now.filer.gatherer.locks }
+        ensures now { (s : Settings) (b : List ℕ) → StandsFor self.now s b → result ≡ locks_kept s (decided_frames b) }
+        ensures all { (s : Settings) (b : List ℕ) → HasFinished self.now s b → result ≡ locks_in_all s (frames_of b) }
         ensures bound { result ≤ 1_164 }
     {
         self.filer.gatherer.locks()
@@ -296,7 +306,7 @@ impl Converter {
         // Not more than 1,030 times the bytes taken, at every moment.
         ensures bound { result ≤ 1030 * self.now.scan.taken }
         ensures now { (s : Settings) (b : List ℕ) → StandsFor self.now s b → result ≡ examined_now b }
-        ensures all { (b : List ℕ) → HasFinished self.now b → result ≡ examined b }
+        ensures all { (s : Settings) (b : List ℕ) → HasFinished self.now s b → result ≡ examined b }
     {
         self.framer.examined()
     }
@@ -306,7 +316,7 @@ impl Converter {
         ensures value { result ≡ self.now.scan.most }
         ensures bound { result ≤ 1030 }
         ensures now { (s : Settings) (b : List ℕ) → StandsFor self.now s b → result ≡ most_now b }
-        ensures all { (b : List ℕ) → HasFinished self.now b → result ≡ most b }
+        ensures all { (s : Settings) (b : List ℕ) → HasFinished self.now s b → result ≡ most b }
     {
         self.framer.most()
     }

@@ -11,7 +11,7 @@ ghost use Rattle.obs_epoch.specs.Gathering.{Fits, closed_epochs, closed_in, plan
 ghost use Rattle.rtcm_convert.specs.Converted.{Settings, so_far, file, epochs_in, text_with};
 ghost use Rattle.rtcm_convert.specs.Outcomes.{capped};
 ghost use Rattle.rtcm_convert.specs.Fed.{GoesOn, BreaksOff};
-ghost use Rattle.rtcm_convert.specs.Filed.{opening, added, epochs_after, Writes, Settled, Files};
+ghost use Rattle.rtcm_convert.specs.Filed.{opening, added, epochs_after, Writes, Settled, Files, HasGathered};
 
 use crate::tally::Tally;
 use obs_epoch::{Epoch, Gatherer, Kind};
@@ -175,6 +175,7 @@ impl Filer {
         ensures whole { OnOk result ((s : Settings) (fs : List Framed) → Files self.old s fs
             → GoesOn (W.contents writer.old.inner) (W.contents writer.new.inner) (so_far s fs) (file s fs)) }
         ensures epochs { OnOk result ((s : Settings) (fs : List Framed) → Files self.old s fs → self.new.epochs ≡ capped (epochs_in s fs)) }
+        ensures gathered { (s : Settings) (fs : List Framed) → Files self.old s fs → HasGathered self.new s fs }
         ensures same { self.new.tally ≡ self.old.tally }
         ensures part { OnErr result ((s : Settings) (fs : List Framed) → Files self.old s fs
             → BreaksOff (W.contents writer.old.inner) (W.contents writer.new.inner) (so_far s fs) (file s fs)) }

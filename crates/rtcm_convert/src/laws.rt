@@ -20,11 +20,10 @@ pub fn filed()
     obs_epoch::laws::closed_stay();
 }
 
-/// Each frame of a stream is counted once, and no count of frames comes near the greatest number that is counted.
+/// Each frame of a stream is counted once.
 pub fn counts()
     ensures { CountedOnce }
 {
-    rtcm_scan::laws::prefix();
     obs_epoch::laws::kinds();
 }
 

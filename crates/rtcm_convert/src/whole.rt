@@ -2,10 +2,10 @@
 ghost use Rattle.std.specs.Prelude.{◌≡◌, ◌≢◌, ◌<◌, ◌≤◌, ◌⊎◌, ◌↔◌, List, ℕ, Err, IsErrOf, IfOk, IfErr, OnOk, IfSome, flat_map, max, length, take};
 ghost use Rattle.std.specs.Io.KnownBytes.{Appends, Consumes};
 ghost use Rattle.rtcm_bits.specs.Device.{HasFailed};
-ghost use Rattle.rtcm_scan.specs.Frames.{frames_of};
 ghost use Rattle.rtcm_scan.specs.Decided.{decided_frames};
-ghost use Rattle.rtcm_convert.specs.Converted.{so_far, file, epochs_in};
+ghost use Rattle.rtcm_convert.specs.Converted.{so_far};
 ghost use Rattle.rtcm_convert.specs.Broken.{Broke, BrokeAtEnd};
+ghost use Rattle.rtcm_convert.specs.Made.{IsMade, IsMadeEmpty};
 ghost use Rattle.rtcm_convert.specs.Outcomes.{report_of};
 ghost use Rattle.rtcm_convert.specs.Told.{settings, IsBad};
 
@@ -25,13 +25,11 @@ pub fn convert_stream<R: Read, W: Write>(
     reader: &mut Counted<R>,
     writer: &mut Counted<W>,
 ) -> Result<Report, Fault>
-    // The file that was written is the one of the stream's frames in order.
-    ensures file { OnOk result (IfSome (R.remaining reader.old.inner) (λ b.
-        Appends (W.contents writer.old.inner) (W.contents writer.new.inner) (file (settings setup) (frames_of b)))) }
+    // The file that was written is the one of the stream's frames in order, and has an epoch.
+    ensures file { OnOk result (IfSome (R.remaining reader.old.inner) (IsMade setup (W.contents writer.old.inner) (W.contents writer.new.inner))) }
     ensures report { IfOk result (λ report. IfSome (R.remaining reader.old.inner) (λ b. report ≡ report_of (settings setup) b)) }
     // No epoch stands in that file, and it is empty.
-    ensures no_epoch { IsErrOf result Fault.NoEpoch → IfSome (R.remaining reader.old.inner) (λ b.
-        (epochs_in (settings setup) (frames_of b) ≡ 0) × Appends (W.contents writer.old.inner) (W.contents writer.new.inner) (file (settings setup) (frames_of b))) }
+    ensures no_epoch { IsErrOf result Fault.NoEpoch → IfSome (R.remaining reader.old.inner) (IsMadeEmpty setup (W.contents writer.old.inner) (W.contents writer.new.inner)) }
     ensures too_long { IsErrOf result Fault.TooLong → IfSome (R.remaining reader.old.inner) (λ b. setup.limit < length b) }
     // The bytes up to the limit were taken, and what went out is the file of the epochs that they close.
     ensures long { IsErrOf result Fault.TooLong → (front : List ℕ) × Consumes (R.remaining reader.old.inner) (R.remaining reader.new.inner) front
@@ -65,10 +63,11 @@ pub fn convert_pieces<W: Write>(
     pieces: &[Vec<u8>],
     writer: &mut Counted<W>,
 ) -> Result<Report, Fault>
-    // However the stream is cut into pieces, the file that was written is the one of its frames in order.
-    ensures file { OnOk result (Appends (W.contents writer.old.inner) (W.contents writer.new.inner)
-        (file (settings setup) (frames_of (flat_map (λ piece. piece.items) pieces.now)))) }
+    // However the stream is cut into pieces, the file that was written is the one of its frames in order, and has an epoch.
+    ensures file { OnOk result (IsMade setup (W.contents writer.old.inner) (W.contents writer.new.inner) (flat_map (λ piece. piece.items) pieces.now)) }
     ensures report { IfOk result (λ report. report ≡ report_of (settings setup) (flat_map (λ piece. piece.items) pieces.now)) }
+    // No epoch stands in that file, and it is empty.
+    ensures no_epoch { IsErrOf result Fault.NoEpoch → IsMadeEmpty setup (W.contents writer.old.inner) (W.contents writer.new.inner) (flat_map (λ piece. piece.items) pieces.now) }
 {
     laws::prefix();
     let mut converter = match Converter::new(alloc, setup) {

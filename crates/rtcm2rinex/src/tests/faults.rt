@@ -1,8 +1,9 @@
-use super::streams::{FRAMED_STATION, LATE_FRAME};
+use super::convert::OPTIONS;
+use super::streams::{FINE, FRAMED_STATION, LATE_FRAME, framed};
 use crate::command::command;
 use rtcm_bits::Counted;
 use rtcm_bits::devices::{PieceReader, ReadEnd, ShortWriter, WriteEnd};
-use std::io::ErrorKind;
+use std::io::{BufWriter, ErrorKind};
 use std::test::Fail;
 
 const COMMANDS: [[&str; 2]; 2] = [["rtcm2rinex", "frames"], ["rtcm2rinex", "show"]];
@@ -56,6 +57,29 @@ fn a_writer_that_fails_is_told(rt: HostRuntime) -> Result<(), Fail> {
             );
             assert_eq!(rt; faults.as_slice(), b"rtcm2rinex: Write\n".as_slice());
         }
+    }
+    Ok(())
+}
+
+// A buffer takes every line, and what stands behind it fails when they are sent on.
+#[test]
+fn a_flush_that_fails_is_told(rt: HostRuntime) -> Result<(), Fail> {
+    let stream = framed(rt.alloc(), &[&FINE])?;
+    for words in [
+        COMMANDS[0].as_slice(),
+        COMMANDS[1].as_slice(),
+        OPTIONS.as_slice(),
+    ] {
+        let end = WriteEnd::FailsOnce(ErrorKind::Other);
+        let device = ShortWriter::new(Vec::new(rt.alloc()), 1, 2, end);
+        let buffer = BufWriter::with_capacity(rt.alloc(), 4096, device)?;
+        let mut reader = Counted::new(stream.as_slice());
+        let mut writer = Counted::new(buffer);
+        let mut faults = Vec::new(rt.alloc());
+        let status = command(rt.alloc(), words, &mut reader, &mut writer, &mut faults);
+        assert_eq!(rt; status, 1);
+        assert_eq!(rt; writer.failures(), 1);
+        assert_eq!(rt; faults.as_slice(), b"rtcm2rinex: Write\n".as_slice());
     }
     Ok(())
 }

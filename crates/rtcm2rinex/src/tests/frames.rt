@@ -63,7 +63,7 @@ fn joined_frames_are_listed(rt: HostRuntime) -> Result<(), Fail> {
     Ok(())
 }
 
-// More lines than one page has room for.
+// More lines than one write has room for.
 #[test]
 fn many_frames_are_listed(rt: HostRuntime) -> Result<(), Fail> {
     let empty: [&[u8]; 1_500] = [&[]; 1_500];

@@ -32,19 +32,19 @@ returns-in-Err-clause-only g c = λ v is few.
     (λ input h same. refused v c.in-Err.fault (g.W.Write.contents c.args.writer.now.inner) (g.W.Write.contents c.args.writer.now.inner) (h same)) (c.in-Err.ensures.only v is few)
 
 -- the line that was made is that of the file
-line_of : (f v : FileValue) (bytes line : List ℕ) → bytes ≡ line → line ≡ check_line f → f ≡ v → bytes ≡ check_line v
-line_of f v bytes line a b c = a ∙ b ∙ ap check_line c
+line_of : (f v : FileValue) (line : List ℕ) → line ≡ check_line f → f ≡ v → line ≡ check_line v
+line_of f v line a b = a ∙ ap check_line b
 
-pub returns-in-Ok-write_whole-clause-only : goal.returns-in-Ok-write_whole-clause-only
-returns-in-Ok-write_whole-clause-only g c = λ v is few.
+pub returns-in-Ok-write_line-clause-only : goal.returns-in-Ok-write_line-clause-only
+returns-in-Ok-write_line-clause-only g c = λ v is few.
     where_known (λ input. input ≡ file_text v → IsReadOr v (Ok c.in-Ok.file)) _ (g.R.Read.remaining c.args.reader.now.inner)
-    (λ input h same. subst (Appends (g.W.Write.contents c.args.writer.now.inner) (g.W.Write.contents c.write_whole.new.self.inner))
-    (line_of c.in-Ok.file v c.as_bytes.result.now _ c.as_bytes.ensures.text c.check_line-line.ensures (h same)) c.in-Ok-write_whole.ensures.whole)
+    (λ input h same. subst (Appends (g.W.Write.contents c.args.writer.now.inner) (g.W.Write.contents c.write_line.new.writer.inner))
+    (line_of c.in-Ok.file v _ c.check_line-line.ensures (h same)) c.in-Ok-write_line.ensures.whole)
     (c.in-Ok.ensures.only v is few)
 
 pub returns-clause-only : goal.returns-clause-only
 returns-clause-only g c = λ v is few.
     where_known (λ input. input ≡ file_text v → IsReadOr v (Ok c.in-Ok.file)) _ (g.R.Read.remaining c.args.reader.now.inner)
-    (λ input h same. subst (AppendsPrefix (g.W.Write.contents c.args.writer.now.inner) (g.W.Write.contents c.write_whole.new.self.inner))
-    (line_of c.in-Ok.file v c.as_bytes.result.now _ c.as_bytes.ensures.text c.check_line-line.ensures (h same)) c.in-Err-write_whole.ensures.part)
+    (λ input h same. subst (AppendsPrefix (g.W.Write.contents c.args.writer.now.inner) (g.W.Write.contents c.write_line.new.writer.inner))
+    (line_of c.in-Ok.file v _ c.check_line-line.ensures (h same)) c.in-Err-write_line.ensures.part)
     (c.in-Ok.ensures.only v is few)

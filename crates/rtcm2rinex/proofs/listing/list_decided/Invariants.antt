@@ -8,8 +8,8 @@ abbrev pub invariant-loop-offset : goal.invariant-loop-offset
 invariant-loop-offset g l =
     let contents = g.W.Write.contents in
     record {
-      lists : (w : Option (List ℕ)) (b : List ℕ) (fs : List Framed) → Lists (lines_of l.listing) w (contents l.fn.writer.inner) l.fn.page l.fn.framer b fs
-          → (gs : List Framed) × Lists (lines_of l.listing) w (contents l.writer.inner) l.page l.framer b gs;
+      lists : (w : Option (List ℕ)) (b : List ℕ) (fs : List Framed) → Lists (lines_of l.listing) w (contents l.fn.writer.inner) l.fn.framer b fs
+          → (gs : List Framed) × Lists (lines_of l.listing) w (contents l.writer.inner) l.framer b gs;
       limit : l.framer.limit ≡ l.fn.framer.limit;
       taken : l.framer.taken ≡ l.fn.framer.taken;
       ended : l.framer.has_ended ≡ l.fn.framer.has_ended;

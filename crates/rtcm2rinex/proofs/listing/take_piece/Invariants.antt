@@ -8,8 +8,8 @@ abbrev pub invariant-loop-taken : goal.invariant-loop-taken
 invariant-loop-taken g l =
     let contents = g.W.Write.contents in
     record {
-      listed : (w : Option (List ℕ)) (b : List ℕ) (fs : List Framed) → Lists (lines_of l.listing) w (contents l.fn.writer.inner) l.fn.page l.fn.framer b fs
-          → ListsKnown (lines_of l.listing) w (contents l.writer.inner) l.page l.framer (b ++ take l.taken l.piece);
+      listed : (w : Option (List ℕ)) (b : List ℕ) (fs : List Framed) → Lists (lines_of l.listing) w (contents l.fn.writer.inner) l.fn.framer b fs
+          → ListsKnown (lines_of l.listing) w (contents l.writer.inner) l.framer (b ++ take l.taken l.piece);
       ready : l.framer.is_ready ≡ true;
       bound : l.taken ≤ length l.piece;
       taken : l.framer.taken ≡ l.fn.framer.taken + l.taken;

@@ -2,4 +2,4 @@ use Rattle.rtcm_convert.proofs.CountLemmas.{counted_once}
 use Rattle.rtcm_convert.proofs.laws.counts.Goals as goal
 
 pub returns : goal.returns
-returns c = counted_once c.kinds.ensures c.prefix.ensures.few
+returns c = counted_once c.kinds.ensures

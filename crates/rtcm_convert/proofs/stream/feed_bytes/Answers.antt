@@ -1,42 +1,10 @@
-use Rattle.std.proofs.Common.{◌∙◌, arith, refl}
-use Rattle.rtcm_convert.proofs.PieceLemmas.{fed_more, fed_part, fed_long, fed_whole, at_limit}
+use Rattle.rtcm_convert.proofs.PieceLemmas.{sent_part, sent_part_long}
+use Rattle.std.proofs.Common.{ap, Err}
 use Rattle.rtcm_convert.proofs.stream.feed_bytes.Goals as goal
 
-pub returns-in-Err-clause-part : goal.returns-in-Err-clause-part
-returns-in-Err-clause-part g c = λ e.
-    fed_part c.prefix.ensures.grows c.args.framer.now c.loop-taken.framer c.args.filer.now c.loop-taken.filer _ _ _ c.args.piece.now c.loop-taken.taken c.min.result
-    c.loop-taken.invariant.came c.in-Err.ensures.part
+pub returns-in-Err-send_since-clause-part : goal.returns-in-Err-send_since-clause-part
+returns-in-Err-send_since-clause-part g c = λ _ s b d. sent_part _ _ _ s b _ (c.in-Ok.ensures.whole s b d).1 c.send_since.ensures.kept
 
-pub returns-then-next-taken-clause-long : goal.returns-then-next-taken-clause-long
-returns-then-next-taken-clause-long g c = λ e.
-    fed_long c.args.framer.now c.loop-taken.framer c.args.filer.now c.loop-taken.filer _ _ _ c.args.piece.now c.loop-taken.taken c.args.framer.now.limit
-    c.loop-taken.invariant.came
-    (at_limit c.loop-taken.framer.taken c.loop-taken.framer.limit c.room.result (c.room.ensures.some c.loop-taken.invariant.ready) (omega (arith, c.min.ensures, c.if-next-taken.true, c.loop-taken-test.true)) c.room.ensures.within
-    ∙ c.loop-taken.invariant.limit) refl
-
-pub loop-taken-preserved : goal.loop-taken-preserved
-loop-taken-preserved g c =
-    let i = c.loop-taken.invariant in
-    let n = c.in_default.ensures in
-    record {
-      came = fed_more c.args.framer.now c.loop-taken.framer c.feed_block.new.framer c.args.filer.now c.loop-taken.filer c.feed_block.new.filer _ _ _ c.args.piece.now c.loop-taken.taken c.min.result
-          i.came n.whole;
-      bound = omega (arith, c.min.ensures, i.bound);
-      ready = n.ready;
-      going = n.going;
-      listening = n.same.1;
-      fine = n.fine ∙ i.fine;
-      widest = n.widest ∙ i.widest;
-      taken = omega (arith, n.taken, i.taken);
-      examined = λ h. n.examined (i.examined h);
-      limit = n.same.0 ∙ i.limit;
-      within = λ _. n.within;
-    }
-
-pub returns-clause-whole : goal.returns-clause-whole
-returns-clause-whole g c =
-    fed_whole c.args.framer.now c.loop-taken.framer c.args.filer.now c.loop-taken.filer _ _ c.args.piece.now c.loop-taken.taken
-    c.loop-taken.invariant.came c.loop-taken.invariant.bound c.loop-taken-test.false
-
-pub returns-in-Err-clause-examined : goal.returns-in-Err-clause-examined
-returns-in-Err-clause-examined g c = λ h. c.in-Err.ensures.examined (c.loop-taken.invariant.examined h)
+pub returns-in-Err-send_since-2-clause-part : goal.returns-in-Err-send_since-2-clause-part
+returns-in-Err-send_since-2-clause-part g c = λ _ s b d.
+    sent_part_long c.prefix.ensures.grows _ _ _ s b _ c.args.framer.now.limit (c.in-Err-TooLong.ensures.long (ap Err c.in-Err-TooLong.field-0-is) s b d) c.send_since-in-Err-TooLong.ensures.kept

@@ -9,4 +9,4 @@ returns-in-Err-feed-clause-long g c = λ e.
 
 pub returns-in-Err-feed-clause-part : goal.returns-in-Err-feed-clause-part
 returns-in-Err-feed-clause-part g c = λ e.
-    pulled_part c.args.self.now _ _ _ _ _ c.in-Ok.ensures.bytes.0 (search rules) (c.in-Err-feed.ensures.part (same_fault _ _ e))
+    pulled_part c.args.self.now c.feed.new.self _ _ _ _ _ c.in-Ok.ensures.bytes.0 (search rules) c.feed.ensures.taken.0 c.feed.ensures.taken.1 (c.in-Err-feed.ensures.part (same_fault _ _ e))

@@ -7,8 +7,8 @@ pub returns-in-Ok-eq0-clause-whole : goal.returns-in-Ok-eq0-clause-whole
 returns-in-Ok-eq0-clause-whole g c =
     let p = c.in-Ok-eq0.ensures.whole in
     ran_whole c.args.self.now c.pull.new.self c.finish.new.self _ _ _ _ _ c.finish.result
-    (ran-trans c.args.self.now c.loop-self.self c.pull.new.self _ _ _ _ _ _ c.loop-self.invariant.came (p.0, p.2, p.4))
-    (p.3 c.in-Ok-eq0.field-0-test) c.finish.ensures.whole
+    (ran-trans c.args.self.now c.loop-self.self c.pull.new.self _ _ _ _ _ _ c.loop-self.invariant.came p)
+    (c.in-Ok-eq0.ensures.end c.in-Ok-eq0.field-0-test) c.finish.ensures.whole
 
 pub loop-self-preserved : goal.loop-self-preserved
 loop-self-preserved g c =
@@ -16,7 +16,7 @@ loop-self-preserved g c =
     let p = c.in-Ok.ensures.whole in
     let n = c.in-Ok.ensures in
     record {
-      came = ran-trans c.args.self.now c.loop-self.self c.pull.new.self _ _ _ _ _ _ i.came (p.0, p.2, p.4);
+      came = ran-trans c.args.self.now c.loop-self.self c.pull.new.self _ _ _ _ _ _ i.came p;
       going = n.going.0;
       limit = n.going.1 ∙ i.limit;
       reader = n.fine.0 ∙ i.reader;
@@ -27,9 +27,9 @@ loop-self-preserved g c =
 pub returns-in-Ok-eq0-clause-write : goal.returns-in-Ok-eq0-clause-write
 returns-in-Ok-eq0-clause-write g c = λ e.
     let p = c.in-Ok-eq0.ensures.whole in
-    inr (run_finishing c.args.self.now c.pull.new.self _ _ _ _ _
-    (ran-trans c.args.self.now c.loop-self.self c.pull.new.self _ _ _ _ _ _ c.loop-self.invariant.came (p.0, p.2, p.4))
-    (p.3 c.in-Ok-eq0.field-0-test) (c.finish.ensures.part e))
+    inr (run_finishing c.args.self.now c.pull.new.self c.finish.new.self _ _ _ _ _
+    (ran-trans c.args.self.now c.loop-self.self c.pull.new.self _ _ _ _ _ _ c.loop-self.invariant.came p)
+    (c.in-Ok-eq0.ensures.end c.in-Ok-eq0.field-0-test) c.finish.ensures.same.0 (c.finish.ensures.part e))
 
 pub returns-in-Err-clause-long : goal.returns-in-Err-clause-long
 returns-in-Err-clause-long g c = λ e.
@@ -37,7 +37,7 @@ returns-in-Err-clause-long g c = λ e.
 
 pub returns-in-Err-clause-write : goal.returns-in-Err-clause-write
 returns-in-Err-clause-write g c = λ e.
-    inl (run_feeding c.args.self.now c.loop-self.self _ _ _ _ _ _ c.loop-self.invariant.came c.pull.ensures.listening (c.in-Err.ensures.part (same_fault _ _ e)))
+    inl (run_feeding c.args.self.now c.loop-self.self c.pull.new.self _ _ _ _ _ _ c.loop-self.invariant.came c.pull.ensures.listening (c.in-Err.ensures.part (same_fault _ _ e)))
 
 pub loop-self-init : goal.loop-self-init
 loop-self-init g c = record {
@@ -53,8 +53,8 @@ pub returns-in-Ok-eq0-clause-no_epoch : goal.returns-in-Ok-eq0-clause-no_epoch
 returns-in-Ok-eq0-clause-no_epoch g c = λ e.
     let p = c.in-Ok-eq0.ensures.whole in
     ran_empty c.args.self.now c.pull.new.self c.finish.new.self _ _ _ _ _
-    (ran-trans c.args.self.now c.loop-self.self c.pull.new.self _ _ _ _ _ _ c.loop-self.invariant.came (p.0, p.2, p.4))
-    (p.3 c.in-Ok-eq0.field-0-test) (c.finish.ensures.no_epoch e)
+    (ran-trans c.args.self.now c.loop-self.self c.pull.new.self _ _ _ _ _ _ c.loop-self.invariant.came p)
+    (c.in-Ok-eq0.ensures.end c.in-Ok-eq0.field-0-test) (c.finish.ensures.no_epoch e)
 
 pub returns-in-Err-clause-too_long : goal.returns-in-Err-clause-too_long
 returns-in-Err-clause-too_long g c = λ e.
@@ -63,4 +63,4 @@ returns-in-Err-clause-too_long g c = λ e.
 pub returns-in-Err-clause-read : goal.returns-in-Err-clause-read
 returns-in-Err-clause-read g c = λ e.
     let p = c.in-Err.ensures.read (same_fault _ _ e) in
-    run_read c.args.self.now c.loop-self.self _ _ _ _ _ _ c.loop-self.invariant.came p.0 (ap (λ d. g.W.Write.contents d.inner) p.1)
+    run_read c.args.self.now c.loop-self.self c.pull.new.self _ _ _ _ _ _ c.loop-self.invariant.came p.0 (ap (λ d. g.W.Write.contents d.inner) p.1) p.2

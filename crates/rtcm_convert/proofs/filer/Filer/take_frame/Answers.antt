@@ -12,7 +12,7 @@ returns-in-Err-clause-whole g c = λ s fs x.
 pub returns-in-Ok-take-clause-whole : goal.returns-in-Ok-take-clause-whole
 returns-in-Ok-take-clause-whole g c = λ s fs x.
     files_more c.args.self.now c.take.new.self _ s fs (framed c.args.frame.now) c.in-Ok.message c.in-Ok-take.kind _ _ (ap message_at (sym c.deref.ensures.0) ∙ c.in-Ok.ensures.exact)
-    c.in-Ok-take.ensures.whole c.in-Ok-take.ensures.kind c.in-Ok-take.ensures.same (ap (λ r. record c.take.new.self { tally = r }) c.count-in-Ok-take.ensures) x
+    c.in-Ok.ensures.found.0 c.in-Ok-take.ensures.whole c.in-Ok-take.ensures.kind c.in-Ok-take.ensures.same (ap (λ r. record c.take.new.self { tally = r }) c.count-in-Ok-take.ensures) x
 
 pub returns-in-Err-take-clause-part : goal.returns-in-Err-take-clause-part
 returns-in-Err-take-clause-part g c =

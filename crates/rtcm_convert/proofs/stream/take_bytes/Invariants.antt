@@ -1,7 +1,7 @@
 use Rattle.std.proofs.Common.{◌≡◌, ◌+◌, ◌<◌, ◌≤◌, ◌++◌, ℕ, List, true, false, take, length, ◌-◌}
 use Rattle.rtcm_convert.specs.Converted.{Settings}
 use Rattle.rtcm_convert.specs.Stream.{Drained, StandsForSome, Extends}
-use Rattle.rtcm_convert.proofs.stream.feed_bytes.Given as goal
+use Rattle.rtcm_convert.proofs.stream.take_bytes.Given as goal
 
 abbrev pub invariant-loop-taken : goal.invariant-loop-taken
 invariant-loop-taken g l =
