@@ -15,6 +15,7 @@ mod Appended
 mod Faultless
 mod FileText
 mod Examples
+mod Ahead
 mod Judged
 mod Rises
 mod BodySteps

@@ -2,7 +2,7 @@ use Rattle.std.proofs.Common.{arith, ◌≡◌, ◌∙◌, sym, ap, ℕ, suc, �
 use Rattle.std.proofs.lemmas.List.{drop-drop}
 use Rattle.rinex_file.specs.Value.{Entry}
 use Rattle.rinex_file.specs.RowReading.{entry_in, entries_in}
-use Rattle.rinex_file.proofs.read_row.seen_in.Goals as goal
+use Rattle.rinex_file.proofs.read_row.put_entries.Goals as goal
 
 -- one more entry
 step : (text : List ℕ) (signals i k : ℕ) (items all new : List Entry) (e : Entry) → i < signals → k ≡ 64 → e ≡ entry_in (take k (drop (3 + 64 * i) text)) → new ≡ items ++ e ∷ []

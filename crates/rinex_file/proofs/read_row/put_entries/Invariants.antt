@@ -1,6 +1,6 @@
 use Rattle.std.proofs.Common.{◌≡◌, ◌+◌, ◌*◌, ◌-◌, ◌++◌, drop, length}
 use Rattle.rinex_file.specs.RowReading.{entries_in}
-use Rattle.rinex_file.proofs.read_row.seen_in.Given as goal
+use Rattle.rinex_file.proofs.read_row.put_entries.Given as goal
 
 -- the entries so far, and those of the rest
 abbrev pub invariant-loop-i : goal.invariant-loop-i

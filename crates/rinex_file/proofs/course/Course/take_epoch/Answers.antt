@@ -5,7 +5,7 @@ use Rattle.rinex_file.specs.Progress.{Progress, GoesOn}
 use Rattle.rinex_file.specs.ProgressOf.{progress_of}
 use Rattle.rinex_file.specs.Sound.{IsSound}
 use Rattle.rinex_file.proofs.BodySteps.{epoch_taken, no_epoch, bad_epoch, sound_begun, sound_between}
-use Rattle.rinex_file.proofs.reading.Reading.take_epoch.Goals as goal
+use Rattle.rinex_file.proofs.course.Course.take_epoch.Goals as goal
 
 pub returns-in-None-clause-bad : goal.returns-in-None-clause-bad
 returns-in-None-clause-bad c = λ e. no_epoch (progress_of c.args.self.now) c.args.line.now c.requires.due c.in-None.ensures

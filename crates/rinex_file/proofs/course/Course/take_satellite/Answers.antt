@@ -9,7 +9,7 @@ use Rattle.rinex_file.specs.Progress.{Progress, Known, GoesOn, with_row, with_ep
 use Rattle.rinex_file.specs.ProgressOf.{progress_of}
 use Rattle.rinex_file.specs.Sound.{IsSound}
 use Rattle.rinex_file.proofs.BodySteps.{row_taken, no_row, bad_row, last_taken, sound_open, few_at, sound_row, sound_closed}
-use Rattle.rinex_file.proofs.reading.Reading.take_satellite.Goals as goal
+use Rattle.rinex_file.proofs.course.Course.take_satellite.Goals as goal
 
 pub read_seen-requires-clause-few : goal.read_seen-requires-clause-few
 read_seen-requires-clause-few c =

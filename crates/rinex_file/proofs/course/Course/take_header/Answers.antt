@@ -5,7 +5,7 @@ use Rattle.rinex_file.specs.declared.section.Section.{Section}
 use Rattle.rinex_file.specs.Progress.{Known, Shown, IsHeaderLeft, MayFollow}
 use Rattle.rinex_file.specs.ProgressOf.{progress_of}
 use Rattle.rinex_file.proofs.HeaderBody.{no_header, header_taken, header_ended, sound_start, sound_header}
-use Rattle.rinex_file.proofs.reading.Reading.take_header.Goals as goal
+use Rattle.rinex_file.proofs.course.Course.take_header.Goals as goal
 
 abbrev as_err : (A : Type 0) → Refusal → Result A Refusal
 as_err A x = Err x
