@@ -14,6 +14,8 @@ use Rattle.rinex_file.specs.FileValues.{IsFileValue}
 use Rattle.rinex_file.specs.File.{file_text, file_lines}
 use Rattle.rinex_file.specs.Exact.{IsLine, NoFileBegins, IsCutShort, IsTooLong, IsFaulty, Explains, IsReadOr, line_feeds, most_lines}
 use Rattle.rinex_file.specs.Progress.{Progress, GoesOn, StandsFor}
+use Rattle.rinex_file.specs.Course.{Follows, Refuses}
+use Rattle.rinex_file.specs.Steps.{IsTaken}
 use Rattle.rinex_file.proofs.Sent.{joined-append}
 use Rattle.rinex_file.proofs.Splits.{splits, or_false, has-line}
 
@@ -144,14 +146,6 @@ taken_more a b c taken line first next = subst (Consumes a c) (sym (joined-more 
 
 -- ---- what was read
 
--- some lines were taken, so many, and what was read stands for them
-pub record IsTaken (s : Progress) (count : ℕ) (old new : Option (List ℕ)) : Type 0 where
-  pub lines : List (List ℕ)
-  pub are : All IsLine lines
-  pub many : length lines ≡ count
-  pub taken : Consumes old new (joined lines)
-  pub stands : StandsFor s lines
-
 -- nothing was read
 pub start : (s : Progress) (a : Option (List ℕ)) → ((v : FileValue) (left : List (List ℕ)) → GoesOn s v left ↔ (IsFileValue v × (left ≡ file_lines v))) → IsTaken s 0 a a
 start s a new = record {
@@ -164,10 +158,6 @@ start s a new = record {
     begins = λ v left goes. let both = (new v left).0 goes in (both.0, sym both.1);
   };
 }
-
--- the next line is the one that may follow
-abbrev pub Follows : Progress → Progress → List ℕ → Type 0
-Follows old new line = (v : FileValue) (left : List (List ℕ)) → GoesOn old v (line ∷ left) ↔ GoesOn new v left
 
 stands_more : (old new : Progress) (taken : List (List ℕ)) (line : List ℕ) → StandsFor old taken → Follows old new line → StandsFor new (taken ++ line ∷ [])
 stands_more old new taken line stands more = record {
@@ -186,10 +176,6 @@ one_more old new n a b c line t is next more = record {
   taken = taken_more a b c t.lines line t.taken next;
   stands = stands_more old new t.lines line t.stands more;
 }
-
--- no file goes on with the line
-abbrev pub Refuses : Progress → List ℕ → Type 0
-Refuses s line = (v : FileValue) (left : List (List ℕ)) → GoesOn s v (line ∷ left) → ⊥
 
 -- the next line has too many bytes
 pub over_long : (s : Progress) (n : ℕ) (a b c : Option (List ℕ)) (bytes : List ℕ) → IsTaken s n a b → length bytes ≡ 1220 → has 10 bytes ≡ false → Consumes b c bytes

@@ -2,28 +2,10 @@
 use Rattle.std.proofs.Common.{rules, arith, ◌≡◌, ◌↔◌, ℕ, zero, suc, ◌+◌, ◌-◌, ◌<◌, ◌≤◌, List, [], ◌∷◌, ◌++◌, refl, sym, ap, subst, ◌∙◌, length, get_or, append_assoc, append-nil, length-append, inl, inr, Bool, true, false, Option, Some, None, IsTrue}
 use Rattle.std.specs.Prelude.{All, map, nat_lt, slice_get}
 use Rattle.std.specs.List.Sorted.{IsStrictlyIncreasing}
+use Rattle.rinex_file.specs.Course.{EndsIn}
 use Rattle.std.proofs.Math.Seq.{get_or-append_seam}
 use Rattle.std.proofs.lemmas.List.{get_or_append_left, map-append, length-map}
 use Rattle.std.proofs.lemmas.Bool.{cases_lt}
-
--- the last item, with those in front of it
-abbrev pub EndsIn : {X : Type 0} → List X → X → Type 0
-EndsIn {X} xs x = (front : List X) × (xs ≡ front ++ x ∷ [])
-
-last_at : {X : Type 0} (n : ℕ) (xs : List X) (x : X) → length xs ≡ suc n → slice_get xs n ≡ Some x → EndsIn xs x
-last_at n [] x l e = absurd (omega (arith, l))
-last_at zero (a ∷ []) x l e = let same : a ≡ x = cc in ([], ap (λ b. b ∷ []) same)
-last_at zero (a ∷ b ∷ bs) x l e = absurd (omega (arith, l))
-last_at (suc n) (a ∷ []) x l e = absurd (omega (arith, l))
-last_at (suc n) (a ∷ b ∷ bs) x l e =
-    let (front, shape) = last_at n (b ∷ bs) x (omega (arith, l)) e in
-    (a ∷ front, ap (λ t. a ∷ t) shape)
-
-pub last_split : {X : Type 0} (xs : List X) (x : X) → slice_get xs (length xs - 1) ≡ Some x → EndsIn xs x
-last_split [] x e = cc
-last_split (a ∷ xs) x e =
-    let n : length (a ∷ xs) - 1 ≡ length xs = omega arith in
-    last_at (length xs) (a ∷ xs) x (omega arith) (ap (slice_get (a ∷ xs)) (sym n) ∙ e)
 
 pub rise_more : (front : List ℕ) (a y : ℕ) → IsStrictlyIncreasing (front ++ a ∷ []) → a < y → IsStrictlyIncreasing ((front ++ a ∷ []) ++ y ∷ [])
 rise_more front a y rise less k h =
@@ -71,11 +53,19 @@ is_less a y h = grind (arith, h)
 less_is : (a y : ℕ) → a < y → IsTrue (nat_lt a y)
 less_is a y h = grind (arith, h)
 
-pub rise_iff : {X : Type 0} (f : X → ℕ) (xs : List X) (x : X) (a b y : ℕ) → IsStrictlyIncreasing (map f xs) → slice_get xs (length xs - 1) ≡ Some x → a ≡ f x → b ≡ y
-    → IsTrue (nat_lt a b) ↔ IsStrictlyIncreasing (map f xs ++ y ∷ [])
-rise_iff f xs x a b y rise last e same =
-    let (front, shape) = last_split xs x last in
-    let text : map f xs ≡ map f front ++ a ∷ [] = ap (map f) shape ∙ map-append f front (x ∷ []) ∙ ap (λ b. map f front ++ b ∷ []) (sym e) in (
-      λ h. subst (λ t. IsStrictlyIncreasing (t ++ y ∷ [])) (sym text) (rise_more (map f front) a y (subst IsStrictlyIncreasing text rise) (is_less a y (subst (λ n. IsTrue (nat_lt a n)) same h))),
-      λ r. subst (λ n. IsTrue (nat_lt a n)) (sym same) (less_is a y (rise_last (map f front) [] a y (subst (λ t. IsStrictlyIncreasing (t ++ y ∷ [])) text r))),
-    )
+-- one number rises alone
+pub rise_alone : (xs : List ℕ) (y : ℕ) → xs ≡ [] → IsStrictlyIncreasing (xs ++ y ∷ [])
+rise_alone xs y none = subst (λ (t : List ℕ). IsStrictlyIncreasing (t ++ y ∷ [])) (sym none) (λ k h. absurd (omega (arith, h)))
+
+pub rise_iff : (xs : List ℕ) (a y : ℕ) → EndsIn xs (Some a) → IsStrictlyIncreasing xs → IsTrue (nat_lt a y) ↔ IsStrictlyIncreasing (xs ++ y ∷ [])
+rise_iff xs a y (front, shape) rise = (
+  λ h. subst (λ (t : List ℕ). IsStrictlyIncreasing (t ++ y ∷ [])) (sym shape) (rise_more front a y (subst IsStrictlyIncreasing shape rise) (is_less a y h)),
+  λ r. less_is a y (rise_last front [] a y (subst (λ (t : List ℕ). IsStrictlyIncreasing (t ++ y ∷ [])) shape r)),
+)
+
+-- a list of some items isn't empty
+pub ends_some : (xs : List ℕ) (a : ℕ) → EndsIn xs (Some a) → xs ≡ [] → ⊥
+ends_some xs a (front, shape) none =
+    let size : length xs ≡ length front + 1 = ap length shape ∙ length-append front (a ∷ []) in
+    let zero : length xs ≡ 0 = ap length none in
+    omega (arith, size, zero)

@@ -129,7 +129,8 @@ impl Course {
         ensures room { (n : ℕ) → HasRoom self.old n → OnOk result (HasRoom self.new (n + 1)) }
     {
         match self.head.take(section, row, line, again) {
-            Err(refusal) => Err(refusal),
+            Err(Refusal::Memory) => Err(Refusal::Memory),
+            Err(Refusal::Bad) => Err(Refusal::Bad),
             Ok(Some((section, row))) => {
                 self.due = Due::Header(section, row);
                 Ok(Added::NoRow)
