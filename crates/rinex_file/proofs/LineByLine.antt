@@ -15,7 +15,7 @@ use Rattle.rinex_file.specs.File.{file_text, file_lines}
 use Rattle.rinex_file.specs.Exact.{IsLine, NoFileBegins, IsCutShort, IsTooLong, IsFaulty, Explains, IsReadOr, line_feeds, most_lines}
 use Rattle.rinex_file.specs.Progress.{Progress, GoesOn, StandsFor}
 use Rattle.rinex_file.specs.Course.{Follows, Refuses}
-use Rattle.rinex_file.specs.Steps.{IsTaken}
+use Rattle.rinex_file.specs.Steps.{IsTaken, IsTextOf}
 use Rattle.rinex_file.proofs.Sent.{joined-append}
 use Rattle.rinex_file.proofs.Splits.{splits, or_false, has-line}
 
@@ -248,21 +248,14 @@ module _ (are_lines : (v : FileValue) → IsFileValue v → All IsLine (file_lin
 
   -- the input is the text of the file that was read
   pub whole : (s : Progress) (n : ℕ) (a b c : Option (List ℕ)) (bytes : List ℕ) (f : FileValue) → IsTaken s n a b → bytes ≡ [] → IsAtEnd c → Consumes b c bytes → GoesOn s f []
-      → IsFileValue f × IfSome a (λ input. input ≡ file_text f)
-  whole s n a b c bytes f t none end next goes =
-      let (is, lines) = t.stands.begins f [] goes in (
-        is,
-        consumed_all a c (joined t.lines ++ bytes) (λ input. input ≡ file_text f) (Consumes-trans a b c (joined t.lines) bytes t.taken next) end
-            (ap (λ l. joined t.lines ++ l) none ∙ append-nil (joined t.lines) ∙ sym (ap joined (lines ∙ append-nil t.lines))),
-      )
-
-  -- no other file has this text
-  pub alone : (s : Progress) (n : ℕ) (a b c : Option (List ℕ)) (bytes : List ℕ) (f v : FileValue) → IsTaken s n a b → bytes ≡ [] → IsAtEnd c → Consumes b c bytes
-      → ((w : FileValue) → GoesOn s w [] → w ≡ f) → IsFileValue v → IfSome a (λ input. input ≡ file_text v → f ≡ v)
-  alone s n a b c bytes f v t none end next only is =
+      → ((v : FileValue) → GoesOn s v [] → v ≡ f) → IfSome a (IsTextOf f)
+  whole s n a b c bytes f t none end next goes only =
+      let (is, lines) = t.stands.begins f [] goes in
       let endless : has 10 bytes ≡ false = ap (has 10) none in
-      consumed_all a c (joined t.lines ++ bytes) (λ input. input ≡ file_text v → f ≡ v) (Consumes-trans a b c (joined t.lines) bytes t.taken next) end
-      (λ e. sym (only v (t.stands.goes v [] is (behind v t.lines bytes is t.are e endless ∙ sym (append-nil t.lines)))))
+      consumed_all a c (joined t.lines ++ bytes) (IsTextOf f) (Consumes-trans a b c (joined t.lines) bytes t.taken next) end (record {
+        same = ap (λ l. joined t.lines ++ l) none ∙ append-nil (joined t.lines) ∙ sym (ap joined (lines ∙ append-nil t.lines));
+        only = λ v also e. only v (t.stands.goes v [] also (behind v t.lines bytes also t.are e endless ∙ sym (append-nil t.lines)));
+      })
 
   -- ---- a text of a file is no fault
 
