@@ -16,6 +16,7 @@ mod Faultless
 mod FileText
 mod Examples
 mod Ahead
+mod ReadWhole
 mod Judged
 mod Rises
 mod BodySteps

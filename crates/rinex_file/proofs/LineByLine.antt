@@ -12,7 +12,7 @@ use Rattle.rinex_file.specs.Numbers.{joined}
 use Rattle.rinex_file.specs.Value.{FileValue}
 use Rattle.rinex_file.specs.FileValues.{IsFileValue}
 use Rattle.rinex_file.specs.File.{file_text, file_lines}
-use Rattle.rinex_file.specs.Exact.{IsLine, NoFileBegins, IsCutShort, IsTooLong, IsFaulty, Explains, IsReadOr, line_feeds, most_lines}
+use Rattle.rinex_file.specs.Exact.{IsLine, NoFileBegins, IsCutShort, IsTooLong, IsFaulty, Explains, IsNoFault, line_feeds, most_lines}
 use Rattle.rinex_file.specs.Progress.{Progress, GoesOn, StandsFor}
 use Rattle.rinex_file.specs.Course.{Follows, Refuses}
 use Rattle.rinex_file.specs.Steps.{IsTaken, IsTextOf}
@@ -279,7 +279,7 @@ module _ (are_lines : (v : FileValue) → IsFileValue v → All IsLine (file_lin
     faulty_not v input k is (inr l) e = not_long v l.lines l.long l.rest is l.first.are l.size l.endless (sym e ∙ l.first.first)
 
     -- a fault that is explained isn't that of a file's text
-    not_explained : (v : FileValue) (input : List ℕ) (fault : ReadFault) → IsFileValue v → length (file_lines v) ≤ most_lines → Explains input fault → input ≡ file_text v → IsReadOr v (Err fault)
+    not_explained : (v : FileValue) (input : List ℕ) (fault : ReadFault) → IsFileValue v → length (file_lines v) ≤ most_lines → Explains input fault → input ≡ file_text v → IsNoFault fault
     not_explained v input Memory is few why e = tt
     not_explained v input Read is few why e = tt
     not_explained v input (BadHeader k) is few why e = faulty_not v input k is why e
@@ -289,7 +289,7 @@ module _ (are_lines : (v : FileValue) → IsFileValue v → All IsLine (file_lin
     not_explained v input TooLong is few why e = not_many v why.lines why.rest is why.first.are why.count why.more few (sym e ∙ why.first.first)
 
     pub only_faults : (a : Option (List ℕ)) (fault : ReadFault) (v : FileValue) → IfSome a (λ input. Explains input fault) → IsFileValue v → length (file_lines v) ≤ most_lines
-        → IfSome a (λ input. input ≡ file_text v → IsReadOr v (Err fault))
+        → IfSome a (λ input. input ≡ file_text v → IsNoFault fault)
     only_faults None fault v why is few = tt
     only_faults (Some input) fault v why is few = not_explained v input fault is few why
 
@@ -301,11 +301,6 @@ behind_fault s n a b c bytes fault result t some next is why =
       | true ↦ λ most same. subst (λ f. IfSome a (λ input. Explains input f)) (sym same) (too_long s n a b c bytes t (same_number n most_lines most) some next)
       | false ↦ λ most same. subst (λ f. IfSome a (λ input. Explains input f)) (sym same) why
     ] refl is
-
--- nothing is said of memory and readers
-pub no_reason : (a : Option (List ℕ)) (v : FileValue) → IfSome a (λ input. input ≡ file_text v → ⊤)
-no_reason None v = tt
-no_reason (Some x) v = λ e. tt
 
 -- what is said of each faulty line
 pub said_of : (a : Option (List ℕ)) (P Q : List ℕ → Type 0) → ((input : List ℕ) → P input → Q input) → IfSome a P → IfSome a Q

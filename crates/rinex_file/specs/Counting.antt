@@ -1,11 +1,11 @@
 -- What a file's counts say of it.
-use Rattle.std.specs.Prelude.{◌≡◌, ℕ, List, length, Option, Result, Ok, Err, IfSome, ⊤}
+use Rattle.std.specs.Prelude.{◌≡◌, ℕ, List, length, Option, Result, Ok, Err, IfSome}
 use Rattle.rinex_file.specs.declared.file.Counts.{Counts}
 use Rattle.rinex_file.specs.declared.read_fault.ReadFault.{ReadFault}
-use Rattle.rinex_file.specs.declared.read_fault.ReadFault.TheVariants.{Memory, Read}
 use Rattle.rinex_file.specs.Value.{FileValue}
 use Rattle.rinex_file.specs.FileValues.{IsFileValue}
 use Rattle.rinex_file.specs.File.{file_text}
+use Rattle.rinex_file.specs.Exact.{IsNoFault}
 use Rattle.rinex_file.specs.Course.{rows_in}
 
 -- these are the numbers of the file's epochs and of the lines of satellites
@@ -23,6 +23,4 @@ pub record IsTextWith (n : Counts) (input : Option (List ℕ)) : Type 0 where
 -- this file's counts, or want of memory, or a failed reader
 abbrev pub IsCountedOr : FileValue → Result Counts ReadFault → Type 0
 IsCountedOr v (Ok n) = Counted n v
-IsCountedOr v (Err Memory) = ⊤
-IsCountedOr v (Err Read) = ⊤
-IsCountedOr v (Err _) = ⊥
+IsCountedOr v (Err fault) = IsNoFault fault
