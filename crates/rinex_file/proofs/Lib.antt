@@ -16,6 +16,7 @@ mod Faultless
 mod FileText
 mod Examples
 mod Ahead
+mod KeptRows
 mod ReadWhole
 mod Judged
 mod Rises

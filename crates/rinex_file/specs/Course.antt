@@ -40,15 +40,23 @@ pub record StandsBehind (c : Course) (h : History) : Type 0 where
   pub epochs : c.epochs ≡ length h.epochs
   pub satellites : c.satellites ≡ rows_in h.epochs + length h.rows
 
--- an epoch at the time that was read, with these satellites
-abbrev pub epoch_at : Course → List Seen → Stamped
-epoch_at c rows = record { change = None; time = c.time; rows = rows }
+-- an epoch with the station values of those before
+abbrev pub epoch_at : ℕ → List Seen → Stamped
+epoch_at time rows = record { change = None; time = time; rows = rows }
+
+-- a history with one satellite more
+abbrev pub with_seen : History → Seen → History
+with_seen h seen = record { epochs = h.epochs; rows = h.rows ++ seen ∷ [] }
+
+-- a history where the epoch that was begun, at this time, has all its satellites
+abbrev pub with_epoch : History → ℕ → History
+with_epoch h time = record { epochs = h.epochs ++ epoch_at time h.rows ∷ []; rows = [] }
 
 -- the history with what a line added, behind which the course stands
 abbrev pub with_line : Added → Course → History → History
 with_line NoRow c h = h
-with_line OneRow c h = record { epochs = h.epochs; rows = h.rows ++ c.seen ∷ [] }
-with_line LastRow c h = record { epochs = h.epochs ++ epoch_at c (h.rows ++ c.seen ∷ []) ∷ []; rows = [] }
+with_line OneRow c h = with_seen h c.seen
+with_line LastRow c h = with_epoch (with_seen h c.seen) c.time
 
 -- the line is the one that may follow
 abbrev pub Follows : Progress → Progress → List ℕ → Type 0

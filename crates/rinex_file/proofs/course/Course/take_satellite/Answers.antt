@@ -101,7 +101,7 @@ returns-clause-takes c = λ h stands.
     let rise = rises (map rank_of h.rows) c.rank_of-rank.result (rank_of seen) c.rank_of-rank.ensures
             ((c.is_behind.ensures (map rank_of h.rows) stands.rank begun.rows.rise).0 c.if-not-is_behind.false) in
     let last : c.args.left ≡ suc 0 = let n = c.if-left-gt1.false in omega (arith, n, some) in
-    let epoch = epoch_at c.args.self.now (h.rows ++ seen ∷ []) in
+    let epoch = epoch_at c.args.self.now.time (h.rows ++ seen ∷ []) in
     record {
       stands = record {
         sound = sound_closed s 0 c.args.left c.requires.due stands.sound seen shown.0 rise;

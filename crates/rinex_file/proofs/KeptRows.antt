@@ -1,0 +1,105 @@
+-- Epochs, satellites and entries that are kept in three lists, and one more of each.
+use Rattle.std.proofs.Common.{arith, ◌≡◌, ◌∙◌, sym, ap, subst, refl, ℕ, suc, ◌+◌, ◌-◌, ◌<◌, ◌≤◌, List, [], ◌∷◌, ◌++◌, length, take, drop, length-append}
+use Rattle.std.specs.List.{sum_by}
+use Rattle.std.proofs.lemmas.List.{take-append-le, drop-append-le, length-drop, drop-drop}
+use Rattle.std.proofs.Math.Seq.{take-length}
+use Rattle.std.proofs.lemmas.List.Sums.{sum_by-append, sum_by-cons}
+use Rattle.rinex_file.specs.declared.kept.KeptRow.{KeptRow}
+use Rattle.rinex_file.specs.declared.kept.KeptEpoch.{KeptEpoch}
+use Rattle.rinex_file.specs.Value.{Entry, Seen, Stamped, seen_with}
+use Rattle.rinex_file.specs.Course.{History, epoch_at, with_seen, with_epoch}
+use Rattle.rinex_file.specs.Kept.{rows_of, epochs_with, row_count, kept_history, AreKept}
+
+no_items : {X : Type 0} (xs : List X) → 0 ≡ length xs → xs ≡ []
+no_items [] e = refl
+no_items (x ∷ xs) e = absurd (omega (arith, e))
+
+all_of : {X : Type 0} (xs : List X) (n : ℕ) → n ≡ length xs → take n xs ≡ xs
+all_of xs n e = ap (λ k. take k xs) e ∙ take-length xs
+
+-- ---- one satellite more
+
+pub rows_more : (rows : List KeptRow) (all new : List Entry) (r : KeptRow) → sum_by (λ x. x.entries) rows ≡ length all → r.entries ≡ length new
+    → rows_of (rows ++ r ∷ []) (all ++ new) ≡ rows_of rows all ++ seen_with r.system r.satellite new ∷ []
+rows_more [] all new r taken size =
+    let none : all ++ new ≡ new = ap (λ l. l ++ new) (no_items all taken) in
+    ap (λ l. seen_with r.system r.satellite l ∷ []) (ap (take r.entries) none ∙ all_of new r.entries size)
+rows_more (x ∷ xs) all new r taken size =
+    let sum : sum_by (λ r. r.entries) (x ∷ xs) ≡ x.entries + sum_by (λ r. r.entries) xs = sum_by-cons (λ (r : KeptRow). r.entries) x xs in
+    let few : x.entries ≤ length all = omega (arith, taken, sum) in
+    let left : length (drop x.entries all) ≡ length all - x.entries = length-drop x.entries all in
+    let rest = rows_more xs (drop x.entries all) new r (omega (arith, taken, left, sum)) size in
+    ap (λ l. seen_with x.system x.satellite l ∷ rows_of (xs ++ r ∷ []) (drop x.entries (all ++ new))) (take-append-le x.entries all new few)
+    ∙ ap (λ l. seen_with x.system x.satellite (take x.entries all) ∷ rows_of (xs ++ r ∷ []) l) (drop-append-le x.entries all new few)
+    ∙ ap (λ l. seen_with x.system x.satellite (take x.entries all) ∷ l) rest
+
+pub length-rows_of : (rows : List KeptRow) (all : List Entry) → length (rows_of rows all) ≡ length rows
+length-rows_of [] all = refl
+length-rows_of (x ∷ xs) all = ap suc (length-rows_of xs (drop x.entries all))
+
+-- epochs don't change by satellites behind theirs
+pub epochs_same : (epochs : List KeptEpoch) (rows new : List Seen) → row_count epochs ≤ length rows → epochs_with epochs (rows ++ new) ≡ epochs_with epochs rows
+epochs_same [] rows new few = refl
+epochs_same (e ∷ es) rows new few =
+    let sum : row_count (e ∷ es) ≡ e.rows + row_count es = sum_by-cons (λ (e : KeptEpoch). e.rows) e es in
+    let here : e.rows ≤ length rows = omega (arith, few, sum) in
+    let left : length (drop e.rows rows) ≡ length rows - e.rows = length-drop e.rows rows in
+    ap (λ l. epoch_at e.time l ∷ epochs_with es (drop e.rows (rows ++ new))) (take-append-le e.rows rows new here)
+    ∙ ap (λ l. epoch_at e.time (take e.rows rows) ∷ epochs_with es l) (drop-append-le e.rows rows new here)
+    ∙ ap (λ l. epoch_at e.time (take e.rows rows) ∷ l) (epochs_same es (drop e.rows rows) new (omega (arith, few, left, sum)))
+
+-- ---- one epoch more
+
+behind_one : (n m k : ℕ) (rows : List Seen) → k ≡ m + n → drop n (drop m rows) ≡ drop k rows
+behind_one n m k rows sum = drop-drop n m rows ∙ ap (λ j. drop j rows) (sym sum)
+
+pub epochs_more : (epochs : List KeptEpoch) (rows : List Seen) (e : KeptEpoch) → row_count epochs + e.rows ≡ length rows
+    → epochs_with (epochs ++ e ∷ []) rows ≡ epochs_with epochs rows ++ epoch_at e.time (drop (row_count epochs) rows) ∷ []
+epochs_more [] rows e size = ap (λ l. epoch_at e.time l ∷ []) (all_of rows e.rows (omega (arith, size)))
+epochs_more (x ∷ xs) rows e size =
+    let sum : row_count (x ∷ xs) ≡ x.rows + row_count xs = sum_by-cons (λ (e : KeptEpoch). e.rows) x xs in
+    let left : length (drop x.rows rows) ≡ length rows - x.rows = length-drop x.rows rows in
+    ap (λ l. epoch_at x.time (take x.rows rows) ∷ l)
+    (epochs_more xs (drop x.rows rows) e (omega (arith, size, left, sum)) ∙ ap (λ l. epochs_with xs (drop x.rows rows) ++ epoch_at e.time l ∷ []) (behind_one (row_count xs) x.rows (row_count (x ∷ xs)) rows sum))
+
+pub none_open : (epochs : List KeptEpoch) (rows : List Seen) → length rows ≡ row_count epochs → drop (row_count epochs) rows ≡ []
+none_open epochs rows size = no_items (drop (row_count epochs) rows) (let left = length-drop (row_count epochs) rows in omega (arith, size, left))
+
+-- ---- the history that is kept
+
+abbrev history : List Stamped → List Seen → History
+history epochs rows = record { epochs = epochs; rows = rows }
+
+same_history : (a b : List Stamped) (x y : List Seen) → a ≡ b → x ≡ y → history a x ≡ history b y
+same_history a b x y e f = ap (λ l. history l x) e ∙ ap (history b) f
+
+module _ (epochs : List KeptEpoch) (rows : List KeptRow) (all : List Entry) (n : ℕ) (kept : AreKept epochs rows all n) where
+  few : row_count epochs ≤ length (rows_of rows all)
+  few = let size = length-rows_of rows all in let counted = kept.counted in omega (arith, size, counted)
+
+  pub row_kept : (rows' : List KeptRow) (all' new : List Entry) (r : KeptRow) (seen : Seen) → rows' ≡ rows ++ r ∷ [] → all' ≡ all ++ new → r.entries ≡ length new
+      → seen_with r.system r.satellite new ≡ seen → kept_history epochs rows' all' ≡ with_seen (kept_history epochs rows all) seen
+  row_kept rows' all' new r seen one more size same =
+      let here : rows_of rows' all' ≡ rows_of rows all ++ seen ∷ [] =
+      ap (λ l. rows_of l all') one ∙ ap (rows_of (rows ++ r ∷ [])) more ∙ rows_more rows all new r kept.taken size ∙ ap (λ s. rows_of rows all ++ s ∷ []) same in
+      ap (λ l. history (epochs_with epochs l) (drop (row_count epochs) l)) here
+      ∙ same_history _ _ _ _ (epochs_same epochs (rows_of rows all) (seen ∷ []) few) (drop-append-le (row_count epochs) (rows_of rows all) (seen ∷ []) few)
+
+  pub epoch_kept : (epochs' : List KeptEpoch) (e : KeptEpoch) → epochs' ≡ epochs ++ e ∷ [] → e.rows ≡ n → kept_history epochs' rows all ≡ with_epoch (kept_history epochs rows all) e.time
+  epoch_kept epochs' e one size =
+      let long = length-rows_of rows all in
+      let counted = kept.counted in
+      let whole : row_count epochs + e.rows ≡ length (rows_of rows all) = omega (arith, long, counted, size) in
+      let count : row_count (epochs ++ e ∷ []) ≡ row_count epochs + (0 + e.rows) = sum_by-append _ epochs (e ∷ []) in
+      let none : length (rows_of rows all) ≡ row_count (epochs ++ e ∷ []) = omega (arith, whole, count) in
+      ap (λ l. history (epochs_with l (rows_of rows all)) (drop (row_count l) (rows_of rows all))) one
+      ∙ same_history _ _ _ _ (epochs_more epochs (rows_of rows all) e whole) (none_open (epochs ++ e ∷ []) (rows_of rows all) none)
+
+  -- no satellite is open where the history has none
+  pub none_begun : drop (row_count epochs) (rows_of rows all) ≡ [] → AreKept epochs rows all 0
+  none_begun none =
+      let left : length (drop (row_count epochs) (rows_of rows all)) ≡ length (rows_of rows all) - row_count epochs = length-drop (row_count epochs) (rows_of rows all) in
+      let zero : length (drop (row_count epochs) (rows_of rows all)) ≡ 0 = ap length none in
+      let long = length-rows_of rows all in
+      let counted = kept.counted in
+      record { taken = kept.taken; counted = omega (arith, left, zero, long, counted) }
