@@ -315,3 +315,8 @@ line_some line (body, e, endless) =
 
 pub long_some : (bytes : List ℕ) → length bytes ≡ 1220 → 0 < length bytes
 long_some bytes size = omega (arith, size)
+
+-- nothing is said of memory
+pub no_reason : (a : Option (List ℕ)) (v : FileValue) → IfSome a (λ input. input ≡ file_text v → ⊤)
+no_reason None v = tt
+no_reason (Some x) v = λ e. tt

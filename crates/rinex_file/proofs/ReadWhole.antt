@@ -44,3 +44,17 @@ one_more new h input left o added e goes = subst (λ (x : Option Added). Goes ne
 
 pub the_end : (new : Reading) (h : History) (input left : Option (List ℕ)) (o : Option Added) → o ≡ None → Goes new h input left (Ok o) → IsWhole new.course h input
 the_end new h input left o e goes = subst (λ (x : Option Added). Goes new h input left (Ok x)) e goes
+
+pub file_found : (c : Course) (h : History) (input : Option (List ℕ)) (f : FileValue) → IsWhole c h input → f ≡ file_at c h
+    → IsFileValue f × IfSome input (λ bytes. bytes ≡ file_text f)
+file_found c h input f whole same =
+    subst (λ (x : FileValue). IsFileValue x × IfSome input (λ bytes. bytes ≡ file_text x)) (sym same)
+    (whole.is, said_of input (IsTextOf (file_at c h)) (λ bytes. bytes ≡ file_text (file_at c h)) (λ bytes text. text.same) whole.text)
+
+pub file_only : (c : Course) (h : History) (input : Option (List ℕ)) (f v : FileValue) → IsWhole c h input → f ≡ file_at c h → IsFileValue v
+    → IfSome input (λ bytes. bytes ≡ file_text v → f ≡ v)
+file_only c h input f v whole same is = said_of input (IsTextOf (file_at c h)) _ (λ bytes text e. same ∙ sym (text.only v is e)) whole.text
+
+-- what is kept is a history that was read
+pub kept_read : (r : Reading) (h k : History) (input left : Option (List ℕ)) → k ≡ h → HasRead r h input left → HasRead r k input left
+kept_read r h k input left same read = subst (λ (x : History). HasRead r x input left) (sym same) read

@@ -1,5 +1,6 @@
 -- How the epochs of a file lie in memory: three lists, of which each item takes the next so many items of the list below.
-use Rattle.std.specs.Prelude.{◌≡◌, ℕ, ◌+◌, List, [], ◌∷◌, length, take, drop}
+use Rattle.std.specs.Prelude.{◌≡◌, ℕ, ◌+◌, ◌<◌, ◌≤◌, List, [], ◌∷◌, length, take, drop, All}
+use Rattle.rinex_file.specs.FileValues.{IsEntry}
 use Rattle.std.specs.List.{sum_by}
 use Rattle.rinex_file.specs.declared.kept.KeptRow.{KeptRow}
 use Rattle.rinex_file.specs.declared.kept.KeptEpoch.{KeptEpoch}
@@ -19,6 +20,14 @@ epochs_with (e ∷ es) rows = epoch_at e.time (take e.rows rows) ∷ epochs_with
 abbrev pub epochs_of : List KeptEpoch → List KeptRow → List Entry → List Stamped
 epochs_of epochs rows entries = epochs_with epochs (rows_of rows entries)
 
+-- so many entries have the satellites
+abbrev pub entry_count : List KeptRow → ℕ
+entry_count rows = sum_by (λ r. r.entries) rows
+
+-- a line has room for a satellite
+abbrev pub HasRoom : Seen → Type 0
+HasRoom s = (s.row.satellite < 100) × All IsEntry s.row.entries × (length s.row.entries ≤ 19)
+
 -- so many satellites have the epochs
 abbrev pub row_count : List KeptEpoch → ℕ
 row_count epochs = sum_by (λ e. e.rows) epochs
@@ -29,5 +38,5 @@ kept_history epochs rows entries = record { epochs = epochs_of epochs rows entri
 
 -- the rows take all entries, and the epochs all rows but so many
 pub record AreKept (epochs : List KeptEpoch) (rows : List KeptRow) (all : List Entry) (left : ℕ) : Type 0 where
-  pub taken : sum_by (λ r. r.entries) rows ≡ length all
+  pub taken : entry_count rows ≡ length all
   pub counted : row_count epochs + left ≡ length rows

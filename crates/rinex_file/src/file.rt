@@ -7,6 +7,8 @@ ghost use Rattle.rinex_file.specs.FileValues.{IsEntry, IsFileValue};
 ghost use Rattle.rinex_file.specs.File.{header_text, stamped_lines, file_text, file_lines};
 ghost use Rattle.rinex_file.specs.Exact.{Explains, IsReadOr, most_lines};
 ghost use Rattle.rinex_file.specs.Blocks.{Leaves};
+ghost use Rattle.rinex_file.specs.Course.{epoch_at};
+ghost use Rattle.rinex_file.specs.Kept.{rows_of, entry_count, HasRoom};
 ghost use Rattle.rinex_file.specs.Counting.{IsTextWith, IsCountedOr};
 
 use crate::epoch::epoch_line;
@@ -103,7 +105,7 @@ fn add_header(text: &mut Vec<u8>, file: &ObsFile, first: GpsTime) -> Result<(), 
     Ok(())
 }
 
-// Appends the lines of an epoch with these satellites, whose entries come first of these.
+// Appends the lines of an epoch with these satellites, whose entries come first of these. Answers how many entries they have.
 fn add_epoch(
     text: &mut Vec<u8>,
     time: GpsTime,
@@ -111,21 +113,20 @@ fn add_epoch(
     entries: &[KeptEntry],
     line: &mut Line,
 ) -> Result<usize, AllocError>
+    requires room { All HasRoom (rows_of rows.now entries.now) }
+    requires entries { entry_count rows.now ≤ length entries.now }
+    ensures text { OnOk result (text.new.items ≡ text.old.items ++ joined (stamped_lines (epoch_at time (rows_of rows.now entries.now)))) }
+    ensures count { IfOk result (λ n. n ≡ entry_count rows.now) }
 {
     epoch_line(time, rows.len(), line);
     text.extend_from_slice(line.as_slice())?;
-    let mut at = 0;
+    let mut rest = entries;
     for row in rows {
-        kept_line(
-            row.system,
-            row.satellite,
-            &entries[at..at + row.entries],
-            line,
-        );
+        kept_line(row.system, row.satellite, &rest[..row.entries], line);
         text.extend_from_slice(line.as_slice())?;
-        at += row.entries;
+        rest = &rest[row.entries..];
     }
-    Ok(at)
+    Ok(entries.len() - rest.len())
 }
 
 /// The text of a file.
@@ -135,12 +136,18 @@ pub fn file_bytes(alloc: Global, file: &ObsFile) -> Result<Vec<u8>, AllocError>
     let mut text = Vec::new(alloc);
     let mut line = Line::new();
     add_header(&mut text, file, file.epochs[0].time)?;
-    let mut row = 0;
-    let mut entry = 0;
+    let mut rows = file.rows.as_slice();
+    let mut entries = file.entries.as_slice();
     for epoch in &file.epochs {
-        let rows = &file.rows[row..row + epoch.rows];
-        entry += add_epoch(&mut text, epoch.time, rows, &file.entries[entry..], &mut line)?;
-        row += epoch.rows;
+        let count = add_epoch(
+            &mut text,
+            epoch.time,
+            &rows[..epoch.rows],
+            entries,
+            &mut line,
+        )?;
+        rows = &rows[epoch.rows..];
+        entries = &entries[count..];
     }
     Ok(text)
 }
