@@ -1,14 +1,21 @@
 -- Epochs, satellites and entries that are kept in three lists, and one more of each.
-use Rattle.std.proofs.Common.{arith, ◌≡◌, ◌∙◌, sym, ap, subst, refl, ℕ, suc, ◌+◌, ◌-◌, ◌<◌, ◌≤◌, List, [], ◌∷◌, ◌++◌, length, take, drop, length-append}
+use Rattle.std.proofs.Common.{arith, ◌≡◌, ◌∙◌, sym, ap, subst, refl, ℕ, suc, ◌+◌, ◌-◌, ◌<◌, ◌≤◌, List, [], ◌∷◌, ◌++◌, length, take, drop, get_or, length-append, append-nil}
+use Rattle.std.specs.Prelude.{All, map}
+use Rattle.std.proofs.Math.Seq.{drop-cons}
+use Rattle.std.proofs.Math.ListN.{drop_of_length-le}
+use Rattle.std.proofs.lemmas.List.Elements.{All-head, All-tail}
+use Rattle.rinex_file.specs.Numbers.{joined}
+use Rattle.rinex_file.specs.Lines.{epoch_line, seen_line}
+use Rattle.rinex_file.proofs.Appended.{passed}
 use Rattle.std.specs.List.{sum_by}
-use Rattle.std.proofs.lemmas.List.{take-append-le, drop-append-le, length-drop, drop-drop}
+use Rattle.std.proofs.lemmas.List.{take-append-le, drop-append-le, length-drop, length-take-le, drop-drop}
 use Rattle.std.proofs.Math.Seq.{take-length}
 use Rattle.std.proofs.lemmas.List.Sums.{sum_by-append, sum_by-cons}
 use Rattle.rinex_file.specs.declared.kept.KeptRow.{KeptRow}
 use Rattle.rinex_file.specs.declared.kept.KeptEpoch.{KeptEpoch}
 use Rattle.rinex_file.specs.Value.{Entry, Seen, Stamped, seen_with}
 use Rattle.rinex_file.specs.Course.{History, epoch_at, with_seen, with_epoch}
-use Rattle.rinex_file.specs.Kept.{rows_of, epochs_with, row_count, kept_history, AreKept}
+use Rattle.rinex_file.specs.Kept.{row_at, rows_of, epochs_with, epochs_of, row_count, entry_count, HasRoom, kept_history, AreKept}
 
 no_items : {X : Type 0} (xs : List X) → 0 ≡ length xs → xs ≡ []
 no_items [] e = refl
@@ -103,3 +110,74 @@ module _ (epochs : List KeptEpoch) (rows : List KeptRow) (all : List Entry) (n :
       let long = length-rows_of rows all in
       let counted = kept.counted in
       record { taken = kept.taken; counted = omega (arith, left, zero, long, counted) }
+
+-- ---- the satellites that are left
+
+-- what the next satellite takes
+pub record NextRow (rows : List KeptRow) (i : ℕ) (rest : List Entry) (r : KeptRow) : Type 0 where
+  pub few : r.entries ≤ length rest
+  pub room : HasRoom (seen_with r.system r.satellite (take r.entries rest))
+  pub shown : rows_of (drop i rows) rest ≡ seen_with r.system r.satellite (take r.entries rest) ∷ rows_of (drop (i + 1) rows) (drop r.entries rest)
+  pub count : entry_count (drop i rows) ≡ r.entries + entry_count (drop (i + 1) rows)
+  pub others : All HasRoom (rows_of (drop (i + 1) rows) (drop r.entries rest))
+
+pub next_row : (rows : List KeptRow) (i : ℕ) (rest : List Entry) (d : KeptRow) → i < length rows → All HasRoom (rows_of (drop i rows) rest) → entry_count (drop i rows) ≤ length rest
+    → NextRow rows i rest (get_or rows i d)
+next_row rows i rest d less room few =
+    let r = get_or rows i d in
+    let next : suc i ≡ i + 1 = omega arith in
+    let shape : drop i rows ≡ r ∷ drop (i + 1) rows = drop-cons rows i d less ∙ ap (λ (n : ℕ). r ∷ drop n rows) next in
+    let count : entry_count (drop i rows) ≡ r.entries + entry_count (drop (i + 1) rows) =
+    ap (λ l. entry_count l) shape ∙ sum_by-cons (λ (x : KeptRow). x.entries) r (drop (i + 1) rows) in
+    let shown : rows_of (drop i rows) rest ≡ seen_with r.system r.satellite (take r.entries rest) ∷ rows_of (drop (i + 1) rows) (drop r.entries rest) = ap (λ l. rows_of l rest) shape in
+    let all = subst (All HasRoom) shown room in
+    record {
+      few = omega (arith, few, count);
+      room = All-head HasRoom (seen_with r.system r.satellite (take r.entries rest)) (rows_of (drop (i + 1) rows) (drop r.entries rest)) all;
+      shown = shown;
+      count = count;
+      others = All-tail HasRoom (seen_with r.system r.satellite (take r.entries rest)) (rows_of (drop (i + 1) rows) (drop r.entries rest)) all;
+    }
+
+-- a line of a satellite was appended
+pub row_passed : (rows : List KeptRow) (i n at to : ℕ) (all : List Entry) (r : KeptRow) (text new whole : List ℕ) → NextRow rows i (drop at all) r → n ≡ i + 1 → to ≡ at + r.entries
+    → text ++ joined (map seen_line (rows_of (drop i rows) (drop at all))) ≡ whole → new ≡ text ++ seen_line (row_at r (drop at all))
+    → (new ++ joined (map seen_line (rows_of (drop n rows) (drop to all))) ≡ whole) × All HasRoom (rows_of (drop n rows) (drop to all))
+row_passed rows i n at to all r text new whole next count gone before e =
+    let others = rows_of (drop (i + 1) rows) (drop r.entries (drop at all)) in
+    let same : rows_of (drop n rows) (drop to all) ≡ others =
+    ap (λ (k : ℕ). rows_of (drop k rows) (drop to all)) count ∙ ap (λ (k : ℕ). rows_of (drop (i + 1) rows) (drop k all)) gone ∙ ap (rows_of (drop (i + 1) rows)) (sym (drop-drop r.entries at all)) in (
+      ap (λ (l : List Seen). new ++ joined (map seen_line l)) same
+      ∙ passed text (seen_line (row_at r (drop at all))) (joined (map seen_line others)) new whole (ap (λ (l : List Seen). text ++ joined (map seen_line l)) (sym next.shown) ∙ before) e,
+      subst (All HasRoom) (sym same) next.others,
+    )
+
+-- no satellite is left
+pub rows_passed : (rows : List KeptRow) (i : ℕ) (rest : List Entry) (text whole : List ℕ) → length rows ≤ i → text ++ joined (map seen_line (rows_of (drop i rows) rest)) ≡ whole → text ≡ whole
+rows_passed rows i rest text whole all before =
+    sym (ap (λ (l : List KeptRow). text ++ joined (map seen_line (rows_of l rest))) (drop_of_length-le rows all) ∙ append-nil text) ∙ before
+
+-- ---- the numbers of epochs and satellites
+
+pub length-epochs_with : (epochs : List KeptEpoch) (rows : List Seen) → length (epochs_with epochs rows) ≡ length epochs
+length-epochs_with [] rows = refl
+length-epochs_with (e ∷ es) rows = ap suc (length-epochs_with es (drop e.rows rows))
+
+all_rows : (epochs : List KeptEpoch) (rows : List Seen) → row_count epochs ≤ length rows → sum_by (λ e. length e.rows) (epochs_with epochs rows) ≡ row_count epochs
+all_rows [] rows few = refl
+all_rows (e ∷ es) rows few =
+    let sum : row_count (e ∷ es) ≡ e.rows + row_count es = sum_by-cons (λ (x : KeptEpoch). x.rows) e es in
+    let here : length (take e.rows rows) ≡ e.rows = length-take-le e.rows rows (omega (arith, few, sum)) in
+    let left : length (drop e.rows rows) ≡ length rows - e.rows = length-drop e.rows rows in
+    let rest = all_rows es (drop e.rows rows) (omega (arith, few, sum, left)) in
+    let both : sum_by (λ x. length x.rows) (epochs_with (e ∷ es) rows) ≡ length (take e.rows rows) + sum_by (λ x. length x.rows) (epochs_with es (drop e.rows rows)) =
+    sum_by-cons (λ (x : Stamped). length x.rows) (epoch_at e.time (take e.rows rows)) (epochs_with es (drop e.rows rows)) in
+    omega (arith, both, here, rest, sum)
+
+pub rows_counted : (epochs : List KeptEpoch) (rows : List KeptRow) (all : List Entry) → AreKept epochs rows all 0
+    → length rows ≡ sum_by (λ e. length e.rows) (epochs_of epochs rows all)
+rows_counted epochs rows all kept =
+    let long = length-rows_of rows all in
+    let counted = kept.counted in
+    let same = all_rows epochs (rows_of rows all) (omega (arith, long, counted)) in
+    omega (arith, same, counted)

@@ -8,7 +8,7 @@ use Rattle.rinex_file.specs.Value.{Seen, FileValue}
 use Rattle.rinex_file.specs.FileValues.{IsFileValue}
 use Rattle.rinex_file.specs.File.{file_text}
 use Rattle.rinex_file.specs.Course.{History, rows_in, with_line}
-use Rattle.rinex_file.specs.Counting.{Counted, IsTextWith}
+use Rattle.rinex_file.specs.Counting.{AreCounts, IsTextWith}
 use Rattle.rinex_file.specs.Steps.{Goes, HasRead, IsWhole, IsTextOf, file_at}
 use Rattle.rinex_file.proofs.LineByLine.{said_of}
 
@@ -18,7 +18,7 @@ counts_at c = record { epochs = c.epochs; satellites = c.satellites }
 no_more : (n m : ℕ) (rows : List Seen) → n ≡ m + length rows → rows ≡ [] → n ≡ m
 no_more n m rows e none = let zero : length rows ≡ 0 = ap length none in omega (arith, e, zero)
 
-counted_at : (c : Course) (h : History) (input : Option (List ℕ)) → IsWhole c h input → Counted (counts_at c) (file_at c h)
+counted_at : (c : Course) (h : History) (input : Option (List ℕ)) → IsWhole c h input → AreCounts (counts_at c) (file_at c h)
 counted_at c h input whole = record {
   epochs = whole.stands.epochs;
   satellites = no_more c.satellites (rows_in h.epochs) h.rows whole.stands.satellites whole.none;
@@ -32,9 +32,9 @@ counts_found c h input whole = record {
   counted = counted_at c h input whole;
 }
 
-pub counts_only : (c : Course) (h : History) (input : Option (List ℕ)) (v : FileValue) → IsWhole c h input → IsFileValue v → IfSome input (λ bytes. bytes ≡ file_text v → Counted (counts_at c) v)
+pub counts_only : (c : Course) (h : History) (input : Option (List ℕ)) (v : FileValue) → IsWhole c h input → IsFileValue v → IfSome input (λ bytes. bytes ≡ file_text v → AreCounts (counts_at c) v)
 counts_only c h input v whole is =
-    said_of input (IsTextOf (file_at c h)) _ (λ bytes text e. subst (λ (f : FileValue). Counted (counts_at c) f) (sym (text.only v is e)) (counted_at c h input whole)) whole.text
+    said_of input (IsTextOf (file_at c h)) _ (λ bytes text e. subst (λ (f : FileValue). AreCounts (counts_at c) f) (sym (text.only v is e)) (counted_at c h input whole)) whole.text
 
 -- ---- a step by what it answers
 

@@ -9,7 +9,7 @@ use Rattle.rinex_file.specs.Exact.{IsNoFault}
 use Rattle.rinex_file.specs.Course.{rows_in}
 
 -- these are the numbers of the file's epochs and of the lines of satellites
-pub record Counted (n : Counts) (v : FileValue) : Type 0 where
+pub record AreCounts (n : Counts) (v : FileValue) : Type 0 where
   pub epochs : n.epochs ≡ length v.epochs
   pub satellites : n.satellites ≡ rows_in v.epochs
 
@@ -18,9 +18,9 @@ pub record IsTextWith (n : Counts) (input : Option (List ℕ)) : Type 0 where
   pub v : FileValue
   pub is : IsFileValue v
   pub text : IfSome input (λ bytes. bytes ≡ file_text v)
-  pub counted : Counted n v
+  pub counted : AreCounts n v
 
 -- this file's counts, or want of memory, or a failed reader
 abbrev pub IsCountedOr : FileValue → Result Counts ReadFault → Type 0
-IsCountedOr v (Ok n) = Counted n v
+IsCountedOr v (Ok n) = AreCounts n v
 IsCountedOr v (Err fault) = IsNoFault fault

@@ -7,10 +7,14 @@ use Rattle.rinex_file.specs.declared.kept.KeptEpoch.{KeptEpoch}
 use Rattle.rinex_file.specs.Value.{Entry, Seen, Stamped, seen_with}
 use Rattle.rinex_file.specs.Course.{History, epoch_at}
 
+-- a satellite with the first of these entries
+abbrev pub row_at : KeptRow → List Entry → Seen
+row_at r entries = seen_with r.system r.satellite (take r.entries entries)
+
 -- satellites with these entries
 abbrev pub rows_of : List KeptRow → List Entry → List Seen
 rows_of [] entries = []
-rows_of (r ∷ rs) entries = seen_with r.system r.satellite (take r.entries entries) ∷ rows_of rs (drop r.entries entries)
+rows_of (r ∷ rs) entries = row_at r entries ∷ rows_of rs (drop r.entries entries)
 
 -- epochs with these satellites
 abbrev pub epochs_with : List KeptEpoch → List Seen → List Stamped

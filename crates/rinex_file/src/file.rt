@@ -1,5 +1,5 @@
 //! Reading a file whole, and writing it back.
-ghost use Rattle.std.specs.Prelude.{◌≡◌, ◌<◌, ◌≤◌, ◌==◌, ℕ, List, ◌++◌, All, Err, OnOk, IfOk, IfErr, IfSome, length, if◌then◌else◌};
+ghost use Rattle.std.specs.Prelude.{◌≡◌, ◌<◌, ◌≤◌, ◌==◌, ℕ, List, ◌++◌, All, Err, OnOk, IfOk, IfErr, IfSome, length, drop, ◌+◌, if◌then◌else◌};
 ghost use Rattle.rtcm_bits.specs.Device.{HasFailed};
 ghost use Rattle.rinex_file.specs.Numbers.{joined};
 ghost use Rattle.rinex_file.specs.Value.{FileValue};
@@ -8,7 +8,8 @@ ghost use Rattle.rinex_file.specs.File.{header_text, stamped_lines, file_text, f
 ghost use Rattle.rinex_file.specs.Exact.{Explains, IsReadOr, most_lines};
 ghost use Rattle.rinex_file.specs.Blocks.{Leaves};
 ghost use Rattle.rinex_file.specs.Course.{epoch_at};
-ghost use Rattle.rinex_file.specs.Kept.{rows_of, entry_count, HasRoom};
+ghost use Rattle.rinex_file.specs.Kept.{row_at, rows_of, entry_count, HasRoom};
+ghost use Rattle.rinex_file.specs.Lines.{seen_line};
 ghost use Rattle.rinex_file.specs.Counting.{IsTextWith, IsCountedOr};
 
 use crate::epoch::epoch_line;
@@ -105,6 +106,25 @@ fn add_header(text: &mut Vec<u8>, file: &ObsFile, first: GpsTime) -> Result<(), 
     Ok(())
 }
 
+// Appends the line of a satellite whose entries begin at this place, and answers where they end.
+fn add_row(
+    text: &mut Vec<u8>,
+    row: &KeptRow,
+    entries: &[KeptEntry],
+    at: usize,
+    line: &mut Line,
+) -> Result<usize, AllocError>
+    requires entries { at + row.now.entries ≤ length entries.now }
+    requires room { HasRoom (row_at row.now (drop at entries.now)) }
+    ensures text { OnOk result (text.new.items ≡ text.old.items ++ seen_line (row_at row.now (drop at entries.now))) }
+    ensures end { IfOk result (λ end. end ≡ at + row.now.entries) }
+{
+    let end = at + row.entries;
+    kept_line(row.system, row.satellite, &entries[at..end], line);
+    text.extend_from_slice(line.as_slice())?;
+    Ok(end)
+}
+
 // Appends the lines of an epoch with these satellites, whose entries come first of these. Answers how many entries they have.
 fn add_epoch(
     text: &mut Vec<u8>,
@@ -120,13 +140,11 @@ fn add_epoch(
 {
     epoch_line(time, rows.len(), line);
     text.extend_from_slice(line.as_slice())?;
-    let mut rest = entries;
+    let mut at = 0;
     for row in rows {
-        kept_line(row.system, row.satellite, &rest[..row.entries], line);
-        text.extend_from_slice(line.as_slice())?;
-        rest = &rest[row.entries..];
+        at = add_row(text, row, entries, at, line)?;
     }
-    Ok(entries.len() - rest.len())
+    Ok(at)
 }
 
 /// The text of a file.

@@ -60,13 +60,13 @@ impl ObsFile {
     pub fn epochs(&self) -> usize
         ensures { result ≡ length self.now.epochs }
     {
-        self.epochs.len()
+        self.epochs.as_slice().len()
     }
 
     /// The number of lines of satellites, those of all epochs together.
     pub fn satellites(&self) -> usize
         ensures { result ≡ sum_by (λ e. length e.rows) self.now.epochs }
     {
-        self.rows.len()
+        self.rows.as_slice().len()
     }
 }

@@ -10,8 +10,7 @@ use Rattle.rinex_file.proofs.file.add_epoch.Given as goal
 -- what was appended and the satellites that are left are the whole epoch, and their entries are left
 abbrev pub invariant-loop-row : goal.invariant-loop-row
 invariant-loop-row l = record {
-  text : l.text.items ++ joined (map seen_line (rows_of (drop l.row-index l.rows) l.rest)) ≡ l.fn.text.items ++ joined (stamped_lines (epoch_at l.fn.time (rows_of l.rows l.entries)));
-  room : All HasRoom (rows_of (drop l.row-index l.rows) l.rest);
-  few : entry_count (drop l.row-index l.rows) ≤ length l.rest;
-  left : length l.rest + entry_count l.rows ≡ length l.entries + entry_count (drop l.row-index l.rows);
+  text : l.text.items ++ joined (map seen_line (rows_of (drop l.row-index l.rows) (drop l.at l.entries))) ≡ l.fn.text.items ++ joined (stamped_lines (epoch_at l.fn.time (rows_of l.rows l.entries)));
+  room : All HasRoom (rows_of (drop l.row-index l.rows) (drop l.at l.entries));
+  few : l.at + entry_count (drop l.row-index l.rows) ≡ entry_count l.rows;
 }
