@@ -1,16 +1,18 @@
 -- Epochs, satellites and entries that are kept in three lists, and one more of each.
-use Rattle.std.proofs.Common.{arith, ◌≡◌, ◌∙◌, sym, ap, subst, refl, ℕ, suc, ◌+◌, ◌-◌, ◌<◌, ◌≤◌, List, [], ◌∷◌, ◌++◌, length, take, drop, get_or, length-append, append-nil}
-use Rattle.std.specs.Prelude.{All, map}
+use Rattle.std.proofs.Common.{arith, ◌≡◌, ◌∙◌, sym, ap, subst, refl, ℕ, zero, suc, ◌+◌, ◌-◌, ◌<◌, ◌≤◌, List, [], ◌∷◌, ◌++◌, length, take, drop, get_or, length-append, append-nil}
+use Rattle.std.specs.Prelude.{All, map, flat_map}
 use Rattle.std.proofs.Math.Seq.{drop-cons}
 use Rattle.std.proofs.Math.ListN.{drop_of_length-le}
-use Rattle.std.proofs.lemmas.List.Elements.{All-head, All-tail}
+use Rattle.std.proofs.lemmas.List.Elements.{All-head, All-tail, All-take, All-drop}
 use Rattle.rinex_file.specs.Numbers.{joined}
 use Rattle.rinex_file.specs.Lines.{epoch_line, seen_line}
+use Rattle.rinex_file.specs.File.{stamped_lines}
+use Rattle.rinex_file.proofs.Sent.{joined-append}
 use Rattle.rinex_file.proofs.Appended.{passed}
 use Rattle.std.specs.List.{sum_by}
 use Rattle.std.proofs.lemmas.List.{take-append-le, drop-append-le, length-drop, length-take-le, drop-drop}
 use Rattle.std.proofs.Math.Seq.{take-length}
-use Rattle.std.proofs.lemmas.List.Sums.{sum_by-append, sum_by-cons}
+use Rattle.std.proofs.lemmas.List.Sums.{sum_by-append, sum_by-cons, sum_by-take-drop}
 use Rattle.rinex_file.specs.declared.kept.KeptRow.{KeptRow}
 use Rattle.rinex_file.specs.declared.kept.KeptEpoch.{KeptEpoch}
 use Rattle.rinex_file.specs.Value.{Entry, Seen, Stamped, seen_with}
@@ -181,3 +183,91 @@ rows_counted epochs rows all kept =
     let counted = kept.counted in
     let same = all_rows epochs (rows_of rows all) (omega (arith, long, counted)) in
     omega (arith, same, counted)
+
+-- ---- the epochs that are left
+
+drop_more : (n m : ℕ) (all : List Entry) → drop (m + n) all ≡ drop n (drop m all)
+drop_more n m all = sym (drop-drop n m all)
+
+pub take_rows : (n : ℕ) (rows : List KeptRow) (all : List Entry) → take n (rows_of rows all) ≡ rows_of (take n rows) all
+take_rows zero rows all = refl
+take_rows (suc n) [] all = refl
+take_rows (suc n) (r ∷ rows) all = ap (λ l. row_at r all ∷ l) (take_rows n rows (drop r.entries all))
+
+pub drop_rows : (n : ℕ) (rows : List KeptRow) (all : List Entry) → drop n (rows_of rows all) ≡ rows_of (drop n rows) (drop (entry_count (take n rows)) all)
+drop_rows zero rows all = refl
+drop_rows (suc n) [] all = refl
+drop_rows (suc n) (r ∷ rows) all =
+    let sum : entry_count (r ∷ take n rows) ≡ r.entries + entry_count (take n rows) = sum_by-cons (λ (x : KeptRow). x.entries) r (take n rows) in
+    drop_rows n rows (drop r.entries all) ∙ ap (rows_of (drop n rows)) (sym (ap (λ (k : ℕ). drop k all) sum ∙ drop_more (entry_count (take n rows)) r.entries all))
+
+-- what the next epoch takes
+pub record NextEpoch (epochs : List KeptEpoch) (rows : List KeptRow) (all : List Entry) (i row entry : ℕ) (e : KeptEpoch) : Type 0 where
+  pub rows_fit : row + e.rows ≤ length rows
+  pub entries_fit : entry + entry_count (take e.rows (drop row rows)) ≤ length all
+  pub room : All HasRoom (rows_of (take e.rows (drop row rows)) (drop entry all))
+  pub others : All HasRoom (rows_of (drop (row + e.rows) rows) (drop (entry + entry_count (take e.rows (drop row rows))) all))
+  pub row_sum : (row + e.rows) + row_count (drop (i + 1) epochs) ≡ length rows
+  pub entry_sum : (entry + entry_count (take e.rows (drop row rows))) + entry_count (drop (row + e.rows) rows) ≡ length all
+  pub shown : epochs_of (drop i epochs) (drop row rows) (drop entry all) ≡ epoch_at e.time (rows_of (take e.rows (drop row rows)) (drop entry all))
+      ∷ epochs_of (drop (i + 1) epochs) (drop (row + e.rows) rows) (drop (entry + entry_count (take e.rows (drop row rows))) all)
+
+pub next_of : (epochs : List KeptEpoch) (rows : List KeptRow) (all : List Entry) (i row entry : ℕ) (e : KeptEpoch) → i < length epochs → e ≡ get_or epochs i e
+    → row + row_count (drop i epochs) ≡ length rows → entry + entry_count (drop row rows) ≡ length all → All HasRoom (rows_of (drop row rows) (drop entry all))
+    → NextEpoch epochs rows all i row entry e
+next_of epochs rows all i row entry e less is row_sum entry_sum room =
+    let next : suc i ≡ i + 1 = omega arith in
+    let shape : drop i epochs ≡ e ∷ drop (i + 1) epochs = drop-cons epochs i e less ∙ ap (λ (x : KeptEpoch). x ∷ drop (suc i) epochs) (sym is) ∙ ap (λ (n : ℕ). e ∷ drop n epochs) next in
+    let count : row_count (drop i epochs) ≡ e.rows + row_count (drop (i + 1) epochs) = ap (λ l. row_count l) shape ∙ sum_by-cons (λ (x : KeptEpoch). x.rows) e (drop (i + 1) epochs) in
+    let here = drop row rows in
+    let own = take e.rows here in
+    let behind : drop e.rows here ≡ drop (row + e.rows) rows = drop-drop e.rows row rows in
+    let sum : entry_count own + entry_count (drop e.rows here) ≡ entry_count here = sum_by-take-drop (λ (x : KeptRow). x.entries) here e.rows in
+    let same : entry_count (drop e.rows here) ≡ entry_count (drop (row + e.rows) rows) = ap (λ l. entry_count l) behind in
+    let left : drop e.rows (rows_of here (drop entry all)) ≡ rows_of (drop (row + e.rows) rows) (drop (entry + entry_count own) all) =
+    drop_rows e.rows here (drop entry all) ∙ ap (λ l. rows_of l (drop (entry_count own) (drop entry all))) behind ∙ ap (rows_of (drop (row + e.rows) rows)) (sym (drop_more (entry_count own) entry all)) in
+    record {
+      rows_fit = omega (arith, row_sum, count);
+      entries_fit = omega (arith, entry_sum, sum);
+      room = subst (All HasRoom) (take_rows e.rows here (drop entry all)) (All-take HasRoom e.rows (rows_of here (drop entry all)) room);
+      others = subst (All HasRoom) left (All-drop HasRoom e.rows (rows_of here (drop entry all)) room);
+      row_sum = omega (arith, row_sum, count);
+      entry_sum = omega (arith, entry_sum, sum, same);
+      shown = ap (λ l. epochs_of l here (drop entry all)) shape
+          ∙ ap (λ l. epoch_at e.time l ∷ epochs_with (drop (i + 1) epochs) (drop e.rows (rows_of here (drop entry all)))) (take_rows e.rows here (drop entry all))
+          ∙ ap (λ l. epoch_at e.time (rows_of own (drop entry all)) ∷ epochs_with (drop (i + 1) epochs) l) left;
+    }
+
+-- the lines of an epoch were appended
+pub epoch_passed : (e : Stamped) (left others : List Stamped) (text new whole : List ℕ) → left ≡ e ∷ others → text ++ joined (flat_map stamped_lines left) ≡ whole → new ≡ text ++ joined (stamped_lines e)
+    → new ++ joined (flat_map stamped_lines others) ≡ whole
+epoch_passed e left others text new whole shape before grown =
+    let split : joined (flat_map stamped_lines left) ≡ joined (stamped_lines e) ++ joined (flat_map stamped_lines others) =
+    ap (λ l. joined (flat_map stamped_lines l)) shape ∙ joined-append (stamped_lines e) (flat_map stamped_lines others) in
+    passed text (joined (stamped_lines e)) (joined (flat_map stamped_lines others)) new whole (ap (λ l. text ++ l) (sym split) ∙ before) grown
+
+-- no epoch is left
+pub epochs_passed : (epochs : List KeptEpoch) (rows : List KeptRow) (all : List Entry) (i : ℕ) (text whole : List ℕ) → length epochs ≤ i
+    → text ++ joined (flat_map stamped_lines (epochs_of (drop i epochs) rows all)) ≡ whole → text ≡ whole
+epochs_passed epochs rows all i text whole done before =
+    sym (ap (λ (l : List KeptEpoch). text ++ joined (flat_map stamped_lines (epochs_of l rows all))) (drop_of_length-le epochs done) ∙ append-nil text) ∙ before
+
+-- what was appended, and where the next epoch begins
+pub next_passed : (epochs : List KeptEpoch) (rows : List KeptRow) (all : List Entry) (i row entry row' entry' : ℕ) (e : KeptEpoch) (text new whole : List ℕ) → NextEpoch epochs rows all i row entry e
+    → row' ≡ row + e.rows → entry' ≡ entry + entry_count (take e.rows (drop row rows))
+    → text ++ joined (flat_map stamped_lines (epochs_of (drop i epochs) (drop row rows) (drop entry all))) ≡ whole
+    → new ≡ text ++ joined (stamped_lines (epoch_at e.time (rows_of (take e.rows (drop row rows)) (drop entry all))))
+    → (new ++ joined (flat_map stamped_lines (epochs_of (drop (i + 1) epochs) (drop row' rows) (drop entry' all))) ≡ whole)
+    × All HasRoom (rows_of (drop row' rows) (drop entry' all)) × (row' + row_count (drop (i + 1) epochs) ≡ length rows) × (entry' + entry_count (drop row' rows) ≡ length all)
+next_passed epochs rows all i row entry row' entry' e text new whole next at_row at_entry before grown =
+    let to = row + e.rows in
+    let end = entry + entry_count (take e.rows (drop row rows)) in
+    let others = epochs_of (drop (i + 1) epochs) (drop to rows) (drop end all) in
+    let own = epoch_at e.time (rows_of (take e.rows (drop row rows)) (drop entry all)) in (
+      ap (λ (k : ℕ). new ++ joined (flat_map stamped_lines (epochs_of (drop (i + 1) epochs) (drop k rows) (drop entry' all)))) at_row
+      ∙ ap (λ (k : ℕ). new ++ joined (flat_map stamped_lines (epochs_of (drop (i + 1) epochs) (drop to rows) (drop k all)))) at_entry
+      ∙ epoch_passed own (epochs_of (drop i epochs) (drop row rows) (drop entry all)) others text new whole next.shown before grown,
+      subst (λ (k : ℕ). All HasRoom (rows_of (drop row' rows) (drop k all))) (sym at_entry) (subst (λ (k : ℕ). All HasRoom (rows_of (drop k rows) (drop end all))) (sym at_row) next.others),
+      ap (λ (k : ℕ). k + row_count (drop (i + 1) epochs)) at_row ∙ next.row_sum,
+      ap (λ (k : ℕ). k + entry_count (drop row' rows)) at_entry ∙ ap (λ (k : ℕ). end + entry_count (drop k rows)) at_row ∙ next.entry_sum,
+    )

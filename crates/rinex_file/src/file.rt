@@ -1,5 +1,5 @@
 //! Reading a file whole, and writing it back.
-ghost use Rattle.std.specs.Prelude.{◌≡◌, ◌<◌, ◌≤◌, ◌==◌, ℕ, List, ◌++◌, All, Err, OnOk, IfOk, IfErr, IfSome, length, drop, ◌+◌, if◌then◌else◌};
+ghost use Rattle.std.specs.Prelude.{◌≡◌, ◌<◌, ◌≤◌, ◌==◌, ℕ, List, ◌++◌, All, Err, OnOk, IfOk, IfErr, IfSome, length, take, drop, flat_map, ◌+◌, if◌then◌else◌};
 ghost use Rattle.rtcm_bits.specs.Device.{HasFailed};
 ghost use Rattle.rinex_file.specs.Numbers.{joined};
 ghost use Rattle.rinex_file.specs.Value.{FileValue};
@@ -8,7 +8,7 @@ ghost use Rattle.rinex_file.specs.File.{header_text, stamped_lines, file_text, f
 ghost use Rattle.rinex_file.specs.Exact.{Explains, IsReadOr, most_lines};
 ghost use Rattle.rinex_file.specs.Blocks.{Leaves};
 ghost use Rattle.rinex_file.specs.Course.{epoch_at};
-ghost use Rattle.rinex_file.specs.Kept.{row_at, rows_of, entry_count, HasRoom};
+ghost use Rattle.rinex_file.specs.Kept.{row_at, rows_of, epochs_of, entry_count, AreKept, HasRoom};
 ghost use Rattle.rinex_file.specs.Lines.{seen_line};
 ghost use Rattle.rinex_file.specs.Counting.{IsTextWith, IsCountedOr};
 
@@ -147,6 +147,47 @@ fn add_epoch(
     Ok(at)
 }
 
+// Appends the lines of an epoch whose satellites and entries begin at these places, and answers where they end.
+fn add_next(
+    text: &mut Vec<u8>,
+    epoch: &KeptEpoch,
+    rows: &[KeptRow],
+    entries: &[KeptEntry],
+    at: (usize, usize),
+    line: &mut Line,
+) -> Result<(usize, usize), AllocError>
+    requires rows { at.0 + epoch.now.rows ≤ length rows.now }
+    requires entries { at.1 + entry_count (take epoch.now.rows (drop at.0 rows.now)) ≤ length entries.now }
+    requires room { All HasRoom (rows_of (take epoch.now.rows (drop at.0 rows.now)) (drop at.1 entries.now)) }
+    ensures text { OnOk result (text.new.items ≡ text.old.items
+        ++ joined (stamped_lines (epoch_at epoch.now.time (rows_of (take epoch.now.rows (drop at.0 rows.now)) (drop at.1 entries.now))))) }
+    ensures end { IfOk result (λ end. (end.0 ≡ at.0 + epoch.now.rows) × (end.1 ≡ at.1 + entry_count (take epoch.now.rows (drop at.0 rows.now)))) }
+{
+    let (row, entry) = at;
+    let own = &rows[row..][..epoch.rows];
+    let count = add_epoch(text, epoch.time, own, &entries[entry..], line)?;
+    Ok((row + epoch.rows, entry + count))
+}
+
+// Appends the lines of these epochs.
+fn add_epochs(
+    text: &mut Vec<u8>,
+    epochs: &[KeptEpoch],
+    rows: &[KeptRow],
+    entries: &[KeptEntry],
+    line: &mut Line,
+) -> Result<(), AllocError>
+    requires kept { AreKept epochs.now rows.now entries.now 0 }
+    requires room { All HasRoom (rows_of rows.now entries.now) }
+    ensures { OnOk result (text.new.items ≡ text.old.items ++ joined (flat_map stamped_lines (epochs_of epochs.now rows.now entries.now))) }
+{
+    let mut at = (0, 0);
+    for epoch in epochs {
+        at = add_next(text, epoch, rows, entries, at, line)?;
+    }
+    Ok(())
+}
+
 /// The text of a file.
 pub fn file_bytes(alloc: Global, file: &ObsFile) -> Result<Vec<u8>, AllocError>
     ensures { IfOk result (λ text. text.items ≡ file_text file.now) }
@@ -154,18 +195,12 @@ pub fn file_bytes(alloc: Global, file: &ObsFile) -> Result<Vec<u8>, AllocError>
     let mut text = Vec::new(alloc);
     let mut line = Line::new();
     add_header(&mut text, file, file.epochs[0].time)?;
-    let mut rows = file.rows.as_slice();
-    let mut entries = file.entries.as_slice();
-    for epoch in &file.epochs {
-        let count = add_epoch(
-            &mut text,
-            epoch.time,
-            &rows[..epoch.rows],
-            entries,
-            &mut line,
-        )?;
-        rows = &rows[epoch.rows..];
-        entries = &entries[count..];
-    }
+    add_epochs(
+        &mut text,
+        file.epochs.as_slice(),
+        file.rows.as_slice(),
+        file.entries.as_slice(),
+        &mut line,
+    )?;
     Ok(text)
 }

@@ -44,8 +44,8 @@ returns-in-Ok-write_whole-clause-only g c = λ v is few.
     (line_of c.as_bytes.result.now _ c.in-Ok.counts v c.as_bytes.ensures.text c.check_line-line.ensures (h same)) c.in-Ok-write_whole.ensures.whole)
     (c.in-Ok.ensures.only v is few)
 
-pub returns-clause-only : goal.returns-clause-only
-returns-clause-only g c = λ v is few.
+pub returns-in-Err-write_whole-clause-only : goal.returns-in-Err-write_whole-clause-only
+returns-in-Err-write_whole-clause-only g c = λ v is few.
     where_known (λ input. input ≡ file_text v → AreCounts c.in-Ok.counts v) _ (g.R.Read.remaining c.args.reader.now.inner)
     (λ input h same. subst (AppendsPrefix (g.W.Write.contents c.args.writer.now.inner) (g.W.Write.contents c.write_whole.new.self.inner))
     (line_of c.as_bytes.result.now _ c.in-Ok.counts v c.as_bytes.ensures.text c.check_line-line.ensures (h same)) c.in-Err-write_whole.ensures.part)
@@ -61,8 +61,8 @@ returns-in-Ok-write_whole-clause-whole g c =
       (line_of c.as_bytes.result.now _ c.in-Ok.counts found.v c.as_bytes.ensures.text c.check_line-line.ensures found.counted) c.in-Ok-write_whole.ensures.whole,
     )
 
-pub returns-clause-write : goal.returns-clause-write
-returns-clause-write g c = λ e.
+pub returns-in-Err-write_whole-clause-write : goal.returns-in-Err-write_whole-clause-write
+returns-in-Err-write_whole-clause-write g c = λ e.
     let found = c.in-Ok.ensures.found in (
       found.v,
       found.is,
