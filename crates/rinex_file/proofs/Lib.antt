@@ -17,6 +17,7 @@ mod FileText
 mod Examples
 mod Ahead
 mod KeptRows
+mod KeptFile
 mod ReadWhole
 mod Judged
 mod Rises
