@@ -1,23 +1,22 @@
 -- Where a reading goes on from one line of an epoch to the next.
-use Rattle.std.proofs.Common.{rules, arith, ◌≡◌, ◌↔◌, ℕ, zero, suc, ◌+◌, ◌<◌, ◌≤◌, List, [], ◌∷◌, ◌++◌, refl, sym, ap, subst, ◌∙◌, length, append_assoc, append-nil, length-append, Option, Some, None, Bool, true, false}
+use Rattle.std.proofs.Common.{arith, ◌≡◌, ◌↔◌, ℕ, suc, ◌+◌, ◌<◌, ◌≤◌, List, [], ◌∷◌, ◌++◌, refl, sym, ap, subst, ◌∙◌, length, append_assoc, append-nil, length-append, Option, None, Bool, true, false}
 use Rattle.std.specs.Prelude.{All, map, flat_map, if◌then◌else◌, nat_lt}
 use Rattle.std.specs.List.Sorted.{IsStrictlyIncreasing}
 use Rattle.std.proofs.lemmas.List.{map-append}
 use Rattle.std.proofs.lemmas.List.Elements.{All-head, All-tail, All-nil, All-push}
 use Rattle.obs_epoch.specs.Dates.{civil_of}
 use Rattle.obs_epoch.specs.declared.cell.StationValues.{StationValues}
-use Rattle.rinex_file.specs.declared.due.Due.{Due}
-use Rattle.rinex_file.specs.declared.due.Due.TheVariants.{Header, Epoch, Satellite}
+use Rattle.rinex_file.specs.declared.due.Due.TheVariants.{Epoch, Satellite}
 use Rattle.rinex_file.specs.Value.{Seen, Stamped, FileValue}
 use Rattle.rinex_file.specs.FileValues.{IsFileValue, IsStamped, IsSeen, AreSeen, IsTime, time_of, rank_of, most_rows}
 use Rattle.rinex_file.specs.Lines.{epoch_line, seen_line}
 use Rattle.rinex_file.specs.File.{stamped_lines, change_lines}
-use Rattle.rinex_file.specs.Progress.{Progress, Known, file_with, stamped, StartsAt, IsAt, IsBetween, IsWithin, GoesOn, begun_at, with_row, with_epoch}
-use Rattle.rinex_file.specs.Sound.{AreRead, IsBegun, IsSoundAt, IsSound, MayBegin, AreStamped}
+use Rattle.rinex_file.specs.Progress.{Progress, file_with, stamped, StartsAt, IsAt, IsBetween, IsWithin, GoesOn, begun_at, with_row, with_epoch}
+use Rattle.rinex_file.specs.Sound.{AreRead, IsBegun, IsSoundAt, IsSound, MayBegin}
 use Rattle.rinex_file.proofs.FewRows.{few_rows, few_planned}
 use Rattle.rinex_file.proofs.Entries.{few_signals}
 use Rattle.gnss_obs.specs.declared.system.System.TheVariants.{Gps, Galileo}
-use Rattle.rinex_file.proofs.Rises.{rise_front, rise_last, rise_more}
+use Rattle.rinex_file.proofs.Rises.{rise_front}
 
 pub All-midst : {X : Type 0} (P : X → Type 0) (xs ys : List X) (y : X) → All P (xs ++ y ∷ ys) → P y
 All-midst P [] ys y h = All-head P y ys h

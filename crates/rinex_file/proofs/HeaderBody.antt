@@ -1,7 +1,6 @@
 -- Where a reading goes on from the header to the epochs, and where it ends.
-use Rattle.std.proofs.Common.{rules, arith, ◌≡◌, ◌↔◌, ℕ, zero, suc, ◌+◌, ◌<◌, ◌≤◌, List, [], ◌∷◌, ◌++◌, refl, sym, ap, subst, ◌∙◌, length, append_assoc, append-nil, length-append, get_or, Option, Some, None}
+use Rattle.std.proofs.Common.{arith, ◌≡◌, ◌↔◌, ℕ, ◌<◌, List, [], ◌∷◌, ◌++◌, refl, sym, ap, subst, ◌∙◌, length, append-nil}
 use Rattle.std.specs.Prelude.{All, map, flat_map}
-use Rattle.std.specs.List.Sorted.{IsStrictlyIncreasing}
 use Rattle.std.proofs.lemmas.List.Elements.{All-head, All-nil}
 use Rattle.std.proofs.lemmas.List.{length-map}
 use Rattle.obs_epoch.specs.Dates.{civil_of}
@@ -11,10 +10,10 @@ use Rattle.rinex_file.specs.declared.due.Due.{Due}
 use Rattle.rinex_file.specs.declared.due.Due.TheVariants.{Header, Epoch, Satellite}
 use Rattle.rinex_file.specs.Value.{Seen, Stamped, FileValue}
 use Rattle.rinex_file.specs.FileValues.{IsFileValue, IsStamped, time_of}
-use Rattle.rinex_file.specs.Header.{lines_from, header_lines, section_rows}
+use Rattle.rinex_file.specs.Header.{header_lines}
 use Rattle.rinex_file.specs.Lines.{epoch_line, seen_line}
 use Rattle.rinex_file.specs.File.{stamped_lines, change_lines, file_lines}
-use Rattle.rinex_file.specs.Progress.{Progress, Known, Shown, IsShown, shown_lines, shown_of, IsHeaderLeft, IsHeaderRead, MayFollow, file_with, stamped, StartsAt, IsInHeader, IsAt, IsBetween, IsWithin, GoesOn}
+use Rattle.rinex_file.specs.Progress.{Progress, Known, Shown, IsShown, shown_lines, shown_of, IsHeaderLeft, IsHeaderRead, file_with, StartsAt, IsInHeader, IsAt, IsBetween, IsWithin, GoesOn}
 use Rattle.rinex_file.specs.Sound.{AreRead, IsBegun, IsSoundAt, IsSound}
 use Rattle.rinex_file.specs.declared.course.Course.{Course}
 use Rattle.rinex_file.specs.Course.{History, StandsBehind, progress_at}

@@ -1,11 +1,11 @@
 -- Epochs, satellites and entries that are kept in three lists, and one more of each.
-use Rattle.std.proofs.Common.{arith, ◌≡◌, ◌∙◌, sym, ap, subst, refl, ℕ, zero, suc, ◌+◌, ◌-◌, ◌<◌, ◌≤◌, List, [], ◌∷◌, ◌++◌, length, take, drop, get_or, length-append, append-nil}
+use Rattle.std.proofs.Common.{arith, ◌≡◌, ◌∙◌, sym, ap, subst, refl, ℕ, zero, suc, ◌+◌, ◌-◌, ◌<◌, ◌≤◌, List, [], ◌∷◌, ◌++◌, length, take, drop, get_or, append-nil}
 use Rattle.std.specs.Prelude.{All, map, flat_map}
 use Rattle.std.proofs.Math.Seq.{drop-cons}
 use Rattle.std.proofs.Math.ListN.{drop_of_length-le}
 use Rattle.std.proofs.lemmas.List.Elements.{All-head, All-tail, All-take, All-drop}
 use Rattle.rinex_file.specs.Numbers.{joined}
-use Rattle.rinex_file.specs.Lines.{epoch_line, seen_line}
+use Rattle.rinex_file.specs.Lines.{seen_line}
 use Rattle.rinex_file.specs.File.{stamped_lines}
 use Rattle.rinex_file.proofs.Sent.{joined-append}
 use Rattle.rinex_file.proofs.Appended.{passed}
@@ -150,7 +150,7 @@ row_passed rows i n at to all r text new whole next count gone before e =
     let same : rows_of (drop n rows) (drop to all) ≡ others =
     ap (λ (k : ℕ). rows_of (drop k rows) (drop to all)) count ∙ ap (λ (k : ℕ). rows_of (drop (i + 1) rows) (drop k all)) gone ∙ ap (rows_of (drop (i + 1) rows)) (sym (drop-drop r.entries at all)) in (
       ap (λ (l : List Seen). new ++ joined (map seen_line l)) same
-      ∙ passed text (seen_line (row_at r (drop at all))) (joined (map seen_line others)) new whole (ap (λ (l : List Seen). text ++ joined (map seen_line l)) (sym next.shown) ∙ before) e,
+          ∙ passed text (seen_line (row_at r (drop at all))) (joined (map seen_line others)) new whole (ap (λ (l : List Seen). text ++ joined (map seen_line l)) (sym next.shown) ∙ before) e,
       subst (All HasRoom) (sym same) next.others,
     )
 
@@ -265,8 +265,8 @@ next_passed epochs rows all i row entry row' entry' e text new whole next at_row
     let others = epochs_of (drop (i + 1) epochs) (drop to rows) (drop end all) in
     let own = epoch_at e.time (rows_of (take e.rows (drop row rows)) (drop entry all)) in (
       ap (λ (k : ℕ). new ++ joined (flat_map stamped_lines (epochs_of (drop (i + 1) epochs) (drop k rows) (drop entry' all)))) at_row
-      ∙ ap (λ (k : ℕ). new ++ joined (flat_map stamped_lines (epochs_of (drop (i + 1) epochs) (drop to rows) (drop k all)))) at_entry
-      ∙ epoch_passed own (epochs_of (drop i epochs) (drop row rows) (drop entry all)) others text new whole next.shown before grown,
+          ∙ ap (λ (k : ℕ). new ++ joined (flat_map stamped_lines (epochs_of (drop (i + 1) epochs) (drop to rows) (drop k all)))) at_entry
+          ∙ epoch_passed own (epochs_of (drop i epochs) (drop row rows) (drop entry all)) others text new whole next.shown before grown,
       subst (λ (k : ℕ). All HasRoom (rows_of (drop row' rows) (drop k all))) (sym at_entry) (subst (λ (k : ℕ). All HasRoom (rows_of (drop k rows) (drop end all))) (sym at_row) next.others),
       ap (λ (k : ℕ). k + row_count (drop (i + 1) epochs)) at_row ∙ next.row_sum,
       ap (λ (k : ℕ). k + entry_count (drop row' rows)) at_entry ∙ ap (λ (k : ℕ). end + entry_count (drop k rows)) at_row ∙ next.entry_sum,

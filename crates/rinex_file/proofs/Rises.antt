@@ -1,10 +1,10 @@
 -- Numbers that rise, and one more behind them.
-use Rattle.std.proofs.Common.{rules, arith, ◌≡◌, ◌↔◌, ℕ, zero, suc, ◌+◌, ◌-◌, ◌<◌, ◌≤◌, List, [], ◌∷◌, ◌++◌, refl, sym, ap, subst, ◌∙◌, length, get_or, append_assoc, append-nil, length-append, inl, inr, Bool, true, false, Option, Some, None, IsTrue}
-use Rattle.std.specs.Prelude.{All, map, nat_lt, slice_get}
+use Rattle.std.proofs.Common.{arith, ◌≡◌, ◌↔◌, ℕ, suc, ◌+◌, ◌<◌, List, [], ◌∷◌, ◌++◌, sym, ap, subst, ◌∙◌, length, get_or, length-append, inl, inr, Some, IsTrue}
+use Rattle.std.specs.Prelude.{nat_lt}
 use Rattle.std.specs.List.Sorted.{IsStrictlyIncreasing}
 use Rattle.rinex_file.specs.Course.{EndsIn}
 use Rattle.std.proofs.Math.Seq.{get_or-append_seam}
-use Rattle.std.proofs.lemmas.List.{get_or_append_left, map-append, length-map}
+use Rattle.std.proofs.lemmas.List.{get_or_append_left}
 use Rattle.std.proofs.lemmas.Bool.{cases_lt}
 
 pub rise_more : (front : List ℕ) (a y : ℕ) → IsStrictlyIncreasing (front ++ a ∷ []) → a < y → IsStrictlyIncreasing ((front ++ a ∷ []) ++ y ∷ [])

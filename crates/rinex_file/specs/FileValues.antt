@@ -1,5 +1,5 @@
 -- Which values are those of a file: what its lines have room for, in the order in which they stand.
-use Rattle.std.specs.Prelude.{◌≡◌, ℕ, ℤ, pos, neg_ℤ, ◌+◌, ◌*◌, ◌^◌, ◌<◌, ◌≤◌, ◌≤ℤ◌, ◌||◌, Bool, true, List, length, All, Any, map, Option, None, is_some, nat_eq, nat_lt, if◌then◌else◌, IfSome, IsTrue}
+use Rattle.std.specs.Prelude.{◌≡◌, ℕ, ℤ, pos, neg_ℤ, ◌+◌, ◌*◌, ◌^◌, ◌<◌, ◌≤◌, ◌≤ℤ◌, ◌||◌, Bool, true, List, length, All, Any, map, None, is_some, nat_eq, nat_lt, if◌then◌else◌, IfSome, IsTrue}
 use Rattle.std.specs.List.{IsDistinct, list_all}
 use Rattle.std.specs.List.Sorted.{IsStrictlyIncreasing}
 use Rattle.gnss_obs.specs.declared.system.System.{System}

@@ -1,5 +1,5 @@
 -- What is known of a file while its lines are read, one after the other, and which files may still follow.
-use Rattle.std.specs.Prelude.{◌≡◌, ℕ, zero, suc, ◌+◌, ◌*◌, ◌/◌, ◌<◌, ◌==◌, not, Bool, List, [], ◌∷◌, ◌++◌, length, take, get_or, map, All, replicate, codes, pos, nat_eq, if◌then◌else◌, flat_map, Option, Some, None, ⊤, ◌↔◌}
+use Rattle.std.specs.Prelude.{◌≡◌, ℕ, zero, suc, ◌+◌, ◌*◌, ◌/◌, ◌<◌, ◌==◌, not, Bool, List, [], ◌∷◌, ◌++◌, length, take, get_or, map, All, replicate, codes, pos, nat_eq, if◌then◌else◌, flat_map, Option, Some, None, ⊤}
 use Rattle.gnss_obs.specs.declared.system.System.{System}
 use Rattle.gnss_obs.specs.declared.system.System.TheVariants.{Gps, Galileo}
 use Rattle.obs_epoch.specs.declared.cell.StationValues.{StationValues}

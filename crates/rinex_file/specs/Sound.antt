@@ -3,8 +3,8 @@ use Rattle.std.specs.Prelude.{◌≡◌, ℕ, ◌<◌, ◌≤◌, List, [], ◌�
 use Rattle.std.specs.List.Sorted.{IsStrictlyIncreasing}
 use Rattle.rinex_file.specs.declared.due.Due.{Due}
 use Rattle.rinex_file.specs.declared.due.Due.TheVariants.{Header, Epoch, Satellite}
-use Rattle.rinex_file.specs.Value.{Seen, Stamped}
-use Rattle.rinex_file.specs.FileValues.{IsTime, IsStamped, AreSeen, time_of, rank_of, most_rows}
+use Rattle.rinex_file.specs.Value.{Stamped}
+use Rattle.rinex_file.specs.FileValues.{IsTime, IsStamped, AreSeen, time_of, most_rows}
 use Rattle.rinex_file.specs.Progress.{Progress, IsShown, StartsAt}
 
 abbrev pub AreStamped : Progress → List Stamped → Type 0

@@ -1,12 +1,12 @@
 -- What a reading says of all the lines that it took, one after the other.
-use Rattle.std.specs.Prelude.{◌≡◌, ℕ, ◌+◌, ◌<◌, ◌≤◌, List, [], length, All, Option, Some, None, Result, Ok, Err, IfSome}
+use Rattle.std.specs.Prelude.{◌≡◌, ℕ, ◌+◌, ◌≤◌, List, [], length, All, Option, Some, None, Result, Ok, Err, IfSome}
 use Rattle.std.specs.Io.KnownBytes.{Consumes, prepend_known}
 use Rattle.rinex_file.specs.declared.due.Added.{Added}
 use Rattle.rinex_file.specs.declared.read_fault.ReadFault.{ReadFault}
 use Rattle.rinex_file.specs.declared.reading.Reading.{Reading}
 use Rattle.rinex_file.specs.declared.course.Course.{Course}
 use Rattle.rinex_file.specs.Numbers.{joined}
-use Rattle.rinex_file.specs.Value.{Seen, Stamped, FileValue}
+use Rattle.rinex_file.specs.Value.{FileValue}
 use Rattle.rinex_file.specs.FileValues.{IsFileValue}
 use Rattle.rinex_file.specs.File.{file_text}
 use Rattle.rinex_file.specs.Exact.{IsLine, Explains, most_lines}

@@ -1,4 +1,4 @@
-use Rattle.std.proofs.Common.{arith, ◌≡◌}
+use Rattle.std.proofs.Common.{arith}
 use Rattle.rinex_file.proofs.Ahead.{endless_more, byte_at}
 use Rattle.rinex_file.proofs.block.line_feed.Goals as goal
 

@@ -1,11 +1,11 @@
-use Rattle.std.proofs.Common.{arith, ◌≡◌, ◌∙◌, sym, ap, subst, refl, ℕ, ◌+◌, ◌-◌, ◌≤◌, ◌++◌, List, length, take, drop, get_or, append_assoc}
-use Rattle.std.proofs.lemmas.List.{length-take-le, length-drop}
+use Rattle.std.proofs.Common.{arith, ◌≡◌, ◌∙◌, sym, ap, refl, ℕ, ◌+◌, ◌≤◌, ◌++◌, List, length, drop, get_or, append_assoc}
+use Rattle.std.proofs.lemmas.List.{length-drop}
 use Rattle.std.proofs.Math.ListN.{drop_of_length-le}
 use Rattle.obs_epoch.specs.Dates.{civil_of}
 use Rattle.gnss_obs.specs.declared.system.System.TheVariants.{Gps}
 use Rattle.rinex_file.specs.declared.kept.KeptRow.{KeptRow}
-use Rattle.rinex_file.specs.Value.{Entry, seen_with}
-use Rattle.rinex_file.specs.Lines.{epoch_line, seen_line}
+use Rattle.rinex_file.specs.Value.{Entry}
+use Rattle.rinex_file.specs.Lines.{epoch_line}
 use Rattle.rinex_file.specs.Kept.{rows_of, entry_count}
 use Rattle.rinex_file.proofs.Appended.{failed}
 use Rattle.rinex_file.proofs.KeptRows.{NextRow, length-rows_of, next_row, row_passed, rows_passed}
@@ -62,7 +62,7 @@ loop-row-preserved c =
     let more = next ((goal.at.loop-row-preserved c).In-loop-row) in
     let r = get_or c.args.rows.now c.loop-row.row-index no_row in
     let passed = row_passed c.args.rows.now c.loop-row.row-index (c.loop-row.row-index + 1) c.loop-row.at _ c.args.entries.now r c.loop-row.text.items c.add_row.new.text.items _ more
-            refl c.in_ok-at.ensures.end c.loop-row.invariant.text c.in_ok-at.ensures.text in
+    refl c.in_ok-at.ensures.end c.loop-row.invariant.text c.in_ok-at.ensures.text in
     record {
       text = passed.0;
       room = passed.1;

@@ -1,4 +1,3 @@
-use Rattle.std.proofs.Common.{arith, ◌≡◌, ◌∙◌, ap, refl, get_or, drop, ◌++◌, ◌+◌}
 use Rattle.rinex_file.proofs.KeptRows.{NextEpoch, next_of, next_passed}
 use Rattle.rinex_file.proofs.file.add_epochs.Goals as goal
 use Rattle.rinex_file.proofs.file.add_epochs.Goals.{After-epoch-item}
@@ -20,5 +19,5 @@ add_next-requires-clause-room c = (next ((goal.at.add_next-requires-clause-room 
 pub loop-epoch-preserved : goal.loop-epoch-preserved
 loop-epoch-preserved c =
     let (text, room, rows, entries) = next_passed c.args.epochs.now c.args.rows.now c.args.entries.now c.loop-epoch.epoch-index c.loop-epoch.at.0 c.loop-epoch.at.1 _ _ c.epoch-item.result c.loop-epoch.text.items
-            c.add_next.new.text.items _ (next ((goal.at.loop-epoch-preserved c).After-epoch-item)) c.in_ok-at.ensures.end.0 c.in_ok-at.ensures.end.1 c.loop-epoch.invariant.text c.in_ok-at.ensures.text in
+    c.add_next.new.text.items _ (next ((goal.at.loop-epoch-preserved c).After-epoch-item)) c.in_ok-at.ensures.end.0 c.in_ok-at.ensures.end.1 c.loop-epoch.invariant.text c.in_ok-at.ensures.text in
     record { text = text; room = room; rows = rows; entries = entries }

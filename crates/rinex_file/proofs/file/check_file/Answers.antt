@@ -1,4 +1,4 @@
-use Rattle.std.proofs.Common.{arith, refl, ◌≡◌, ◌∙◌}
+use Rattle.std.proofs.Common.{refl, ◌∙◌}
 use Rattle.rinex_file.specs.Course.{nothing, with_line}
 use Rattle.rinex_file.proofs.Ahead.{leaves_all, leaves_more}
 use Rattle.rinex_file.proofs.FileLines.{lines_are_lines, lines_are_short}

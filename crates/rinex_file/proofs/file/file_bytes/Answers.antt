@@ -1,4 +1,4 @@
-use Rattle.std.proofs.Common.{◌≡◌, ◌∙◌, refl, ap, sym, subst, List}
+use Rattle.std.proofs.Common.{◌∙◌, refl, ap, sym, subst, List}
 use Rattle.std.specs.Prelude.{All, flat_map, ◌++◌}
 use Rattle.rinex_file.specs.declared.kept.KeptEpoch.{KeptEpoch}
 use Rattle.rinex_file.specs.Numbers.{joined}

@@ -1,4 +1,4 @@
-use Rattle.std.proofs.Common.{arith, refl, ◌≡◌, ◌∙◌}
+use Rattle.std.proofs.Common.{refl, ◌∙◌}
 use Rattle.rinex_file.specs.Keeping.{history_of}
 use Rattle.rinex_file.proofs.Ahead.{leaves_all, leaves_more}
 use Rattle.rinex_file.proofs.FileLines.{lines_are_lines, lines_are_short}
@@ -19,7 +19,7 @@ pub loop-added-preserved : goal.loop-added-preserved
 loop-added-preserved g c =
     let inv = c.loop-added.invariant in
     let goes = one_more c.next.new.self (history_of c.loop-added.keeper) _ _ c.in-Ok-Some.field-0 c.in-Ok-Some.added c.in-Ok-Some.field-0-is
-            (c.in-Ok-Some.ensures.goes (history_of c.loop-added.keeper) _ inv.read) in
+    (c.in-Ok-Some.ensures.goes (history_of c.loop-added.keeper) _ inv.read) in
     record {
       read = kept_read c.next.new.self _ (history_of c.keep.new.self) _ _ c.in-Ok.ensures.added goes;
       kept = c.in-Ok.ensures.kept;

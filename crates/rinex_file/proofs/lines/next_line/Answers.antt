@@ -1,6 +1,6 @@
-use Rattle.std.proofs.Common.{arith, ◌≡◌, ◌∙◌, sym, ap, subst, refl, ℕ, ◌≤◌, ◌<◌, length, Bool, true, false, nat_eq}
+use Rattle.std.proofs.Common.{arith, ◌≡◌, ◌∙◌, subst, ℕ, ◌≤◌, ◌<◌, Bool, false, nat_eq}
 use Rattle.rinex_file.specs.Blocks.{Moves}
-use Rattle.rinex_file.proofs.Ahead.{consumed_none, moved_taken, line_whole, still_endless, longer, leaves_more, leaves_all, at_end, nothing_ahead}
+use Rattle.rinex_file.proofs.Ahead.{moved_taken, line_whole, still_endless, leaves_more}
 use Rattle.rinex_file.proofs.lines.next_line.Goals as goal
 
 pub returns-in-Failed-clause-left : goal.returns-in-Failed-clause-left

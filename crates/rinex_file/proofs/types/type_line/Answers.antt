@@ -1,6 +1,5 @@
 use Rattle.std.proofs.Common.{◌∙◌, sym, ap, ◌++◌, ◌*◌, length, ℕ}
 use Rattle.std.specs.Prelude.{codes}
-use Rattle.obs_epoch.specs.Values.{planned_of}
 use Rattle.obs_epoch.specs.Signals.{indices}
 use Rattle.obs_epoch.proofs.PlanLemmas.{length_indices, few_signals}
 use Rattle.rinex_file.specs.Lines.{letter_of}

@@ -1,6 +1,5 @@
-use Rattle.std.proofs.Common.{arith, ◌≡◌, ◌∙◌, sym, ap, subst, refl, length, take, drop, ℕ, List, nat_lt, ◌-◌, ◌+◌, ◌≤◌}
+use Rattle.std.proofs.Common.{arith, ◌∙◌, ap, refl, length, take, drop, ℕ, ◌-◌, ◌≤◌}
 use Rattle.std.specs.Prelude.{min}
-use Rattle.rinex_file.specs.Blocks.{Moves}
 use Rattle.rinex_file.proofs.Ahead.{moved, moved_of, left_ahead}
 use Rattle.rinex_file.proofs.block.Block.move_to.Goals as goal
 

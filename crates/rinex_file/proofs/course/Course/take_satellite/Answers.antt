@@ -1,15 +1,15 @@
-use Rattle.std.proofs.Common.{arith, ◌≡◌, ◌↔◌, ◌∙◌, ◌+◌, ◌-◌, ◌<◌, ◌≤◌, ◌∷◌, ◌++◌, [], ℕ, suc, List, sym, ap, subst, refl, length, length-append, IsTrue, Bool, true, false, Option, Some}
+use Rattle.std.proofs.Common.{arith, ◌≡◌, ◌∙◌, ◌+◌, ◌-◌, ◌<◌, ◌∷◌, ◌++◌, [], ℕ, suc, List, sym, ap, subst, refl, length, length-append, Bool, true, false, Some}
 use Rattle.std.specs.Prelude.{map}
 use Rattle.std.specs.List.Sorted.{IsStrictlyIncreasing}
 use Rattle.std.proofs.lemmas.List.{map-append}
 use Rattle.std.proofs.lemmas.List.Sums.{sum_by-append}
-use Rattle.rinex_file.specs.declared.due.Due.TheVariants.{Epoch, Satellite}
-use Rattle.rinex_file.specs.Value.{FileValue, Seen, Stamped}
+use Rattle.rinex_file.specs.declared.due.Due.TheVariants.{Satellite}
+use Rattle.rinex_file.specs.Value.{Seen, Stamped}
 use Rattle.rinex_file.specs.FileValues.{IsSeen, rank_of, time_of}
 use Rattle.rinex_file.specs.Lines.{seen_line}
 use Rattle.rinex_file.specs.Progress.{Progress}
 use Rattle.rinex_file.specs.Reading.{ReadsExactly, some_if}
-use Rattle.rinex_file.specs.Course.{EndsIn, History, StandsBehind, epoch_at, progress_at, rows_in}
+use Rattle.rinex_file.specs.Course.{EndsIn, epoch_at, progress_at, rows_in}
 use Rattle.rinex_file.proofs.Judged.{refused}
 use Rattle.rinex_file.proofs.BodySteps.{row_taken, no_row, bad_row, last_taken, sound_open, few_at, sound_row, sound_closed}
 use Rattle.rinex_file.proofs.course.Course.take_satellite.Goals as goal
@@ -46,7 +46,7 @@ returns-then-not-is_behind-clause-takes c = λ h stands.
     let s = progress_at c.args.self.now h in
     let (read, begun, some) = sound_open s c.args.left c.requires.due stands.sound in
     let shown = shows c.planned-gps.result c.planned-galileo.result (length s.known.shown.plan.gps) (length s.known.shown.plan.galileo) c.args.line.now c.read_seen.result true c.read_seen.new.seen
-            c.planned-gps.ensures c.planned-galileo.ensures c.if-not-read_seen.false c.read_seen.ensures in
+    c.planned-gps.ensures c.planned-galileo.ensures c.if-not-read_seen.false c.read_seen.ensures in
     bad_row s (c.args.left - 1) c.args.line.now (one_due c.args.left s c.requires.due some) c.read_seen.new.seen shown.2
     (λ rise. refused c.is_behind.result _ (c.is_behind.ensures (map rank_of h.rows) stands.rank begun.rows.rise) c.if-not-is_behind.true
     (subst (λ (n : ℕ). IsStrictlyIncreasing (map rank_of h.rows ++ n ∷ [])) (sym c.rank_of-rank.ensures) rise))
@@ -76,9 +76,9 @@ returns-then-left-gt1-clause-takes c = λ h stands.
     let seen = c.read_seen.new.seen in
     let (read, begun, some) = sound_open s c.args.left c.requires.due stands.sound in
     let shown = shows c.planned-gps.result c.planned-galileo.result (length s.known.shown.plan.gps) (length s.known.shown.plan.galileo) c.args.line.now c.read_seen.result true seen
-            c.planned-gps.ensures c.planned-galileo.ensures c.if-not-read_seen.false c.read_seen.ensures in
+    c.planned-gps.ensures c.planned-galileo.ensures c.if-not-read_seen.false c.read_seen.ensures in
     let rise = rises (map rank_of h.rows) c.rank_of-rank.result (rank_of seen) c.rank_of-rank.ensures
-            ((c.is_behind.ensures (map rank_of h.rows) stands.rank begun.rows.rise).0 c.if-not-is_behind.false) in
+    ((c.is_behind.ensures (map rank_of h.rows) stands.rank begun.rows.rise).0 c.if-not-is_behind.false) in
     let more : 0 < c.args.left - 1 = let n = c.if-left-gt1.true in omega (arith, n) in
     record {
       stands = record {
@@ -97,9 +97,9 @@ returns-clause-takes c = λ h stands.
     let seen = c.read_seen.new.seen in
     let (read, begun, some) = sound_open s c.args.left c.requires.due stands.sound in
     let shown = shows c.planned-gps.result c.planned-galileo.result (length s.known.shown.plan.gps) (length s.known.shown.plan.galileo) c.args.line.now c.read_seen.result true seen
-            c.planned-gps.ensures c.planned-galileo.ensures c.if-not-read_seen.false c.read_seen.ensures in
+    c.planned-gps.ensures c.planned-galileo.ensures c.if-not-read_seen.false c.read_seen.ensures in
     let rise = rises (map rank_of h.rows) c.rank_of-rank.result (rank_of seen) c.rank_of-rank.ensures
-            ((c.is_behind.ensures (map rank_of h.rows) stands.rank begun.rows.rise).0 c.if-not-is_behind.false) in
+    ((c.is_behind.ensures (map rank_of h.rows) stands.rank begun.rows.rise).0 c.if-not-is_behind.false) in
     let last : c.args.left ≡ suc 0 = let n = c.if-left-gt1.false in omega (arith, n, some) in
     let epoch = epoch_at c.args.self.now.time (h.rows ++ seen ∷ []) in
     record {

@@ -1,4 +1,4 @@
-use Rattle.std.proofs.Common.{refl, ap, ◌∙◌, sym, List, ◌++◌}
+use Rattle.std.proofs.Common.{refl, ap, ◌∙◌, List}
 use Rattle.rinex_file.specs.Value.{Entry, seen_with}
 use Rattle.rinex_file.proofs.KeptRows.{row_kept}
 use Rattle.rinex_file.proofs.keeper.Keeper.keep_row.Goals as goal

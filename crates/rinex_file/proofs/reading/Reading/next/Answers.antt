@@ -1,5 +1,4 @@
-use Rattle.std.proofs.Common.{arith, refl, ◌≡◌, ◌∙◌, ap, subst, sym, ℕ, ◌+◌, ◌<◌, ◌≤◌, length, Err, List, Option}
-use Rattle.rinex_file.specs.declared.due.Due.TheVariants.{Epoch}
+use Rattle.std.proofs.Common.{subst, ℕ, ◌+◌, ◌<◌, length, Err}
 use Rattle.rinex_file.specs.declared.due.Refusal.{Refusal}
 use Rattle.rinex_file.specs.declared.read_fault.ReadFault.TheVariants.{CutShort}
 use Rattle.rinex_file.specs.Exact.{IsFaulty}
@@ -7,7 +6,7 @@ use Rattle.rinex_file.specs.Course.{Follows, Refuses, Takes, progress_at, with_l
 use Rattle.rinex_file.proofs.FileLines.{lines_are_lines}
 use Rattle.rinex_file.proofs.Judged.{refused as judged}
 use Rattle.rinex_file.proofs.HeaderBody.{unfinished, goes_on, only_file, file_read, sound_rows}
-use Rattle.rinex_file.proofs.LineByLine.{one_more, refused, over_long, too_long, cut_within, cut_behind, whole, behind_fault, said_of, line_some, long_some}
+use Rattle.rinex_file.proofs.LineByLine.{one_more, refused, over_long, cut_within, cut_behind, whole, behind_fault, said_of, long_some}
 use Rattle.rinex_file.proofs.reading.Reading.next.Goals as goal
 
 pub returns-then-may_end-clause-goes : goal.returns-then-may_end-clause-goes
