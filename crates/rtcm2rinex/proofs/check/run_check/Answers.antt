@@ -58,7 +58,7 @@ returns-in-Ok-write_whole-clause-whole g c =
       found.is,
       found.text,
       subst (Appends (g.W.Write.contents c.args.writer.now.inner) (g.W.Write.contents c.write_whole.new.self.inner))
-      (line_of c.as_bytes.result.now _ c.in-Ok.counts found.v c.as_bytes.ensures.text c.check_line-line.ensures found.counted) c.in-Ok-write_whole.ensures.whole,
+          (line_of c.as_bytes.result.now _ c.in-Ok.counts found.v c.as_bytes.ensures.text c.check_line-line.ensures found.counted) c.in-Ok-write_whole.ensures.whole,
     )
 
 pub returns-in-Err-write_whole-clause-write : goal.returns-in-Err-write_whole-clause-write
@@ -68,5 +68,5 @@ returns-in-Err-write_whole-clause-write g c = λ e.
       found.is,
       found.text,
       subst (AppendsPrefix (g.W.Write.contents c.args.writer.now.inner) (g.W.Write.contents c.write_whole.new.self.inner))
-      (line_of c.as_bytes.result.now _ c.in-Ok.counts found.v c.as_bytes.ensures.text c.check_line-line.ensures found.counted) c.in-Err-write_whole.ensures.part,
+          (line_of c.as_bytes.result.now _ c.in-Ok.counts found.v c.as_bytes.ensures.text c.check_line-line.ensures found.counted) c.in-Err-write_whole.ensures.part,
     )
