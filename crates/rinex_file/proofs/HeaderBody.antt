@@ -15,6 +15,8 @@ use Rattle.rinex_file.specs.Lines.{epoch_line, seen_line}
 use Rattle.rinex_file.specs.File.{stamped_lines, change_lines, file_lines}
 use Rattle.rinex_file.specs.Progress.{Progress, Known, Shown, IsShown, shown_lines, shown_of, IsHeaderLeft, IsHeaderRead, file_with, StartsAt, IsInHeader, IsAt, IsBetween, IsWithin, GoesOn}
 use Rattle.rinex_file.specs.Sound.{AreRead, IsBegun, IsSoundAt, IsSound}
+use Rattle.rinex_file.specs.declared.course.Course.{Course}
+use Rattle.rinex_file.specs.Course.{History, StandsBehind, progress_at}
 use Rattle.rinex_file.proofs.Sections.{rows_at, emit}
 use Rattle.rinex_file.proofs.BodySteps.{All-midst, plain_lines}
 
@@ -290,17 +292,23 @@ goes_on s due sound some =
     } in
     (file_read s due sound some, subst (λ d. IsAt s d (file_with s s.epochs) []) (sym due) here)
 
-unfinished_at : (s : Progress) (due : Due) → s.due ≡ due → (due ≡ Epoch → ⊥) → IsSound s → (v : FileValue) → GoesOn s v [] → ⊥
-unfinished_at s (Header section row) same other sound v on = header_unfinished s section row same v on
-unfinished_at s Epoch same other sound v on = other refl
-unfinished_at s (Satellite n) same other sound v on = epoch_unfinished s n same sound v on
+-- ---- where a course may not end
 
--- lines are missing where no epoch is due
-pub unfinished : (s : Progress) → (s.due ≡ Epoch → ⊥) → IsSound s → (v : FileValue) → GoesOn s v [] → ⊥
-unfinished s other sound v on = unfinished_at s s.due refl other sound v on
+no_epochs : (es : List Stamped) (n : ℕ) → n ≡ length es → (0 < n → ⊥) → es ≡ []
+no_epochs [] n size never = refl
+no_epochs (e ∷ es) n size never = absurd (never (omega (arith, size)))
 
--- the file that was read, by its parts
-pub file_whole : (s : Progress) (f : FileValue) → s.due ≡ Epoch → IsSound s → 0 < length s.epochs → f ≡ file_with s s.epochs
-    → GoesOn s f [] × ((v : FileValue) → GoesOn s v [] → v ≡ f)
-file_whole s f due sound some same =
-    (subst (λ x. GoesOn s x []) (sym same) (goes_on s due sound some), λ v on. only_file s due v on ∙ sym same)
+unfinished_at : (c : Course) (h : History) (due : Due) → c.due ≡ due → StandsBehind c h → ((due ≡ Epoch) × (0 < c.epochs) → ⊥) → (v : FileValue) → GoesOn (progress_at c h) v [] → ⊥
+unfinished_at c h (Header section row) same stands never v on = header_unfinished (progress_at c h) section row same v on
+unfinished_at c h Epoch same stands never v on = no_file (progress_at c h) same (no_epochs h.epochs c.epochs stands.epochs (λ some. never (refl, some))) v on
+unfinished_at c h (Satellite n) same stands never v on = epoch_unfinished (progress_at c h) n same stands.sound v on
+
+-- lines are missing
+pub unfinished : (c : Course) (h : History) → StandsBehind c h → ((c.due ≡ Epoch) × (0 < c.epochs) → ⊥) → (v : FileValue) → GoesOn (progress_at c h) v [] → ⊥
+unfinished c h stands never v on = unfinished_at c h c.due refl stands never v on
+
+-- no satellite is read where an epoch is due
+pub sound_rows : (s : Progress) → s.due ≡ Epoch → IsSound s → s.rows ≡ []
+sound_rows s due sound =
+    let both : AreRead s × (s.rows ≡ []) = subst (λ d. IsSoundAt s d) due sound in
+    both.1

@@ -15,6 +15,10 @@ mod Appended
 mod Faultless
 mod FileText
 mod Examples
+mod Ahead
+mod KeptRows
+mod KeptFile
+mod ReadWhole
 mod Judged
 mod Rises
 mod BodySteps

@@ -1,5 +1,5 @@
 -- A file that is read line by line: what was read stands for the lines that were taken.
-use Rattle.std.proofs.Common.{arith, ◌≡◌, ◌∙◌, sym, ap, subst, refl, ℕ, suc, ◌+◌, ◌<◌, ◌≤◌, List, [], ◌∷◌, ◌++◌, length, length-append, append_assoc, append-nil, true, false, Option, Some, None, IfSome, Err, inl, inr}
+use Rattle.std.proofs.Common.{arith, ◌≡◌, ◌∙◌, sym, ap, subst, refl, ℕ, suc, ◌+◌, ◌<◌, ◌≤◌, List, [], ◌∷◌, ◌++◌, length, length-append, append_assoc, append-nil, true, false, Option, Some, None, IfSome, inl, inr}
 use Rattle.std.specs.Prelude.{◌==◌, All, ◌↔◌, if◌then◌else◌, ⊤}
 use Rattle.std.specs.Io.KnownBytes.{Consumes, IsAtEnd}
 use Rattle.std.proofs.KnownBytes.{Consumes-nil, Consumes-trans}
@@ -12,8 +12,10 @@ use Rattle.rinex_file.specs.Numbers.{joined}
 use Rattle.rinex_file.specs.Value.{FileValue}
 use Rattle.rinex_file.specs.FileValues.{IsFileValue}
 use Rattle.rinex_file.specs.File.{file_text, file_lines}
-use Rattle.rinex_file.specs.Exact.{IsLine, NoFileBegins, IsCutShort, IsTooLong, IsFaulty, Explains, IsReadOr, line_feeds, most_lines}
+use Rattle.rinex_file.specs.Exact.{IsLine, NoFileBegins, IsCutShort, IsTooLong, IsFaulty, Explains, IsNoFault, line_feeds, most_lines}
 use Rattle.rinex_file.specs.Progress.{Progress, GoesOn, StandsFor}
+use Rattle.rinex_file.specs.Course.{Follows, Refuses}
+use Rattle.rinex_file.specs.Steps.{IsTaken, IsTextOf}
 use Rattle.rinex_file.proofs.Sent.{joined-append}
 use Rattle.rinex_file.proofs.Splits.{splits, or_false, has-line}
 
@@ -144,14 +146,6 @@ taken_more a b c taken line first next = subst (Consumes a c) (sym (joined-more 
 
 -- ---- what was read
 
--- some lines were taken, so many, and what was read stands for them
-pub record IsTaken (s : Progress) (count : ℕ) (old new : Option (List ℕ)) : Type 0 where
-  pub lines : List (List ℕ)
-  pub are : All IsLine lines
-  pub many : length lines ≡ count
-  pub taken : Consumes old new (joined lines)
-  pub stands : StandsFor s lines
-
 -- nothing was read
 pub start : (s : Progress) (a : Option (List ℕ)) → ((v : FileValue) (left : List (List ℕ)) → GoesOn s v left ↔ (IsFileValue v × (left ≡ file_lines v))) → IsTaken s 0 a a
 start s a new = record {
@@ -164,10 +158,6 @@ start s a new = record {
     begins = λ v left goes. let both = (new v left).0 goes in (both.0, sym both.1);
   };
 }
-
--- the next line is the one that may follow
-abbrev pub Follows : Progress → Progress → List ℕ → Type 0
-Follows old new line = (v : FileValue) (left : List (List ℕ)) → GoesOn old v (line ∷ left) ↔ GoesOn new v left
 
 stands_more : (old new : Progress) (taken : List (List ℕ)) (line : List ℕ) → StandsFor old taken → Follows old new line → StandsFor new (taken ++ line ∷ [])
 stands_more old new taken line stands more = record {
@@ -186,10 +176,6 @@ one_more old new n a b c line t is next more = record {
   taken = taken_more a b c t.lines line t.taken next;
   stands = stands_more old new t.lines line t.stands more;
 }
-
--- no file goes on with the line
-abbrev pub Refuses : Progress → List ℕ → Type 0
-Refuses s line = (v : FileValue) (left : List (List ℕ)) → GoesOn s v (line ∷ left) → ⊥
 
 -- the next line has too many bytes
 pub over_long : (s : Progress) (n : ℕ) (a b c : Option (List ℕ)) (bytes : List ℕ) → IsTaken s n a b → length bytes ≡ 1220 → has 10 bytes ≡ false → Consumes b c bytes
@@ -262,21 +248,14 @@ module _ (are_lines : (v : FileValue) → IsFileValue v → All IsLine (file_lin
 
   -- the input is the text of the file that was read
   pub whole : (s : Progress) (n : ℕ) (a b c : Option (List ℕ)) (bytes : List ℕ) (f : FileValue) → IsTaken s n a b → bytes ≡ [] → IsAtEnd c → Consumes b c bytes → GoesOn s f []
-      → IsFileValue f × IfSome a (λ input. input ≡ file_text f)
-  whole s n a b c bytes f t none end next goes =
-      let (is, lines) = t.stands.begins f [] goes in (
-        is,
-        consumed_all a c (joined t.lines ++ bytes) (λ input. input ≡ file_text f) (Consumes-trans a b c (joined t.lines) bytes t.taken next) end
-            (ap (λ l. joined t.lines ++ l) none ∙ append-nil (joined t.lines) ∙ sym (ap joined (lines ∙ append-nil t.lines))),
-      )
-
-  -- no other file has this text
-  pub alone : (s : Progress) (n : ℕ) (a b c : Option (List ℕ)) (bytes : List ℕ) (f v : FileValue) → IsTaken s n a b → bytes ≡ [] → IsAtEnd c → Consumes b c bytes
-      → ((w : FileValue) → GoesOn s w [] → w ≡ f) → IsFileValue v → IfSome a (λ input. input ≡ file_text v → f ≡ v)
-  alone s n a b c bytes f v t none end next only is =
+      → ((v : FileValue) → GoesOn s v [] → v ≡ f) → IfSome a (IsTextOf f)
+  whole s n a b c bytes f t none end next goes only =
+      let (is, lines) = t.stands.begins f [] goes in
       let endless : has 10 bytes ≡ false = ap (has 10) none in
-      consumed_all a c (joined t.lines ++ bytes) (λ input. input ≡ file_text v → f ≡ v) (Consumes-trans a b c (joined t.lines) bytes t.taken next) end
-      (λ e. sym (only v (t.stands.goes v [] is (behind v t.lines bytes is t.are e endless ∙ sym (append-nil t.lines)))))
+      consumed_all a c (joined t.lines ++ bytes) (IsTextOf f) (Consumes-trans a b c (joined t.lines) bytes t.taken next) end (record {
+        same = ap (λ l. joined t.lines ++ l) none ∙ append-nil (joined t.lines) ∙ sym (ap joined (lines ∙ append-nil t.lines));
+        only = λ v also e. only v (t.stands.goes v [] also (behind v t.lines bytes also t.are e endless ∙ sym (append-nil t.lines)));
+      })
 
   -- ---- a text of a file is no fault
 
@@ -300,7 +279,7 @@ module _ (are_lines : (v : FileValue) → IsFileValue v → All IsLine (file_lin
     faulty_not v input k is (inr l) e = not_long v l.lines l.long l.rest is l.first.are l.size l.endless (sym e ∙ l.first.first)
 
     -- a fault that is explained isn't that of a file's text
-    not_explained : (v : FileValue) (input : List ℕ) (fault : ReadFault) → IsFileValue v → length (file_lines v) ≤ most_lines → Explains input fault → input ≡ file_text v → IsReadOr v (Err fault)
+    not_explained : (v : FileValue) (input : List ℕ) (fault : ReadFault) → IsFileValue v → length (file_lines v) ≤ most_lines → Explains input fault → input ≡ file_text v → IsNoFault fault
     not_explained v input Memory is few why e = tt
     not_explained v input Read is few why e = tt
     not_explained v input (BadHeader k) is few why e = faulty_not v input k is why e
@@ -310,7 +289,7 @@ module _ (are_lines : (v : FileValue) → IsFileValue v → All IsLine (file_lin
     not_explained v input TooLong is few why e = not_many v why.lines why.rest is why.first.are why.count why.more few (sym e ∙ why.first.first)
 
     pub only_faults : (a : Option (List ℕ)) (fault : ReadFault) (v : FileValue) → IfSome a (λ input. Explains input fault) → IsFileValue v → length (file_lines v) ≤ most_lines
-        → IfSome a (λ input. input ≡ file_text v → IsReadOr v (Err fault))
+        → IfSome a (λ input. input ≡ file_text v → IsNoFault fault)
     only_faults None fault v why is few = tt
     only_faults (Some input) fault v why is few = not_explained v input fault is few why
 
@@ -322,11 +301,6 @@ behind_fault s n a b c bytes fault result t some next is why =
       | true ↦ λ most same. subst (λ f. IfSome a (λ input. Explains input f)) (sym same) (too_long s n a b c bytes t (same_number n most_lines most) some next)
       | false ↦ λ most same. subst (λ f. IfSome a (λ input. Explains input f)) (sym same) why
     ] refl is
-
--- nothing is said of memory and readers
-pub no_reason : (a : Option (List ℕ)) (v : FileValue) → IfSome a (λ input. input ≡ file_text v → ⊤)
-no_reason None v = tt
-no_reason (Some x) v = λ e. tt
 
 -- what is said of each faulty line
 pub said_of : (a : Option (List ℕ)) (P Q : List ℕ → Type 0) → ((input : List ℕ) → P input → Q input) → IfSome a P → IfSome a Q
@@ -341,3 +315,8 @@ line_some line (body, e, endless) =
 
 pub long_some : (bytes : List ℕ) → length bytes ≡ 1220 → 0 < length bytes
 long_some bytes size = omega (arith, size)
+
+-- nothing is said of memory
+pub no_reason : (a : Option (List ℕ)) (v : FileValue) → IfSome a (λ input. input ≡ file_text v → ⊤)
+no_reason None v = tt
+no_reason (Some x) v = λ e. tt

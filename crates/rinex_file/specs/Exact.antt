@@ -84,9 +84,13 @@ Explains input (BadSatellite k) = IsFaulty input k
 Explains input (CutShort k) = IsCutShort input k
 Explains input TooLong = IsTooLong input
 
+-- want of memory, or a failed reader
+abbrev pub IsNoFault : ReadFault → Type 0
+IsNoFault Memory = ⊤
+IsNoFault Read = ⊤
+IsNoFault _ = ⊥
+
 -- this value, or want of memory, or a failed reader
 abbrev pub IsReadOr : FileValue → Result FileValue ReadFault → Type 0
 IsReadOr v (Ok f) = f ≡ v
-IsReadOr v (Err Memory) = ⊤
-IsReadOr v (Err Read) = ⊤
-IsReadOr v (Err _) = ⊥
+IsReadOr v (Err fault) = IsNoFault fault

@@ -12,5 +12,10 @@ pub mod FileValues
 pub mod Exact
 pub mod Progress
 pub mod Sound
-pub mod ProgressOf
+pub mod Course
+pub mod Blocks
+pub mod Steps
+pub mod Kept
+pub mod Keeping
+pub mod Counting
 pub mod HeaderSteps

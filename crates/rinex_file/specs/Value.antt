@@ -28,6 +28,10 @@ pub record Seen : Type 0 where
   pub system : System
   pub row : Row
 
+-- a satellite of a system with these entries
+abbrev pub seen_with : System → ℕ → List Entry → Seen
+seen_with system satellite entries = record { system = system; row = record { satellite = satellite; entries = entries } }
+
 -- An epoch: a map from satellites to entries, as a list of rising satellites, those of GPS first. `change` are the station
 -- values that hold from this epoch on, where they are no longer those before.
 pub record Stamped : Type 0 where

@@ -20,3 +20,14 @@ pub(crate) enum Refusal {
     /// No file goes on with this line.
     Bad,
 }
+
+/// What a line that was taken adds to the epochs of a file.
+#[derive(Clone, Copy, Debug, PartialEq, Eq)]
+pub(crate) enum Added {
+    /// Nothing: it is a line of the header, or begins an epoch.
+    NoRow,
+    /// A satellite of the epoch.
+    OneRow,
+    /// The last satellite of the epoch.
+    LastRow,
+}

@@ -1,18 +1,22 @@
 //! Reading a file whole, and writing it back.
-ghost use Rattle.std.specs.Prelude.{◌≡◌, ◌<◌, ◌≤◌, ◌==◌, ℕ, List, ◌++◌, All, Err, OnOk, IfOk, IfErr, IfSome, length, if◌then◌else◌};
+ghost use Rattle.std.specs.Prelude.{◌≡◌, ◌<◌, ◌≤◌, ◌==◌, ℕ, List, ◌++◌, All, Err, OnOk, IfOk, IfErr, IfSome, length, take, drop, flat_map, ◌+◌, if◌then◌else◌};
 ghost use Rattle.rtcm_bits.specs.Device.{HasFailed};
 ghost use Rattle.rinex_file.specs.Numbers.{joined};
 ghost use Rattle.rinex_file.specs.Value.{FileValue};
 ghost use Rattle.rinex_file.specs.FileValues.{IsEntry, IsFileValue};
 ghost use Rattle.rinex_file.specs.File.{header_text, stamped_lines, file_text, file_lines};
-ghost use Rattle.rinex_file.specs.Exact.{Explains, IsFaulty, IsReadOr, most_lines};
+ghost use Rattle.rinex_file.specs.Exact.{Explains, IsReadOr, most_lines};
+ghost use Rattle.rinex_file.specs.Blocks.{Leaves};
+ghost use Rattle.rinex_file.specs.Course.{epoch_at};
+ghost use Rattle.rinex_file.specs.Kept.{row_at, rows_of, epochs_of, entry_count, AreKept, HasRoom};
+ghost use Rattle.rinex_file.specs.Lines.{seen_line};
+ghost use Rattle.rinex_file.specs.Counting.{IsTextWith, IsCountedOr};
 
-use crate::due::{Due, Refusal};
 use crate::epoch::epoch_line;
 use crate::head::{Head, header_lines};
-use crate::kept::KeptEpoch;
+use crate::keeper::Keeper;
+use crate::kept::{KeptEntry, KeptEpoch, KeptRow};
 use crate::kept_line::kept_line;
-use crate::lines::{Found, next_line};
 use crate::numbers::Line;
 use crate::obs_file::ObsFile;
 use crate::read_fault::ReadFault;
@@ -22,29 +26,38 @@ use rtcm_bits::Counted;
 use std::alloc::{AllocError, Global};
 use std::io::Read;
 
-/// So many lines of a file have a number.
-const MOST_LINES: u64 = 1 << 32;
-
-// The fault of a line that is another than the one that was due.
-fn fault_at(due: Due, number: u64) -> ReadFault
-    ensures faulty { (input : List ℕ) → IsFaulty input number → Explains input result }
-    ensures other { result ≡ ReadFault.Read → ⊥ }
-{
-    match due {
-        Due::Header(_, _) => ReadFault::BadHeader(number),
-        Due::Epoch => ReadFault::BadEpoch(number),
-        Due::Satellite(_) => ReadFault::BadSatellite(number),
-    }
+/// How much a file holds: its epochs, and the lines of satellites of all of them.
+#[derive(Clone, Copy, Debug, PartialEq, Eq)]
+pub struct Counts {
+    pub epochs: u64,
+    pub satellites: u64,
 }
 
-// The fault where something stands behind so many lines, which may be as many as have a number.
-fn fault_behind(lines: u64, fault: ReadFault) -> ReadFault
-    ensures { result ≡ (if lines == most_lines then ReadFault.TooLong else fault) }
+/// Reads a file to its end and counts what it holds. It is accepted exactly where it is spelled as
+/// [`write_header`](crate::write_header) and [`write_epoch`](crate::write_epoch) would spell it. The first fault is
+/// answered, with its line. What is held while it reads doesn't grow with the file.
+pub fn check_file<R: Read>(alloc: Global, reader: &mut Counted<R>) -> Result<Counts, ReadFault>
+    // What is counted is the file whose text the whole input is.
+    ensures found { IfOk result (λ n. IsTextWith n (R.remaining reader.old.inner)) }
+    // Why nothing was counted.
+    ensures fault { IfErr result (λ e. IfSome (R.remaining reader.old.inner) (λ input. Explains input e)) }
+    // The text of each file value is accepted.
+    ensures only { (v : FileValue) → IsFileValue v → length (file_lines v) ≤ most_lines
+        → IfSome (R.remaining reader.old.inner) (λ input. input ≡ file_text v → IsCountedOr v result) }
+    ensures failed { result ≡ Err ReadFault.Read → HasFailed reader.old.failures reader.new.failures }
+    // Some front of the input was read.
+    ensures left { Leaves (R.remaining reader.old.inner) (R.remaining reader.new.inner) }
 {
-    if lines == MOST_LINES {
-        ReadFault::TooLong
-    } else {
-        fault
+    let mut reading = Reading::new(alloc);
+    loop {
+        match reading.next(reader) {
+            Ok(Some(_)) => {}
+            Ok(None) => return Ok(Counts {
+                epochs: reading.course.epochs,
+                satellites: reading.course.satellites,
+            }),
+            Err(fault) => return Err(fault),
+        }
     }
 }
 
@@ -59,30 +72,19 @@ pub fn read_file<R: Read>(alloc: Global, reader: &mut Counted<R>) -> Result<ObsF
     ensures only { (v : FileValue) → IsFileValue v → length (file_lines v) ≤ most_lines
         → IfSome (R.remaining reader.old.inner) (λ input. input ≡ file_text v → IsReadOr v result) }
     ensures failed { result ≡ Err ReadFault.Read → HasFailed reader.old.failures reader.new.failures }
+    // Some front of the input was read.
+    ensures left { Leaves (R.remaining reader.old.inner) (R.remaining reader.new.inner) }
 {
     let mut reading = Reading::new(alloc);
-    let mut line = Line::new();
-    let mut again = Line::new();
-    let mut count = 0;
+    let mut keeper = Keeper::new(alloc);
     loop {
-        let due = reading.due();
-        match next_line(reader, &mut line) {
-            Found::Line => {}
-            Found::End => return match reading.finish() {
-                Some(file) => Ok(file),
-                None => Err(ReadFault::CutShort(count + 1)),
+        match reading.next(reader) {
+            Ok(Some(added)) => match keeper.keep(added, &reading.course) {
+                Ok(()) => {}
+                Err(_) => return Err(ReadFault::Memory),
             },
-            Found::Cut => return Err(fault_behind(count, ReadFault::CutShort(count + 1))),
-            Found::Long => return Err(fault_behind(count, fault_at(due, count + 1))),
-            Found::Failed => return Err(ReadFault::Read),
-        }
-        if count == MOST_LINES {
-            return Err(ReadFault::TooLong);
-        }
-        match reading.take(line.as_slice(), &mut again) {
-            Ok(()) => count += 1,
-            Err(Refusal::Memory) => return Err(ReadFault::Memory),
-            Err(Refusal::Bad) => return Err(fault_at(due, count + 1)),
+            Ok(None) => return Ok(keeper.finish(reading.course)),
+            Err(fault) => return Err(fault),
         }
     }
 }
@@ -104,16 +106,84 @@ fn add_header(text: &mut Vec<u8>, file: &ObsFile, first: GpsTime) -> Result<(), 
     Ok(())
 }
 
-// Appends the lines of an epoch.
-fn add_epoch(text: &mut Vec<u8>, epoch: &KeptEpoch, line: &mut Line) -> Result<(), AllocError>
-    requires { All (λ s. (s.row.satellite < 100) × All IsEntry s.row.entries) epoch.now.rows }
-    ensures { OnOk result (text.new.items ≡ text.old.items ++ joined (stamped_lines epoch.now)) }
+// Appends the line of a satellite whose entries begin at this place, and answers where they end.
+fn add_row(
+    text: &mut Vec<u8>,
+    row: &KeptRow,
+    entries: &[KeptEntry],
+    at: usize,
+    line: &mut Line,
+) -> Result<usize, AllocError>
+    requires entries { at + row.now.entries ≤ length entries.now }
+    requires room { HasRoom (row_at row.now (drop at entries.now)) }
+    ensures text { OnOk result (text.new.items ≡ text.old.items ++ seen_line (row_at row.now (drop at entries.now))) }
+    ensures end { IfOk result (λ end. end ≡ at + row.now.entries) }
 {
-    epoch_line(epoch.time, epoch.rows.len(), line);
+    let end = at + row.entries;
+    kept_line(row.system, row.satellite, &entries[at..end], line);
     text.extend_from_slice(line.as_slice())?;
-    for seen in &epoch.rows {
-        kept_line(seen, line);
-        text.extend_from_slice(line.as_slice())?;
+    Ok(end)
+}
+
+// Appends the lines of an epoch with these satellites, whose entries come first of these. Answers how many entries they have.
+fn add_epoch(
+    text: &mut Vec<u8>,
+    time: GpsTime,
+    rows: &[KeptRow],
+    entries: &[KeptEntry],
+    line: &mut Line,
+) -> Result<usize, AllocError>
+    requires room { All HasRoom (rows_of rows.now entries.now) }
+    requires entries { entry_count rows.now ≤ length entries.now }
+    ensures text { OnOk result (text.new.items ≡ text.old.items ++ joined (stamped_lines (epoch_at time (rows_of rows.now entries.now)))) }
+    ensures count { IfOk result (λ n. n ≡ entry_count rows.now) }
+{
+    epoch_line(time, rows.len(), line);
+    text.extend_from_slice(line.as_slice())?;
+    let mut at = 0;
+    for row in rows {
+        at = add_row(text, row, entries, at, line)?;
+    }
+    Ok(at)
+}
+
+// Appends the lines of an epoch whose satellites and entries begin at these places, and answers where they end.
+fn add_next(
+    text: &mut Vec<u8>,
+    epoch: &KeptEpoch,
+    rows: &[KeptRow],
+    entries: &[KeptEntry],
+    at: (usize, usize),
+    line: &mut Line,
+) -> Result<(usize, usize), AllocError>
+    requires rows { at.0 + epoch.now.rows ≤ length rows.now }
+    requires entries { at.1 + entry_count (take epoch.now.rows (drop at.0 rows.now)) ≤ length entries.now }
+    requires room { All HasRoom (rows_of (take epoch.now.rows (drop at.0 rows.now)) (drop at.1 entries.now)) }
+    ensures text { OnOk result (text.new.items ≡ text.old.items
+        ++ joined (stamped_lines (epoch_at epoch.now.time (rows_of (take epoch.now.rows (drop at.0 rows.now)) (drop at.1 entries.now))))) }
+    ensures end { IfOk result (λ end. (end.0 ≡ at.0 + epoch.now.rows) × (end.1 ≡ at.1 + entry_count (take epoch.now.rows (drop at.0 rows.now)))) }
+{
+    let (row, entry) = at;
+    let own = &rows[row..][..epoch.rows];
+    let count = add_epoch(text, epoch.time, own, &entries[entry..], line)?;
+    Ok((row + epoch.rows, entry + count))
+}
+
+// Appends the lines of these epochs.
+fn add_epochs(
+    text: &mut Vec<u8>,
+    epochs: &[KeptEpoch],
+    rows: &[KeptRow],
+    entries: &[KeptEntry],
+    line: &mut Line,
+) -> Result<(), AllocError>
+    requires kept { AreKept epochs.now rows.now entries.now 0 }
+    requires room { All HasRoom (rows_of rows.now entries.now) }
+    ensures { OnOk result (text.new.items ≡ text.old.items ++ joined (flat_map stamped_lines (epochs_of epochs.now rows.now entries.now))) }
+{
+    let mut at = (0, 0);
+    for epoch in epochs {
+        at = add_next(text, epoch, rows, entries, at, line)?;
     }
     Ok(())
 }
@@ -125,8 +195,12 @@ pub fn file_bytes(alloc: Global, file: &ObsFile) -> Result<Vec<u8>, AllocError>
     let mut text = Vec::new(alloc);
     let mut line = Line::new();
     add_header(&mut text, file, file.epochs[0].time)?;
-    for epoch in &file.epochs {
-        add_epoch(&mut text, epoch, &mut line)?;
-    }
+    add_epochs(
+        &mut text,
+        file.epochs.as_slice(),
+        file.rows.as_slice(),
+        file.entries.as_slice(),
+        &mut line,
+    )?;
     Ok(text)
 }

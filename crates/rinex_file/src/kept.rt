@@ -25,8 +25,8 @@ impl Model for KeptEntry {
     ghost inverse = { λ e. record { c = e.c; l = e.l; d = e.d; s = e.s; mark = e.mark } };
 }
 
-/// A satellite of a system, with an entry for each planned signal in the plan's order.
-#[derive(Clone, Debug, Drop)]
+/// A satellite of a system, with an entry for each planned signal in the plan's order, as a line shows it.
+#[derive(Drop)]
 pub(crate) struct KeptSeen {
     pub(crate) system: System,
     pub(crate) satellite: u8,
@@ -41,18 +41,17 @@ impl Model for KeptSeen {
     ghost view = { λ s. record { system = s.system; row = record { satellite = s.satellite; entries = s.entries.items } } };
 }
 
-/// An epoch with the satellites that were seen.
-#[derive(Drop)]
-pub(crate) struct KeptEpoch {
-    pub(crate) time: GpsTime,
-    pub(crate) rows: Vec<KeptSeen>,
+/// A satellite of a system, with so many of the entries that are kept of all.
+#[derive(Clone, Copy, Debug, Drop)]
+pub(crate) struct KeptRow {
+    pub(crate) system: System,
+    pub(crate) satellite: u8,
+    pub(crate) entries: usize,
 }
 
-impl Model for KeptEpoch {
-    ghost use Rattle.std.specs.Prelude.{None};
-    ghost use Rattle.rinex_file.specs.Value.{Stamped};
-
-    ghost Value = { Stamped };
-
-    ghost view = { λ e. record { change = None; time = e.time; rows = e.rows.items } };
+/// An epoch, with so many of the satellites that are kept of all.
+#[derive(Clone, Copy, Debug, Drop)]
+pub(crate) struct KeptEpoch {
+    pub(crate) time: GpsTime,
+    pub(crate) rows: usize,
 }

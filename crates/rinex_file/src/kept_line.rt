@@ -3,11 +3,12 @@ ghost use Rattle.std.specs.Prelude.{◌≡◌, ℕ, ◌+◌, ◌≤◌, ◌<◌,
 ghost use Rattle.arrayvec.specs.ArrayVec.{array_vec_len};
 ghost use Rattle.rinex_file.specs.FileValues.{FitsColumns, IsEntry};
 ghost use Rattle.rinex_file.specs.Lines.{field, strength_byte, mark_byte, entry_text, seen_line};
+ghost use Rattle.rinex_file.specs.Value.{seen_with};
 
-use crate::kept::{KeptEntry, KeptSeen};
+use crate::kept::KeptEntry;
 use crate::numbers::{Line, fixed_text, put, put_times};
 use crate::satellite::{cut_length, letter_of};
-use gnss_obs::{Thousandths, strength_digit};
+use gnss_obs::{System, Thousandths, strength_digit};
 
 // Appends a value in 14 columns with the two columns behind it, or 16 blanks. Its whole part may have ten digits, one more
 // than what a receiver tells has.
@@ -59,17 +60,18 @@ fn put_entry(line: &mut Line, entry: &KeptEntry)
     put_field(line, entry.s, b' ', b' ');
 }
 
-/// The line of a satellite, in place of what the buffer holds.
-pub(crate) fn kept_line(seen: &KeptSeen, line: &mut Line)
-    requires satellite { seen.now.row.satellite < 100 }
-    requires entries { All IsEntry seen.now.row.entries }
-    ensures { line.new.items ≡ seen_line seen.now }
+/// The line of a satellite with these entries, in place of what the buffer holds.
+pub(crate) fn kept_line(system: System, satellite: u8, entries: &[KeptEntry], line: &mut Line)
+    requires satellite { satellite < 100 }
+    requires entries { All IsEntry entries.now }
+    requires few { length entries.now ≤ 19 }
+    ensures { line.new.items ≡ seen_line (seen_with system satellite entries.now) }
 {
     line.clear();
-    line.push(letter_of(seen.system));
-    line.push(b'0' + seen.satellite / 10);
-    line.push(b'0' + seen.satellite % 10);
-    for entry in seen.entries.as_slice() {
+    line.push(letter_of(system));
+    line.push(b'0' + satellite / 10);
+    line.push(b'0' + satellite % 10);
+    for entry in entries {
         put_entry(line, entry);
     }
     let end = cut_length(line.as_slice());

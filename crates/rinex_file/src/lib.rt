@@ -4,6 +4,8 @@
 //! [`satellite_line`] make lines; [`write_header`] and [`write_epoch`] send them out. None of these takes memory.
 #![tactic(auto)]
 
+mod block;
+mod course;
 mod due;
 mod epoch;
 mod fault;
@@ -12,6 +14,7 @@ mod head;
 mod head_parts;
 mod head_so_far;
 mod header;
+mod keeper;
 mod kept;
 mod kept_line;
 pub mod laws;
@@ -34,7 +37,7 @@ mod write;
 
 pub use epoch::epoch_line;
 pub use fault::{HeadFault, HeaderField};
-pub use file::{file_bytes, read_file};
+pub use file::{Counts, check_file, file_bytes, read_file};
 pub use head::{Head, HeaderLines, header_lines};
 pub use numbers::Line;
 pub use obs_file::ObsFile;

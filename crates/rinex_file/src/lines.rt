@@ -1,9 +1,11 @@
 //! The lines of a reader.
 ghost use Rattle.std.specs.Prelude.{◌≡◌};
-ghost use Rattle.std.specs.Io.KnownBytes.{Consumes};
+ghost use Rattle.std.specs.Io.KnownBytes.{Consumes, prepend_known};
 ghost use Rattle.rtcm_bits.specs.Device.{HasFailed};
 ghost use Rattle.rinex_file.specs.Exact.{IsFound};
+ghost use Rattle.rinex_file.specs.Blocks.{Leaves};
 
+use crate::block::{Block, Filled};
 use crate::numbers::Line;
 use rtcm_bits::Counted;
 use std::io::Read;
@@ -24,26 +26,29 @@ pub(crate) enum Found {
 }
 
 /// Takes the bytes of the next line into the buffer, in place of what it holds.
-pub(crate) fn next_line<R: Read>(reader: &mut Counted<R>, line: &mut Line) -> Found
-    ensures taken { Consumes (R.remaining reader.old.inner) (R.remaining reader.new.inner) line.new.items }
-    ensures found { IsFound result line.new.items (R.remaining reader.new.inner) }
+pub(crate) fn next_line<R: Read>(
+    reader: &mut Counted<R>,
+    block: &mut Block,
+    line: &mut Line,
+) -> Found
+    ensures taken { Consumes (prepend_known block.old (R.remaining reader.old.inner)) (prepend_known block.new (R.remaining reader.new.inner)) line.new.items }
+    ensures found { IsFound result line.new.items (prepend_known block.new (R.remaining reader.new.inner)) }
+    ensures left { Leaves (R.remaining reader.old.inner) (R.remaining reader.new.inner) }
     ensures failed { result ≡ Found.Failed → HasFailed reader.old.failures reader.new.failures }
     ensures same { (result ≡ Found.Failed → ⊥) → reader.new.failures ≡ reader.old.failures }
 {
     line.clear();
     while !line.is_full() {
-        let mut byte = [0];
-        match reader.read(&mut byte) {
-            Ok(0) => return if line.is_empty() {
+        match block.fill(reader) {
+            Filled::Some => {}
+            Filled::End => return if line.is_empty() {
                 Found::End
             } else {
                 Found::Cut
             },
-            Ok(_) => {}
-            Err(_) => return Found::Failed,
+            Filled::Failed => return Found::Failed,
         }
-        line.push(byte[0]);
-        if byte[0] == b'\n' {
+        if block.move_to(line) {
             return Found::Line;
         }
     }

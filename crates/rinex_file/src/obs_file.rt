@@ -2,7 +2,7 @@
 ghost use Rattle.std.specs.Prelude.{◌≡◌, length};
 ghost use Rattle.std.specs.List.{sum_by};
 
-use crate::kept::KeptEpoch;
+use crate::kept::{KeptEntry, KeptEpoch, KeptRow};
 use crate::texts::HeaderTexts;
 use obs_epoch::{Plan, StationValues};
 use std::marker::Model;
@@ -14,23 +14,24 @@ pub struct ObsFile {
     pub(crate) plan: Plan,
     pub(crate) values: StationValues,
     pub(crate) epochs: Vec<KeptEpoch>,
-    pub(crate) satellites: usize,
+    pub(crate) rows: Vec<KeptRow>,
+    pub(crate) entries: Vec<KeptEntry>,
 }
 
 impl Model for ObsFile {
     ghost use Rattle.std.specs.Prelude.{◌≡◌, length};
-    ghost use Rattle.std.specs.List.{sum_by};
     ghost use Rattle.rinex_file.specs.Value.{FileValue};
     ghost use Rattle.rinex_file.specs.FileValues.{IsFileValue};
+    ghost use Rattle.rinex_file.specs.Kept.{epochs_of, AreKept};
 
     ghost Value = { FileValue };
 
-    ghost view = { λ f. record { texts = f.texts; plan = f.plan; values = f.values; epochs = f.epochs.items } };
+    ghost view = { λ f. record { texts = f.texts; plan = f.plan; values = f.values; epochs = epochs_of f.epochs.items f.rows.items f.entries.items } };
 
-    // It is a file's value, and the lines of satellites are counted.
+    // It is a file's value, and no row and no entry is left over.
     ghost invariant = { λ f.
-        IsFileValue (record { texts = f.texts; plan = f.plan; values = f.values; epochs = f.epochs.items })
-        × (f.satellites ≡ sum_by (λ e. length e.rows) f.epochs.items) };
+        IsFileValue (record { texts = f.texts; plan = f.plan; values = f.values; epochs = epochs_of f.epochs.items f.rows.items f.entries.items })
+        × AreKept f.epochs.items f.rows.items f.entries.items 0 };
 }
 
 impl ObsFile {
@@ -59,13 +60,13 @@ impl ObsFile {
     pub fn epochs(&self) -> usize
         ensures { result ≡ length self.now.epochs }
     {
-        self.epochs.len()
+        self.epochs.as_slice().len()
     }
 
     /// The number of lines of satellites, those of all epochs together.
     pub fn satellites(&self) -> usize
         ensures { result ≡ sum_by (λ e. length e.rows) self.now.epochs }
     {
-        self.satellites
+        self.rows.as_slice().len()
     }
 }

@@ -1,12 +1,12 @@
 //! The line of a satellite, read back: what stands there is judged, written again and compared.
-ghost use Rattle.std.specs.Prelude.{◌≡◌, ◌↔◌, ℕ, pos, ◌+◌, ◌-◌, ◌*◌, ◌≤◌, ◌<◌, List, [], ◌∷◌, ◌++◌, replicate, length, slice_index, All, Any, Some, IfSome, IsTrue};
+ghost use Rattle.std.specs.Prelude.{◌≡◌, ◌↔◌, ℕ, pos, ◌+◌, ◌-◌, ◌*◌, ◌≤◌, ◌<◌, List, [], ◌∷◌, drop, ◌++◌, replicate, length, slice_index, All, Any, Some, IfSome, IsTrue};
 ghost use Rattle.arrayvec.specs.ArrayVec.{array_vec_len};
 ghost use Rattle.gnss_obs.specs.declared.system.System.{System};
 ghost use Rattle.gnss_obs.specs.Satellites.{satellites};
 ghost use Rattle.rinex_file.specs.FileValues.{FitsColumns, IsFrom, IsEntry, IsRow, IsSeen, says, of_system};
 ghost use Rattle.rinex_file.specs.Lines.{seen_line, letter_of};
-ghost use Rattle.rinex_file.specs.Reading.{ReadsExactly};
-ghost use Rattle.rinex_file.specs.RowReading.{value_in, entry_in, seen_in};
+ghost use Rattle.rinex_file.specs.Reading.{ReadsExactly, some_if};
+ghost use Rattle.rinex_file.specs.RowReading.{value_in, entry_in, entries_in, seen_in};
 
 use crate::kept::{KeptEntry, KeptSeen};
 use crate::kept_line::kept_line;
@@ -44,21 +44,27 @@ fn entry_in(text: &[u8]) -> KeptEntry
     }
 }
 
-// What a line that was filled up with blanks shows of a satellite.
-fn seen_in(system: System, text: &[u8], signals: usize) -> KeptSeen
+// The entries that the columns of so many signals show, in place of those that were there.
+fn put_entries(text: &[u8], signals: usize, entries: &mut ArrayVec<KeptEntry, 19>)
     requires few { signals ≤ 19 }
     requires room { 3 + 64 * signals ≤ length text.now }
-    ensures { result ≡ seen_in system signals text.now }
+    ensures { entries.new.items ≡ entries_in signals (drop 3 text.now) }
 {
-    let mut entries = ArrayVec::new();
+    entries.clear();
     for i in 0..signals {
         entries.push(entry_in(&text[3 + 64 * i..3 + 64 * i + 64]));
     }
-    KeptSeen {
-        system,
-        satellite: digits_in(&text[1..3]) as u8,
-        entries,
-    }
+}
+
+// What a line that was filled up with blanks shows of a satellite.
+fn put_seen_in(system: System, text: &[u8], signals: usize, seen: &mut KeptSeen)
+    requires few { signals ≤ 19 }
+    requires room { 3 + 64 * signals ≤ length text.now }
+    ensures { seen.new ≡ seen_in system signals text.now }
+{
+    seen.system = system;
+    seen.satellite = digits_in(&text[1..3]) as u8;
+    put_entries(text, signals, &mut seen.entries);
 }
 
 fn is_value(value: Option<i64>) -> bool
@@ -156,42 +162,45 @@ fn system_of(line: &[u8]) -> Option<System>
 }
 
 // The satellite of this system that a line shows.
-fn read_of(line: &[u8], again: &mut Line, system: System, signals: usize) -> Option<KeptSeen>
+fn read_of(
+    line: &[u8],
+    again: &mut Line,
+    system: System,
+    signals: usize,
+    seen: &mut KeptSeen,
+) -> bool
     requires short { length line.now ≤ 1220 }
     requires few { signals ≤ 19 }
-    ensures { ReadsExactly (λ s. (s.system ≡ system) × IsRow (satellites system) signals s.row) seen_line line.now result }
+    ensures { ReadsExactly (λ s. (s.system ≡ system) × IsRow (satellites system) signals s.row) seen_line line.now (some_if result seen.new) }
 {
     fill(line, signals, again);
-    let seen = seen_in(system, again.as_slice(), signals);
-    if !is_row(&seen, system.satellites(), signals) {
-        return None;
+    put_seen_in(system, again.as_slice(), signals, seen);
+    if !is_row(seen, system.satellites(), signals) {
+        return false;
     }
-    kept_line(&seen, again);
-    if is_same(again.as_slice(), line) {
-        Some(seen)
-    } else {
-        None
-    }
+    kept_line(seen.system, seen.satellite, seen.entries.as_slice(), again);
+    is_same(again.as_slice(), line)
 }
 
-/// The satellite that a line shows, where so many signals of each system are planned.
+/// Reads the satellite that a line shows, where so many signals of each system are planned. Answers whether it shows one.
 pub(crate) fn read_seen(
     line: &[u8],
     again: &mut Line,
     gps: usize,
     galileo: usize,
-) -> Option<KeptSeen>
+    seen: &mut KeptSeen,
+) -> bool
     requires short { length line.now ≤ 1220 }
     requires few { (gps ≤ 19) × (galileo ≤ 19) }
-    ensures { ReadsExactly (IsSeen gps galileo) seen_line line.now result }
+    ensures { ReadsExactly (IsSeen gps galileo) seen_line line.now (some_if result seen.new) }
 {
     let system = match system_of(line) {
         Some(system) => system,
-        None => return None,
+        None => return false,
     };
     let signals = of_system(system, gps, galileo);
     if signals == 0 {
-        return None;
+        return false;
     }
-    read_of(line, again, system, signals)
+    read_of(line, again, system, signals, seen)
 }

@@ -7,24 +7,25 @@ ghost use Rattle.rinex_file.specs.Value.{FileValue};
 ghost use Rattle.rinex_file.specs.FileValues.{IsFileValue};
 ghost use Rattle.rinex_file.specs.File.{file_text, file_lines};
 ghost use Rattle.rinex_file.specs.Exact.{Explains, most_lines};
+ghost use Rattle.rinex_file.specs.Counting.{AreCounts};
 ghost use Rattle.rtcm2rinex.specs.Checking.{check_line, ChecksFile, ChecksPart, IsCheckedOr};
 
 use crate::fault::ToolFault;
 use crate::line::Line;
-use rinex_file::{ObsFile, ReadFault, read_file};
+use rinex_file::{Counts, ReadFault, check_file};
 use rtcm_bits::{Counted, DeviceFailed};
 use std::alloc::Global;
 use std::io::{Read, Write};
 
 /// The line of a file: how many epochs it has, and how many lines of satellites.
 #[tactic(auto, unfolding(crate::specs::Checking::check_line))]
-fn check_line(file: &ObsFile) -> Line
-    ensures { result ≡ check_line file.now }
+fn check_line(counts: Counts) -> Line
+    ensures { (v : FileValue) → AreCounts counts v → result ≡ check_line v }
 {
     let mut line = Line::starting_with_word("epochs");
-    line.add_number(file.epochs() as u64);
+    line.add_number(counts.epochs);
     line.add_word("satellites");
-    line.add_number(file.satellites() as u64);
+    line.add_number(counts.satellites);
     line.finish();
     line
 }
@@ -51,11 +52,11 @@ pub fn run_check<R: Read, W: Write>(
     ensures only { (v : FileValue) → IsFileValue v → length (file_lines v) ≤ most_lines → IfSome (R.remaining reader.old.inner) (λ input. input ≡ file_text v
         → IsCheckedOr v result (W.contents writer.old.inner) (W.contents writer.new.inner)) }
 {
-    let file = match read_file(alloc, reader) {
-        Ok(file) => file,
+    let counts = match check_file(alloc, reader) {
+        Ok(counts) => counts,
         Err(fault) => return Err(ToolFault::Check(fault)),
     };
-    let line = check_line(&file);
+    let line = check_line(counts);
     match write_line(&line, writer) {
         Ok(()) => Ok(()),
         Err(_) => Err(ToolFault::Write),

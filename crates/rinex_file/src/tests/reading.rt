@@ -1,6 +1,6 @@
 //! Files that are read back, and files that are refused.
 use super::{EPOCH, HEADER, joined};
-use crate::{HeaderField, ObsFile, ReadFault, file_bytes, read_file};
+use crate::{Counts, HeaderField, ObsFile, ReadFault, check_file, file_bytes, read_file};
 use arrayvec::ArrayVec;
 use gnss_obs::System;
 use obs_epoch::StationValues;
@@ -71,6 +71,17 @@ fn a_file_is_read_and_written_back(rt: HostRuntime) -> Result<(), Fail> {
         assert_eq!(rt; file_bytes(alloc, &file)?.as_slice(), text.as_slice());
     }
     Ok(())
+}
+
+#[test]
+fn a_file_is_counted(rt: HostRuntime) {
+    let small = with_line(99, "");
+    for (lines, epochs, satellites) in [(small.as_slice(), 1, 1), (TWO_SYSTEMS.as_slice(), 2, 3)] {
+        let text = joined(lines);
+        let mut reader = Counted::new(PieceReader::new(text.as_slice(), &[3], ReadEnd::Ends));
+        let counts = check_file(rt.alloc(), &mut reader);
+        assert!(rt; counts == Ok(Counts { epochs, satellites }));
+    }
 }
 
 #[test]
@@ -187,4 +198,6 @@ fn a_reader_that_fails_is_told(rt: HostRuntime) {
     let mut reader = Counted::new(PieceReader::new(text.as_slice(), &[7], end));
     assert!(rt; read_file(rt.alloc(), &mut reader).err() == Some(ReadFault::Read));
     assert_eq!(rt; reader.failures(), 1);
+    let mut reader = Counted::new(PieceReader::new(text.as_slice(), &[7], end));
+    assert!(rt; check_file(rt.alloc(), &mut reader) == Err(ReadFault::Read));
 }

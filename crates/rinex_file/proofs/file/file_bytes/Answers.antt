@@ -1,21 +1,28 @@
-use Rattle.std.proofs.Common.{arith, refl, ◌+◌}
-use Rattle.rinex_file.proofs.Appended.{plain, first_epoch, next_epoch, last_epoch, have_room}
+use Rattle.std.proofs.Common.{◌∙◌, refl, ap, sym, subst, List}
+use Rattle.std.specs.Prelude.{All, flat_map, ◌++◌}
+use Rattle.rinex_file.specs.declared.kept.KeptEpoch.{KeptEpoch}
+use Rattle.rinex_file.specs.Numbers.{joined}
+use Rattle.rinex_file.specs.File.{stamped_lines}
+use Rattle.rinex_file.specs.declared.kept.KeptRow.{KeptRow}
+use Rattle.rinex_file.specs.Value.{Entry}
+use Rattle.rinex_file.specs.Kept.{rows_of, epochs_of, HasRoom}
+use Rattle.rinex_file.proofs.KeptFile.{lines_have_room, all_appended}
 use Rattle.rinex_file.proofs.file.file_bytes.Goals as goal
 
-pub loop-epoch-init : goal.loop-epoch-init
-loop-epoch-init c =
-    let first = plain c.behind-file.inside.time c.behind-file.inside.rows.items in
-    first_epoch _ c.args.file.now c.deref-epoch-items.result.now first c.index.result.now c.new-text.result.items c.add_header.new.text.items c.file.view_is c.deref-epoch-items.ensures.value
-    c.file.invariant.0.some c.behind-file.view_is c.index.ensures c.new-text.ensures.items c.in_ok-add_header.ensures
-
-pub add_epoch-requires : goal.add_epoch-requires
-add_epoch-requires c =
-    have_room _ c.deref-epoch-items.result.now c.loop-epoch.epoch-index c.epoch-item.result c.file.invariant.0 c.deref-epoch-items.ensures.value c.loop-epoch-test.true c.epoch-item.is
-
-pub loop-epoch-preserved : goal.loop-epoch-preserved
-loop-epoch-preserved c =
-    next_epoch c.deref-epoch-items.result.now c.loop-epoch.epoch-index (c.loop-epoch.epoch-index + 1) c.epoch-item.result c.loop-epoch.text.items c.add_epoch.new.text.items _
-    c.loop-epoch-test.true c.epoch-item.is refl c.loop-epoch.invariant c.in_ok-add_epoch.ensures
+pub add_epochs-requires-clause-room : goal.add_epochs-requires-clause-room
+add_epochs-requires-clause-room c =
+    let f = c.file.inside in
+    subst (λ (r : List KeptRow). All HasRoom (rows_of r c.as_slice-3.result.now)) (sym c.as_slice-2.ensures.value)
+    (subst (λ (es : List Entry). All HasRoom (rows_of f.rows.items es)) (sym c.as_slice-3.ensures.value)
+    (lines_have_room _ f.epochs.items f.rows.items f.entries.items c.file.invariant.0 c.file.invariant.1 refl))
 
 pub returns : goal.returns
-returns c = last_epoch c.deref-epoch-items.result.now c.loop-epoch.epoch-index c.loop-epoch.text.items _ (omega (arith, c.loop-epoch-test.false)) c.loop-epoch.invariant
+returns c =
+    let f = c.file.inside in
+    let epochs = c.as_slice.ensures.value in
+    all_appended c.args.file.now _ f.epochs.items f.rows.items f.entries.items c.index.result.now c.new-text.result.items c.add_header.new.text.items c.add_epochs.new.text.items c.file.view_is refl refl
+    c.file.invariant.0 c.index.ensures c.new-text.ensures.items c.in_ok-add_header.ensures
+    (c.in_ok-add_epochs.ensures
+    ∙ ap (λ (es : List KeptEpoch). c.add_header.new.text.items ++ joined (flat_map stamped_lines (epochs_of es c.as_slice-2.result.now c.as_slice-3.result.now))) epochs
+    ∙ ap (λ (rs : List KeptRow). c.add_header.new.text.items ++ joined (flat_map stamped_lines (epochs_of f.epochs.items rs c.as_slice-3.result.now))) c.as_slice-2.ensures.value
+    ∙ ap (λ (es : List Entry). c.add_header.new.text.items ++ joined (flat_map stamped_lines (epochs_of f.epochs.items f.rows.items es))) c.as_slice-3.ensures.value)

@@ -6,6 +6,6 @@ use Rattle.rinex_file.proofs.kept_line.kept_line.Given as goal
 -- the entries so far stand in the line
 abbrev pub invariant-loop-entry : goal.invariant-loop-entry
 invariant-loop-entry l = record {
-  text : l.line.items ≡ (letter_of l.seen.system ∷ (48 + l.seen.row.satellite / 10) ∷ (48 + l.seen.row.satellite % 10) ∷ []) ++ flat_map entry_text (take l.entry-index l.entry-items);
+  text : l.line.items ≡ (letter_of l.fn.system ∷ (48 + l.satellite / 10) ∷ (48 + l.satellite % 10) ∷ []) ++ flat_map entry_text (take l.entry-index l.entries);
   size : length l.line.items ≡ 3 + 64 * l.entry-index;
 }

@@ -1,40 +1,29 @@
-use Rattle.std.proofs.Common.{arith, ◌≡◌, ◌∙◌, sym, ap, subst, ℕ, ◌≤◌, ◌<◌, List, [], ◌∷◌, ◌++◌, length, take, get_or, false, Option}
-use Rattle.std.specs.Prelude.{◌==◌, ◌||◌}
-use Rattle.std.specs.Io.KnownBytes.{Consumes}
-use Rattle.std.proofs.KnownBytes.{Consumes-trans}
-use Rattle.rinex_file.specs.Reading.{has}
-use Rattle.rinex_file.proofs.Digits.{has-append}
+use Rattle.std.proofs.Common.{arith, ◌≡◌, ◌∙◌, subst, ℕ, ◌≤◌, ◌<◌, Bool, false, nat_eq}
+use Rattle.rinex_file.specs.Blocks.{Moves}
+use Rattle.rinex_file.proofs.Ahead.{moved_taken, line_whole, still_endless, leaves_more}
 use Rattle.rinex_file.proofs.lines.next_line.Goals as goal
 
-one_byte : (buf : List ℕ) (n : ℕ) → length buf ≡ 1 → n ≤ length buf → (n ≡ 0 → ⊥) → take n buf ≡ get_or buf 0 0 ∷ []
-one_byte [] n one most some = cc
-one_byte (b ∷ bs) n one most some =
-    let n1 : n ≡ 1 = grind arith in
-    let none : length bs ≡ 0 = omega (arith, one) in
-    ap (λ k. take k (b ∷ bs)) n1
+pub returns-in-Failed-clause-left : goal.returns-in-Failed-clause-left
+returns-in-Failed-clause-left g c = leaves_more _ _ _ c.loop-block.invariant.left c.in-Failed.ensures.left
 
-not_ten : (b : ℕ) → (b ≡ 10 → ⊥) → has 10 (b ∷ []) ≡ false
-not_ten b other = grind arith
+pub returns-then-move_to-clause-left : goal.returns-then-move_to-clause-left
+returns-then-move_to-clause-left g c = leaves_more _ _ _ c.loop-block.invariant.left c.in-Some.ensures.left
 
-endless_more : (xs : List ℕ) (b : ℕ) → has 10 xs ≡ false → (b ≡ 10 → ⊥) → has 10 (xs ++ b ∷ []) ≡ false
-endless_more xs b h other = has-append 10 xs (b ∷ []) ∙ ap (λ t. t || has 10 (b ∷ [])) h ∙ not_ten b other
+pub returns-then-move_to-clause-found : goal.returns-then-move_to-clause-found
+returns-then-move_to-clause-found g c =
+    line_whole _ _ _ _ c.loop-block.invariant.endless (subst (λ (b : Bool). Moves b c.fill.new.self c.move_to.new.self c.loop-block.line.items c.move_to.new.line.items) c.if-move_to.true c.move_to.ensures)
 
-more_taken : (a b c : Option (List ℕ)) (old new buf : List ℕ) (n : ℕ) → length buf ≡ 1 → n ≤ length buf → (n ≡ 0 → ⊥) → Consumes a b old → Consumes b c (take n buf)
-    → new ≡ old ++ get_or buf 0 0 ∷ [] → Consumes a c new
-more_taken a b c old new buf n one most some first next pushed =
-    subst (Consumes a c) (ap (λ t. old ++ t) (one_byte buf n one most some) ∙ sym pushed) (Consumes-trans a b c old (take n buf) first next)
-
-not_full : (n m : ℕ) → false ≡ (n == m) → n ≤ m → n < m
+not_full : (n m : ℕ) → false ≡ nat_eq n m → n ≤ m → n < m
 not_full n m h most = grind arith
 
-pub loop-byte-preserved : goal.loop-byte-preserved
-loop-byte-preserved g c =
-    let inv = c.loop-byte.invariant in
-    let ok = c.in-Ok.ensures in
-    let one : length c.read.new.buf ≡ 1 = omega arith in
+pub loop-block-preserved : goal.loop-block-preserved
+loop-block-preserved g c =
+    let inv = c.loop-block.invariant in
+    let moves = subst (λ (b : Bool). Moves b c.fill.new.self c.move_to.new.self c.loop-block.line.items c.move_to.new.line.items) c.if-move_to.false c.move_to.ensures in
     record {
-      taken = more_taken _ _ _ c.loop-byte.line.items c.push.new.self.items c.read.new.buf c.in-Ok.field-0 one ok.bound.0 c.in-Ok.field-0-test.1 inv.taken ok.bytes.0 c.push.ensures.items;
-      endless = ap (has 10) c.push.ensures.items ∙ endless_more c.loop-byte.line.items (get_or c.read.new.buf 0 0) inv.endless c.if-byte-eq10.false;
-      within = let less : length c.loop-byte.line.items < 1220 = not_full (length c.loop-byte.line.items) 1220 c.loop-byte-test.ensures.value c.loop-byte-test.ensures.fits in omega (arith, less, c.push.ensures.len);
-      same = ok.failures ∙ inv.same;
+      taken = moved_taken _ _ _ false _ _ _ _ inv.taken c.in-Some.ensures.same moves;
+      endless = still_endless _ _ _ _ inv.endless moves;
+      within = moves.short;
+      left = leaves_more _ _ _ inv.left c.in-Some.ensures.left;
+      same = c.in-Some.ensures.fine (λ e. cc) ∙ inv.same;
     }

@@ -1,0 +1,273 @@
+-- Epochs, satellites and entries that are kept in three lists, and one more of each.
+use Rattle.std.proofs.Common.{arith, ◌≡◌, ◌∙◌, sym, ap, subst, refl, ℕ, zero, suc, ◌+◌, ◌-◌, ◌<◌, ◌≤◌, List, [], ◌∷◌, ◌++◌, length, take, drop, get_or, append-nil}
+use Rattle.std.specs.Prelude.{All, map, flat_map}
+use Rattle.std.proofs.Math.Seq.{drop-cons}
+use Rattle.std.proofs.Math.ListN.{drop_of_length-le}
+use Rattle.std.proofs.lemmas.List.Elements.{All-head, All-tail, All-take, All-drop}
+use Rattle.rinex_file.specs.Numbers.{joined}
+use Rattle.rinex_file.specs.Lines.{seen_line}
+use Rattle.rinex_file.specs.File.{stamped_lines}
+use Rattle.rinex_file.proofs.Sent.{joined-append}
+use Rattle.rinex_file.proofs.Appended.{passed}
+use Rattle.std.specs.List.{sum_by}
+use Rattle.std.proofs.lemmas.List.{take-append-le, drop-append-le, length-drop, length-take-le, drop-drop}
+use Rattle.std.proofs.Math.Seq.{take-length}
+use Rattle.std.proofs.lemmas.List.Sums.{sum_by-append, sum_by-cons, sum_by-take-drop}
+use Rattle.rinex_file.specs.declared.kept.KeptRow.{KeptRow}
+use Rattle.rinex_file.specs.declared.kept.KeptEpoch.{KeptEpoch}
+use Rattle.rinex_file.specs.Value.{Entry, Seen, Stamped, seen_with}
+use Rattle.rinex_file.specs.Course.{History, epoch_at, with_seen, with_epoch}
+use Rattle.rinex_file.specs.Kept.{row_at, rows_of, epochs_with, epochs_of, row_count, entry_count, HasRoom, kept_history, AreKept}
+
+no_items : {X : Type 0} (xs : List X) → 0 ≡ length xs → xs ≡ []
+no_items [] e = refl
+no_items (x ∷ xs) e = absurd (omega (arith, e))
+
+all_of : {X : Type 0} (xs : List X) (n : ℕ) → n ≡ length xs → take n xs ≡ xs
+all_of xs n e = ap (λ k. take k xs) e ∙ take-length xs
+
+-- ---- one satellite more
+
+pub rows_more : (rows : List KeptRow) (all new : List Entry) (r : KeptRow) → sum_by (λ x. x.entries) rows ≡ length all → r.entries ≡ length new
+    → rows_of (rows ++ r ∷ []) (all ++ new) ≡ rows_of rows all ++ seen_with r.system r.satellite new ∷ []
+rows_more [] all new r taken size =
+    let none : all ++ new ≡ new = ap (λ l. l ++ new) (no_items all taken) in
+    ap (λ l. seen_with r.system r.satellite l ∷ []) (ap (take r.entries) none ∙ all_of new r.entries size)
+rows_more (x ∷ xs) all new r taken size =
+    let sum : sum_by (λ r. r.entries) (x ∷ xs) ≡ x.entries + sum_by (λ r. r.entries) xs = sum_by-cons (λ (r : KeptRow). r.entries) x xs in
+    let few : x.entries ≤ length all = omega (arith, taken, sum) in
+    let left : length (drop x.entries all) ≡ length all - x.entries = length-drop x.entries all in
+    let rest = rows_more xs (drop x.entries all) new r (omega (arith, taken, left, sum)) size in
+    ap (λ l. seen_with x.system x.satellite l ∷ rows_of (xs ++ r ∷ []) (drop x.entries (all ++ new))) (take-append-le x.entries all new few)
+    ∙ ap (λ l. seen_with x.system x.satellite (take x.entries all) ∷ rows_of (xs ++ r ∷ []) l) (drop-append-le x.entries all new few)
+    ∙ ap (λ l. seen_with x.system x.satellite (take x.entries all) ∷ l) rest
+
+pub length-rows_of : (rows : List KeptRow) (all : List Entry) → length (rows_of rows all) ≡ length rows
+length-rows_of [] all = refl
+length-rows_of (x ∷ xs) all = ap suc (length-rows_of xs (drop x.entries all))
+
+-- epochs don't change by satellites behind theirs
+pub epochs_same : (epochs : List KeptEpoch) (rows new : List Seen) → row_count epochs ≤ length rows → epochs_with epochs (rows ++ new) ≡ epochs_with epochs rows
+epochs_same [] rows new few = refl
+epochs_same (e ∷ es) rows new few =
+    let sum : row_count (e ∷ es) ≡ e.rows + row_count es = sum_by-cons (λ (e : KeptEpoch). e.rows) e es in
+    let here : e.rows ≤ length rows = omega (arith, few, sum) in
+    let left : length (drop e.rows rows) ≡ length rows - e.rows = length-drop e.rows rows in
+    ap (λ l. epoch_at e.time l ∷ epochs_with es (drop e.rows (rows ++ new))) (take-append-le e.rows rows new here)
+    ∙ ap (λ l. epoch_at e.time (take e.rows rows) ∷ epochs_with es l) (drop-append-le e.rows rows new here)
+    ∙ ap (λ l. epoch_at e.time (take e.rows rows) ∷ l) (epochs_same es (drop e.rows rows) new (omega (arith, few, left, sum)))
+
+-- ---- one epoch more
+
+behind_one : (n m k : ℕ) (rows : List Seen) → k ≡ m + n → drop n (drop m rows) ≡ drop k rows
+behind_one n m k rows sum = drop-drop n m rows ∙ ap (λ j. drop j rows) (sym sum)
+
+pub epochs_more : (epochs : List KeptEpoch) (rows : List Seen) (e : KeptEpoch) → row_count epochs + e.rows ≡ length rows
+    → epochs_with (epochs ++ e ∷ []) rows ≡ epochs_with epochs rows ++ epoch_at e.time (drop (row_count epochs) rows) ∷ []
+epochs_more [] rows e size = ap (λ l. epoch_at e.time l ∷ []) (all_of rows e.rows (omega (arith, size)))
+epochs_more (x ∷ xs) rows e size =
+    let sum : row_count (x ∷ xs) ≡ x.rows + row_count xs = sum_by-cons (λ (e : KeptEpoch). e.rows) x xs in
+    let left : length (drop x.rows rows) ≡ length rows - x.rows = length-drop x.rows rows in
+    ap (λ l. epoch_at x.time (take x.rows rows) ∷ l)
+    (epochs_more xs (drop x.rows rows) e (omega (arith, size, left, sum)) ∙ ap (λ l. epochs_with xs (drop x.rows rows) ++ epoch_at e.time l ∷ []) (behind_one (row_count xs) x.rows (row_count (x ∷ xs)) rows sum))
+
+pub none_open : (epochs : List KeptEpoch) (rows : List Seen) → length rows ≡ row_count epochs → drop (row_count epochs) rows ≡ []
+none_open epochs rows size = no_items (drop (row_count epochs) rows) (let left = length-drop (row_count epochs) rows in omega (arith, size, left))
+
+-- ---- the history that is kept
+
+abbrev history : List Stamped → List Seen → History
+history epochs rows = record { epochs = epochs; rows = rows }
+
+same_history : (a b : List Stamped) (x y : List Seen) → a ≡ b → x ≡ y → history a x ≡ history b y
+same_history a b x y e f = ap (λ l. history l x) e ∙ ap (history b) f
+
+module _ (epochs : List KeptEpoch) (rows : List KeptRow) (all : List Entry) (n : ℕ) (kept : AreKept epochs rows all n) where
+  few : row_count epochs ≤ length (rows_of rows all)
+  few = let size = length-rows_of rows all in let counted = kept.counted in omega (arith, size, counted)
+
+  pub row_kept : (rows' : List KeptRow) (all' new : List Entry) (r : KeptRow) (seen : Seen) → rows' ≡ rows ++ r ∷ [] → all' ≡ all ++ new → r.entries ≡ length new
+      → seen_with r.system r.satellite new ≡ seen → kept_history epochs rows' all' ≡ with_seen (kept_history epochs rows all) seen
+  row_kept rows' all' new r seen one more size same =
+      let here : rows_of rows' all' ≡ rows_of rows all ++ seen ∷ [] =
+      ap (λ l. rows_of l all') one ∙ ap (rows_of (rows ++ r ∷ [])) more ∙ rows_more rows all new r kept.taken size ∙ ap (λ s. rows_of rows all ++ s ∷ []) same in
+      ap (λ l. history (epochs_with epochs l) (drop (row_count epochs) l)) here
+      ∙ same_history _ _ _ _ (epochs_same epochs (rows_of rows all) (seen ∷ []) few) (drop-append-le (row_count epochs) (rows_of rows all) (seen ∷ []) few)
+
+  pub epoch_kept : (epochs' : List KeptEpoch) (e : KeptEpoch) → epochs' ≡ epochs ++ e ∷ [] → e.rows ≡ n → kept_history epochs' rows all ≡ with_epoch (kept_history epochs rows all) e.time
+  epoch_kept epochs' e one size =
+      let long = length-rows_of rows all in
+      let counted = kept.counted in
+      let whole : row_count epochs + e.rows ≡ length (rows_of rows all) = omega (arith, long, counted, size) in
+      let count : row_count (epochs ++ e ∷ []) ≡ row_count epochs + (0 + e.rows) = sum_by-append _ epochs (e ∷ []) in
+      let none : length (rows_of rows all) ≡ row_count (epochs ++ e ∷ []) = omega (arith, whole, count) in
+      ap (λ l. history (epochs_with l (rows_of rows all)) (drop (row_count l) (rows_of rows all))) one
+      ∙ same_history _ _ _ _ (epochs_more epochs (rows_of rows all) e whole) (none_open (epochs ++ e ∷ []) (rows_of rows all) none)
+
+  -- no satellite is open where the history has none
+  pub none_begun : drop (row_count epochs) (rows_of rows all) ≡ [] → AreKept epochs rows all 0
+  none_begun none =
+      let left : length (drop (row_count epochs) (rows_of rows all)) ≡ length (rows_of rows all) - row_count epochs = length-drop (row_count epochs) (rows_of rows all) in
+      let zero : length (drop (row_count epochs) (rows_of rows all)) ≡ 0 = ap length none in
+      let long = length-rows_of rows all in
+      let counted = kept.counted in
+      record { taken = kept.taken; counted = omega (arith, left, zero, long, counted) }
+
+-- ---- the satellites that are left
+
+-- what the next satellite takes
+pub record NextRow (rows : List KeptRow) (i : ℕ) (rest : List Entry) (r : KeptRow) : Type 0 where
+  pub few : r.entries ≤ length rest
+  pub room : HasRoom (seen_with r.system r.satellite (take r.entries rest))
+  pub shown : rows_of (drop i rows) rest ≡ seen_with r.system r.satellite (take r.entries rest) ∷ rows_of (drop (i + 1) rows) (drop r.entries rest)
+  pub count : entry_count (drop i rows) ≡ r.entries + entry_count (drop (i + 1) rows)
+  pub others : All HasRoom (rows_of (drop (i + 1) rows) (drop r.entries rest))
+
+pub next_row : (rows : List KeptRow) (i : ℕ) (rest : List Entry) (d : KeptRow) → i < length rows → All HasRoom (rows_of (drop i rows) rest) → entry_count (drop i rows) ≤ length rest
+    → NextRow rows i rest (get_or rows i d)
+next_row rows i rest d less room few =
+    let r = get_or rows i d in
+    let next : suc i ≡ i + 1 = omega arith in
+    let shape : drop i rows ≡ r ∷ drop (i + 1) rows = drop-cons rows i d less ∙ ap (λ (n : ℕ). r ∷ drop n rows) next in
+    let count : entry_count (drop i rows) ≡ r.entries + entry_count (drop (i + 1) rows) =
+    ap (λ l. entry_count l) shape ∙ sum_by-cons (λ (x : KeptRow). x.entries) r (drop (i + 1) rows) in
+    let shown : rows_of (drop i rows) rest ≡ seen_with r.system r.satellite (take r.entries rest) ∷ rows_of (drop (i + 1) rows) (drop r.entries rest) = ap (λ l. rows_of l rest) shape in
+    let all = subst (All HasRoom) shown room in
+    record {
+      few = omega (arith, few, count);
+      room = All-head HasRoom (seen_with r.system r.satellite (take r.entries rest)) (rows_of (drop (i + 1) rows) (drop r.entries rest)) all;
+      shown = shown;
+      count = count;
+      others = All-tail HasRoom (seen_with r.system r.satellite (take r.entries rest)) (rows_of (drop (i + 1) rows) (drop r.entries rest)) all;
+    }
+
+-- a line of a satellite was appended
+pub row_passed : (rows : List KeptRow) (i n at to : ℕ) (all : List Entry) (r : KeptRow) (text new whole : List ℕ) → NextRow rows i (drop at all) r → n ≡ i + 1 → to ≡ at + r.entries
+    → text ++ joined (map seen_line (rows_of (drop i rows) (drop at all))) ≡ whole → new ≡ text ++ seen_line (row_at r (drop at all))
+    → (new ++ joined (map seen_line (rows_of (drop n rows) (drop to all))) ≡ whole) × All HasRoom (rows_of (drop n rows) (drop to all))
+row_passed rows i n at to all r text new whole next count gone before e =
+    let others = rows_of (drop (i + 1) rows) (drop r.entries (drop at all)) in
+    let same : rows_of (drop n rows) (drop to all) ≡ others =
+    ap (λ (k : ℕ). rows_of (drop k rows) (drop to all)) count ∙ ap (λ (k : ℕ). rows_of (drop (i + 1) rows) (drop k all)) gone ∙ ap (rows_of (drop (i + 1) rows)) (sym (drop-drop r.entries at all)) in (
+      ap (λ (l : List Seen). new ++ joined (map seen_line l)) same
+          ∙ passed text (seen_line (row_at r (drop at all))) (joined (map seen_line others)) new whole (ap (λ (l : List Seen). text ++ joined (map seen_line l)) (sym next.shown) ∙ before) e,
+      subst (All HasRoom) (sym same) next.others,
+    )
+
+-- no satellite is left
+pub rows_passed : (rows : List KeptRow) (i : ℕ) (rest : List Entry) (text whole : List ℕ) → length rows ≤ i → text ++ joined (map seen_line (rows_of (drop i rows) rest)) ≡ whole → text ≡ whole
+rows_passed rows i rest text whole all before =
+    sym (ap (λ (l : List KeptRow). text ++ joined (map seen_line (rows_of l rest))) (drop_of_length-le rows all) ∙ append-nil text) ∙ before
+
+-- ---- the numbers of epochs and satellites
+
+pub length-epochs_with : (epochs : List KeptEpoch) (rows : List Seen) → length (epochs_with epochs rows) ≡ length epochs
+length-epochs_with [] rows = refl
+length-epochs_with (e ∷ es) rows = ap suc (length-epochs_with es (drop e.rows rows))
+
+all_rows : (epochs : List KeptEpoch) (rows : List Seen) → row_count epochs ≤ length rows → sum_by (λ e. length e.rows) (epochs_with epochs rows) ≡ row_count epochs
+all_rows [] rows few = refl
+all_rows (e ∷ es) rows few =
+    let sum : row_count (e ∷ es) ≡ e.rows + row_count es = sum_by-cons (λ (x : KeptEpoch). x.rows) e es in
+    let here : length (take e.rows rows) ≡ e.rows = length-take-le e.rows rows (omega (arith, few, sum)) in
+    let left : length (drop e.rows rows) ≡ length rows - e.rows = length-drop e.rows rows in
+    let rest = all_rows es (drop e.rows rows) (omega (arith, few, sum, left)) in
+    let both : sum_by (λ x. length x.rows) (epochs_with (e ∷ es) rows) ≡ length (take e.rows rows) + sum_by (λ x. length x.rows) (epochs_with es (drop e.rows rows)) =
+    sum_by-cons (λ (x : Stamped). length x.rows) (epoch_at e.time (take e.rows rows)) (epochs_with es (drop e.rows rows)) in
+    omega (arith, both, here, rest, sum)
+
+pub rows_counted : (epochs : List KeptEpoch) (rows : List KeptRow) (all : List Entry) → AreKept epochs rows all 0
+    → length rows ≡ sum_by (λ e. length e.rows) (epochs_of epochs rows all)
+rows_counted epochs rows all kept =
+    let long = length-rows_of rows all in
+    let counted = kept.counted in
+    let same = all_rows epochs (rows_of rows all) (omega (arith, long, counted)) in
+    omega (arith, same, counted)
+
+-- ---- the epochs that are left
+
+drop_more : (n m : ℕ) (all : List Entry) → drop (m + n) all ≡ drop n (drop m all)
+drop_more n m all = sym (drop-drop n m all)
+
+pub take_rows : (n : ℕ) (rows : List KeptRow) (all : List Entry) → take n (rows_of rows all) ≡ rows_of (take n rows) all
+take_rows zero rows all = refl
+take_rows (suc n) [] all = refl
+take_rows (suc n) (r ∷ rows) all = ap (λ l. row_at r all ∷ l) (take_rows n rows (drop r.entries all))
+
+pub drop_rows : (n : ℕ) (rows : List KeptRow) (all : List Entry) → drop n (rows_of rows all) ≡ rows_of (drop n rows) (drop (entry_count (take n rows)) all)
+drop_rows zero rows all = refl
+drop_rows (suc n) [] all = refl
+drop_rows (suc n) (r ∷ rows) all =
+    let sum : entry_count (r ∷ take n rows) ≡ r.entries + entry_count (take n rows) = sum_by-cons (λ (x : KeptRow). x.entries) r (take n rows) in
+    drop_rows n rows (drop r.entries all) ∙ ap (rows_of (drop n rows)) (sym (ap (λ (k : ℕ). drop k all) sum ∙ drop_more (entry_count (take n rows)) r.entries all))
+
+-- what the next epoch takes
+pub record NextEpoch (epochs : List KeptEpoch) (rows : List KeptRow) (all : List Entry) (i row entry : ℕ) (e : KeptEpoch) : Type 0 where
+  pub rows_fit : row + e.rows ≤ length rows
+  pub entries_fit : entry + entry_count (take e.rows (drop row rows)) ≤ length all
+  pub room : All HasRoom (rows_of (take e.rows (drop row rows)) (drop entry all))
+  pub others : All HasRoom (rows_of (drop (row + e.rows) rows) (drop (entry + entry_count (take e.rows (drop row rows))) all))
+  pub row_sum : (row + e.rows) + row_count (drop (i + 1) epochs) ≡ length rows
+  pub entry_sum : (entry + entry_count (take e.rows (drop row rows))) + entry_count (drop (row + e.rows) rows) ≡ length all
+  pub shown : epochs_of (drop i epochs) (drop row rows) (drop entry all) ≡ epoch_at e.time (rows_of (take e.rows (drop row rows)) (drop entry all))
+      ∷ epochs_of (drop (i + 1) epochs) (drop (row + e.rows) rows) (drop (entry + entry_count (take e.rows (drop row rows))) all)
+
+pub next_of : (epochs : List KeptEpoch) (rows : List KeptRow) (all : List Entry) (i row entry : ℕ) (e : KeptEpoch) → i < length epochs → e ≡ get_or epochs i e
+    → row + row_count (drop i epochs) ≡ length rows → entry + entry_count (drop row rows) ≡ length all → All HasRoom (rows_of (drop row rows) (drop entry all))
+    → NextEpoch epochs rows all i row entry e
+next_of epochs rows all i row entry e less is row_sum entry_sum room =
+    let next : suc i ≡ i + 1 = omega arith in
+    let shape : drop i epochs ≡ e ∷ drop (i + 1) epochs = drop-cons epochs i e less ∙ ap (λ (x : KeptEpoch). x ∷ drop (suc i) epochs) (sym is) ∙ ap (λ (n : ℕ). e ∷ drop n epochs) next in
+    let count : row_count (drop i epochs) ≡ e.rows + row_count (drop (i + 1) epochs) = ap (λ l. row_count l) shape ∙ sum_by-cons (λ (x : KeptEpoch). x.rows) e (drop (i + 1) epochs) in
+    let here = drop row rows in
+    let own = take e.rows here in
+    let behind : drop e.rows here ≡ drop (row + e.rows) rows = drop-drop e.rows row rows in
+    let sum : entry_count own + entry_count (drop e.rows here) ≡ entry_count here = sum_by-take-drop (λ (x : KeptRow). x.entries) here e.rows in
+    let same : entry_count (drop e.rows here) ≡ entry_count (drop (row + e.rows) rows) = ap (λ l. entry_count l) behind in
+    let left : drop e.rows (rows_of here (drop entry all)) ≡ rows_of (drop (row + e.rows) rows) (drop (entry + entry_count own) all) =
+    drop_rows e.rows here (drop entry all) ∙ ap (λ l. rows_of l (drop (entry_count own) (drop entry all))) behind ∙ ap (rows_of (drop (row + e.rows) rows)) (sym (drop_more (entry_count own) entry all)) in
+    record {
+      rows_fit = omega (arith, row_sum, count);
+      entries_fit = omega (arith, entry_sum, sum);
+      room = subst (All HasRoom) (take_rows e.rows here (drop entry all)) (All-take HasRoom e.rows (rows_of here (drop entry all)) room);
+      others = subst (All HasRoom) left (All-drop HasRoom e.rows (rows_of here (drop entry all)) room);
+      row_sum = omega (arith, row_sum, count);
+      entry_sum = omega (arith, entry_sum, sum, same);
+      shown = ap (λ l. epochs_of l here (drop entry all)) shape
+          ∙ ap (λ l. epoch_at e.time l ∷ epochs_with (drop (i + 1) epochs) (drop e.rows (rows_of here (drop entry all)))) (take_rows e.rows here (drop entry all))
+          ∙ ap (λ l. epoch_at e.time (rows_of own (drop entry all)) ∷ epochs_with (drop (i + 1) epochs) l) left;
+    }
+
+-- the lines of an epoch were appended
+pub epoch_passed : (e : Stamped) (left others : List Stamped) (text new whole : List ℕ) → left ≡ e ∷ others → text ++ joined (flat_map stamped_lines left) ≡ whole → new ≡ text ++ joined (stamped_lines e)
+    → new ++ joined (flat_map stamped_lines others) ≡ whole
+epoch_passed e left others text new whole shape before grown =
+    let split : joined (flat_map stamped_lines left) ≡ joined (stamped_lines e) ++ joined (flat_map stamped_lines others) =
+    ap (λ l. joined (flat_map stamped_lines l)) shape ∙ joined-append (stamped_lines e) (flat_map stamped_lines others) in
+    passed text (joined (stamped_lines e)) (joined (flat_map stamped_lines others)) new whole (ap (λ l. text ++ l) (sym split) ∙ before) grown
+
+-- no epoch is left
+pub epochs_passed : (epochs : List KeptEpoch) (rows : List KeptRow) (all : List Entry) (i : ℕ) (text whole : List ℕ) → length epochs ≤ i
+    → text ++ joined (flat_map stamped_lines (epochs_of (drop i epochs) rows all)) ≡ whole → text ≡ whole
+epochs_passed epochs rows all i text whole done before =
+    sym (ap (λ (l : List KeptEpoch). text ++ joined (flat_map stamped_lines (epochs_of l rows all))) (drop_of_length-le epochs done) ∙ append-nil text) ∙ before
+
+-- what was appended, and where the next epoch begins
+pub next_passed : (epochs : List KeptEpoch) (rows : List KeptRow) (all : List Entry) (i row entry row' entry' : ℕ) (e : KeptEpoch) (text new whole : List ℕ) → NextEpoch epochs rows all i row entry e
+    → row' ≡ row + e.rows → entry' ≡ entry + entry_count (take e.rows (drop row rows))
+    → text ++ joined (flat_map stamped_lines (epochs_of (drop i epochs) (drop row rows) (drop entry all))) ≡ whole
+    → new ≡ text ++ joined (stamped_lines (epoch_at e.time (rows_of (take e.rows (drop row rows)) (drop entry all))))
+    → (new ++ joined (flat_map stamped_lines (epochs_of (drop (i + 1) epochs) (drop row' rows) (drop entry' all))) ≡ whole)
+    × All HasRoom (rows_of (drop row' rows) (drop entry' all)) × (row' + row_count (drop (i + 1) epochs) ≡ length rows) × (entry' + entry_count (drop row' rows) ≡ length all)
+next_passed epochs rows all i row entry row' entry' e text new whole next at_row at_entry before grown =
+    let to = row + e.rows in
+    let end = entry + entry_count (take e.rows (drop row rows)) in
+    let others = epochs_of (drop (i + 1) epochs) (drop to rows) (drop end all) in
+    let own = epoch_at e.time (rows_of (take e.rows (drop row rows)) (drop entry all)) in (
+      ap (λ (k : ℕ). new ++ joined (flat_map stamped_lines (epochs_of (drop (i + 1) epochs) (drop k rows) (drop entry' all)))) at_row
+          ∙ ap (λ (k : ℕ). new ++ joined (flat_map stamped_lines (epochs_of (drop (i + 1) epochs) (drop to rows) (drop k all)))) at_entry
+          ∙ epoch_passed own (epochs_of (drop i epochs) (drop row rows) (drop entry all)) others text new whole next.shown before grown,
+      subst (λ (k : ℕ). All HasRoom (rows_of (drop row' rows) (drop k all))) (sym at_entry) (subst (λ (k : ℕ). All HasRoom (rows_of (drop k rows) (drop end all))) (sym at_row) next.others),
+      ap (λ (k : ℕ). k + row_count (drop (i + 1) epochs)) at_row ∙ next.row_sum,
+      ap (λ (k : ℕ). k + entry_count (drop row' rows)) at_entry ∙ ap (λ (k : ℕ). end + entry_count (drop k rows)) at_row ∙ next.entry_sum,
+    )

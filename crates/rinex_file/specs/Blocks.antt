@@ -1,0 +1,22 @@
+-- Bytes that were read ahead.
+use Rattle.std.specs.Prelude.{◌≡◌, ℕ, ◌<◌, ◌≤◌, Bool, true, false, List, [], ◌∷◌, ◌++◌, length, Option}
+use Rattle.std.specs.Io.KnownBytes.{Consumes}
+use Rattle.rinex_file.specs.Reading.{has}
+
+-- what is left is behind some of the bytes that were there
+abbrev pub Leaves : Option (List ℕ) → Option (List ℕ) → Type 0
+Leaves old new = (bytes : List ℕ) × Consumes old new bytes
+
+-- the bytes that were moved: the line's last, or without a line feed
+abbrev pub AreMoved : Bool → List ℕ → Type 0
+AreMoved true bytes = (body : List ℕ) × (bytes ≡ body ++ 10 ∷ []) × (has 10 body ≡ false)
+AreMoved false bytes = has 10 bytes ≡ false
+
+-- the first bytes of `old` were moved behind those of the line
+pub record Moves (whole : Bool) (old new line line' : List ℕ) : Type 0 where
+  pub bytes : List ℕ
+  pub from : old ≡ bytes ++ new
+  pub to : line' ≡ line ++ bytes
+  pub are : AreMoved whole bytes
+  pub some : 0 < length old → length line < 1220 → 0 < length bytes
+  pub short : length line' ≤ 1220

@@ -1,0 +1,26 @@
+-- What a file's counts say of it.
+use Rattle.std.specs.Prelude.{◌≡◌, ℕ, List, length, Option, Result, Ok, Err, IfSome}
+use Rattle.rinex_file.specs.declared.file.Counts.{Counts}
+use Rattle.rinex_file.specs.declared.read_fault.ReadFault.{ReadFault}
+use Rattle.rinex_file.specs.Value.{FileValue}
+use Rattle.rinex_file.specs.FileValues.{IsFileValue}
+use Rattle.rinex_file.specs.File.{file_text}
+use Rattle.rinex_file.specs.Exact.{IsNoFault}
+use Rattle.rinex_file.specs.Course.{rows_in}
+
+-- these are the numbers of the file's epochs and of the lines of satellites
+pub record AreCounts (n : Counts) (v : FileValue) : Type 0 where
+  pub epochs : n.epochs ≡ length v.epochs
+  pub satellites : n.satellites ≡ rows_in v.epochs
+
+-- the input, where it is known, is the text of a file value that has so much
+pub record IsTextWith (n : Counts) (input : Option (List ℕ)) : Type 0 where
+  pub v : FileValue
+  pub is : IsFileValue v
+  pub text : IfSome input (λ bytes. bytes ≡ file_text v)
+  pub counted : AreCounts n v
+
+-- this file's counts, or want of memory, or a failed reader
+abbrev pub IsCountedOr : FileValue → Result Counts ReadFault → Type 0
+IsCountedOr v (Ok n) = AreCounts n v
+IsCountedOr v (Err fault) = IsNoFault fault

@@ -1,0 +1,82 @@
+-- How far the reading of a file is, and what it says of all that was read.
+use Rattle.std.specs.Prelude.{◌≡◌, ℕ, ◌+◌, ◌≤◌, List, [], ◌∷◌, ◌++◌, length, map, Option, Some, None, Result, Ok, Err, ⊤, ◌↔◌}
+use Rattle.std.specs.List.{sum_by}
+use Rattle.rinex_file.specs.declared.course.Course.{Course}
+use Rattle.rinex_file.specs.declared.due.Added.{Added}
+use Rattle.rinex_file.specs.declared.due.Added.TheVariants.{NoRow, OneRow, LastRow}
+use Rattle.rinex_file.specs.declared.due.Refusal.{Refusal}
+use Rattle.rinex_file.specs.declared.due.Refusal.TheVariants.{Memory, Bad}
+use Rattle.rinex_file.specs.Value.{Seen, Stamped, FileValue}
+use Rattle.rinex_file.specs.FileValues.{time_of, rank_of}
+use Rattle.rinex_file.specs.Progress.{Progress, GoesOn}
+use Rattle.rinex_file.specs.Sound.{IsSound}
+
+-- what was read of a file behind its header: epochs, and the satellites so far of an epoch that was begun
+pub record History : Type 0 where
+  pub epochs : List Stamped
+  pub rows : List Seen
+
+abbrev pub nothing : History
+nothing = record { epochs = []; rows = [] }
+
+-- what was read where a course stands behind this history
+abbrev pub progress_at : Course → History → Progress
+progress_at c h = record { due = c.due; known = c.head; epochs = h.epochs; time = c.time; rows = h.rows }
+
+-- this is the last of the numbers, or there is none
+abbrev pub EndsIn : List ℕ → Option ℕ → Type 0
+EndsIn xs None = xs ≡ []
+EndsIn xs (Some x) = (front : List ℕ) × (xs ≡ front ++ x ∷ [])
+
+-- the number of lines of satellites
+abbrev pub rows_in : List Stamped → ℕ
+rows_in epochs = sum_by (λ e. length e.rows) epochs
+
+-- a course stands behind this history
+pub record StandsBehind (c : Course) (h : History) : Type 0 where
+  pub sound : IsSound (progress_at c h)
+  pub last : EndsIn (map time_of h.epochs) c.last
+  pub rank : EndsIn (map rank_of h.rows) c.rank
+  pub epochs : c.epochs ≡ length h.epochs
+  pub satellites : c.satellites ≡ rows_in h.epochs + length h.rows
+
+-- an epoch with the station values of those before
+abbrev pub epoch_at : ℕ → List Seen → Stamped
+epoch_at time rows = record { change = None; time = time; rows = rows }
+
+-- a history with one satellite more
+abbrev pub with_seen : History → Seen → History
+with_seen h seen = record { epochs = h.epochs; rows = h.rows ++ seen ∷ [] }
+
+-- a history where the epoch that was begun, at this time, has all its satellites
+abbrev pub with_epoch : History → ℕ → History
+with_epoch h time = record { epochs = h.epochs ++ epoch_at time h.rows ∷ []; rows = [] }
+
+-- the history with what a line added, behind which the course stands
+abbrev pub with_line : Added → Course → History → History
+with_line NoRow c h = h
+with_line OneRow c h = with_seen h c.seen
+with_line LastRow c h = with_epoch (with_seen h c.seen) c.time
+
+-- the line is the one that may follow
+abbrev pub Follows : Progress → Progress → List ℕ → Type 0
+Follows old new line = (v : FileValue) (left : List (List ℕ)) → GoesOn old v (line ∷ left) ↔ GoesOn new v left
+
+-- no file goes on with the line
+abbrev pub Refuses : Progress → List ℕ → Type 0
+Refuses s line = (v : FileValue) (left : List (List ℕ)) → GoesOn s v (line ∷ left) → ⊥
+
+-- a line was taken: it may follow whatever was read, and the course stands behind that and what the line adds
+pub record IsNext (old new : Course) (added : Added) (line : List ℕ) (h : History) : Type 0 where
+  pub stands : StandsBehind new (with_line added new h)
+  pub follows : Follows (progress_at old h) (progress_at new (with_line added new h)) line
+
+-- what a course does with a line
+abbrev pub Takes : Course → Course → List ℕ → Result Added Refusal → Type 0
+Takes old new line (Ok added) = (h : History) → StandsBehind old h → IsNext old new added line h
+Takes old new line (Err Bad) = (h : History) → StandsBehind old h → Refuses (progress_at old h) line
+Takes old new line (Err Memory) = ⊤
+
+-- so many lines hold what was counted
+abbrev pub HasRoom : Course → ℕ → Type 0
+HasRoom c lines = (c.epochs ≤ lines) × (c.satellites ≤ lines)

@@ -1,0 +1,130 @@
+//! What is kept of the epochs of a file while it is read.
+ghost use Rattle.std.specs.Prelude.{◌≡◌, OnOk, []};
+ghost use Rattle.rinex_file.specs.FileValues.{IsFileValue};
+ghost use Rattle.rinex_file.specs.Course.{nothing, with_epoch, with_line, with_seen};
+ghost use Rattle.rinex_file.specs.Steps.{file_at};
+ghost use Rattle.rinex_file.specs.Keeping.{history_of, IsKept};
+ghost use Rattle.rinex_file.specs.Kept.{epochs_of, AreKept};
+
+use crate::course::Course;
+use crate::due::Added;
+use crate::head_parts::HeadParts;
+use crate::kept::{KeptEntry, KeptEpoch, KeptRow, KeptSeen};
+use crate::obs_file::ObsFile;
+use obs_epoch::GpsTime;
+use std::alloc::{AllocError, Global};
+
+/// The epochs of a file that were read, and the satellites of one that was begun.
+#[derive(Drop)]
+pub(crate) struct Keeper {
+    pub(crate) epochs: Vec<KeptEpoch>,
+    pub(crate) rows: Vec<KeptRow>,
+    pub(crate) entries: Vec<KeptEntry>,
+    pub(crate) begun: usize,
+}
+
+impl Keeper {
+    /// Nothing was read.
+    pub(crate) fn new(alloc: Global) -> Keeper
+        ensures kept { IsKept result }
+        ensures none { history_of result ≡ nothing }
+    {
+        Keeper {
+            epochs: Vec::new(alloc),
+            rows: Vec::new(alloc),
+            entries: Vec::new(alloc),
+            begun: 0,
+        }
+    }
+
+    /// Keeps what a line added.
+    pub(crate) fn keep(&mut self, added: Added, course: &Course) -> Result<(), AllocError>
+        requires kept { IsKept self.old }
+        ensures kept { OnOk result (IsKept self.new) }
+        ensures added { OnOk result (history_of self.new ≡ with_line added course.now (history_of self.old)) }
+    {
+        match added {
+            Added::NoRow => Ok(()),
+            Added::OneRow => self.keep_row(&course.seen),
+            Added::LastRow => {
+                self.keep_row(&course.seen)?;
+                self.close(course.time)
+            }
+        }
+    }
+
+    // Keeps a satellite of the epoch that was begun.
+    fn keep_row(&mut self, seen: &KeptSeen) -> Result<(), AllocError>
+        requires kept { IsKept self.old }
+        ensures kept { OnOk result (IsKept self.new) }
+        ensures added { OnOk result (history_of self.new ≡ with_seen (history_of self.old) seen.now) }
+    {
+        let entries = seen.entries.as_slice();
+        self.entries.extend_from_slice(entries)?;
+        let row = KeptRow {
+            system: seen.system,
+            satellite: seen.satellite,
+            entries: entries.len(),
+        };
+        self.rows.push(row)?;
+        self.begun += 1;
+        Ok(())
+    }
+
+    // Keeps the epoch that was begun, at this time.
+    fn close(&mut self, time: GpsTime) -> Result<(), AllocError>
+        requires kept { IsKept self.old }
+        ensures kept { OnOk result (IsKept self.new) }
+        ensures added { OnOk result (history_of self.new ≡ with_epoch (history_of self.old) time) }
+    {
+        let rows = self.begun;
+        self.epochs.push(KeptEpoch { time, rows })?;
+        self.begun = 0;
+        Ok(())
+    }
+
+    /// The file of what was read.
+    pub(crate) fn finish(self, course: Course) -> ObsFile
+        requires kept { IsKept self }
+        requires none { (history_of self).rows ≡ [] }
+        requires value { IsFileValue (file_at course (history_of self)) }
+        ensures { result ≡ file_at course (history_of self) }
+    {
+        let Keeper {
+            epochs,
+            rows,
+            entries,
+            ..
+        } = self;
+        let Some(parts) = course.head.into_parts() else {
+            unreachable!()
+        };
+        file_of(parts, epochs, rows, entries)
+    }
+}
+
+// A file of what was kept.
+fn file_of(
+    parts: HeadParts,
+    epochs: Vec<KeptEpoch>,
+    rows: Vec<KeptRow>,
+    entries: Vec<KeptEntry>,
+) -> ObsFile
+    requires value { IsFileValue (record { texts = parts.texts; plan = parts.plan; values = parts.values; epochs = epochs_of epochs.items rows.items entries.items }) }
+    requires kept { AreKept epochs.items rows.items entries.items 0 }
+    ensures { result ≡ record { texts = parts.texts; plan = parts.plan; values = parts.values; epochs = epochs_of epochs.items rows.items entries.items } }
+{
+    let HeadParts {
+        texts,
+        plan,
+        values,
+    } = parts;
+    ObsFile {
+        texts,
+        plan,
+        values,
+        epochs,
+        rows,
+        entries,
+    }
+}
