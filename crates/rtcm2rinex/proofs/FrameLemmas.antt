@@ -1,5 +1,5 @@
 -- The words of a frame's line.
-use Rattle.std.proofs.Common.{◌≡◌, ◌≤◌, ◌<◌, ℕ, Bool, subst, List, ◌∷◌, ◌++◌, ◌∙◌, ap, sym, refl, length, take, decimal, codes}
+use Rattle.std.proofs.Common.{◌≡◌, ◌≤◌, ◌<◌, ℕ, Bool, subst, List, ◌∷◌, ◌++◌, ◌∙◌, ap, refl, length, take, decimal, codes}
 use Rattle.std.proofs.lemmas.Bool.{le-leb, lt-leb}
 use Rattle.rtcm_bits.specs.Bits.{bits_of, number}
 use Rattle.rtcm2rinex.specs.FrameLines.{number_word}

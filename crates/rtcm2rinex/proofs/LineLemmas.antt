@@ -1,5 +1,5 @@
 -- Lines that are made word by word.
-use Rattle.std.proofs.Common.{◌≡◌, ℕ, List, [], ◌∷◌, ◌++◌, ◌∙◌, ap, sym, refl, append_assoc}
+use Rattle.std.proofs.Common.{◌≡◌, ℕ, List, [], ◌∷◌, ◌++◌, ◌∙◌, ap, refl, append_assoc}
 use Rattle.std.specs.List.{join_with_byte}
 use Rattle.rtcm2rinex.specs.Lines.{line, with_words}
 

@@ -1,5 +1,5 @@
 -- What listing does, step by step.
-use Rattle.std.proofs.Common.{◌≡◌, ℕ, ◌+◌, ◌-◌, ◌<◌, ◌≤◌, Bool, true, false, Option, List, [], ◌∷◌, ◌++◌, ◌∙◌, ap, sym, refl, rules, arith, length, take, drop, flat_map, append_assoc, append-nil, subst, take-append-drop, length-drop, take_all, length-append, zero-add, suc, slice_range, None, Some, Result, Ok, Err, OnOk, OnErr, inl, inr, ◌⊎◌}
+use Rattle.std.proofs.Common.{◌≡◌, ℕ, ◌+◌, ◌-◌, ◌<◌, ◌≤◌, Bool, true, false, Option, List, [], ◌∷◌, ◌++◌, ◌∙◌, ap, sym, refl, arith, length, take, drop, append_assoc, append-nil, subst, take-append-drop, length-drop, take_all, length-append, zero-add, suc, slice_range, None, Some, Result, Ok, Err, OnOk, OnErr, inl, inr, ◌⊎◌}
 use Rattle.std.proofs.Math.Seq.{take-add}
 use Rattle.std.specs.Io.KnownBytes.{Appends, Keeps, Consumes, IsAtEnd}
 use Rattle.std.proofs.KnownBytes.{Appends-trans, Appends-kept, Consumes-trans}

@@ -1,12 +1,12 @@
 -- Messages, their encodings in frames, and what is read back.
-use Rattle.std.proofs.Common.{◌≡◌, ◌∙◌, sym, ap, subst, refl, arith, rules, ℕ, suc, zero, ◌+◌, ◌*◌, ◌-◌, ◌%◌, ◌/◌, ◌<◌, ◌≤◌, Bool, true, false, List, [], ◌∷◌, ◌++◌, length, take, drop, map, replicate, All, get_or, flat_map, length-append, length-take, length-drop, take-append-drop, Result, Ok}
+use Rattle.std.proofs.Common.{◌≡◌, ◌∙◌, sym, ap, subst, refl, arith, ℕ, suc, zero, ◌+◌, ◌*◌, ◌/◌, ◌<◌, ◌≤◌, Bool, false, List, [], ◌∷◌, ◌++◌, length, take, drop, map, replicate, All, get_or, flat_map, length-append, length-take, length-drop, take-append-drop}
 use Rattle.rtcm_bits.specs.Bits.{bits_of, filled, missing, uint, number}
 use Rattle.rtcm_bits.specs.FrameOf.{frame_bytes}
 use Rattle.rtcm_scan.specs.Frames.{Framed, AreFrames, frames_of}
 use Rattle.rtcm_scan.specs.Local.{placed}
 use Rattle.rtcm_msg.specs.declared.message.Message.{Message}
 use Rattle.rtcm_msg.specs.Spelling.{IsMessage, Reads, is_other, message_bits}
-use Rattle.rtcm2rinex.specs.ReadBack.{IsKnown, Encodes, AreEncoded, IsReadAs, AreReadAs, ReadsBack, AreKnown}
+use Rattle.rtcm2rinex.specs.ReadBack.{Encodes, AreEncoded, AreReadAs, ReadsBack, AreKnown}
 
 -- laws of the layers below
 abbrev pub EightBits : Type 0

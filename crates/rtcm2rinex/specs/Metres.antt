@@ -1,5 +1,5 @@
 -- Lengths in units of 0.0001 m, written in metres.
-use Rattle.std.specs.Prelude.{ℕ, ℤ, pos, negsuc, suc, ◌+◌, ◌/◌, ◌%◌, List, [], ◌∷◌, ◌++◌, codes, decimal}
+use Rattle.std.specs.Prelude.{ℕ, ℤ, pos, negsuc, ◌+◌, ◌/◌, ◌%◌, List, [], ◌∷◌, ◌++◌, codes, decimal}
 
 -- the last digit of a number
 abbrev pub digit : ℕ → ℕ

@@ -1,5 +1,5 @@
 -- Messages, their encodings in frames, and what is read back.
-use Rattle.std.specs.Prelude.{◌≡◌, ℕ, Bool, false, List, [], ◌∷◌, map, ⊤}
+use Rattle.std.specs.Prelude.{◌≡◌, ℕ, false, List, [], ◌∷◌, map, ⊤}
 use Rattle.std.specs.List.{flat_map}
 use Rattle.rtcm_bits.specs.Bits.{bits_of, filled}
 use Rattle.rtcm_bits.specs.FrameOf.{frame_bytes}

@@ -1,11 +1,10 @@
-use Rattle.std.proofs.Common.{◌≡◌, ◌∙◌, ap, subst, ℕ, List, Option, Some, None, IfSome, Ok, Err}
-use Rattle.std.specs.Prelude.{⊤}
+use Rattle.std.proofs.Common.{◌≡◌, subst, ℕ, List, Option, Some, None, IfSome, Err}
 use Rattle.std.specs.Io.KnownBytes.{Appends}
 use Rattle.rtcm_bits.specs.Device.{AppendsPrefix}
 use Rattle.rinex_file.specs.Value.{FileValue}
 use Rattle.rinex_file.specs.File.{file_text}
 use Rattle.rinex_file.specs.Exact.{IsNoFault}
-use Rattle.rinex_file.specs.Counting.{AreCounts, IsTextWith, IsCountedOr}
+use Rattle.rinex_file.specs.Counting.{AreCounts}
 use Rattle.rinex_file.specs.declared.file.Counts.{Counts}
 use Rattle.rinex_file.specs.declared.read_fault.ReadFault.{ReadFault}
 use Rattle.rinex_file.specs.declared.read_fault.ReadFault.TheVariants.{Memory, Read, BadHeader, BadEpoch, BadSatellite, CutShort, TooLong}

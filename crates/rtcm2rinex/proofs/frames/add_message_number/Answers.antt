@@ -1,4 +1,4 @@
-use Rattle.std.proofs.Common.{◌≡◌, ap, List, Bool, length}
+use Rattle.std.proofs.Common.{◌≡◌, ap}
 use Rattle.rtcm_bits.specs.Bits.{bits_of}
 use Rattle.rtcm_bits.specs.Reading.{Cursor}
 use Rattle.rtcm2rinex.proofs.FrameLemmas.{number_there, number_missing}

@@ -1,4 +1,4 @@
-use Rattle.std.proofs.Common.{◌≡◌, [], ◌∷◌, ap, refl, length, decimal, codes}
+use Rattle.std.proofs.Common.{[], ◌∷◌, ap, length, decimal}
 use Rattle.rtcm2rinex.specs.FrameLines.{frame_line, number_word}
 use Rattle.rtcm2rinex.proofs.LineLemmas.{add_word, end_line}
 use Rattle.rtcm2rinex.proofs.frames.frame_line.Goals as goal

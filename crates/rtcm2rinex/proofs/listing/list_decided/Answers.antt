@@ -1,6 +1,6 @@
-use Rattle.std.proofs.Common.{◌≡◌, ◌++◌, ◌∷◌, [], ◌∙◌}
+use Rattle.std.proofs.Common.{◌++◌, ◌∷◌, [], ◌∙◌}
 use Rattle.rtcm_scan.specs.Answers.{frame_at}
-use Rattle.rtcm2rinex.proofs.ListedLemmas.{list_frame, list_drained, list_part}
+use Rattle.rtcm2rinex.proofs.ListedLemmas.{list_frame, list_part}
 use Rattle.rtcm2rinex.proofs.listing.list_decided.Goals as goal
 
 pub loop-offset-preserved : goal.loop-offset-preserved

@@ -1,4 +1,4 @@
-use Rattle.std.proofs.Common.{◌≡◌, ◌+◌, ◌-◌, ◌≤◌, ◌<◌, ℕ, false, length}
+use Rattle.std.proofs.Common.{◌≡◌, ◌+◌, ◌-◌, ◌≤◌, ◌<◌, false, length}
 use Rattle.rtcm2rinex.specs.Listed.{IsListed}
 use Rattle.rtcm2rinex.specs.Kinds.{lines_of}
 use Rattle.rtcm2rinex.proofs.listing.list_frames.Given as goal

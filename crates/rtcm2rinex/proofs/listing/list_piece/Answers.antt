@@ -1,5 +1,4 @@
-use Rattle.std.proofs.Common.{◌≡◌, ◌++◌, ◌-◌, ◌∙◌, sym, ap, ℕ, List, take}
-use Rattle.rtcm_scan.specs.Frames.{Framed}
+use Rattle.std.proofs.Common.{◌++◌, ◌-◌, ℕ, List, take}
 use Rattle.rtcm_scan.specs.Known.{known_frames}
 use Rattle.rtcm2rinex.specs.Listed.{up_to_limit}
 use Rattle.rtcm2rinex.proofs.ListedLemmas.{list_sent, list_front, piece_part}

@@ -1,4 +1,4 @@
-use Rattle.std.proofs.Common.{◌≡◌, ◌∙◌, [], ◌∷◌, ap, refl, ℕ, List, decimal}
+use Rattle.std.proofs.Common.{◌∙◌, ◌∷◌, ap, refl, ℕ, List, decimal}
 use Rattle.rtcm2rinex.specs.Lines.{with_words}
 use Rattle.rtcm2rinex.specs.FrameLines.{number_word}
 use Rattle.rtcm2rinex.specs.ShowLines.{fault_line, fault_words}

@@ -1,4 +1,4 @@
-use Rattle.std.proofs.Common.{◌≡◌, ◌∙◌, ap, sym, Ok, Err, Result}
+use Rattle.std.proofs.Common.{◌∙◌, ap, sym, Err}
 use Rattle.rtcm_scan.specs.Answers.{framed}
 use Rattle.rtcm_msg.specs.declared.message.Message.TheVariants.{Station, Msm4, Msm7, Other}
 use Rattle.rtcm2rinex.specs.ShowLines.{station_line, fault_line}

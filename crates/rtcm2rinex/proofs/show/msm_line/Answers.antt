@@ -1,4 +1,4 @@
-use Rattle.std.proofs.Common.{◌≡◌, ◌∙◌, [], ◌∷◌, ap, refl, ℕ, List, decimal, count_ones}
+use Rattle.std.proofs.Common.{◌∙◌, [], ◌∷◌, ap, decimal, count_ones}
 use Rattle.rtcm_bits.specs.Bits.{bit}
 use Rattle.rtcm_msg.specs.declared.header.MsmHeader.{MsmHeader}
 use Rattle.rtcm_msg.specs.Msm.{Sets}

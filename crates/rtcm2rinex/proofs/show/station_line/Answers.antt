@@ -1,4 +1,4 @@
-use Rattle.std.proofs.Common.{◌≡◌, ◌∙◌, [], ◌∷◌, ap, refl, ℕ, List, decimal, is_some, if◌then◌else◌}
+use Rattle.std.proofs.Common.{◌∙◌, ◌∷◌, ap, ℕ, List, decimal, is_some, if◌then◌else◌}
 use Rattle.rtcm2rinex.specs.Lines.{with_words}
 use Rattle.rtcm2rinex.specs.Metres.{metres}
 use Rattle.rtcm2rinex.specs.ShowLines.{station_line, height_words}
