@@ -5,7 +5,7 @@ use Rattle.std.proofs.lemmas.Nat.{field_of, shl-shr, shr-shr}
 use Rattle.std.proofs.lemmas.List.{take-take, drop-take, drop-drop, length-take-le, get_or-take, get_or-drop}
 use Rattle.std.proofs.Math.Seq.{take-append_seam, drop-append_seam}
 use Rattle.rtcm_bits.specs.Bits.{uint, number, number_from, bits_of}
-use Rattle.rtcm_bits.proofs.BitLemmas.{length-uint, length-bits_of, bits_of-append, number-uint, number-append, uint-number, number-take-fits}
+use Rattle.rtcm_bits.proofs.BitLemmas.{length-bits_of, bits_of-append, number-uint, number-append, uint-number}
 use Rattle.rtcm_bits.proofs.PartLemmas.{part-uint}
 use Rattle.rtcm_bits.proofs.ListLemmas.{eight_of}
 
@@ -62,7 +62,7 @@ bits_of-take xs m h =
 -- eight bytes from one of them on
 pub word_of_range : (xs : List ℕ) (first m n : ℕ) → m ≡ 8 → first + 8 ≤ length xs → ((i : ℕ) → get_or xs i 0 < 256)
     → n ≡ from_be_bytes w64 (get_or (take m (drop first xs)) 0 0 ∷ get_or (take m (drop first xs)) 1 0 ∷ get_or (take m (drop first xs)) 2 0 ∷ get_or (take m (drop first xs)) 3 0
-        ∷ get_or (take m (drop first xs)) 4 0 ∷ get_or (take m (drop first xs)) 5 0 ∷ get_or (take m (drop first xs)) 6 0 ∷ get_or (take m (drop first xs)) 7 0 ∷ [])
+    ∷ get_or (take m (drop first xs)) 4 0 ∷ get_or (take m (drop first xs)) 5 0 ∷ get_or (take m (drop first xs)) 6 0 ∷ get_or (take m (drop first xs)) 7 0 ∷ [])
     → uint 64 n ≡ take 64 (drop (8 * first) (bits_of xs))
 word_of_range xs first m n k h b e =
     let d : length (drop first xs) ≡ length xs - first = length-drop first xs in
