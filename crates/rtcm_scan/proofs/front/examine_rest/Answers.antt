@@ -1,6 +1,6 @@
 use Rattle.std.proofs.Common.{◌∙◌, ap, refl, take, min}
 use Rattle.rtcm_scan.proofs.CandidateLemmas.{taken_rest}
-use Rattle.rtcm_scan.proofs.framer.examine_rest.Goals as goal
+use Rattle.rtcm_scan.proofs.front.examine_rest.Goals as goal
 
 pub returns-then-candidate-end-clause-taken : goal.returns-then-candidate-end-clause-taken
 returns-then-candidate-end-clause-taken c =

@@ -1,7 +1,7 @@
 use Rattle.std.proofs.Common.{arith, ◌∙◌, sym}
 use Rattle.rtcm_scan.proofs.JudgeLemmas.{judge_missing, judge_found, judge_wrong, judge_none}
-use Rattle.rtcm_scan.proofs.framer.judge.Goals as goal
-use Rattle.rtcm_scan.proofs.framer.judge.Goals.{else-candidate-gt1-via-then-candidate-gt1+else-value-eq0, else-candidate-gt1-via-else-candidate-gt1}
+use Rattle.rtcm_scan.proofs.front.judge.Goals as goal
+use Rattle.rtcm_scan.proofs.front.judge.Goals.{else-candidate-gt1-via-then-candidate-gt1+else-value-eq0, else-candidate-gt1-via-else-candidate-gt1}
 
 pub returns-then-candidate : goal.returns-then-candidate
 returns-then-candidate c = λ s l b t a. c.missing.ensures ∙ judge_missing c.args.candidate.now c.args.has_ended s l t a c.if-candidate.true
