@@ -1,7 +1,7 @@
 /* Stands before the C library (LD_PRELOAD) and lets one call fail: the Nth request for memory, the Nth read of standard
-   input or the Nth write of standard output, N from 1 on, as the environment says. It can also cut each read and write to
-   a byte, and tell how many of each call there were. It names what it needs of the C library itself, so that a compiler
-   without the library's headers builds it. */
+   input or the Nth write of standard output, N from 1 on, as the environment says. It can also cut each read and write
+   to a byte, and tell how many of each call there were. It names what it needs of the C library itself, so that a
+   compiler without the library's headers builds it. */
 typedef unsigned long size;
 typedef long answer;
 
