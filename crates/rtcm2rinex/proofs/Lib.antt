@@ -1,3 +1,4 @@
+mod BufferLemmas
 mod FrameLemmas
 mod LineLemmas
 mod ListedLemmas

@@ -8,3 +8,4 @@ pub mod Listed
 pub mod Converting
 pub mod ReadBack
 pub mod Checking
+pub mod Buffering
