@@ -23,3 +23,4 @@ pub mod KindLemmas
 mod OrderLemmas
 mod StandLemmas
 pub mod GroupLemmas
+mod ReachLemmas

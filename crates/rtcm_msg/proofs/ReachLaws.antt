@@ -19,7 +19,9 @@ use Rattle.rtcm_msg.specs.Packed.{unpacked}
 use Rattle.rtcm_msg.specs.Fractions.{scaled, joined, rate_joined, strength_of}
 use Rattle.rtcm_msg.specs.Msm.{MsmValue}
 use Rattle.rtcm_msg.specs.Entries.{entry4, entry7, seats, entries}
-use Rattle.rtcm_msg.specs.Reach.{IsMeasured}
+use Rattle.rtcm_msg.specs.declared.station.StationParts.{StationParts}
+use Rattle.rtcm_msg.specs.Station.{InRange}
+use Rattle.rtcm_msg.specs.Reach.{IsMeasured, IsCoordinate, IsPoint}
 use Rattle.rtcm_msg.specs.Grid4 as grid4
 use Rattle.rtcm_msg.specs.Grid7 as grid7
 
@@ -116,3 +118,12 @@ entries_measured (Station s) = tt
 entries_measured (Msm4 v) = each4 v (zip (seats v.sets) v.cells)
 entries_measured (Msm7 v) = each7 v (zip (seats v.sets) v.cells)
 entries_measured (Other n set) = tt
+
+-- ---- points
+
+coordinate : (z : ℤ) → FitsInt 38 z → IsCoordinate z
+coordinate (pos n) h = (omega (arith, ints, h), omega (arith, ints, h))
+coordinate (negsuc n) h = (omega (arith, ints, h), omega (arith, ints, h))
+
+pub point_told : (p : StationParts) → InRange p → IsPoint p
+point_told p h = record { x = coordinate p.x h.x; y = coordinate p.y h.y; z = coordinate p.z h.z; height = h.height }

@@ -5,7 +5,7 @@ ghost use Rattle.rtcm_bits.specs.Bits.{bits_of, filled};
 ghost use Rattle.rtcm_msg.specs.declared.message.Message.{Message};
 ghost use Rattle.rtcm_msg.specs.Spelling.{message_bits, is_other, Reads, IsMessage};
 ghost use Rattle.rtcm_msg.specs.Reading.{message_at};
-ghost use Rattle.rtcm_msg.specs.Reach.{EntriesAreMeasured};
+ghost use Rattle.rtcm_msg.specs.Reach.{EntriesAreMeasured, PointsAreTold};
 ghost use Rattle.rtcm_msg.specs.Msm.{MsmValue, Sets, IsValue};
 ghost use Rattle.rtcm_msg.specs.Meaning.{Meaning, IsMeaning, meaning, pair_number, cell_pairs};
 
@@ -46,4 +46,5 @@ pub fn measures()
     ensures value { (bytes : List ℕ) (m : Message) → message_at bytes ≡ Ok m → IsMessage m }
     // And what a cell says is within the bounds of its fractions.
     ensures cells { EntriesAreMeasured }
+    ensures points { PointsAreTold }
 {}
