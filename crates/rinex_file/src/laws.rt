@@ -3,6 +3,7 @@ ghost use Rattle.std.specs.Prelude.{◌≡◌, ◌≢◌, ℕ, List, [], ◌∷�
 ghost use Rattle.obs_epoch.specs.declared.cell.StationValues.{StationValues};
 ghost use Rattle.obs_epoch.specs.Values.{EpochValue, PlanValue};
 ghost use Rattle.rinex_file.specs.Texts.{HeaderLists};
+ghost use Rattle.rinex_file.specs.Gathered.{IsGatheredFile};
 ghost use Rattle.rinex_file.specs.File.{header_text, epoch_text, file_text, gathered};
 
 /// What the writers send is the text of a file value: the header of the first epoch, and then each epoch in turn.
@@ -14,4 +15,9 @@ pub fn file()
     ensures none { (texts : HeaderLists) (plan : PlanValue) (values : StationValues) → file_text (gathered texts plan values []) ≡ [] }
     // A header isn't empty.
     ensures some { (texts : HeaderLists) (plan : PlanValue) (values : StationValues) (first : ℕ) → header_text texts plan values first ≢ [] }
+{}
+
+/// What is gathered of messages that were read is a file value, so its text is one that is read back.
+pub fn values()
+    ensures { IsGatheredFile }
 {}
