@@ -24,3 +24,4 @@ pub mod KindLemmas
 mod OrderLemmas
 mod StandLemmas
 pub mod GroupLemmas
+mod ReachLemmas

@@ -37,3 +37,4 @@ mod HeaderLearned
 mod HeaderEnd
 mod HeaderTypes
 mod Groups
+mod GatheredFile
