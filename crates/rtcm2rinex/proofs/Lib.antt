@@ -4,3 +4,4 @@ mod ListedLemmas
 mod ShowLemmas
 mod ReadBackLemmas
 pub mod CheckLemmas
+mod CensusLemmas

@@ -8,3 +8,5 @@ pub mod Listed
 pub mod Converting
 pub mod ReadBack
 pub mod Checking
+pub mod Signals
+pub mod Census

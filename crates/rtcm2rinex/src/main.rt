@@ -2,6 +2,7 @@
 //! RINEX 3.05 observation file of its observations. It reads such a file back, too, and says whether it is one.
 #![tactic(auto)]
 
+mod census;
 mod check;
 mod cli;
 mod command;
