@@ -5,3 +5,4 @@ mod ShowLemmas
 mod ReadBackLemmas
 pub mod CheckLemmas
 mod CensusLemmas
+mod SurveyLemmas

@@ -1,13 +1,13 @@
 -- The counts of a stream's cells, signal by signal, while the stream is read.
 use Rattle.std.specs.Prelude.{◌≡◌, ℕ, ◌+◌, ◌-◌, ◌*◌, ◌<◌, ◌≤◌, ◌^◌, ◌&&◌, ◌||◌, Bool, min, List, [], ◌++◌, length, get_or, set, take, Option, Some, None, is_some, if◌then◌else◌}
 use Rattle.std.specs.Option.{option_map_or}
-use Rattle.std.specs.Io.KnownBytes.{Consumes}
+use Rattle.std.specs.Io.KnownBytes.{Consumes, IsAtEnd}
 use Rattle.gnss_obs.specs.declared.system.System.{System}
 use Rattle.gnss_obs.specs.declared.system.System.TheVariants.{Gps, Galileo}
 use Rattle.gnss_obs.specs.Satellites.{satellite_at}
 use Rattle.gnss_obs.specs.Signals.{SignalAt, table, signal_of_id}
 use Rattle.rtcm_msg.specs.declared.entry.Entry.{Entry}
-use Rattle.rtcm_scan.specs.Frames.{Framed}
+use Rattle.rtcm_scan.specs.Frames.{Framed, frames_of}
 use Rattle.rtcm_scan.specs.Known.{known_frames}
 use Rattle.rtcm_scan.specs.Scan.{Scan, StandsFor}
 use Rattle.obs_epoch.specs.declared.seen.Seen.{Seen}
@@ -66,3 +66,7 @@ CountsKnown c wanted v b = Counts c wanted v b (known_frames v.has_ended b)
 -- The reader, which had r left, gave the bytes b, and the cells of all that is known of them were counted.
 abbrev pub HasCounted : Census → Option ℕ → (r r' : Option (List ℕ)) → Scan → Type 0
 HasCounted c wanted r r' v = (b : List ℕ) × Consumes r r' b × CountsKnown c wanted v b
+
+-- The stream was read to its end, and the cells of its frames were counted.
+abbrev pub HasSurveyed : Census → Option ℕ → (r r' : Option (List ℕ)) → Type 0
+HasSurveyed c wanted r r' = (b : List ℕ) × Consumes r r' b × IsAtEnd r' × Surveys c wanted (frames_of b)
