@@ -5,3 +5,5 @@ mod ListedLemmas
 mod ShowLemmas
 mod ReadBackLemmas
 pub mod CheckLemmas
+mod CensusLemmas
+mod SurveyLemmas

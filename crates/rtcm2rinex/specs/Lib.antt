@@ -9,3 +9,5 @@ pub mod Converting
 pub mod ReadBack
 pub mod Checking
 pub mod Buffering
+pub mod Signals
+pub mod Census

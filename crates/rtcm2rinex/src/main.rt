@@ -3,6 +3,7 @@
 #![tactic(auto)]
 
 mod buffer;
+mod census;
 mod check;
 mod cli;
 mod command;
@@ -14,6 +15,7 @@ mod line;
 mod listing;
 mod options;
 mod show;
+mod survey;
 #[cfg(test)]
 mod tests;
 
