@@ -58,11 +58,14 @@ rise_filter p (e ∷ es) h = by (p e) (rise_filter p es h.1) where
   by true l = (all_filter (λ f. e.epoch.time < f.epoch.time) p es h.0, l)
   by false l = l
 
+above : (n : ℕ) → nat_lt 0 n ≡ true → 0 < n
+above n h = grind (arith, h)
+
 written_some : (es : List Closed) → AllByRecursion HasSatellite (written es)
 written_some [] = tt
 written_some (e ∷ es) = by (nat_lt 0 (satellites e.epoch)) refl (written_some es) where
   by : (b : Bool) → nat_lt 0 (satellites e.epoch) ≡ b → AllByRecursion HasSatellite (written es) → AllByRecursion HasSatellite (cond b (e ∷ written es) (written es))
-  by true h l = (grind (arith, h), l)
+  by true h l = (above (satellites e.epoch) h, l)
   by false h l = l
 
 all_front : (P : Closed → Type 0) (es rest : List Closed) → AllByRecursion P (es ++ rest) → AllByRecursion P es
