@@ -3,5 +3,6 @@ mod FrameLemmas
 mod LineLemmas
 mod ListedLemmas
 mod ShowLemmas
+mod ToldLemmas
 mod ReadBackLemmas
 pub mod CheckLemmas
