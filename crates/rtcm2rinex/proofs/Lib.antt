@@ -3,6 +3,7 @@ mod FrameLemmas
 mod LineLemmas
 mod ListedLemmas
 mod ShowLemmas
+mod ToldLemmas
 mod ReadBackLemmas
 pub mod CheckLemmas
 mod CensusLemmas

@@ -5,6 +5,7 @@ pub mod ShowLines
 pub mod Kinds
 pub mod Listing
 pub mod Listed
+pub mod Told
 pub mod Converting
 pub mod ReadBack
 pub mod Checking

@@ -1,5 +1,5 @@
 //! Streams that are converted: their files and reports, whole.
-use super::files::{EPOCH, HEADER, REPORT, converted, file_of, is_made, with_line};
+use super::files::{EPOCH, HEADER, REPORT, converted, file_of, makes, with_line};
 use super::run;
 use super::streams::{COARSE, FINE, FRAMED_STATION, HEIGHT, changed, framed};
 use std::test::Fail;
@@ -20,11 +20,10 @@ pub const OPTIONS: [&str; 10] = [
 #[test]
 fn a_stream_becomes_a_file(rt: HostRuntime) -> Result<(), Fail> {
     let stream = framed(rt.alloc(), &[&FINE])?;
-    let want = file_of(rt.alloc(), &HEADER, &EPOCH)?;
-    assert_eq!(rt; want.len(), 1236);
+    assert_eq!(rt; file_of(rt.alloc(), &HEADER, &EPOCH)?.len(), 1236);
     for sizes in [[1].as_slice(), [2].as_slice(), [].as_slice()] {
         let outcome = run(rt.alloc(), OPTIONS.as_slice(), stream.as_slice(), sizes);
-        assert!(rt; is_made(&outcome, &want, REPORT));
+        assert!(rt; makes(rt.alloc(), &outcome, &HEADER, &EPOCH, REPORT)?);
     }
     Ok(())
 }
@@ -52,9 +51,11 @@ fn fine_values_stand_in_their_columns(rt: HostRuntime) -> Result<(), Fail> {
     ];
     for (changes, line) in rows {
         let stream = framed(rt.alloc(), &[&changed(&FINE, changes)])?;
-        let want = file_of(rt.alloc(), &HEADER, &[EPOCH[0], line])?;
         let outcome = run(rt.alloc(), OPTIONS.as_slice(), stream.as_slice(), &[]);
-        assert!(rt; is_made(&outcome, &want, REPORT), "{line}");
+        assert!(rt;
+            makes(rt.alloc(), &outcome, &HEADER, &[EPOCH[0], line], REPORT)?,
+            "{line}"
+        );
     }
     Ok(())
 }
@@ -64,11 +65,10 @@ fn fine_values_stand_in_their_columns(rt: HostRuntime) -> Result<(), Fail> {
 fn coarse_values_become_a_file(rt: HostRuntime) -> Result<(), Fail> {
     let stream = framed(rt.alloc(), &[&COARSE])?;
     let line = "G05  20985472.042 7 110279400.00327                        45.000";
-    let want = file_of(rt.alloc(), &HEADER, &[EPOCH[0], line])?;
     let outcome = run(rt.alloc(), OPTIONS.as_slice(), stream.as_slice(), &[]);
     let report =
         "bytes 36 skipped_bytes 0 frames 1 faulty 0 station 0 other 0 ignored 0 late 0 past 0 taken 1 skipped 0 repeated 0 crowded 0 epochs 1\n";
-    assert!(rt; is_made(&outcome, &want, report));
+    assert!(rt; makes(rt.alloc(), &outcome, &HEADER, &[EPOCH[0], line], report)?);
     Ok(())
 }
 
@@ -80,11 +80,10 @@ fn station_values_stand_in_the_header(rt: HostRuntime) -> Result<(), Fail> {
         "  1114104.5999 -4850729.7108  3975521.4643                  APPROX POSITION XYZ";
     let height = "        1.5000        0.0000        0.0000                  ANTENNA: DELTA H/E/N";
     let header = with_line(with_line(HEADER, 7, position), 8, height);
-    let want = file_of(rt.alloc(), &header, &EPOCH)?;
     let outcome = run(rt.alloc(), OPTIONS.as_slice(), stream.as_slice(), &[]);
     let report =
         "bytes 69 skipped_bytes 0 frames 2 faulty 0 station 1 other 0 ignored 0 late 0 past 0 taken 1 skipped 0 repeated 0 crowded 0 epochs 1\n";
-    assert!(rt; is_made(&outcome, &want, report));
+    assert!(rt; makes(rt.alloc(), &outcome, &header, &EPOCH, report)?);
     Ok(())
 }
 
@@ -105,15 +104,12 @@ fn a_time_past_the_weeks_is_left_out(rt: HostRuntime) -> Result<(), Fail> {
         "none",
     ];
     let time = "  3896     7    18    23    59   59.0000000     GPS         TIME OF FIRST OBS";
-    let want = file_of(
-        rt.alloc(),
-        &with_line(HEADER, 11, time),
-        &["> 3896 07 18 23 59 59.0000000  0  1", EPOCH[1]],
-    )?;
-    let outcome = converted(rt.alloc(), &[&options], &stream)?;
+    let outcome = converted(rt.alloc(), &options, &[], &stream)?;
     let report =
         "bytes 84 skipped_bytes 0 frames 2 faulty 0 station 0 other 0 ignored 0 late 0 past 1 taken 1 skipped 0 repeated 0 crowded 0 epochs 1\n";
-    assert!(rt; is_made(&outcome, &want, report));
+    let header = with_line(HEADER, 11, time);
+    let lines = ["> 3896 07 18 23 59 59.0000000  0  1", EPOCH[1]];
+    assert!(rt; makes(rt.alloc(), &outcome, &header, &lines, report)?);
     Ok(())
 }
 

@@ -68,19 +68,32 @@ pub fn with_line<'a>(header: [&'a str; 14], place: usize, line: &'a str) -> [&'a
     header
 }
 
-/// Converts a stream as these options ask.
-pub fn converted(alloc: Global, options: &[&[&str]], stream: &[u8]) -> Result<Outcome, AllocError> {
+/// Converts a stream as these options ask, and as some more do.
+pub fn converted<'a>(
+    alloc: Global,
+    told: &[&'a str],
+    more: &[&'a str],
+    stream: &[u8],
+) -> Result<Outcome, AllocError> {
     let mut words = Vec::new(alloc);
     words.extend_from_slice(&["rtcm2rinex", "convert"])?;
-    for part in options {
-        words.extend_from_slice(part)?;
-    }
+    words.extend_from_slice(told)?;
+    words.extend_from_slice(more)?;
     Ok(run(alloc, words.as_slice(), stream, &[]))
 }
 
-/// Whether a conversion was good, made this file and told this report, and nothing else.
-pub fn is_made(outcome: &Outcome, file: &[u8], report: &str) -> bool {
-    outcome.status == 0
-        && outcome.output.as_slice() == file
-        && outcome.faults.as_slice() == report.as_bytes()
+/// Whether a conversion was good, made the file of these lines and told this report, and nothing else.
+pub fn makes(
+    alloc: Global,
+    outcome: &Outcome,
+    header: &[&str],
+    lines: &[&str],
+    report: &str,
+) -> Result<bool, AllocError> {
+    let file = file_of(alloc, header, lines)?;
+    Ok(
+        outcome.status == 0
+            && outcome.output.as_slice() == file.as_slice()
+            && outcome.faults.as_slice() == report.as_bytes(),
+    )
 }

@@ -1,5 +1,5 @@
 //! What each option of `convert` changes, by whole files.
-use super::files::{EPOCH, HEADER, REPORT, TOLD, converted, file_of, is_made, with_line};
+use super::files::{EPOCH, HEADER, REPORT, TOLD, converted, file_of, makes, with_line};
 use super::streams::{FINE, changed, framed};
 use std::test::Fail;
 
@@ -23,16 +23,11 @@ const LATER_FIRST: &str =
 #[test]
 fn each_text_stands_in_its_columns(rt: HostRuntime) -> Result<(), Fail> {
     let stream = framed(rt.alloc(), &[&FINE])?;
-    let rows: [(&str, usize, &str); 11] = [
+    let rows: [(&str, usize, &str); 10] = [
         (
             "--run-by",
             1,
             "rtcm2rinex          some text           20240204 000001 UTC PGM / RUN BY / DATE",
-        ),
-        (
-            "--date",
-            1,
-            "rtcm2rinex                              some text           PGM / RUN BY / DATE",
         ),
         (
             "--marker",
@@ -80,17 +75,19 @@ fn each_text_stands_in_its_columns(rt: HostRuntime) -> Result<(), Fail> {
             "                    some text                               ANT # / TYPE",
         ),
     ];
-    let rest = ["--week", "2300", "--gps", "1C", "--galileo", "none"];
     for (option, place, line) in rows {
-        let date: &[&str] = if option == "--date" {
-            &[]
-        } else {
-            &["--date", "20240204 000001 UTC"]
-        };
-        let outcome = converted(rt.alloc(), &[&rest, date, &[option, "some text"]], &stream)?;
-        let want = file_of(rt.alloc(), &with_line(HEADER, place, line), &EPOCH)?;
-        assert!(rt; is_made(&outcome, &want, REPORT), "{option}");
+        let outcome = converted(rt.alloc(), &TOLD, &[option, "some text"], &stream)?;
+        let header = with_line(HEADER, place, line);
+        assert!(rt;
+            makes(rt.alloc(), &outcome, &header, &EPOCH, REPORT)?,
+            "{option}"
+        );
     }
+    let told = ["--week", "2300", "--gps", "1C", "--galileo", "none"];
+    let outcome = converted(rt.alloc(), &told, &["--date", "some text"], &stream)?;
+    let line = "rtcm2rinex                              some text           PGM / RUN BY / DATE";
+    let header = with_line(HEADER, 1, line);
+    assert!(rt; makes(rt.alloc(), &outcome, &header, &EPOCH, REPORT)?);
     Ok(())
 }
 
@@ -129,9 +126,8 @@ fn eleven_texts_stand_in_one_header(rt: HostRuntime) -> Result<(), Fail> {
         HEADER[12],
         HEADER[13],
     ];
-    let outcome = converted(rt.alloc(), &[&options], &stream)?;
-    let want = file_of(rt.alloc(), &header, &EPOCH)?;
-    assert!(rt; is_made(&outcome, &want, REPORT));
+    let outcome = converted(rt.alloc(), &options, &[], &stream)?;
+    assert!(rt; makes(rt.alloc(), &outcome, &header, &EPOCH, REPORT)?);
     Ok(())
 }
 
@@ -153,11 +149,10 @@ fn a_station_is_chosen(rt: HostRuntime) -> Result<(), Fail> {
         (&["--station", "7"], &later, &LATER_EPOCH, one),
     ];
     for (options, header, lines, report) in rows {
-        let outcome = converted(rt.alloc(), &[&TOLD, options], &stream)?;
-        let want = file_of(rt.alloc(), header, lines)?;
-        assert!(rt; is_made(&outcome, &want, report));
+        let outcome = converted(rt.alloc(), &TOLD, options, &stream)?;
+        assert!(rt; makes(rt.alloc(), &outcome, header, lines, report)?);
     }
-    let outcome = converted(rt.alloc(), &[&TOLD, &["--station", "8"]], &stream)?;
+    let outcome = converted(rt.alloc(), &TOLD, &["--station", "8"], &stream)?;
     assert_eq!(rt; outcome.status, 1);
     assert!(rt; outcome.output.is_empty());
     assert_eq!(rt;
@@ -187,9 +182,8 @@ fn a_rule_of_gathering_is_chosen(rt: HostRuntime) -> Result<(), Fail> {
         (&["--gather", "time"], &together, by_time),
     ];
     for (options, lines, report) in rows {
-        let outcome = converted(rt.alloc(), &[&TOLD, options], &stream)?;
-        let want = file_of(rt.alloc(), &HEADER, lines)?;
-        assert!(rt; is_made(&outcome, &want, report));
+        let outcome = converted(rt.alloc(), &TOLD, options, &stream)?;
+        assert!(rt; makes(rt.alloc(), &outcome, &HEADER, lines, report)?);
     }
     Ok(())
 }
@@ -202,8 +196,8 @@ fn a_limit_is_kept(rt: HostRuntime) -> Result<(), Fail> {
     let both = [EPOCH[0], EPOCH[1], LATER_EPOCH[0], LATER_LINE];
     let two =
         "bytes 84 skipped_bytes 0 frames 2 faulty 0 station 0 other 0 ignored 0 late 0 past 0 taken 2 skipped 0 repeated 0 crowded 0 epochs 2\n";
-    let outcome = converted(rt.alloc(), &[&TOLD, &["--limit", "84"]], &stream)?;
-    assert!(rt; is_made(&outcome, &file_of(rt.alloc(), &HEADER, &both)?, two));
+    let outcome = converted(rt.alloc(), &TOLD, &["--limit", "84"], &stream)?;
+    assert!(rt; makes(rt.alloc(), &outcome, &HEADER, &both, two)?);
     let first = file_of(rt.alloc(), &HEADER, &EPOCH)?;
     let rows: [(&[u8], &str, &[u8]); 5] = [
         (&stream, "83", &first),
@@ -213,7 +207,7 @@ fn a_limit_is_kept(rt: HostRuntime) -> Result<(), Fail> {
         (&[0; 11], "10", &[]),
     ];
     for (stream, limit, output) in rows {
-        let outcome = converted(rt.alloc(), &[&TOLD, &["--limit", limit]], stream)?;
+        let outcome = converted(rt.alloc(), &TOLD, &["--limit", limit], stream)?;
         assert_eq!(rt; outcome.status, 1);
         assert_eq!(rt; outcome.output.as_slice(), output, "{limit}");
         assert_eq!(rt;
@@ -238,12 +232,9 @@ fn a_week_is_chosen(rt: HostRuntime) -> Result<(), Fail> {
         "none",
     ];
     let first = "  2024     2    11     0     0    1.0000000     GPS         TIME OF FIRST OBS";
-    let outcome = converted(rt.alloc(), &[&options], &stream)?;
-    let want = file_of(
-        rt.alloc(),
-        &with_line(HEADER, 11, first),
-        &["> 2024 02 11 00 00  1.0000000  0  1", EPOCH[1]],
-    )?;
-    assert!(rt; is_made(&outcome, &want, REPORT));
+    let outcome = converted(rt.alloc(), &options, &[], &stream)?;
+    let header = with_line(HEADER, 11, first);
+    let lines = ["> 2024 02 11 00 00  1.0000000  0  1", EPOCH[1]];
+    assert!(rt; makes(rt.alloc(), &outcome, &header, &lines, REPORT)?);
     Ok(())
 }

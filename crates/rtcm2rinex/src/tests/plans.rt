@@ -1,5 +1,5 @@
 //! The options of `convert` that choose signals, by whole files.
-use super::files::{EPOCH, HEADER, converted, file_of, is_made};
+use super::files::{EPOCH, HEADER, converted, makes};
 use super::streams::{FINE, changed, framed};
 use std::alloc::{AllocError, Global};
 use std::test::Fail;
@@ -90,38 +90,20 @@ fn plans_are_chosen(rt: HostRuntime) -> Result<(), Fail> {
     let four = header_of(rt.alloc(), BOTH, &FOUR_TYPES, &shifts)?;
     let only_gps = header_of(rt.alloc(), GPS, &GPS_TYPES, &[GPS_SHIFT])?;
     let only_galileo = header_of(rt.alloc(), GALILEO, &GALILEO_TYPES, &[GALILEO_SHIFT])?;
-    let rows: [(&[&str], &[&str], &[&str], &str); 5] = [
-        (&[], &every, &[two, gps, e05], all),
-        (
-            &["--gps", "all", "--galileo", "all"],
-            &every,
-            &[two, gps, e05],
-            all,
-        ),
-        (
-            &["--gps", "none", "--galileo", "1C"],
-            &only_galileo,
-            &[first, e05],
-            half,
-        ),
-        (
-            &["--galileo", "none", "--gps", "1C"],
-            &only_gps,
-            &[first, gps],
-            half,
-        ),
-        (
-            &["--gps", "2W,1C", "--galileo", "5Q,1C"],
-            &four,
-            &[two, gps_last, e05_last],
-            all,
-        ),
-    ];
-    for (options, header, lines, report) in rows {
-        let told = ["--week", "2300", "--date", "20240204 000001 UTC"];
-        let outcome = converted(rt.alloc(), &[&told, options], &stream)?;
-        let want = file_of(rt.alloc(), header, lines)?;
-        assert!(rt; is_made(&outcome, &want, report));
-    }
+    let told = ["--week", "2300", "--date", "20240204 000001 UTC"];
+    let outcome = converted(rt.alloc(), &told, &[], &stream)?;
+    assert!(rt; makes(rt.alloc(), &outcome, &every, &[two, gps, e05], all)?);
+    let options = ["--gps", "all", "--galileo", "all"];
+    let outcome = converted(rt.alloc(), &told, &options, &stream)?;
+    assert!(rt; makes(rt.alloc(), &outcome, &every, &[two, gps, e05], all)?);
+    let options = ["--gps", "none", "--galileo", "1C"];
+    let outcome = converted(rt.alloc(), &told, &options, &stream)?;
+    assert!(rt; makes(rt.alloc(), &outcome, &only_galileo, &[first, e05], half)?);
+    let options = ["--galileo", "none", "--gps", "1C"];
+    let outcome = converted(rt.alloc(), &told, &options, &stream)?;
+    assert!(rt; makes(rt.alloc(), &outcome, &only_gps, &[first, gps], half)?);
+    let options = ["--gps", "2W,1C", "--galileo", "5Q,1C"];
+    let outcome = converted(rt.alloc(), &told, &options, &stream)?;
+    assert!(rt; makes(rt.alloc(), &outcome, &four, &[two, gps_last, e05_last], all)?);
     Ok(())
 }
