@@ -6,3 +6,5 @@ mod ReadBackLemmas
 pub mod CheckLemmas
 mod CensusLemmas
 mod SurveyLemmas
+mod SignalLemmas
+mod ValuedLemmas

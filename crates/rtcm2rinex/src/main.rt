@@ -14,6 +14,7 @@ mod line;
 mod listing;
 mod options;
 mod show;
+mod signals;
 mod survey;
 #[cfg(test)]
 mod tests;
