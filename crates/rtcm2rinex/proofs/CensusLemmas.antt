@@ -127,10 +127,10 @@ census_more c cells x h few listed = record {
 
 -- ---- the cell of an entry
 
-some_same : {X : Type 0} (x y : X) → Some x ≡ Some y → x ≡ y
+pub some_same : {X : Type 0} (x y : X) → Some x ≡ Some y → x ≡ y
 some_same x y e = ap (λ o. option_map_or (λ z. z) o x) e
 
-listed_of : (system : System) (id : ℕ) (g : SignalAt) → signal_of_id system id ≡ Some g → (g.system ≡ system) × IsSignal g
+pub listed_of : (system : System) (id : ℕ) (g : SignalAt) → signal_of_id system id ≡ Some g → (g.system ≡ system) × IsSignal g
 listed_of system id g h = by (nat_lt (place system id) (length (table system))) refl h where
   place : System → ℕ → ℕ
   place system id = position_or_len (λ (e : tables.Entry). e.0 == id) (table system)

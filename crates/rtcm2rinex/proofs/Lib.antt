@@ -8,3 +8,5 @@ mod ReadBackLemmas
 pub mod CheckLemmas
 mod CensusLemmas
 mod SurveyLemmas
+mod SignalLemmas
+mod ValuedLemmas

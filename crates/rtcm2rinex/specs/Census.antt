@@ -1,6 +1,7 @@
 -- The counts of a stream's cells, signal by signal, while the stream is read.
-use Rattle.std.specs.Prelude.{◌≡◌, ℕ, ◌+◌, ◌-◌, ◌*◌, ◌<◌, ◌≤◌, ◌^◌, ◌&&◌, ◌||◌, Bool, min, List, [], ◌++◌, length, get_or, set, take, Option, Some, None, is_some, if◌then◌else◌}
+use Rattle.std.specs.Prelude.{◌≡◌, ℕ, ◌+◌, ◌-◌, ◌*◌, ◌<◌, ◌≤◌, ◌^◌, ◌&&◌, ◌||◌, Bool, min, nat_lt, List, [], ◌++◌, length, get_or, set, take, Option, Some, None, is_some, if◌then◌else◌}
 use Rattle.std.specs.Option.{option_map_or}
+use Rattle.std.specs.List.{list_any}
 use Rattle.std.specs.Io.KnownBytes.{Consumes, IsAtEnd}
 use Rattle.gnss_obs.specs.declared.system.System.{System}
 use Rattle.gnss_obs.specs.declared.system.System.TheVariants.{Gps, Galileo}
@@ -22,6 +23,10 @@ counts_in Galileo c = c.galileo
 
 abbrev pub counted : Census → System → ℕ → ℕ
 counted c system i = get_or (counts_in system c) i 0
+
+-- there is a cell of some signal
+abbrev pub has_any : Census → Bool
+has_any c = list_any (λ n. nat_lt 0 n) c.gps || list_any (λ n. nat_lt 0 n) c.galileo
 
 -- a count goes up to the greatest number that is counted, which no stream comes near
 abbrev pub one_up : List ℕ → ℕ → List ℕ

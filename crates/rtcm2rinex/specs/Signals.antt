@@ -1,5 +1,5 @@
 -- Which signals a stream has, and how they are told.
-use Rattle.std.specs.Prelude.{◌≡◌, ℕ, ◌<◌, ◌==◌, ◌&&◌, ◌||◌, Bool, true, false, nat_lt, List, [], ◌∷◌, ◌++◌, map, filter, flat_map, length, codes, decimal, Option, is_some, if◌then◌else◌}
+use Rattle.std.specs.Prelude.{◌≡◌, ◌⊎◌, ℕ, ◌<◌, ◌==◌, ◌&&◌, ◌||◌, Bool, true, false, nat_lt, List, [], ◌∷◌, ◌++◌, map, filter, flat_map, length, codes, decimal, Option, is_some, if◌then◌else◌}
 use Rattle.std.specs.Option.{option_map_or}
 use Rattle.std.specs.List.{join_with_byte}
 use Rattle.std.specs.Io.KnownBytes.{Appends, Consumes, IsAtEnd}
@@ -16,7 +16,10 @@ use Rattle.obs_epoch.specs.Values.{PlanValue}
 use Rattle.rtcm_convert.specs.Converted.{heard_in}
 use Rattle.rtcm2rinex.specs.declared.census.Form.{Form}
 use Rattle.rtcm2rinex.specs.declared.census.Form.TheVariants.{Options, Counts}
+use Rattle.rtcm2rinex.specs.declared.fault.ToolFault.{ToolFault}
+use Rattle.rtcm2rinex.specs.declared.fault.ToolFault.TheVariants.{NoSignal}
 use Rattle.rtcm2rinex.specs.Lines.{line}
+use Rattle.rtcm2rinex.specs.Listing.{IsListFault}
 
 -- ---- the cells that count
 
@@ -83,11 +86,11 @@ letter Gps = codes "G"
 letter Galileo = codes "E"
 
 -- the letter of the system, the code, and how many cells there are
-unfoldable pub count_line : List Seen → SignalAt → List ℕ
-count_line cells g = line (letter g.system ∷ code_of g ∷ decimal (count_of g cells) ∷ [])
+unfoldable pub count_line : SignalAt → ℕ → List ℕ
+count_line g count = line (letter g.system ∷ code_of g ∷ decimal count ∷ [])
 
 abbrev pub lines_below : List Seen → System → ℕ → List ℕ
-lines_below cells system n = flat_map (λ i. count_line cells (signal_in system i)) (had_below cells system n)
+lines_below cells system n = flat_map (λ i. count_line (signal_in system i) (count_of (signal_in system i) cells)) (had_below cells system n)
 
 -- a line for each signal of a system of which there are some
 abbrev pub count_lines : List Seen → System → List ℕ
@@ -119,3 +122,7 @@ HasNoSignal wanted r r' = (b : List ℕ) × Consumes r r' b × IsAtEnd r' × (va
 -- more bytes were read than the limit allows
 abbrev pub ReadsTooMuch : ℕ → (r r' : Option (List ℕ)) → Type 0
 ReadsTooMuch limit r r' = (b : List ℕ) × Consumes r r' b × (limit < length b)
+
+-- the faults of the command
+abbrev pub IsSignalsFault : ToolFault → Type 0
+IsSignalsFault fault = IsListFault fault ⊎ (fault ≡ NoSignal)

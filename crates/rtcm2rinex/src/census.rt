@@ -1,11 +1,12 @@
 //! How many cells with a value a stream has of each signal.
-ghost use Rattle.std.specs.Prelude.{◌≡◌, ◌==◌, ◌+◌, ◌<◌, ◌≤◌, ◌^◌, ◌++◌, [], true, Bool, List, length, filter, filter_map};
+ghost use Rattle.std.specs.Prelude.{◌≡◌, ◌==◌, ◌+◌, ◌<◌, ◌≤◌, ◌^◌, ◌++◌, [], true, Bool, List, length, nat_lt, filter, filter_map};
+ghost use Rattle.std.specs.List.{list_any};
 ghost use Rattle.std.specs.Option.{option_map_or};
 ghost use Rattle.gnss_obs.specs.Signals.{table};
 ghost use Rattle.obs_epoch.specs.declared.seen.Seen.{Seen};
 ghost use Rattle.obs_epoch.specs.Heard.{heard, seen_in, system_of};
 ghost use Rattle.rtcm2rinex.specs.Signals.{has_value, valued};
-ghost use Rattle.rtcm2rinex.specs.Census.{counted, more_of, entry_value, entry_signal, IsCensus};
+ghost use Rattle.rtcm2rinex.specs.Census.{counted, has_any, more_of, entry_value, entry_signal, IsCensus};
 
 use gnss_obs::{Sat, Signal, System};
 use rtcm_msg::{Entry, Message, entries};
@@ -46,6 +47,16 @@ impl Census {
             System::Gps => self.gps[index],
             System::Galileo => self.galileo[index],
         }
+    }
+
+    /// Whether there is a cell of any signal.
+    pub fn has_any(&self) -> bool
+        ensures { result ≡ has_any self.now }
+    {
+        if is_any_positive(self.gps.as_slice()) {
+            return true;
+        }
+        is_any_positive(self.galileo.as_slice())
     }
 
     /// Counts the cells of a message of the station that is wanted; where none is told, of every station.
@@ -90,6 +101,12 @@ impl Census {
             System::Galileo => self.galileo[place] = self.galileo[place].saturating_add(1),
         }
     }
+}
+
+fn is_any_positive(counts: &[u64]) -> bool
+    ensures { result ≡ list_any (λ n. nat_lt 0 n) counts.now }
+{
+    counts.iter().any(|n| *n > 0)
 }
 
 /// Whether a station is the one that is wanted; where none is told, each is.

@@ -15,6 +15,7 @@ mod line;
 mod listing;
 mod options;
 mod show;
+mod signals;
 mod survey;
 #[cfg(test)]
 mod tests;
