@@ -5,6 +5,7 @@ mod convert;
 mod faults;
 mod files;
 mod frames;
+mod hostile;
 mod options;
 mod plans;
 mod refused;
