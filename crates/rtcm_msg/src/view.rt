@@ -1,10 +1,11 @@
-ghost use Rattle.std.specs.Prelude.{◌≡◌, ◌*◌, ◌<◌, ◌≤◌, ◌^◌, All, length, count_ones};
+ghost use Rattle.std.specs.Prelude.{◌≡◌, ◌*◌, ◌<◌, ◌≤◌, ◌^◌, All, IfOk, length, count_ones};
 ghost use Rattle.rtcm_bits.specs.Bits.{bits_of};
 ghost use Rattle.rtcm_msg.specs.Fields.{Gives, standing};
 ghost use Rattle.rtcm_msg.specs.Msm.{IsHeader};
 ghost use Rattle.rtcm_msg.specs.Packed.{total};
 ghost use Rattle.rtcm_msg.specs.Reading.{message_at, body_at};
 ghost use Rattle.rtcm_msg.specs.Seen.{seen};
+ghost use Rattle.rtcm_msg.specs.Spelling.{IsMessage};
 ghost use Rattle.rtcm_msg.specs.Views as views;
 
 use crate::fault::MsgFault;
@@ -242,6 +243,7 @@ fn view_message(bytes: &[u8]) -> Result<View<'_>, MsgFault>
 /// Those of `decode`.
 pub fn look(bytes: &[u8]) -> Result<View<'_>, MsgFault>
     ensures exact { Gives seen result (message_at bytes.now) }
+    ensures message { IfOk result (λ v. IsMessage (seen v)) }
 {
     view_message(front(bytes))
 }
