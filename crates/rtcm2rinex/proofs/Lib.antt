@@ -8,3 +8,4 @@ mod CensusLemmas
 mod SurveyLemmas
 mod SignalLemmas
 mod ValuedLemmas
+mod PlannedLemmas

@@ -10,3 +10,5 @@ pub mod ReadBack
 pub mod Checking
 pub mod Signals
 pub mod Census
+pub mod Telling
+pub mod SignalLaws

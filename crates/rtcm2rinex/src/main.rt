@@ -16,6 +16,7 @@ mod options;
 mod show;
 mod signals;
 mod survey;
+mod version;
 #[cfg(test)]
 mod tests;
 

@@ -4,6 +4,7 @@ mod convert;
 mod faults;
 mod frames;
 mod show;
+mod signals;
 mod streams;
 mod words;
 
