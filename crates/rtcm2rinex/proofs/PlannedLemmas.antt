@@ -63,8 +63,10 @@ holds_below p zero i h within = absurd (omega (arith, within))
 holds_below p (suc n) i h within = by (n == i) refl (p n) refl h (λ rest lt. holds_below p n i rest lt) where
   same : (a b : ℕ) → (a == b) ≡ true → a ≡ b
   same a b e = grind (arith, e)
+
   less : (a b : ℕ) → (a == b) ≡ false → b < suc a → b < a
   less a b e lt = let other : a ≡ b → ⊥ = λ is. absurd (grind (arith, e, is)) in omega (arith, lt, other)
+
   by : (b : Bool) → (n == i) ≡ b → (c : Bool) → p n ≡ c → (c && each_below p n) ≡ true → (each_below p n ≡ true → i < n → p i ≡ true) → p i ≡ true
   by true e true is h more = ap p (sym (same n i e)) ∙ is
   by false e true is h more = more h (less n i e within)
@@ -136,6 +138,7 @@ codes_read law system earlier low (i ∷ is) h new =
   where
     unlike : (a b : ℕ) → b + 1 ≤ a → nat_eq a b ≡ false
     unlike a b e = grind (arith, e)
+
     newer : (j : ℕ) → i + 1 ≤ j → list_any (nat_eq j) (earlier ++ i ∷ []) ≡ false
     newer j le = any-append j earlier (i ∷ []) ∙ ap₂ (λ a b. a || (b || false)) (new j (omega (arith, le, h.0))) (unlike j i le)
 
@@ -186,16 +189,21 @@ among_filter p (suc n) k within is =
   where
     same : (a b : ℕ) → (a == b) ≡ true → a ≡ b
     same a b e = grind (arith, e)
+
     less : (a b : ℕ) → (a == b) ≡ false → b < suc a → b < a
     less a b e lt = let other : a ≡ b → ⊥ = λ is. absurd (grind (arith, e, is)) in omega (arith, lt, other)
+
     or_true : (a : Bool) → (a || true) ≡ true
     or_true true = refl
     or_true false = refl
+
     or_left : (a b : Bool) → a ≡ true → (a || b) ≡ true
     or_left true b h = refl
     or_left false b h = absurd (grind (arith, h))
+
     last : (n == k) ≡ true → list_any (λ i. i == k) (filter p (n ∷ [])) ≡ true
     last e = ap (λ (b : Bool). list_any (λ i. i == k) (cond b (n ∷ []) [])) (ap p (same n k e) ∙ is) ∙ ap (λ (b : Bool). b || false) e
+
     by : (b : Bool) → (n == k) ≡ b → (k < n → list_any (λ i. i == k) (filter p (below n)) ≡ true) → (list_any (λ i. i == k) (filter p (below n)) || list_any (λ i. i == k) (filter p (n ∷ []))) ≡ true
     by true e more = ap (λ (b : Bool). list_any (λ i. i == k) (filter p (below n)) || b) (last e) ∙ or_true (list_any (λ i. i == k) (filter p (below n)))
     by false e more = or_left (list_any (λ i. i == k) (filter p (below n))) (list_any (λ i. i == k) (filter p (n ∷ []))) (more (less n k e within))
@@ -211,8 +219,10 @@ has_place test [] = refl
 has_place test (x ∷ xs) = by (test x) (has_place test xs) where
   first : (n : ℕ) → nat_lt 0 (suc n) ≡ true
   first n = grind arith
+
   later : (a b : ℕ) → nat_lt (1 + a) (suc b) ≡ nat_lt a b
   later a b = grind arith
+
   by : (b : Bool) → nat_lt (position_or_len test xs) (length xs) ≡ list_any test xs → nat_lt (cond (not b) (1 + position_or_len test xs) 0) (length (x ∷ xs)) ≡ (b || list_any test xs)
   by true h = first (length xs)
   by false h = later (position_or_len test xs) (length xs) ∙ h
@@ -230,16 +240,21 @@ key_listed x key =
   where
     positive : (n : ℕ) → 1 ≤ n → nat_lt 0 n ≡ true
     positive n h = grind (arith, h)
+
     few : (a b : ℕ) → a ≤ b → nat_le a b ≡ true
     few a b h = grind (arith, h)
+
     less : (a b : ℕ) → a < b → nat_lt a b ≡ true
     less a b h = grind (arith, h)
+
     most : (s : System) → x.satellite.id ≤ satellites s → x.satellite.id ≤ most_satellites s
     most Gps h = h
     most Galileo h = h
+
     own : (s : System) → x.signal.index < length (table s) → x.signal.index < listed_signals s
     own Gps h = h
     own Galileo h = h
+
     signals : (s t : System) → t ≡ s → x.signal.index < length (table t) → x.signal.index < listed_signals s
     signals s t e h = own s (subst (λ (u : System). x.signal.index < length (table u)) e h)
 

@@ -16,9 +16,9 @@ mod options;
 mod show;
 mod signals;
 mod survey;
-mod version;
 #[cfg(test)]
 mod tests;
+mod version;
 
 use crate::command::{command, refuse_words};
 use rtcm_bits::Counted;

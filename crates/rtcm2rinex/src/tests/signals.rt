@@ -55,13 +55,19 @@ fn a_stream_without_signals_is_told(rt: HostRuntime) -> Result<(), Fail> {
         stream.as_slice(),
         &[],
     );
-    assert_eq!(rt; elsewhere.faults.as_slice(), b"rtcm2rinex: NoSignal\n".as_slice());
+    assert_eq!(rt;
+        elsewhere.faults.as_slice(),
+        b"rtcm2rinex: NoSignal\n".as_slice()
+    );
     for message in [empty.as_slice(), NO_CELLS.as_slice()] {
         let stream = framed(rt.alloc(), &[message])?;
         let found = run(rt.alloc(), &WORDS[..2], stream.as_slice(), &[]);
         assert_eq!(rt; found.status, 1);
         assert!(rt; found.output.is_empty());
-        assert_eq!(rt; found.faults.as_slice(), b"rtcm2rinex: NoSignal\n".as_slice());
+        assert_eq!(rt;
+            found.faults.as_slice(),
+            b"rtcm2rinex: NoSignal\n".as_slice()
+        );
     }
     let station = run(rt.alloc(), &WORDS[..2], FRAMED_STATION.as_slice(), &[]);
     assert_eq!(rt; station.status, 1);
