@@ -390,23 +390,29 @@ fn slowly(alloc: Global, bytes: &[u8]) -> Result<Slow, AllocError> {
     })
 }
 
-/// Whether framer and iterator give what the definitions give.
+/// Whether framer and iterator give what the definitions give, the framer by one byte at a time and by two.
 fn agrees(alloc: Global, bytes: &[u8]) -> Result<bool, AllocError> {
     let want = slowly(alloc, bytes)?;
+    Ok(
+        viewed(alloc, bytes)?.is(&want.found)
+            && is_framed_by(alloc, bytes, 1, &want)?
+            && is_framed_by(alloc, bytes, 2, &want)?,
+    )
+}
+
+/// Whether a framer that takes so many bytes at a time gives these frames and counts.
+fn is_framed_by(alloc: Global, bytes: &[u8], size: usize, want: &Slow) -> Result<bool, AllocError>
+    requires { 0 < size }
+{
     let Ok(mut framer) = Framer::new(alloc, MOST_BYTES) else {
         return Ok(false);
     };
     let mut found = Found::new(alloc);
-    if !feed(&mut framer, bytes, &mut found)? {
+    if !feed_blocks(&mut framer, bytes, size, &mut found)? {
         return Ok(false);
     }
     let got = finish(&mut framer, &mut found)?;
-    let views = viewed(alloc, bytes)?;
-    Ok(
-        found.is(&want.found)
-            && views.is(&want.found)
-            && (got.examined, got.most) == (want.examined, want.most),
-    )
+    Ok(found.is(&want.found) && (got.examined, got.most) == (want.examined, want.most))
 }
 
 #[test]
