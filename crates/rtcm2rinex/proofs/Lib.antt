@@ -1,7 +1,9 @@
+mod BufferLemmas
 mod FrameLemmas
 mod LineLemmas
 mod ListedLemmas
 mod ShowLemmas
+mod ToldLemmas
 mod ReadBackLemmas
 pub mod CheckLemmas
 mod CensusLemmas

@@ -1,5 +1,7 @@
 //! The whole program, over a reader, a writer and a fault writer.
 ghost use Rattle.std.specs.Prelude.{◌≡◌, ◌⊎◌, ◌≤◌};
+ghost use Rattle.clap.specs.declared.parser.matches.Found.{Found};
+ghost use Rattle.clap.specs.Matches.{found_of};
 ghost use Rattle.rtcm2rinex.specs.FrameLines.{frame_lines};
 ghost use Rattle.rtcm2rinex.specs.ShowLines.{show_lines};
 ghost use Rattle.rtcm2rinex.specs.Listing.{ListsAll};
@@ -41,7 +43,7 @@ pub fn command<R: Read, W: Write, E: Write>(
     ensures good { result ≡ 0 →
         ListsAll frame_lines (R.remaining reader.old.inner) (R.remaining reader.new.inner) (W.contents writer.old.inner) (W.contents writer.new.inner)
         ⊎ ListsAll show_lines (R.remaining reader.old.inner) (R.remaining reader.new.inner) (W.contents writer.old.inner) (W.contents writer.new.inner)
-        ⊎ IsConverted (R.remaining reader.old.inner) (W.contents writer.old.inner) (W.contents writer.new.inner)
+        ⊎ ((f : Found) × IsConverted f (R.remaining reader.old.inner) (W.contents writer.old.inner) (W.contents writer.new.inner))
         ⊎ ChecksFile (R.remaining reader.old.inner) (W.contents writer.old.inner) (W.contents writer.new.inner)
         ⊎ HasToldSignals (R.remaining reader.old.inner) (R.remaining reader.new.inner) (W.contents writer.old.inner) (W.contents writer.new.inner)
         ⊎ ((reader.new ≡ reader.old) × Appends (W.contents writer.old.inner) (W.contents writer.new.inner) VERSION.now) }
@@ -132,7 +134,7 @@ fn convert<R: Read, W: Write, E: Write>(
     faults: &mut E,
 ) -> u8
     ensures status { result ≤ 1 }
-    ensures good { result ≡ 0 → IsConverted (R.remaining reader.old.inner) (W.contents writer.old.inner) (W.contents writer.new.inner) }
+    ensures good { result ≡ 0 → IsConverted (found_of options.now) (R.remaining reader.old.inner) (W.contents writer.old.inner) (W.contents writer.new.inner) }
 {
     let setup = match setup_of(alloc, options) {
         Ok(setup) => setup,
