@@ -11,7 +11,7 @@ ghost use Rattle.rtcm2rinex.specs.Telling.{HasToldSignals};
 ghost use Rattle.rtcm2rinex.specs.declared.version.TheConstants.{VERSION};
 ghost use Rattle.std.specs.Io.KnownBytes.{Appends};
 
-use crate::census::Form;
+use crate::asked::{form_of, station_of};
 use crate::check::run_check;
 use crate::cli::program;
 use crate::convert::{run_convert, tell};
@@ -45,7 +45,7 @@ pub fn command<R: Read, W: Write, E: Write>(
         ⊎ ListsAll show_lines (R.remaining reader.old.inner) (R.remaining reader.new.inner) (W.contents writer.old.inner) (W.contents writer.new.inner)
         ⊎ ((f : Found) × IsConverted f (R.remaining reader.old.inner) (W.contents writer.old.inner) (W.contents writer.new.inner))
         ⊎ ChecksFile (R.remaining reader.old.inner) (W.contents writer.old.inner) (W.contents writer.new.inner)
-        ⊎ HasToldSignals (R.remaining reader.old.inner) (R.remaining reader.new.inner) (W.contents writer.old.inner) (W.contents writer.new.inner)
+        ⊎ ((f : Found) × HasToldSignals f (R.remaining reader.old.inner) (R.remaining reader.new.inner) (W.contents writer.old.inner) (W.contents writer.new.inner))
         ⊎ ((reader.new ≡ reader.old) × Appends (W.contents writer.old.inner) (W.contents writer.new.inner) VERSION.now) }
 
     // Of a command line that isn't accepted nothing comes but its text.
@@ -111,15 +111,9 @@ fn signals<R: Read, W: Write, E: Write>(
     faults: &mut E,
 ) -> u8
     ensures status { result ≤ 1 }
-    ensures good { result ≡ 0 → HasToldSignals (R.remaining reader.old.inner) (R.remaining reader.new.inner) (W.contents writer.old.inner) (W.contents writer.new.inner) }
+    ensures good { result ≡ 0 → HasToldSignals (found_of options.now) (R.remaining reader.old.inner) (R.remaining reader.new.inner) (W.contents writer.old.inner) (W.contents writer.new.inner) }
 {
-    let station = options.get_one::<u16>("station");
-    let form = if options.get_flag("counts") {
-        Form::Counts
-    } else {
-        Form::Options
-    };
-    match run_signals(alloc, station, form, reader, writer) {
+    match run_signals(alloc, station_of(options), form_of(options), reader, writer) {
         Ok(()) => 0,
         Err(fault) => stop(fault, faults),
     }

@@ -1,7 +1,8 @@
-//! Reads an RTCM 3 stream from standard input, and writes what it says to standard output: its frames, its messages, or the
-//! RINEX 3.05 observation file of its observations. It reads such a file back, too, and says whether it is one.
+//! Reads an RTCM 3 stream from standard input, and writes what it says to standard output: its frames, its messages, its signals, or
+//! the RINEX 3.05 observation file of its observations. It reads such a file back, too, and says whether it is one.
 #![tactic(auto)]
 
+mod asked;
 mod buffer;
 mod census;
 mod check;

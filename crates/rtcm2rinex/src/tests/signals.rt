@@ -92,7 +92,7 @@ fn devices_that_fail_are_told(rt: HostRuntime) -> Result<(), Fail> {
             WriteEnd::Fails(ErrorKind::Other),
         ));
         let result = run_signals(rt.alloc(), None, Form::Options, &mut reader, &mut writer);
-        if room < 27 {
+        if room < 24 {
             assert_eq!(rt; result, Err(ToolFault::Write));
         } else {
             assert_eq!(rt; result, Ok(()));
