@@ -1,4 +1,6 @@
 //! What the contracts can't say: that the calls succeed, and values from outside.
+mod faults;
+
 ghost use Rattle.std.specs.Prelude.{◌≡◌, false, IfOk};
 
 use crate::{Civil, Gather, Gatherer, GpsTime, Kind, Plan, PlanFault, StationValues};

@@ -217,13 +217,15 @@ IsNumber cells most id = IsUpTo most id × (is_written cells id ≡ true)
 row_is : (system : System) (signals : List ℕ) (cells : List Cell) (id : ℕ) → AreGathered system signals cells → IsNumber cells (satellites_in system) id
     → (0 < length signals) × IsRow (satellites_in system) (length signals) (row_of signals cells id)
 row_is system signals cells id h n =
-    let f = speaker (IsGathered system signals) cells id h.each h.apart n.1 in
-    (some_planned signals f.cell f.is.planned, record {
-      satellite = n.0;
-      entries = All-from_recursion IsEntry (map (entry_at cells id) signals) (are_entries system signals signals id cells h.each);
-      whole = length-map signals (entry_at cells id);
-      some = one_says signals cells id f.cell f.is.planned f.says f.found;
-    })
+    let f = speaker (IsGathered system signals) cells id h.each h.apart n.1 in (
+      some_planned signals f.cell f.is.planned,
+      record {
+        satellite = n.0;
+        entries = All-from_recursion IsEntry (map (entry_at cells id) signals) (are_entries system signals signals id cells h.each);
+        whole = length-map signals (entry_at cells id);
+        some = one_says signals cells id f.cell f.is.planned f.says f.found;
+      },
+    )
 
 row_seen : (plan : PlanValue) (system : System) (cells : List Cell) (id : ℕ) → AreGathered system (planned_of system plan) cells → IsNumber cells (satellites_in system) id
     → IsSeen (length plan.gps) (length plan.galileo) (seen_among plan system cells id)
@@ -279,7 +281,7 @@ epoch_is plan c h some = record {
   time = h.time;
   rows = record {
     each = All-from_recursion (IsSeen (length plan.gps) (length plan.galileo)) (rows_of plan c.epoch Gps ++ rows_of plan c.epoch Galileo)
-    (all_append (IsSeen (length plan.gps) (length plan.galileo)) (rows_of plan c.epoch Gps) (rows_of plan c.epoch Galileo) (rows_seen plan c.epoch Gps (h.cells Gps)) (rows_seen plan c.epoch Galileo (h.cells Galileo)));
+        (all_append (IsSeen (length plan.gps) (length plan.galileo)) (rows_of plan c.epoch Gps) (rows_of plan c.epoch Galileo) (rows_seen plan c.epoch Gps (h.cells Gps)) (rows_seen plan c.epoch Galileo (h.cells Galileo)));
     rise = rises _ (ranks_rise plan c.epoch);
   };
   some = subst (λ n. 0 < n) (sym (length-rows plan c.epoch)) some;

@@ -10,3 +10,4 @@ mod CensusLemmas
 mod SurveyLemmas
 mod SignalLemmas
 mod ValuedLemmas
+mod PlannedLemmas

@@ -133,7 +133,7 @@ some_cells c cells h any = by (list_any (λ n. nat_lt 0 n) c.gps) refl any where
   by true t any = let m = any_some c.gps t in (let within : m.0 < length (table Gps) = omega (arith, m.1, h.gps) in found Gps m.0 within m.2)
   by false t any = let m = any_some c.galileo any in (let within : m.0 < length (table Galileo) = omega (arith, m.1, h.galileo) in found Galileo m.0 within m.2)
 
-own_signal : (x : Seen) → is_of_signal x.signal x ≡ true
+pub own_signal : (x : Seen) → is_of_signal x.signal x ≡ true
 own_signal x = by x.signal.system where
   same : (n : ℕ) → (n == n) ≡ true
   same n = grind arith

@@ -12,3 +12,5 @@ pub mod Checking
 pub mod Buffering
 pub mod Signals
 pub mod Census
+pub mod Telling
+pub mod SignalLaws

@@ -19,6 +19,7 @@ mod signals;
 mod survey;
 #[cfg(test)]
 mod tests;
+mod version;
 
 use crate::buffer::Buffered;
 use crate::command::{command, refuse_words};

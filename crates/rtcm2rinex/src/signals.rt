@@ -78,7 +78,7 @@ fn tell_signals<W: Write>(
 }
 
 /// Writes a text, and sends it on.
-fn send<W: Write>(text: &[u8], writer: &mut Counted<W>) -> Result<(), DeviceFailed>
+pub fn send<W: Write>(text: &[u8], writer: &mut Counted<W>) -> Result<(), DeviceFailed>
     ensures whole { OnOk result (Appends (W.contents writer.old.inner) (W.contents writer.new.inner) text.now) }
     ensures part { OnErr result (AppendsPrefix (W.contents writer.old.inner) (W.contents writer.new.inner) text.now) }
     ensures failed { OnErr result (HasFailed writer.old.failures writer.new.failures) }

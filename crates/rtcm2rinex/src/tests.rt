@@ -10,6 +10,7 @@ mod options;
 mod plans;
 mod refused;
 mod show;
+mod signals;
 mod streams;
 mod words;
 

@@ -14,7 +14,7 @@ ghost use Rattle.rtcm_bits.specs.Window.{looked_through, without_front};
 ghost use Rattle.rtcm_scan.specs.Drained.{IsDrained};
 ghost use Rattle.rtcm_scan.specs.Answers.{framed, frame_at, push_answer, push_all_answer, decision, if_missing, new_scan};
 
-use crate::candidate::Candidate;
+use crate::candidate::{Candidate, PREAMBLE};
 use crate::front::{Decision, examine, judge};
 use arrayvec::ArrayVec;
 use rtcm_bits::Window;
@@ -118,7 +118,7 @@ impl Framer {
         }
     }
 
-    /// Whether bytes may be pushed: none were since `next` or `next_into` last answered None, or since the framer was made.
+    /// Whether bytes may be pushed: nothing was since `next` or `next_into` last answered None, or since the framer was made.
     pub fn ready(&self) -> bool
         ensures { result ≡ self.now.is_ready }
     {
@@ -305,7 +305,10 @@ impl Framer {
         while self.held() > 0 {
             match self.decide() {
                 Decision::Open => break,
-                Decision::Passed => self.give_up(),
+                Decision::Passed => {
+                    self.give_up();
+                    self.pass_over();
+                }
                 Decision::Found(size) => return Some(size),
             }
         }
@@ -333,6 +336,22 @@ impl Framer {
         self.candidate = Candidate::new();
         self.place += 1;
         self.given_up += 1;
+    }
+
+    /// Goes on over the bytes at the front that aren't the first of any frame, as many as are found at once.
+    fn pass_over(&mut self)
+        requires { self.old.tried ≡ 0 }
+        ensures stands { (b : List ℕ) (fs : List Framed) → StandsFor self.old b fs → StandsFor self.new b fs }
+        ensures counts { (b : List ℕ) (fs : List Framed) → HasExamined self.old b fs → HasExamined self.new b fs }
+        ensures held { length self.new.held ≤ length self.old.held }
+        ensures ready { self.new.is_ready ≡ self.old.is_ready }
+        ensures limit { self.new.limit ≡ self.old.limit }
+        ensures taken { self.new.taken ≡ self.old.taken }
+        ensures ended { self.new.has_ended ≡ self.old.has_ended }
+    {
+        let n = self.window.drop_others(PREAMBLE);
+        self.place += n as u64;
+        self.given_up += n as u64;
     }
 
     /// Hands out the message of the frame at the front, answers the frame's place, and goes on behind it.
