@@ -1,9 +1,6 @@
 //! The signals of streams.
-use super::run;
 use super::streams::{COARSE, FINE, FRAMED_STATION, NO_CELLS, changed, framed};
-use crate::census::Form;
-use crate::fault::ToolFault;
-use crate::signals::run_signals;
+use super::{run, run_over};
 use rtcm_bits::Counted;
 use rtcm_bits::devices::{PieceReader, ReadEnd, ShortWriter, WriteEnd};
 use std::io::ErrorKind;
@@ -80,22 +77,28 @@ fn devices_that_fail_are_told(rt: HostRuntime) -> Result<(), Fail> {
     let fails = ReadEnd::Fails(ErrorKind::Other);
     let mut reader = Counted::new(PieceReader::new(stream.as_slice(), &[], fails));
     let mut writer = Counted::new(Vec::new(rt.alloc()));
-    let result = run_signals(rt.alloc(), None, Form::Options, &mut reader, &mut writer);
-    assert_eq!(rt; result, Err(ToolFault::Read));
+    let (status, faults) = run_over(rt.alloc(), &WORDS[..2], &mut reader, &mut writer);
+    assert_eq!(rt; status, 1);
+    assert_eq!(rt; faults.as_slice(), b"rtcm2rinex: Read\n".as_slice());
     assert!(rt; writer.into_inner().is_empty());
-    for room in 0..30 {
+    Ok(())
+}
+
+// The line has 24 bytes.
+#[test]
+fn a_writer_that_fails_is_told(rt: HostRuntime) -> Result<(), Fail> {
+    let stream = framed(rt.alloc(), &[&FINE])?;
+    for room in 0..26 {
         let mut reader = Counted::new(PieceReader::new(stream.as_slice(), &[], ReadEnd::Ends));
-        let mut writer = Counted::new(ShortWriter::new(
-            Vec::new(rt.alloc()),
-            3,
-            room,
-            WriteEnd::Fails(ErrorKind::Other),
-        ));
-        let result = run_signals(rt.alloc(), None, Form::Options, &mut reader, &mut writer);
+        let bytes = Vec::new(rt.alloc());
+        let fails = WriteEnd::Fails(ErrorKind::Other);
+        let mut writer = Counted::new(ShortWriter::new(bytes, 3, room, fails));
+        let (status, faults) = run_over(rt.alloc(), &WORDS[..2], &mut reader, &mut writer);
         if room < 24 {
-            assert_eq!(rt; result, Err(ToolFault::Write));
+            assert_eq!(rt; status, 1);
+            assert_eq!(rt; faults.as_slice(), b"rtcm2rinex: Write\n".as_slice());
         } else {
-            assert_eq!(rt; result, Ok(()));
+            assert_eq!(rt; status, 0);
         }
     }
     Ok(())
