@@ -6,3 +6,8 @@ mod ShowLemmas
 mod ToldLemmas
 mod ReadBackLemmas
 pub mod CheckLemmas
+mod CensusLemmas
+mod SurveyLemmas
+mod SignalLemmas
+mod ValuedLemmas
+mod PlannedLemmas

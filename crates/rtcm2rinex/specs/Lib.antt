@@ -10,3 +10,7 @@ pub mod Converting
 pub mod ReadBack
 pub mod Checking
 pub mod Buffering
+pub mod Signals
+pub mod Census
+pub mod Telling
+pub mod SignalLaws

@@ -1,8 +1,10 @@
-//! Reads an RTCM 3 stream from standard input, and writes what it says to standard output: its frames, its messages, or the
-//! RINEX 3.05 observation file of its observations. It reads such a file back, too, and says whether it is one.
+//! Reads an RTCM 3 stream from standard input, and writes what it says to standard output: its frames, its messages, its signals, or
+//! the RINEX 3.05 observation file of its observations. It reads such a file back, too, and says whether it is one.
 #![tactic(auto)]
 
+mod asked;
 mod buffer;
+mod census;
 mod check;
 mod cli;
 mod command;
@@ -14,8 +16,11 @@ mod line;
 mod listing;
 mod options;
 mod show;
+mod signals;
+mod survey;
 #[cfg(test)]
 mod tests;
+mod version;
 
 use crate::buffer::Buffered;
 use crate::command::{command, refuse_words};

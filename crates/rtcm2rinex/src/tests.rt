@@ -5,10 +5,12 @@ mod convert;
 mod faults;
 mod files;
 mod frames;
+mod hostile;
 mod options;
 mod plans;
 mod refused;
 mod show;
+mod signals;
 mod streams;
 mod words;
 

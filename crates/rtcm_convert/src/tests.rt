@@ -2,6 +2,7 @@
 //! fails.
 mod calls;
 mod faults;
+mod hostile;
 
 use crate::{Fault, Report, Setup};
 use arrayvec::ArrayVec;
