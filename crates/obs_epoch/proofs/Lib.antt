@@ -25,3 +25,4 @@ pub mod KindLemmas
 mod OrderLemmas
 mod StandLemmas
 pub mod GroupLemmas
+mod ReachLemmas

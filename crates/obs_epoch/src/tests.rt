@@ -1,6 +1,7 @@
 //! What the contracts can't say: that the calls succeed, and values from outside.
 mod cells;
 mod dates;
+mod faults;
 mod plans;
 
 ghost use Rattle.std.specs.Prelude.{◌≡◌, false, IfOk};

@@ -37,3 +37,5 @@ mod HeaderLearned
 mod HeaderEnd
 mod HeaderTypes
 mod Groups
+mod DueLines
+mod GatheredFile

@@ -17,6 +17,7 @@ mod header;
 mod keeper;
 mod kept;
 mod kept_line;
+mod labels;
 pub mod laws;
 mod lines;
 mod numbers;
