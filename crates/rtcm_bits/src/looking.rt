@@ -84,6 +84,7 @@ pub(crate) fn part_of<'a>(
 pub(crate) fn others_before(bytes: &[u8], byte: u8) -> usize
     ensures within { result ≤ length bytes.now }
     ensures others { (i : ℕ) → i < result → slice_index bytes.now i ≢ byte }
+    ensures stops { result < length bytes.now → slice_index bytes.now result ≡ byte }
 {
     for i in 0..bytes.len() {
         if bytes[i] == byte {
