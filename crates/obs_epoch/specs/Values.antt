@@ -79,7 +79,7 @@ written_among cells (suc n) = written_among cells n + (if is_written cells (suc 
 abbrev pub satellites : EpochValue → ℕ
 satellites e = written_among e.gps (satellites_in Gps) + written_among e.galileo (satellites_in Galileo)
 
--- an epoch that was closed, with the station values that were known then
+-- an epoch with the station values that are known: of one that was closed, those that were known then
 pub record Closed : Type 0 where
   pub epoch : EpochValue
   pub values : StationValues
