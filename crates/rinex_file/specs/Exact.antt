@@ -4,7 +4,7 @@ use Rattle.std.specs.Io.KnownBytes.{IsAtEnd}
 use Rattle.rinex_file.specs.declared.lines.Found.{Found}
 use Rattle.rinex_file.specs.declared.lines.Found.TheVariants.{Line, End, Cut, Long, Failed}
 use Rattle.rinex_file.specs.declared.read_fault.ReadFault.{ReadFault}
-use Rattle.rinex_file.specs.declared.read_fault.ReadFault.TheVariants.{Memory, Read, BadHeader, BadEpoch, BadSatellite, CutShort, TooLong}
+use Rattle.rinex_file.specs.declared.read_fault.ReadFault.TheVariants.{Memory, Read, BadHeader, BadEpoch, BadEvent, BadSatellite, CutShort, TooLong}
 use Rattle.rinex_file.specs.Reading.{has}
 use Rattle.rinex_file.specs.Numbers.{joined}
 use Rattle.rinex_file.specs.Value.{FileValue}
@@ -80,6 +80,7 @@ Explains input Memory = ⊤
 Explains input Read = ⊤
 Explains input (BadHeader k) = IsFaulty input k
 Explains input (BadEpoch k) = IsFaulty input k
+Explains input (BadEvent k) = IsFaulty input k
 Explains input (BadSatellite k) = IsFaulty input k
 Explains input (CutShort k) = IsCutShort input k
 Explains input TooLong = IsTooLong input

@@ -39,7 +39,8 @@ fn fault_at(due: Due, number: u64) -> ReadFault
 {
     match due {
         Due::Header(_, _) => ReadFault::BadHeader(number),
-        Due::Epoch => ReadFault::BadEpoch(number),
+        Due::Epoch | Due::EventEpoch(_) => ReadFault::BadEpoch(number),
+        Due::EventPosition | Due::EventHeight(_, _, _) => ReadFault::BadEvent(number),
         Due::Satellite(_) => ReadFault::BadSatellite(number),
     }
 }
