@@ -1,4 +1,5 @@
 pub mod Satellites
+pub mod SignalTables
 pub mod Signals
 pub mod Rounding
 pub mod Observables

@@ -2,15 +2,15 @@
 use Rattle.std.specs.Prelude.{ℕ, List, [], ◌∷◌, ◌+◌, ◌-◌, Bool, ◌==◌, ◌<◌, nat_lt, if◌then◌else◌, Option, Some, None, option_map, length, position, slice_get}
 use Rattle.std.specs.Option.{option_map_or}
 use Rattle.std.specs.Str.{bytes_eq}
-use Rattle.gnss_obs.specs.declared.tables.TheConstants.{GPS_SIGNALS, GALILEO_SIGNALS}
 use Rattle.gnss_obs.specs.declared.tables.Entry.{Entry}
 use Rattle.gnss_obs.specs.declared.system.System.{System}
 use Rattle.gnss_obs.specs.declared.system.System.TheVariants.{Gps, Galileo}
+use Rattle.gnss_obs.specs.SignalTables.{gps_signals, galileo_signals}
 
 -- the table of a system
 abbrev pub table : System → List Entry
-table Gps = GPS_SIGNALS
-table Galileo = GALILEO_SIGNALS
+table Gps = gps_signals
+table Galileo = galileo_signals
 
 -- a signal: its place in the table of its system, from 0
 pub record SignalAt : Type 0 where

@@ -1,8 +1,9 @@
 //! Laws of the definitions, each the contract of a function without a body.
-ghost use Rattle.std.specs.Prelude.{◌≡◌, ◌+◌, ◌*◌, ◌<◌, ◌≤◌, ℕ, ℤ, Some};
+ghost use Rattle.std.specs.Prelude.{◌≡◌, ◌+◌, ◌*◌, ◌^◌, ◌<◌, ◌≤◌, ◌≤ℤ◌, ℕ, ℤ, pos, unsigned_abs, Some};
 ghost use Rattle.gnss_obs.specs.LockTimes.{least4, least7};
 ghost use Rattle.gnss_obs.specs.Rounding.{IsNearest, nearest};
-ghost use Rattle.gnss_obs.specs.Signals.{SignalAt, IsSignal, behind, id_of, code_of, signal_of_id, signal_of_code};
+ghost use Rattle.gnss_obs.specs.Observables.{metres, cycles, shift, decibels};
+ghost use Rattle.gnss_obs.specs.Signals.{SignalAt, IsSignal, behind, id_of, code_of, hertz_of, signal_of_id, signal_of_code};
 
 /// There is exactly one nearest whole number, and it is the one that `nearest` computes.
 pub fn one_nearest()
@@ -26,4 +27,12 @@ pub fn lock_times()
     ensures rising7 { (i : ℕ) → i < 704 → least7 i < least7 (i + 1) }
     ensures counts7 { (i : ℕ) → i ≤ 64 → least7 i ≡ i }
     ensures doubles7 { (i : ℕ) → 32 ≤ i → i + 32 ≤ 704 → least7 (i + 32) ≡ 2 * least7 i }
+{}
+
+/// How large the values of a message are: below 10^12 thousandths in size, and a strength from 1 to 99,999.
+pub fn sizes()
+    ensures metres { (r : ℤ) → unsigned_abs r ≤ 2 ^ 40 → unsigned_abs (metres r) < 10 ^ 12 }
+    ensures cycles { (s : SignalAt) (p : ℤ) → unsigned_abs p ≤ 2 ^ 40 → unsigned_abs (cycles (hertz_of s) p) < 10 ^ 12 }
+    ensures shift { (s : SignalAt) (v : ℤ) → unsigned_abs v ≤ 10 ^ 8 → unsigned_abs (shift (hertz_of s) v) < 10 ^ 12 }
+    ensures decibels { (s : ℕ) → 0 < s → s < 1024 → (pos 1 ≤ℤ decibels s) × (decibels s ≤ℤ pos 99_999) }
 {}

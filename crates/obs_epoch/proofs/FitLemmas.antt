@@ -1,5 +1,5 @@
 -- Signals that fit a plan, and those that don't.
-use Rattle.std.proofs.Common.{◌≡◌, ℕ, suc, zero, ◌+◌, ◌<◌, ◌==◌, ◌||◌, Bool, true, false, List, [], ◌∷◌, ◌++◌, length, take, drop, get_or, All, nat_eq, refl, sym, ap, ap₂, ◌∙◌, subst, arith}
+use Rattle.std.proofs.Common.{◌≡◌, ℕ, suc, zero, ◌+◌, ◌<◌, ◌==◌, ◌||◌, Bool, true, false, List, [], ◌∷◌, ◌++◌, length, take, drop, get_or, All, nat_eq, refl, sym, ap, ap₂, ◌∙◌, subst, arith, ◌⊎◌, inl, inr}
 use Rattle.std.proofs.lemmas.List.{take_more}
 use Rattle.std.proofs.lemmas.Map.Keys.{apart_from_distinct, IsDistinct-tail}
 use Rattle.std.proofs.lemmas.List.Elements.{All-head, All-tail}
@@ -9,13 +9,6 @@ use Rattle.gnss_obs.specs.Signals.{SignalAt, IsSignal}
 use Rattle.obs_epoch.specs.declared.fault.PlanFault.{PlanFault}
 use Rattle.obs_epoch.specs.declared.fault.PlanFault.TheVariants.{UnknownCode, RepeatedCode, NothingPlanned, BadWeek, BadStation, Memory}
 use Rattle.obs_epoch.specs.Signals.{indices, IsOf, IsUnfitBehind, IsUnfit}
-use Rattle.obs_epoch.proofs.PlanLemmas.{is_of-push}
-
--- one signal more fits
-pub fits_more : (system : System) (ss : List SignalAt) (k : ℕ) (s : SignalAt) → k < length ss → s ≡ get_or ss k s → IsOf system (take k ss) → s.system ≡ system → IsSignal s
-    → list_any (λ (r : SignalAt). s.index == r.index) (take k ss) ≡ false → IsOf system (take (k + 1) ss)
-fits_more system ss k s less is before same listed new =
-    subst (IsOf system) (sym (take_more ss k s less ∙ ap (λ x. take k ss ++ x ∷ []) (sym is))) (is_of-push system (take k ss) s before same listed new)
 
 -- a place within signals parts them
 pub parted : (ss : List SignalAt) (k : ℕ) (s : SignalAt) → k < length ss → s ≡ get_or ss k s → ss ≡ take k ss ++ s ∷ drop (k + 1) ss
@@ -24,6 +17,23 @@ parted (x ∷ ss) zero s less is = ap (λ y. y ∷ ss) (sym is)
 parted (x ∷ ss) (suc k) s less is =
     let e : suc k + 1 ≡ suc (k + 1) = omega arith in
     ap (λ l. x ∷ l) (parted ss k s (omega (arith, less)) is) ∙ ap (λ n. x ∷ take k ss ++ s ∷ drop n (x ∷ ss)) (sym e)
+
+-- the first signals, and the next
+pub next_of : (ss : List SignalAt) (k : ℕ) (s : SignalAt) → k < length ss → s ≡ get_or ss k s → take (k + 1) ss ≡ take k ss ++ s ∷ []
+next_of ss k s less is = take_more ss k s less ∙ ap (λ x. take k ss ++ x ∷ []) (sym is)
+
+-- the first signal that doesn't fit
+pub unfit_at : (system : System) (ss before : List SignalAt) (k : ℕ) (s : SignalAt) (fault : PlanFault) → k < length ss → s ≡ get_or ss k s → before ≡ take k ss
+    → IsOf system (take k ss) → (fault ≡ Memory) ⊎ IsUnfitBehind system before s fault → (fault ≡ Memory) ⊎ IsUnfit system ss fault
+unfit_at system ss before k s fault less is taken fits (inl e) = inl e
+unfit_at system ss before k s fault less is taken fits (inr u) = inr (record {
+  before = take k ss;
+  signal = s;
+  rest = drop (k + 1) ss;
+  split = parted ss k s less is;
+  fits = fits;
+  unfit = subst (λ (l : List SignalAt). IsUnfitBehind system l s fault) taken u;
+})
 
 middle : (before rest : List SignalAt) (s : SignalAt) → get_or (indices (before ++ s ∷ rest)) (length before) 0 ≡ s.index
 middle [] rest s = refl
@@ -64,3 +74,8 @@ by_fault system before rest s Memory u is = u
 -- what doesn't fit is none of a system's
 pub unfit_not_of : (system : System) (ss : List SignalAt) (fault : PlanFault) → IsUnfit system ss fault → IsOf system ss → ⊥
 unfit_not_of system ss fault u is = by_fault system u.before u.rest u.signal fault u.unfit (subst (IsOf system) u.split is)
+
+-- where signals are those of a system, nothing but want of memory is answered
+pub memory_alone : (system : System) (ss : List SignalAt) (fault : PlanFault) → (fault ≡ Memory) ⊎ IsUnfit system ss fault → IsOf system ss → fault ≡ Memory
+memory_alone system ss fault (inl e) is = e
+memory_alone system ss fault (inr u) is = absurd (unfit_not_of system ss fault u is)

@@ -15,6 +15,7 @@ pub mod StandingLemmas
 pub mod ClockLemmas
 pub mod Rows
 pub mod EntryLemmas
+pub mod SignalLemmas
 pub mod PlanLemmas
 pub mod FitLemmas
 pub mod GatheringLemmas
@@ -23,3 +24,4 @@ pub mod KindLemmas
 mod OrderLemmas
 mod StandLemmas
 pub mod GroupLemmas
+mod ReachLemmas

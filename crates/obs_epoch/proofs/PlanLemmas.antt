@@ -177,6 +177,19 @@ one_index system i s ss new so of is e =
           (any_index s.index ss ∙ ap₂ (λ n l. list_any (nat_eq n) l) at.2 (sym so) ∙ none_below i i (omega arith))),
     )
 
+-- a signal of a table is new behind all before it
+pub index_added : {E : Type 0} (system : System) (i : ℕ) (s : SignalAt) (ss new : List SignalAt) (r : Result Bool E) (b : Bool) → r ≡ Ok b → below i ≡ indices ss → IsOf system ss
+    → signal_at system i ≡ Some s → (r ≡ Ok true → (new ≡ ss ++ s ∷ []) × (list_any (λ (q : SignalAt). s.index == q.index) ss ≡ false) × IsOf s.system new)
+    → (r ≡ Ok false → (new ≡ ss) × (list_any (λ (q : SignalAt). s.index == q.index) ss ≡ true)) → (below (i + 1) ≡ indices new) × IsOf system new
+index_added system i s ss new r true is so of at added there = one_index system i s ss new so of at (added is).0
+index_added system i s ss new r false is so of at added there =
+    let here = at_index system i s at in
+    let none = any_index s.index ss ∙ ap₂ (λ n l. list_any (nat_eq n) l) here.2 (sym so) ∙ none_below i i (omega arith) in
+    absurd (unlike _ (there is).1 none)
+  where
+    unlike : (b : Bool) → b ≡ true → b ≡ false → ⊥
+    unlike b h k = grind (arith, h, k)
+
 pub when_none : (system : System) (text : List ℕ) (r : List SignalAt) → bytes_eq text (codes "all") ≡ false → bytes_eq text (codes "none") ≡ true → r ≡ []
     → (signals_of system text ≡ Ok (indices r)) × IsOf system r
 when_none system text r all none e = (

@@ -18,3 +18,4 @@ pub mod Standing
 pub mod Kinds
 pub mod Gathering
 pub mod Laws
+pub mod Reach

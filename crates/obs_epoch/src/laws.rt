@@ -3,6 +3,7 @@ ghost use Rattle.std.specs.Prelude.{ℕ, ◌<◌, ◌≤◌, ◌*◌};
 ghost use Rattle.obs_epoch.specs.Weeks.{week, weeks};
 ghost use Rattle.obs_epoch.specs.Dates.{IsCivilOf, civil_of};
 ghost use Rattle.obs_epoch.specs.Laws.{ClosedStay, ClosedComeFirst, NoneClosed, NeverFirst, CodesAreSpelled};
+ghost use Rattle.obs_epoch.specs.Reach.{MessagesAreHeard, EpochsAreGathered};
 
 /// Whatever messages follow, the epochs that are closed stay the first ones.
 pub fn closed_stay()
@@ -26,3 +27,13 @@ pub fn calendar()
     ensures civil { (t : ℕ) → t < weeks * week → IsCivilOf t (civil_of t) }
     ensures small { (t : ℕ) → t < weeks * week → ((civil_of t).year ≤ 9999) × ((civil_of t).month ≤ 12) × ((civil_of t).day ≤ 31) }
 {}
+
+/// The epochs of messages that were read: their times rise and are within the weeks, their cells are of planned signals and
+/// have values within their bounds, no two of one satellite and signal.
+pub fn gathered()
+    ensures heard { MessagesAreHeard }
+    ensures epochs { EpochsAreGathered }
+{
+    gnss_obs::laws::sizes();
+    rtcm_msg::laws::measures();
+}

@@ -19,6 +19,7 @@ mod observe;
 mod order;
 mod plan;
 mod seen;
+mod signals;
 mod taken;
 mod time;
 

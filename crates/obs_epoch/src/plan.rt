@@ -1,13 +1,13 @@
 //! Plans: the signals that are wanted.
 ghost use Rattle.std.specs.Prelude.{◌≡◌, ◌<◌, ◌≤◌, ◌+◌, ◌⊎◌, ◌++◌, ◌∷◌, [], ◌==◌, ℕ, length, slice_index, map, MatchOption, MatchResult, IfOk, IfErr, IfSome, IsOk, IsTrue, ◌↔◌, false, Ok, Err, All, option_map, position, Result, List};
-ghost use Rattle.std.specs.List.{list_any};
 ghost use Rattle.gnss_obs.specs.declared.system.System.TheVariants.{Gps, Galileo};
+ghost use Rattle.gnss_obs.specs.Signals.{IsSignal, table, signal_of_code};
 ghost use Rattle.obs_epoch.specs.Values.{planned_of};
 ghost use Rattle.obs_epoch.specs.Plans.{plan_of, signals_of, signals_after, one_more, between_commas, below, place_in};
 ghost use Rattle.obs_epoch.specs.Signals.{indices, IsOf, codes_in, IsUnfitBehind, IsUnfit, IsUnplanned, IsPlanOf};
-ghost use Rattle.gnss_obs.specs.Signals.{IsSignal, table, signal_of_code};
 
 use crate::fault::PlanFault;
+use crate::signals::Signals;
 use gnss_obs::{Signal, System};
 use std::alloc::Global;
 use std::marker::Model;
@@ -15,8 +15,8 @@ use std::marker::Model;
 /// The signals of each system that are wanted, in the order in which they are written: at least one in all.
 #[derive(Drop)]
 pub struct Plan {
-    gps: Vec<Signal>,
-    galileo: Vec<Signal>,
+    gps: Signals,
+    galileo: Signals,
 }
 
 impl Model for Plan {
@@ -26,9 +26,9 @@ impl Model for Plan {
 
     ghost Value = { PlanValue };
 
-    ghost view = { λ p. record { gps = indices p.gps.items; galileo = indices p.galileo.items } };
+    ghost view = { λ p. record { gps = indices p.gps; galileo = indices p.galileo } };
 
-    ghost invariant = { λ p. IsOf Gps p.gps.items × IsOf Galileo p.galileo.items };
+    ghost invariant = { λ p. IsOf Gps p.gps × IsOf Galileo p.galileo };
 }
 
 impl Plan {
@@ -48,19 +48,26 @@ impl Plan {
     }
 
     /// The plan of these signals in this order. A signal of another system and one that came before are refused, those of
-    /// GPS first and from the left, and so is no signal at all.
-    pub fn from_signals(gps: Vec<Signal>, galileo: Vec<Signal>) -> Result<Plan, PlanFault>
+    /// GPS first and from the left, and so is no signal at all; and want of memory, where a growth was refused.
+    pub fn from_signals(
+        alloc: Global,
+        gps: &[Signal],
+        galileo: &[Signal],
+    ) -> Result<Plan, PlanFault>
         ensures cases { MatchResult result
-            (λ p. IsPlanOf gps.items galileo.items p)
-            (λ e. IsUnplanned gps.items galileo.items e) }
-        ensures planned { IsOf Gps gps.items → IsOf Galileo galileo.items → 0 < length gps.items + length galileo.items → IsOk result }
+            (λ p. IsPlanOf gps.now galileo.now p)
+            (λ e. (e ≡ PlanFault.Memory) ⊎ IsUnplanned gps.now galileo.now e) }
+        ensures planned { IsOf Gps gps.now → IsOf Galileo galileo.now → 0 < length gps.now + length galileo.now → IfErr result (λ e. e ≡ PlanFault.Memory) }
     {
-        judge_signals(System::Gps, gps.as_slice())?;
-        judge_signals(System::Galileo, galileo.as_slice())?;
-        if galileo.is_empty() && gps.is_empty() {
+        let first = collected(alloc, System::Gps, gps)?;
+        let second = collected(alloc, System::Galileo, galileo)?;
+        if first.is_empty() && second.is_empty() {
             return Err(PlanFault::NothingPlanned);
         }
-        Ok(Plan { gps, galileo })
+        Ok(Plan {
+            gps: first,
+            galileo: second,
+        })
     }
 
     /// How many signals of a system are wanted.
@@ -68,10 +75,7 @@ impl Plan {
         ensures count { result ≡ length (planned_of system self.now) }
         ensures bound { result ≤ length (table system) }
     {
-        match system {
-            System::Gps => self.gps.len(),
-            System::Galileo => self.galileo.len(),
-        }
+        self.of(system).len()
     }
 
     /// The signals of a system that are wanted, in their order.
@@ -91,10 +95,7 @@ impl Plan {
         ensures index { result.index ≡ slice_index (planned_of system self.now) place }
         ensures system { result.system ≡ system }
     {
-        match system {
-            System::Gps => self.gps[place],
-            System::Galileo => self.galileo[place],
-        }
+        self.of(system)[place]
     }
 
     /// The place of a signal among those of its system that are wanted, from 0, or None where it isn't wanted.
@@ -102,35 +103,41 @@ impl Plan {
         ensures place { result ≡ place_in signal (planned_of signal.system self.now) }
     {
         match signal.system() {
-            System::Gps => place_of(self.gps.as_slice(), signal.index()),
-            System::Galileo => place_of(self.galileo.as_slice(), signal.index()),
+            System::Gps => self.gps.place(signal),
+            System::Galileo => self.galileo.place(signal),
         }
     }
 }
 
-// Whether these are signals of a system, none of them twice.
-fn judge_signals(system: System, signals: &[Signal]) -> Result<(), PlanFault>
-    ensures { MatchResult result (λ _. IsOf system signals.now) (λ e. IsUnfit system signals.now e) }
+// These signals of a system, where none of them is of another and none stands twice.
+fn collected(alloc: Global, system: System, signals: &[Signal]) -> Result<Signals, PlanFault>
+    ensures { MatchResult result
+        (λ s. (s ≡ signals.now) × IsOf system signals.now)
+        (λ e. (e ≡ PlanFault.Memory) ⊎ IsUnfit system signals.now e) }
 {
-    for place in 0..signals.len() {
-        judge_signal(system, &signals[..place], signals[place])?;
+    let mut collected = Signals::new(alloc);
+    for i in 0..signals.len() {
+        add_signal(&mut collected, system, signals[i])?;
     }
-    Ok(())
+    Ok(collected)
 }
 
-// Whether a signal is of a system and came not before.
-fn judge_signal(system: System, before: &[Signal], signal: Signal) -> Result<(), PlanFault>
+// One signal more.
+fn add_signal(signals: &mut Signals, system: System, signal: Signal) -> Result<(), PlanFault>
+    requires { IsOf system signals.old }
     ensures { MatchResult result
-        (λ _. (signal.system ≡ system) × IsSignal signal × (list_any (λ s. signal.index == s.index) before.now ≡ false))
-        (λ e. IsUnfitBehind system before.now signal e) }
+        (λ _. (signals.new ≡ signals.old ++ signal ∷ []) × IsOf system signals.new)
+        (λ e. (e ≡ PlanFault.Memory) ⊎ IsUnfitBehind system signals.old signal e) }
 {
+    let place = signals.len();
     if !is_of(signal, system) {
-        return Err(PlanFault::UnknownCode(system, before.len()));
+        return Err(PlanFault::UnknownCode(system, place));
     }
-    if has_signal(before, signal.index()) {
-        return Err(PlanFault::RepeatedCode(system, before.len()));
+    match signals.add(signal) {
+        Ok(true) => Ok(()),
+        Ok(false) => Err(PlanFault::RepeatedCode(system, place)),
+        Err(_) => Err(PlanFault::Memory),
     }
-    Ok(())
 }
 
 fn is_of(signal: Signal, system: System) -> bool
@@ -144,34 +151,34 @@ fn is_of(signal: Signal, system: System) -> bool
 }
 
 // The signals of a system that a text wants.
-fn read_signals(alloc: Global, system: System, text: &str) -> Result<Vec<Signal>, PlanFault>
+fn read_signals(alloc: Global, system: System, text: &str) -> Result<Signals, PlanFault>
     ensures { MatchResult result
-        (λ s. (signals_of system text.now ≡ Ok (indices s.items)) × IsOf system s.items)
+        (λ s. (signals_of system text.now ≡ Ok (indices s)) × IsOf system s)
         (λ e. (e ≡ PlanFault.Memory) ⊎ (signals_of system text.now ≡ Err e)) }
 {
     if text == "all" {
         return every_signal(alloc, system);
     }
     if text == "none" {
-        return Ok(Vec::new(alloc));
+        return Ok(Signals::new(alloc));
     }
     read_codes(alloc, system, text)
 }
 
 // The signals of a table in its order.
-fn every_signal(alloc: Global, system: System) -> Result<Vec<Signal>, PlanFault>
+fn every_signal(alloc: Global, system: System) -> Result<Signals, PlanFault>
     ensures { MatchResult result
-        (λ s. (below (length (table system)) ≡ indices s.items) × IsOf system s.items)
+        (λ s. (below (length (table system)) ≡ indices s) × IsOf system s)
         (λ e. e ≡ PlanFault.Memory) }
 {
-    let mut signals = Vec::new(alloc);
+    let mut signals = Signals::new(alloc);
     for index in 0..system.signals() {
         let signal = match Signal::from_index(system, index) {
             Some(signal) => signal,
             None => unreachable!(),
         };
-        match signals.push(signal) {
-            Ok(()) => {}
+        match signals.add(signal) {
+            Ok(_) => {}
             Err(_) => return Err(PlanFault::Memory),
         }
     }
@@ -179,12 +186,12 @@ fn every_signal(alloc: Global, system: System) -> Result<Vec<Signal>, PlanFault>
 }
 
 // The signals of codes with commas between them.
-fn read_codes(alloc: Global, system: System, text: &str) -> Result<Vec<Signal>, PlanFault>
+fn read_codes(alloc: Global, system: System, text: &str) -> Result<Signals, PlanFault>
     ensures { MatchResult result
-        (λ s. (signals_after system [] (between_commas text.now) ≡ Ok (indices s.items)) × IsOf system s.items)
+        (λ s. (signals_after system [] (between_commas text.now) ≡ Ok (indices s)) × IsOf system s)
         (λ e. (e ≡ PlanFault.Memory) ⊎ (signals_after system [] (between_commas text.now) ≡ Err e)) }
 {
-    let mut signals = Vec::new(alloc);
+    let mut signals = Signals::new(alloc);
     let mut rest = Some(text);
     while let Some(codes) = rest {
         let (code, behind) = first_code(codes);
@@ -206,34 +213,20 @@ fn first_code(codes: &str) -> (&str, Option<&str>)
 }
 
 // One code more.
-fn add_code(signals: &mut Vec<Signal>, system: System, code: &str) -> Result<(), PlanFault>
-    requires { IsOf system signals.old.items }
+fn add_code(signals: &mut Signals, system: System, code: &str) -> Result<(), PlanFault>
+    requires { IsOf system signals.old }
     ensures { MatchResult result
-        (λ _. ((rest : List ℕ → Result (List ℕ) PlanFault) → one_more system (indices signals.old.items) (signal_of_code system code.now) rest ≡ rest (indices signals.new.items)) × IsOf system signals.new.items)
-        (λ e. (e ≡ PlanFault.Memory) ⊎ ((rest : List ℕ → Result (List ℕ) PlanFault) → one_more system (indices signals.old.items) (signal_of_code system code.now) rest ≡ Err e)) }
+        (λ _. ((rest : List ℕ → Result (List ℕ) PlanFault) → one_more system (indices signals.old) (signal_of_code system code.now) rest ≡ rest (indices signals.new)) × IsOf system signals.new)
+        (λ e. (e ≡ PlanFault.Memory) ⊎ ((rest : List ℕ → Result (List ℕ) PlanFault) → one_more system (indices signals.old) (signal_of_code system code.now) rest ≡ Err e)) }
 {
     let place = signals.len();
     let signal = match Signal::from_code(system, code) {
         Some(signal) => signal,
         None => return Err(PlanFault::UnknownCode(system, place)),
     };
-    if has_signal(signals.as_slice(), signal.index()) {
-        return Err(PlanFault::RepeatedCode(system, place));
-    }
-    match signals.push(signal) {
-        Ok(()) => Ok(()),
+    match signals.add(signal) {
+        Ok(true) => Ok(()),
+        Ok(false) => Err(PlanFault::RepeatedCode(system, place)),
         Err(_) => Err(PlanFault::Memory),
     }
-}
-
-fn has_signal(signals: &[Signal], index: usize) -> bool
-    ensures { result ≡ list_any (λ s. index == s.index) signals.now }
-{
-    signals.iter().any(|s| index == s.index())
-}
-
-fn place_of(signals: &[Signal], index: usize) -> Option<usize>
-    ensures { result ≡ position (λ s. s.index == index) signals.now }
-{
-    signals.iter().position(|s| s.index() == index)
 }

@@ -1,4 +1,6 @@
 //! What the contracts can't say: that the calls succeed, and values from outside.
+mod faults;
+
 ghost use Rattle.std.specs.Prelude.{◌≡◌, false, IfOk};
 
 use crate::{Civil, Gather, Gatherer, GpsTime, Kind, Plan, PlanFault, StationValues};
@@ -420,6 +422,7 @@ fn a_message_past_the_weeks_closes_nothing(rt: HostRuntime) -> Result<(), PlanFa
         height: 15_000,
     };
     assert_eq!(rt; g.station_values(), values);
+    assert!(rt; g.closed().is_some_and(|e| e.station_values() == values));
     Ok(())
 }
 
@@ -496,7 +499,7 @@ fn signals_of(alloc: Global, system: System, codes: &[&str]) -> Result<Vec<Signa
 fn plans_are_made_of_signals(rt: HostRuntime) -> Result<(), PlanFault> {
     let alloc = rt.alloc();
     let gps = signals_of(alloc, System::Gps, &["2W", "1C"])?;
-    let plan = Plan::from_signals(gps, Vec::new(alloc))?;
+    let plan = Plan::from_signals(alloc, gps.as_slice(), &[])?;
     let [first, second] = plan.of(System::Gps) else {
         return Err(PlanFault::NothingPlanned);
     };
@@ -505,20 +508,20 @@ fn plans_are_made_of_signals(rt: HostRuntime) -> Result<(), PlanFault> {
     let twice = signals_of(alloc, System::Gps, &["1C", "1C"])?;
     assert!(rt;
         matches!(
-            Plan::from_signals(twice, Vec::new(alloc)),
+            Plan::from_signals(alloc, twice.as_slice(), &[]),
             Err(PlanFault::RepeatedCode(System::Gps, 1))
         )
     );
     let other = signals_of(alloc, System::Gps, &["1C"])?;
     assert!(rt;
         matches!(
-            Plan::from_signals(Vec::new(alloc), other),
+            Plan::from_signals(alloc, &[], other.as_slice()),
             Err(PlanFault::UnknownCode(System::Galileo, 0))
         )
     );
     assert!(rt;
         matches!(
-            Plan::from_signals(Vec::new(alloc), Vec::new(alloc)),
+            Plan::from_signals(alloc, &[], &[]),
             Err(PlanFault::NothingPlanned)
         )
     );

@@ -146,7 +146,7 @@ not_whole k line part h left i = part (whole_by k h i.before i.is)
 
 -- ---- the header that was read
 
-listed_by : (system : System) (ss : List SignalAt) → All (λ s. (s.system ≡ system) × IsSignal s) ss → All (λ i. i < length (table system)) (indices ss)
+pub listed_by : (system : System) (ss : List SignalAt) → All (λ s. (s.system ≡ system) × IsSignal s) ss → All (λ i. i < length (table system)) (indices ss)
 listed_by system ss all = All-map (λ i. i < length (table system)) (λ s. s.index) ss (All-weaker (λ s. (s.system ≡ system) × IsSignal s) (λ s. s.index < length (table system)) (λ (s : SignalAt) (is : (s.system ≡ system) × IsSignal s). subst (λ t. s.index < length (table t)) is.0 is.1) ss all)
 
 pub planned_by : (gps galileo : List SignalAt) → IsOf Gps gps → IsOf Galileo galileo → 0 < length (indices gps) + length (indices galileo)
@@ -174,7 +174,7 @@ begins_header k a b h left =
     let all = all_lines h.texts h.plan h.values (civil_of h.first) in
     (λ i. (i.is, i.lines ∙ all), λ s. record { is = s.0; before = tt; within = (a, b); due = omega arith; lines = s.1 ∙ sym all })
 
-blank_text : (width : ℕ) (text : List ℕ) → text ≡ [] → IsText width text
+pub blank_text : (width : ℕ) (text : List ℕ) → text ≡ [] → IsText width text
 unfolding trimmed
 blank_text width text e = subst (IsText width) (sym e) (record { short = omega arith; printable = refl; cut = refl })
 

@@ -38,3 +38,5 @@ mod HeaderLearned
 mod HeaderEnd
 mod HeaderTypes
 mod Groups
+mod DueLines
+mod GatheredFile

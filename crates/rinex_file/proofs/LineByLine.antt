@@ -130,7 +130,7 @@ same_number n m e = grind arith
 -- ---- what a reader gave
 
 -- what holds of all known bytes that are these and some others holds of what a reader had
-consumed : (a b : Option (List ℕ)) (bytes : List ℕ) (P : List ℕ → Type 0) → Consumes a b bytes → ((rest : List ℕ) → P (bytes ++ rest)) → IfSome a P
+pub consumed : (a b : Option (List ℕ)) (bytes : List ℕ) (P : List ℕ → Type 0) → Consumes a b bytes → ((rest : List ℕ) → P (bytes ++ rest)) → IfSome a P
 consumed None b bytes P took h = tt
 consumed (Some x) None bytes P took h = absurd took
 consumed (Some x) (Some y) bytes P took h = subst P (sym took) (h y)
@@ -282,10 +282,10 @@ module _ (are_lines : (v : FileValue) → IsFileValue v → All IsLine (file_lin
     not_explained : (v : FileValue) (input : List ℕ) (fault : ReadFault) → IsFileValue v → length (file_lines v) ≤ most_lines → Explains input fault → input ≡ file_text v → IsNoFault fault
     not_explained v input Memory is few why e = tt
     not_explained v input Read is few why e = tt
-    not_explained v input (BadHeader k) is few why e = faulty_not v input k is why e
-    not_explained v input (BadEpoch k) is few why e = faulty_not v input k is why e
-    not_explained v input (BadEvent k) is few why e = faulty_not v input k is why e
-    not_explained v input (BadSatellite k) is few why e = faulty_not v input k is why e
+    not_explained v input (BadHeader k) is few why e = faulty_not v input k is why.0 e
+    not_explained v input (BadEpoch k) is few why e = faulty_not v input k is why.0 e
+    not_explained v input (BadEvent k) is few why e = faulty_not v input k is why.0 e
+    not_explained v input (BadSatellite k) is few why e = faulty_not v input k is why.0 e
     not_explained v input (CutShort k) is few why e = why.none v is e
     not_explained v input TooLong is few why e = not_many v why.lines why.rest is why.first.are why.count why.more few (sym e ∙ why.first.first)
 
@@ -302,6 +302,11 @@ behind_fault s n a b c bytes fault result t some next is why =
       | true ↦ λ most same. subst (λ f. IfSome a (λ input. Explains input f)) (sym same) (too_long s n a b c bytes t (same_number n most_lines most) some next)
       | false ↦ λ most same. subst (λ f. IfSome a (λ input. Explains input f)) (sym same) why
     ] refl is
+
+-- what is said of all bytes in two ways
+pub both_said : (a : Option (List ℕ)) (P Q : List ℕ → Type 0) → IfSome a P → IfSome a Q → IfSome a (λ input. P input × Q input)
+both_said None P Q p q = tt
+both_said (Some x) P Q p q = (p, q)
 
 -- what is said of each faulty line
 pub said_of : (a : Option (List ℕ)) (P Q : List ℕ → Type 0) → ((input : List ℕ) → P input → Q input) → IfSome a P → IfSome a Q

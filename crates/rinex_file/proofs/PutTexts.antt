@@ -4,7 +4,7 @@ use Rattle.rinex_file.specs.declared.fault.HeaderField.TheVariants.{RunBy, Date,
 use Rattle.rinex_file.specs.Texts.{HeaderLists}
 use Rattle.rinex_file.specs.FileValues.{IsText, AreTexts}
 
-program_put : (x : HeaderLists) (a b : List ℕ) → AreTexts x → IsText 20 a → IsText 20 b → AreTexts (record x { run_by = a; date = b })
+pub program_put : (x : HeaderLists) (a b : List ℕ) → AreTexts x → IsText 20 a → IsText 20 b → AreTexts (record x { run_by = a; date = b })
 program_put x a b are is_a is_b RunBy = is_a
 program_put x a b are is_a is_b Date = is_b
 program_put x a b are is_a is_b Marker = are Marker
@@ -20,7 +20,7 @@ program_put x a b are is_a is_b AntType = are AntType
 pub program_kept : (x y : HeaderLists) (a b : List ℕ) → y ≡ record x { run_by = a; date = b } → AreTexts x → IsText 20 a → IsText 20 b → AreTexts y
 program_kept x y a b e are is_a is_b = subst AreTexts (sym e) (program_put x a b are is_a is_b)
 
-marker_put : (x : HeaderLists) (a : List ℕ) → AreTexts x → IsText 60 a → AreTexts (record x { marker = a })
+pub marker_put : (x : HeaderLists) (a : List ℕ) → AreTexts x → IsText 60 a → AreTexts (record x { marker = a })
 marker_put x a are is_a RunBy = are RunBy
 marker_put x a are is_a Date = are Date
 marker_put x a are is_a Marker = is_a
@@ -36,7 +36,7 @@ marker_put x a are is_a AntType = are AntType
 pub marker_kept : (x y : HeaderLists) (a : List ℕ) → y ≡ record x { marker = a } → AreTexts x → IsText 60 a → AreTexts y
 marker_kept x y a e are is_a = subst AreTexts (sym e) (marker_put x a are is_a)
 
-marker_type_put : (x : HeaderLists) (a : List ℕ) → AreTexts x → IsText 20 a → AreTexts (record x { marker_type = a })
+pub marker_type_put : (x : HeaderLists) (a : List ℕ) → AreTexts x → IsText 20 a → AreTexts (record x { marker_type = a })
 marker_type_put x a are is_a RunBy = are RunBy
 marker_type_put x a are is_a Date = are Date
 marker_type_put x a are is_a Marker = are Marker
@@ -52,7 +52,7 @@ marker_type_put x a are is_a AntType = are AntType
 pub marker_type_kept : (x y : HeaderLists) (a : List ℕ) → y ≡ record x { marker_type = a } → AreTexts x → IsText 20 a → AreTexts y
 marker_type_kept x y a e are is_a = subst AreTexts (sym e) (marker_type_put x a are is_a)
 
-observer_put : (x : HeaderLists) (a b : List ℕ) → AreTexts x → IsText 20 a → IsText 40 b → AreTexts (record x { observer = a; agency = b })
+pub observer_put : (x : HeaderLists) (a b : List ℕ) → AreTexts x → IsText 20 a → IsText 40 b → AreTexts (record x { observer = a; agency = b })
 observer_put x a b are is_a is_b RunBy = are RunBy
 observer_put x a b are is_a is_b Date = are Date
 observer_put x a b are is_a is_b Marker = are Marker
@@ -68,7 +68,7 @@ observer_put x a b are is_a is_b AntType = are AntType
 pub observer_kept : (x y : HeaderLists) (a b : List ℕ) → y ≡ record x { observer = a; agency = b } → AreTexts x → IsText 20 a → IsText 40 b → AreTexts y
 observer_kept x y a b e are is_a is_b = subst AreTexts (sym e) (observer_put x a b are is_a is_b)
 
-receiver_put : (x : HeaderLists) (a b c : List ℕ) → AreTexts x → IsText 20 a → IsText 20 b → IsText 20 c → AreTexts (record x { rec_number = a; rec_type = b; rec_version = c })
+pub receiver_put : (x : HeaderLists) (a b c : List ℕ) → AreTexts x → IsText 20 a → IsText 20 b → IsText 20 c → AreTexts (record x { rec_number = a; rec_type = b; rec_version = c })
 receiver_put x a b c are is_a is_b is_c RunBy = are RunBy
 receiver_put x a b c are is_a is_b is_c Date = are Date
 receiver_put x a b c are is_a is_b is_c Marker = are Marker
@@ -84,7 +84,7 @@ receiver_put x a b c are is_a is_b is_c AntType = are AntType
 pub receiver_kept : (x y : HeaderLists) (a b c : List ℕ) → y ≡ record x { rec_number = a; rec_type = b; rec_version = c } → AreTexts x → IsText 20 a → IsText 20 b → IsText 20 c → AreTexts y
 receiver_kept x y a b c e are is_a is_b is_c = subst AreTexts (sym e) (receiver_put x a b c are is_a is_b is_c)
 
-antenna_put : (x : HeaderLists) (a b : List ℕ) → AreTexts x → IsText 20 a → IsText 20 b → AreTexts (record x { ant_number = a; ant_type = b })
+pub antenna_put : (x : HeaderLists) (a b : List ℕ) → AreTexts x → IsText 20 a → IsText 20 b → AreTexts (record x { ant_number = a; ant_type = b })
 antenna_put x a b are is_a is_b RunBy = are RunBy
 antenna_put x a b are is_a is_b Date = are Date
 antenna_put x a b are is_a is_b Marker = are Marker

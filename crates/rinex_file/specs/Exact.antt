@@ -1,15 +1,18 @@
 -- What is read from bytes that come line by line.
-use Rattle.std.specs.Prelude.{◌≡◌, ℕ, ◌+◌, ◌^◌, ◌<◌, ◌⊎◌, ◌==◌, false, List, [], ◌∷◌, ◌++◌, length, All, count_by, Option, Result, Ok, Err, ⊤}
+use Rattle.std.specs.Prelude.{◌≡◌, ℕ, ◌+◌, ◌^◌, ◌<◌, ◌⊎◌, ◌==◌, true, false, List, [], ◌∷◌, ◌++◌, length, drop, map, flat_map, is_some, All, count_by, Option, Result, Ok, Err, ⊤}
 use Rattle.std.specs.Io.KnownBytes.{IsAtEnd}
 use Rattle.rinex_file.specs.declared.lines.Found.{Found}
 use Rattle.rinex_file.specs.declared.lines.Found.TheVariants.{Line, End, Cut, Long, Failed}
 use Rattle.rinex_file.specs.declared.read_fault.ReadFault.{ReadFault}
 use Rattle.rinex_file.specs.declared.read_fault.ReadFault.TheVariants.{Memory, Read, BadHeader, BadEpoch, BadEvent, BadSatellite, CutShort, TooLong}
+use Rattle.rinex_file.specs.declared.due.Due.{Due}
+use Rattle.rinex_file.specs.declared.due.Due.TheVariants.{Header, Epoch, EventPosition, EventHeight, EventEpoch, Satellite}
 use Rattle.rinex_file.specs.Reading.{has}
 use Rattle.rinex_file.specs.Numbers.{joined}
-use Rattle.rinex_file.specs.Value.{FileValue}
+use Rattle.rinex_file.specs.Value.{Seen, Stamped, FileValue}
 use Rattle.rinex_file.specs.FileValues.{IsFileValue}
-use Rattle.rinex_file.specs.File.{file_text}
+use Rattle.rinex_file.specs.Lines.{seen_line}
+use Rattle.rinex_file.specs.File.{file_text, file_lines, stamped_lines}
 
 -- a line: bytes that end in the one line feed among them
 abbrev pub IsLine : List ℕ → Type 0
@@ -58,6 +61,53 @@ pub record IsCutShort (input : List ℕ) (k : ℕ) : Type 0 where
   pub count : line_feeds input + 1 ≡ k
   pub none : (v : FileValue) → IsFileValue v → input ≡ file_text v → ⊥
 
+-- ---- which kind of line is due
+
+-- the file goes on with lines of its header
+pub record HasHeaderNext (v : FileValue) (lines : List (List ℕ)) : Type 0 where
+  pub header : List (List ℕ)
+  pub some : 0 < length header
+  pub left : file_lines v ≡ lines ++ (header ++ flat_map stamped_lines v.epochs)
+
+-- with the lines of an epoch, those of the event in front of it included, where so many of the event's lines come before
+pub record HasEpochLeft (taken : ℕ) (v : FileValue) (lines : List (List ℕ)) : Type 0 where
+  pub before : List Stamped
+  pub epoch : Stamped
+  pub others : List Stamped
+  pub epochs : v.epochs ≡ before ++ epoch ∷ others
+  pub event : 0 < taken → is_some epoch.change ≡ true
+  pub left : file_lines v ≡ lines ++ (drop taken (stamped_lines epoch) ++ flat_map stamped_lines others)
+
+-- with the line of a satellite
+pub record HasSatelliteNext (v : FileValue) (lines : List (List ℕ)) : Type 0 where
+  pub before : List Stamped
+  pub epoch : Stamped
+  pub others : List Stamped
+  pub first : List Seen
+  pub satellite : Seen
+  pub more : List Seen
+  pub epochs : v.epochs ≡ before ++ epoch ∷ others
+  pub rows : epoch.rows ≡ first ++ satellite ∷ more
+  pub left : file_lines v ≡ lines ++ (map seen_line (satellite ∷ more) ++ flat_map stamped_lines others)
+
+-- so does every file value that has line k, and whose first k - 1 lines are those of the input
+pub record IsDue (HasNext : FileValue → List (List ℕ) → Type 0) (input : List ℕ) (k : ℕ) : Type 0 where
+  pub lines : List (List ℕ)
+  pub rest : List ℕ
+  pub first : AreFirstLines input lines rest
+  pub count : length lines + 1 ≡ k
+  pub due : (v : FileValue) (line : List ℕ) (left : List (List ℕ)) → IsFileValue v → file_lines v ≡ lines ++ line ∷ left → HasNext v lines
+
+abbrev pub IsDueAt : Due → List ℕ → ℕ → Type 0
+IsDueAt (Header section row) input k = IsDue HasHeaderNext input k
+IsDueAt Epoch input k = IsDue (HasEpochLeft 0) input k
+IsDueAt EventPosition input k = IsDue (HasEpochLeft 1) input k
+IsDueAt (EventHeight x y z) input k = IsDue (HasEpochLeft 2) input k
+IsDueAt (EventEpoch values) input k = IsDue (HasEpochLeft 3) input k
+IsDueAt (Satellite n) input k = IsDue HasSatelliteNext input k
+
+-- ---- faults
+
 -- why line k is a fault
 abbrev pub IsFaulty : List ℕ → ℕ → Type 0
 IsFaulty input k = IsRefuted input k ⊎ IsOverLong input k
@@ -78,10 +128,10 @@ pub record IsTooLong (input : List ℕ) : Type 0 where
 abbrev pub Explains : List ℕ → ReadFault → Type 0
 Explains input Memory = ⊤
 Explains input Read = ⊤
-Explains input (BadHeader k) = IsFaulty input k
-Explains input (BadEpoch k) = IsFaulty input k
-Explains input (BadEvent k) = IsFaulty input k
-Explains input (BadSatellite k) = IsFaulty input k
+Explains input (BadHeader k) = IsFaulty input k × IsDue HasHeaderNext input k
+Explains input (BadEpoch k) = IsFaulty input k × (IsDue (HasEpochLeft 0) input k ⊎ IsDue (HasEpochLeft 3) input k)
+Explains input (BadEvent k) = IsFaulty input k × (IsDue (HasEpochLeft 1) input k ⊎ IsDue (HasEpochLeft 2) input k)
+Explains input (BadSatellite k) = IsFaulty input k × IsDue HasSatelliteNext input k
 Explains input (CutShort k) = IsCutShort input k
 Explains input TooLong = IsTooLong input
 

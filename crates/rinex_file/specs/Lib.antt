@@ -19,3 +19,4 @@ pub mod Kept
 pub mod Keeping
 pub mod Counting
 pub mod HeaderSteps
+pub mod Gathered

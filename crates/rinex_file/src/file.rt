@@ -87,7 +87,12 @@ pub fn read_file<R: Read>(alloc: Global, reader: &mut Counted<R>) -> Result<ObsF
                 Ok(()) => {}
                 Err(_) => return Err(ReadFault::Memory),
             },
-            Ok(None) => return Ok(keeper.finish(reading.course)),
+            Ok(None) => {
+                return match keeper.finish(alloc, reading.course) {
+                    Ok(file) => Ok(file),
+                    Err(_) => Err(ReadFault::Memory),
+                };
+            }
             Err(fault) => return Err(fault),
         }
     }

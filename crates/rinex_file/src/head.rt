@@ -9,6 +9,7 @@ use crate::header::{
     antenna_line, delta_line, first_line, labelled, observer_line, position_line, program_line,
     receiver_line, version_line,
 };
+use crate::labels;
 use crate::numbers::Line;
 use crate::satellite::letter_of;
 use crate::section::Section;
@@ -71,18 +72,21 @@ fn line_at(head: &Head, section: Section, row: usize) -> Line
     match section {
         Section::Version => version_line(head.plan),
         Section::Program => program_line(head.texts),
-        Section::Marker => labelled(head.texts.text(HeaderField::Marker), b"MARKER NAME"),
-        Section::MarkerType => labelled(head.texts.text(HeaderField::MarkerType), b"MARKER TYPE"),
+        Section::Marker => labelled(head.texts.text(HeaderField::Marker), labels::MARKER),
+        Section::MarkerType => labelled(
+            head.texts.text(HeaderField::MarkerType),
+            labels::MARKER_TYPE,
+        ),
         Section::Observer => observer_line(head.texts),
         Section::Receiver => receiver_line(head.texts),
         Section::Antenna => antenna_line(head.texts),
         Section::Position => position_line(&head.values),
         Section::Delta => delta_line(&head.values),
         Section::Types(system) => type_line(head.plan, system, row),
-        Section::StrengthUnit => labelled(b"DBHZ", b"SIGNAL STRENGTH UNIT"),
+        Section::StrengthUnit => labelled(labels::UNIT, labels::STRENGTH_UNIT),
         Section::First => first_line(head.first),
-        Section::Shift(system) => labelled(&[letter_of(system)], b"SYS / PHASE SHIFT"),
-        Section::End => labelled(b"", b"END OF HEADER"),
+        Section::Shift(system) => labelled(&[letter_of(system)], labels::SHIFT),
+        Section::End => labelled(b"", labels::END),
     }
 }
 

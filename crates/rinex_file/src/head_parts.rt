@@ -1,11 +1,12 @@
 //! What a header shows, once its lines were read.
-ghost use Rattle.std.specs.Prelude.{◌≡◌, ◌+◌, ◌<◌, length, IfSome, IsSome};
+ghost use Rattle.std.specs.Prelude.{◌≡◌, ◌+◌, ◌<◌, length, IfOk};
 ghost use Rattle.obs_epoch.specs.Values.{planned_of};
 
 use crate::head_so_far::HeadSoFar;
 use crate::texts::HeaderTexts;
 use gnss_obs::System;
 use obs_epoch::{GpsTime, Plan, StationValues};
+use std::alloc::{AllocError, Global};
 
 /// What a header shows besides the time of the first epoch.
 #[derive(Drop)]
@@ -26,10 +27,10 @@ impl HeadSoFar {
         }
     }
 
-    /// Texts, plan and station values, or None where no signal was read.
-    pub(crate) fn into_parts(self) -> Option<HeadParts>
-        ensures parts { IfSome result (λ p. (p.texts ≡ self.shown.texts) × (p.plan ≡ self.shown.plan) × (p.values ≡ self.shown.values)) }
-        ensures some { 0 < length self.shown.plan.gps + length self.shown.plan.galileo → IsSome result }
+    /// Texts, plan and station values of a header with some signal, unless there is no memory for the plan.
+    pub(crate) fn into_parts(self, alloc: Global) -> Result<HeadParts, AllocError>
+        requires { 0 < length self.shown.plan.gps + length self.shown.plan.galileo }
+        ensures { IfOk result (λ p. (p.texts ≡ self.shown.texts) × (p.plan ≡ self.shown.plan) × (p.values ≡ self.shown.values)) }
     {
         let HeadSoFar {
             texts,
@@ -38,13 +39,13 @@ impl HeadSoFar {
             values,
             ..
         } = self;
-        match Plan::from_signals(gps, galileo) {
-            Ok(plan) => Some(HeadParts {
+        match Plan::from_signals(alloc, gps.as_slice(), galileo.as_slice()) {
+            Ok(plan) => Ok(HeadParts {
                 texts,
                 plan,
                 values,
             }),
-            Err(_) => None,
+            Err(_) => Err(AllocError),
         }
     }
 

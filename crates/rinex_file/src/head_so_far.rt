@@ -10,6 +10,7 @@ ghost use Rattle.rinex_file.specs.Progress.{Shown, IsShown, IsHeaderLeft, MayFol
 ghost use Rattle.rinex_file.specs.HeaderSteps.{IsSole, has_lines, Learned, IsPast, IsReached, IsWhole, StepsTo, NoneGoesOn, TakesRow, RefusesRow, with_signals};
 
 use crate::due::Refusal;
+use crate::labels;
 use crate::numbers::Line;
 use crate::read_epoch::read_first;
 use crate::read_numbers::is_same;
@@ -178,10 +179,10 @@ impl HeadSoFar {
     fn take_program(&mut self, line: &[u8]) -> bool
         ensures { Learned Section.Program line.now self.old self.new result }
     {
-        let Some((program, run_by, date)) = read_three(line, b"PGM / RUN BY / DATE") else {
+        let Some((program, run_by, date)) = read_three(line, labels::PROGRAM) else {
             return false;
         };
-        if !is_same(program.as_slice(), b"rtcm2rinex") {
+        if !is_same(program.as_slice(), labels::PROGRAM_NAME) {
             return false;
         }
         self.texts.set_program(run_by, date);
@@ -192,7 +193,7 @@ impl HeadSoFar {
     fn take_marker(&mut self, line: &[u8]) -> bool
         ensures { Learned Section.Marker line.now self.old self.new result }
     {
-        match read_one(line, b"MARKER NAME") {
+        match read_one(line, labels::MARKER) {
             Some(text) => {
                 self.texts.set_marker(text);
                 true
@@ -205,7 +206,7 @@ impl HeadSoFar {
     fn take_marker_type(&mut self, line: &[u8]) -> bool
         ensures { Learned Section.MarkerType line.now self.old self.new result }
     {
-        match read_one(line, b"MARKER TYPE") {
+        match read_one(line, labels::MARKER_TYPE) {
             Some(text) => {
                 self.texts.set_marker_type(text);
                 true
@@ -218,7 +219,7 @@ impl HeadSoFar {
     fn take_observer(&mut self, line: &[u8]) -> bool
         ensures { Learned Section.Observer line.now self.old self.new result }
     {
-        match read_two(line, b"OBSERVER / AGENCY") {
+        match read_two(line, labels::OBSERVER) {
             Some((observer, agency)) => {
                 self.texts.set_observer(observer, agency);
                 true
@@ -231,7 +232,7 @@ impl HeadSoFar {
     fn take_receiver(&mut self, line: &[u8]) -> bool
         ensures { Learned Section.Receiver line.now self.old self.new result }
     {
-        match read_three(line, b"REC # / TYPE / VERS") {
+        match read_three(line, labels::RECEIVER) {
             Some((number, kind, version)) => {
                 self.texts.set_receiver(number, kind, version);
                 true
@@ -244,7 +245,7 @@ impl HeadSoFar {
     fn take_antenna(&mut self, line: &[u8]) -> bool
         ensures { Learned Section.Antenna line.now self.old self.new result }
     {
-        match read_two(line, b"ANT # / TYPE") {
+        match read_two(line, labels::ANTENNA) {
             Some((number, kind)) => {
                 self.texts.set_antenna(number, kind);
                 true
@@ -284,7 +285,7 @@ impl HeadSoFar {
     fn take_unit(&mut self, line: &[u8]) -> bool
         ensures { Learned Section.StrengthUnit line.now self.old self.new result }
     {
-        is_header_line(line, b"DBHZ", b"SIGNAL STRENGTH UNIT")
+        is_header_line(line, labels::UNIT, labels::STRENGTH_UNIT)
     }
 
     // The time of the first epoch.
@@ -307,7 +308,7 @@ impl HeadSoFar {
         if !self.plans(system) {
             return false;
         }
-        is_header_line(line, &[letter_of(system)], b"SYS / PHASE SHIFT")
+        is_header_line(line, &[letter_of(system)], labels::SHIFT)
     }
 
     // Takes the line of a section, and answers whether it is one.
@@ -377,7 +378,7 @@ impl HeadSoFar {
         if row != 0 {
             return Err(Refusal::Bad);
         }
-        if !is_header_line(line, b"", b"END OF HEADER") {
+        if !is_header_line(line, b"", labels::END) {
             return Err(Refusal::Bad);
         }
         if !self.is_whole() {

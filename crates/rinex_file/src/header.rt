@@ -6,6 +6,7 @@ ghost use Rattle.rinex_file.specs.Header.{header_line, version_line, two, three,
 ghost use Rattle.rinex_file.specs.Progress.{version_with};
 
 use crate::fault::HeaderField;
+use crate::labels;
 use crate::numbers::{Line, put, put_fixed, put_left, put_seconds, put_whole};
 use crate::texts::HeaderTexts;
 use gnss_obs::System;
@@ -81,7 +82,7 @@ pub(crate) fn version_with(gps: bool, galileo: bool) -> Line
     put(&mut content, b"           ");
     put_left(&mut content, 20, b"OBSERVATION DATA");
     content.push(file_system(gps, galileo));
-    labelled(content.as_slice(), b"RINEX VERSION / TYPE")
+    labelled(content.as_slice(), labels::VERSION)
 }
 
 /// Version 3.05, the file's type and the planned systems.
@@ -100,7 +101,7 @@ pub(crate) fn program_line(texts: &HeaderTexts) -> Line
 {
     let run_by = texts.text(HeaderField::RunBy);
     let date = texts.text(HeaderField::Date);
-    three_texts(b"rtcm2rinex", run_by, date, b"PGM / RUN BY / DATE")
+    three_texts(labels::PROGRAM_NAME, run_by, date, labels::PROGRAM)
 }
 
 /// Observer and agency.
@@ -109,7 +110,7 @@ pub(crate) fn observer_line(texts: &HeaderTexts) -> Line
 {
     let observer = texts.text(HeaderField::Observer);
     let agency = texts.text(HeaderField::Agency);
-    two_texts(observer, agency, b"OBSERVER / AGENCY")
+    two_texts(observer, agency, labels::OBSERVER)
 }
 
 /// Number, type and version of the receiver.
@@ -119,7 +120,7 @@ pub(crate) fn receiver_line(texts: &HeaderTexts) -> Line
     let number = texts.text(HeaderField::RecNumber);
     let kind = texts.text(HeaderField::RecType);
     let version = texts.text(HeaderField::RecVersion);
-    three_texts(number, kind, version, b"REC # / TYPE / VERS")
+    three_texts(number, kind, version, labels::RECEIVER)
 }
 
 /// Number and type of the antenna.
@@ -128,21 +129,21 @@ pub(crate) fn antenna_line(texts: &HeaderTexts) -> Line
 {
     let number = texts.text(HeaderField::AntNumber);
     let kind = texts.text(HeaderField::AntType);
-    two_texts(number, kind, b"ANT # / TYPE")
+    two_texts(number, kind, labels::ANTENNA)
 }
 
 /// The position of the antenna.
 pub(crate) fn position_line(values: &StationValues) -> Line
     ensures { result.items ≡ position_line values.now }
 {
-    three_lengths(values.x, values.y, values.z, b"APPROX POSITION XYZ")
+    three_lengths(values.x, values.y, values.z, labels::POSITION)
 }
 
 /// The height of the antenna above the marker.
 pub(crate) fn delta_line(values: &StationValues) -> Line
     ensures { result.items ≡ delta_line values.now }
 {
-    three_lengths(values.height as i64, 0, 0, b"ANTENNA: DELTA H/E/N")
+    three_lengths(values.height as i64, 0, 0, labels::DELTA)
 }
 
 // The time of the first epoch, by the calendar.
@@ -157,7 +158,7 @@ fn civil_line(civil: &Civil) -> Line
     put_whole(&mut content, 6, civil.minute as u64);
     put_seconds(&mut content, 13, civil.millisecond);
     put(&mut content, b"     GPS");
-    labelled(content.as_slice(), b"TIME OF FIRST OBS")
+    labelled(content.as_slice(), labels::FIRST)
 }
 
 /// The time of the first epoch.

@@ -108,12 +108,12 @@ impl Keeper {
         Ok(())
     }
 
-    /// The file of what was read.
-    pub(crate) fn finish(self, course: Course) -> ObsFile
+    /// The file of what was read, unless there is no memory for its plan.
+    pub(crate) fn finish(self, alloc: Global, course: Course) -> Result<ObsFile, AllocError>
         requires kept { IsKept self }
         requires none { (history_of self).rows ≡ [] }
         requires value { IsFileValue (file_at course (history_of self)) }
-        ensures { result ≡ file_at course (history_of self) }
+        ensures { IfOk result (λ f. f ≡ file_at course (history_of self)) }
     {
         let Keeper {
             epochs,
@@ -122,10 +122,8 @@ impl Keeper {
             entries,
             ..
         } = self;
-        let Some(parts) = course.head.into_parts() else {
-            unreachable!()
-        };
-        file_of(parts, epochs, changes, rows, entries)
+        let parts = course.head.into_parts(alloc)?;
+        Ok(file_of(parts, epochs, changes, rows, entries))
     }
 }
 

@@ -3,7 +3,13 @@ ghost use Rattle.std.specs.Prelude.{◌≡◌, ◌≢◌, ℕ, List, [], ◌∷�
 ghost use Rattle.obs_epoch.specs.declared.cell.StationValues.{StationValues};
 ghost use Rattle.obs_epoch.specs.Values.{PlanValue, Closed};
 ghost use Rattle.rinex_file.specs.Texts.{HeaderLists};
+ghost use Rattle.rinex_file.specs.FileValues.{AreTexts};
+ghost use Rattle.rinex_file.specs.Gathered.{AreSignals, IsGatheredFile};
 ghost use Rattle.rinex_file.specs.File.{header_text, closed_text, file_text, gathered};
+
+use crate::texts::HeaderTexts;
+use gnss_obs::System;
+use obs_epoch::Plan;
 
 /// What the writers send is the text of a file value: the header of the first epoch, and then each epoch in turn, behind an event
 /// where its station values are no longer those before.
@@ -16,3 +22,18 @@ pub fn file()
     // A header isn't empty.
     ensures some { (texts : HeaderLists) (plan : PlanValue) (values : StationValues) (first : ℕ) → header_text texts plan values first ≢ [] }
 {}
+
+/// What is gathered of messages that were read is a file value, so its text is one that is read back.
+pub fn values()
+    ensures { IsGatheredFile }
+{}
+
+/// The texts and the plan of every header are those of a file value.
+pub fn head(texts: &HeaderTexts, plan: &Plan)
+    ensures texts { AreTexts texts.now }
+    ensures plan { AreSignals plan.now }
+{
+    texts.are_texts();
+    plan.of(System::Gps);
+    plan.of(System::Galileo);
+}

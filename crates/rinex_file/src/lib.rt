@@ -18,6 +18,7 @@ mod header;
 mod keeper;
 mod kept;
 mod kept_line;
+mod labels;
 pub mod laws;
 mod lines;
 mod numbers;

@@ -6,6 +6,7 @@ ghost use Rattle.rinex_file.specs.Reading.{number_in, ReadsExactly};
 ghost use Rattle.rinex_file.specs.Progress.{version_with};
 
 use crate::header::{labelled, three_lengths, version_with};
+use crate::labels;
 use crate::read_numbers::{digits_in, is_same, number_in};
 use crate::read_texts::columns;
 
@@ -52,7 +53,7 @@ pub(crate) fn read_position(line: &[u8]) -> Option<(i64, i64, i64)>
     let x = coordinate_in(line, 0)?;
     let y = coordinate_in(line, 14)?;
     let z = coordinate_in(line, 28)?;
-    let again = three_lengths(x, y, z, b"APPROX POSITION XYZ");
+    let again = three_lengths(x, y, z, labels::POSITION);
     if !is_same(line, again.as_slice()) {
         return None;
     }
@@ -64,7 +65,7 @@ pub(crate) fn read_delta(line: &[u8]) -> Option<u16>
     ensures { ReadsExactly (λ h. h < 2 ^ 16) (λ h. header_line (lengths (pos h) (pos 0) (pos 0)) (codes "ANTENNA: DELTA H/E/N")) line.now result }
 {
     let height = u16::try_from(digits_in(columns(line, 0, 14))).ok()?;
-    let again = three_lengths(height as i64, 0, 0, b"ANTENNA: DELTA H/E/N");
+    let again = three_lengths(height as i64, 0, 0, labels::DELTA);
     if !is_same(line, again.as_slice()) {
         return None;
     }

@@ -7,6 +7,7 @@ ghost use Rattle.rinex_file.specs.Header.{type_rows};
 ghost use Rattle.rinex_file.specs.Progress.{AreTypes, types_line, begun};
 
 use crate::due::Refusal;
+use crate::labels;
 use crate::numbers::Line;
 use crate::read_numbers::digits_in;
 use crate::read_station::is_header_line;
@@ -48,7 +49,7 @@ pub(crate) fn read_types(
     take_signals(signals, system, count, row, line)?;
     again.clear();
     put_row(again, system, count, signals.as_slice(), row);
-    if is_header_line(line, again.as_slice(), b"SYS / # / OBS TYPES") {
+    if is_header_line(line, again.as_slice(), labels::TYPES) {
         Ok(())
     } else {
         Err(Refusal::Bad)

@@ -4,7 +4,7 @@ ghost use Rattle.rtcm_bits.specs.Device.{HasFailed};
 ghost use Rattle.rinex_file.specs.Value.{FileValue};
 ghost use Rattle.rinex_file.specs.FileValues.{IsFileValue};
 ghost use Rattle.rinex_file.specs.File.{file_lines};
-ghost use Rattle.rinex_file.specs.Exact.{Explains, IsFaulty, most_lines};
+ghost use Rattle.rinex_file.specs.Exact.{Explains, IsFaulty, IsDueAt, most_lines};
 ghost use Rattle.rinex_file.specs.Blocks.{Leaves};
 ghost use Rattle.rinex_file.specs.Course.{History, StandsBehind, nothing};
 ghost use Rattle.rinex_file.specs.Steps.{Goes, HasRead, IsCounted, IsWithin};
@@ -34,13 +34,15 @@ pub(crate) struct Reading {
 
 // The fault of a line that is another than the one that was due.
 fn fault_at(due: Due, number: u64) -> ReadFault
-    ensures faulty { (input : List ℕ) → IsFaulty input number → Explains input result }
+    ensures faulty { (input : List ℕ) → IsFaulty input number → IsDueAt due input number → Explains input result }
     ensures other { result ≡ ReadFault.Read → ⊥ }
 {
     match due {
         Due::Header(_, _) => ReadFault::BadHeader(number),
-        Due::Epoch | Due::EventEpoch(_) => ReadFault::BadEpoch(number),
-        Due::EventPosition | Due::EventHeight(_, _, _) => ReadFault::BadEvent(number),
+        Due::Epoch => ReadFault::BadEpoch(number),
+        Due::EventPosition => ReadFault::BadEvent(number),
+        Due::EventHeight(_, _, _) => ReadFault::BadEvent(number),
+        Due::EventEpoch(_) => ReadFault::BadEpoch(number),
         Due::Satellite(_) => ReadFault::BadSatellite(number),
     }
 }

@@ -5,6 +5,7 @@ ghost use Rattle.std.specs.List.{list_all};
 ghost use Rattle.rinex_file.specs.Blanks.{trimmed};
 ghost use Rattle.rinex_file.specs.Texts.{fields, text_of, or_else, fault_of, first_fault, trimmed_texts, is_printable};
 ghost use Rattle.rinex_file.specs.TextsOf.{lists_of};
+ghost use Rattle.rinex_file.specs.FileValues.{AreTexts, IsText};
 ghost use Rattle.rinex_file.specs.declared.fault.HeaderField.{HeaderField};
 
 use crate::fault::{HeadFault, HeaderField};
@@ -57,6 +58,7 @@ pub struct HeaderTexts {
 
 impl Model for HeaderTexts {
     ghost use Rattle.rinex_file.specs.Texts.{HeaderLists};
+    ghost use Rattle.rinex_file.specs.FileValues.{AreTexts};
 
     ghost Value = { HeaderLists };
 
@@ -73,6 +75,21 @@ impl Model for HeaderTexts {
       ant_number = t.ant_number.items;
       ant_type = t.ant_type.items;
     } };
+
+    // Each is printable, within its columns, and has no blank at its end.
+    ghost invariant = { λ t. AreTexts (record {
+      run_by = t.run_by.items;
+      date = t.date.items;
+      marker = t.marker.items;
+      marker_type = t.marker_type.items;
+      observer = t.observer.items;
+      agency = t.agency.items;
+      rec_number = t.rec_number.items;
+      rec_type = t.rec_type.items;
+      rec_version = t.rec_version.items;
+      ant_number = t.ant_number.items;
+      ant_type = t.ant_type.items;
+    }) };
 }
 
 /// Whether all bytes are printable.
@@ -200,6 +217,7 @@ impl HeaderTexts {
 
     /// Puts in who ran the program, and when.
     pub(crate) fn set_program(&mut self, run_by: ArrayVec<u8, 20>, date: ArrayVec<u8, 20>)
+        requires { IsText 20 run_by.items × IsText 20 date.items }
         ensures { self.new ≡ record self.old { run_by = run_by.items; date = date.items } }
     {
         self.run_by = run_by;
@@ -208,6 +226,7 @@ impl HeaderTexts {
 
     /// Puts in the marker's name.
     pub(crate) fn set_marker(&mut self, name: ArrayVec<u8, 60>)
+        requires { IsText 60 name.items }
         ensures { self.new ≡ record self.old { marker = name.items } }
     {
         self.marker = name;
@@ -215,6 +234,7 @@ impl HeaderTexts {
 
     /// Puts in the marker's type.
     pub(crate) fn set_marker_type(&mut self, kind: ArrayVec<u8, 20>)
+        requires { IsText 20 kind.items }
         ensures { self.new ≡ record self.old { marker_type = kind.items } }
     {
         self.marker_type = kind;
@@ -222,6 +242,7 @@ impl HeaderTexts {
 
     /// Puts in observer and agency.
     pub(crate) fn set_observer(&mut self, observer: ArrayVec<u8, 20>, agency: ArrayVec<u8, 40>)
+        requires { IsText 20 observer.items × IsText 40 agency.items }
         ensures { self.new ≡ record self.old { observer = observer.items; agency = agency.items } }
     {
         self.observer = observer;
@@ -235,6 +256,7 @@ impl HeaderTexts {
         kind: ArrayVec<u8, 20>,
         version: ArrayVec<u8, 20>,
     )
+        requires { IsText 20 number.items × IsText 20 kind.items × IsText 20 version.items }
         ensures { self.new ≡ record self.old { rec_number = number.items; rec_type = kind.items; rec_version = version.items } }
     {
         self.rec_number = number;
@@ -244,10 +266,18 @@ impl HeaderTexts {
 
     /// Puts in number and type of the antenna.
     pub(crate) fn set_antenna(&mut self, number: ArrayVec<u8, 20>, kind: ArrayVec<u8, 20>)
+        requires { IsText 20 number.items × IsText 20 kind.items }
         ensures { self.new ≡ record self.old { ant_number = number.items; ant_type = kind.items } }
     {
         self.ant_number = number;
         self.ant_type = kind;
+    }
+
+    /// Tells that each text is printable, within its columns, and has no blank at its end.
+    pub(crate) fn are_texts(&self)
+        ensures { AreTexts self.now }
+    {
+        let _ = &self.run_by;
     }
 
     /// The bytes of a text.

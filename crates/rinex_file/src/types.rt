@@ -8,6 +8,7 @@ ghost use Rattle.rinex_file.specs.Lines.{letter_of};
 ghost use Rattle.rinex_file.specs.Header.{type_line, type_front, type_columns, type_rows, types_of, codes_of, type_of};
 
 use crate::header::labelled;
+use crate::labels;
 use crate::numbers::{Line, put, put_whole};
 use crate::satellite::letter_of;
 use gnss_obs::{Signal, System};
@@ -101,5 +102,5 @@ pub(crate) fn type_line(plan: &Plan, system: System, row: usize) -> Line
     let signals = plan.of(system);
     let mut content = Line::new();
     put_row(&mut content, system, signals.len(), signals, row);
-    labelled(content.as_slice(), b"SYS / # / OBS TYPES")
+    labelled(content.as_slice(), labels::TYPES)
 }

@@ -1,6 +1,13 @@
+mod BufferLemmas
 mod FrameLemmas
 mod LineLemmas
 mod ListedLemmas
 mod ShowLemmas
+mod ToldLemmas
 mod ReadBackLemmas
 pub mod CheckLemmas
+mod CensusLemmas
+mod SurveyLemmas
+mod SignalLemmas
+mod ValuedLemmas
+mod PlannedLemmas

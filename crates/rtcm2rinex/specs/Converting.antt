@@ -4,19 +4,15 @@ use Rattle.rtcm_convert.specs.Told.{IsBad}
 use Rattle.rtcm_convert.specs.Made.{IsMade}
 use Rattle.rtcm_convert.specs.declared.setup.Setup.{Setup}
 use Rattle.rtcm_convert.specs.declared.fault.Fault.TheVariants as convert
-use Rattle.rinex_file.specs.declared.fault.HeadFault.{HeadFault}
-use Rattle.obs_epoch.specs.declared.fault.PlanFault.{PlanFault}
+use Rattle.clap.specs.declared.parser.matches.Found.{Found}
 use Rattle.rtcm2rinex.specs.declared.fault.ToolFault.{ToolFault}
 use Rattle.rtcm2rinex.specs.declared.fault.ToolFault.TheVariants as faults
+use Rattle.rtcm2rinex.specs.Told.{IsTold}
 
--- Told something that isn't out of range, a conversion read all that the reader had, and wrote the file of its frames, which has an
--- epoch. Which words of the command line tell what is not said here: tests show it.
-abbrev pub IsConverted : (r w w' : Option (List ℕ)) → Type 0
-IsConverted r w w' = (x : Setup) × (IsBad x → ⊥) × IfSome r (IsMade x w w')
-
--- the faults of what a conversion is told
-abbrev pub IsSetupFault : ToolFault → Type 0
-IsSetupFault fault = ((header : HeadFault) × (fault ≡ faults.Header header)) ⊎ ((plan : PlanFault) × (fault ≡ faults.Plan plan))
+-- Told what these options say, which isn't out of range, a conversion read all that the reader had, and wrote the file of its frames,
+-- which has an epoch.
+abbrev pub IsConverted : Found → (r w w' : Option (List ℕ)) → Type 0
+IsConverted f r w w' = (x : Setup) × IsTold f x × (IsBad x → ⊥) × IfSome r (IsMade x w w')
 
 -- the faults of a conversion
 abbrev pub IsConvertFault : ToolFault → Type 0

@@ -5,6 +5,12 @@ pub mod ShowLines
 pub mod Kinds
 pub mod Listing
 pub mod Listed
+pub mod Told
 pub mod Converting
 pub mod ReadBack
 pub mod Checking
+pub mod Buffering
+pub mod Signals
+pub mod Census
+pub mod Telling
+pub mod SignalLaws

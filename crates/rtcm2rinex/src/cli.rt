@@ -1,4 +1,5 @@
 //! The command line.
+use crate::version::VERSION;
 use clap::{Arg, ArgAction, Command, Error, value_parser};
 use std::alloc::Global;
 
@@ -25,9 +26,11 @@ pub fn program<'a>(alloc: Global) -> Result<Command<'a>, Error> {
         .after_help(
             "Example: rtcm2rinex convert --week 2300 --date \"20240204 000001 UTC\" < stream.rtcm3 > station.obs",
         )
+        .version(VERSION)
         .subcommand_required(true)
         .subcommand(frames(alloc))?
         .subcommand(show(alloc))?
+        .subcommand(signals(alloc)?)?
         .subcommand(convert(alloc)?)?
         .subcommand(check(alloc))?;
     Ok(program)
@@ -55,6 +58,18 @@ fn show<'a>(alloc: Global) -> Command<'a> {
         )
 }
 
+/// The command that says which signals a stream has.
+fn signals<'a>(alloc: Global) -> Result<Command<'a>, Error> {
+    let command = Command::new(alloc, "signals")
+        .about("Names the signals that the stream has, as the options of convert that plan them")
+        .after_help(
+            "Example: rtcm2rinex convert --week 2300 --date \"20240204 000001 UTC\" $(rtcm2rinex signals < stream.rtcm3) < stream.rtcm3 > station.obs\nA line as '--gps 1C,2W --galileo 1C,5Q' has every signal with a pseudorange, a phase, a Doppler shift or a strength.\nWith --counts a line as 'G 1C 3042' is a signal: its system, its code, and how many cells have such a value.",
+        )
+        .arg(station(alloc))?
+        .arg(counts(alloc))?;
+    Ok(command)
+}
+
 /// The command that reads an observation file back.
 fn check<'a>(alloc: Global) -> Command<'a> {
     Command::new(alloc, "check")
@@ -73,12 +88,12 @@ fn convert<'a>(alloc: Global) -> Result<Command<'a>, Error> {
         )
         .arg(week(alloc))?
         .arg(date(alloc))?
-        .arg(signals(
+        .arg(planned(
             alloc,
             "gps",
             "GPS signals in the file's order: all, none, or codes as 1C,2W",
         ))?
-        .arg(signals(
+        .arg(planned(
             alloc,
             "galileo",
             "Galileo signals in the file's order: all, none, or codes as 1C,5Q",
@@ -131,7 +146,7 @@ fn date<'a>(alloc: Global) -> Arg<'a> {
     .required(true)
 }
 
-fn signals<'a>(alloc: Global, name: &'a str, help: &'a str) -> Arg<'a> {
+fn planned<'a>(alloc: Global, name: &'a str, help: &'a str) -> Arg<'a> {
     option(alloc, name, help)
         .value_name("SIGNALS")
         .default_value("all")
@@ -145,6 +160,13 @@ fn station<'a>(alloc: Global) -> Arg<'a> {
     )
     .value_name("NUMBER")
     .value_parser(value_parser!(u16).range(0..4_096))
+}
+
+fn counts<'a>(alloc: Global) -> Arg<'a> {
+    Arg::new(alloc, "counts")
+        .long("counts")
+        .action(ArgAction::SetTrue)
+        .help("Print a line for each signal with its number of cells, in place of the options")
 }
 
 fn gather<'a>(alloc: Global) -> Arg<'a> {

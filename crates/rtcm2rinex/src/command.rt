@@ -1,17 +1,25 @@
 //! The whole program, over a reader, a writer and a fault writer.
 ghost use Rattle.std.specs.Prelude.{◌≡◌, ◌⊎◌, ◌≤◌};
+ghost use Rattle.clap.specs.declared.parser.matches.Found.{Found};
+ghost use Rattle.clap.specs.Matches.{found_of};
 ghost use Rattle.rtcm2rinex.specs.FrameLines.{frame_lines};
 ghost use Rattle.rtcm2rinex.specs.ShowLines.{show_lines};
 ghost use Rattle.rtcm2rinex.specs.Listing.{ListsAll};
 ghost use Rattle.rtcm2rinex.specs.Converting.{IsConverted};
 ghost use Rattle.rtcm2rinex.specs.Checking.{ChecksFile};
+ghost use Rattle.rtcm2rinex.specs.Telling.{HasToldSignals};
+ghost use Rattle.rtcm2rinex.specs.declared.version.TheConstants.{VERSION};
+ghost use Rattle.std.specs.Io.KnownBytes.{Appends};
 
+use crate::census::Form;
 use crate::check::run_check;
 use crate::cli::program;
 use crate::convert::{run_convert, tell};
 use crate::fault::ToolFault;
 use crate::listing::{run_frames, run_show};
 use crate::options::setup_of;
+use crate::signals::{run_signals, send};
+use crate::version::VERSION;
 use clap::ArgMatches;
 use clap::error::ErrorKind;
 use rtcm_bits::Counted;
@@ -30,12 +38,15 @@ pub fn command<R: Read, W: Write, E: Write>(
 ) -> u8
     ensures status { result ≤ 2 }
 
-    // Good is only a stream that was read to its end and listed, or whose file was written and has an epoch, or a file that was read back.
+    // Good is only a stream that was read to its end and listed, whose signals were told, or whose file was written and has an epoch,
+    // or a file that was read back, or the version.
     ensures good { result ≡ 0 →
         ListsAll frame_lines (R.remaining reader.old.inner) (R.remaining reader.new.inner) (W.contents writer.old.inner) (W.contents writer.new.inner)
         ⊎ ListsAll show_lines (R.remaining reader.old.inner) (R.remaining reader.new.inner) (W.contents writer.old.inner) (W.contents writer.new.inner)
-        ⊎ IsConverted (R.remaining reader.old.inner) (W.contents writer.old.inner) (W.contents writer.new.inner)
-        ⊎ ChecksFile (R.remaining reader.old.inner) (W.contents writer.old.inner) (W.contents writer.new.inner) }
+        ⊎ ((f : Found) × IsConverted f (R.remaining reader.old.inner) (W.contents writer.old.inner) (W.contents writer.new.inner))
+        ⊎ ChecksFile (R.remaining reader.old.inner) (W.contents writer.old.inner) (W.contents writer.new.inner)
+        ⊎ HasToldSignals (R.remaining reader.old.inner) (R.remaining reader.new.inner) (W.contents writer.old.inner) (W.contents writer.new.inner)
+        ⊎ ((reader.new ≡ reader.old) × Appends (W.contents writer.old.inner) (W.contents writer.new.inner) VERSION.now) }
 
     // Of a command line that isn't accepted nothing comes but its text.
     ensures unread { result ≡ 2 → reader.new ≡ reader.old }
@@ -47,11 +58,12 @@ pub fn command<R: Read, W: Write, E: Write>(
     };
     let matches = match parsed {
         Ok(matches) => matches,
-        Err(error) => return refuse(&error, faults),
+        Err(error) => return answer(&error, writer, faults),
     };
     match matches.subcommand() {
         Some(("frames", _)) => frames(alloc, reader, writer, faults),
         Some(("show", _)) => show(alloc, reader, writer, faults),
+        Some(("signals", options)) => signals(alloc, options, reader, writer, faults),
         Some(("convert", options)) => convert(alloc, options, reader, writer, faults),
         Some(("check", _)) => check(alloc, reader, writer, faults),
         _ => 2,
@@ -90,6 +102,29 @@ fn show<R: Read, W: Write, E: Write>(
     }
 }
 
+/// Tells which signals the stream has, or the fault. Answers the exit status.
+fn signals<R: Read, W: Write, E: Write>(
+    alloc: Global,
+    options: &ArgMatches,
+    reader: &mut Counted<R>,
+    writer: &mut Counted<W>,
+    faults: &mut E,
+) -> u8
+    ensures status { result ≤ 1 }
+    ensures good { result ≡ 0 → HasToldSignals (R.remaining reader.old.inner) (R.remaining reader.new.inner) (W.contents writer.old.inner) (W.contents writer.new.inner) }
+{
+    let station = options.get_one::<u16>("station");
+    let form = if options.get_flag("counts") {
+        Form::Counts
+    } else {
+        Form::Options
+    };
+    match run_signals(alloc, station, form, reader, writer) {
+        Ok(()) => 0,
+        Err(fault) => stop(fault, faults),
+    }
+}
+
 /// Converts the stream as the options ask, and tells the counts or the fault. Answers the exit status.
 fn convert<R: Read, W: Write, E: Write>(
     alloc: Global,
@@ -99,7 +134,7 @@ fn convert<R: Read, W: Write, E: Write>(
     faults: &mut E,
 ) -> u8
     ensures status { result ≤ 1 }
-    ensures good { result ≡ 0 → IsConverted (R.remaining reader.old.inner) (W.contents writer.old.inner) (W.contents writer.new.inner) }
+    ensures good { result ≡ 0 → IsConverted (found_of options.now) (R.remaining reader.old.inner) (W.contents writer.old.inner) (W.contents writer.new.inner) }
 {
     let setup = match setup_of(alloc, options) {
         Ok(setup) => setup,
@@ -140,6 +175,30 @@ pub fn refuse_words<E: Write>(error: &io::Error, faults: &mut E) -> u8
     } else {
         let _ = faults.write_all(b"error: a word of the command line isn't UTF-8\n");
         2
+    }
+}
+
+/// Tells the version where the words ask for it; else says what is wrong with them. Answers the exit status.
+fn answer<W: Write, E: Write>(error: &clap::Error, writer: &mut Counted<W>, faults: &mut E) -> u8
+    ensures status { result ≤ 2 }
+    ensures good { result ≡ 0 → Appends (W.contents writer.old.inner) (W.contents writer.new.inner) VERSION.now }
+    ensures unwritten { result ≡ 2 → writer.new ≡ writer.old }
+{
+    if error.kind() == ErrorKind::DisplayVersion {
+        tell_version(writer, faults)
+    } else {
+        refuse(error, faults)
+    }
+}
+
+/// Writes the version, or tells the fault. Answers the exit status.
+fn tell_version<W: Write, E: Write>(writer: &mut Counted<W>, faults: &mut E) -> u8
+    ensures status { result ≤ 1 }
+    ensures good { result ≡ 0 → Appends (W.contents writer.old.inner) (W.contents writer.new.inner) VERSION.now }
+{
+    match send(VERSION.as_bytes(), writer) {
+        Ok(()) => 0,
+        Err(_) => stop(ToolFault::Write, faults),
     }
 }
 

@@ -23,6 +23,8 @@ pub enum ToolFault {
     Convert(Fault),
     /// The file that was to be checked was refused.
     Check(ReadFault),
+    /// No cell of the stream has a value.
+    NoSignal,
 }
 
 impl fmt::Display for ToolFault {
@@ -52,6 +54,7 @@ impl fmt::Display for ToolFault {
             ToolFault::Check(ReadFault::BadSatellite(line)) => write!(f, "BadSatellite {line}"),
             ToolFault::Check(ReadFault::CutShort(line)) => write!(f, "CutShort {line}"),
             ToolFault::Check(fault) => write!(f, "{fault:?}"),
+            ToolFault::NoSignal => f.write_str("NoSignal"),
         }
     }
 }

@@ -2,6 +2,7 @@
 ghost use Rattle.std.specs.Prelude.{List, ℕ};
 ghost use Rattle.rtcm_msg.specs.declared.message.Message.{Message};
 ghost use Rattle.rtcm2rinex.specs.ReadBack.{AreKnown, AreEncoded, ReadsBack};
+ghost use Rattle.rtcm2rinex.specs.SignalLaws.{LeavesNoneOut, AreReadAsPlan};
 
 /// For every list of messages of known layouts: they have encodings, and whatever these are, their frames, joined, have
 /// exactly these frames, and are read back as that list.
@@ -15,4 +16,13 @@ pub fn read_back()
     rtcm_scan::laws::joined();
     rtcm_msg::laws::read_back();
     rtcm_msg::laws::one_value();
+}
+
+/// The line that `signals` prints is read as the plan of the signals that it names, and a conversion with this plan leaves no value of
+/// the stream out for want of a column.
+pub fn signals()
+    ensures columns { LeavesNoneOut }
+    ensures read { AreReadAsPlan }
+{
+    gnss_obs::laws::signal_tables();
 }

@@ -70,6 +70,16 @@ impl Line {
         self.put(word.as_bytes());
     }
 
+    /// A byte that parts, and a text behind it.
+    pub fn add_part(&mut self, separator: u8, part: &[u8])
+        requires { length self.old + length part.now + 1 ≤ 256 }
+        ensures text { self.new ≡ self.old ++ separator ∷ part.now }
+        ensures short { length self.new ≡ length self.old + length part.now + 1 }
+    {
+        self.put(&[separator]);
+        self.put(part);
+    }
+
     /// One more word, a length in units of 0.0001 m, which is written in metres with four digits behind the point.
     pub fn add_metres(&mut self, value: i64)
         requires { length self.old ≤ 229 }

@@ -2,6 +2,8 @@
 //! RINEX 3.05 observation file of its observations. It reads such a file back, too, and says whether it is one.
 #![tactic(auto)]
 
+mod buffer;
+mod census;
 mod check;
 mod cli;
 mod command;
@@ -13,21 +15,22 @@ mod line;
 mod listing;
 mod options;
 mod show;
+mod signals;
+mod survey;
 #[cfg(test)]
 mod tests;
+mod version;
 
+use crate::buffer::Buffered;
 use crate::command::{command, refuse_words};
 use rtcm_bits::Counted;
 use std::alloc::Global;
 use std::io;
-use std::io::{BufReader, BufWriter};
+use std::io::BufReader;
 use std::process::ExitCode;
 
 /// So many bytes of standard input are asked for at a time: what a pipe holds.
 const INPUT_BYTES: usize = 65_536;
-
-/// So many bytes wait at most for standard output: what a pipe holds. The commands send on what waits before they ask for more.
-const OUTPUT_BYTES: usize = 65_536;
 
 fn main(rt: HostRuntime) -> ExitCode {
     let status = match run(&rt) {
@@ -48,8 +51,8 @@ fn run(rt: &HostRuntime) -> io::Result<u8> {
     // A file is read line by line and a stream in small pieces, and lines are written one by one: none should ask the system for each.
     let input = BufReader::with_capacity(alloc, INPUT_BYTES, rt.stdin())?;
     let mut reader = Counted::new(input);
-    let output = BufWriter::with_capacity(alloc, OUTPUT_BYTES, rt.stdout())?;
-    let mut writer = Counted::new(output);
+    // The commands send on what waits before they ask for more.
+    let mut writer = Counted::new(Buffered::new(alloc, rt.stdout())?);
     Ok(command(
         alloc,
         words.as_slice(),

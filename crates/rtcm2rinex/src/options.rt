@@ -1,6 +1,10 @@
 //! What the options of `convert` ask for.
-ghost use Rattle.std.specs.Prelude.{IfErr};
-ghost use Rattle.rtcm2rinex.specs.Converting.{IsSetupFault};
+ghost use Rattle.std.specs.Prelude.{◌≡◌, MatchResult, codes, not};
+ghost use Rattle.std.specs.Str.{bytes_eq};
+ghost use Rattle.clap.specs.Matches.{found_of, one_text};
+ghost use Rattle.obs_epoch.specs.Kinds.{is_by_bit};
+ghost use Rattle.rinex_file.specs.TextsOf.{lists_of};
+ghost use Rattle.rtcm2rinex.specs.Told.{IsTold, IsRefused, IsNumberOf, text_told, texts_told};
 
 use crate::fault::ToolFault;
 use clap::ArgMatches;
@@ -12,7 +16,7 @@ use std::alloc::Global;
 
 /// What a conversion is told at first. The texts of the header are judged before the plan.
 pub fn setup_of(alloc: Global, options: &ArgMatches) -> Result<Setup, ToolFault>
-    ensures { IfErr result IsSetupFault }
+    ensures { MatchResult result (IsTold (found_of options.now)) (IsRefused (found_of options.now)) }
 {
     let texts = match HeaderTexts::new(&texts_of(options)) {
         Ok(texts) => texts,
@@ -27,16 +31,15 @@ pub fn setup_of(alloc: Global, options: &ArgMatches) -> Result<Setup, ToolFault>
         texts,
         start_week: options.get_one::<u32>("week").unwrap_or(0),
         station: options.get_one::<u16>("station"),
-        gather: match text(options, "gather") {
-            "time" => Gather::Time,
-            _ => Gather::Bit,
-        },
+        gather: gather_of(text(options, "gather")),
         limit: options.get_one::<u64>("limit").unwrap_or(MOST_BYTES),
     })
 }
 
 /// The texts of the header.
-fn texts_of<'a>(options: &ArgMatches<'a>) -> Texts<'a> {
+fn texts_of<'a>(options: &ArgMatches<'a>) -> Texts<'a>
+    ensures { lists_of result ≡ texts_told (found_of options.now) }
+{
     Texts {
         run_by: text(options, "run-by"),
         date: text(options, "date"),
@@ -52,8 +55,20 @@ fn texts_of<'a>(options: &ArgMatches<'a>) -> Texts<'a> {
     }
 }
 
+/// The rule of gathering of this name.
+fn gather_of(name: &str) -> Gather
+    ensures { is_by_bit result ≡ not (bytes_eq name.now (codes "time")) }
+{
+    match name {
+        "time" => Gather::Time,
+        _ => Gather::Bit,
+    }
+}
+
 /// The value of an option: each that is asked for is required or has a default.
-fn text<'a>(options: &ArgMatches<'a>, name: &str) -> &'a str {
+fn text<'a>(options: &ArgMatches<'a>, name: &str) -> &'a str
+    ensures { result.now ≡ text_told (found_of options.now) name.now }
+{
     match options.get_str(name) {
         Some(text) => text,
         None => "",

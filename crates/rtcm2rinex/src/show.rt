@@ -2,23 +2,23 @@
 ghost use Rattle.std.specs.Prelude.{◌≡◌, ◌+◌, ◌<◌, ◌≤◌, ◌^◌, if◌then◌else◌, is_some, [], length, MatchOption};
 ghost use Rattle.rtcm_scan.specs.Answers.{framed};
 ghost use Rattle.rtcm_msg.specs.Station.{InRange};
+ghost use Rattle.rtcm_msg.specs.Views.{number};
 ghost use Rattle.rtcm2rinex.specs.Lines.{with_words};
 ghost use Rattle.rtcm2rinex.specs.ShowLines.{show_line, station_line, msm_line, fault_line, height_words, fault_words};
 
 use crate::frames::add_message_number;
 use crate::line::Line;
-use rtcm_msg::{Grid, Message, MsgFault, Msm, StationParts, decode};
+use rtcm_msg::{MsgFault, MsmView, StationParts, View, look};
 use rtcm_scan::Frame;
 
 /// The line of a frame's message; one that is neither read nor refused has none.
 pub fn message_line(frame: &Frame) -> Option<Line>
     ensures { MatchOption result (show_line (framed frame.now) ≡ []) (λ line. line ≡ show_line (framed frame.now)) }
 {
-    match decode(frame.message.as_slice()) {
-        Ok(Message::Station(station)) => Some(station_line(frame.offset, station.parts())),
-        Ok(Message::Msm4(msm)) => Some(msm_line(frame.offset, &msm)),
-        Ok(Message::Msm7(msm)) => Some(msm_line(frame.offset, &msm)),
-        Ok(Message::Other { .. }) => None,
+    match look(frame.message.as_slice()) {
+        Ok(View::Station(station)) => Some(station_line(frame.offset, station.parts())),
+        Ok(View::Msm(msm)) => Some(msm_line(frame.offset, &msm)),
+        Ok(View::Other { .. }) => None,
         Err(fault) => Some(fault_line(frame.offset, frame.message.as_slice(), fault)),
     }
 }
@@ -62,8 +62,8 @@ fn station_number(height: Option<u16>) -> u64
 }
 
 /// The line of an MSM: place, number, station, time, DF393, and how many satellites, signals and cells it has.
-fn msm_line<G: Grid>(offset: u64, msm: &Msm<G>) -> Line
-    ensures { result ≡ msm_line offset (G.number_of msm.now.is_galileo) msm.now }
+fn msm_line(offset: u64, msm: &MsmView<'_>) -> Line
+    ensures { result ≡ msm_line offset (number msm.now.form msm.now.msm.is_galileo) msm.now.msm }
 {
     let header = msm.header();
     let mut line = Line::starting_with(offset);

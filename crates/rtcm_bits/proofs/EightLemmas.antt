@@ -9,6 +9,7 @@ use Rattle.rtcm_bits.specs.Check.{add_front, remainder, bits_remainder, check}
 use Rattle.rtcm_bits.specs.Register.{after_bits}
 use Rattle.rtcm_bits.specs.declared.tables.TheConstants.{TABLES}
 use Rattle.rtcm_bits.proofs.BitLemmas.{length-uint}
+use Rattle.rtcm_bits.proofs.ListLemmas.{eight_of}
 use Rattle.rtcm_bits.proofs.RegisterBits.{uint-xor, uint-split, number_of-uint}
 use Rattle.rtcm_bits.proofs.CheckLemmas.{divide_all, length-add_front, add_front_to_zeros, zeros_to_front}
 use Rattle.rtcm_bits.proofs.ResidueLemmas.{add_front-append}
@@ -148,19 +149,6 @@ eight_steps_sum : (x h m l a b c d e f g i y : ℕ) → x ≡ h * 65536 + (m * 2
 eight_steps_sum x h m l a b c d e f g i y p j k q =
     let rest : List ℕ = d ∷ e ∷ f ∷ g ∷ i ∷ [] in
     ap (uint 24) (q ∙ sym (entries_check (bit_xor h a) (bit_xor m b ∷ bit_xor l c ∷ rest))) ∙ sym (into_bytes x h m l a b c rest p j k)
-
--- eight bytes, one by one
-eight_of : (xs : List ℕ) → length xs ≡ 8 → xs ≡ get_or xs 0 0 ∷ get_or xs 1 0 ∷ get_or xs 2 0 ∷ get_or xs 3 0 ∷ get_or xs 4 0 ∷ get_or xs 5 0 ∷ get_or xs 6 0 ∷ get_or xs 7 0 ∷ []
-eight_of [] h = absurd (omega (arith, h))
-eight_of (a ∷ []) h = absurd (omega (arith, h))
-eight_of (a ∷ b ∷ []) h = absurd (omega (arith, h))
-eight_of (a ∷ b ∷ c ∷ []) h = absurd (omega (arith, h))
-eight_of (a ∷ b ∷ c ∷ d ∷ []) h = absurd (omega (arith, h))
-eight_of (a ∷ b ∷ c ∷ d ∷ e ∷ []) h = absurd (omega (arith, h))
-eight_of (a ∷ b ∷ c ∷ d ∷ e ∷ f ∷ []) h = absurd (omega (arith, h))
-eight_of (a ∷ b ∷ c ∷ d ∷ e ∷ f ∷ g ∷ []) h = absurd (omega (arith, h))
-eight_of (a ∷ b ∷ c ∷ d ∷ e ∷ f ∷ g ∷ i ∷ []) h = refl
-eight_of (a ∷ b ∷ c ∷ d ∷ e ∷ f ∷ g ∷ i ∷ x ∷ xs) h = absurd (omega (arith, h))
 
 pub eight_right : (x : ℕ) (xs : List ℕ) (e0 e1 e2 e3 e4 e5 e6 e7 : ℕ) → x < 2 ^ 24 → length xs ≡ 8
     → e0 ≡ check (get_or xs 7 0 ∷ []) → e1 ≡ check (get_or xs 6 0 ∷ replicate 1 0) → e2 ≡ check (get_or xs 5 0 ∷ replicate 2 0) → e3 ≡ check (get_or xs 4 0 ∷ replicate 3 0)

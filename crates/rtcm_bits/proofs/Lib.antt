@@ -1,3 +1,4 @@
+pub mod ListLemmas
 pub mod BitLemmas
 pub mod PartLemmas
 pub mod WriteLemmas
@@ -8,6 +9,7 @@ pub mod RegisterLemmas
 pub mod ResidueLemmas
 pub mod TableLemmas
 pub mod EightLemmas
+pub mod WordLemmas
 pub mod WindowLemmas
 pub mod DeviceLemmas
 pub mod Examples

@@ -24,7 +24,7 @@ take-uint (suc n) k x =
     rw (e, take-uint n k x) (ap (λ t. odd t ∷ uint n (x / 2 ^ k)) (ap (λ t. x / 2 ^ t) (sym g) ∙ f))
 
 -- n bits of a number, behind r others and before k others
-part-uint : (r n k x : ℕ) → number (take n (drop r (uint (r + (n + k)) x))) ≡ x / 2 ^ k % 2 ^ n
+pub part-uint : (r n k x : ℕ) → number (take n (drop r (uint (r + (n + k)) x))) ≡ x / 2 ^ k % 2 ^ n
 part-uint r n k x = rw (drop-uint r (n + k) x, take-uint n k x) (number-uint n 0 (x / 2 ^ k) ∙ omega arith)
 
 -- the same of a byte, as the code finds it

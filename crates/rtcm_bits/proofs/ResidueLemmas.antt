@@ -8,7 +8,7 @@ use Rattle.rtcm_bits.specs.Register.{after_bit, after_bits}
 use Rattle.rtcm_bits.proofs.BitLemmas.{length-uint, uint-number, number-fits, bits_of-append, number-split}
 use Rattle.rtcm_bits.proofs.BitLemmas as bit_lemmas
 use Rattle.rtcm_bits.proofs.RegisterBits.{number_of-uint}
-use Rattle.rtcm_bits.proofs.CheckLemmas.{divide_all, remainder-append, length-bits_remainder, length-add_front, add_front_to_zeros, length-after_bit, length-after_bits}
+use Rattle.rtcm_bits.proofs.CheckLemmas.{divide_all, remainder-append, length-bits_remainder, length-add_front, add_front_to_zeros, length-after_bit, length-after_bits, length-generator}
 
 pub add_front-append : (g p q : List Bool) → length g ≤ length p → add_front g (p ++ q) ≡ add_front g p ++ q
 unfolding add_front
@@ -52,10 +52,6 @@ get_or-add_front (a ∷ g) (c ∷ p) (suc i) h l = get_or-add_front g p i (omega
 last_generator : get_or (drop 1 generator) 23 false ≡ true
 unfolding generator uint
 last_generator = refl
-
-length-generator : length (drop 1 generator) ≡ 24
-unfolding generator uint
-length-generator = refl
 
 step_none : (r : List Bool) → length r ≡ 24 → after_bit r false ≡ replicate 24 false → r ≡ replicate 24 false
 unfolding after_bit

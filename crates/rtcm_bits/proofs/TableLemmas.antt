@@ -11,7 +11,7 @@ use Rattle.rtcm_bits.specs.Register.{after_bits}
 use Rattle.rtcm_bits.specs.declared.tables.TheConstants.{TABLES}
 use Rattle.rtcm_bits.proofs.BitLemmas.{length-uint}
 use Rattle.rtcm_bits.proofs.RegisterBits.{uint-xor, uint-split}
-use Rattle.rtcm_bits.proofs.CheckLemmas.{divide_all, remainder_is, length-add_front, add_front_to_zeros, zeros_to_front, add_front_assoc, length-generator}
+use Rattle.rtcm_bits.proofs.CheckLemmas.{divide_all, length-add_front, add_front_to_zeros, zeros_to_front, add_front_assoc, length-generator}
 use Rattle.rtcm_bits.proofs.ResidueLemmas.{add_front-append, add_front-same}
 use Rattle.rtcm_bits.proofs.RegisterLemmas.{check_is, check_below}
 
@@ -137,12 +137,3 @@ table_below x t i e =
     let m : bit_and x 65535 ≡ x % 65536 = and_mask x 16 in
     let b : check (i ∷ []) < 2 ^ 24 = check_below (i ∷ []) in
     xor_lt 24 (bit_and x 65535 * 256 % 4294967296) t (rw m (omega arith)) (rw e b)
-
-none_yet : uint 24 0 ≡ replicate 24 false
-unfolding uint
-none_yet = refl
-
--- the check of a byte is what eight steps make of an empty register
-pub byte_steps : (b : ℕ) → uint 24 (check (b ∷ [])) ≡ after_bits (uint 24 0) (uint 8 b)
-unfolding bits_of
-byte_steps b = check_is (b ∷ []) ∙ ap bits_remainder (append-nil (uint 8 b)) ∙ remainder_is (uint 8 b) ∙ ap (λ r. after_bits r (uint 8 b)) (sym none_yet)

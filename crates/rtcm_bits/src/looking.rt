@@ -1,5 +1,5 @@
 //! Looks at the bytes of a window.
-ghost use Rattle.std.specs.Prelude.{◌≡◌, ◌+◌, ◌≤◌, ◌++◌, length, slice_range, max};
+ghost use Rattle.std.specs.Prelude.{◌≡◌, ◌≢◌, ◌+◌, ◌<◌, ◌≤◌, ◌++◌, ℕ, length, slice_index, slice_range, max};
 ghost use Rattle.rtcm_bits.specs.Window.{looked_through, counts_alone};
 
 use circular_buffer::HeapCircularBuffer;
@@ -78,4 +78,17 @@ pub(crate) fn part_of<'a>(
     let from = start.min(front.len());
     let to = (start + n).min(front.len());
     (&front[from..to], &back[start - from..start + n - to])
+}
+
+/// How many bytes stand before the first that is this one.
+pub(crate) fn others_before(bytes: &[u8], byte: u8) -> usize
+    ensures within { result ≤ length bytes.now }
+    ensures others { (i : ℕ) → i < result → slice_index bytes.now i ≢ byte }
+{
+    for i in 0..bytes.len() {
+        if bytes[i] == byte {
+            return i;
+        }
+    }
+    bytes.len()
 }

@@ -65,6 +65,22 @@ fn ranges_of_a_window(rt: HostRuntime) -> Result<(), Fail> {
 }
 
 #[test]
+fn others_are_dropped(rt: HostRuntime) -> Result<(), Fail> {
+    let mut window = Window::new(rt.alloc())?;
+    assert_eq!(rt; window.held(), 0);
+    window.push_all(&[7, 8, 0xD3, 9, 0xD3]);
+    assert_eq!(rt; window.drop_others(0xD3), 2);
+    assert_eq!(rt; window.held(), 3);
+    assert_eq!(rt; window.looks(0), 0);
+    assert_eq!(rt; window.drop_others(0xD3), 0);
+    assert_eq!(rt; window.drop_others(0xD4), 3);
+    assert_eq!(rt; window.held(), 0);
+    assert_eq!(rt; window.drop_others(0xD4), 0);
+    assert_eq!(rt; (window.examined(), window.most()), (5, 1));
+    Ok(())
+}
+
+#[test]
 fn check_of_a_frame(rt: HostRuntime) {
     assert_eq!(rt; crc24q(&STATION_FRAME[..22]), 0x36_0B98);
     assert_eq!(rt; crc24q(&STATION_FRAME), 0);

@@ -1,5 +1,5 @@
 -- Whole streams.
-use Rattle.std.proofs.Common.{◌≡◌, ℕ, ◌+◌, ◌<◌, ◌≤◌, ◌⊎◌, inl, inr, refl, List, [], ◌∷◌, ◌++◌, sym, ap, subst, ◌∙◌, arith, Option, Some, None, Result, Ok, Err, OnOk, IfOk, append-nil, length, take, get_or}
+use Rattle.std.proofs.Common.{◌≡◌, ℕ, ◌+◌, ◌<◌, ◌≤◌, ◌⊎◌, inl, inr, refl, List, [], ◌∷◌, ◌++◌, sym, ap, subst, ◌∙◌, arith, Option, Some, None, Result, Ok, Err, OnOk, IfOk, append-nil, length, take, get_or, IfErr, Bool, true, false, true≢false, ◌↔◌}
 use Rattle.std.specs.Prelude.{IfSome, flat_map}
 use Rattle.std.proofs.lemmas.List.{take_more}
 use Rattle.std.proofs.lemmas.Grind.{flat_map-append}
@@ -20,6 +20,8 @@ use Rattle.rtcm_convert.specs.declared.setup.Setup.{Setup}
 use Rattle.rtcm_convert.specs.Broken.{IsBroken, Broke, BrokeAtEnd}
 use Rattle.rtcm_convert.specs.Conversion.{Conversion, StandsFor, Goes, GoesLong, Adds, Completed, CompletedEmpty, Finishes, FinishesEmpty, StopsAt, StopsFeeding, StopsFinishing}
 use Rattle.rtcm_convert.specs.declared.report.Report.{Report}
+use Rattle.rtcm_convert.specs.declared.fault.Fault.{Fault}
+use Rattle.rtcm_convert.specs.declared.fault.Fault.TheVariants.{BadSetup, Failed, Finished, NoEpoch, Read, TooLong, Write}
 use Rattle.rtcm_convert.proofs.PartLemmas.{goes_on-trans}
 use Rattle.rtcm_convert.proofs.RunLemmas.{FinishesNow, FinishesEmptyNow, completed_after, empty_after}
 
@@ -133,3 +135,44 @@ pub piece_more : (v w : Conversion) (s : Settings) (a b c : Option (List ℕ)) (
 piece_more v w s a b c bytes piece more x out go e =
     let p = go s bytes x in
     (subst (λ (l : List ℕ). StandsFor w s l) e p.0, subst (λ (l : List ℕ). Extends a c s [] l) e (goes_on-trans a b c _ _ _ out p.1))
+
+-- ---- faults that a new converter doesn't answer
+
+abbrev pub Running : Fault → Type 0
+Running fault = (fault ≡ Read) ⊎ ((fault ≡ TooLong) ⊎ ((fault ≡ NoEpoch) ⊎ (fault ≡ Write)))
+
+abbrev pub is_running : Fault → Bool
+is_running Read = true
+is_running TooLong = true
+is_running NoEpoch = true
+is_running Write = true
+is_running _ = false
+
+running : (fault : Fault) → Running fault → is_running fault ≡ true
+running fault (inl e) = ap is_running e
+running fault (inr (inl e)) = ap is_running e
+running fault (inr (inr (inl e))) = ap is_running e
+running fault (inr (inr (inr e))) = ap is_running e
+
+abbrev fault_of : Result Report Fault → Bool
+fault_of (Ok report) = true
+fault_of (Err fault) = is_running fault
+
+pub not_running : (r : Result Report Fault) (fault : Fault) → IfErr r Running → is_running fault ≡ false → r ≡ Err fault → ⊥
+not_running (Ok report) fault only hard e = true≢false (ap fault_of e ∙ hard)
+not_running (Err other) fault only hard e = true≢false (sym (running other only) ∙ ap fault_of e ∙ hard)
+
+pub never : (r : Result Report Fault) → IfErr r Running → (r ≡ Err Failed → ⊥) × (r ≡ Err Finished → ⊥)
+never r only = (not_running r Failed only refl, not_running r Finished only refl)
+
+abbrev is_made : Result Conversion Fault → Bool
+is_made (Ok x) = true
+is_made (Err e) = false
+
+made_or_not : (made : Result Conversion Fault) (converter : Conversion) (fault : Fault) → made ≡ Ok converter → made ≡ Err fault → ⊥
+made_or_not made converter fault a b = true≢false (sym (ap is_made a) ∙ ap is_made b)
+
+-- a converter that was made has no bad setup
+pub not_bad : (made : Result Conversion Fault) (converter : Conversion) (bad : Type 0) (r : Result Report Fault) → made ≡ Ok converter → made ≡ Err BadSetup ↔ bad → IfErr r Running
+    → r ≡ Err BadSetup ↔ bad
+not_bad made converter bad r is iff only = (λ e. absurd (not_running r BadSetup only refl e), λ b. absurd (made_or_not made converter BadSetup is (iff.1 b)))

@@ -9,3 +9,4 @@ pub mod Made
 pub mod Kept
 pub mod Laws
 pub mod Broken
+pub mod Readable

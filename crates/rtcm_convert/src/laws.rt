@@ -1,5 +1,13 @@
 //! Laws of the definitions that the contracts cite.
 ghost use Rattle.rtcm_convert.specs.Laws.{WrittenStays, WrittenGrows, NothingYet, FiledStays, FiledGrows, NothingFiled, CountedOnce, IsFileText};
+ghost use Rattle.std.specs.Prelude.{ℕ, List};
+ghost use Rattle.rtcm_scan.specs.Frames.{frames_of};
+ghost use Rattle.rtcm_scan.specs.Decided.{decided_frames};
+ghost use Rattle.rtcm_convert.specs.Converted.{so_far, file};
+ghost use Rattle.rtcm_convert.specs.Told.{settings};
+ghost use Rattle.rtcm_convert.specs.Readable.{FilesAreReadable, SoFarIsReadable, IsReadable};
+
+use crate::setup::Setup;
 
 /// What is written of some bytes stands at the front of the file, however the stream goes on.
 pub fn prefix()
@@ -32,4 +40,26 @@ pub fn text()
     ensures { IsFileText }
 {
     rinex_file::laws::file();
+}
+
+/// The file that frames make is empty or the text of a file value, and so is what is written of it so far.
+pub fn readable()
+    ensures file { FilesAreReadable }
+    ensures so_far { SoFarIsReadable }
+{
+    rtcm_msg::laws::measures();
+    obs_epoch::laws::gathered();
+    obs_epoch::laws::closed_stay();
+    rinex_file::laws::values();
+    text();
+}
+
+/// Whatever the setup and the stream are: what is written is empty or the text of a file value, which
+/// [`read_file`](rinex_file::read_file) reads as that value.
+pub fn read_back(setup: &Setup)
+    ensures file { (b : List ℕ) → IsReadable (file (settings setup.now) (frames_of b)) }
+    ensures so_far { (b : List ℕ) → IsReadable (so_far (settings setup.now) (decided_frames b)) }
+{
+    readable();
+    rinex_file::laws::head(&setup.texts, &setup.plan);
 }

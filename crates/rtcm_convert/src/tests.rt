@@ -1,6 +1,7 @@
 //! What no clause says: worked streams and their files, that each call can succeed, and what goes out where a device
 //! fails.
 mod faults;
+mod hostile;
 
 use crate::{Converter, Fault, Report, Setup, convert_pieces, convert_stream};
 use arrayvec::ArrayVec;

@@ -1,5 +1,5 @@
 -- How the reading of bits ends: what is there, and else which fault.
-use Rattle.std.proofs.Common.{ℕ, zero, suc, ◌≡◌, ◌+◌, ◌*◌, ◌^◌, ◌<◌, ◌≤◌, Bool, List, [], ◌∷◌, ◌++◌, length, Result, Ok, Err, None, refl, ap, ◌∙◌, arith, ◌⊎◌, inl, inr, replicate, count_ones}
+use Rattle.std.proofs.Common.{ℕ, zero, suc, ◌≡◌, ◌+◌, ◌*◌, ◌^◌, ◌<◌, ◌≤◌, Bool, List, [], ◌∷◌, ◌++◌, length, Result, Ok, Err, None, refl, sym, ap, ◌∙◌, arith, ◌⊎◌, inl, inr, replicate, count_ones}
 use Rattle.std.proofs.lemmas.Bool.{cases_lt}
 use Rattle.std.proofs.lemmas.List.{length-replicate, length-drop}
 use Rattle.rtcm_bits.specs.Reading.{Cursor}
@@ -10,10 +10,10 @@ use Rattle.rtcm_msg.specs.Fields.{number_at, ◌>>=◌, first_past}
 use Rattle.rtcm_msg.specs.Packed.{total}
 use Rattle.rtcm_msg.specs.Columns.{column_at, columns_at}
 use Rattle.rtcm_msg.specs.Spelling.{repeated}
-use Rattle.rtcm_msg.specs.Msm.{time_table, header_table, mask_table, header_of, header_at, sets_at, msm_at, week, MsmValue, pairs}
+use Rattle.rtcm_msg.specs.Msm.{time_table, header_table, mask_table, header_of, header_at, sets_at, msm_at, week, MsmValue, Sets, pairs}
 use Rattle.rtcm_msg.proofs.FieldLaws.{contents_at, fields_at, standing, part, number_there_at, ShortAt, short_at_more, short_at_behind, fields_read, past_none, past_through}
-use Rattle.rtcm_msg.proofs.Binds.{number_short}
-use Rattle.rtcm_msg.proofs.Combine.{past_here, past_next}
+use Rattle.rtcm_msg.proofs.Binds.{number_short, ok_inj}
+use Rattle.rtcm_msg.proofs.Combine.{past_here, past_next, ok_err}
 use Rattle.rtcm_msg.proofs.MsmLaws.{head_widths, tail_widths, mask_widths, header_chain, header_rest_is, in_time, too_late, sets_chain, few_rest, many_rest}
 
 -- ---- columns
@@ -138,6 +138,39 @@ sets_end bits h = elim (fields_read mask_table bits 73 h) [
             ]
       ]
 ]
+
+-- where the reader stands behind the header and behind the masks
+pub record Stands (bits : List Bool) (c : Cursor) : Type 0 where
+  pub is : c ≡ standing bits c.place
+  pub there : c.place ≤ length bits
+
+stands_at : (bits : List Bool) (c : Cursor) (place : ℕ) → c ≡ standing bits place → place ≤ length bits → Stands bits c
+stands_at bits c place e h =
+    let same : c.place ≡ place = ap (λ (x : Cursor). x.place) e in
+    record { is = e ∙ ap (standing bits) (sym same); there = rw same h }
+
+header_stands : (bits : List Bool) (h : MsmHeader) (c : Cursor) → 12 ≤ length bits → header_at (standing bits 12) ≡ Ok (h, c) → (c ≡ standing bits 73) × (73 ≤ length bits)
+header_stands bits h c room e = by_end (header_end bits room)
+  where
+    by_end : HeaderEnd bits → (c ≡ standing bits 73) × (73 ≤ length bits)
+    by_end (no_time f few s is) = absurd (ok_err (h, c) f (header_at (standing bits 12)) e is)
+    by_end (late there over is) = absurd (ok_err (h, c) BadTime (header_at (standing bits 12)) e is)
+    by_end (short f early few s is) = absurd (ok_err (h, c) f (header_at (standing bits 12)) e is)
+    by_end (good v early all is) = (ap (λ (x : MsmHeader × Cursor). x.1) (ok_inj (h, c) (v, standing bits 73) (header_at (standing bits 12)) e is), all)
+
+sets_stand : (bits : List Bool) (s : Sets) (c : Cursor) → 73 ≤ length bits → sets_at (standing bits 73) ≡ Ok (s, c) → Stands bits c
+sets_stand bits s c room e = by_end (sets_end bits room)
+  where
+    by_end : SetsEnd bits → Stands bits c
+    by_end (no_masks f few t is) = absurd (ok_err (s, c) f (sets_at (standing bits 73)) e is)
+    by_end (many there over is) = absurd (ok_err (s, c) TooManyCells (sets_at (standing bits 73)) e is)
+    by_end (short f few t is) = absurd (ok_err (s, c) f (sets_at (standing bits 73)) e is)
+    by_end (good few there is) = stands_at bits c (169 + pairs_of bits) (ap (λ (x : Sets × Cursor). x.1) (ok_inj (s, c) _ (sets_at (standing bits 73)) e is)) there
+
+pub masks_stand : (bits : List Bool) (h : MsmHeader) (s : Sets) (c d : Cursor) → 12 ≤ length bits → header_at (standing bits 12) ≡ Ok (h, c) → sets_at c ≡ Ok (s, d) → Stands bits d
+masks_stand bits h s c d room e f =
+    let head = header_stands bits h c room e in
+    sets_stand bits s d head.1 (sym (ap sets_at head.0) ∙ f)
 
 -- by the columns
 data DataEnd (sw cw : List ℕ) (satellites cells : ℕ) (bits : List Bool) (place : ℕ) : Type 0 where

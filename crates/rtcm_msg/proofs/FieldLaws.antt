@@ -9,6 +9,7 @@ use Rattle.rtcm_bits.specs.Reading.{Cursor, after, unsigned_at}
 use Rattle.rtcm_msg.specs.declared.fault.MsgFault.{MsgFault}
 use Rattle.rtcm_msg.specs.declared.fault.MsgFault.TheVariants.{Short}
 use Rattle.rtcm_msg.specs.Fields.{number_at, ◌>>=◌, spelled, first_past, reading}
+pub use Rattle.rtcm_msg.specs.Fields.{standing, part}
 use Rattle.rtcm_msg.specs.Packed.{total}
 use Rattle.rtcm_msg.proofs.Binds.{ok_inj, number_there, number_short, took_at}
 use Rattle.rtcm_msg.proofs.Combine.{past_here, past_next, cursor, number_again, ok_err, bind_bind}
@@ -116,13 +117,6 @@ past_none [] len place h = refl
 past_none (w ∷ ws) len place h = past_next w ws len place (omega arith) ∙ past_none ws len (place + w) (omega arith)
 
 -- ---- from a place of bits on
-
-abbrev pub standing : List Bool → ℕ → Cursor
-standing bits place = record { place = place; rest = drop place bits }
-
--- the number of w bits from a place on
-abbrev pub part : List Bool → ℕ → ℕ → ℕ
-part bits place w = number (take w (drop place bits))
 
 abbrev pub contents_at : (t : Table) → List Bool → ℕ → Contents t
 contents_at [] bits place = tt

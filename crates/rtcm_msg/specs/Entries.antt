@@ -1,5 +1,5 @@
 -- What a message says, cell by cell: the form in which the layers above see it.
-use Rattle.std.specs.Prelude.{◌<◌, ◌^◌, IfSome, unsigned_abs, ◌≤◌, ℕ, ℤ, ◌+◌, if◌then◌else◌, Bool, List, [], ◌∷◌, map, slice_index, Option, drop}
+use Rattle.std.specs.Prelude.{◌<◌, ◌^◌, IfSome, unsigned_abs, ◌≤◌, ℕ, ℤ, ◌+◌, if◌then◌else◌, Bool, List, [], ◌∷◌, map, slice_index, Option}
 use Rattle.std.specs.List.{flat_map, zip, enumerate_from}
 use Rattle.rtcm_bits.specs.Bits.{uint}
 use Rattle.rtcm_msg.specs.declared.message.Message.{Message}
@@ -41,10 +41,6 @@ all_pairs s = flat_map (λ x. map (seat x) (ids 32 s.signals)) (enumerate_from 0
 -- the pairs that have a cell
 abbrev pub seats : Sets → List Seat
 seats s = chosen (uint (pairs s.satellites s.signals) s.cells) (all_pairs s)
-
--- those of them that are not among the first n pairs
-abbrev pub seats_behind : ℕ → Sets → List Seat
-seats_behind n s = chosen (drop n (uint (pairs s.satellites s.signals) s.cells)) (drop n (all_pairs s))
 
 -- a walk over the cells: of which sets, and the seats that are left
 pub record Walk : Type 0 where

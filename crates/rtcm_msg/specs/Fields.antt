@@ -1,10 +1,19 @@
 -- Fields of a message: numbers of stated widths, one after the other.
-use Rattle.std.specs.Prelude.{◌≡◌, ℕ, ◌+◌, nat_lt, if◌then◌else◌, Bool, List, [], ◌∷◌, ◌++◌, length, Option, Some, None, Result, Ok, Err}
-use Rattle.rtcm_bits.specs.Bits.{uint}
+use Rattle.std.specs.Prelude.{◌≡◌, ℕ, ◌+◌, nat_lt, if◌then◌else◌, Bool, List, [], ◌∷◌, ◌++◌, length, take, drop, Option, Some, None, Result, Ok, Err}
+use Rattle.rtcm_bits.specs.Bits.{uint, number}
 use Rattle.rtcm_bits.specs.Reading.{Cursor, after, unsigned_at}
 use Rattle.rtcm_msg.specs.Layout.{Table, Contents, width, content}
 use Rattle.rtcm_msg.specs.declared.fault.MsgFault.{MsgFault}
 use Rattle.rtcm_msg.specs.declared.fault.MsgFault.TheVariants.{Short}
+
+-- ---- from a place of bits on
+
+abbrev pub standing : List Bool → ℕ → Cursor
+standing bits place = record { place = place; rest = drop place bits }
+
+-- the number of w bits from a place on
+abbrev pub part : List Bool → ℕ → ℕ → ℕ
+part bits place w = number (take w (drop place bits))
 
 -- ---- the format: what is spelled
 

@@ -87,37 +87,29 @@ pub trait Grid {
     /// The pseudorange in 2^-31 ms: the rough range and the cell's fine pseudorange. None where either
     /// is invalid.
     fn range(satellite: &Self::Satellite, cell: &Self::Cell) -> Option<i64>
-        requires s { is_satellite satellite.now }
-        requires c { is_cell cell.now }
         ensures value { result ≡ range_of satellite.now cell.now }
-        ensures bound { IfSome result (λ r. unsigned_abs r ≤ 2 ^ 40) };
+        ensures bound { is_satellite satellite.now → is_cell cell.now → IfSome result (λ r. unsigned_abs r ≤ 2 ^ 40) };
 
     /// The phase range in 2^-31 ms: the rough range and the cell's fine phase range. None where either
     /// is invalid.
     fn phase(satellite: &Self::Satellite, cell: &Self::Cell) -> Option<i64>
-        requires s { is_satellite satellite.now }
-        requires c { is_cell cell.now }
         ensures value { result ≡ phase_of satellite.now cell.now }
-        ensures bound { IfSome result (λ r. unsigned_abs r ≤ 2 ^ 40) };
+        ensures bound { is_satellite satellite.now → is_cell cell.now → IfSome result (λ r. unsigned_abs r ≤ 2 ^ 40) };
 
     /// The phase range rate in 0.0001 m/s. None where its rough or fine part is invalid, and in MSM4.
     fn rate(satellite: &Self::Satellite, cell: &Self::Cell) -> Option<i32>
-        requires s { is_satellite satellite.now }
-        requires c { is_cell cell.now }
         ensures value { result ≡ rate_of satellite.now cell.now }
-        ensures bound { IfSome result (λ r. unsigned_abs r ≤ 10 ^ 8) };
+        ensures bound { is_satellite satellite.now → is_cell cell.now → IfSome result (λ r. unsigned_abs r ≤ 10 ^ 8) };
 
     /// The carrier to noise ratio in 1/16 dB-Hz. None where it was not computed.
     fn strength(cell: &Self::Cell) -> Option<u16>
-        requires { is_cell cell.now }
         ensures value { result ≡ strength_of cell.now }
-        ensures bound { IfSome result (λ s. s < 1024) };
+        ensures bound { is_cell cell.now → IfSome result (λ s. s < 1024) };
 
     /// The lock time indicator, DF402 or DF407.
     fn lock_code(cell: &Self::Cell) -> u16
-        requires { is_cell cell.now }
         ensures value { result ≡ lock_code_of cell.now }
-        ensures bound { result < lock_codes };
+        ensures bound { is_cell cell.now → result < lock_codes };
 
     /// Whether a half-cycle ambiguity is possible, DF420.
     fn half_cycle(cell: &Self::Cell) -> bool
@@ -185,11 +177,10 @@ pub trait Grid {
 }
 
 /// The rough range in units of 2^-31 ms with a fine part.
-pub(crate) fn joined(whole: u8, fraction: u16, fine: Option<i32>) -> Option<i64>
-    requires fraction { fraction < 1024 }
-    requires small { ForSome fine (λ z. unsigned_abs z ≤ 2 ^ 26) }
+pub(crate) fn joined(whole: u8, fraction: u16, fine: Option<i64>) -> Option<i64>
+    requires fits { ForSome fine (λ z. unsigned_abs z ≤ 2 ^ 33) }
     ensures value { result ≡ joined whole fraction fine }
-    ensures bound { IfSome result (λ r. unsigned_abs r ≤ 2 ^ 40) }
+    ensures bound { fraction < 1024 → ForSome fine (λ z. unsigned_abs z ≤ 2 ^ 26) → IfSome result (λ r. unsigned_abs r ≤ 2 ^ 40) }
 {
     match fine {
         None => None,
@@ -197,7 +188,7 @@ pub(crate) fn joined(whole: u8, fraction: u16, fine: Option<i32>) -> Option<i64>
             if whole == 255 {
                 None
             } else {
-                Some((whole as u64 * (1 << 31) + fraction as u64 * (1 << 21)) as i64 + fine as i64)
+                Some((whole as u64 * (1 << 31) + fraction as u64 * (1 << 21)) as i64 + fine)
             }
         }
     }

@@ -81,28 +81,28 @@ fn has_bad_strength(cells: &[Cell4]) -> bool
 }
 
 /// The fine pseudorange in 2^-31 ms.
-fn fine_range(cell: &Cell4) -> Option<i32>
-    requires { grid4.IsCell cell.now }
+fn fine_range(cell: &Cell4) -> Option<i64>
     ensures value { result ≡ scaled (negsuc 16383) 128 cell.now.range }
-    ensures small { IfSome result (λ z. unsigned_abs z ≤ 2 ^ 26) }
+    ensures fits { IfSome result (λ z. unsigned_abs z ≤ 2 ^ 33) }
+    ensures small { grid4.IsCell cell.now → IfSome result (λ z. unsigned_abs z ≤ 2 ^ 26) }
 {
     if cell.range == -16384 {
         None
     } else {
-        Some(cell.range as i32 * 128)
+        Some(cell.range as i64 * 128)
     }
 }
 
 /// The fine phase range in 2^-31 ms.
-fn fine_phase(cell: &Cell4) -> Option<i32>
-    requires { grid4.IsCell cell.now }
+fn fine_phase(cell: &Cell4) -> Option<i64>
     ensures value { result ≡ scaled (negsuc 2097151) 4 cell.now.phase }
-    ensures small { IfSome result (λ z. unsigned_abs z ≤ 2 ^ 26) }
+    ensures fits { IfSome result (λ z. unsigned_abs z ≤ 2 ^ 33) }
+    ensures small { grid4.IsCell cell.now → IfSome result (λ z. unsigned_abs z ≤ 2 ^ 26) }
 {
     if cell.phase == -2097152 {
         None
     } else {
-        Some(cell.phase as i32 * 4)
+        Some(cell.phase as i64 * 4)
     }
 }
 

@@ -105,28 +105,28 @@ fn has_bad_fine_rate(cells: &[Cell7]) -> bool
 }
 
 /// The fine pseudorange in 2^-31 ms.
-fn fine_range(cell: &Cell7) -> Option<i32>
-    requires { grid7.IsCell cell.now }
+fn fine_range(cell: &Cell7) -> Option<i64>
     ensures value { result ≡ scaled (negsuc 524287) 4 cell.now.range }
-    ensures small { IfSome result (λ z. unsigned_abs z ≤ 2 ^ 26) }
+    ensures fits { IfSome result (λ z. unsigned_abs z ≤ 2 ^ 33) }
+    ensures small { grid7.IsCell cell.now → IfSome result (λ z. unsigned_abs z ≤ 2 ^ 26) }
 {
     if cell.range == -524288 {
         None
     } else {
-        Some(cell.range * 4)
+        Some(cell.range as i64 * 4)
     }
 }
 
 /// The fine phase range in 2^-31 ms.
-fn fine_phase(cell: &Cell7) -> Option<i32>
-    requires { grid7.IsCell cell.now }
+fn fine_phase(cell: &Cell7) -> Option<i64>
     ensures value { result ≡ scaled (negsuc 8388607) 1 cell.now.phase }
-    ensures small { IfSome result (λ z. unsigned_abs z ≤ 2 ^ 26) }
+    ensures fits { IfSome result (λ z. unsigned_abs z ≤ 2 ^ 33) }
+    ensures small { grid7.IsCell cell.now → IfSome result (λ z. unsigned_abs z ≤ 2 ^ 26) }
 {
     if cell.phase == -8388608 {
         None
     } else {
-        Some(cell.phase)
+        Some(cell.phase as i64)
     }
 }
 

@@ -5,6 +5,7 @@ ghost use Rattle.rtcm_bits.specs.Bits.{bits_of, filled};
 ghost use Rattle.rtcm_msg.specs.declared.message.Message.{Message};
 ghost use Rattle.rtcm_msg.specs.Spelling.{message_bits, is_other, Reads, IsMessage};
 ghost use Rattle.rtcm_msg.specs.Reading.{message_at};
+ghost use Rattle.rtcm_msg.specs.Reach.{EntriesAreMeasured, PointsAreTold};
 ghost use Rattle.rtcm_msg.specs.Msm.{MsmValue, Sets, IsValue};
 ghost use Rattle.rtcm_msg.specs.Meaning.{Meaning, IsMeaning, meaning, pair_number, cell_pairs};
 
@@ -37,4 +38,13 @@ pub fn values_are_maps()
     ensures rising { (s : Sets) → Rising 65 4128 (map pair_number (cell_pairs s)) }
     ensures one { (sw cw : List ℕ) (v w : MsmValue) → IsValue sw cw v → IsValue sw cw w → meaning v ≡ meaning w → v ≡ w }
     ensures all { (sw cw : List ℕ) (m : Meaning) → IsMeaning sw cw m → (v : MsmValue) × IsValue sw cw v × (meaning v ≡ m) }
+{}
+
+/// How far the numbers of a message reach.
+pub fn measures()
+    // What is read is a value: each field within its bits.
+    ensures value { (bytes : List ℕ) (m : Message) → message_at bytes ≡ Ok m → IsMessage m }
+    // And what a cell says is within the bounds of its fractions.
+    ensures cells { EntriesAreMeasured }
+    ensures points { PointsAreTold }
 {}

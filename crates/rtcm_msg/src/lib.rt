@@ -15,8 +15,10 @@ pub mod laws;
 mod masks;
 mod message;
 mod msm;
+mod rows;
 mod seats;
 mod station;
+mod view;
 mod writing;
 
 pub use entry::{Entry, entries};
@@ -30,6 +32,7 @@ pub use message::{Message, decode, encode};
 pub use msm::Msm;
 pub use seats::{Seat, Seats, all_seats};
 pub use station::{Station, StationParts};
+pub use view::{Form, MsmView, View, look};
 
 #[cfg(test)]
 mod tests;

@@ -35,7 +35,7 @@ pub enum Message {
 }
 
 /// The station and DF393 of a multiple signal message behind its number, if they are there.
-fn read_set(reader: &mut BitReader) -> Option<(u16, bool)>
+pub(crate) fn read_set(reader: &mut BitReader) -> Option<(u16, bool)>
     ensures { result ≡ set_at reader.old }
 {
     let station = reader.unsigned(12)? as u16;
@@ -45,7 +45,7 @@ fn read_set(reader: &mut BitReader) -> Option<(u16, bool)>
 }
 
 /// Whether a message of this number is a multiple signal message, of whatever system and type.
-fn is_listed(number: u16) -> bool
+pub(crate) fn is_listed(number: u16) -> bool
     ensures { result ≡ is_listed number }
 {
     number >= 1071 && number <= 1127 && number % 10 >= 1 && number % 10 <= 7
@@ -86,7 +86,7 @@ fn read_message(bytes: &[u8]) -> Result<Message, MsgFault>
 }
 
 /// The first 1,023 bytes, behind which no field ends.
-fn front(bytes: &[u8]) -> &[u8]
+pub(crate) fn front(bytes: &[u8]) -> &[u8]
     ensures few { length result.now ≤ 1023 }
     ensures same { message_at result.now ≡ message_at bytes.now }
 {

@@ -1,7 +1,7 @@
-ghost use Rattle.std.specs.Prelude.{◌≡◌, ◌<◌, ◌≤◌, ◌+◌, length, slice_index, IfSome, IfNone, ◌∷◌, [], drop, count_ones};
+ghost use Rattle.std.specs.Prelude.{◌≡◌, ◌<◌, ◌≤◌, ◌^◌, length, IfSome, IfNone, ◌∷◌, [], count_ones, ℕ};
 ghost use Rattle.rtcm_bits.specs.Bits.{uint};
-ghost use Rattle.rtcm_msg.specs.Msm.{AreSets, pairs};
-ghost use Rattle.rtcm_msg.specs.Entries.{ids, seats, seats_behind, all_pairs};
+ghost use Rattle.rtcm_msg.specs.Entries.{ids, seats, all_pairs, chosen};
+ghost use Rattle.rtcm_msg.specs.Walks.{pairs_left, IsWalking, ArePlaced};
 
 use crate::masks::Masks;
 use arrayvec::ArrayVec;
@@ -18,61 +18,84 @@ pub struct Seat {
     pub signal: u8,
 }
 
-/// The ID at a place of a set of IDs from 1 on, whose first is the highest bit.
-fn id_at(mask: u64, width: u32, place: usize) -> u8
+/// The first ID of a set of IDs from 1 to `width`, and the set without it.
+fn split_first(mask: u64, width: u32) -> (u8, u64)
+    requires some { 0 < mask }
+    requires within { mask < 2 ^ width }
     requires few { width ≤ 64 }
-    requires there { place < length (ids width mask) }
-    ensures value { result ≡ slice_index (ids width mask) place }
+    ensures first { ids width mask ≡ result.0 ∷ ids width result.1 }
+    ensures fits { result.1 < 2 ^ width }
 {
-    let mut left = place;
-    for i in 0..width {
-        if mask / (1 << (width - 1 - i)) % 2 == 1 {
-            if left == 0 {
-                return i as u8 + 1;
-            }
-            left -= 1;
-        }
+    let top = 63 - mask.leading_zeros();
+    ((width - top) as u8, mask - (1 << top))
+}
+
+/// Pairs of a satellite and a signal from one pair on: those of the first satellite with the signals that are left, and
+/// those of the satellites behind it with all signals. Sets of IDs, whose first is the highest bit.
+#[derive(Clone, Copy)]
+struct Pairs {
+    /// The place of the first satellite in the message.
+    place: usize,
+    satellites: u64,
+    signals: u64,
+    all: u64,
+}
+
+/// The same pairs, from a satellite on of which a signal is left.
+fn with_signals(pairs: Pairs) -> Pairs
+    requires some { 0 < length (pairs_left pairs) }
+    requires walking { IsWalking pairs }
+    ensures same { pairs_left result ≡ pairs_left pairs }
+    ensures walking { IsWalking result }
+    ensures satellite { 0 < result.satellites }
+    ensures signal { 0 < result.signals }
+{
+    if pairs.signals > 0 {
+        return pairs;
     }
-    unreachable!()
-}
-
-/// The pair at a place of all pairs.
-fn pair_at(masks: &Masks, signals: u32, pair: u32) -> Seat
-    requires signals { signals ≡ count_ones masks.now.signals }
-    requires there { pair < pairs masks.now.satellites masks.now.signals }
-    ensures here { drop pair (all_pairs masks.now) ≡ result ∷ drop (pair + 1) (all_pairs masks.now) }
-    ensures place { result.place < count_ones masks.now.satellites }
-{
-    let _ = masks.cells();
-    let place = (pair / signals) as usize;
-    Seat {
-        place,
-        satellite: id_at(masks.satellites(), 64, place),
-        signal: id_at(masks.signals() as u64, 32, (pair % signals) as usize),
+    Pairs {
+        place: pairs.place + 1,
+        satellites: split_first(pairs.satellites, 64).1,
+        signals: pairs.all,
+        all: pairs.all,
     }
 }
 
-/// Whether the pair at a place of all pairs has a cell.
-fn has_cell(masks: &Masks, count: u32, pair: u32) -> bool
-    requires count { count ≡ pairs masks.now.satellites masks.now.signals }
-    requires there { pair < pairs masks.now.satellites masks.now.signals }
-    ensures { drop pair (uint count masks.now.cells) ≡ result ∷ drop (pair + 1) (uint count masks.now.cells) }
+/// The first pair, and those behind it.
+fn split_pairs(pairs: Pairs) -> (Seat, Pairs)
+    requires some { 0 < length (pairs_left pairs) }
+    requires walking { IsWalking pairs }
+    ensures first { pairs_left pairs ≡ result.0 ∷ pairs_left result.1 }
+    ensures walking { IsWalking result.1 }
 {
-    masks.cells() / (1 << (count - 1 - pair)) % 2 == 1
+    let pairs = with_signals(pairs);
+    let (signal, signals) = split_first(pairs.signals, 32);
+    let seat = Seat {
+        place: pairs.place,
+        satellite: split_first(pairs.satellites, 64).0,
+        signal,
+    };
+    (seat, Pairs { signals, ..pairs })
 }
 
-/// The first cell from a pair on, and the pair behind it.
-fn first_cell(masks: &Masks, count: u32, signals: u32, from: u32) -> Option<(u32, Seat)>
-    requires count { count ≡ pairs masks.now.satellites masks.now.signals }
-    requires signals { signals ≡ count_ones masks.now.signals }
-    requires from { from ≤ count }
-    ensures some { IfSome result (λ x. (x.0 ≤ count) × (seats_behind from masks.now ≡ x.1 ∷ seats_behind x.0 masks.now) × (x.1.place < count_ones masks.now.satellites)) }
-    ensures none { IfNone result (seats_behind from masks.now ≡ []) }
+/// The first cell of so many pairs that are left, of which the low bits of the number say which ones have a cell, and the
+/// pairs behind it.
+fn split_cells(pairs: Pairs, cells: u64, left: u32) -> Option<(Seat, Pairs, u32)>
+    requires few { left ≤ 64 }
+    requires count { length (pairs_left pairs) ≡ left }
+    requires walking { IsWalking pairs }
+    ensures some { IfSome result (λ x. (chosen (uint left cells) (pairs_left pairs) ≡ x.0 ∷ chosen (uint x.2 cells) (pairs_left x.1)) × (length (pairs_left x.1) ≡ x.2) × (x.2 ≤ 64) × IsWalking x.1) }
+    ensures placed { IfSome result (λ x. (n : ℕ) → ArePlaced n (pairs_left pairs) → (x.0.place < n) × ArePlaced n (pairs_left x.1)) }
+    ensures none { IfNone result (chosen (uint left cells) (pairs_left pairs) ≡ []) }
 {
-    let _ = masks.cells();
-    for pair in from..count {
-        if has_cell(masks, count, pair) {
-            return Some((pair + 1, pair_at(masks, signals, pair)));
+    let mut pairs = pairs;
+    let mut left = left;
+    while left > 0 {
+        left -= 1;
+        let (seat, behind) = split_pairs(pairs);
+        pairs = behind;
+        if (cells >> left) % 2 == 1 {
+            return Some((seat, pairs, left));
         }
     }
     None
@@ -83,21 +106,21 @@ fn first_cell(masks: &Masks, count: u32, signals: u32, from: u32) -> Option<(u32
 #[derive(Drop)]
 pub struct Seats {
     masks: Masks,
-    count: u32,
-    signals: u32,
-    next: u32,
+    pairs: Pairs,
+    left: u32,
 }
 
 impl Model for Seats {
-    ghost use Rattle.rtcm_msg.specs.Entries.{seats_behind, Walk};
-    ghost use Rattle.std.specs.Prelude.{count_ones, ◌≡◌, ◌≤◌};
-    ghost use Rattle.rtcm_msg.specs.Msm.{AreSets, pairs};
+    ghost use Rattle.rtcm_msg.specs.Entries.{Walk, chosen};
+    ghost use Rattle.rtcm_msg.specs.Walks.{pairs_left, IsWalking, ArePlaced};
+    ghost use Rattle.rtcm_bits.specs.Bits.{uint};
+    ghost use Rattle.std.specs.Prelude.{count_ones, length, ◌≡◌, ◌≤◌};
 
     ghost Value = { Walk };
 
-    ghost view = { λ s. record { sets = s.masks; left = seats_behind s.next s.masks } };
+    ghost view = { λ s. record { sets = s.masks; left = chosen (uint s.left s.masks.cells) (pairs_left s.pairs) } };
 
-    ghost invariant = { λ s. AreSets s.masks × (s.count ≡ pairs s.masks.satellites s.masks.signals) × (s.signals ≡ count_ones s.masks.signals) × (s.next ≤ s.count) };
+    ghost invariant = { λ s. (length (pairs_left s.pairs) ≡ s.left) × (s.left ≤ 64) × IsWalking s.pairs × ArePlaced (count_ones s.masks.satellites) (pairs_left s.pairs) };
 }
 
 impl Seats {
@@ -107,12 +130,16 @@ impl Seats {
         ensures count { length (seats masks) ≡ count_ones masks.cells }
     {
         let _ = masks.cells();
-        let signals = masks.signals().count_ones();
+        let signals = masks.signals() as u64;
         Seats {
             masks,
-            count: masks.satellites().count_ones() * signals,
-            signals,
-            next: 0,
+            pairs: Pairs {
+                place: 0,
+                satellites: masks.satellites(),
+                signals,
+                all: signals,
+            },
+            left: masks.satellites().count_ones() * signals.count_ones(),
         }
     }
 
@@ -122,15 +149,13 @@ impl Seats {
         ensures none { IfNone result ((self.old.left ≡ []) × (self.new.left ≡ [])) }
         ensures same { self.new.sets ≡ self.old.sets }
     {
-        match first_cell(&self.masks, self.count, self.signals, self.next) {
-            Some((next, seat)) => {
-                self.next = next;
+        match split_cells(self.pairs, self.masks.cells(), self.left) {
+            Some((seat, pairs, left)) => {
+                self.pairs = pairs;
+                self.left = left;
                 Some(seat)
             }
-            None => {
-                self.next = self.count;
-                None
-            }
+            None => None,
         }
     }
 }

@@ -13,6 +13,10 @@ use Rattle.rtcm_scan.specs.Scan.{Scanned}
 use Rattle.rtcm_scan.proofs.FrameLemmas.{begins_parts, closed_whole}
 use Rattle.rtcm_scan.proofs.ScanLemmas.{scanned_le, scanned_frames}
 
+pub or_none : (x y : Bool) → y ≡ false → (x || y) ≡ x
+or_none true y h = refl
+or_none false y h = h
+
 pub length-places : (n : ℕ) → length (places n) ≡ n
 unfolding places
 length-places zero = refl

@@ -8,7 +8,7 @@ use Rattle.rtcm_scan.specs.declared.candidate.Candidate.{Candidate}
 use Rattle.rtcm_scan.specs.Candidate.{wanted_by, HasTaken}
 use Rattle.rtcm_scan.specs.Pending.{asked}
 use Rattle.rtcm_scan.specs.Answers.{decision, if_missing}
-use Rattle.rtcm_scan.specs.declared.framer.Decision.TheVariants.{Passed, Found}
+use Rattle.rtcm_scan.specs.declared.front.Decision.TheVariants.{Passed, Found}
 use Rattle.rtcm_scan.proofs.FrameLemmas.{length_stays, preamble_stays}
 use Rattle.rtcm_scan.proofs.CandidateLemmas.{wanted_stays, wanted_bound}
 use Rattle.rtcm_scan.proofs.DecisionLemmas.{decision_without, decision_short, decision_found, decision_wrong}

@@ -6,6 +6,7 @@ pub mod DecidedLemmas
 pub mod SkippedLemmas
 pub mod DrainedLemmas
 pub mod NextLemmas
+pub mod PassOverLemmas
 pub mod LawLemmas
 pub mod LooksLemmas
 pub mod TriedLemmas

@@ -23,7 +23,7 @@ stands_looks : (v : Scan) (w : Held) (t : ℕ) (b : List ℕ) (fs : List Framed)
 stands_looks v w t b fs s = record { taken = s.taken; held = s.held; fits = s.fits; scanned = s.scanned; first = s.first; skipped = s.skipped }
 
 -- what give_up and take_frame make of a framer
-abbrev passed : Scan → Scan
+abbrev pub passed : Scan → Scan
 passed u = record (with_window u (without_front (window_of u) 1) 0) { skipped = u.skipped + 1 }
 
 abbrev frame_taken : Scan → ℕ → Scan

@@ -1,5 +1,5 @@
 -- The places in no frame are as many as the bytes that the frames leave over.
-use Rattle.std.proofs.Common.{ℕ, ◌≡◌, ◌+◌, ◌-◌, ◌<◌, ◌≤◌, Bool, true, false, not, cond, ◌&&◌, ◌||◌, ltb, leb, List, [], ◌∷◌, ◌++◌, length, drop, sum_by, refl, sym, ap, ◌∙◌, arith, suc, zero}
+use Rattle.std.proofs.Common.{ℕ, ◌≡◌, ◌+◌, ◌-◌, ◌<◌, ◌≤◌, Bool, true, false, not, cond, ◌&&◌, ltb, leb, List, [], ◌∷◌, ◌++◌, length, drop, sum_by, refl, sym, ap, ◌∙◌, arith, suc, zero}
 use Rattle.std.specs.List.{list_any, count_by}
 use Rattle.std.proofs.lemmas.Bool.{lt-ltb, le-ltb, le-leb, lt-leb, and_left, and_right}
 use Rattle.std.proofs.lemmas.List.Sums.{sum_by_push, sum_by-cons}
@@ -9,7 +9,7 @@ use Rattle.rtcm_scan.specs.Frames.{Framed, end_of, frames_from, frames_of}
 use Rattle.rtcm_scan.specs.Decided.{places, is_within, given_up}
 use Rattle.rtcm_scan.specs.Scan.{Scanned}
 use Rattle.rtcm_scan.proofs.ScanLemmas.{scanned_le}
-use Rattle.rtcm_scan.proofs.DecidedLemmas.{frames_split}
+use Rattle.rtcm_scan.proofs.DecidedLemmas.{or_none, frames_split}
 
 -- from a place on, all places pass a test, or none does
 count_all : (t : ℕ → Bool) (from d : ℕ) → ((q : ℕ) → from ≤ q → q < from + d → t q ≡ true) → count_by t (places (from + d)) ≡ count_by t (places from) + d
@@ -31,14 +31,6 @@ count_none t from (suc d) h =
     let y : t (from + d) ≡ false = h (from + d) (omega arith) (omega arith) in
     let s : count_by t (places (from + d) ++ (from + d) ∷ []) ≡ count_by t (places (from + d)) + cond (t (from + d)) 1 0 = sum_by_push (λ q. cond (t q) 1 0) (places (from + d)) (from + d) in
     rw z (s ∙ ap (λ v. count_by t (places (from + d)) + cond v 1 0) y ∙ (omega (arith, r)))
-
-count_same : (t u : ℕ → Bool) (n : ℕ) → ((q : ℕ) → q < n → t q ≡ u q) → count_by t (places n) ≡ count_by u (places n)
-unfolding places
-count_same t u zero h = refl
-count_same t u (suc n) h =
-    let r : count_by t (places n) ≡ count_by u (places n) = count_same t u n (λ q i. h q (omega arith)) in
-    let y : t n ≡ u n = h n (omega arith) in
-    sum_by_push (λ q. cond (t q) 1 0) (places n) n ∙ ap (λ c. c + cond (t n) 1 0) r ∙ ap (λ v. count_by u (places n) + cond v 1 0) y ∙ sym (sum_by_push (λ q. cond (u q) 1 0) (places n) n)
 
 -- a place before the frames, or before where they are looked for, is in none
 none_ahead : (e : Bool) (b : List ℕ) (from to q : ℕ) (fs : List Framed) → Scanned e b from to fs → q < from → list_any (is_within q) fs ≡ false
@@ -91,10 +83,6 @@ count_left e b from to (f ∷ fs) t s h =
     h q (omega arith) k ∙ rw n refl) in
     over_frame (count_by t (places from)) (count_by t (places f.offset)) (count_by t (places (end_of f))) (count_by t (places to)) _ (sum_by (λ f. length f.message + 6) fs)
     from f.offset (length f.message + 6) to a' c r (sum_by-cons (λ f. length f.message + 6) f fs) i l
-
-or_none : (x y : Bool) → y ≡ false → (x || y) ≡ x
-or_none true y h = refl
-or_none false y h = h
 
 pub given_up_is : (e : Bool) (b : List ℕ) (p : ℕ) (fs : List Framed) → p ≤ length b → Scanned e b 0 p fs → given_up p (frames_of b) + sum_by (λ f. length f.message + 6) fs ≡ p
 unfolding places

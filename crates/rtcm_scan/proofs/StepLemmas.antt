@@ -13,9 +13,9 @@ use Rattle.rtcm_scan.specs.Pending.{asked, with_candidate_examined}
 use Rattle.rtcm_scan.specs.Looks.{Span, span, covers, looks_at, all_looks, tried_before, spans_at, Counts}
 use Rattle.rtcm_scan.specs.Examined.{HasExamined}
 use Rattle.rtcm_scan.proofs.LooksLemmas.{one_if, looks_push, all_push, counts_look, counts_push, none_cover, greatest_same}
-use Rattle.rtcm_scan.proofs.TriedLemmas.{counts_skip, counts_frame, looks_frame, all_frame}
+use Rattle.rtcm_scan.proofs.TriedLemmas.{counts_skip, counts_frame, looks_frame, all_frame, empty_covers}
 use Rattle.rtcm_scan.proofs.CostLemmas.{spans_longer, cost_within}
-use Rattle.rtcm_scan.proofs.BoundLemmas.{covers_before, looks_bound, all_bound}
+use Rattle.rtcm_scan.proofs.BoundLemmas.{looks_bound, all_bound}
 use Rattle.rtcm_scan.proofs.CandidateLemmas.{wanted_bound}
 use Rattle.rtcm_scan.proofs.DecidedLemmas.{none_past}
 use Rattle.rtcm_scan.proofs.ScanLemmas.{scanned_le, scanned_frame}
@@ -188,15 +188,8 @@ counts_same xs ys p n looks all most e t c = record {
   greatest_is = c.greatest_is ∙ greatest_same (looks_at xs) (looks_at ys) n (λ i l. e i);
 }
 
-no_covers : (i p : ℕ) → one_if (covers i (span p 0)) ≡ 0
-no_covers i p = ⊎_elim (λ (l : i < p). covers_before i p 0 l) (λ (l : p ≤ i). let y : ltb i (p + 0) ≡ false = le-ltb i (p + 0) (omega arith) in (rw y (none (leb p i)))) (cases_lt i p)
-  where
-    none : (a : Bool) → one_if (a && false) ≡ 0
-    none true = refl
-    none false = refl
-
 pub looks_empty : (xs : List Span) (p i : ℕ) → looks_at xs i ≡ looks_at (xs ++ span p 0 ∷ []) i
-looks_empty xs p i = join _ _ _ (looks_push xs (span p 0) i) (no_covers i p)
+looks_empty xs p i = join _ _ _ (looks_push xs (span p 0) i) (empty_covers i p)
   where
     join : (u x c : ℕ) → u ≡ x + c → c ≡ 0 → x ≡ u
     join u x c e z = omega arith
@@ -269,6 +262,10 @@ step_take v b fs h a x =
           (subst (λ (r : List ℕ). Counts (spans_at b (fs ++ g ∷ []) (end_of g) 0) (end_of g) (length b) r u.examined u.most) d c3);
     }
 
+rec_both : (P : Span → Type 0) (xs ys : List Span) → ByRecursion P xs → ByRecursion P ys → ByRecursion P (xs ++ ys)
+rec_both P [] ys a c = c
+rec_both P (x ∷ xs) ys a c = (a.0, rec_both P xs ys a.1 c)
+
 -- a byte follows
 spans_end : (e : Bool) (b : List ℕ) (fs : List Framed) (p : ℕ) → Scanned e b 0 p fs → p ≤ length b → (t : ℕ → Bool) (n : ℕ) → n ≤ length b → ByRecursion (λ (s : Span). s.start + s.size ≤ length b) (map (λ q. span q (cost b q)) (filter t (places n)))
 unfolding places
@@ -279,20 +276,12 @@ spans_end e b fs p s h t (suc n) l =
     let c : cost b n ≤ length (drop n b) = cost_within (drop n b) (omega arith) in
     let g : map (λ q. span q (cost b q)) (filter t (places n ++ n ∷ [])) ≡ map (λ q. span q (cost b q)) (filter t (places n)) ++ map (λ q. span q (cost b q)) (filter t (n ∷ [])) =
     ap (map (λ q. span q (cost b q))) (filter-append t (places n) (n ∷ [])) ∙ map-append (λ q. span q (cost b q)) (filter t (places n)) (filter t (n ∷ [])) in
-    subst (ByRecursion (λ (s : Span). s.start + s.size ≤ length b)) (sym g) (rec_append _ _ _ a
+    subst (ByRecursion (λ (s : Span). s.start + s.size ≤ length b)) (sym g) (rec_both _ _ _ a
     (elim (t n) as (λ v. ByRecursion (λ (s : Span). s.start + s.size ≤ length b) (map (λ q. span q (cost b q)) (cond v (n ∷ []) []))) [ true ↦ (omega arith, tt) | false ↦ tt ]))
-  where
-    rec_append : (P : Span → Type 0) (xs ys : List Span) → ByRecursion P xs → ByRecursion P ys → ByRecursion P (xs ++ ys)
-    rec_append P [] ys a c = c
-    rec_append P (x ∷ xs) ys a c = (a.0, rec_append P xs ys a.1 c)
 
 messages_end : (e : Bool) (b : List ℕ) (from to : ℕ) (fs : List Framed) → Scanned e b from to fs → to ≤ length b → ByRecursion (λ (s : Span). s.start + s.size ≤ length b) (map (λ (f : Framed). span (f.offset + 3) (length f.message)) fs)
 messages_end e b from to [] s h = tt
 messages_end e b from to (f ∷ fs) s h = let l : end_of f ≤ to = scanned_le e b (end_of f) to fs s.3 in (omega arith, messages_end e b (end_of f) to fs s.3 h)
-
-rec_both : (P : Span → Type 0) (xs ys : List Span) → ByRecursion P xs → ByRecursion P ys → ByRecursion P (xs ++ ys)
-rec_both P [] ys a c = c
-rec_both P (x ∷ xs) ys a c = (a.0, rec_both P xs ys a.1 c)
 
 pub step_push : (v : Scan) (b : List ℕ) (fs : List Framed) (x : ℕ) → v.has_ended ≡ false → v.taken < v.limit → HasExamined v b fs
     → HasExamined (record v { taken = v.taken + 1; held = v.held ++ x ∷ []; looks = v.looks ++ 0 ∷ []; is_ready = false }) (b ++ x ∷ []) fs

@@ -1,4 +1,4 @@
-//! The frames of a stream that comes byte by byte.
+//! The frames of a stream that comes in blocks or byte by byte.
 //!
 //! The scan goes from the left: at the first undecided place either a whole frame with a right check stands, which is
 //! handed out and passed over, or none can, and the scan goes on one byte further, or bytes are missing, and it waits.
@@ -14,9 +14,10 @@ ghost use Rattle.rtcm_bits.specs.Window.{looked_through, without_front};
 ghost use Rattle.rtcm_scan.specs.Drained.{IsDrained};
 ghost use Rattle.rtcm_scan.specs.Answers.{framed, frame_at, push_answer, push_all_answer, decision, if_missing, new_scan};
 
-use crate::candidate::Candidate;
+use crate::candidate::{Candidate, PREAMBLE};
+use crate::front::{Decision, examine, judge};
 use arrayvec::ArrayVec;
-use rtcm_bits::{Window, laws};
+use rtcm_bits::Window;
 use std::alloc::Global;
 use std::marker::Model;
 use thiserror::Error;
@@ -51,19 +52,8 @@ pub struct Frame {
     pub message: ArrayVec<u8, 1023>,
 }
 
-/// What stands at the front of the held bytes.
-#[derive(Clone, Copy)]
-enum Decision {
-    /// Not enough bytes to say.
-    Open,
-    /// No frame.
-    Passed,
-    /// A frame of so many bytes.
-    Found(usize),
-}
-
-/// Takes a stream byte by byte, and hands out its frames. It holds the undecided bytes alone, at most 1,029, in room
-/// that is reserved when it is made.
+/// Takes a stream in blocks or byte by byte, and hands out its frames. It holds the undecided bytes alone, at most 1,029,
+/// in room that is reserved when it is made.
 #[derive(Drop)]
 pub struct Framer {
     /// The held bytes.
@@ -128,14 +118,14 @@ impl Framer {
         }
     }
 
-    /// Whether a byte may be pushed: nothing was since `next` last answered None, or since the framer was made.
+    /// Whether bytes may be pushed: nothing was since `next` or `next_into` last answered None, or since the framer was made.
     pub fn ready(&self) -> bool
         ensures { result ≡ self.now.is_ready }
     {
         self.drained
     }
 
-    /// Takes one more byte, and looks at none. Then `next` is due until it answers None.
+    /// Takes one more byte, and looks at none. Then `next` or `next_into` is due until it answers None.
     ///
     /// # Errors
     ///
@@ -162,7 +152,7 @@ impl Framer {
         Ok(())
     }
 
-    /// Takes these bytes, and looks at none. Then `next` is due until it answers None.
+    /// Takes these bytes, and looks at none. Then `next` or `next_into` is due until it answers None.
     ///
     /// # Errors
     ///
@@ -296,27 +286,8 @@ impl Framer {
         }
     }
 
-    /// Makes the decisions that the held bytes allow, up to the next frame, and tells whether one stands. A loop that runs
-    /// once for each byte asks this first, and so makes room for a frame only where there is one.
-    pub fn settle(&mut self) -> bool
-        ensures stands { (b : List ℕ) (fs : List Framed) → StandsFor self.old b fs → StandsFor self.new b fs }
-        ensures counts { (b : List ℕ) (fs : List Framed) → HasExamined self.old b fs → HasExamined self.new b fs }
-        ensures begins { result ≡ true → begins_frame self.new.held ≡ true }
-        ensures none { result ≡ false → (b : List ℕ) (fs : List Framed) → StandsFor self.old b fs → IsDrained self.new b fs }
-        ensures none_counts { result ≡ false → (b : List ℕ) (fs : List Framed) → HasExamined self.old b fs → IsCounted self.new b }
-        ensures ready { result ≡ false → self.new.is_ready ≡ true }
-        ensures room { result ≡ false → length self.new.held < 1029 }
-        ensures waits { result ≡ true → self.new.is_ready ≡ self.old.is_ready }
-        ensures held { length self.new.held ≤ length self.old.held }
-        ensures limit { self.new.limit ≡ self.old.limit }
-        ensures taken { self.new.taken ≡ self.old.taken }
-        ensures ended { self.new.has_ended ≡ self.old.has_ended }
-    {
-        self.seek().is_some()
-    }
-
     /// Gives up places until a whole frame stands at the front, and answers its size. None where no further place is
-    /// decided. It runs once for each byte, and so has no buffer for a message among its locals.
+    /// decided.
     fn seek(&mut self) -> Option<usize>
         ensures begins { IfSome result (λ size. (begins_frame self.new.held ≡ true) × (size ≡ frame_length self.new.held) × (self.new.tried ≡ asked self.new.held)) }
         ensures stands { (b : List ℕ) (fs : List Framed) → StandsFor self.old b fs → StandsFor self.new b fs }
@@ -334,7 +305,10 @@ impl Framer {
         while self.held() > 0 {
             match self.decide() {
                 Decision::Open => break,
-                Decision::Passed => self.give_up(),
+                Decision::Passed => {
+                    self.give_up();
+                    self.pass_over();
+                }
                 Decision::Found(size) => return Some(size),
             }
         }
@@ -364,6 +338,22 @@ impl Framer {
         self.given_up += 1;
     }
 
+    /// Goes on over the bytes at the front that aren't the first of any frame, as many as are found at once.
+    fn pass_over(&mut self)
+        requires { self.old.tried ≡ 0 }
+        ensures stands { (b : List ℕ) (fs : List Framed) → StandsFor self.old b fs → StandsFor self.new b fs }
+        ensures counts { (b : List ℕ) (fs : List Framed) → HasExamined self.old b fs → HasExamined self.new b fs }
+        ensures held { length self.new.held ≤ length self.old.held }
+        ensures ready { self.new.is_ready ≡ self.old.is_ready }
+        ensures limit { self.new.limit ≡ self.old.limit }
+        ensures taken { self.new.taken ≡ self.old.taken }
+        ensures ended { self.new.has_ended ≡ self.old.has_ended }
+    {
+        let n = self.window.drop_others(PREAMBLE);
+        self.place += n as u64;
+        self.given_up += n as u64;
+    }
+
     /// Hands out the message of the frame at the front, answers the frame's place, and goes on behind it.
     fn take_frame(&mut self, size: usize, message: &mut ArrayVec<u8, 1023>) -> u64
         requires begins { begins_frame self.old.held ≡ true }
@@ -387,86 +377,5 @@ impl Framer {
         ensures room { length self.new.held < 1029 }
     {
         self.drained = true;
-    }
-}
-
-/// Examines the rest of the candidate at the front, as far as its bytes are there.
-fn examine(window: &mut Window, candidate: &mut Candidate)
-    requires taken { HasTaken candidate.old (take candidate.old.count window.old.bytes) }
-    requires within { candidate.old.count ≤ length window.old.bytes }
-    requires some { 0 < length window.old.bytes }
-    ensures taken { HasTaken candidate.new (take candidate.new.count window.old.bytes) }
-    ensures all { candidate.new.count ≡ min (wanted_by window.old.bytes) (length window.old.bytes) }
-    ensures more { candidate.old.count ≤ candidate.new.count }
-    ensures window { window.new ≡ looked_through window.old candidate.old.count (candidate.new.count - candidate.old.count) }
-    ensures bytes { window.new.bytes ≡ window.old.bytes }
-    ensures numbers { (i : ℕ) → slice_index window.old.bytes i < 256 }
-{
-    examine_header(window, candidate);
-    examine_rest(window, candidate);
-}
-
-/// Examines the candidate's header, byte by byte, since each byte of it may change how many are asked for.
-fn examine_header(window: &mut Window, candidate: &mut Candidate)
-    requires taken { HasTaken candidate.old (take candidate.old.count window.old.bytes) }
-    requires within { candidate.old.count ≤ length window.old.bytes }
-    ensures taken { HasTaken candidate.new (take candidate.new.count window.old.bytes) }
-    ensures within { candidate.new.count ≤ length window.old.bytes }
-    ensures all { candidate.new.count < candidate.new.wanted → min (length window.old.bytes) 3 ≤ candidate.new.count }
-    ensures more { candidate.old.count ≤ candidate.new.count }
-    ensures window { window.new ≡ looked_through window.old candidate.old.count (candidate.new.count - candidate.old.count) }
-    ensures bytes { window.new.bytes ≡ window.old.bytes }
-{
-    let header = window.held().min(3);
-    while candidate.count < candidate.wanted && candidate.count < header {
-        let byte = window.look(candidate.count);
-        candidate.take(byte);
-    }
-}
-
-/// Examines the bytes behind the candidate's header, all that are there at once.
-fn examine_rest(window: &mut Window, candidate: &mut Candidate)
-    requires taken { HasTaken candidate.old (take candidate.old.count window.old.bytes) }
-    requires within { candidate.old.count ≤ length window.old.bytes }
-    requires header { candidate.old.count < candidate.old.wanted → min (length window.old.bytes) 3 ≤ candidate.old.count }
-    ensures taken { HasTaken candidate.new (take candidate.new.count window.old.bytes) }
-    ensures all { candidate.new.count ≡ asked window.old.bytes }
-    ensures more { candidate.old.count ≤ candidate.new.count }
-    ensures window { window.new ≡ looked_through window.old candidate.old.count (candidate.new.count - candidate.old.count) }
-    ensures bytes { window.new.bytes ≡ window.old.bytes }
-    ensures numbers { (i : ℕ) → slice_index window.old.bytes i < 256 }
-{
-    let end = candidate.wanted.min(window.held());
-    if candidate.count < end {
-        let more = end - candidate.count;
-        window.check_range(candidate.count, more, &mut candidate.register);
-        candidate.count = end;
-    }
-}
-
-/// What a candidate comes to of which all bytes that are there were taken.
-fn judge(candidate: &Candidate, has_ended: bool) -> Decision
-    ensures { (s : List ℕ) → 0 < length s → ((i : ℕ) → slice_index s i < 256) → HasTaken candidate.now (take candidate.now.count s) → candidate.now.count ≡ min (wanted_by s) (length s)
-        → result ≡ decision has_ended s }
-{
-    if candidate.count < candidate.wanted {
-        return missing(has_ended);
-    }
-    laws::residue();
-    if candidate.wanted > 1 && candidate.register.value() == 0 {
-        Decision::Found(candidate.count)
-    } else {
-        Decision::Passed
-    }
-}
-
-/// What stands where bytes are missing.
-fn missing(has_ended: bool) -> Decision
-    ensures { result ≡ if_missing has_ended }
-{
-    if has_ended {
-        Decision::Passed
-    } else {
-        Decision::Open
     }
 }

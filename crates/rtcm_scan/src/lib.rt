@@ -1,10 +1,11 @@
-//! The frames of RTCM 3 streams (RTCM 10403.3, transport layer): of a stream that comes byte by byte, with exact counts of
+//! The frames of RTCM 3 streams (RTCM 10403.3, transport layer): of a stream that comes in blocks, with exact counts of
 //! how often each byte is looked at, and of a slice.
 #![tactic(auto)]
 
 mod candidate;
 mod framer;
 mod frames;
+mod front;
 pub mod laws;
 
 pub use framer::{Frame, Framer, MOST_BYTES, ScanFault};

@@ -5,7 +5,7 @@ ghost use Rattle.std.specs.Prelude.{◌<◌};
 use crate::{Framer, Frames, MOST_BYTES, ScanFault};
 use arrayvec::ArrayVec;
 use rtcm_bits::crc24q;
-use std::alloc::AllocError;
+use std::alloc::{AllocError, Global};
 use std::test::Fail;
 
 /// The frames of a message 1005, 1006, 1077 and 1074 of station 2003, one behind the other.
@@ -57,11 +57,53 @@ struct Counts {
     most: u16,
 }
 
-/// Takes the frames that are decided, as places and numbers of message bytes.
-fn drain(framer: &mut Framer, found: &mut Vec<(u64, usize)>) -> Result<(), AllocError> {
+/// Frames that were found: the place of each and the number of its message's bytes, and the bytes of all messages.
+#[derive(Drop)]
+struct Found {
+    frames: Vec<(u64, usize)>,
+    messages: Vec<u8>,
+}
+
+impl Found {
+    fn new(alloc: Global) -> Found {
+        Found {
+            frames: Vec::new(alloc),
+            messages: Vec::new(alloc),
+        }
+    }
+
+    fn add(&mut self, place: u64, message: &[u8]) -> Result<(), AllocError> {
+        self.frames.push((place, message.len()))?;
+        for byte in message {
+            self.messages.push(*byte)?;
+        }
+        Ok(())
+    }
+
+    /// The frames of the stream that stand at these places and have so many bytes of message.
+    fn of(alloc: Global, bytes: &[u8], frames: &[(u64, usize)]) -> Result<Found, AllocError> {
+        let mut found = Found::new(alloc);
+        for (place, size) in frames {
+            found.frames.push((*place, *size))?;
+            let before = (*place as usize).saturating_add(3);
+            for byte in bytes.iter().skip(before).take(*size) {
+                found.messages.push(*byte)?;
+            }
+        }
+        Ok(found)
+    }
+
+    fn is(&self, other: &Found) -> bool {
+        self.frames.as_slice() == other.frames.as_slice()
+            && self.messages.as_slice() == other.messages.as_slice()
+    }
+}
+
+/// Takes the frames that are decided.
+fn drain(framer: &mut Framer, found: &mut Found) -> Result<(), AllocError> {
     for _ in 0..2_000 {
         match framer.next() {
-            Some(frame) => found.push((frame.offset, frame.message.len()))?,
+            Some(frame) => found.add(frame.offset, frame.message.as_slice())?,
             None => return Ok(()),
         }
     }
@@ -69,11 +111,7 @@ fn drain(framer: &mut Framer, found: &mut Vec<(u64, usize)>) -> Result<(), Alloc
 }
 
 /// Feeds a piece byte by byte, each followed by all frames that it decides. False where a byte is refused.
-fn feed(
-    framer: &mut Framer,
-    piece: &[u8],
-    found: &mut Vec<(u64, usize)>,
-) -> Result<bool, AllocError> {
+fn feed(framer: &mut Framer, piece: &[u8], found: &mut Found) -> Result<bool, AllocError> {
     for byte in piece {
         if !framer.ready() {
             return Ok(false);
@@ -91,7 +129,7 @@ fn feed_blocks(
     framer: &mut Framer,
     piece: &[u8],
     size: usize,
-    found: &mut Vec<(u64, usize)>,
+    found: &mut Found,
 ) -> Result<bool, AllocError>
     requires { 0 < size }
 {
@@ -111,11 +149,11 @@ fn feed_blocks(
 }
 
 /// As `drain`, with one buffer for all messages.
-fn drain_into(framer: &mut Framer, found: &mut Vec<(u64, usize)>) -> Result<(), AllocError> {
+fn drain_into(framer: &mut Framer, found: &mut Found) -> Result<(), AllocError> {
     let mut message = ArrayVec::new();
     for _ in 0..2_000 {
         match framer.next_into(&mut message) {
-            Some(offset) => found.push((offset, message.len()))?,
+            Some(offset) => found.add(offset, message.as_slice())?,
             None => return Ok(()),
         }
     }
@@ -123,15 +161,15 @@ fn drain_into(framer: &mut Framer, found: &mut Vec<(u64, usize)>) -> Result<(), 
 }
 
 /// Ends the stream, and counts.
-fn finish(framer: &mut Framer, found: &mut Vec<(u64, usize)>) -> Result<Counts, AllocError> {
-    let decided = found.len();
+fn finish(framer: &mut Framer, found: &mut Found) -> Result<Counts, AllocError> {
+    let decided = found.frames.len();
     let held = framer.held();
     framer.end();
     drain(framer, found)?;
     Ok(Counts {
         decided,
         held,
-        frames: found.len(),
+        frames: found.frames.len(),
         skipped: framer.skipped(),
         examined: framer.examined(),
         most: framer.most(),
@@ -159,29 +197,35 @@ fn worked_streams(rt: HostRuntime) -> Result<(), Fail> {
         ),
     ];
     for (bytes, frames, want) in cases {
+        let frames = Found::of(rt.alloc(), bytes, frames)?;
         for cut in 0..=bytes.len() {
             let mut framer = Framer::new(rt.alloc(), MOST_BYTES).expect(&rt, "room");
-            let mut found = Vec::new(rt.alloc());
+            let mut found = Found::new(rt.alloc());
             assert!(rt; feed(&mut framer, &bytes[..cut], &mut found)?);
             assert!(rt; feed(&mut framer, &bytes[cut..], &mut found)?);
             assert_eq!(rt; framer.taken(), bytes.len() as u64);
             assert_eq!(rt; finish(&mut framer, &mut found)?, want);
-            assert_eq!(rt; found.as_slice(), frames);
+            assert!(rt; found.is(&frames), "cut at {cut}");
         }
         for size in 1..=bytes.len() {
             let mut framer = Framer::new(rt.alloc(), MOST_BYTES).expect(&rt, "room");
-            let mut found = Vec::new(rt.alloc());
+            let mut found = Found::new(rt.alloc());
             assert!(rt; feed_blocks(&mut framer, bytes, size, &mut found)?);
             assert_eq!(rt; finish(&mut framer, &mut found)?, want);
-            assert_eq!(rt; found.as_slice(), frames);
+            assert!(rt; found.is(&frames), "blocks of {size}");
         }
-        let mut found = Vec::new(rt.alloc());
-        for frame in Frames::new(bytes) {
-            found.push((frame.offset as u64, frame.message.len()))?;
-        }
-        assert_eq!(rt; found.as_slice(), frames);
+        assert!(rt; viewed(rt.alloc(), bytes)?.is(&frames));
     }
     Ok(())
+}
+
+/// The frames of a slice.
+fn viewed(alloc: Global, bytes: &[u8]) -> Result<Found, AllocError> {
+    let mut found = Found::new(alloc);
+    for frame in Frames::new(bytes) {
+        found.add(frame.offset as u64, frame.message)?;
+    }
+    Ok(found)
 }
 
 fn counted(
@@ -216,9 +260,8 @@ fn messages_of_four_frames(rt: HostRuntime) {
     for byte in &FOUR_FRAMES {
         assert!(rt; framer.ready());
         framer.push(*byte).expect(&rt, "a byte");
-        if framer.settle() {
+        if let Some(frame) = framer.next() {
             let (offset, message) = *wanted.next().expect(&rt, "no more frames");
-            let frame = framer.next().expect(&rt, "a frame");
             assert_eq!(rt;
                 (frame.offset, frame.message.as_slice()),
                 (offset as u64, message)
@@ -238,7 +281,7 @@ fn limits(rt: HostRuntime) -> Result<(), Fail> {
     assert!(rt; matches!(bad, Err(ScanFault::BadLimit)));
     for limit in [0, 10] {
         let mut framer = Framer::new(rt.alloc(), limit).expect(&rt, "room");
-        let mut found = Vec::new(rt.alloc());
+        let mut found = Found::new(rt.alloc());
         let preambles = [0xD3; 10];
         assert!(rt; feed(&mut framer, &preambles[..limit as usize], &mut found)?);
         assert!(rt; framer.ready());
@@ -258,7 +301,7 @@ fn limits(rt: HostRuntime) -> Result<(), Fail> {
 #[test]
 fn counts_while_bytes_are_missing(rt: HostRuntime) -> Result<(), Fail> {
     let mut framer = Framer::new(rt.alloc(), MOST_BYTES).expect(&rt, "room");
-    let mut found = Vec::new(rt.alloc());
+    let mut found = Found::new(rt.alloc());
     assert!(rt; feed(&mut framer, &LATE_FRAME, &mut found)?);
     assert_eq!(rt;
         (framer.examined(), framer.most(), framer.skipped()),
@@ -270,7 +313,7 @@ fn counts_while_bytes_are_missing(rt: HostRuntime) -> Result<(), Fail> {
 #[test]
 fn preambles_alone(rt: HostRuntime) -> Result<(), Fail> {
     let mut framer = Framer::new(rt.alloc(), MOST_BYTES).expect(&rt, "room");
-    let mut found = Vec::new(rt.alloc());
+    let mut found = Found::new(rt.alloc());
     for _ in 0..200 {
         assert!(rt; feed(&mut framer, &[0xD3; 10], &mut found)?);
     }
@@ -285,7 +328,7 @@ fn preambles_alone(rt: HostRuntime) -> Result<(), Fail> {
 /// Frames, all looks and the most looks at one byte, place by place.
 #[derive(Drop)]
 struct Slow {
-    frames: Vec<(u64, usize)>,
+    found: Found,
     examined: u64,
     most: u16,
 }
@@ -318,7 +361,7 @@ fn look_at(looks: &mut [u16], from: usize, size: usize) {
 }
 
 /// The whole stream by the definitions, as slow as they are.
-fn slowly(alloc: std::alloc::Global, bytes: &[u8]) -> Result<Slow, AllocError> {
+fn slowly(alloc: Global, bytes: &[u8]) -> Result<Slow, AllocError> {
     let mut looks: Vec<u16> = vec![in alloc; 0; bytes.len()]?;
     let mut frames = Vec::new(alloc);
     let mut next = 0;
@@ -341,32 +384,35 @@ fn slowly(alloc: std::alloc::Global, bytes: &[u8]) -> Result<Slow, AllocError> {
         .fold(0u64, |all, look| all.saturating_add(u64::from(*look)));
     let most = looks.iter().fold(0u16, |most, look| most.max(*look));
     Ok(Slow {
-        frames,
+        found: Found::of(alloc, bytes, frames.as_slice())?,
         examined,
         most,
     })
 }
 
-/// Whether framer and iterator give what the definitions give.
-fn agrees(alloc: std::alloc::Global, bytes: &[u8]) -> Result<bool, AllocError> {
+/// Whether framer and iterator give what the definitions give, the framer by one byte at a time and by two.
+fn agrees(alloc: Global, bytes: &[u8]) -> Result<bool, AllocError> {
     let want = slowly(alloc, bytes)?;
+    Ok(
+        viewed(alloc, bytes)?.is(&want.found)
+            && is_framed_by(alloc, bytes, 1, &want)?
+            && is_framed_by(alloc, bytes, 2, &want)?,
+    )
+}
+
+/// Whether a framer that takes so many bytes at a time gives these frames and counts.
+fn is_framed_by(alloc: Global, bytes: &[u8], size: usize, want: &Slow) -> Result<bool, AllocError>
+    requires { 0 < size }
+{
     let Ok(mut framer) = Framer::new(alloc, MOST_BYTES) else {
         return Ok(false);
     };
-    let mut found = Vec::new(alloc);
-    if !feed(&mut framer, bytes, &mut found)? {
+    let mut found = Found::new(alloc);
+    if !feed_blocks(&mut framer, bytes, size, &mut found)? {
         return Ok(false);
     }
     let got = finish(&mut framer, &mut found)?;
-    let mut views = Vec::new(alloc);
-    for view in Frames::new(bytes) {
-        views.push((view.offset as u64, view.message.len()))?;
-    }
-    Ok(
-        found.as_slice() == want.frames.as_slice()
-            && views.as_slice() == want.frames.as_slice()
-            && (got.examined, got.most) == (want.examined, want.most),
-    )
+    Ok(found.is(&want.found) && (got.examined, got.most) == (want.examined, want.most))
 }
 
 #[test]

@@ -61,6 +61,17 @@ pub fn station() -> &'static [u8] {
     &FRAMED_STATION[3..22]
 }
 
+/// The message with other bytes at these places.
+pub fn changed(message: &[u8; 36], bytes: &[(usize, u8)]) -> [u8; 36] {
+    let mut message = *message;
+    for (place, byte) in bytes {
+        if let Some(old) = message.get_mut(*place) {
+            *old = *byte;
+        }
+    }
+    message
+}
+
 /// The frames of these messages, one behind the other.
 pub fn framed(alloc: Global, messages: &[&[u8]]) -> Result<Vec<u8>, AllocError> {
     let mut stream = Vec::new(alloc);

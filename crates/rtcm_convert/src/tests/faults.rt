@@ -141,3 +141,24 @@ fn readers_that_fail(rt: HostRuntime) -> Result<(), Fail> {
     }
     Ok(())
 }
+
+#[test]
+fn texts_of_faults(rt: HostRuntime) -> Result<(), Fail> {
+    let cases = [
+        (Fault::Memory, "no memory"),
+        (
+            Fault::BadSetup,
+            "the limit, the week or the station is out of range",
+        ),
+        (Fault::TooLong, "the stream is longer than its limit"),
+        (Fault::Read, "the reader failed"),
+        (Fault::Write, "the writer failed"),
+        (Fault::Failed, "an earlier call failed"),
+        (Fault::Finished, "the stream was ended"),
+        (Fault::NoEpoch, "no epoch was written"),
+    ];
+    for (fault, want) in cases {
+        assert_eq!(rt; format!(in rt.alloc(); "{fault}")?.as_str(), want);
+    }
+    Ok(())
+}

@@ -4,4 +4,4 @@ use Rattle.obs_epoch.specs.Plans.{below}
 use Rattle.obs_epoch.proofs.plan.every_signal.Given as goal
 
 abbrev pub invariant-loop-index : goal.invariant-loop-index
-invariant-loop-index l = (below l.index ≡ indices l.signals.items) × IsOf l.system l.signals.items
+invariant-loop-index l = (below l.index ≡ indices l.signals) × IsOf l.system l.signals

@@ -44,20 +44,26 @@ finish-requires-clause-value g c =
     (the_end c.next.new.self (history_of c.loop-added.keeper) _ _ c.in-Ok-None.field-0 c.in-Ok-None.field-0-is
     (c.in-Ok-None.ensures.goes (history_of c.loop-added.keeper) _ c.loop-added.invariant.read)).is
 
-pub returns-in-Ok-None-clause-found : goal.returns-in-Ok-None-clause-found
-returns-in-Ok-None-clause-found g c =
-    file_found c.next.new.self.course (history_of c.loop-added.keeper) _ c.finish.result
+pub returns-in-Ok-finish-clause-found : goal.returns-in-Ok-finish-clause-found
+returns-in-Ok-finish-clause-found g c =
+    file_found c.next.new.self.course (history_of c.loop-added.keeper) _ c.in-Ok-finish.file
     (the_end c.next.new.self (history_of c.loop-added.keeper) _ _ c.in-Ok-None.field-0 c.in-Ok-None.field-0-is
-    (c.in-Ok-None.ensures.goes (history_of c.loop-added.keeper) _ c.loop-added.invariant.read)) c.finish.ensures
+    (c.in-Ok-None.ensures.goes (history_of c.loop-added.keeper) _ c.loop-added.invariant.read)) c.in-Ok-finish.ensures
 
-pub returns-in-Ok-None-clause-only : goal.returns-in-Ok-None-clause-only
-returns-in-Ok-None-clause-only g c = λ v is few.
-    file_only c.next.new.self.course (history_of c.loop-added.keeper) _ c.finish.result v
+pub returns-in-Ok-finish-clause-only : goal.returns-in-Ok-finish-clause-only
+returns-in-Ok-finish-clause-only g c = λ v is few.
+    file_only c.next.new.self.course (history_of c.loop-added.keeper) _ c.in-Ok-finish.file v
     (the_end c.next.new.self (history_of c.loop-added.keeper) _ _ c.in-Ok-None.field-0 c.in-Ok-None.field-0-is
-    (c.in-Ok-None.ensures.goes (history_of c.loop-added.keeper) _ c.loop-added.invariant.read)) c.finish.ensures is
+    (c.in-Ok-None.ensures.goes (history_of c.loop-added.keeper) _ c.loop-added.invariant.read)) c.in-Ok-finish.ensures is
 
-pub returns-in-Ok-None-clause-left : goal.returns-in-Ok-None-clause-left
-returns-in-Ok-None-clause-left g c = leaves_more _ _ _ c.loop-added.invariant.left c.in-Ok-None.ensures.left
+pub returns-in-Ok-finish-clause-left : goal.returns-in-Ok-finish-clause-left
+returns-in-Ok-finish-clause-left g c = leaves_more _ _ _ c.loop-added.invariant.left c.in-Ok-None.ensures.left
+
+pub returns-in-Err-finish-clause-only : goal.returns-in-Err-finish-clause-only
+returns-in-Err-finish-clause-only g c = λ v is few. no_reason _ v
+
+pub returns-in-Err-finish-clause-left : goal.returns-in-Err-finish-clause-left
+returns-in-Err-finish-clause-left g c = leaves_more _ _ _ c.loop-added.invariant.left c.in-Ok-None.ensures.left
 
 pub returns-in-Err-clause-fault : goal.returns-in-Err-clause-fault
 returns-in-Err-clause-fault g c = c.in-Err.ensures.goes (history_of c.loop-added.keeper) _ c.loop-added.invariant.read

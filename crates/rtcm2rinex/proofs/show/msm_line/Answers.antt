@@ -2,14 +2,16 @@ use Rattle.std.proofs.Common.{◌∙◌, [], ◌∷◌, ap, decimal, count_ones}
 use Rattle.rtcm_bits.specs.Bits.{bit}
 use Rattle.rtcm_msg.specs.declared.header.MsmHeader.{MsmHeader}
 use Rattle.rtcm_msg.specs.Msm.{Sets}
+use Rattle.rtcm_msg.specs.Views.{number as number_of}
 use Rattle.rtcm2rinex.specs.ShowLines.{msm_line}
 use Rattle.rtcm2rinex.proofs.LineLemmas.{add_word, end_line}
 use Rattle.rtcm2rinex.proofs.show.msm_line.Goals as goal
 
 pub returns : goal.returns
 unfolding msm_line
-returns g c =
-    let m = c.args.msm.now in
+returns c =
+    let form = c.args.msm.now.form in
+    let m = c.args.msm.now.msm in
     let h = c.header-header.ensures.value in
     let first = c.starting_with-line.ensures.text in
     let number = add_word c.add_number.ensures.text first (ap decimal (c.from.ensures ∙ c.number.ensures.value)) in
@@ -19,5 +21,5 @@ returns g c =
     let satellites = add_word c.add_number-5.ensures.text more (ap decimal c.satellites.ensures.set) in
     let signals = add_word c.add_number-6.ensures.text satellites (ap decimal (c.from-5.ensures ∙ ap count_ones (c.signals.ensures ∙ ap (λ (x : Sets). x.signals) c.masks.ensures))) in
     let cells = add_word c.add_number-7.ensures.text signals (ap decimal c.cells.ensures.set) in
-    end_line (decimal c.args.offset) (decimal (g.G.Grid.number_of m.is_galileo) ∷ decimal m.header.station ∷ decimal m.header.time ∷ decimal (bit m.header.more)
+    end_line (decimal c.args.offset) (decimal (number_of form m.is_galileo) ∷ decimal m.header.station ∷ decimal m.header.time ∷ decimal (bit m.header.more)
     ∷ decimal (count_ones m.sets.satellites) ∷ decimal (count_ones m.sets.signals) ∷ decimal (count_ones m.sets.cells) ∷ []) c.finish.ensures cells

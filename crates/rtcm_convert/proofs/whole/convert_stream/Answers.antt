@@ -1,5 +1,5 @@
 use Rattle.rtcm_convert.specs.Told.{settings}
-use Rattle.rtcm_convert.proofs.WholeLemmas.{run_whole, run_report, run_empty, run_over, run_read, run_long, run_write}
+use Rattle.rtcm_convert.proofs.WholeLemmas.{run_whole, run_report, run_empty, run_over, run_read, run_long, run_write, never, not_bad}
 use Rattle.rtcm_convert.proofs.whole.convert_stream.Goals as goal
 
 pub returns-clause-file : goal.returns-clause-file
@@ -22,3 +22,9 @@ returns-clause-long g c = λ e. run_long c.in-Ok.converter (settings c.args.setu
 
 pub returns-clause-write : goal.returns-clause-write
 returns-clause-write g c = λ e. run_write c.in-Ok.converter c.run.new.self (settings c.args.setup) _ _ _ _ c.prefix.ensures.nothing c.in-Ok.ensures.stands (c.run.ensures.write e)
+
+pub returns-clause-bad_setup : goal.returns-clause-bad_setup
+returns-clause-bad_setup g c = not_bad c.new.result _ _ c.run.result c.in-Ok.is c.new.ensures.bad (c.run.ensures.only c.in-Ok.ensures.stands.going)
+
+pub returns-clause-only : goal.returns-clause-only
+returns-clause-only g c = never c.run.result (c.run.ensures.only c.in-Ok.ensures.stands.going)

@@ -1,13 +1,14 @@
-use Rattle.std.proofs.Common.{subst}
+use Rattle.std.proofs.lemmas.Result.{err_from_is_err_and}
 use Rattle.gnss_obs.specs.declared.system.System.TheVariants.{Gps, Galileo}
-use Rattle.obs_epoch.specs.Signals.{IsUnfit}
-use Rattle.obs_epoch.proofs.FitLemmas.{unfit_not_of}
+use Rattle.obs_epoch.proofs.FitLemmas.{memory_alone}
 use Rattle.obs_epoch.proofs.plan.Plan.from_signals.Goals as goal
 
-pub returns-in_err-judge_signals-clause-planned : goal.returns-in_err-judge_signals-clause-planned
-returns-in_err-judge_signals-clause-planned c = λ first second some.
-    absurd (unfit_not_of Gps c.args.gps.items _ (subst (λ l. IsUnfit Gps l c.in_err-judge_signals.field-0.0) c.as_slice.ensures.value c.in_err-judge_signals.ensures) first)
+pub returns-in_err-first-clause-planned : goal.returns-in_err-first-clause-planned
+returns-in_err-first-clause-planned c = λ first second some.
+    let p = err_from_is_err_and c.from_residual.result c.from_residual.ensures.1 in
+    rw (p.1, p.2) (memory_alone Gps c.args.gps.now _ c.in_err-first.ensures first)
 
-pub returns-in_err-judge_signals-2-clause-planned : goal.returns-in_err-judge_signals-2-clause-planned
-returns-in_err-judge_signals-2-clause-planned c = λ first second some.
-    absurd (unfit_not_of Galileo c.args.galileo.items _ (subst (λ l. IsUnfit Galileo l c.in_err-judge_signals-2.field-0.0) c.as_slice-2.ensures.value c.in_err-judge_signals-2.ensures) second)
+pub returns-in_err-second-clause-planned : goal.returns-in_err-second-clause-planned
+returns-in_err-second-clause-planned c = λ first second some.
+    let p = err_from_is_err_and c.from_residual-in_err-second.result c.from_residual-in_err-second.ensures.1 in
+    rw (p.1, p.2) (memory_alone Galileo c.args.galileo.now _ c.in_err-second.ensures second)

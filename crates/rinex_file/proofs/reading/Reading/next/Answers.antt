@@ -1,12 +1,13 @@
 use Rattle.std.proofs.Common.{subst, ℕ, ◌+◌, ◌<◌, length, Err}
 use Rattle.rinex_file.specs.declared.due.Refusal.{Refusal}
 use Rattle.rinex_file.specs.declared.read_fault.ReadFault.TheVariants.{CutShort}
-use Rattle.rinex_file.specs.Exact.{IsFaulty}
+use Rattle.rinex_file.specs.Exact.{IsFaulty, IsDueAt}
+use Rattle.rinex_file.proofs.DueLines.{due_at}
 use Rattle.rinex_file.specs.Course.{Follows, Refuses, Takes, progress_at, with_line}
 use Rattle.rinex_file.proofs.FileLines.{lines_are_lines}
 use Rattle.rinex_file.proofs.Judged.{refused as judged}
 use Rattle.rinex_file.proofs.HeaderBody.{unfinished, goes_on, only_file, file_read, sound_rows}
-use Rattle.rinex_file.proofs.LineByLine.{one_more, refused, over_long, cut_within, cut_behind, whole, behind_fault, said_of, long_some}
+use Rattle.rinex_file.proofs.LineByLine.{one_more, refused, over_long, cut_within, cut_behind, whole, behind_fault, both_said, said_of, long_some}
 use Rattle.rinex_file.proofs.reading.Reading.next.Goals as goal
 
 pub returns-then-may_end-clause-goes : goal.returns-then-may_end-clause-goes
@@ -46,7 +47,9 @@ returns-in-Long-clause-goes g c = λ h input read.
     let long = c.in-Long.ensures in
     let bytes = c.next_line.new.line.items in
     behind_fault s n input _ _ bytes c.fault_at.result c.fault_behind-in-Long.result read.taken (long_some bytes long.found.0) long.taken c.fault_behind-in-Long.ensures
-    (said_of input (λ text. IsFaulty text (n + 1)) _ c.fault_at.ensures.faulty (over_long s n input _ _ bytes read.taken long.found.0 long.found.1 long.taken))
+    (said_of input (λ text. IsFaulty text (n + 1) × IsDueAt c.due.result text (n + 1)) _ (λ text both. c.fault_at.ensures.faulty text both.0 both.1)
+    (both_said input (λ text. IsFaulty text (n + 1)) (λ text. IsDueAt c.due.result text (n + 1)) (over_long s n input _ _ bytes read.taken long.found.0 long.found.1 long.taken)
+    (due_at c.args.self.now.course h c.due.result n input _ read.taken c.due.ensures read.stands)))
 
 pub returns-in-Ok-clause-goes : goal.returns-in-Ok-clause-goes
 returns-in-Ok-clause-goes g c = λ h input read.
@@ -65,5 +68,7 @@ returns-in-Err-Bad-clause-goes g c = λ h input read.
     let n = c.args.self.now.count in
     let line = c.next_line.new.line.items in
     let takes = subst (λ (r : Refusal). Takes c.args.self.now.course c.take.new.self c.as_slice.result.now (Err r)) c.in-Err-Bad.field-0-is c.in-Err-Bad.ensures.takes in
-    said_of input (λ text. IsFaulty text (n + 1)) _ c.fault_at-in-Err-Bad.ensures.faulty
+    said_of input (λ text. IsFaulty text (n + 1) × IsDueAt c.due-due.result text (n + 1)) _ (λ text both. c.fault_at-in-Err-Bad.ensures.faulty text both.0 both.1)
+    (both_said input (λ text. IsFaulty text (n + 1)) (λ text. IsDueAt c.due-due.result text (n + 1))
     (refused lines_are_lines s n input _ _ line read.taken c.in-Line.ensures.found c.in-Line.ensures.taken (subst (Refuses s) c.as_slice.ensures.value (takes h read.stands)))
+    (due_at c.args.self.now.course h c.due-due.result n input _ read.taken c.due-due.ensures read.stands))

@@ -1,8 +1,9 @@
-use Rattle.std.proofs.Common.{None}
+use Rattle.std.proofs.Common.{None, sym, subst}
 use Rattle.rinex_file.specs.declared.fault.HeaderField.TheVariants.{RunBy, Date, Marker, MarkerType, Observer, Agency, RecNumber, RecType, RecVersion, AntNumber, AntType}
 use Rattle.rinex_file.specs.Texts.{fields}
+use Rattle.rinex_file.specs.FileValues.{AreTexts}
 use Rattle.rinex_file.specs.TextsOf.{lists_of}
-use Rattle.rinex_file.proofs.Faultless.{short, all_none}
+use Rattle.rinex_file.proofs.Faultless.{short, all_none, are_fine}
 use Rattle.rinex_file.proofs.texts.HeaderTexts.taken.Goals as goal
 
 pub returns : goal.returns
@@ -21,3 +22,6 @@ returns c =
     let ant_number-is = c.cut-ant_number.ensures (short AntNumber t.ant_number all.1.1.1.1.1.1.1.1.1.0) in
     let ant_type-is = c.cut-ant_type.ensures (short AntType t.ant_type all.1.1.1.1.1.1.1.1.1.1.0) in
     cc
+
+pub invariant_of-result : goal.invariant_of-result
+invariant_of-result c = subst AreTexts (sym (returns c)) (are_fine (lists_of c.args.texts.now) c.requires)

@@ -5,19 +5,23 @@ use Rattle.rtcm_scan.proofs.NextLemmas.{step_passed, counts_passed, found_begins
 use Rattle.rtcm_scan.proofs.framer.Framer.seek.Goals as goal
 use Rattle.rtcm_scan.proofs.framer.Framer.seek.Goals.{else-loop-self-test, then-loop-self-test+in-Open}
 
+pub pass_over-requires : goal.pass_over-requires
+pass_over-requires c = ap (λ (y : Scan). y.tried) c.give_up.ensures
+
 pub loop-self-preserved : goal.loop-self-preserved
 loop-self-preserved c =
     let h : 0 < length c.loop-self.self.held = omega (arith, c.held.ensures.value, c.loop-self-test.true) in
+    let o = c.pass_over.ensures in
     record {
-      stands = λ b fs s. step_passed c.loop-self.self c.decide.new.self c.give_up.new.self b fs c.in-Passed.ensures.examined c.give_up.ensures h
-          (from_passed c.loop-self.self.has_ended c.loop-self.self.held c.in-Passed.ensures.decision) (c.loop-self.invariant.stands b fs s);
-      counts = λ b fs s. counts_passed c.loop-self.self c.decide.new.self c.give_up.new.self b fs c.in-Passed.ensures.examined c.give_up.ensures h
-          (from_passed c.loop-self.self.has_ended c.loop-self.self.held c.in-Passed.ensures.decision) c.in-Passed.ensures.tried (c.loop-self.invariant.counts b fs s);
-      limit = ap (λ (y : Scan). y.limit) c.give_up.ensures ∙ ap (λ (y : Scan). y.limit) c.in-Passed.ensures.examined ∙ c.loop-self.invariant.limit;
-      taken = ap (λ (y : Scan). y.taken) c.give_up.ensures ∙ ap (λ (y : Scan). y.taken) c.in-Passed.ensures.examined ∙ c.loop-self.invariant.taken;
-      ended = ap (λ (y : Scan). y.has_ended) c.give_up.ensures ∙ ap (λ (y : Scan). y.has_ended) c.in-Passed.ensures.examined ∙ c.loop-self.invariant.ended;
-      held = (let d : length c.give_up.new.self.held ≡ length c.loop-self.self.held - 1 = ap (λ (y : Scan). length y.held) c.give_up.ensures ∙ length-drop 1 c.decide.new.self.held ∙ ap (λ (y : Scan). length y.held - 1) c.in-Passed.ensures.examined in omega (arith, d, c.loop-self.invariant.held));
-      ready = ap (λ (y : Scan). y.is_ready) c.give_up.ensures ∙ ap (λ (y : Scan). y.is_ready) c.in-Passed.ensures.examined ∙ c.loop-self.invariant.ready;
+      stands = λ b fs s. o.stands b fs (step_passed c.loop-self.self c.decide.new.self c.give_up.new.self b fs c.in-Passed.ensures.examined c.give_up.ensures h
+          (from_passed c.loop-self.self.has_ended c.loop-self.self.held c.in-Passed.ensures.decision) (c.loop-self.invariant.stands b fs s));
+      counts = λ b fs s. o.counts b fs (counts_passed c.loop-self.self c.decide.new.self c.give_up.new.self b fs c.in-Passed.ensures.examined c.give_up.ensures h
+          (from_passed c.loop-self.self.has_ended c.loop-self.self.held c.in-Passed.ensures.decision) c.in-Passed.ensures.tried (c.loop-self.invariant.counts b fs s));
+      limit = o.limit ∙ ap (λ (y : Scan). y.limit) c.give_up.ensures ∙ ap (λ (y : Scan). y.limit) c.in-Passed.ensures.examined ∙ c.loop-self.invariant.limit;
+      taken = o.taken ∙ ap (λ (y : Scan). y.taken) c.give_up.ensures ∙ ap (λ (y : Scan). y.taken) c.in-Passed.ensures.examined ∙ c.loop-self.invariant.taken;
+      ended = o.ended ∙ ap (λ (y : Scan). y.has_ended) c.give_up.ensures ∙ ap (λ (y : Scan). y.has_ended) c.in-Passed.ensures.examined ∙ c.loop-self.invariant.ended;
+      held = (let d : length c.give_up.new.self.held ≡ length c.loop-self.self.held - 1 = ap (λ (y : Scan). length y.held) c.give_up.ensures ∙ length-drop 1 c.decide.new.self.held ∙ ap (λ (y : Scan). length y.held - 1) c.in-Passed.ensures.examined in omega (arith, d, o.held, c.loop-self.invariant.held));
+      ready = o.ready ∙ ap (λ (y : Scan). y.is_ready) c.give_up.ensures ∙ ap (λ (y : Scan). y.is_ready) c.in-Passed.ensures.examined ∙ c.loop-self.invariant.ready;
     }
 
 pub returns-in-Found-clause-begins : goal.returns-in-Found-clause-begins

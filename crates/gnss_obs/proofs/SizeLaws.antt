@@ -1,0 +1,66 @@
+-- How large the values of a message are.
+use Rattle.std.proofs.Common.{ℕ, ℤ, pos, ◌≡◌, ◌+◌, ◌*◌, ◌^◌, ◌<◌, ◌≤◌, ◌==◌, ◌*ℤ◌, ◌-ℤ◌, ◌≤ℤ◌, Bool, true, false, List, [], ◌∷◌, unsigned_abs, arith, lit<, lit≤}
+use Rattle.std.specs.Prelude.{if◌then◌else◌}
+use Rattle.std.specs.List.{AllByRecursion}
+use Rattle.std.proofs.lemmas.Int.{ints}
+use Rattle.gnss_obs.specs.declared.system.System.{System}
+use Rattle.gnss_obs.specs.declared.system.System.TheVariants.{Gps, Galileo}
+use Rattle.gnss_obs.specs.Signals.{SignalAt, carriers, carrier_of, band_of, code_of, hertz_of}
+use Rattle.gnss_obs.specs.Rounding.{nearest, nearest_size}
+use Rattle.gnss_obs.specs.Observables.{light, metres, cycles, shift, decibels}
+use Rattle.gnss_obs.proofs.NearestLaws.{nearest_is, nearest_bound, product_within}
+
+-- ---- carriers
+
+abbrev most_hertz : ℕ
+most_hertz = 1575420000
+
+this_or : (b : Bool) (h rest most : ℕ) → h ≤ most → rest ≤ most → (if b then h else rest) ≤ most
+this_or true h rest most a c = a
+this_or false h rest most a c = c
+
+carrier_within : (band : ℕ) (cs : List (ℕ × ℕ)) → AllByRecursion (λ c. c.1 ≤ most_hertz) cs → carrier_of cs band ≤ most_hertz
+carrier_within band [] h = lit≤ tt
+carrier_within band (c ∷ cs) h = this_or (c.0 == band) c.1 (carrier_of cs band) most_hertz h.0 (carrier_within band cs h.1)
+
+carriers_within : (system : System) → AllByRecursion (λ c. c.1 ≤ most_hertz) (carriers system)
+carriers_within Gps = (lit≤ tt, (lit≤ tt, (lit≤ tt, tt)))
+carriers_within Galileo = (lit≤ tt, (lit≤ tt, (lit≤ tt, (lit≤ tt, (lit≤ tt, tt)))))
+
+hertz_within : (s : SignalAt) → hertz_of s ≤ most_hertz
+hertz_within s = carrier_within (band_of (code_of s)) (carriers s.system) (carriers_within s.system)
+
+-- ---- values
+
+metres_below : (a t : ℕ) → a ≤ 2 ^ 40 * light → t * 2 ^ 31 ≤ a + 2 ^ 31 → t < 10 ^ 12
+metres_below a t h k = omega (arith, h, k)
+
+pub metres_small : (r : ℤ) → unsigned_abs r ≤ 2 ^ 40 → unsigned_abs (metres r) < 10 ^ 12
+metres_small r h =
+    let a = r *ℤ pos light in
+    metres_below (unsigned_abs a) (unsigned_abs (metres r)) (product_within r light (2 ^ 40) light h (lit≤ tt)) (nearest_bound a (2 ^ 31) (metres r) (nearest_is a (2 ^ 31) (lit< tt)))
+
+cycles_below : (a t : ℕ) → a ≤ 2 ^ 40 * most_hertz → t * 2 ^ 31 ≤ a + 2 ^ 31 → t < 10 ^ 12
+cycles_below a t h k = omega (arith, h, k)
+
+pub cycles_small : (s : SignalAt) (p : ℤ) → unsigned_abs p ≤ 2 ^ 40 → unsigned_abs (cycles (hertz_of s) p) < 10 ^ 12
+cycles_small s p h =
+    let a = p *ℤ pos (hertz_of s) in
+    let t = cycles (hertz_of s) p in
+    cycles_below (unsigned_abs a) (unsigned_abs t) (product_within p (hertz_of s) (2 ^ 40) most_hertz h (hertz_within s)) (nearest_bound a (2 ^ 31) t (nearest_is a (2 ^ 31) (lit< tt)))
+
+turned : (a : ℤ) → unsigned_abs (pos 0 -ℤ a) ≡ unsigned_abs a
+turned a = omega (arith, ints)
+
+shift_below : (a b t : ℕ) → b ≡ a → a ≤ 10 ^ 8 * most_hertz → t * (10 * light) ≤ b + 10 * light → t < 10 ^ 12
+shift_below a b t e h k = omega (arith, e, h, k)
+
+pub shift_small : (s : SignalAt) (v : ℤ) → unsigned_abs v ≤ 10 ^ 8 → unsigned_abs (shift (hertz_of s) v) < 10 ^ 12
+shift_small s v h =
+    let a = v *ℤ pos (hertz_of s) in
+    let t = shift (hertz_of s) v in
+    shift_below (unsigned_abs a) (unsigned_abs (pos 0 -ℤ a)) (unsigned_abs t) (turned a) (product_within v (hertz_of s) (10 ^ 8) most_hertz h (hertz_within s))
+    (nearest_bound (pos 0 -ℤ a) (10 * light) t (nearest_is (pos 0 -ℤ a) (10 * light) (lit< tt)))
+
+pub decibels_between : (s : ℕ) → 0 < s → s < 1024 → (pos 1 ≤ℤ decibels s) × (decibels s ≤ℤ pos 99_999)
+decibels_between s some few = (omega (arith, ints, some), omega (arith, ints, few))

@@ -1,0 +1,98 @@
+-- Signals in a set, and the places of a table's signals among them.
+use Rattle.std.proofs.Common.{◌≡◌, ◌≢◌, ℕ, suc, ◌+◌, ◌<◌, ◌≤◌, ◌==◌, ◌||◌, Bool, true, false, not, List, [], ◌∷◌, ◌++◌, length, All, set, get_or, nat_eq, nat_lt, refl, sym, ap, ap₂, ◌∙◌, subst, arith, Option, Some, None, if◌then◌else◌}
+use Rattle.std.specs.Prelude.{cond, position}
+use Rattle.std.proofs.lemmas.List.{get_or-set_other, length_push}
+use Rattle.std.proofs.lemmas.List.Folds.{position_or_len_push}
+use Rattle.std.proofs.lemmas.List.Sums.{prefix_len-le-length}
+use Rattle.std.proofs.lemmas.Grind.{get_or-set_at}
+use Rattle.std.proofs.lemmas.List.Elements.{All-head, All-tail}
+use Rattle.std.specs.List.{list_any, position_or_len, IsDistinct}
+use Rattle.gnss_obs.specs.Signals.{SignalAt, IsSignal}
+use Rattle.obs_epoch.specs.Signals.{AreFound, IsOf}
+use Rattle.obs_epoch.proofs.PlanLemmas.{is_of-push}
+
+pub none_before : {X : Type 0} (p : X → Bool) (xs : List X) → list_any p xs ≡ false → position_or_len p xs ≡ length xs
+none_before p [] h = refl
+none_before p (x ∷ xs) h = by (p x) h (none_before p xs) where
+  by : (b : Bool) → (b || list_any p xs) ≡ false → (list_any p xs ≡ false → position_or_len p xs ≡ length xs) → cond (not b) (1 + position_or_len p xs) 0 ≡ suc (length xs)
+  by true h more = absurd (grind (arith, h))
+  by false h more = let e = more h in omega (arith, e)
+
+not_true : (b : Bool) → not b ≡ true → b ≡ false
+not_true true e = grind (arith, e)
+not_true false e = refl
+
+not_false : (b : Bool) → not b ≡ false → b ≡ true
+not_false true e = refl
+not_false false e = grind (arith, e)
+
+-- ---- signals of one system are the same where their places in its table are
+
+-- what a set answers of a signal, whose system is that of those before it
+module _ (eq : SignalAt → SignalAt → Bool) (same : (a b : SignalAt) → a.system ≡ b.system → eq a b ≡ (a.index == b.index)) (s : SignalAt) where
+  any_same : (ss : List SignalAt) → All (λ (r : SignalAt). (r.system ≡ s.system) × IsSignal r) ss → list_any (eq s) ss ≡ list_any (λ (r : SignalAt). s.index == r.index) ss
+  any_same [] h = refl
+  any_same (r ∷ ss) h =
+      let here = All-head (λ (r : SignalAt). (r.system ≡ s.system) × IsSignal r) r ss h in
+      ap₂ (λ a b. a || b) (same s r (sym here.0)) (any_same ss (All-tail (λ (r : SignalAt). (r.system ≡ s.system) × IsSignal r) r ss h))
+
+  pub was_new : (ss new : List SignalAt) (is_new : Bool) (place : ℕ) → IsDistinct eq new → IsOf s.system ss → IsSignal s → new ≡ (if list_any (eq s) ss then ss else ss ++ s ∷ [])
+      → is_new ≡ not (list_any (eq s) ss) → place ≡ position_or_len (eq s) ss → is_new ≡ true
+      → (new ≡ ss ++ s ∷ []) × (list_any (λ (r : SignalAt). s.index == r.index) ss ≡ false) × IsOf s.system new × (place ≡ length ss)
+  was_new ss new is_new place unique of listed keys added at is =
+      let none : list_any (eq s) ss ≡ false = not_true (list_any (eq s) ss) (sym added ∙ is) in
+      let apart = sym (any_same ss of.each) ∙ none in
+      let all = keys ∙ ap (λ b. if b then ss else ss ++ s ∷ []) none in
+      (all, apart, subst (IsOf s.system) (sym all) (is_of-push s.system ss s of refl listed apart), at ∙ none_before (eq s) ss none)
+
+  pub was_there : (ss new : List SignalAt) (is_new : Bool) → IsDistinct eq new → IsOf s.system ss → new ≡ (if list_any (eq s) ss then ss else ss ++ s ∷ [])
+      → is_new ≡ not (list_any (eq s) ss) → is_new ≡ false → (new ≡ ss) × (list_any (λ (r : SignalAt). s.index == r.index) ss ≡ true)
+  was_there ss new is_new unique of keys added is =
+      let there : list_any (eq s) ss ≡ true = not_false (list_any (eq s) ss) (sym added ∙ is) in
+      (keys ∙ ap (λ b. if b then ss else ss ++ s ∷ []) there, sym (any_same ss of.each) ∙ there)
+
+-- ---- a number more
+
+-- the first place of a longer list
+longer : (k n next long : ℕ) → k ≤ n → next ≡ cond (nat_eq k n) (n + 1) k → long ≡ n + 1 → cond (nat_lt next long) (Some next) None ≡ cond (nat_lt k n) (Some k) None
+longer k n next long le is len = by (nat_eq k n) refl is where
+  by : (b : Bool) → nat_eq k n ≡ b → next ≡ cond b (n + 1) k → cond (nat_lt next long) (Some next) None ≡ cond (nat_lt k n) (Some k) None
+  by true e i = grind (arith, e, i, len)
+  by false e i = grind (arith, e, i, len, le)
+
+first_skip : (p : ℕ → Bool) (xs : List ℕ) (x : ℕ) → p x ≡ false → position p (xs ++ x ∷ []) ≡ position p xs
+first_skip p xs x h =
+    longer (position_or_len p xs) (length xs) _ _ (prefix_len-le-length (λ y. not (p y)) xs)
+    (position_or_len_push p xs x ∙ ap (λ b. cond (nat_eq (position_or_len p xs) (length xs)) (length xs + cond b 0 1) (position_or_len p xs)) h) (length_push xs x)
+
+here : (k n next long : ℕ) → k ≡ n → next ≡ cond (nat_eq k n) (n + 0) k → long ≡ n + 1 → cond (nat_lt next long) (Some next) None ≡ Some n
+here k n next long e is len = by (nat_eq k n) refl is where
+  by : (b : Bool) → nat_eq k n ≡ b → next ≡ cond b (n + 0) k → cond (nat_lt next long) (Some next) None ≡ Some n
+  by true t i = grind (arith, i, len)
+  by false t i = grind (arith, t, e)
+
+first_here : (p : ℕ → Bool) (xs : List ℕ) (x : ℕ) → p x ≡ true → list_any p xs ≡ false → position p (xs ++ x ∷ []) ≡ Some (length xs)
+first_here p xs x h none =
+    here (position_or_len p xs) (length xs) _ _ (none_before p xs none)
+    (position_or_len_push p xs x ∙ ap (λ b. cond (nat_eq (position_or_len p xs) (length xs)) (length xs + cond b 0 1) (position_or_len p xs)) h) (length_push xs x)
+
+any_flip : (i : ℕ) (xs : List ℕ) → list_any (λ j. j == i) xs ≡ list_any (nat_eq i) xs
+any_flip i [] = refl
+any_flip i (x ∷ xs) = ap₂ (λ a b. a || b) (flip x i) (any_flip i xs) where
+  flip : (a b : ℕ) → nat_eq a b ≡ nat_eq b a
+  flip a b = grind arith
+
+pub found_more : (places : List (Option ℕ)) (xs new : List ℕ) (i place : ℕ) → AreFound places xs → i < 19 → 19 ≤ length places → list_any (nat_eq i) xs ≡ false
+    → place ≡ length xs → new ≡ xs ++ i ∷ [] → AreFound (set places i (Some place)) new
+found_more places xs new i place found less room none at is = subst (AreFound (set places i (Some place))) (sym is) (record { each = λ n small. by n small (nat_eq i n) refl }) where
+  apart : (n : ℕ) → nat_eq i n ≡ false → n ≢ i
+  apart n e same = absurd (grind (arith, e, same))
+
+  alike : (n : ℕ) → nat_eq i n ≡ true → n ≡ i
+  alike n e = grind (arith, e)
+
+  by : (n : ℕ) → n < 19 → (b : Bool) → nat_eq i n ≡ b → get_or (set places i (Some place)) n None ≡ position (λ j. j == n) (xs ++ i ∷ [])
+  by n small true e =
+      get_or-set_at places i n (Some place) None (alike n e) (omega (arith, less, room)) ∙ ap Some at
+      ∙ sym (first_here (λ j. j == n) xs i e (subst (λ (m : ℕ). list_any (λ j. j == m) xs ≡ false) (sym (alike n e)) (any_flip i xs ∙ none)))
+  by n small false e = get_or-set_other places i n (Some place) None (apart n e) ∙ found.each n small ∙ sym (first_skip (λ j. j == n) xs i e)

@@ -1,0 +1,86 @@
+-- How far the values of epochs reach that are gathered from messages that were read.
+use Rattle.std.specs.Prelude.{◌≡◌, ℕ, ℤ, pos, ◌*◌, ◌^◌, ◌<◌, ◌≤◌, ◌≤ℤ◌, ◌==◌, ◌&&◌, Bool, true, List, [], ◌∷◌, IfSome, None, is_some, ⊤}
+use Rattle.std.specs.List.{AllByRecursion, IsDistinct}
+use Rattle.gnss_obs.specs.declared.system.System.{System}
+use Rattle.gnss_obs.specs.Satellites.{satellites}
+use Rattle.rtcm_msg.specs.declared.message.Message.{Message}
+use Rattle.rtcm_msg.specs.Spelling.{IsMessage}
+use Rattle.rtcm_msg.specs.Reach.{IsCoordinate, IsPoint}
+use Rattle.obs_epoch.specs.declared.cell.Cell.{Cell}
+use Rattle.obs_epoch.specs.declared.cell.StationValues.{StationValues}
+use Rattle.obs_epoch.specs.declared.seen.Seen.{Seen}
+use Rattle.obs_epoch.specs.Weeks.{week, weeks}
+use Rattle.obs_epoch.specs.Values.{PlanValue, EpochValue, Closed, Fits, cells_of, planned_of}
+use Rattle.obs_epoch.specs.Plans.{place_in}
+use Rattle.obs_epoch.specs.Heard.{Setup, Heard, heard}
+use Rattle.obs_epoch.specs.Gathering.{all_epochs}
+
+-- ---- messages
+
+-- a strength in thousandths of a dB-Hz
+abbrev pub IsStrength : ℤ → Type 0
+IsStrength s = (pos 1 ≤ℤ s) × (s ≤ℤ pos 99_999)
+
+-- the values of a cell of a message that was read
+pub record IsTold (x : Seen) : Type 0 where
+  pub c : IfSome x.c Fits
+  pub l : IfSome x.l Fits
+  pub d : IfSome x.d Fits
+  pub s : IfSome x.s IsStrength
+
+-- what is heard of a message that was read
+pub record IsHeard (m : Heard) : Type 0 where
+  pub cells : AllByRecursion IsTold m.cells
+  pub point : IfSome m.point IsPoint
+
+-- ---- epochs
+
+-- a kept cell of a system of which these signals are planned
+pub record IsGathered (system : System) (signals : List ℕ) (x : Cell) : Type 0 where
+  pub number : (1 ≤ x.satellite.id) × (x.satellite.id ≤ satellites system)
+  pub planned : is_some (place_in x.signal signals) ≡ true
+  pub c : IfSome x.c Fits
+  pub l : IfSome x.l Fits
+  pub d : IfSome x.d Fits
+  pub s : IfSome x.s IsStrength
+  pub mark : x.mark < 4
+  pub unmarked : x.l ≡ None → x.mark ≡ 0
+
+-- of one satellite and signal
+abbrev pub same_place : Cell → Cell → Bool
+same_place a b = (a.satellite.id == b.satellite.id) && (a.signal.index == b.signal.index)
+
+-- kept cells of a system, no two of one satellite and signal
+pub record AreGathered (system : System) (signals : List ℕ) (cells : List Cell) : Type 0 where
+  pub each : AllByRecursion (IsGathered system signals) cells
+  pub apart : IsDistinct same_place cells
+
+-- station values of a message, or none
+pub record AreToldValues (v : StationValues) : Type 0 where
+  pub x : IsCoordinate v.x
+  pub y : IsCoordinate v.y
+  pub z : IsCoordinate v.z
+  pub height : v.height < 2 ^ 16
+
+-- a closed epoch of a plan
+pub record IsGatheredEpoch (plan : PlanValue) (e : Closed) : Type 0 where
+  pub time : e.epoch.time < weeks * week
+  pub cells : (system : System) → AreGathered system (planned_of system plan) (cells_of system e.epoch)
+  pub values : AreToldValues e.values
+
+-- each time is before all behind it
+abbrev pub TimesRise : List Closed → Type 0
+TimesRise [] = ⊤
+TimesRise (e ∷ es) = AllByRecursion (λ f. e.epoch.time < f.epoch.time) es × TimesRise es
+
+pub record AreGatheredEpochs (plan : PlanValue) (es : List Closed) : Type 0 where
+  pub each : AllByRecursion (IsGatheredEpoch plan) es
+  pub rise : TimesRise es
+
+-- ---- laws
+
+abbrev pub MessagesAreHeard : Type 0
+MessagesAreHeard = (m : Message) → IsMessage m → IsHeard (heard m)
+
+abbrev pub EpochsAreGathered : Type 0
+EpochsAreGathered = (s : Setup) (ms : List Heard) → AllByRecursion IsHeard ms → AreGatheredEpochs s.plan (all_epochs s ms)

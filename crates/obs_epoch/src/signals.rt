@@ -1,0 +1,92 @@
+//! Signals of a system, each once, in order.
+ghost use Rattle.std.specs.Prelude.{◌≡◌, ◌↔◌, ◌==◌, ◌++◌, ◌∷◌, [], IsTrue, length, true, false, Ok};
+ghost use Rattle.std.specs.List.{list_any};
+ghost use Rattle.gnss_obs.specs.Signals.{SignalAt, table};
+ghost use Rattle.obs_epoch.specs.Plans.{place_in};
+ghost use Rattle.obs_epoch.specs.Signals.{indices, IsOf};
+
+use gnss_obs::Signal;
+use indexmap::IndexSet;
+use std::alloc::{AllocError, Global};
+use std::marker::Model;
+
+/// The longest table of signals, that of Galileo, has so many.
+const MOST_SIGNALS: usize = 19;
+
+/// Signals of a system, each once, in the order in which they were added.
+#[derive(Drop)]
+pub struct Signals {
+    order: IndexSet<Signal>,
+    // For each signal of the table, by its place there: its place in the order.
+    places: [Option<usize>; MOST_SIGNALS],
+}
+
+impl Model for Signals {
+    ghost use Rattle.std.specs.Prelude.{List};
+    ghost use Rattle.gnss_obs.specs.Signals.{SignalAt};
+    ghost use Rattle.obs_epoch.specs.Signals.{indices, AreFound};
+
+    ghost Value = { List SignalAt };
+
+    ghost view = { λ s. s.order.keys };
+
+    ghost invariant = { λ s. AreFound s.places (indices s.order.keys) };
+}
+
+impl Signals {
+    /// No signal.
+    pub fn new(alloc: Global) -> Signals
+        ensures { result ≡ [] }
+    {
+        Signals {
+            order: IndexSet::new(alloc),
+            places: [None; MOST_SIGNALS],
+        }
+    }
+
+    /// Adds a signal of the same system as those before it, and says whether it wasn't there.
+    pub fn add(&mut self, signal: Signal) -> Result<bool, AllocError>
+        requires { IsOf signal.system self.old }
+        ensures new { result ≡ Ok true → (self.new ≡ self.old ++ signal ∷ []) × (list_any (λ s. signal.index == s.index) self.old ≡ false) × IsOf signal.system self.new }
+        ensures old { result ≡ Ok false → (self.new ≡ self.old) × (list_any (λ s. signal.index == s.index) self.old ≡ true) }
+    {
+        let index = signal.index();
+        match self.order.insert_full(signal) {
+            Ok((place, is_new)) => {
+                if is_new {
+                    self.places[index] = Some(place);
+                }
+                Ok(is_new)
+            }
+            Err(_) => Err(AllocError),
+        }
+    }
+
+    /// How many there are.
+    pub fn len(&self) -> usize
+        ensures { result ≡ length self.now }
+    {
+        self.as_slice().len()
+    }
+
+    /// Whether there is none.
+    pub fn is_empty(&self) -> bool
+        ensures { IsTrue result ↔ (self.now ≡ []) }
+    {
+        self.as_slice().is_empty()
+    }
+
+    /// All of them in their order.
+    pub fn as_slice(&self) -> &[Signal]
+        ensures { result.now ≡ self.now }
+    {
+        self.order.as_slice()
+    }
+
+    /// The place of a signal of their system, from 0, or None where it isn't there.
+    pub fn place(&self, signal: Signal) -> Option<usize>
+        ensures { result ≡ place_in signal (indices self.now) }
+    {
+        self.places[signal.index()]
+    }
+}

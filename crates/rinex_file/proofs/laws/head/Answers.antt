@@ -1,0 +1,28 @@
+use Rattle.std.proofs.Common.{◌≡◌, ◌<◌, subst, ℕ, List, length, nat_eq}
+use Rattle.std.specs.Prelude.{All}
+use Rattle.std.specs.List.{IsDistinct}
+use Rattle.gnss_obs.specs.declared.system.System.{System}
+use Rattle.gnss_obs.specs.declared.system.System.TheVariants.{Gps, Galileo}
+use Rattle.gnss_obs.specs.Signals.{SignalAt, table}
+use Rattle.obs_epoch.specs.Signals.{indices, IsOf}
+use Rattle.obs_epoch.specs.Values.{PlanValue, planned_of}
+use Rattle.rinex_file.specs.Gathered.{AreSignals}
+use Rattle.rinex_file.proofs.HeaderEnd.{listed_by}
+use Rattle.rinex_file.proofs.laws.head.Goals as goal
+
+-- these are the signals of a system
+are_listed : (system : System) (ss : List SignalAt) (signals : List ℕ) → indices ss ≡ signals → IsOf system ss → All (λ i. i < length (table system)) signals
+are_listed system ss signals e is = subst (All (λ i. i < length (table system))) e (listed_by system ss is.each)
+
+are_apart : (system : System) (ss : List SignalAt) (signals : List ℕ) → indices ss ≡ signals → IsOf system ss → IsDistinct nat_eq signals
+are_apart system ss signals e is = subst (IsDistinct nat_eq) e is.apart
+
+pub returns-clause-plan : goal.returns-clause-plan
+returns-clause-plan c = record { listed = listed; apart = apart } where
+  listed : (system : System) → All (λ i. i < length (table system)) (planned_of system c.args.plan.now)
+  listed Gps = are_listed Gps c.of.result.now _ c.of.ensures.indices c.of.ensures.system
+  listed Galileo = are_listed Galileo c.of-2.result.now _ c.of-2.ensures.indices c.of-2.ensures.system
+
+  apart : (system : System) → IsDistinct nat_eq (planned_of system c.args.plan.now)
+  apart Gps = are_apart Gps c.of.result.now _ c.of.ensures.indices c.of.ensures.system
+  apart Galileo = are_apart Galileo c.of-2.result.now _ c.of-2.ensures.indices c.of-2.ensures.system

@@ -1,0 +1,235 @@
+-- Cells are counted one by one.
+use Rattle.std.proofs.Common.{◌≡◌, ℕ, ◌+◌, ◌-◌, ◌*◌, ◌<◌, ◌≤◌, ◌^◌, ◌==◌, ◌&&◌, ◌||◌, Bool, true, false, List, [], ◌∷◌, ◌++◌, length, get_or, set, take, refl, sym, ap, ap₂, ◌∙◌, subst, arith, Option, Some, None, min, filter, append-nil, append_assoc, length-append, is_some}
+use Rattle.std.specs.Prelude.{filter_map, cond, nat_lt, nat_le, if◌then◌else◌}
+use Rattle.std.specs.List.{cons_option, position_or_len}
+use Rattle.gnss_obs.specs.declared.tables.Entry as tables
+use Rattle.std.specs.Option.{option_map, option_and_then, option_map_or}
+use Rattle.std.proofs.lemmas.List.{get_or-set_same, get_or-set_other, take_more, length-set, length-take}
+use Rattle.gnss_obs.specs.declared.system.System.{System}
+use Rattle.gnss_obs.specs.declared.system.System.TheVariants.{Gps, Galileo}
+use Rattle.gnss_obs.specs.Satellites.{Satellite, satellite_at}
+use Rattle.gnss_obs.specs.Signals.{SignalAt, IsSignal, table, signal_of_id, hertz_of}
+use Rattle.gnss_obs.specs.LockTimes.{LockTime}
+use Rattle.gnss_obs.specs.Observables.{metres, cycles, shift, decibels}
+use Rattle.rtcm_msg.specs.declared.entry.Entry.{Entry}
+use Rattle.obs_epoch.specs.declared.seen.Seen.{Seen}
+use Rattle.obs_epoch.specs.Heard.{Heard, seen_in, lock_by, observed}
+use Rattle.obs_epoch.specs.Cells.{is_system}
+use Rattle.rtcm2rinex.specs.declared.census.Census.{Census}
+use Rattle.rtcm2rinex.specs.Signals.{has_value, is_from, valued, is_of_signal, count_of, signal_in}
+use Rattle.rtcm2rinex.specs.Census.{IsCensus, counted, more_of, more_in, one_up, entry_signal, entry_value}
+
+-- ---- filters over joined lists
+
+pub filter-append : {X : Type 0} (p : X → Bool) (xs ys : List X) → filter p (xs ++ ys) ≡ filter p xs ++ filter p ys
+filter-append p [] ys = refl
+filter-append p (x ∷ xs) ys = by (p x) (filter-append p xs ys) where
+  by : (b : Bool) → filter p (xs ++ ys) ≡ filter p xs ++ filter p ys → cond b (x ∷ filter p (xs ++ ys)) (filter p (xs ++ ys)) ≡ cond b (x ∷ filter p xs) (filter p xs) ++ filter p ys
+  by true e = ap (λ l. x ∷ l) e
+  by false e = e
+
+pub filter_map-push : {X Y : Type 0} (f : X → Option Y) (xs : List X) (x : X) → filter_map f (xs ++ x ∷ []) ≡ filter_map f xs ++ cons_option (f x) []
+filter_map-push f [] x = refl
+filter_map-push f (y ∷ xs) x = by (f y) (filter_map-push f xs x) where
+  by : (o : Option _) → filter_map f (xs ++ x ∷ []) ≡ filter_map f xs ++ cons_option (f x) [] → cons_option o (filter_map f (xs ++ x ∷ [])) ≡ cons_option o (filter_map f xs) ++ cons_option (f x) []
+  by None e = e
+  by (Some z) e = ap (λ l. z ∷ l) e
+
+pub length-filter : {X : Type 0} (p : X → Bool) (xs : List X) → length (filter p xs) ≤ length xs
+length-filter p [] = omega arith
+length-filter p (x ∷ xs) = by (p x) (length-filter p xs) where
+  by : (b : Bool) → length (filter p xs) ≤ length xs → length (cond b (x ∷ filter p xs) (filter p xs)) ≤ length (x ∷ xs)
+  by true h = omega (arith, h)
+  by false h = omega (arith, h)
+
+pub length-filter_map : {X Y : Type 0} (f : X → Option Y) (xs : List X) → length (filter_map f xs) ≤ length xs
+length-filter_map f [] = omega arith
+length-filter_map f (x ∷ xs) = by (f x) (length-filter_map f xs) where
+  by : (o : Option _) → length (filter_map f xs) ≤ length xs → length (cons_option o (filter_map f xs)) ≤ length (x ∷ xs)
+  by None h = omega (arith, h)
+  by (Some z) h = omega (arith, h)
+
+-- ---- one cell more
+
+one_if : Bool → ℕ
+one_if b = cond b 1 0
+
+abbrev here : SignalAt → SignalAt → Bool
+here g s = is_system g.system s.system && (s.index == g.index)
+
+count_more : (g : SignalAt) (cells : List Seen) (x : Seen) → count_of g (cells ++ x ∷ []) ≡ count_of g cells + (if here g x.signal then 1 else 0)
+count_more g cells x =
+    ap length (filter-append (is_of_signal g) cells (x ∷ [])) ∙ length-append (filter (is_of_signal g) cells) (filter (is_of_signal g) (x ∷ [])) ∙ ap (λ n. count_of g cells + n) (one (here g x.signal))
+  where
+    one : (b : Bool) → length (cond b (x ∷ []) []) ≡ cond b 1 0
+    one true = refl
+    one false = refl
+
+few_of : (g : SignalAt) (cells : List Seen) → count_of g cells ≤ length cells
+few_of g cells = length-filter (is_of_signal g) cells
+
+most : ℕ
+most = 2 ^ 64 - 1
+
+one_up_at : (xs : List ℕ) (g i : ℕ) → g < length xs → get_or xs g 0 < 2 ^ 64 - 1 → get_or (one_up xs g) i 0 ≡ get_or xs i 0 + (if g == i then 1 else 0)
+one_up_at xs g i within few = by (g == i) refl where
+  same : (a b : ℕ) → (a == b) ≡ true → a ≡ b
+  same a b h = grind (arith, h)
+
+  other : (a b : ℕ) → (a == b) ≡ false → b ≡ a → ⊥
+  other a b h e = grind (arith, h, e)
+
+  up : (n : ℕ) → n < 2 ^ 64 - 1 → min (n + 1) (2 ^ 64 - 1) ≡ n + 1
+  up n h = omega (arith, h)
+
+  none : (n : ℕ) → n ≡ n + 0
+  none n = omega arith
+
+  by : (b : Bool) → (g == i) ≡ b → get_or (one_up xs g) i 0 ≡ get_or xs i 0 + cond b 1 0
+  by true h =
+      let e : g ≡ i = same g i h in
+      subst (λ (k : ℕ). get_or (one_up xs g) k 0 ≡ get_or xs k 0 + 1) e (get_or-set_same xs g (min (get_or xs g 0 + 1) (2 ^ 64 - 1)) 0 within ∙ up (get_or xs g 0) few)
+  by false h = get_or-set_other xs g i (min (get_or xs g 0 + 1) (2 ^ 64 - 1)) 0 (other g i h) ∙ none (get_or xs i 0)
+
+-- a cell more of a signal of the tables
+census_more : (c : Census) (cells : List Seen) (x : Seen) → IsCensus c cells → length cells < 2 ^ 64 - 1 → IsSignal x.signal → IsCensus (more_of c x.signal) (cells ++ x ∷ [])
+census_more c cells x h few listed = record {
+  gps = long_gps x.signal.system;
+  galileo = long_galileo x.signal.system;
+  each = λ system i within. each system i within ∙ sym (count_more (signal_in system i) cells x);
+}
+  where
+    long_gps : (s : System) → length (more_in s x.signal.index c).gps ≡ 15
+    long_gps Gps = length-set c.gps x.signal.index (min (get_or c.gps x.signal.index 0 + 1) (2 ^ 64 - 1)) ∙ h.gps
+    long_gps Galileo = h.gps
+
+    long_galileo : (s : System) → length (more_in s x.signal.index c).galileo ≡ 19
+    long_galileo Gps = h.galileo
+    long_galileo Galileo = length-set c.galileo x.signal.index (min (get_or c.galileo x.signal.index 0 + 1) (2 ^ 64 - 1)) ∙ h.galileo
+
+    below_most : (s : System) (i : ℕ) → i < length (table s) → counted c s i < 2 ^ 64 - 1
+    below_most s i within = omega (arith, h.each s i within, few_of (signal_in s i) cells, few)
+
+    same : (n m : ℕ) → n ≡ m → n ≡ m + 0
+    same n m e = omega (arith, e)
+
+    step : (s t : System) (i : ℕ) → x.signal.index < length (table s) → i < length (table t)
+        → counted (more_in s x.signal.index c) t i ≡ counted c t i + (if is_system t s && (x.signal.index == i) then 1 else 0)
+    step Gps Gps i at within = one_up_at c.gps x.signal.index i (omega (arith, at, h.gps)) (below_most Gps x.signal.index at)
+    step Gps Galileo i at within = same _ _ refl
+    step Galileo Gps i at within = same _ _ refl
+    step Galileo Galileo i at within = one_up_at c.galileo x.signal.index i (omega (arith, at, h.galileo)) (below_most Galileo x.signal.index at)
+
+    each : (t : System) (i : ℕ) → i < length (table t)
+        → counted (more_of c x.signal) t i ≡ count_of (signal_in t i) cells + (if is_system t x.signal.system && (x.signal.index == i) then 1 else 0)
+    each t i within =
+        step x.signal.system t i listed within ∙ ap (λ (n : ℕ). n + (if is_system t x.signal.system && (x.signal.index == i) then 1 else 0)) (h.each t i within)
+
+-- ---- the cell of an entry
+
+pub some_same : {X : Type 0} (x y : X) → Some x ≡ Some y → x ≡ y
+some_same x y e = ap (λ o. option_map_or (λ z. z) o x) e
+
+pub listed_of : (system : System) (id : ℕ) (g : SignalAt) → signal_of_id system id ≡ Some g → (g.system ≡ system) × IsSignal g
+listed_of system id g h = by (nat_lt (place system id) (length (table system))) refl h where
+  place : System → ℕ → ℕ
+  place system id = position_or_len (λ (e : tables.Entry). e.0 == id) (table system)
+
+  test_lt : (a b : ℕ) → nat_lt a b ≡ true → a < b
+  test_lt a b e = grind (arith, e)
+
+  by : (b : Bool) → nat_lt (place system id) (length (table system)) ≡ b → option_map (λ i. signal_in system i) (cond b (Some (place system id)) None) ≡ Some g → (g.system ≡ system) × IsSignal g
+  by true lt e =
+      let is : signal_in system (place system id) ≡ g = some_same (signal_in system (place system id)) g e in
+      (subst (λ (v : SignalAt). v.system ≡ system) is refl, subst IsSignal is (test_lt (place system id) (length (table system)) lt))
+  by false lt e = absurd (grind (arith, e))
+
+is_some-map : {X Y : Type 0} (f : X → Y) (o : Option X) → is_some (option_map f o) ≡ is_some o
+is_some-map f None = refl
+is_some-map f (Some x) = refl
+
+value_same : (lock : LockTime) (e : Entry) (s : Satellite) (g : SignalAt) → has_value (observed lock e s g) ≡ entry_value e
+value_same lock e s g =
+    ap₂ (λ a b. a || b) (ap₂ (λ a b. a || b) (ap₂ (λ a b. a || b) (is_some-map metres e.range) (is_some-map (cycles (hertz_of g)) e.phase)) (is_some-map (shift (hertz_of g)) e.rate)) (is_some-map decibels e.strength)
+
+-- an entry is counted where its cell is one that counts
+pub entry_counted : (is_long : Bool) (system : System) (e : Entry) (o : Option SignalAt) (c after : Census) (cells : List Seen) → o ≡ entry_signal system e → after ≡ option_map_or (more_of c) o c
+    → length cells < 2 ^ 64 - 1 → IsCensus c cells → IsCensus after (cells ++ filter has_value (cons_option (seen_in is_long system e) []))
+entry_counted is_long system e o c after cells is made few h =
+    subst (λ (a : Census). IsCensus a (cells ++ filter has_value (cons_option (seen_in is_long system e) []))) (sym made)
+    (subst (λ (p : Option SignalAt). IsCensus (option_map_or (more_of c) p c) (cells ++ filter has_value (cons_option (seen_in is_long system e) []))) (sym is)
+    (by (satellite_at system e.satellite) (signal_of_id system e.signal) (λ g same. (listed_of system e.signal g same).1)))
+  where
+    none : IsCensus c (cells ++ [])
+    none = subst (IsCensus c) (sym (append-nil cells)) h
+
+    seen : Satellite → SignalAt → Seen
+    seen s g = observed (lock_by is_long e.lock) e s g
+
+    valued : (s : Satellite) (g : SignalAt) → IsSignal g → (b : Bool) → has_value (seen s g) ≡ b
+        → IsCensus (option_map_or (more_of c) (cond b (Some g) None) c) (cells ++ cond b (seen s g ∷ []) [])
+    valued s g listed true same = census_more c cells (seen s g) h few listed
+    valued s g listed false same = none
+
+    both : (s : Satellite) (g : SignalAt) → IsSignal g → IsCensus (option_map_or (more_of c) (cond (entry_value e) (Some g) None) c) (cells ++ filter has_value (seen s g ∷ []))
+    both s g listed =
+        subst (λ (b : Bool). IsCensus (option_map_or (more_of c) (cond b (Some g) None) c) (cells ++ filter has_value (seen s g ∷ []))) (value_same (lock_by is_long e.lock) e s g)
+        (valued s g listed (has_value (seen s g)) refl)
+
+    neither : (b : Bool) → IsCensus (option_map_or (more_of c) (cond b None None) c) (cells ++ [])
+    neither true = none
+    neither false = none
+
+    by : (s : Option Satellite) (g : Option SignalAt) → ((x : SignalAt) → g ≡ Some x → IsSignal x)
+        → IsCensus (option_map_or (more_of c) (cond (is_some s && entry_value e) g None) c) (cells ++ filter has_value (cons_option (option_and_then (λ s. option_map (seen s) g) s) []))
+    by None g listed = none
+    by (Some s) None listed = neither (entry_value e)
+    by (Some s) (Some g) listed = both s g (listed g refl)
+
+-- what is counted of one entry more
+pub entries_more : (is_long : Bool) (system : System) (es : List Entry) (i : ℕ) (d : Entry) (o : Option SignalAt) (c after : Census) (cells : List Seen) → i < length es
+    → o ≡ entry_signal system (get_or es i d) → after ≡ option_map_or (more_of c) o c → length cells + length es < 2 ^ 63
+    → IsCensus c (cells ++ filter has_value (filter_map (seen_in is_long system) (take i es)))
+    → IsCensus after (cells ++ filter has_value (filter_map (seen_in is_long system) (take (i + 1) es)))
+entries_more is_long system es i d o c after cells within is made few h =
+    let seen = seen_in is_long system in
+    let e : Entry = get_or es i d in
+    let front : List Seen = filter has_value (filter_map seen (take i es)) in
+    let last : List Seen = filter has_value (cons_option (seen e) []) in
+    let small : length front ≤ i = short (length front) (length (filter_map seen (take i es))) (length (take i es)) i (length-filter has_value (filter_map seen (take i es))) (length-filter_map seen (take i es)) (length-take i es) in
+    let fewer : length (cells ++ front) < 2 ^ 64 - 1 = room (length (cells ++ front)) (length cells) (length front) i (length es) (length-append cells front) small within few in
+    let counted : IsCensus after ((cells ++ front) ++ last) = entry_counted is_long system e o c after (cells ++ front) is made fewer h in
+    let joined : filter has_value (filter_map seen (take (i + 1) es)) ≡ front ++ last =
+    ap (λ (l : List Entry). filter has_value (filter_map seen l)) (take_more es i d within) ∙ ap (filter has_value) (filter_map-push seen (take i es) e)
+    ∙ filter-append has_value (filter_map seen (take i es)) (cons_option (seen e) []) in
+    subst (IsCensus after) (append_assoc cells front last ∙ ap (λ (l : List Seen). cells ++ l) (sym joined)) counted
+  where
+    short : (a b c n : ℕ) → a ≤ b → b ≤ c → c ≡ min n (length es) → a ≤ n
+    short a b c n x y z = omega (arith, x, y, z)
+
+    room : (t a b i n : ℕ) → t ≡ a + b → b ≤ i → i < n → a + n < 2 ^ 63 → t < 2 ^ 64 - 1
+    room t a b i n x y z w = omega (arith, x, y, z, w)
+
+-- ---- the cells of a message
+
+-- all cells of a message that is wanted
+pub wanted_cells : (wanted : Option ℕ) (station : ℕ) (m : Heard) (w : Bool) → m.station ≡ Some station → w ≡ option_map_or (λ n. station == n) wanted true → w ≡ true
+    → valued wanted m ≡ filter has_value m.cells
+wanted_cells wanted station m w at is holds =
+    ap (λ (b : Bool). cond b (filter has_value m.cells) []) (same wanted ∙ sym is ∙ holds)
+  where
+    same : (o : Option ℕ) → is_from o m ≡ option_map_or (λ n. station == n) o true
+    same None = refl
+    same (Some n) = ap (λ (o : Option ℕ). option_map_or (λ from. from == n) o false) at
+
+pub message_counted : (after : Census) (cells front : List Seen) (wanted : Option ℕ) (m : Heard) → valued wanted m ≡ front → IsCensus after (cells ++ front) → IsCensus after (cells ++ valued wanted m)
+message_counted after cells front wanted m same h = subst (λ (l : List Seen). IsCensus after (cells ++ l)) (sym same) h
+
+pub few_valued : (is_long : Bool) (system : System) (es : List Entry) (cells : List Seen) → cells ≡ filter has_value (filter_map (seen_in is_long system) es) → length es ≤ 64 → length cells ≤ 64
+few_valued is_long system es cells is few =
+    let a = length-filter has_value (filter_map (seen_in is_long system) es) in
+    let b = length-filter_map (seen_in is_long system) es in
+    join (length cells) (length (filter has_value (filter_map (seen_in is_long system) es))) (length (filter_map (seen_in is_long system) es)) (length es) (ap length is) a b few
+  where
+    join : (n a b c : ℕ) → n ≡ a → a ≤ b → b ≤ c → c ≤ 64 → n ≤ 64
+    join n a b c x y z w = omega (arith, x, y, z, w)

@@ -1,0 +1,10 @@
+use Rattle.rtcm2rinex.specs.Signals.{valued_in}
+use Rattle.rtcm2rinex.proofs.PlannedLemmas.{all_planned, plan_read}
+use Rattle.rtcm2rinex.proofs.ValuedLemmas.{valued_keys}
+use Rattle.rtcm2rinex.proofs.laws.signals.Goals as goal
+
+pub returns-clause-columns : goal.returns-clause-columns
+returns-clause-columns c = λ s fs plan. all_planned s (valued_in s.station fs) plan (valued_keys s.station fs)
+
+pub returns-clause-read : goal.returns-clause-read
+returns-clause-read c = λ wanted fs some. plan_read c.signal_tables.ensures.code_reads_back (valued_in wanted fs) some (valued_keys wanted fs)

@@ -1,0 +1,128 @@
+-- Which signals a stream has, and how they are told.
+use Rattle.std.specs.Prelude.{◌≡◌, ◌⊎◌, ℕ, ◌<◌, ◌==◌, ◌&&◌, ◌||◌, Bool, true, false, nat_lt, List, [], ◌∷◌, ◌++◌, map, filter, flat_map, length, codes, decimal, Option, is_some, if◌then◌else◌}
+use Rattle.std.specs.Option.{option_map_or}
+use Rattle.std.specs.List.{join_with_byte}
+use Rattle.std.specs.Io.KnownBytes.{Appends, Consumes, IsAtEnd}
+use Rattle.rtcm_bits.specs.Device.{AppendsPrefix}
+use Rattle.rtcm_scan.specs.Frames.{Framed, frames_of}
+use Rattle.gnss_obs.specs.declared.system.System.{System}
+use Rattle.gnss_obs.specs.declared.system.System.TheVariants.{Gps, Galileo}
+use Rattle.gnss_obs.specs.Signals.{SignalAt, table, code_of}
+use Rattle.obs_epoch.specs.declared.seen.Seen.{Seen}
+use Rattle.obs_epoch.specs.Heard.{Heard}
+use Rattle.obs_epoch.specs.Cells.{is_system}
+use Rattle.obs_epoch.specs.Plans.{below}
+use Rattle.obs_epoch.specs.Values.{PlanValue}
+use Rattle.rtcm_convert.specs.Converted.{heard_in}
+use Rattle.rtcm2rinex.specs.declared.census.Form.{Form}
+use Rattle.rtcm2rinex.specs.declared.census.Form.TheVariants.{Options, Counts}
+use Rattle.rtcm2rinex.specs.declared.fault.ToolFault.{ToolFault}
+use Rattle.rtcm2rinex.specs.declared.fault.ToolFault.TheVariants.{NoSignal}
+use Rattle.rtcm2rinex.specs.Lines.{line}
+use Rattle.rtcm2rinex.specs.Listing.{IsListFault}
+
+-- ---- the cells that count
+
+-- a pseudorange, a phase, a Doppler shift or a strength
+abbrev pub has_value : Seen → Bool
+has_value x = is_some x.c || is_some x.l || is_some x.d || is_some x.s
+
+-- a message of the station that is wanted; where none is told, of whatever station
+abbrev pub is_from : Option ℕ → Heard → Bool
+is_from wanted m = option_map_or (λ n. option_map_or (λ from. from == n) m.station false) wanted true
+
+-- a message's cells of listed satellites and signals that have a value
+abbrev pub valued : Option ℕ → Heard → List Seen
+valued wanted m = if is_from wanted m then filter has_value m.cells else []
+
+-- those of a frame, whose message may be refused
+abbrev pub valued_of : Option ℕ → Framed → List Seen
+valued_of wanted f = option_map_or (valued wanted) (heard_in f) []
+
+-- those of frames, one behind the other; their times aren't judged
+abbrev pub valued_in : Option ℕ → List Framed → List Seen
+valued_in wanted fs = flat_map (valued_of wanted) fs
+
+-- ---- the signals that they are of
+
+abbrev pub is_of_signal : SignalAt → Seen → Bool
+is_of_signal g x = is_system g.system x.signal.system && (x.signal.index == g.index)
+
+-- how many of these cells are of a signal
+abbrev pub count_of : SignalAt → List Seen → ℕ
+count_of g cells = length (filter (is_of_signal g) cells)
+
+abbrev pub signal_in : System → ℕ → SignalAt
+signal_in system i = record { system = system; index = i }
+
+-- the signals of a system of which there are some, among the first n of its table, by their places
+abbrev pub had_below : List Seen → System → ℕ → List ℕ
+had_below cells system n = filter (λ i. nat_lt 0 (count_of (signal_in system i) cells)) (below n)
+
+abbrev pub had : List Seen → System → List ℕ
+had cells system = had_below cells system (length (table system))
+
+-- the plan of these signals, in the order of the tables
+abbrev pub plan_had : List Seen → PlanValue
+plan_had cells = record { gps = had cells Gps; galileo = had cells Galileo }
+
+-- ---- the text
+
+-- codes with single commas between them, as an option wants them
+abbrev pub code_list : System → List ℕ → List ℕ
+code_list system is = join_with_byte 0x2C (map (λ i. code_of (signal_in system i)) is)
+
+abbrev pub codes_word : System → List ℕ → List ℕ
+codes_word system [] = codes "none"
+codes_word system (i ∷ is) = code_list system (i ∷ is)
+
+-- the options of `convert` that plan these signals
+unfoldable pub options_line : PlanValue → List ℕ
+options_line p = line (codes "--gps" ∷ codes_word Gps p.gps ∷ codes "--galileo" ∷ codes_word Galileo p.galileo ∷ [])
+
+-- the letter of a system in RINEX
+abbrev pub letter : System → List ℕ
+letter Gps = codes "G"
+letter Galileo = codes "E"
+
+-- the letter of the system, the code, and how many cells there are
+unfoldable pub count_line : SignalAt → ℕ → List ℕ
+count_line g count = line (letter g.system ∷ code_of g ∷ decimal count ∷ [])
+
+abbrev pub lines_below : List Seen → System → ℕ → List ℕ
+lines_below cells system n = flat_map (λ i. count_line (signal_in system i) (count_of (signal_in system i) cells)) (had_below cells system n)
+
+-- a line for each signal of a system of which there are some
+abbrev pub count_lines : List Seen → System → List ℕ
+count_lines cells system = lines_below cells system (length (table system))
+
+-- what is printed of these cells
+abbrev pub signals_text : Form → List Seen → List ℕ
+signals_text Options cells = options_line (plan_had cells)
+signals_text Counts cells = count_lines cells Gps ++ count_lines cells Galileo
+
+-- ---- what the command has read and written
+
+-- The reader had r left and now has r', and the writer held w and now holds w'. The stream was read to its end and has such a cell.
+abbrev pub ReadsCells : Option ℕ → (r r' : Option (List ℕ)) → (List Seen → Type 0) → Type 0
+ReadsCells wanted r r' Does = (b : List ℕ) × Consumes r r' b × IsAtEnd r' × (0 < length (valued_in wanted (frames_of b))) × Does (valued_in wanted (frames_of b))
+
+-- what is printed of its cells was written
+abbrev pub TellsSignals : Form → Option ℕ → (r r' w w' : Option (List ℕ)) → Type 0
+TellsSignals form wanted r r' w w' = ReadsCells wanted r r' (λ cells. Appends w w' (signals_text form cells))
+
+-- a prefix of it was
+abbrev pub TellsPart : Form → Option ℕ → (r r' w w' : Option (List ℕ)) → Type 0
+TellsPart form wanted r r' w w' = ReadsCells wanted r r' (λ cells. AppendsPrefix w w' (signals_text form cells))
+
+-- the stream was read to its end and has no such cell
+abbrev pub HasNoSignal : Option ℕ → (r r' : Option (List ℕ)) → Type 0
+HasNoSignal wanted r r' = (b : List ℕ) × Consumes r r' b × IsAtEnd r' × (valued_in wanted (frames_of b) ≡ [])
+
+-- more bytes were read than the limit allows
+abbrev pub ReadsTooMuch : ℕ → (r r' : Option (List ℕ)) → Type 0
+ReadsTooMuch limit r r' = (b : List ℕ) × Consumes r r' b × (limit < length b)
+
+-- the faults of the command
+abbrev pub IsSignalsFault : ToolFault → Type 0
+IsSignalsFault fault = IsListFault fault ⊎ (fault ≡ NoSignal)

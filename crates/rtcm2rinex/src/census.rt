@@ -1,0 +1,157 @@
+//! How many cells with a value a stream has of each signal.
+ghost use Rattle.std.specs.Prelude.{◌≡◌, ◌==◌, ◌+◌, ◌<◌, ◌≤◌, ◌^◌, ◌++◌, [], true, Bool, List, length, nat_lt, filter, filter_map};
+ghost use Rattle.std.specs.List.{list_any};
+ghost use Rattle.std.specs.Option.{option_map_or};
+ghost use Rattle.gnss_obs.specs.Signals.{table};
+ghost use Rattle.obs_epoch.specs.declared.seen.Seen.{Seen};
+ghost use Rattle.obs_epoch.specs.Heard.{heard, seen_in, system_of};
+ghost use Rattle.rtcm2rinex.specs.Signals.{has_value, valued};
+ghost use Rattle.rtcm2rinex.specs.Census.{counted, has_any, more_of, entry_value, entry_signal, IsCensus};
+
+use gnss_obs::{Sat, Signal, System};
+use rtcm_msg::{Entry, Message, entries};
+
+/// What is printed of the signals of a stream.
+#[derive(Clone, Copy)]
+pub enum Form {
+    /// One line, the options of `convert` that plan them.
+    Options,
+    /// For each a line with its number of cells.
+    Counts,
+}
+
+/// For each signal of the tables, how many cells with a value there are.
+#[derive(Drop)]
+pub struct Census {
+    gps: [u64; 15],
+    galileo: [u64; 19],
+}
+
+impl Census {
+    /// No cell.
+    pub fn new() -> Census
+        ensures { IsCensus result [] }
+    {
+        Census {
+            gps: [0; 15],
+            galileo: [0; 19],
+        }
+    }
+
+    /// How many cells there are of the signal at a place of a system's table.
+    pub fn count(&self, system: System, index: usize) -> u64
+        requires { index < length (table system) }
+        ensures { result ≡ counted self.now system index }
+    {
+        match system {
+            System::Gps => self.gps[index],
+            System::Galileo => self.galileo[index],
+        }
+    }
+
+    /// Whether there is a cell of any signal.
+    pub fn has_any(&self) -> bool
+        ensures { result ≡ has_any self.now }
+    {
+        if is_any_positive(self.gps.as_slice()) {
+            return true;
+        }
+        is_any_positive(self.galileo.as_slice())
+    }
+
+    /// Counts the cells of a message of the station that is wanted; where none is told, of every station.
+    pub fn count_message(&mut self, station: Option<u16>, message: &Message)
+        ensures counts { (cells : List Seen) → length cells < 2 ^ 62 → IsCensus self.old cells → IsCensus self.new (cells ++ valued station (heard message.now)) }
+        ensures few { length (valued station (heard message.now)) ≤ 64 }
+    {
+        match message {
+            Message::Msm4(msm) => {
+                if is_wanted(station, msm.header().station) {
+                    self.count_entries(system_of(msm.is_galileo()), entries(msm).as_slice());
+                }
+            }
+            Message::Msm7(msm) => {
+                if is_wanted(station, msm.header().station) {
+                    self.count_entries(system_of(msm.is_galileo()), entries(msm).as_slice());
+                }
+            }
+            Message::Station(_) | Message::Other { .. } => {}
+        }
+    }
+
+    /// Counts the cells of listed satellites and signals that have a value.
+    fn count_entries(&mut self, system: System, entries: &[Entry])
+        ensures { (is_long : Bool) (cells : List Seen) → length cells + length entries.now < 2 ^ 63 → IsCensus self.old cells
+            → IsCensus self.new (cells ++ filter has_value (filter_map (seen_in is_long system) entries.now)) }
+    {
+        for i in 0..entries.len() {
+            if let Some(signal) = signal_of(system, &entries[i]) {
+                self.add(signal);
+            }
+        }
+    }
+
+    /// One cell more of a signal.
+    fn add(&mut self, signal: Signal)
+        ensures { self.new ≡ more_of self.old signal }
+    {
+        let place = signal.index();
+        match signal.system() {
+            System::Gps => self.gps[place] = self.gps[place].saturating_add(1),
+            System::Galileo => self.galileo[place] = self.galileo[place].saturating_add(1),
+        }
+    }
+}
+
+fn is_any_positive(counts: &[u64]) -> bool
+    ensures { result ≡ list_any (λ n. nat_lt 0 n) counts.now }
+{
+    counts.iter().any(|n| *n > 0)
+}
+
+/// Whether a station is the one that is wanted; where none is told, each is.
+fn is_wanted(wanted: Option<u16>, station: u16) -> bool
+    ensures { result ≡ option_map_or (λ n. station == n) wanted true }
+{
+    match wanted {
+        None => true,
+        Some(wanted) => station == wanted,
+    }
+}
+
+/// The system of a message with observations.
+fn system_of(is_galileo: bool) -> System
+    ensures { result ≡ system_of is_galileo }
+{
+    if is_galileo {
+        System::Galileo
+    } else {
+        System::Gps
+    }
+}
+
+/// The signal of a cell of a listed satellite and signal that has a value.
+fn signal_of(system: System, entry: &Entry) -> Option<Signal>
+    ensures value { result ≡ entry_signal system entry.now }
+{
+    match Sat::new(system, entry.satellite) {
+        None => None,
+        Some(_) => {
+            if has_value(entry) {
+                Signal::from_id(system, entry.signal)
+            } else {
+                None
+            }
+        }
+    }
+}
+
+/// Whether a cell has a pseudorange, a phase, a Doppler shift or a strength.
+fn has_value(entry: &Entry) -> bool
+    ensures { result ≡ entry_value entry.now }
+{
+    entry.range.is_some()
+        || entry.phase.is_some()
+        || entry.rate.is_some()
+        || entry.strength.is_some()
+}

@@ -1,0 +1,176 @@
+//! A stream is read to its end, and its cells with a value are counted.
+ghost use Rattle.std.specs.Prelude.{◌≡◌, ◌≢◌, ◌+◌, ◌≤◌, ◌<◌, ◌^◌, ◌++◌, ◌∷◌, ◌⊎◌, [], List, ℕ, Option, None, Ok, Err, true, false, length, IfOk, IfErr, OnOk};
+ghost use Rattle.std.specs.Io.KnownBytes.{IsAtEnd};
+ghost use Rattle.rtcm_bits.specs.Device.{HasFailed};
+ghost use Rattle.rtcm_scan.specs.Frames.{Framed};
+ghost use Rattle.rtcm_scan.specs.Answers.{framed};
+ghost use Rattle.rtcm_scan.specs.Drained.{IsDrained};
+ghost use Rattle.rtcm_scan.specs.Scan.{StandsFor};
+ghost use Rattle.rtcm2rinex.specs.Listed.{IsRefusal, up_to_limit};
+ghost use Rattle.rtcm2rinex.specs.Signals.{ReadsTooMuch};
+ghost use Rattle.rtcm2rinex.specs.Census.{IsCensus, Surveys, HasSurveyed, Counts, CountsKnown, HasCounted};
+
+use crate::census::Census;
+use crate::fault::ToolFault;
+use arrayvec::ArrayVec;
+use rtcm_bits::Counted;
+use rtcm_msg::decode;
+use rtcm_scan::{Frame, Framer, ScanFault};
+use std::alloc::Global;
+use std::io::Read;
+
+/// So many bytes are asked for at a time.
+const PIECE_BYTES: usize = 65_536;
+
+/// Reads at most so many bytes, and counts the cells of the station that is wanted; where none is told, of every station.
+pub fn survey<R: Read>(
+    alloc: Global,
+    station: Option<u16>,
+    limit: u64,
+    reader: &mut Counted<R>,
+) -> Result<Census, ToolFault>
+    requires { limit ≤ 2 ^ 48 }
+    ensures whole { IfOk result (λ census. HasSurveyed census station (R.remaining reader.old.inner) (R.remaining reader.new.inner)) }
+    ensures read_failed { result ≡ Err ToolFault.Read → HasFailed reader.old.failures reader.new.failures }
+    ensures too_long { result ≡ Err (ToolFault.Scan ScanFault.TooLong) → ReadsTooMuch limit (R.remaining reader.old.inner) (R.remaining reader.new.inner) }
+    ensures memory { result ≡ Err (ToolFault.Scan ScanFault.Memory) → reader.new ≡ reader.old }
+    ensures only { IfErr result (λ fault. (fault ≡ ToolFault.Read) ⊎ (fault ≡ ToolFault.Scan ScanFault.TooLong) ⊎ (fault ≡ ToolFault.Scan ScanFault.Memory)) }
+{
+    let mut framer = match Framer::new(alloc, limit) {
+        Ok(framer) => framer,
+        // The limit is good, so that memory is all that can be wanting.
+        Err(_) => return Err(ToolFault::Scan(ScanFault::Memory)),
+    };
+    let mut census = Census::new();
+    match count_stream(station, &mut framer, &mut census, reader) {
+        Ok(()) => Ok(census),
+        Err(fault) => Err(fault),
+    }
+}
+
+/// Reads what is left of the stream, and counts its cells.
+fn count_stream<R: Read>(
+    station: Option<u16>,
+    framer: &mut Framer,
+    census: &mut Census,
+    reader: &mut Counted<R>,
+) -> Result<(), ToolFault>
+    requires going { framer.old.has_ended ≡ false }
+    requires within { framer.old.taken ≤ framer.old.limit }
+    requires new { StandsFor framer.old [] [] × IsDrained framer.old [] [] }
+    requires none { IsCensus census.old [] }
+    ensures whole { OnOk result (HasSurveyed census.new station (R.remaining reader.old.inner) (R.remaining reader.new.inner)) }
+    ensures read_failed { result ≡ Err ToolFault.Read → HasFailed reader.old.failures reader.new.failures }
+    ensures too_long { result ≡ Err (ToolFault.Scan ScanFault.TooLong) → ReadsTooMuch framer.old.limit (R.remaining reader.old.inner) (R.remaining reader.new.inner) }
+    ensures only { IfErr result (λ fault. (fault ≡ ToolFault.Read) ⊎ (fault ≡ ToolFault.Scan ScanFault.TooLong)) }
+{
+    let mut piece = [0; PIECE_BYTES];
+    loop {
+        match count_next(station, framer, census, &mut piece, reader) {
+            Ok(0) => return Ok(()),
+            Ok(_) => {}
+            Err(fault) => return Err(fault),
+        }
+    }
+}
+
+/// Reads the next piece of the stream, and counts the cells of the frames that it decides; a piece of no bytes is the end.
+fn count_next<R: Read>(
+    station: Option<u16>,
+    framer: &mut Framer,
+    census: &mut Census,
+    piece: &mut [u8],
+    reader: &mut Counted<R>,
+) -> Result<usize, ToolFault>
+    requires room { 0 < length piece.old }
+    requires going { framer.old.has_ended ≡ false }
+    requires within { framer.old.taken ≤ framer.old.limit }
+    ensures counted { OnOk result ((r : Option (List ℕ)) → HasCounted census.old station r (R.remaining reader.old.inner) framer.old
+        → HasCounted census.new station r (R.remaining reader.new.inner) framer.new) }
+    ensures end { result ≡ Ok 0 → (framer.new.has_ended ≡ true) × IsAtEnd (R.remaining reader.new.inner) }
+    ensures more { IfOk result (λ n. n ≢ 0 → framer.new.has_ended ≡ false) }
+    ensures taken { IfOk result (λ n. framer.new.taken ≡ framer.old.taken + n) }
+    ensures read_failed { result ≡ Err ToolFault.Read → HasFailed reader.old.failures reader.new.failures }
+    ensures too_long { result ≡ Err (ToolFault.Scan ScanFault.TooLong) → (r : Option (List ℕ)) → HasCounted census.old station r (R.remaining reader.old.inner) framer.old
+        → ReadsTooMuch framer.old.limit r (R.remaining reader.new.inner) }
+    ensures only { IfErr result (λ fault. (fault ≡ ToolFault.Read) ⊎ (fault ≡ ToolFault.Scan ScanFault.TooLong)) }
+    ensures limit { framer.new.limit ≡ framer.old.limit }
+    ensures within { OnOk result (framer.new.taken ≤ framer.old.limit) }
+    ensures fine { OnOk result (reader.new.failures ≡ reader.old.failures) }
+    ensures size { length piece.new ≡ length piece.old }
+{
+    let n = match reader.read(piece) {
+        Ok(n) => n,
+        Err(_) => return Err(ToolFault::Read),
+    };
+    if n == 0 {
+        framer.end();
+    }
+    match count_piece(station, framer, census, &piece[..n]) {
+        None => Ok(n),
+        Some(fault) => Err(ToolFault::Scan(fault)),
+    }
+}
+
+/// Takes a piece of the stream up to the framer's limit, and counts the cells of the frames that it decides. Answers why the
+/// framer refused a byte, if it did.
+fn count_piece(
+    station: Option<u16>,
+    framer: &mut Framer,
+    census: &mut Census,
+    piece: &[u8],
+) -> Option<ScanFault>
+    requires going { framer.old.has_ended ≡ true → length piece.now ≡ 0 }
+    requires within { framer.old.taken ≤ framer.old.limit }
+    ensures counted { (b : List ℕ) (fs : List Framed) → Counts census.old station framer.old b fs
+        → CountsKnown census.new station framer.new (b ++ up_to_limit framer.old piece.now) }
+    ensures refusal { IsRefusal framer.old (length piece.now) result }
+    ensures taken { result ≡ None → framer.new.taken ≡ framer.old.taken + length piece.now }
+    ensures limit { framer.new.limit ≡ framer.old.limit }
+    ensures ended { framer.new.has_ended ≡ framer.old.has_ended }
+{
+    count_decided(station, framer, census);
+    let mut taken = 0;
+    while taken < piece.len() {
+        let next = taken + framer.room().min(piece.len() - taken);
+        if next == taken {
+            return Some(ScanFault::TooLong);
+        }
+        if let Err(fault) = framer.push_all(&piece[taken..next]) {
+            return Some(fault);
+        }
+        count_decided(station, framer, census);
+        taken = next;
+    }
+    None
+}
+
+/// Counts the cells of the frames that are decided.
+fn count_decided(station: Option<u16>, framer: &mut Framer, census: &mut Census)
+    ensures counted { (b : List ℕ) (fs : List Framed) → Counts census.old station framer.old b fs → CountsKnown census.new station framer.new b }
+    ensures ready { framer.new.is_ready ≡ true }
+    ensures limit { framer.new.limit ≡ framer.old.limit }
+    ensures taken { framer.new.taken ≡ framer.old.taken }
+    ensures ended { framer.new.has_ended ≡ framer.old.has_ended }
+{
+    // So few bytes were taken that no count comes near its greatest number.
+    let _ = framer.taken();
+    let mut frame = Frame {
+        offset: 0,
+        message: ArrayVec::new(),
+    };
+    while let Some(offset) = framer.next_into(&mut frame.message) {
+        frame.offset = offset;
+        count_frame(station, census, &frame);
+    }
+}
+
+/// Counts the cells of a frame's message; one that is refused has none.
+fn count_frame(station: Option<u16>, census: &mut Census, frame: &Frame)
+    ensures { (fs : List Framed) → length fs < 2 ^ 56 → Surveys census.old station fs → Surveys census.new station (fs ++ framed frame.now ∷ []) }
+{
+    match decode(frame.message.as_slice()) {
+        Ok(message) => census.count_message(station, &message),
+        Err(_) => {}
+    }
+}

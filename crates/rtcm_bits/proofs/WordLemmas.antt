@@ -1,0 +1,80 @@
+-- A number that is read from eight bytes at once.
+use Rattle.std.proofs.Common.{◌≡◌, ℕ, ◌+◌, ◌-◌, ◌*◌, ◌/◌, ◌%◌, ◌^◌, ◌<◌, ◌≤◌, Bool, List, [], ◌∷◌, ◌++◌, length, take, drop, get_or, refl, sym, ap, ◌∙◌, arith, take-append-drop, length-drop, lit<}
+use Rattle.std.specs.Int.{from_be_bytes, w64}
+use Rattle.std.proofs.lemmas.Nat.{field_of, shl-shr, shr-shr}
+use Rattle.std.proofs.lemmas.List.{take-take, drop-take, drop-drop, length-take-le, get_or-take, get_or-drop}
+use Rattle.std.proofs.Math.Seq.{take-append_seam, drop-append_seam}
+use Rattle.rtcm_bits.specs.Bits.{uint, number, number_from, bits_of}
+use Rattle.rtcm_bits.proofs.BitLemmas.{length-bits_of, bits_of-append, number-uint, number-append, uint-number}
+use Rattle.rtcm_bits.proofs.PartLemmas.{part-uint}
+use Rattle.rtcm_bits.proofs.ListLemmas.{eight_of}
+
+-- what two shifts leave of a word
+pub part_of_a_word : (word skip width : ℕ) → skip + width ≤ 64 → word * 2 ^ skip % 2 ^ 64 / 2 ^ (64 - width) ≡ number (take width (drop skip (uint 64 word)))
+part_of_a_word word skip width h =
+    let k : ℕ = 64 - skip - width in
+    let e : skip + (width + (64 - skip - width)) ≡ 64 = omega arith in
+    let f : width + (64 - width) ≡ 64 = omega arith in
+    let g : 64 - width ≡ skip + (64 - skip - width) = omega arith in
+    let p = part-uint skip width (64 - skip - width) word in
+    ap (λ (n : ℕ). word * 2 ^ skip % 2 ^ n / 2 ^ (64 - width)) (sym f) ∙ field_of (word * 2 ^ skip) width (64 - width)
+    ∙ ap (λ (n : ℕ). word * 2 ^ skip / 2 ^ n % 2 ^ width) g ∙ ap (λ (n : ℕ). n % 2 ^ width) (sym (shr-shr (word * 2 ^ skip) skip k) ∙ ap (λ (n : ℕ). n / 2 ^ k) (shl-shr word skip))
+    ∙ sym (rw e at p)
+
+-- a byte's bits behind a number
+byte_behind : (a x : ℕ) (rest : List Bool) → x < 256 → number_from a (uint 8 x ++ rest) ≡ number_from (a * 256 + x) rest
+byte_behind a x rest h = number-append (uint 8 x) rest a ∙ ap (λ (n : ℕ). number_from n rest) (number-uint 8 a x ∙ omega (arith, h))
+
+nothing_behind : (a : ℕ) → number_from a [] ≡ a
+unfolding number_from
+nothing_behind a = refl
+
+number_of_eight : (a b c d e f g h : ℕ) → a < 256 → b < 256 → c < 256 → d < 256 → e < 256 → f < 256 → g < 256 → h < 256
+    → number (bits_of (a ∷ b ∷ c ∷ d ∷ e ∷ f ∷ g ∷ h ∷ [])) ≡ from_be_bytes w64 (a ∷ b ∷ c ∷ d ∷ e ∷ f ∷ g ∷ h ∷ [])
+unfolding bits_of
+number_of_eight a b c d e f g h i j k l m n o p =
+    byte_behind 0 a _ i ∙ byte_behind _ b _ j ∙ byte_behind _ c _ k ∙ byte_behind _ d _ l ∙ byte_behind _ e _ m ∙ byte_behind _ f _ n ∙ byte_behind _ g _ o ∙ byte_behind _ h [] p ∙ nothing_behind _ ∙ omega arith
+
+-- eight bytes, as one number
+word_bits : (xs : List ℕ) (n : ℕ) → length xs ≡ 8 → ((i : ℕ) → i < 8 → get_or xs i 0 < 256)
+    → n ≡ from_be_bytes w64 (get_or xs 0 0 ∷ get_or xs 1 0 ∷ get_or xs 2 0 ∷ get_or xs 3 0 ∷ get_or xs 4 0 ∷ get_or xs 5 0 ∷ get_or xs 6 0 ∷ get_or xs 7 0 ∷ []) → uint 64 n ≡ bits_of xs
+word_bits xs n h b e =
+    let l : length (bits_of xs) ≡ 64 = omega (arith, length-bits_of xs, h) in
+    let v : number (bits_of xs) ≡ n =
+    ap (λ (t : List ℕ). number (bits_of t)) (eight_of xs h)
+    ∙ number_of_eight (get_or xs 0 0) (get_or xs 1 0) (get_or xs 2 0) (get_or xs 3 0) (get_or xs 4 0) (get_or xs 5 0) (get_or xs 6 0) (get_or xs 7 0) (b 0 (lit< tt)) (b 1 (lit< tt)) (b 2 (lit< tt)) (b 3 (lit< tt)) (b 4 (lit< tt)) (b 5 (lit< tt)) (b 6 (lit< tt)) (b 7 (lit< tt))
+    ∙ sym e in
+    ap (uint 64) (sym v) ∙ ap (λ (k : ℕ). uint k (number (bits_of xs))) (sym l) ∙ uint-number (bits_of xs) 0
+
+-- the bits of a range of bytes
+bits_of-drop : (xs : List ℕ) (m : ℕ) → m ≤ length xs → drop (8 * m) (bits_of xs) ≡ bits_of (drop m xs)
+bits_of-drop xs m h =
+    let l : length (bits_of (take m xs)) ≡ 8 * m = omega (arith, length-bits_of (take m xs), length-take-le m xs h) in
+    ap (λ (t : List ℕ). drop (8 * m) (bits_of t)) (sym (take-append-drop m xs)) ∙ ap (drop (8 * m)) (bits_of-append (take m xs) (drop m xs))
+    ∙ ap (λ (n : ℕ). drop n (bits_of (take m xs) ++ bits_of (drop m xs))) (sym l) ∙ drop-append_seam (bits_of (take m xs)) (bits_of (drop m xs))
+
+bits_of-take : (xs : List ℕ) (m : ℕ) → m ≤ length xs → take (8 * m) (bits_of xs) ≡ bits_of (take m xs)
+bits_of-take xs m h =
+    let l : length (bits_of (take m xs)) ≡ 8 * m = omega (arith, length-bits_of (take m xs), length-take-le m xs h) in
+    ap (λ (t : List ℕ). take (8 * m) (bits_of t)) (sym (take-append-drop m xs)) ∙ ap (take (8 * m)) (bits_of-append (take m xs) (drop m xs))
+    ∙ ap (λ (n : ℕ). take n (bits_of (take m xs) ++ bits_of (drop m xs))) (sym l) ∙ take-append_seam (bits_of (take m xs)) (bits_of (drop m xs))
+
+-- eight bytes from one of them on
+pub word_of_range : (xs : List ℕ) (first m n : ℕ) → m ≡ 8 → first + 8 ≤ length xs → ((i : ℕ) → get_or xs i 0 < 256)
+    → n ≡ from_be_bytes w64 (get_or (take m (drop first xs)) 0 0 ∷ get_or (take m (drop first xs)) 1 0 ∷ get_or (take m (drop first xs)) 2 0 ∷ get_or (take m (drop first xs)) 3 0
+    ∷ get_or (take m (drop first xs)) 4 0 ∷ get_or (take m (drop first xs)) 5 0 ∷ get_or (take m (drop first xs)) 6 0 ∷ get_or (take m (drop first xs)) 7 0 ∷ [])
+    → uint 64 n ≡ take 64 (drop (8 * first) (bits_of xs))
+word_of_range xs first m n k h b e =
+    let d : length (drop first xs) ≡ length xs - first = length-drop first xs in
+    let l : length (take m (drop first xs)) ≡ 8 = rw k (length-take-le 8 (drop first xs) (omega (arith, d, h))) in
+    let c : (i : ℕ) → i < 8 → get_or (take m (drop first xs)) i 0 < 256 =
+    λ i j. let f : get_or (take m (drop first xs)) i 0 ≡ get_or xs (first + i) 0 = ap (λ (q : ℕ). get_or (take q (drop first xs)) i 0) k ∙ get_or-take 8 (drop first xs) i 0 j ∙ get_or-drop first xs i 0 in rw f (b (first + i)) in
+    word_bits (take m (drop first xs)) n l c e ∙ ap (λ (q : ℕ). bits_of (take q (drop first xs))) k ∙ sym (bits_of-take (drop first xs) 8 (omega (arith, d, h)))
+    ∙ ap (take 64) (sym (bits_of-drop xs first (omega (arith, h))))
+
+-- bits among those of a word
+pub within_word : (l : List Bool) (at skip width place : ℕ) → skip + width ≤ 64 → place ≡ at + skip → take width (drop skip (take 64 (drop at l))) ≡ take width (drop place l)
+within_word l at skip width place h e =
+    let f : skip + (64 - skip) ≡ 64 = omega arith in
+    ap (λ (n : ℕ). take width (drop skip (take n (drop at l)))) (sym f) ∙ ap (take width) (drop-take skip (64 - skip) (drop at l))
+    ∙ take-take width (64 - skip) (drop skip (drop at l)) (omega arith) ∙ ap (take width) (drop-drop skip at l) ∙ ap (λ (n : ℕ). take width (drop n l)) (sym e)

@@ -1,0 +1,31 @@
+use Rattle.std.proofs.Common.{◌≡◌, ◌-◌, arith, drop}
+use Rattle.std.proofs.lemmas.List.{length-drop}
+use Rattle.rtcm_bits.specs.Bits.{bits_of}
+use Rattle.rtcm_bits.proofs.BitLemmas.{length-bits_of, number-take-fits}
+use Rattle.rtcm_bits.proofs.PartLemmas.{nothing_read, next_part}
+use Rattle.rtcm_bits.proofs.reader.number_by_bytes.Goals as goal
+
+pub loop-at-init : goal.loop-at-init
+loop-at-init c = record { from = omega arith; within = omega arith; value = nothing_read c.args.place (drop c.args.place (bits_of c.args.bytes.now)) }
+
+pub overflow_add-value : goal.overflow_add-value
+overflow_add-value c =
+    let next = next_part c.args.bytes.now c.args.place c.loop-at.at c.min-n.result c.loop-at.value c.part_of.result c.loop-at.invariant.from (omega arith) (omega arith) (omega arith) (omega arith)
+    c.loop-at.invariant.value c.part_of.ensures in
+    omega (arith, next.fits)
+
+pub loop-at-preserved : goal.loop-at-preserved
+loop-at-preserved c = record {
+  from = omega arith;
+  within = omega arith;
+  value =
+      (next_part c.args.bytes.now c.args.place c.loop-at.at c.min-n.result c.loop-at.value c.part_of.result c.loop-at.invariant.from (omega arith) (omega arith) (omega arith) (omega arith)
+      c.loop-at.invariant.value c.part_of.ensures).value;
+}
+
+pub returns-clause-fits : goal.returns-clause-fits
+returns-clause-fits c =
+    let len = length-drop c.args.place (bits_of c.args.bytes.now) in
+    let fits = number-take-fits (drop c.args.place (bits_of c.args.bytes.now)) c.args.width (omega (arith, len, length-bits_of c.args.bytes.now)) in
+    let end : c.loop-at.at - c.args.place ≡ c.args.width = omega arith in
+    rw (c.loop-at.invariant.value, end) fits

@@ -1,0 +1,106 @@
+-- What is written is the text of a file value.
+use Rattle.std.proofs.Common.{◌≡◌, ℕ, ◌<◌, ◌⊎◌, inl, inr, Bool, true, false, List, [], ◌∷◌, ◌++◌, filter, map, refl, sym, ap, subst, ◌∙◌, arith, Option, Some, None, Result, Ok, Err, nat_lt, append-nil}
+use Rattle.std.specs.Prelude.{cond, IfSome}
+use Rattle.std.specs.List.{AllByRecursion, filter_map, cons_option}
+use Rattle.rtcm_scan.specs.Frames.{Framed}
+use Rattle.rtcm_msg.specs.declared.message.Message.{Message}
+use Rattle.rtcm_msg.specs.declared.fault.MsgFault.{MsgFault}
+use Rattle.rtcm_msg.specs.Spelling.{IsMessage}
+use Rattle.rtcm_msg.specs.Reading.{message_at}
+use Rattle.obs_epoch.specs.Values.{PlanValue, Closed, satellites}
+use Rattle.obs_epoch.specs.Heard.{Heard, heard}
+use Rattle.obs_epoch.specs.Gathering.{IsPrefix, all_epochs, closed_epochs}
+use Rattle.obs_epoch.specs.Laws.{ClosedComeFirst}
+use Rattle.obs_epoch.specs.Reach.{IsHeard, IsGatheredEpoch, TimesRise, AreGatheredEpochs, MessagesAreHeard, EpochsAreGathered}
+use Rattle.rinex_file.specs.Texts.{HeaderLists}
+use Rattle.rinex_file.specs.FileValues.{AreTexts}
+use Rattle.rinex_file.specs.File.{gathered}
+use Rattle.rinex_file.specs.Gathered.{AreSignals, HasSatellite, IsGatheredFile}
+use Rattle.rtcm_convert.specs.Converted.{Settings, heard_of, heard_in, messages_of, written, text_of, text_with, file, so_far}
+use Rattle.rtcm_convert.specs.Laws.{IsFileText}
+use Rattle.rtcm_convert.specs.Readable.{IsTextOf, IsReadable, AreSound}
+
+-- what the crates below say of messages, epochs and files
+pub record Known : Type 0 where
+  pub value : (bytes : List ℕ) (m : Message) → message_at bytes ≡ Ok m → IsMessage m
+  pub heard : MessagesAreHeard
+  pub epochs : EpochsAreGathered
+  pub first : ClosedComeFirst
+  pub gathered : IsGatheredFile
+  pub text : IsFileText
+
+-- ---- messages
+
+message_heard : Known → (bytes : List ℕ) (r : Result Message MsgFault) → message_at bytes ≡ r → IfSome (heard_of r) IsHeard
+message_heard k bytes (Ok m) e = k.heard m (k.value bytes m e)
+message_heard k bytes (Err fault) e = tt
+
+messages_heard : Known → (fs : List Framed) → AllByRecursion IsHeard (messages_of fs)
+messages_heard k [] = tt
+messages_heard k (f ∷ fs) = by (heard_in f) (message_heard k f.message (message_at f.message) refl) (messages_heard k fs) where
+  by : (o : Option Heard) → IfSome o IsHeard → AllByRecursion IsHeard (messages_of fs) → AllByRecursion IsHeard (cons_option o (messages_of fs))
+  by None h l = l
+  by (Some m) h l = (h, l)
+
+-- ---- some of the epochs
+
+all_filter : (P : Closed → Type 0) (p : Closed → Bool) (es : List Closed) → AllByRecursion P es → AllByRecursion P (filter p es)
+all_filter P p [] h = tt
+all_filter P p (e ∷ es) h = by (p e) (all_filter P p es h.1) where
+  by : (b : Bool) → AllByRecursion P (filter p es) → AllByRecursion P (cond b (e ∷ filter p es) (filter p es))
+  by true l = (h.0, l)
+  by false l = l
+
+rise_filter : (p : Closed → Bool) (es : List Closed) → TimesRise es → TimesRise (filter p es)
+rise_filter p [] h = tt
+rise_filter p (e ∷ es) h = by (p e) (rise_filter p es h.1) where
+  by : (b : Bool) → TimesRise (filter p es) → TimesRise (cond b (e ∷ filter p es) (filter p es))
+  by true l = (all_filter (λ f. e.epoch.time < f.epoch.time) p es h.0, l)
+  by false l = l
+
+above : (n : ℕ) → nat_lt 0 n ≡ true → 0 < n
+above n h = grind (arith, h)
+
+written_some : (es : List Closed) → AllByRecursion HasSatellite (written es)
+written_some [] = tt
+written_some (e ∷ es) = by (nat_lt 0 (satellites e.epoch)) refl (written_some es) where
+  by : (b : Bool) → nat_lt 0 (satellites e.epoch) ≡ b → AllByRecursion HasSatellite (written es) → AllByRecursion HasSatellite (cond b (e ∷ written es) (written es))
+  by true h l = (above (satellites e.epoch) h, l)
+  by false h l = l
+
+all_front : (P : Closed → Type 0) (es rest : List Closed) → AllByRecursion P (es ++ rest) → AllByRecursion P es
+all_front P [] rest h = tt
+all_front P (e ∷ es) rest h = (h.0, all_front P es rest h.1)
+
+rise_front : (es rest : List Closed) → TimesRise (es ++ rest) → TimesRise es
+rise_front [] rest h = tt
+rise_front (e ∷ es) rest h = (all_front (λ f. e.epoch.time < f.epoch.time) es rest h.0, rise_front es rest h.1)
+
+front : (plan : PlanValue) (es all : List Closed) → IsPrefix es all → AreGatheredEpochs plan all → AreGatheredEpochs plan es
+front plan es all p h =
+    let whole = subst (AreGatheredEpochs plan) p.1 h in
+    record { each = all_front (IsGatheredEpoch plan) es p.0 whole.each; rise = rise_front es p.0 whole.rise }
+
+-- ---- their text
+
+text_readable : Known → (texts : HeaderLists) (plan : PlanValue) (es : List Closed) → AreTexts texts → AreSignals plan → AreGatheredEpochs plan es → AllByRecursion HasSatellite es
+    → IsReadable (text_of texts plan es)
+unfolding text_of
+text_readable k texts plan [] x p h some = inl refl
+text_readable k texts plan (e ∷ es) x p h some =
+    inr (gathered texts plan e.values (e ∷ es), record { is = k.gathered texts plan e es x p h some; same = k.text texts plan e es })
+
+with_readable : Known → (s : Settings) (es : List Closed) → AreSound s → AreGatheredEpochs s.gather.plan es → IsReadable (text_with s es)
+with_readable k s es sound h =
+    text_readable k s.texts s.gather.plan (written es) sound.texts sound.plan
+    (record { each = all_filter (IsGatheredEpoch s.gather.plan) (λ e. nat_lt 0 (satellites e.epoch)) es h.each; rise = rise_filter (λ e. nat_lt 0 (satellites e.epoch)) es h.rise })
+    (written_some es)
+
+pub file_readable : Known → (s : Settings) (fs : List Framed) → AreSound s → IsReadable (file s fs)
+file_readable k s fs sound = with_readable k s (all_epochs s.gather (messages_of fs)) sound (k.epochs s.gather (messages_of fs) (messages_heard k fs))
+
+pub so_far_readable : Known → (s : Settings) (fs : List Framed) → AreSound s → IsReadable (so_far s fs)
+so_far_readable k s fs sound =
+    let ms = messages_of fs in
+    let all = subst (λ l. AreGatheredEpochs s.gather.plan (all_epochs s.gather l)) (sym (append-nil ms)) (k.epochs s.gather ms (messages_heard k fs)) in
+    with_readable k s (closed_epochs s.gather ms) sound (front s.gather.plan (closed_epochs s.gather ms) (all_epochs s.gather (ms ++ [])) (k.first s.gather ms []) all)

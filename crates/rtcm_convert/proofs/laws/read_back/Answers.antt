@@ -1,0 +1,10 @@
+use Rattle.rtcm_scan.specs.Frames.{frames_of}
+use Rattle.rtcm_scan.specs.Decided.{decided_frames}
+use Rattle.rtcm_convert.specs.Told.{settings}
+use Rattle.rtcm_convert.proofs.laws.read_back.Goals as goal
+
+pub returns-clause-file : goal.returns-clause-file
+returns-clause-file c = λ b. c.readable.ensures.file (settings c.args.setup.now) (frames_of b) (record { texts = c.head.ensures.texts; plan = c.head.ensures.plan })
+
+pub returns-clause-so_far : goal.returns-clause-so_far
+returns-clause-so_far c = λ b. c.readable.ensures.so_far (settings c.args.setup.now) (decided_frames b) (record { texts = c.head.ensures.texts; plan = c.head.ensures.plan })

@@ -1,0 +1,129 @@
+-- How far the numbers of a cell reach.
+use Rattle.std.proofs.Common.{ℕ, ℤ, pos, negsuc, ◌≡◌, ◌+◌, ◌*◌, ◌-◌, ◌^◌, ◌<◌, ◌≤◌, ◌==◌, ◌+ℤ◌, ◌*ℤ◌, Bool, true, false, List, [], ◌∷◌, map, Option, Some, None, unsigned_abs, arith, lit≤, refl}
+use Rattle.std.specs.Prelude.{if◌then◌else◌, IfSome}
+use Rattle.std.specs.Ordering.{int_eq}
+use Rattle.std.specs.List.{AllByRecursion, zip}
+use Rattle.std.proofs.lemmas.Int.{ints, unsigned_abs-mul}
+use Rattle.std.proofs.lemmas.Nat.{mul-le}
+use Rattle.rtcm_bits.specs.Bits.{FitsInt}
+use Rattle.rtcm_msg.specs.declared.message.Message.{Message}
+use Rattle.rtcm_msg.specs.declared.message.Message.TheVariants.{Station, Msm4, Msm7, Other}
+use Rattle.rtcm_msg.specs.declared.seats.Seat.{Seat}
+use Rattle.rtcm_msg.specs.declared.entry.Entry.{Entry}
+use Rattle.rtcm_msg.specs.declared.grid4.Satellite4.{Satellite4}
+use Rattle.rtcm_msg.specs.declared.grid4.Cell4.{Cell4}
+use Rattle.rtcm_msg.specs.declared.grid7.Satellite7.{Satellite7}
+use Rattle.rtcm_msg.specs.declared.grid7.Cell7.{Cell7}
+use Rattle.rtcm_msg.specs.LayoutLaws.{unpacked_fit}
+use Rattle.rtcm_msg.specs.Packed.{unpacked}
+use Rattle.rtcm_msg.specs.Fractions.{scaled, joined, rate_joined, strength_of}
+use Rattle.rtcm_msg.specs.Msm.{MsmValue}
+use Rattle.rtcm_msg.specs.Entries.{entry4, entry7, seats, entries}
+use Rattle.rtcm_msg.specs.declared.station.StationParts.{StationParts}
+use Rattle.rtcm_msg.specs.Station.{InRange}
+use Rattle.rtcm_msg.specs.Reach.{IsMeasured, IsCoordinate, IsPoint}
+use Rattle.rtcm_msg.specs.Grid4 as grid4
+use Rattle.rtcm_msg.specs.Grid7 as grid7
+
+abbrev Small : ℤ → Type 0
+Small z = unsigned_abs z ≤ 2 ^ 26
+
+abbrev Far : ℤ → Type 0
+Far r = unsigned_abs r ≤ 2 ^ 40
+
+-- ---- fractions
+
+fine_within : (invalid : ℤ) (k m : ℕ) (z : ℤ) → unsigned_abs z ≤ m → m * k ≤ 2 ^ 26 → IfSome (scaled invalid k z) Small
+fine_within invalid k m z h room = by (int_eq z invalid) where
+  product : unsigned_abs (z *ℤ pos k) ≤ 2 ^ 26
+  product = rw unsigned_abs-mul (let p : unsigned_abs z * k ≤ m * k = mul-le (unsigned_abs z) k m k h (omega arith) in omega (arith, p, room))
+
+  by : (b : Bool) → IfSome (if b then None else Some (z *ℤ pos k)) Small
+  by true = tt
+  by false = product
+
+sum_far : (whole fraction : ℕ) (fine : ℤ) → whole < 2 ^ 8 → fraction < 2 ^ 10 → Small fine → Far (pos (whole * 2 ^ 31 + fraction * 2 ^ 21) +ℤ fine)
+sum_far whole fraction fine w f s = omega (arith, ints, w, f, s)
+
+joined_within : (whole fraction : ℕ) (fine : Option ℤ) → whole < 2 ^ 8 → fraction < 2 ^ 10 → IfSome fine Small → IfSome (joined whole fraction fine) Far
+joined_within whole fraction None w f s = tt
+joined_within whole fraction (Some fine) w f s = by (whole == 255) where
+  by : (b : Bool) → IfSome (if b then None else Some (pos (whole * 2 ^ 31 + fraction * 2 ^ 21) +ℤ fine)) Far
+  by true = tt
+  by false = sum_far whole fraction fine w f s
+
+rate_small : (rough fine : ℤ) → unsigned_abs rough ≤ 2 ^ 13 → unsigned_abs fine ≤ 2 ^ 14 → unsigned_abs ((rough *ℤ pos 10000) +ℤ fine) ≤ 10 ^ 8
+rate_small rough fine r f = omega (arith, ints, r, f)
+
+rate_within : (rough fine : ℤ) → unsigned_abs rough ≤ 2 ^ 13 → unsigned_abs fine ≤ 2 ^ 14 → IfSome (rate_joined rough fine) (λ v. unsigned_abs v ≤ 10 ^ 8)
+rate_within rough fine r f = by (int_eq rough (negsuc 8191)) (int_eq fine (negsuc 16383)) where
+  by : (a b : Bool) → IfSome (if a then None else (if b then None else Some ((rough *ℤ pos 10000) +ℤ fine))) (λ v. unsigned_abs v ≤ 10 ^ 8)
+  by true b = tt
+  by false true = tt
+  by false false = rate_small rough fine r f
+
+strength_within : (n k : ℕ) → 0 < k → n * k < 1024 → IfSome (strength_of n k) (λ s. (0 < s) × (s < 1024))
+strength_within n k some few = by (n == 0) refl where
+  by : (b : Bool) → (n == 0) ≡ b → IfSome (if b then None else Some (n * k)) (λ s. (0 < s) × (s < 1024))
+  by true e = tt
+  by false e = (let more : 1 ≤ n = grind (arith, e) in let p : 1 * 1 ≤ n * k = mul-le 1 1 n k more some in omega (arith, p), few)
+
+signed_within : (w m : ℕ) (z : ℤ) → FitsInt w z → 2 ^ (w - 1) ≤ m → unsigned_abs z ≤ m
+signed_within w m (pos n) h k = omega (arith, h, k)
+signed_within w m (negsuc n) h k = omega (arith, h, k)
+
+-- ---- cells
+
+measured4 : (v : MsmValue) (x : Seat × ℕ) (s : Satellite4) (c : Cell4) → grid4.IsSatellite s → grid4.IsCell c
+    → IsMeasured (record { satellite = x.0.satellite; signal = x.0.signal; range = grid4.range_of s c; phase = grid4.phase_of s c; rate = grid4.rate_of s c; strength = grid4.strength_of c; lock = c.lock; half_cycle = c.half_cycle })
+measured4 v x s c a b = record {
+  range = joined_within s.whole s.fraction _ a.whole a.fraction (fine_within (negsuc 16383) 128 (2 ^ 14) c.range (signed_within 15 (2 ^ 14) c.range b.range (lit≤ tt)) (lit≤ tt));
+  phase = joined_within s.whole s.fraction _ a.whole a.fraction (fine_within (negsuc 2097151) 4 (2 ^ 21) c.phase (signed_within 22 (2 ^ 21) c.phase b.phase (lit≤ tt)) (lit≤ tt));
+  rate = tt;
+  strength = strength_within c.strength 16 (omega arith) (let few = b.strength in omega (arith, few));
+}
+
+measured7 : (v : MsmValue) (x : Seat × ℕ) (s : Satellite7) (c : Cell7) → grid7.IsSatellite s → grid7.IsCell c
+    → IsMeasured (record { satellite = x.0.satellite; signal = x.0.signal; range = grid7.range_of s c; phase = grid7.phase_of s c; rate = grid7.rate_of s c; strength = grid7.strength_of c; lock = c.lock; half_cycle = c.half_cycle })
+measured7 v x s c a b = record {
+  range = joined_within s.whole s.fraction _ a.whole a.fraction (fine_within (negsuc 524287) 4 (2 ^ 19) c.range (signed_within 20 (2 ^ 19) c.range b.range (lit≤ tt)) (lit≤ tt));
+  phase = joined_within s.whole s.fraction _ a.whole a.fraction (fine_within (negsuc 8388607) 1 (2 ^ 23) c.phase (signed_within 24 (2 ^ 23) c.phase b.phase (lit≤ tt)) (lit≤ tt));
+  rate = rate_within s.rate c.rate (signed_within 14 (2 ^ 13) s.rate a.rate (lit≤ tt)) (signed_within 15 (2 ^ 14) c.rate b.rate (lit≤ tt));
+  strength = strength_within c.strength 1 (omega arith) (let few = b.strength in omega (arith, few));
+}
+
+-- the fields of any number fit
+satellite4 : (n : ℕ) → grid4.IsSatellite (grid4.satellite_at n)
+satellite4 n = let h = unpacked_fit grid4.satellite_table n refl in record { whole = h.0; fraction = h.1.0 }
+
+cell4 : (n : ℕ) → grid4.IsCell (grid4.cell_at n)
+cell4 n = let h = unpacked_fit grid4.cell_table n refl in record { range = h.0; phase = h.1.0; lock = h.1.1.0; strength = h.1.1.1.1.0 }
+
+satellite7 : (n : ℕ) → grid7.IsSatellite (grid7.satellite_at n)
+satellite7 n = let h = unpacked_fit grid7.satellite_table n refl in record { whole = h.0; extended = h.1.0; fraction = h.1.1.0; rate = h.1.1.1.0 }
+
+cell7 : (n : ℕ) → grid7.IsCell (grid7.cell_at n)
+cell7 n = let h = unpacked_fit grid7.cell_table n refl in record { range = h.0; phase = h.1.0; lock = h.1.1.0; strength = h.1.1.1.1.0; rate = h.1.1.1.1.1.0 }
+
+each4 : (v : MsmValue) (xs : List (Seat × ℕ)) → AllByRecursion IsMeasured (map (entry4 v) xs)
+each4 v [] = tt
+each4 v (x ∷ xs) = (measured4 v x _ _ (satellite4 _) (cell4 x.1), each4 v xs)
+
+each7 : (v : MsmValue) (xs : List (Seat × ℕ)) → AllByRecursion IsMeasured (map (entry7 v) xs)
+each7 v [] = tt
+each7 v (x ∷ xs) = (measured7 v x _ _ (satellite7 _) (cell7 x.1), each7 v xs)
+
+pub entries_measured : (m : Message) → AllByRecursion IsMeasured (entries m)
+entries_measured (Station s) = tt
+entries_measured (Msm4 v) = each4 v (zip (seats v.sets) v.cells)
+entries_measured (Msm7 v) = each7 v (zip (seats v.sets) v.cells)
+entries_measured (Other n set) = tt
+
+-- ---- points
+
+coordinate : (z : ℤ) → FitsInt 38 z → IsCoordinate z
+coordinate (pos n) h = (omega (arith, ints, h), omega (arith, ints, h))
+coordinate (negsuc n) h = (omega (arith, ints, h), omega (arith, ints, h))
+
+pub point_told : (p : StationParts) → InRange p → IsPoint p
+point_told p h = record { x = coordinate p.x h.x; y = coordinate p.y h.y; z = coordinate p.z h.z; height = h.height }

@@ -1,0 +1,168 @@
+-- Data that are read where they lie are those that are read in order.
+use Rattle.std.proofs.Common.{ℕ, zero, suc, ◌≡◌, ◌+◌, ◌*◌, ◌-◌, ◌%◌, ◌^◌, ◌<◌, ◌≤◌, nat_lt, Bool, true, false, List, [], ◌∷◌, length, drop, get_or, slice_index, Result, Ok, Err, refl, sym, ap, subst, ◌∙◌, arith, add-one, replicate, inl, inr}
+use Rattle.std.proofs.Math.Seq.{drop-cons, drop-length}
+use Rattle.std.proofs.Math.Nat.{mod-eq_of_lt, add-mod_right}
+use Rattle.std.proofs.lemmas.Bool.{cases_lt}
+use Rattle.std.proofs.lemmas.List.{length-replicate, length-drop, get_or-replicate}
+use Rattle.std.proofs.lemmas.Nat.{one_shl, pow-add}
+use Rattle.rtcm_bits.specs.Reading.{Cursor}
+use Rattle.rtcm_msg.specs.declared.fault.MsgFault.{MsgFault}
+use Rattle.rtcm_msg.specs.declared.fault.MsgFault.TheVariants.{Short}
+use Rattle.rtcm_msg.specs.Fields.{number_at, ◌>>=◌, standing, part}
+use Rattle.rtcm_msg.specs.BitLaws.{pow_mono}
+use Rattle.rtcm_msg.specs.Packed.{total}
+use Rattle.rtcm_msg.specs.Columns.{column_at, columns_at}
+use Rattle.rtcm_msg.specs.Rows.{numbers_in, rows_at, end_of, row_at}
+use Rattle.rtcm_msg.proofs.Binds.{ok_inj, number_short}
+use Rattle.rtcm_msg.proofs.Combine.{ok_err}
+use Rattle.rtcm_msg.proofs.FieldLaws.{number_there_at}
+
+-- ---- the loops over the widths
+
+pub end_step : (k : ℕ) (ws : List ℕ) (n len p : ℕ) → k < length ws → p + n * get_or ws k 0 ≤ len → end_of (drop k ws) n len p ≡ end_of (drop (k + 1) ws) n len (p + n * get_or ws k 0)
+unfolding end_of
+end_step k ws n len p h there = let more : nat_lt len (p + n * get_or ws k 0) ≡ false = grind (arith, there) in rw (add-one k, drop-cons ws k 0 h, more) refl
+
+pub end_short : (k : ℕ) (ws : List ℕ) (n len p : ℕ) → k < length ws → len < p + n * get_or ws k 0 → end_of (drop k ws) n len p ≡ Err (Short (len - (len - p) % get_or ws k 0))
+unfolding end_of
+end_short k ws n len p h few = let less : nat_lt len (p + n * get_or ws k 0) ≡ true = grind (arith, few) in rw (drop-cons ws k 0 h, less) refl
+
+pub end_over : (k : ℕ) (ws : List ℕ) (n len p : ℕ) → k ≡ length ws → end_of (drop k ws) n len p ≡ Ok p
+unfolding end_of
+end_over k ws n len p h = rw (h, drop-length ws) refl
+
+pub row_step : (k : ℕ) (ws : List ℕ) (n : ℕ) (bits : List Bool) (p i m field : ℕ) → k < length ws → get_or ws k 0 ≤ 64 → field ≡ part bits (p + i * get_or ws k 0) (get_or ws k 0)
+    → row_at (drop k ws) n bits p i m ≡ row_at (drop (k + 1) ws) n bits (p + n * get_or ws k 0) i (m * ((1 * 2 ^ get_or ws k 0) % 2 ^ 128) + field)
+unfolding row_at
+row_step k ws n bits p i m field h few e = rw (add-one k, drop-cons ws k 0 h, one_shl (get_or ws k 0) 128 (omega arith), e) refl
+
+pub row_over : (k : ℕ) (ws : List ℕ) (n : ℕ) (bits : List Bool) (p i m : ℕ) → k ≡ length ws → row_at (drop k ws) n bits p i m ≡ m
+unfolding row_at
+row_over k ws n bits p i m h = rw (h, drop-length ws) refl
+
+-- room for one field more
+pub row_room : (w t m field : ℕ) → w ≤ 64 → w + t ≤ 128 → m < 2 ^ (128 - (w + t)) → field < 2 ^ w → m * ((1 * 2 ^ w) % 2 ^ 128) + field < 2 ^ (128 - t)
+row_room w t m field few h a b =
+    let sum : 128 - (w + t) + w ≡ 128 - t = omega (arith, h) in
+    let whole : 2 ^ (128 - t) ≡ 2 ^ (128 - (w + t)) * 2 ^ w = ap (λ k. 2 ^ k) (sym sum) ∙ pow-add 2 (128 - (w + t)) w in
+    rw (one_shl w 128 (omega arith), whole) (below m field (2 ^ (128 - (w + t))) (2 ^ w) a b)
+  where
+    below : (p n q r : ℕ) → p < q → n < r → p * r + n < q * r
+    below p n q r a b = grind arith
+
+-- ---- one column
+
+one_more : (place n w : ℕ) → place + w + n * w ≡ place + suc n * w
+one_more place n w = omega arith
+
+column_short : (w : ℕ) (ps : List ℕ) (bits : List Bool) (place : ℕ) → place ≤ length bits → length bits < place + length ps * w → column_at w ps (standing bits place) ≡ Err (Short (length bits - (length bits - place) % w))
+unfolding column_at
+column_short w [] bits place h few = absurd (omega (arith, h, few))
+column_short w (p ∷ ps) bits place h few = elim (cases_lt (length bits) (place + w)) [
+  | inl short ↦
+      let small : length bits - place < w = omega (arith, h, short) in
+      let rest : (length bits - place) % w ≡ length bits - place = mod-eq_of_lt small in
+      let here : length bits - (length bits - place) ≡ place = omega (arith, h) in
+      rw (number_short w (standing bits place) (omega (arith, length-drop place bits, small)), rest, here) refl
+  | inr there ↦
+      let down : length bits - place ≡ length bits - (place + w) + w = omega (arith, there) in
+      let same : (length bits - place) % w ≡ (length bits - (place + w)) % w = ap (λ (k : ℕ). k % w) down ∙ add-mod_right (length bits - (place + w)) w in
+      rw (number_there_at w bits place there, column_short w ps bits (place + w) there (rw (one_more place (length ps) w) few), same) refl
+]
+
+pub record ColumnRow (w : ℕ) (ps : List ℕ) (bits : List Bool) (place : ℕ) (x : List ℕ × Cursor) : Type 0 where
+  pub behind : x.1 ≡ standing bits (place + length ps * w)
+  pub len : length x.0 ≡ length ps
+  pub row : (i : ℕ) → i < length ps → get_or x.0 i 0 ≡ get_or ps i 0 * 2 ^ w + part bits (place + i * w) w
+
+column_row : (w : ℕ) (ps : List ℕ) (bits : List Bool) (place : ℕ) → place + length ps * w ≤ length bits → (x : List ℕ × Cursor) × (column_at w ps (standing bits place) ≡ Ok x) × ColumnRow w ps bits place x
+unfolding column_at
+column_row w [] bits place h =
+    let e : place ≡ place + 0 * w = omega arith in
+    (([], standing bits place), refl, record { behind = ap (standing bits) e; len = refl; row = λ i h. absurd (omega (arith, h)) })
+column_row w (p ∷ ps) bits place h =
+    let more : place + w + length ps * w ≤ length bits = rw (one_more place (length ps) w) h in
+    let here = number_there_at w bits place (omega (arith, more)) in
+    let rest = column_row w ps bits (place + w) more in
+    (((p * 2 ^ w + part bits place w) ∷ rest.0.0, rest.0.1), rw (here, rest.1) refl, join p rest.0 rest.2)
+  where
+    first : (p : ℕ) (xs : List ℕ) → get_or ((p * 2 ^ w + part bits place w) ∷ xs) 0 0 ≡ p * 2 ^ w + part bits (place + 0 * w) w
+    first p xs = let e : place ≡ place + 0 * w = omega arith in ap (λ (k : ℕ). p * 2 ^ w + part bits k w) e
+
+    join : (p : ℕ) (x : List ℕ × Cursor) → ColumnRow w ps bits (place + w) x → ColumnRow w (p ∷ ps) bits place ((p * 2 ^ w + part bits place w) ∷ x.0, x.1)
+    join p x r = record { behind = r.behind ∙ ap (standing bits) (one_more place (length ps) w); len = ap suc r.len; row = each }
+      where
+        each : (i : ℕ) → i < length (p ∷ ps) → get_or ((p * 2 ^ w + part bits place w) ∷ x.0) i 0 ≡ get_or (p ∷ ps) i 0 * 2 ^ w + part bits (place + i * w) w
+        each zero h = first p x.0
+        each (suc k) h = r.row k (omega (arith, h)) ∙ ap (λ (m : ℕ). get_or ps k 0 * 2 ^ w + part bits m w) (one_more place k w)
+
+-- ---- all columns
+
+two_more : (place n w t : ℕ) → place + n * w + n * t ≡ place + n * (w + t)
+two_more place n w t = omega arith
+
+-- what the place behind says of the data
+abbrev pub Ends : List Bool → Result ℕ MsgFault → Result (List ℕ × Cursor) MsgFault → Type 0
+Ends bits (Ok e) read = read ≡ Ok (numbers_in read, standing bits e)
+Ends bits (Err f) read = read ≡ Err f
+
+columns_end : (ws ps : List ℕ) (bits : List Bool) (n place : ℕ) → length ps ≡ n → place ≤ length bits → Ends bits (end_of ws n (length bits) place) (columns_at ws ps (standing bits place))
+unfolding columns_at end_of
+columns_end [] ps bits n place len h = refl
+columns_end (w ∷ ws) ps bits n place len h = elim (cases_lt (length bits) (place + n * w)) [
+  | inl few ↦
+      let less : nat_lt (length bits) (place + n * w) ≡ true = grind (arith, few) in
+      rw (less, column_short w ps bits place h (rw len few)) refl
+  | inr there ↦
+      let more : nat_lt (length bits) (place + n * w) ≡ false = grind (arith, there) in
+      let read = column_row w ps bits place (rw len there) in
+      let behind : read.0.1 ≡ standing bits (place + n * w) = rw len at read.2.behind in
+      rw (more, read.1, behind) (columns_end ws read.0.0 bits n (place + n * w) (read.2.len ∙ len) there)
+]
+
+pub rows_end : (ws : List ℕ) (bits : List Bool) (n place : ℕ) → place ≤ length bits → Ends bits (end_of ws n (length bits) place) (columns_at ws (replicate n 0) (standing bits place))
+rows_end ws bits n place h = columns_end ws (replicate n 0) bits n place (length-replicate n 0) h
+
+-- where the data end
+pub end_is : (ws : List ℕ) (n len place end : ℕ) → end_of ws n len place ≡ Ok end → end ≡ place + n * total ws
+unfolding end_of
+end_is [] n len place end e = let same : place ≡ place + n * 0 = omega arith in sym (ok_inj place end (end_of [] n len place) refl e) ∙ same
+end_is (w ∷ ws) n len place end e = elim (cases_lt len (place + n * w)) [
+  | inl few ↦ let less : nat_lt len (place + n * w) ≡ true = grind (arith, few) in absurd (ok_err end (Short (len - (len - place) % w)) (end_of (w ∷ ws) n len place) e (rw less refl))
+  | inr there ↦ let more : nat_lt len (place + n * w) ≡ false = grind (arith, there) in end_is ws n len (place + n * w) end (rw more at e) ∙ two_more place n w (total ws)
+]
+
+columns_next : (w : ℕ) (ws ps xs : List ℕ) (c d : Cursor) → column_at w ps c ≡ Ok (xs, d) → columns_at (w ∷ ws) ps c ≡ columns_at ws xs d
+unfolding columns_at
+columns_next w ws ps xs c d e = rw e refl
+
+-- the first column was read
+first_read : (w : ℕ) (ws ps : List ℕ) (bits : List Bool) (n place : ℕ) → length ps ≡ n → (x : (r : List ℕ × Cursor) × (column_at w ps (standing bits place) ≡ Ok r) × ColumnRow w ps bits place r) → columns_at (w ∷ ws) ps (standing bits place) ≡ columns_at ws x.0.0 (standing bits (place + n * w))
+first_read w ws ps bits n place len x =
+    let behind : x.0.1 ≡ standing bits (place + n * w) = rw len at x.2.behind in
+    columns_next w ws ps x.0.0 (standing bits place) x.0.1 x.1 ∙ ap (columns_at ws x.0.0) behind
+
+columns_row : (ws ps : List ℕ) (bits : List Bool) (n place i : ℕ) → length ps ≡ n → place + n * total ws ≤ length bits → i < n → get_or (numbers_in (columns_at ws ps (standing bits place))) i 0 ≡ row_at ws n bits place i (get_or ps i 0)
+unfolding columns_at row_at
+columns_row [] ps bits n place i len h there = refl
+columns_row (w ∷ ws) ps bits n place i len h there =
+    let room : place + n * w + n * total ws ≤ length bits = rw (two_more place n w (total ws)) h in
+    let read = column_row w ps bits place (rw len (omega (arith, room))) in
+    let here = read.2.row i (rw len there) in
+    ap (λ (r : Result (List ℕ × Cursor) MsgFault). get_or (numbers_in r) i 0) (first_read w ws ps bits n place len read)
+    ∙ (columns_row ws read.0.0 bits n (place + n * w) i (read.2.len ∙ len) room there ∙ ap (row_at ws n bits (place + n * w) i) here)
+
+columns_length : (ws ps : List ℕ) (bits : List Bool) (n place : ℕ) → length ps ≡ n → place + n * total ws ≤ length bits → length (numbers_in (columns_at ws ps (standing bits place))) ≡ n
+unfolding columns_at
+columns_length [] ps bits n place len h = len
+columns_length (w ∷ ws) ps bits n place len h =
+    let room : place + n * w + n * total ws ≤ length bits = rw (two_more place n w (total ws)) h in
+    let read = column_row w ps bits place (rw len (omega (arith, room))) in
+    ap (λ (r : Result (List ℕ × Cursor) MsgFault). length (numbers_in r)) (first_read w ws ps bits n place len read) ∙ columns_length ws read.0.0 bits n (place + n * w) (read.2.len ∙ len) room
+
+-- the one of place i
+pub row_is : (ws : List ℕ) (bits : List Bool) (n place i : ℕ) → place + n * total ws ≤ length bits → i < n → get_or (rows_at ws n bits place) i 0 ≡ row_at ws n bits place i 0
+row_is ws bits n place i h there = columns_row ws (replicate n 0) bits n place i (length-replicate n 0) h there ∙ ap (row_at ws n bits place i) (get_or-replicate n i 0 0 there)
+
+pub rows_count : (ws : List ℕ) (bits : List Bool) (n place : ℕ) → place + n * total ws ≤ length bits → length (rows_at ws n bits place) ≡ n
+rows_count ws bits n place h = columns_length ws (replicate n 0) bits n place (length-replicate n 0) h

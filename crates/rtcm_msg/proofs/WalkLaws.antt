@@ -1,0 +1,170 @@
+-- The walk over pairs: sets from which the first ID is taken away.
+use Rattle.std.proofs.Common.{ℕ, zero, suc, ◌≡◌, ◌≢◌, ◌+◌, ◌*◌, ◌-◌, ◌/◌, ◌%◌, ◌^◌, ◌<◌, ◌≤◌, Bool, true, false, List, [], ◌∷◌, ◌++◌, length, map, refl, sym, ap, ◌∙◌, subst, arith, count_ones, inl, inr, zero-add}
+use Rattle.std.specs.Int.Count.{count_leading_zeros}
+use Rattle.std.proofs.lemmas.Nat.{leading_top, pow_pos}
+use Rattle.std.proofs.lemmas.Bool.{cases_lt}
+use Rattle.std.proofs.Math.Nat.{div-eq_of_lt}
+use Rattle.rtcm_bits.specs.Bits.{uint, odd}
+use Rattle.rtcm_msg.specs.declared.seats.Seat.{Seat}
+use Rattle.rtcm_msg.specs.declared.seats.Pairs.{Pairs}
+use Rattle.rtcm_msg.specs.BitLaws.{uint-low, pow_mono, length-uint}
+use Rattle.rtcm_msg.specs.Entries.{up_from, ids, seat, chosen}
+use Rattle.rtcm_msg.specs.Msm.{Sets, AreSets, pairs}
+use Rattle.rtcm_msg.specs.Walks.{rows, pairs_from, pairs_left, IsWalking, ArePlaced}
+use Rattle.rtcm_msg.proofs.SeatLaws.{ids_count, pairs_count}
+
+-- ---- the highest bit of a set
+
+pub record Top (w m j : ℕ) : Type 0 where
+  pub low : 2 ^ j ≤ m
+  pub high : m < 2 ^ suc j
+  pub within : j < w
+
+pub top_of : (w m : ℕ) → 0 < m → m < 2 ^ w → w ≤ 64 → Top w m (63 - count_leading_zeros 64 m)
+top_of w m some fits few =
+    let room : 2 ^ w ≤ 2 ^ 64 = pow_mono w 64 few in
+    let top = leading_top 64 m some (omega (arith, fits, room)) in
+    let is : top.0 ≡ 63 - count_leading_zeros 64 m = omega (arith, top.1) in
+    subst (Top w m) is (record { low = top.2; high = top.3; within = inside top.0 top.2 })
+  where
+    inside : (j : ℕ) → 2 ^ j ≤ m → j < w
+    inside j low = elim (cases_lt j w) [ inl below ↦ below | inr above ↦ let more : 2 ^ w ≤ 2 ^ j = pow_mono w j above in absurd (omega (arith, fits, low, more)) ]
+
+-- the top bit, and no other, is there
+whole_part : (m w : ℕ) → 2 ^ w ≤ m → m < 2 ^ suc w → m / 2 ^ w ≡ 1
+whole_part m w low high = part m (2 ^ w) low (omega (arith, high))
+  where
+    part : (m p : ℕ) → p ≤ m → m < 2 * p → m / p ≡ 1
+    part m p low high = grind arith
+
+none_part : (m w : ℕ) → m < 2 ^ w → m / 2 ^ w ≡ 0
+none_part m w h = div-eq_of_lt h
+
+up_split : (w i m j : ℕ) → j < w → 2 ^ j ≤ m → m < 2 ^ suc j → up_from i (uint w m) ≡ (i + (w - 1 - j)) ∷ up_from i (uint w (m - 2 ^ j))
+unfolding up_from uint
+up_split zero i m j h low high = absurd (omega (arith, h))
+up_split (suc w) i m j h low high = elim (cases_lt j w) [
+  | inl below ↦
+      let room : 2 ^ suc j ≤ 2 ^ w = pow_mono (suc j) w (omega (arith, below)) in
+      let one : m / 2 ^ w ≡ 0 = none_part m w (omega (arith, high, room)) in
+      let two : (m - 2 ^ j) / 2 ^ w ≡ 0 = none_part (m - 2 ^ j) w (omega (arith, high, room)) in
+      let place : i + 1 + (w - 1 - j) ≡ i + (suc w - 1 - j) = omega (arith, below) in
+      rw (one, two, up_split w (i + 1) m j below low high, place) refl
+  | inr above ↦
+      let is : j ≡ w = omega (arith, h, above) in
+      last (rw is at low) (rw is at high) is
+]
+  where
+    last : 2 ^ w ≤ m → m < 2 ^ suc w → j ≡ w → up_from i (uint (suc w) m) ≡ (i + (suc w - 1 - j)) ∷ up_from i (uint (suc w) (m - 2 ^ j))
+    last low high is =
+        let one : m / 2 ^ w ≡ 1 = whole_part m w low high in
+        let two : (m - 2 ^ w) / 2 ^ w ≡ 0 = none_part (m - 2 ^ w) w (omega (arith, low, high)) in
+        let sum : 1 * 2 ^ w + (m - 2 ^ w) ≡ m = omega (arith, low) in
+        let same : uint w m ≡ uint w (m - 2 ^ w) = ap (uint w) (sym sum) ∙ uint-low w 1 (m - 2 ^ w) in
+        let place : i + (suc w - 1 - w) ≡ i = omega arith in
+        rw (is, one, two, same, place) refl
+
+pub ids_split : (w m j : ℕ) → Top w m j → ids w m ≡ (w - j) ∷ ids w (m - 2 ^ j)
+ids_split w m j top = let place : 1 + (w - 1 - j) ≡ w - j = omega (arith, top.within) in up_split w 1 m j top.within top.low top.high ∙ rw place refl
+
+up_none : (w i : ℕ) → up_from i (uint w 0) ≡ []
+unfolding up_from uint
+up_none zero i = refl
+up_none (suc w) i = let none : 0 / 2 ^ w ≡ 0 = div-eq_of_lt (pow_pos w) in rw none (up_none w (i + 1))
+
+pub ids_none : (w : ℕ) → ids w 0 ≡ []
+ids_none w = up_none w 1
+
+up_few : (i : ℕ) (bits : List Bool) → length (up_from i bits) ≤ length bits
+unfolding up_from
+up_few i [] = omega arith
+up_few i (true ∷ bits) = omega (arith, up_few (i + 1) bits)
+up_few i (false ∷ bits) = omega (arith, up_few (i + 1) bits)
+
+pub ids_few : (w m : ℕ) → length (ids w m) ≤ w
+ids_few w m = let few = up_few 1 (uint w m) in omega (arith, few, length-uint w m)
+
+-- ---- pairs
+
+pub rows_are : (all : List ℕ) (k : ℕ) (xs : List ℕ) → rows all k xs ≡ pairs_from k xs all all
+rows_are all k [] = refl
+rows_are all k (x ∷ xs) = refl
+
+rows_none : (k : ℕ) (xs : List ℕ) → rows [] k xs ≡ []
+rows_none k [] = refl
+rows_none k (x ∷ xs) = rows_none (k + 1) xs
+
+-- where pairs are left, a satellite is left
+pub satellite_left : (k m : ℕ) (left all : List ℕ) → 0 < length (pairs_from k (ids 64 m) left all) → 0 < m
+satellite_left k zero left all h = let none : pairs_from k (ids 64 0) left all ≡ [] = ap (λ (xs : List ℕ). pairs_from k xs left all) (ids_none 64) in absurd (omega (arith, rw none at h))
+satellite_left k (suc m) left all h = omega arith
+
+-- and a signal, if all are left
+pub signal_left : (k : ℕ) (xs : List ℕ) (g : ℕ) → 0 < length (pairs_from k xs (ids 32 g) (ids 32 g)) → 0 < g
+signal_left k xs zero h =
+    let none : pairs_from k xs (ids 32 0) (ids 32 0) ≡ [] = sym (rows_are (ids 32 0) k xs) ∙ (ap (λ (gs : List ℕ). rows gs k xs) (ids_none 32) ∙ rows_none k xs) in
+    absurd (omega (arith, rw none at h))
+signal_left k xs (suc g) h = omega arith
+
+-- no signal is left with the first satellite
+pub next_row : (k m g x n all : ℕ) → g ≡ 0 → ids 64 m ≡ x ∷ ids 64 n → pairs_from (k + 1) (ids 64 n) (ids 32 all) (ids 32 all) ≡ pairs_from k (ids 64 m) (ids 32 g) (ids 32 all)
+next_row k m g x n all none e = sym (rows_are (ids 32 all) (k + 1) (ids 64 n)) ∙ rw (none, e, ids_none 32) refl
+
+-- the first pair
+pub first_pair : (k m g x n s r all : ℕ) → ids 64 m ≡ x ∷ ids 64 n → ids 32 g ≡ s ∷ ids 32 r → pairs_from k (ids 64 m) (ids 32 g) (ids 32 all) ≡ record { place = k; satellite = x; signal = s } ∷ pairs_from k (ids 64 m) (ids 32 r) (ids 32 all)
+first_pair k m g x n s r all e f = rw (e, f) refl
+
+-- ---- places
+
+placed_row : (n k x : ℕ) (gs : List ℕ) (others : List Seat) → k < n → ArePlaced n others → ArePlaced n (map (seat (k, x)) gs ++ others)
+placed_row n k x [] others h rest = rest
+placed_row n k x (g ∷ gs) others h rest = (h, placed_row n k x gs others h rest)
+
+pub rows_placed : (n : ℕ) (gs : List ℕ) (k : ℕ) (xs : List ℕ) → k + length xs ≤ n → ArePlaced n (rows gs k xs)
+rows_placed n gs k [] h = tt
+rows_placed n gs k (x ∷ xs) h = placed_row n k x gs (rows gs (k + 1) xs) (omega (arith, h)) (rows_placed n gs (k + 1) xs (omega (arith, h)))
+
+-- all pairs
+pub record Start (s : Sets) (p : Pairs) : Type 0 where
+  pub count : length (pairs_left p) ≡ pairs s.satellites s.signals
+  pub walking : IsWalking p
+  pub placed : ArePlaced (count_ones s.satellites) (pairs_left p)
+
+pub start : (s : Sets) (m g : ℕ) → AreSets s → m ≡ s.satellites → g ≡ s.signals → Start s (record { place = 0; satellites = m; signals = g; all = g })
+start s m g sets e f = rw (e, f) (record {
+  count = ap length (sym (rows_are (ids 32 s.signals) 0 (ids 64 s.satellites))) ∙ pairs_count s sets;
+  walking = record { satellites = sets.satellites; signals = sets.signals; all = sets.signals; place = rw (zero-add (length (ids 64 s.satellites))) (ids_few 64 s.satellites) };
+  placed = subst (ArePlaced (count_ones s.satellites)) (rows_are (ids 32 s.signals) 0 (ids 64 s.satellites)) (rows_placed (count_ones s.satellites) (ids 32 s.signals) 0 (ids 64 s.satellites) (all_there (length (ids 64 s.satellites)) (count_ones s.satellites) (ids_count 64 s.satellites sets.satellites)));
+})
+  where
+    all_there : (a b : ℕ) → a ≡ b → 0 + a ≤ b
+    all_there a b e = omega (arith, e)
+
+-- ---- cells
+
+cell_set : (n r : ℕ) → n / 2 ^ r % 2 ≡ 1 → odd (n / 2 ^ r) ≡ true
+cell_set n r h = rw h refl
+
+cell_clear : (n r : ℕ) → n / 2 ^ r % 2 ≢ 1 → odd (n / 2 ^ r) ≡ false
+cell_clear n r h = grind (arith, h)
+
+pub found : (l r n : ℕ) (whole xs ys : List Seat) (x : Seat) → 0 < l → r ≡ l - 1 → whole ≡ chosen (uint l n) xs → xs ≡ x ∷ ys → n / 2 ^ r % 2 ≡ 1 → whole ≡ x ∷ chosen (uint r n) ys
+unfolding chosen uint
+found zero r n whole xs ys x some is same e set = absurd (omega (arith, some))
+found (suc l) r n whole xs ys x some is same e set = let down : r ≡ l = omega (arith, is) in same ∙ rw (e, down, cell_set n l (rw down at set)) refl
+
+pub passed : (l r n : ℕ) (whole xs ys : List Seat) (x : Seat) → 0 < l → r ≡ l - 1 → whole ≡ chosen (uint l n) xs → xs ≡ x ∷ ys → n / 2 ^ r % 2 ≢ 1 → whole ≡ chosen (uint r n) ys
+unfolding chosen uint
+passed zero r n whole xs ys x some is same e clear = absurd (omega (arith, some))
+passed (suc l) r n whole xs ys x some is same e clear = let down : r ≡ l = omega (arith, is) in same ∙ rw (e, down, cell_clear n l (rw down at clear)) refl
+
+pub over : (l n : ℕ) (whole xs : List Seat) → l ≡ 0 → whole ≡ chosen (uint l n) xs → whole ≡ []
+unfolding chosen uint
+over l n whole xs none same = same ∙ rw none refl
+
+-- one pair less
+pub one_less : (l : ℕ) (xs ys : List Seat) (x : Seat) → length xs ≡ l → xs ≡ x ∷ ys → length ys ≡ l - 1
+one_less l xs ys x count e = omega (arith, rw e at count)
+
+pub first_placed : (n : ℕ) (xs ys : List Seat) (x : Seat) → xs ≡ x ∷ ys → ArePlaced n xs → (x.place < n) × ArePlaced n ys
+first_placed n xs ys x e h = subst (ArePlaced n) e h

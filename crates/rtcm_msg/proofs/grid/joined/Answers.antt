@@ -1,0 +1,41 @@
+use Rattle.std.proofs.Common.{ℕ, ℤ, pos, ◌≡◌, ◌+◌, ◌*◌, ◌^◌, ◌<◌, ◌≤◌, ◌≢◌, ◌+ℤ◌, unsigned_abs, Option, Some, IfSome, refl, ap, arith, w64, to_z, of_z, FitsSigned, Bool, false, ◌==◌}
+use Rattle.std.specs.Option.{ForSome}
+use Rattle.std.proofs.lemmas.Int.{ints}
+use Rattle.rtcm_msg.specs.Fractions.{joined}
+use Rattle.rtcm_msg.proofs.grid.joined.Goals as goal
+
+abbrev rough : ℕ → ℕ → ℕ
+rough w f = w * 2147483648 + f * 2097152
+
+part_is : (z : ℤ) → unsigned_abs z ≤ 2 ^ 33 → to_z w64 (of_z w64 z) ≡ z
+part_is z h = omega (arith, ints, h)
+
+rough_is : (w f : ℕ) → w < 256 → f < 65536 → to_z w64 (rough w f) ≡ pos (rough w f)
+rough_is w f a b = omega (arith, ints, a, b)
+
+sum_fits : (w f : ℕ) (z : ℤ) → w < 256 → f < 65536 → unsigned_abs z ≤ 2 ^ 33 → FitsSigned w64 (to_z w64 (rough w f) +ℤ to_z w64 (of_z w64 z))
+sum_fits w f z a b h = rw (part_is z h, rough_is w f a b) (omega (arith, ints, a, b, h))
+
+sum_is : (w f : ℕ) (z : ℤ) → w < 256 → f < 65536 → unsigned_abs z ≤ 2 ^ 33 → to_z w64 (of_z w64 (to_z w64 (rough w f) +ℤ to_z w64 (of_z w64 z))) ≡ pos (rough w f) +ℤ z
+sum_is w f z a b h = rw (part_is z h, rough_is w f a b) (omega (arith, ints, a, b, h))
+
+size : (w f : ℕ) (z : ℤ) → w < 256 → f < 1024 → unsigned_abs z ≤ 2 ^ 26 → unsigned_abs (pos (rough w f) +ℤ z) ≤ 2 ^ 40
+size w f z a b h = omega (arith, ints, a, b, h)
+
+not_255 : (w : ℕ) → w ≢ 255 → (w == 255) ≡ false
+not_255 w h = grind (arith, h)
+
+pub overflow_add-result-else-whole-eq255 : goal.overflow_add-result-else-whole-eq255
+overflow_add-result-else-whole-eq255 c =
+    sum_fits c.args.whole c.args.fraction c.in-Some.fine c.ranges.whole.fits c.ranges.fraction.fits (c.requires.fits c.in-Some.fine c.in-Some.is)
+
+pub returns-else-whole-eq255-clause-value : goal.returns-else-whole-eq255-clause-value
+returns-else-whole-eq255-clause-value c =
+    let h = c.requires.fits c.in-Some.fine c.in-Some.is in
+    rw (c.in-Some.is, not_255 c.args.whole c.if-whole-eq255.false) (ap Some (sum_is c.args.whole c.args.fraction c.in-Some.fine c.ranges.whole.fits c.ranges.fraction.fits h))
+
+pub returns-else-whole-eq255-clause-bound : goal.returns-else-whole-eq255-clause-bound
+returns-else-whole-eq255-clause-bound c =
+    let h = c.requires.fits c.in-Some.fine c.in-Some.is in
+    λ small fine. rw (sum_is c.args.whole c.args.fraction c.in-Some.fine c.ranges.whole.fits c.ranges.fraction.fits h)
+    (size c.args.whole c.args.fraction c.in-Some.fine c.ranges.whole.fits small (fine c.in-Some.fine c.in-Some.is))

@@ -1,0 +1,15 @@
+use Rattle.std.proofs.Common.{◌≡◌, arith, sym, ◌∙◌}
+use Rattle.rtcm_msg.proofs.RowLaws.{end_step, end_short, end_over}
+use Rattle.rtcm_msg.proofs.rows.end_of.Goals as goal
+
+pub returns-then-bits-end-clause-exact : goal.returns-then-bits-end-clause-exact
+returns-then-bits-end-clause-exact c = sym (end_short c.loop-width.width-index c.args.widths.now c.args.count c.args.bits c.loop-width.place c.loop-width-test.true c.if-bits-end.true) ∙ c.loop-width.invariant.same
+
+pub loop-width-preserved : goal.loop-width-preserved
+loop-width-preserved c = record {
+  same = sym (end_step c.loop-width.width-index c.args.widths.now c.args.count c.args.bits c.loop-width.place c.loop-width-test.true c.if-bits-end.false) ∙ c.loop-width.invariant.same;
+  within = c.if-bits-end.false;
+}
+
+pub returns-clause-exact : goal.returns-clause-exact
+returns-clause-exact c = sym (end_over c.loop-width.width-index c.args.widths.now c.args.count c.args.bits c.loop-width.place (omega arith)) ∙ c.loop-width.invariant.same

@@ -1,0 +1,33 @@
+-- How far the numbers of a message reach.
+use Rattle.std.specs.Prelude.{ℕ, ℤ, pos, neg_ℤ, ◌^◌, ◌<◌, ◌≤◌, ◌≤ℤ◌, IfSome, unsigned_abs}
+use Rattle.std.specs.List.{AllByRecursion}
+use Rattle.rtcm_msg.specs.declared.message.Message.{Message}
+use Rattle.rtcm_msg.specs.declared.entry.Entry.{Entry}
+use Rattle.rtcm_msg.specs.declared.station.StationParts.{StationParts}
+use Rattle.rtcm_msg.specs.Station.{InRange}
+use Rattle.rtcm_msg.specs.Entries.{entries}
+
+-- what a cell says is within these bounds; a strength of 0 is not computed, so absent
+pub record IsMeasured (e : Entry) : Type 0 where
+  pub range : IfSome e.range (λ r. unsigned_abs r ≤ 2 ^ 40)
+  pub phase : IfSome e.phase (λ r. unsigned_abs r ≤ 2 ^ 40)
+  pub rate : IfSome e.rate (λ v. unsigned_abs v ≤ 10 ^ 8)
+  pub strength : IfSome e.strength (λ s. (0 < s) × (s < 1024))
+
+-- so it is in each cell of every message, whatever its bits are
+abbrev pub EntriesAreMeasured : Type 0
+EntriesAreMeasured = (m : Message) → AllByRecursion IsMeasured (entries m)
+
+-- a coordinate of 38 bits, in 0.0001 m
+abbrev pub IsCoordinate : ℤ → Type 0
+IsCoordinate z = (neg_ℤ (pos 137_438_953_472) ≤ℤ z) × (z ≤ℤ pos 137_438_953_471)
+
+-- the point that a station message tells, and the antenna's height
+pub record IsPoint (p : StationParts) : Type 0 where
+  pub x : IsCoordinate p.x
+  pub y : IsCoordinate p.y
+  pub z : IsCoordinate p.z
+  pub height : IfSome p.height (λ h. h < 2 ^ 16)
+
+abbrev pub PointsAreTold : Type 0
+PointsAreTold = (p : StationParts) → InRange p → IsPoint p

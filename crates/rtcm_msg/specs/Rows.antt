@@ -1,0 +1,27 @@
+-- The data of satellites or of cells, read where they lie: one field of all, then the next field of all.
+use Rattle.std.specs.Prelude.{ℕ, ◌+◌, ◌-◌, ◌*◌, ◌%◌, ◌^◌, nat_lt, if◌then◌else◌, Bool, List, [], ◌∷◌, Result, Ok, Err, replicate}
+use Rattle.rtcm_bits.specs.Reading.{Cursor}
+use Rattle.rtcm_msg.specs.declared.fault.MsgFault.{MsgFault}
+use Rattle.rtcm_msg.specs.declared.fault.MsgFault.TheVariants.{Short}
+use Rattle.rtcm_msg.specs.Fields.{standing, part}
+use Rattle.rtcm_msg.specs.Columns.{columns_at}
+
+-- the numbers that were read, none where they weren't
+abbrev pub numbers_in : Result (List ℕ × Cursor) MsgFault → List ℕ
+numbers_in (Ok x) = x.0
+numbers_in (Err e) = []
+
+-- so many satellites or cells, each one's fields in one number, whose data begin at a place
+abbrev pub rows_at : List ℕ → ℕ → List Bool → ℕ → List ℕ
+rows_at widths count bits place = numbers_in (columns_at widths (replicate count 0) (standing bits place))
+
+-- the place behind so many of them in so many bits, or else the first field that isn't there whole
+unfoldable pub end_of : List ℕ → ℕ → ℕ → ℕ → Result ℕ MsgFault
+end_of [] count len place = Ok place
+end_of (w ∷ ws) count len place =
+    if nat_lt len (place + count * w) then Err (Short (len - (len - place) % w)) else end_of ws count len (place + count * w)
+
+-- the fields of the one of place i, each below what was read of it before
+unfoldable pub row_at : List ℕ → ℕ → List Bool → ℕ → ℕ → ℕ → ℕ
+row_at [] count bits place i n = n
+row_at (w ∷ ws) count bits place i n = row_at ws count bits (place + count * w) i (n * 2 ^ w + part bits (place + i * w) w)

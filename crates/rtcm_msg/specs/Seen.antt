@@ -1,0 +1,11 @@
+-- What a message that is read where its bytes lie says.
+use Rattle.rtcm_msg.specs.declared.message.Message.{Message}
+use Rattle.rtcm_msg.specs.declared.message.Message.TheVariants as messages
+use Rattle.rtcm_msg.specs.declared.view.View.{View}
+use Rattle.rtcm_msg.specs.declared.view.View.TheVariants as views
+use Rattle.rtcm_msg.specs.Views.{formed}
+
+abbrev pub seen : View → Message
+seen (views.Station s) = messages.Station s
+seen (views.Msm m) = formed m
+seen (views.Other number set) = messages.Other number set

@@ -1,0 +1,82 @@
+"""The commands: from bytes to lines."""
+from .epochs import Gathered, Plan, Setup
+from .frames import frames_of
+from .lines import epoch_lines, event_lines, fixed, header
+from .messages import SIGNALS, Msm, Refused, Station, decode, number_of
+
+KINDS = ("station", "other", "ignored", "late", "past", "taken")
+Report = dict[str, int]
+
+
+def word(number: int | None) -> str:
+    return "-" if number is None else str(number)
+
+
+def frame_lines(data: bytes) -> list[str]:
+    return [f"{place} {len(message)} {word(number_of(message))}" for place, message in frames_of(data)]
+
+
+def show_lines(data: bytes) -> list[str]:
+    lines = []
+    for place, message in frames_of(data):
+        try:
+            read = decode(message)
+        except Refused as fault:
+            lines.append(f"{place} {word(number_of(message))} {fault}")
+            continue
+        if isinstance(read, Station):
+            heights = () if read.height is None else (read.height,)
+            lengths = [fixed(value, 4) for value in (*read.coordinates, *heights)]
+            lines.append(" ".join(map(str, (place, read.number, read.station, *lengths))))
+        elif isinstance(read, Msm):
+            counts = (read.satellites, read.signals, len(read.cells))
+            lines.append(" ".join(map(str, (place, read.number, read.station, read.time, read.more, *counts))))
+    return lines
+
+
+def convert(data: bytes, setup: Setup, texts: dict[str, str]) -> tuple[list[str], Report]:
+    """The lines of the file, and the report."""
+    frames = frames_of(data)
+    messages = []
+    for _, message in frames:
+        try:
+            messages.append(decode(message))
+        except Refused:
+            pass
+    gathered = Gathered(setup, messages)
+    lines: list[str] = []
+    written = [(time, epoch) for time in gathered.times if (epoch := epoch_lines(gathered, time))]
+    values = [gathered.station_values(time) for time, _ in written]
+    for place, (time, epoch) in enumerate(written):
+        if place == 0:
+            lines += header(texts, setup.plan, values[0], time)
+        elif values[place] != values[place - 1]:
+            lines += event_lines(values[place])
+        lines += epoch
+    report = {"bytes": len(data), "skipped_bytes": len(data) - sum(6 + len(message) for _, message in frames)}
+    report |= {"frames": len(frames), "faulty": len(frames) - len(messages)}
+    report |= {kind: gathered.kinds.count(kind) for kind in KINDS}
+    fates = [fate for time in gathered.times for fate, _ in gathered.fates(time)]
+    report |= {fate: fates.count(fate) for fate in ("skipped", "repeated", "crowded")}
+    return lines, report | {"epochs": len(written)}
+
+
+def check_line(data: bytes) -> str:
+    """The counts of a file that is good."""
+    lines = data.decode("ascii").split("END OF HEADER", 1)[1].split("\n")[1:]
+    flags = [line[31] for line in lines if line.startswith(">")]
+    satellites = sum(line[:1] in ("G", "E") for line in lines)
+    return f"epochs {flags.count('0')} satellites {satellites} events {flags.count('4')}"
+
+
+def report_line(report: Report) -> str:
+    return " ".join(f"{name} {count}" for name, count in report.items())
+
+
+def plan_of(gps: str, galileo: str) -> Plan:
+    """The signals that two options ask for."""
+    plan = {}
+    for system, text in (("G", gps), ("E", galileo)):
+        every = list(SIGNALS[system].values())
+        plan[system] = every if text == "all" else [] if text == "none" else text.split(",")
+    return plan

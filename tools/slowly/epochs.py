@@ -1,0 +1,120 @@
+"""Times, epochs and marks of a list of messages."""
+from dataclasses import dataclass
+
+from .messages import WEEK, Cell, Key, Message, Other, Station
+
+LAST_WEEK = 100_000
+MOST_CELLS = 256
+
+Plan = dict[str, list[str]]
+# The coordinates and the height of a station, in 0.0001 m.
+StationValues = tuple[tuple[int, int, int], int]
+
+
+@dataclass
+class Setup:
+    week: int
+    station: int | None
+    by_bit: bool
+    plan: Plan
+
+
+class Gathered:
+    """The epochs of a list of messages. A place is a number of a message in that list."""
+
+    def __init__(self, setup: Setup, messages: list[Message]) -> None:
+        self.setup, self.messages = setup, messages
+        # what becomes of each message, and the times of those that are taken, by their places
+        self.kinds: list[str] = []
+        self.taken: dict[int, int] = {}
+        for place in range(len(messages)):
+            self.kinds.append(self.kind(place))
+        self.times = sorted(set(self.taken.values()))
+
+    def is_own(self, place: int) -> bool:
+        station = self.messages[place].station
+        return station is not None and self.setup.station in (None, station)
+
+    def is_mark(self, place: int) -> bool:
+        """Whether the message closes the epoch that is pending."""
+        message = self.messages[place]
+        return self.setup.by_bit and not isinstance(message, Station) and self.is_own(place) and message.more == 0
+
+    def first_of(self, time: int) -> int:
+        return min(place for place, at in self.taken.items() if at == time)
+
+    def kind(self, place: int) -> str:
+        """What becomes of a message, behind those before it."""
+        message = self.messages[place]
+        if isinstance(message, Other):
+            return "ignored"
+        if not self.is_own(place):
+            return "other"
+        if isinstance(message, Station):
+            return "station"
+        time = self.setup.week * WEEK + message.time
+        if self.taken:
+            greatest = max(self.taken.values())
+            ahead = (message.time - greatest) % WEEK
+            is_closed = any(self.is_mark(at) for at in range(self.first_of(greatest), place))
+            if ahead > WEEK // 2 or ahead == 0 and is_closed:
+                return "late"
+            time = greatest + ahead
+        if time >= LAST_WEEK * WEEK:
+            return "past"
+        self.taken[place] = time
+        return "taken"
+
+    def closing(self, time: int) -> int:
+        """The place of the message that closes the epoch, or the end of the list."""
+        for place in range(self.first_of(time), len(self.messages)):
+            if self.is_mark(place) or self.taken.get(place, 0) > time:
+                return place
+        return len(self.messages)
+
+    def fates(self, time: int) -> list[tuple[str, Cell]]:
+        """Each cell of an epoch, and what becomes of it."""
+        kept: list[Key] = []
+        fates = []
+        for place in sorted(place for place, at in self.taken.items() if at == time):
+            for cell in self.messages[place].cells:
+                if cell.key is None or cell.key[2] not in self.setup.plan[cell.key[0]]:
+                    fate = "skipped"
+                elif cell.key in kept:
+                    fate = "repeated"
+                elif sum(key[0] == cell.key[0] for key in kept) == MOST_CELLS:
+                    fate = "crowded"
+                else:
+                    kept.append(cell.key)
+                    fate = "kept"
+                fates.append((fate, cell))
+        return fates
+
+    def kept(self, time: int) -> dict[Key, Cell]:
+        return {cell.key: cell for fate, cell in self.fates(time) if fate == "kept"}
+
+    def mark(self, time: int, cell: Cell) -> int:
+        """The loss-of-lock mark of a cell that is kept."""
+        if cell.phase is None:
+            return 0
+        is_lost = False
+        before = [then for then in self.times if then < time and has_lock(self.kept(then).get(cell.key))]
+        if cell.least is not None and before:
+            then = max(before)
+            is_less = cell.least < self.kept(then)[cell.key].least
+            is_lost = is_less or cell.upper is not None and cell.upper <= time - then
+        return int(is_lost) + 2 * cell.half_cycle
+
+    def station_values(self, time: int) -> StationValues:
+        """The station's coordinates and height as they are known when the epoch is closed."""
+        coordinates, height = (0, 0, 0), 0
+        for place in range(self.closing(time)):
+            message = self.messages[place]
+            if self.kinds[place] == "station":
+                coordinates = message.coordinates
+                height = height if message.height is None else message.height
+        return coordinates, height
+
+
+def has_lock(cell: Cell | None) -> bool:
+    return cell is not None and cell.phase is not None and cell.least is not None

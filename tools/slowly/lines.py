@@ -1,0 +1,126 @@
+"""The lines of an observation file."""
+from datetime import datetime, timedelta
+from fractions import Fraction
+
+from .epochs import Gathered, Plan, StationValues
+from .messages import SATELLITES, Cell
+
+LIGHT = 299_792_458
+# By the first digit of a signal's code.
+CARRIERS = {
+    "G": {"1": 1_575_420_000, "2": 1_227_600_000, "5": 1_176_450_000},
+    "E": {"1": 1_575_420_000, "5": 1_176_450_000, "6": 1_278_750_000, "7": 1_207_140_000, "8": 1_191_795_000},
+}
+
+
+def thousandths(value: Fraction | None) -> int | None:
+    """The nearest whole number of thousandths, ties away from zero."""
+    if value is None:
+        return None
+    size = int((2 * abs(value) * 1000 + 1) // 2)
+    return size if value >= 0 else -size
+
+
+def fixed(value: int, decimals: int) -> str:
+    """A number of units of so many decimals, with its point."""
+    digits = str(abs(value)).rjust(decimals + 1, "0")
+    return f"{'-' if value < 0 else ''}{digits[:-decimals]}.{digits[-decimals:]}"
+
+
+def column(value: int | None, mark: str = " ", digit: str = " ") -> str:
+    return " " * 16 if value is None else fixed(value, 3).rjust(14) + mark + digit
+
+
+def columns(gathered: Gathered, time: int, cell: Cell | None) -> str:
+    """The columns C, L, D and S of a signal."""
+    if cell is None:
+        return " " * 64
+    system, _, code = cell.key
+    hertz = CARRIERS[system][code[0]]
+    c = None if cell.pseudorange is None else thousandths(cell.pseudorange * LIGHT / 1000)
+    l = None if cell.phase is None else thousandths(cell.phase * hertz / 1000)
+    d = None if cell.rate is None else thousandths(-cell.rate * hertz / LIGHT)
+    s = thousandths(cell.strength)
+    digit = " " if s is None else str(min(max(s // 6000, 1), 9))
+    mark = gathered.mark(time, cell)
+    return column(c, digit=digit) + column(l, str(mark or " "), digit) + column(d) + column(s)
+
+
+def has_value(cell: Cell | None) -> bool:
+    return cell is not None and any(
+        value is not None for value in (cell.pseudorange, cell.phase, cell.rate, cell.strength)
+    )
+
+
+def date_of(time: int) -> tuple[datetime, str]:
+    """The minute of a time, and the seconds with seven decimals."""
+    at = datetime(1980, 1, 6) + timedelta(milliseconds=time)
+    return at, fixed((at.second * 1000 + at.microsecond // 1000) * 10_000, 7)
+
+
+def header_line(content: str, label: str) -> str:
+    return f"{content:<60}{label:<20}"
+
+
+def station_lines(values: StationValues) -> list[str]:
+    coordinates, height = values
+    return [
+        header_line("".join(fixed(value, 4).rjust(14) for value in coordinates), "APPROX POSITION XYZ"),
+        header_line("".join(fixed(value, 4).rjust(14) for value in (height, 0, 0)), "ANTENNA: DELTA H/E/N"),
+    ]
+
+
+def event_lines(values: StationValues) -> list[str]:
+    """An event that tells station values."""
+    return [f">{'':30}4  2", *station_lines(values)]
+
+
+def type_lines(plan: Plan) -> list[str]:
+    lines = []
+    for system in (system for system in plan if plan[system]):
+        types = [kind + code for code in plan[system] for kind in "CLDS"]
+        for n in range(0, len(types), 13):
+            front = f"{system}  {len(types):>3}" if n == 0 else " " * 6
+            names = "".join(" " + name for name in types[n : n + 13])
+            lines.append(header_line(front + names, "SYS / # / OBS TYPES"))
+    return lines
+
+
+def header(texts: dict[str, str], plan: Plan, values: StationValues, first: int) -> list[str]:
+    systems = [system for system in plan if plan[system]]
+    kind = systems[0] if len(systems) == 1 else "M"
+    at, seconds = date_of(first)
+    day = "".join(str(n).rjust(6) for n in (at.year, at.month, at.day, at.hour, at.minute))
+    cells = {name: text.rstrip(" ").ljust(20) for name, text in texts.items()}
+    return [
+        header_line(f"{'3.05':>9}{'':11}{'OBSERVATION DATA':<20}{kind}", "RINEX VERSION / TYPE"),
+        header_line(f"{'rtcm2rinex':<20}{cells['run_by']}{cells['date']}", "PGM / RUN BY / DATE"),
+        header_line(cells["marker"], "MARKER NAME"),
+        header_line(cells["marker_type"], "MARKER TYPE"),
+        header_line(cells["observer"] + cells["agency"], "OBSERVER / AGENCY"),
+        header_line(cells["rec_number"] + cells["rec_type"] + cells["rec_version"], "REC # / TYPE / VERS"),
+        header_line(cells["ant_number"] + cells["ant_type"], "ANT # / TYPE"),
+        *station_lines(values),
+        *type_lines(plan),
+        header_line("DBHZ", "SIGNAL STRENGTH UNIT"),
+        header_line(f"{day}{seconds:>13}     GPS", "TIME OF FIRST OBS"),
+        *(header_line(system, "SYS / PHASE SHIFT") for system in systems),
+        header_line("", "END OF HEADER"),
+    ]
+
+
+def epoch_lines(gathered: Gathered, time: int) -> list[str]:
+    """The epoch line and its satellites' lines; none where no satellite has a value."""
+    kept = gathered.kept(time)
+    rows = []
+    for system, codes in gathered.setup.plan.items():
+        for satellite in range(1, SATELLITES[system] + 1):
+            cells = [kept.get((system, satellite, code)) for code in codes]
+            if any(has_value(cell) for cell in cells):
+                row = f"{system}{satellite:02}" + "".join(columns(gathered, time, cell) for cell in cells)
+                rows.append(row.rstrip(" "))
+    if not rows:
+        return []
+    at, seconds = date_of(time)
+    day = f"{at.year:>4} {at.month:02} {at.day:02} {at.hour:02} {at.minute:02}"
+    return [f"> {day}{seconds:>11}  0{len(rows):>3}", *rows]
