@@ -1,7 +1,7 @@
 """The commands: from bytes to lines."""
 from .epochs import Gathered, Plan, Setup
 from .frames import frames_of
-from .lines import epoch_lines, fixed, has_value, header
+from .lines import epoch_lines, event_lines, fixed, has_value, header
 from .messages import SIGNALS, Msm, Refused, Station, decode, number_of
 
 KINDS = ("station", "other", "ignored", "late", "past", "taken")
@@ -70,27 +70,28 @@ def convert(data: bytes, setup: Setup, texts: dict[str, str]) -> tuple[list[str]
             pass
     gathered = Gathered(setup, messages)
     lines: list[str] = []
-    epochs = 0
-    for time in gathered.times:
-        epoch = epoch_lines(gathered, time)
-        if epoch and not lines:
-            lines = header(texts, setup.plan, gathered.station_values(time), time)
+    written = [(time, epoch) for time in gathered.times if (epoch := epoch_lines(gathered, time))]
+    values = [gathered.station_values(time) for time, _ in written]
+    for place, (time, epoch) in enumerate(written):
+        if place == 0:
+            lines += header(texts, setup.plan, values[0], time)
+        elif values[place] != values[place - 1]:
+            lines += event_lines(values[place])
         lines += epoch
-        epochs += bool(epoch)
     report = {"bytes": len(data), "skipped_bytes": len(data) - sum(6 + len(message) for _, message in frames)}
     report |= {"frames": len(frames), "faulty": len(frames) - len(messages)}
     report |= {kind: gathered.kinds.count(kind) for kind in KINDS}
     fates = [fate for time in gathered.times for fate, _ in gathered.fates(time)]
     report |= {fate: fates.count(fate) for fate in ("skipped", "repeated", "crowded")}
-    return lines, report | {"epochs": epochs}
+    return lines, report | {"epochs": len(written)}
 
 
 def check_line(data: bytes) -> str:
     """The counts of a file that is good."""
     lines = data.decode("ascii").split("END OF HEADER", 1)[1].split("\n")[1:]
-    epochs = sum(line.startswith(">") for line in lines)
+    flags = [line[31] for line in lines if line.startswith(">")]
     satellites = sum(line[:1] in ("G", "E") for line in lines)
-    return f"epochs {epochs} satellites {satellites}"
+    return f"epochs {flags.count('0')} satellites {satellites} events {flags.count('4')}"
 
 
 def report_line(report: Report) -> str:

@@ -70,6 +70,11 @@ def station_lines(values: StationValues) -> list[str]:
     ]
 
 
+def event_lines(values: StationValues) -> list[str]:
+    """An event that tells station values."""
+    return [f">{'':30}4  2", *station_lines(values)]
+
+
 def type_lines(plan: Plan) -> list[str]:
     lines = []
     for system in (system for system in plan if plan[system]):

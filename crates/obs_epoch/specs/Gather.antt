@@ -28,6 +28,11 @@ use Rattle.obs_epoch.specs.Step.{answer_by, step_by, closed_by}
 
 -- ---- the epoch that is held
 
+-- the epoch, and the station values so far
+pub record Holding : Type 0 where
+  pub epoch : MarkedEpoch
+  pub values : StationValues
+
 abbrev pub no_epoch : MarkedEpoch
 no_epoch = record { time = 0; gps = []; galileo = [] }
 

@@ -1,5 +1,6 @@
 -- What others see of plans, cells and epochs.
 use Rattle.std.specs.Prelude.{◌≡◌, ℕ, zero, suc, ℤ, ◌+◌, ◌<◌, ◌≤◌, ◌^◌, ◌==◌, ◌&&◌, ◌||◌, Bool, List, [], ◌∷◌, length, All, IfSome, is_some, unsigned_abs, if◌then◌else◌}
+use Rattle.std.specs.Ordering.{int_eq}
 use Rattle.std.specs.List.{list_any}
 use Rattle.gnss_obs.specs.Satellites.{satellites as satellites_in, IsSatellite}
 use Rattle.gnss_obs.specs.Signals.{IsSignal}
@@ -79,7 +80,11 @@ written_among cells (suc n) = written_among cells n + (if is_written cells (suc 
 abbrev pub satellites : EpochValue → ℕ
 satellites e = written_among e.gps (satellites_in Gps) + written_among e.galileo (satellites_in Galileo)
 
--- an epoch that was closed, with the station values that were known then
+-- the same in all four numbers
+abbrev pub same_values : StationValues → StationValues → Bool
+same_values v w = int_eq v.x w.x && int_eq v.y w.y && int_eq v.z w.z && (v.height == w.height)
+
+-- an epoch with the station values that are known: of one that was closed, those that were known then
 pub record Closed : Type 0 where
   pub epoch : EpochValue
   pub values : StationValues

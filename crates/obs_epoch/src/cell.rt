@@ -1,4 +1,6 @@
 //! What is kept of a message: cells, and where the station stands.
+ghost use Rattle.std.specs.Prelude.{◌≡◌, ◌↔◌, IsTrue};
+
 use gnss_obs::{Sat, Signal, Thousandths};
 
 /// What was observed of one signal of one satellite.
@@ -32,4 +34,19 @@ pub struct StationValues {
     pub z: i64,
     /// DF028 of the last 1006, in 0.0001 m.
     pub height: u16,
+}
+
+impl StationValues {
+    ghost use Rattle.obs_epoch.specs.Values.{same_values};
+
+    /// Whether all four numbers are the same.
+    pub fn is_same(self, other: StationValues) -> bool
+        ensures value { result ≡ same_values self other }
+        ensures exact { IsTrue result ↔ (self ≡ other) }
+    {
+        self.x == other.x
+            && self.y == other.y
+            && self.z == other.z
+            && self.height == other.height
+    }
 }

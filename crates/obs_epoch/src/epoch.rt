@@ -1,12 +1,13 @@
 //! An epoch: what was observed at one time.
 ghost use Rattle.std.specs.Prelude.{◌≡◌, ◌+◌, ◌<◌, ◌≤◌, [], length, drop, IfOk, insert};
 ghost use Rattle.std.specs.Vec.{vec_len, vec_capacity};
-ghost use Rattle.obs_epoch.specs.Values.{EpochValue, AreHeld, IsHeld, cells_of, satellites, is_written, written_among, has_value, most_cells, run};
+ghost use Rattle.obs_epoch.specs.Values.{EpochValue, Closed, AreHeld, IsHeld, cells_of, satellites, is_written, written_among, has_value, most_cells, run};
+ghost use Rattle.obs_epoch.specs.Epochs.{no_values};
 ghost use Rattle.obs_epoch.specs.Marked.{with_cell_of, cell_of, IsObserved};
 ghost use Rattle.obs_epoch.specs.Order.{AreSorted};
 ghost use Rattle.gnss_obs.specs.Satellites.{satellites as satellites_in};
 
-use crate::cell::Cell;
+use crate::cell::{Cell, StationValues};
 use crate::locks::insert_within;
 use crate::seen::Seen;
 use crate::time::GpsTime;
@@ -17,32 +18,33 @@ use std::marker::Model;
 /// So many cells of a system are kept in an epoch.
 pub(crate) const MOST_CELLS: usize = 256;
 
-/// An epoch: its time, and the cells of each system that are kept.
+/// An epoch: its time, the cells of each system that are kept, and the station values that were known when it was closed.
 #[derive(Drop)]
 pub struct Epoch {
     time: GpsTime,
     gps: Vec<Cell>,
     galileo: Vec<Cell>,
+    values: StationValues,
 }
 
 impl Model for Epoch {
     ghost use Rattle.std.specs.Prelude.{◌≤◌};
     ghost use Rattle.std.specs.Vec.{vec_capacity};
     ghost use Rattle.gnss_obs.specs.declared.system.System.TheVariants.{Gps, Galileo};
-    ghost use Rattle.obs_epoch.specs.Values.{EpochValue, AreHeld, most_cells};
+    ghost use Rattle.obs_epoch.specs.Values.{Closed, AreHeld, most_cells};
     ghost use Rattle.obs_epoch.specs.Order.{AreSorted};
 
-    ghost Value = { EpochValue };
+    ghost Value = { Closed };
 
-    ghost view = { λ e. record { time = e.time; gps = e.gps.items; galileo = e.galileo.items } };
+    ghost view = { λ e. record { epoch = record { time = e.time; gps = e.gps.items; galileo = e.galileo.items }; values = e.values } };
 
     ghost invariant = { λ e. AreHeld Gps e.gps.items × AreHeld Galileo e.galileo.items × (most_cells ≤ vec_capacity e.gps) × (most_cells ≤ vec_capacity e.galileo) × AreSorted e.gps.items × AreSorted e.galileo.items };
 }
 
 impl Epoch {
-    // No cell; there is room for as many as are kept.
+    // No cell, and no station values; there is room for as many cells as are kept.
     pub(crate) fn new(alloc: Global) -> Result<Epoch, AllocError>
-        ensures { IfOk result (λ e. e ≡ record { time = 0; gps = []; galileo = [] }) }
+        ensures { IfOk result (λ e. e ≡ record { epoch = record { time = 0; gps = []; galileo = [] }; values = no_values }) }
     {
         let gps = Vec::with_capacity(alloc, MOST_CELLS)?;
         let galileo = Vec::with_capacity(alloc, MOST_CELLS)?;
@@ -50,26 +52,39 @@ impl Epoch {
             time: GpsTime::within(0),
             gps,
             galileo,
+            values: StationValues {
+                x: 0,
+                y: 0,
+                z: 0,
+                height: 0,
+            },
         })
     }
 
     // The epoch of another time, with no cell.
     pub(crate) fn begin(&mut self, time: GpsTime)
-        ensures { self.new ≡ record { time = time; gps = []; galileo = [] } }
+        ensures { self.new ≡ record { epoch = record { time = time; gps = []; galileo = [] }; values = self.old.values } }
     {
         self.time = time;
         self.gps.clear();
         self.galileo.clear();
     }
 
+    // Other station values.
+    pub(crate) fn tell(&mut self, values: StationValues)
+        ensures { self.new ≡ record { epoch = self.old.epoch; values = values } }
+    {
+        self.values = values;
+    }
+
     // One cell more, with its mark, behind so many of its system.
     pub(crate) fn hold(&mut self, at: usize, x: &Seen, mark: u8)
         requires observed { IsObserved x.now }
         requires mark { mark < 4 }
-        requires room { length (cells_of x.now.satellite.system self.old) < most_cells }
-        requires within { at ≤ length (cells_of x.now.satellite.system self.old) }
-        requires order { AreSorted (insert (cells_of x.now.satellite.system self.old) at (cell_of (record { seen = x.now; mark = mark }))) }
-        ensures { self.new ≡ with_cell_of x.now.satellite.system at self.old (cell_of (record { seen = x.now; mark = mark })) }
+        requires room { length (cells_of x.now.satellite.system self.old.epoch) < most_cells }
+        requires within { at ≤ length (cells_of x.now.satellite.system self.old.epoch) }
+        requires order { AreSorted (insert (cells_of x.now.satellite.system self.old.epoch) at (cell_of (record { seen = x.now; mark = mark }))) }
+        ensures { self.new ≡ record { epoch = with_cell_of x.now.satellite.system at self.old.epoch (cell_of (record { seen = x.now; mark = mark })); values = self.old.values } }
     {
         match x.satellite.system() {
             System::Gps => insert_cell(&mut self.gps, at, x, mark),
@@ -79,15 +94,22 @@ impl Epoch {
 
     /// Its time.
     pub fn time(&self) -> GpsTime
-        ensures { result ≡ self.now.time }
+        ensures { result ≡ self.now.epoch.time }
     {
         self.time
+    }
+
+    /// The station values that were known when it was closed.
+    pub fn station_values(&self) -> StationValues
+        ensures { result ≡ self.now.values }
+    {
+        self.values
     }
 
     /// The kept cells of a system, at most 256, by satellite and within it by the plan, no two of one key: each of a listed
     /// satellite and signal of that system.
     pub fn cells(&self, system: System) -> &[Cell]
-        ensures cells { result.now ≡ cells_of system self.now }
+        ensures cells { result.now ≡ cells_of system self.now.epoch }
         ensures held { AreHeld system result.now }
         ensures order { AreSorted result.now }
     {
@@ -99,7 +121,7 @@ impl Epoch {
 
     /// How many satellites are to be written: those with a cell that has a pseudorange, a phase, a Doppler shift or a strength.
     pub fn satellites(&self) -> usize
-        ensures count { result ≡ satellites self.now }
+        ensures count { result ≡ satellites self.now.epoch }
         ensures bound { result ≤ 68 }
     {
         written(self.gps.as_slice(), System::Gps)

@@ -1,5 +1,5 @@
 //! Messages into epochs, with the marks of lost lock.
-ghost use Rattle.std.specs.Prelude.{◌≡◌, ◌↔◌, ◌⊎◌, ◌+◌, ◌<◌, ◌≤◌, [], true, false, length, None, Some, is_some, IfOk, IfErr, IfSome, IsOk, Err, option_map, ◌&&◌, ◌||◌, not, List, Bool, Option, ◌++◌, ◌∷◌, All};
+ghost use Rattle.std.specs.Prelude.{◌≡◌, ◌↔◌, ◌⊎◌, ◌+◌, ◌<◌, ◌≤◌, [], true, false, length, None, Some, is_some, IfOk, IfErr, IfSome, IsOk, Err, option_map, option_to_list, ◌&&◌, ◌||◌, not, List, Bool, Option, ◌++◌, ◌∷◌, All};
 ghost use Rattle.std.specs.Option.{ForSome, option_map_or};
 ghost use Rattle.rtcm_msg.specs.Entries.{IsEntry};
 ghost use Rattle.obs_epoch.specs.Weeks.{week, weeks};
@@ -52,7 +52,6 @@ pub struct Gatherer {
     clock: Clock,
     held: Held,
     locks: Locks,
-    values: StationValues,
     handed: bool,
     has_ended: bool,
 }
@@ -63,9 +62,9 @@ impl Model for Gatherer {
 
     ghost Value = { Gathered };
 
-    ghost view = { λ a. record { clock = a.clock; epoch = a.held; locks = a.locks; values = a.values; handed = a.handed; has_ended = a.has_ended } };
+    ghost view = { λ a. record { clock = a.clock; epoch = a.held.epoch; locks = a.locks; values = a.held.values; handed = a.handed; has_ended = a.has_ended } };
 
-    ghost invariant = { λ a. AreInOrder a.clock.setup.plan a.held };
+    ghost invariant = { λ a. AreInOrder a.clock.setup.plan a.held.epoch };
 }
 
 impl Gatherer {
@@ -120,12 +119,6 @@ impl Gatherer {
             clock: Clock::new(plan, start_week, station, by_bit),
             held,
             locks,
-            values: StationValues {
-                x: 0,
-                y: 0,
-                z: 0,
-                height: 0,
-            },
             handed: false,
             has_ended: false,
         })
@@ -177,8 +170,9 @@ impl Gatherer {
 
     /// The epoch that the last `take` or `end` closed, or None where that call closed none, and before the first call.
     pub fn closed(&self) -> Option<&Epoch>
-        ensures order { IfSome (option_map (λ e. e.now) result) (λ e. StandBy (plan_in self.now).gps e.gps × StandBy (plan_in self.now).galileo e.galileo) }
-        ensures closed { option_map (λ e. e.now) result ≡ closed_in self.now }
+        ensures order { IfSome (option_map (λ e. e.now.epoch) result) (λ e. StandBy (plan_in self.now).gps e.gps × StandBy (plan_in self.now).galileo e.galileo) }
+        // It is the last of those that were handed out, with the station values that were known when it was closed.
+        ensures closed { option_to_list (option_map (λ e. e.now) result) ≡ closed_by (closed_in self.now) self.now.values }
     {
         if self.handed {
             Some(self.held.epoch())
@@ -220,7 +214,7 @@ impl Gatherer {
         ensures now { result ≡ self.now.values }
         ensures told { (s : Setup) (ms : List Heard) (es : List Closed) (again : Option Heard) → Gathers self.now s ms es again → result ≡ values_of s ms }
     {
-        self.values
+        self.held.values()
     }
 
     /// The signals that are wanted.
@@ -236,7 +230,8 @@ impl Gatherer {
         ensures step { record { state = self.new; counts = result.counts } ≡ take_step self.old (heard m.now) }
     {
         let before = self.clock.latest();
-        self.values = self.told(m);
+        let values = self.told(m);
+        self.held.tell(values);
         let step = self.clock.step_closing(told_of(m));
         self.handed = step.closed.is_some();
         let counts = self.load(step.answer, before, m);
@@ -267,17 +262,18 @@ impl Gatherer {
     fn told(&self, m: &Message) -> StationValues
         ensures { result ≡ values_told self.now.clock.setup self.now.values (heard m.now) }
     {
+        let values = self.held.values();
         match m {
             Message::Station(station) => {
                 let parts = station.parts();
                 if self.clock.is_own(Some(parts.station)) {
-                    values_of(&parts, self.values.height)
+                    values_of(&parts, values.height)
                 } else {
-                    self.values
+                    values
                 }
             }
-            Message::Msm4(_) | Message::Msm7(_) => self.values,
-            Message::Other { number: _, set: _ } => self.values,
+            Message::Msm4(_) | Message::Msm7(_) => values,
+            Message::Other { number: _, set: _ } => values,
         }
     }
 

@@ -1,7 +1,8 @@
-//! The epoch that is held: its cells as they came, and how each is tracked.
+//! The epoch that is held: its cells and how each is tracked, and the station values so far.
 ghost use Rattle.std.specs.Prelude.{◌≡◌, ◌<◌, ◌≤◌, [], length, IfOk, ◌-◌, false, map, insert, slice_index_or};
 ghost use Rattle.obs_epoch.specs.Weeks.{week, weeks};
 ghost use Rattle.obs_epoch.specs.Values.{AreHeld, cells_of, most_cells};
+ghost use Rattle.obs_epoch.specs.Epochs.{no_values};
 ghost use Rattle.obs_epoch.specs.Marked.{IsKey, IsObserved, AreKept, cell_of, shown, paired};
 ghost use Rattle.obs_epoch.specs.Held.{is_held as is_held_lem, note_all};
 ghost use Rattle.obs_epoch.specs.Gather.{no_epoch, cells_in, more_at, spot_in, AreInOrder};
@@ -9,7 +10,7 @@ ghost use Rattle.obs_epoch.specs.Order.{AreSorted};
 ghost use Rattle.obs_epoch.specs.declared.cell.Cell.{Cell};
 ghost use Rattle.obs_epoch.specs.Cells.{same_key};
 
-use crate::cell::Cell;
+use crate::cell::{Cell, StationValues};
 use crate::epoch::{Epoch, MOST_CELLS};
 use crate::locks::{Locks, insert_within, is_same_key};
 use crate::order::{seat_at, spot};
@@ -20,7 +21,7 @@ use gnss_obs::System;
 use std::alloc::{AllocError, Global};
 use std::marker::Model;
 
-/// The epoch that is held. Beside each of its cells stands how that is tracked.
+/// The epoch that is held, with the station values so far. Beside each of its cells stands how that is tracked.
 #[derive(Drop)]
 pub struct Held {
     epoch: Epoch,
@@ -39,19 +40,20 @@ impl Model for Held {
     ghost use Rattle.std.specs.Prelude.{◌≡◌, ◌≤◌, length};
     ghost use Rattle.std.specs.Vec.{vec_capacity};
     ghost use Rattle.obs_epoch.specs.Values.{most_cells};
-    ghost use Rattle.obs_epoch.specs.Marked.{MarkedEpoch, paired};
+    ghost use Rattle.obs_epoch.specs.Marked.{paired};
+    ghost use Rattle.obs_epoch.specs.Gather.{Holding};
 
-    ghost Value = { MarkedEpoch };
+    ghost Value = { Holding };
 
-    ghost view = { λ h. record { time = h.epoch.time; gps = paired h.epoch.gps h.gps.items; galileo = paired h.epoch.galileo h.galileo.items } };
+    ghost view = { λ h. record { epoch = record { time = h.epoch.epoch.time; gps = paired h.epoch.epoch.gps h.gps.items; galileo = paired h.epoch.epoch.galileo h.galileo.items }; values = h.epoch.values } };
 
-    ghost invariant = { λ h. (length h.epoch.gps ≡ length h.gps.items) × (length h.epoch.galileo ≡ length h.galileo.items) × (most_cells ≤ vec_capacity h.gps) × (most_cells ≤ vec_capacity h.galileo) };
+    ghost invariant = { λ h. (length h.epoch.epoch.gps ≡ length h.gps.items) × (length h.epoch.epoch.galileo ≡ length h.galileo.items) × (most_cells ≤ vec_capacity h.gps) × (most_cells ≤ vec_capacity h.galileo) };
 }
 
 impl Held {
-    /// No cell; there is room for as many as are kept.
+    /// No cell, and no station values; there is room for as many cells as are kept.
     pub fn new(alloc: Global) -> Result<Held, AllocError>
-        ensures { IfOk result (λ h. h ≡ no_epoch) }
+        ensures { IfOk result (λ h. h ≡ record { epoch = no_epoch; values = no_values }) }
     {
         let epoch = Epoch::new(alloc)?;
         let gps = Vec::with_capacity(alloc, MOST_CELLS)?;
@@ -65,23 +67,38 @@ impl Held {
 
     /// The epoch of another time, with no cell.
     pub fn begin(&mut self, time: GpsTime)
-        ensures { self.new ≡ record { time = time; gps = []; galileo = [] } }
+        ensures { self.new ≡ record { epoch = record { time = time; gps = []; galileo = [] }; values = self.old.values } }
     {
         self.epoch.begin(time);
         self.gps.clear();
         self.galileo.clear();
     }
 
+    /// Other station values.
+    pub fn tell(&mut self, values: StationValues)
+        ensures { self.new ≡ record { epoch = self.old.epoch; values = values } }
+    {
+        self.epoch.tell(values);
+    }
+
+    /// The station values so far.
+    pub fn values(&self) -> StationValues
+        ensures { result ≡ self.now.values }
+    {
+        let _ = &self.gps;
+        self.epoch.station_values()
+    }
+
     /// Its time in milliseconds.
     pub fn time(&self) -> u64
-        ensures { result ≡ self.now.time }
+        ensures { result ≡ self.now.epoch.time }
     {
         self.epoch.time().milliseconds()
     }
 
     /// The epoch that others see.
     pub fn epoch(&self) -> &Epoch
-        ensures { result.now ≡ shown self.now }
+        ensures { result.now ≡ record { epoch = shown self.now.epoch; values = self.now.values } }
     {
         let _ = &self.gps;
         &self.epoch
@@ -89,7 +106,7 @@ impl Held {
 
     /// How many cells of a system there are.
     pub fn len(&self, system: System) -> usize
-        ensures count { result ≡ length (cells_in system self.now) }
+        ensures count { result ≡ length (cells_in system self.now.epoch) }
         ensures bound { result ≤ most_cells }
     {
         let _ = &self.gps;
@@ -99,10 +116,10 @@ impl Held {
     /// Where a cell of that key stands or is to stand.
     pub fn seek(&self, plan: &Plan, x: &Seen) -> Spot
         requires key { IsKey x.now }
-        requires order { AreInOrder plan.now self.now }
-        ensures at { result.at ≡ spot_in plan.now self.now x.now }
-        ensures held { result.is_held ≡ is_held_lem (cells_in x.now.satellite.system self.now) x.now }
-        ensures within { result.at ≤ length (cells_in x.now.satellite.system self.now) }
+        requires order { AreInOrder plan.now self.now.epoch }
+        ensures at { result.at ≡ spot_in plan.now self.now.epoch x.now }
+        ensures held { result.is_held ≡ is_held_lem (cells_in x.now.satellite.system self.now.epoch) x.now }
+        ensures within { result.at ≤ length (cells_in x.now.satellite.system self.now.epoch) }
     {
         let _ = &self.gps;
         let system = x.satellite.system();
@@ -118,10 +135,10 @@ impl Held {
     pub fn hold(&mut self, at: usize, x: Seen, mark: u8)
         requires observed { IsObserved x }
         requires mark { mark < 4 }
-        requires room { length (cells_in x.satellite.system self.old) < most_cells }
-        requires within { at ≤ length (cells_in x.satellite.system self.old) }
-        requires order { AreSorted (insert (map cell_of (cells_in x.satellite.system self.old)) at (cell_of (record { seen = x; mark = mark }))) }
-        ensures { self.new ≡ more_at x.satellite.system at self.old (record { seen = x; mark = mark }) }
+        requires room { length (cells_in x.satellite.system self.old.epoch) < most_cells }
+        requires within { at ≤ length (cells_in x.satellite.system self.old.epoch) }
+        requires order { AreSorted (insert (map cell_of (cells_in x.satellite.system self.old.epoch)) at (cell_of (record { seen = x; mark = mark }))) }
+        ensures { self.new ≡ record { epoch = more_at x.satellite.system at self.old.epoch (record { seen = x; mark = mark }); values = self.old.values } }
     {
         match x.satellite.system() {
             System::Gps => {
@@ -137,7 +154,7 @@ impl Held {
 
     /// The locks of the epoch, which closes, are noted.
     pub fn note(&self, locks: &mut Locks)
-        ensures { locks.new ≡ note_all self.now.time (note_all self.now.time locks.old self.now.gps) self.now.galileo }
+        ensures { locks.new ≡ note_all self.now.epoch.time (note_all self.now.epoch.time locks.old self.now.epoch.gps) self.now.epoch.galileo }
     {
         let time = self.time();
         note_cells(

@@ -308,6 +308,7 @@ fn a_message_past_the_weeks_closes_nothing(rt: HostRuntime) -> Result<(), PlanFa
         height: 15_000,
     };
     assert_eq!(rt; g.station_values(), values);
+    assert!(rt; g.closed().is_some_and(|e| e.station_values() == values));
     Ok(())
 }
 

@@ -1,18 +1,18 @@
 -- Where a reading goes on from one line of an epoch to the next.
-use Rattle.std.proofs.Common.{arith, ◌≡◌, ◌↔◌, ℕ, suc, ◌+◌, ◌<◌, ◌≤◌, List, [], ◌∷◌, ◌++◌, refl, sym, ap, subst, ◌∙◌, length, append_assoc, append-nil, length-append, Option, None, Bool, true, false}
+use Rattle.std.proofs.Common.{arith, ◌≡◌, ◌↔◌, ℕ, suc, ◌+◌, ◌<◌, ◌≤◌, List, [], ◌∷◌, ◌++◌, refl, sym, ap, subst, ◌∙◌, length, append_assoc, append-nil, length-append, drop, Option, Some, None, Bool, true, false}
 use Rattle.std.specs.Prelude.{All, map, flat_map, if◌then◌else◌, nat_lt}
 use Rattle.std.specs.List.Sorted.{IsStrictlyIncreasing}
 use Rattle.std.proofs.lemmas.List.{map-append}
 use Rattle.std.proofs.lemmas.List.Elements.{All-head, All-tail, All-nil, All-push}
 use Rattle.obs_epoch.specs.Dates.{civil_of}
 use Rattle.obs_epoch.specs.declared.cell.StationValues.{StationValues}
-use Rattle.rinex_file.specs.declared.due.Due.TheVariants.{Epoch, Satellite}
+use Rattle.rinex_file.specs.declared.due.Due.TheVariants.{Epoch, EventEpoch, Satellite}
 use Rattle.rinex_file.specs.Value.{Seen, Stamped, FileValue}
-use Rattle.rinex_file.specs.FileValues.{IsFileValue, IsStamped, IsSeen, AreSeen, IsTime, time_of, rank_of, most_rows}
+use Rattle.rinex_file.specs.FileValues.{IsFileValue, IsStamped, IsSeen, AreSeen, IsTime, IsChange, AreChanges, IsFirstSame, changed_by, values_behind, time_of, rank_of, most_rows}
 use Rattle.rinex_file.specs.Lines.{epoch_line, seen_line}
-use Rattle.rinex_file.specs.File.{stamped_lines, change_lines}
-use Rattle.rinex_file.specs.Progress.{Progress, file_with, stamped, StartsAt, IsAt, IsBetween, IsWithin, GoesOn, begun_at, with_row, with_epoch}
-use Rattle.rinex_file.specs.Sound.{AreRead, IsBegun, IsSoundAt, IsSound, MayBegin}
+use Rattle.rinex_file.specs.File.{stamped_lines, change_lines, event_line}
+use Rattle.rinex_file.specs.Progress.{Progress, file_with, stamped, StartsAt, IsAt, IsBetween, IsInEvent, IsWithin, GoesOn, begun_at, with_row, with_epoch}
+use Rattle.rinex_file.specs.Sound.{AreRead, IsBegun, IsEventDue, IsSoundAt, IsSound, MayBegin, values_now}
 use Rattle.rinex_file.proofs.FewRows.{few_rows, few_planned}
 use Rattle.rinex_file.proofs.Entries.{few_signals}
 use Rattle.gnss_obs.specs.declared.system.System.TheVariants.{Gps, Galileo}
@@ -22,65 +22,117 @@ pub All-midst : {X : Type 0} (P : X → Type 0) (xs ys : List X) (y : X) → All
 All-midst P [] ys y h = All-head P y ys h
 All-midst P (x ∷ xs) ys y h = All-midst P xs ys y (All-tail P x (xs ++ y ∷ ys) h)
 
+-- ---- station values that change
+
+-- the lines of an epoch behind this change of station values
+abbrev pub lines_with : Option StationValues → Stamped → List (List ℕ)
+lines_with c e = change_lines c ++ (epoch_line (civil_of e.time) (length e.rows) ∷ map seen_line e.rows)
+
+pub lines_are : (e : Stamped) (c : Option StationValues) → e.change ≡ c → stamped_lines e ≡ lines_with c e
+lines_are e c h = ap (λ x. lines_with x e) h
+
+-- the change of an epoch is one of the station values before it
+pub changes_midst : (v : StationValues) (es others : List Stamped) (x : Stamped) → AreChanges v (es ++ x ∷ others) → IsChange (values_behind v es) x.change
+changes_midst v [] others x h = h.0
+changes_midst v (e ∷ es) others x h = changes_midst (changed_by v e.change) es others x h.1
+
+changes_more : (v : StationValues) (es : List Stamped) (x : Stamped) → AreChanges v es → IsChange (values_behind v es) x.change → AreChanges v (es ++ x ∷ [])
+changes_more v [] x h k = (k, tt)
+changes_more v (e ∷ es) x h k = (h.0, changes_more (changed_by v e.change) es x h.1 k)
+
+pub values_more : (v : StationValues) (es : List Stamped) (x : Stamped) → values_behind v (es ++ x ∷ []) ≡ changed_by (values_behind v es) x.change
+values_more v [] x = refl
+values_more v (e ∷ es) x = values_more (changed_by v e.change) es x
+
+-- the first epoch has none
+pub first_midst : (es others : List Stamped) (x : Stamped) → es ≡ [] → IsFirstSame (es ++ x ∷ others) → x.change ≡ None
+first_midst [] others x none h = h
+first_midst (e ∷ es) others x none h = cc
+
+first_more : (es : List Stamped) (x : Stamped) → IsFirstSame es → (es ≡ [] → x.change ≡ None) → IsFirstSame (es ++ x ∷ [])
+first_more [] x h k = k refl
+first_more (e ∷ es) x h k = h
+
 -- ---- the line of an epoch
 
--- the lines of an epoch with the station values of those before
-pub plain_lines : (e : Stamped) → e.change ≡ None → stamped_lines e ≡ epoch_line (civil_of e.time) (length e.rows) ∷ map seen_line e.rows
-plain_lines e h = ap (λ c. change_lines c ++ (epoch_line (civil_of e.time) (length e.rows) ∷ map seen_line e.rows)) h
-
--- an epoch at this time with these satellites
-abbrev at_time : ℕ → List Seen → Stamped
-at_time t rows = record { change = None; time = t; rows = rows }
+-- an epoch behind this change, at this time, with these satellites
+abbrev pub at_time : Option StationValues → ℕ → List Seen → Stamped
+at_time c t rows = record { change = c; time = t; rows = rows }
 
 abbrev SameEpoch : Stamped → Stamped → Type 0
 SameEpoch a b = a ≡ b
 
-made : (change : Option StationValues) (time t : ℕ) (rows : List Seen) → change ≡ None → time ≡ t → SameEpoch (record { change = change; time = time; rows = rows }) (at_time t rows)
-made change time t rows h k = ap (λ x. record { change = x; time = time; rows = rows }) h ∙ ap (λ x. at_time x rows) k
+made : (change c : Option StationValues) (time t : ℕ) (rows : List Seen) → change ≡ c → time ≡ t → SameEpoch (record { change = change; time = time; rows = rows }) (at_time c t rows)
+made change c time t rows h k = ap (λ x. record { change = x; time = time; rows = rows }) h ∙ ap (λ x. at_time c x rows) k
 
-same_epoch : (e : Stamped) (t : ℕ) → e.change ≡ None → e.time ≡ t → e ≡ at_time t e.rows
-same_epoch e t h k = made e.change e.time t e.rows h k
+same_epoch : (e : Stamped) (c : Option StationValues) (t : ℕ) → e.change ≡ c → e.time ≡ t → e ≡ at_time c t e.rows
+same_epoch e c t h k = made e.change c e.time t e.rows h k
 
 -- the same time and number
 abbrev SameLine : ℕ → ℕ → ℕ → ℕ → Type 0
 SameLine u m t n = ◌≡◌ {A = ℕ × ℕ} (u, m) (t, n)
 
--- what follows where an epoch is due and a line does
-pub record EpochNext (s : Progress) (v : FileValue) (line : List ℕ) (left : List (List ℕ)) : Type 0 where
+-- what follows where the line of an epoch does, behind this change of station values
+pub record EpochNext (s : Progress) (c : Option StationValues) (v : FileValue) (line : List ℕ) (left : List (List ℕ)) : Type 0 where
   pub e : Stamped
   pub es : List Stamped
   pub value : v ≡ file_with s (s.epochs ++ e ∷ es)
   pub starts : StartsAt s.known.shown.first (s.epochs ++ e ∷ es)
   pub is : IsStamped (length s.known.shown.plan.gps) (length s.known.shown.plan.galileo) e
   pub rising : IsStrictlyIncreasing (map time_of s.epochs ++ e.time ∷ map time_of es)
+  pub change : e.change ≡ c
   pub shown : line ≡ epoch_line (civil_of e.time) (length e.rows)
   pub rest : left ≡ map seen_line e.rows ++ flat_map stamped_lines es
 
-from_others : (s : Progress) (v : FileValue) (line : List ℕ) (left : List (List ℕ)) (others : List Stamped) → IsFileValue v → v ≡ file_with s (s.epochs ++ others)
-    → StartsAt s.known.shown.first (s.epochs ++ others) → line ∷ left ≡ flat_map stamped_lines others → EpochNext s v line left
-from_others s v line left [] is value starts rest = cc
-from_others s v line left (e ∷ es) is value starts rest =
+next_with : (s : Progress) (c : Option StationValues) (v : FileValue) (line : List ℕ) (left : List (List ℕ)) (e : Stamped) (es : List Stamped) → IsFileValue v
+    → v ≡ file_with s (s.epochs ++ e ∷ es) → StartsAt s.known.shown.first (s.epochs ++ e ∷ es) → e.change ≡ c
+    → line ∷ left ≡ (epoch_line (civil_of e.time) (length e.rows) ∷ map seen_line e.rows) ++ flat_map stamped_lines es → EpochNext s c v line left
+next_with s c v line left e es is value starts change text =
     let valid : IsFileValue (file_with s (s.epochs ++ e ∷ es)) = subst IsFileValue value is in
-    let one : IsStamped (length s.known.shown.plan.gps) (length s.known.shown.plan.galileo) e =
-    All-midst (IsStamped (length s.known.shown.plan.gps) (length s.known.shown.plan.galileo)) s.epochs es e valid.epochs in
-    let text : line ∷ left ≡ (epoch_line (civil_of e.time) (length e.rows) ∷ map seen_line e.rows) ++ flat_map stamped_lines es =
-    rest ∙ ap (λ l. l ++ flat_map stamped_lines es) (plain_lines e one.same) in
     record {
       e = e;
       es = es;
       value = value;
       starts = starts;
-      is = one;
+      is = All-midst (IsStamped (length s.known.shown.plan.gps) (length s.known.shown.plan.galileo)) s.epochs es e valid.epochs;
       rising = subst IsStrictlyIncreasing (map-append time_of s.epochs (e ∷ es)) valid.rising;
+      change = change;
       shown = cc;
       rest = cc;
     }
 
-pub epoch_next : (s : Progress) (v : FileValue) (line : List ℕ) (left : List (List ℕ)) → s.due ≡ Epoch → GoesOn s v (line ∷ left) → EpochNext s v line left
+some_epochs : (es others : List Stamped) (e : Stamped) (w : StationValues) → IsFirstSame (es ++ e ∷ others) → e.change ≡ Some w → 0 < length es
+some_epochs [] others e w first is = let none : e.change ≡ None = first in cc
+some_epochs (x ∷ xs) others e w first is = omega arith
+
+-- no event begins with the line, or none may stand here
+abbrev pub NoEvent : Progress → List ℕ → Type 0
+NoEvent s line = (0 < length s.epochs) × (line ≡ event_line) → ⊥
+
+from_others : (s : Progress) (v : FileValue) (line : List ℕ) (left : List (List ℕ)) (others : List Stamped) → NoEvent s line → IsFileValue v → v ≡ file_with s (s.epochs ++ others)
+    → StartsAt s.known.shown.first (s.epochs ++ others) → line ∷ left ≡ flat_map stamped_lines others → EpochNext s None v line left
+from_others s v line left [] never is value starts rest = cc
+from_others s v line left (e ∷ es) never is value starts rest = by e.change refl where
+  by : (c : Option StationValues) → e.change ≡ c → EpochNext s None v line left
+  by None h = next_with s None v line left e es is value starts h (rest ∙ ap (λ l. l ++ flat_map stamped_lines es) (lines_are e None h))
+  by (Some w) h =
+      let valid : IsFileValue (file_with s (s.epochs ++ e ∷ es)) = subst IsFileValue value is in
+      let text : line ∷ left ≡ lines_with (Some w) e ++ flat_map stamped_lines es = rest ∙ ap (λ l. l ++ flat_map stamped_lines es) (lines_are e (Some w) h) in
+      absurd (never (some_epochs s.epochs es e w valid.first h, cc))
+
+pub plain_next : (s : Progress) (v : FileValue) (line : List ℕ) (left : List (List ℕ)) → s.due ≡ Epoch → NoEvent s line → GoesOn s v (line ∷ left) → EpochNext s None v line left
 unfolding GoesOn
-epoch_next s v line left due (is, at) =
+plain_next s v line left due never (is, at) =
     let here : IsBetween s v (line ∷ left) = subst (λ d. IsAt s d v (line ∷ left)) due at in
-    from_others s v line left here.others is here.value here.starts here.rest
+    from_others s v line left here.others never is here.value here.starts here.rest
+
+pub changed_next : (s : Progress) (w : StationValues) (v : FileValue) (line : List ℕ) (left : List (List ℕ)) → s.due ≡ EventEpoch w → GoesOn s v (line ∷ left) → EpochNext s (Some w) v line left
+unfolding GoesOn
+changed_next s w v line left due (is, at) =
+    let here : IsInEvent s 3 (λ x. x ≡ w) v (line ∷ left) = subst (λ d. IsAt s d v (line ∷ left)) due at in
+    let change : here.next.change ≡ Some w = here.change ∙ ap Some here.shown in
+    next_with s (Some w) v line left here.next here.others is here.value here.starts change
+    (here.rest ∙ ap (λ l. drop 3 l ++ flat_map stamped_lines here.others) (lines_are here.next (Some w) change))
 
 few_of : (b c : Bool) → (if b then 32 else 0) + (if c then 36 else 0) ≤ 999
 few_of true true = omega arith
@@ -88,79 +140,108 @@ few_of true false = omega arith
 few_of false true = omega arith
 few_of false false = omega arith
 
--- an epoch's time and number of satellites fit their columns
-pub fits_line : (gps galileo : ℕ) (e : Stamped) → IsStamped gps galileo e → IsTime e.time × (length e.rows ≤ 999)
-fits_line gps galileo e is =
-    let most = few_rows gps galileo e.rows is.rows in
-    let few = few_of (nat_lt 0 gps) (nat_lt 0 galileo) in
-    (is.time, omega (arith, most, few))
+-- as many satellites as the planned systems have fit their columns
+pub few_satellites : (gps galileo n : ℕ) → n ≤ most_rows gps galileo → n ≤ 999
+few_satellites gps galileo n room = let few = few_of (nat_lt 0 gps) (nat_lt 0 galileo) in omega (arith, room, few)
 
-pub epoch_taken : (s : Progress) (t n : ℕ) (line : List ℕ) → s.due ≡ Epoch → s.rows ≡ [] → line ≡ epoch_line (civil_of t) n
-    → ((w : ℕ × ℕ) → IsTime w.0 × (w.1 ≤ 999) → line ≡ epoch_line (civil_of w.0) w.1 → w ≡ (t, n))
-    → (v : FileValue) (left : List (List ℕ)) → GoesOn s v (line ∷ left) ↔ GoesOn (begun_at s t n) v left
-unfolding GoesOn
-epoch_taken s t n line due none shown only v left = (
-  λ on.
-      let next = epoch_next s v line left due on in
-      let same : SameLine next.e.time (length next.e.rows) t n = only (next.e.time, length next.e.rows) (fits_line (length s.known.shown.plan.gps) (length s.known.shown.plan.galileo) next.e next.is) next.shown in
+-- an epoch whose line follows may begin
+may_begin : (s : Progress) (c : Option StationValues) (v : FileValue) (line : List ℕ) (left : List (List ℕ)) (next : EpochNext s c v line left)
+    → IsTime next.e.time × MayBegin s next.e.time (length next.e.rows)
+may_begin s c v line left next = (
+  next.is.time,
+  record {
+    later =
+        rise_front (map time_of s.epochs ++ next.e.time ∷ []) (map time_of next.es)
+        (subst IsStrictlyIncreasing (sym (append_assoc (map time_of s.epochs) (next.e.time ∷ []) (map time_of next.es))) next.rising);
+    first = λ none. subst (λ x. StartsAt s.known.shown.first (x ++ next.e ∷ next.es)) none next.starts;
+    some = next.is.some;
+    room = few_rows (length s.known.shown.plan.gps) (length s.known.shown.plan.galileo) next.e.rows next.is.rows;
+  },
+)
+
+-- an epoch's time and the number of its satellites, where it may begin
+abbrev pub Begins : Progress → ℕ × ℕ → Type 0
+Begins s w = IsTime w.0 × MayBegin s w.0 w.1
+
+abbrev pub begin_line : ℕ × ℕ → List ℕ
+begin_line w = epoch_line (civil_of w.0) w.1
+
+-- no epoch may begin with the line
+no_begin : (s : Progress) (c : Option StationValues) (v : FileValue) (line : List ℕ) (left : List (List ℕ)) → ((w : ℕ × ℕ) → Begins s w → line ≡ begin_line w → ⊥) → EpochNext s c v line left → ⊥
+no_begin s c v line left none next = none (next.e.time, length next.e.rows) (may_begin s c v line left next) next.shown
+
+pub no_plain : (s : Progress) (line : List ℕ) → s.due ≡ Epoch → NoEvent s line → ((w : ℕ × ℕ) → Begins s w → line ≡ begin_line w → ⊥) → (v : FileValue) (left : List (List ℕ)) → GoesOn s v (line ∷ left) → ⊥
+no_plain s line due never none v left on = no_begin s None v line left none (plain_next s v line left due never on)
+
+pub no_changed : (s : Progress) (w : StationValues) (line : List ℕ) → s.due ≡ EventEpoch w → ((w : ℕ × ℕ) → Begins s w → line ≡ begin_line w → ⊥) → (v : FileValue) (left : List (List ℕ)) → GoesOn s v (line ∷ left) → ⊥
+no_changed s w line due none v left on = no_begin s (Some w) v line left none (changed_next s w v line left due on)
+
+module _ (s : Progress) (c : Option StationValues) (t n : ℕ) (line : List ℕ) (none : s.rows ≡ []) (shown : line ≡ epoch_line (civil_of t) n)
+    (only : (w : ℕ × ℕ) → Begins s w → line ≡ begin_line w → w ≡ (t, n)) where
+  -- the epoch that the line begins
+  to_within : (v : FileValue) (left : List (List ℕ)) → EpochNext s c v line left → IsWithin (begun_at s c t n) n v left
+  to_within v left next =
+      let same : SameLine next.e.time (length next.e.rows) t n = only (next.e.time, length next.e.rows) (may_begin s c v line left next) next.shown in
       let time : next.e.time ≡ t = ap (λ w. w.0) same in
-      let epoch : next.e ≡ at_time t (s.rows ++ next.e.rows) = same_epoch next.e t next.is.same time ∙ ap (λ r. at_time t (r ++ next.e.rows)) (sym none) in (
-        on.0,
-        record {
-          more = next.e.rows;
-          others = next.es;
-          count = ap (λ w. w.1) same;
-          value = next.value ∙ ap (λ x. file_with s (s.epochs ++ x ∷ next.es)) epoch;
-          starts = subst (λ x. StartsAt s.known.shown.first (s.epochs ++ x ∷ next.es)) epoch next.starts;
-          rest = next.rest;
-        },
-      ),
+      let epoch : next.e ≡ at_time c t (s.rows ++ next.e.rows) = same_epoch next.e c t next.change time ∙ ap (λ r. at_time c t (r ++ next.e.rows)) (sym none) in
+      record {
+        more = next.e.rows;
+        others = next.es;
+        count = ap (λ w. w.1) same;
+        value = next.value ∙ ap (λ x. file_with s (s.epochs ++ x ∷ next.es)) epoch;
+        starts = subst (λ x. StartsAt s.known.shown.first (s.epochs ++ x ∷ next.es)) epoch next.starts;
+        rest = next.rest;
+      }
+
+  -- its lines, from that line on
+  begun_lines : (left : List (List ℕ)) (more : List Seen) (others : List Stamped) → length more ≡ n → left ≡ map seen_line more ++ flat_map stamped_lines others
+      → line ∷ left ≡ (epoch_line (civil_of t) (length (s.rows ++ more)) ∷ map seen_line (s.rows ++ more)) ++ flat_map stamped_lines others
+  begun_lines left more others count rest =
+      let rows : s.rows ++ more ≡ more = ap (λ r. r ++ more) none in
+      ap (λ l. l ∷ left) shown ∙ ap (λ k. epoch_line (civil_of t) k ∷ left) (sym count) ∙ ap (λ l. epoch_line (civil_of t) (length more) ∷ l) rest
+      ∙ ap (λ r. epoch_line (civil_of t) (length r) ∷ (map seen_line r ++ flat_map stamped_lines others)) (sym rows)
+
+-- the line of an epoch with the station values before
+pub plain_taken : (s : Progress) (t n : ℕ) (line : List ℕ) → s.due ≡ Epoch → NoEvent s line → s.rows ≡ [] → line ≡ epoch_line (civil_of t) n
+    → ((w : ℕ × ℕ) → Begins s w → line ≡ begin_line w → w ≡ (t, n))
+    → (v : FileValue) (left : List (List ℕ)) → GoesOn s v (line ∷ left) ↔ GoesOn (begun_at s None t n) v left
+unfolding GoesOn
+plain_taken s t n line due never none shown only v left = (
+  λ on. (on.0, to_within s None t n line none shown only v left (plain_next s v line left due never on)),
   λ on.
-      let here : IsWithin (begun_at s t n) n v left = on.1 in
-      let rows : s.rows ++ here.more ≡ here.more = ap (λ r. r ++ here.more) none in
-      let lines : line ∷ left ≡ flat_map stamped_lines (at_time t (s.rows ++ here.more) ∷ here.others) =
-      ap (λ l. l ∷ left) shown ∙ ap (λ k. epoch_line (civil_of t) k ∷ left) (sym here.count) ∙ ap (λ l. epoch_line (civil_of t) (length here.more) ∷ l) here.rest
-      ∙ ap (λ r. epoch_line (civil_of t) (length r) ∷ (map seen_line r ++ flat_map stamped_lines here.others)) (sym rows) in
+      let here : IsWithin (begun_at s None t n) n v left = on.1 in
       let between : IsBetween s v (line ∷ left) = record {
-        others = at_time t (s.rows ++ here.more) ∷ here.others;
+        others = at_time None t (s.rows ++ here.more) ∷ here.others;
         value = here.value;
         starts = here.starts;
-        rest = lines;
+        rest = begun_lines s None t n line none shown only left here.more here.others here.count here.rest;
       } in
       (on.0, subst (λ d. IsAt s d v (line ∷ left)) (sym due) between),
 )
 
--- ---- why the line of an epoch isn't taken, and what holds where it is
+-- the line of an epoch behind an event
+pub changed_taken : (s : Progress) (w : StationValues) (t n : ℕ) (line : List ℕ) → s.due ≡ EventEpoch w → s.rows ≡ [] → line ≡ epoch_line (civil_of t) n
+    → ((w : ℕ × ℕ) → Begins s w → line ≡ begin_line w → w ≡ (t, n))
+    → (v : FileValue) (left : List (List ℕ)) → GoesOn s v (line ∷ left) ↔ GoesOn (begun_at s (Some w) t n) v left
+unfolding GoesOn
+changed_taken s w t n line due none shown only v left = (
+  λ on. (on.0, to_within s (Some w) t n line none shown only v left (changed_next s w v line left due on)),
+  λ on.
+      let here : IsWithin (begun_at s (Some w) t n) n v left = on.1 in
+      let event : IsInEvent s 3 (λ x. x ≡ w) v (line ∷ left) = record {
+        next = at_time (Some w) t (s.rows ++ here.more);
+        values = w;
+        others = here.others;
+        value = here.value;
+        starts = here.starts;
+        change = refl;
+        shown = refl;
+        rest = begun_lines s (Some w) t n line none shown only left here.more here.others here.count here.rest;
+      } in
+      (on.0, subst (λ d. IsAt s d v (line ∷ left)) (sym due) event),
+)
 
-pub no_epoch : (s : Progress) (line : List ℕ) → s.due ≡ Epoch → ((w : ℕ × ℕ) → IsTime w.0 × (w.1 ≤ 999) → line ≡ epoch_line (civil_of w.0) w.1 → ⊥)
-    → (v : FileValue) (left : List (List ℕ)) → GoesOn s v (line ∷ left) → ⊥
-no_epoch s line due none v left on =
-    let next = epoch_next s v line left due on in
-    none (next.e.time, length next.e.rows) (fits_line (length s.known.shown.plan.gps) (length s.known.shown.plan.galileo) next.e next.is) next.shown
-
-module _ (s : Progress) (t n : ℕ) (line : List ℕ) (due : s.due ≡ Epoch) (only : (w : ℕ × ℕ) → IsTime w.0 × (w.1 ≤ 999) → line ≡ epoch_line (civil_of w.0) w.1 → w ≡ (t, n)) where
-  same_next : (v : FileValue) (left : List (List ℕ)) (next : EpochNext s v line left) → SameLine next.e.time (length next.e.rows) t n
-  same_next v left next = only (next.e.time, length next.e.rows) (fits_line (length s.known.shown.plan.gps) (length s.known.shown.plan.galileo) next.e next.is) next.shown
-
-  pub bad_epoch : (MayBegin s t n → ⊥) → (v : FileValue) (left : List (List ℕ)) → GoesOn s v (line ∷ left) → ⊥
-  bad_epoch never v left on =
-      let gps = length s.known.shown.plan.gps in
-      let galileo = length s.known.shown.plan.galileo in
-      let next = epoch_next s v line left due on in
-      let same = same_next v left next in
-      let time : next.e.time ≡ t = ap (λ w. w.0) same in
-      let count : length next.e.rows ≡ n = ap (λ w. w.1) same in
-      let later : IsStrictlyIncreasing (map time_of s.epochs ++ next.e.time ∷ []) =
-      rise_front (map time_of s.epochs ++ next.e.time ∷ []) (map time_of next.es)
-      (subst IsStrictlyIncreasing (sym (append_assoc (map time_of s.epochs) (next.e.time ∷ []) (map time_of next.es))) next.rising) in
-      never (record {
-        later = subst (λ u. IsStrictlyIncreasing (map time_of s.epochs ++ u ∷ [])) time later;
-        first = λ none.
-            let starts : StartsAt s.known.shown.first (next.e ∷ next.es) = subst (λ x. StartsAt s.known.shown.first (x ++ next.e ∷ next.es)) none next.starts in
-            starts ∙ time;
-        some = subst (λ k. 0 < k) count next.is.some;
-        room = subst (λ k. k ≤ most_rows gps galileo) count (few_rows gps galileo next.e.rows next.is.rows);
-      })
+-- ---- what holds where the line of an epoch is taken
 
 no_rows : (gps galileo : ℕ) → AreSeen gps galileo []
 no_rows gps galileo = record { each = All-nil (IsSeen gps galileo); rise = λ k h. absurd (omega (arith, h)) }
@@ -168,18 +249,23 @@ no_rows gps galileo = record { each = All-nil (IsSeen gps galileo); rise = λ k 
 pub sound_between : (s : Progress) → s.due ≡ Epoch → IsSound s → AreRead s × (s.rows ≡ [])
 sound_between s due sound = subst (λ d. IsSoundAt s d) due sound
 
-pub sound_begun : (s : Progress) (t n : ℕ) → s.due ≡ Epoch → IsSound s → MayBegin s t n → IsTime t → IsSound (begun_at s t n)
-sound_begun s t n due sound may time =
-    let (read, none) = sound_between s due sound in (
-      record { shown = read.shown; epochs = read.epochs; rising = read.rising; starts = read.starts },
-      record {
-        time = time;
-        later = may.later;
-        rows = subst (AreSeen (length s.known.shown.plan.gps) (length s.known.shown.plan.galileo)) (sym none) (no_rows (length s.known.shown.plan.gps) (length s.known.shown.plan.galileo));
-        first = may.first;
-      },
-      may.some,
-    )
+pub sound_changed : (s : Progress) (w : StationValues) → s.due ≡ EventEpoch w → IsSound s → IsEventDue s × IsChange (values_now s) (Some w)
+sound_changed s w due sound = subst (λ d. IsSoundAt s d) due sound
+
+pub sound_begun : (s : Progress) (c : Option StationValues) (t n : ℕ) → AreRead s → s.rows ≡ [] → MayBegin s t n → IsTime t → IsChange (values_now s) c → (s.epochs ≡ [] → c ≡ None)
+    → IsSound (begun_at s c t n)
+sound_begun s c t n read none may time change same = (
+  record { shown = read.shown; epochs = read.epochs; rising = read.rising; starts = read.starts; first = read.first; changes = read.changes },
+  record {
+    time = time;
+    later = may.later;
+    rows = subst (AreSeen (length s.known.shown.plan.gps) (length s.known.shown.plan.galileo)) (sym none) (no_rows (length s.known.shown.plan.gps) (length s.known.shown.plan.galileo));
+    first = may.first;
+    change = change;
+    same = same;
+  },
+  may.some,
+)
 
 -- ---- the line of a satellite
 
@@ -342,8 +428,8 @@ module _ (s : Progress) (n left : ℕ) (due : s.due ≡ Satellite left) (sound :
   pub sound_row : 0 < n → IsSound (with_row s seen n)
   sound_row some =
       let (read, begun, all) = sound_open s left due sound in (
-        record { shown = read.shown; epochs = read.epochs; rising = read.rising; starts = read.starts },
-        record { time = begun.time; later = begun.later; rows = rows_more; first = begun.first },
+        record { shown = read.shown; epochs = read.epochs; rising = read.rising; starts = read.starts; first = read.first; changes = read.changes },
+        record { time = begun.time; later = begun.later; rows = rows_more; first = begun.first; change = begun.change; same = begun.same },
         some,
       )
 
@@ -354,13 +440,14 @@ module _ (s : Progress) (n left : ℕ) (due : s.due ≡ Satellite left) (sound :
         record {
           shown = read.shown;
           epochs = All-push (IsStamped (length s.known.shown.plan.gps) (length s.known.shown.plan.galileo)) s.epochs (stamped s (s.rows ++ seen ∷ [])) read.epochs (record {
-            same = refl;
             time = begun.time;
             rows = rows_more;
             some = omega (arith, size);
           });
           rising = subst IsStrictlyIncreasing (sym (map-append time_of s.epochs (stamped s (s.rows ++ seen ∷ []) ∷ []))) begun.later;
           starts = starts_more s.known.shown.first s.epochs (stamped s (s.rows ++ seen ∷ [])) read.starts begun.first;
+          first = first_more s.epochs (stamped s (s.rows ++ seen ∷ [])) read.first begun.same;
+          changes = changes_more s.known.shown.values s.epochs (stamped s (s.rows ++ seen ∷ [])) read.changes begun.change;
         },
         refl,
       )

@@ -1,17 +1,18 @@
 -- Which kind of line is due.
 use Rattle.std.proofs.Common.{arith, ◌≡◌, ◌∙◌, sym, ap, subst, refl, ℕ, ◌+◌, ◌<◌, List, [], ◌∷◌, ◌++◌, length, Option, IfSome}
-use Rattle.std.specs.Prelude.{map, flat_map}
+use Rattle.std.specs.Prelude.{⊤, map, flat_map, is_some}
+use Rattle.obs_epoch.specs.declared.cell.StationValues.{StationValues}
 use Rattle.rinex_file.specs.declared.course.Course.{Course}
 use Rattle.rinex_file.specs.declared.section.Section.{Section}
 use Rattle.rinex_file.specs.declared.due.Due.{Due}
-use Rattle.rinex_file.specs.declared.due.Due.TheVariants.{Header, Epoch, Satellite}
+use Rattle.rinex_file.specs.declared.due.Due.TheVariants.{Header, Epoch, EventPosition, EventHeight, EventEpoch, Satellite}
 use Rattle.rinex_file.specs.Numbers.{joined}
 use Rattle.rinex_file.specs.Value.{Seen, Stamped, FileValue}
 use Rattle.rinex_file.specs.FileValues.{IsFileValue}
 use Rattle.rinex_file.specs.Lines.{seen_line}
 use Rattle.rinex_file.specs.File.{file_lines, stamped_lines}
-use Rattle.rinex_file.specs.Exact.{HasHeaderNext, HasEpochNext, HasSatelliteNext, IsDue, IsDueAt}
-use Rattle.rinex_file.specs.Progress.{Known, Progress, IsHeaderLeft, IsInHeader, IsBetween, IsWithin, IsAt, GoesOn, shown_of, stamped}
+use Rattle.rinex_file.specs.Exact.{HasHeaderNext, HasEpochLeft, HasSatelliteNext, IsDue, IsDueAt}
+use Rattle.rinex_file.specs.Progress.{Known, Progress, IsHeaderLeft, IsInHeader, IsBetween, IsInEvent, StandAt, IsWithin, IsAt, GoesOn, shown_of, stamped}
 use Rattle.rinex_file.specs.Sound.{AreRead, IsBegun, IsSound, IsSoundAt}
 use Rattle.rinex_file.specs.Course.{History, StandsBehind, progress_at}
 use Rattle.rinex_file.specs.Steps.{IsTaken}
@@ -31,14 +32,26 @@ header_next s section row v taken line left at e = record {
 }
 
 epoch_next : (s : Progress) (v : FileValue) (taken : List (List ℕ)) (line : List ℕ) (left : List (List ℕ)) (others : List Stamped) → v.epochs ≡ s.epochs ++ others
-    → line ∷ left ≡ flat_map stamped_lines others → file_lines v ≡ taken ++ line ∷ left → HasEpochNext v taken
+    → line ∷ left ≡ flat_map stamped_lines others → file_lines v ≡ taken ++ line ∷ left → HasEpochLeft 0 v taken
 epoch_next s v taken line left [] epochs rest e = cc
 epoch_next s v taken line left (next ∷ others) epochs rest e = record {
   before = s.epochs;
   epoch = next;
   others = others;
   epochs = epochs;
+  event = λ some. absurd (omega (arith, some));
   left = e ∙ ap (λ l. taken ++ l) rest;
+}
+
+event_next : (s : Progress) (k : ℕ) (Show : StationValues → Type 0) (v : FileValue) (taken : List (List ℕ)) (line : List ℕ) (left : List (List ℕ)) → IsInEvent s k Show v (line ∷ left)
+    → file_lines v ≡ taken ++ line ∷ left → HasEpochLeft k v taken
+event_next s k Show v taken line left at e = record {
+  before = s.epochs;
+  epoch = at.next;
+  others = at.others;
+  epochs = ap (λ f. f.epochs) at.value;
+  event = λ some. ap is_some at.change;
+  left = e ∙ ap (λ l. taken ++ l) at.rest;
 }
 
 satellite_next : (s : Progress) (n : ℕ) (v : FileValue) (taken : List (List ℕ)) (line : List ℕ) (left : List (List ℕ)) (rows : List Seen) (others : List Stamped) → 0 < n → length rows ≡ n
@@ -74,6 +87,27 @@ due_behind s Epoch n a b t rest same sound = record {
   due = λ v line left is e.
       let at : IsBetween s v (line ∷ left) = subst (λ d. IsAt s d v (line ∷ left)) same (t.stands.goes v (line ∷ left) is e).1 in
       epoch_next s v t.lines line left at.others (ap (λ f. f.epochs) at.value) at.rest e;
+}
+due_behind s EventPosition n a b t rest same sound = record {
+  lines = t.lines;
+  rest = rest;
+  first = record { are = t.are; first = refl };
+  count = ap (λ k. k + 1) t.many;
+  due = λ v line left is e. event_next s 1 (λ w. ⊤) v t.lines line left (subst (λ d. IsAt s d v (line ∷ left)) same (t.stands.goes v (line ∷ left) is e).1) e;
+}
+due_behind s (EventHeight x y z) n a b t rest same sound = record {
+  lines = t.lines;
+  rest = rest;
+  first = record { are = t.are; first = refl };
+  count = ap (λ k. k + 1) t.many;
+  due = λ v line left is e. event_next s 2 (StandAt x y z) v t.lines line left (subst (λ d. IsAt s d v (line ∷ left)) same (t.stands.goes v (line ∷ left) is e).1) e;
+}
+due_behind s (EventEpoch values) n a b t rest same sound = record {
+  lines = t.lines;
+  rest = rest;
+  first = record { are = t.are; first = refl };
+  count = ap (λ k. k + 1) t.many;
+  due = λ v line left is e. event_next s 3 (λ w. w ≡ values) v t.lines line left (subst (λ d. IsAt s d v (line ∷ left)) same (t.stands.goes v (line ∷ left) is e).1) e;
 }
 due_behind s (Satellite m) n a b t rest same sound =
     let all : AreRead s × IsBegun s × (0 < m) = subst (λ d. IsSoundAt s d) same sound in

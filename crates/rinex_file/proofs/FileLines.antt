@@ -14,9 +14,9 @@ use Rattle.obs_epoch.specs.Dates.{civil_of}
 use Rattle.obs_epoch.specs.Values.{PlanValue}
 use Rattle.rinex_file.specs.Blanks.{trimmed}
 use Rattle.rinex_file.specs.Exact.{IsLine}
-use Rattle.rinex_file.specs.File.{stamped_lines, change_lines, lines_of as lines_of_file, file_lines}
-use Rattle.rinex_file.specs.FileValues.{AreTexts, IsPlan, AreValues, FitsColumns, IsFrom, IsEntry, IsRow, IsSeen, IsStamped, IsFileValue, of_system, most_rows}
-use Rattle.rinex_file.specs.Header.{header_lines}
+use Rattle.rinex_file.specs.File.{event_line, stamped_lines, change_lines, lines_of as lines_of_file, file_lines}
+use Rattle.rinex_file.specs.FileValues.{AreTexts, IsPlan, AreValues, FitsColumns, IsFrom, IsEntry, IsRow, IsSeen, IsStamped, IsChange, AreChanges, IsFileValue, changed_by, of_system, most_rows}
+use Rattle.rinex_file.specs.Header.{header_lines, position_line, delta_line}
 use Rattle.rinex_file.specs.Lines.{epoch_line, field, mark_byte, strength_byte, entry_text, letter_of, row_text, seen_line}
 use Rattle.rinex_file.specs.Numbers.{joined, right, padded, fixed}
 use Rattle.rinex_file.specs.Reading.{has}
@@ -26,7 +26,7 @@ use Rattle.rinex_file.proofs.Cuts.{filled, length-trimmed}
 use Rattle.rinex_file.proofs.Digits.{has-append, length-right, length-fixed, length-padded, not_negative}
 use Rattle.rinex_file.proofs.FewRows.{few_rows}
 use Rattle.rinex_file.proofs.PlainTexts.{Clean, clean-fixed, clean-right, clean-padded, IsPlain, plain-wider, plain-append, plain-padded, ArePlain, plain-joined}
-use Rattle.rinex_file.proofs.PlainHeader.{IsFileLine, as_line, of_80, whole_field, second_field, no_letter, few_signals_of, IsShort, short_time, lines_of_header}
+use Rattle.rinex_file.proofs.PlainHeader.{IsFileLine, as_line, of_80, whole_field, second_field, no_letter, few_signals_of, IsShort, short_time, line_of_position, line_of_delta, lines_of_header}
 
 -- ---- epochs
 
@@ -206,31 +206,43 @@ at_most_68 gps galileo = sums (nat_lt 0 gps) (nat_lt 0 galileo) where
   sums false true = lit≤ tt
   sums false false = lit≤ tt
 
-lines_of_stamped : (gps galileo : ℕ) (e : Stamped) → IsStamped gps galileo e → gps ≤ 19 → galileo ≤ 19 → All IsFileLine (stamped_lines e)
-lines_of_stamped gps galileo e is few less =
+-- the lines of an event
+event_is_line : IsFileLine event_line
+unfolding event_line
+event_is_line = as_line 35 (codes ">" ++ (replicate 30 32 ++ codes "4  2")) (record { clean = refl; short = lit≤ tt }) (lit≤ tt)
+
+lines_of_change : (v : StationValues) (c : Option StationValues) → IsChange v c → All IsFileLine (change_lines c)
+lines_of_change v None is = λ k d h. absurd (omega (arith, h))
+lines_of_change v (Some w) is =
+    All-cons IsFileLine event_line (position_line w ∷ delta_line w ∷ []) event_is_line
+    (All-cons IsFileLine (position_line w) (delta_line w ∷ []) (line_of_position w is.0)
+    (All-cons IsFileLine (delta_line w) [] (line_of_delta w is.0) (λ k d h. absurd (omega (arith, h)))))
+
+lines_of_stamped : (gps galileo : ℕ) (v : StationValues) (e : Stamped) → IsStamped gps galileo e → IsChange v e.change → gps ≤ 19 → galileo ≤ 19 → All IsFileLine (stamped_lines e)
+lines_of_stamped gps galileo v e is change few less =
     let rows = few_rows gps galileo e.rows is.rows in
     let top = at_most_68 gps galileo in
     let count : length e.rows < 2 ^ 64 = omega (arith, rows, top) in
-    subst (λ c. All IsFileLine (change_lines c ++ (epoch_line (civil_of e.time) (length e.rows) ∷ map seen_line e.rows))) (sym is.same)
+    All-append IsFileLine (change_lines e.change) (epoch_line (civil_of e.time) (length e.rows) ∷ map seen_line e.rows) (lines_of_change v e.change change)
     (All-cons IsFileLine (epoch_line (civil_of e.time) (length e.rows)) (map seen_line e.rows) (line_of_epoch (civil_of e.time) (length e.rows) (short_time e.time is.time) count)
     (All-map IsFileLine seen_line e.rows (λ k d h. line_of_seen gps galileo (get_or e.rows k d) (is.rows.each k d h) few less)))
 
-lines_of_epochs : (gps galileo : ℕ) (es : List Stamped) → All (IsStamped gps galileo) es → gps ≤ 19 → galileo ≤ 19 → All IsFileLine (flat_map stamped_lines es)
-lines_of_epochs gps galileo [] are few less = λ k d h. absurd (omega (arith, h))
-lines_of_epochs gps galileo (e ∷ es) are few less =
-    All-append IsFileLine (stamped_lines e) (flat_map stamped_lines es) (lines_of_stamped gps galileo e (All-head (IsStamped gps galileo) e es are) few less)
-    (lines_of_epochs gps galileo es (All-tail (IsStamped gps galileo) e es are) few less)
+lines_of_epochs : (gps galileo : ℕ) (v : StationValues) (es : List Stamped) → All (IsStamped gps galileo) es → AreChanges v es → gps ≤ 19 → galileo ≤ 19 → All IsFileLine (flat_map stamped_lines es)
+lines_of_epochs gps galileo v [] are changes few less = λ k d h. absurd (omega (arith, h))
+lines_of_epochs gps galileo v (e ∷ es) are changes few less =
+    All-append IsFileLine (stamped_lines e) (flat_map stamped_lines es) (lines_of_stamped gps galileo v e (All-head (IsStamped gps galileo) e es are) changes.0 few less)
+    (lines_of_epochs gps galileo (changed_by v e.change) es (All-tail (IsStamped gps galileo) e es are) changes.1 few less)
 
 file_lines_are : (x : HeaderLists) (p : PlanValue) (v : StationValues) (es : List Stamped) → AreTexts x → IsPlan p → AreValues v
-    → All (IsStamped (length p.gps) (length p.galileo)) es → All IsFileLine (lines_of_file x p v es)
-file_lines_are x p v [] texts plan values are = λ k d h. absurd (omega (arith, h))
-file_lines_are x p v (e ∷ es) texts plan values are =
+    → All (IsStamped (length p.gps) (length p.galileo)) es → AreChanges v es → All IsFileLine (lines_of_file x p v es)
+file_lines_are x p v [] texts plan values are changes = λ k d h. absurd (omega (arith, h))
+file_lines_are x p v (e ∷ es) texts plan values are changes =
     let first = All-head (IsStamped (length p.gps) (length p.galileo)) e es are in
     All-append IsFileLine (header_lines x p v (civil_of e.time)) (flat_map stamped_lines (e ∷ es)) (lines_of_header x p v (civil_of e.time) texts plan values (short_time e.time first.time))
-    (lines_of_epochs (length p.gps) (length p.galileo) (e ∷ es) are (few_signals_of p plan Gps) (few_signals_of p plan Galileo))
+    (lines_of_epochs (length p.gps) (length p.galileo) v (e ∷ es) are changes (few_signals_of p plan Gps) (few_signals_of p plan Galileo))
 
 all_are : (v : FileValue) → IsFileValue v → All IsFileLine (file_lines v)
-all_are v is = file_lines_are v.texts v.plan v.values v.epochs is.texts is.plan is.values is.epochs
+all_are v is = file_lines_are v.texts v.plan v.values v.epochs is.texts is.plan is.values is.epochs is.changes
 
 pub lines_are_lines : (v : FileValue) → IsFileValue v → All IsLine (file_lines v)
 lines_are_lines v is = λ k d h. (all_are v is k d h).line

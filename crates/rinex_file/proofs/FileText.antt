@@ -1,29 +1,37 @@
 -- The text of a file is that of its header and its epochs, one after the other.
-use Rattle.std.proofs.Common.{◌≡◌, ◌≢◌, ◌∙◌, sym, ap, refl, ℕ, List, [], ◌∷◌, ◌++◌, drop}
-use Rattle.std.specs.Prelude.{map, flat_map}
+use Rattle.std.proofs.Common.{◌≡◌, ◌≢◌, ◌∙◌, sym, ap, ap₂, refl, append_assoc, Bool, true, false, Some, None, ℕ, List, [], ◌∷◌, ◌++◌, drop}
+use Rattle.std.specs.Prelude.{flat_map, if◌then◌else◌}
 use Rattle.obs_epoch.specs.declared.cell.StationValues.{StationValues}
 use Rattle.obs_epoch.specs.Dates.{civil_of}
-use Rattle.obs_epoch.specs.Values.{EpochValue, PlanValue}
+use Rattle.obs_epoch.specs.Values.{PlanValue, Closed, same_values}
 use Rattle.rinex_file.specs.Numbers.{joined, left}
 use Rattle.rinex_file.specs.Texts.{HeaderLists}
-use Rattle.rinex_file.specs.Value.{stamped_of}
+use Rattle.rinex_file.specs.Value.{stamped_of, stamped_behind, all_stamped}
 use Rattle.rinex_file.specs.Header.{header_line, header_lines, lines_of, version_line}
-use Rattle.rinex_file.specs.File.{header_text, epoch_text, stamped_lines, file_text, gathered}
+use Rattle.rinex_file.specs.File.{header_text, epoch_text, event_text, event_lines, change_lines, change_text, closed_text, stamped_lines, file_text, gathered}
 use Rattle.rinex_file.proofs.Sent.{joined-append}
 
-epochs_text : (p : PlanValue) (es : List EpochValue) → joined (flat_map stamped_lines (map (stamped_of p) es)) ≡ flat_map (epoch_text p) es
-unfolding epoch_text
-epochs_text p [] = refl
-epochs_text p (e ∷ es) =
-    joined-append (stamped_lines (stamped_of p e)) (flat_map stamped_lines (map (stamped_of p) es))
-    ∙ ap (λ l. joined (stamped_lines (stamped_of p e)) ++ l) (epochs_text p es)
+-- the lines of an epoch that was closed behind others
+stamped_text : (p : PlanValue) (v : StationValues) (c : Closed) → joined (stamped_lines (stamped_behind p v c)) ≡ change_text v c.values ++ epoch_text p c.epoch
+unfolding epoch_text event_text
+stamped_text p v c = by (same_values v c.values) where
+  by : (b : Bool) → joined (change_lines (if b then None else Some c.values) ++ stamped_lines (stamped_of p c.epoch)) ≡ (if b then [] else event_text c.values) ++ joined (stamped_lines (stamped_of p c.epoch))
+  by true = refl
+  by false = joined-append (event_lines c.values) (stamped_lines (stamped_of p c.epoch))
 
-pub file_text-gathered : (x : HeaderLists) (p : PlanValue) (v : StationValues) (e : EpochValue) (es : List EpochValue)
-    → header_text x p v e.time ++ flat_map (epoch_text p) (e ∷ es) ≡ file_text (gathered x p v (e ∷ es))
+epochs_text : (p : PlanValue) (v : StationValues) (cs : List Closed) → joined (flat_map stamped_lines (all_stamped p v cs)) ≡ closed_text p v cs
+epochs_text p v [] = refl
+epochs_text p v (c ∷ cs) =
+    joined-append (stamped_lines (stamped_behind p v c)) (flat_map stamped_lines (all_stamped p c.values cs))
+    ∙ ap₂ (λ (a b : List ℕ). a ++ b) (stamped_text p v c) (epochs_text p c.values cs)
+    ∙ append_assoc (change_text v c.values) (epoch_text p c.epoch) (closed_text p c.values cs)
+
+pub file_text-gathered : (x : HeaderLists) (p : PlanValue) (v : StationValues) (c : Closed) (cs : List Closed)
+    → header_text x p v c.epoch.time ++ closed_text p v (c ∷ cs) ≡ file_text (gathered x p v (c ∷ cs))
 unfolding header_text
-file_text-gathered x p v e es =
-    ap (λ l. joined (header_lines x p v (civil_of e.time)) ++ l) (sym (epochs_text p (e ∷ es)))
-    ∙ sym (joined-append (header_lines x p v (civil_of e.time)) (flat_map stamped_lines (map (stamped_of p) (e ∷ es))))
+file_text-gathered x p v c cs =
+    ap (λ l. joined (header_lines x p v (civil_of c.epoch.time)) ++ l) (sym (epochs_text p v (c ∷ cs)))
+    ∙ sym (joined-append (header_lines x p v (civil_of c.epoch.time)) (flat_map stamped_lines (all_stamped p v (c ∷ cs))))
 
 -- a line ends in a line feed
 some_line : (a b rest : List ℕ) → (a ++ (b ++ (10 ∷ []))) ++ rest ≢ []

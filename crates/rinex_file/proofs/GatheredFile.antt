@@ -12,14 +12,17 @@ use Rattle.gnss_obs.specs.declared.system.System.{System}
 use Rattle.gnss_obs.specs.declared.system.System.TheVariants.{Gps, Galileo}
 use Rattle.gnss_obs.specs.Satellites.{satellites as satellites_in}
 use Rattle.obs_epoch.specs.declared.cell.Cell.{Cell}
-use Rattle.obs_epoch.specs.Values.{PlanValue, EpochValue, Closed, Fits, cells_of, planned_of, satellites, has_value, is_written}
+use Rattle.obs_epoch.specs.Values.{PlanValue, EpochValue, Closed, Fits, same_values, cells_of, planned_of, satellites, has_value, is_written}
 use Rattle.obs_epoch.specs.Plans.{place_in}
-use Rattle.obs_epoch.specs.Reach.{IsGathered, AreGathered, IsGatheredEpoch, AreGatheredEpochs, TimesRise, same_place}
+use Rattle.obs_epoch.specs.Reach.{IsGathered, AreGathered, IsGatheredEpoch, AreGatheredEpochs, TimesRise, AreToldValues, same_place}
+use Rattle.std.specs.Ordering.{int_eq}
+use Rattle.std.proofs.lemmas.Bool.Decides.{Decides-int_eq}
+use Rattle.obs_epoch.specs.declared.cell.StationValues.{StationValues}
 use Rattle.rinex_file.specs.Texts.{HeaderLists}
-use Rattle.rinex_file.specs.Value.{Entry, Row, Seen, Stamped, numbers, written, no_entry, entry_of, is_of, entry_at, row_of, seen_among, seen_of, rows_of, stamped_of}
-use Rattle.rinex_file.specs.FileValues.{AreTexts, IsPlan, AreValues, IsTime, says, FitsColumns, IsEntry, IsRow, of_system, rank_of, IsSeen, AreSeen, IsStamped, time_of, IsFileValue}
+use Rattle.rinex_file.specs.Value.{Entry, Row, Seen, Stamped, numbers, written, no_entry, entry_of, is_of, entry_at, row_of, seen_among, seen_of, rows_of, change_from, stamped_behind, all_stamped}
+use Rattle.rinex_file.specs.FileValues.{AreTexts, IsPlan, AreValues, IsTime, says, FitsColumns, IsEntry, IsRow, of_system, rank_of, IsSeen, AreSeen, IsStamped, IsChange, AreChanges, changed_by, time_of, IsFileValue}
 use Rattle.rinex_file.specs.File.{gathered}
-use Rattle.rinex_file.specs.Gathered.{AreSignals, HasSatellite, epoch_of}
+use Rattle.rinex_file.specs.Gathered.{AreSignals, HasSatellite}
 use Rattle.rinex_file.proofs.Sent.{length-rows}
 
 -- ---- what holds of each
@@ -275,9 +278,8 @@ ranks_rise plan e =
 
 -- ---- epochs
 
-epoch_is : (plan : PlanValue) (c : Closed) → IsGatheredEpoch plan c → HasSatellite c → IsStamped (length plan.gps) (length plan.galileo) (stamped_of plan c.epoch)
-epoch_is plan c h some = record {
-  same = refl;
+epoch_is : (plan : PlanValue) (v : StationValues) (c : Closed) → IsGatheredEpoch plan c → HasSatellite c → IsStamped (length plan.gps) (length plan.galileo) (stamped_behind plan v c)
+epoch_is plan v c h some = record {
   time = h.time;
   rows = record {
     each = All-from_recursion (IsSeen (length plan.gps) (length plan.galileo)) (rows_of plan c.epoch Gps ++ rows_of plan c.epoch Galileo)
@@ -287,18 +289,62 @@ epoch_is plan c h some = record {
   some = subst (λ n. 0 < n) (sym (length-rows plan c.epoch)) some;
 }
 
-epochs_are : (plan : PlanValue) (es : List Closed) → AllByRecursion (IsGatheredEpoch plan) es → AllByRecursion HasSatellite es
-    → AllByRecursion (IsStamped (length plan.gps) (length plan.galileo)) (map (stamped_of plan) (map epoch_of es))
-epochs_are plan [] h k = tt
-epochs_are plan (e ∷ es) h k = (epoch_is plan e h.0 k.0, epochs_are plan es h.1 k.1)
+epochs_are : (plan : PlanValue) (v : StationValues) (es : List Closed) → AllByRecursion (IsGatheredEpoch plan) es → AllByRecursion HasSatellite es
+    → AllByRecursion (IsStamped (length plan.gps) (length plan.galileo)) (all_stamped plan v es)
+epochs_are plan v [] h k = tt
+epochs_are plan v (e ∷ es) h k = (epoch_is plan v e h.0 k.0, epochs_are plan e.values es h.1 k.1)
 
-later : (plan : PlanValue) (t : ℕ) (es : List Closed) → AllByRecursion (λ (f : Closed). t < f.epoch.time) es → AllByRecursion (λ u. t < u) (map time_of (map (stamped_of plan) (map epoch_of es)))
-later plan t [] h = tt
-later plan t (e ∷ es) h = (h.0, later plan t es h.1)
+later : (plan : PlanValue) (v : StationValues) (t : ℕ) (es : List Closed) → AllByRecursion (λ (f : Closed). t < f.epoch.time) es → AllByRecursion (λ u. t < u) (map time_of (all_stamped plan v es))
+later plan v t [] h = tt
+later plan v t (e ∷ es) h = (h.0, later plan e.values t es h.1)
 
-times_rise : (plan : PlanValue) (es : List Closed) → TimesRise es → Rise (map time_of (map (stamped_of plan) (map epoch_of es)))
-times_rise plan [] h = tt
-times_rise plan (e ∷ es) h = (later plan e.epoch.time es h.0, times_rise plan es h.1)
+times_rise : (plan : PlanValue) (v : StationValues) (es : List Closed) → TimesRise es → Rise (map time_of (all_stamped plan v es))
+times_rise plan v [] h = tt
+times_rise plan v (e ∷ es) h = (later plan e.values e.epoch.time es h.0, times_rise plan e.values es h.1)
+
+-- ---- station values
+
+same_self : (v : StationValues) → same_values v v ≡ true
+same_self v = rw ((Decides-int_eq v.x v.x).1 refl, (Decides-int_eq v.y v.y).1 refl, (Decides-int_eq v.z v.z).1 refl) (self v.height) where
+  self : (n : ℕ) → (n == n) ≡ true
+  self n = grind arith
+
+abbrev SameValues : StationValues → StationValues → Type 0
+SameValues v w = v ≡ w
+
+abbrev values_with : ℤ → ℤ → ℤ → ℕ → StationValues
+values_with x y z h = record { x = x; y = y; z = z; height = h }
+
+int_same : (a b : ℤ) → int_eq a b ≡ true → a ≡ b
+int_same a b h = (Decides-int_eq a b).0 h
+
+all_same : (a b c d e f : ℤ) (m n : ℕ) → a ≡ b → c ≡ d → e ≡ f → m ≡ n → SameValues (values_with a c e m) (values_with b d f n)
+all_same a b c d e f m n p q r s = ap (λ t. values_with t c e m) p ∙ ap (λ t. values_with b t e m) q ∙ ap (λ t. values_with b d t m) r ∙ ap (values_with b d f) s
+
+same_are : (v w : StationValues) → same_values v w ≡ true → SameValues v w
+same_are v w h =
+    let both_z = both (int_eq v.x w.x && int_eq v.y w.y && int_eq v.z w.z) (v.height == w.height) h in
+    let both_y = both (int_eq v.x w.x && int_eq v.y w.y) (int_eq v.z w.z) both_z.0 in
+    let both_x = both (int_eq v.x w.x) (int_eq v.y w.y) both_y.0 in
+    all_same v.x w.x v.y w.y v.z w.z v.height w.height (int_same v.x w.x both_x.0) (int_same v.y w.y both_x.1) (int_same v.z w.z both_y.1) (same_index v.height w.height both_z.1)
+
+values_fit : (v : StationValues) → AreToldValues v → AreValues v
+values_fit v h = record { x = h.x; y = h.y; z = h.z; height = h.height }
+
+changes : (v w : StationValues) → AreToldValues w → IsChange v (change_from v w) × (changed_by v (change_from v w) ≡ w)
+changes v w h = by (same_values v w) refl where
+  by : (b : Bool) → same_values v w ≡ b → IsChange v (if b then None else Some w) × (changed_by v (if b then None else Some w) ≡ w)
+  by true e = (tt, same_are v w e)
+  by false e = ((values_fit w h, λ same. absurd (let is : same_values v w ≡ true = ap (same_values v) same ∙ same_self v in grind (arith, is, e))), refl)
+
+changes_are : (plan : PlanValue) (v : StationValues) (es : List Closed) → AllByRecursion (IsGatheredEpoch plan) es → AreChanges v (all_stamped plan v es)
+changes_are plan v [] h = tt
+changes_are plan v (e ∷ es) h =
+    let c = changes v e.values h.0.values in
+    (c.0, subst (λ w. AreChanges w (all_stamped plan e.values es)) (sym c.1) (changes_are plan e.values es h.1))
+
+first_same : (v : StationValues) → change_from v v ≡ None
+first_same v = ap (λ (b : Bool). if b then None else Some v) (same_self v)
 
 -- where a satellite is written a signal is planned
 planned_by : (gps galileo : ℕ) (rows : List Seen) → AllByRecursion (IsSeen gps galileo) rows → 0 < length rows → 0 < gps + galileo
@@ -309,7 +355,7 @@ planned_by gps galileo (r ∷ rows) h some = by r.system h.0.planned where
   by Galileo k = omega (arith, k)
 
 pub gathered_file : (texts : HeaderLists) (plan : PlanValue) (e : Closed) (es : List Closed) → AreTexts texts → AreSignals plan → AreGatheredEpochs plan (e ∷ es)
-    → AllByRecursion HasSatellite (e ∷ es) → IsFileValue (gathered texts plan e.values (map epoch_of (e ∷ es)))
+    → AllByRecursion HasSatellite (e ∷ es) → IsFileValue (gathered texts plan e.values (e ∷ es))
 gathered_file texts plan e es x p h some =
     let rows = rows_of plan e.epoch Gps ++ rows_of plan e.epoch Galileo in
     let seen = all_append (IsSeen (length plan.gps) (length plan.galileo)) (rows_of plan e.epoch Gps) (rows_of plan e.epoch Galileo)
@@ -321,8 +367,10 @@ gathered_file texts plan e es x p h some =
         apart = p.apart;
         some = planned_by (length plan.gps) (length plan.galileo) rows seen (subst (λ n. 0 < n) (sym (length-rows plan e.epoch)) some.0);
       };
-      values = record { x = h.each.0.values.x; y = h.each.0.values.y; z = h.each.0.values.z; height = h.each.0.values.height };
+      values = values_fit e.values h.each.0.values;
       some = omega arith;
-      epochs = All-from_recursion (IsStamped (length plan.gps) (length plan.galileo)) (map (stamped_of plan) (map epoch_of (e ∷ es))) (epochs_are plan (e ∷ es) h.each some);
-      rising = rises (map time_of (map (stamped_of plan) (map epoch_of (e ∷ es)))) (times_rise plan (e ∷ es) h.rise);
+      epochs = All-from_recursion (IsStamped (length plan.gps) (length plan.galileo)) (all_stamped plan e.values (e ∷ es)) (epochs_are plan e.values (e ∷ es) h.each some);
+      rising = rises (map time_of (all_stamped plan e.values (e ∷ es))) (times_rise plan e.values (e ∷ es) h.rise);
+      first = first_same e.values;
+      changes = changes_are plan e.values (e ∷ es) h.each;
     }

@@ -1,24 +1,25 @@
 -- Where a reading goes on from the header to the epochs, and where it ends.
-use Rattle.std.proofs.Common.{arith, ◌≡◌, ◌↔◌, ℕ, ◌<◌, List, [], ◌∷◌, ◌++◌, refl, sym, ap, subst, ◌∙◌, length, append-nil}
-use Rattle.std.specs.Prelude.{All, map, flat_map}
+use Rattle.std.proofs.Common.{arith, lit<, ◌≡◌, ◌↔◌, ℕ, zero, suc, ◌<◌, List, [], ◌∷◌, ◌++◌, refl, sym, ap, subst, ◌∙◌, length, drop, append-nil, Option, Some, None}
+use Rattle.std.specs.Prelude.{⊤, All, map, flat_map}
 use Rattle.std.proofs.lemmas.List.Elements.{All-head, All-nil}
 use Rattle.std.proofs.lemmas.List.{length-map}
 use Rattle.obs_epoch.specs.Dates.{civil_of}
+use Rattle.obs_epoch.specs.declared.cell.StationValues.{StationValues}
 use Rattle.rinex_file.specs.declared.section.Section.{Section}
 use Rattle.rinex_file.specs.declared.section.Section.TheVariants.{Version}
 use Rattle.rinex_file.specs.declared.due.Due.{Due}
-use Rattle.rinex_file.specs.declared.due.Due.TheVariants.{Header, Epoch, Satellite}
+use Rattle.rinex_file.specs.declared.due.Due.TheVariants.{Header, Epoch, EventPosition, EventHeight, EventEpoch, Satellite}
 use Rattle.rinex_file.specs.Value.{Seen, Stamped, FileValue}
-use Rattle.rinex_file.specs.FileValues.{IsFileValue, IsStamped, time_of}
+use Rattle.rinex_file.specs.FileValues.{IsFileValue, IsStamped, AreChanges, IsFirstSame, time_of}
 use Rattle.rinex_file.specs.Header.{header_lines}
 use Rattle.rinex_file.specs.Lines.{epoch_line, seen_line}
-use Rattle.rinex_file.specs.File.{stamped_lines, change_lines, file_lines}
-use Rattle.rinex_file.specs.Progress.{Progress, Known, Shown, IsShown, shown_lines, shown_of, IsHeaderLeft, IsHeaderRead, file_with, StartsAt, IsInHeader, IsAt, IsBetween, IsWithin, GoesOn}
+use Rattle.rinex_file.specs.File.{stamped_lines, file_lines}
+use Rattle.rinex_file.specs.Progress.{Progress, Known, Shown, IsShown, shown_lines, shown_of, IsHeaderLeft, IsHeaderRead, file_with, StartsAt, IsInHeader, IsAt, IsBetween, IsInEvent, StandAt, IsWithin, GoesOn}
 use Rattle.rinex_file.specs.Sound.{AreRead, IsBegun, IsSoundAt, IsSound}
 use Rattle.rinex_file.specs.declared.course.Course.{Course}
 use Rattle.rinex_file.specs.Course.{History, StandsBehind, progress_at}
 use Rattle.rinex_file.proofs.Sections.{rows_at, emit}
-use Rattle.rinex_file.proofs.BodySteps.{All-midst, plain_lines}
+use Rattle.rinex_file.proofs.BodySteps.{lines_with, lines_are}
 
 -- what is shown of a file value may be shown
 pub shown_is : (v : FileValue) (e : Stamped) (es : List Stamped) → v.epochs ≡ e ∷ es → IsFileValue v → IsShown (shown_of v e.time)
@@ -43,7 +44,7 @@ lines_by_first v e es same = ap (Rattle.rinex_file.specs.File.lines_of v.texts v
 
 -- what was read, with another header and another line due
 abbrev pub known_as : Progress → Known → Due → Progress
-known_as s k due = record { due = due; known = k; epochs = s.epochs; time = s.time; rows = s.rows }
+known_as s k due = record { due = due; known = k; epochs = s.epochs; change = s.change; time = s.time; rows = s.rows }
 
 -- what follows where a line of the header is due and a line does
 pub record HeaderNext (s : Progress) (section : Section) (row : ℕ) (v : FileValue) (line : List ℕ) (left : List (List ℕ)) : Type 0 where
@@ -178,6 +179,8 @@ sound_start s k shown none =
       epochs = subst (All (IsStamped (length k.shown.plan.gps) (length k.shown.plan.galileo))) (sym none) (All-nil (IsStamped (length k.shown.plan.gps) (length k.shown.plan.galileo)));
       rising = λ i h. absurd (let size = ap length none in let same = length-map s.epochs time_of in omega (arith, h, size, same));
       starts = subst (StartsAt k.shown.first) (sym none) tt;
+      first = subst IsFirstSame (sym none) tt;
+      changes = subst (AreChanges k.shown.values) (sym none) tt;
     }
 
 pub sound_header : (s : Progress) (section : Section) (row : ℕ) → s.due ≡ Header section row → IsSound s → (s.epochs ≡ []) × (s.rows ≡ [])
@@ -236,15 +239,24 @@ epoch_unfinished s n due sound v (is, at) =
     let all : AreRead s × IsBegun s × (0 < n) = subst (λ d. IsSoundAt s d) due sound in
     no_rows_left n here.more here.others all.2 here.count here.rest
 
+-- a line of an event or of its epoch is missing
+pub event_unfinished : (s : Progress) (k : ℕ) (Show : StationValues → Type 0) → k < 4 → (v : FileValue) → IsInEvent s k Show v [] → ⊥
+event_unfinished s k Show few v here =
+    none_behind k here.next here.values (flat_map stamped_lines here.others) few (here.rest ∙ ap (λ l. drop k l ++ flat_map stamped_lines here.others) (lines_are here.next (Some here.values) here.change)) where
+      none_behind : (k : ℕ) (e : Stamped) (w : StationValues) (others : List (List ℕ)) → k < 4 → [] ≡ drop k (lines_with (Some w) e) ++ others → ⊥
+      none_behind zero e w others few h = cc
+      none_behind (suc zero) e w others few h = cc
+      none_behind (suc (suc zero)) e w others few h = cc
+      none_behind (suc (suc (suc zero))) e w others few h = cc
+      none_behind (suc (suc (suc (suc k)))) e w others few h = omega (arith, few)
+
 -- no epoch is left where no line is
 none_left : (s : Progress) (v : FileValue) (others : List Stamped) → IsFileValue v → v ≡ file_with s (s.epochs ++ others) → [] ≡ flat_map stamped_lines others → others ≡ []
 none_left s v [] is value rest = refl
-none_left s v (e ∷ es) is value rest =
-    let valid : IsFileValue (file_with s (s.epochs ++ e ∷ es)) = subst IsFileValue value is in
-    let one = All-midst (IsStamped (length s.known.shown.plan.gps) (length s.known.shown.plan.galileo)) s.epochs es e valid.epochs in
-    let text : [] ≡ (epoch_line (civil_of e.time) (length e.rows) ∷ map seen_line e.rows) ++ flat_map stamped_lines es =
-    rest ∙ ap (λ l. l ++ flat_map stamped_lines es) (plain_lines e one.same) in
-    cc
+none_left s v (e ∷ es) is value rest = absurd (by e.change refl) where
+  by : (c : Option StationValues) → e.change ≡ c → ⊥
+  by None h = let text : [] ≡ lines_with None e ++ flat_map stamped_lines es = rest ∙ ap (λ l. l ++ flat_map stamped_lines es) (lines_are e None h) in cc
+  by (Some w) h = let text : [] ≡ lines_with (Some w) e ++ flat_map stamped_lines es = rest ∙ ap (λ l. l ++ flat_map stamped_lines es) (lines_are e (Some w) h) in cc
 
 -- what was read whole is the only file that goes on without a line
 pub only_file : (s : Progress) → s.due ≡ Epoch → (v : FileValue) → GoesOn s v [] → v ≡ file_with s s.epochs
@@ -277,6 +289,8 @@ file_read s due sound some =
       some = some;
       epochs = read.0.epochs;
       rising = read.0.rising;
+      first = read.0.first;
+      changes = read.0.changes;
     }
 
 pub goes_on : (s : Progress) → s.due ≡ Epoch → IsSound s → 0 < length s.epochs → GoesOn s (file_with s s.epochs) []
@@ -298,9 +312,16 @@ no_epochs : (es : List Stamped) (n : ℕ) → n ≡ length es → (0 < n → ⊥
 no_epochs [] n size never = refl
 no_epochs (e ∷ es) n size never = absurd (never (omega (arith, size)))
 
+at_due : (s : Progress) (d : Due) → s.due ≡ d → (v : FileValue) (left : List (List ℕ)) → GoesOn s v left → IsAt s d v left
+unfolding GoesOn
+at_due s d due v left on = subst (λ d. IsAt s d v left) due on.1
+
 unfinished_at : (c : Course) (h : History) (due : Due) → c.due ≡ due → StandsBehind c h → ((due ≡ Epoch) × (0 < c.epochs) → ⊥) → (v : FileValue) → GoesOn (progress_at c h) v [] → ⊥
 unfinished_at c h (Header section row) same stands never v on = header_unfinished (progress_at c h) section row same v on
 unfinished_at c h Epoch same stands never v on = no_file (progress_at c h) same (no_epochs h.epochs c.epochs stands.epochs (λ some. never (refl, some))) v on
+unfinished_at c h EventPosition same stands never v on = event_unfinished (progress_at c h) 1 (λ w. ⊤) (lit< tt) v (at_due (progress_at c h) EventPosition same v [] on)
+unfinished_at c h (EventHeight x y z) same stands never v on = event_unfinished (progress_at c h) 2 (StandAt x y z) (lit< tt) v (at_due (progress_at c h) (EventHeight x y z) same v [] on)
+unfinished_at c h (EventEpoch w) same stands never v on = event_unfinished (progress_at c h) 3 (λ x. x ≡ w) (lit< tt) v (at_due (progress_at c h) (EventEpoch w) same v [] on)
 unfinished_at c h (Satellite n) same stands never v on = epoch_unfinished (progress_at c h) n same stands.sound v on
 
 -- lines are missing

@@ -355,7 +355,7 @@ refuse_version k line r h is before e =
 
 -- ---- a coordinate as its bits have it
 
-coordinate_same : (z : ℤ) → IsCoordinate z → to_z w64 (of_z w64 z) ≡ z
+pub coordinate_same : (z : ℤ) → IsCoordinate z → to_z w64 (of_z w64 z) ≡ z
 coordinate_same z is = let fits : FitsSigned w64 z = fits_of z is.0 is.1 in to_z-of_z w64 z fits where
   fits_of : (z : ℤ) → neg_ℤ (pos 137_438_953_472) ≤ℤ z → z ≤ℤ pos 137_438_953_471 → FitsSigned w64 z
   fits_of z low high = omega (arith, ints)

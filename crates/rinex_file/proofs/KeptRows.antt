@@ -1,12 +1,12 @@
--- Epochs, satellites and entries that are kept in three lists, and one more of each.
-use Rattle.std.proofs.Common.{arith, ◌≡◌, ◌∙◌, sym, ap, subst, refl, ℕ, zero, suc, ◌+◌, ◌-◌, ◌<◌, ◌≤◌, List, [], ◌∷◌, ◌++◌, length, take, drop, get_or, append-nil}
-use Rattle.std.specs.Prelude.{All, map, flat_map}
+-- Epochs, changes of station values, satellites and entries that are kept in lists, and one more of each.
+use Rattle.std.proofs.Common.{arith, ◌≡◌, ◌∙◌, sym, ap, subst, refl, ℕ, zero, suc, ◌+◌, ◌-◌, ◌<◌, ◌≤◌, List, [], ◌∷◌, ◌++◌, length, length-append, take, drop, get_or, append_assoc, append-nil, Bool, true, false, Option, Some, None}
+use Rattle.std.specs.Prelude.{All, map, flat_map, if◌then◌else◌, is_some, option_to_list}
 use Rattle.std.proofs.Math.Seq.{drop-cons}
 use Rattle.std.proofs.Math.ListN.{drop_of_length-le}
 use Rattle.std.proofs.lemmas.List.Elements.{All-head, All-tail, All-take, All-drop}
 use Rattle.rinex_file.specs.Numbers.{joined}
 use Rattle.rinex_file.specs.Lines.{seen_line}
-use Rattle.rinex_file.specs.File.{stamped_lines}
+use Rattle.rinex_file.specs.File.{change_lines, stamped_lines}
 use Rattle.rinex_file.proofs.Sent.{joined-append}
 use Rattle.rinex_file.proofs.Appended.{passed}
 use Rattle.std.specs.List.{sum_by}
@@ -16,8 +16,9 @@ use Rattle.std.proofs.lemmas.List.Sums.{sum_by-append, sum_by-cons, sum_by-take-
 use Rattle.rinex_file.specs.declared.kept.KeptRow.{KeptRow}
 use Rattle.rinex_file.specs.declared.kept.KeptEpoch.{KeptEpoch}
 use Rattle.rinex_file.specs.Value.{Entry, Seen, Stamped, seen_with}
-use Rattle.rinex_file.specs.Course.{History, epoch_at, with_seen, with_epoch}
-use Rattle.rinex_file.specs.Kept.{row_at, rows_of, epochs_with, epochs_of, row_count, entry_count, HasRoom, kept_history, AreKept}
+use Rattle.obs_epoch.specs.declared.cell.StationValues.{StationValues}
+use Rattle.rinex_file.specs.Course.{History, changes_of, epoch_at, events_in, with_seen, with_epoch}
+use Rattle.rinex_file.specs.Kept.{row_at, rows_of, change_at, changes_after, epochs_with, epochs_of, row_count, entry_count, change_count, HasRoom, kept_history, AreKept}
 
 no_items : {X : Type 0} (xs : List X) → 0 ≡ length xs → xs ≡ []
 no_items [] e = refl
@@ -46,30 +47,68 @@ pub length-rows_of : (rows : List KeptRow) (all : List Entry) → length (rows_o
 length-rows_of [] all = refl
 length-rows_of (x ∷ xs) all = ap suc (length-rows_of xs (drop x.entries all))
 
+-- ---- changes of station values
+
+abbrev pub one_if : Bool → ℕ
+one_if b = if b then 1 else 0
+
+-- what an epoch takes of the changes, where there are enough
+pub record TakesChange (b : Bool) (changes more : List StationValues) : Type 0 where
+  pub same : change_at b (changes ++ more) ≡ change_at b changes
+  pub after : changes_after b (changes ++ more) ≡ changes_after b changes ++ more
+  pub size : length (changes_after b changes) + one_if b ≡ length changes
+
+pub takes_change : (b : Bool) (changes more : List StationValues) → one_if b ≤ length changes → TakesChange b changes more
+takes_change false changes more h = record { same = refl; after = refl; size = omega arith }
+takes_change true [] more h = absurd (omega (arith, h))
+takes_change true (v ∷ vs) more h = record { same = refl; after = refl; size = omega arith }
+
+last_change : (b : Bool) (c : Option StationValues) → b ≡ is_some c → change_at b (option_to_list c) ≡ c
+last_change b None e = ap (λ x. change_at x []) e
+last_change b (Some v) e = ap (λ x. change_at x (v ∷ [])) e
+
+pub count_changes : (e : KeptEpoch) (es : List KeptEpoch) → change_count (e ∷ es) ≡ one_if e.changed + change_count es
+count_changes e es = sum_by-cons (λ (x : KeptEpoch). one_if x.changed) e es
+
 -- epochs don't change by satellites behind theirs
-pub epochs_same : (epochs : List KeptEpoch) (rows new : List Seen) → row_count epochs ≤ length rows → epochs_with epochs (rows ++ new) ≡ epochs_with epochs rows
-epochs_same [] rows new few = refl
-epochs_same (e ∷ es) rows new few =
+pub epochs_same : (epochs : List KeptEpoch) (changes : List StationValues) (rows new : List Seen) → row_count epochs ≤ length rows → epochs_with epochs changes (rows ++ new) ≡ epochs_with epochs changes rows
+epochs_same [] changes rows new few = refl
+epochs_same (e ∷ es) changes rows new few =
+    let c = change_at e.changed changes in
+    let cs = changes_after e.changed changes in
     let sum : row_count (e ∷ es) ≡ e.rows + row_count es = sum_by-cons (λ (e : KeptEpoch). e.rows) e es in
     let here : e.rows ≤ length rows = omega (arith, few, sum) in
     let left : length (drop e.rows rows) ≡ length rows - e.rows = length-drop e.rows rows in
-    ap (λ l. epoch_at e.time l ∷ epochs_with es (drop e.rows (rows ++ new))) (take-append-le e.rows rows new here)
-    ∙ ap (λ l. epoch_at e.time (take e.rows rows) ∷ epochs_with es l) (drop-append-le e.rows rows new here)
-    ∙ ap (λ l. epoch_at e.time (take e.rows rows) ∷ l) (epochs_same es (drop e.rows rows) new (omega (arith, few, left, sum)))
+    ap (λ l. epoch_at c e.time l ∷ epochs_with es cs (drop e.rows (rows ++ new))) (take-append-le e.rows rows new here)
+    ∙ ap (λ l. epoch_at c e.time (take e.rows rows) ∷ epochs_with es cs l) (drop-append-le e.rows rows new here)
+    ∙ ap (λ l. epoch_at c e.time (take e.rows rows) ∷ l) (epochs_same es cs (drop e.rows rows) new (omega (arith, few, left, sum)))
 
 -- ---- one epoch more
 
 behind_one : (n m k : ℕ) (rows : List Seen) → k ≡ m + n → drop n (drop m rows) ≡ drop k rows
 behind_one n m k rows sum = drop-drop n m rows ∙ ap (λ j. drop j rows) (sym sum)
 
-pub epochs_more : (epochs : List KeptEpoch) (rows : List Seen) (e : KeptEpoch) → row_count epochs + e.rows ≡ length rows
-    → epochs_with (epochs ++ e ∷ []) rows ≡ epochs_with epochs rows ++ epoch_at e.time (drop (row_count epochs) rows) ∷ []
-epochs_more [] rows e size = ap (λ l. epoch_at e.time l ∷ []) (all_of rows e.rows (omega (arith, size)))
-epochs_more (x ∷ xs) rows e size =
+pub epochs_more : (epochs : List KeptEpoch) (changes : List StationValues) (c : Option StationValues) (rows : List Seen) (e : KeptEpoch) → change_count epochs ≡ length changes → e.changed ≡ is_some c
+    → row_count epochs + e.rows ≡ length rows
+    → epochs_with (epochs ++ e ∷ []) (changes ++ option_to_list c) rows ≡ epochs_with epochs changes rows ++ epoch_at c e.time (drop (row_count epochs) rows) ∷ []
+epochs_more [] changes c rows e taken is size =
+    let none : changes ++ option_to_list c ≡ option_to_list c = ap (λ l. l ++ option_to_list c) (no_items changes taken) in
+    ap (λ l. epoch_at (change_at e.changed l) e.time (take e.rows rows) ∷ []) none
+    ∙ ap (λ x. epoch_at x e.time (take e.rows rows) ∷ []) (last_change e.changed c is)
+    ∙ ap (λ l. epoch_at c e.time l ∷ []) (all_of rows e.rows (omega (arith, size)))
+epochs_more (x ∷ xs) changes c rows e taken is size =
+    let count = count_changes x xs in
+    let takes = takes_change x.changed changes (option_to_list c) (omega (arith, count, taken)) in
+    let behind = takes.size in
+    let own = change_at x.changed changes in
+    let cs = changes_after x.changed changes in
     let sum : row_count (x ∷ xs) ≡ x.rows + row_count xs = sum_by-cons (λ (e : KeptEpoch). e.rows) x xs in
     let left : length (drop x.rows rows) ≡ length rows - x.rows = length-drop x.rows rows in
-    ap (λ l. epoch_at x.time (take x.rows rows) ∷ l)
-    (epochs_more xs (drop x.rows rows) e (omega (arith, size, left, sum)) ∙ ap (λ l. epochs_with xs (drop x.rows rows) ++ epoch_at e.time l ∷ []) (behind_one (row_count xs) x.rows (row_count (x ∷ xs)) rows sum))
+    ap (λ o. epoch_at o x.time (take x.rows rows) ∷ epochs_with (xs ++ e ∷ []) (changes_after x.changed (changes ++ option_to_list c)) (drop x.rows rows)) takes.same
+    ∙ ap (λ l. epoch_at own x.time (take x.rows rows) ∷ epochs_with (xs ++ e ∷ []) l (drop x.rows rows)) takes.after
+    ∙ ap (λ l. epoch_at own x.time (take x.rows rows) ∷ l)
+    (epochs_more xs cs c (drop x.rows rows) e (omega (arith, taken, count, behind)) is (omega (arith, size, left, sum))
+    ∙ ap (λ l. epochs_with xs cs (drop x.rows rows) ++ epoch_at c e.time l ∷ []) (behind_one (row_count xs) x.rows (row_count (x ∷ xs)) rows sum))
 
 pub none_open : (epochs : List KeptEpoch) (rows : List Seen) → length rows ≡ row_count epochs → drop (row_count epochs) rows ≡ []
 none_open epochs rows size = no_items (drop (row_count epochs) rows) (let left = length-drop (row_count epochs) rows in omega (arith, size, left))
@@ -82,36 +121,58 @@ history epochs rows = record { epochs = epochs; rows = rows }
 same_history : (a b : List Stamped) (x y : List Seen) → a ≡ b → x ≡ y → history a x ≡ history b y
 same_history a b x y e f = ap (λ l. history l x) e ∙ ap (history b) f
 
-module _ (epochs : List KeptEpoch) (rows : List KeptRow) (all : List Entry) (n : ℕ) (kept : AreKept epochs rows all n) where
+module _ (epochs : List KeptEpoch) (changes : List StationValues) (rows : List KeptRow) (all : List Entry) (n : ℕ) (kept : AreKept epochs changes rows all n) where
   few : row_count epochs ≤ length (rows_of rows all)
   few = let size = length-rows_of rows all in let counted = kept.counted in omega (arith, size, counted)
 
   pub row_kept : (rows' : List KeptRow) (all' new : List Entry) (r : KeptRow) (seen : Seen) → rows' ≡ rows ++ r ∷ [] → all' ≡ all ++ new → r.entries ≡ length new
-      → seen_with r.system r.satellite new ≡ seen → kept_history epochs rows' all' ≡ with_seen (kept_history epochs rows all) seen
+      → seen_with r.system r.satellite new ≡ seen → kept_history epochs changes rows' all' ≡ with_seen (kept_history epochs changes rows all) seen
   row_kept rows' all' new r seen one more size same =
       let here : rows_of rows' all' ≡ rows_of rows all ++ seen ∷ [] =
       ap (λ l. rows_of l all') one ∙ ap (rows_of (rows ++ r ∷ [])) more ∙ rows_more rows all new r kept.taken size ∙ ap (λ s. rows_of rows all ++ s ∷ []) same in
-      ap (λ l. history (epochs_with epochs l) (drop (row_count epochs) l)) here
-      ∙ same_history _ _ _ _ (epochs_same epochs (rows_of rows all) (seen ∷ []) few) (drop-append-le (row_count epochs) (rows_of rows all) (seen ∷ []) few)
+      ap (λ l. history (epochs_with epochs changes l) (drop (row_count epochs) l)) here
+      ∙ same_history _ _ _ _ (epochs_same epochs changes (rows_of rows all) (seen ∷ []) few) (drop-append-le (row_count epochs) (rows_of rows all) (seen ∷ []) few)
 
-  pub epoch_kept : (epochs' : List KeptEpoch) (e : KeptEpoch) → epochs' ≡ epochs ++ e ∷ [] → e.rows ≡ n → kept_history epochs' rows all ≡ with_epoch (kept_history epochs rows all) e.time
-  epoch_kept epochs' e one size =
+  pub epoch_kept : (epochs' : List KeptEpoch) (changes' : List StationValues) (c : Option StationValues) (e : KeptEpoch) → epochs' ≡ epochs ++ e ∷ [] → changes' ≡ changes ++ option_to_list c → e.changed ≡ is_some c
+      → e.rows ≡ n → kept_history epochs' changes' rows all ≡ with_epoch (kept_history epochs changes rows all) c e.time
+  epoch_kept epochs' changes' c e one more is size =
       let long = length-rows_of rows all in
       let counted = kept.counted in
       let whole : row_count epochs + e.rows ≡ length (rows_of rows all) = omega (arith, long, counted, size) in
       let count : row_count (epochs ++ e ∷ []) ≡ row_count epochs + (0 + e.rows) = sum_by-append _ epochs (e ∷ []) in
       let none : length (rows_of rows all) ≡ row_count (epochs ++ e ∷ []) = omega (arith, whole, count) in
-      ap (λ l. history (epochs_with l (rows_of rows all)) (drop (row_count l) (rows_of rows all))) one
-      ∙ same_history _ _ _ _ (epochs_more epochs (rows_of rows all) e whole) (none_open (epochs ++ e ∷ []) (rows_of rows all) none)
+      ap (λ l. history (epochs_with l changes' (rows_of rows all)) (drop (row_count l) (rows_of rows all))) one
+      ∙ ap (λ l. history (epochs_with (epochs ++ e ∷ []) l (rows_of rows all)) (drop (row_count (epochs ++ e ∷ [])) (rows_of rows all))) more
+      ∙ same_history _ _ _ _ (epochs_more epochs changes c (rows_of rows all) e kept.changed is whole) (none_open (epochs ++ e ∷ []) (rows_of rows all) none)
+
+  pub changes_kept : (epochs' : List KeptEpoch) (changes' : List StationValues) (c : Option StationValues) (e : KeptEpoch) → epochs' ≡ epochs ++ e ∷ [] → changes' ≡ changes ++ option_to_list c → e.changed ≡ is_some c
+      → change_count epochs' ≡ length changes'
+  changes_kept epochs' changes' c e one more is =
+      let taken = kept.changed in
+      let size : length changes' ≡ length changes + length (option_to_list c) = ap length more ∙ length-append changes (option_to_list c) in
+      let last : one_if e.changed ≡ length (option_to_list c) = ap one_if is ∙ either c in
+      let count : change_count epochs' ≡ change_count epochs + (0 + one_if e.changed) = ap (λ l. change_count l) one ∙ sum_by-append _ epochs (e ∷ []) in
+      omega (arith, taken, size, last, count) where
+        either : (c : Option StationValues) → one_if (is_some c) ≡ length (option_to_list c)
+        either None = refl
+        either (Some v) = refl
+
+  -- the epoch takes the satellites that were open
+  pub close_kept : (epochs' : List KeptEpoch) (changes' : List StationValues) (c : Option StationValues) (e : KeptEpoch) → epochs' ≡ epochs ++ e ∷ [] → changes' ≡ changes ++ option_to_list c → e.changed ≡ is_some c
+      → e.rows ≡ n → AreKept epochs' changes' rows all 0
+  close_kept epochs' changes' c e one more is size =
+      let counted = kept.counted in
+      let count : row_count epochs' ≡ row_count epochs + (0 + e.rows) = ap (λ l. row_count l) one ∙ sum_by-append _ epochs (e ∷ []) in
+      record { taken = kept.taken; counted = omega (arith, counted, count, size); changed = changes_kept epochs' changes' c e one more is }
 
   -- no satellite is open where the history has none
-  pub none_begun : drop (row_count epochs) (rows_of rows all) ≡ [] → AreKept epochs rows all 0
+  pub none_begun : drop (row_count epochs) (rows_of rows all) ≡ [] → AreKept epochs changes rows all 0
   none_begun none =
       let left : length (drop (row_count epochs) (rows_of rows all)) ≡ length (rows_of rows all) - row_count epochs = length-drop (row_count epochs) (rows_of rows all) in
       let zero : length (drop (row_count epochs) (rows_of rows all)) ≡ 0 = ap length none in
       let long = length-rows_of rows all in
       let counted = kept.counted in
-      record { taken = kept.taken; counted = omega (arith, left, zero, long, counted) }
+      record { taken = kept.taken; counted = omega (arith, left, zero, long, counted); changed = kept.changed }
 
 -- ---- the satellites that are left
 
@@ -161,27 +222,48 @@ rows_passed rows i rest text whole all before =
 
 -- ---- the numbers of epochs and satellites
 
-pub length-epochs_with : (epochs : List KeptEpoch) (rows : List Seen) → length (epochs_with epochs rows) ≡ length epochs
-length-epochs_with [] rows = refl
-length-epochs_with (e ∷ es) rows = ap suc (length-epochs_with es (drop e.rows rows))
+pub length-epochs_with : (epochs : List KeptEpoch) (changes : List StationValues) (rows : List Seen) → length (epochs_with epochs changes rows) ≡ length epochs
+length-epochs_with [] changes rows = refl
+length-epochs_with (e ∷ es) changes rows = ap suc (length-epochs_with es (changes_after e.changed changes) (drop e.rows rows))
 
-all_rows : (epochs : List KeptEpoch) (rows : List Seen) → row_count epochs ≤ length rows → sum_by (λ e. length e.rows) (epochs_with epochs rows) ≡ row_count epochs
-all_rows [] rows few = refl
-all_rows (e ∷ es) rows few =
+all_events : (epochs : List KeptEpoch) (changes : List StationValues) (rows : List Seen) → change_count epochs ≡ length changes → events_in (epochs_with epochs changes rows) ≡ length changes
+all_events [] changes rows taken = taken
+all_events (e ∷ es) changes rows taken =
+    let count = count_changes e es in
+    let takes = takes_change e.changed changes [] (omega (arith, count, taken)) in
+    let size = takes.size in
+    let rest = all_events es (changes_after e.changed changes) (drop e.rows rows) (omega (arith, taken, count, size)) in
+    let own = of_one e.changed changes (omega (arith, count, taken)) in
+    let both : events_in (epochs_with (e ∷ es) changes rows) ≡ changes_of (change_at e.changed changes) + events_in (epochs_with es (changes_after e.changed changes) (drop e.rows rows)) =
+    sum_by-cons (λ (x : Stamped). changes_of x.change) (epoch_at (change_at e.changed changes) e.time (take e.rows rows)) (epochs_with es (changes_after e.changed changes) (drop e.rows rows)) in
+    omega (arith, both, rest, own, size) where
+      of_one : (b : Bool) (vs : List StationValues) → one_if b ≤ length vs → changes_of (change_at b vs) ≡ one_if b
+      of_one false vs h = refl
+      of_one true [] h = absurd (omega (arith, h))
+      of_one true (v ∷ vs) h = refl
+
+pub events_counted : (epochs : List KeptEpoch) (changes : List StationValues) (rows : List KeptRow) (all : List Entry) → AreKept epochs changes rows all 0 → length changes ≡ events_in (epochs_of epochs changes rows all)
+events_counted epochs changes rows all kept = sym (all_events epochs changes (rows_of rows all) kept.changed)
+
+all_rows : (epochs : List KeptEpoch) (changes : List StationValues) (rows : List Seen) → row_count epochs ≤ length rows → sum_by (λ e. length e.rows) (epochs_with epochs changes rows) ≡ row_count epochs
+all_rows [] changes rows few = refl
+all_rows (e ∷ es) changes rows few =
+    let c = change_at e.changed changes in
+    let cs = changes_after e.changed changes in
     let sum : row_count (e ∷ es) ≡ e.rows + row_count es = sum_by-cons (λ (x : KeptEpoch). x.rows) e es in
     let here : length (take e.rows rows) ≡ e.rows = length-take-le e.rows rows (omega (arith, few, sum)) in
     let left : length (drop e.rows rows) ≡ length rows - e.rows = length-drop e.rows rows in
-    let rest = all_rows es (drop e.rows rows) (omega (arith, few, sum, left)) in
-    let both : sum_by (λ x. length x.rows) (epochs_with (e ∷ es) rows) ≡ length (take e.rows rows) + sum_by (λ x. length x.rows) (epochs_with es (drop e.rows rows)) =
-    sum_by-cons (λ (x : Stamped). length x.rows) (epoch_at e.time (take e.rows rows)) (epochs_with es (drop e.rows rows)) in
+    let rest = all_rows es cs (drop e.rows rows) (omega (arith, few, sum, left)) in
+    let both : sum_by (λ x. length x.rows) (epochs_with (e ∷ es) changes rows) ≡ length (take e.rows rows) + sum_by (λ x. length x.rows) (epochs_with es cs (drop e.rows rows)) =
+    sum_by-cons (λ (x : Stamped). length x.rows) (epoch_at c e.time (take e.rows rows)) (epochs_with es cs (drop e.rows rows)) in
     omega (arith, both, here, rest, sum)
 
-pub rows_counted : (epochs : List KeptEpoch) (rows : List KeptRow) (all : List Entry) → AreKept epochs rows all 0
-    → length rows ≡ sum_by (λ e. length e.rows) (epochs_of epochs rows all)
-rows_counted epochs rows all kept =
+pub rows_counted : (epochs : List KeptEpoch) (changes : List StationValues) (rows : List KeptRow) (all : List Entry) → AreKept epochs changes rows all 0
+    → length rows ≡ sum_by (λ e. length e.rows) (epochs_of epochs changes rows all)
+rows_counted epochs changes rows all kept =
     let long = length-rows_of rows all in
     let counted = kept.counted in
-    let same = all_rows epochs (rows_of rows all) (omega (arith, long, counted)) in
+    let same = all_rows epochs changes (rows_of rows all) (omega (arith, long, counted)) in
     omega (arith, same, counted)
 
 -- ---- the epochs that are left
@@ -201,24 +283,35 @@ drop_rows (suc n) (r ∷ rows) all =
     let sum : entry_count (r ∷ take n rows) ≡ r.entries + entry_count (take n rows) = sum_by-cons (λ (x : KeptRow). x.entries) r (take n rows) in
     drop_rows n rows (drop r.entries all) ∙ ap (rows_of (drop n rows)) (sym (ap (λ (k : ℕ). drop k all) sum ∙ drop_more (entry_count (take n rows)) r.entries all))
 
+drop_changes : (b : Bool) (k : ℕ) (changes : List StationValues) → changes_after b (drop k changes) ≡ drop (k + one_if b) changes
+drop_changes false k changes = ap (λ (n : ℕ). drop n changes) (same k) where
+  same : (k : ℕ) → k ≡ k + 0
+  same k = omega arith
+drop_changes true k changes = drop-drop 1 k changes
+
 -- what the next epoch takes
-pub record NextEpoch (epochs : List KeptEpoch) (rows : List KeptRow) (all : List Entry) (i row entry : ℕ) (e : KeptEpoch) : Type 0 where
+pub record NextEpoch (epochs : List KeptEpoch) (changes : List StationValues) (rows : List KeptRow) (all : List Entry) (i row entry change : ℕ) (e : KeptEpoch) : Type 0 where
   pub rows_fit : row + e.rows ≤ length rows
   pub entries_fit : entry + entry_count (take e.rows (drop row rows)) ≤ length all
   pub room : All HasRoom (rows_of (take e.rows (drop row rows)) (drop entry all))
   pub others : All HasRoom (rows_of (drop (row + e.rows) rows) (drop (entry + entry_count (take e.rows (drop row rows))) all))
   pub row_sum : (row + e.rows) + row_count (drop (i + 1) epochs) ≡ length rows
   pub entry_sum : (entry + entry_count (take e.rows (drop row rows))) + entry_count (drop (row + e.rows) rows) ≡ length all
-  pub shown : epochs_of (drop i epochs) (drop row rows) (drop entry all) ≡ epoch_at e.time (rows_of (take e.rows (drop row rows)) (drop entry all))
-      ∷ epochs_of (drop (i + 1) epochs) (drop (row + e.rows) rows) (drop (entry + entry_count (take e.rows (drop row rows))) all)
+  pub change_fits : change + one_if e.changed ≤ length changes
+  pub change_sum : (change + one_if e.changed) + change_count (drop (i + 1) epochs) ≡ length changes
+  pub shown : epochs_of (drop i epochs) (drop change changes) (drop row rows) (drop entry all) ≡ epoch_at (change_at e.changed (drop change changes)) e.time (rows_of (take e.rows (drop row rows)) (drop entry all))
+      ∷ epochs_of (drop (i + 1) epochs) (drop (change + one_if e.changed) changes) (drop (row + e.rows) rows) (drop (entry + entry_count (take e.rows (drop row rows))) all)
 
-pub next_of : (epochs : List KeptEpoch) (rows : List KeptRow) (all : List Entry) (i row entry : ℕ) (e : KeptEpoch) → i < length epochs → e ≡ get_or epochs i e
-    → row + row_count (drop i epochs) ≡ length rows → entry + entry_count (drop row rows) ≡ length all → All HasRoom (rows_of (drop row rows) (drop entry all))
-    → NextEpoch epochs rows all i row entry e
-next_of epochs rows all i row entry e less is row_sum entry_sum room =
+pub next_of : (epochs : List KeptEpoch) (changes : List StationValues) (rows : List KeptRow) (all : List Entry) (i row entry change : ℕ) (e : KeptEpoch) → i < length epochs → e ≡ get_or epochs i e
+    → change + change_count (drop i epochs) ≡ length changes → row + row_count (drop i epochs) ≡ length rows → entry + entry_count (drop row rows) ≡ length all → All HasRoom (rows_of (drop row rows) (drop entry all))
+    → NextEpoch epochs changes rows all i row entry change e
+next_of epochs changes rows all i row entry change e less is change_sum row_sum entry_sum room =
     let next : suc i ≡ i + 1 = omega arith in
     let shape : drop i epochs ≡ e ∷ drop (i + 1) epochs = drop-cons epochs i e less ∙ ap (λ (x : KeptEpoch). x ∷ drop (suc i) epochs) (sym is) ∙ ap (λ (n : ℕ). e ∷ drop n epochs) next in
     let count : row_count (drop i epochs) ≡ e.rows + row_count (drop (i + 1) epochs) = ap (λ l. row_count l) shape ∙ sum_by-cons (λ (x : KeptEpoch). x.rows) e (drop (i + 1) epochs) in
+    let taken : change_count (drop i epochs) ≡ one_if e.changed + change_count (drop (i + 1) epochs) = ap (λ l. change_count l) shape ∙ count_changes e (drop (i + 1) epochs) in
+    let c = change_at e.changed (drop change changes) in
+    let after : changes_after e.changed (drop change changes) ≡ drop (change + one_if e.changed) changes = drop_changes e.changed change changes in
     let here = drop row rows in
     let own = take e.rows here in
     let behind : drop e.rows here ≡ drop (row + e.rows) rows = drop-drop e.rows row rows in
@@ -233,10 +326,20 @@ next_of epochs rows all i row entry e less is row_sum entry_sum room =
       others = subst (All HasRoom) left (All-drop HasRoom e.rows (rows_of here (drop entry all)) room);
       row_sum = omega (arith, row_sum, count);
       entry_sum = omega (arith, entry_sum, sum, same);
-      shown = ap (λ l. epochs_of l here (drop entry all)) shape
-          ∙ ap (λ l. epoch_at e.time l ∷ epochs_with (drop (i + 1) epochs) (drop e.rows (rows_of here (drop entry all)))) (take_rows e.rows here (drop entry all))
-          ∙ ap (λ l. epoch_at e.time (rows_of own (drop entry all)) ∷ epochs_with (drop (i + 1) epochs) l) left;
+      change_fits = omega (arith, change_sum, taken);
+      change_sum = omega (arith, change_sum, taken);
+      shown = ap (λ l. epochs_of l (drop change changes) here (drop entry all)) shape
+          ∙ ap (λ l. epoch_at c e.time (take e.rows (rows_of here (drop entry all))) ∷ epochs_with (drop (i + 1) epochs) l (drop e.rows (rows_of here (drop entry all)))) after
+          ∙ ap (λ l. epoch_at c e.time l ∷ epochs_with (drop (i + 1) epochs) (drop (change + one_if e.changed) changes) (drop e.rows (rows_of here (drop entry all)))) (take_rows e.rows here (drop entry all))
+          ∙ ap (λ l. epoch_at c e.time (rows_of own (drop entry all)) ∷ epochs_with (drop (i + 1) epochs) (drop (change + one_if e.changed) changes) l) left;
     }
+
+-- the lines of an epoch were appended behind those of its change
+pub changed_text : (old mid new : List ℕ) (c : Option StationValues) (time : ℕ) (rows : List Seen) → mid ≡ old ++ joined (change_lines c) → new ≡ mid ++ joined (stamped_lines (epoch_at None time rows))
+    → new ≡ old ++ joined (stamped_lines (epoch_at c time rows))
+changed_text old mid new c time rows first last =
+    let own = stamped_lines (epoch_at None time rows) in
+    last ∙ ap (λ l. l ++ joined own) first ∙ append_assoc old (joined (change_lines c)) (joined own) ∙ ap (λ l. old ++ l) (sym (joined-append (change_lines c) own))
 
 -- the lines of an epoch were appended
 pub epoch_passed : (e : Stamped) (left others : List Stamped) (text new whole : List ℕ) → left ≡ e ∷ others → text ++ joined (flat_map stamped_lines left) ≡ whole → new ≡ text ++ joined (stamped_lines e)
@@ -247,21 +350,26 @@ epoch_passed e left others text new whole shape before grown =
     passed text (joined (stamped_lines e)) (joined (flat_map stamped_lines others)) new whole (ap (λ l. text ++ l) (sym split) ∙ before) grown
 
 -- what was appended, and where the next epoch begins
-pub next_passed : (epochs : List KeptEpoch) (rows : List KeptRow) (all : List Entry) (i row entry row' entry' : ℕ) (e : KeptEpoch) (text new whole : List ℕ) → NextEpoch epochs rows all i row entry e
-    → row' ≡ row + e.rows → entry' ≡ entry + entry_count (take e.rows (drop row rows))
-    → text ++ joined (flat_map stamped_lines (epochs_of (drop i epochs) (drop row rows) (drop entry all))) ≡ whole
-    → new ≡ text ++ joined (stamped_lines (epoch_at e.time (rows_of (take e.rows (drop row rows)) (drop entry all))))
-    → (new ++ joined (flat_map stamped_lines (epochs_of (drop (i + 1) epochs) (drop row' rows) (drop entry' all))) ≡ whole)
+pub next_passed : (epochs : List KeptEpoch) (changes : List StationValues) (rows : List KeptRow) (all : List Entry) (i row entry change row' entry' change' : ℕ) (e : KeptEpoch) (text new whole : List ℕ)
+    → NextEpoch epochs changes rows all i row entry change e
+    → row' ≡ row + e.rows → entry' ≡ entry + entry_count (take e.rows (drop row rows)) → change' ≡ change + one_if e.changed
+    → text ++ joined (flat_map stamped_lines (epochs_of (drop i epochs) (drop change changes) (drop row rows) (drop entry all))) ≡ whole
+    → new ≡ text ++ joined (stamped_lines (epoch_at (change_at e.changed (drop change changes)) e.time (rows_of (take e.rows (drop row rows)) (drop entry all))))
+    → (new ++ joined (flat_map stamped_lines (epochs_of (drop (i + 1) epochs) (drop change' changes) (drop row' rows) (drop entry' all))) ≡ whole)
     × All HasRoom (rows_of (drop row' rows) (drop entry' all)) × (row' + row_count (drop (i + 1) epochs) ≡ length rows) × (entry' + entry_count (drop row' rows) ≡ length all)
-next_passed epochs rows all i row entry row' entry' e text new whole next at_row at_entry before grown =
+    × (change' + change_count (drop (i + 1) epochs) ≡ length changes)
+next_passed epochs changes rows all i row entry change row' entry' change' e text new whole next at_row at_entry at_change before grown =
     let to = row + e.rows in
     let end = entry + entry_count (take e.rows (drop row rows)) in
-    let others = epochs_of (drop (i + 1) epochs) (drop to rows) (drop end all) in
-    let own = epoch_at e.time (rows_of (take e.rows (drop row rows)) (drop entry all)) in (
-      ap (λ (k : ℕ). new ++ joined (flat_map stamped_lines (epochs_of (drop (i + 1) epochs) (drop k rows) (drop entry' all)))) at_row
-          ∙ ap (λ (k : ℕ). new ++ joined (flat_map stamped_lines (epochs_of (drop (i + 1) epochs) (drop to rows) (drop k all)))) at_entry
-          ∙ epoch_passed own (epochs_of (drop i epochs) (drop row rows) (drop entry all)) others text new whole next.shown before grown,
+    let behind = change + one_if e.changed in
+    let others = epochs_of (drop (i + 1) epochs) (drop behind changes) (drop to rows) (drop end all) in
+    let own = epoch_at (change_at e.changed (drop change changes)) e.time (rows_of (take e.rows (drop row rows)) (drop entry all)) in (
+      ap (λ (k : ℕ). new ++ joined (flat_map stamped_lines (epochs_of (drop (i + 1) epochs) (drop change' changes) (drop k rows) (drop entry' all)))) at_row
+          ∙ ap (λ (k : ℕ). new ++ joined (flat_map stamped_lines (epochs_of (drop (i + 1) epochs) (drop change' changes) (drop to rows) (drop k all)))) at_entry
+          ∙ ap (λ (k : ℕ). new ++ joined (flat_map stamped_lines (epochs_of (drop (i + 1) epochs) (drop k changes) (drop to rows) (drop end all)))) at_change
+          ∙ epoch_passed own (epochs_of (drop i epochs) (drop change changes) (drop row rows) (drop entry all)) others text new whole next.shown before grown,
       subst (λ (k : ℕ). All HasRoom (rows_of (drop row' rows) (drop k all))) (sym at_entry) (subst (λ (k : ℕ). All HasRoom (rows_of (drop k rows) (drop end all))) (sym at_row) next.others),
       ap (λ (k : ℕ). k + row_count (drop (i + 1) epochs)) at_row ∙ next.row_sum,
       ap (λ (k : ℕ). k + entry_count (drop row' rows)) at_entry ∙ ap (λ (k : ℕ). end + entry_count (drop k rows)) at_row ∙ next.entry_sum,
+      ap (λ (k : ℕ). k + change_count (drop (i + 1) epochs)) at_change ∙ next.change_sum,
     )

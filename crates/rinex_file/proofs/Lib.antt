@@ -22,6 +22,7 @@ mod ReadWhole
 mod Judged
 mod Rises
 mod BodySteps
+mod EventSteps
 mod HeaderBody
 mod FewRows
 mod PlainTexts

@@ -6,7 +6,7 @@ use Rattle.std.proofs.KnownBytes.{Consumes-nil, Consumes-trans}
 use Rattle.std.proofs.lemmas.List.Elements.{All-head, All-tail, All-cons, All-append}
 use Rattle.std.proofs.lemmas.List.Sums.{sum_by-append}
 use Rattle.rinex_file.specs.declared.read_fault.ReadFault.{ReadFault}
-use Rattle.rinex_file.specs.declared.read_fault.ReadFault.TheVariants.{Memory, Read, BadHeader, BadEpoch, BadSatellite, CutShort, TooLong}
+use Rattle.rinex_file.specs.declared.read_fault.ReadFault.TheVariants.{Memory, Read, BadHeader, BadEpoch, BadEvent, BadSatellite, CutShort, TooLong}
 use Rattle.rinex_file.specs.Reading.{has}
 use Rattle.rinex_file.specs.Numbers.{joined}
 use Rattle.rinex_file.specs.Value.{FileValue}
@@ -284,6 +284,7 @@ module _ (are_lines : (v : FileValue) → IsFileValue v → All IsLine (file_lin
     not_explained v input Read is few why e = tt
     not_explained v input (BadHeader k) is few why e = faulty_not v input k is why.0 e
     not_explained v input (BadEpoch k) is few why e = faulty_not v input k is why.0 e
+    not_explained v input (BadEvent k) is few why e = faulty_not v input k is why.0 e
     not_explained v input (BadSatellite k) is few why e = faulty_not v input k is why.0 e
     not_explained v input (CutShort k) is few why e = why.none v is e
     not_explained v input TooLong is few why e = not_many v why.lines why.rest is why.first.are why.count why.more few (sym e ∙ why.first.first)

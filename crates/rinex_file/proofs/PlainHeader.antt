@@ -19,7 +19,7 @@ use Rattle.rinex_file.specs.declared.section.Section.{Section}
 use Rattle.rinex_file.specs.declared.section.Section.TheVariants.{Version, Program, Marker as MarkerSection, MarkerType as MarkerTypeSection, Observer as ObserverSection, Receiver, Antenna, Position, Delta, Types, StrengthUnit, First, Shift, End}
 use Rattle.rinex_file.specs.Exact.{IsLine}
 use Rattle.rinex_file.specs.FileValues.{AreTexts, IsPlan, AreValues, IsCoordinate, IsTime, IsFrom}
-use Rattle.rinex_file.specs.Header.{header_line, version_line, lengths, file_system, first_line, types_of, type_front, type_columns, type_line, type_rows, type_lines, shift_lines, codes_of, lines_of, all_sections, header_lines}
+use Rattle.rinex_file.specs.Header.{header_line, version_line, lengths, file_system, first_line, types_of, type_front, type_columns, type_line, type_rows, type_lines, shift_lines, codes_of, lines_of, all_sections, header_lines, position_line, delta_line}
 use Rattle.rinex_file.specs.Lines.{letter_of}
 use Rattle.rinex_file.specs.Numbers.{joined, left, right, fixed}
 use Rattle.rinex_file.specs.Reading.{has}
@@ -307,6 +307,16 @@ version p =
 pub few_signals_of : (p : PlanValue) → IsPlan p → (system : System) → length (planned_of system p) ≤ 19
 few_signals_of p is system = let few = few_planned p is system in let most = few_signals system in omega (arith, few, most)
 
+-- ---- station
+
+pub line_of_position : (v : StationValues) → AreValues v → IsFileLine (position_line v)
+line_of_position v values = three_lengths v.x v.y v.z (codes "APPROX POSITION XYZ")
+    (coordinate v.x values.x) (coordinate v.y values.y) (coordinate v.z values.z) (plain_label _ refl (lit≤ tt))
+
+pub line_of_delta : (v : StationValues) → AreValues v → IsFileLine (delta_line v)
+line_of_delta v values = three_lengths (pos v.height) (pos 0) (pos 0) (codes "ANTENNA: DELTA H/E/N")
+    (let height = values.height in omega (arith, height)) (lit< tt) (lit< tt) (plain_label _ refl (lit≤ tt))
+
 -- ---- sections
 
 lines_in : (x : HeaderLists) (p : PlanValue) (v : StationValues) (t : Civil) → AreTexts x → IsPlan p → AreValues v → IsShort t → (s : Section) → All IsFileLine (lines_of x p v t s)
@@ -320,10 +330,8 @@ lines_in x p v t texts plan values time ObserverSection = only _ (two_fields x.o
 lines_in x p v t texts plan values time Receiver = only _ (three_fields x.rec_number x.rec_type x.rec_version (codes "REC # / TYPE / VERS")
     (rec_number x texts) (rec_type x texts) (rec_version x texts) (plain_label _ refl (lit≤ tt)))
 lines_in x p v t texts plan values time Antenna = only _ (two_fields x.ant_number x.ant_type (codes "ANT # / TYPE") (ant_number x texts) (ant_type x texts) (plain_label _ refl (lit≤ tt)))
-lines_in x p v t texts plan values time Position = only _ (three_lengths v.x v.y v.z (codes "APPROX POSITION XYZ")
-    (coordinate v.x values.x) (coordinate v.y values.y) (coordinate v.z values.z) (plain_label _ refl (lit≤ tt)))
-lines_in x p v t texts plan values time Delta = only _ (three_lengths (pos v.height) (pos 0) (pos 0) (codes "ANTENNA: DELTA H/E/N")
-    (let height = values.height in omega (arith, height)) (lit< tt) (lit< tt) (plain_label _ refl (lit≤ tt)))
+lines_in x p v t texts plan values time Position = only _ (line_of_position v values)
+lines_in x p v t texts plan values time Delta = only _ (line_of_delta v values)
 lines_in x p v t texts plan values time (Types s) = lines_of_types s (planned_of s p) (few_signals_of p plan s)
 lines_in x p v t texts plan values time StrengthUnit = only _ (header 4 (codes "DBHZ") (codes "SIGNAL STRENGTH UNIT") (record { clean = refl; short = lit≤ tt }) (plain_label _ refl (lit≤ tt)) (lit≤ tt))
 lines_in x p v t texts plan values time First = only _ (line_of_first t time)

@@ -13,7 +13,7 @@ use Rattle.rinex_file.specs.Steps.{Goes, HasRead, IsWhole, IsTextOf, file_at}
 use Rattle.rinex_file.proofs.LineByLine.{said_of}
 
 abbrev pub counts_at : Course → Counts
-counts_at c = record { epochs = c.epochs; satellites = c.satellites }
+counts_at c = record { epochs = c.epochs; satellites = c.satellites; events = c.events }
 
 no_more : (n m : ℕ) (rows : List Seen) → n ≡ m + length rows → rows ≡ [] → n ≡ m
 no_more n m rows e none = let zero : length rows ≡ 0 = ap length none in omega (arith, e, zero)
@@ -22,6 +22,7 @@ counted_at : (c : Course) (h : History) (input : Option (List ℕ)) → IsWhole 
 counted_at c h input whole = record {
   epochs = whole.stands.epochs;
   satellites = no_more c.satellites (rows_in h.epochs) h.rows whole.stands.satellites whole.none;
+  events = whole.stands.events;
 }
 
 pub counts_found : (c : Course) (h : History) (input : Option (List ℕ)) → IsWhole c h input → IsTextWith (counts_at c) input

@@ -14,7 +14,9 @@ use Rattle.obs_epoch.specs.Values.{PlanValue, EpochValue, cells_of, is_written, 
 use Rattle.rinex_file.specs.Numbers.{joined}
 use Rattle.rinex_file.specs.Value.{numbers, written, seen_among, seen_of, rows_of}
 use Rattle.rinex_file.specs.Lines.{seen_line, epoch_line}
-use Rattle.rinex_file.specs.File.{line_among, line_or_none, lines_up_to, epoch_text}
+use Rattle.obs_epoch.specs.declared.cell.StationValues.{StationValues}
+use Rattle.rinex_file.specs.Header.{position_line, delta_line}
+use Rattle.rinex_file.specs.File.{event_line, event_text, line_among, line_or_none, lines_up_to, epoch_text}
 use Rattle.rinex_file.proofs.Entries.{flat_map-append}
 
 -- behind what went out, a part of what follows
@@ -42,6 +44,30 @@ filter-append test (x ∷ xs) ys =
 
 pub joined-append : (xs ys : List (List ℕ)) → joined (xs ++ ys) ≡ joined xs ++ joined ys
 joined-append xs ys = flat_map-append (λ l. l) xs ys
+
+-- ---- an event
+
+pub event_parts : (v : StationValues) → event_text v ≡ event_line ++ (position_line v ++ (delta_line v ++ []))
+unfolding event_text
+event_parts v = refl
+
+-- its lines, one behind the other
+module _ (v : StationValues) (a b c d : Option (List ℕ)) where
+  pub event_first : AppendsPrefix a b event_line → AppendsPrefix a b (event_text v)
+  event_first part = part_first a b (event_text v) event_line (position_line v ++ (delta_line v ++ [])) (event_parts v) part
+
+  pub event_second : Appends a b event_line → AppendsPrefix b c (position_line v) → AppendsPrefix a c (event_text v)
+  event_second first part = part_behind a b c (event_text v) event_line (position_line v) (delta_line v ++ []) (event_parts v) first part
+
+  pub event_third : Appends a b event_line → Appends b c (position_line v) → AppendsPrefix c d (delta_line v) → AppendsPrefix a d (event_text v)
+  event_third first second part =
+      part_behind a c d (event_text v) (event_line ++ position_line v) (delta_line v) [] (event_parts v ∙ sym (append_assoc event_line (position_line v) (delta_line v ++ [])))
+      (Appends-trans a b c event_line (position_line v) first second) part
+
+  pub event_whole : Appends a b event_line → Appends b c (position_line v) → Appends c d (delta_line v) → Appends a d (event_text v)
+  event_whole first second third =
+      let same : event_text v ≡ event_line ++ (position_line v ++ delta_line v) = event_parts v ∙ ap (λ l. event_line ++ (position_line v ++ l)) (append-nil (delta_line v)) in
+      subst (λ l. Appends a d l) (sym same) (Appends-trans a b d event_line (position_line v ++ delta_line v) first (Appends-trans b c d (position_line v) (delta_line v) second third))
 
 -- ---- satellite by satellite
 

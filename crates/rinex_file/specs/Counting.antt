@@ -6,12 +6,13 @@ use Rattle.rinex_file.specs.Value.{FileValue}
 use Rattle.rinex_file.specs.FileValues.{IsFileValue}
 use Rattle.rinex_file.specs.File.{file_text}
 use Rattle.rinex_file.specs.Exact.{IsNoFault}
-use Rattle.rinex_file.specs.Course.{rows_in}
+use Rattle.rinex_file.specs.Course.{rows_in, events_in}
 
--- these are the numbers of the file's epochs and of the lines of satellites
+-- these are the numbers of the file's epochs, of the lines of satellites, and of the events
 pub record AreCounts (n : Counts) (v : FileValue) : Type 0 where
   pub epochs : n.epochs ≡ length v.epochs
   pub satellites : n.satellites ≡ rows_in v.epochs
+  pub events : n.events ≡ events_in v.epochs
 
 -- the input, where it is known, is the text of a file value that has so much
 pub record IsTextWith (n : Counts) (input : Option (List ℕ)) : Type 0 where

@@ -7,7 +7,8 @@ use Rattle.rinex_file.specs.declared.due.Added.TheVariants.{NoRow, OneRow, LastR
 use Rattle.rinex_file.specs.declared.due.Refusal.{Refusal}
 use Rattle.rinex_file.specs.declared.due.Refusal.TheVariants.{Memory, Bad}
 use Rattle.rinex_file.specs.Value.{Seen, Stamped, FileValue}
-use Rattle.rinex_file.specs.FileValues.{time_of, rank_of}
+use Rattle.obs_epoch.specs.declared.cell.StationValues.{StationValues}
+use Rattle.rinex_file.specs.FileValues.{time_of, rank_of, changed_by, values_behind}
 use Rattle.rinex_file.specs.Progress.{Progress, GoesOn}
 use Rattle.rinex_file.specs.Sound.{IsSound}
 
@@ -21,7 +22,7 @@ nothing = record { epochs = []; rows = [] }
 
 -- what was read where a course stands behind this history
 abbrev pub progress_at : Course → History → Progress
-progress_at c h = record { due = c.due; known = c.head; epochs = h.epochs; time = c.time; rows = h.rows }
+progress_at c h = record { due = c.due; known = c.head; epochs = h.epochs; change = c.change; time = c.time; rows = h.rows }
 
 -- this is the last of the numbers, or there is none
 abbrev pub EndsIn : List ℕ → Option ℕ → Type 0
@@ -32,6 +33,14 @@ EndsIn xs (Some x) = (front : List ℕ) × (xs ≡ front ++ x ∷ [])
 abbrev pub rows_in : List Stamped → ℕ
 rows_in epochs = sum_by (λ e. length e.rows) epochs
 
+-- how many of these epochs change the station values
+abbrev pub changes_of : Option StationValues → ℕ
+changes_of None = 0
+changes_of (Some v) = 1
+
+abbrev pub events_in : List Stamped → ℕ
+events_in epochs = sum_by (λ e. changes_of e.change) epochs
+
 -- a course stands behind this history
 pub record StandsBehind (c : Course) (h : History) : Type 0 where
   pub sound : IsSound (progress_at c h)
@@ -39,24 +48,26 @@ pub record StandsBehind (c : Course) (h : History) : Type 0 where
   pub rank : EndsIn (map rank_of h.rows) c.rank
   pub epochs : c.epochs ≡ length h.epochs
   pub satellites : c.satellites ≡ rows_in h.epochs + length h.rows
+  pub events : c.events ≡ events_in h.epochs
+  pub values : (v : StationValues) → changed_by v c.values ≡ values_behind v h.epochs
 
--- an epoch with the station values of those before
-abbrev pub epoch_at : ℕ → List Seen → Stamped
-epoch_at time rows = record { change = None; time = time; rows = rows }
+-- an epoch behind this change of station values
+abbrev pub epoch_at : Option StationValues → ℕ → List Seen → Stamped
+epoch_at change time rows = record { change = change; time = time; rows = rows }
 
 -- a history with one satellite more
 abbrev pub with_seen : History → Seen → History
 with_seen h seen = record { epochs = h.epochs; rows = h.rows ++ seen ∷ [] }
 
--- a history where the epoch that was begun, at this time, has all its satellites
-abbrev pub with_epoch : History → ℕ → History
-with_epoch h time = record { epochs = h.epochs ++ epoch_at time h.rows ∷ []; rows = [] }
+-- a history where the epoch that was begun, behind this change and at this time, has all its satellites
+abbrev pub with_epoch : History → Option StationValues → ℕ → History
+with_epoch h change time = record { epochs = h.epochs ++ epoch_at change time h.rows ∷ []; rows = [] }
 
 -- the history with what a line added, behind which the course stands
 abbrev pub with_line : Added → Course → History → History
 with_line NoRow c h = h
 with_line OneRow c h = with_seen h c.seen
-with_line LastRow c h = with_epoch (with_seen h c.seen) c.time
+with_line LastRow c h = with_epoch (with_seen h c.seen) c.change c.time
 
 -- the line is the one that may follow
 abbrev pub Follows : Progress → Progress → List ℕ → Type 0
@@ -79,4 +90,4 @@ Takes old new line (Err Memory) = ⊤
 
 -- so many lines hold what was counted
 abbrev pub HasRoom : Course → ℕ → Type 0
-HasRoom c lines = (c.epochs ≤ lines) × (c.satellites ≤ lines)
+HasRoom c lines = (c.epochs ≤ lines) × (c.satellites ≤ lines) × (c.events ≤ lines)

@@ -1,12 +1,12 @@
 -- What is read from bytes that come line by line.
-use Rattle.std.specs.Prelude.{◌≡◌, ℕ, ◌+◌, ◌^◌, ◌<◌, ◌⊎◌, ◌==◌, false, List, [], ◌∷◌, ◌++◌, length, map, flat_map, All, count_by, Option, Result, Ok, Err, ⊤}
+use Rattle.std.specs.Prelude.{◌≡◌, ℕ, ◌+◌, ◌^◌, ◌<◌, ◌⊎◌, ◌==◌, true, false, List, [], ◌∷◌, ◌++◌, length, drop, map, flat_map, is_some, All, count_by, Option, Result, Ok, Err, ⊤}
 use Rattle.std.specs.Io.KnownBytes.{IsAtEnd}
 use Rattle.rinex_file.specs.declared.lines.Found.{Found}
 use Rattle.rinex_file.specs.declared.lines.Found.TheVariants.{Line, End, Cut, Long, Failed}
 use Rattle.rinex_file.specs.declared.read_fault.ReadFault.{ReadFault}
-use Rattle.rinex_file.specs.declared.read_fault.ReadFault.TheVariants.{Memory, Read, BadHeader, BadEpoch, BadSatellite, CutShort, TooLong}
+use Rattle.rinex_file.specs.declared.read_fault.ReadFault.TheVariants.{Memory, Read, BadHeader, BadEpoch, BadEvent, BadSatellite, CutShort, TooLong}
 use Rattle.rinex_file.specs.declared.due.Due.{Due}
-use Rattle.rinex_file.specs.declared.due.Due.TheVariants.{Header, Epoch, Satellite}
+use Rattle.rinex_file.specs.declared.due.Due.TheVariants.{Header, Epoch, EventPosition, EventHeight, EventEpoch, Satellite}
 use Rattle.rinex_file.specs.Reading.{has}
 use Rattle.rinex_file.specs.Numbers.{joined}
 use Rattle.rinex_file.specs.Value.{Seen, Stamped, FileValue}
@@ -69,13 +69,14 @@ pub record HasHeaderNext (v : FileValue) (lines : List (List ℕ)) : Type 0 wher
   pub some : 0 < length header
   pub left : file_lines v ≡ lines ++ (header ++ flat_map stamped_lines v.epochs)
 
--- with the lines of an epoch
-pub record HasEpochNext (v : FileValue) (lines : List (List ℕ)) : Type 0 where
+-- with the lines of an epoch, those of the event in front of it included, where so many of the event's lines come before
+pub record HasEpochLeft (taken : ℕ) (v : FileValue) (lines : List (List ℕ)) : Type 0 where
   pub before : List Stamped
   pub epoch : Stamped
   pub others : List Stamped
   pub epochs : v.epochs ≡ before ++ epoch ∷ others
-  pub left : file_lines v ≡ lines ++ flat_map stamped_lines (epoch ∷ others)
+  pub event : 0 < taken → is_some epoch.change ≡ true
+  pub left : file_lines v ≡ lines ++ (drop taken (stamped_lines epoch) ++ flat_map stamped_lines others)
 
 -- with the line of a satellite
 pub record HasSatelliteNext (v : FileValue) (lines : List (List ℕ)) : Type 0 where
@@ -99,7 +100,10 @@ pub record IsDue (HasNext : FileValue → List (List ℕ) → Type 0) (input : L
 
 abbrev pub IsDueAt : Due → List ℕ → ℕ → Type 0
 IsDueAt (Header section row) input k = IsDue HasHeaderNext input k
-IsDueAt Epoch input k = IsDue HasEpochNext input k
+IsDueAt Epoch input k = IsDue (HasEpochLeft 0) input k
+IsDueAt EventPosition input k = IsDue (HasEpochLeft 1) input k
+IsDueAt (EventHeight x y z) input k = IsDue (HasEpochLeft 2) input k
+IsDueAt (EventEpoch values) input k = IsDue (HasEpochLeft 3) input k
 IsDueAt (Satellite n) input k = IsDue HasSatelliteNext input k
 
 -- ---- faults
@@ -125,7 +129,8 @@ abbrev pub Explains : List ℕ → ReadFault → Type 0
 Explains input Memory = ⊤
 Explains input Read = ⊤
 Explains input (BadHeader k) = IsFaulty input k × IsDue HasHeaderNext input k
-Explains input (BadEpoch k) = IsFaulty input k × IsDue HasEpochNext input k
+Explains input (BadEpoch k) = IsFaulty input k × (IsDue (HasEpochLeft 0) input k ⊎ IsDue (HasEpochLeft 3) input k)
+Explains input (BadEvent k) = IsFaulty input k × (IsDue (HasEpochLeft 1) input k ⊎ IsDue (HasEpochLeft 2) input k)
 Explains input (BadSatellite k) = IsFaulty input k × IsDue HasSatelliteNext input k
 Explains input (CutShort k) = IsCutShort input k
 Explains input TooLong = IsTooLong input

@@ -2,10 +2,10 @@
 use Rattle.std.specs.Prelude.{ℕ, List, [], ◌∷◌, ◌++◌, length, map, flat_map, replicate, codes, Option, Some, None, if◌then◌else◌}
 use Rattle.gnss_obs.specs.declared.system.System.{System}
 use Rattle.obs_epoch.specs.declared.cell.StationValues.{StationValues}
-use Rattle.obs_epoch.specs.Values.{EpochValue, PlanValue, cells_of, is_written}
+use Rattle.obs_epoch.specs.Values.{EpochValue, PlanValue, Closed, same_values, cells_of, is_written}
 use Rattle.obs_epoch.specs.Dates.{civil_of}
 use Rattle.rinex_file.specs.Texts.{HeaderLists}
-use Rattle.rinex_file.specs.Value.{Stamped, FileValue, stamped_of, seen_among, seen_of, written}
+use Rattle.rinex_file.specs.Value.{Stamped, FileValue, stamped_of, all_stamped, seen_among, seen_of, written}
 use Rattle.obs_epoch.specs.declared.cell.Cell.{Cell}
 use Rattle.rinex_file.specs.Header.{header_lines, position_line, delta_line}
 use Rattle.rinex_file.specs.Lines.{epoch_line, seen_line}
@@ -15,10 +15,21 @@ use Rattle.rinex_file.specs.Numbers.{joined}
 unfoldable pub header_text : HeaderLists → PlanValue → StationValues → ℕ → List ℕ
 header_text texts plan values first = joined (header_lines texts plan values (civil_of first))
 
--- station values that change: event flag 4, and two header lines
+-- the line that an event begins with: flag 4 without a time, and two lines of a header follow
+unfoldable pub event_line : List ℕ
+event_line = codes ">" ++ (replicate 30 32 ++ codes "4  2\n")
+
+-- an event that tells station values
+abbrev pub event_lines : StationValues → List (List ℕ)
+event_lines v = event_line ∷ position_line v ∷ delta_line v ∷ []
+
+-- what stands in front of an epoch: an event where the station values change
 abbrev pub change_lines : Option StationValues → List (List ℕ)
 change_lines None = []
-change_lines (Some v) = (codes ">" ++ (replicate 30 32 ++ codes "4  2\n")) ∷ position_line v ∷ delta_line v ∷ []
+change_lines (Some v) = event_lines v
+
+unfoldable pub event_text : StationValues → List ℕ
+event_text v = joined (event_lines v)
 
 -- the lines of an epoch
 abbrev pub stamped_lines : Stamped → List (List ℕ)
@@ -52,6 +63,17 @@ file_lines v = lines_of v.texts v.plan v.values v.epochs
 abbrev pub file_text : FileValue → List ℕ
 file_text v = joined (file_lines v)
 
--- the value of a file of epochs that were gathered under a plan
-abbrev pub gathered : HeaderLists → PlanValue → StationValues → List EpochValue → FileValue
-gathered texts plan values epochs = record { texts = texts; plan = plan; values = values; epochs = map (stamped_of plan) epochs }
+-- ---- epochs that were gathered under a plan
+
+-- an event, where the station values are no longer those before
+abbrev pub change_text : StationValues → StationValues → List ℕ
+change_text before now = if same_values before now then [] else event_text now
+
+-- epochs that were closed behind others, the last of which has these station values
+abbrev pub closed_text : PlanValue → StationValues → List Closed → List ℕ
+closed_text plan before [] = []
+closed_text plan before (c ∷ cs) = change_text before c.values ++ (epoch_text plan c.epoch ++ closed_text plan c.values cs)
+
+-- the value of a file of epochs that were closed, the header of which has these station values
+abbrev pub gathered : HeaderLists → PlanValue → StationValues → List Closed → FileValue
+gathered texts plan values epochs = record { texts = texts; plan = plan; values = values; epochs = all_stamped plan values epochs }

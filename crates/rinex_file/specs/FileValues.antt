@@ -1,5 +1,5 @@
 -- Which values are those of a file: what its lines have room for, in the order in which they stand.
-use Rattle.std.specs.Prelude.{◌≡◌, ℕ, ℤ, pos, neg_ℤ, ◌+◌, ◌*◌, ◌^◌, ◌<◌, ◌≤◌, ◌≤ℤ◌, ◌||◌, Bool, true, List, length, All, Any, map, None, is_some, nat_eq, nat_lt, if◌then◌else◌, IfSome, IsTrue}
+use Rattle.std.specs.Prelude.{◌≡◌, ◌≢◌, ⊤, ℕ, ℤ, pos, neg_ℤ, ◌+◌, ◌*◌, ◌^◌, ◌<◌, ◌≤◌, ◌≤ℤ◌, ◌||◌, Bool, true, List, [], ◌∷◌, length, All, Any, map, Option, Some, None, is_some, nat_eq, nat_lt, if◌then◌else◌, IfSome, IsTrue}
 use Rattle.std.specs.List.{IsDistinct, list_all}
 use Rattle.std.specs.List.Sorted.{IsStrictlyIncreasing}
 use Rattle.gnss_obs.specs.declared.system.System.{System}
@@ -97,15 +97,41 @@ pub record AreSeen (gps galileo : ℕ) (rows : List Seen) : Type 0 where
 abbrev pub most_rows : ℕ → ℕ → ℕ
 most_rows gps galileo = (if nat_lt 0 gps then satellites Gps else 0) + (if nat_lt 0 galileo then satellites Galileo else 0)
 
--- an epoch of at least one satellite, with the station values of those before
+-- an epoch of at least one satellite
 pub record IsStamped (gps galileo : ℕ) (e : Stamped) : Type 0 where
-  pub same : e.change ≡ None
   pub time : IsTime e.time
   pub rows : AreSeen gps galileo e.rows
   pub some : 0 < length e.rows
 
 abbrev pub time_of : Stamped → ℕ
 time_of e = e.time
+
+-- ---- station values that change
+
+-- the station values that hold from an epoch on, where these hold before it
+abbrev pub changed_by : StationValues → Option StationValues → StationValues
+changed_by v None = v
+changed_by v (Some w) = w
+
+-- no change of these station values, or one to others
+abbrev pub IsChange : StationValues → Option StationValues → Type 0
+IsChange v None = ⊤
+IsChange v (Some w) = AreValues w × (w ≢ v)
+
+-- epochs each of which leaves the station values before it as they are, or changes them
+abbrev pub AreChanges : StationValues → List Stamped → Type 0
+AreChanges v [] = ⊤
+AreChanges v (e ∷ es) = IsChange v e.change × AreChanges (changed_by v e.change) es
+
+-- the station values behind these epochs
+abbrev pub values_behind : StationValues → List Stamped → StationValues
+values_behind v [] = v
+values_behind v (e ∷ es) = values_behind (changed_by v e.change) es
+
+-- the first epoch has the station values of the header
+abbrev pub IsFirstSame : List Stamped → Type 0
+IsFirstSame [] = ⊤
+IsFirstSame (e ∷ es) = e.change ≡ None
 
 -- ---- the whole
 
@@ -116,3 +142,5 @@ pub record IsFileValue (v : FileValue) : Type 0 where
   pub some : 0 < length v.epochs
   pub epochs : All (IsStamped (length v.plan.gps) (length v.plan.galileo)) v.epochs
   pub rising : IsStrictlyIncreasing (map time_of v.epochs)
+  pub first : IsFirstSame v.epochs
+  pub changes : AreChanges v.values v.epochs

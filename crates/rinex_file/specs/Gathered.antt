@@ -1,9 +1,9 @@
 -- When what was gathered of messages is a file value.
-use Rattle.std.specs.Prelude.{◌≡◌, ℕ, ◌<◌, List, ◌∷◌, length, map, All, nat_eq}
+use Rattle.std.specs.Prelude.{◌≡◌, ℕ, ◌<◌, List, ◌∷◌, length, All, nat_eq}
 use Rattle.std.specs.List.{AllByRecursion, IsDistinct}
 use Rattle.gnss_obs.specs.declared.system.System.{System}
 use Rattle.gnss_obs.specs.Signals.{table}
-use Rattle.obs_epoch.specs.Values.{PlanValue, EpochValue, Closed, planned_of, satellites}
+use Rattle.obs_epoch.specs.Values.{PlanValue, Closed, planned_of, satellites}
 use Rattle.obs_epoch.specs.Reach.{AreGatheredEpochs}
 use Rattle.rinex_file.specs.Texts.{HeaderLists}
 use Rattle.rinex_file.specs.FileValues.{AreTexts, IsFileValue}
@@ -14,9 +14,6 @@ pub record AreSignals (p : PlanValue) : Type 0 where
   pub listed : (system : System) → All (λ i. i < length (table system)) (planned_of system p)
   pub apart : (system : System) → IsDistinct nat_eq (planned_of system p)
 
-abbrev pub epoch_of : Closed → EpochValue
-epoch_of c = c.epoch
-
 -- a satellite of the epoch is written
 abbrev pub HasSatellite : Closed → Type 0
 HasSatellite c = 0 < satellites c.epoch
@@ -25,4 +22,4 @@ HasSatellite c = 0 < satellites c.epoch
 abbrev pub IsGatheredFile : Type 0
 IsGatheredFile = (texts : HeaderLists) (plan : PlanValue) (e : Closed) (es : List Closed)
     → AreTexts texts → AreSignals plan → AreGatheredEpochs plan (e ∷ es) → AllByRecursion HasSatellite (e ∷ es)
-    → IsFileValue (gathered texts plan e.values (map epoch_of (e ∷ es)))
+    → IsFileValue (gathered texts plan e.values (e ∷ es))

@@ -4,8 +4,8 @@ use Rattle.rinex_file.specs.Course.{History}
 use Rattle.rinex_file.specs.Kept.{kept_history, AreKept}
 
 abbrev pub history_of : Keeper → History
-history_of k = kept_history k.epochs.items k.rows.items k.entries.items
+history_of k = kept_history k.epochs.items k.changes.items k.rows.items k.entries.items
 
 -- so many satellites belong to no epoch yet
 abbrev pub IsKept : Keeper → Type 0
-IsKept k = AreKept k.epochs.items k.rows.items k.entries.items k.begun
+IsKept k = AreKept k.epochs.items k.changes.items k.rows.items k.entries.items k.begun

@@ -1,5 +1,5 @@
 -- What is known of a file while its lines are read, one after the other, and which files may still follow.
-use Rattle.std.specs.Prelude.{◌≡◌, ℕ, zero, suc, ◌+◌, ◌*◌, ◌/◌, ◌<◌, ◌==◌, not, Bool, List, [], ◌∷◌, ◌++◌, length, take, get_or, map, All, replicate, codes, pos, nat_eq, if◌then◌else◌, flat_map, Option, Some, None, ⊤}
+use Rattle.std.specs.Prelude.{◌≡◌, ℕ, ℤ, zero, suc, ◌+◌, ◌*◌, ◌/◌, ◌<◌, ◌==◌, not, Bool, List, [], ◌∷◌, ◌++◌, length, take, drop, get_or, map, All, replicate, codes, pos, nat_eq, if◌then◌else◌, flat_map, Option, Some, None, ⊤}
 use Rattle.gnss_obs.specs.declared.system.System.{System}
 use Rattle.gnss_obs.specs.declared.system.System.TheVariants.{Gps, Galileo}
 use Rattle.obs_epoch.specs.declared.cell.StationValues.{StationValues}
@@ -8,7 +8,7 @@ use Rattle.obs_epoch.specs.Dates.{civil_of}
 use Rattle.rinex_file.specs.declared.section.Section.{Section}
 use Rattle.rinex_file.specs.declared.section.Section.TheVariants.{Version, Program, Marker, MarkerType, Observer, Receiver, Antenna, Position, Delta, Types, StrengthUnit, First, Shift, End}
 use Rattle.rinex_file.specs.declared.due.Due.{Due}
-use Rattle.rinex_file.specs.declared.due.Due.TheVariants.{Header, Epoch, Satellite}
+use Rattle.rinex_file.specs.declared.due.Due.TheVariants.{Header, Epoch, EventPosition, EventHeight, EventEpoch, Satellite}
 use Rattle.rinex_file.specs.Texts.{HeaderLists}
 use Rattle.rinex_file.specs.Value.{Seen, Stamped, FileValue}
 use Rattle.rinex_file.specs.FileValues.{AreTexts, IsPlan, AreValues, IsTime, IsFileValue}
@@ -143,11 +143,13 @@ MayFollow k (Some place) h left = IsHeaderLeft k place.0 place.1 h left
 
 -- ---- the file
 
--- what was read of a file: header and epochs, and, where satellites are due, an epoch's time and its satellites so far
+-- what was read of a file: header and epochs, and, where satellites are due, an epoch's change of station values, its time and
+-- its satellites so far
 pub record Progress : Type 0 where
   pub due : Due
   pub known : Known
   pub epochs : List Stamped
+  pub change : Option StationValues
   pub time : ℕ
   pub rows : List Seen
 
@@ -159,9 +161,9 @@ file_with s epochs = record { texts = s.known.shown.texts; plan = s.known.shown.
 abbrev pub shown_of : FileValue → ℕ → Shown
 shown_of v first = record { texts = v.texts; plan = v.plan; values = v.values; first = first }
 
--- an epoch at the time that was read
+-- an epoch with the change and at the time that were read
 abbrev pub stamped : Progress → List Seen → Stamped
-stamped s rows = record { change = None; time = s.time; rows = rows }
+stamped s rows = record { change = s.change; time = s.time; rows = rows }
 
 -- the first epoch, if there is one, is at this time
 abbrev pub StartsAt : ℕ → List Stamped → Type 0
@@ -184,6 +186,21 @@ pub record IsBetween (s : Progress) (v : FileValue) (left : List (List ℕ)) : T
   pub starts : StartsAt s.known.shown.first (s.epochs ++ others)
   pub rest : left ≡ flat_map stamped_lines others
 
+-- where an event was begun: so many of its lines were taken, and they show this of its station values
+pub record IsInEvent (s : Progress) (taken : ℕ) (Show : StationValues → Type 0) (v : FileValue) (left : List (List ℕ)) : Type 0 where
+  pub next : Stamped
+  pub values : StationValues
+  pub others : List Stamped
+  pub value : v ≡ file_with s (s.epochs ++ next ∷ others)
+  pub starts : StartsAt s.known.shown.first (s.epochs ++ next ∷ others)
+  pub change : next.change ≡ Some values
+  pub shown : Show values
+  pub rest : left ≡ drop taken (stamped_lines next) ++ flat_map stamped_lines others
+
+-- station values of this position
+abbrev pub StandAt : ℤ → ℤ → ℤ → StationValues → Type 0
+StandAt x y z v = (v.x ≡ x) × (v.y ≡ y) × (v.z ≡ z)
+
 -- where so many satellites are due
 pub record IsWithin (s : Progress) (satellites : ℕ) (v : FileValue) (left : List (List ℕ)) : Type 0 where
   pub more : List Seen
@@ -196,6 +213,9 @@ pub record IsWithin (s : Progress) (satellites : ℕ) (v : FileValue) (left : Li
 abbrev pub IsAt : Progress → Due → FileValue → List (List ℕ) → Type 0
 IsAt s (Header section row) v left = IsInHeader s section row v left
 IsAt s Epoch v left = IsBetween s v left
+IsAt s EventPosition v left = IsInEvent s 1 (λ w. ⊤) v left
+IsAt s (EventHeight x y z) v left = IsInEvent s 2 (StandAt x y z) v left
+IsAt s (EventEpoch values) v left = IsInEvent s 3 (λ w. w ≡ values) v left
 IsAt s (Satellite n) v left = IsWithin s n v left
 
 -- the file value goes on with these lines where so much was read
@@ -207,14 +227,18 @@ pub record StandsFor (s : Progress) (taken : List (List ℕ)) : Type 0 where
   pub goes : (v : FileValue) (left : List (List ℕ)) → IsFileValue v → file_lines v ≡ taken ++ left → GoesOn s v left
   pub begins : (v : FileValue) (left : List (List ℕ)) → GoesOn s v left → IsFileValue v × (file_lines v ≡ taken ++ left)
 
--- what was read where the line of an epoch was taken
-abbrev pub begun_at : Progress → ℕ → ℕ → Progress
-begun_at s t n = record { due = Satellite n; known = s.known; epochs = s.epochs; time = t; rows = s.rows }
+-- the same where another line is due
+abbrev pub due_next : Progress → Due → Progress
+due_next s due = record { due = due; known = s.known; epochs = s.epochs; change = s.change; time = s.time; rows = s.rows }
+
+-- what was read where the line of an epoch was taken, with this change of station values in front of it
+abbrev pub begun_at : Progress → Option StationValues → ℕ → ℕ → Progress
+begun_at s c t n = record { due = Satellite n; known = s.known; epochs = s.epochs; change = c; time = t; rows = s.rows }
 
 -- what was read where the line of a satellite was taken, and so many are left
 abbrev pub with_row : Progress → Seen → ℕ → Progress
-with_row s seen n = record { due = Satellite n; known = s.known; epochs = s.epochs; time = s.time; rows = s.rows ++ seen ∷ [] }
+with_row s seen n = record { due = Satellite n; known = s.known; epochs = s.epochs; change = s.change; time = s.time; rows = s.rows ++ seen ∷ [] }
 
 -- what was read where the last line of an epoch's satellites was taken
 abbrev pub with_epoch : Progress → Progress
-with_epoch s = record { due = Epoch; known = s.known; epochs = s.epochs ++ stamped s s.rows ∷ []; time = s.time; rows = [] }
+with_epoch s = record { due = Epoch; known = s.known; epochs = s.epochs ++ stamped s s.rows ∷ []; change = s.change; time = s.time; rows = [] }

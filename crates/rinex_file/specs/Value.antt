@@ -1,12 +1,12 @@
 -- What a file holds.
-use Rattle.std.specs.Prelude.{ℕ, ℤ, ◌==◌, ◌&&◌, Bool, List, [], ◌∷◌, ◌++◌, zero, suc, map, filter, find, Option, None}
+use Rattle.std.specs.Prelude.{ℕ, ℤ, ◌==◌, ◌&&◌, Bool, List, [], ◌∷◌, ◌++◌, zero, suc, map, filter, find, if◌then◌else◌, Option, Some, None}
 use Rattle.std.specs.Option.{option_map_or}
 use Rattle.gnss_obs.specs.declared.system.System.{System}
 use Rattle.gnss_obs.specs.declared.system.System.TheVariants.{Gps, Galileo}
 use Rattle.gnss_obs.specs.Satellites.{satellites}
 use Rattle.obs_epoch.specs.declared.cell.Cell.{Cell}
 use Rattle.obs_epoch.specs.declared.cell.StationValues.{StationValues}
-use Rattle.obs_epoch.specs.Values.{EpochValue, PlanValue, cells_of, planned_of, is_written}
+use Rattle.obs_epoch.specs.Values.{EpochValue, PlanValue, Closed, same_values, cells_of, planned_of, is_written}
 use Rattle.rinex_file.specs.Texts.{HeaderLists}
 
 -- what was observed of a planned signal: values in thousandths, all absent where nothing was
@@ -45,7 +45,7 @@ pub record FileValue : Type 0 where
   pub values : StationValues
   pub epochs : List Stamped
 
--- ---- the value of an epoch that was gathered under a plan
+-- ---- the values of epochs that were gathered under a plan
 
 -- the numbers from 1 to n
 abbrev pub numbers : ℕ → List ℕ
@@ -86,3 +86,16 @@ rows_of plan epoch system = map (seen_of plan epoch system) (written (cells_of s
 
 abbrev pub stamped_of : PlanValue → EpochValue → Stamped
 stamped_of plan epoch = record { change = None; time = epoch.time; rows = rows_of plan epoch Gps ++ rows_of plan epoch Galileo }
+
+-- the station values now, where they are no longer those before
+abbrev pub change_from : StationValues → StationValues → Option StationValues
+change_from before now = if same_values before now then None else Some now
+
+-- an epoch that was closed behind others, the last of which has these station values
+abbrev pub stamped_behind : PlanValue → StationValues → Closed → Stamped
+stamped_behind plan before c = record (stamped_of plan c.epoch) { change = change_from before c.values }
+
+-- epochs that were closed behind others, the last of which has these station values
+abbrev pub all_stamped : PlanValue → StationValues → List Closed → List Stamped
+all_stamped plan before [] = []
+all_stamped plan before (c ∷ cs) = stamped_behind plan before c ∷ all_stamped plan c.values cs

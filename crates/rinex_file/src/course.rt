@@ -2,23 +2,29 @@
 ghost use Rattle.std.specs.Prelude.{◌≡◌, ◌<◌, ◌≤◌, ◌+◌, ◌^◌, ◌∷◌, ◌++◌, ◌↔◌, ℕ, [], List, OnOk, IsTrue, map, length, if◌then◌else◌};
 ghost use Rattle.std.specs.List.Sorted.{IsStrictlyIncreasing};
 ghost use Rattle.rinex_file.specs.Value.{FileValue, Stamped};
-ghost use Rattle.rinex_file.specs.FileValues.{IsFileValue, rank_of, time_of, most_rows};
-ghost use Rattle.rinex_file.specs.File.{file_lines};
+ghost use Rattle.obs_epoch.specs.declared.cell.StationValues.{StationValues};
+ghost use Rattle.obs_epoch.specs.Dates.{civil_of};
+ghost use Rattle.rinex_file.specs.FileValues.{IsFileValue, IsTime, rank_of, time_of, most_rows, changed_by};
+ghost use Rattle.rinex_file.specs.File.{event_line, file_lines};
+ghost use Rattle.rinex_file.specs.Lines.{epoch_line};
+ghost use Rattle.rinex_file.specs.Reading.{ReadsExactly};
 ghost use Rattle.rinex_file.specs.Progress.{GoesOn};
-ghost use Rattle.rinex_file.specs.Course.{EndsIn, History, HasRoom, StandsBehind, Takes, nothing, progress_at};
-ghost use Rattle.rinex_file.specs.Sound.{MayBegin};
+ghost use Rattle.rinex_file.specs.Course.{EndsIn, History, HasRoom, StandsBehind, Takes, changes_of, nothing, progress_at};
+ghost use Rattle.rinex_file.specs.Sound.{AreRead, MayBegin};
 
 use crate::due::{Added, Due, Refusal};
+use crate::event::is_event_line;
 use crate::head_parts::HeadParts;
 use crate::head_so_far::HeadSoFar;
 use crate::kept::KeptSeen;
 use crate::numbers::Line;
 use crate::read_epoch::read_epoch_line;
 use crate::read_row::read_seen;
+use crate::read_station::{read_delta, read_position};
 use crate::section::Section;
 use arrayvec::ArrayVec;
 use gnss_obs::System;
-use obs_epoch::GpsTime;
+use obs_epoch::{GpsTime, StationValues};
 use std::alloc::Global;
 
 /// How far the reading of a file is.
@@ -26,14 +32,18 @@ use std::alloc::Global;
 pub(crate) struct Course {
     pub(crate) due: Due,
     pub(crate) head: HeadSoFar,
-    // Of the epoch that was begun, and of the last one before it.
+    // Of the epoch that was begun: the station values that change with it, and its time.
+    pub(crate) change: Option<StationValues>,
     pub(crate) time: GpsTime,
+    // Of those before it: the time of the last, and the station values that changed last, where they did.
     pub(crate) last: Option<u64>,
+    pub(crate) values: Option<StationValues>,
     // The satellite that was read last, and its place where it is one of the epoch that was begun.
     pub(crate) seen: KeptSeen,
     pub(crate) rank: Option<u64>,
     pub(crate) epochs: u64,
     pub(crate) satellites: u64,
+    pub(crate) events: u64,
 }
 
 // A satellite's place among all: those of GPS come first.
@@ -76,6 +86,29 @@ fn most_rows(gps: usize, galileo: usize) -> usize
     of_gps + of_galileo
 }
 
+// How many events a change of station values is.
+fn changes_of(change: Option<StationValues>) -> u64
+    ensures { result ≡ changes_of change }
+{
+    match change {
+        None => 0,
+        Some(_) => 1,
+    }
+}
+
+// The station values that changed last, behind a change or none.
+fn changed_by(
+    before: Option<StationValues>,
+    change: Option<StationValues>,
+) -> Option<StationValues>
+    ensures { (v : StationValues) → changed_by v result ≡ changed_by (changed_by v before) change }
+{
+    match change {
+        None => before,
+        Some(_) => change,
+    }
+}
+
 impl Course {
     /// Nothing was read.
     pub(crate) fn new(alloc: Global) -> Course
@@ -88,8 +121,10 @@ impl Course {
         Course {
             due: Due::Header(Section::Version, 0),
             head,
+            change: None,
             time,
             last: None,
+            values: None,
             seen: KeptSeen {
                 system: System::Gps,
                 satellite: 0,
@@ -98,6 +133,7 @@ impl Course {
             rank: None,
             epochs: 0,
             satellites: 0,
+            events: 0,
         }
     }
 
@@ -111,7 +147,10 @@ impl Course {
     {
         match self.due {
             Due::Header(section, row) => self.take_header(section, row, line, again),
-            Due::Epoch => self.take_epoch(line, again),
+            Due::Epoch => self.take_next(line, again),
+            Due::EventPosition => self.take_position(line),
+            Due::EventHeight(x, y, z) => self.take_height(x, y, z, line),
+            Due::EventEpoch(values) => self.take_changed(values, line, again),
             Due::Satellite(left) => self.take_satellite(left, line, again),
         }
     }
@@ -144,7 +183,7 @@ impl Course {
 
     // Whether an epoch of so many satellites may follow at a time.
     fn may_begin(&self, time: GpsTime, satellites: usize) -> bool
-        requires due { self.now.due ≡ Due.Epoch }
+        requires between { (h : History) → StandsBehind self.now h → AreRead (progress_at self.now h) }
         ensures { (h : History) → StandsBehind self.now h → IsTrue result ↔ MayBegin (progress_at self.now h) time satellites }
     {
         let most = most_rows(
@@ -157,20 +196,104 @@ impl Course {
         may_follow(self.last, self.head.first(), time)
     }
 
-    // Takes the line of an epoch.
-    fn take_epoch(&mut self, line: &[u8], again: &mut Line) -> Result<Added, Refusal>
+    // The time and the number of satellites of an epoch that may follow, by its line.
+    fn read_begun(&self, line: &[u8], again: &mut Line) -> Option<(GpsTime, usize)>
+        requires between { (h : History) → StandsBehind self.now h → AreRead (progress_at self.now h) }
+        ensures { (h : History) → StandsBehind self.now h
+            → ReadsExactly (λ (e : ℕ × ℕ). IsTime e.0 × MayBegin (progress_at self.now h) e.0 e.1) (λ (e : ℕ × ℕ). epoch_line (civil_of e.0) e.1) line.now result }
+    {
+        let Some(read) = read_epoch_line(line, again) else {
+            return None;
+        };
+        if !self.may_begin(read.0, read.1) {
+            return None;
+        }
+        Some(read)
+    }
+
+    // Whether an event begins with the line: it may, but in front of the first epoch.
+    fn begins_event(&self, line: &[u8]) -> bool
+        ensures { IsTrue result ↔ ((0 < self.now.epochs) × (line.now ≡ event_line)) }
+    {
+        self.epochs > 0 && is_event_line(line)
+    }
+
+    // Takes the line of an epoch or of an event.
+    fn take_next(&mut self, line: &[u8], again: &mut Line) -> Result<Added, Refusal>
         requires due { self.old.due ≡ Due.Epoch }
         ensures takes { Takes self.old self.new line.now result }
         ensures room { (n : ℕ) → HasRoom self.old n → OnOk result (HasRoom self.new (n + 1)) }
     {
-        let Some(read) = read_epoch_line(line, again) else {
+        if self.begins_event(line) {
+            self.due = Due::EventPosition;
+            return Ok(Added::NoRow);
+        }
+        let Some(begun) = self.read_begun(line, again) else {
             return Err(Refusal::Bad);
         };
-        if !self.may_begin(read.0, read.1) {
+        self.change = None;
+        self.time = begun.0;
+        self.due = Due::Satellite(begun.1);
+        Ok(Added::NoRow)
+    }
+
+    // Takes the position in an event.
+    fn take_position(&mut self, line: &[u8]) -> Result<Added, Refusal>
+        requires due { self.old.due ≡ Due.EventPosition }
+        ensures takes { Takes self.old self.new line.now result }
+        ensures room { (n : ℕ) → HasRoom self.old n → OnOk result (HasRoom self.new (n + 1)) }
+    {
+        let Some(position) = read_position(line) else {
+            return Err(Refusal::Bad);
+        };
+        self.due = Due::EventHeight(position.0, position.1, position.2);
+        Ok(Added::NoRow)
+    }
+
+    // The station values behind the epochs that were read.
+    fn station_values(&self) -> StationValues
+        ensures { result ≡ changed_by self.now.head.shown.values self.now.values }
+    {
+        match self.values {
+            None => self.head.values(),
+            Some(values) => values,
+        }
+    }
+
+    // Takes the height in an event, behind this position: they aren't both those that stand already.
+    fn take_height(&mut self, x: i64, y: i64, z: i64, line: &[u8]) -> Result<Added, Refusal>
+        requires due { self.old.due ≡ Due.EventHeight x y z }
+        ensures takes { Takes self.old self.new line.now result }
+        ensures room { (n : ℕ) → HasRoom self.old n → OnOk result (HasRoom self.new (n + 1)) }
+    {
+        let Some(height) = read_delta(line) else {
+            return Err(Refusal::Bad);
+        };
+        let values = StationValues { x, y, z, height };
+        if values.is_same(self.station_values()) {
             return Err(Refusal::Bad);
         }
-        self.time = read.0;
-        self.due = Due::Satellite(read.1);
+        self.due = Due::EventEpoch(values);
+        Ok(Added::NoRow)
+    }
+
+    // Takes the line of an epoch behind an event that tells these station values.
+    fn take_changed(
+        &mut self,
+        values: StationValues,
+        line: &[u8],
+        again: &mut Line,
+    ) -> Result<Added, Refusal>
+        requires due { self.old.due ≡ Due.EventEpoch values }
+        ensures takes { Takes self.old self.new line.now result }
+        ensures room { (n : ℕ) → HasRoom self.old n → OnOk result (HasRoom self.new (n + 1)) }
+    {
+        let Some(begun) = self.read_begun(line, again) else {
+            return Err(Refusal::Bad);
+        };
+        self.change = Some(values);
+        self.time = begun.0;
+        self.due = Due::Satellite(begun.1);
         Ok(Added::NoRow)
     }
 
@@ -204,6 +327,8 @@ impl Course {
             return Ok(Added::OneRow);
         }
         self.epochs += 1;
+        self.events += changes_of(self.change);
+        self.values = changed_by(self.values, self.change);
         self.last = Some(self.time.milliseconds());
         self.rank = None;
         self.due = Due::Epoch;

@@ -1,19 +1,21 @@
 //! Reading a file whole, and writing it back.
-ghost use Rattle.std.specs.Prelude.{◌≡◌, ◌<◌, ◌≤◌, ◌==◌, ℕ, List, ◌++◌, All, Err, OnOk, IfOk, IfErr, IfSome, length, take, drop, flat_map, ◌+◌, if◌then◌else◌};
+ghost use Rattle.std.specs.Prelude.{◌≡◌, ◌<◌, ◌≤◌, ◌==◌, ℕ, List, ◌++◌, All, Err, OnOk, IfOk, IfErr, IfSome, length, take, drop, flat_map, ◌+◌, if◌then◌else◌, None};
 ghost use Rattle.rtcm_bits.specs.Device.{HasFailed};
 ghost use Rattle.rinex_file.specs.Numbers.{joined};
 ghost use Rattle.rinex_file.specs.Value.{FileValue};
 ghost use Rattle.rinex_file.specs.FileValues.{IsEntry, IsFileValue};
-ghost use Rattle.rinex_file.specs.File.{header_text, stamped_lines, file_text, file_lines};
+ghost use Rattle.rinex_file.specs.File.{header_text, change_lines, stamped_lines, file_text, file_lines};
 ghost use Rattle.rinex_file.specs.Exact.{Explains, IsReadOr, most_lines};
 ghost use Rattle.rinex_file.specs.Blocks.{Leaves};
 ghost use Rattle.rinex_file.specs.Course.{epoch_at};
-ghost use Rattle.rinex_file.specs.Kept.{row_at, rows_of, epochs_of, entry_count, AreKept, HasRoom};
+ghost use Rattle.rinex_file.specs.Kept.{row_at, rows_of, epochs_of, change_at, entry_count, AreKept, HasRoom};
 ghost use Rattle.rinex_file.specs.Lines.{seen_line};
 ghost use Rattle.rinex_file.specs.Counting.{IsTextWith, IsCountedOr};
 
 use crate::epoch::epoch_line;
+use crate::event::event_line;
 use crate::head::{Head, header_lines};
+use crate::header::{delta_line, position_line};
 use crate::keeper::Keeper;
 use crate::kept::{KeptEntry, KeptEpoch, KeptRow};
 use crate::kept_line::kept_line;
@@ -21,16 +23,17 @@ use crate::numbers::Line;
 use crate::obs_file::ObsFile;
 use crate::read_fault::ReadFault;
 use crate::reading::Reading;
-use obs_epoch::GpsTime;
+use obs_epoch::{GpsTime, StationValues};
 use rtcm_bits::Counted;
 use std::alloc::{AllocError, Global};
 use std::io::Read;
 
-/// How much a file holds: its epochs, and the lines of satellites of all of them.
+/// How much a file holds: its epochs, the lines of satellites of all of them, and the events that tell station values.
 #[derive(Clone, Copy, Debug, PartialEq, Eq)]
 pub struct Counts {
     pub epochs: u64,
     pub satellites: u64,
+    pub events: u64,
 }
 
 /// Reads a file to its end and counts what it holds. It is accepted exactly where it is spelled as
@@ -55,6 +58,7 @@ pub fn check_file<R: Read>(alloc: Global, reader: &mut Counted<R>) -> Result<Cou
             Ok(None) => return Ok(Counts {
                 epochs: reading.course.epochs,
                 satellites: reading.course.satellites,
+                events: reading.course.events,
             }),
             Err(fault) => return Err(fault),
         }
@@ -140,7 +144,7 @@ fn add_epoch(
 ) -> Result<usize, AllocError>
     requires room { All HasRoom (rows_of rows.now entries.now) }
     requires entries { entry_count rows.now ≤ length entries.now }
-    ensures text { OnOk result (text.new.items ≡ text.old.items ++ joined (stamped_lines (epoch_at time (rows_of rows.now entries.now)))) }
+    ensures text { OnOk result (text.new.items ≡ text.old.items ++ joined (stamped_lines (epoch_at None time (rows_of rows.now entries.now)))) }
     ensures count { IfOk result (λ n. n ≡ entry_count rows.now) }
 {
     epoch_line(time, rows.len(), line);
@@ -152,43 +156,70 @@ fn add_epoch(
     Ok(at)
 }
 
-// Appends the lines of an epoch whose satellites and entries begin at these places, and answers where they end.
+// Appends the event of an epoch that has the change of station values at this place, and answers where the next one is.
+#[tactic(auto, unfolding(crate::specs::File::event_text))]
+fn add_change(
+    text: &mut Vec<u8>,
+    changed: bool,
+    changes: &[StationValues],
+    at: usize,
+) -> Result<usize, AllocError>
+    requires { at + (if changed then 1 else 0) ≤ length changes.now }
+    ensures text { OnOk result (text.new.items ≡ text.old.items ++ joined (change_lines (change_at changed (drop at changes.now)))) }
+    ensures next { IfOk result (λ next. next ≡ at + (if changed then 1 else 0)) }
+{
+    if !changed {
+        return Ok(at);
+    }
+    let values = changes[at];
+    text.extend_from_slice(event_line())?;
+    text.extend_from_slice(position_line(&values).as_slice())?;
+    text.extend_from_slice(delta_line(&values).as_slice())?;
+    Ok(at + 1)
+}
+
+// Appends the lines of an epoch whose satellites, entries and change begin at these places, and answers where they end.
 fn add_next(
     text: &mut Vec<u8>,
     epoch: &KeptEpoch,
+    changes: &[StationValues],
     rows: &[KeptRow],
     entries: &[KeptEntry],
-    at: (usize, usize),
+    at: (usize, usize, usize),
     line: &mut Line,
-) -> Result<(usize, usize), AllocError>
+) -> Result<(usize, usize, usize), AllocError>
+    requires changes { at.2 + (if epoch.now.changed then 1 else 0) ≤ length changes.now }
     requires rows { at.0 + epoch.now.rows ≤ length rows.now }
     requires entries { at.1 + entry_count (take epoch.now.rows (drop at.0 rows.now)) ≤ length entries.now }
     requires room { All HasRoom (rows_of (take epoch.now.rows (drop at.0 rows.now)) (drop at.1 entries.now)) }
     ensures text { OnOk result (text.new.items ≡ text.old.items
-        ++ joined (stamped_lines (epoch_at epoch.now.time (rows_of (take epoch.now.rows (drop at.0 rows.now)) (drop at.1 entries.now))))) }
-    ensures end { IfOk result (λ end. (end.0 ≡ at.0 + epoch.now.rows) × (end.1 ≡ at.1 + entry_count (take epoch.now.rows (drop at.0 rows.now)))) }
+        ++ joined (stamped_lines (epoch_at (change_at epoch.now.changed (drop at.2 changes.now)) epoch.now.time (rows_of (take epoch.now.rows (drop at.0 rows.now)) (drop at.1 entries.now))))) }
+    ensures end { IfOk result (λ end. (end.0 ≡ at.0 + epoch.now.rows) × (end.1 ≡ at.1 + entry_count (take epoch.now.rows (drop at.0 rows.now)))
+        × (end.2 ≡ at.2 + (if epoch.now.changed then 1 else 0))) }
 {
-    let (row, entry) = at;
+    let (row, entry, change) = at;
+    let behind = add_change(text, epoch.changed, changes, change)?;
     let own = &rows[row..][..epoch.rows];
     let count = add_epoch(text, epoch.time, own, &entries[entry..], line)?;
-    Ok((row + epoch.rows, entry + count))
+    Ok((row + epoch.rows, entry + count, behind))
 }
 
 // Appends the lines of these epochs.
 fn add_epochs(
     text: &mut Vec<u8>,
     epochs: &[KeptEpoch],
+    changes: &[StationValues],
     rows: &[KeptRow],
     entries: &[KeptEntry],
     line: &mut Line,
 ) -> Result<(), AllocError>
-    requires kept { AreKept epochs.now rows.now entries.now 0 }
+    requires kept { AreKept epochs.now changes.now rows.now entries.now 0 }
     requires room { All HasRoom (rows_of rows.now entries.now) }
-    ensures { OnOk result (text.new.items ≡ text.old.items ++ joined (flat_map stamped_lines (epochs_of epochs.now rows.now entries.now))) }
+    ensures { OnOk result (text.new.items ≡ text.old.items ++ joined (flat_map stamped_lines (epochs_of epochs.now changes.now rows.now entries.now))) }
 {
-    let mut at = (0, 0);
+    let mut at = (0, 0, 0);
     for epoch in epochs {
-        at = add_next(text, epoch, rows, entries, at, line)?;
+        at = add_next(text, epoch, changes, rows, entries, at, line)?;
     }
     Ok(())
 }
@@ -203,6 +234,7 @@ pub fn file_bytes(alloc: Global, file: &ObsFile) -> Result<Vec<u8>, AllocError>
     add_epochs(
         &mut text,
         file.epochs.as_slice(),
+        file.changes.as_slice(),
         file.rows.as_slice(),
         file.entries.as_slice(),
         &mut line,

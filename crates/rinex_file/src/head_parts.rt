@@ -49,6 +49,13 @@ impl HeadSoFar {
         }
     }
 
+    /// The station values, as they were read.
+    pub(crate) fn values(&self) -> StationValues
+        ensures { result ≡ self.now.shown.values }
+    {
+        self.values
+    }
+
     /// The time of the first epoch, as it was read.
     pub(crate) fn first(&self) -> GpsTime
         ensures { result ≡ self.now.shown.first }

@@ -1,5 +1,5 @@
 //! What is kept of the epochs of a file while it is read.
-ghost use Rattle.std.specs.Prelude.{◌≡◌, OnOk, [], IfOk};
+ghost use Rattle.std.specs.Prelude.{◌≡◌, ◌++◌, OnOk, IfOk, [], is_some, option_to_list};
 ghost use Rattle.rinex_file.specs.FileValues.{IsFileValue};
 ghost use Rattle.rinex_file.specs.Course.{nothing, with_epoch, with_line, with_seen};
 ghost use Rattle.rinex_file.specs.Steps.{file_at};
@@ -11,16 +11,34 @@ use crate::due::Added;
 use crate::head_parts::HeadParts;
 use crate::kept::{KeptEntry, KeptEpoch, KeptRow, KeptSeen};
 use crate::obs_file::ObsFile;
-use obs_epoch::GpsTime;
+use obs_epoch::{GpsTime, StationValues};
 use std::alloc::{AllocError, Global};
 
 /// The epochs of a file that were read, and the satellites of one that was begun.
 #[derive(Drop)]
 pub(crate) struct Keeper {
     pub(crate) epochs: Vec<KeptEpoch>,
+    pub(crate) changes: Vec<StationValues>,
     pub(crate) rows: Vec<KeptRow>,
     pub(crate) entries: Vec<KeptEntry>,
     pub(crate) begun: usize,
+}
+
+// Keeps a change of station values where there is one, and says whether there is.
+fn keep_change(
+    changes: &mut Vec<StationValues>,
+    change: Option<StationValues>,
+) -> Result<bool, AllocError>
+    ensures changes { OnOk result (changes.new.items ≡ changes.old.items ++ option_to_list change) }
+    ensures changed { IfOk result (λ changed. changed ≡ is_some change) }
+{
+    match change {
+        None => Ok(false),
+        Some(values) => {
+            changes.push(values)?;
+            Ok(true)
+        }
+    }
 }
 
 impl Keeper {
@@ -31,6 +49,7 @@ impl Keeper {
     {
         Keeper {
             epochs: Vec::new(alloc),
+            changes: Vec::new(alloc),
             rows: Vec::new(alloc),
             entries: Vec::new(alloc),
             begun: 0,
@@ -48,7 +67,7 @@ impl Keeper {
             Added::OneRow => self.keep_row(&course.seen),
             Added::LastRow => {
                 self.keep_row(&course.seen)?;
-                self.close(course.time)
+                self.close(course.change, course.time)
             }
         }
     }
@@ -71,14 +90,20 @@ impl Keeper {
         Ok(())
     }
 
-    // Keeps the epoch that was begun, at this time.
-    fn close(&mut self, time: GpsTime) -> Result<(), AllocError>
+    // Keeps the epoch that was begun, behind this change of station values and at this time.
+    fn close(&mut self, change: Option<StationValues>, time: GpsTime) -> Result<(), AllocError>
         requires kept { IsKept self.old }
         ensures kept { OnOk result (IsKept self.new) }
-        ensures added { OnOk result (history_of self.new ≡ with_epoch (history_of self.old) time) }
+        ensures added { OnOk result (history_of self.new ≡ with_epoch (history_of self.old) change time) }
     {
+        let changed = keep_change(&mut self.changes, change)?;
         let rows = self.begun;
-        self.epochs.push(KeptEpoch { time, rows })?;
+        let epoch = KeptEpoch {
+            time,
+            rows,
+            changed,
+        };
+        self.epochs.push(epoch)?;
         self.begun = 0;
         Ok(())
     }
@@ -92,12 +117,13 @@ impl Keeper {
     {
         let Keeper {
             epochs,
+            changes,
             rows,
             entries,
             ..
         } = self;
         let parts = course.head.into_parts(alloc)?;
-        Ok(file_of(parts, epochs, rows, entries))
+        Ok(file_of(parts, epochs, changes, rows, entries))
     }
 }
 
@@ -105,12 +131,13 @@ impl Keeper {
 fn file_of(
     parts: HeadParts,
     epochs: Vec<KeptEpoch>,
+    changes: Vec<StationValues>,
     rows: Vec<KeptRow>,
     entries: Vec<KeptEntry>,
 ) -> ObsFile
-    requires value { IsFileValue (record { texts = parts.texts; plan = parts.plan; values = parts.values; epochs = epochs_of epochs.items rows.items entries.items }) }
-    requires kept { AreKept epochs.items rows.items entries.items 0 }
-    ensures { result ≡ record { texts = parts.texts; plan = parts.plan; values = parts.values; epochs = epochs_of epochs.items rows.items entries.items } }
+    requires value { IsFileValue (record { texts = parts.texts; plan = parts.plan; values = parts.values; epochs = epochs_of epochs.items changes.items rows.items entries.items }) }
+    requires kept { AreKept epochs.items changes.items rows.items entries.items 0 }
+    ensures { result ≡ record { texts = parts.texts; plan = parts.plan; values = parts.values; epochs = epochs_of epochs.items changes.items rows.items entries.items } }
 {
     let HeadParts {
         texts,
@@ -122,6 +149,7 @@ fn file_of(
         plan,
         values,
         epochs,
+        changes,
         rows,
         entries,
     }

@@ -49,9 +49,10 @@ pub(crate) struct KeptRow {
     pub(crate) entries: usize,
 }
 
-/// An epoch, with so many of the satellites that are kept of all.
+/// An epoch, with so many of the satellites that are kept of all, and whether it has the next of the changes of station values.
 #[derive(Clone, Copy, Debug, Drop)]
 pub(crate) struct KeptEpoch {
     pub(crate) time: GpsTime,
     pub(crate) rows: usize,
+    pub(crate) changed: bool,
 }

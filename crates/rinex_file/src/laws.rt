@@ -1,21 +1,22 @@
 //! Laws of the text of a file.
-ghost use Rattle.std.specs.Prelude.{◌≡◌, ◌≢◌, ℕ, List, [], ◌∷◌, ◌++◌, flat_map};
+ghost use Rattle.std.specs.Prelude.{◌≡◌, ◌≢◌, ℕ, List, [], ◌∷◌, ◌++◌};
 ghost use Rattle.obs_epoch.specs.declared.cell.StationValues.{StationValues};
-ghost use Rattle.obs_epoch.specs.Values.{EpochValue, PlanValue};
+ghost use Rattle.obs_epoch.specs.Values.{PlanValue, Closed};
 ghost use Rattle.rinex_file.specs.Texts.{HeaderLists};
 ghost use Rattle.rinex_file.specs.FileValues.{AreTexts};
 ghost use Rattle.rinex_file.specs.Gathered.{AreSignals, IsGatheredFile};
-ghost use Rattle.rinex_file.specs.File.{header_text, epoch_text, file_text, gathered};
+ghost use Rattle.rinex_file.specs.File.{header_text, closed_text, file_text, gathered};
 
 use crate::texts::HeaderTexts;
 use gnss_obs::System;
 use obs_epoch::Plan;
 
-/// What the writers send is the text of a file value: the header of the first epoch, and then each epoch in turn.
+/// What the writers send is the text of a file value: the header of the first epoch, and then each epoch in turn, behind an event
+/// where its station values are no longer those before.
 pub fn file()
     // The file of epochs that were gathered under a plan is that of the value that they make.
-    ensures text { (texts : HeaderLists) (plan : PlanValue) (values : StationValues) (e : EpochValue) (es : List EpochValue)
-        → header_text texts plan values e.time ++ flat_map (epoch_text plan) (e ∷ es) ≡ file_text (gathered texts plan values (e ∷ es)) }
+    ensures text { (texts : HeaderLists) (plan : PlanValue) (values : StationValues) (c : Closed) (cs : List Closed)
+        → header_text texts plan values c.epoch.time ++ closed_text plan values (c ∷ cs) ≡ file_text (gathered texts plan values (c ∷ cs)) }
     // Where there is no epoch the file is empty.
     ensures none { (texts : HeaderLists) (plan : PlanValue) (values : StationValues) → file_text (gathered texts plan values []) ≡ [] }
     // A header isn't empty.

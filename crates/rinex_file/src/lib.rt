@@ -1,13 +1,14 @@
 //! Observation files: RINEX 3.05.
 //!
 //! A [`Head`] says what a header shows, with the texts that [`HeaderTexts`] has judged. [`header_lines`], [`epoch_line`] and
-//! [`satellite_line`] make lines; [`write_header`] and [`write_epoch`] send them out. None of these takes memory.
+//! [`satellite_line`] make lines; [`write_header`], [`write_event`] and [`write_epoch`] send them out. None of these takes memory.
 #![tactic(auto)]
 
 mod block;
 mod course;
 mod due;
 mod epoch;
+mod event;
 mod fault;
 mod file;
 mod head;
@@ -45,7 +46,7 @@ pub use obs_file::ObsFile;
 pub use read_fault::ReadFault;
 pub use satellite::satellite_line;
 pub use texts::{HeaderTexts, Texts};
-pub use write::{write_epoch, write_header};
+pub use write::{write_epoch, write_event, write_header};
 
 #[cfg(test)]
 mod tests;

@@ -1,6 +1,7 @@
 //! A file that was read.
 ghost use Rattle.std.specs.Prelude.{◌≡◌, length};
 ghost use Rattle.std.specs.List.{sum_by};
+ghost use Rattle.rinex_file.specs.Course.{events_in};
 
 use crate::kept::{KeptEntry, KeptEpoch, KeptRow};
 use crate::texts::HeaderTexts;
@@ -14,6 +15,7 @@ pub struct ObsFile {
     pub(crate) plan: Plan,
     pub(crate) values: StationValues,
     pub(crate) epochs: Vec<KeptEpoch>,
+    pub(crate) changes: Vec<StationValues>,
     pub(crate) rows: Vec<KeptRow>,
     pub(crate) entries: Vec<KeptEntry>,
 }
@@ -26,12 +28,12 @@ impl Model for ObsFile {
 
     ghost Value = { FileValue };
 
-    ghost view = { λ f. record { texts = f.texts; plan = f.plan; values = f.values; epochs = epochs_of f.epochs.items f.rows.items f.entries.items } };
+    ghost view = { λ f. record { texts = f.texts; plan = f.plan; values = f.values; epochs = epochs_of f.epochs.items f.changes.items f.rows.items f.entries.items } };
 
-    // It is a file's value, and no row and no entry is left over.
+    // It is a file's value, and no change, no row and no entry is left over.
     ghost invariant = { λ f.
-        IsFileValue (record { texts = f.texts; plan = f.plan; values = f.values; epochs = epochs_of f.epochs.items f.rows.items f.entries.items })
-        × AreKept f.epochs.items f.rows.items f.entries.items 0 };
+        IsFileValue (record { texts = f.texts; plan = f.plan; values = f.values; epochs = epochs_of f.epochs.items f.changes.items f.rows.items f.entries.items })
+        × AreKept f.epochs.items f.changes.items f.rows.items f.entries.items 0 };
 }
 
 impl ObsFile {
@@ -49,7 +51,7 @@ impl ObsFile {
         &self.plan
     }
 
-    /// Position and height of the antenna.
+    /// Position and height of the antenna, as the header tells them.
     pub fn station_values(&self) -> StationValues
         ensures { result ≡ self.now.values }
     {
@@ -61,6 +63,13 @@ impl ObsFile {
         ensures { result ≡ length self.now.epochs }
     {
         self.epochs.as_slice().len()
+    }
+
+    /// The number of events, each of which tells station values that are no longer those before.
+    pub fn events(&self) -> usize
+        ensures { result ≡ events_in self.now.epochs }
+    {
+        self.changes.as_slice().len()
     }
 
     /// The number of lines of satellites, those of all epochs together.

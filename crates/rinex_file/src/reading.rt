@@ -40,6 +40,9 @@ fn fault_at(due: Due, number: u64) -> ReadFault
     match due {
         Due::Header(_, _) => ReadFault::BadHeader(number),
         Due::Epoch => ReadFault::BadEpoch(number),
+        Due::EventPosition => ReadFault::BadEvent(number),
+        Due::EventHeight(_, _, _) => ReadFault::BadEvent(number),
+        Due::EventEpoch(_) => ReadFault::BadEpoch(number),
         Due::Satellite(_) => ReadFault::BadSatellite(number),
     }
 }

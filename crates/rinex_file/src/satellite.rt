@@ -153,7 +153,7 @@ pub(crate) fn put_seen(line: &mut Line, cells: &[Cell], plan: &Plan, system: Sys
 /// the loss-of-lock and the strength column behind each. What wasn't observed is blank. It is written by
 /// [`write_epoch`](crate::write_epoch) where it has a value.
 pub fn satellite_line(epoch: &Epoch, plan: &Plan, satellite: Sat, line: &mut Line)
-    ensures { line.new.items ≡ seen_line (seen_of plan.now epoch.now satellite.system satellite.id) }
+    ensures { line.new.items ≡ seen_line (seen_of plan.now epoch.now.epoch satellite.system satellite.id) }
 {
     line.clear();
     let cells = epoch.cells(satellite.system());

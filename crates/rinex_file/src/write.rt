@@ -4,15 +4,17 @@ ghost use Rattle.std.specs.Io.KnownBytes.{Appends};
 ghost use Rattle.rtcm_bits.specs.Device.{AppendsPrefix, HasFailed};
 ghost use Rattle.obs_epoch.specs.Values.{AreHeld, cells_of, has_value, is_written};
 ghost use Rattle.gnss_obs.specs.Satellites.{satellites};
-ghost use Rattle.rinex_file.specs.File.{header_text, epoch_text, line_among, lines_up_to};
+ghost use Rattle.rinex_file.specs.File.{header_text, event_text, epoch_text, line_among, lines_up_to};
 
 use crate::epoch::epoch_line;
+use crate::event::event_line;
 use crate::fault::HeadFault;
 use crate::head::{Head, header_lines};
+use crate::header::{delta_line, position_line};
 use crate::numbers::Line;
 use crate::satellite::put_seen;
 use gnss_obs::System;
-use obs_epoch::{Cell, Epoch, Plan, end_of};
+use obs_epoch::{Cell, Epoch, Plan, StationValues, end_of};
 use rtcm_bits::Counted;
 use std::io::Write;
 
@@ -37,6 +39,35 @@ pub fn write_header<W: Write>(head: &Head, writer: &mut Counted<W>) -> Result<()
         }
     }
     Ok(())
+}
+
+/// Writes an event that tells station values: its line, and position and height as in a header.
+///
+/// Where the writer fails, what went out is a prefix of these lines.
+#[tactic(auto, unfolding(crate::specs::File::event_text))]
+pub fn write_event<W: Write>(
+    values: StationValues,
+    writer: &mut Counted<W>,
+) -> Result<(), HeadFault>
+    ensures whole { OnOk result (Appends (W.contents writer.old.inner) (W.contents writer.new.inner) (event_text values)) }
+    ensures part { OnErr result (AppendsPrefix (W.contents writer.old.inner) (W.contents writer.new.inner) (event_text values)) }
+    ensures only { IfErr result (λ fault. fault ≡ HeadFault.Write) }
+    ensures failed { OnErr result (HasFailed writer.old.failures writer.new.failures) }
+    ensures fine { OnOk result (writer.new.failures ≡ writer.old.failures) }
+    ensures widest { writer.new.widest ≡ writer.old.widest }
+{
+    match writer.write_whole(event_line()) {
+        Ok(()) => {}
+        Err(_) => return Err(HeadFault::Write),
+    }
+    match writer.write_whole(position_line(&values).as_slice()) {
+        Ok(()) => {}
+        Err(_) => return Err(HeadFault::Write),
+    }
+    match writer.write_whole(delta_line(&values).as_slice()) {
+        Ok(()) => Ok(()),
+        Err(_) => Err(HeadFault::Write),
+    }
 }
 
 // Whether a cell has a value.
@@ -92,8 +123,8 @@ fn write_system<W: Write>(
     line: &mut Line,
     writer: &mut Counted<W>,
 ) -> Result<(), HeadFault>
-    ensures whole { OnOk result (Appends (W.contents writer.old.inner) (W.contents writer.new.inner) (lines_up_to plan.now epoch.now system (satellites system))) }
-    ensures part { OnErr result (AppendsPrefix (W.contents writer.old.inner) (W.contents writer.new.inner) (lines_up_to plan.now epoch.now system (satellites system))) }
+    ensures whole { OnOk result (Appends (W.contents writer.old.inner) (W.contents writer.new.inner) (lines_up_to plan.now epoch.now.epoch system (satellites system))) }
+    ensures part { OnErr result (AppendsPrefix (W.contents writer.old.inner) (W.contents writer.new.inner) (lines_up_to plan.now epoch.now.epoch system (satellites system))) }
     ensures only { IfErr result (λ fault. fault ≡ HeadFault.Write) }
     ensures failed { OnErr result (HasFailed writer.old.failures writer.new.failures) }
     ensures fine { OnOk result (writer.new.failures ≡ writer.old.failures) }
@@ -121,8 +152,8 @@ pub fn write_epoch<W: Write>(
     plan: &Plan,
     writer: &mut Counted<W>,
 ) -> Result<(), HeadFault>
-    ensures whole { OnOk result (Appends (W.contents writer.old.inner) (W.contents writer.new.inner) (epoch_text plan.now epoch.now)) }
-    ensures part { OnErr result (AppendsPrefix (W.contents writer.old.inner) (W.contents writer.new.inner) (epoch_text plan.now epoch.now)) }
+    ensures whole { OnOk result (Appends (W.contents writer.old.inner) (W.contents writer.new.inner) (epoch_text plan.now epoch.now.epoch)) }
+    ensures part { OnErr result (AppendsPrefix (W.contents writer.old.inner) (W.contents writer.new.inner) (epoch_text plan.now epoch.now.epoch)) }
     ensures only { IfErr result (λ fault. fault ≡ HeadFault.Write) }
     ensures failed { OnErr result (HasFailed writer.old.failures writer.new.failures) }
     ensures fine { OnOk result (writer.new.failures ≡ writer.old.failures) }

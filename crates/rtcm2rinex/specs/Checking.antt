@@ -6,14 +6,19 @@ use Rattle.rtcm_bits.specs.Device.{AppendsPrefix}
 use Rattle.rinex_file.specs.Value.{FileValue}
 use Rattle.rinex_file.specs.FileValues.{IsFileValue}
 use Rattle.rinex_file.specs.File.{file_text}
+use Rattle.rinex_file.specs.Course.{events_in}
 use Rattle.rinex_file.specs.declared.read_fault.ReadFault.TheVariants as reading
 use Rattle.rtcm2rinex.specs.declared.fault.ToolFault.{ToolFault}
 use Rattle.rtcm2rinex.specs.declared.fault.ToolFault.TheVariants as faults
 use Rattle.rtcm2rinex.specs.Lines.{line}
 
--- how many epochs a file has, and how many lines of satellites in all
+-- how many epochs a file has, how many lines of satellites in all, and how many events
 unfoldable pub check_line : FileValue → List ℕ
-check_line v = line (codes "epochs" ∷ decimal (length v.epochs) ∷ codes "satellites" ∷ decimal (sum_by (λ e. length e.rows) v.epochs) ∷ [])
+check_line v = line (
+    codes "epochs" ∷ decimal (length v.epochs)
+    ∷ codes "satellites" ∷ decimal (sum_by (λ e. length e.rows) v.epochs)
+    ∷ codes "events" ∷ decimal (events_in v.epochs)
+    ∷ [])
 
 -- the reader had the text of a file value, and of this one's counts so much was written
 abbrev pub IsFileWith : (List ℕ → Type 0) → Option (List ℕ) → Type 0

@@ -17,7 +17,7 @@ use rtcm_bits::{Counted, DeviceFailed};
 use std::alloc::Global;
 use std::io::{Read, Write};
 
-/// The line of a file: how many epochs it has, and how many lines of satellites.
+/// The line of a file: how many epochs it has, how many lines of satellites, and how many events.
 #[tactic(auto, unfolding(crate::specs::Checking::check_line))]
 fn check_line(counts: Counts) -> Line
     ensures { (v : FileValue) → AreCounts counts v → result ≡ check_line v }
@@ -26,11 +26,13 @@ fn check_line(counts: Counts) -> Line
     line.add_number(counts.epochs);
     line.add_word("satellites");
     line.add_number(counts.satellites);
+    line.add_word("events");
+    line.add_number(counts.events);
     line.finish();
     line
 }
 
-/// Reads a file to its end and writes how many epochs and satellites it has. It is accepted exactly where it is spelled as
+/// Reads a file to its end and writes how many epochs, satellites and events it has. It is accepted exactly where it is spelled as
 /// `convert` spells files; else the first line that isn't is told.
 pub fn run_check<R: Read, W: Write>(
     alloc: Global,

@@ -75,7 +75,7 @@ fn check<'a>(alloc: Global) -> Command<'a> {
     Command::new(alloc, "check")
         .about("Checks that standard input is an observation file just as convert writes it")
         .after_help(
-            "Example: rtcm2rinex check < station.obs\nA line as 'epochs 2 satellites 17' counts the epochs and the lines of satellites. Of any other file the first line that is wrong is told on standard error, as 'rtcm2rinex: BadHeader 2'.",
+            "Example: rtcm2rinex check < station.obs\nA line as 'epochs 2 satellites 17 events 0' counts the epochs, the lines of satellites, and the events that tell other station values. Of any other file the first line that is wrong is told on standard error, as 'rtcm2rinex: BadHeader 2'.",
         )
 }
 

@@ -99,6 +99,7 @@ impl fmt::Display for ToolFault {
             ToolFault::Convert(fault) => write!(f, "{fault:?}"),
             ToolFault::Check(ReadFault::BadHeader(line)) => write!(f, "BadHeader {line}"),
             ToolFault::Check(ReadFault::BadEpoch(line)) => write!(f, "BadEpoch {line}"),
+            ToolFault::Check(ReadFault::BadEvent(line)) => write!(f, "BadEvent {line}"),
             ToolFault::Check(ReadFault::BadSatellite(line)) => write!(f, "BadSatellite {line}"),
             ToolFault::Check(ReadFault::CutShort(line)) => write!(f, "CutShort {line}"),
             ToolFault::Check(fault) => write!(f, "{fault:?}"),

@@ -2,6 +2,7 @@
 mod buffer;
 mod check;
 mod convert;
+mod events;
 mod faults;
 mod files;
 mod frames;

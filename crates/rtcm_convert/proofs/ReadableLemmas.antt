@@ -15,7 +15,7 @@ use Rattle.obs_epoch.specs.Reach.{IsHeard, IsGatheredEpoch, TimesRise, AreGather
 use Rattle.rinex_file.specs.Texts.{HeaderLists}
 use Rattle.rinex_file.specs.FileValues.{AreTexts}
 use Rattle.rinex_file.specs.File.{gathered}
-use Rattle.rinex_file.specs.Gathered.{AreSignals, HasSatellite, IsGatheredFile, epoch_of}
+use Rattle.rinex_file.specs.Gathered.{AreSignals, HasSatellite, IsGatheredFile}
 use Rattle.rtcm_convert.specs.Converted.{Settings, heard_of, heard_in, messages_of, written, text_of, text_with, file, so_far}
 use Rattle.rtcm_convert.specs.Laws.{IsFileText}
 use Rattle.rtcm_convert.specs.Readable.{IsTextOf, IsReadable, AreSound}
@@ -88,7 +88,7 @@ text_readable : Known → (texts : HeaderLists) (plan : PlanValue) (es : List Cl
 unfolding text_of
 text_readable k texts plan [] x p h some = inl refl
 text_readable k texts plan (e ∷ es) x p h some =
-    inr (gathered texts plan e.values (map epoch_of (e ∷ es)), record { is = k.gathered texts plan e es x p h some; same = k.text texts plan e es })
+    inr (gathered texts plan e.values (e ∷ es), record { is = k.gathered texts plan e es x p h some; same = k.text texts plan e es })
 
 with_readable : Known → (s : Settings) (es : List Closed) → AreSound s → AreGatheredEpochs s.gather.plan es → IsReadable (text_with s es)
 with_readable k s es sound h =

@@ -13,10 +13,10 @@ use Rattle.obs_epoch.specs.Gather.{Gathered}
 use Rattle.obs_epoch.specs.Gathering.{Gathers, Fits, closed_by, closed_in, plan_in, closed_epochs, known_epochs}
 use Rattle.rtcm_convert.specs.Converted.{Settings, text_with}
 use Rattle.rtcm_convert.specs.Fed.{GoesOn, BreaksOff}
-use Rattle.rtcm_convert.specs.Filed.{added, epochs_after, Writes}
+use Rattle.rtcm_convert.specs.Filed.{added, epochs_after, values_after, Writes}
 use Rattle.rtcm_convert.specs.declared.filer.Filer.{Filer}
 use Rattle.rtcm_convert.proofs.PartLemmas.{goes_on-by, breaks_off-by, breaks_off-before}
-use Rattle.rtcm_convert.proofs.TextLemmas.{count, text-closed, count-closed, text-more}
+use Rattle.rtcm_convert.proofs.TextLemmas.{last, text-closed, count-closed, last-closed, text-more}
 
 -- what the gatherer says of a message that it was handed
 pub record Took (old new : Gathered) (kind : Kind) (m : Heard) : Type 0 where
@@ -32,15 +32,21 @@ pub record Wrote (old new : Filer) (now : Gathered) (a b : Option (List ℕ)) : 
   pub gatherer : new.gatherer ≡ now
   pub texts : new.texts ≡ old.texts
   pub epochs : new.epochs ≡ epochs_after old.epochs (closed_in now)
-  pub out : Appends a b (added old.texts (plan_in now) old.epochs (closed_in now) now.values)
+  pub values : new.values ≡ values_after old.values (closed_in now) now.values
+  pub out : Appends a b (added old.texts (plan_in now) old.values (closed_in now) now.values)
 
 pub wrote_all : (v w : Filer) (g : Gathered) (a b : Option (List ℕ)) (s : Settings) (ms ms' : List Heard) (es : List Closed) (again again' : Option Heard)
     → Wrote v w g a b → Writes v s ms es again → Gathers g s.gather ms' (es ++ closed_by (closed_in g) g.values) again'
     → (all : List Closed) × Writes w s ms' all again' × GoesOn a b (text_with s es) (text_with s all)
 wrote_all v w g a b s ms ms' es again again' o x y =
-    let out : Appends a b (added s.texts s.gather.plan (count es) (closed_in g) g.values) = rw (← x.texts, ← y.plan, ← x.epochs) o.out in (
+    let out : Appends a b (added s.texts s.gather.plan (last es) (closed_in g) g.values) = rw (← x.texts, ← y.plan, ← x.values) o.out in (
       es ++ closed_by (closed_in g) g.values,
-      record { texts = o.texts ∙ x.texts; gatherer = rw o.gatherer y; epochs = o.epochs ∙ ap (λ n. epochs_after n (closed_in g)) x.epochs ∙ sym (count-closed es (closed_in g) g.values) },
+      record {
+        texts = o.texts ∙ x.texts;
+        gatherer = rw o.gatherer y;
+        epochs = o.epochs ∙ ap (λ n. epochs_after n (closed_in g)) x.epochs ∙ sym (count-closed es (closed_in g) g.values);
+        values = o.values ∙ ap (λ w. values_after w (closed_in g) g.values) x.values ∙ sym (last-closed es (closed_in g) g.values);
+      },
       goes_on-by a b _ _ _ (text-closed s es (closed_in g) g.values) out,
     )
 
@@ -67,15 +73,15 @@ closed_front v g k m s ms es (Some n) t f x =
 
 -- what was added, by the words of the definitions
 pub part_of : (v : Filer) (g : Gathered) (a b : Option (List ℕ)) (s : Settings) (ms : List Heard) (es : List Closed) (again : Option Heard) → Writes v s ms es again → plan_in g ≡ s.gather.plan
-    → AppendsPrefix a b (added v.texts (plan_in g) v.epochs (closed_in g) g.values) → AppendsPrefix a b (added s.texts s.gather.plan (count es) (closed_in g) g.values)
-part_of v g a b s ms es again x plan p = rw (← x.texts, ← plan, ← x.epochs) p
+    → AppendsPrefix a b (added v.texts (plan_in g) v.values (closed_in g) g.values) → AppendsPrefix a b (added s.texts s.gather.plan (last es) (closed_in g) g.values)
+part_of v g a b s ms es again x plan p = rw (← x.texts, ← plan, ← x.values) p
 
 pub wrote_part : (v : Filer) (g : Gathered) (k : Kind) (m : Heard) (a b : Option (List ℕ))
-    → Took v.gatherer g k m → AppendsPrefix a b (added v.texts (plan_in g) v.epochs (closed_in g) g.values)
+    → Took v.gatherer g k m → AppendsPrefix a b (added v.texts (plan_in g) v.values (closed_in g) g.values)
     → (s : Settings) (ms : List Heard) (es : List Closed) (again : Option Heard) → Fits again m → Writes v s ms es again
     → BreaksOff a b (text_with s es) (text_with s (closed_epochs s.gather (ms ++ m ∷ [])))
 wrote_part v g k m a b t p s ms es again f x =
     let c = closed_front v.gatherer g k m s.gather ms es again t f x.gatherer in
-    let out : AppendsPrefix a b (added s.texts s.gather.plan (count es) (closed_in g) g.values) = part_of v g a b s ms es again x c.0 p in
+    let out : AppendsPrefix a b (added s.texts s.gather.plan (last es) (closed_in g) g.values) = part_of v g a b s ms es again x c.0 p in
     breaks_off-before a b _ (text_with s (es ++ closed_by (closed_in g) g.values)) _ (breaks_off-by a b _ _ _ (text-closed s es (closed_in g) g.values) out)
     (text-more s _ _ c.1)

@@ -23,7 +23,7 @@ use Rattle.rtcm_convert.specs.Filed.{added, Writes, Settled, Files, HasGathered}
 use Rattle.rtcm_convert.specs.declared.tally.Tally.{Tally}
 use Rattle.rtcm_convert.specs.declared.filer.Filer.{Filer}
 use Rattle.rtcm_convert.proofs.PartLemmas.{goes_on-refl, goes_on-trans, breaks_off-after, breaks_off-by}
-use Rattle.rtcm_convert.proofs.TextLemmas.{cap_more, count, text-closed}
+use Rattle.rtcm_convert.proofs.TextLemmas.{cap_more, count, last, text-closed}
 use Rattle.rtcm_convert.proofs.ExactLemmas.{few_more, message_few, refused_few}
 use Rattle.rtcm_convert.proofs.StepLemmas.{Wrote, wrote_all, part_of}
 
@@ -129,7 +129,7 @@ files_more v w x s fs f m k a b e valid t kind same now y =
     let ms = sym (messages_more fs f m e) in
     let z : Settled w s (messages_of (fs ++ f ∷ [])) = subst (λ (ms : List Heard). Settled w s ms) ms p.0 in (
       rw now record {
-        settled = record { texts = z.texts; gatherer = z.gatherer; epochs = z.epochs };
+        settled = record { texts = z.texts; gatherer = z.gatherer; epochs = z.epochs; values = z.values };
         tally = tally_one s fs f w.tally _ (Some k) (outcome_ok s fs f m k e (kind s (messages_of fs) y.settled)) (same ∙ y.tally) refl;
         few = few_one s fs f (Some (kind_of s.gather (messages_of fs) (heard m))) (outcome_ok s fs f m _ e refl) y.few (message_few s.gather (messages_of fs) m valid);
       },
@@ -142,7 +142,7 @@ files_same v x s fs f d a e now y =
     let ms = sym (messages_same fs f d e) in
     let z : Settled v s (messages_of (fs ++ f ∷ [])) = subst (λ (ms : List Heard). Settled v s ms) ms y.settled in (
       rw now record {
-        settled = record { texts = z.texts; gatherer = z.gatherer; epochs = z.epochs };
+        settled = record { texts = z.texts; gatherer = z.gatherer; epochs = z.epochs; values = z.values };
         tally = tally_one s fs f v.tally _ None (outcome_err s fs f d e) y.tally refl;
         few = few_one s fs f None (outcome_err s fs f d e) y.few refused_few;
       },
@@ -179,7 +179,7 @@ gathered v w g is over t s fs x =
       gathers = subst (λ (h : Gathered). Gathers h s.gather (messages_of fs) all None) (sym is) (t s.gather (messages_of fs) es x.settled.gatherer);
     }
 
-pub file_part : (v : Filer) (g : Gathered) (a b : Option (List ℕ)) → AppendsPrefix a b (added v.texts (plan_in g) v.epochs (closed_in g) g.values) → g.has_ended ≡ true
+pub file_part : (v : Filer) (g : Gathered) (a b : Option (List ℕ)) → AppendsPrefix a b (added v.texts (plan_in g) v.values (closed_in g) g.values) → g.has_ended ≡ true
     → ((s : Setup) (ms : List Heard) (es : List Closed) → Gathers v.gatherer s ms es None → Gathers g s ms (es ++ closed_by (closed_in g) g.values) None)
     → (s : Settings) (fs : List Framed) → Files v s fs → BreaksOff a b (so_far s fs) (file s fs)
 file_part v g a b p over t s fs x =
@@ -187,7 +187,7 @@ file_part v g a b p over t s fs x =
     let es = closed_epochs s.gather ms in
     let now = t s.gather ms es x.settled.gatherer in
     let e : es ++ closed_by (closed_in g) g.values ≡ all_epochs s.gather ms = now.epochs refl ∙ ap (λ h. known_epochs h s.gather ms) over in
-    let out : AppendsPrefix a b (added s.texts s.gather.plan (count es) (closed_in g) g.values) = part_of v g a b s ms es None x.settled now.plan p in
+    let out : AppendsPrefix a b (added s.texts s.gather.plan (last es) (closed_in g) g.values) = part_of v g a b s ms es None x.settled now.plan p in
     subst (λ (all : List Closed). BreaksOff a b (so_far s fs) (text_with s all)) e (breaks_off-by a b _ _ _ (text-closed s es (closed_in g) g.values) out)
 
 -- a message that was handed in twice

@@ -1,31 +1,27 @@
 -- The text of a file as its epochs come.
 use Rattle.std.proofs.Common.{◌≡◌, ℕ, List, [], ◌∷◌, ◌++◌, Bool, true, false, refl, sym, ap, subst, ◌∙◌, arith, Option, Some, None, append_assoc, append-nil, nat_lt, suc, length, length-append, ◌+◌, ◌<◌}
-use Rattle.std.specs.Prelude.{map, flat_map, if◌then◌else◌}
-use Rattle.std.proofs.lemmas.Grind.{flat_map-append}
+use Rattle.std.specs.Prelude.{◌==◌, if◌then◌else◌}
+use Rattle.std.proofs.lemmas.Cmp.{int_eq_equiv}
 use Rattle.std.proofs.lemmas.List.Elements.{filter-append, filter_map-append}
 use Rattle.std.specs.Io.KnownBytes.{Appends}
 use Rattle.std.proofs.KnownBytes.{Appends-trans, Appends-nil}
 use Rattle.rtcm_bits.specs.Device.{AppendsPrefix}
 use Rattle.rtcm_scan.specs.Frames.{Framed}
 use Rattle.rtcm_scan.specs.Known.{IsPrefix}
-use Rattle.obs_epoch.specs.Values.{PlanValue, EpochValue, Closed, satellites}
+use Rattle.obs_epoch.specs.Values.{PlanValue, EpochValue, Closed, same_values, satellites}
 use Rattle.obs_epoch.specs.declared.cell.StationValues.{StationValues}
 use Rattle.obs_epoch.specs.Heard.{Setup, Heard}
 use Rattle.obs_epoch.specs.Gathering.{closed_epochs, all_epochs, closed_by}
 use Rattle.rinex_file.specs.Texts.{HeaderLists}
-use Rattle.rinex_file.specs.File.{header_text, epoch_text, file_text, gathered}
+use Rattle.rinex_file.specs.File.{header_text, epoch_text, event_text, change_text, closed_text, file_text, gathered}
 use Rattle.rtcm_convert.specs.Converted.{Settings, messages_of, written, text_of, text_with, so_far, file}
 use Rattle.rtcm_convert.specs.Outcomes.{capped}
-use Rattle.rtcm_convert.specs.Filed.{opening, added, epochs_after}
+use Rattle.rtcm_convert.specs.Filed.{opening, added, epochs_after, values_after, values_behind, last_values}
 use Rattle.rtcm_convert.proofs.PartLemmas.{prefix_more, prefix_after}
 
 -- a count that is capped, and counts on
 pub cap_more : (n k : ℕ) → capped (capped n + k) ≡ capped (n + k)
 cap_more n k = omega arith
-
--- a count is capped far above its first step
-cap_some : (n : ℕ) → nat_lt 0 (capped n) ≡ nat_lt 0 n
-cap_some n = grind arith
 
 pub cap_none : (n : ℕ) → capped n ≡ 0 → n ≡ 0
 cap_none n e = omega arith
@@ -33,40 +29,67 @@ cap_none n e = omega arith
 pub cap_over : (n m : ℕ) → m ≡ capped n → (m ≡ 0 → ⊥) → 0 < n
 cap_over n m e none = grind arith
 
+-- ---- station values
+
+same_self : (v : StationValues) → same_values v v ≡ true
+same_self v = rw (int_eq_equiv.refl v.x, int_eq_equiv.refl v.y, int_eq_equiv.refl v.z) (nat_self v.height) where
+  nat_self : (n : ℕ) → (n == n) ≡ true
+  nat_self n = grind arith
+
+-- no event stands where they are the same
+no_change : (v : StationValues) → change_text v v ≡ []
+no_change v = ap (λ (b : Bool). if b then [] else event_text v) (same_self v)
+
+-- ---- more epochs
+
+closed_text-append : (p : PlanValue) (v : StationValues) (cs ds : List Closed) → closed_text p v (cs ++ ds) ≡ closed_text p v cs ++ closed_text p (values_behind v cs) ds
+closed_text-append p v [] ds = refl
+closed_text-append p v (c ∷ cs) ds =
+    let rest = closed_text p (values_behind c.values cs) ds in
+    ap (λ l. change_text v c.values ++ (epoch_text p c.epoch ++ l)) (closed_text-append p c.values cs ds)
+    ∙ ap (λ l. change_text v c.values ++ l) (sym (append_assoc (epoch_text p c.epoch) (closed_text p c.values cs) rest))
+    ∙ sym (append_assoc (change_text v c.values) (epoch_text p c.epoch ++ closed_text p c.values cs) rest)
+
 -- more epochs go behind a file with one, and make one where there is none
 pub text_of-append : (t : HeaderLists) (p : PlanValue) (es fs : List Closed) → IsPrefix (text_of t p es) (text_of t p (es ++ fs))
 unfolding text_of
 text_of-append t p [] fs = (text_of t p fs, refl)
 text_of-append t p (e ∷ es) fs = (
-  flat_map (λ c. epoch_text p c.epoch) fs,
-  ap (λ l. header_text t p e.values e.epoch.time ++ l) (flat_map-append (λ c. epoch_text p c.epoch) (e ∷ es) fs)
-      ∙ sym (append_assoc (header_text t p e.values e.epoch.time) _ _),
+  closed_text p (values_behind e.values (e ∷ es)) fs,
+  ap (λ l. header_text t p e.values e.epoch.time ++ l) (closed_text-append p e.values (e ∷ es) fs)
+      ∙ sym (append_assoc (header_text t p e.values e.epoch.time) (closed_text p e.values (e ∷ es)) (closed_text p (values_behind e.values (e ∷ es)) fs)),
 )
-
-some : (n : ℕ) → nat_lt 0 (suc n) ≡ true
-some n = grind arith
-
-opening_next : (t : HeaderLists) (p : PlanValue) (n : ℕ) (e : EpochValue) (v : StationValues) → opening t p (suc n) e v ≡ []
-opening_next t p n e v = ap (λ (b : Bool). if b then [] else header_text t p v e.time) (some n)
 
 -- one epoch more
 text_of-one : (t : HeaderLists) (p : PlanValue) (es : List Closed) (c : Closed)
-    → text_of t p (es ++ c ∷ []) ≡ text_of t p es ++ (opening t p (length es) c.epoch c.values ++ epoch_text p c.epoch)
+    → text_of t p (es ++ c ∷ []) ≡ text_of t p es ++ (opening t p (last_values es) c.epoch c.values ++ epoch_text p c.epoch)
 unfolding text_of
-text_of-one t p [] c = ap (λ l. header_text t p c.values c.epoch.time ++ l) (append-nil (epoch_text p c.epoch))
+text_of-one t p [] c =
+    ap (λ l. header_text t p c.values c.epoch.time ++ (l ++ (epoch_text p c.epoch ++ []))) (no_change c.values)
+    ∙ ap (λ l. header_text t p c.values c.epoch.time ++ l) (append-nil (epoch_text p c.epoch))
 text_of-one t p (e ∷ es) c =
-    ap (λ l. header_text t p e.values e.epoch.time ++ l) (flat_map-append (λ c. epoch_text p c.epoch) (e ∷ es) (c ∷ []) ∙ ap (λ l. flat_map (λ c. epoch_text p c.epoch) (e ∷ es) ++ l) (append-nil (epoch_text p c.epoch)))
-    ∙ sym (append_assoc (header_text t p e.values e.epoch.time) _ _)
-    ∙ ap (λ l. text_of t p (e ∷ es) ++ (l ++ epoch_text p c.epoch)) (sym (opening_next t p (length es) c.epoch c.values))
-
-opening_capped : (t : HeaderLists) (p : PlanValue) (n : ℕ) (e : EpochValue) (v : StationValues) → opening t p n e v ≡ opening t p (capped n) e v
-opening_capped t p n e v = ap (λ (b : Bool). if b then [] else header_text t p v e.time) (sym (cap_some n))
+    let before = values_behind e.values es in
+    let last = change_text before c.values ++ epoch_text p c.epoch in
+    ap (λ l. header_text t p e.values e.epoch.time ++ l) (closed_text-append p e.values (e ∷ es) (c ∷ []) ∙ ap (λ l. closed_text p e.values (e ∷ es) ++ (change_text before c.values ++ l)) (append-nil (epoch_text p c.epoch)))
+    ∙ sym (append_assoc (header_text t p e.values e.epoch.time) (closed_text p e.values (e ∷ es)) last)
 
 -- one epoch more, if it is written
 text_of-maybe : (t : HeaderLists) (p : PlanValue) (es : List Closed) (c : Closed) (b : Bool)
-    → text_of t p (es ++ (if b then c ∷ [] else [])) ≡ text_of t p es ++ (if b then opening t p (capped (length es)) c.epoch c.values ++ epoch_text p c.epoch else [])
-text_of-maybe t p es c true = text_of-one t p es c ∙ ap (λ l. text_of t p es ++ (l ++ epoch_text p c.epoch)) (opening_capped t p (length es) c.epoch c.values)
+    → text_of t p (es ++ (if b then c ∷ [] else [])) ≡ text_of t p es ++ (if b then opening t p (last_values es) c.epoch c.values ++ epoch_text p c.epoch else [])
+text_of-maybe t p es c true = text_of-one t p es c
 text_of-maybe t p es c false = ap (text_of t p) (append-nil es) ∙ sym (append-nil (text_of t p es))
+
+values_behind-one : (v : StationValues) (es : List Closed) (c : Closed) → values_behind v (es ++ c ∷ []) ≡ c.values
+values_behind-one v [] c = refl
+values_behind-one v (e ∷ es) c = values_behind-one e.values es c
+
+last_values-one : (es : List Closed) (c : Closed) → last_values (es ++ c ∷ []) ≡ Some c.values
+last_values-one [] c = refl
+last_values-one (e ∷ es) c = ap Some (values_behind-one e.values es c)
+
+last_values-maybe : (es : List Closed) (c : Closed) (b : Bool) → last_values (es ++ (if b then c ∷ [] else [])) ≡ (if b then Some c.values else last_values es)
+last_values-maybe es c true = last_values-one es c
+last_values-maybe es c false = ap last_values (append-nil es)
 
 count-maybe : (es : List Closed) (c : Closed) (b : Bool) → capped (length (es ++ (if b then c ∷ [] else []))) ≡ (if b then capped (capped (length es) + 1) else capped (length es))
 count-maybe es c true = ap capped (length-append es (c ∷ [])) ∙ sym (cap_more (length es) 1)
@@ -76,9 +99,17 @@ count-maybe es c false = ap (λ l. capped (length l)) (append-nil es)
 abbrev pub count : List Closed → ℕ
 count es = capped (length (written es))
 
+-- the station values in the text that were written last
+abbrev pub last : List Closed → Option StationValues
+last es = last_values (written es)
+
+pub last-closed : (es : List Closed) (o : Option EpochValue) (v : StationValues) → last (es ++ closed_by o v) ≡ values_after (last es) o v
+last-closed es None v = ap last (append-nil es)
+last-closed es (Some e) v = rw filter-append (last_values-maybe (written es) (record { epoch = e; values = v }) (nat_lt 0 (satellites e)))
+
 -- what the epoch that was closed last adds
 pub text-closed : (s : Settings) (es : List Closed) (o : Option EpochValue) (v : StationValues)
-    → text_with s (es ++ closed_by o v) ≡ text_with s es ++ added s.texts s.gather.plan (count es) o v
+    → text_with s (es ++ closed_by o v) ≡ text_with s es ++ added s.texts s.gather.plan (last es) o v
 text-closed s es None v = ap (text_with s) (append-nil es) ∙ sym (append-nil (text_with s es))
 text-closed s es (Some e) v = rw filter-append (text_of-maybe s.texts s.gather.plan (written es) (record { epoch = e; values = v }) (nat_lt 0 (satellites e)))
 
@@ -115,49 +146,89 @@ lt_false : (k : ℕ) → k ≡ 0 → nat_lt 0 k ≡ false
 lt_false k none = ap (λ n. nat_lt 0 n) none
 
 -- what an epoch with a satellite adds
-added_is : (t : HeaderLists) (p : PlanValue) (n k : ℕ) (o : Option EpochValue) (e : EpochValue) (v : StationValues) → Some e ≡ o → k ≡ satellites e → (k ≡ 0 → ⊥)
+added_is : (t : HeaderLists) (p : PlanValue) (n : Option StationValues) (k : ℕ) (o : Option EpochValue) (e : EpochValue) (v : StationValues) → Some e ≡ o → k ≡ satellites e → (k ≡ 0 → ⊥)
     → added t p n o v ≡ opening t p n e v ++ epoch_text p e
 added_is t p n k o e v is count none =
     sym (ap (λ q. added t p n q v) is) ∙ ap (λ (b : Bool). if b then opening t p n e v ++ epoch_text p e else []) (sym (ap (λ m. nat_lt 0 m) count) ∙ lt_true k none)
 
 -- one without adds nothing
-added_not : (t : HeaderLists) (p : PlanValue) (n k : ℕ) (o : Option EpochValue) (e : EpochValue) (v : StationValues) → Some e ≡ o → k ≡ satellites e → k ≡ 0 → added t p n o v ≡ []
+added_not : (t : HeaderLists) (p : PlanValue) (n : Option StationValues) (k : ℕ) (o : Option EpochValue) (e : EpochValue) (v : StationValues) → Some e ≡ o → k ≡ satellites e → k ≡ 0 → added t p n o v ≡ []
 added_not t p n k o e v is count none =
     sym (ap (λ q. added t p n q v) is) ∙ ap (λ (b : Bool). if b then opening t p n e v ++ epoch_text p e else []) (sym (ap (λ m. nat_lt 0 m) count) ∙ lt_false k none)
 
-pub whole_none : (a : Option (List ℕ)) (t : HeaderLists) (p : PlanValue) (n k : ℕ) (o : Option EpochValue) (e : EpochValue) (v : StationValues) → Some e ≡ o → k ≡ satellites e → k ≡ 0
+whole_none : (a : Option (List ℕ)) (t : HeaderLists) (p : PlanValue) (n : Option StationValues) (k : ℕ) (o : Option EpochValue) (e : EpochValue) (v : StationValues) → Some e ≡ o → k ≡ satellites e → k ≡ 0
     → Appends a a (added t p n o v)
 whole_none a t p n k o e v is count none = subst (λ (l : List ℕ). Appends a a l) (sym (added_not t p n k o e v is count none)) (Appends-nil a)
 
-pub whole_epoch : (a b c : Option (List ℕ)) (t : HeaderLists) (p q : PlanValue) (n k : ℕ) (o : Option EpochValue) (e : EpochValue) (v : StationValues) → Some e ≡ o → k ≡ satellites e → (k ≡ 0 → ⊥) → q ≡ p
+whole_epoch : (a b c : Option (List ℕ)) (t : HeaderLists) (p q : PlanValue) (n : Option StationValues) (k : ℕ) (o : Option EpochValue) (e : EpochValue) (v : StationValues) → Some e ≡ o → k ≡ satellites e → (k ≡ 0 → ⊥) → q ≡ p
     → Appends a b (opening t p n e v) → Appends b c (epoch_text q e) → Appends a c (added t p n o v)
 whole_epoch a b c t p q n k o e v is count none same first x =
     let y : Appends b c (epoch_text p e) = subst (λ (r : PlanValue). Appends b c (epoch_text r e)) same x in
     subst (λ (l : List ℕ). Appends a c l) (sym (added_is t p n k o e v is count none)) (Appends-trans a b c (opening t p n e v) (epoch_text p e) first y)
 
 -- the writer failed in what stands before the epoch
-pub part_open : (a b : Option (List ℕ)) (t : HeaderLists) (p : PlanValue) (n k : ℕ) (o : Option EpochValue) (e : EpochValue) (v : StationValues) → Some e ≡ o → k ≡ satellites e → (k ≡ 0 → ⊥)
+part_open : (a b : Option (List ℕ)) (t : HeaderLists) (p : PlanValue) (n : Option StationValues) (k : ℕ) (o : Option EpochValue) (e : EpochValue) (v : StationValues) → Some e ≡ o → k ≡ satellites e → (k ≡ 0 → ⊥)
     → AppendsPrefix a b (opening t p n e v) → AppendsPrefix a b (added t p n o v)
 part_open a b t p n k o e v is count none x = rw (added_is t p n k o e v is count none) (prefix_more a b (opening t p n e v) (epoch_text p e) x)
 
 -- and in the epoch
-pub part_epoch : (a b c : Option (List ℕ)) (t : HeaderLists) (p q : PlanValue) (n k : ℕ) (o : Option EpochValue) (e : EpochValue) (v : StationValues) → Some e ≡ o → k ≡ satellites e → (k ≡ 0 → ⊥) → q ≡ p
+part_epoch : (a b c : Option (List ℕ)) (t : HeaderLists) (p q : PlanValue) (n : Option StationValues) (k : ℕ) (o : Option EpochValue) (e : EpochValue) (v : StationValues) → Some e ≡ o → k ≡ satellites e → (k ≡ 0 → ⊥) → q ≡ p
     → Appends a b (opening t p n e v) → AppendsPrefix b c (epoch_text q e) → AppendsPrefix a c (added t p n o v)
 part_epoch a b c t p q n k o e v is count none same first x =
     let y : AppendsPrefix b c (epoch_text p e) = subst (λ (r : PlanValue). AppendsPrefix b c (epoch_text r e)) same x in
     rw (added_is t p n k o e v is count none) (prefix_after a b c (opening t p n e v) (epoch_text p e) first y)
+
+-- an epoch that the gatherer lends is the one that it closed last, with the station values that are known
+lent : (e : Closed) (o : Option EpochValue) (v : StationValues) → e ∷ [] ≡ closed_by o v → (Some e.epoch ≡ o) × (e.values ≡ v)
+lent e None v h = cc
+lent e (Some x) v h = same h where
+  same : e ∷ [] ≡ record { epoch = x; values = v } ∷ [] → (Some e.epoch ≡ Some x) × (e.values ≡ v)
+  same h = let is : e ≡ record { epoch = x; values = v } = cc in (ap (λ (c : Closed). Some c.epoch) is, ap (λ (c : Closed). c.values) is)
+
+-- the same of an epoch that the gatherer lends
+module _ (t : HeaderLists) (p : PlanValue) (n : Option StationValues) (k : ℕ) (o : Option EpochValue) (e : Closed) (v : StationValues) (is : e ∷ [] ≡ closed_by o v) (size : k ≡ satellites e.epoch) where
+  pub none_lent : (a : Option (List ℕ)) → k ≡ 0 → Appends a a (added t p n o v)
+  none_lent a none = whole_none a t p n k o e.epoch v (lent e o v is).0 size none
+
+  pub whole_lent : (a b c : Option (List ℕ)) (q : PlanValue) → (k ≡ 0 → ⊥) → q ≡ p → Appends a b (opening t p n e.epoch e.values) → Appends b c (epoch_text q e.epoch) → Appends a c (added t p n o v)
+  whole_lent a b c q some same first x =
+      let l = lent e o v is in
+      subst (λ (w : StationValues). Appends a c (added t p n o w)) l.1 (whole_epoch a b c t p q n k o e.epoch e.values l.0 size some same first x)
+
+  pub open_lent : (a b : Option (List ℕ)) → (k ≡ 0 → ⊥) → AppendsPrefix a b (opening t p n e.epoch e.values) → AppendsPrefix a b (added t p n o v)
+  open_lent a b some x =
+      let l = lent e o v is in
+      subst (λ (w : StationValues). AppendsPrefix a b (added t p n o w)) l.1 (part_open a b t p n k o e.epoch e.values l.0 size some x)
+
+  pub part_lent : (a b c : Option (List ℕ)) (q : PlanValue) → (k ≡ 0 → ⊥) → q ≡ p → Appends a b (opening t p n e.epoch e.values) → AppendsPrefix b c (epoch_text q e.epoch) → AppendsPrefix a c (added t p n o v)
+  part_lent a b c q some same first x =
+      let l = lent e o v is in
+      subst (λ (w : StationValues). AppendsPrefix a c (added t p n o w)) l.1 (part_epoch a b c t p q n k o e.epoch e.values l.0 size some same first x)
+
+  -- what was written last, and how many epochs
+  pub now_none : (m : ℕ) → k ≡ 0 → (m ≡ epochs_after m o) × (n ≡ values_after n o v)
+  now_none m none =
+      let l = lent e o v is in
+      let no : nat_lt 0 (satellites e.epoch) ≡ false = sym (ap (λ x. nat_lt 0 x) size) ∙ lt_false k none in (
+        sym (sym (ap (λ q. epochs_after m q) l.0) ∙ ap (λ (b : Bool). if b then capped (m + 1) else m) no),
+        sym (sym (ap (λ q. values_after n q v) l.0) ∙ ap (λ (b : Bool). if b then Some v else n) no),
+      )
+
+  pub now_lent : (m : ℕ) → (k ≡ 0 → ⊥) → (capped (m + 1) ≡ epochs_after m o) × (Some e.values ≡ values_after n o v)
+  now_lent m some =
+      let l = lent e o v is in
+      let yes : nat_lt 0 (satellites e.epoch) ≡ true = sym (ap (λ x. nat_lt 0 x) size) ∙ lt_true k some in (
+        sym (sym (ap (λ q. epochs_after m q) l.0) ∙ ap (λ (b : Bool). if b then capped (m + 1) else m) yes),
+        sym (sym (ap (λ q. values_after n q v) l.0) ∙ ap (λ (b : Bool). if b then Some v else n) yes ∙ ap Some (sym l.1)),
+      )
 
 -- nothing is written of no frames
 pub so_far-none : ((s : Setup) → closed_epochs s [] ≡ []) → (s : Settings) → so_far s [] ≡ []
 unfolding text_of
 so_far-none none s = ap (text_with s) (none s.gather)
 
-epochs_apart : (p : PlanValue) (cs : List Closed) → flat_map (λ c. epoch_text p c.epoch) cs ≡ flat_map (epoch_text p) (map (λ c. c.epoch) cs)
-epochs_apart p [] = refl
-epochs_apart p (c ∷ cs) = ap (λ l. epoch_text p c.epoch ++ l) (epochs_apart p cs)
-
 -- the text of one epoch and more is that of a file value
-pub text_of-file : ((t : HeaderLists) (p : PlanValue) (v : StationValues) (e : EpochValue) (es : List EpochValue) → header_text t p v e.time ++ flat_map (epoch_text p) (e ∷ es) ≡ file_text (gathered t p v (e ∷ es)))
-    → (t : HeaderLists) (p : PlanValue) (c : Closed) (cs : List Closed) → text_of t p (c ∷ cs) ≡ file_text (gathered t p c.values (map (λ c. c.epoch) (c ∷ cs)))
+pub text_of-file : ((t : HeaderLists) (p : PlanValue) (v : StationValues) (c : Closed) (cs : List Closed) → header_text t p v c.epoch.time ++ closed_text p v (c ∷ cs) ≡ file_text (gathered t p v (c ∷ cs)))
+    → (t : HeaderLists) (p : PlanValue) (c : Closed) (cs : List Closed) → text_of t p (c ∷ cs) ≡ file_text (gathered t p c.values (c ∷ cs))
 unfolding text_of
-text_of-file law t p c cs = ap (λ l. header_text t p c.values c.epoch.time ++ l) (epochs_apart p (c ∷ cs)) ∙ law t p c.values c.epoch (map (λ c. c.epoch) cs)
+text_of-file law t p c cs = law t p c.values c cs

@@ -1,5 +1,5 @@
 -- The file that frames make.
-use Rattle.std.specs.Prelude.{ℕ, nat_lt, List, [], ◌∷◌, ◌++◌, length, filter, flat_map, Option, Some, None, Result, Ok, Err}
+use Rattle.std.specs.Prelude.{ℕ, nat_lt, List, [], ◌∷◌, ◌++◌, length, filter, Option, Some, None, Result, Ok, Err}
 use Rattle.std.specs.List.{filter_map}
 use Rattle.rtcm_scan.specs.Frames.{Framed}
 use Rattle.rtcm_msg.specs.declared.message.Message.{Message}
@@ -9,7 +9,7 @@ use Rattle.obs_epoch.specs.Values.{PlanValue, Closed, satellites}
 use Rattle.obs_epoch.specs.Heard.{Setup, Heard, heard}
 use Rattle.obs_epoch.specs.Gathering.{all_epochs, closed_epochs}
 use Rattle.rinex_file.specs.Texts.{HeaderLists}
-use Rattle.rinex_file.specs.File.{header_text, epoch_text}
+use Rattle.rinex_file.specs.File.{header_text, closed_text}
 
 -- what a conversion is told at first
 pub record Settings : Type 0 where
@@ -33,10 +33,11 @@ messages_of fs = filter_map heard_in fs
 abbrev pub written : List Closed → List Closed
 written es = filter (λ e. nat_lt 0 (satellites e.epoch)) es
 
--- a header with the first epoch's time and the station values known when it was closed, then the epochs; nothing where there is none
+-- a header with the first epoch's time and the station values known when it was closed, then the epochs, each behind an event
+-- where the station values known when it was closed are no longer those of the epoch before; nothing where there is no epoch
 unfoldable pub text_of : HeaderLists → PlanValue → List Closed → List ℕ
 text_of texts plan [] = []
-text_of texts plan (e ∷ es) = header_text texts plan e.values e.epoch.time ++ flat_map (λ c. epoch_text plan c.epoch) (e ∷ es)
+text_of texts plan (e ∷ es) = header_text texts plan e.values e.epoch.time ++ closed_text plan e.values (e ∷ es)
 
 -- the text of those of these epochs in which a satellite has a value
 abbrev pub text_with : Settings → List Closed → List ℕ

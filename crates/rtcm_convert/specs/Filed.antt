@@ -1,24 +1,41 @@
 -- What stands in the file when the epochs of some messages were written.
-use Rattle.std.specs.Prelude.{◌≡◌, ℕ, ◌+◌, nat_lt, true, List, [], ◌++◌, length, Option, Some, None, if◌then◌else◌}
+use Rattle.std.specs.Prelude.{◌≡◌, ℕ, ◌+◌, nat_lt, true, List, [], ◌∷◌, ◌++◌, length, Option, Some, None, if◌then◌else◌}
 use Rattle.rtcm_scan.specs.Frames.{Framed}
 use Rattle.obs_epoch.specs.Values.{PlanValue, EpochValue, Closed, satellites}
 use Rattle.obs_epoch.specs.declared.cell.StationValues.{StationValues}
 use Rattle.obs_epoch.specs.Heard.{Heard}
 use Rattle.obs_epoch.specs.Gathering.{Gathers, closed_epochs}
 use Rattle.rinex_file.specs.Texts.{HeaderLists}
-use Rattle.rinex_file.specs.File.{header_text, epoch_text}
+use Rattle.rinex_file.specs.File.{header_text, epoch_text, change_text}
 use Rattle.rtcm_convert.specs.Converted.{Settings, messages_of, written}
 use Rattle.rtcm_convert.specs.Outcomes.{outcomes, tally_of, capped, capped_tally, AreFew}
 use Rattle.rtcm_convert.specs.declared.filer.Filer.{Filer}
 
--- what stands before an epoch in a file of so many: the header before the first
-abbrev pub opening : HeaderLists → PlanValue → ℕ → EpochValue → StationValues → List ℕ
-opening texts plan n e values = (if nat_lt 0 n then [] else header_text texts plan values e.time)
+-- what stands before an epoch where these station values were written last: an event where they are no longer the same, and the
+-- header where none were
+abbrev pub opening : HeaderLists → PlanValue → Option StationValues → EpochValue → StationValues → List ℕ
+opening texts plan None e values = header_text texts plan values e.time
+opening texts plan (Some before) e values = change_text before values
 
--- what an epoch that was closed adds to a file of so many
-abbrev pub added : HeaderLists → PlanValue → ℕ → Option EpochValue → StationValues → List ℕ
-added texts plan n None values = []
-added texts plan n (Some e) values = (if nat_lt 0 (satellites e) then opening texts plan n e values ++ epoch_text plan e else [])
+-- what an epoch that was closed adds to a file
+abbrev pub added : HeaderLists → PlanValue → Option StationValues → Option EpochValue → StationValues → List ℕ
+added texts plan before None values = []
+added texts plan before (Some e) values = (if nat_lt 0 (satellites e) then opening texts plan before e values ++ epoch_text plan e else [])
+
+-- the station values that were written last then
+abbrev pub values_after : Option StationValues → Option EpochValue → StationValues → Option StationValues
+values_after before None values = before
+values_after before (Some e) values = (if nat_lt 0 (satellites e) then Some values else before)
+
+-- the station values behind these epochs, where these stand before them
+abbrev pub values_behind : StationValues → List Closed → StationValues
+values_behind v [] = v
+values_behind v (c ∷ cs) = values_behind c.values cs
+
+-- the station values that were written last in a file of these epochs
+abbrev pub last_values : List Closed → Option StationValues
+last_values [] = None
+last_values (c ∷ cs) = Some (values_behind c.values cs)
 
 -- how many epochs the file has then
 abbrev pub epochs_after : ℕ → Option EpochValue → ℕ
@@ -30,6 +47,7 @@ pub record Writes (v : Filer) (s : Settings) (ms : List Heard) (es : List Closed
   pub texts : v.texts ≡ s.texts
   pub gatherer : Gathers v.gatherer s.gather ms es again
   pub epochs : v.epochs ≡ capped (length (written es))
+  pub values : v.values ≡ last_values (written es)
 
 -- the filer took these messages and wrote the epochs that they close
 abbrev pub Settled : Filer → Settings → List Heard → Type 0

@@ -41,7 +41,8 @@ pub record IsCountedOnce (r : Report) (frames : ℕ) : Type 0 where
 abbrev pub CountedOnce : Type 0
 CountedOnce = (s : Settings) (b : List ℕ) → IsCountedOnce (report_of s b) (length (frames_of b))
 
--- epochs in which a satellite has a value make the text of a file value, with the station values known when the first was closed
+-- epochs in which a satellite has a value make the text of a file value, with the station values known when the first was closed,
+-- and a change of them wherever those of the next are others
 abbrev pub IsFileText : Type 0
 IsFileText = (texts : HeaderLists) (plan : PlanValue) (e : Closed) (es : List Closed)
-    → text_of texts plan (e ∷ es) ≡ file_text (gathered texts plan e.values (map (λ c. c.epoch) (e ∷ es)))
+    → text_of texts plan (e ∷ es) ≡ file_text (gathered texts plan e.values (e ∷ es))

@@ -80,6 +80,7 @@ impl Converter {
             filer: Filer {
                 gatherer,
                 texts: setup.texts,
+                values: None,
                 epochs: 0,
                 tally: Tally::new(),
             },

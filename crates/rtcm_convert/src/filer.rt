@@ -5,17 +5,18 @@ ghost use Rattle.rtcm_bits.specs.Device.{AppendsPrefix, HasFailed};
 ghost use Rattle.rtcm_scan.specs.Frames.{Framed};
 ghost use Rattle.rtcm_scan.specs.Answers.{framed};
 ghost use Rattle.obs_epoch.specs.Values.{Closed};
+ghost use Rattle.rinex_file.specs.File.{change_text};
 ghost use Rattle.obs_epoch.specs.Heard.{Heard, heard};
 ghost use Rattle.obs_epoch.specs.Kinds.{is_close_first, kind_of};
 ghost use Rattle.obs_epoch.specs.Gathering.{Fits, closed_epochs, closed_in, plan_in};
 ghost use Rattle.rtcm_convert.specs.Converted.{Settings, so_far, file, epochs_in, text_with};
 ghost use Rattle.rtcm_convert.specs.Outcomes.{capped};
 ghost use Rattle.rtcm_convert.specs.Fed.{GoesOn, BreaksOff};
-ghost use Rattle.rtcm_convert.specs.Filed.{opening, added, epochs_after, Writes, Settled, Files, HasGathered};
+ghost use Rattle.rtcm_convert.specs.Filed.{opening, added, epochs_after, values_after, Writes, Settled, Files, HasGathered};
 
 use crate::tally::Tally;
-use obs_epoch::{Epoch, Gatherer, Kind};
-use rinex_file::{Head, HeaderTexts, write_epoch, write_header};
+use obs_epoch::{Epoch, Gatherer, Kind, StationValues};
+use rinex_file::{Head, HeaderTexts, write_epoch, write_event, write_header};
 use rtcm_bits::{Counted, DeviceFailed};
 use rtcm_msg::{Message, decode};
 use rtcm_scan::Frame;
@@ -26,30 +27,54 @@ use std::io::Write;
 pub(crate) struct Filer {
     pub(crate) gatherer: Gatherer,
     pub(crate) texts: HeaderTexts,
+    /// The station values that were written last: in the header, or in an event.
+    pub(crate) values: Option<StationValues>,
     /// How many epochs stand in the file.
     pub(crate) epochs: u64,
     pub(crate) tally: Tally,
 }
 
+/// Writes an event where the station values are no longer those before.
+fn write_change<W: Write>(
+    before: StationValues,
+    values: StationValues,
+    writer: &mut Counted<W>,
+) -> Result<(), DeviceFailed>
+    ensures whole { OnOk result (Appends (W.contents writer.old.inner) (W.contents writer.new.inner) (change_text before values)) }
+    ensures part { OnErr result (AppendsPrefix (W.contents writer.old.inner) (W.contents writer.new.inner) (change_text before values)) }
+    ensures failed { OnErr result (HasFailed writer.old.failures writer.new.failures) }
+    ensures fine { OnOk result (writer.new.failures ≡ writer.old.failures) }
+    ensures widest { writer.new.widest ≡ writer.old.widest }
+{
+    if before.is_same(values) {
+        return Ok(());
+    }
+    match write_event(values, writer) {
+        Ok(()) => Ok(()),
+        Err(_) => Err(DeviceFailed),
+    }
+}
+
 impl Filer {
-    /// Writes the header where no epoch stands in the file.
-    fn open<W: Write>(&self, first: &Epoch, writer: &mut Counted<W>) -> Result<(), DeviceFailed>
+    /// Writes the header where no epoch stands in the file, and else an event where the epoch's station values are no longer
+    /// those that were written last.
+    fn open<W: Write>(&self, epoch: &Epoch, writer: &mut Counted<W>) -> Result<(), DeviceFailed>
         ensures whole { OnOk result (Appends (W.contents writer.old.inner) (W.contents writer.new.inner)
-            (opening self.now.texts (plan_in self.now.gatherer) self.now.epochs first.now self.now.gatherer.values)) }
+            (opening self.now.texts (plan_in self.now.gatherer) self.now.values epoch.now.epoch epoch.now.values)) }
         ensures part { OnErr result (AppendsPrefix (W.contents writer.old.inner) (W.contents writer.new.inner)
-            (opening self.now.texts (plan_in self.now.gatherer) self.now.epochs first.now self.now.gatherer.values)) }
+            (opening self.now.texts (plan_in self.now.gatherer) self.now.values epoch.now.epoch epoch.now.values)) }
         ensures failed { OnErr result (HasFailed writer.old.failures writer.new.failures) }
         ensures fine { OnOk result (writer.new.failures ≡ writer.old.failures) }
         ensures widest { writer.new.widest ≡ writer.old.widest }
     {
-        if self.epochs > 0 {
-            return Ok(());
+        if let Some(before) = self.values {
+            return write_change(before, epoch.station_values(), writer);
         }
         let head = Head {
             texts: &self.texts,
             plan: self.gatherer.plan(),
-            values: self.gatherer.station_values(),
-            first: first.time(),
+            values: epoch.station_values(),
+            first: epoch.time(),
         };
         match write_header(&head, writer) {
             Ok(()) => Ok(()),
@@ -57,16 +82,18 @@ impl Filer {
         }
     }
 
-    /// Writes the epoch that the gatherer closed last where a satellite in it has a value, and the header before the first.
+    /// Writes the epoch that the gatherer closed last where a satellite in it has a value, and the header before the first, or
+    /// an event before one whose station values are no longer those that were written last.
     fn write_closed<W: Write>(&mut self, writer: &mut Counted<W>) -> Result<(), DeviceFailed>
         ensures whole { OnOk result (Appends (W.contents writer.old.inner) (W.contents writer.new.inner)
-            (added self.old.texts (plan_in self.old.gatherer) self.old.epochs (closed_in self.old.gatherer) self.old.gatherer.values)) }
+            (added self.old.texts (plan_in self.old.gatherer) self.old.values (closed_in self.old.gatherer) self.old.gatherer.values)) }
         ensures part { OnErr result (AppendsPrefix (W.contents writer.old.inner) (W.contents writer.new.inner)
-            (added self.old.texts (plan_in self.old.gatherer) self.old.epochs (closed_in self.old.gatherer) self.old.gatherer.values)) }
+            (added self.old.texts (plan_in self.old.gatherer) self.old.values (closed_in self.old.gatherer) self.old.gatherer.values)) }
         ensures failed { OnErr result (HasFailed writer.old.failures writer.new.failures) }
         ensures fine { OnOk result (writer.new.failures ≡ writer.old.failures) }
         ensures widest { writer.new.widest ≡ writer.old.widest }
-        ensures epochs { OnOk result (self.new.epochs ≡ epochs_after self.old.epochs (closed_in self.old.gatherer)) }
+        ensures now { OnOk result ((self.new.epochs ≡ epochs_after self.old.epochs (closed_in self.old.gatherer))
+            × (self.new.values ≡ values_after self.old.values (closed_in self.old.gatherer) self.old.gatherer.values)) }
         ensures same { (self.new.gatherer ≡ self.old.gatherer) × (self.new.texts ≡ self.old.texts) × (self.new.tally ≡ self.old.tally) }
     {
         let Some(epoch) = self.gatherer.closed() else {
@@ -76,8 +103,10 @@ impl Filer {
             return Ok(());
         }
         self.open(epoch, writer)?;
+        let values = epoch.station_values();
         match write_epoch(epoch, self.gatherer.plan(), writer) {
             Ok(()) => {
+                self.values = Some(values);
                 self.epochs = self.epochs.saturating_add(1);
                 Ok(())
             }

@@ -37,13 +37,13 @@ const TWO_SYSTEMS: [&str; 22] = [
 ];
 
 /// Reads bytes that come three at a time.
-fn read(alloc: Global, text: &[u8]) -> Result<ObsFile, ReadFault> {
+pub fn read(alloc: Global, text: &[u8]) -> Result<ObsFile, ReadFault> {
     let mut reader = Counted::new(PieceReader::new(text, &[3], ReadEnd::Ends));
     read_file(alloc, &mut reader)
 }
 
 /// The fault of a file with these lines, and then these bytes.
-fn fault(alloc: Global, lines: &[&str], rest: &[u8]) -> Option<ReadFault> {
+pub fn fault(alloc: Global, lines: &[&str], rest: &[u8]) -> Option<ReadFault> {
     let mut text = joined(lines);
     let _ = text.try_extend_from_slice(rest);
     read(alloc, text.as_slice()).err()
@@ -80,7 +80,7 @@ fn a_file_is_counted(rt: HostRuntime) {
         let text = joined(lines);
         let mut reader = Counted::new(PieceReader::new(text.as_slice(), &[3], ReadEnd::Ends));
         let counts = check_file(rt.alloc(), &mut reader);
-        assert!(rt; counts == Ok(Counts { epochs, satellites }));
+        assert!(rt; counts == Ok(Counts { epochs, satellites, events: 0 }));
     }
 }
 

@@ -27,7 +27,7 @@ fn a_file_that_was_made_is_good(rt: HostRuntime) -> Result<(), Fail> {
             assert_eq!(rt; outcome.status, 0);
             assert_eq!(rt;
                 outcome.output.as_slice(),
-                b"epochs 1 satellites 1\n".as_slice()
+                b"epochs 1 satellites 1 events 0\n".as_slice()
             );
             assert!(rt; outcome.faults.is_empty());
         }

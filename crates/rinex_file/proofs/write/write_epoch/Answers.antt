@@ -15,7 +15,7 @@ pub returns-in-Err-clause-part : goal.returns-in-Err-clause-part
 returns-in-Err-clause-part g c =
     let contents = g.W.Write.contents in
     let p = c.args.plan.now in
-    let e = c.args.epoch.now in
+    let e = c.args.epoch.now.epoch in
     let own = epoch_line (civil_of e.time) (satellites e) in
     let gps = lines_up_to p e Gps (satellites_in Gps) in
     let galileo = lines_up_to p e Galileo (satellites_in Galileo) in
@@ -29,7 +29,7 @@ pub returns-in-Err-write_system-clause-part : goal.returns-in-Err-write_system-c
 returns-in-Err-write_system-clause-part g c =
     let contents = g.W.Write.contents in
     let p = c.args.plan.now in
-    let e = c.args.epoch.now in
+    let e = c.args.epoch.now.epoch in
     let own = epoch_line (civil_of e.time) (satellites e) in
     let gps = lines_up_to p e Gps (satellites_in Gps) in
     let galileo = lines_up_to p e Galileo (satellites_in Galileo) in
@@ -45,7 +45,7 @@ pub returns-clause-whole : goal.returns-clause-whole
 returns-clause-whole g c =
     let contents = g.W.Write.contents in
     let p = c.args.plan.now in
-    let e = c.args.epoch.now in
+    let e = c.args.epoch.now.epoch in
     let own = epoch_line (civil_of e.time) (satellites e) in
     let gps = lines_up_to p e Gps (satellites_in Gps) in
     let galileo = lines_up_to p e Galileo (satellites_in Galileo) in
@@ -64,7 +64,7 @@ pub returns-clause-part : goal.returns-clause-part
 returns-clause-part g c =
     let contents = g.W.Write.contents in
     let p = c.args.plan.now in
-    let e = c.args.epoch.now in
+    let e = c.args.epoch.now.epoch in
     let own = epoch_line (civil_of e.time) (satellites e) in
     let gps = lines_up_to p e Gps (satellites_in Gps) in
     let galileo = lines_up_to p e Galileo (satellites_in Galileo) in

@@ -13,7 +13,7 @@ pub loop-before-init : goal.loop-before-init
 loop-before-init g c =
     let a = g.W.Write.contents c.args.writer.now.inner in
     record {
-      out = subst (λ l. Appends a a l) (sym (no_lines c.args.plan.now c.args.epoch.now c.args.system)) (Appends-nil a);
+      out = subst (λ l. Appends a a l) (sym (no_lines c.args.plan.now c.args.epoch.now.epoch c.args.system)) (Appends-nil a);
       fine = refl;
       left = left_all c.args.system c.cells-cells.result.now c.cells-cells.ensures.held;
       widest = refl;
@@ -27,11 +27,11 @@ loop-before-preserved g c =
     let inv = c.loop-before.invariant in
     let cells = c.cells-cells.result.now in
     let part = further n c.loop-before.from c.end_of-to.result (n + 1) cells next c.end_of-to.ensures.end c.end_of-to.ensures.bound (sorted_climbs cells c.cells-cells.ensures.order) inv.left in
-    let line = same_line c.args.plan.now c.args.system cells (cells_of c.args.system c.args.epoch.now) (n + 1) _ part.group c.cells-cells.ensures.cells in
+    let line = same_line c.args.plan.now c.args.system cells (cells_of c.args.system c.args.epoch.now.epoch) (n + 1) _ part.group c.cells-cells.ensures.cells in
     let b = contents c.loop-before.writer.inner in
     let d = contents c.write_satellite.new.writer.inner in
     record {
-      out = grown_lines (contents c.args.writer.now.inner) (contents c.loop-before.writer.inner) (contents c.write_satellite.new.writer.inner) c.args.plan.now c.args.epoch.now c.args.system n (n + 1) next
+      out = grown_lines (contents c.args.writer.now.inner) (contents c.loop-before.writer.inner) (contents c.write_satellite.new.writer.inner) c.args.plan.now c.args.epoch.now.epoch c.args.system n (n + 1) next
           inv.out (subst (λ l. Appends b d l) line c.in-Ok.ensures.whole);
       fine = c.in-Ok.ensures.fine ∙ inv.fine;
       left = part.left;
@@ -46,8 +46,8 @@ returns-in-Err-clause-part g c =
     let within : n + 1 ≤ satellites c.args.system = omega (arith, c.loop-before-test.true, c.satellites-before-end.ensures.value) in
     let cells = c.cells-cells.result.now in
     let part = further n c.loop-before.from c.end_of-to.result (n + 1) cells next c.end_of-to.ensures.end c.end_of-to.ensures.bound (sorted_climbs cells c.cells-cells.ensures.order) c.loop-before.invariant.left in
-    let line = same_line c.args.plan.now c.args.system cells (cells_of c.args.system c.args.epoch.now) (n + 1) _ part.group c.cells-cells.ensures.cells in
+    let line = same_line c.args.plan.now c.args.system cells (cells_of c.args.system c.args.epoch.now.epoch) (n + 1) _ part.group c.cells-cells.ensures.cells in
     let b = contents c.loop-before.writer.inner in
     let d = contents c.write_satellite.new.writer.inner in
-    part_lines (contents c.args.writer.now.inner) (contents c.loop-before.writer.inner) (contents c.write_satellite.new.writer.inner) c.args.plan.now c.args.epoch.now c.args.system n (n + 1)
+    part_lines (contents c.args.writer.now.inner) (contents c.loop-before.writer.inner) (contents c.write_satellite.new.writer.inner) c.args.plan.now c.args.epoch.now.epoch c.args.system n (n + 1)
     (satellites c.args.system) next within c.loop-before.invariant.out (subst (λ l. AppendsPrefix b d l) line c.in-Err.ensures.part)

@@ -7,7 +7,7 @@ use Rattle.rinex_file.specs.Exact.{IsNoFault}
 use Rattle.rinex_file.specs.Counting.{AreCounts}
 use Rattle.rinex_file.specs.declared.file.Counts.{Counts}
 use Rattle.rinex_file.specs.declared.read_fault.ReadFault.{ReadFault}
-use Rattle.rinex_file.specs.declared.read_fault.ReadFault.TheVariants.{Memory, Read, BadHeader, BadEpoch, BadSatellite, CutShort, TooLong}
+use Rattle.rinex_file.specs.declared.read_fault.ReadFault.TheVariants.{Memory, Read, BadHeader, BadEpoch, BadEvent, BadSatellite, CutShort, TooLong}
 use Rattle.std.proofs.lemmas.Result.{err_from_is_err_and}
 use Rattle.rtcm2rinex.specs.declared.fault.ToolFault.TheVariants as faults
 use Rattle.rtcm2rinex.specs.Checking.{check_line, IsCheckedOr}
@@ -24,6 +24,7 @@ refused v Memory w w' h = tt
 refused v Read w w' h = tt
 refused v (BadHeader k) w w' h = absurd h
 refused v (BadEpoch k) w w' h = absurd h
+refused v (BadEvent k) w w' h = absurd h
 refused v (BadSatellite k) w w' h = absurd h
 refused v (CutShort k) w w' h = absurd h
 refused v TooLong w w' h = absurd h

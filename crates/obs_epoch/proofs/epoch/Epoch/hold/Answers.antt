@@ -1,7 +1,7 @@
 use Rattle.std.proofs.Common.{◌≤◌, ◌<◌, ◌∙◌, sym, ap, subst, arith, insert, length}
 use Rattle.std.specs.Vec.{vec_capacity}
 use Rattle.gnss_obs.specs.declared.system.System.TheVariants.{Gps, Galileo}
-use Rattle.obs_epoch.specs.Values.{AreHeld, EpochValue, cells_of, most_cells}
+use Rattle.obs_epoch.specs.Values.{AreHeld, Closed, cells_of, most_cells}
 use Rattle.obs_epoch.specs.Marked.{cell_of}
 use Rattle.obs_epoch.specs.Order.{AreSorted}
 use Rattle.obs_epoch.proofs.HeldLemmas.{held_more}
@@ -11,7 +11,7 @@ pub invariant_of-self : goal.invariant_of-self
 invariant_of-self c =
     let cell = cell_of (record { seen = c.args.x.now; mark = c.args.mark }) in
     let is = sym c.system.ensures ∙ c.in-Gps.is in
-    let cells = ap (λ s. cells_of s c.args.self.now) is ∙ ap (λ (e : EpochValue). e.gps) (sym c.self.view_is) in
+    let cells = ap (λ s. cells_of s c.args.self.now.epoch) is ∙ ap (λ (e : Closed). e.epoch.gps) (sym c.self.view_is) in
     let items = ap (λ l. insert l c.args.at cell) cells ∙ sym c.insert_cell.ensures.items in
     let sorted = subst AreSorted items c.requires.order in
     let within = subst (λ l. c.args.at ≤ length l) cells c.requires.within in
@@ -25,7 +25,7 @@ pub invariant_of-self-in-Galileo : goal.invariant_of-self-in-Galileo
 invariant_of-self-in-Galileo c =
     let cell = cell_of (record { seen = c.args.x.now; mark = c.args.mark }) in
     let is = sym c.system.ensures ∙ c.in-Galileo.is in
-    let cells = ap (λ s. cells_of s c.args.self.now) is ∙ ap (λ (e : EpochValue). e.galileo) (sym c.self.view_is) in
+    let cells = ap (λ s. cells_of s c.args.self.now.epoch) is ∙ ap (λ (e : Closed). e.epoch.galileo) (sym c.self.view_is) in
     let items = ap (λ l. insert l c.args.at cell) cells ∙ sym c.insert_cell-in-Galileo.ensures.items in
     let sorted = subst AreSorted items c.requires.order in
     let within = subst (λ l. c.args.at ≤ length l) cells c.requires.within in

@@ -26,6 +26,8 @@ returns-in-Ok-Some-clause-takes c = λ h stands.
         rank = stands.rank;
         epochs = stands.epochs;
         satellites = stands.satellites;
+        events = stands.events;
+        values = stands.values;
       };
       follows = header_taken s c.args.section c.args.row c.args.line.now c.requires.due c.take.new.self c.in-Ok-Some.section c.in-Ok-Some.row
           (follows c.args.self.now.head c.take.new.self c.args.section c.args.row c.args.line.now c.in-Ok-Some.field-0 (Some (c.in-Ok-Some.section, c.in-Ok-Some.row)) c.in-Ok-Some.field-0-is c.in-Ok-Some.ensures.taken);
@@ -42,6 +44,8 @@ returns-in-Ok-None-clause-takes c = λ h stands.
         rank = stands.rank;
         epochs = stands.epochs;
         satellites = stands.satellites;
+        events = stands.events;
+        values = stands.values;
       };
       follows = header_ended s c.args.section c.args.row c.args.line.now c.requires.due c.take.new.self epochs
           (follows c.args.self.now.head c.take.new.self c.args.section c.args.row c.args.line.now c.in-Ok-None.field-0 None c.in-Ok-None.field-0-is c.in-Ok-None.ensures.taken);

@@ -5,13 +5,14 @@ use Rattle.std.proofs.lemmas.List.{map-append}
 use Rattle.std.proofs.lemmas.List.Sums.{sum_by-append}
 use Rattle.rinex_file.specs.declared.due.Due.TheVariants.{Satellite}
 use Rattle.rinex_file.specs.Value.{Seen, Stamped}
-use Rattle.rinex_file.specs.FileValues.{IsSeen, rank_of, time_of}
+use Rattle.obs_epoch.specs.declared.cell.StationValues.{StationValues}
+use Rattle.rinex_file.specs.FileValues.{IsSeen, changed_by, rank_of, time_of}
 use Rattle.rinex_file.specs.Lines.{seen_line}
 use Rattle.rinex_file.specs.Progress.{Progress}
 use Rattle.rinex_file.specs.Reading.{ReadsExactly, some_if}
-use Rattle.rinex_file.specs.Course.{EndsIn, epoch_at, progress_at, rows_in}
+use Rattle.rinex_file.specs.Course.{EndsIn, changes_of, epoch_at, events_in, progress_at, rows_in}
 use Rattle.rinex_file.proofs.Judged.{refused}
-use Rattle.rinex_file.proofs.BodySteps.{row_taken, no_row, bad_row, last_taken, sound_open, few_at, sound_row, sound_closed}
+use Rattle.rinex_file.proofs.BodySteps.{values_more, row_taken, no_row, bad_row, last_taken, sound_open, few_at, sound_row, sound_closed}
 use Rattle.rinex_file.proofs.course.Course.take_satellite.Goals as goal
 
 pub read_seen-requires-clause-few : goal.read_seen-requires-clause-few
@@ -70,6 +71,11 @@ epoch_counted es e rows seen n same all =
 one_longer : (es : List Stamped) (e : Stamped) (n : ℕ) → n ≡ length es → n + 1 ≡ length (es ++ e ∷ [])
 one_longer es e n all = let size : length (es ++ e ∷ []) ≡ length es + 1 = length-append es (e ∷ []) in omega (arith, all, size)
 
+event_counted : (es : List Stamped) (e : Stamped) (n k : ℕ) → k ≡ changes_of e.change → n ≡ events_in es → n + k ≡ events_in (es ++ e ∷ [])
+event_counted es e n k one all =
+    let both : events_in (es ++ e ∷ []) ≡ events_in es + (0 + changes_of e.change) = sum_by-append _ es (e ∷ []) in
+    omega (arith, all, one, both)
+
 pub returns-then-left-gt1-clause-takes : goal.returns-then-left-gt1-clause-takes
 returns-then-left-gt1-clause-takes c = λ h stands.
     let s = progress_at c.args.self.now h in
@@ -87,6 +93,8 @@ returns-then-left-gt1-clause-takes c = λ h stands.
         rank = ends rank_of h.rows seen c.rank_of-rank.result c.rank_of-rank.ensures;
         epochs = stands.epochs;
         satellites = row_counted h.epochs h.rows seen c.args.self.now.satellites stands.satellites;
+        events = stands.events;
+        values = stands.values;
       };
       follows = row_taken s (c.args.left - 1) c.args.line.now (one_due c.args.left s c.requires.due some) seen shown.1 shown.2;
     }
@@ -101,7 +109,7 @@ returns-clause-takes c = λ h stands.
     let rise = rises (map rank_of h.rows) c.rank_of-rank.result (rank_of seen) c.rank_of-rank.ensures
     ((c.is_behind.ensures (map rank_of h.rows) stands.rank begun.rows.rise).0 c.if-not-is_behind.false) in
     let last : c.args.left ≡ suc 0 = let n = c.if-left-gt1.false in omega (arith, n, some) in
-    let epoch = epoch_at c.args.self.now.time (h.rows ++ seen ∷ []) in
+    let epoch = epoch_at c.args.self.now.change c.args.self.now.time (h.rows ++ seen ∷ []) in
     record {
       stands = record {
         sound = sound_closed s 0 c.args.left c.requires.due stands.sound seen shown.0 rise;
@@ -109,6 +117,8 @@ returns-clause-takes c = λ h stands.
         rank = refl;
         epochs = one_longer h.epochs epoch c.args.self.now.epochs stands.epochs;
         satellites = epoch_counted h.epochs epoch h.rows seen c.args.self.now.satellites refl stands.satellites;
+        events = event_counted h.epochs epoch c.args.self.now.events c.changes_of.result c.changes_of.ensures stands.events;
+        values = λ v. c.changed_by-self.ensures v ∙ ap (λ (w : StationValues). changed_by w c.args.self.now.change) (stands.values v) ∙ sym (values_more v h.epochs epoch);
       };
       follows = last_taken s c.args.line.now (c.requires.due ∙ ap Satellite last) seen shown.1 shown.2;
     }

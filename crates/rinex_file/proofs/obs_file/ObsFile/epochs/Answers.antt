@@ -7,4 +7,4 @@ use Rattle.rinex_file.proofs.obs_file.ObsFile.epochs.Goals as goal
 pub returns : goal.returns
 returns c =
     let f = c.self.inside in
-    ap length c.as_slice.ensures.value ∙ sym (length-epochs_with f.epochs.items (rows_of f.rows.items f.entries.items)) ∙ ap (λ (v : FileValue). length v.epochs) c.self.view_is
+    ap length c.as_slice.ensures.value ∙ sym (length-epochs_with f.epochs.items f.changes.items (rows_of f.rows.items f.entries.items)) ∙ ap (λ (v : FileValue). length v.epochs) c.self.view_is

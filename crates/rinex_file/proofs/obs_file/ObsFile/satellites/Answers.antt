@@ -7,4 +7,4 @@ use Rattle.rinex_file.proofs.obs_file.ObsFile.satellites.Goals as goal
 pub returns : goal.returns
 returns c =
     let f = c.self.inside in
-    ap length c.as_slice.ensures.value ∙ rows_counted f.epochs.items f.rows.items f.entries.items c.self.invariant.1 ∙ ap (λ (v : FileValue). sum_by (λ e. length e.rows) v.epochs) c.self.view_is
+    ap length c.as_slice.ensures.value ∙ rows_counted f.epochs.items f.changes.items f.rows.items f.entries.items c.self.invariant.1 ∙ ap (λ (v : FileValue). sum_by (λ e. length e.rows) v.epochs) c.self.view_is

@@ -14,13 +14,13 @@ pub returns-clause-first : goal.returns-clause-first
 returns-clause-first g c = λ shut s ms es x.
     let e = c.in_ok-write_closed.ensures in
     wrote_all c.args.self.now c.write_closed.new.self c.take-taken.new.self _ _ s ms ms es _ _
-    (record { gatherer = e.same.0; texts = e.same.1; epochs = e.epochs; out = e.whole }) x (c.take-taken.ensures.first s.gather ms es x.gatherer shut)
+    (record { gatherer = e.same.0; texts = e.same.1; epochs = e.now.0; values = e.now.1; out = e.whole }) x (c.take-taken.ensures.first s.gather ms es x.gatherer shut)
 
 pub returns-clause-taken : goal.returns-clause-taken
 returns-clause-taken g c = λ kept s ms es again f x.
     let e = c.in_ok-write_closed.ensures in
     wrote_all c.args.self.now c.write_closed.new.self c.take-taken.new.self _ _ s ms _ es again _
-    (record { gatherer = e.same.0; texts = e.same.1; epochs = e.epochs; out = e.whole }) x (c.take-taken.ensures.taken s.gather ms es again x.gatherer f kept)
+    (record { gatherer = e.same.0; texts = e.same.1; epochs = e.now.0; values = e.now.1; out = e.whole }) x (c.take-taken.ensures.taken s.gather ms es again x.gatherer f kept)
 
 pub returns-clause-again : goal.returns-clause-again
 returns-clause-again g c = λ s ms es x. c.take-taken.ensures.again s.gather ms es x.gatherer

@@ -1,0 +1,349 @@
+-- Where a reading goes on from one line of an event to the next.
+use Rattle.std.proofs.Common.{arith, lit<, ◌≡◌, ◌≢◌, ◌↔◌, ℕ, zero, suc, ◌<◌, ◌^◌, ◌-◌, ◌*◌, ◌/◌, ◌%◌, unsigned_abs, w64, to_z, of_z, ℤ, pos, get_or, List, [], ◌∷◌, ◌++◌, refl, sym, ap, subst, ◌∙◌, length, drop, replicate, decimal, Option, Some, None, Bool, true, false}
+use Rattle.std.specs.Prelude.{⊤, ◌||◌, flat_map, codes}
+use Rattle.std.specs.Int.{is_negative}
+use Rattle.std.specs.Fmt.{sign_text}
+use Rattle.obs_epoch.specs.Dates.{civil_of}
+use Rattle.obs_epoch.specs.declared.civil.Civil.{Civil}
+use Rattle.obs_epoch.specs.declared.cell.StationValues.{StationValues}
+use Rattle.rinex_file.specs.declared.due.Due.{Due}
+use Rattle.rinex_file.specs.declared.due.Due.TheVariants.{Epoch, EventPosition, EventHeight, EventEpoch}
+use Rattle.rinex_file.specs.Value.{Seen, Stamped, FileValue}
+use Rattle.rinex_file.specs.FileValues.{IsFileValue, IsCoordinate, AreValues, IsChange}
+use Rattle.rinex_file.specs.Header.{header_line, lengths, position_line, delta_line}
+use Rattle.rinex_file.specs.Lines.{epoch_fields, epoch_line}
+use Rattle.rinex_file.specs.Numbers.{joined, padded, fixed}
+use Rattle.rinex_file.specs.Reading.{has}
+use Rattle.rinex_file.specs.File.{stamped_lines, event_line}
+use Rattle.rinex_file.specs.Progress.{Progress, file_with, StartsAt, IsAt, IsBetween, IsInEvent, StandAt, GoesOn, due_next}
+use Rattle.rinex_file.specs.Sound.{AreRead, IsEventDue, IsSoundAt, IsSound, values_now}
+use Rattle.rinex_file.proofs.Digits.{has-append}
+use Rattle.rinex_file.proofs.HeaderLearned.{coordinate_same}
+use Rattle.rinex_file.proofs.BodySteps.{lines_with, lines_are, changes_midst, sound_between}
+
+-- ---- an event's line isn't that of an epoch, which has a point
+
+has_behind : (a b : List ℕ) → has 46 b ≡ true → has 46 (a ++ b) ≡ true
+has_behind a b h = has-append 46 a b ∙ ap (λ x. has 46 a || x) h ∙ always (has 46 a) where
+  always : (x : Bool) → (x || true) ≡ true
+  always true = refl
+  always false = refl
+
+has_front : (a b : List ℕ) → has 46 a ≡ true → has 46 (a ++ b) ≡ true
+has_front a b h = has-append 46 a b ∙ ap (λ x. x || has 46 b) h
+
+has_field : (fs : List (List ℕ)) (k : ℕ) → k < length fs → has 46 (get_or fs k []) ≡ true → has 46 (joined fs) ≡ true
+has_field [] k less h = absurd (omega (arith, less))
+has_field (f ∷ fs) zero less h = has_front f (joined fs) h
+has_field (f ∷ fs) (suc k) less h = has_behind f (joined fs) (has_field fs k (omega (arith, less)) h)
+
+fixed_point : (z : ℤ) → has 46 (fixed 7 z) ≡ true
+fixed_point z = has_behind (sign_text (is_negative z) ++ decimal (unsigned_abs z / 10 ^ 7)) (46 ∷ padded 7 (unsigned_abs z % 10 ^ 7)) refl
+
+has_point : (t : Civil) (n : ℕ) → has 46 (epoch_line t n) ≡ true
+unfolding epoch_line
+has_point t n =
+    let second = fixed 7 (pos (t.millisecond * 10_000)) in
+    has_field (epoch_fields t n) 10 (lit< tt) (has_behind (replicate (11 - length second) 32) second (fixed_point (pos (t.millisecond * 10_000))))
+
+no_point : has 46 event_line ≡ false
+unfolding event_line
+no_point = refl
+
+not_epoch : (t : Civil) (n : ℕ) → event_line ≡ epoch_line t n → ⊥
+not_epoch t n e =
+    let same : has 46 event_line ≡ true = ap (has 46) e ∙ has_point t n in
+    let none = no_point in
+    cc
+
+-- ---- the line of an event
+
+abbrev Others : List Stamped → List (List ℕ)
+Others es = flat_map stamped_lines es
+
+event_begins : (s : Progress) (v : FileValue) (line : List ℕ) (left : List (List ℕ)) (others : List Stamped) → line ≡ event_line → v ≡ file_with s (s.epochs ++ others)
+    → StartsAt s.known.shown.first (s.epochs ++ others) → line ∷ left ≡ Others others → IsInEvent s 1 (λ w. ⊤) v left
+event_begins s v line left [] shown value starts rest = cc
+event_begins s v line left (e ∷ es) shown value starts rest = by e.change refl where
+  by : (c : Option StationValues) → e.change ≡ c → IsInEvent s 1 (λ w. ⊤) v left
+  by None h =
+      let text : line ∷ left ≡ lines_with None e ++ Others es = rest ∙ ap (λ l. l ++ Others es) (lines_are e None h) in
+      let same : line ≡ epoch_line (civil_of e.time) (length e.rows) = cc in
+      absurd (not_epoch (civil_of e.time) (length e.rows) (sym shown ∙ same))
+  by (Some w) h =
+      let text : line ∷ left ≡ lines_with (Some w) e ++ Others es = rest ∙ ap (λ l. l ++ Others es) (lines_are e (Some w) h) in
+      let behind : left ≡ drop 1 (lines_with (Some w) e) ++ Others es = ap (drop 1) text in
+      record {
+        next = e;
+        values = w;
+        others = es;
+        value = value;
+        starts = starts;
+        change = h;
+        shown = tt;
+        rest = behind ∙ ap (λ l. drop 1 l ++ Others es) (sym (lines_are e (Some w) h));
+      }
+
+-- the same of what was read where another line is due
+to_next : (s : Progress) (d : Due) (k : ℕ) (Show : StationValues → Type 0) (v : FileValue) (left : List (List ℕ)) → IsInEvent s k Show v left → IsInEvent (due_next s d) k Show v left
+to_next s d k Show v left h = record {
+  next = h.next;
+  values = h.values;
+  others = h.others;
+  value = h.value;
+  starts = h.starts;
+  change = h.change;
+  shown = h.shown;
+  rest = h.rest;
+}
+
+pub event_taken : (s : Progress) (line : List ℕ) → s.due ≡ Epoch → line ≡ event_line → (v : FileValue) (left : List (List ℕ)) → GoesOn s v (line ∷ left) ↔ GoesOn (due_next s EventPosition) v left
+unfolding GoesOn
+event_taken s line due shown v left = (
+  λ on.
+      let here : IsBetween s v (line ∷ left) = subst (λ d. IsAt s d v (line ∷ left)) due on.1 in
+      let event = event_begins s v line left here.others shown here.value here.starts here.rest in
+      (on.0, to_next s EventPosition 1 (λ w. ⊤) v left event),
+  λ on.
+      let here : IsInEvent (due_next s EventPosition) 1 (λ w. ⊤) v left = on.1 in
+      let lines = lines_are here.next (Some here.values) here.change in
+      let between : IsBetween s v (line ∷ left) = record {
+        others = here.next ∷ here.others;
+        value = here.value;
+        starts = here.starts;
+        rest = ap (λ l. l ∷ left) shown ∙ ap (λ l. event_line ∷ l) (here.rest ∙ ap (λ l. drop 1 l ++ Others here.others) lines) ∙ ap (λ l. l ++ Others here.others) (sym lines);
+      } in
+      (on.0, subst (λ d. IsAt s d v (line ∷ left)) (sym due) between),
+)
+
+-- the station values of an event are other ones than those before
+told_values : (s : Progress) (v : FileValue) (e : Stamped) (others : List Stamped) (w : StationValues) → IsFileValue v → v ≡ file_with s (s.epochs ++ e ∷ others) → e.change ≡ Some w
+    → IsChange (values_now s) (Some w)
+told_values s v e others w is value change =
+    let valid : IsFileValue (file_with s (s.epochs ++ e ∷ others)) = subst IsFileValue value is in
+    subst (IsChange (values_now s)) change (changes_midst s.known.shown.values s.epochs others e valid.changes)
+
+-- ---- the position
+
+abbrev pub position_text : ℤ × ℤ × ℤ → List ℕ
+position_text p = header_line (lengths p.0 p.1 p.2) (codes "APPROX POSITION XYZ")
+
+abbrev pub IsPosition : ℤ × ℤ × ℤ → Type 0
+IsPosition p = IsCoordinate p.0 × IsCoordinate p.1 × IsCoordinate p.2
+
+abbrev SamePosition : ℤ × ℤ × ℤ → ℤ × ℤ × ℤ → Type 0
+SamePosition p q = p ≡ q
+
+-- what follows where a line of an event does
+record PositionNext (s : Progress) (v : FileValue) (line : List ℕ) (left : List (List ℕ)) : Type 0 where
+  pub event : IsInEvent s 2 (λ w. line ≡ position_line w) v left
+  pub are : AreValues event.values
+
+position_next : (s : Progress) (v : FileValue) (line : List ℕ) (left : List (List ℕ)) → s.due ≡ EventPosition → GoesOn s v (line ∷ left) → PositionNext s v line left
+unfolding GoesOn
+position_next s v line left due (is, at) =
+    let here : IsInEvent s 1 (λ w. ⊤) v (line ∷ left) = subst (λ d. IsAt s d v (line ∷ left)) due at in
+    let lines = lines_are here.next (Some here.values) here.change in
+    let text : line ∷ left ≡ drop 1 (lines_with (Some here.values) here.next) ++ Others here.others = here.rest ∙ ap (λ l. drop 1 l ++ Others here.others) lines in
+    let behind : left ≡ drop 2 (lines_with (Some here.values) here.next) ++ Others here.others = ap (drop 1) text in
+    record {
+      event = record {
+        next = here.next;
+        values = here.values;
+        others = here.others;
+        value = here.value;
+        starts = here.starts;
+        change = here.change;
+        shown = cc;
+        rest = behind ∙ ap (λ l. drop 2 l ++ Others here.others) (sym lines);
+      };
+      are = (told_values s v here.next here.others here.values is here.value here.change).0;
+    }
+
+-- what a number is after its bits
+abbrev pub back : ℤ → ℤ
+back z = to_z w64 (of_z w64 z)
+
+pub position_back : (p : ℤ × ℤ × ℤ) → IsPosition p → SamePosition (back p.0, back p.1, back p.2) p
+position_back p is =
+    ap (λ t. (t, back p.1, back p.2)) (coordinate_same p.0 is.0) ∙ ap (λ t. (p.0, t, back p.2)) (coordinate_same p.1 is.1) ∙ ap (λ t. (p.0, p.1, t)) (coordinate_same p.2 is.2)
+
+pub no_position : (s : Progress) (line : List ℕ) → s.due ≡ EventPosition → ((p : ℤ × ℤ × ℤ) → IsPosition p → line ≡ position_text p → ⊥) → (v : FileValue) (left : List (List ℕ)) → GoesOn s v (line ∷ left) → ⊥
+no_position s line due none v left on =
+    let next = position_next s v line left due on in
+    let w = next.event.values in
+    none (w.x, w.y, w.z) (next.are.x, next.are.y, next.are.z) next.event.shown
+
+-- the lines of an event from one on
+event_from : (e : Stamped) (w : StationValues) (others : List Stamped) (line : List ℕ) (left : List (List ℕ)) → e.change ≡ Some w → line ≡ position_line w → left ≡ drop 2 (stamped_lines e) ++ Others others
+    → line ∷ left ≡ drop 1 (stamped_lines e) ++ Others others
+event_from e w others line left change shown rest =
+    let lines = lines_are e (Some w) change in
+    ap (λ l. l ∷ left) shown ∙ ap (λ l. position_line w ∷ l) (rest ∙ ap (λ l. drop 2 l ++ Others others) lines) ∙ ap (λ l. drop 1 l ++ Others others) (sym lines)
+
+pub position_taken : (s : Progress) (x y z : ℤ) (line : List ℕ) → s.due ≡ EventPosition → line ≡ position_text (x, y, z)
+    → ((p : ℤ × ℤ × ℤ) → IsPosition p → line ≡ position_text p → p ≡ (x, y, z))
+    → (v : FileValue) (left : List (List ℕ)) → GoesOn s v (line ∷ left) ↔ GoesOn (due_next s (EventHeight x y z)) v left
+unfolding GoesOn
+position_taken s x y z line due shown only v left = (
+  λ on.
+      let next = position_next s v line left due on in
+      let here = next.event in
+      let same : SamePosition (here.values.x, here.values.y, here.values.z) (x, y, z) = only (here.values.x, here.values.y, here.values.z) (next.are.x, next.are.y, next.are.z) here.shown in
+      let event : IsInEvent (due_next s (EventHeight x y z)) 2 (StandAt x y z) v left = record {
+        next = here.next;
+        values = here.values;
+        others = here.others;
+        value = here.value;
+        starts = here.starts;
+        change = here.change;
+        shown = (ap (λ p. p.0) same, ap (λ p. p.1) same, ap (λ p. p.2) same);
+        rest = here.rest;
+      } in
+      (on.0, event),
+  λ on.
+      let here : IsInEvent (due_next s (EventHeight x y z)) 2 (StandAt x y z) v left = on.1 in
+      let w = here.values in
+      let same : position_text (x, y, z) ≡ position_line w =
+      ap (λ t. position_text (t, y, z)) (sym here.shown.0) ∙ ap (λ t. position_text (w.x, t, z)) (sym here.shown.1) ∙ ap (λ t. position_text (w.x, w.y, t)) (sym here.shown.2) in
+      let event : IsInEvent s 1 (λ w. ⊤) v (line ∷ left) = record {
+        next = here.next;
+        values = w;
+        others = here.others;
+        value = here.value;
+        starts = here.starts;
+        change = here.change;
+        shown = tt;
+        rest = event_from here.next w here.others line left here.change (shown ∙ same) here.rest;
+      } in
+      (on.0, subst (λ d. IsAt s d v (line ∷ left)) (sym due) event),
+)
+
+-- ---- the height
+
+abbrev height_text : ℕ → List ℕ
+height_text h = header_line (lengths (pos h) (pos 0) (pos 0)) (codes "ANTENNA: DELTA H/E/N")
+
+abbrev pub values_with : ℤ → ℤ → ℤ → ℕ → StationValues
+values_with x y z h = record { x = x; y = y; z = z; height = h }
+
+abbrev SameValues : StationValues → StationValues → Type 0
+SameValues v w = v ≡ w
+
+same_with : (w : StationValues) (x y z : ℤ) (h : ℕ) → w.x ≡ x → w.y ≡ y → w.z ≡ z → w.height ≡ h → SameValues w (values_with x y z h)
+same_with w x y z h a b c d =
+    ap (λ t. values_with t w.y w.z w.height) a ∙ ap (λ t. values_with x t w.z w.height) b ∙ ap (λ t. values_with x y t w.height) c ∙ ap (λ t. values_with x y z t) d
+
+record HeightNext (s : Progress) (x y z : ℤ) (v : FileValue) (line : List ℕ) (left : List (List ℕ)) : Type 0 where
+  pub event : IsInEvent s 3 (StandAt x y z) v left
+  pub shown : line ≡ delta_line event.values
+  pub are : AreValues event.values
+  pub other : event.values ≢ values_now s
+
+height_next : (s : Progress) (x y z : ℤ) (v : FileValue) (line : List ℕ) (left : List (List ℕ)) → s.due ≡ EventHeight x y z → GoesOn s v (line ∷ left) → HeightNext s x y z v line left
+unfolding GoesOn
+height_next s x y z v line left due (is, at) =
+    let here : IsInEvent s 2 (StandAt x y z) v (line ∷ left) = subst (λ d. IsAt s d v (line ∷ left)) due at in
+    let lines = lines_are here.next (Some here.values) here.change in
+    let text : line ∷ left ≡ drop 2 (lines_with (Some here.values) here.next) ++ Others here.others = here.rest ∙ ap (λ l. drop 2 l ++ Others here.others) lines in
+    let behind : left ≡ drop 3 (lines_with (Some here.values) here.next) ++ Others here.others = ap (drop 1) text in
+    let told = told_values s v here.next here.others here.values is here.value here.change in
+    record {
+      event = record {
+        next = here.next;
+        values = here.values;
+        others = here.others;
+        value = here.value;
+        starts = here.starts;
+        change = here.change;
+        shown = here.shown;
+        rest = behind ∙ ap (λ l. drop 3 l ++ Others here.others) (sym lines);
+      };
+      shown = cc;
+      are = told.0;
+      other = told.1;
+    }
+
+module _ (s : Progress) (x y z : ℤ) (line : List ℕ) (due : s.due ≡ EventHeight x y z) where
+  pub no_height : ((h : ℕ) → h < 2 ^ 16 → line ≡ height_text h → ⊥) → (v : FileValue) (left : List (List ℕ)) → GoesOn s v (line ∷ left) → ⊥
+  no_height none v left on =
+      let next = height_next s x y z v line left due on in
+      none next.event.values.height next.are.height next.shown
+
+  module _ (h : ℕ) (only : (k : ℕ) → k < 2 ^ 16 → line ≡ height_text k → k ≡ h) where
+    same_next : (v : FileValue) (left : List (List ℕ)) (next : HeightNext s x y z v line left) → SameValues next.event.values (values_with x y z h)
+    same_next v left next =
+        let w = next.event.values in
+        same_with w x y z h next.event.shown.0 next.event.shown.1 next.event.shown.2 (only w.height next.are.height next.shown)
+
+    -- the station values are those before
+    pub same_height : values_with x y z h ≡ values_now s → (v : FileValue) (left : List (List ℕ)) → GoesOn s v (line ∷ left) → ⊥
+    same_height same v left on =
+        let next = height_next s x y z v line left due on in
+        next.other (same_next v left next ∙ same)
+
+    pub height_taken : line ≡ height_text h → (v : FileValue) (left : List (List ℕ)) → GoesOn s v (line ∷ left) ↔ GoesOn (due_next s (EventEpoch (values_with x y z h))) v left
+    unfolding GoesOn
+    height_taken shown v left = (
+      λ on.
+          let next = height_next s x y z v line left due on in
+          let here = next.event in
+          let event : IsInEvent (due_next s (EventEpoch (values_with x y z h))) 3 (λ w. w ≡ values_with x y z h) v left = record {
+            next = here.next;
+            values = here.values;
+            others = here.others;
+            value = here.value;
+            starts = here.starts;
+            change = here.change;
+            shown = same_next v left next;
+            rest = here.rest;
+          } in
+          (on.0, event),
+      λ on.
+          let here : IsInEvent (due_next s (EventEpoch (values_with x y z h))) 3 (λ w. w ≡ values_with x y z h) v left = on.1 in
+          let w = here.values in
+          let lines = lines_are here.next (Some w) here.change in
+          let same : height_text h ≡ delta_line w = ap (λ (u : StationValues). delta_line u) (sym here.shown) in
+          let text : line ∷ left ≡ drop 2 (stamped_lines here.next) ++ Others here.others =
+          ap (λ l. l ∷ left) (shown ∙ same) ∙ ap (λ l. delta_line w ∷ l) (here.rest ∙ ap (λ l. drop 3 l ++ Others here.others) lines) ∙ ap (λ l. drop 2 l ++ Others here.others) (sym lines) in
+          let event : IsInEvent s 2 (StandAt x y z) v (line ∷ left) = record {
+            next = here.next;
+            values = w;
+            others = here.others;
+            value = here.value;
+            starts = here.starts;
+            change = here.change;
+            shown = (ap (λ (u : StationValues). u.x) here.shown, ap (λ (u : StationValues). u.y) here.shown, ap (λ (u : StationValues). u.z) here.shown);
+            rest = text;
+          } in
+          (on.0, subst (λ d. IsAt s d v (line ∷ left)) (sym due) event),
+    )
+
+-- the same with other names of these station values
+pub height_taken_as : (s : Progress) (x y z : ℤ) (h : ℕ) (w : StationValues) (line : List ℕ) → w ≡ values_with x y z h
+    → ((v : FileValue) (left : List (List ℕ)) → GoesOn s v (line ∷ left) ↔ GoesOn (due_next s (EventEpoch (values_with x y z h))) v left)
+    → (v : FileValue) (left : List (List ℕ)) → GoesOn s v (line ∷ left) ↔ GoesOn (due_next s (EventEpoch w)) v left
+height_taken_as s x y z h w line same = subst (λ u. (v : FileValue) (left : List (List ℕ)) → GoesOn s v (line ∷ left) ↔ GoesOn (due_next s (EventEpoch u)) v left) (sym same)
+
+-- ---- what holds where a line of an event is taken
+
+read_next : (s : Progress) (d : Due) → AreRead s → AreRead (due_next s d)
+read_next s d read = record { shown = read.shown; epochs = read.epochs; rising = read.rising; starts = read.starts; first = read.first; changes = read.changes }
+
+some_read : (es : List Stamped) → 0 < length es → es ≢ []
+some_read es some none = let size : length es ≡ 0 = ap length none in omega (arith, size, some)
+
+pub sound_event : (s : Progress) → s.due ≡ Epoch → IsSound s → 0 < length s.epochs → IsSound (due_next s EventPosition)
+sound_event s due sound some =
+    let (read, rows) = sound_between s due sound in
+    (read_next s EventPosition read, rows, some_read s.epochs some)
+
+pub sound_position : (s : Progress) (x y z : ℤ) → s.due ≡ EventPosition → IsSound s → IsPosition (x, y, z) → IsSound (due_next s (EventHeight x y z))
+sound_position s x y z due sound is =
+    let at : IsEventDue s = subst (λ d. IsSoundAt s d) due sound in
+    ((read_next s (EventHeight x y z) at.0, at.1, at.2), is)
+
+pub sound_height : (s : Progress) (x y z : ℤ) (h : ℕ) → s.due ≡ EventHeight x y z → IsSound s → h < 2 ^ 16 → (values_with x y z h ≡ values_now s → ⊥) → IsSound (due_next s (EventEpoch (values_with x y z h)))
+sound_height s x y z h due sound small other =
+    let at : IsEventDue s × (IsCoordinate x × IsCoordinate y × IsCoordinate z) = subst (λ d. IsSoundAt s d) due sound in
+    ((read_next s (EventEpoch (values_with x y z h)) at.0.0, at.0.1, at.0.2), (record { x = at.1.0; y = at.1.1; z = at.1.2; height = small }, other))

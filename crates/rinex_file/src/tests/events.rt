@@ -1,0 +1,101 @@
+//! Events: written, read back, and refused where they stand or say otherwise.
+use super::reading::{fault, read};
+use super::{EPOCH, HEADER, joined};
+use crate::{Counts, HeadFault, ReadFault, check_file, file_bytes, write_event};
+use arrayvec::ArrayVec;
+use obs_epoch::StationValues;
+use rtcm_bits::Counted;
+use rtcm_bits::devices::{PieceReader, ReadEnd, ShortWriter, WriteEnd};
+use std::io::ErrorKind;
+use std::test::Fail;
+
+/// The event of a station, and the epoch behind it.
+const EVENT: [&str; 3] = [
+    ">                              4  2",
+    "  1114104.5999 -4850729.7108  3975521.4643                  APPROX POSITION XYZ ",
+    "        1.5000        0.0000        0.0000                  ANTENNA: DELTA H/E/N",
+];
+
+/// A second later.
+const SECOND: [&str; 2] = [
+    "> 2024 02 04 00 00  2.0000000  0  1",
+    "G05  20985472.060 7 110279400.00017      -525.504          45.063",
+];
+
+/// The lines of these parts of a file, one behind the other.
+fn lines(parts: &[&[&'static str]]) -> ArrayVec<&'static str, 32> {
+    let mut all = ArrayVec::new();
+    for part in parts {
+        for line in part.iter() {
+            let _ = all.try_push(*line);
+        }
+    }
+    all
+}
+
+fn values() -> StationValues {
+    StationValues {
+        x: 11_141_045_999,
+        y: -48_507_297_108,
+        z: 39_755_214_643,
+        height: 15_000,
+    }
+}
+
+#[test]
+fn a_file_with_an_event_is_read_and_written_back(rt: HostRuntime) -> Result<(), Fail> {
+    let text = joined(lines(&[&HEADER, &EPOCH, &EVENT, &SECOND]).as_slice());
+    assert_eq!(rt; text.len(), 1536);
+    let file = read(rt.alloc(), text.as_slice())?;
+    assert_eq!(rt; (file.epochs(), file.satellites(), file.events()), (2, 2, 1));
+    assert!(rt; file.station_values().is_same(StationValues { x: 0, y: 0, z: 0, height: 0 }));
+    assert_eq!(rt; file_bytes(rt.alloc(), &file)?.as_slice(), text.as_slice());
+    let mut reader = Counted::new(PieceReader::new(text.as_slice(), &[5], ReadEnd::Ends));
+    let counts = Counts {
+        epochs: 2,
+        satellites: 2,
+        events: 1,
+    };
+    assert!(rt; check_file(rt.alloc(), &mut reader) == Ok(counts));
+    Ok(())
+}
+
+#[test]
+fn an_event_in_the_wrong_place_or_of_the_same_values_is_refused(rt: HostRuntime) {
+    let spaced = [EVENT[0], "  1114104.5999 -4850729.7108  3975521.4643                 APPROX POSITION XYZ ", EVENT[2]];
+    let same = [EVENT[0], HEADER[7], HEADER[8]];
+    let moved = [EVENT[0], EVENT[1], HEADER[8]];
+    let cases: [(&[&[&'static str]], Option<ReadFault>); 9] = [
+        (&[&HEADER, &EVENT, &EPOCH, &SECOND], Some(ReadFault::BadEpoch(15))),
+        (&[&HEADER, &EPOCH, &spaced, &SECOND], Some(ReadFault::BadEvent(18))),
+        (&[&HEADER, &EPOCH, &same, &SECOND], Some(ReadFault::BadEvent(19))),
+        (&[&HEADER, &EPOCH, &moved, &SECOND], None),
+        (&[&HEADER, &EPOCH, &EVENT], Some(ReadFault::CutShort(20))),
+        (&[&HEADER, &EPOCH, &EVENT, &EVENT, &SECOND], Some(ReadFault::BadEpoch(20))),
+        (&[&HEADER, &EPOCH, &EVENT, &EPOCH], Some(ReadFault::BadEpoch(20))),
+        (&[&HEADER, &EPOCH, &EVENT[..1], &SECOND], Some(ReadFault::BadEvent(18))),
+        (&[&HEADER, &EPOCH[..1], &EVENT], Some(ReadFault::BadSatellite(16))),
+    ];
+    for (parts, wanted) in cases {
+        assert!(rt; fault(rt.alloc(), lines(parts).as_slice(), b"") == wanted);
+    }
+}
+
+#[test]
+fn an_event_is_written(rt: HostRuntime) {
+    let text = joined(&EVENT);
+    let mut writer = Counted::new(ArrayVec::<u8, 4096>::new());
+    assert!(rt; write_event(values(), &mut writer) == Ok(()));
+    assert_eq!(rt; writer.into_inner().as_slice(), text.as_slice());
+    for (end, taken) in [
+        (WriteEnd::Fails(ErrorKind::Other), 100),
+        (WriteEnd::TakesNone, 36),
+        (WriteEnd::TakesNone, 0),
+    ] {
+        let out = ArrayVec::<u8, 4096>::new();
+        let mut writer = Counted::new(ShortWriter::new(out, 81, taken, end));
+        assert!(rt; write_event(values(), &mut writer) == Err(HeadFault::Write));
+        let out = writer.into_inner().into_inner();
+        assert_eq!(rt; Some(out.as_slice()), text.as_slice().get(..taken));
+    }
+}

@@ -1,0 +1,16 @@
+use Rattle.std.proofs.Common.{sym, subst, Option, Some, OnErr}
+use Rattle.rtcm_bits.specs.Device.{AppendsPrefix}
+use Rattle.obs_epoch.specs.declared.cell.StationValues.{StationValues}
+use Rattle.obs_epoch.specs.Gathering.{plan_in}
+use Rattle.rtcm_convert.specs.Filed.{opening}
+use Rattle.rtcm_convert.proofs.filer.Filer.open.Goals as goal
+
+pub returns-in-Some-clause-part : goal.returns-in-Some-clause-part
+returns-in-Some-clause-part g c =
+    let contents = g.W.Write.contents in
+    let a = contents c.args.writer.now.inner in
+    let b = contents c.write_change.new.writer.inner in
+    let f = c.args.self.now in
+    let e = c.args.epoch.now in
+    subst (λ (o : Option StationValues). OnErr c.write_change.result (AppendsPrefix a b (opening f.texts (plan_in f.gatherer) o e.epoch e.values))) (sym c.in-Some.is)
+    (subst (λ (w : StationValues). OnErr c.write_change.result (AppendsPrefix a b (opening f.texts (plan_in f.gatherer) (Some c.in-Some.before) e.epoch w))) c.station_values.ensures c.write_change.ensures.part)
