@@ -7,7 +7,7 @@ use Rattle.std.proofs.lemmas.Nat.{shr_high, shr-shr, div-add-mod', mod_below, po
 use Rattle.rtcm_bits.specs.Bits.{uint}
 use Rattle.rtcm_bits.specs.Reading.{Cursor}
 use Rattle.rtcm_msg.specs.BitLaws.{uint-low}
-use Rattle.rtcm_msg.specs.Fields.{number_at, ◌>>=◌}
+use Rattle.rtcm_msg.specs.Fields.{number_at}
 use Rattle.rtcm_msg.specs.Packed.{total, columns}
 use Rattle.rtcm_msg.specs.Columns.{column_at, columns_at, EachBelow}
 use Rattle.rtcm_msg.proofs.Binds.{bind_ok, ok_inj, number_took, Took}

@@ -1,8 +1,8 @@
 -- The fields of a table, as one read: what was read, what is read again, and which fault.
-use Rattle.std.proofs.Common.{ℕ, true, ◌≡◌, ◌+◌, ◌<◌, ◌≤◌, Bool, List, [], ◌∷◌, ◌++◌, length, take, drop, Result, Ok, Err, Some, None, refl, sym, ap, subst, ◌∙◌, arith, append_assoc, ◌⊎◌, inl, inr, add_assoc, add-zero}
+use Rattle.std.proofs.Common.{ℕ, true, ◌≡◌, ◌+◌, ◌<◌, ◌≤◌, Bool, List, [], ◌∷◌, ◌++◌, length, drop, Result, Ok, Err, Some, None, refl, sym, ap, subst, ◌∙◌, arith, append_assoc, ◌⊎◌, inl, inr, add_assoc, add-zero}
 use Rattle.std.proofs.lemmas.Bool.{cases_lt}
 use Rattle.std.proofs.lemmas.List.{length-drop, drop-drop}
-use Rattle.rtcm_bits.specs.Bits.{uint, number}
+use Rattle.rtcm_bits.specs.Bits.{uint}
 use Rattle.rtcm_msg.specs.LayoutLaws.{has_sign, have_signs, FitAll, number-content, content_fits, content-number, number_fits, sign_first, sign_others}
 use Rattle.rtcm_msg.specs.Layout.{Table, width, widths, Contents, number_of, content, fields_of}
 use Rattle.rtcm_bits.specs.Reading.{Cursor, after, unsigned_at}

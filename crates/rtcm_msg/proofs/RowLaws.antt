@@ -1,5 +1,5 @@
 -- Data that are read where they lie are those that are read in order.
-use Rattle.std.proofs.Common.{ℕ, zero, suc, ◌≡◌, ◌+◌, ◌*◌, ◌-◌, ◌%◌, ◌^◌, ◌<◌, ◌≤◌, nat_lt, Bool, true, false, List, [], ◌∷◌, length, drop, get_or, slice_index, Result, Ok, Err, refl, sym, ap, subst, ◌∙◌, arith, add-one, replicate, inl, inr}
+use Rattle.std.proofs.Common.{ℕ, zero, suc, ◌≡◌, ◌+◌, ◌*◌, ◌-◌, ◌%◌, ◌^◌, ◌<◌, ◌≤◌, nat_lt, Bool, true, false, List, [], ◌∷◌, length, drop, get_or, Result, Ok, Err, refl, sym, ap, ◌∙◌, arith, add-one, replicate, inl, inr}
 use Rattle.std.proofs.Math.Seq.{drop-cons, drop-length}
 use Rattle.std.proofs.Math.Nat.{mod-eq_of_lt, add-mod_right}
 use Rattle.std.proofs.lemmas.Bool.{cases_lt}
@@ -8,8 +8,7 @@ use Rattle.std.proofs.lemmas.Nat.{one_shl, pow-add}
 use Rattle.rtcm_bits.specs.Reading.{Cursor}
 use Rattle.rtcm_msg.specs.declared.fault.MsgFault.{MsgFault}
 use Rattle.rtcm_msg.specs.declared.fault.MsgFault.TheVariants.{Short}
-use Rattle.rtcm_msg.specs.Fields.{number_at, ◌>>=◌, standing, part}
-use Rattle.rtcm_msg.specs.BitLaws.{pow_mono}
+use Rattle.rtcm_msg.specs.Fields.{standing, part}
 use Rattle.rtcm_msg.specs.Packed.{total}
 use Rattle.rtcm_msg.specs.Columns.{column_at, columns_at}
 use Rattle.rtcm_msg.specs.Rows.{numbers_in, rows_at, end_of, row_at}

@@ -1,16 +1,15 @@
 -- A message that is looked at is the one that is read.
-use Rattle.std.proofs.Common.{ℕ, ◌≡◌, ◌+◌, ◌*◌, ◌<◌, ◌≤◌, Bool, List, length, slice_index, Result, Ok, Err, refl, sym, ap, subst, ◌∙◌, arith, replicate, count_ones}
-use Rattle.std.proofs.lemmas.Nat.{ones-le}
+use Rattle.std.proofs.Common.{ℕ, ◌≡◌, ◌+◌, ◌*◌, ◌<◌, ◌≤◌, Bool, List, length, slice_index, Result, Ok, Err, refl, sym, ap, subst, ◌∙◌, replicate, count_ones}
 use Rattle.rtcm_bits.specs.Bits.{bits_of}
 use Rattle.rtcm_bits.specs.Reading.{Cursor, after, unsigned_at}
 use Rattle.rtcm_msg.specs.BitLaws.{length-bits_of}
 use Rattle.rtcm_msg.specs.declared.fault.MsgFault.{MsgFault}
 use Rattle.rtcm_msg.specs.declared.header.MsmHeader.{MsmHeader}
 use Rattle.rtcm_msg.specs.declared.view.Form.{Form}
-use Rattle.rtcm_msg.specs.Fields.{standing, number_at, ◌>>=◌}
+use Rattle.rtcm_msg.specs.Fields.{standing, number_at}
 use Rattle.rtcm_msg.specs.Packed.{total}
 use Rattle.rtcm_msg.specs.Columns.{columns_at, EachBelow}
-use Rattle.rtcm_msg.specs.Msm.{MsmValue, Sets, IsHeader, AreSets, IsValue, header_at, sets_at, msm_at}
+use Rattle.rtcm_msg.specs.Msm.{Sets, IsHeader, AreSets, IsValue, header_at, sets_at, msm_at}
 use Rattle.rtcm_msg.specs.Rows.{rows_at, row_at, end_of}
 use Rattle.rtcm_msg.specs.Views.{satellite_widths, cell_widths, message_in, formed_at, IsLaid}
 use Rattle.rtcm_msg.proofs.Binds.{ok_inj, number_took, number_there}

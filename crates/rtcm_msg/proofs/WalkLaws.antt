@@ -110,10 +110,6 @@ signal_left k xs (suc g) h = omega arith
 pub next_row : (k m g x n all : ℕ) → g ≡ 0 → ids 64 m ≡ x ∷ ids 64 n → pairs_from (k + 1) (ids 64 n) (ids 32 all) (ids 32 all) ≡ pairs_from k (ids 64 m) (ids 32 g) (ids 32 all)
 next_row k m g x n all none e = sym (rows_are (ids 32 all) (k + 1) (ids 64 n)) ∙ rw (none, e, ids_none 32) refl
 
--- the first pair
-pub first_pair : (k m g x n s r all : ℕ) → ids 64 m ≡ x ∷ ids 64 n → ids 32 g ≡ s ∷ ids 32 r → pairs_from k (ids 64 m) (ids 32 g) (ids 32 all) ≡ record { place = k; satellite = x; signal = s } ∷ pairs_from k (ids 64 m) (ids 32 r) (ids 32 all)
-first_pair k m g x n s r all e f = rw (e, f) refl
-
 -- ---- places
 
 placed_row : (n k x : ℕ) (gs : List ℕ) (others : List Seat) → k < n → ArePlaced n others → ArePlaced n (map (seat (k, x)) gs ++ others)

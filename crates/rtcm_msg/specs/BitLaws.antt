@@ -101,14 +101,6 @@ length-bits_of (x ∷ xs) = length-append (uint 8 x) (bits_of xs) ∙ omega (ari
 pub number-take-fits : (l : List Bool) (w : ℕ) → w ≤ length l → number (take w l) < 2 ^ w
 number-take-fits l w h = let P : ℕ → Type 0 = λ n. number (take w l) < 2 ^ n in subst P (length-take-le w l h) (number-fits (take w l))
 
--- the next bit of a number to be written
-pub uint-first : (w i n : ℕ) → i < w → uint (w - i) n ≡ odd (n / 2 ^ (w - 1 - i)) ∷ uint (w - (i + 1)) n
-unfolding uint
-uint-first w i n h =
-    let e : w - i ≡ suc (w - 1 - i) = omega arith in
-    let f : w - (i + 1) ≡ w - 1 - i = omega arith in
-    rw (e, f) refl
-
 -- a bool as a number
 pub byte-bit : (b : Bool) → bool_byte b ≡ bit b
 byte-bit false = refl

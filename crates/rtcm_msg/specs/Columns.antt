@@ -1,5 +1,5 @@
 -- Reading the data of satellites or cells, field by field: one field of all, then the next field of all.
-use Rattle.std.specs.Prelude.{ℕ, ◌+◌, ◌*◌, ◌^◌, ◌<◌, List, [], ◌∷◌, ◌++◌, Result, Ok, slice_index}
+use Rattle.std.specs.Prelude.{ℕ, ◌+◌, ◌*◌, ◌^◌, ◌<◌, List, [], ◌∷◌, Result, Ok, slice_index}
 use Rattle.rtcm_bits.specs.Reading.{Cursor}
 use Rattle.rtcm_msg.specs.declared.fault.MsgFault.{MsgFault}
 use Rattle.rtcm_msg.specs.Fields.{number_at, ◌>>=◌}
@@ -17,10 +17,6 @@ columns_at [] ps c = Ok (ps, c)
 columns_at (w ∷ ws) ps c = do
   next ← column_at w ps c
   columns_at ws next.0 next.1
-
--- numbers put in front of what is read
-abbrev pub with_front : List ℕ → Result (List ℕ × Cursor) MsgFault → Result (List ℕ × Cursor) MsgFault
-with_front front read = read >>= λ x. Ok (front ++ x.0, x.1)
 
 -- each number is below 2 ^ bits
 abbrev pub EachBelow : ℕ → List ℕ → Type 0

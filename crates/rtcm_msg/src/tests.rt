@@ -1,6 +1,6 @@
 use crate::{
-    Cell7, Entry, Field, Message, MsgFault, MsmHeader, Satellite7, StationParts, ValueFault,
-    decode, encode, entries,
+    Cell7, Entry, Field, Form, Message, MsgFault, MsmHeader, Satellite7, StationParts, ValueFault,
+    View, decode, encode, entries, look,
 };
 use arrayvec::ArrayVec;
 use std::alloc::AllocError;
@@ -205,6 +205,32 @@ fn heads_are_read(rt: HostRuntime) {
             assert!(rt; msm.number() == 1094 && msm.is_galileo() && msm.header() == header());
         }
         _ => assert!(rt; false),
+    }
+}
+
+#[test]
+fn messages_are_looked_at(rt: HostRuntime) {
+    match look(&FINE) {
+        Ok(View::Msm(msm)) => {
+            assert!(rt; msm.form() == Form::Msm7 && msm.number() == 1077 && !msm.is_galileo());
+            assert!(rt; msm.header() == header() && msm.masks().signals() == 1 << 30);
+            assert!(rt; msm.satellites() == 1 && msm.cells() == 1);
+        }
+        _ => assert!(rt; false),
+    }
+    match look(&GALILEO) {
+        Ok(View::Msm(msm)) => {
+            assert!(rt; msm.form() == Form::Msm4 && msm.number() == 1094 && msm.is_galileo());
+        }
+        _ => assert!(rt; false),
+    }
+    match look(&HEIGHT) {
+        Ok(View::Station(station)) => assert!(rt; station.parts().height == Some(15_000)),
+        _ => assert!(rt; false),
+    }
+    match look(&FINE[..35]) {
+        Ok(_) => assert!(rt; false),
+        Err(fault) => assert!(rt; fault == MsgFault::Short(271)),
     }
 }
 

@@ -1,7 +1,5 @@
-use Rattle.std.proofs.Common.{ℕ, ℤ, pos, ◌≡◌, ◌+◌, ◌*◌, ◌^◌, ◌<◌, ◌≤◌, ◌≢◌, ◌+ℤ◌, unsigned_abs, Option, Some, IfSome, refl, ap, arith, w64, to_z, of_z, FitsSigned, Bool, false, ◌==◌}
-use Rattle.std.specs.Option.{ForSome}
+use Rattle.std.proofs.Common.{ℕ, ℤ, pos, ◌≡◌, ◌+◌, ◌*◌, ◌^◌, ◌<◌, ◌≤◌, ◌≢◌, ◌+ℤ◌, unsigned_abs, Some, ap, arith, w64, to_z, of_z, FitsSigned, false, ◌==◌}
 use Rattle.std.proofs.lemmas.Int.{ints}
-use Rattle.rtcm_msg.specs.Fractions.{joined}
 use Rattle.rtcm_msg.proofs.grid.joined.Goals as goal
 
 abbrev rough : ℕ → ℕ → ℕ

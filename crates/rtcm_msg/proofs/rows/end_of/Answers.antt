@@ -1,4 +1,4 @@
-use Rattle.std.proofs.Common.{◌≡◌, arith, sym, ◌∙◌}
+use Rattle.std.proofs.Common.{arith, sym, ◌∙◌}
 use Rattle.rtcm_msg.proofs.RowLaws.{end_step, end_short, end_over}
 use Rattle.rtcm_msg.proofs.rows.end_of.Goals as goal
 

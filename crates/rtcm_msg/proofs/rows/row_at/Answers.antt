@@ -1,4 +1,4 @@
-use Rattle.std.proofs.Common.{ℕ, ◌≡◌, ◌+◌, ◌*◌, ◌-◌, ◌^◌, ◌<◌, ◌≤◌, arith, sym, ◌∙◌, get_or, drop, subst}
+use Rattle.std.proofs.Common.{ℕ, ◌≡◌, ◌+◌, ◌*◌, ◌-◌, ◌^◌, ◌<◌, ◌≤◌, arith, sym, ◌∙◌, get_or, drop}
 use Rattle.rtcm_msg.specs.Packed.{total}
 use Rattle.rtcm_msg.specs.BitLaws.{pow_mono}
 use Rattle.rtcm_msg.proofs.ColumnSteps.{column_room, total-drop}

@@ -1,6 +1,4 @@
-use Rattle.std.proofs.Common.{ℕ, List, ◌≡◌, ◌^◌, ◌<◌, ◌≤◌, ◌∙◌, ap, sym, arith, length, slice_index, Fits, w64}
-use Rattle.rtcm_msg.specs.BitLaws.{pow_mono}
-use Rattle.rtcm_msg.specs.Packed.{total}
+use Rattle.std.proofs.Common.{ℕ, List, ◌≡◌, ◌<◌, ◌∙◌, ap, arith, length, slice_index}
 use Rattle.rtcm_msg.specs.Views.{FormedMsm, cell_widths}
 use Rattle.rtcm_msg.proofs.ViewLaws.{row_value, rows_counted}
 use Rattle.rtcm_msg.proofs.view.MsmView.cell_number.Goals as goal

@@ -1,4 +1,4 @@
-use Rattle.std.proofs.Common.{ℕ, List, ◌≡◌, ◌^◌, ◌<◌, ◌≤◌, ◌∙◌, ap, sym, arith, length, slice_index, Fits, w64}
+use Rattle.std.proofs.Common.{ℕ, List, ◌≡◌, ◌^◌, ◌<◌, ◌≤◌, ◌∙◌, ap, arith, length, slice_index, Fits, w64}
 use Rattle.rtcm_msg.specs.BitLaws.{pow_mono}
 use Rattle.rtcm_msg.specs.Packed.{total}
 use Rattle.rtcm_msg.specs.Views.{FormedMsm, satellite_widths}

@@ -1,4 +1,4 @@
-use Rattle.std.proofs.Common.{◌≡◌, ◌∙◌, ap, sym, length, count_ones}
+use Rattle.std.proofs.Common.{◌∙◌, ap, sym, length, count_ones}
 use Rattle.rtcm_msg.specs.Views.{FormedMsm, satellite_widths}
 use Rattle.rtcm_msg.proofs.ViewLaws.{rows_counted}
 use Rattle.rtcm_msg.proofs.view.MsmView.satellites.Goals as goal
