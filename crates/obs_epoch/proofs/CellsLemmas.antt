@@ -137,9 +137,6 @@ mine-push system xs y =
       by true false e = ap (λ b. cond b (y ∷ []) []) e
       by false false e = ap (λ b. cond b (y ∷ []) []) e
 
-take_among : (n : ℕ) (l : List Seen) (y : Seen) → length l ≤ n → is_among (take n l) y ≡ is_among l y
-take_among n l y h = ap (λ m. is_among m y) (take_all n l h)
-
 abbrev add_to : ℕ → List Seen → Seen → List Seen
 add_to n ks y = if is_among ks y || nat_le n (length ks) then ks else ks ++ y ∷ []
 

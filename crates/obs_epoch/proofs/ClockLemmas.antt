@@ -15,9 +15,6 @@ max_none : (a : Option ℕ) → max_known a None ≡ a
 max_none None = refl
 max_none (Some a) = refl
 
-pending_by : Setup → List Timed → Option ℕ → Bool
-pending_by s xs g = option_map_or (λ t. not (is_closed s t xs)) g false
-
 -- a message that isn't taken changes no time, and may close what is pending
 pub same_time : (s : Setup) (xs : List Timed) (x : Timed) → x.time ≡ None
     → (greatest (xs ++ x ∷ []) ≡ greatest xs) × (is_pending s (xs ++ x ∷ []) ≡ (is_pending s xs && not (is_mark s x.message)))

@@ -70,9 +70,6 @@ known-more system xs (y ∷ ys) p o there =
     ∙ known-more system (xs ++ y ∷ []) ys p o (among-push xs y p ∙ ap (λ b. b || has_same_key p y) there)
     ∙ known-push system xs y p o there
 
-abbrev one_if_not : Bool → ℕ
-one_if_not b = if b then 0 else 1
-
 length-add : (system : System) (xs : List Seen) (y : Seen) (b : Bool) → (is_of system y && not (is_among (kept system xs) y || nat_le most_cells (length (kept system xs)))) ≡ b
     → length (kept system (xs ++ y ∷ [])) ≡ length (kept system xs) + (if b then 1 else 0)
 length-add system xs y b e = ap length (kept-add system xs y) ∙ by b e where

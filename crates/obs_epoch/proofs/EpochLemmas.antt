@@ -149,17 +149,3 @@ all_later s xs x follow = by x.time refl where
 pub same_epochs : (s : Setup) (xs : List Timed) (x : Timed) → Known s xs x → (ts : List ℕ) → AllLater x.time ts → map (epoch_at s (xs ++ x ∷ [])) ts ≡ map (epoch_at s xs) ts
 same_epochs s xs x follow [] h = refl
 same_epochs s xs x follow (t ∷ ts) h = ap₂ (λ a l. a ∷ l) (epoch_at-push s xs x t h.0 (times_before s xs x t follow h.0)) (same_epochs s xs x follow ts h.1)
-
--- whatever message comes next, the closed epochs stay as they are, and are the first ones
-pub epochs_grow : (s : Setup) (ms : List Heard) (m : Heard)
-    → (more : List MarkedEpoch) × (closed_epochs s (timed s (ms ++ m ∷ [])) ≡ closed_epochs s (timed s ms) ++ more)
-epochs_grow s ms m =
-    let xs = timed s ms in
-    let x = next s xs m in
-    let follow = taken_follows s xs m in
-    let grown = grows s xs x follow in (
-      map (epoch_at s (xs ++ x ∷ [])) grown.0,
-      ap (closed_epochs s) (timed-push s ms m) ∙ ap (map (epoch_at s (xs ++ x ∷ []))) grown.1
-          ∙ map-append (epoch_at s (xs ++ x ∷ [])) (closed_times s xs) grown.0
-          ∙ ap (λ l. l ++ map (epoch_at s (xs ++ x ∷ [])) grown.0) (same_epochs s xs x follow (closed_times s xs) (all_later s xs x follow)),
-    )

@@ -98,14 +98,6 @@ any_from id (c ∷ cells) = by (c.satellite.id == id) refl (any_from id cells) w
 
 -- ---- some of the cells that are held
 
-pub held_part : (system : System) (n k : ℕ) (cells : List Cell) → AreHeld system cells → AreHeld system (take k (drop n cells))
-held_part system n k cells h =
-    let most : length (take k (drop n cells)) ≤ length cells = omega (arith, length-take k (drop n cells), length-drop n cells) in
-    record {
-      each = All-take (IsHeld system) k (drop n cells) (All-drop (IsHeld system) n cells h.each);
-      few = omega (arith, most, h.few);
-    }
-
 -- ---- as the code has them
 
 drop_plus : (a b : ℕ) (cells : List Cell) → drop b (drop a cells) ≡ drop (a + b) cells

@@ -63,9 +63,6 @@ from_listed system id index h = (grind (arith, h), grind (arith, h), grind (arit
 to_listed : (system : System) (id index : ℕ) → 0 < id → id ≤ most_satellites system → index < listed_signals system → listed_at system id index ≡ true
 to_listed system id index a b c = grind (arith, a, b, c)
 
-pub is_key_listed : (x : Seen) → IsKey x → is_listed x ≡ true
-is_key_listed x k = let l = listed x k in to_listed x.satellite.system x.satellite.id x.signal.index l.one l.most l.signal
-
 pub entry_below : (x : Seen) → is_listed x ≡ true → entry_of x < most_locks
 entry_below x h =
     let l = from_listed x.satellite.system x.satellite.id x.signal.index h in
@@ -199,9 +196,6 @@ lookup-note_all t ts (m ∷ ms) key d k size =
       by false e = refl
 
 -- ---- how many they are: as many as there are keys among the locked cells noted
-
-pub recorded_below : (ts : List (Option KnownLock)) → length ts ≡ most_locks → recorded ts ≤ most_locks
-recorded_below ts size = let most = count_by-le-length is_some ts in omega (arith, most, size)
 
 pub recorded-set : (ts : List (Option KnownLock)) (i : ℕ) (l : KnownLock) → i < length ts → recorded (set ts i (Some l)) ≡ recorded ts + one_if_new (get_or ts i None)
 recorded-set ts i l h = by (get_or ts i None) (sum_by-set (λ o. cond (is_some {T = KnownLock} o) 1 0) ts i (Some l) None h) where

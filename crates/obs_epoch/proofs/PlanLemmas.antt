@@ -60,16 +60,9 @@ pub any_index : (n : ℕ) (ss : List SignalAt) → list_any (λ (s : SignalAt). 
 any_index n [] = refl
 any_index n (s ∷ ss) = ap (λ b. (n == s.index) || b) (any_index n ss)
 
-first_index : (n : ℕ) (ss : List SignalAt) → position_or_len (λ (s : SignalAt). s.index == n) ss ≡ position_or_len (λ i. i == n) (indices ss)
-first_index n [] = refl
-first_index n (s ∷ ss) = ap (λ k. cond (not (s.index == n)) (1 + k) 0) (first_index n ss)
-
 pub length_indices : (ss : List SignalAt) → length (indices ss) ≡ length ss
 length_indices [] = refl
 length_indices (s ∷ ss) = ap suc (length_indices ss)
-
-pub place_index : (n : ℕ) (ss : List SignalAt) → position (λ (s : SignalAt). s.index == n) ss ≡ position (λ i. i == n) (indices ss)
-place_index n ss = ap₂ (λ (k m : ℕ). cond (nat_lt k m) (Some k) None) (first_index n ss) (sym (length_indices ss))
 
 pub indices-push : (ss : List SignalAt) (s : SignalAt) → indices (ss ++ s ∷ []) ≡ indices ss ++ s.index ∷ []
 indices-push [] s = refl

@@ -87,9 +87,6 @@ before_taken s xs m u shut some h =
       subst (Below u) same last.below,
     )
 
-not_taken_shut : (s : Setup) (xs : List Timed) (m : Heard) (shut : Bool) → taken_at s xs m ≡ None → closes_first s xs m ≡ shut → shut ≡ false
-not_taken_shut s xs m shut none h = grind (arith, none, h)
-
 -- all that was closed comes before the next message's time, where it has one
 pub closed_later : (s : Setup) (xs : List Timed) (m : Heard) (shut : Bool) → closes_first s xs m ≡ shut → AllLater (taken_at s xs m) (closed_so_far s xs shut)
 closed_later s xs m shut h = by (taken_at s xs m) refl where
@@ -154,10 +151,6 @@ begun_is g s xs m u shut some h held locks now = ap (λ o. begun_to (greatest xs
       ∙ ap (λ v. record g { epoch = v }) (held ∙ ap (λ o. option_map_or (epoch_at s xs) o no_epoch) e ∙ sym (epoch_is s xs (lookup g.locks) u known))
 
 -- ---- what the step leaves before the closing
-
-pub record Between (g : Gathered) (s : Setup) (ms : List Heard) (m : Heard) (ts : List ℕ) : Type 0 where
-  pub epoch : g.epoch ≡ held_at s (timed s ms ++ next s (timed s ms) m ∷ [])
-  pub locks : Locked g s (timed s ms ++ next s (timed s ms) m ∷ []) ts
 
 -- a taken message
 pub loaded_taken : (g : Gathered) (s : Setup) (xs : List Timed) (m : Heard) (u : ℕ) (shut : Bool) → taken_at s xs m ≡ Some u → closes_first s xs m ≡ shut
