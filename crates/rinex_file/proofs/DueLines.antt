@@ -7,10 +7,9 @@ use Rattle.rinex_file.specs.declared.due.Due.{Due}
 use Rattle.rinex_file.specs.declared.due.Due.TheVariants.{Header, Epoch, Satellite}
 use Rattle.rinex_file.specs.Numbers.{joined}
 use Rattle.rinex_file.specs.Value.{Seen, Stamped, FileValue}
-use Rattle.rinex_file.specs.FileValues.{IsFileValue}
 use Rattle.rinex_file.specs.Lines.{seen_line}
 use Rattle.rinex_file.specs.File.{file_lines, stamped_lines}
-use Rattle.rinex_file.specs.Exact.{HasHeaderNext, HasEpochNext, HasSatelliteNext, IsDue, IsDueAt}
+use Rattle.rinex_file.specs.Exact.{HasHeaderNext, HasEpochNext, HasSatelliteNext, IsDueAt}
 use Rattle.rinex_file.specs.Progress.{Known, Progress, IsHeaderLeft, IsInHeader, IsBetween, IsWithin, IsAt, GoesOn, shown_of, stamped}
 use Rattle.rinex_file.specs.Sound.{AreRead, IsBegun, IsSound, IsSoundAt}
 use Rattle.rinex_file.specs.Course.{History, StandsBehind, progress_at}

@@ -1,8 +1,8 @@
 -- What was gathered of messages is a file value.
-use Rattle.std.proofs.Common.{◌≡◌, ℕ, zero, suc, ℤ, pos, ◌+◌, ◌*◌, ◌^◌, ◌<◌, ◌≤◌, ◌≤ℤ◌, ◌==◌, Bool, true, false, ◌||◌, ◌&&◌, List, [], ◌∷◌, ◌++◌, filter, map, length, get_or, refl, sym, ap, ap₂, ◌∙◌, subst, arith, Option, Some, None, is_some, unsigned_abs, nat_eq}
-use Rattle.std.specs.Prelude.{if◌then◌else◌, cond, find, IfSome, IsTrue, All, Any, position, slice_index}
+use Rattle.std.proofs.Common.{◌≡◌, ℕ, zero, suc, ℤ, ◌+◌, ◌<◌, ◌≤◌, ◌==◌, Bool, true, false, ◌||◌, ◌&&◌, List, [], ◌∷◌, ◌++◌, filter, map, length, get_or, refl, sym, ap, ap₂, ◌∙◌, subst, arith, Option, Some, None, is_some}
+use Rattle.std.specs.Prelude.{if◌then◌else◌, cond, find, IfSome, IsTrue, Any, slice_index}
 use Rattle.std.specs.Option.{option_map_or}
-use Rattle.std.specs.List.{AllByRecursion, IsDistinct, list_any}
+use Rattle.std.specs.List.{AllByRecursion, IsDistinct}
 use Rattle.std.specs.List.Sorted.{IsStrictlyIncreasing}
 use Rattle.std.proofs.lemmas.Int.{ints}
 use Rattle.std.proofs.lemmas.List.{map-append, get_or-map, length-map}
@@ -16,8 +16,8 @@ use Rattle.obs_epoch.specs.Values.{PlanValue, EpochValue, Closed, Fits, cells_of
 use Rattle.obs_epoch.specs.Plans.{place_in}
 use Rattle.obs_epoch.specs.Reach.{IsGathered, AreGathered, IsGatheredEpoch, AreGatheredEpochs, TimesRise, same_place}
 use Rattle.rinex_file.specs.Texts.{HeaderLists}
-use Rattle.rinex_file.specs.Value.{Entry, Row, Seen, Stamped, numbers, written, no_entry, entry_of, is_of, entry_at, row_of, seen_among, seen_of, rows_of, stamped_of}
-use Rattle.rinex_file.specs.FileValues.{AreTexts, IsPlan, AreValues, IsTime, says, FitsColumns, IsEntry, IsRow, of_system, rank_of, IsSeen, AreSeen, IsStamped, time_of, IsFileValue}
+use Rattle.rinex_file.specs.Value.{Seen, numbers, written, no_entry, entry_of, is_of, entry_at, row_of, seen_among, seen_of, rows_of, stamped_of}
+use Rattle.rinex_file.specs.FileValues.{AreTexts, says, FitsColumns, IsEntry, IsRow, of_system, rank_of, IsSeen, IsStamped, time_of, IsFileValue}
 use Rattle.rinex_file.specs.File.{gathered}
 use Rattle.rinex_file.specs.Gathered.{AreSignals, HasSatellite, epoch_of}
 use Rattle.rinex_file.proofs.Sent.{length-rows}
