@@ -6,7 +6,6 @@ use Rattle.std.proofs.lemmas.Int.{ints}
 use Rattle.gnss_obs.specs.declared.system.System.{System}
 use Rattle.gnss_obs.specs.declared.system.System.TheVariants.{Gps, Galileo}
 use Rattle.gnss_obs.specs.Signals.{SignalAt, carriers, carrier_of, band_of, code_of, hertz_of}
-use Rattle.gnss_obs.specs.Rounding.{nearest, nearest_size}
 use Rattle.gnss_obs.specs.Observables.{light, metres, cycles, shift, decibels}
 use Rattle.gnss_obs.proofs.NearestLaws.{nearest_is, nearest_bound, product_within}
 

@@ -1,5 +1,5 @@
 -- How far the values of epochs reach.
-use Rattle.std.proofs.Common.{◌≡◌, ℕ, zero, suc, ℤ, pos, negsuc, ◌+◌, ◌*◌, ◌^◌, ◌<◌, ◌≤◌, ◌≤ℤ◌, ◌==◌, Bool, true, false, not, ◌||◌, ◌&&◌, List, [], ◌∷◌, ◌++◌, filter, map, take, refl, sym, ap, ap₂, ◌∙◌, subst, arith, Option, Some, None, nat_lt, nat_le, is_some, unsigned_abs, lit<}
+use Rattle.std.proofs.Common.{◌≡◌, ℕ, zero, suc, ℤ, pos, ◌+◌, ◌*◌, ◌^◌, ◌<◌, ◌≤◌, ◌≤ℤ◌, ◌==◌, Bool, true, false, ◌||◌, ◌&&◌, List, [], ◌∷◌, ◌++◌, filter, map, take, refl, sym, ap, ◌∙◌, subst, arith, Option, Some, None, nat_lt, nat_le, is_some, unsigned_abs, lit<}
 use Rattle.std.specs.Prelude.{if◌then◌else◌, cond, flat_map, filter_map, option_map, option_and_then, IfSome, fold}
 use Rattle.std.specs.Option.{option_map_or}
 use Rattle.std.specs.List.{AllByRecursion, IsDistinct, cons_option}
@@ -17,20 +17,19 @@ use Rattle.rtcm_msg.specs.declared.message.Message.TheVariants.{Station, Msm4, M
 use Rattle.rtcm_msg.specs.Spelling.{IsMessage}
 use Rattle.rtcm_msg.specs.Reach.{IsMeasured, EntriesAreMeasured, IsCoordinate, IsPoint, PointsAreTold}
 use Rattle.rtcm_msg.specs.Entries.{entries}
-use Rattle.obs_epoch.specs.declared.cell.Cell.{Cell}
 use Rattle.obs_epoch.specs.declared.cell.StationValues.{StationValues}
 use Rattle.obs_epoch.specs.declared.seen.Seen.{Seen}
 use Rattle.obs_epoch.specs.declared.seen.KnownLock.{KnownLock}
 use Rattle.obs_epoch.specs.Weeks.{week, weeks}
-use Rattle.obs_epoch.specs.Values.{PlanValue, EpochValue, Closed, Fits, cells_of, planned_of, most_cells}
+use Rattle.obs_epoch.specs.Values.{Closed, Fits, cells_of, planned_of, most_cells}
 use Rattle.obs_epoch.specs.Plans.{place_in}
-use Rattle.obs_epoch.specs.Heard.{Setup, Heard, heard, observed, seen_in, seen_by, lock_by, is_own}
+use Rattle.obs_epoch.specs.Heard.{Setup, Heard, heard, observed, seen_in, lock_by, is_own}
 use Rattle.obs_epoch.specs.Times.{Timed, is_at, timed, timed_after, taken_at, is_late, is_past, time_of}
 use Rattle.obs_epoch.specs.Cells.{is_of, is_system, is_planned, is_listed, is_among, has_same_key, offered, firsts_after, firsts, kept, kept_at, most_satellites}
-use Rattle.obs_epoch.specs.Marked.{Marked, cell_of, shown}
+use Rattle.obs_epoch.specs.Marked.{cell_of, shown}
 use Rattle.obs_epoch.specs.Loss.{times, mark_with, mark_of, has_lost, previous}
-use Rattle.obs_epoch.specs.Epochs.{marked, epoch_at, told, values_of, no_values, is_shut}
-use Rattle.obs_epoch.specs.Gathering.{open_after, before_closing, closed_at, closed_list_at, all_epochs}
+use Rattle.obs_epoch.specs.Epochs.{marked, epoch_at, told, no_values, is_shut}
+use Rattle.obs_epoch.specs.Gathering.{open_after, before_closing, closed_list_at, all_epochs}
 use Rattle.obs_epoch.specs.Reach.{IsStrength, IsTold, IsHeard, IsGathered, same_place, AreGathered, AreToldValues, IsGatheredEpoch, TimesRise, AreGatheredEpochs}
 use Rattle.obs_epoch.proofs.OrderLemmas.{all-sorted, distinct-sorted}
 use Rattle.obs_epoch.proofs.NotingLemmas.{kept_distinct}

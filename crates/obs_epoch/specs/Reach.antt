@@ -10,7 +10,7 @@ use Rattle.obs_epoch.specs.declared.cell.Cell.{Cell}
 use Rattle.obs_epoch.specs.declared.cell.StationValues.{StationValues}
 use Rattle.obs_epoch.specs.declared.seen.Seen.{Seen}
 use Rattle.obs_epoch.specs.Weeks.{week, weeks}
-use Rattle.obs_epoch.specs.Values.{PlanValue, EpochValue, Closed, Fits, cells_of, planned_of}
+use Rattle.obs_epoch.specs.Values.{PlanValue, Closed, Fits, cells_of, planned_of}
 use Rattle.obs_epoch.specs.Plans.{place_in}
 use Rattle.obs_epoch.specs.Heard.{Setup, Heard, heard}
 use Rattle.obs_epoch.specs.Gathering.{all_epochs}

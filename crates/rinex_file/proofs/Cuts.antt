@@ -1,7 +1,7 @@
 -- A text whose blanks at the end were cut is had back by filling it up.
 use Rattle.std.proofs.Common.{arith, ◌≡◌, ℕ, suc, ◌+◌, ◌-◌, ◌<◌, ◌≤◌, List, [], ◌∷◌, ◌++◌, length, replicate, take, get_or, refl, sym, ap, ◌∙◌, true, false, length-append}
 use Rattle.std.specs.Prelude.{◌==◌, if◌then◌else◌}
-use Rattle.std.proofs.lemmas.List.{length-replicate, take_more, append_cancel_right}
+use Rattle.std.proofs.lemmas.List.{length-replicate, take_more}
 use Rattle.std.proofs.lemmas.Bool.{eqb-true}
 use Rattle.rinex_file.specs.Blanks.{trimmed, before_cut}
 

@@ -8,7 +8,6 @@ use Rattle.rinex_file.specs.declared.due.Due.{Due}
 use Rattle.rinex_file.specs.declared.due.Due.TheVariants.{Header, Epoch, EventPosition, EventHeight, EventEpoch, Satellite}
 use Rattle.rinex_file.specs.Numbers.{joined}
 use Rattle.rinex_file.specs.Value.{Seen, Stamped, FileValue}
-use Rattle.rinex_file.specs.FileValues.{IsFileValue}
 use Rattle.rinex_file.specs.Lines.{seen_line}
 use Rattle.rinex_file.specs.File.{file_lines, stamped_lines}
 use Rattle.rinex_file.specs.Exact.{HasHeaderNext, HasEpochLeft, HasSatelliteNext, IsDue, IsDueAt}

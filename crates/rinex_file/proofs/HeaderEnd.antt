@@ -10,9 +10,8 @@ use Rattle.obs_epoch.specs.Signals.{indices, IsOf}
 use Rattle.obs_epoch.specs.Values.{PlanValue, planned_of}
 use Rattle.obs_epoch.specs.declared.cell.StationValues.{StationValues}
 use Rattle.rinex_file.specs.declared.section.Section.TheVariants.{Version, End}
-use Rattle.rinex_file.specs.declared.fault.HeaderField.{HeaderField}
 use Rattle.rinex_file.specs.Blanks.{trimmed}
-use Rattle.rinex_file.specs.Texts.{HeaderLists, width_of, text_of}
+use Rattle.rinex_file.specs.Texts.{HeaderLists}
 use Rattle.rinex_file.specs.FileValues.{IsText, AreTexts, AreValues, IsPlan, IsTime}
 use Rattle.rinex_file.specs.Header.{lines_of, header_lines, end_line}
 use Rattle.rinex_file.specs.Progress.{Known, Shown, IsShown, SaidOf, SaidBefore, IsHeaderLeft, is_planned}

@@ -5,11 +5,10 @@ use Rattle.std.specs.Int.{is_negative}
 use Rattle.std.proofs.lemmas.Int.{ints}
 use Rattle.std.specs.Fmt.{digits, sign_text}
 use Rattle.std.proofs.lemmas.List.{take_at, drop_at}
-use Rattle.obs_epoch.specs.Values.{PlanValue}
 use Rattle.rinex_file.specs.Numbers.{joined, left, right, fixed}
 use Rattle.rinex_file.specs.Reading.{digits_in, number_in}
-use Rattle.rinex_file.specs.Header.{header_line, version_line, lengths}
-use Rattle.rinex_file.specs.Progress.{is_planned, version_with}
+use Rattle.rinex_file.specs.Header.{header_line, lengths}
+use Rattle.rinex_file.specs.Progress.{version_with}
 use Rattle.rinex_file.specs.FileValues.{IsCoordinate}
 use Rattle.rinex_file.proofs.Digits.{number_in-fixed, digits_in-right, digits_in-fixed, length-fixed, length-right}
 

@@ -1,5 +1,5 @@
 -- When what was gathered of messages is a file value.
-use Rattle.std.specs.Prelude.{◌≡◌, ℕ, ◌<◌, List, ◌∷◌, length, All, nat_eq}
+use Rattle.std.specs.Prelude.{◌<◌, List, ◌∷◌, length, All, nat_eq}
 use Rattle.std.specs.List.{AllByRecursion, IsDistinct}
 use Rattle.gnss_obs.specs.declared.system.System.{System}
 use Rattle.gnss_obs.specs.Signals.{table}

@@ -1,7 +1,7 @@
 -- What is written is the text of a file value.
-use Rattle.std.proofs.Common.{◌≡◌, ℕ, ◌<◌, ◌⊎◌, inl, inr, Bool, true, false, List, [], ◌∷◌, ◌++◌, filter, map, refl, sym, ap, subst, ◌∙◌, arith, Option, Some, None, Result, Ok, Err, nat_lt, append-nil}
+use Rattle.std.proofs.Common.{◌≡◌, ℕ, ◌<◌, inl, inr, Bool, true, false, List, [], ◌∷◌, ◌++◌, length, filter, map, refl, sym, subst, arith, Option, Some, None, Result, Ok, Err, nat_lt, append-nil}
 use Rattle.std.specs.Prelude.{cond, IfSome}
-use Rattle.std.specs.List.{AllByRecursion, filter_map, cons_option}
+use Rattle.std.specs.List.{AllByRecursion, cons_option}
 use Rattle.rtcm_scan.specs.Frames.{Framed}
 use Rattle.rtcm_msg.specs.declared.message.Message.{Message}
 use Rattle.rtcm_msg.specs.declared.fault.MsgFault.{MsgFault}
@@ -16,9 +16,9 @@ use Rattle.rinex_file.specs.Texts.{HeaderLists}
 use Rattle.rinex_file.specs.FileValues.{AreTexts}
 use Rattle.rinex_file.specs.File.{gathered}
 use Rattle.rinex_file.specs.Gathered.{AreSignals, HasSatellite, IsGatheredFile}
-use Rattle.rtcm_convert.specs.Converted.{Settings, heard_of, heard_in, messages_of, written, text_of, text_with, file, so_far}
+use Rattle.rtcm_convert.specs.Converted.{Settings, heard_of, heard_in, messages_of, written, text_of, text_with, file, so_far, epochs_in}
 use Rattle.rtcm_convert.specs.Laws.{IsFileText}
-use Rattle.rtcm_convert.specs.Readable.{IsTextOf, IsReadable, AreSound}
+use Rattle.rtcm_convert.specs.Readable.{HasValue, IsReadable, AreSound}
 
 -- what the crates below say of messages, epochs and files
 pub record Known : Type 0 where
@@ -83,18 +83,29 @@ front plan es all p h =
 
 -- ---- their text
 
-text_readable : Known → (texts : HeaderLists) (plan : PlanValue) (es : List Closed) → AreTexts texts → AreSignals plan → AreGatheredEpochs plan es → AllByRecursion HasSatellite es
-    → IsReadable (text_of texts plan es)
+text_valued : Known → (texts : HeaderLists) (plan : PlanValue) (es : List Closed) → AreTexts texts → AreSignals plan → AreGatheredEpochs plan es → AllByRecursion HasSatellite es
+    → 0 < length es → HasValue (text_of texts plan es)
 unfolding text_of
-text_readable k texts plan [] x p h some = inl refl
-text_readable k texts plan (e ∷ es) x p h some =
-    inr (gathered texts plan e.values (e ∷ es), record { is = k.gathered texts plan e es x p h some; same = k.text texts plan e es })
+text_valued k texts plan [] x p h some none = absurd (omega (arith, none))
+text_valued k texts plan (e ∷ es) x p h some none =
+    (gathered texts plan e.values (e ∷ es), record { is = k.gathered texts plan e es x p h some; same = k.text texts plan e es })
 
-with_readable : Known → (s : Settings) (es : List Closed) → AreSound s → AreGatheredEpochs s.gather.plan es → IsReadable (text_with s es)
-with_readable k s es sound h =
-    text_readable k s.texts s.gather.plan (written es) sound.texts sound.plan
+with_valued : Known → (s : Settings) (es : List Closed) → AreSound s → AreGatheredEpochs s.gather.plan es → 0 < length (written es) → HasValue (text_with s es)
+with_valued k s es sound h =
+    text_valued k s.texts s.gather.plan (written es) sound.texts sound.plan
     (record { each = all_filter (IsGatheredEpoch s.gather.plan) (λ e. nat_lt 0 (satellites e.epoch)) es h.each; rise = rise_filter (λ e. nat_lt 0 (satellites e.epoch)) es h.rise })
     (written_some es)
+
+no_text : (texts : HeaderLists) (plan : PlanValue) (es : List Closed) → (0 < length es → HasValue (text_of texts plan es)) → IsReadable (text_of texts plan es)
+unfolding text_of
+no_text texts plan [] h = inl refl
+no_text texts plan (e ∷ es) h = inr (h (omega arith))
+
+with_readable : Known → (s : Settings) (es : List Closed) → AreSound s → AreGatheredEpochs s.gather.plan es → IsReadable (text_with s es)
+with_readable k s es sound h = no_text s.texts s.gather.plan (written es) (with_valued k s es sound h)
+
+pub file_valued : Known → (s : Settings) (fs : List Framed) → AreSound s → 0 < epochs_in s fs → HasValue (file s fs)
+file_valued k s fs sound some = with_valued k s (all_epochs s.gather (messages_of fs)) sound (k.epochs s.gather (messages_of fs) (messages_heard k fs)) some
 
 pub file_readable : Known → (s : Settings) (fs : List Framed) → AreSound s → IsReadable (file s fs)
 file_readable k s fs sound = with_readable k s (all_epochs s.gather (messages_of fs)) sound (k.epochs s.gather (messages_of fs) (messages_heard k fs))

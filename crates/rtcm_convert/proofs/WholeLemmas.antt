@@ -9,12 +9,13 @@ use Rattle.std.proofs.KnownBytes.{Appends-trans}
 use Rattle.rtcm_bits.specs.Device.{AppendsPrefix}
 use Rattle.rtcm_scan.specs.Frames.{frames_of}
 use Rattle.rtcm_scan.specs.Decided.{decided_frames}
-use Rattle.rtcm_convert.specs.Converted.{Settings, so_far, file}
+use Rattle.rtcm_convert.specs.Converted.{Settings, so_far, file, epochs_in}
 use Rattle.rtcm_convert.specs.Outcomes.{report_of}
 use Rattle.rtcm_convert.specs.Fed.{GoesOn}
 use Rattle.rtcm_convert.specs.Laws.{NothingYet}
 use Rattle.rtcm_convert.specs.Stream.{Extends, BreaksAtEnd}
 use Rattle.rtcm_convert.specs.Told.{settings}
+use Rattle.rtcm_convert.specs.Readable.{HasValue}
 use Rattle.rtcm_convert.specs.Made.{IsMade, IsMadeEmpty}
 use Rattle.rtcm_convert.specs.declared.setup.Setup.{Setup}
 use Rattle.rtcm_convert.specs.Broken.{IsBroken, Broke, BrokeAtEnd}
@@ -38,11 +39,16 @@ some_weaker (Some x) P Q f h = f x h
 same_limit : (v w : Conversion) (n limit : ℕ) → n ≤ w.scan.limit → w.scan.limit ≡ v.scan.limit → v.scan.limit ≡ limit → n ≤ limit
 same_limit v w n limit le same e = subst (λ (k : ℕ). n ≤ k) (same ∙ e) le
 
-pub made : (v w : Conversion) (x : Setup) (a b : Option (List ℕ)) (bytes : List ℕ) (report : Report) → NothingYet → w.scan.limit ≡ v.scan.limit → v.scan.limit ≡ x.limit
+-- a file with an epoch is the text of a file value
+abbrev pub IsValued : Setup → Type 0
+IsValued x = (b : List ℕ) → 0 < epochs_in (settings x) (frames_of b) → HasValue (file (settings x) (frames_of b))
+
+pub made : (v w : Conversion) (x : Setup) (a b : Option (List ℕ)) (bytes : List ℕ) (report : Report) → NothingYet → IsValued x → w.scan.limit ≡ v.scan.limit → v.scan.limit ≡ x.limit
     → Completed w a b (settings x) [] bytes report → IsMade x a b bytes
-made v w x a b bytes report nothing same e p = record {
+made v w x a b bytes report nothing valued same e p = record {
   within = same_limit v w (length bytes) x.limit p.finished.within same e;
   some = p.some;
+  value = valued bytes p.some;
   out = from_nothing nothing a b (settings x) (file (settings x) (frames_of bytes)) p.out;
 }
 
@@ -54,11 +60,11 @@ made_empty v w x a b bytes nothing same e p = record {
   out = from_nothing nothing a b (settings x) (file (settings x) (frames_of bytes)) p.out;
 }
 
-pub run_whole : {E : Type 0} (v w : Conversion) (x : Setup) (r a b : Option (List ℕ)) (result : Result Report E) → NothingYet → StandsFor v (settings x) [] → w.scan.limit ≡ v.scan.limit → v.scan.limit ≡ x.limit
+pub run_whole : {E : Type 0} (v w : Conversion) (x : Setup) (r a b : Option (List ℕ)) (result : Result Report E) → NothingYet → IsValued x → StandsFor v (settings x) [] → w.scan.limit ≡ v.scan.limit → v.scan.limit ≡ x.limit
     → IfOk result (λ report. IfSome r (Finishes v w a b report)) → OnOk result (IfSome r (IsMade x a b))
-run_whole v w x r a b (Ok report) nothing y same e h =
-    some_weaker r (Finishes v w a b report) (IsMade x a b) (λ l f. made v w x a b l report nothing same e (f (settings x) [] y)) h
-run_whole v w x r a b (Err d) nothing y same e h = tt
+run_whole v w x r a b (Ok report) nothing valued y same e h =
+    some_weaker r (Finishes v w a b report) (IsMade x a b) (λ l f. made v w x a b l report nothing valued same e (f (settings x) [] y)) h
+run_whole v w x r a b (Err d) nothing valued y same e h = tt
 
 pub run_report : {E : Type 0} (v w : Conversion) (s : Settings) (r a b : Option (List ℕ)) (result : Result Report E) → StandsFor v s [] → IfOk result (λ report. IfSome r (Finishes v w a b report))
     → IfOk result (λ report. IfSome r (λ x. report ≡ report_of s x))
@@ -105,11 +111,11 @@ run_over v s r limit x e h =
     some_weaker r (λ rest. (s : Settings) (b : List ℕ) → StandsFor v s b → v.scan.limit < length (b ++ rest)) (λ b. limit < length b)
     (λ l f. subst (λ (n : ℕ). n < length l) e (f s [] x)) h
 
-pub pieces_whole : {E : Type 0} (v w : Conversion) (x : Setup) (a b c : Option (List ℕ)) (bytes all : List ℕ) (result : Result Report E) → NothingYet → StandsFor v (settings x) bytes
+pub pieces_whole : {E : Type 0} (v w : Conversion) (x : Setup) (a b c : Option (List ℕ)) (bytes all : List ℕ) (result : Result Report E) → NothingYet → IsValued x → StandsFor v (settings x) bytes
     → Extends a b (settings x) [] bytes → bytes ≡ all → w.scan.limit ≡ v.scan.limit → v.scan.limit ≡ x.limit → IfOk result (λ report. FinishesNow v w b c report) → OnOk result (IsMade x a c all)
-pieces_whole v w x a b c bytes all (Ok report) nothing y out e same limit h =
-    subst (λ (l : List ℕ). IsMade x a c l) e (made v w x a c bytes report nothing same limit (completed_after w a b c (settings x) [] bytes report out (h (settings x) bytes y)))
-pieces_whole v w x a b c bytes all (Err d) nothing y out e same limit h = tt
+pieces_whole v w x a b c bytes all (Ok report) nothing valued y out e same limit h =
+    subst (λ (l : List ℕ). IsMade x a c l) e (made v w x a c bytes report nothing valued same limit (completed_after w a b c (settings x) [] bytes report out (h (settings x) bytes y)))
+pieces_whole v w x a b c bytes all (Err d) nothing valued y out e same limit h = tt
 
 pub pieces_empty : (v w : Conversion) (x : Setup) (a b c : Option (List ℕ)) (bytes all : List ℕ) → NothingYet → StandsFor v (settings x) bytes
     → Extends a b (settings x) [] bytes → bytes ≡ all → w.scan.limit ≡ v.scan.limit → v.scan.limit ≡ x.limit → FinishesEmptyNow v w b c → IsMadeEmpty x a c all

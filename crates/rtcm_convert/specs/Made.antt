@@ -3,13 +3,15 @@ use Rattle.std.specs.Prelude.{◌≡◌, ℕ, ◌<◌, ◌≤◌, List, length, 
 use Rattle.std.specs.Io.KnownBytes.{Appends}
 use Rattle.rtcm_scan.specs.Frames.{frames_of}
 use Rattle.rtcm_convert.specs.Converted.{file, epochs_in}
+use Rattle.rtcm_convert.specs.Readable.{HasValue}
 use Rattle.rtcm_convert.specs.Told.{settings}
 use Rattle.rtcm_convert.specs.declared.setup.Setup.{Setup}
 
--- These bytes are no more than the limit, and the file of their frames, which has an epoch, was written.
+-- These bytes are no more than the limit, and the file of their frames, which has an epoch, was written: the text of a file value.
 pub record IsMade (x : Setup) (a b : Option (List ℕ)) (bytes : List ℕ) : Type 0 where
   pub within : length bytes ≤ x.limit
   pub some : 0 < epochs_in (settings x) (frames_of bytes)
+  pub value : HasValue (file (settings x) (frames_of bytes))
   pub out : Appends a b (file (settings x) (frames_of bytes))
 
 -- They are no more than the limit, and the file of their frames has no epoch; it is empty.

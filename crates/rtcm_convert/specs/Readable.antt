@@ -1,20 +1,23 @@
 -- What is written is read back: it is the text of a file value, which `rinex_file::read_file` accepts.
-use Rattle.std.specs.Prelude.{◌≡◌, ℕ, ◌⊎◌, List, []}
+use Rattle.std.specs.Prelude.{◌≡◌, ℕ, ◌<◌, ◌⊎◌, List, []}
 use Rattle.rtcm_scan.specs.Frames.{Framed}
 use Rattle.rinex_file.specs.Value.{FileValue}
 use Rattle.rinex_file.specs.FileValues.{AreTexts, IsFileValue}
 use Rattle.rinex_file.specs.Gathered.{AreSignals}
 use Rattle.rinex_file.specs.File.{file_text}
-use Rattle.rtcm_convert.specs.Converted.{Settings, file, so_far}
+use Rattle.rtcm_convert.specs.Converted.{Settings, file, so_far, epochs_in}
 
 -- the text of a file value
 pub record IsTextOf (v : FileValue) (text : List ℕ) : Type 0 where
   pub is : IsFileValue v
   pub same : text ≡ file_text v
 
+abbrev pub HasValue : List ℕ → Type 0
+HasValue text = (v : FileValue) × IsTextOf v text
+
 -- nothing, or the text of a file value
 abbrev pub IsReadable : List ℕ → Type 0
-IsReadable text = (text ≡ []) ⊎ ((v : FileValue) × IsTextOf v text)
+IsReadable text = (text ≡ []) ⊎ HasValue text
 
 -- texts that fit their columns, and listed signals: those of a setup are
 pub record AreSound (s : Settings) : Type 0 where
@@ -24,6 +27,10 @@ pub record AreSound (s : Settings) : Type 0 where
 -- the file that frames make, and what is written of it so far
 abbrev pub FilesAreReadable : Type 0
 FilesAreReadable = (s : Settings) (fs : List Framed) → AreSound s → IsReadable (file s fs)
+
+-- where an epoch is written the file isn't empty
+abbrev pub FilesHaveValues : Type 0
+FilesHaveValues = (s : Settings) (fs : List Framed) → AreSound s → 0 < epochs_in s fs → HasValue (file s fs)
 
 abbrev pub SoFarIsReadable : Type 0
 SoFarIsReadable = (s : Settings) (fs : List Framed) → AreSound s → IsReadable (so_far s fs)

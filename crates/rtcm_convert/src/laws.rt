@@ -1,11 +1,11 @@
 //! Laws of the definitions that the contracts cite.
 ghost use Rattle.rtcm_convert.specs.Laws.{WrittenStays, WrittenGrows, NothingYet, FiledStays, FiledGrows, NothingFiled, CountedOnce, IsFileText};
-ghost use Rattle.std.specs.Prelude.{ℕ, List};
+ghost use Rattle.std.specs.Prelude.{ℕ, ◌<◌, List};
 ghost use Rattle.rtcm_scan.specs.Frames.{frames_of};
 ghost use Rattle.rtcm_scan.specs.Decided.{decided_frames};
-ghost use Rattle.rtcm_convert.specs.Converted.{so_far, file};
+ghost use Rattle.rtcm_convert.specs.Converted.{so_far, file, epochs_in};
 ghost use Rattle.rtcm_convert.specs.Told.{settings};
-ghost use Rattle.rtcm_convert.specs.Readable.{FilesAreReadable, SoFarIsReadable, IsReadable};
+ghost use Rattle.rtcm_convert.specs.Readable.{FilesAreReadable, FilesHaveValues, SoFarIsReadable, IsReadable, HasValue};
 
 use crate::setup::Setup;
 
@@ -45,6 +45,7 @@ pub fn text()
 /// The file that frames make is empty or the text of a file value, and so is what is written of it so far.
 pub fn readable()
     ensures file { FilesAreReadable }
+    ensures some { FilesHaveValues }
     ensures so_far { SoFarIsReadable }
 {
     rtcm_msg::laws::measures();
@@ -58,6 +59,7 @@ pub fn readable()
 /// [`read_file`](rinex_file::read_file) reads as that value.
 pub fn read_back(setup: &Setup)
     ensures file { (b : List ℕ) → IsReadable (file (settings setup.now) (frames_of b)) }
+    ensures some { (b : List ℕ) → 0 < epochs_in (settings setup.now) (frames_of b) → HasValue (file (settings setup.now) (frames_of b)) }
     ensures so_far { (b : List ℕ) → IsReadable (so_far (settings setup.now) (decided_frames b)) }
 {
     readable();

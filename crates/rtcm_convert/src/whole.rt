@@ -25,7 +25,7 @@ pub fn convert_stream<R: Read, W: Write>(
     reader: &mut Counted<R>,
     writer: &mut Counted<W>,
 ) -> Result<Report, Fault>
-    // The file that was written is the one of the stream's frames in order, and has an epoch.
+    // The file that was written is the one of the stream's frames in order, has an epoch, and is the text of a file value.
     ensures file { OnOk result (IfSome (R.remaining reader.old.inner) (IsMade setup (W.contents writer.old.inner) (W.contents writer.new.inner))) }
     ensures report { IfOk result (λ report. IfSome (R.remaining reader.old.inner) (λ b. report ≡ report_of (settings setup) b)) }
     // No epoch stands in that file, and it is empty.
@@ -49,6 +49,7 @@ pub fn convert_stream<R: Read, W: Write>(
     ensures widest { reader.new.widest ≤ max reader.old.widest 1029 }
 {
     laws::prefix();
+    laws::read_back(&setup);
     let mut converter = match Converter::new(alloc, setup) {
         Ok(converter) => converter,
         Err(fault) => return Err(fault),
@@ -63,13 +64,15 @@ pub fn convert_pieces<W: Write>(
     pieces: &[Vec<u8>],
     writer: &mut Counted<W>,
 ) -> Result<Report, Fault>
-    // However the stream is cut into pieces, the file that was written is the one of its frames in order, and has an epoch.
+    // However the stream is cut into pieces, the file that was written is the one of its frames in order, has an epoch, and is the
+    // text of a file value.
     ensures file { OnOk result (IsMade setup (W.contents writer.old.inner) (W.contents writer.new.inner) (flat_map (λ piece. piece.items) pieces.now)) }
     ensures report { IfOk result (λ report. report ≡ report_of (settings setup) (flat_map (λ piece. piece.items) pieces.now)) }
     // No epoch stands in that file, and it is empty.
     ensures no_epoch { IsErrOf result Fault.NoEpoch → IsMadeEmpty setup (W.contents writer.old.inner) (W.contents writer.new.inner) (flat_map (λ piece. piece.items) pieces.now) }
 {
     laws::prefix();
+    laws::read_back(&setup);
     let mut converter = match Converter::new(alloc, setup) {
         Ok(converter) => converter,
         Err(fault) => return Err(fault),

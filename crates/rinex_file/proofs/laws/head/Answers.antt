@@ -5,8 +5,7 @@ use Rattle.gnss_obs.specs.declared.system.System.{System}
 use Rattle.gnss_obs.specs.declared.system.System.TheVariants.{Gps, Galileo}
 use Rattle.gnss_obs.specs.Signals.{SignalAt, table}
 use Rattle.obs_epoch.specs.Signals.{indices, IsOf}
-use Rattle.obs_epoch.specs.Values.{PlanValue, planned_of}
-use Rattle.rinex_file.specs.Gathered.{AreSignals}
+use Rattle.obs_epoch.specs.Values.{planned_of}
 use Rattle.rinex_file.proofs.HeaderEnd.{listed_by}
 use Rattle.rinex_file.proofs.laws.head.Goals as goal
 

@@ -8,3 +8,6 @@ returns-clause-file c = λ b. c.readable.ensures.file (settings c.args.setup.now
 
 pub returns-clause-so_far : goal.returns-clause-so_far
 returns-clause-so_far c = λ b. c.readable.ensures.so_far (settings c.args.setup.now) (decided_frames b) (record { texts = c.head.ensures.texts; plan = c.head.ensures.plan })
+
+pub returns-clause-some : goal.returns-clause-some
+returns-clause-some c = λ b. c.readable.ensures.some (settings c.args.setup.now) (frames_of b) (record { texts = c.head.ensures.texts; plan = c.head.ensures.plan })

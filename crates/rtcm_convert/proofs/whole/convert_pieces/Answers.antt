@@ -14,7 +14,7 @@ loop-piece-preserved g c =
     record { stands = p.0; out = p.1; limit = c.in_default.ensures.same ∙ c.loop-piece.invariant.limit }
 
 pub returns-clause-file : goal.returns-clause-file
-returns-clause-file g c = pieces_whole c.loop-piece.converter c.finish.new.self c.args.setup _ _ _ _ _ c.finish.result c.prefix.ensures.nothing
+returns-clause-file g c = pieces_whole c.loop-piece.converter c.finish.new.self c.args.setup _ _ _ _ _ c.finish.result c.prefix.ensures.nothing c.read_back.ensures.some
     c.loop-piece.invariant.stands c.loop-piece.invariant.out
     (pieces_all (λ piece. piece.items) c.args.pieces.now c.loop-piece.piece-index c.loop-piece.auto.piece-index-end c.loop-piece-test.false)
     c.finish.ensures.same.1 c.loop-piece.invariant.limit c.finish.ensures.whole

@@ -3,7 +3,7 @@ use Rattle.rtcm_convert.proofs.WholeLemmas.{run_whole, run_report, run_empty, ru
 use Rattle.rtcm_convert.proofs.whole.convert_stream.Goals as goal
 
 pub returns-clause-file : goal.returns-clause-file
-returns-clause-file g c = run_whole c.in-Ok.converter c.run.new.self c.args.setup _ _ _ c.run.result c.prefix.ensures.nothing c.in-Ok.ensures.stands c.run.ensures.same c.in-Ok.ensures.fresh.0 c.run.ensures.whole
+returns-clause-file g c = run_whole c.in-Ok.converter c.run.new.self c.args.setup _ _ _ c.run.result c.prefix.ensures.nothing c.read_back.ensures.some c.in-Ok.ensures.stands c.run.ensures.same c.in-Ok.ensures.fresh.0 c.run.ensures.whole
 
 pub returns-clause-report : goal.returns-clause-report
 returns-clause-report g c = run_report c.in-Ok.converter c.run.new.self (settings c.args.setup) _ _ _ c.run.result c.in-Ok.ensures.stands c.run.ensures.whole

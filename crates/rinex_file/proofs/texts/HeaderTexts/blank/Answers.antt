@@ -1,8 +1,4 @@
-use Rattle.std.proofs.Common.{◌≡◌, ℕ, List, []}
-use Rattle.rinex_file.specs.declared.fault.HeaderField.{HeaderField}
 use Rattle.rinex_file.specs.declared.fault.HeaderField.TheVariants.{RunBy, Date, Marker, MarkerType, Observer, Agency, RecNumber, RecType, RecVersion, AntNumber, AntType}
-use Rattle.rinex_file.specs.Texts.{HeaderLists, width_of, text_of}
-use Rattle.rinex_file.specs.FileValues.{IsText}
 use Rattle.rinex_file.proofs.HeaderEnd.{blank_text}
 use Rattle.rinex_file.proofs.texts.HeaderTexts.blank.Goals as goal
 
