@@ -1,7 +1,7 @@
 """The commands: from bytes to lines."""
 from .epochs import Gathered, Plan, Setup
 from .frames import frames_of
-from .lines import epoch_lines, fixed, header
+from .lines import epoch_lines, fixed, has_value, header
 from .messages import SIGNALS, Msm, Refused, Station, decode, number_of
 
 KINDS = ("station", "other", "ignored", "late", "past", "taken")
@@ -32,6 +32,31 @@ def show_lines(data: bytes) -> list[str]:
             counts = (read.satellites, read.signals, len(read.cells))
             lines.append(" ".join(map(str, (place, read.number, read.station, read.time, read.more, *counts))))
     return lines
+
+
+def signal_counts(data: bytes, station: int | None) -> dict[tuple[str, str], int]:
+    """How many cells with a value each signal has, in the table's order; those that have none are left out."""
+    counts = {(system, code): 0 for system, codes in SIGNALS.items() for code in codes.values()}
+    for _, message in frames_of(data):
+        try:
+            read = decode(message)
+        except Refused:
+            continue
+        if isinstance(read, Msm) and station in (None, read.station):
+            for cell in read.cells:
+                if cell.key is not None and has_value(cell):
+                    counts[cell.key[0], cell.key[2]] += 1
+    return {signal: count for signal, count in counts.items() if count}
+
+
+def count_lines(counts: dict[tuple[str, str], int]) -> list[str]:
+    return [f"{system} {code} {count}" for (system, code), count in counts.items()]
+
+
+def option_line(counts: dict[tuple[str, str], int]) -> str:
+    """The options of `convert` that name these signals."""
+    names = {system: ",".join(code for at, code in counts if at == system) or "none" for system in SIGNALS}
+    return f"--gps {names['G']} --galileo {names['E']}"
 
 
 def convert(data: bytes, setup: Setup, texts: dict[str, str]) -> tuple[list[str], Report]:

@@ -1,5 +1,5 @@
 -- A message that is looked at is the one that is read.
-use Rattle.std.proofs.Common.{ℕ, ◌≡◌, ◌+◌, ◌*◌, ◌≤◌, Bool, List, length, Result, Ok, Err, refl, sym, ap, subst, ◌∙◌, arith, replicate, count_ones}
+use Rattle.std.proofs.Common.{ℕ, ◌≡◌, ◌+◌, ◌*◌, ◌<◌, ◌≤◌, Bool, List, length, slice_index, Result, Ok, Err, refl, sym, ap, subst, ◌∙◌, arith, replicate, count_ones}
 use Rattle.std.proofs.lemmas.Nat.{ones-le}
 use Rattle.rtcm_bits.specs.Bits.{bits_of}
 use Rattle.rtcm_bits.specs.Reading.{Cursor, after, unsigned_at}
@@ -11,12 +11,12 @@ use Rattle.rtcm_msg.specs.Fields.{standing, number_at, ◌>>=◌}
 use Rattle.rtcm_msg.specs.Packed.{total}
 use Rattle.rtcm_msg.specs.Columns.{columns_at, EachBelow}
 use Rattle.rtcm_msg.specs.Msm.{MsmValue, Sets, IsHeader, AreSets, IsValue, header_at, sets_at, msm_at}
-use Rattle.rtcm_msg.specs.Rows.{rows_at, end_of}
+use Rattle.rtcm_msg.specs.Rows.{rows_at, row_at, end_of}
 use Rattle.rtcm_msg.specs.Views.{satellite_widths, cell_widths, message_in, formed_at, IsLaid}
 use Rattle.rtcm_msg.proofs.Binds.{ok_inj, number_took, number_there}
 use Rattle.rtcm_msg.proofs.FaultLaws.{Stands, masks_stand}
 use Rattle.rtcm_msg.proofs.ColumnSteps.{columns_fit}
-use Rattle.rtcm_msg.proofs.RowLaws.{Ends, rows_end, rows_count, end_is}
+use Rattle.rtcm_msg.proofs.RowLaws.{Ends, rows_end, rows_count, end_is, row_is}
 
 -- ---- what is read, by its parts
 
@@ -79,6 +79,9 @@ stood bytes r c d h s room is e f = masks_stand (bits_of bytes) h s c d (rw (len
 
 pub rows_counted : (ws bytes : List ℕ) (n place : ℕ) → place + n * total ws ≤ 8 * length bytes → length (rows_at ws n (bits_of bytes) place) ≡ n
 rows_counted ws bytes n place h = rows_count ws (bits_of bytes) n place (rw (length-bits_of bytes) h)
+
+pub row_value : (vs ws bytes : List ℕ) (n place i : ℕ) → vs ≡ ws → place + n * total ws ≤ 8 * length bytes → i < n → row_at vs n (bits_of bytes) place i 0 ≡ slice_index (rows_at ws n (bits_of bytes) place) i
+row_value vs ws bytes n place i same h there = ap (λ (us : List ℕ). row_at us n (bits_of bytes) place i 0) same ∙ sym (row_is ws (bits_of bytes) n place i (rw (length-bits_of bytes) h) there)
 
 -- a message whose data are there
 pub record Found (form : Form) (g : Bool) (bits : List Bool) (c0 : Cursor) (h : MsmHeader) (s : Sets) (n place m at : ℕ) : Type 0 where

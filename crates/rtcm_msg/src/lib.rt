@@ -3,7 +3,6 @@
 //! message, `encode` writes one, `entries` says what its cells mean.
 #![tactic(auto)]
 
-mod columns;
 mod entry;
 mod fault;
 mod field;

@@ -4,15 +4,15 @@ ghost use Rattle.rtcm_bits.specs.Bits.{bits_of, filled};
 ghost use Rattle.rtcm_msg.specs.Spelling.{message_bits, is_other, Reads, IsFault, IsMessage};
 ghost use Rattle.rtcm_msg.specs.declared.message.Message.{Message};
 ghost use Rattle.rtcm_msg.specs.declared.fault.MsgFault.{MsgFault};
-ghost use Rattle.rtcm_msg.specs.Reading.{message_at, body_at, set_at, is_listed};
+ghost use Rattle.rtcm_msg.specs.Reading.{message_at, set_at, is_listed};
 ghost use Rattle.rtcm_msg.specs.declared.message.Message.TheVariants as messages;
 
 use crate::fault::MsgFault;
-use crate::field::field;
 use crate::grid4::Grid4;
 use crate::grid7::Grid7;
-use crate::msm::{Msm, read_msm, write_msm};
-use crate::station::{Station, read_station};
+use crate::msm::{Msm, write_msm};
+use crate::station::Station;
+use crate::view::look;
 use crate::writing::write_station;
 use arrayvec::ArrayVec;
 use rtcm_bits::{BitReader, BitWriter};
@@ -51,38 +51,14 @@ pub(crate) fn is_listed(number: u16) -> bool
     number >= 1071 && number <= 1127 && number % 10 >= 1 && number % 10 <= 7
 }
 
-/// Reads what stands behind the message number.
-#[tactic(auto, unfolding(crate::specs::Reading::body_at))]
-fn read_body(number: u16, reader: &mut BitReader) -> Result<Message, MsgFault>
-    ensures { Gives (λ m. m) result (body_at number reader.old) }
-{
-    match number {
-        1005 => Ok(Message::Station(read_station(reader, false)?)),
-        1006 => Ok(Message::Station(read_station(reader, true)?)),
-        1074 => Ok(Message::Msm4(read_msm(reader, false)?)),
-        1077 => Ok(Message::Msm7(read_msm(reader, false)?)),
-        1094 => Ok(Message::Msm4(read_msm(reader, true)?)),
-        1097 => Ok(Message::Msm7(read_msm(reader, true)?)),
-        _ => Ok(Message::Other {
-            number,
-            set: if is_listed(number) {
-                read_set(reader)
-            } else {
-                None
-            },
-        }),
-    }
-}
-
-/// Reads a message of at most 1,023 bytes.
-#[tactic(auto, unfolding(crate::specs::Reading::message_of))]
+/// Reads the message that is looked at.
 fn read_message(bytes: &[u8]) -> Result<Message, MsgFault>
-    requires { 8 * length bytes.now < 2 ^ 64 }
     ensures { Gives (λ m. m) result (message_at bytes.now) }
 {
-    let mut reader = BitReader::new(bytes);
-    let number = field(&mut reader, 12)? as u16;
-    read_body(number, &mut reader)
+    match look(bytes) {
+        Ok(view) => Ok(view.message()),
+        Err(fault) => Err(fault),
+    }
 }
 
 /// The first 1,023 bytes, behind which no field ends.
@@ -114,7 +90,7 @@ pub fn decode(bytes: &[u8]) -> Result<Message, MsgFault>
     ensures fault { IfErr result (IsFault (bits_of bytes.now)) }
     ensures only_fault { (f : MsgFault) → IsFault (bits_of bytes.now) f → result ≡ Err f }
 {
-    read_message(front(bytes))
+    read_message(bytes)
 }
 
 impl Message {

@@ -1,18 +1,18 @@
-ghost use Rattle.std.specs.Prelude.{◌≡◌, ◌<◌, ◌^◌, All, map, IfErr, Some, None, ◌++◌, ◌≤◌, IfOk, length, replicate, slice_index, count_ones};
-ghost use Rattle.rtcm_msg.specs.Fields.{Gives};
-ghost use Rattle.rtcm_msg.specs.Msm.{IsHeader, msm_at, msm_bits, IsValue};
+ghost use Rattle.std.specs.Prelude.{◌≡◌, ◌<◌, ◌^◌, All, map, IfErr, Some, None, ◌++◌, ◌≤◌, IfOk, length, slice_index, count_ones};
+ghost use Rattle.rtcm_msg.specs.Msm.{IsHeader, msm_bits, IsValue};
 ghost use Rattle.rtcm_msg.specs.Packed.{total};
 ghost use Rattle.rtcm_msg.specs.Refusals.{msm_refusal};
-ghost use Rattle.rtcm_msg.specs.Columns.{EachBelow, columns_at};
+ghost use Rattle.rtcm_msg.specs.Columns.{EachBelow};
+ghost use Rattle.rtcm_msg.specs.Views as views;
 
-use crate::columns::read_columns;
-use crate::fault::{MsgFault, ValueFault};
+use crate::fault::ValueFault;
 use crate::grid::Grid;
-use crate::header::{MsmHeader, WEEK, header_fault, read_header};
-use crate::masks::{Masks, read_masks};
+use crate::header::{MsmHeader, WEEK, header_fault};
+use crate::masks::Masks;
+use crate::view::MsmView;
 use crate::writing::{write_columns, write_header, write_masks};
 use arrayvec::ArrayVec;
-use rtcm_bits::{BitReader, BitWriter};
+use rtcm_bits::BitWriter;
 use std::marker::{Model, PhantomData};
 
 /// A multiple signal message of GPS or Galileo, in the precision of the grid: a header, the satellites
@@ -150,76 +150,43 @@ impl<G: Grid> Msm<G> {
     }
 }
 
-/// So many zeros.
-fn zeros(count: usize) -> ArrayVec<u128, 64>
-    requires { count ≤ 64 }
-    ensures { result.items ≡ replicate count 0 }
+/// The satellites of a message that is looked at, each one's fields in one number.
+fn satellites_of(view: &MsmView<'_>) -> ArrayVec<u64, 64>
+    ensures { result.items ≡ view.now.msm.satellites }
 {
-    let mut zeros = ArrayVec::new();
-    for _ in 0..count {
-        zeros.push(0);
+    let mut satellites = ArrayVec::new();
+    for i in 0..view.satellites() {
+        satellites.push(view.satellite_number(i));
     }
-    zeros
+    satellites
 }
 
-/// The numbers in 64 bits.
-fn narrow(numbers: &ArrayVec<u128, 64>) -> ArrayVec<u64, 64>
-    requires { EachBelow 64 numbers.now.items }
-    ensures { result.items ≡ numbers.now.items }
+/// The cells of a message that is looked at, each one's fields in one number.
+fn cells_of(view: &MsmView<'_>) -> ArrayVec<u128, 64>
+    ensures { result.items ≡ view.now.msm.cells }
 {
-    let mut narrow = ArrayVec::new();
-    for number in numbers.as_slice() {
-        narrow.push(*number as u64);
+    let mut cells = ArrayVec::new();
+    for i in 0..view.cells() {
+        cells.push(view.cell_number(i));
     }
-    narrow
+    cells
 }
 
-/// Reads so many numbers that are packed of fields of these widths.
-fn read_numbers(
-    reader: &mut BitReader,
-    widths: &[u32],
-    count: usize,
-) -> Result<ArrayVec<u128, 64>, MsgFault>
-    requires few { All (λ w. w ≤ 64) widths.now }
-    requires wide { total widths.now ≤ 128 }
-    requires count { count ≤ 64 }
-    ensures read { Gives (λ ns. (ns.items, reader.new)) result (columns_at widths.now (replicate count 0) reader.old) }
-    ensures fit { IfOk result (λ ns. EachBelow (total widths.now) ns.items) }
-    ensures len { IfOk result (λ ns. length ns.items ≡ count) }
+/// The message that is looked at, where its data are laid out as the grid has them.
+pub(crate) fn msm_of<G: Grid>(view: &MsmView<'_>) -> Msm<G>
+    requires satellites { G.satellite_widths ≡ views.satellite_widths view.now.form }
+    requires cells { G.cell_widths ≡ views.cell_widths view.now.form }
+    ensures { result ≡ view.now.msm }
 {
-    let mut numbers = zeros(count);
-    read_columns(reader, widths, numbers.as_mut_slice())?;
-    Ok(numbers)
-}
-
-/// Reads an MSM behind its number.
-#[tactic(auto, unfolding(crate::specs::Msm::msm_at))]
-pub(crate) fn read_msm<G: Grid>(
-    reader: &mut BitReader,
-    is_galileo: bool,
-) -> Result<Msm<G>, MsgFault>
-    ensures { Gives (λ m. (m, reader.new)) result (msm_at G.satellite_widths G.cell_widths is_galileo reader.old) }
-{
-    let header = read_header(reader)?;
-    let masks = read_masks(reader)?;
-    let satellites = read_numbers(
-        reader,
-        G::satellite_widths(),
-        masks.satellites().count_ones() as usize,
-    )?;
-    let cells = read_numbers(
-        reader,
-        G::cell_widths(),
-        masks.cells().count_ones() as usize,
-    )?;
-    Ok(Msm {
-        is_galileo,
-        header,
-        masks,
-        satellites: narrow(&satellites),
-        cells,
+    let _ = view.form();
+    Msm {
+        is_galileo: view.is_galileo(),
+        header: view.header(),
+        masks: view.masks(),
+        satellites: satellites_of(view),
+        cells: cells_of(view),
         grid: PhantomData,
-    })
+    }
 }
 
 /// The numbers in 128 bits.

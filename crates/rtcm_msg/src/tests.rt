@@ -31,6 +31,12 @@ const COARSE: [u8; 30] = [
     0x00, 0x20, 0x00, 0x00, 0x00, 0x51, 0x80, 0x0F, 0xFF, 0xE0, 0x00, 0x00, 0xFE, 0xD0,
 ];
 
+/// Message 1094 with the same cell.
+const GALILEO: [u8; 30] = [
+    0x44, 0x67, 0xD3, 0x00, 0x00, 0x0F, 0xA0, 0x00, 0x00, 0x04, 0x00, 0x00, 0x00, 0x00, 0x00, 0x00,
+    0x00, 0x20, 0x00, 0x00, 0x00, 0x51, 0x80, 0x0F, 0xFF, 0xE0, 0x00, 0x00, 0xFE, 0xD0,
+];
+
 /// Message 1077 with no satellite and no signal.
 const EMPTY: [u8; 22] = [
     0x43, 0x57, 0xD3, 0x00, 0x00, 0x0F, 0xA0, 0x00, 0x00, 0x00, 0x00, 0x00, 0x00, 0x00, 0x00, 0x00,
@@ -150,6 +156,7 @@ fn messages_are_written_back(rt: HostRuntime) {
     assert!(rt; is_written_back(&HEIGHT));
     assert!(rt; is_written_back(&FINE));
     assert!(rt; is_written_back(&COARSE));
+    assert!(rt; is_written_back(&GALILEO));
     assert!(rt; is_written_back(&EMPTY));
 }
 
@@ -193,6 +200,12 @@ fn heads_are_read(rt: HostRuntime) {
         Ok(Message::Msm7(msm)) => assert!(rt; msm.number() == 1097 && msm.is_galileo()),
         _ => assert!(rt; false),
     }
+    match decode(&GALILEO) {
+        Ok(Message::Msm4(msm)) => {
+            assert!(rt; msm.number() == 1094 && msm.is_galileo() && msm.header() == header());
+        }
+        _ => assert!(rt; false),
+    }
 }
 
 #[test]
@@ -218,6 +231,7 @@ fn cells_are_read(rt: HostRuntime) {
         ..fine
     };
     assert!(rt; first_entry(&COARSE) == Some(coarse));
+    assert!(rt; first_entry(&GALILEO) == Some(coarse));
     // DF405 = 1, DF406 = 1, DF397 = 255
     let mut range = FINE;
     range[28] = 0x40;
@@ -301,6 +315,16 @@ fn the_first_fault_counts(rt: HostRuntime) {
     // The time is judged when it was read, and not before.
     assert!(rt; fault_of(&LATE) == Some(MsgFault::BadTime));
     assert!(rt; fault_of(&LATE[..6]) == Some(MsgFault::Short(24)));
+    // The message 1077 with a time of 604,800,000 ms, and with the last one of the week.
+    let mut week = FINE;
+    week[3] = 0x90;
+    week[4] = 0x32;
+    week[5] = 0x10;
+    week[6] = 0x00;
+    assert!(rt; fault_of(&week) == Some(MsgFault::BadTime));
+    week[5] = 0x0F;
+    week[6] = 0xFC;
+    assert!(rt; fault_of(&week).is_none());
     // So are the pairs.
     assert!(rt; fault_of(&MANY) == Some(MsgFault::TooManyCells));
     assert!(rt; fault_of(&MANY[..21]) == Some(MsgFault::Short(137)));

@@ -1,7 +1,7 @@
-ghost use Rattle.std.specs.Prelude.{◌≡◌, ◌*◌, ◌<◌, ◌≤◌, ◌^◌, All, IfOk, length, count_ones};
+ghost use Rattle.std.specs.Prelude.{◌≡◌, ◌*◌, ◌<◌, ◌≤◌, ◌^◌, All, IfOk, length, slice_index, count_ones};
 ghost use Rattle.rtcm_bits.specs.Bits.{bits_of};
 ghost use Rattle.rtcm_msg.specs.Fields.{Gives, standing};
-ghost use Rattle.rtcm_msg.specs.Msm.{IsHeader};
+ghost use Rattle.rtcm_msg.specs.Msm.{IsHeader, IsValue};
 ghost use Rattle.rtcm_msg.specs.Packed.{total};
 ghost use Rattle.rtcm_msg.specs.Reading.{message_at, body_at};
 ghost use Rattle.rtcm_msg.specs.Seen.{seen};
@@ -15,8 +15,9 @@ use crate::grid4::Grid4;
 use crate::grid7::Grid7;
 use crate::header::{MsmHeader, read_header};
 use crate::masks::{Masks, read_masks};
-use crate::message::{front, is_listed, read_set};
-use crate::rows::end_of;
+use crate::message::{Message, front, is_listed, read_set};
+use crate::msm::msm_of;
+use crate::rows::{end_of, row_at};
 use crate::station::{Station, read_station};
 use rtcm_bits::BitReader;
 use std::marker::Model;
@@ -99,7 +100,8 @@ impl<'a> Model for MsmView<'a> {
 impl<'a> MsmView<'a> {
     /// How its data are laid out.
     pub fn form(&self) -> Form
-        ensures { result ≡ self.now.form }
+        ensures form { result ≡ self.now.form }
+        ensures value { IsValue (views.satellite_widths self.now.form) (views.cell_widths self.now.form) self.now.msm }
     {
         self.form
     }
@@ -138,6 +140,7 @@ impl<'a> MsmView<'a> {
     pub fn satellites(&self) -> usize
         ensures count { result ≡ length self.now.msm.satellites }
         ensures set { result ≡ count_ones self.now.msm.sets.satellites }
+        ensures few { result ≤ 64 }
     {
         self.satellites
     }
@@ -146,8 +149,47 @@ impl<'a> MsmView<'a> {
     pub fn cells(&self) -> usize
         ensures count { result ≡ length self.now.msm.cells }
         ensures set { result ≡ count_ones self.now.msm.sets.cells }
+        ensures few { result ≤ 64 }
     {
         self.cells
+    }
+
+    /// The fields of a satellite in one number, the first in the most significant bits.
+    pub(crate) fn satellite_number(&self, i: usize) -> u64
+        requires { i < length self.now.msm.satellites }
+        ensures value { result ≡ slice_index self.now.msm.satellites i }
+    {
+        row_at(
+            self.bytes,
+            self.form.satellite_widths(),
+            self.satellites,
+            self.satellites_at,
+            i,
+        ) as u64
+    }
+
+    /// The fields of a cell in one number, the first in the most significant bits.
+    pub(crate) fn cell_number(&self, i: usize) -> u128
+        requires { i < length self.now.msm.cells }
+        ensures { result ≡ slice_index self.now.msm.cells i }
+    {
+        row_at(
+            self.bytes,
+            self.form.cell_widths(),
+            self.cells,
+            self.cells_at,
+            i,
+        )
+    }
+
+    /// The message with its data.
+    fn message(&self) -> Message
+        ensures { result ≡ views.formed self.now }
+    {
+        match self.form() {
+            Form::Msm4 => Message::Msm4(msm_of(self)),
+            Form::Msm7 => Message::Msm7(msm_of(self)),
+        }
     }
 }
 
@@ -163,6 +205,19 @@ pub enum View<'a> {
         number: u16,
         set: Option<(u16, bool)>,
     },
+}
+
+impl<'a> View<'a> {
+    /// The message with its data.
+    pub fn message(self) -> Message
+        ensures { result ≡ seen self.entry }
+    {
+        match self {
+            View::Station(station) => Message::Station(station),
+            View::Msm(msm) => msm.message(),
+            View::Other { number, set } => Message::Other { number, set },
+        }
+    }
 }
 
 /// Looks at an MSM, behind whose number the reader stands.

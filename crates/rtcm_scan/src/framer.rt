@@ -118,7 +118,8 @@ impl Framer {
         }
     }
 
-    /// Whether bytes may be pushed: nothing was since `next` or `next_into` last answered None, or since the framer was made.
+    /// Whether bytes may be pushed: nothing was since `next` or `next_into` last answered None, or since the framer was
+    /// made.
     pub fn ready(&self) -> bool
         ensures { result ≡ self.now.is_ready }
     {
@@ -286,8 +287,7 @@ impl Framer {
         }
     }
 
-    /// Gives up places until a whole frame stands at the front, and answers its size. None where no further place is
-    /// decided.
+    /// Gives up places until a whole frame stands at the front, and answers its size. None where no more are decided.
     fn seek(&mut self) -> Option<usize>
         ensures begins { IfSome result (λ size. (begins_frame self.new.held ≡ true) × (size ≡ frame_length self.new.held) × (self.new.tried ≡ asked self.new.held)) }
         ensures stands { (b : List ℕ) (fs : List Framed) → StandsFor self.old b fs → StandsFor self.new b fs }
