@@ -1,5 +1,6 @@
 pub mod Days
 pub mod WalkLemmas
+pub mod CivilLemmas
 pub mod ClosingLemmas
 pub mod LoadLemmas
 pub mod EpochLemmas

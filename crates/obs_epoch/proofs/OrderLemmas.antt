@@ -8,7 +8,10 @@ use Rattle.obs_epoch.specs.declared.seen.Seen.{Seen}
 use Rattle.obs_epoch.specs.declared.order.Seat.{Seat}
 use Rattle.obs_epoch.specs.Cells.{has_same_key, is_among}
 use Rattle.obs_epoch.proofs.CellsLemmas.{same_key_laws}
-use Rattle.obs_epoch.specs.Order.{is_before, Rise, insert_by, spot, seat_of, sorted}
+use Rattle.gnss_obs.specs.declared.system.System.{System}
+use Rattle.obs_epoch.specs.declared.cell.Cell.{Cell}
+use Rattle.obs_epoch.specs.Values.{PlanValue, planned_of}
+use Rattle.obs_epoch.specs.Order.{is_before, Rise, insert_by, spot, cell_seat, seat_of, sorted}
 
 -- ---- seats
 
@@ -95,13 +98,6 @@ rise-insert_by at x (y ∷ ys) r other = by (is_before (at x) (at y)) refl (rise
 
 -- ---- where it is sought
 
-abbrev pub Later : Seat → List Seat → Type 0
-Later s ts = Before s ts
-
-pub spot_first : (s : Seat) (ts : List Seat) → Later s ts → spot s ts ≡ 0
-spot_first s [] h = refl
-spot_first s (t ∷ ts) h = ap (λ b. if b then 0 else suc (spot s ts)) h.0
-
 not_before : (s a b : Seat) → is_before a b ≡ true → is_before s b ≡ false → is_before s a ≡ false
 not_before s a b h k = by (is_before s a) refl where
   by : (v : Bool) → is_before s a ≡ v → v ≡ false
@@ -113,23 +109,51 @@ get_before a [] k d h all = absurd (omega (arith, h))
 get_before a (t ∷ ts) zero d h all = all.0
 get_before a (t ∷ ts) (suc k) d h all = get_before a ts k d (omega (arith, h)) all.1
 
-pub spot_at : (s : Seat) (ts : List Seat) (k : ℕ) (d : Seat) → Rise ts → k < length ts → is_before s (get_or ts k d) ≡ false → Later s (drop (suc k) ts) → spot s ts ≡ suc k
-spot_at s [] k d r h before later = absurd (omega (arith, h))
-spot_at s (t ∷ ts) zero d r h before later = ap (λ b. if b then 0 else suc (spot s ts)) before ∙ ap suc (spot_first s ts later)
-spot_at s (t ∷ ts) (suc k) d r h before later =
-    let less : k < length ts = omega (arith, h) in
-    ap (λ b. if b then 0 else suc (spot s ts)) (not_before s t (get_or ts k d) (get_before t ts k d less r.0) before)
-    ∙ ap suc (spot_at s ts k d r.1 less before later)
+spot_most : (s : Seat) (ts : List Seat) → spot s ts ≤ length ts
+spot_most s [] = omega arith
+spot_most s (t ∷ ts) = by (is_before s t) (spot_most s ts) where
+  by : (b : Bool) → spot s ts ≤ length ts → (if b then 0 else suc (spot s ts)) ≤ suc (length ts)
+  by true h = omega arith
+  by false h = omega (arith, h)
 
-pub spot_here : {X : Type 0} (s : Seat) (f : X → Seat) (xs : List X) (at : ℕ) (x : X) → Rise (map f xs) → 0 < at → at ≤ length xs → x ≡ get_or xs (at - 1) x
-    → is_before s (f x) ≡ false → Before s (map f (drop at xs)) → at ≡ spot s (map f xs)
-spot_here s f xs at x r one most is before later =
-    let less : at - 1 < length xs = omega (arith, one, most) in
-    let next : at ≡ suc (at - 1) = omega (arith, one) in
-    let here : get_or (map f xs) (at - 1) (f x) ≡ f x = get_or-map f xs (at - 1) x (f x) less ∙ ap f (sym is) in
-    let within : at - 1 < length (map f xs) = subst (λ n. at - 1 < n) (sym (length-map xs f)) less in
-    next ∙ sym (spot_at s (map f xs) (at - 1) (f x) r within (ap (is_before s) here ∙ before)
-    (subst (Before s) (sym (drop-map f (suc (at - 1)) xs)) (subst (λ n. Before s (map f (drop n xs))) next later)))
+spot_upper : (s : Seat) (ts : List Seat) (k : ℕ) (d : Seat) → k < length ts → is_before s (get_or ts k d) ≡ true → spot s ts ≤ k
+spot_upper s [] k d h behind = absurd (omega (arith, h))
+spot_upper s (t ∷ ts) zero d h behind = let e : spot s (t ∷ ts) ≡ 0 = ap (λ b. if b then 0 else suc (spot s ts)) behind in omega (arith, e)
+spot_upper s (t ∷ ts) (suc k) d h behind = by (is_before s t) (spot_upper s ts k d (omega (arith, h)) behind) where
+  by : (b : Bool) → spot s ts ≤ k → (if b then 0 else suc (spot s ts)) ≤ suc k
+  by true h = omega arith
+  by false h = omega (arith, h)
+
+spot_lower : (s : Seat) (ts : List Seat) (k : ℕ) (d : Seat) → Rise ts → k < length ts → is_before s (get_or ts k d) ≡ false → suc k ≤ spot s ts
+spot_lower s [] k d r h front = absurd (omega (arith, h))
+spot_lower s (t ∷ ts) zero d r h front = let e : spot s (t ∷ ts) ≡ suc (spot s ts) = ap (λ b. if b then 0 else suc (spot s ts)) front in omega (arith, e)
+spot_lower s (t ∷ ts) (suc k) d r h front =
+    let less : k < length ts = omega (arith, h) in
+    let e : spot s (t ∷ ts) ≡ suc (spot s ts) = ap (λ b. if b then 0 else suc (spot s ts)) (not_before s t (get_or ts k d) (get_before t ts k d less r.0) front) in
+    let more = spot_lower s ts k d r.1 less front in
+    omega (arith, e, more)
+
+module _ {X : Type 0} (s : Seat) (f : X → Seat) (xs : List X) (k : ℕ) (x : X) (less : k < length xs) (is : x ≡ get_or xs k x) where
+  here : get_or (map f xs) k (f x) ≡ f x
+  here = get_or-map f xs k x (f x) less ∙ ap f (sym is)
+
+  within : k < length (map f xs)
+  within = subst (λ n. k < n) (sym (length-map xs f)) less
+
+  -- an item that stands behind that seat, and one that doesn't
+  pub spot_before : is_before s (f x) ≡ true → spot s (map f xs) ≤ k
+  spot_before behind = spot_upper s (map f xs) k (f x) within (ap (is_before s) here ∙ behind)
+
+  pub spot_behind : Rise (map f xs) → is_before s (f x) ≡ false → k + 1 ≤ spot s (map f xs)
+  spot_behind r front = let h = spot_lower s (map f xs) k (f x) r within (ap (is_before s) here ∙ front) in omega (arith, h)
+
+pub spot_within : {X : Type 0} (s : Seat) (f : X → Seat) (xs : List X) → spot s (map f xs) ≤ length xs
+spot_within s f xs = let h = spot_most s (map f xs) in let n = length-map xs f in omega (arith, h, n)
+
+-- the seat of a cell of a system, by its signal's own system
+pub own_seat : (system : System) (p : PlanValue) (x : Seat) (cell : Cell) (b v : Bool) → cell.signal.system ≡ system → b ≡ is_before x (cell_seat (planned_of cell.signal.system p) cell) → b ≡ v
+    → is_before x (cell_seat (planned_of system p) cell) ≡ v
+own_seat system p x cell b v same is e = ap (λ s. is_before x (cell_seat (planned_of s p) cell)) (sym same) ∙ sym is ∙ e
 
 -- ---- the same cells
 

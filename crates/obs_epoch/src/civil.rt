@@ -1,10 +1,13 @@
 //! GPS time as a date and a time of day.
-ghost use Rattle.std.specs.Prelude.{◌≡◌, ◌≤◌, ◌<◌, ◌*◌, ◌+◌, ◌↔◌, ℕ, IsSome, IfSome, IfNone};
+ghost use Rattle.std.specs.Prelude.{◌≡◌, ◌≤◌, ◌<◌, ◌*◌, ◌+◌, ◌↔◌, ℕ, IsSome, IfSome, IfNone, pos, ◌*ℤ◌, ◌+ℤ◌};
 ghost use Rattle.obs_epoch.specs.Weeks.{week, weeks};
-ghost use Rattle.obs_epoch.specs.Dates.{IsCivilOf, civil_of};
+ghost use Rattle.obs_epoch.specs.Dates.{IsCivil, IsCivilOf, civil_of, clock_of};
+ghost use Rattle.jiff_core.specs.Calendar.{days_from_civil};
+ghost use Rattle.jiff.specs.Words.{civil_nanos};
 
 use crate::time::GpsTime;
-use jiff_core::civil::Date;
+use jiff::SignedDuration;
+use jiff::civil::DateTime;
 
 /// A date of the Gregorian calendar and a time of day. GPS time has no leap seconds, so each minute has 60,000 milliseconds.
 #[derive(Clone, Copy, Debug, PartialEq, Eq)]
@@ -23,14 +26,15 @@ pub struct Civil {
     pub millisecond: u16,
 }
 
-const DAY: u64 = 86_400_000;
-
-const HOUR: u64 = 3_600_000;
-
-const MINUTE: u64 = 60_000;
-
-// The days from the first date that the calendar has, -9999-01-01, to 1980-01-06.
-const BEFORE: u32 = 4_371_587 + 3_657;
+// 1980-01-06 00:00:00, where GPS time begins.
+fn beginning() -> DateTime
+    ensures { civil_nanos result ≡ pos 3657 *ℤ pos 86_400_000_000_000 }
+{
+    match DateTime::new(1980, 1, 6, 0, 0, 0, 0) {
+        Ok(beginning) => beginning,
+        Err(_) => unreachable!(),
+    }
+}
 
 impl GpsTime {
     /// The date and the time of day.
@@ -38,16 +42,17 @@ impl GpsTime {
         ensures relation { IsCivilOf self result }
         ensures walk { result ≡ civil_of self }
     {
-        let milliseconds = self.milliseconds();
-        let clock = milliseconds % DAY;
-        let date = Date::from_days_since_min(BEFORE + (milliseconds / DAY) as u32);
-        Civil {
-            year: date.year as u16,
-            month: date.month,
-            day: date.day,
-            hour: (clock / HOUR) as u8,
-            minute: (clock / MINUTE % 60) as u8,
-            millisecond: (clock % MINUTE) as u16,
+        let since = SignedDuration::from_millis(self.milliseconds() as i64);
+        match beginning().checked_add(since) {
+            Ok(at) => Civil {
+                year: at.year() as u16,
+                month: at.month() as u8,
+                day: at.day() as u8,
+                hour: at.hour() as u8,
+                minute: at.minute() as u8,
+                millisecond: at.second() as u16 * 1_000 + at.millisecond() as u16,
+            },
+            Err(_) => unreachable!(),
         }
     }
 
@@ -57,23 +62,36 @@ impl GpsTime {
         ensures walk { IfSome result (λ t. civil.now ≡ civil_of t) }
         ensures none { IfNone result ((t : ℕ) → t < weeks * week → ¬ IsCivilOf t civil.now) }
     {
-        if civil.hour > 23 || civil.minute > 59 || civil.millisecond > 59_999 {
+        let since = at_of(civil)?.duration_since(beginning()).as_millis();
+        if since < 0 {
             return None;
         }
-        if civil.year > 9999 || civil.month > 12 || civil.day > 31 {
-            return None;
-        }
-        let date = match Date::new(civil.year as i16, civil.month as i8, civil.day as i8) {
-            Ok(date) => date,
-            Err(_) => return None,
-        };
-        let days = date.days_since_min();
-        if days < BEFORE {
-            return None;
-        }
-        let clock = civil.hour as u64 * HOUR
-            + civil.minute as u64 * MINUTE
-            + civil.millisecond as u64;
-        GpsTime::new((days - BEFORE) as u64 * DAY + clock)
+        GpsTime::new(since as u64)
+    }
+}
+
+// The date and time of day in the calendar, or None where it has none such.
+fn at_of(civil: &Civil) -> Option<DateTime>
+    ensures some { IfSome result (λ at. IsCivil civil.now × (civil_nanos at ≡ days_from_civil (pos civil.now.year) civil.now.month civil.now.day *ℤ pos 86_400_000_000_000 +ℤ pos (clock_of civil.now * 1_000_000))) }
+    ensures none { IfNone result (¬ IsCivil civil.now) }
+{
+    if civil.hour > 23 || civil.minute > 59 || civil.millisecond > 59_999 {
+        return None;
+    }
+    if civil.year > 9_999 || civil.month > 12 || civil.day > 31 {
+        return None;
+    }
+    let at = DateTime::new(
+        civil.year as i16,
+        civil.month as i8,
+        civil.day as i8,
+        civil.hour as i8,
+        civil.minute as i8,
+        (civil.millisecond / 1_000) as i8,
+        (civil.millisecond % 1_000) as i32 * 1_000_000,
+    );
+    match at {
+        Ok(at) => Some(at),
+        Err(_) => None,
     }
 }

@@ -45,13 +45,34 @@ pub fn spot(cells: &[Cell], plan: &Plan, x: Seat, system: System) -> usize
     ensures spot { result ≡ spot_of x (map (cell_seat (planned_of system plan.now)) cells.now) }
     ensures bound { result ≤ length cells.now }
 {
-    for back in 0..cells.len() {
-        let at = cells.len() - back;
-        if !is_behind(&cells[at - 1], plan, x) {
-            return at;
+    let end = cells.len();
+    if end == 0 {
+        return 0;
+    }
+    if !is_behind(&cells[end - 1], plan, x) {
+        return end;
+    }
+    spot_by_halves(cells, plan, x, system)
+}
+
+// The same, found by halves.
+fn spot_by_halves(cells: &[Cell], plan: &Plan, x: Seat, system: System) -> usize
+    requires held { AreHeld system cells.now }
+    requires order { StandBy (planned_of system plan.now) cells.now }
+    ensures spot { result ≡ spot_of x (map (cell_seat (planned_of system plan.now)) cells.now) }
+    ensures bound { result ≤ length cells.now }
+{
+    let mut low = 0;
+    let mut high = cells.len();
+    while low < high {
+        let middle = low + (high - low) / 2;
+        if is_behind(&cells[middle], plan, x) {
+            high = middle;
+        } else {
+            low = middle + 1;
         }
     }
-    0
+    low
 }
 
 // Whether a cell stands behind that seat.

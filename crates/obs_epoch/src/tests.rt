@@ -1,10 +1,13 @@
 //! What the contracts can't say: that the calls succeed, and values from outside.
+mod cells;
+mod dates;
 mod faults;
+mod plans;
 
 ghost use Rattle.std.specs.Prelude.{◌≡◌, false, IfOk};
 
-use crate::{Civil, Gather, Gatherer, GpsTime, Kind, Plan, PlanFault, StationValues};
-use gnss_obs::{Signal, System};
+use crate::{Gather, Gatherer, Kind, Plan, PlanFault, StationValues};
+use gnss_obs::System;
 use rtcm_msg::{
     Cell4, Cell7, Masks, Message, Msm, MsmHeader, Satellite4, Satellite7, Station, StationParts,
 };
@@ -221,123 +224,6 @@ fn by_time_alone_no_bit_closes(rt: HostRuntime) -> Result<(), PlanFault> {
     Ok(())
 }
 
-#[test]
-fn the_first_cell_of_a_key_is_kept(rt: HostRuntime) -> Result<(), PlanFault> {
-    let mut g = gatherer(rt.alloc(), 2_300, Gather::Bit)?;
-    assert_eq!(rt; g.take(&short(1_000, true, true, 15)).kind, kept(1, 0, 0));
-    assert_eq!(rt;
-        g.take(&long(false, 1_000, true, long_cell(true, 64))).kind,
-        kept(0, 1, 0)
-    );
-    assert!(rt; g.end());
-    assert!(rt;
-        g.closed().is_some_and(|e| e
-            .cells(System::Gps)
-            .iter()
-            .all(|c| c.d.is_none() && c.c.is_some()))
-    );
-    Ok(())
-}
-
-/// A message of the long form: every GPS satellite with two signals, by their IDs, or the first with one.
-fn wide(more: bool, satellites: u64, signals: u32) -> Message {
-    let satellite = Satellite7 {
-        whole: 70,
-        extended: 0,
-        fraction: 0,
-        rate: 100,
-    };
-    let cells = (satellites.count_ones() * signals.count_ones()) as usize;
-    if satellites.count_ones() > 32 || cells > 64 || cells == 0 {
-        return nothing();
-    }
-    let masks = match Masks::new(satellites, signals, u64::MAX >> (64 - cells)) {
-        Ok(masks) => masks,
-        Err(_) => return nothing(),
-    };
-    let all = [satellite; 32];
-    let every = [long_cell(true, 64); 64];
-    match Msm::new(
-        false,
-        header(1_000, more),
-        masks,
-        &all[..satellites.count_ones() as usize],
-        &every[..cells],
-    ) {
-        Ok(msm) => Message::Msm7(msm),
-        Err(_) => nothing(),
-    }
-}
-
-const ALL_GPS: u64 = 0xFFFF_FFFF << 32;
-
-#[test]
-fn a_set_split_over_messages_is_kept(rt: HostRuntime) -> Result<(), PlanFault> {
-    let mut g = gatherer(rt.alloc(), 2_300, Gather::Bit)?;
-    assert_eq!(rt;
-        g.take(&wide(true, ALL_GPS, 1 << 30 | 1 << 22)).kind,
-        kept(64, 0, 0)
-    );
-    assert_eq!(rt; g.take(&wide(false, 1 << 63, 1 << 8)).kind, kept(1, 0, 0));
-    assert!(rt;
-        g.closed().is_some_and(|e| e.satellites() == 32 && e.cells(System::Gps).len() == 65)
-    );
-    assert_eq!(rt; g.locks(), 65);
-    Ok(())
-}
-
-#[test]
-fn cells_past_the_bound_are_crowded(rt: HostRuntime) -> Result<(), PlanFault> {
-    let mut g = gatherer(rt.alloc(), 2_300, Gather::Bit)?;
-    assert_eq!(rt;
-        g.take(&wide(true, ALL_GPS, 1 << 30 | 1 << 22)).kind,
-        kept(64, 0, 0)
-    );
-    assert_eq!(rt;
-        g.take(&wide(true, ALL_GPS, 1 << 29 | 1 << 23)).kind,
-        kept(64, 0, 0)
-    );
-    assert_eq!(rt;
-        g.take(&wide(true, ALL_GPS, 1 << 28 | 1 << 16)).kind,
-        kept(64, 0, 0)
-    );
-    assert_eq!(rt;
-        g.take(&wide(true, ALL_GPS, 1 << 10 | 1 << 9)).kind,
-        kept(64, 0, 0)
-    );
-    assert_eq!(rt; g.take(&wide(false, 1 << 63, 1 << 8)).kind, kept(0, 0, 1));
-    assert!(rt;
-        g.closed().is_some_and(|e| e.satellites() == 32 && e.cells(System::Gps).len() == 256)
-    );
-    assert_eq!(rt; g.locks(), 256);
-    Ok(())
-}
-
-#[test]
-fn cells_stand_by_satellite_and_plan(rt: HostRuntime) -> Result<(), PlanFault> {
-    let plan = Plan::parse(rt.alloc(), "5X,2W,1C", "none")?;
-    let mut g = Gatherer::new(rt.alloc(), plan, 2_300, Some(7), Gather::Bit)?;
-    g.take(&wide(true, 1 << 63 | 1 << 61, 1 << 30 | 1 << 22));
-    g.take(&wide(false, 1 << 63 | 1 << 62, 1 << 8));
-    let Some(epoch) = g.closed() else {
-        return Err(PlanFault::NothingPlanned);
-    };
-    let order = [
-        (1, *b"5X"),
-        (1, *b"2W"),
-        (1, *b"1C"),
-        (2, *b"5X"),
-        (3, *b"2W"),
-        (3, *b"1C"),
-    ];
-    let cells = epoch.cells(System::Gps);
-    assert_eq!(rt; cells.len(), 6);
-    for (cell, (id, code)) in cells.iter().zip(order) {
-        assert!(rt; cell.satellite.id() == id && cell.signal.code() == code);
-    }
-    Ok(())
-}
-
 fn mark(g: &Gatherer) -> u8 {
     match g.closed() {
         None => 255,
@@ -446,108 +332,4 @@ fn setups_are_refused_in_order(rt: HostRuntime) -> Result<(), PlanFault> {
     let g = Gatherer::new(alloc, plan, 99_999, None, Gather::Time)?;
     assert_eq!(rt; g.plan().signals(System::Gps), 1);
     Ok(())
-}
-
-#[test]
-fn plans_are_read(rt: HostRuntime) -> Result<(), PlanFault> {
-    let alloc = rt.alloc();
-    let table = [
-        ("1C,1C", "none", PlanFault::RepeatedCode(System::Gps, 1)),
-        ("1c", "all", PlanFault::UnknownCode(System::Gps, 0)),
-        ("none", "none", PlanFault::NothingPlanned),
-        ("1C", "5Q,5", PlanFault::UnknownCode(System::Galileo, 1)),
-        ("", "all", PlanFault::UnknownCode(System::Gps, 0)),
-        ("all,1C", "none", PlanFault::UnknownCode(System::Gps, 0)),
-        ("1C,", "none", PlanFault::UnknownCode(System::Gps, 1)),
-    ];
-    for (gps, galileo, fault) in table {
-        assert!(rt;
-            matches!(Plan::parse(alloc, gps, galileo), Err(f) if f == fault),
-            "{gps} {galileo}"
-        );
-    }
-    let all = Plan::parse(alloc, "all", "all")?;
-    assert_eq!(rt;
-        (all.signals(System::Gps), all.signals(System::Galileo)),
-        (15, 19)
-    );
-    let some = Plan::parse(alloc, "2W,1C", "none")?;
-    assert_eq!(rt; some.signals(System::Gps), 2);
-    let place = match Signal::from_code(System::Gps, "1C") {
-        None => None,
-        Some(signal) => some.place(signal),
-    };
-    assert_eq!(rt; place, Some(1));
-    Ok(())
-}
-
-// The signals of these codes of a system.
-fn signals_of(alloc: Global, system: System, codes: &[&str]) -> Result<Vec<Signal>, PlanFault> {
-    let mut signals = Vec::new(alloc);
-    for code in codes {
-        if let Some(signal) = Signal::from_code(system, code)
-            && signals.push(signal).is_err()
-        {
-            return Err(PlanFault::Memory);
-        }
-    }
-    Ok(signals)
-}
-
-#[test]
-fn plans_are_made_of_signals(rt: HostRuntime) -> Result<(), PlanFault> {
-    let alloc = rt.alloc();
-    let gps = signals_of(alloc, System::Gps, &["2W", "1C"])?;
-    let plan = Plan::from_signals(alloc, gps.as_slice(), &[])?;
-    let [first, second] = plan.of(System::Gps) else {
-        return Err(PlanFault::NothingPlanned);
-    };
-    assert_eq!(rt; (first.code(), second.code()), (*b"2W", *b"1C"));
-    assert!(rt; plan.of(System::Galileo).is_empty());
-    let twice = signals_of(alloc, System::Gps, &["1C", "1C"])?;
-    assert!(rt;
-        matches!(
-            Plan::from_signals(alloc, twice.as_slice(), &[]),
-            Err(PlanFault::RepeatedCode(System::Gps, 1))
-        )
-    );
-    let other = signals_of(alloc, System::Gps, &["1C"])?;
-    assert!(rt;
-        matches!(
-            Plan::from_signals(alloc, &[], other.as_slice()),
-            Err(PlanFault::UnknownCode(System::Galileo, 0))
-        )
-    );
-    assert!(rt;
-        matches!(
-            Plan::from_signals(alloc, &[], &[]),
-            Err(PlanFault::NothingPlanned)
-        )
-    );
-    Ok(())
-}
-
-#[test]
-fn dates_go_both_ways(rt: HostRuntime) {
-    let leap = Civil {
-        year: 2024,
-        month: 2,
-        day: 29,
-        hour: 0,
-        minute: 0,
-        millisecond: 0,
-    };
-    let time = GpsTime::new(2_303 * WEEK + 345_600_000);
-    assert!(rt; time.is_some_and(|t| t.civil() == leap));
-    assert_eq!(rt; GpsTime::from_civil(&leap), time);
-    let no_day = Civil { year: 2023, ..leap };
-    assert_eq!(rt; GpsTime::from_civil(&no_day), None);
-    let too_early = Civil {
-        year: 1980,
-        month: 1,
-        day: 5,
-        ..leap
-    };
-    assert_eq!(rt; GpsTime::from_civil(&too_early), None);
-    assert_eq!(rt; GpsTime::new(100_000 * WEEK), None);
 }

@@ -110,7 +110,3 @@ leaves_all a = ([], Consumes-nil a)
 pub at_end : (ahead : List ℕ) (r : Option (List ℕ)) → ahead ≡ [] → IsAtEnd r → IsAtEnd (prepend_known ahead r)
 at_end ahead None none end = tt
 at_end ahead (Some x) none end = ap (λ l. l ++ x) none ∙ end
-
-pub nothing_ahead : (a : Option (List ℕ)) (ahead : List ℕ) → ahead ≡ [] → Consumes a (prepend_known ahead a) []
-nothing_ahead None ahead none = tt
-nothing_ahead (Some x) ahead none = sym (ap (λ l. l ++ x) none)

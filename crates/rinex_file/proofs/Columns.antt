@@ -1,9 +1,12 @@
 -- The columns of a value: blanks, a sign, digits, a point and three digits.
-use Rattle.std.proofs.Common.{inl, inr, arith, ◌≡◌, ◌∙◌, sym, ap, ℕ, ◌+◌, ◌-◌, ◌/◌, ◌%◌, ◌^◌, ◌<◌, ◌≤◌, List, [], ◌∷◌, ◌++◌, length, take, drop, replicate, take-append-drop, append_assoc, length-append, decimal}
+use Rattle.std.proofs.Common.{inl, inr, arith, ◌≡◌, ◌∙◌, sym, ap, ℕ, ◌+◌, ◌-◌, ◌/◌, ◌%◌, ◌^◌, ◌<◌, ◌≤◌, List, [], ◌∷◌, ◌++◌, length, take, drop, replicate, take-append-drop, append_assoc, length-append, decimal, ℤ, pos, negsuc, unsigned_abs, true}
 use Rattle.std.specs.Prelude.{set}
 use Rattle.std.proofs.lemmas.Bool.{cases_lt}
-use Rattle.std.proofs.lemmas.Fmt.{decimal_digit, decimal_step, length-decimal-le, decimal_nonempty}
+use Rattle.std.proofs.lemmas.Fmt.{decimal_digit, decimal_step, length-decimal-le}
 use Rattle.std.proofs.lemmas.List.{length-replicate, replicate-append-replicate, take_at, set_at}
+use Rattle.std.specs.Int.{is_negative}
+use Rattle.std.proofs.lemmas.Int.{ints}
+use Rattle.rinex_file.specs.FileValues.{FitsColumns}
 use Rattle.rinex_file.specs.Numbers.{padded, right}
 
 -- ---- three digits
@@ -113,7 +116,22 @@ columns-signed d p a b r e some k =
 pub length-three : (p : ℕ) → p < 1000 → length (padded 3 p) ≡ 3
 length-three p h = ap length (padded-three p h)
 
-pub few_digits : (n : ℕ) → n < 10 ^ 12 → (0 < length (decimal (n / 1000))) × (length (decimal (n / 1000)) ≤ 9)
-few_digits n h =
+-- ten digits in front of the point
+pub ten_digits : (n : ℕ) → n ≤ 9_999_999_999_999 → length (decimal (n / 1000)) ≤ 10
+ten_digits n h =
+    let small : n / 1000 < 10 ^ 10 = omega (arith, h) in
+    length-decimal-le 10 (n / 1000) (omega arith) small (omega (arith, small))
+
+-- and nine where there is a minus
+pub nine_digits : (n : ℕ) → n < 10 ^ 12 → length (decimal (n / 1000)) ≤ 9
+nine_digits n h =
     let small : n / 1000 < 10 ^ 9 = omega (arith, h) in
-    (decimal_nonempty (n / 1000) (omega (arith, small)), length-decimal-le 9 (n / 1000) (omega arith) small (omega (arith, small)))
+    length-decimal-le 9 (n / 1000) (omega arith) small (omega (arith, small))
+
+pub within_columns : (v : ℤ) → FitsColumns v → unsigned_abs v ≤ 9_999_999_999_999
+within_columns (pos n) h = let high = h.1 in omega (arith, ints, high)
+within_columns (negsuc n) h = let low = h.0 in omega (arith, ints, low)
+
+pub within_signed : (v : ℤ) → FitsColumns v → is_negative v ≡ true → unsigned_abs v < 10 ^ 12
+within_signed (pos n) h negative = absurd (grind (arith, negative))
+within_signed (negsuc n) h negative = let low = h.0 in omega (arith, ints, low)

@@ -38,11 +38,6 @@ length-trimmed text =
     let l : length text ≡ length (trimmed text) + f.0 = ap length (sym f.1) ∙ simp (length-append, length-replicate) in
     omega (arith, l)
 
--- of one width, the cut texts determine the texts
-pub trimmed_determines : (xs ys : List ℕ) → length xs ≡ length ys → trimmed xs ≡ trimmed ys → xs ≡ ys
-trimmed_determines xs ys l e =
-    sym (fill-trimmed (length xs) xs refl) ∙ ap (λ t. t ++ replicate (length xs - length t) 32) e ∙ fill-trimmed (length xs) ys (sym l)
-
 -- a line has no blank left to cut
 pub trimmed-blank : (text : List ℕ) → trimmed (text ++ 32 ∷ []) ≡ trimmed text
 unfolding trimmed
@@ -68,13 +63,6 @@ cut_more text n h e = ap trimmed (take_more text n 0 h ∙ ap (λ b. take n text
 
 pub cut_enough : (text : List ℕ) (n : ℕ) → n < length text → (get_or text n 0 ≡ 32 → ⊥) → take (n + 1) text ≡ trimmed (take (n + 1) text)
 cut_enough text n h other = take_more text n 0 h ∙ sym (trimmed-other (take n text) (get_or text n 0) other) ∙ ap trimmed (sym (take_more text n 0 h))
-
--- the last byte taken off
-pub same_front : (xs ys : List ℕ) (b : ℕ) → xs ++ b ∷ [] ≡ ys ++ b ∷ [] → xs ≡ ys
-same_front xs ys b e = append_cancel_right xs ys (b ∷ []) e
-
-pub size_after : (new old text : List ℕ) (n : ℕ) → new ≡ old ++ text → length text ≡ n → length new ≡ length old + n
-size_after new old text n e l = ap length e ∙ length-append old text ∙ ap (λ k. length old + k) l
 
 in_front : (b : ℕ) (l : List ℕ) → (b ≡ 32 → ⊥) → before_cut b l ≡ b ∷ l
 in_front b [] other = before_cut-other b other

@@ -174,10 +174,6 @@ number_in-fixed width places z some fits =
     by_parts z (right width (fixed places z)) (digits_in-right width (fixed places z) ∙ digits_in-fixed places z some fits)
     (has_minus-right width (fixed places z) ∙ has_minus-fixed places z fits)
 
-pub fixed_determines : (width places : ℕ) (y z : ℤ) → 0 < places → unsigned_abs y < 2 ^ 64 → unsigned_abs z < 2 ^ 64
-    → right width (fixed places y) ≡ right width (fixed places z) → y ≡ z
-fixed_determines width places y z some small fits e = sym (number_in-fixed width places y some small) ∙ ap number_in e ∙ number_in-fixed width places z some fits
-
 pub digits_in-padded : (places n : ℕ) → 0 < places → n < 10 ^ places → n < 2 ^ 64 → digits_in (padded places n) ≡ n
 digits_in-padded places n some small fits = digits_from-padded places n 0 some small fits ∙ omega arith
 
@@ -203,9 +199,6 @@ length-fixed places digits z some any fits bound =
     let small : unsigned_abs z % 10 ^ places < 10 ^ places = mod-lt (unsigned_abs z) (ten_pow places) in
     let part = length-padded places (unsigned_abs z % 10 ^ places) some small (omega (arith, least, fits)) in
     three_parts (sign_text (is_negative z)) (decimal (unsigned_abs z / 10 ^ places)) (padded places (unsigned_abs z % 10 ^ places)) digits places whole part
-
-pub length-right-le : (width : ℕ) (text : List ℕ) → length (right width text) ≤ width + length text
-length-right-le width text = simp (length-append, length-replicate) (omega arith)
 
 pub length-padded-le : (places n : ℕ) → n < 2 ^ 64 → length (padded places n) ≤ places + 20
 length-padded-le places n fits =

@@ -22,19 +22,6 @@ pub flat_map-append : {X : Type 0} (f : X → List ℕ) (xs ys : List X) → fla
 flat_map-append f [] ys = refl
 flat_map-append f (x ∷ xs) ys = ap (λ l. f x ++ l) (flat_map-append f xs ys) ∙ sym (append_assoc (f x) (flat_map f xs) (flat_map f ys))
 
--- a signal more
-pub row_more : (g : ℕ → Entry) (signals : List ℕ) (i x : ℕ) (front text new : List ℕ) → i < length signals → x ≡ slice_index signals i
-    → text ≡ front ++ flat_map entry_text (map g (take i signals)) → new ≡ text ++ entry_text (g x)
-    → new ≡ front ++ flat_map entry_text (map g (take (i + 1) signals))
-row_more g signals i x front text new less is before more =
-    let done = flat_map entry_text (map g (take i signals)) in
-    let all : flat_map entry_text (map g (take (i + 1) signals)) ≡ done ++ entry_text (g x) =
-    ap (λ l. flat_map entry_text (map g l)) (take_more signals i 0 less ∙ ap (λ y. take i signals ++ y ∷ []) (sym is))
-    ∙ ap (flat_map entry_text) (map-append g (take i signals) (x ∷ []))
-    ∙ flat_map-append entry_text (map g (take i signals)) (g x ∷ [])
-    ∙ ap (λ l. done ++ l) (append-nil (entry_text (g x))) in
-    more ∙ ap (λ l. l ++ entry_text (g x)) before ∙ append_assoc front done (entry_text (g x)) ∙ ap (λ l. front ++ l) (sym all)
-
 -- all signals stand there
 pub row_done : (letter id : ℕ) (g : ℕ → Entry) (signals : List ℕ) (i : ℕ) (text : List ℕ) → id < 100 → length signals ≤ i
     → text ≡ (letter ∷ (48 + id / 10) ∷ (48 + id % 10) ∷ []) ++ flat_map entry_text (map g (take i signals))

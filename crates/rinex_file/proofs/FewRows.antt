@@ -32,9 +32,6 @@ pub few_planned : (p : PlanValue) → IsPlan p → (system : System) → length 
 few_planned p is system =
     length-le_from_distinct_below (planned_of system p) (length (table system)) (is.apart system) (each_below (length (table system)) (planned_of system p) (is.listed system))
 
-pub signals_few : (p : PlanValue) → IsPlan p → (length p.gps ≤ length (table Gps)) × (length p.galileo ≤ length (table Galileo))
-signals_few p is = (few_planned p is Gps, few_planned p is Galileo)
-
 -- ---- satellites
 
 -- the ranks from k on that the planned systems have

@@ -178,9 +178,6 @@ pub blank_text : (width : ℕ) (text : List ℕ) → text ≡ [] → IsText widt
 unfolding trimmed
 blank_text width text e = subst (IsText width) (sym e) (record { short = omega arith; printable = refl; cut = refl })
 
-pub blank_texts : (x : HeaderLists) → ((field : HeaderField) → text_of x field ≡ []) → AreTexts x
-blank_texts x blank field = blank_text (width_of field) (text_of x field) (blank field)
-
 pub none_read : (system : System) (ss : List SignalAt) → ss ≡ [] → IsOf system ss
 none_read system ss e = subst (IsOf system) (sym e) (none_of system)
 

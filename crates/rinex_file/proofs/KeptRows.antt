@@ -246,12 +246,6 @@ epoch_passed e left others text new whole shape before grown =
     ap (λ l. joined (flat_map stamped_lines l)) shape ∙ joined-append (stamped_lines e) (flat_map stamped_lines others) in
     passed text (joined (stamped_lines e)) (joined (flat_map stamped_lines others)) new whole (ap (λ l. text ++ l) (sym split) ∙ before) grown
 
--- no epoch is left
-pub epochs_passed : (epochs : List KeptEpoch) (rows : List KeptRow) (all : List Entry) (i : ℕ) (text whole : List ℕ) → length epochs ≤ i
-    → text ++ joined (flat_map stamped_lines (epochs_of (drop i epochs) rows all)) ≡ whole → text ≡ whole
-epochs_passed epochs rows all i text whole done before =
-    sym (ap (λ (l : List KeptEpoch). text ++ joined (flat_map stamped_lines (epochs_of l rows all))) (drop_of_length-le epochs done) ∙ append-nil text) ∙ before
-
 -- what was appended, and where the next epoch begins
 pub next_passed : (epochs : List KeptEpoch) (rows : List KeptRow) (all : List Entry) (i row entry row' entry' : ℕ) (e : KeptEpoch) (text new whole : List ℕ) → NextEpoch epochs rows all i row entry e
     → row' ≡ row + e.rows → entry' ≡ entry + entry_count (take e.rows (drop row rows))

@@ -312,12 +312,6 @@ pub said_of : (a : Option (List ℕ)) (P Q : List ℕ → Type 0) → ((input : 
 said_of None P Q h p = tt
 said_of (Some x) P Q h p = h x p
 
--- a line isn't empty
-pub line_some : (line : List ℕ) → IsLine line → 0 < length line
-line_some line (body, e, endless) =
-    let size : length line ≡ length body + 1 = ap length e ∙ simp length-append refl in
-    omega (arith, size)
-
 pub long_some : (bytes : List ℕ) → length bytes ≡ 1220 → 0 < length bytes
 long_some bytes size = omega (arith, size)
 

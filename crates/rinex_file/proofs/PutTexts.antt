@@ -17,9 +17,6 @@ program_put x a b are is_a is_b RecVersion = are RecVersion
 program_put x a b are is_a is_b AntNumber = are AntNumber
 program_put x a b are is_a is_b AntType = are AntType
 
-pub program_kept : (x y : HeaderLists) (a b : List ℕ) → y ≡ record x { run_by = a; date = b } → AreTexts x → IsText 20 a → IsText 20 b → AreTexts y
-program_kept x y a b e are is_a is_b = subst AreTexts (sym e) (program_put x a b are is_a is_b)
-
 pub marker_put : (x : HeaderLists) (a : List ℕ) → AreTexts x → IsText 60 a → AreTexts (record x { marker = a })
 marker_put x a are is_a RunBy = are RunBy
 marker_put x a are is_a Date = are Date
@@ -32,9 +29,6 @@ marker_put x a are is_a RecType = are RecType
 marker_put x a are is_a RecVersion = are RecVersion
 marker_put x a are is_a AntNumber = are AntNumber
 marker_put x a are is_a AntType = are AntType
-
-pub marker_kept : (x y : HeaderLists) (a : List ℕ) → y ≡ record x { marker = a } → AreTexts x → IsText 60 a → AreTexts y
-marker_kept x y a e are is_a = subst AreTexts (sym e) (marker_put x a are is_a)
 
 pub marker_type_put : (x : HeaderLists) (a : List ℕ) → AreTexts x → IsText 20 a → AreTexts (record x { marker_type = a })
 marker_type_put x a are is_a RunBy = are RunBy
@@ -49,9 +43,6 @@ marker_type_put x a are is_a RecVersion = are RecVersion
 marker_type_put x a are is_a AntNumber = are AntNumber
 marker_type_put x a are is_a AntType = are AntType
 
-pub marker_type_kept : (x y : HeaderLists) (a : List ℕ) → y ≡ record x { marker_type = a } → AreTexts x → IsText 20 a → AreTexts y
-marker_type_kept x y a e are is_a = subst AreTexts (sym e) (marker_type_put x a are is_a)
-
 pub observer_put : (x : HeaderLists) (a b : List ℕ) → AreTexts x → IsText 20 a → IsText 40 b → AreTexts (record x { observer = a; agency = b })
 observer_put x a b are is_a is_b RunBy = are RunBy
 observer_put x a b are is_a is_b Date = are Date
@@ -64,9 +55,6 @@ observer_put x a b are is_a is_b RecType = are RecType
 observer_put x a b are is_a is_b RecVersion = are RecVersion
 observer_put x a b are is_a is_b AntNumber = are AntNumber
 observer_put x a b are is_a is_b AntType = are AntType
-
-pub observer_kept : (x y : HeaderLists) (a b : List ℕ) → y ≡ record x { observer = a; agency = b } → AreTexts x → IsText 20 a → IsText 40 b → AreTexts y
-observer_kept x y a b e are is_a is_b = subst AreTexts (sym e) (observer_put x a b are is_a is_b)
 
 pub receiver_put : (x : HeaderLists) (a b c : List ℕ) → AreTexts x → IsText 20 a → IsText 20 b → IsText 20 c → AreTexts (record x { rec_number = a; rec_type = b; rec_version = c })
 receiver_put x a b c are is_a is_b is_c RunBy = are RunBy
@@ -81,9 +69,6 @@ receiver_put x a b c are is_a is_b is_c RecVersion = is_c
 receiver_put x a b c are is_a is_b is_c AntNumber = are AntNumber
 receiver_put x a b c are is_a is_b is_c AntType = are AntType
 
-pub receiver_kept : (x y : HeaderLists) (a b c : List ℕ) → y ≡ record x { rec_number = a; rec_type = b; rec_version = c } → AreTexts x → IsText 20 a → IsText 20 b → IsText 20 c → AreTexts y
-receiver_kept x y a b c e are is_a is_b is_c = subst AreTexts (sym e) (receiver_put x a b c are is_a is_b is_c)
-
 pub antenna_put : (x : HeaderLists) (a b : List ℕ) → AreTexts x → IsText 20 a → IsText 20 b → AreTexts (record x { ant_number = a; ant_type = b })
 antenna_put x a b are is_a is_b RunBy = are RunBy
 antenna_put x a b are is_a is_b Date = are Date
@@ -96,6 +81,3 @@ antenna_put x a b are is_a is_b RecType = are RecType
 antenna_put x a b are is_a is_b RecVersion = are RecVersion
 antenna_put x a b are is_a is_b AntNumber = is_a
 antenna_put x a b are is_a is_b AntType = is_b
-
-pub antenna_kept : (x y : HeaderLists) (a b : List ℕ) → y ≡ record x { ant_number = a; ant_type = b } → AreTexts x → IsText 20 a → IsText 20 b → AreTexts y
-antenna_kept x y a b e are is_a is_b = subst AreTexts (sym e) (antenna_put x a b are is_a is_b)

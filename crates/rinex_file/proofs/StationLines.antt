@@ -29,15 +29,6 @@ letter_with gps galileo = if gps then (if galileo then 77 else 71) else 69
 abbrev letter_without : Bool → Bool → ℕ
 letter_without gps galileo = if gps then 69 else (if galileo then 71 else 77)
 
-turned : (gps galileo : Bool) → letter_without gps galileo ≡ letter_with (not gps) (not galileo)
-turned true galileo = refl
-turned false true = refl
-turned false false = refl
-
--- the first line says which systems are planned
-pub version_line-planned : (p : PlanValue) → version_line p ≡ version_with (is_planned p.gps) (is_planned p.galileo)
-version_line-planned p = ap version_of (turned (length p.gps == 0) (length p.galileo == 0))
-
 letter_back : (letter : ℕ) → get_or (version_of letter) 40 0 ≡ letter
 unfolding header_line digits
 letter_back letter = refl

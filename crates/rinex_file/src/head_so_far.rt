@@ -42,7 +42,7 @@ impl Model for HeadSoFar {
     ghost use Rattle.obs_epoch.specs.Signals.{indices, IsOf};
     ghost use Rattle.gnss_obs.specs.declared.system.System.TheVariants.{Gps, Galileo};
     ghost use Rattle.rinex_file.specs.Progress.{Known};
-    ghost use Rattle.rinex_file.specs.FileValues.{AreTexts, AreValues, IsTime};
+    ghost use Rattle.rinex_file.specs.FileValues.{AreValues, IsTime};
 
     ghost Value = { Known };
 
@@ -53,7 +53,7 @@ impl Model for HeadSoFar {
       signals = h.signals;
     } };
 
-    ghost invariant = { λ h. IsOf Gps h.gps.items × IsOf Galileo h.galileo.items × AreTexts h.texts × AreValues h.values × IsTime h.first };
+    ghost invariant = { λ h. IsOf Gps h.gps.items × IsOf Galileo h.galileo.items × AreValues h.values × IsTime h.first };
 }
 
 // So many lines are needed for the types of so many signals.
@@ -374,7 +374,7 @@ impl HeadSoFar {
         ensures shown { IfOk result (λ next. IsShown self.now.shown) }
         ensures bad { result ≡ Err Refusal.Bad → NoneGoesOn self.now Section.End row line.now }
     {
-        let _ = &self.texts;
+        self.texts.are_texts();
         if row != 0 {
             return Err(Refusal::Bad);
         }

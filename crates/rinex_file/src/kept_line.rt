@@ -6,12 +6,11 @@ ghost use Rattle.rinex_file.specs.Lines.{field, strength_byte, mark_byte, entry_
 ghost use Rattle.rinex_file.specs.Value.{seen_with};
 
 use crate::kept::KeptEntry;
-use crate::numbers::{Line, fixed_text, put, put_times};
-use crate::satellite::{cut_length, letter_of};
+use crate::numbers::{Line, put, put_times};
+use crate::satellite::{columns_of, cut_length, letter_of};
 use gnss_obs::{System, Thousandths, strength_digit};
 
-// Appends a value in 14 columns with the two columns behind it, or 16 blanks. Its whole part may have ten digits, one more
-// than what a receiver tells has.
+// Appends a value in 14 columns with the two columns behind it, or 16 blanks.
 #[tactic(auto, unfolding(crate::specs::Lines::field))]
 fn put_field(line: &mut Line, value: Option<i64>, lost: u8, strength: u8)
     requires fits { IfSome value FitsColumns }
@@ -21,12 +20,7 @@ fn put_field(line: &mut Line, value: Option<i64>, lost: u8, strength: u8)
 {
     match value {
         None => put_times(line, b' ', 16),
-        Some(value) => {
-            let number = fixed_text(3, 1000, value);
-            put_times(line, b' ', 14usize.saturating_sub(number.len()));
-            put(line, number.as_slice());
-            put(line, &[lost, strength]);
-        }
+        Some(value) => put(line, &columns_of(value, lost, strength)),
     }
 }
 

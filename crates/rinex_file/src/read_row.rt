@@ -11,7 +11,7 @@ ghost use Rattle.rinex_file.specs.RowReading.{value_in, entry_in, entries_in, se
 use crate::kept::{KeptEntry, KeptSeen};
 use crate::kept_line::kept_line;
 use crate::numbers::{Line, put, put_times};
-use crate::read_numbers::{digits_in, is_same, number_in};
+use crate::read_numbers::{digits_in, is_same, number_text};
 use arrayvec::ArrayVec;
 use gnss_obs::System;
 
@@ -21,12 +21,11 @@ fn value_in(text: &[u8]) -> Option<i64>
     requires { 14 ≤ length text.now }
     ensures { result ≡ value_in text.now }
 {
-    let number = &text[..14];
-    if number.contains(&b'.') {
-        Some(number_in(number))
-    } else {
-        None
+    let number = number_text(&text[..14]);
+    if !number.has_point {
+        return None;
     }
+    Some(number.value())
 }
 
 // What the 64 columns of a signal show.

@@ -3,6 +3,7 @@ ghost use Rattle.std.specs.Prelude.{◌≡◌, ℕ, ◌+◌, ◌*◌, ◌≤◌,
 ghost use Rattle.std.specs.Option.{option_map};
 ghost use Rattle.arrayvec.specs.ArrayVec.{array_vec_len};
 ghost use Rattle.obs_epoch.specs.Values.{Fits, AreHeld};
+ghost use Rattle.rinex_file.specs.FileValues.{FitsColumns};
 ghost use Rattle.rinex_file.specs.Value.{Entry, entry_of, no_entry, entry_at, is_of, seen_among, seen_of};
 ghost use Rattle.rinex_file.specs.Numbers.{padded};
 ghost use Rattle.rinex_file.specs.Blanks.{trimmed};
@@ -27,10 +28,10 @@ fn behind_whole(part: u64, lost: u8, strength: u8) -> [u8; 16]
     ]
 }
 
-// A value as F14.3, with the two columns behind it.
+/// A value as F14.3, with the two columns behind it. Its whole part may have ten digits, or nine and a minus.
 #[tactic(auto, unfolding(crate::specs::Lines::field))]
-fn columns_of(value: i64, lost: u8, strength: u8) -> [u8; 16]
-    requires { Fits value }
+pub(crate) fn columns_of(value: i64, lost: u8, strength: u8) -> [u8; 16]
+    requires { FitsColumns value }
     ensures { result ≡ field (Some value) lost strength }
 {
     let size = value.unsigned_abs();

@@ -3,6 +3,7 @@ use Rattle.std.specs.Prelude.{◌≡◌, ◌⊎◌, ℕ, List, Option, IfSome}
 use Rattle.rtcm_convert.specs.Told.{IsBad}
 use Rattle.rtcm_convert.specs.Made.{IsMade}
 use Rattle.rtcm_convert.specs.declared.setup.Setup.{Setup}
+use Rattle.rtcm_convert.specs.declared.fault.Fault.{Fault}
 use Rattle.rtcm_convert.specs.declared.fault.Fault.TheVariants as convert
 use Rattle.clap.specs.declared.parser.matches.Found.{Found}
 use Rattle.rtcm2rinex.specs.declared.fault.ToolFault.{ToolFault}
@@ -13,6 +14,12 @@ use Rattle.rtcm2rinex.specs.Told.{IsTold}
 -- which has an epoch.
 abbrev pub IsConverted : Found → (r w w' : Option (List ℕ)) → Type 0
 IsConverted f r w w' = (x : Setup) × IsTold f x × (IsBad x → ⊥) × IfSome r (IsMade x w w')
+
+-- how a fault of a conversion is told: one of a device as that of any command
+abbrev pub fault_told : Fault → ToolFault
+fault_told convert.Read = faults.Read
+fault_told convert.Write = faults.Write
+fault_told refusal = faults.Convert refusal
 
 -- the faults of a conversion
 abbrev pub IsConvertFault : ToolFault → Type 0

@@ -52,15 +52,9 @@ pub fn run_check<R: Read, W: Write>(
     ensures only { (v : FileValue) → IsFileValue v → length (file_lines v) ≤ most_lines → IfSome (R.remaining reader.old.inner) (λ input. input ≡ file_text v
         → IsCheckedOr v result (W.contents writer.old.inner) (W.contents writer.new.inner)) }
 {
-    let counts = match check_file(alloc, reader) {
-        Ok(counts) => counts,
-        Err(fault) => return Err(ToolFault::Check(fault)),
-    };
-    let line = check_line(counts);
-    match write_line(&line, writer) {
-        Ok(()) => Ok(()),
-        Err(_) => Err(ToolFault::Write),
-    }
+    let counts = check_file(alloc, reader)?;
+    write_line(&check_line(counts), writer)?;
+    Ok(())
 }
 
 /// Writes a line, and sends it on.

@@ -52,17 +52,7 @@ pub fn run_convert<R: Read, W: Write>(
     ensures only { IfErr result IsConvertFault }
     ensures widest { reader.new.widest ≤ max reader.old.widest 1029 }
 {
-    match convert_stream(alloc, setup, reader, writer) {
-        Ok(report) => Ok(report),
-        Err(Fault::Read) => Err(ToolFault::Read),
-        Err(Fault::Write) => Err(ToolFault::Write),
-        Err(Fault::Memory) => Err(ToolFault::Convert(Fault::Memory)),
-        Err(Fault::BadSetup) => Err(ToolFault::Convert(Fault::BadSetup)),
-        Err(Fault::TooLong) => Err(ToolFault::Convert(Fault::TooLong)),
-        Err(Fault::NoEpoch) => Err(ToolFault::Convert(Fault::NoEpoch)),
-        Err(Fault::Failed) => Err(ToolFault::Convert(Fault::Failed)),
-        Err(Fault::Finished) => Err(ToolFault::Convert(Fault::Finished)),
-    }
+    Ok(convert_stream(alloc, setup, reader, writer)?)
 }
 
 /// Writes one line of all counts, each behind its name. A failure of this writer is ignored.

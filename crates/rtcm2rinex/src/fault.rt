@@ -1,7 +1,12 @@
 //! Why a command stopped.
+ghost use Rattle.std.specs.Prelude.{◌≡◌};
+ghost use Rattle.rtcm2rinex.specs.Converting.{fault_told};
+ghost use Rattle.rtcm2rinex.specs.declared.fault.ToolFault.TheVariants as faults;
+
 use gnss_obs::System;
 use obs_epoch::PlanFault;
 use rinex_file::{HeadFault, HeaderField, ReadFault};
+use rtcm_bits::DeviceFailed;
 use rtcm_convert::Fault;
 use rtcm_scan::ScanFault;
 use std::fmt;
@@ -25,6 +30,50 @@ pub enum ToolFault {
     Check(ReadFault),
     /// No cell of the stream has a value.
     NoSignal,
+}
+
+impl From<DeviceFailed> for ToolFault {
+    ghost from_gives = { λ _ fault. fault ≡ faults.Write };
+
+    fn from(_failed: DeviceFailed) -> ToolFault {
+        ToolFault::Write
+    }
+}
+
+impl From<HeadFault> for ToolFault {
+    ghost from_gives = { λ header fault. fault ≡ faults.Header header };
+
+    fn from(header: HeadFault) -> ToolFault {
+        ToolFault::Header(header)
+    }
+}
+
+impl From<PlanFault> for ToolFault {
+    ghost from_gives = { λ plan fault. fault ≡ faults.Plan plan };
+
+    fn from(plan: PlanFault) -> ToolFault {
+        ToolFault::Plan(plan)
+    }
+}
+
+impl From<Fault> for ToolFault {
+    ghost from_gives = { λ conversion fault. fault ≡ fault_told conversion };
+
+    fn from(conversion: Fault) -> ToolFault {
+        match conversion {
+            Fault::Read => ToolFault::Read,
+            Fault::Write => ToolFault::Write,
+            refusal => ToolFault::Convert(refusal),
+        }
+    }
+}
+
+impl From<ReadFault> for ToolFault {
+    ghost from_gives = { λ file fault. fault ≡ faults.Check file };
+
+    fn from(file: ReadFault) -> ToolFault {
+        ToolFault::Check(file)
+    }
 }
 
 impl fmt::Display for ToolFault {

@@ -18,14 +18,8 @@ use std::alloc::Global;
 pub fn setup_of(alloc: Global, options: &ArgMatches) -> Result<Setup, ToolFault>
     ensures { MatchResult result (IsTold (found_of options.now)) (IsRefused (found_of options.now)) }
 {
-    let texts = match HeaderTexts::new(&texts_of(options)) {
-        Ok(texts) => texts,
-        Err(fault) => return Err(ToolFault::Header(fault)),
-    };
-    let plan = match Plan::parse(alloc, text(options, "gps"), text(options, "galileo")) {
-        Ok(plan) => plan,
-        Err(fault) => return Err(ToolFault::Plan(fault)),
-    };
+    let texts = HeaderTexts::new(&texts_of(options))?;
+    let plan = Plan::parse(alloc, text(options, "gps"), text(options, "galileo"))?;
     Ok(Setup {
         plan,
         texts,

@@ -1,11 +1,12 @@
 //! What no clause says: worked streams and their files, that each call can succeed, and what goes out where a device
 //! fails.
+mod calls;
 mod faults;
 mod hostile;
 
-use crate::{Converter, Fault, Report, Setup, convert_pieces, convert_stream};
+use crate::{Fault, Report, Setup};
 use arrayvec::ArrayVec;
-use gnss_obs::System;
+use calls::{feed, finish, kept, looks, new, pieces_made, run_over, stream_made};
 use obs_epoch::{Gather, Plan};
 use rinex_file::{HeaderTexts, Texts};
 use rtcm_bits::devices::{PieceReader, ReadEnd};
@@ -185,32 +186,34 @@ struct Outcome {
 
 /// Feeds a stream in pieces of a size, and finishes it.
 fn fed(alloc: Global, setup: Setup, stream: &[u8], size: usize) -> Result<Outcome, Fault> {
-    let mut converter = Converter::new(alloc, setup)?;
+    let mut converter = new(alloc, setup)?;
     let mut writer = Counted::new(Vec::new(alloc));
     for piece in stream.chunks(size.max(1)) {
-        converter.feed(piece, &mut writer)?;
+        feed(&mut converter, piece, &mut writer)?;
     }
-    let answer = converter.finish(&mut writer);
+    let answer = finish(&mut converter, &mut writer);
+    let (_, examined, most) = looks(&converter);
     Ok(Outcome {
         text: writer.into_inner(),
         answer,
-        examined: converter.examined(),
-        most: converter.most(),
+        examined,
+        most,
     })
 }
 
 /// Runs over a reader that gives a stream in pieces of a size.
 fn run(alloc: Global, setup: Setup, stream: &[u8], size: usize) -> Result<Outcome, Fault> {
-    let mut converter = Converter::new(alloc, setup)?;
+    let mut converter = new(alloc, setup)?;
     let mut writer = Counted::new(Vec::new(alloc));
     let sizes = [size];
     let mut reader = Counted::new(PieceReader::new(stream, &sizes, ReadEnd::Ends));
-    let answer = converter.run(&mut reader, &mut writer);
+    let answer = run_over(&mut converter, &mut reader, &mut writer);
+    let (_, examined, most) = looks(&converter);
     Ok(Outcome {
         text: writer.into_inner(),
         answer,
-        examined: converter.examined(),
-        most: converter.most(),
+        examined,
+        most,
     })
 }
 
@@ -282,7 +285,7 @@ fn whole_streams(rt: HostRuntime) -> Result<(), Fail> {
     let mut writer = Counted::new(Vec::new(alloc));
     let mut reader = Counted::new(PieceReader::new(&stream, &[], ReadEnd::Ends));
     let told = setup(alloc).expect(&rt, "a setup");
-    let answer = convert_stream(alloc, told, &mut reader, &mut writer);
+    let answer = stream_made(alloc, told, &mut reader, &mut writer);
     assert_eq!(rt; answer, Ok(ONE_TAKEN));
     assert_eq!(rt; writer.into_inner().as_slice(), want.as_slice());
     let mut pieces = Vec::new(alloc);
@@ -293,7 +296,7 @@ fn whole_streams(rt: HostRuntime) -> Result<(), Fail> {
     }
     let mut writer = Counted::new(Vec::new(alloc));
     let told = setup(alloc).expect(&rt, "a setup");
-    let answer = convert_pieces(alloc, told, &pieces, &mut writer);
+    let answer = pieces_made(alloc, told, &pieces, &mut writer);
     assert_eq!(rt; answer, Ok(ONE_TAKEN));
     assert_eq!(rt; writer.into_inner().as_slice(), want.as_slice());
     Ok(())
@@ -305,22 +308,15 @@ fn an_epoch_goes_out_as_it_is_closed(rt: HostRuntime) -> Result<(), Fail> {
     let stream = framed(alloc, &[&FULL])?;
     let want = text_of(alloc, &HEADER, &EPOCH)?;
     let told = setup(alloc).expect(&rt, "a setup");
-    let mut converter = Converter::new(alloc, told).expect(&rt, "room");
+    let mut converter = new(alloc, told).expect(&rt, "room");
     let mut writer = Counted::new(Vec::new(alloc));
     let (front, last) = stream.split_at(stream.len().saturating_sub(1));
-    assert_eq!(rt; converter.feed(front, &mut writer), Ok(()));
-    assert_eq!(rt;
-        (converter.held(), converter.examined(), converter.most()),
-        (41, 41, 1)
-    );
-    assert_eq!(rt; (converter.cells(System::Gps), converter.locks()), (0, 0));
-    assert_eq!(rt; converter.feed(last, &mut writer), Ok(()));
-    assert_eq!(rt;
-        (converter.held(), converter.examined(), converter.most()),
-        (0, 78, 2)
-    );
-    assert_eq!(rt; (converter.cells(System::Gps), converter.locks()), (1, 1));
-    assert_eq!(rt; converter.cells(System::Galileo), 0);
+    assert_eq!(rt; feed(&mut converter, front, &mut writer), Ok(()));
+    assert_eq!(rt; looks(&converter), (41, 41, 1));
+    assert_eq!(rt; kept(&converter), (0, 0, 0));
+    assert_eq!(rt; feed(&mut converter, last, &mut writer), Ok(()));
+    assert_eq!(rt; looks(&converter), (0, 78, 2));
+    assert_eq!(rt; kept(&converter), (1, 0, 1));
     assert_eq!(rt; writer.into_inner().as_slice(), want.as_slice());
     Ok(())
 }
@@ -354,11 +350,11 @@ fn reads_no_more_than_there_is_room_for(rt: HostRuntime) -> Result<(), Fail> {
     incomplete[1] = 0x03;
     incomplete[2] = 0xFF;
     let told = setup(alloc).expect(&rt, "a setup");
-    let mut converter = Converter::new(alloc, told).expect(&rt, "room");
+    let mut converter = new(alloc, told).expect(&rt, "room");
     let mut writer = Counted::new(Vec::new(alloc));
     let mut reader = Counted::new(PieceReader::new(&incomplete, &[], ReadEnd::Ends));
     assert_eq!(rt;
-        converter.run(&mut reader, &mut writer),
+        run_over(&mut converter, &mut reader, &mut writer),
         Err(Fault::NoEpoch)
     );
     assert_eq!(rt; reader.widest(), 1_029);

@@ -1,5 +1,6 @@
+use super::calls::{feed, finish, new, run_over};
 use super::{EPOCH, FULL, HEADER, POINT, framed, setup, text_of};
-use crate::{Converter, Fault};
+use crate::Fault;
 use rtcm_bits::Counted;
 use rtcm_bits::devices::{PieceReader, ReadEnd, ShortWriter, WriteEnd};
 use rtcm_scan::MOST_BYTES;
@@ -12,12 +13,12 @@ fn streams_without_an_epoch(rt: HostRuntime) -> Result<(), Fail> {
     let stream = framed(alloc, &[&POINT])?;
     for bytes in [&stream[..0], stream.as_slice()] {
         let told = setup(alloc).expect(&rt, "a setup");
-        let mut converter = Converter::new(alloc, told).expect(&rt, "room");
+        let mut converter = new(alloc, told).expect(&rt, "room");
         let mut writer = Counted::new(Vec::new(alloc));
-        assert_eq!(rt; converter.feed(bytes, &mut writer), Ok(()));
-        assert_eq!(rt; converter.finish(&mut writer), Err(Fault::NoEpoch));
-        assert_eq!(rt; converter.finish(&mut writer), Err(Fault::Finished));
-        assert_eq!(rt; converter.feed(bytes, &mut writer), Err(Fault::Finished));
+        assert_eq!(rt; feed(&mut converter, bytes, &mut writer), Ok(()));
+        assert_eq!(rt; finish(&mut converter, &mut writer), Err(Fault::NoEpoch));
+        assert_eq!(rt; finish(&mut converter, &mut writer), Err(Fault::Finished));
+        assert_eq!(rt; feed(&mut converter, bytes, &mut writer), Err(Fault::Finished));
         assert!(rt; writer.into_inner().is_empty());
     }
     Ok(())
@@ -36,7 +37,7 @@ fn bad_setups(rt: HostRuntime) {
         told.start_week = week;
         told.station = station;
         assert!(rt;
-            matches!(Converter::new(alloc, told), Err(Fault::BadSetup)),
+            matches!(new(alloc, told), Err(Fault::BadSetup)),
             "{limit} {week}"
         );
     }
@@ -56,20 +57,20 @@ fn limits(rt: HostRuntime) -> Result<(), Fail> {
     for (stream, limit, want) in &cases {
         let mut told = setup(alloc).expect(&rt, "a setup");
         told.limit = *limit;
-        let mut converter = Converter::new(alloc, told).expect(&rt, "room");
+        let mut converter = new(alloc, told).expect(&rt, "room");
         let mut writer = Counted::new(Vec::new(alloc));
         assert_eq!(rt;
-            converter.feed(stream, &mut writer),
+            feed(&mut converter, stream, &mut writer),
             Err(Fault::TooLong),
             "{limit}"
         );
         assert_eq!(rt;
-            converter.feed(&[], &mut writer),
+            feed(&mut converter, &[], &mut writer),
             Err(Fault::Failed),
             "{limit}"
         );
         assert_eq!(rt;
-            converter.finish(&mut writer),
+            finish(&mut converter, &mut writer),
             Err(Fault::Failed),
             "{limit}"
         );
@@ -86,15 +87,15 @@ fn writers_that_fail(rt: HostRuntime) -> Result<(), Fail> {
     for total in [0, 100, 1_235] {
         for end in [WriteEnd::Fails(ErrorKind::Interrupted), WriteEnd::TakesNone] {
             let told = setup(alloc).expect(&rt, "a setup");
-            let mut converter = Converter::new(alloc, told).expect(&rt, "room");
+            let mut converter = new(alloc, told).expect(&rt, "room");
             let mut writer = Counted::new(ShortWriter::new(Vec::new(alloc), 7, total, end));
             assert_eq!(rt;
-                converter.feed(&stream, &mut writer),
+                feed(&mut converter, &stream, &mut writer),
                 Err(Fault::Write),
                 "{total}"
             );
             assert_eq!(rt;
-                converter.feed(&stream, &mut writer),
+                feed(&mut converter, &stream, &mut writer),
                 Err(Fault::Failed),
                 "{total}"
             );
@@ -117,7 +118,7 @@ fn readers_that_fail(rt: HostRuntime) -> Result<(), Fail> {
     let file = text_of(alloc, &HEADER, &EPOCH)?;
     for given in [0, 20, 41, 42] {
         let told = setup(alloc).expect(&rt, "a setup");
-        let mut converter = Converter::new(alloc, told).expect(&rt, "room");
+        let mut converter = new(alloc, told).expect(&rt, "room");
         let mut writer = Counted::new(Vec::new(alloc));
         let bytes = stream.get(..given).unwrap_or(&[]);
         let mut reader = Counted::new(PieceReader::new(
@@ -126,12 +127,12 @@ fn readers_that_fail(rt: HostRuntime) -> Result<(), Fail> {
             ReadEnd::Fails(ErrorKind::Other),
         ));
         assert_eq!(rt;
-            converter.run(&mut reader, &mut writer),
+            run_over(&mut converter, &mut reader, &mut writer),
             Err(Fault::Read),
             "{given}"
         );
         assert_eq!(rt;
-            converter.run(&mut reader, &mut writer),
+            run_over(&mut converter, &mut reader, &mut writer),
             Err(Fault::Failed),
             "{given}"
         );

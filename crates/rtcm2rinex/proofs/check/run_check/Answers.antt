@@ -8,6 +8,7 @@ use Rattle.rinex_file.specs.Counting.{AreCounts}
 use Rattle.rinex_file.specs.declared.file.Counts.{Counts}
 use Rattle.rinex_file.specs.declared.read_fault.ReadFault.{ReadFault}
 use Rattle.rinex_file.specs.declared.read_fault.ReadFault.TheVariants.{Memory, Read, BadHeader, BadEpoch, BadSatellite, CutShort, TooLong}
+use Rattle.std.proofs.lemmas.Result.{err_from_is_err_and}
 use Rattle.rtcm2rinex.specs.declared.fault.ToolFault.TheVariants as faults
 use Rattle.rtcm2rinex.specs.Checking.{check_line, IsCheckedOr}
 use Rattle.rtcm2rinex.proofs.check.run_check.Goals as goal
@@ -27,45 +28,51 @@ refused v (BadSatellite k) w w' h = absurd h
 refused v (CutShort k) w w' h = absurd h
 refused v TooLong w w' h = absurd h
 
-pub returns-in-Err-clause-only : goal.returns-in-Err-clause-only
-returns-in-Err-clause-only g c = λ v is few.
-    where_known (λ input. input ≡ file_text v → IsNoFault c.in-Err.fault) _ (g.R.Read.remaining c.args.reader.now.inner)
-    (λ input h same. refused v c.in-Err.fault (g.W.Write.contents c.args.writer.now.inner) (g.W.Write.contents c.args.writer.now.inner) (h same)) (c.in-Err.ensures.only v is few)
+-- the same, with what is known first
+known_where : (P Q : List ℕ → Type 0) (r : Option (List ℕ)) → IfSome r P → ((input : List ℕ) → P input → Q input) → IfSome r Q
+known_where P Q r h step = where_known P Q r step h
+
+pub returns-in_err-counts-clause-only : goal.returns-in_err-counts-clause-only
+returns-in_err-counts-clause-only g c =
+    let told = err_from_is_err_and c.from_residual.result c.from_residual.ensures.1 in
+    rw (told.1, told.2) (λ v is few. known_where _ _ (g.R.Read.remaining c.args.reader.now.inner) (c.in_err-counts.ensures.only v is few) (λ input h same. refused v _ _ _ (h same)))
 
 -- the line that was made is that of the file
 line_of : (line : List ℕ) (counts : Counts) (v : FileValue) → ((f : FileValue) → AreCounts counts f → line ≡ check_line f) → AreCounts counts v → line ≡ check_line v
 line_of line counts v shows are = shows v are
 
-pub returns-in-Ok-write_line-clause-only : goal.returns-in-Ok-write_line-clause-only
-returns-in-Ok-write_line-clause-only g c = λ v is few.
-    where_known (λ input. input ≡ file_text v → AreCounts c.in-Ok.counts v) _ (g.R.Read.remaining c.args.reader.now.inner)
+pub returns-clause-only : goal.returns-clause-only
+returns-clause-only g c = λ v is few.
+    where_known (λ input. input ≡ file_text v → AreCounts c.in_ok-counts.counts v) _ (g.R.Read.remaining c.args.reader.now.inner)
     (λ input h same. subst (Appends (g.W.Write.contents c.args.writer.now.inner) (g.W.Write.contents c.write_line.new.writer.inner))
-    (line_of _ c.in-Ok.counts v c.check_line-line.ensures (h same)) c.in-Ok-write_line.ensures.whole)
-    (c.in-Ok.ensures.only v is few)
+    (line_of _ c.in_ok-counts.counts v c.check_line.ensures (h same)) c.in_ok-write_line.ensures.whole)
+    (c.in_ok-counts.ensures.only v is few)
 
-pub returns-in-Err-write_line-clause-only : goal.returns-in-Err-write_line-clause-only
-returns-in-Err-write_line-clause-only g c = λ v is few.
-    where_known (λ input. input ≡ file_text v → AreCounts c.in-Ok.counts v) _ (g.R.Read.remaining c.args.reader.now.inner)
+pub returns-in_err-write_line-clause-only : goal.returns-in_err-write_line-clause-only
+returns-in_err-write_line-clause-only g c =
+    let told = err_from_is_err_and c.from_residual-in_err-write_line.result c.from_residual-in_err-write_line.ensures.1 in
+    rw (told.1, told.2) (λ v is few.
+    where_known (λ input. input ≡ file_text v → AreCounts c.in_ok-counts.counts v) _ (g.R.Read.remaining c.args.reader.now.inner)
     (λ input h same. subst (AppendsPrefix (g.W.Write.contents c.args.writer.now.inner) (g.W.Write.contents c.write_line.new.writer.inner))
-    (line_of _ c.in-Ok.counts v c.check_line-line.ensures (h same)) c.in-Err-write_line.ensures.part)
-    (c.in-Ok.ensures.only v is few)
+    (line_of _ c.in_ok-counts.counts v c.check_line.ensures (h same)) c.in_err-write_line.ensures.part)
+    (c.in_ok-counts.ensures.only v is few))
 
-pub returns-in-Ok-write_line-clause-whole : goal.returns-in-Ok-write_line-clause-whole
-returns-in-Ok-write_line-clause-whole g c =
-    let found = c.in-Ok.ensures.found in (
+pub returns-clause-whole : goal.returns-clause-whole
+returns-clause-whole g c =
+    let found = c.in_ok-counts.ensures.found in (
       found.v,
       found.is,
       found.text,
       subst (Appends (g.W.Write.contents c.args.writer.now.inner) (g.W.Write.contents c.write_line.new.writer.inner))
-          (line_of _ c.in-Ok.counts found.v c.check_line-line.ensures found.counted) c.in-Ok-write_line.ensures.whole,
+          (line_of _ c.in_ok-counts.counts found.v c.check_line.ensures found.counted) c.in_ok-write_line.ensures.whole,
     )
 
-pub returns-in-Err-write_line-clause-write : goal.returns-in-Err-write_line-clause-write
-returns-in-Err-write_line-clause-write g c = λ e.
-    let found = c.in-Ok.ensures.found in (
+pub returns-in_err-write_line-clause-write : goal.returns-in_err-write_line-clause-write
+returns-in_err-write_line-clause-write g c = λ e.
+    let found = c.in_ok-counts.ensures.found in (
       found.v,
       found.is,
       found.text,
       subst (AppendsPrefix (g.W.Write.contents c.args.writer.now.inner) (g.W.Write.contents c.write_line.new.writer.inner))
-          (line_of _ c.in-Ok.counts found.v c.check_line-line.ensures found.counted) c.in-Err-write_line.ensures.part,
+          (line_of _ c.in_ok-counts.counts found.v c.check_line.ensures found.counted) c.in_err-write_line.ensures.part,
     )

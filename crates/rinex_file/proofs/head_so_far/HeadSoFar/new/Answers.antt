@@ -1,7 +1,7 @@
 use Rattle.std.proofs.Common.{ap}
 use Rattle.obs_epoch.specs.Signals.{indices}
 use Rattle.gnss_obs.specs.declared.system.System.TheVariants.{Gps, Galileo}
-use Rattle.rinex_file.proofs.HeaderEnd.{begins_header, blank_texts, none_read, zero_time, zero_values}
+use Rattle.rinex_file.proofs.HeaderEnd.{begins_header, none_read, zero_time, zero_values}
 use Rattle.rinex_file.proofs.head_so_far.HeadSoFar.new.Goals as goal
 
 pub returns : goal.returns
@@ -11,7 +11,6 @@ pub invariant_of-result : goal.invariant_of-result
 invariant_of-result c = (
   none_read Gps c.new-2.result.items c.new-2.ensures.items,
   none_read Galileo c.new-3.result.items c.new-3.ensures.items,
-  blank_texts c.blank.result c.blank.ensures,
   zero_values,
   zero_time c.in-Some.time c.in-Some.ensures.value,
 )

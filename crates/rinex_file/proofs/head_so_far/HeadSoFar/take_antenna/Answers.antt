@@ -1,12 +1,6 @@
 use Rattle.rinex_file.specs.declared.section.Section.TheVariants.{Antenna}
-use Rattle.rinex_file.proofs.PutTexts.{antenna_kept}
 use Rattle.rinex_file.proofs.HeaderLearned.{put_texts, learn_antenna, refuse_antenna}
 use Rattle.rinex_file.proofs.head_so_far.HeadSoFar.take_antenna.Goals as goal
-
-pub invariant_of-self : goal.invariant_of-self
-invariant_of-self c =
-    let held = c.self.invariant in
-    (held.0, held.1, antenna_kept c.self.inside.texts c.set_antenna.new.self c.in-Some.number.items c.in-Some.kind.items c.set_antenna.ensures held.2 c.in-Some.ensures.0.0 c.in-Some.ensures.0.1, held.3, held.4)
 
 pub returns-in-Some : goal.returns-in-Some
 returns-in-Some c =

@@ -13,8 +13,8 @@ returns-clause-taken c =
 pub returns-clause-shown : goal.returns-clause-shown
 returns-clause-shown c =
     let held = c.self.invariant in
-    shown_by c.args.self.now _ c.self.view_is (c.if-not-is_whole.ensures.0 refl) held.2
-    (planned_by c.self.inside.gps.items c.self.inside.galileo.items held.0 held.1) held.3 held.4
+    shown_by c.args.self.now _ c.self.view_is (c.if-not-is_whole.ensures.0 refl) c.are_texts.ensures
+    (planned_by c.self.inside.gps.items c.self.inside.galileo.items held.0 held.1) held.2 held.3
 
 pub returns-then-row-ne0-clause-bad : goal.returns-then-row-ne0-clause-bad
 returns-then-row-ne0-clause-bad c bad = no_end_row c.args.self.now c.args.row c.args.line.now c.if-row-ne0.true

@@ -1,20 +1,8 @@
 use Rattle.std.proofs.Common.{◌∙◌, sym, refl}
 use Rattle.rinex_file.specs.declared.section.Section.TheVariants.{Program}
 use Rattle.rinex_file.proofs.Judged.{refused}
-use Rattle.rinex_file.proofs.PutTexts.{program_kept}
 use Rattle.rinex_file.proofs.HeaderLearned.{put_texts, learn_program, refuse_program, refuse_name}
 use Rattle.rinex_file.proofs.head_so_far.HeadSoFar.take_program.Goals as goal
-
-pub invariant_of-self : goal.invariant_of-self
-invariant_of-self c =
-    let held = c.self.invariant in (
-      held.0,
-      held.1,
-      program_kept c.self.inside.texts c.set_program.new.self c.in-Some.run_by.items c.in-Some.date.items c.set_program.ensures held.2
-          c.in-Some.ensures.0.1 c.in-Some.ensures.0.2,
-      held.3,
-      held.4,
-    )
 
 pub returns : goal.returns
 returns c =

@@ -1,12 +1,6 @@
 use Rattle.rinex_file.specs.declared.section.Section.TheVariants.{Receiver}
-use Rattle.rinex_file.proofs.PutTexts.{receiver_kept}
 use Rattle.rinex_file.proofs.HeaderLearned.{put_texts, learn_receiver, refuse_receiver}
 use Rattle.rinex_file.proofs.head_so_far.HeadSoFar.take_receiver.Goals as goal
-
-pub invariant_of-self : goal.invariant_of-self
-invariant_of-self c =
-    let held = c.self.invariant in
-    (held.0, held.1, receiver_kept c.self.inside.texts c.set_receiver.new.self c.in-Some.number.items c.in-Some.kind.items c.in-Some.version.items c.set_receiver.ensures held.2 c.in-Some.ensures.0.0 c.in-Some.ensures.0.1 c.in-Some.ensures.0.2, held.3, held.4)
 
 pub returns-in-Some : goal.returns-in-Some
 returns-in-Some c =

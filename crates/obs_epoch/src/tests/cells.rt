@@ -1,0 +1,133 @@
+//! Which cells of an epoch are kept, and how they stand.
+use super::{gatherer, header, kept, long, long_cell, nothing, short};
+use crate::{Gather, Gatherer, Plan, PlanFault};
+use gnss_obs::System;
+use rtcm_msg::{Masks, Message, Msm, Satellite7};
+use std::test::*;
+
+#[test]
+fn the_first_cell_of_a_key_is_kept(rt: HostRuntime) -> Result<(), PlanFault> {
+    let mut g = gatherer(rt.alloc(), 2_300, Gather::Bit)?;
+    assert_eq!(rt; g.take(&short(1_000, true, true, 15)).kind, kept(1, 0, 0));
+    assert_eq!(rt;
+        g.take(&long(false, 1_000, true, long_cell(true, 64))).kind,
+        kept(0, 1, 0)
+    );
+    assert!(rt; g.end());
+    assert!(rt;
+        g.closed().is_some_and(|e| e
+            .cells(System::Gps)
+            .iter()
+            .all(|c| c.d.is_none() && c.c.is_some()))
+    );
+    Ok(())
+}
+
+/// A message of the long form: every GPS satellite with two signals, by their IDs, or the first with one.
+fn wide(more: bool, satellites: u64, signals: u32) -> Message {
+    let satellite = Satellite7 {
+        whole: 70,
+        extended: 0,
+        fraction: 0,
+        rate: 100,
+    };
+    let cells = (satellites.count_ones() * signals.count_ones()) as usize;
+    if satellites.count_ones() > 32 || cells > 64 || cells == 0 {
+        return nothing();
+    }
+    let masks = match Masks::new(satellites, signals, u64::MAX >> (64 - cells)) {
+        Ok(masks) => masks,
+        Err(_) => return nothing(),
+    };
+    let all = [satellite; 32];
+    let every = [long_cell(true, 64); 64];
+    match Msm::new(
+        false,
+        header(1_000, more),
+        masks,
+        &all[..satellites.count_ones() as usize],
+        &every[..cells],
+    ) {
+        Ok(msm) => Message::Msm7(msm),
+        Err(_) => nothing(),
+    }
+}
+
+const ALL_GPS: u64 = 0xFFFF_FFFF << 32;
+
+#[test]
+fn a_set_split_over_messages_is_kept(rt: HostRuntime) -> Result<(), PlanFault> {
+    let mut g = gatherer(rt.alloc(), 2_300, Gather::Bit)?;
+    assert_eq!(rt;
+        g.take(&wide(true, ALL_GPS, 1 << 30 | 1 << 22)).kind,
+        kept(64, 0, 0)
+    );
+    assert_eq!(rt; g.take(&wide(false, 1 << 63, 1 << 8)).kind, kept(1, 0, 0));
+    assert!(rt;
+        g.closed().is_some_and(|e| e.satellites() == 32 && e.cells(System::Gps).len() == 65)
+    );
+    assert_eq!(rt; g.locks(), 65);
+    Ok(())
+}
+
+#[test]
+fn cells_past_the_bound_are_crowded(rt: HostRuntime) -> Result<(), PlanFault> {
+    let mut g = gatherer(rt.alloc(), 2_300, Gather::Bit)?;
+    // 1C and 1P, 1W and 2C, 2P and 2W, 2S and 2L
+    let pairs = [
+        1 << 30 | 1 << 29,
+        1 << 28 | 1 << 24,
+        1 << 23 | 1 << 22,
+        1 << 17 | 1 << 16,
+    ];
+    for signals in pairs {
+        assert_eq!(rt; g.take(&wide(true, ALL_GPS, signals)).kind, kept(64, 0, 0));
+    }
+    assert_eq!(rt; g.take(&wide(false, 1 << 63, 1 << 15)).kind, kept(0, 0, 1));
+    assert_eq!(rt; g.cells(System::Gps), 256);
+    assert!(rt;
+        g.closed().is_some_and(|e| e.satellites() == 32 && e.cells(System::Gps).len() == 256)
+    );
+    assert_eq!(rt; g.locks(), 256);
+    Ok(())
+}
+
+#[test]
+fn cells_stand_by_satellite_and_plan(rt: HostRuntime) -> Result<(), PlanFault> {
+    let plan = Plan::parse(rt.alloc(), "5X,2W,1C", "none")?;
+    let mut g = Gatherer::new(rt.alloc(), plan, 2_300, Some(7), Gather::Bit)?;
+    g.take(&wide(true, 1 << 63 | 1 << 61, 1 << 30 | 1 << 22));
+    g.take(&wide(false, 1 << 63 | 1 << 62, 1 << 8));
+    let Some(epoch) = g.closed() else {
+        return Err(PlanFault::NothingPlanned);
+    };
+    let order = [
+        (1, *b"5X"),
+        (1, *b"2W"),
+        (1, *b"1C"),
+        (2, *b"5X"),
+        (3, *b"2W"),
+        (3, *b"1C"),
+    ];
+    let cells = epoch.cells(System::Gps);
+    assert_eq!(rt; cells.len(), 6);
+    for (cell, (id, code)) in cells.iter().zip(order) {
+        assert!(rt; cell.satellite.id() == id && cell.signal.code() == code);
+    }
+    Ok(())
+}
+
+#[test]
+fn a_second_satellite_comes_first_in_order(rt: HostRuntime) -> Result<(), PlanFault> {
+    let mut g = gatherer(rt.alloc(), 2_300, Gather::Bit)?;
+    assert_eq!(rt; g.take(&wide(true, 1 << 59, 1 << 30)).kind, kept(1, 0, 0));
+    assert_eq!(rt; g.take(&wide(false, 1 << 61, 1 << 30)).kind, kept(1, 0, 0));
+    let Some(epoch) = g.closed() else {
+        return Err(PlanFault::NothingPlanned);
+    };
+    let [first, second] = epoch.cells(System::Gps) else {
+        return Err(PlanFault::NothingPlanned);
+    };
+    assert_eq!(rt; (first.satellite.id(), second.satellite.id()), (3, 5));
+    Ok(())
+}
