@@ -1,6 +1,6 @@
 //! Devices that fail at each place, and streams that mean harm.
 use super::convert::OPTIONS;
-use super::files::{EPOCH, HEADER, REPORT, TOLD, converted, file_of, is_made};
+use super::files::{EPOCH, HEADER, REPORT, TOLD, converted, file_of, makes};
 use super::streams::{COARSE, FINE, FRAMED_STATION, changed, framed};
 use super::{Outcome, run, run_over};
 use rtcm_bits::Counted;
@@ -64,7 +64,7 @@ fn a_writer_may_fail_behind_each_byte(rt: HostRuntime) -> Result<(), Fail> {
         );
     }
     let outcome = written(rt.alloc(), &OPTIONS, &stream, 1, file.len());
-    assert!(rt; is_made(&outcome, &file, REPORT));
+    assert!(rt; makes(rt.alloc(), &outcome, &HEADER, &EPOCH, REPORT)?);
     Ok(())
 }
 
@@ -120,11 +120,10 @@ fn frames_are_found_in_spite_of_claims(rt: HostRuntime) -> Result<(), Fail> {
 fn a_cut_message_is_no_mark(rt: HostRuntime) -> Result<(), Fail> {
     let more = changed(&FINE, &[(6, 0xA2)]);
     let stream = framed(rt.alloc(), &[&more, &FINE[..35], &COARSE])?;
-    let file = file_of(rt.alloc(), &HEADER, &EPOCH)?;
     let outcome = run(rt.alloc(), &OPTIONS, &stream, &[]);
     let report =
         "bytes 119 skipped_bytes 0 frames 3 faulty 1 station 0 other 0 ignored 0 late 0 past 0 taken 2 skipped 0 repeated 1 crowded 0 epochs 1\n";
-    assert!(rt; is_made(&outcome, &file, report));
+    assert!(rt; makes(rt.alloc(), &outcome, &HEADER, &EPOCH, report)?);
     Ok(())
 }
 
@@ -144,7 +143,7 @@ fn a_stream_past_its_limit_is_told(rt: HostRuntime) -> Result<(), Fail> {
     let file = file_of(rt.alloc(), &HEADER, &EPOCH)?;
     let rows: [(&str, &[u8]); 2] = [("42", &file), ("41", &[])];
     for (limit, written) in rows {
-        let outcome = converted(rt.alloc(), &[&TOLD, &["--limit", limit]], &stream)?;
+        let outcome = converted(rt.alloc(), &TOLD, &["--limit", limit], &stream)?;
         assert!(rt;
             is_fault(&outcome, written, "rtcm2rinex: TooLong\n"),
             "{limit}"
