@@ -14,11 +14,22 @@ fn later() -> [u8; 36] {
     changed(&FINE, &[(5, 0x1F), (6, 0x40)])
 }
 
-/// A position of zeros, as a header has it, and the height behind it.
-const HEADER_VALUES: &[u8] = b"        0.0000        0.0000        0.0000                  APPROX POSITION XYZ \n        0.0000        0.0000        0.0000                  ANTENNA: DELTA H/E/N\n";
+/// The lines of the event that tells the station's values.
+const FLAG: &[u8] = b">                              4  2\n";
+const POSITION: &[u8] =
+    b"  1114104.5999 -4850729.7108  3975521.4643                  APPROX POSITION XYZ \n";
+const ABOVE: &[u8] =
+    b"        1.5000        0.0000        0.0000                  ANTENNA: DELTA H/E/N\n";
 
-/// The event of the station's values.
-const EVENT: &[u8] = b">                              4  2\n  1114104.5999 -4850729.7108  3975521.4643                  APPROX POSITION XYZ \n        1.5000        0.0000        0.0000                  ANTENNA: DELTA H/E/N\n";
+/// The line of the position with a blank less.
+const SPACED: &[u8] =
+    b"  1114104.5999 -4850729.7108  3975521.4643                 APPROX POSITION XYZ \n";
+
+/// The values of the header, where no message told any.
+const NOWHERE: &[u8] =
+    b"        0.0000        0.0000        0.0000                  APPROX POSITION XYZ \n";
+const LEVEL: &[u8] =
+    b"        0.0000        0.0000        0.0000                  ANTENNA: DELTA H/E/N\n";
 
 /// The second epoch: the phase was lost in between.
 const SECOND: &[u8] = b"> 2024 02 04 00 00  2.0000000  0  1\nG05  20985472.060 7 110279400.00017      -525.504          45.063\n";
@@ -38,7 +49,7 @@ fn file_and(alloc: Global, texts: &[&[u8]]) -> Result<Vec<u8>, AllocError> {
 #[test]
 fn values_that_change_stand_before_the_epoch(rt: HostRuntime) -> Result<(), Fail> {
     let stream = framed(rt.alloc(), &[&FINE, &HEIGHT, &later()])?;
-    let wanted = file_and(rt.alloc(), &[EVENT, SECOND])?;
+    let wanted = file_and(rt.alloc(), &[FLAG, POSITION, ABOVE, SECOND])?;
     assert_eq!(rt; wanted.len(), 1536);
     for sizes in [[1].as_slice(), [].as_slice()] {
         let outcome = run(rt.alloc(), OPTIONS.as_slice(), stream.as_slice(), sizes);
@@ -81,32 +92,36 @@ fn an_event_that_is_wrong_is_told_with_its_line(rt: HostRuntime) -> Result<(), F
     let file = file_and(alloc, &[])?;
     let header = &file.as_slice()[..file.len().min(14 * 81)];
     let epoch = &file.as_slice()[file.len().min(14 * 81)..];
-    let line = &EVENT[..36];
-    let position = &EVENT[36..117];
-    let height = &EVENT[117..];
-    // One blank is missing in the line of the position.
-    let (front, back) = (&EVENT[..80], &EVENT[81..]);
     let rows: [(&[&[u8]], &[u8]); 8] = [
-        (&[header, EVENT, epoch, SECOND], b"rtcm2rinex: BadEpoch 15\n"),
         (
-            &[header, epoch, front, back, SECOND],
+            &[header, FLAG, POSITION, ABOVE, epoch, SECOND],
+            b"rtcm2rinex: BadEpoch 15\n",
+        ),
+        (
+            &[header, epoch, FLAG, SPACED, ABOVE, SECOND],
             b"rtcm2rinex: BadEvent 18\n",
         ),
         (
-            &[header, epoch, line, HEADER_VALUES, SECOND],
+            &[header, epoch, FLAG, NOWHERE, LEVEL, SECOND],
             b"rtcm2rinex: BadEvent 19\n",
         ),
-        (&[header, epoch, EVENT], b"rtcm2rinex: CutShort 20\n"),
-        (&[header, epoch, EVENT, EVENT, SECOND], b"rtcm2rinex: BadEpoch 20\n"),
         (
-            &[header, epoch, line, height, position, SECOND],
+            &[header, epoch, FLAG, POSITION, ABOVE],
+            b"rtcm2rinex: CutShort 20\n",
+        ),
+        (
+            &[header, epoch, FLAG, POSITION, ABOVE, FLAG, SECOND],
+            b"rtcm2rinex: BadEpoch 20\n",
+        ),
+        (
+            &[header, epoch, FLAG, ABOVE, POSITION, SECOND],
             b"rtcm2rinex: BadEvent 18\n",
         ),
         (
-            &[header, epoch, line, position, SECOND],
+            &[header, epoch, FLAG, POSITION, SECOND],
             b"rtcm2rinex: BadEvent 19\n",
         ),
-        (&[header, epoch, line], b"rtcm2rinex: CutShort 18\n"),
+        (&[header, epoch, FLAG], b"rtcm2rinex: CutShort 18\n"),
     ];
     for (parts, wanted) in rows {
         let mut text = Vec::new(alloc);
@@ -125,7 +140,7 @@ fn an_event_that_is_wrong_is_told_with_its_line(rt: HostRuntime) -> Result<(), F
 #[test]
 fn a_writer_that_fails_within_an_event_has_the_front(rt: HostRuntime) -> Result<(), Fail> {
     let stream = framed(rt.alloc(), &[&FINE, &HEIGHT, &later()])?;
-    let wanted = file_and(rt.alloc(), &[EVENT, SECOND])?;
+    let wanted = file_and(rt.alloc(), &[FLAG, POSITION, ABOVE, SECOND])?;
     for taken in [1236, 1240, 1272, 1300, 1434] {
         let mut reader = Counted::new(PieceReader::new(stream.as_slice(), &[], ReadEnd::Ends));
         let out = Vec::new(rt.alloc());
