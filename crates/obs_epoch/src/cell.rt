@@ -44,9 +44,6 @@ impl StationValues {
         ensures value { result ≡ same_values self other }
         ensures exact { IsTrue result ↔ (self ≡ other) }
     {
-        self.x == other.x
-            && self.y == other.y
-            && self.z == other.z
-            && self.height == other.height
+        self.x == other.x && self.y == other.y && self.z == other.z && self.height == other.height
     }
 }

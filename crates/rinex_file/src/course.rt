@@ -97,10 +97,7 @@ fn changes_of(change: Option<StationValues>) -> u64
 }
 
 // The station values that changed last, behind a change or none.
-fn changed_by(
-    before: Option<StationValues>,
-    change: Option<StationValues>,
-) -> Option<StationValues>
+fn changed_by(before: Option<StationValues>, change: Option<StationValues>) -> Option<StationValues>
     ensures { (v : StationValues) → changed_by v result ≡ changed_by (changed_by v before) change }
 {
     match change {

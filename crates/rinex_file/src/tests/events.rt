@@ -47,8 +47,18 @@ fn a_file_with_an_event_is_read_and_written_back(rt: HostRuntime) -> Result<(), 
     let text = joined(lines(&[&HEADER, &EPOCH, &EVENT, &SECOND]).as_slice());
     assert_eq!(rt; text.len(), 1536);
     let file = read(rt.alloc(), text.as_slice())?;
-    assert_eq!(rt; (file.epochs(), file.satellites(), file.events()), (2, 2, 1));
-    assert!(rt; file.station_values().is_same(StationValues { x: 0, y: 0, z: 0, height: 0 }));
+    assert_eq!(rt;
+        (file.epochs(), file.satellites(), file.events()),
+        (2, 2, 1)
+    );
+    assert!(rt;
+        file.station_values().is_same(StationValues {
+            x: 0,
+            y: 0,
+            z: 0,
+            height: 0
+        })
+    );
     assert_eq!(rt; file_bytes(rt.alloc(), &file)?.as_slice(), text.as_slice());
     let mut reader = Counted::new(PieceReader::new(text.as_slice(), &[5], ReadEnd::Ends));
     let counts = Counts {
@@ -62,19 +72,44 @@ fn a_file_with_an_event_is_read_and_written_back(rt: HostRuntime) -> Result<(), 
 
 #[test]
 fn an_event_in_the_wrong_place_or_of_the_same_values_is_refused(rt: HostRuntime) {
-    let spaced = [EVENT[0], "  1114104.5999 -4850729.7108  3975521.4643                 APPROX POSITION XYZ ", EVENT[2]];
+    let spaced = [
+        EVENT[0],
+        "  1114104.5999 -4850729.7108  3975521.4643                 APPROX POSITION XYZ ",
+        EVENT[2],
+    ];
     let same = [EVENT[0], HEADER[7], HEADER[8]];
     let moved = [EVENT[0], EVENT[1], HEADER[8]];
     let cases: [(&[&[&'static str]], Option<ReadFault>); 9] = [
-        (&[&HEADER, &EVENT, &EPOCH, &SECOND], Some(ReadFault::BadEpoch(15))),
-        (&[&HEADER, &EPOCH, &spaced, &SECOND], Some(ReadFault::BadEvent(18))),
-        (&[&HEADER, &EPOCH, &same, &SECOND], Some(ReadFault::BadEvent(19))),
+        (
+            &[&HEADER, &EVENT, &EPOCH, &SECOND],
+            Some(ReadFault::BadEpoch(15)),
+        ),
+        (
+            &[&HEADER, &EPOCH, &spaced, &SECOND],
+            Some(ReadFault::BadEvent(18)),
+        ),
+        (
+            &[&HEADER, &EPOCH, &same, &SECOND],
+            Some(ReadFault::BadEvent(19)),
+        ),
         (&[&HEADER, &EPOCH, &moved, &SECOND], None),
         (&[&HEADER, &EPOCH, &EVENT], Some(ReadFault::CutShort(20))),
-        (&[&HEADER, &EPOCH, &EVENT, &EVENT, &SECOND], Some(ReadFault::BadEpoch(20))),
-        (&[&HEADER, &EPOCH, &EVENT, &EPOCH], Some(ReadFault::BadEpoch(20))),
-        (&[&HEADER, &EPOCH, &EVENT[..1], &SECOND], Some(ReadFault::BadEvent(18))),
-        (&[&HEADER, &EPOCH[..1], &EVENT], Some(ReadFault::BadSatellite(16))),
+        (
+            &[&HEADER, &EPOCH, &EVENT, &EVENT, &SECOND],
+            Some(ReadFault::BadEpoch(20)),
+        ),
+        (
+            &[&HEADER, &EPOCH, &EVENT, &EPOCH],
+            Some(ReadFault::BadEpoch(20)),
+        ),
+        (
+            &[&HEADER, &EPOCH, &EVENT[..1], &SECOND],
+            Some(ReadFault::BadEvent(18)),
+        ),
+        (
+            &[&HEADER, &EPOCH[..1], &EVENT],
+            Some(ReadFault::BadSatellite(16)),
+        ),
     ];
     for (parts, wanted) in cases {
         assert!(rt; fault(rt.alloc(), lines(parts).as_slice(), b"") == wanted);

@@ -80,7 +80,14 @@ fn a_file_is_counted(rt: HostRuntime) {
         let text = joined(lines);
         let mut reader = Counted::new(PieceReader::new(text.as_slice(), &[3], ReadEnd::Ends));
         let counts = check_file(rt.alloc(), &mut reader);
-        assert!(rt; counts == Ok(Counts { epochs, satellites, events: 0 }));
+        assert!(rt;
+            counts
+                == Ok(Counts {
+                    epochs,
+                    satellites,
+                    events: 0
+                })
+        );
     }
 }
 

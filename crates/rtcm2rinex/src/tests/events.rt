@@ -16,8 +16,10 @@ fn later() -> [u8; 36] {
 
 /// The lines of the event that tells the station's values.
 const FLAG: &[u8] = b">                              4  2\n";
+
 const POSITION: &[u8] =
     b"  1114104.5999 -4850729.7108  3975521.4643                  APPROX POSITION XYZ \n";
+
 const ABOVE: &[u8] =
     b"        1.5000        0.0000        0.0000                  ANTENNA: DELTA H/E/N\n";
 
@@ -28,13 +30,16 @@ const SPACED: &[u8] =
 /// The values of the header, where no message told any.
 const NOWHERE: &[u8] =
     b"        0.0000        0.0000        0.0000                  APPROX POSITION XYZ \n";
+
 const LEVEL: &[u8] =
     b"        0.0000        0.0000        0.0000                  ANTENNA: DELTA H/E/N\n";
 
 /// The second epoch: the phase was lost in between.
-const SECOND: &[u8] = b"> 2024 02 04 00 00  2.0000000  0  1\nG05  20985472.060 7 110279400.00017      -525.504          45.063\n";
+const SECOND: &[u8] =
+    b"> 2024 02 04 00 00  2.0000000  0  1\nG05  20985472.060 7 110279400.00017      -525.504          45.063\n";
 
-const REPORT: &[u8] = b"bytes 111 skipped_bytes 0 frames 3 faulty 0 station 1 other 0 ignored 0 late 0 past 0 taken 2 skipped 0 repeated 0 crowded 0 epochs 2\n";
+const REPORT: &[u8] =
+    b"bytes 111 skipped_bytes 0 frames 3 faulty 0 station 1 other 0 ignored 0 late 0 past 0 taken 2 skipped 0 repeated 0 crowded 0 epochs 2\n";
 
 /// The file of the fine message alone, and these texts behind it.
 fn file_and(alloc: Global, texts: &[&[u8]]) -> Result<Vec<u8>, AllocError> {
@@ -57,12 +62,7 @@ fn values_that_change_stand_before_the_epoch(rt: HostRuntime) -> Result<(), Fail
         assert_eq!(rt; outcome.output.as_slice(), wanted.as_slice());
         assert_eq!(rt; outcome.faults.as_slice(), REPORT);
     }
-    let checked = run(
-        rt.alloc(),
-        &["rtcm2rinex", "check"],
-        wanted.as_slice(),
-        &[],
-    );
+    let checked = run(rt.alloc(), &["rtcm2rinex", "check"], wanted.as_slice(), &[]);
     assert_eq!(rt; checked.status, 0);
     assert_eq!(rt;
         checked.output.as_slice(),
@@ -82,7 +82,10 @@ fn values_that_stay_stand_once(rt: HostRuntime) -> Result<(), Fail> {
     let stream = framed(rt.alloc(), &[&FINE, &HEIGHT])?;
     let outcome = run(rt.alloc(), OPTIONS.as_slice(), stream.as_slice(), &[]);
     assert_eq!(rt; outcome.status, 0);
-    assert_eq!(rt; outcome.output.as_slice(), file_and(rt.alloc(), &[])?.as_slice());
+    assert_eq!(rt;
+        outcome.output.as_slice(),
+        file_and(rt.alloc(), &[])?.as_slice()
+    );
     Ok(())
 }
 

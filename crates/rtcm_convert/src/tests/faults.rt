@@ -18,7 +18,10 @@ fn streams_without_an_epoch(rt: HostRuntime) -> Result<(), Fail> {
         assert_eq!(rt; feed(&mut converter, bytes, &mut writer), Ok(()));
         assert_eq!(rt; finish(&mut converter, &mut writer), Err(Fault::NoEpoch));
         assert_eq!(rt; finish(&mut converter, &mut writer), Err(Fault::Finished));
-        assert_eq!(rt; feed(&mut converter, bytes, &mut writer), Err(Fault::Finished));
+        assert_eq!(rt;
+            feed(&mut converter, bytes, &mut writer),
+            Err(Fault::Finished)
+        );
         assert!(rt; writer.into_inner().is_empty());
     }
     Ok(())
