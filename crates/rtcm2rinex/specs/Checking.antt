@@ -1,5 +1,5 @@
 -- What the command `check` writes. `r` and `w` are what the reader and the writer held before, and w' what the writer holds after.
-use Rattle.std.specs.Prelude.{◌≡◌, ℕ, List, [], ◌∷◌, length, codes, decimal, Option, Result, Ok, Err, IfSome, ⊤}
+use Rattle.std.specs.Prelude.{◌≡◌, ◌⊎◌, ℕ, List, [], ◌∷◌, length, codes, decimal, Option, Result, Ok, Err, IfSome, ⊤}
 use Rattle.std.specs.List.{sum_by}
 use Rattle.std.specs.Io.KnownBytes.{Appends}
 use Rattle.rtcm_bits.specs.Device.{AppendsPrefix}
@@ -7,6 +7,7 @@ use Rattle.rinex_file.specs.Value.{FileValue}
 use Rattle.rinex_file.specs.FileValues.{IsFileValue}
 use Rattle.rinex_file.specs.File.{file_text}
 use Rattle.rinex_file.specs.Course.{events_in}
+use Rattle.rinex_file.specs.declared.read_fault.ReadFault.{ReadFault}
 use Rattle.rinex_file.specs.declared.read_fault.ReadFault.TheVariants as reading
 use Rattle.rtcm2rinex.specs.declared.fault.ToolFault.{ToolFault}
 use Rattle.rtcm2rinex.specs.declared.fault.ToolFault.TheVariants as faults
@@ -31,6 +32,10 @@ ChecksFile r w w' = IsFileWith (Appends w w') r
 -- the writer took a prefix of the counts
 abbrev pub ChecksPart : (r w w' : Option (List ℕ)) → Type 0
 ChecksPart r w w' = IsFileWith (AppendsPrefix w w') r
+
+-- what may come in place of the counts: a fault of reading, or the writer's
+abbrev pub IsCheckFault : ToolFault → Type 0
+IsCheckFault fault = ((e : ReadFault) × (fault ≡ faults.Check e)) ⊎ (fault ≡ faults.Write)
 
 -- what may come of the text of this file value: its counts, unless memory or a device fails
 abbrev pub IsCheckedOr : FileValue → Result ⊤ ToolFault → (w w' : Option (List ℕ)) → Type 0
