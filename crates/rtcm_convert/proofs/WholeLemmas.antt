@@ -1,12 +1,12 @@
 -- Whole streams.
-use Rattle.std.proofs.Common.{◌≡◌, ℕ, ◌+◌, ◌<◌, ◌≤◌, ◌⊎◌, inl, inr, refl, List, [], ◌∷◌, ◌++◌, sym, ap, subst, ◌∙◌, arith, Option, Some, None, Result, Ok, Err, OnOk, IfOk, append-nil, length, take, get_or, IfErr, Bool, true, false, true≢false, ◌↔◌}
-use Rattle.std.specs.Prelude.{IfSome, flat_map}
-use Rattle.std.proofs.lemmas.List.{take_more}
+use Rattle.std.proofs.Common.{◌≡◌, ℕ, ◌+◌, ◌<◌, ◌≤◌, ◌⊎◌, inl, inr, refl, List, [], ◌∷◌, ◌++◌, sym, ap, subst, ◌∙◌, arith, Option, Some, None, Result, Ok, Err, OnOk, IfOk, append-nil, length, length-append, take, drop, get_or, IfErr, Bool, true, false, true≢false, ◌↔◌}
+use Rattle.std.specs.Prelude.{IfSome, IsErrOf, flat_map}
+use Rattle.std.proofs.lemmas.List.{take_more, take-append-drop}
 use Rattle.std.proofs.lemmas.Grind.{flat_map-append}
 use Rattle.std.proofs.Math.Seq.{take-length}
 use Rattle.std.specs.Io.KnownBytes.{Appends, Consumes}
 use Rattle.std.proofs.KnownBytes.{Appends-trans}
-use Rattle.rtcm_bits.specs.Device.{AppendsPrefix}
+use Rattle.rtcm_bits.specs.Device.{AppendsPrefix, HasFailed}
 use Rattle.rtcm_scan.specs.Frames.{frames_of}
 use Rattle.rtcm_scan.specs.Decided.{decided_frames}
 use Rattle.rtcm_convert.specs.Converted.{Settings, so_far, file, epochs_in}
@@ -142,6 +142,35 @@ piece_more v w s a b c bytes piece more x out go e =
     let p = go s bytes x in
     (subst (λ (l : List ℕ). StandsFor w s l) e p.0, subst (λ (l : List ℕ). Extends a c s [] l) e (goes_on-trans a b c _ _ _ out p.1))
 
+-- the first pieces have no more bytes than all of them
+front_shorter : {X : Type 0} (bytes : X → List ℕ) (pieces : List X) (i : ℕ) → length (flat_map bytes (take i pieces)) ≤ length (flat_map bytes pieces)
+front_shorter bytes pieces i =
+    let e : length (flat_map bytes pieces) ≡ length (flat_map bytes (take i pieces)) + length (flat_map bytes (drop i pieces)) =
+    ap length (ap (flat_map bytes) (sym (take-append-drop i pieces)) ∙ flat_map-append bytes (take i pieces) (drop i pieces))
+    ∙ length-append (flat_map bytes (take i pieces)) (flat_map bytes (drop i pieces)) in
+    omega arith
+
+-- a piece that goes over the limit makes all the pieces do so
+pub pieces_over : {X : Type 0} (v : Conversion) (s : Settings) (bytes : X → List ℕ) (pieces : List X) (i limit : ℕ) (piece : List ℕ) → StandsFor v s (flat_map bytes (take i pieces))
+    → v.scan.limit ≡ limit → flat_map bytes (take i pieces) ++ piece ≡ flat_map bytes (take (i + 1) pieces) → v.scan.limit < v.scan.taken + length piece → limit < length (flat_map bytes pieces)
+pieces_over v s bytes pieces i limit piece x same more over =
+    let taken : v.scan.taken ≡ length (flat_map bytes (take i pieces)) = x.drained.framer.stands.taken in
+    let all : length (flat_map bytes (take (i + 1) pieces)) ≡ length (flat_map bytes (take i pieces)) + length piece = ap length (sym more) ∙ length-append (flat_map bytes (take i pieces)) piece in
+    let le : length (flat_map bytes (take (i + 1) pieces)) ≤ length (flat_map bytes pieces) = front_shorter bytes pieces (i + 1) in
+    omega arith
+
+-- a failure since a call before which none was counted
+pub failed_since : (a b c : ℕ) → b ≡ a → HasFailed b c → HasFailed a c
+failed_since a b c e h = subst (λ (n : ℕ). HasFailed n c) e h
+
+abbrev fault_in : {A : Type 0} → Fault → Result A Fault → Fault
+fault_in other (Ok a) = other
+fault_in other (Err fault) = fault
+
+-- a fault that is answered again
+pub same_fault : {A B : Type 0} (x y : Fault) → IsErrOf {T = A} {E = Fault} (Err x) y → IsErrOf {T = B} {E = Fault} (Err x) y
+same_fault x y e = ap (λ fault. Err fault) (ap (fault_in y) e)
+
 -- ---- faults that a new converter doesn't answer
 
 abbrev pub Running : Fault → Type 0
@@ -182,3 +211,35 @@ made_or_not made converter fault a b = true≢false (sym (ap is_made a) ∙ ap i
 pub not_bad : (made : Result Conversion Fault) (converter : Conversion) (bad : Type 0) (r : Result Report Fault) → made ≡ Ok converter → made ≡ Err BadSetup ↔ bad → IfErr r Running
     → r ≡ Err BadSetup ↔ bad
 not_bad made converter bad r is iff only = (λ e. absurd (not_running r BadSetup only refl e), λ b. absurd (made_or_not made converter BadSetup is (iff.1 b)))
+
+-- ---- faults that the end of a stream doesn't answer
+
+abbrev pub Ending : Fault → Type 0
+Ending fault = (fault ≡ NoEpoch) ⊎ (fault ≡ Write)
+
+abbrev pub is_ending : Fault → Bool
+is_ending NoEpoch = true
+is_ending Write = true
+is_ending _ = false
+
+ending : (fault : Fault) → Ending fault → is_ending fault ≡ true
+ending fault (inl e) = ap is_ending e
+ending fault (inr e) = ap is_ending e
+
+abbrev end_of : Result Report Fault → Bool
+end_of (Ok report) = true
+end_of (Err fault) = is_ending fault
+
+pub not_ending : (r : Result Report Fault) (fault : Fault) → IfErr r Ending → is_ending fault ≡ false → r ≡ Err fault → ⊥
+not_ending (Ok report) fault only hard e = true≢false (ap end_of e ∙ hard)
+not_ending (Err other) fault only hard e = true≢false (sym (ending other only) ∙ ap end_of e ∙ hard)
+
+pub never_at_end : (r : Result Report Fault) → IfErr r Ending → (r ≡ Err Failed → ⊥) × (r ≡ Err Finished → ⊥) × (r ≡ Err Read → ⊥)
+never_at_end r only = (not_ending r Failed only refl, not_ending r Finished only refl, not_ending r Read only refl)
+
+pub not_long : (r : Result Report Fault) (P : Type 0) → IfErr r Ending → r ≡ Err TooLong → P
+not_long r P only e = absurd (not_ending r TooLong only refl e)
+
+pub not_bad_at_end : (made : Result Conversion Fault) (converter : Conversion) (bad : Type 0) (r : Result Report Fault) → made ≡ Ok converter → made ≡ Err BadSetup ↔ bad → IfErr r Ending
+    → r ≡ Err BadSetup ↔ bad
+not_bad_at_end made converter bad r is iff only = (λ e. absurd (not_ending r BadSetup only refl e), λ b. absurd (made_or_not made converter BadSetup is (iff.1 b)))

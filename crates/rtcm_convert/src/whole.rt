@@ -70,6 +70,11 @@ pub fn convert_pieces<W: Write>(
     ensures report { IfOk result (λ report. report ≡ report_of (settings setup) (flat_map (λ piece. piece.items) pieces.now)) }
     // No epoch stands in that file, and it is empty.
     ensures no_epoch { IsErrOf result Fault.NoEpoch → IsMadeEmpty setup (W.contents writer.old.inner) (W.contents writer.new.inner) (flat_map (λ piece. piece.items) pieces.now) }
+    ensures too_long { IsErrOf result Fault.TooLong → setup.limit < length (flat_map (λ piece. piece.items) pieces.now) }
+    ensures write_failed { IsErrOf result Fault.Write → HasFailed writer.old.failures writer.new.failures }
+    ensures bad_setup { result ≡ Err Fault.BadSetup ↔ IsBad setup }
+    ensures untouched { IfErr result (λ fault. (fault ≡ Fault.BadSetup) ⊎ (fault ≡ Fault.Memory) → writer.new ≡ writer.old) }
+    ensures only { (result ≢ Err Fault.Failed) × (result ≢ Err Fault.Finished) × (result ≢ Err Fault.Read) }
 {
     laws::prefix();
     laws::read_back(&setup);
