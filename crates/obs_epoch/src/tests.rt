@@ -6,7 +6,7 @@ mod plans;
 
 ghost use Rattle.std.specs.Prelude.{◌≡◌, false, IfOk};
 
-use crate::{Gather, Gatherer, Kind, Plan, PlanFault, StationValues};
+use crate::{Gather, Gatherer, Kind, Plan, PlanFault, StationValues, Taken};
 use gnss_obs::System;
 use rtcm_msg::{
     Cell4, Cell7, Masks, Message, Msm, MsmHeader, Satellite4, Satellite7, Station, StationParts,
@@ -21,6 +21,17 @@ fn gatherer(alloc: Global, week: u32, gather: Gather) -> Result<Gatherer, PlanFa
 {
     let plan = Plan::parse(alloc, "all", "all")?;
     Gatherer::new(alloc, plan, week, Some(7), gather)
+}
+
+/// What a gatherer that goes on makes of a message: behind a call of its own, so that no test carries its clauses.
+fn take(g: &mut Gatherer, message: &Message) -> Taken {
+    if g.ended() {
+        return Taken {
+            kind: Kind::Ignored,
+            closed: false,
+        };
+    }
+    g.take(message)
 }
 
 fn header(time: u32, more: bool) -> MsmHeader {
@@ -117,8 +128,11 @@ fn kept(kept: usize, repeated: usize, crowded: usize) -> Kind {
 fn times_pass_the_week_and_half_a_week(rt: HostRuntime) -> Result<(), PlanFault> {
     let mut g = gatherer(rt.alloc(), 2_300, Gather::Bit)?;
     assert_eq!(rt;
-        g.take(&long(false, 604_799_000, false, long_cell(true, 64)))
-            .kind,
+        take(
+            &mut g,
+            &long(false, 604_799_000, false, long_cell(true, 64))
+        )
+        .kind,
         kept(1, 0, 0)
     );
     assert!(rt;
@@ -126,7 +140,7 @@ fn times_pass_the_week_and_half_a_week(rt: HostRuntime) -> Result<(), PlanFault>
             .is_some_and(|e| e.time().milliseconds() == 2_300 * WEEK + 604_799_000)
     );
     assert_eq!(rt;
-        g.take(&long(false, 0, false, long_cell(true, 64))).kind,
+        take(&mut g, &long(false, 0, false, long_cell(true, 64))).kind,
         kept(1, 0, 0)
     );
     assert!(rt;
@@ -134,17 +148,23 @@ fn times_pass_the_week_and_half_a_week(rt: HostRuntime) -> Result<(), PlanFault>
             .is_some_and(|e| e.time().milliseconds() == 2_301 * WEEK)
     );
     assert_eq!(rt;
-        g.take(&long(false, 302_400_000, false, long_cell(true, 64)))
-            .kind,
+        take(
+            &mut g,
+            &long(false, 302_400_000, false, long_cell(true, 64))
+        )
+        .kind,
         kept(1, 0, 0)
     );
     assert_eq!(rt;
-        g.take(&long(false, 1, false, long_cell(true, 64))).kind,
+        take(&mut g, &long(false, 1, false, long_cell(true, 64))).kind,
         Kind::Late
     );
     assert_eq!(rt;
-        g.take(&long(false, 302_401_000, false, long_cell(true, 64)))
-            .kind,
+        take(
+            &mut g,
+            &long(false, 302_401_000, false, long_cell(true, 64))
+        )
+        .kind,
         kept(1, 0, 0)
     );
     Ok(())
@@ -154,14 +174,13 @@ fn times_pass_the_week_and_half_a_week(rt: HostRuntime) -> Result<(), PlanFault>
 fn a_late_message_closes_by_its_bit(rt: HostRuntime) -> Result<(), PlanFault> {
     let mut g = gatherer(rt.alloc(), 2_300, Gather::Bit)?;
     assert_eq!(rt;
-        g.take(&long(false, 5_000, true, long_cell(true, 64)))
-            .closed,
+        take(&mut g, &long(false, 5_000, true, long_cell(true, 64))).closed,
         false
     );
-    let late = g.take(&long(false, 4_000, false, long_cell(true, 64)));
+    let late = take(&mut g, &long(false, 4_000, false, long_cell(true, 64)));
     assert_eq!(rt; (late.kind, late.closed), (Kind::Late, true));
     assert_eq!(rt;
-        g.take(&long(false, 5_000, true, long_cell(true, 64))).kind,
+        take(&mut g, &long(false, 5_000, true, long_cell(true, 64))).kind,
         Kind::Late
     );
     assert_eq!(rt; g.cells(System::Gps), 1);
@@ -173,13 +192,13 @@ fn a_later_time_closes_first(rt: HostRuntime) -> Result<(), PlanFault> {
     let mut g = gatherer(rt.alloc(), 2_300, Gather::Bit)?;
     let next = long(false, 2_000, true, long_cell(true, 64));
     assert_eq!(rt;
-        g.take(&long(false, 1_000, true, long_cell(true, 64))).kind,
+        take(&mut g, &long(false, 1_000, true, long_cell(true, 64))).kind,
         kept(1, 0, 0)
     );
-    let first = g.take(&next);
+    let first = take(&mut g, &next);
     assert_eq!(rt; (first.kind, first.closed), (Kind::CloseFirst, true));
     assert!(rt; g.closed().is_some_and(|e| e.satellites() == 1));
-    assert_eq!(rt; g.take(&next).kind, kept(1, 0, 0));
+    assert_eq!(rt; take(&mut g, &next).kind, kept(1, 0, 0));
     assert!(rt; g.closed().is_none());
     assert!(rt; g.end());
     assert!(rt; g.ended());
@@ -190,19 +209,19 @@ fn a_later_time_closes_first(rt: HostRuntime) -> Result<(), PlanFault> {
 fn an_unread_message_of_the_station_closes(rt: HostRuntime) -> Result<(), PlanFault> {
     let mut g = gatherer(rt.alloc(), 2_300, Gather::Bit)?;
     assert_eq!(rt;
-        g.take(&long(false, 1_000, true, long_cell(true, 64))).kind,
+        take(&mut g, &long(false, 1_000, true, long_cell(true, 64))).kind,
         kept(1, 0, 0)
     );
-    let other = g.take(&unread(8, false));
+    let other = take(&mut g, &unread(8, false));
     assert_eq!(rt; (other.kind, other.closed), (Kind::Ignored, false));
     assert_eq!(rt;
-        g.take(&long(true, 1_000, true, long_cell(true, 64))).kind,
+        take(&mut g, &long(true, 1_000, true, long_cell(true, 64))).kind,
         kept(1, 0, 0)
     );
-    let own = g.take(&unread(7, false));
+    let own = take(&mut g, &unread(7, false));
     assert_eq!(rt; (own.kind, own.closed), (Kind::Ignored, true));
     assert_eq!(rt;
-        g.take(&long(true, 1_000, true, long_cell(true, 64))).kind,
+        take(&mut g, &long(true, 1_000, true, long_cell(true, 64))).kind,
         Kind::Late
     );
     Ok(())
@@ -212,12 +231,12 @@ fn an_unread_message_of_the_station_closes(rt: HostRuntime) -> Result<(), PlanFa
 fn by_time_alone_no_bit_closes(rt: HostRuntime) -> Result<(), PlanFault> {
     let mut g = gatherer(rt.alloc(), 2_300, Gather::Time)?;
     assert_eq!(rt;
-        g.take(&long(false, 1_000, true, long_cell(true, 64))).kind,
+        take(&mut g, &long(false, 1_000, true, long_cell(true, 64))).kind,
         kept(1, 0, 0)
     );
-    assert_eq!(rt; g.take(&unread(7, false)).closed, false);
+    assert_eq!(rt; take(&mut g, &unread(7, false)).closed, false);
     assert_eq!(rt;
-        g.take(&long(true, 1_000, false, long_cell(true, 64))).kind,
+        take(&mut g, &long(true, 1_000, false, long_cell(true, 64))).kind,
         kept(1, 0, 0)
     );
     assert!(rt; g.end());
@@ -237,9 +256,9 @@ fn mark(g: &Gatherer) -> u8 {
 #[test]
 fn a_shorter_lock_was_lost(rt: HostRuntime) -> Result<(), PlanFault> {
     let mut g = gatherer(rt.alloc(), 2_300, Gather::Bit)?;
-    g.take(&short(1_000, false, true, 15));
+    take(&mut g, &short(1_000, false, true, 15));
     assert_eq!(rt; mark(&g), 0);
-    g.take(&short(2_000, false, true, 14));
+    take(&mut g, &short(2_000, false, true, 14));
     assert_eq!(rt; mark(&g), 1);
     Ok(())
 }
@@ -247,11 +266,14 @@ fn a_shorter_lock_was_lost(rt: HostRuntime) -> Result<(), PlanFault> {
 #[test]
 fn a_lock_below_the_elapsed_time_was_lost(rt: HostRuntime) -> Result<(), PlanFault> {
     let mut g = gatherer(rt.alloc(), 2_300, Gather::Bit)?;
-    g.take(&long(false, 1_000, false, long_cell(true, 0)));
-    g.take(&long(false, 2_000, false, long_cell(true, 0)));
+    take(&mut g, &long(false, 1_000, false, long_cell(true, 0)));
+    take(&mut g, &long(false, 2_000, false, long_cell(true, 0)));
     assert_eq!(rt; mark(&g), 1);
-    g.take(&long(false, 3_000, false, long_cell(true, 704)));
-    g.take(&long(false, 18_003_000, false, long_cell(true, 704)));
+    take(&mut g, &long(false, 3_000, false, long_cell(true, 704)));
+    take(
+        &mut g,
+        &long(false, 18_003_000, false, long_cell(true, 704)),
+    );
     assert_eq!(rt; mark(&g), 0);
     Ok(())
 }
@@ -260,10 +282,10 @@ fn a_lock_below_the_elapsed_time_was_lost(rt: HostRuntime) -> Result<(), PlanFau
 fn a_lock_without_a_phase_is_passed_over(rt: HostRuntime) -> Result<(), PlanFault> {
     let mut g = gatherer(rt.alloc(), 2_300, Gather::Bit)?;
     assert_eq!(rt; g.locks(), 0);
-    g.take(&short(1_000, false, true, 8));
-    g.take(&short(2_000, false, false, 0));
+    take(&mut g, &short(1_000, false, true, 8));
+    take(&mut g, &short(2_000, false, false, 0));
     assert_eq!(rt; mark(&g), 0);
-    g.take(&short(3_000, true, true, 7));
+    take(&mut g, &short(3_000, true, true, 7));
     assert!(rt; g.end());
     assert_eq!(rt; mark(&g), 1);
     assert_eq!(rt; g.locks(), 1);
@@ -275,11 +297,10 @@ fn a_lock_without_a_phase_is_passed_over(rt: HostRuntime) -> Result<(), PlanFaul
 fn a_message_past_the_weeks_closes_nothing(rt: HostRuntime) -> Result<(), PlanFault> {
     let mut g = gatherer(rt.alloc(), 99_999, Gather::Bit)?;
     assert_eq!(rt;
-        g.take(&long(false, 604_799_000, true, long_cell(true, 64)))
-            .kind,
+        take(&mut g, &long(false, 604_799_000, true, long_cell(true, 64))).kind,
         kept(1, 0, 0)
     );
-    let past = g.take(&long(false, 0, true, long_cell(true, 64)));
+    let past = take(&mut g, &long(false, 0, true, long_cell(true, 64)));
     assert_eq!(rt; (past.kind, past.closed), (Kind::PastWeeks, false));
     let parts = StationParts {
         station: 7,
@@ -296,8 +317,8 @@ fn a_message_past_the_weeks_closes_nothing(rt: HostRuntime) -> Result<(), PlanFa
         height: Some(15_000),
     };
     let told = match Station::new(parts) {
-        Ok(station) => g.take(&Message::Station(station)),
-        Err(_) => g.take(&nothing()),
+        Ok(station) => take(&mut g, &Message::Station(station)),
+        Err(_) => take(&mut g, &nothing()),
     };
     assert_eq!(rt; (told.kind, told.closed), (Kind::Station, false));
     assert!(rt; g.end());

@@ -1,5 +1,5 @@
 //! Which cells of an epoch are kept, and how they stand.
-use super::{gatherer, header, kept, long, long_cell, nothing, short};
+use super::{gatherer, header, kept, long, long_cell, nothing, short, take};
 use crate::{Gather, Gatherer, Plan, PlanFault};
 use gnss_obs::System;
 use rtcm_msg::{Masks, Message, Msm, Satellite7};
@@ -8,9 +8,12 @@ use std::test::*;
 #[test]
 fn the_first_cell_of_a_key_is_kept(rt: HostRuntime) -> Result<(), PlanFault> {
     let mut g = gatherer(rt.alloc(), 2_300, Gather::Bit)?;
-    assert_eq!(rt; g.take(&short(1_000, true, true, 15)).kind, kept(1, 0, 0));
     assert_eq!(rt;
-        g.take(&long(false, 1_000, true, long_cell(true, 64))).kind,
+        take(&mut g, &short(1_000, true, true, 15)).kind,
+        kept(1, 0, 0)
+    );
+    assert_eq!(rt;
+        take(&mut g, &long(false, 1_000, true, long_cell(true, 64))).kind,
         kept(0, 1, 0)
     );
     assert!(rt; g.end());
@@ -59,10 +62,13 @@ const ALL_GPS: u64 = 0xFFFF_FFFF << 32;
 fn a_set_split_over_messages_is_kept(rt: HostRuntime) -> Result<(), PlanFault> {
     let mut g = gatherer(rt.alloc(), 2_300, Gather::Bit)?;
     assert_eq!(rt;
-        g.take(&wide(true, ALL_GPS, 1 << 30 | 1 << 22)).kind,
+        take(&mut g, &wide(true, ALL_GPS, 1 << 30 | 1 << 22)).kind,
         kept(64, 0, 0)
     );
-    assert_eq!(rt; g.take(&wide(false, 1 << 63, 1 << 8)).kind, kept(1, 0, 0));
+    assert_eq!(rt;
+        take(&mut g, &wide(false, 1 << 63, 1 << 8)).kind,
+        kept(1, 0, 0)
+    );
     assert!(rt;
         g.closed().is_some_and(|e| e.satellites() == 32 && e.cells(System::Gps).len() == 65)
     );
@@ -81,9 +87,15 @@ fn cells_past_the_bound_are_crowded(rt: HostRuntime) -> Result<(), PlanFault> {
         1 << 17 | 1 << 16,
     ];
     for signals in pairs {
-        assert_eq!(rt; g.take(&wide(true, ALL_GPS, signals)).kind, kept(64, 0, 0));
+        assert_eq!(rt;
+            take(&mut g, &wide(true, ALL_GPS, signals)).kind,
+            kept(64, 0, 0)
+        );
     }
-    assert_eq!(rt; g.take(&wide(false, 1 << 63, 1 << 15)).kind, kept(0, 0, 1));
+    assert_eq!(rt;
+        take(&mut g, &wide(false, 1 << 63, 1 << 15)).kind,
+        kept(0, 0, 1)
+    );
     assert_eq!(rt; g.cells(System::Gps), 256);
     assert!(rt;
         g.closed().is_some_and(|e| e.satellites() == 32 && e.cells(System::Gps).len() == 256)
@@ -96,8 +108,8 @@ fn cells_past_the_bound_are_crowded(rt: HostRuntime) -> Result<(), PlanFault> {
 fn cells_stand_by_satellite_and_plan(rt: HostRuntime) -> Result<(), PlanFault> {
     let plan = Plan::parse(rt.alloc(), "5X,2W,1C", "none")?;
     let mut g = Gatherer::new(rt.alloc(), plan, 2_300, Some(7), Gather::Bit)?;
-    g.take(&wide(true, 1 << 63 | 1 << 61, 1 << 30 | 1 << 22));
-    g.take(&wide(false, 1 << 63 | 1 << 62, 1 << 8));
+    take(&mut g, &wide(true, 1 << 63 | 1 << 61, 1 << 30 | 1 << 22));
+    take(&mut g, &wide(false, 1 << 63 | 1 << 62, 1 << 8));
     let Some(epoch) = g.closed() else {
         return Err(PlanFault::NothingPlanned);
     };
@@ -120,8 +132,14 @@ fn cells_stand_by_satellite_and_plan(rt: HostRuntime) -> Result<(), PlanFault> {
 #[test]
 fn a_second_satellite_comes_first_in_order(rt: HostRuntime) -> Result<(), PlanFault> {
     let mut g = gatherer(rt.alloc(), 2_300, Gather::Bit)?;
-    assert_eq!(rt; g.take(&wide(true, 1 << 59, 1 << 30)).kind, kept(1, 0, 0));
-    assert_eq!(rt; g.take(&wide(false, 1 << 61, 1 << 30)).kind, kept(1, 0, 0));
+    assert_eq!(rt;
+        take(&mut g, &wide(true, 1 << 59, 1 << 30)).kind,
+        kept(1, 0, 0)
+    );
+    assert_eq!(rt;
+        take(&mut g, &wide(false, 1 << 61, 1 << 30)).kind,
+        kept(1, 0, 0)
+    );
     let Some(epoch) = g.closed() else {
         return Err(PlanFault::NothingPlanned);
     };

@@ -79,41 +79,24 @@ fn an_event_in_the_wrong_place_or_of_the_same_values_is_refused(rt: HostRuntime)
     ];
     let same = [EVENT[0], HEADER[7], HEADER[8]];
     let moved = [EVENT[0], EVENT[1], HEADER[8]];
-    let cases: [(&[&[&'static str]], Option<ReadFault>); 9] = [
-        (
-            &[&HEADER, &EVENT, &EPOCH, &SECOND],
-            Some(ReadFault::BadEpoch(15)),
-        ),
-        (
-            &[&HEADER, &EPOCH, &spaced, &SECOND],
-            Some(ReadFault::BadEvent(18)),
-        ),
-        (
-            &[&HEADER, &EPOCH, &same, &SECOND],
-            Some(ReadFault::BadEvent(19)),
-        ),
-        (&[&HEADER, &EPOCH, &moved, &SECOND], None),
-        (&[&HEADER, &EPOCH, &EVENT], Some(ReadFault::CutShort(20))),
-        (
-            &[&HEADER, &EPOCH, &EVENT, &EVENT, &SECOND],
-            Some(ReadFault::BadEpoch(20)),
-        ),
-        (
-            &[&HEADER, &EPOCH, &EVENT, &EPOCH],
-            Some(ReadFault::BadEpoch(20)),
-        ),
-        (
-            &[&HEADER, &EPOCH, &EVENT[..1], &SECOND],
-            Some(ReadFault::BadEvent(18)),
-        ),
-        (
-            &[&HEADER, &EPOCH[..1], &EVENT],
-            Some(ReadFault::BadSatellite(16)),
-        ),
-    ];
-    for (parts, wanted) in cases {
-        assert!(rt; fault(rt.alloc(), lines(parts).as_slice(), b"") == wanted);
-    }
+    let text = lines(&[&HEADER, &EVENT, &EPOCH, &SECOND]);
+    assert!(rt; fault(rt.alloc(), text.as_slice(), b"") == Some(ReadFault::BadEpoch(15)));
+    let text = lines(&[&HEADER, &EPOCH, &spaced, &SECOND]);
+    assert!(rt; fault(rt.alloc(), text.as_slice(), b"") == Some(ReadFault::BadEvent(18)));
+    let text = lines(&[&HEADER, &EPOCH, &same, &SECOND]);
+    assert!(rt; fault(rt.alloc(), text.as_slice(), b"") == Some(ReadFault::BadEvent(19)));
+    let text = lines(&[&HEADER, &EPOCH, &moved, &SECOND]);
+    assert!(rt; fault(rt.alloc(), text.as_slice(), b"") == None);
+    let text = lines(&[&HEADER, &EPOCH, &EVENT]);
+    assert!(rt; fault(rt.alloc(), text.as_slice(), b"") == Some(ReadFault::CutShort(20)));
+    let text = lines(&[&HEADER, &EPOCH, &EVENT, &EVENT, &SECOND]);
+    assert!(rt; fault(rt.alloc(), text.as_slice(), b"") == Some(ReadFault::BadEpoch(20)));
+    let text = lines(&[&HEADER, &EPOCH, &EVENT, &EPOCH]);
+    assert!(rt; fault(rt.alloc(), text.as_slice(), b"") == Some(ReadFault::BadEpoch(20)));
+    let text = lines(&[&HEADER, &EPOCH, &EVENT[..1], &SECOND]);
+    assert!(rt; fault(rt.alloc(), text.as_slice(), b"") == Some(ReadFault::BadEvent(18)));
+    let text = lines(&[&HEADER, &EPOCH[..1], &EVENT]);
+    assert!(rt; fault(rt.alloc(), text.as_slice(), b"") == Some(ReadFault::BadSatellite(16)));
 }
 
 #[test]
