@@ -1,6 +1,6 @@
 -- The signals of each system, by rising signal ID.
--- IDs: the places in the signal mask, DF395, counted from 1 at its most significant bit: RTCM 10403.3, table 3.5-91 of GPS
--- and table 3.5-99 of Galileo. Codes: the observation codes of RINEX 3.05, table 4 of GPS and table 6 of Galileo, without the
+-- IDs: the places in the signal mask, DF395 of RTCM 10403.3, counted from 1 at its most significant bit, by the standard's
+-- tables of signal IDs of GPS and Galileo. Codes: the observation codes that RINEX 3.05 lists for each system, without the
 -- letter of the kind of observation.
 use Rattle.std.specs.Prelude.{ℕ, List, [], ◌∷◌, codes}
 use Rattle.gnss_obs.specs.declared.tables.Entry.{Entry}
