@@ -10,7 +10,8 @@ use Rattle.obs_epoch.specs.Times.{Timed, is_at, max_known, greatest, from_first,
 use Rattle.obs_epoch.specs.Loss.{times}
 use Rattle.obs_epoch.specs.Epochs.{is_shut, closed_times, epoch_at, values_of}
 use Rattle.obs_epoch.specs.Clock.{is_pending}
-use Rattle.obs_epoch.specs.Gathering.{IsPrefix, open_after, before_closing, closed_at, closed_list_at, closed_epochs, all_epochs}
+use Rattle.rtcm_bits.specs.Prefix.{IsPrefix}
+use Rattle.obs_epoch.specs.Gathering.{open_after, before_closing, closed_at, closed_list_at, closed_epochs, all_epochs}
 use Rattle.obs_epoch.proofs.TimesLemmas.{next, timed-push, greatest-push}
 use Rattle.obs_epoch.proofs.ClosedLemmas.{ends, no_times, closed_is, when, taken_follows, grows_by}
 use Rattle.obs_epoch.proofs.EpochLemmas.{AllLater, IsLater, epoch_at-push, times_before, all_later}

@@ -14,7 +14,8 @@ use Rattle.obs_epoch.specs.Clock.{is_pending, closes_first}
 use Rattle.obs_epoch.specs.Step.{closed_by as closes}
 use Rattle.obs_epoch.specs.Gather.{Gathered, no_epoch, take_step, end_step, noted}
 use Rattle.obs_epoch.specs.Standing.{Standing, held_at}
-use Rattle.obs_epoch.specs.Gathering.{IsPrefix, before_closing, closed_at, closed_list_at, known_epochs, closed_by, closed_in, handed_over, is_done, Gathers}
+use Rattle.rtcm_bits.specs.Prefix.{IsPrefix}
+use Rattle.obs_epoch.specs.Gathering.{before_closing, closed_at, closed_list_at, known_epochs, closed_by, closed_in, handed_over, is_done, Gathers}
 use Rattle.obs_epoch.proofs.TimesLemmas.{next, timed-push, greater-absent, none-absent}
 use Rattle.obs_epoch.proofs.ClockLemmas.{Follows, first, greater, equal, new_time, same_time, standing as standing_at}
 use Rattle.obs_epoch.proofs.ClosedLemmas.{taken_follows}

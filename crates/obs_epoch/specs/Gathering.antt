@@ -1,6 +1,7 @@
 -- What a gatherer stands for: its messages, the epochs that it handed out, and a message that is to come again.
 use Rattle.std.specs.Prelude.{ℕ, ◌≡◌, ◌&&◌, ◌||◌, Bool, true, List, [], ◌∷◌, ◌++◌, map, if◌then◌else◌, Option, Some, None, is_some, option_to_list}
 use Rattle.std.specs.Option.{IfSome, option_map_or}
+use Rattle.rtcm_bits.specs.Prefix.{IsPrefix}
 use Rattle.obs_epoch.specs.declared.cell.StationValues.{StationValues}
 use Rattle.obs_epoch.specs.Heard.{Setup, Heard}
 use Rattle.obs_epoch.specs.Values.{EpochValue, PlanValue, Closed}
@@ -11,9 +12,6 @@ use Rattle.obs_epoch.specs.Epochs.{epoch_at, is_shut, closed_times, closed_so_fa
 use Rattle.obs_epoch.specs.Clock.{is_pending, closes_first}
 use Rattle.obs_epoch.specs.Gather.{Gathered}
 use Rattle.obs_epoch.specs.Standing.{Standing}
-
-abbrev pub IsPrefix : {A : Type 0} → List A → List A → Type 0
-IsPrefix {A} xs ys = (rest : List A) × (ys ≡ xs ++ rest)
 
 -- ---- the epochs of a list of messages
 

@@ -6,7 +6,8 @@ use Rattle.gnss_obs.specs.Signals.{signal_of_code}
 use Rattle.obs_epoch.specs.Plans.{signals_after}
 use Rattle.obs_epoch.specs.Heard.{Setup, Heard}
 use Rattle.obs_epoch.specs.Kinds.{is_close_first, kind_of}
-use Rattle.obs_epoch.specs.Gathering.{IsPrefix, closed_epochs, all_epochs}
+use Rattle.rtcm_bits.specs.Prefix.{IsPrefix}
+use Rattle.obs_epoch.specs.Gathering.{closed_epochs, all_epochs}
 
 -- whatever messages follow, the closed epochs stay as they are, and are the first ones
 abbrev pub ClosedStay : Type 0

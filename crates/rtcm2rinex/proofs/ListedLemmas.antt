@@ -8,7 +8,8 @@ use Rattle.rtcm_scan.specs.Frames.{Framed, frames_of}
 use Rattle.rtcm_scan.specs.Decided.{decided_frames}
 use Rattle.rtcm_scan.specs.declared.framer.ScanFault.{ScanFault}
 use Rattle.rtcm_scan.specs.Drained.{IsDrained}
-use Rattle.rtcm_scan.specs.Known.{IsPrefix, known_frames}
+use Rattle.rtcm_bits.specs.Prefix.{IsPrefix}
+use Rattle.rtcm_scan.specs.Known.{known_frames}
 use Rattle.rtcm_scan.specs.Scan.{Scan, StandsFor}
 use Rattle.rtcm2rinex.specs.declared.fault.ToolFault.{ToolFault}
 use Rattle.rtcm2rinex.specs.declared.listing.Listing.{Listing}

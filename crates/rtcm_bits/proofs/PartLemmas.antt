@@ -5,7 +5,8 @@ use Rattle.std.proofs.lemmas.List.{length-drop, length-take-le, drop-drop, take-
 use Rattle.std.proofs.lemmas.Nat.{one_shl, shr-shr}
 use Rattle.std.proofs.Math.Nat.{pow-le-pow_right, mod-eq_of_lt}
 use Rattle.rtcm_bits.specs.Bits.{odd, uint, number, number_from, bits_of}
-use Rattle.rtcm_bits.proofs.BitLemmas.{length-uint, length-bits_of, number-uint, number-append, number-split, number-take-fits}
+use Rattle.rtcm_bits.specs.BitLaws.{length-uint, length-bits_of, number-uint, number-split, number-take-fits}
+use Rattle.rtcm_bits.proofs.BitLemmas.{number-append}
 
 -- the bits behind the first r
 drop-uint : (r w x : ℕ) → drop r (uint (r + w) x) ≡ uint w x

@@ -7,7 +7,7 @@ use Rattle.std.proofs.Math.Nat.{mod-eq_of_lt}
 use Rattle.std.specs.Int.{bit_at}
 use Rattle.rtcm_bits.specs.Bits.{odd, uint, number}
 use Rattle.rtcm_bits.specs.Check.{plus, add_front}
-use Rattle.rtcm_bits.proofs.BitLemmas.{number-uint}
+use Rattle.rtcm_bits.specs.BitLaws.{number-uint}
 
 -- a number is spelled by its bits
 pub number_of-uint : (w n : ℕ) → n < 2 ^ w → number (uint w n) ≡ n

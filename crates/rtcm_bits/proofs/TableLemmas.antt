@@ -9,7 +9,7 @@ use Rattle.rtcm_bits.specs.Bits.{uint, number_from, bits_of}
 use Rattle.rtcm_bits.specs.Check.{plus, add_front, generator, remainder, bits_remainder, check}
 use Rattle.rtcm_bits.specs.Register.{after_bits}
 use Rattle.rtcm_bits.specs.declared.tables.TheConstants.{TABLES}
-use Rattle.rtcm_bits.proofs.BitLemmas.{length-uint}
+use Rattle.rtcm_bits.specs.BitLaws.{length-uint}
 use Rattle.rtcm_bits.proofs.RegisterBits.{uint-xor, uint-split}
 use Rattle.rtcm_bits.proofs.CheckLemmas.{divide_all, length-add_front, add_front_to_zeros, zeros_to_front, add_front_assoc, length-generator}
 use Rattle.rtcm_bits.proofs.ResidueLemmas.{add_front-append, add_front-same}

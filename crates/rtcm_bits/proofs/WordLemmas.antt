@@ -5,7 +5,8 @@ use Rattle.std.proofs.lemmas.Nat.{field_of, shl-shr, shr-shr}
 use Rattle.std.proofs.lemmas.List.{take-take, drop-take, drop-drop, length-take-le, get_or-take, get_or-drop}
 use Rattle.std.proofs.Math.Seq.{take-append_seam, drop-append_seam}
 use Rattle.rtcm_bits.specs.Bits.{uint, number, number_from, bits_of}
-use Rattle.rtcm_bits.proofs.BitLemmas.{length-bits_of, bits_of-append, number-uint, number-append, uint-number}
+use Rattle.rtcm_bits.specs.BitLaws.{length-bits_of, bits_of-append, number-uint, uint-number}
+use Rattle.rtcm_bits.proofs.BitLemmas.{number-append}
 use Rattle.rtcm_bits.proofs.PartLemmas.{part-uint}
 use Rattle.rtcm_bits.proofs.ListLemmas.{eight_of}
 

@@ -3,7 +3,8 @@ use Rattle.std.proofs.Common.{◌≡◌, ℕ, ◌+◌, ◌-◌, ◌*◌, ◌/◌
 use Rattle.std.proofs.Math.Nat.{pow-le-pow_right, mod-eq_of_lt, mod-lt}
 use Rattle.std.proofs.lemmas.Nat.{one_shl, pow-add, div-add-mod', pow_pos}
 use Rattle.rtcm_bits.specs.Bits.{uint, bits_of}
-use Rattle.rtcm_bits.proofs.BitLemmas.{length-uint, length-whole, bits_of-push}
+use Rattle.rtcm_bits.specs.BitLaws.{length-uint}
+use Rattle.rtcm_bits.proofs.BitLemmas.{length-whole, bits_of-push}
 use Rattle.rtcm_bits.proofs.RegisterBits.{uint-split, uint-mod}
 
 -- a part behind the k bits of the byte begun

@@ -1,4 +1,6 @@
 pub mod Bits
+pub mod BitLaws
+pub mod Prefix
 pub mod Reading
 pub mod Check
 pub mod Register

@@ -4,7 +4,7 @@ use Rattle.std.specs.Prelude.{IsErrOf}
 use Rattle.std.specs.Io.KnownBytes.{Appends, Keeps}
 use Rattle.std.proofs.KnownBytes.{Appends-trans, Appends-nil, Appends-kept}
 use Rattle.rtcm_bits.specs.Device.{AppendsPrefix}
-use Rattle.rtcm_scan.specs.Known.{IsPrefix}
+use Rattle.rtcm_bits.specs.Prefix.{IsPrefix}
 use Rattle.rtcm_convert.specs.Fed.{GoesOn, BreaksOff}
 
 pub on_err : {A E : Type 0} (r : Result A E) (P : Type 0) → P → OnErr r P

@@ -4,7 +4,7 @@ use Rattle.std.proofs.lemmas.Bool.{cases_lt}
 use Rattle.std.proofs.Math.Seq.{take-add, take-append_seam, take-length}
 use Rattle.std.specs.Io.KnownBytes.{Keeps}
 use Rattle.rtcm_scan.specs.Decided.{decided_frames}
-use Rattle.rtcm_scan.specs.Known.{IsPrefix}
+use Rattle.rtcm_bits.specs.Prefix.{IsPrefix}
 use Rattle.rtcm_scan.specs.Scan.{Scan}
 use Rattle.rtcm_convert.specs.Converted.{Settings, so_far}
 use Rattle.rtcm_convert.specs.Laws.{WrittenGrows}

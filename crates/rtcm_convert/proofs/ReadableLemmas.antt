@@ -9,7 +9,8 @@ use Rattle.rtcm_msg.specs.Spelling.{IsMessage}
 use Rattle.rtcm_msg.specs.Reading.{message_at}
 use Rattle.obs_epoch.specs.Values.{PlanValue, Closed, satellites}
 use Rattle.obs_epoch.specs.Heard.{Heard, heard}
-use Rattle.obs_epoch.specs.Gathering.{IsPrefix, all_epochs, closed_epochs}
+use Rattle.rtcm_bits.specs.Prefix.{IsPrefix}
+use Rattle.obs_epoch.specs.Gathering.{all_epochs, closed_epochs}
 use Rattle.obs_epoch.specs.Laws.{ClosedComeFirst}
 use Rattle.obs_epoch.specs.Reach.{IsHeard, IsGatheredEpoch, TimesRise, AreGatheredEpochs, MessagesAreHeard, EpochsAreGathered}
 use Rattle.rinex_file.specs.Texts.{HeaderLists}

@@ -4,7 +4,7 @@ use Rattle.std.specs.Prelude.{option_to_list}
 use Rattle.std.specs.Io.KnownBytes.{Appends}
 use Rattle.std.proofs.lemmas.Bool.{cases_Bool}
 use Rattle.rtcm_bits.specs.Device.{AppendsPrefix}
-use Rattle.rtcm_scan.specs.Known.{IsPrefix}
+use Rattle.rtcm_bits.specs.Prefix.{IsPrefix}
 use Rattle.obs_epoch.specs.declared.taken.Kind.{Kind}
 use Rattle.obs_epoch.specs.Values.{Closed}
 use Rattle.obs_epoch.specs.Heard.{Setup, Heard}

@@ -2,7 +2,8 @@
 use Rattle.std.proofs.Common.{◌≡◌, ℕ, List, [], ◌∷◌, ◌++◌, Bool, false, sym, ap, subst, ◌∙◌, Option}
 use Rattle.rtcm_scan.specs.Frames.{Framed}
 use Rattle.rtcm_scan.specs.Decided.{decided_frames}
-use Rattle.rtcm_scan.specs.Known.{IsPrefix, known_frames}
+use Rattle.rtcm_bits.specs.Prefix.{IsPrefix}
+use Rattle.rtcm_scan.specs.Known.{known_frames}
 use Rattle.rtcm_scan.specs.Scan.{Scan, StandsFor}
 use Rattle.rtcm_scan.specs.Drained.{IsDrained}
 use Rattle.rtcm_scan.specs.Examined.{HasExamined, IsCounted, IsCountedTo}

@@ -6,7 +6,7 @@ use Rattle.std.proofs.Math.Nat.{div-eq_of_lt}
 use Rattle.std.proofs.lemmas.Nat.{shr_high, shr-shr, div-add-mod', mod_below, pow_pos}
 use Rattle.rtcm_bits.specs.Bits.{uint}
 use Rattle.rtcm_bits.specs.Reading.{Cursor}
-use Rattle.rtcm_msg.specs.BitLaws.{uint-low}
+use Rattle.rtcm_bits.specs.BitLaws.{uint-low}
 use Rattle.rtcm_msg.specs.Fields.{number_at}
 use Rattle.rtcm_msg.specs.Packed.{total, columns}
 use Rattle.rtcm_msg.specs.Columns.{column_at, columns_at, EachBelow}

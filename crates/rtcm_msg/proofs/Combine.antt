@@ -3,7 +3,7 @@ use Rattle.std.proofs.Common.{ℕ, ◌≡◌, ◌+◌, ◌*◌, ◌%◌, ◌^◌
 use Rattle.std.proofs.lemmas.Nat.{mod_low}
 use Rattle.rtcm_bits.specs.Bits.{uint, number}
 use Rattle.rtcm_bits.specs.Reading.{Cursor}
-use Rattle.rtcm_msg.specs.BitLaws.{length-uint, number-uint}
+use Rattle.rtcm_bits.specs.BitLaws.{length-uint, number-uint}
 use Rattle.rtcm_msg.specs.declared.fault.MsgFault.{MsgFault}
 use Rattle.rtcm_msg.specs.Fields.{number_at, ◌>>=◌, first_past}
 use Rattle.rtcm_msg.proofs.Binds.{number_there}

@@ -3,7 +3,7 @@ use Rattle.std.proofs.Common.{ℕ, zero, suc, ◌≡◌, ◌+◌, ◌%◌, ◌==
 use Rattle.std.proofs.lemmas.Bool.{cases_eq}
 use Rattle.std.proofs.Math.Nat.{mod-eq_of_lt}
 use Rattle.rtcm_bits.specs.Bits.{uint, number}
-use Rattle.rtcm_msg.specs.BitLaws.{length-uint, uint-number, number-uint, number-fits}
+use Rattle.rtcm_bits.specs.BitLaws.{length-uint, uint-number, number-uint, number-fits}
 use Rattle.rtcm_msg.specs.Entries.{up_from, ids, Rising}
 
 pub weaken : (low more high : ℕ) (xs : List ℕ) → low ≤ more → Rising more high xs → Rising low high xs

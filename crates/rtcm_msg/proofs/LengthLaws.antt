@@ -3,7 +3,7 @@ use Rattle.std.proofs.Common.{ℕ, ◌≡◌, ◌+◌, ◌*◌, ◌/◌, ◌^◌
 use Rattle.std.specs.List.{flat_map}
 use Rattle.std.proofs.lemmas.Nat.{mul-le, ones-le}
 use Rattle.rtcm_bits.specs.Bits.{uint}
-use Rattle.rtcm_msg.specs.BitLaws.{length-uint}
+use Rattle.rtcm_bits.specs.BitLaws.{length-uint}
 use Rattle.rtcm_msg.specs.declared.message.Message.{Message}
 use Rattle.rtcm_msg.specs.Fields.{spelled, width_of}
 use Rattle.rtcm_msg.specs.Packed.{total, columns}

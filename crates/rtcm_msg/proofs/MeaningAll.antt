@@ -4,7 +4,7 @@ use Rattle.std.specs.List.{flat_map, zip, enumerate_from}
 use Rattle.std.proofs.lemmas.List.{length-map}
 use Rattle.std.proofs.lemmas.Nat.{pow_pos}
 use Rattle.rtcm_bits.specs.Bits.{uint, number}
-use Rattle.rtcm_msg.specs.BitLaws.{uint-number, number-fits}
+use Rattle.rtcm_bits.specs.BitLaws.{uint-number, number-fits}
 use Rattle.rtcm_msg.specs.declared.seats.Seat.{Seat}
 use Rattle.rtcm_msg.specs.Msm.{MsmValue, Sets, AreSets, IsValue, pairs}
 use Rattle.rtcm_msg.specs.Entries.{ids, chosen, seat, all_pairs, seats, Rising}

@@ -9,7 +9,7 @@ use Rattle.std.specs.List.{flat_map, enumerate_from}
 use Rattle.rtcm_msg.specs.declared.seats.Seat.{Seat}
 use Rattle.rtcm_msg.specs.Msm.{Sets, AreSets, pairs}
 use Rattle.rtcm_bits.specs.Bits.{uint}
-use Rattle.rtcm_msg.specs.BitLaws.{length-uint, mod-suc}
+use Rattle.rtcm_bits.specs.BitLaws.{length-uint, mod-suc}
 use Rattle.rtcm_msg.specs.Entries.{up_from, ids, chosen, seat, all_pairs, seats}
 
 -- ---- how many IDs

@@ -7,7 +7,7 @@ use Rattle.std.proofs.Math.Nat.{div-eq_of_lt}
 use Rattle.rtcm_bits.specs.Bits.{uint, odd}
 use Rattle.rtcm_msg.specs.declared.seats.Seat.{Seat}
 use Rattle.rtcm_msg.specs.declared.seats.Pairs.{Pairs}
-use Rattle.rtcm_msg.specs.BitLaws.{uint-low, pow_mono, length-uint}
+use Rattle.rtcm_bits.specs.BitLaws.{uint-low, pow_mono, length-uint}
 use Rattle.rtcm_msg.specs.Entries.{up_from, ids, seat, chosen}
 use Rattle.rtcm_msg.specs.Msm.{Sets, AreSets, pairs}
 use Rattle.rtcm_msg.specs.Walks.{rows, pairs_from, pairs_left, IsWalking, ArePlaced}

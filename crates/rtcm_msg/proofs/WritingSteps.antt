@@ -4,7 +4,7 @@ use Rattle.std.proofs.Math.Seq.{drop-cons}
 use Rattle.std.proofs.lemmas.Nat.{one_shl, div-add-mod'}
 use Rattle.std.specs.List.{flat_map}
 use Rattle.rtcm_bits.specs.Bits.{uint}
-use Rattle.rtcm_msg.specs.BitLaws.{uint-low}
+use Rattle.rtcm_bits.specs.BitLaws.{uint-low}
 use Rattle.rtcm_msg.specs.Fields.{spelled, width_of}
 use Rattle.rtcm_msg.specs.Packed.{columns, total}
 

@@ -3,7 +3,7 @@ use Rattle.std.proofs.Common.{ℕ, ◌≡◌, ◌+◌, ◌*◌, ◌/◌, ◌%◌
 use Rattle.std.proofs.lemmas.Nat.{mod-pow-add, shr_high, pow-add, pow_pos, mod_below}
 use Rattle.std.proofs.Math.Nat.{add-mul-div_right, add-mul-mod_self_right, mod-eq_of_lt, mul_assoc}
 use Rattle.rtcm_bits.specs.Bits.{bit, FitsInt}
-use Rattle.rtcm_msg.specs.BitLaws.{raw_fits, raw-signed, signed-raw, signed-fits}
+use Rattle.rtcm_bits.specs.BitLaws.{raw_fits, raw-signed, signed-raw, signed-fits}
 use Rattle.rtcm_msg.specs.Layout.{Kind, Uint, Int, Flag, Reserved, Table, width, widths, Content, Contents, number_of, content}
 use Rattle.rtcm_msg.specs.Packed.{total, packed, unpacked}
 

@@ -4,7 +4,8 @@ use Rattle.std.proofs.lemmas.Bool.{cases_Bool, cases_lt}
 use Rattle.rtcm_scan.specs.Frame.{begins_frame, is_open}
 use Rattle.rtcm_scan.specs.Frames.{Framed, IsFrameOf, end_of, frames_of, frames_from, framed_at}
 use Rattle.rtcm_scan.specs.Decided.{decided, decided_frames, frames_before}
-use Rattle.rtcm_scan.specs.Known.{IsPrefix, known_frames}
+use Rattle.rtcm_bits.specs.Prefix.{IsPrefix}
+use Rattle.rtcm_scan.specs.Known.{known_frames}
 use Rattle.rtcm_scan.specs.Scan.{AllPassed, Scanned}
 use Rattle.rtcm_scan.proofs.ScanLemmas.{scanned_none, scanned_le, scanned_longer, frame_within}
 use Rattle.rtcm_scan.proofs.DecidedLemmas.{decided_is, decided_frames_are, frames_split}

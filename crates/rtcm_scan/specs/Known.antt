@@ -1,11 +1,7 @@
 -- What is known of a stream: all of it once it has ended, and what its bytes decide before.
-use Rattle.std.specs.Prelude.{◌≡◌, ℕ, Bool, true, false, List, ◌++◌, length}
+use Rattle.std.specs.Prelude.{ℕ, Bool, true, false, List, length}
 use Rattle.rtcm_scan.specs.Frames.{Framed, frames_of}
 use Rattle.rtcm_scan.specs.Decided.{decided, decided_frames}
-
--- the list begins with this one
-abbrev pub IsPrefix : {A : Type 0} → List A → List A → Type 0
-IsPrefix {A} xs ys = (rest : List A) × (ys ≡ xs ++ rest)
 
 -- the place up to which the bytes b are known
 abbrev pub known_place : Bool → List ℕ → ℕ

@@ -1,7 +1,8 @@
 //! Laws of frames.
 ghost use Rattle.std.specs.Prelude.{◌≡◌, ◌+◌, ◌*◌, ◌≤◌, ◌++◌, List, ℕ, [], length};
 ghost use Rattle.rtcm_scan.specs.Decided.{decided, decided_frames};
-ghost use Rattle.rtcm_scan.specs.Known.{IsPrefix, known_frames};
+ghost use Rattle.rtcm_bits.specs.Prefix.{IsPrefix};
+ghost use Rattle.rtcm_scan.specs.Known.{known_frames};
 ghost use Rattle.rtcm_scan.specs.Scan.{Scan, StandsFor};
 ghost use Rattle.std.specs.List.{All, flat_map};
 ghost use Rattle.rtcm_bits.specs.FrameOf.{frame_bytes};

@@ -1,7 +1,7 @@
 use Rattle.std.proofs.Common.{◌≡◌, ◌-◌, arith, drop}
 use Rattle.std.proofs.lemmas.List.{length-drop}
 use Rattle.rtcm_bits.specs.Bits.{bits_of}
-use Rattle.rtcm_bits.proofs.BitLemmas.{length-bits_of, number-take-fits}
+use Rattle.rtcm_bits.specs.BitLaws.{length-bits_of, number-take-fits}
 use Rattle.rtcm_bits.proofs.PartLemmas.{nothing_read, next_part}
 use Rattle.rtcm_bits.proofs.reader.number_by_bytes.Goals as goal
 

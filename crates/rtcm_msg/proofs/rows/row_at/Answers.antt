@@ -1,6 +1,6 @@
 use Rattle.std.proofs.Common.{ℕ, ◌≡◌, ◌+◌, ◌*◌, ◌-◌, ◌^◌, ◌<◌, ◌≤◌, arith, sym, ◌∙◌, get_or, drop}
 use Rattle.rtcm_msg.specs.Packed.{total}
-use Rattle.rtcm_msg.specs.BitLaws.{pow_mono}
+use Rattle.rtcm_bits.specs.BitLaws.{pow_mono}
 use Rattle.rtcm_msg.proofs.ColumnSteps.{column_room, total-drop}
 use Rattle.rtcm_msg.proofs.RowLaws.{row_step, row_over, row_room}
 use Rattle.rtcm_msg.proofs.rows.row_at.Goals as goal

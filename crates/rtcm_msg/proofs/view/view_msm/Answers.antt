@@ -2,7 +2,7 @@ use Rattle.std.proofs.Common.{ℕ, ◌≡◌, ◌*◌, ◌≤◌, length, count_
 use Rattle.std.proofs.lemmas.Nat.{ones-le}
 use Rattle.std.proofs.lemmas.Result.{err_from_is_err_and}
 use Rattle.rtcm_bits.specs.Bits.{bits_of}
-use Rattle.rtcm_msg.specs.BitLaws.{length-bits_of}
+use Rattle.rtcm_bits.specs.BitLaws.{length-bits_of}
 use Rattle.rtcm_msg.specs.Msm.{Sets, AreSets, pairs}
 use Rattle.rtcm_msg.specs.Views.{satellite_widths, cell_widths}
 use Rattle.rtcm_msg.proofs.ViewLaws.{stood, moved, first_short, second_short, found, Found, laid}

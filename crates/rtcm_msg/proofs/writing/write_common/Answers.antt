@@ -1,7 +1,7 @@
 use Rattle.std.proofs.Common.{◌≡◌, refl, rules, ap, ◌∙◌, FitsSigned, w64}
 use Rattle.std.proofs.lemmas.Int.{to_z-of_z}
 use Rattle.rtcm_bits.specs.Bits.{raw}
-use Rattle.rtcm_msg.specs.BitLaws.{byte-bit}
+use Rattle.rtcm_bits.specs.BitLaws.{byte-bit}
 use Rattle.rtcm_msg.proofs.writing.write_common.Goals as goal
 
 pub returns-clause-bits : goal.returns-clause-bits

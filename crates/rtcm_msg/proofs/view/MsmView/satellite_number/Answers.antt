@@ -1,5 +1,5 @@
 use Rattle.std.proofs.Common.{ℕ, List, ◌≡◌, ◌^◌, ◌<◌, ◌≤◌, ◌∙◌, ap, arith, length, slice_index, Fits, w64}
-use Rattle.rtcm_msg.specs.BitLaws.{pow_mono}
+use Rattle.rtcm_bits.specs.BitLaws.{pow_mono}
 use Rattle.rtcm_msg.specs.Packed.{total}
 use Rattle.rtcm_msg.specs.Views.{FormedMsm, satellite_widths}
 use Rattle.rtcm_msg.proofs.ViewLaws.{row_value, rows_counted}

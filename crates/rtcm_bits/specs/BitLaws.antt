@@ -59,7 +59,7 @@ number-fits (b ∷ bits) = rw (number-split bits (2 * 0 + bit b), pow-double (le
     step : (t p r : ℕ) → t < 2 → r < p → (2 * 0 + t) * p + r < 2 * p
     step t p r s f = grind arith
 
-cons2 : {x y : Bool} {xs ys : List Bool} → x ≡ y → xs ≡ ys → (x ∷ xs) ≡ (y ∷ ys)
+pub cons2 : {x y : Bool} {xs ys : List Bool} → x ≡ y → xs ≡ ys → (x ∷ xs) ≡ (y ∷ ys)
 cons2 e f = cc
 
 -- only the low bits count
@@ -118,7 +118,7 @@ half (suc w) h = let e : suc w - 1 ≡ w = omega arith in rw e (omega arith)
 signed_low : (v w : ℕ) → v < 2 ^ (w - 1) → signed w v ≡ pos v
 signed_low v w h = grind arith
 
-signed_high : (v w : ℕ) → 2 ^ (w - 1) ≤ v → signed w v ≡ negsuc (2 ^ w - (v + 1))
+pub signed_high : (v w : ℕ) → 2 ^ (w - 1) ≤ v → signed w v ≡ negsuc (2 ^ w - (v + 1))
 signed_high v w h = grind arith
 
 pub raw_fits : (z : ℤ) (w : ℕ) → 0 < w → FitsInt w z → raw w z < 2 ^ w
