@@ -7,7 +7,15 @@ pub record LockTime : Type 0 where
   pub least : Option ℕ
   pub upper : Option ℕ
 
--- the least time of an indicator of MSM4 (DF402): 0, and from 1 to 15 twice the one before, from 32
+-- the last indicator of MSM4 (DF402)
+abbrev pub last4 : ℕ
+last4 = 15
+
+-- the last indicator of MSM7 (DF407) that tells a time: those above it are an unknown lock
+abbrev pub last7 : ℕ
+last7 = 704
+
+-- the least time of an indicator of MSM4: 0, and from 1 on twice the one before, from 32
 abbrev pub least4 : ℕ → ℕ
 least4 i = if i == 0 then 0 else 2 ^ (i + 4)
 
@@ -15,25 +23,25 @@ least4 i = if i == 0 then 0 else 2 ^ (i + 4)
 abbrev pub times4 : ℕ → LockTime
 times4 i = record {
   least = Some (least4 i);
-  upper = if i == 15 then None else Some (least4 (i + 1));
+  upper = if i == last4 then None else Some (least4 (i + 1));
 }
 
--- how often the least time's unit has doubled at an indicator of MSM7 (DF407)
+-- how often the least time's unit has doubled at an indicator of MSM7
 abbrev pub doublings : ℕ → ℕ
 doublings i = i / 32 - 1
 
--- the least time of an indicator of MSM7, from 0 to 704
+-- the least time of an indicator of MSM7, from 0 to the last that tells one
 abbrev pub least7 : ℕ → ℕ
 least7 i = (i - 32 * doublings i) * 2 ^ doublings i
 
--- the upper time is the next indicator's least; 704 has none, and 705 to 1023 are an unknown lock
+-- the upper time is the next indicator's least; the last one has none, and none above it is known
 abbrev pub times7 : ℕ → LockTime
 times7 i =
-    if nat_lt 704 i
+    if nat_lt last7 i
     then record { least = None; upper = None }
     else record {
       least = Some (least7 i);
-      upper = if i == 704 then None else Some (least7 (i + 1));
+      upper = if i == last7 then None else Some (least7 (i + 1));
     }
 
 -- lock was lost between two times of a phase, so many milliseconds apart: both lock times are known, and the later

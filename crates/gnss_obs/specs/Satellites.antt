@@ -8,10 +8,20 @@ pub record Satellite : Type 0 where
   pub system : System
   pub id : ℕ
 
--- how many satellites a system has
+-- how many satellites each system has
+abbrev pub gps_satellites : ℕ
+gps_satellites = 32
+
+abbrev pub galileo_satellites : ℕ
+galileo_satellites = 36
+
 abbrev pub satellites : System → ℕ
-satellites Gps = 32
-satellites Galileo = 36
+satellites Gps = gps_satellites
+satellites Galileo = galileo_satellites
+
+-- no system has more
+abbrev pub most_satellites : ℕ
+most_satellites = galileo_satellites
 
 -- they are numbered from 1
 abbrev pub IsSatellite : Satellite → Type 0

@@ -12,6 +12,21 @@ abbrev pub table : System → List Entry
 table Gps = gps_signals
 table Galileo = galileo_signals
 
+-- how many signals each table has
+abbrev pub gps_signal_count : ℕ
+gps_signal_count = 15
+
+abbrev pub galileo_signal_count : ℕ
+galileo_signal_count = 19
+
+abbrev pub signal_count : System → ℕ
+signal_count Gps = gps_signal_count
+signal_count Galileo = galileo_signal_count
+
+-- no table has more
+abbrev pub most_signals : ℕ
+most_signals = galileo_signal_count
+
 -- a signal: its place in the table of its system, from 0
 pub record SignalAt : Type 0 where
   pub system : System
@@ -43,6 +58,10 @@ signal_of_id system id = signal_where system (λ e. e.0 == id)
 -- the signal of a code
 abbrev pub signal_of_code : System → List ℕ → Option SignalAt
 signal_of_code system code = signal_where system (λ e. bytes_eq e.1 code)
+
+-- the signal mask, DF395, has a bit for each ID
+abbrev pub signal_mask_bits : ℕ
+signal_mask_bits = 32
 
 -- the ID of a signal
 abbrev pub id_of : SignalAt → ℕ

@@ -1,9 +1,9 @@
 //! Laws of the definitions, each the contract of a function without a body.
 ghost use Rattle.std.specs.Prelude.{◌≡◌, ◌+◌, ◌*◌, ◌^◌, ◌<◌, ◌≤◌, ◌≤ℤ◌, ℕ, ℤ, pos, unsigned_abs, Some};
-ghost use Rattle.gnss_obs.specs.LockTimes.{least4, least7};
+ghost use Rattle.gnss_obs.specs.LockTimes.{last4, last7, least4, least7};
 ghost use Rattle.gnss_obs.specs.Rounding.{IsNearest, nearest};
 ghost use Rattle.gnss_obs.specs.Observables.{metres, cycles, shift, decibels};
-ghost use Rattle.gnss_obs.specs.Signals.{SignalAt, IsSignal, behind, id_of, code_of, hertz_of, signal_of_id, signal_of_code};
+ghost use Rattle.gnss_obs.specs.Signals.{SignalAt, IsSignal, signal_mask_bits, behind, id_of, code_of, hertz_of, signal_of_id, signal_of_code};
 
 /// There is exactly one nearest whole number, and it is the one that `nearest` computes.
 pub fn one_nearest()
@@ -11,28 +11,31 @@ pub fn one_nearest()
     ensures one { (a : ℤ) (q : ℕ) (t u : ℤ) → 0 < q → IsNearest a q t → IsNearest a q u → t ≡ u }
 {}
 
-/// The rules of both signal tables: the IDs are bits of the signal mask and rise, and each listed signal is read back
-/// from its ID and from its code, so that no two signals of a system share either.
+/// The rules of both signal tables: the IDs are bits of the signal mask and rise, and each listed
+/// signal is read back from its ID and from its code, so that no two signals of a system share
+/// either.
 pub fn signal_tables()
-    ensures ids { (s : SignalAt) → IsSignal s → (1 ≤ id_of s) × (id_of s ≤ 32) }
+    ensures ids { (s : SignalAt) → IsSignal s → (1 ≤ id_of s) × (id_of s ≤ signal_mask_bits) }
     ensures rising { (s : SignalAt) → IsSignal (behind s) → id_of s < id_of (behind s) }
     ensures id_reads_back { (s : SignalAt) → IsSignal s → signal_of_id s.system (id_of s) ≡ Some s }
     ensures code_reads_back { (s : SignalAt) → IsSignal s → signal_of_code s.system (code_of s) ≡ Some s }
 {}
 
-/// The rules of the lock time indicators: the least times rise with the indicator, so that each upper time is above its
-/// least. Those of DF407 count milliseconds up to 64, and from then on each further 32 indicators double the time.
+/// The rules of the lock time indicators: the least times rise with the indicator, so that each
+/// upper time is above its least. Those of DF407 count milliseconds up to 64, and from then on each
+/// further 32 indicators double the time.
 pub fn lock_times()
-    ensures rising4 { (i : ℕ) → i < 15 → least4 i < least4 (i + 1) }
-    ensures rising7 { (i : ℕ) → i < 704 → least7 i < least7 (i + 1) }
+    ensures rising4 { (i : ℕ) → i < last4 → least4 i < least4 (i + 1) }
+    ensures rising7 { (i : ℕ) → i < last7 → least7 i < least7 (i + 1) }
     ensures counts7 { (i : ℕ) → i ≤ 64 → least7 i ≡ i }
-    ensures doubles7 { (i : ℕ) → 32 ≤ i → i + 32 ≤ 704 → least7 (i + 32) ≡ 2 * least7 i }
+    ensures doubles7 { (i : ℕ) → 32 ≤ i → i + 32 ≤ last7 → least7 (i + 32) ≡ 2 * least7 i }
 {}
 
-/// How large the values of a message are: below 10^12 thousandths in size, and a strength from 1 to 99,999.
+/// How large the values of a message are: below 10^12 thousandths in size, and a strength from 1 to
+/// 99,999.
 pub fn sizes()
     ensures metres { (r : ℤ) → unsigned_abs r ≤ 2 ^ 40 → unsigned_abs (metres r) < 10 ^ 12 }
     ensures cycles { (s : SignalAt) (p : ℤ) → unsigned_abs p ≤ 2 ^ 40 → unsigned_abs (cycles (hertz_of s) p) < 10 ^ 12 }
     ensures shift { (s : SignalAt) (v : ℤ) → unsigned_abs v ≤ 10 ^ 8 → unsigned_abs (shift (hertz_of s) v) < 10 ^ 12 }
-    ensures decibels { (s : ℕ) → 0 < s → s < 1024 → (pos 1 ≤ℤ decibels s) × (decibels s ≤ℤ pos 99_999) }
+    ensures decibels { (s : ℕ) → 0 < s → s < 2 ^ 10 → (pos 1 ≤ℤ decibels s) × (decibels s ≤ℤ pos 99_999) }
 {}

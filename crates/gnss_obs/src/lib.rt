@@ -1,4 +1,5 @@
-//! Satellites, signals, and the values that a RINEX file holds of them: pseudorange, phase, Doppler, strength and lock.
+//! Satellites, signals, and the values that a RINEX file holds of them: pseudorange, phase,
+//! Doppler, strength and lock.
 #![tactic(auto)]
 
 pub mod laws;
@@ -17,5 +18,6 @@ pub use lock::{Lock, is_lost};
 pub use observables::{doppler, phase, pseudorange, strength, strength_digit};
 pub use satellite::Sat;
 pub use signal::Signal;
-pub use system::System;
+pub use system::{GALILEO_SATELLITES, GPS_SATELLITES, System};
+pub use tables::{GALILEO_SIGNAL_COUNT, GPS_SIGNAL_COUNT};
 pub use thousandths::Thousandths;

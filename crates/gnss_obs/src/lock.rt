@@ -1,11 +1,17 @@
 ghost use Rattle.std.specs.Prelude.{◌≡◌, ◌^◌, ◌<◌, ◌≤◌, ◌↔◌, IsTrue};
-ghost use Rattle.gnss_obs.specs.LockTimes.{LockTime, IsLost, times4, times7, lost};
+ghost use Rattle.gnss_obs.specs.LockTimes.{LockTime, IsLost, last4, last7, times4, times7, lost};
 ghost use Rattle.gnss_obs.specs.LockTimes as LockTimes;
 
 use std::marker::Model;
 
-/// How long a receiver has tracked a phase without a break, as a lock time indicator tells it: at least so many
-/// milliseconds, and less than so many.
+/// The last indicator DF402.
+const LAST_DF402: u8 = 15;
+
+/// The last indicator DF407 that tells a time.
+const LAST_DF407: u16 = 704;
+
+/// How long a receiver has tracked a phase without a break, as a lock time indicator tells it: at
+/// least so many milliseconds, and less than so many.
 #[derive(Clone, Copy, Debug, PartialEq, Eq)]
 pub struct Lock {
     least: Option<u32>,
@@ -22,7 +28,7 @@ impl Model for Lock {
 
 /// The least time of an indicator DF402, in milliseconds.
 fn least4(code: u8) -> u32
-    requires { code < 16 }
+    requires { code ≤ last4 }
     ensures { result ≡ LockTimes.least4 code }
 {
     if code == 0 { 0 } else { 1 << (code + 4) }
@@ -30,7 +36,7 @@ fn least4(code: u8) -> u32
 
 /// The least time of an indicator DF407 that is known, in milliseconds.
 fn least7(code: u16) -> u32
-    requires { code ≤ 704 }
+    requires { code ≤ last7 }
     ensures { result ≡ LockTimes.least7 code }
 {
     let k = (code / 32).saturating_sub(1);
@@ -40,12 +46,12 @@ fn least7(code: u16) -> u32
 impl Lock {
     /// The lock of an indicator of MSM4, DF402.
     pub fn from_df402(code: u8) -> Lock
-        requires { code < 16 }
+        requires { code ≤ last4 }
         ensures { result ≡ times4 code }
     {
         Lock {
             least: Some(least4(code)),
-            upper: if code == 15 {
+            upper: if code == LAST_DF402 {
                 None
             } else {
                 Some(least4(code + 1))
@@ -55,10 +61,10 @@ impl Lock {
 
     /// The lock of an indicator of MSM7, DF407. From 705 on it is unknown.
     pub fn from_df407(code: u16) -> Lock
-        requires { code < 1024 }
+        requires { code < 2 ^ 10 }
         ensures { result ≡ times7 code }
     {
-        if code > 704 {
+        if code > LAST_DF407 {
             return Lock {
                 least: None,
                 upper: None,
@@ -66,7 +72,7 @@ impl Lock {
         }
         Lock {
             least: Some(least7(code)),
-            upper: if code == 704 {
+            upper: if code == LAST_DF407 {
                 None
             } else {
                 Some(least7(code + 1))
@@ -89,8 +95,9 @@ impl Lock {
     }
 }
 
-/// Was lock lost between two times, `elapsed` milliseconds apart? It was where the later lock has lasted less long than
-/// the earlier one, or is known to be no older than the time between. Where either is unknown nothing is known of a loss.
+/// Was lock lost between two times, `elapsed` milliseconds apart? It was where the later lock has
+/// lasted less long than the earlier one, or is known to be no older than the time between. Where
+/// either is unknown nothing is known of a loss.
 pub fn is_lost(then: Lock, now: Lock, elapsed: u64) -> bool
     ensures lost { IsTrue result ↔ IsLost then now elapsed }
     ensures value { result ≡ lost then.least now.least now.upper elapsed }

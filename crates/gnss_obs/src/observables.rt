@@ -1,6 +1,6 @@
-ghost use Rattle.std.specs.Prelude.{◌≡◌, ◌*◌, ◌^◌, ◌<◌, ◌≤◌, ◌*ℤ◌, ◌-ℤ◌, ◌≤ℤ◌, ◌<ℤ◌, unsigned_abs, ℤ, ℕ, pos, IfSome};
+ghost use Rattle.std.specs.Prelude.{◌≡◌, ◌*◌, ◌^◌, ◌<◌, ◌≤◌, ◌*ℤ◌, ◌-ℤ◌, ◌≤ℤ◌, ◌<ℤ◌, unsigned_abs, pos, IfSome};
 ghost use Rattle.std.specs.Option.{option_map, ForSome};
-ghost use Rattle.gnss_obs.specs.Rounding.{IsNearest, IsRounded};
+ghost use Rattle.gnss_obs.specs.Rounding.{IsRounded};
 ghost use Rattle.gnss_obs.specs.Observables.{light, metres, cycles, shift, decibels, digit};
 ghost use Rattle.gnss_obs.specs.Signals.{hertz_of};
 
@@ -23,7 +23,8 @@ pub fn pseudorange(range: Option<i64>) -> Option<Thousandths>
     }
 }
 
-/// The carrier phase in cycles, of a phase range in units of 2^-31 ms. There is none without a phase range.
+/// The carrier phase in cycles, of a phase range in units of 2^-31 ms. There is none without a
+/// phase range.
 pub fn phase(phase: Option<i64>, signal: Signal) -> Option<Thousandths>
     requires { ForSome phase (λ p. unsigned_abs p ≤ 2 ^ 40) }
     ensures rounded { IsRounded (λ p. p *ℤ pos (hertz_of signal)) (2 ^ 31) phase result }
@@ -39,8 +40,8 @@ pub fn phase(phase: Option<i64>, signal: Signal) -> Option<Thousandths>
     }
 }
 
-/// The Doppler shift in hertz, of a phase range rate in 0.0001 m/s: positive where the satellite comes nearer, so
-/// where the rate is negative. There is none without a rate.
+/// The Doppler shift in hertz, of a phase range rate in 0.0001 m/s: positive where the satellite
+/// comes nearer, so where the rate is negative. There is none without a rate.
 pub fn doppler(rate: Option<i32>, signal: Signal) -> Option<Thousandths>
     requires { ForSome rate (λ v. unsigned_abs v ≤ 10 ^ 8) }
     ensures rounded { IsRounded (λ v. pos 0 -ℤ (v *ℤ pos (hertz_of signal))) (10 * light) rate result }
@@ -71,7 +72,8 @@ pub fn strength(strength: Option<u16>) -> Option<Thousandths>
     }
 }
 
-/// The digit that stands for a strength in dB-Hz, from 1 for the weakest to 9: whole steps of 6 dB-Hz.
+/// The digit that stands for a strength in dB-Hz, from 1 for the weakest to 9: whole steps of 6
+/// dB-Hz.
 pub fn strength_digit(strength: Thousandths) -> u8
     ensures { result ≡ digit strength }
 {

@@ -4,7 +4,8 @@ ghost use Rattle.gnss_obs.specs.Satellites.{Satellite, IsSatellite, satellites, 
 use crate::System;
 use std::marker::Model;
 
-/// A satellite: GPS 1 to 32, Galileo 1 to 36. GPS comes first, and within a system the lower number.
+/// A satellite: GPS 1 to 32, Galileo 1 to 36. GPS comes first, and within a system the lower
+/// number.
 #[derive(Clone, Copy, Debug, PartialEq, Eq, Hash, PartialOrd, Ord)]
 pub struct Sat {
     system: System,
@@ -22,8 +23,8 @@ impl Model for Sat {
 }
 
 impl Sat {
-    /// The satellite of this number, or `None` where the system has none. The number is that of RINEX, and the
-    /// satellite ID of the mask DF394.
+    /// The satellite of this number, or `None` where the system has none. The number is that of
+    /// RINEX, and the satellite ID of the mask DF394.
     pub fn new(system: System, id: u8) -> Option<Sat>
         ensures value { result ≡ satellite_at system id }
         ensures listed { IsSome result ↔ ((1 ≤ id) × (id ≤ satellites system)) }

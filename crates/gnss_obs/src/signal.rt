@@ -49,7 +49,8 @@ fn place_of_code(entries: &[Entry], code: &[u8]) -> Option<usize>
     entries.iter().position(|e| e.1.as_slice() == code)
 }
 
-/// The carrier of a band, by the digit that its codes begin with, in hertz. It is 0 where the system has no such band.
+/// The carrier of a band, by the digit that its codes begin with, in hertz. It is 0 where the
+/// system has no such band.
 fn carrier(system: System, digit: u8) -> u32
     ensures value { result ≡ carrier_of (carriers system) (digit - 48) }
     ensures bound { result ≤ 1575420000 }
@@ -73,7 +74,8 @@ fn carrier(system: System, digit: u8) -> u32
 }
 
 impl Signal {
-    /// The signal of a signal ID, the bit of the signal mask DF395 counted from 1, or `None` where the table has none.
+    /// The signal of a signal ID, the bit of the signal mask DF395 counted from 1, or `None` where
+    /// the table has none.
     pub fn from_id(system: System, id: u8) -> Option<Signal>
         ensures { result ≡ signal_of_id system id }
     {
@@ -123,8 +125,8 @@ impl Signal {
         self.system
     }
 
-    /// The place in the table of the system, from 0: by rising signal ID, GPS `1C` 0 to `1X` 14, Galileo `1C` 0 to
-    /// `5X` 18.
+    /// The place in the table of the system, from 0: by rising signal ID, GPS `1C` 0 to `1X` 14,
+    /// Galileo `1C` 0 to `5X` 18.
     pub fn index(self) -> usize
         ensures value { result ≡ self.index }
         ensures listed { IsSignal self }

@@ -1,12 +1,20 @@
-//! The signals of each system: RTCM 10403.3's signal mask (DF395) beside RINEX 3.05's observation codes.
+//! The signals of each system: RTCM 10403.3's signal mask (DF395) beside RINEX 3.05's observation
+//! codes.
 
-/// A line of a table: the signal ID, which is the bit of the signal mask DF395 that stands for the signal, counted
-/// from 1; and the RINEX code in ASCII, the digit of the band and the letter of the attribute.
+/// A line of a table: the signal ID, which is the bit of the signal mask DF395 that stands for the
+/// signal, counted from 1; and the RINEX code in ASCII, the digit of the band and the letter of the
+/// attribute.
 #[derive(Clone, Copy, Debug, PartialEq, Eq)]
 pub struct Entry(pub u8, pub [u8; 2]);
 
+/// How many signals the table of GPS has.
+pub const GPS_SIGNAL_COUNT: usize = 15;
+
+/// How many signals the table of Galileo has.
+pub const GALILEO_SIGNAL_COUNT: usize = 19;
+
 /// The GPS signals, by rising ID.
-pub const GPS_SIGNALS: [Entry; 15] = [
+pub const GPS_SIGNALS: [Entry; GPS_SIGNAL_COUNT] = [
     // L1, 1575.42 MHz
     Entry(2, *b"1C"),
     Entry(3, *b"1P"),
@@ -29,7 +37,7 @@ pub const GPS_SIGNALS: [Entry; 15] = [
 ];
 
 /// The Galileo signals, by rising ID.
-pub const GALILEO_SIGNALS: [Entry; 19] = [
+pub const GALILEO_SIGNALS: [Entry; GALILEO_SIGNAL_COUNT] = [
     // E1, 1575.42 MHz
     Entry(2, *b"1C"),
     Entry(3, *b"1A"),

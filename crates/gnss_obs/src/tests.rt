@@ -73,7 +73,8 @@ fn lists_signals(rt: HostRuntime) {
     );
 }
 
-/// The 32 places of the signal mask DF395, in order, empty where none of the signals read has its place.
+/// The 32 places of the signal mask DF395, in order, empty where none of the signals read has its
+/// place.
 #[test]
 fn fills_the_signal_masks(rt: HostRuntime) {
     let gps = [

@@ -2,7 +2,8 @@ ghost use Rattle.std.specs.Prelude.{◌≡◌, ℤ};
 
 use std::marker::Model;
 
-/// A whole number of thousandths, of the unit of the value that it stands for: metres, cycles, hertz or dB-Hz.
+/// A whole number of thousandths, of the unit of the value that it stands for: metres, cycles,
+/// hertz or dB-Hz.
 #[derive(Clone, Copy, Debug, PartialEq, Eq, Hash, PartialOrd, Ord)]
 pub struct Thousandths {
     value: i64,

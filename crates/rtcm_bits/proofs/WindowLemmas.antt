@@ -1,8 +1,9 @@
 -- What a window's calls do to its rings, as a contract sees them.
-use Rattle.std.proofs.Common.{◌≡◌, ℕ, ◌+◌, ◌-◌, ◌<◌, ◌≤◌, min, List, [], ◌∷◌, ◌++◌, length, take, drop, replicate, slice_range, refl, sym, ap, ◌∙◌, get_or, arith, suc, zero, length-append, length-drop, ⊎_elim}
+use Rattle.std.proofs.Common.{◌≡◌, ℕ, ◌+◌, ◌*◌, ◌-◌, ◌<◌, ◌≤◌, min, List, [], ◌∷◌, ◌++◌, length, take, drop, replicate, slice_range, refl, sym, ap, ◌∙◌, get_or, arith, suc, zero, length-append, length-drop, ⊎_elim}
 use Rattle.std.proofs.lemmas.Bool.{cases_lt}
 use Rattle.std.proofs.lemmas.List.{take-append-le, drop-append-le, append-nil, take_rest, take_all, drop_all, get_or_default, length-replicate}
 use Rattle.std.proofs.Math.Seq.{take-append-add, drop-append-add}
+use Rattle.rtcm_bits.specs.FrameOf.{longest_frame}
 use Rattle.rtcm_bits.specs.Window.{Held, held_of, counts_alone, looked_through, pushed_all}
 use Rattle.std.specs.List.{All, refill}
 use Rattle.std.proofs.lemmas.List.Elements.{All-append, All-push, All-nil}
@@ -83,7 +84,7 @@ abbrev pub AreBytes : List ℕ → Type 0
 AreBytes xs = All (λ (b : ℕ). b < 256) xs
 
 abbrev pub InStep : Buffer ℕ → Buffer ℕ → Type 0
-InStep b c = (b.capacity ≡ 1029) × (c.capacity ≡ 8232) × (length b.items ≤ 1029) × (length c.items ≡ length b.items) × AreBytes b.items
+InStep b c = (b.capacity ≡ longest_frame) × (c.capacity ≡ 8 * longest_frame) × (length b.items ≤ longest_frame) × (length c.items ≡ length b.items) × AreBytes b.items
 
 pub one_byte : (b : ℕ) → b < 256 → AreBytes (b ∷ [])
 one_byte b h = All-push (λ (b : ℕ). b < 256) [] b (All-nil (λ (b : ℕ). b < 256)) h
@@ -92,7 +93,7 @@ pub are_bytes : (xs : List ℕ) → ((i : ℕ) → get_or xs i 0 < 256) → AreB
 are_bytes xs h = λ k d l. let e : get_or xs k d ≡ get_or xs k 0 = get_or_default xs k d 0 l in rw e (h k)
 
 -- both rings after a push
-pub in_step : (b b' c c' : Buffer ℕ) (more zeros : List ℕ) → InStep b c → AreBytes more → length zeros ≡ length more → length b.items + length more ≤ 1029
+pub in_step : (b b' c c' : Buffer ℕ) (more zeros : List ℕ) → InStep b c → AreBytes more → length zeros ≡ length more → length b.items + length more ≤ longest_frame
     → b' ≡ buffer (keep_last b.capacity (b.items ++ more)) b.capacity → c' ≡ buffer (keep_last c.capacity (c.items ++ zeros)) c.capacity → InStep b' c'
 in_step b b' c c' more zeros i a z h e f =
     let x : b' ≡ buffer (b.items ++ more) b.capacity = kept b b' more (omega (arith, h, i.0)) e in
@@ -100,7 +101,7 @@ in_step b b' c c' more zeros i a z h e f =
     rw (x, y) (i.0, i.1, omega (arith, h, length-append b.items more), omega (arith, z, i.3, length-append b.items more, length-append c.items zeros), All-append (λ (b : ℕ). b < 256) b.items more i.4 a)
 
 -- what a contract sees of it
-pub view_pushed : (b b' c c' : Buffer ℕ) (more : List ℕ) (e m : ℕ) → InStep b c → length b.items + length more ≤ 1029
+pub view_pushed : (b b' c c' : Buffer ℕ) (more : List ℕ) (e m : ℕ) → InStep b c → length b.items + length more ≤ longest_frame
     → b' ≡ buffer (keep_last b.capacity (b.items ++ more)) b.capacity → c' ≡ buffer (keep_last c.capacity (c.items ++ replicate (length more) 0)) c.capacity
     → held_of b'.items c'.items e m ≡ pushed_all (held_of b.items c.items e m) more
 view_pushed b b' c c' more e m i h p q =

@@ -1,5 +1,5 @@
-//! The check of a frame, CRC-24Q (RTCM 10403.3, transport layer): the generator is 0x1864CFB, the register begins at 0,
-//! the most significant bit goes first, and nothing is changed at the end.
+//! The check of a frame, CRC-24Q (RTCM 10403.3, transport layer): the generator is 0x1864CFB, the
+//! register begins at 0, the most significant bit goes first, and nothing is changed at the end.
 ghost use Rattle.std.specs.Prelude.{◌≡◌, ◌^◌, ◌<◌, List, ℕ, [], ◌∷◌, ◌++◌, length};
 ghost use Rattle.rtcm_bits.specs.Bits.{uint, bits_of};
 ghost use Rattle.rtcm_bits.specs.Check.{check};
@@ -91,7 +91,8 @@ fn after_each(register: u32, bytes: &[u8]) -> u32
     after
 }
 
-/// The register after eight bytes. It is added to the first three, and then each byte gives its part by a table of its own.
+/// The register after eight bytes. It is added to the first three, and then each byte gives its
+/// part by a table of its own.
 fn after_eight(register: u32, bytes: &[u8]) -> u32
     requires below { register < 2 ^ 24 }
     requires eight { length bytes.now ≡ 8 }

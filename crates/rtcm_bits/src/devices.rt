@@ -1,4 +1,5 @@
-//! Readers and writers for tests: over memory, with short reads, short writes and failures at stated places.
+//! Readers and writers for tests: over memory, with short reads, short writes and failures at
+//! stated places.
 ghost use Rattle.std.specs.Prelude.{◌≡◌, ◌<◌, Some, IfOk};
 
 use std::io;
@@ -24,8 +25,9 @@ pub struct PieceReader<'a> {
 }
 
 impl<'a> PieceReader<'a> {
-    /// A reader of these bytes in pieces of these sizes, of which the last is repeated. With no size all bytes are one
-    /// piece. A size of 0 counts as 1, since a read that gives nothing is the end.
+    /// A reader of these bytes in pieces of these sizes, of which the last is repeated. With no
+    /// size all bytes are one piece. A size of 0 counts as 1, since a read that gives nothing is
+    /// the end.
     pub fn new(bytes: &'a [u8], sizes: &'a [usize], end: ReadEnd) -> PieceReader<'a> {
         PieceReader {
             rest: bytes,
@@ -101,7 +103,8 @@ pub struct ShortWriter<W> {
 }
 
 impl<W> ShortWriter<W> {
-    /// A writer that hands at most `most` bytes a write on to `inner`, `total` in all, and then ends so.
+    /// A writer that hands at most `most` bytes a write on to `inner`, `total` in all, and then
+    /// ends so.
     pub fn new(inner: W, most: usize, total: usize, end: WriteEnd) -> ShortWriter<W> {
         ShortWriter {
             inner,

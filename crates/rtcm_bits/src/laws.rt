@@ -1,4 +1,5 @@
-//! Laws of the words that contracts cite: bits and the numbers that they spell, two's complement, the check.
+//! Laws of the words that contracts cite: bits and the numbers that they spell, two's complement,
+//! the check.
 ghost use Rattle.std.specs.Prelude.{◌≡◌, ◌+◌, ◌*◌, ◌%◌, ◌^◌, ◌<◌, ◌↔◌, ℕ, ℤ, Bool, List, [], ◌∷◌, ◌++◌, length};
 ghost use Rattle.rtcm_bits.specs.Bits.{uint, number, bits_of, signed, raw, FitsInt};
 ghost use Rattle.rtcm_bits.specs.Check.{check};
@@ -26,7 +27,8 @@ pub fn complement()
     ensures fits { (w n : ℕ) → 0 < w → n < 2 ^ w → FitsInt w (signed w n) }
 {}
 
-/// Bytes and three more behind them have the check 0 exactly where the three are the check of the bytes before them.
+/// Bytes and three more behind them have the check 0 exactly where the three are the check of the
+/// bytes before them.
 pub fn residue()
     ensures { (bytes : List ℕ) (x y z : ℕ) → x < 256 → y < 256 → z < 256
         → ((check (bytes ++ x ∷ y ∷ z ∷ []) ≡ 0) ↔ (x * 65536 + y * 256 + z ≡ check bytes)) }

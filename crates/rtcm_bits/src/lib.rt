@@ -18,7 +18,7 @@ mod writer;
 pub use check::{CheckRegister, crc24q};
 pub use complement::{raw_of, signed_of};
 pub use counted::{Counted, DeviceFailed};
-pub use framing::frame_of;
+pub use framing::{LONGEST_FRAME, LONGEST_MESSAGE, frame_of};
 pub use reader::{BitReader, number_at};
 pub use window::Window;
 pub use writer::BitWriter;

@@ -1,11 +1,13 @@
 //! Looks at the bytes of a window.
 ghost use Rattle.std.specs.Prelude.{◌≡◌, ◌≢◌, ◌+◌, ◌<◌, ◌≤◌, ◌++◌, ℕ, length, slice_index, slice_range, max};
+ghost use Rattle.rtcm_bits.specs.FrameOf.{longest_frame};
 ghost use Rattle.rtcm_bits.specs.Window.{looked_through, counts_alone};
 
+use crate::framing::LONGEST_FRAME;
 use circular_buffer::HeapCircularBuffer;
 
-/// Adds one look to each of the n counts from start on, up to 65,535, and answers the greatest of them and of the count
-/// that was the greatest.
+/// Adds one look to each of the n counts from start on, up to 65,535, and answers the greatest of
+/// them and of the count that was the greatest.
 pub(crate) fn look_at_each(counts: &mut [u16], start: usize, n: usize, greatest: u16) -> u16
     requires { start + n ≤ length counts.old }
     ensures counts { counts.new ≡ (looked_through (counts_alone counts.old greatest) start n).looks }
@@ -20,11 +22,11 @@ pub(crate) fn look_at_each(counts: &mut [u16], start: usize, n: usize, greatest:
     most
 }
 
-/// Sees that the counts lie in one slice, for `make_contiguous` moves wrapped items one by one and leaves them at the end of
-/// the room, where the next ones wrap round again.
+/// Sees that the counts lie in one slice, for `make_contiguous` moves wrapped items one by one and
+/// leaves them at the end of the room, where the next ones wrap round again.
 pub(crate) fn unwrap_counts(counts: &mut HeapCircularBuffer<u16>)
-    requires few { length counts.old.items ≤ 1029 }
-    requires room { 1029 ≤ counts.old.capacity }
+    requires few { length counts.old.items ≤ longest_frame }
+    requires room { longest_frame ≤ counts.old.capacity }
     ensures { counts.new ≡ counts.old }
 {
     let (_, wrapped) = counts.as_slices();
@@ -36,11 +38,11 @@ pub(crate) fn unwrap_counts(counts: &mut HeapCircularBuffer<u16>)
 /// As `move_through`, with room of its own, which most looks needn't make.
 #[inline(never)]
 fn begin_anew(counts: &mut HeapCircularBuffer<u16>)
-    requires few { length counts.old.items ≤ 1029 }
-    requires room { 1029 ≤ counts.old.capacity }
+    requires few { length counts.old.items ≤ longest_frame }
+    requires room { longest_frame ≤ counts.old.capacity }
     ensures { counts.new ≡ counts.old }
 {
-    let mut spare = [0; 1029];
+    let mut spare = [0; LONGEST_FRAME];
     move_through(counts, &mut spare);
 }
 
@@ -54,8 +56,8 @@ fn move_through(counts: &mut HeapCircularBuffer<u16>, spare: &mut [u16])
     counts.extend_from_slice(&spare[..n]);
 }
 
-/// Raises the greatest count where this one is above it. It stores nothing otherwise, so that a look needn't wait for
-/// the look before it.
+/// Raises the greatest count where this one is above it. It stores nothing otherwise, so that a
+/// look needn't wait for the look before it.
 pub(crate) fn raise(greatest: &mut u16, looks: u16)
     ensures { greatest.new ≡ max greatest.old looks }
 {

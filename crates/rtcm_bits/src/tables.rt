@@ -2,7 +2,8 @@
 ghost use Rattle.std.specs.Prelude.{◌≡◌, ◌^◌, ◌<◌, ◌∷◌, replicate};
 ghost use Rattle.rtcm_bits.specs.Check.{check};
 
-/// Eight tables, one behind the other: the checks of each byte with none to seven bytes of 0 behind it.
+/// Eight tables, one behind the other: the checks of each byte with none to seven bytes of 0 behind
+/// it.
 const TABLES: [u32; 2048] = [
     0x000000, 0x864CFB, 0x8AD50D, 0x0C99F6, 0x93E6E1, 0x15AA1A, 0x1933EC, 0x9F7F17, 0xA18139,
     0x27CDC2, 0x2B5434, 0xAD18CF, 0x3267D8, 0xB42B23, 0xB8B2D5, 0x3EFE2E, 0xC54E89, 0x430272,

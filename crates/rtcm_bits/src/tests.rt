@@ -1,4 +1,5 @@
-//! What no clause says: published vectors, that a call can succeed, and what fails on the way to a device.
+//! What no clause says: published vectors, that a call can succeed, and what fails on the way to a
+//! device.
 
 use crate::devices::{PieceReader, ReadEnd, ShortWriter, WriteEnd};
 use crate::{BitReader, BitWriter, CheckRegister, Counted, Window, crc24q, frame_of};

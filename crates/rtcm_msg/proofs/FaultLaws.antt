@@ -11,7 +11,7 @@ use Rattle.rtcm_msg.specs.Packed.{total}
 use Rattle.rtcm_msg.specs.Columns.{column_at, columns_at}
 use Rattle.rtcm_msg.specs.Spelling.{repeated}
 use Rattle.rtcm_msg.specs.Msm.{time_table, header_table, mask_table, header_of, header_at, sets_at, msm_at, week, MsmValue, Sets, pairs}
-use Rattle.rtcm_msg.proofs.FieldLaws.{contents_at, fields_at, standing, part, number_there_at, ShortAt, short_at_more, short_at_behind, fields_read, past_none, past_through}
+use Rattle.rtcm_msg.proofs.FieldLaws.{contents_at, fields_at, standing, field_at, number_there_at, ShortAt, short_at_more, short_at_behind, fields_read, past_none, past_through}
 use Rattle.rtcm_msg.proofs.Binds.{number_short, ok_inj}
 use Rattle.rtcm_msg.proofs.Combine.{past_here, past_next, ok_err}
 use Rattle.rtcm_msg.proofs.MsmLaws.{head_widths, tail_widths, mask_widths, header_chain, header_rest_is, in_time, too_late, sets_chain, few_rest, many_rest}
@@ -35,7 +35,7 @@ column_read w (p ∷ ps) bits place h = elim (cases_lt (length bits) (place + w)
       let here = number_there_at w bits place there in
       elim (column_read w ps bits (place + w) there) [
         | inl rest ↦ inl (rest.0, rw (here, rest.1) refl, record { first = rest.2.first; is = rest.2.is; past = past_next w (replicate (length ps) w) (length bits) place there ∙ rest.2.past })
-        | inr rest ↦ inr ((p * 2 ^ w + part bits place w) ∷ rest.0, rw (here, rest.1, one_more place w (length ps)) refl, ap suc rest.2, rw (one_more place w (length ps)) at rest.3)
+        | inr rest ↦ inr ((p * 2 ^ w + field_at bits place w) ∷ rest.0, rw (here, rest.1, one_more place w (length ps)) refl, ap suc rest.2, rw (one_more place w (length ps)) at rest.3)
       ]
 ]
 
@@ -79,38 +79,38 @@ columns_read (w ∷ ws) count ps bits place len h = elim (column_read w ps bits 
 -- the widths behind the message number
 abbrev pub msm_widths : List ℕ → List ℕ → List Bool → List ℕ
 msm_widths sw cw bits =
-    let width = pairs (part bits 73 64) (part bits 137 32) in
-    12 ∷ 30 ∷ 1 ∷ 3 ∷ 7 ∷ 2 ∷ 2 ∷ 1 ∷ 3 ∷ 64 ∷ 32 ∷ width ∷ (repeated (count_ones (part bits 73 64)) sw ++ repeated (count_ones (part bits 169 width)) cw)
+    let width = pairs (field_at bits 73 64) (field_at bits 137 32) in
+    12 ∷ 30 ∷ 1 ∷ 3 ∷ 7 ∷ 2 ∷ 2 ∷ 1 ∷ 3 ∷ 64 ∷ 32 ∷ width ∷ (repeated (count_ones (field_at bits 73 64)) sw ++ repeated (count_ones (field_at bits 169 width)) cw)
 
 abbrev pub pairs_of : List Bool → ℕ
-pairs_of bits = pairs (part bits 73 64) (part bits 137 32)
+pairs_of bits = pairs (field_at bits 73 64) (field_at bits 137 32)
 
 -- how the reading ends
 pub data MsmEnd (sw cw : List ℕ) (g : Bool) (bits : List Bool) : Type 0 where
   no_time : (e : MsgFault) → length bits < 54 → ShortAt bits 12 (msm_widths sw cw bits) e → msm_at sw cw g (standing bits 12) ≡ Err e → MsmEnd sw cw g bits
-  late : 54 ≤ length bits → week ≤ part bits 24 30 → msm_at sw cw g (standing bits 12) ≡ Err BadTime → MsmEnd sw cw g bits
-  no_masks : (e : MsgFault) → part bits 24 30 < week → length bits < 169 → ShortAt bits 12 (msm_widths sw cw bits) e → msm_at sw cw g (standing bits 12) ≡ Err e → MsmEnd sw cw g bits
-  many : part bits 24 30 < week → 169 ≤ length bits → 64 < pairs_of bits → msm_at sw cw g (standing bits 12) ≡ Err TooManyCells → MsmEnd sw cw g bits
-  short : (e : MsgFault) → part bits 24 30 < week → pairs_of bits ≤ 64 → ShortAt bits 12 (msm_widths sw cw bits) e → msm_at sw cw g (standing bits 12) ≡ Err e → MsmEnd sw cw g bits
-  good : (v : MsmValue × Cursor) → part bits 24 30 < week → pairs_of bits ≤ 64 → first_past (length bits) 12 (msm_widths sw cw bits) ≡ None → msm_at sw cw g (standing bits 12) ≡ Ok v → MsmEnd sw cw g bits
+  late : 54 ≤ length bits → week ≤ field_at bits 24 30 → msm_at sw cw g (standing bits 12) ≡ Err BadTime → MsmEnd sw cw g bits
+  no_masks : (e : MsgFault) → field_at bits 24 30 < week → length bits < 169 → ShortAt bits 12 (msm_widths sw cw bits) e → msm_at sw cw g (standing bits 12) ≡ Err e → MsmEnd sw cw g bits
+  many : field_at bits 24 30 < week → 169 ≤ length bits → 64 < pairs_of bits → msm_at sw cw g (standing bits 12) ≡ Err TooManyCells → MsmEnd sw cw g bits
+  short : (e : MsgFault) → field_at bits 24 30 < week → pairs_of bits ≤ 64 → ShortAt bits 12 (msm_widths sw cw bits) e → msm_at sw cw g (standing bits 12) ≡ Err e → MsmEnd sw cw g bits
+  good : (v : MsmValue × Cursor) → field_at bits 24 30 < week → pairs_of bits ≤ 64 → first_past (length bits) 12 (msm_widths sw cw bits) ≡ None → msm_at sw cw g (standing bits 12) ≡ Ok v → MsmEnd sw cw g bits
 
 -- by the header
 data HeaderEnd (bits : List Bool) : Type 0 where
   no_time : (e : MsgFault) → length bits < 54 → ShortAt bits 12 head_widths e → header_at (standing bits 12) ≡ Err e → HeaderEnd bits
-  late : 54 ≤ length bits → week ≤ part bits 24 30 → header_at (standing bits 12) ≡ Err BadTime → HeaderEnd bits
-  short : (e : MsgFault) → part bits 24 30 < week → length bits < 73 → ShortAt bits 12 (head_widths ++ tail_widths) e → header_at (standing bits 12) ≡ Err e → HeaderEnd bits
-  good : (v : MsmHeader) → part bits 24 30 < week → 73 ≤ length bits → header_at (standing bits 12) ≡ Ok (v, standing bits 73) → HeaderEnd bits
+  late : 54 ≤ length bits → week ≤ field_at bits 24 30 → header_at (standing bits 12) ≡ Err BadTime → HeaderEnd bits
+  short : (e : MsgFault) → field_at bits 24 30 < week → length bits < 73 → ShortAt bits 12 (head_widths ++ tail_widths) e → header_at (standing bits 12) ≡ Err e → HeaderEnd bits
+  good : (v : MsmHeader) → field_at bits 24 30 < week → 73 ≤ length bits → header_at (standing bits 12) ≡ Ok (v, standing bits 73) → HeaderEnd bits
 
 header_end : (bits : List Bool) → 12 ≤ length bits → HeaderEnd bits
 header_end bits h = elim (fields_read time_table bits 12 h) [
   | inl few ↦ no_time few.1.0 few.0 few.1.2 (header_chain (standing bits 12) ∙ rw few.1.1 refl)
-  | inr there ↦ elim (cases_lt (part bits 24 30) week) [
-    | inr over ↦ late there.0 over (header_chain (standing bits 12) ∙ rw (there.1, too_late (part bits 24 30) (standing bits 54) over) refl)
+  | inr there ↦ elim (cases_lt (field_at bits 24 30) week) [
+    | inr over ↦ late there.0 over (header_chain (standing bits 12) ∙ rw (there.1, too_late (field_at bits 24 30) (standing bits 54) over) refl)
     | inl early ↦
-        let chain : header_at (standing bits 12) ≡ (fields_at header_table (standing bits 54) >>= λ m. Ok (header_of (part bits 12 12) (part bits 24 30) m.0, m.1)) = header_chain (standing bits 12) ∙ rw (there.1, in_time (part bits 24 30) (standing bits 54) early, header_rest_is (part bits 12 12) (part bits 24 30) (standing bits 54)) refl in
+        let chain : header_at (standing bits 12) ≡ (fields_at header_table (standing bits 54) >>= λ m. Ok (header_of (field_at bits 12 12) (field_at bits 24 30) m.0, m.1)) = header_chain (standing bits 12) ∙ rw (there.1, in_time (field_at bits 24 30) (standing bits 54) early, header_rest_is (field_at bits 12 12) (field_at bits 24 30) (standing bits 54)) refl in
         elim (fields_read header_table bits 54 there.0) [
           | inl few ↦ short few.1.0 early few.0 (short_at_behind head_widths tail_widths bits 12 few.1.0 there.0 few.1.2) (chain ∙ rw few.1.1 refl)
-          | inr all ↦ good (header_of (part bits 12 12) (part bits 24 30) (contents_at header_table bits 54)) early all.0 (chain ∙ rw all.1 refl)
+          | inr all ↦ good (header_of (field_at bits 12 12) (field_at bits 24 30) (contents_at header_table bits 54)) early all.0 (chain ∙ rw all.1 refl)
         ]
   ]
 ]
@@ -120,7 +120,7 @@ data SetsEnd (bits : List Bool) : Type 0 where
   no_masks : (e : MsgFault) → length bits < 169 → ShortAt bits 73 mask_widths e → sets_at (standing bits 73) ≡ Err e → SetsEnd bits
   many : 169 ≤ length bits → 64 < pairs_of bits → sets_at (standing bits 73) ≡ Err TooManyCells → SetsEnd bits
   short : (e : MsgFault) → pairs_of bits ≤ 64 → ShortAt bits 73 (64 ∷ 32 ∷ pairs_of bits ∷ []) e → sets_at (standing bits 73) ≡ Err e → SetsEnd bits
-  good : pairs_of bits ≤ 64 → 169 + pairs_of bits ≤ length bits → sets_at (standing bits 73) ≡ Ok (record { satellites = part bits 73 64; signals = part bits 137 32; cells = part bits 169 (pairs_of bits) }, standing bits (169 + pairs_of bits)) → SetsEnd bits
+  good : pairs_of bits ≤ 64 → 169 + pairs_of bits ≤ length bits → sets_at (standing bits 73) ≡ Ok (record { satellites = field_at bits 73 64; signals = field_at bits 137 32; cells = field_at bits 169 (pairs_of bits) }, standing bits (169 + pairs_of bits)) → SetsEnd bits
 
 sets_end : (bits : List Bool) → 73 ≤ length bits → SetsEnd bits
 sets_end bits h = elim (fields_read mask_table bits 73 h) [
@@ -129,9 +129,9 @@ sets_end bits h = elim (fields_read mask_table bits 73 h) [
       let p = pairs_of bits in
       let c = standing bits 169 in
       elim (cases_lt 64 p) [
-        | inl over ↦ many there.0 over (sets_chain (standing bits 73) ∙ rw (there.1, many_rest (part bits 73 64) (part bits 137 32) c over) refl)
+        | inl over ↦ many there.0 over (sets_chain (standing bits 73) ∙ rw (there.1, many_rest (field_at bits 73 64) (field_at bits 137 32) c over) refl)
         | inr few ↦
-            let chain : sets_at (standing bits 73) ≡ (number_at p c >>= λ cells. Ok (record { satellites = part bits 73 64; signals = part bits 137 32; cells = cells.0 }, cells.1)) = sets_chain (standing bits 73) ∙ rw (there.1, few_rest (part bits 73 64) (part bits 137 32) c few) refl in
+            let chain : sets_at (standing bits 73) ≡ (number_at p c >>= λ cells. Ok (record { satellites = field_at bits 73 64; signals = field_at bits 137 32; cells = cells.0 }, cells.1)) = sets_chain (standing bits 73) ∙ rw (there.1, few_rest (field_at bits 73 64) (field_at bits 137 32) c few) refl in
             elim (cases_lt (length bits) (169 + p)) [
               | inl less ↦ short (Short 169) few (short_at_behind mask_widths (p ∷ []) bits 73 (Short 169) there.0 (record { first = 169; is = refl; past = past_here p [] (length bits) 169 less })) (chain ∙ rw (number_short p c (omega (arith, length-drop 169 bits))) refl)
               | inr all ↦ good few all (chain ∙ rw (number_there_at p bits 169 all) refl)
@@ -209,21 +209,21 @@ msm_end sw cw g bits h = by_header (header_end bits h)
     p = pairs_of bits
 
     data_widths : List ℕ
-    data_widths = repeated (count_ones (part bits 73 64)) sw ++ repeated (count_ones (part bits 169 p)) cw
+    data_widths = repeated (count_ones (field_at bits 73 64)) sw ++ repeated (count_ones (field_at bits 169 p)) cw
 
-    by_data : (v : MsmHeader) → part bits 24 30 < week → header_at (standing bits 12) ≡ Ok (v, standing bits 73) → 73 ≤ length bits → p ≤ 64 → 169 + p ≤ length bits
-        → sets_at (standing bits 73) ≡ Ok (record { satellites = part bits 73 64; signals = part bits 137 32; cells = part bits 169 p }, standing bits (169 + p)) → DataEnd sw cw (count_ones (part bits 73 64)) (count_ones (part bits 169 p)) bits (169 + p) → MsmEnd sw cw g bits
+    by_data : (v : MsmHeader) → field_at bits 24 30 < week → header_at (standing bits 12) ≡ Ok (v, standing bits 73) → 73 ≤ length bits → p ≤ 64 → 169 + p ≤ length bits
+        → sets_at (standing bits 73) ≡ Ok (record { satellites = field_at bits 73 64; signals = field_at bits 137 32; cells = field_at bits 169 p }, standing bits (169 + p)) → DataEnd sw cw (count_ones (field_at bits 73 64)) (count_ones (field_at bits 169 p)) bits (169 + p) → MsmEnd sw cw g bits
     by_data v early header room few there sets (short e s is) = short e early few (short_at_behind (header_widths ++ (64 ∷ 32 ∷ p ∷ [])) data_widths bits 12 e (long p there) (rw (place p) s))
-        (rw (header, sets) (is (λ s c. Ok (record { is_galileo = g; header = v; sets = record { satellites = part bits 73 64; signals = part bits 137 32; cells = part bits 169 p }; satellites = s; cells = c.0 }, c.1))))
-    by_data v early header room few there sets (good s c all is) = good (record { is_galileo = g; header = v; sets = record { satellites = part bits 73 64; signals = part bits 137 32; cells = part bits 169 p }; satellites = s; cells = c.0 }, c.1) early few
+        (rw (header, sets) (is (λ s c. Ok (record { is_galileo = g; header = v; sets = record { satellites = field_at bits 73 64; signals = field_at bits 137 32; cells = field_at bits 169 p }; satellites = s; cells = c.0 }, c.1))))
+    by_data v early header room few there sets (good s c all is) = good (record { is_galileo = g; header = v; sets = record { satellites = field_at bits 73 64; signals = field_at bits 137 32; cells = field_at bits 169 p }; satellites = s; cells = c.0 }, c.1) early few
         (past_through (header_widths ++ (64 ∷ 32 ∷ p ∷ [])) data_widths (length bits) 12 (long p there) ∙ past_none data_widths (length bits) (12 + total (header_widths ++ (64 ∷ 32 ∷ p ∷ []))) (rw (place p) all))
-        (rw (header, sets) (is (λ s c. Ok (record { is_galileo = g; header = v; sets = record { satellites = part bits 73 64; signals = part bits 137 32; cells = part bits 169 p }; satellites = s; cells = c.0 }, c.1))))
+        (rw (header, sets) (is (λ s c. Ok (record { is_galileo = g; header = v; sets = record { satellites = field_at bits 73 64; signals = field_at bits 137 32; cells = field_at bits 169 p }; satellites = s; cells = c.0 }, c.1))))
 
-    by_sets : (v : MsmHeader) → part bits 24 30 < week → header_at (standing bits 12) ≡ Ok (v, standing bits 73) → 73 ≤ length bits → SetsEnd bits → MsmEnd sw cw g bits
+    by_sets : (v : MsmHeader) → field_at bits 24 30 < week → header_at (standing bits 12) ≡ Ok (v, standing bits 73) → 73 ≤ length bits → SetsEnd bits → MsmEnd sw cw g bits
     by_sets v early header room (no_masks e few s is) = no_masks e early few (short_at_behind header_widths (mask_widths ++ (p ∷ data_widths)) bits 12 e room (short_at_more mask_widths (p ∷ data_widths) bits 73 e s)) (rw (header, is) refl)
     by_sets v early header room (many there over is) = many early there over (rw (header, is) refl)
     by_sets v early header room (short e few s is) = short e early few (short_at_behind header_widths ((64 ∷ 32 ∷ p ∷ []) ++ data_widths) bits 12 e room (short_at_more (64 ∷ 32 ∷ p ∷ []) data_widths bits 73 e s)) (rw (header, is) refl)
-    by_sets v early header room (good few there is) = by_data v early header room few there is (data_end sw cw (count_ones (part bits 73 64)) (count_ones (part bits 169 p)) bits (169 + p) there)
+    by_sets v early header room (good few there is) = by_data v early header room few there is (data_end sw cw (count_ones (field_at bits 73 64)) (count_ones (field_at bits 169 p)) bits (169 + p) there)
 
     by_header : HeaderEnd bits → MsmEnd sw cw g bits
     by_header (no_time e few s is) = no_time e few (short_at_more head_widths (tail_widths ++ (mask_widths ++ (p ∷ data_widths))) bits 12 e s) (rw is refl)

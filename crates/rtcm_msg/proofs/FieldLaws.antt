@@ -9,7 +9,7 @@ use Rattle.rtcm_bits.specs.Reading.{Cursor, after, unsigned_at}
 use Rattle.rtcm_msg.specs.declared.fault.MsgFault.{MsgFault}
 use Rattle.rtcm_msg.specs.declared.fault.MsgFault.TheVariants.{Short}
 use Rattle.rtcm_msg.specs.Fields.{number_at, ◌>>=◌, spelled, first_past, reading}
-pub use Rattle.rtcm_msg.specs.Fields.{standing, part}
+pub use Rattle.rtcm_msg.specs.Fields.{standing, field_at}
 use Rattle.rtcm_msg.specs.Packed.{total}
 use Rattle.rtcm_msg.proofs.Binds.{ok_inj, number_there, number_short, took_at}
 use Rattle.rtcm_msg.proofs.Combine.{past_here, past_next, cursor, number_again, ok_err, bind_bind}
@@ -120,12 +120,12 @@ past_none (w ∷ ws) len place h = past_next w ws len place (omega arith) ∙ pa
 
 abbrev pub contents_at : (t : Table) → List Bool → ℕ → Contents t
 contents_at [] bits place = tt
-contents_at (f ∷ fs) bits place = (content f.1 (part bits place (width f.1)), contents_at fs bits (place + width f.1))
+contents_at (f ∷ fs) bits place = (content f.1 (field_at bits place (width f.1)), contents_at fs bits (place + width f.1))
 
 pub step_on : (w : ℕ) (bits : List Bool) (place : ℕ) → after (standing bits place) w ≡ standing bits (place + w)
 step_on w bits place = ap (cursor (place + w)) (drop-drop w place bits)
 
-pub number_there_at : (w : ℕ) (bits : List Bool) (place : ℕ) → place + w ≤ length bits → number_at w (standing bits place) ≡ Ok (part bits place w, standing bits (place + w))
+pub number_there_at : (w : ℕ) (bits : List Bool) (place : ℕ) → place + w ≤ length bits → number_at w (standing bits place) ≡ Ok (field_at bits place w, standing bits (place + w))
 number_there_at w bits place h = number_there w (standing bits place) (omega (arith, length-drop place bits)) ∙ rw (step_on w bits place) refl
 
 -- the first of these fields that does not end within the bits

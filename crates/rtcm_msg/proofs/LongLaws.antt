@@ -11,8 +11,8 @@ use Rattle.rtcm_msg.specs.declared.message.Message.{Message}
 use Rattle.rtcm_msg.specs.Fields.{first_past}
 use Rattle.rtcm_msg.specs.Packed.{total}
 use Rattle.rtcm_msg.specs.Reading.{message_of, message_at}
-use Rattle.rtcm_msg.specs.Spelling.{Reads, IsFault, is_msm, is_read, number_of, set_of, layout, layout_of, has_bad_time, has_too_many, field_at, repeated}
-use Rattle.rtcm_msg.proofs.FieldLaws.{past_none, part}
+use Rattle.rtcm_msg.specs.Spelling.{Reads, IsFault, is_msm, is_read, number_of, set_of, layout, layout_of, has_bad_time, has_too_many, repeated}
+use Rattle.rtcm_msg.proofs.FieldLaws.{past_none, field_at}
 use Rattle.rtcm_msg.proofs.FaultLaws.{total-append, total-repeated, pairs_of}
 use Rattle.rtcm_msg.proofs.MessageLaws.{Kind, station, msm4, msm7, other, kind_of, read_again, message_found, message_fault, message_only_fault, layout_station, layout_msm4, layout_msm7, msm4_is_msm, msm7_is_msm, and_all, le_true, lt_true, not_true, some_none}
 use Rattle.rtcm_msg.proofs.StationLaws.{station_widths, height_widths}
@@ -51,10 +51,10 @@ total_few s c p sw cw a b hs hc hp =
     let two : total cw * c ≤ 80 * 64 = mul-le (total cw) c 80 64 b hc in
     rw (total-append (repeated s sw) (repeated c cw), total-repeated s sw, total-repeated c cw) (omega (arith, one, two, hp))
 
-ones_few : (bits : List Bool) (place w : ℕ) → w ≤ 64 → place + w ≤ length bits → count_ones (part bits place w) ≤ 64
+ones_few : (bits : List Bool) (place w : ℕ) → w ≤ 64 → place + w ≤ length bits → count_ones (field_at bits place w) ≤ 64
 ones_few bits place w few h =
     let fits = number-take-fits (drop place bits) w (omega (arith, length-drop place bits)) in
-    let most : count_ones (part bits place w) ≤ w = ones-le w (part bits place w) fits in
+    let most : count_ones (field_at bits place w) ≤ w = ones-le w (field_at bits place w) fits in
     omega (arith, most, few)
 
 pairs_are : (bits : List Bool) → is_msm (number_of bits) ≡ true → 8184 ≤ length bits → has_too_many bits ≡ false → pairs_of bits ≤ 64
@@ -72,11 +72,11 @@ layout_few bits n (station has e) is long few = rw (ap (λ (k : ℕ). layout_of 
 layout_few bits n (msm4 g e) is long few =
     let pairs_few = pairs_are bits (ap is_msm (is ∙ e) ∙ msm4_is_msm g) long few in
     rw (ap (λ (k : ℕ). layout_of k bits) (is ∙ e) ∙ layout_msm4 g bits)
-    (total_few (count_ones (part bits 73 64)) (count_ones (part bits 169 (pairs_of bits))) (pairs_of bits) grid4.satellite_widths grid4.cell_widths (lit≤ tt) (lit≤ tt) (ones_few bits 73 64 (lit≤ tt) (omega (arith, long))) (ones_few bits 169 (pairs_of bits) pairs_few (omega (arith, long, pairs_few))) pairs_few)
+    (total_few (count_ones (field_at bits 73 64)) (count_ones (field_at bits 169 (pairs_of bits))) (pairs_of bits) grid4.satellite_widths grid4.cell_widths (lit≤ tt) (lit≤ tt) (ones_few bits 73 64 (lit≤ tt) (omega (arith, long))) (ones_few bits 169 (pairs_of bits) pairs_few (omega (arith, long, pairs_few))) pairs_few)
 layout_few bits n (msm7 g e) is long few =
     let pairs_few = pairs_are bits (ap is_msm (is ∙ e) ∙ msm7_is_msm g) long few in
     rw (ap (λ (k : ℕ). layout_of k bits) (is ∙ e) ∙ layout_msm7 g bits)
-    (total_few (count_ones (part bits 73 64)) (count_ones (part bits 169 (pairs_of bits))) (pairs_of bits) grid7.satellite_widths grid7.cell_widths (lit≤ tt) (lit≤ tt) (ones_few bits 73 64 (lit≤ tt) (omega (arith, long))) (ones_few bits 169 (pairs_of bits) pairs_few (omega (arith, long, pairs_few))) pairs_few)
+    (total_few (count_ones (field_at bits 73 64)) (count_ones (field_at bits 169 (pairs_of bits))) (pairs_of bits) grid7.satellite_widths grid7.cell_widths (lit≤ tt) (lit≤ tt) (ones_few bits 73 64 (lit≤ tt) (omega (arith, long))) (ones_few bits 169 (pairs_of bits) pairs_few (omega (arith, long, pairs_few))) pairs_few)
 layout_few bits n (other unread no_msm empty body) is long few = rw (ap (λ (k : ℕ). layout_of k bits) is ∙ empty bits) (lit≤ tt)
 
 fault_more : (a b : List Bool) (e : MsgFault) → 8184 ≤ length a → IsFault a e → IsFault (a ++ b) e

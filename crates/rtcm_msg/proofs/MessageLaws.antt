@@ -14,12 +14,12 @@ use Rattle.rtcm_msg.specs.Packed.{total, columns}
 use Rattle.rtcm_msg.specs.Station.{station_at, station_table, station_parts}
 use Rattle.rtcm_msg.specs.Msm.{msm_at, MsmValue, week, set_fields}
 use Rattle.rtcm_msg.specs.Reading.{message_of, body_at, start, other_at, set_at}
-use Rattle.rtcm_msg.specs.Spelling.{Reads, IsMessage, IsFault, message_bits, reserved_width, is_other, is_read, is_msm, number_of, set_of, layout, layout_of, has_bad_time, has_too_many, field_at}
+use Rattle.rtcm_msg.specs.Spelling.{Reads, IsMessage, IsFault, message_bits, reserved_width, is_other, is_read, is_msm, number_of, set_of, layout, layout_of, has_bad_time, has_too_many}
 use Rattle.rtcm_msg.proofs.Binds.{bind_ok, ok_inj, number_took, number_short}
 use Rattle.rtcm_msg.proofs.Combine.{cursor, number_again, ok_err, past_here, past_next}
 use Rattle.rtcm_msg.proofs.StationLaws.{station_again, station_took, station_tail, station_widths, height_widths, station_chain, IsRead}
 use Rattle.rtcm_msg.proofs.MsmLaws.{msm_took, msm_again, msm_tail, header_tail, IsMsmRead}
-use Rattle.rtcm_msg.proofs.FieldLaws.{contents_at, fields_at, standing, part, ShortAt, fields_read, number_there_at, short_at_more, short_at_behind, past_none}
+use Rattle.rtcm_msg.proofs.FieldLaws.{contents_at, fields_at, standing, field_at, ShortAt, fields_read, number_there_at, short_at_more, short_at_behind, past_none}
 use Rattle.rtcm_msg.proofs.FaultLaws.{MsmEnd, no_time, late, no_masks, many, short, good, msm_end, msm_widths, pairs_of}
 use Rattle.rtcm_msg.specs.declared.message.Message.TheVariants as messages
 use Rattle.rtcm_msg.specs.Grid4 as grid4
@@ -296,7 +296,7 @@ station_end bits has h = elim (fields_read station_table bits 12 h) [
     by_height false room read = inr ((station_parts (contents_at station_table bits 12) None, standing bits 152), station_chain false (standing bits 12) ∙ rw read refl, past_none (station_widths ++ []) (length bits) 12 room)
     by_height true room read = elim (cases_lt (length bits) 168) [
       | inl few ↦ inl (Short 152, station_chain true (standing bits 12) ∙ rw (read, number_short 16 (standing bits 152) (omega (arith, length-drop 152 bits))) refl, short_at_behind station_widths (16 ∷ []) bits 12 (Short 152) room (record { first = 152; is = refl; past = past_here 16 [] (length bits) 152 few }))
-      | inr all ↦ inr ((station_parts (contents_at station_table bits 12) (Some (part bits 152 16)), standing bits 168), station_chain true (standing bits 12) ∙ rw (read, number_there_at 16 bits 152 all) refl, past_none (station_widths ++ (16 ∷ [])) (length bits) 12 all)
+      | inr all ↦ inr ((station_parts (contents_at station_table bits 12) (Some (field_at bits 152 16)), standing bits 168), station_chain true (standing bits 12) ∙ rw (read, number_there_at 16 bits 152 all) refl, past_none (station_widths ++ (16 ∷ [])) (length bits) 12 all)
     ]
 
 pub layout_station : (has : Bool) (bits : List Bool) → layout_of (station_number has) bits ≡ 12 ∷ (station_widths ++ height_widths has)
@@ -331,7 +331,7 @@ msm_message_end bits sw cw g wrap h msm lay read end = go end
     m : Bool
     m = is_msm (number_of bits)
 
-    early_is : part bits 24 30 < week → has_bad_time bits ≡ false
+    early_is : field_at bits 24 30 < week → has_bad_time bits ≡ false
     early_is early = and_third m (nat_le 54 (length bits)) (nat_le week (field_at bits 24 30)) (le_false week (field_at bits 24 30) early)
 
     few_is : pairs_of bits ≤ 64 → has_too_many bits ≡ false

@@ -8,7 +8,7 @@ use Rattle.std.proofs.lemmas.Nat.{one_shl, pow-add}
 use Rattle.rtcm_bits.specs.Reading.{Cursor}
 use Rattle.rtcm_msg.specs.declared.fault.MsgFault.{MsgFault}
 use Rattle.rtcm_msg.specs.declared.fault.MsgFault.TheVariants.{Short}
-use Rattle.rtcm_msg.specs.Fields.{standing, part}
+use Rattle.rtcm_msg.specs.Fields.{standing, field_at}
 use Rattle.rtcm_msg.specs.Packed.{total}
 use Rattle.rtcm_msg.specs.Columns.{column_at, columns_at}
 use Rattle.rtcm_msg.specs.Rows.{numbers_in, rows_at, end_of, row_at}
@@ -30,7 +30,7 @@ pub end_over : (k : ℕ) (ws : List ℕ) (n len p : ℕ) → k ≡ length ws →
 unfolding end_of
 end_over k ws n len p h = rw (h, drop-length ws) refl
 
-pub row_step : (k : ℕ) (ws : List ℕ) (n : ℕ) (bits : List Bool) (p i m field : ℕ) → k < length ws → get_or ws k 0 ≤ 64 → field ≡ part bits (p + i * get_or ws k 0) (get_or ws k 0)
+pub row_step : (k : ℕ) (ws : List ℕ) (n : ℕ) (bits : List Bool) (p i m field : ℕ) → k < length ws → get_or ws k 0 ≤ 64 → field ≡ field_at bits (p + i * get_or ws k 0) (get_or ws k 0)
     → row_at (drop k ws) n bits p i m ≡ row_at (drop (k + 1) ws) n bits (p + n * get_or ws k 0) i (m * ((1 * 2 ^ get_or ws k 0) % 2 ^ 128) + field)
 unfolding row_at
 row_step k ws n bits p i m field h few e = rw (add-one k, drop-cons ws k 0 h, one_shl (get_or ws k 0) 128 (omega arith), e) refl
@@ -72,7 +72,7 @@ column_short w (p ∷ ps) bits place h few = elim (cases_lt (length bits) (place
 pub record ColumnRow (w : ℕ) (ps : List ℕ) (bits : List Bool) (place : ℕ) (x : List ℕ × Cursor) : Type 0 where
   pub behind : x.1 ≡ standing bits (place + length ps * w)
   pub len : length x.0 ≡ length ps
-  pub row : (i : ℕ) → i < length ps → get_or x.0 i 0 ≡ get_or ps i 0 * 2 ^ w + part bits (place + i * w) w
+  pub row : (i : ℕ) → i < length ps → get_or x.0 i 0 ≡ get_or ps i 0 * 2 ^ w + field_at bits (place + i * w) w
 
 column_row : (w : ℕ) (ps : List ℕ) (bits : List Bool) (place : ℕ) → place + length ps * w ≤ length bits → (x : List ℕ × Cursor) × (column_at w ps (standing bits place) ≡ Ok x) × ColumnRow w ps bits place x
 unfolding column_at
@@ -83,17 +83,17 @@ column_row w (p ∷ ps) bits place h =
     let more : place + w + length ps * w ≤ length bits = rw (one_more place (length ps) w) h in
     let here = number_there_at w bits place (omega (arith, more)) in
     let rest = column_row w ps bits (place + w) more in
-    (((p * 2 ^ w + part bits place w) ∷ rest.0.0, rest.0.1), rw (here, rest.1) refl, join p rest.0 rest.2)
+    (((p * 2 ^ w + field_at bits place w) ∷ rest.0.0, rest.0.1), rw (here, rest.1) refl, join p rest.0 rest.2)
   where
-    first : (p : ℕ) (xs : List ℕ) → get_or ((p * 2 ^ w + part bits place w) ∷ xs) 0 0 ≡ p * 2 ^ w + part bits (place + 0 * w) w
-    first p xs = let e : place ≡ place + 0 * w = omega arith in ap (λ (k : ℕ). p * 2 ^ w + part bits k w) e
+    first : (p : ℕ) (xs : List ℕ) → get_or ((p * 2 ^ w + field_at bits place w) ∷ xs) 0 0 ≡ p * 2 ^ w + field_at bits (place + 0 * w) w
+    first p xs = let e : place ≡ place + 0 * w = omega arith in ap (λ (k : ℕ). p * 2 ^ w + field_at bits k w) e
 
-    join : (p : ℕ) (x : List ℕ × Cursor) → ColumnRow w ps bits (place + w) x → ColumnRow w (p ∷ ps) bits place ((p * 2 ^ w + part bits place w) ∷ x.0, x.1)
+    join : (p : ℕ) (x : List ℕ × Cursor) → ColumnRow w ps bits (place + w) x → ColumnRow w (p ∷ ps) bits place ((p * 2 ^ w + field_at bits place w) ∷ x.0, x.1)
     join p x r = record { behind = r.behind ∙ ap (standing bits) (one_more place (length ps) w); len = ap suc r.len; row = each }
       where
-        each : (i : ℕ) → i < length (p ∷ ps) → get_or ((p * 2 ^ w + part bits place w) ∷ x.0) i 0 ≡ get_or (p ∷ ps) i 0 * 2 ^ w + part bits (place + i * w) w
+        each : (i : ℕ) → i < length (p ∷ ps) → get_or ((p * 2 ^ w + field_at bits place w) ∷ x.0) i 0 ≡ get_or (p ∷ ps) i 0 * 2 ^ w + field_at bits (place + i * w) w
         each zero h = first p x.0
-        each (suc k) h = r.row k (omega (arith, h)) ∙ ap (λ (m : ℕ). get_or ps k 0 * 2 ^ w + part bits m w) (one_more place k w)
+        each (suc k) h = r.row k (omega (arith, h)) ∙ ap (λ (m : ℕ). get_or ps k 0 * 2 ^ w + field_at bits m w) (one_more place k w)
 
 -- ---- all columns
 

@@ -6,7 +6,7 @@ use Rattle.rtcm_msg.specs.declared.message.Message.{Message}
 use Rattle.rtcm_msg.specs.declared.message.Message.TheVariants.{Station, Msm4, Msm7, Other}
 use Rattle.rtcm_msg.specs.declared.seats.Seat.{Seat}
 use Rattle.rtcm_msg.specs.declared.entry.Entry.{Entry}
-use Rattle.rtcm_msg.specs.Msm.{MsmValue, Sets, pairs}
+use Rattle.rtcm_msg.specs.Msm.{MsmValue, Sets, pairs, satellite_mask_bits, signal_mask_bits}
 use Rattle.rtcm_msg.specs.Grid4 as grid4
 use Rattle.rtcm_msg.specs.Grid7 as grid7
 
@@ -36,7 +36,7 @@ seat x g = record { place = x.0; satellite = x.1; signal = g }
 
 -- all pairs, by satellite and within it by signal
 abbrev pub all_pairs : Sets → List Seat
-all_pairs s = flat_map (λ x. map (seat x) (ids 32 s.signals)) (enumerate_from 0 (ids 64 s.satellites))
+all_pairs s = flat_map (λ x. map (seat x) (ids signal_mask_bits s.signals)) (enumerate_from 0 (ids satellite_mask_bits s.satellites))
 
 -- the pairs that have a cell
 abbrev pub seats : Sets → List Seat
@@ -52,7 +52,7 @@ pub record IsEntry (codes : ℕ) (e : Entry) : Type 0 where
   pub range : IfSome e.range (λ r. unsigned_abs r ≤ 2 ^ 40)
   pub phase : IfSome e.phase (λ r. unsigned_abs r ≤ 2 ^ 40)
   pub rate : IfSome e.rate (λ v. unsigned_abs v ≤ 10 ^ 8)
-  pub strength : IfSome e.strength (λ s. s < 1024)
+  pub strength : IfSome e.strength (λ s. s < 2 ^ 10)
   pub lock : e.lock < codes
 
 -- what a cell says, in either grid

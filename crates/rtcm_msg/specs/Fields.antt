@@ -12,8 +12,8 @@ abbrev pub standing : List Bool → ℕ → Cursor
 standing bits place = record { place = place; rest = drop place bits }
 
 -- the number of w bits from a place on
-abbrev pub part : List Bool → ℕ → ℕ → ℕ
-part bits place w = number (take w (drop place bits))
+abbrev pub field_at : List Bool → ℕ → ℕ → ℕ
+field_at bits place w = number (take w (drop place bits))
 
 -- ---- the format: what is spelled
 

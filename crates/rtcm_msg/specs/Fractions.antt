@@ -6,10 +6,14 @@ use Rattle.std.specs.Prelude.{ℕ, ℤ, pos, negsuc, ◌+◌, ◌*◌, ◌^◌, 
 abbrev pub scaled : ℤ → ℕ → ℤ → Option ℤ
 scaled invalid k z = if int_eq z invalid then None else Some (z *ℤ pos k)
 
+-- a rough range of so many whole milliseconds is invalid
+abbrev pub invalid_range : ℕ
+invalid_range = 255
+
 -- the rough range in units of 2^-31 ms with a fine part, absent where either is invalid
 abbrev pub joined : ℕ → ℕ → Option ℤ → Option ℤ
 joined whole fraction None = None
-joined whole fraction (Some fine) = if whole == 255 then None else Some (pos (whole * 2 ^ 31 + fraction * 2 ^ 21) +ℤ fine)
+joined whole fraction (Some fine) = if whole == invalid_range then None else Some (pos (whole * 2 ^ 31 + fraction * 2 ^ 21) +ℤ fine)
 
 -- a rate in 0.0001 m/s
 abbrev pub rate_joined : ℤ → ℤ → Option ℤ

@@ -6,7 +6,7 @@ use Rattle.rtcm_msg.specs.declared.header.MsmHeader.{MsmHeader}
 use Rattle.rtcm_msg.specs.declared.seats.Seat.{Seat}
 use Rattle.rtcm_msg.specs.Packed.{total}
 use Rattle.rtcm_msg.specs.Columns.{EachBelow}
-use Rattle.rtcm_msg.specs.Msm.{MsmValue, Sets, IsHeader}
+use Rattle.rtcm_msg.specs.Msm.{MsmValue, Sets, IsHeader, satellite_mask_bits, signal_mask_bits, most_pairs}
 use Rattle.rtcm_msg.specs.Entries.{ids, seats, Rising}
 
 -- Of each satellite the ID and the data, by rising IDs; the IDs of the signals, rising; of each cell the
@@ -27,10 +27,23 @@ cell_pairs s = map pair (seats s)
 
 -- a pair as one number, which rises by satellite and within it by signal
 abbrev pub pair_number : ℕ × ℕ → ℕ
-pair_number p = 64 * p.0 + p.1
+pair_number p = satellite_mask_bits * p.0 + p.1
+
+-- those of the first satellite and signal, and of the last
+abbrev pub first_pair : ℕ
+first_pair = 65
+
+abbrev pub last_pair : ℕ
+last_pair = 4128
 
 abbrev pub meaning : MsmValue → Meaning
-meaning v = record { is_galileo = v.is_galileo; header = v.header; satellites = zip (ids 64 v.sets.satellites) v.satellites; signals = ids 32 v.sets.signals; cells = zip (cell_pairs v.sets) v.cells }
+meaning v = record {
+  is_galileo = v.is_galileo;
+  header = v.header;
+  satellites = zip (ids satellite_mask_bits v.sets.satellites) v.satellites;
+  signals = ids signal_mask_bits v.sets.signals;
+  cells = zip (cell_pairs v.sets) v.cells;
+}
 
 -- ---- which meanings a value has
 
@@ -49,14 +62,14 @@ keys xs = map (λ x. x.0) xs
 abbrev pub data_of : {A : Type 0} → List (A × ℕ) → List ℕ
 data_of xs = map (λ x. x.1) xs
 
--- Satellites and signals rise, with at most 64 pairs, and the cells' pairs are of these and rise. The
+-- Satellites and signals rise, with no more pairs than there may be, and the cells' pairs are of these and rise. The
 -- data fit the fields.
 pub record IsMeaning (satellite_widths cell_widths : List ℕ) (m : Meaning) : Type 0 where
   pub header : IsHeader m.header
-  pub satellites : Rising 1 64 (keys m.satellites)
-  pub signals : Rising 1 32 m.signals
-  pub few : length (keys m.satellites) * length m.signals ≤ 64
-  pub cells : Rising 65 4128 (map pair_number (keys m.cells))
+  pub satellites : Rising 1 satellite_mask_bits (keys m.satellites)
+  pub signals : Rising 1 signal_mask_bits m.signals
+  pub few : length (keys m.satellites) * length m.signals ≤ most_pairs
+  pub cells : Rising first_pair last_pair (map pair_number (keys m.cells))
   pub pairs : Each (λ p. IsIn p.0 (keys m.satellites) × IsIn p.1 m.signals) (keys m.cells)
   pub satellite_data : EachBelow (total satellite_widths) (data_of m.satellites)
   pub cell_data : EachBelow (total cell_widths) (data_of m.cells)

@@ -13,8 +13,20 @@ use Rattle.rtcm_msg.specs.Columns.{columns_at, EachBelow}
 abbrev pub week : ℕ
 week = 604800000
 
+-- the bits of the satellite mask, one for each satellite ID from 1 on
+abbrev pub satellite_mask_bits : ℕ
+satellite_mask_bits = 64
+
+-- the bits of the signal mask, one for each signal ID from 1 on
+abbrev pub signal_mask_bits : ℕ
+signal_mask_bits = 32
+
+-- the most pairs of a satellite and a signal, so the most bits of the cell mask and the most cells
+abbrev pub most_pairs : ℕ
+most_pairs = 64
+
 -- The satellites, the signals, and the pairs of one of each that have a cell. The highest bit of the
--- 64 and of the 32 is ID 1, and the highest of the last is the first pair.
+-- first two is ID 1, and the highest of the last is the first pair.
 pub record Sets : Type 0 where
   pub satellites : ℕ
   pub signals : ℕ
@@ -41,9 +53,9 @@ pub record IsHeader (h : MsmHeader) : Type 0 where
   pub interval : h.interval < 2 ^ 3
 
 pub record AreSets (s : Sets) : Type 0 where
-  pub satellites : s.satellites < 2 ^ 64
-  pub signals : s.signals < 2 ^ 32
-  pub few : pairs s.satellites s.signals ≤ 64
+  pub satellites : s.satellites < 2 ^ satellite_mask_bits
+  pub signals : s.signals < 2 ^ signal_mask_bits
+  pub few : pairs s.satellites s.signals ≤ most_pairs
   pub cells : s.cells < 2 ^ pairs s.satellites s.signals
 
 -- a value whose fields have these widths
@@ -79,8 +91,8 @@ header_table =
 -- the masks, where the third has a bit for each pair of a satellite and a signal
 abbrev pub mask_table : Table
 mask_table =
-    (394, Uint 64)  -- satellite mask
-    ∷ (395, Uint 32)  -- signal mask
+    (394, Uint satellite_mask_bits)  -- satellite mask
+    ∷ (395, Uint signal_mask_bits)  -- signal mask
     ∷ []
 
 abbrev pub cell_mask_table : ℕ → Table
@@ -98,14 +110,16 @@ header_contents h reserved = h.more ▸ h.iods ▸ reserved ▸ h.steering ▸ h
 
 -- the fields up to the masks
 abbrev pub header_fields : ℕ → MsmHeader → ℕ → List (ℕ × ℕ)
-header_fields number h reserved = fields_of number_table (number ▸ tt) ++ (fields_of time_table (time_contents h) ++ fields_of header_table (header_contents h reserved))
+header_fields number h reserved =
+    fields_of number_table (number ▸ tt) ++ (fields_of time_table (time_contents h) ++ fields_of header_table (header_contents h reserved))
 
 abbrev pub set_fields : Sets → List (ℕ × ℕ)
 set_fields s = fields_of mask_table (s.satellites ▸ s.signals ▸ tt) ++ fields_of (cell_mask_table (pairs s.satellites s.signals)) (s.cells ▸ tt)
 
 -- all bits of a message of this number: behind the masks a field of all satellites, then the next, then a field of all cells
 abbrev pub msm_bits : List ℕ → List ℕ → ℕ → MsmValue → ℕ → List Bool
-msm_bits satellite_widths cell_widths number v reserved = spelled (header_fields number v.header reserved) ++ (spelled (set_fields v.sets) ++ (columns satellite_widths v.satellites ++ columns cell_widths v.cells))
+msm_bits satellite_widths cell_widths number v reserved =
+    spelled (header_fields number v.header reserved) ++ (spelled (set_fields v.sets) ++ (columns satellite_widths v.satellites ++ columns cell_widths v.cells))
 
 -- ---- reading, behind the message number
 
@@ -122,7 +136,9 @@ header_at c = reading time_table c (λ n. timely n.0.1.0 n.1 >>= λ time. readin
 
 -- the pairs are counted as soon as both masks were read
 abbrev pub sets_behind : ℕ → ℕ → Cursor → Result (Sets × Cursor) MsgFault
-sets_behind satellites signals c = if nat_lt 64 (pairs satellites signals) then Err TooManyCells else reading (cell_mask_table (pairs satellites signals)) c (λ cells. Ok (record { satellites = satellites; signals = signals; cells = cells.0.0 }, cells.1))
+sets_behind satellites signals c =
+    if nat_lt most_pairs (pairs satellites signals) then Err TooManyCells
+    else reading (cell_mask_table (pairs satellites signals)) c (λ cells. Ok (record { satellites = satellites; signals = signals; cells = cells.0.0 }, cells.1))
 
 unfoldable pub sets_at : Cursor → Result (Sets × Cursor) MsgFault
 sets_at c = reading mask_table c (λ m. sets_behind m.0.0 m.0.1.0 m.1)

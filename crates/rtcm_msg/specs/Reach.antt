@@ -12,7 +12,7 @@ pub record IsMeasured (e : Entry) : Type 0 where
   pub range : IfSome e.range (λ r. unsigned_abs r ≤ 2 ^ 40)
   pub phase : IfSome e.phase (λ r. unsigned_abs r ≤ 2 ^ 40)
   pub rate : IfSome e.rate (λ v. unsigned_abs v ≤ 10 ^ 8)
-  pub strength : IfSome e.strength (λ s. (0 < s) × (s < 1024))
+  pub strength : IfSome e.strength (λ s. (0 < s) × (s < 2 ^ 10))
 
 -- so it is in each cell of every message, whatever its bits are
 abbrev pub EntriesAreMeasured : Type 0

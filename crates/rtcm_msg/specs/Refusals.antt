@@ -5,14 +5,15 @@ use Rattle.rtcm_msg.specs.declared.header.MsmHeader.{MsmHeader}
 use Rattle.rtcm_msg.specs.declared.station.StationParts.{StationParts}
 use Rattle.rtcm_msg.specs.declared.fault.ValueFault.{ValueFault}
 use Rattle.rtcm_msg.specs.Ranges.{fits_int}
-use Rattle.rtcm_msg.specs.Msm.{Sets, pairs, week}
+use Rattle.rtcm_msg.specs.Msm.{Sets, pairs, week, most_pairs}
 use Rattle.rtcm_msg.specs.declared.fault.ValueFault.TheVariants as faults
 use Rattle.rtcm_msg.specs.declared.fault.Field.TheVariants as fields
 
 abbrev pub sets_of : ℕ → ℕ → ℕ → Result Sets ValueFault
 sets_of satellites signals cells =
-    if nat_lt 64 (pairs satellites signals) then Err faults.TooManyCells
-    else (if nat_le (2 ^ pairs satellites signals) cells then Err (faults.OutOfRange fields.Cells) else Ok (record { satellites = satellites; signals = signals; cells = cells }))
+    if nat_lt most_pairs (pairs satellites signals) then Err faults.TooManyCells
+    else (if nat_le (2 ^ pairs satellites signals) cells then Err (faults.OutOfRange fields.Cells)
+    else Ok (record { satellites = satellites; signals = signals; cells = cells }))
 
 -- the first part of a station, in the order of the layout, that is out of range
 abbrev pub station_fault : StationParts → Option Field
@@ -52,4 +53,6 @@ out_of_range (Some f) = Some (faults.OutOfRange f)
 abbrev pub msm_refusal : MsmHeader → Sets → ℕ → ℕ → Option Field → Option Field → Option ValueFault
 msm_refusal h s satellites cells satellite_fault cell_fault =
     if nat_le week h.time then Some faults.BadTime
-    else (if (satellites == count_ones s.satellites) && (cells == count_ones s.cells) then out_of_range (or_else (header_fault h) (or_else satellite_fault cell_fault)) else Some faults.CellCount)
+    else (if (satellites == count_ones s.satellites) && (cells == count_ones s.cells)
+    then out_of_range (or_else (header_fault h) (or_else satellite_fault cell_fault))
+    else Some faults.CellCount)

@@ -3,7 +3,7 @@ use Rattle.std.specs.Prelude.{ℕ, ◌+◌, ◌-◌, ◌*◌, ◌%◌, ◌^◌, 
 use Rattle.rtcm_bits.specs.Reading.{Cursor}
 use Rattle.rtcm_msg.specs.declared.fault.MsgFault.{MsgFault}
 use Rattle.rtcm_msg.specs.declared.fault.MsgFault.TheVariants.{Short}
-use Rattle.rtcm_msg.specs.Fields.{standing, part}
+use Rattle.rtcm_msg.specs.Fields.{standing, field_at}
 use Rattle.rtcm_msg.specs.Columns.{columns_at}
 
 -- the numbers that were read, none where they weren't
@@ -24,4 +24,4 @@ end_of (w ∷ ws) count len place =
 -- the fields of the one of place i, each below what was read of it before
 unfoldable pub row_at : List ℕ → ℕ → List Bool → ℕ → ℕ → ℕ → ℕ
 row_at [] count bits place i n = n
-row_at (w ∷ ws) count bits place i n = row_at ws count bits (place + count * w) i (n * 2 ^ w + part bits (place + i * w) w)
+row_at (w ∷ ws) count bits place i n = row_at ws count bits (place + count * w) i (n * 2 ^ w + field_at bits (place + i * w) w)

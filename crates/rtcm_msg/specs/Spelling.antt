@@ -1,13 +1,13 @@
 -- What spells a message, what is read, and which fault stands.
-use Rattle.std.specs.Prelude.{◌≡◌, ℕ, ◌^◌, ◌<◌, ◌≤◌, ◌==◌, ◌||◌, ◌&&◌, nat_lt, nat_le, if◌then◌else◌, Bool, true, false, List, [], ◌∷◌, ◌++◌, length, take, drop, Option, Some, None, replicate, count_ones, IsTrue, ◌⊎◌}
-use Rattle.rtcm_bits.specs.Bits.{number}
+use Rattle.std.specs.Prelude.{◌≡◌, ℕ, ◌^◌, ◌<◌, ◌≤◌, ◌==◌, ◌||◌, ◌&&◌, nat_lt, nat_le, if◌then◌else◌, Bool, true, false, List, [], ◌∷◌, ◌++◌, length, Option, Some, None, replicate, count_ones, IsTrue, ◌⊎◌}
+use Rattle.rtcm_bits.specs.Bits.{bits_of, filled}
 use Rattle.rtcm_msg.specs.declared.fault.MsgFault.{MsgFault}
 use Rattle.rtcm_msg.specs.declared.fault.MsgFault.TheVariants.{Short, TooManyCells, BadTime}
 use Rattle.rtcm_msg.specs.declared.message.Message.{Message}
 use Rattle.rtcm_msg.specs.declared.message.Message.TheVariants.{Station, Msm4, Msm7, Other}
-use Rattle.rtcm_msg.specs.Fields.{spelled, first_past}
+use Rattle.rtcm_msg.specs.Fields.{spelled, first_past, field_at}
 use Rattle.rtcm_msg.specs.Station.{station_fields, InRange, station_table, height_table}
-use Rattle.rtcm_msg.specs.Msm.{msm_bits, IsValue, pairs, week, time_table, header_table, mask_table, cell_mask_table}
+use Rattle.rtcm_msg.specs.Msm.{msm_bits, IsValue, pairs, week, time_table, header_table, mask_table, cell_mask_table, satellite_mask_bits, signal_mask_bits, most_pairs}
 use Rattle.rtcm_msg.specs.Layout.{widths, number_table}
 use Rattle.rtcm_msg.specs.Reading.{is_listed}
 use Rattle.rtcm_msg.specs.Grid4 as grid4
@@ -40,15 +40,15 @@ message_bits (Msm4 m) reserved = msm_bits grid4.satellite_widths grid4.cell_widt
 message_bits (Msm7 m) reserved = msm_bits grid7.satellite_widths grid7.cell_widths (grid7.number m.is_galileo) m reserved
 message_bits (Other n set) reserved = []
 
+-- the bytes spell the message with reserved bits of 0, filled up with zero bits to a byte
+abbrev pub IsEncoding : List ℕ → Message → Type 0
+IsEncoding bytes v = bits_of bytes ≡ filled (message_bits v 0)
+
 -- the bits spell the message; its reserved bits are any
 pub record Spells (v : Message) (bits : List Bool) : Type 0 where
   pub reserved : ℕ
   pub fits : reserved < 2 ^ reserved_width v
   pub bits_are : bits ≡ message_bits v reserved
-
--- the number of w bits from a place on
-abbrev pub field_at : List Bool → ℕ → ℕ → ℕ
-field_at bits place w = number (take w (drop place bits))
 
 abbrev pub number_of : List Bool → ℕ
 number_of bits = field_at bits 0 12
@@ -90,10 +90,11 @@ repeated count (w ∷ ws) = replicate count w ++ repeated count ws
 
 abbrev pub msm_layout : List ℕ → List ℕ → List Bool → List ℕ
 msm_layout satellite_widths cell_widths bits =
-    let satellites = field_at bits 73 64 in
-    let signals = field_at bits 137 32 in
+    let satellites = field_at bits 73 satellite_mask_bits in
+    let signals = field_at bits 137 signal_mask_bits in
     let width = pairs satellites signals in
-    widths (number_table ++ (time_table ++ (header_table ++ (mask_table ++ cell_mask_table width)))) ++ (repeated (count_ones satellites) satellite_widths ++ repeated (count_ones (field_at bits 169 width)) cell_widths)
+    widths (number_table ++ (time_table ++ (header_table ++ (mask_table ++ cell_mask_table width))))
+    ++ (repeated (count_ones satellites) satellite_widths ++ repeated (count_ones (field_at bits 169 width)) cell_widths)
 
 -- those of a message of this number
 abbrev pub layout_of : ℕ → List Bool → List ℕ
@@ -110,10 +111,13 @@ abbrev pub has_bad_time : List Bool → Bool
 has_bad_time bits = is_msm (number_of bits) && nat_le 54 (length bits) && nat_le week (field_at bits 24 30)
 
 abbrev pub has_too_many : List Bool → Bool
-has_too_many bits = is_msm (number_of bits) && nat_le 169 (length bits) && nat_lt 64 (pairs (field_at bits 73 64) (field_at bits 137 32))
+has_too_many bits =
+    is_msm (number_of bits) && nat_le 169 (length bits) && nat_lt most_pairs (pairs (field_at bits 73 satellite_mask_bits) (field_at bits 137 signal_mask_bits))
 
 -- which fault stands, if one does
 abbrev pub IsFault : List Bool → MsgFault → Type 0
 IsFault bits BadTime = IsTrue (has_bad_time bits)
 IsFault bits TooManyCells = (has_bad_time bits ≡ false) × IsTrue (has_too_many bits)
-IsFault bits (Short k) = (has_bad_time bits ≡ false) × (has_too_many bits ≡ false) × (((length bits < 12) × (k ≡ 0)) ⊎ ((12 ≤ length bits) × (first_past (length bits) 0 (layout bits) ≡ Some k)))
+IsFault bits (Short k) =
+    (has_bad_time bits ≡ false) × (has_too_many bits ≡ false)
+    × (((length bits < 12) × (k ≡ 0)) ⊎ ((12 ≤ length bits) × (first_past (length bits) 0 (layout bits) ≡ Some k)))

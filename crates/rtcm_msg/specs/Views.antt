@@ -4,14 +4,12 @@ use Rattle.rtcm_msg.specs.declared.message.Message.{Message}
 use Rattle.rtcm_msg.specs.declared.message.Message.TheVariants as messages
 use Rattle.rtcm_msg.specs.declared.view.Form.{Form}
 use Rattle.rtcm_msg.specs.declared.view.Form.TheVariants as forms
-use Rattle.rtcm_msg.specs.declared.seats.Seat.{Seat}
-use Rattle.rtcm_msg.specs.declared.entry.Entry.{Entry}
+use Rattle.rtcm_bits.specs.FrameOf.{longest_message}
 use Rattle.rtcm_bits.specs.Reading.{Cursor}
 use Rattle.rtcm_msg.specs.declared.fault.MsgFault.{MsgFault}
 use Rattle.rtcm_msg.specs.Fields.{◌>>=◌}
-use Rattle.rtcm_msg.specs.Msm.{MsmValue, msm_at}
+use Rattle.rtcm_msg.specs.Msm.{MsmValue, msm_at, satellite_mask_bits, most_pairs}
 use Rattle.rtcm_msg.specs.Packed.{total}
-use Rattle.rtcm_msg.specs.Entries.{entry4, entry7}
 use Rattle.rtcm_msg.specs.Grid4 as grid4
 use Rattle.rtcm_msg.specs.Grid7 as grid7
 
@@ -28,16 +26,6 @@ cell_widths forms.Msm7 = grid7.cell_widths
 abbrev pub number : Form → Bool → ℕ
 number forms.Msm4 is_galileo = grid4.number is_galileo
 number forms.Msm7 is_galileo = grid7.number is_galileo
-
--- how many lock time indicators there are
-abbrev pub lock_codes : Form → ℕ
-lock_codes forms.Msm4 = 16
-lock_codes forms.Msm7 = 1024
-
--- what a cell says
-abbrev pub entry_in : Form → MsmValue → Seat × ℕ → Entry
-entry_in forms.Msm4 v = entry4 v
-entry_in forms.Msm7 v = entry7 v
 
 abbrev pub message_in : Form → MsmValue → Message
 message_in forms.Msm4 v = messages.Msm4 v
@@ -58,8 +46,8 @@ formed_at form is_galileo c = msm_at (satellite_widths form) (cell_widths form) 
 
 -- so many satellites' and cells' data lie at these places of so many bytes
 pub record IsLaid (form : Form) (bytes satellites satellites_at cells cells_at : ℕ) : Type 0 where
-  pub small : bytes ≤ 1023
-  pub satellites_few : satellites ≤ 64
+  pub small : bytes ≤ longest_message
+  pub satellites_few : satellites ≤ satellite_mask_bits
   pub satellites_there : satellites_at + satellites * total (satellite_widths form) ≤ 8 * bytes
-  pub cells_few : cells ≤ 64
+  pub cells_few : cells ≤ most_pairs
   pub cells_there : cells_at + cells * total (cell_widths form) ≤ 8 * bytes

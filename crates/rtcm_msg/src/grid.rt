@@ -6,8 +6,8 @@ ghost use Rattle.rtcm_msg.specs.declared.fault.Field.{Field};
 
 use crate::fault::Field;
 
-/// One of the two precisions of multiple signal messages: what a satellite and a cell hold, in which
-/// fields, and what it means. Reading and writing are the same in both.
+/// One of the two precisions of multiple signal messages: what a satellite and a cell hold, in
+/// which fields, and what it means. Reading and writing are the same in both.
 pub trait Grid {
     /// The data of a satellite.
     type Satellite: Copy + Drop;
@@ -84,19 +84,20 @@ pub trait Grid {
     /// How many lock time indicators there are.
     ghost lock_codes: { ℕ };
 
-    /// The pseudorange in 2^-31 ms: the rough range and the cell's fine pseudorange. None where either
-    /// is invalid.
+    /// The pseudorange in 2^-31 ms: the rough range and the cell's fine pseudorange. None where
+    /// either is invalid.
     fn range(satellite: &Self::Satellite, cell: &Self::Cell) -> Option<i64>
         ensures value { result ≡ range_of satellite.now cell.now }
         ensures bound { is_satellite satellite.now → is_cell cell.now → IfSome result (λ r. unsigned_abs r ≤ 2 ^ 40) };
 
-    /// The phase range in 2^-31 ms: the rough range and the cell's fine phase range. None where either
-    /// is invalid.
+    /// The phase range in 2^-31 ms: the rough range and the cell's fine phase range. None where
+    /// either is invalid.
     fn phase(satellite: &Self::Satellite, cell: &Self::Cell) -> Option<i64>
         ensures value { result ≡ phase_of satellite.now cell.now }
         ensures bound { is_satellite satellite.now → is_cell cell.now → IfSome result (λ r. unsigned_abs r ≤ 2 ^ 40) };
 
-    /// The phase range rate in 0.0001 m/s. None where its rough or fine part is invalid, and in MSM4.
+    /// The phase range rate in 0.0001 m/s. None where its rough or fine part is invalid, and in
+    /// MSM4.
     fn rate(satellite: &Self::Satellite, cell: &Self::Cell) -> Option<i32>
         ensures value { result ≡ rate_of satellite.now cell.now }
         ensures bound { is_satellite satellite.now → is_cell cell.now → IfSome result (λ r. unsigned_abs r ≤ 10 ^ 8) };
@@ -104,7 +105,7 @@ pub trait Grid {
     /// The carrier to noise ratio in 1/16 dB-Hz. None where it was not computed.
     fn strength(cell: &Self::Cell) -> Option<u16>
         ensures value { result ≡ strength_of cell.now }
-        ensures bound { is_cell cell.now → IfSome result (λ s. s < 1024) };
+        ensures bound { is_cell cell.now → IfSome result (λ s. s < 2 ^ 10) };
 
     /// The lock time indicator, DF402 or DF407.
     fn lock_code(cell: &Self::Cell) -> u16
@@ -176,16 +177,19 @@ pub trait Grid {
     ghost lock_fits: { (c : Self.Cell) → is_cell c → lock_code_of c < lock_codes };
 }
 
+/// The rough range in whole milliseconds, DF397, that is none.
+const INVALID_RANGE: u8 = 255;
+
 /// The rough range in units of 2^-31 ms with a fine part.
 pub(crate) fn joined(whole: u8, fraction: u16, fine: Option<i64>) -> Option<i64>
     requires fits { ForSome fine (λ z. unsigned_abs z ≤ 2 ^ 33) }
     ensures value { result ≡ joined whole fraction fine }
-    ensures bound { fraction < 1024 → ForSome fine (λ z. unsigned_abs z ≤ 2 ^ 26) → IfSome result (λ r. unsigned_abs r ≤ 2 ^ 40) }
+    ensures bound { fraction < 2 ^ 10 → ForSome fine (λ z. unsigned_abs z ≤ 2 ^ 26) → IfSome result (λ r. unsigned_abs r ≤ 2 ^ 40) }
 {
     match fine {
         None => None,
         Some(fine) => {
-            if whole == 255 {
+            if whole == INVALID_RANGE {
                 None
             } else {
                 Some((whole as u64 * (1 << 31) + fraction as u64 * (1 << 21)) as i64 + fine)

@@ -177,7 +177,7 @@ impl Grid for Grid4 {
 
     ghost half_cycle_of = { λ c. c.half_cycle };
 
-    ghost lock_codes = { 16 };
+    ghost lock_codes = { 2 ^ 4 };
 
     fn range(satellite: &Satellite4, cell: &Cell4) -> Option<i64> {
         joined(satellite.whole, satellite.fraction, fine_range(cell))

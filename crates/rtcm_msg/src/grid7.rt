@@ -210,7 +210,7 @@ impl Grid for Grid7 {
 
     ghost half_cycle_of = { λ c. c.half_cycle };
 
-    ghost lock_codes = { 1024 };
+    ghost lock_codes = { 2 ^ 10 };
 
     fn range(satellite: &Satellite7, cell: &Cell7) -> Option<i64> {
         joined(satellite.whole, satellite.fraction, fine_range(cell))

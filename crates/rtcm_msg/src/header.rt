@@ -31,7 +31,8 @@ pub struct MsmHeader {
     pub interval: u8,
 }
 
-/// Reads the head of an MSM behind its number. A time of a week or more is a fault as soon as it was read.
+/// Reads the head of an MSM behind its number. A time of a week or more is a fault as soon as it
+/// was read.
 #[tactic(auto, unfolding(crate::specs::Msm::header_at))]
 pub(crate) fn read_header(reader: &mut BitReader) -> Result<MsmHeader, MsgFault>
     ensures read { Gives (λ h. (h, reader.new)) result (header_at reader.old) }
@@ -61,7 +62,8 @@ pub(crate) fn read_header(reader: &mut BitReader) -> Result<MsmHeader, MsgFault>
     })
 }
 
-/// The first field, in the order of the layout, that does not fit its bits. The time is judged before.
+/// The first field, in the order of the layout, that does not fit its bits. The time is judged
+/// before.
 pub(crate) fn header_fault(header: &MsmHeader) -> Option<Field>
     ensures first { result ≡ header_fault header.now }
     ensures none { header.now.time < 604800000 → IfNone result (IsHeader header.now) }

@@ -1,20 +1,22 @@
 //! Laws of the definitions, each the contract of a function without a body.
 ghost use Rattle.rtcm_msg.specs.Entries.{ids, Rising};
 ghost use Rattle.std.specs.Prelude.{◌≤◌, length, ◌<◌, ◌^◌, ◌≡◌, List, Bool, ℕ, Ok, false, map};
-ghost use Rattle.rtcm_bits.specs.Bits.{bits_of, filled};
+ghost use Rattle.rtcm_bits.specs.Bits.{filled};
+ghost use Rattle.rtcm_bits.specs.FrameOf.{longest_message_bits};
 ghost use Rattle.rtcm_msg.specs.declared.message.Message.{Message};
-ghost use Rattle.rtcm_msg.specs.Spelling.{message_bits, is_other, Reads, IsMessage};
+ghost use Rattle.rtcm_msg.specs.Spelling.{message_bits, is_other, Reads, IsMessage, IsEncoding};
 ghost use Rattle.rtcm_msg.specs.Reading.{message_at};
 ghost use Rattle.rtcm_msg.specs.Reach.{EntriesAreMeasured, PointsAreTold};
-ghost use Rattle.rtcm_msg.specs.Msm.{MsmValue, Sets, IsValue};
-ghost use Rattle.rtcm_msg.specs.Meaning.{Meaning, IsMeaning, meaning, pair_number, cell_pairs};
+ghost use Rattle.rtcm_msg.specs.Msm.{MsmValue, Sets, IsValue, satellite_mask_bits};
+ghost use Rattle.rtcm_msg.specs.Meaning.{Meaning, IsMeaning, meaning, pair_number, cell_pairs, first_pair, last_pair, keys};
 
-/// What is spelled with zero for the reserved bits, and filled up with zero bits to a byte, is read back.
+/// What is spelled with zero for the reserved bits, and filled up with zero bits to a byte, is read
+/// back.
 pub fn read_back()
     ensures spelled { (v : Message) → IsMessage v → is_other v ≡ false → Reads (filled (message_bits v 0)) v }
-    ensures read { (v : Message) (bytes : List ℕ) → IsMessage v → is_other v ≡ false → bits_of bytes ≡ filled (message_bits v 0) → message_at bytes ≡ Ok v }
-    // so that its bytes are at most 1,023
-    ensures short { (v : Message) → IsMessage v → length (message_bits v 0) ≤ 8184 }
+    ensures read { (v : Message) (bytes : List ℕ) → IsMessage v → is_other v ≡ false → IsEncoding bytes v → message_at bytes ≡ Ok v }
+    // so that its bytes fit a frame
+    ensures short { (v : Message) → IsMessage v → length (message_bits v 0) ≤ longest_message_bits }
 {}
 
 /// Bits are read as one value at most.
@@ -22,20 +24,20 @@ pub fn one_value()
     ensures { (bits : List Bool) (v w : Message) → Reads bits v → Reads bits w → v ≡ w }
 {}
 
-/// A mask of w bits is a set of IDs: a rising list of numbers from 1 to w, and each such list is one
-/// mask's.
+/// A mask of w bits is a set of IDs: a rising list of numbers from 1 to w, and each such list is
+/// one mask's.
 pub fn masks_are_sets()
     ensures rising { (w m : ℕ) → Rising 1 w (ids w m) }
     ensures one { (w m n : ℕ) → m < 2 ^ w → n < 2 ^ w → ids w m ≡ ids w n → m ≡ n }
     ensures all { (w : ℕ) (xs : List ℕ) → Rising 1 w xs → (m : ℕ) × (m < 2 ^ w) × (ids w m ≡ xs) }
 {}
 
-/// A value is what it means: a header, the satellites and the signals, a map from satellites to their
-/// data, and a map from pairs of a satellite and a signal to cells, where the pairs rise.
+/// A value is what it means: a header, the satellites and the signals, a map from satellites to
+/// their data, and a map from pairs of a satellite and a signal to cells, where the pairs rise.
 pub fn values_are_maps()
-    ensures satellites { (sw cw : List ℕ) (v : MsmValue) → IsValue sw cw v → map (λ x. x.0) (meaning v).satellites ≡ ids 64 v.sets.satellites }
-    ensures cells { (sw cw : List ℕ) (v : MsmValue) → IsValue sw cw v → map (λ x. x.0) (meaning v).cells ≡ cell_pairs v.sets }
-    ensures rising { (s : Sets) → Rising 65 4128 (map pair_number (cell_pairs s)) }
+    ensures satellites { (sw cw : List ℕ) (v : MsmValue) → IsValue sw cw v → keys (meaning v).satellites ≡ ids satellite_mask_bits v.sets.satellites }
+    ensures cells { (sw cw : List ℕ) (v : MsmValue) → IsValue sw cw v → keys (meaning v).cells ≡ cell_pairs v.sets }
+    ensures rising { (s : Sets) → Rising first_pair last_pair (map pair_number (cell_pairs s)) }
     ensures one { (sw cw : List ℕ) (v w : MsmValue) → IsValue sw cw v → IsValue sw cw w → meaning v ≡ meaning w → v ≡ w }
     ensures all { (sw cw : List ℕ) (m : Meaning) → IsMeaning sw cw m → (v : MsmValue) × IsValue sw cw v × (meaning v ≡ m) }
 {}

@@ -1,6 +1,6 @@
-//! The messages of RTCM 10403.3 that the converter reads, and their values, both ways: station messages
-//! 1005 and 1006, and the multiple signal messages (MSM) 1074, 1077, 1094 and 1097. `decode` reads a
-//! message, `encode` writes one, `entries` says what its cells mean.
+//! The messages of RTCM 10403.3 that the converter reads, and their values, both ways: station
+//! messages 1005 and 1006, and the multiple signal messages (MSM) 1074, 1077, 1094 and 1097.
+//! `decode` reads a message, `encode` writes one, `entries` says what its cells mean.
 #![tactic(auto)]
 
 mod entry;
@@ -26,7 +26,7 @@ pub use grid::Grid;
 pub use grid4::{Cell4, Grid4, Satellite4};
 pub use grid7::{Cell7, Grid7, Satellite7};
 pub use header::{MsmHeader, WEEK};
-pub use masks::Masks;
+pub use masks::{MOST_PAIRS, MOST_SATELLITES, Masks};
 pub use message::{Message, decode, encode};
 pub use msm::Msm;
 pub use seats::{Seat, Seats, all_seats};

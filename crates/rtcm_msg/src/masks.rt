@@ -8,6 +8,21 @@ use crate::field::field;
 use rtcm_bits::BitReader;
 use std::marker::Model;
 
+/// The bits of the satellite mask, DF394.
+pub(crate) const SATELLITE_MASK_BITS: u32 = 64;
+
+/// The bits of the signal mask, DF395.
+pub(crate) const SIGNAL_MASK_BITS: u32 = 32;
+
+/// The most bits of the cell mask, DF396.
+const MOST_CELL_MASK_BITS: u32 = 64;
+
+/// The most satellites of a message, one for each bit of the satellite mask.
+pub const MOST_SATELLITES: usize = SATELLITE_MASK_BITS as usize;
+
+/// The most pairs of a satellite and a signal, and so the most cells of a message.
+pub const MOST_PAIRS: usize = MOST_CELL_MASK_BITS as usize;
+
 /// The satellites, the signals, and the pairs of both that have a cell: at most 64 pairs.
 #[derive(Clone, Copy, Debug, PartialEq, Eq)]
 pub struct Masks {
@@ -29,9 +44,9 @@ impl Model for Masks {
 }
 
 impl Masks {
-    /// The masks of an MSM: satellites DF394, signals DF395, cells DF396. The most significant bit of
-    /// the first two is ID 1. The cell mask has a bit for each pair, by satellite and within it by
-    /// signal, and is taken as a number, the first pair in its most significant bit.
+    /// The masks of an MSM: satellites DF394, signals DF395, cells DF396. The most significant bit
+    /// of the first two is ID 1. The cell mask has a bit for each pair, by satellite and within it
+    /// by signal, and is taken as a number, the first pair in its most significant bit.
     ///
     /// # Errors
     ///
@@ -41,10 +56,10 @@ impl Masks {
         ensures { result ≡ sets_of satellites signals cells }
     {
         let pairs = satellites.count_ones() * signals.count_ones();
-        if pairs > 64 {
+        if pairs > MOST_CELL_MASK_BITS {
             return Err(ValueFault::TooManyCells);
         }
-        if pairs < 64 && cells >= 1 << pairs {
+        if pairs < MOST_CELL_MASK_BITS && cells >= 1 << pairs {
             return Err(ValueFault::OutOfRange(Field::Cells));
         }
         Ok(Masks {
@@ -82,10 +97,10 @@ impl Masks {
 pub(crate) fn read_masks(reader: &mut BitReader) -> Result<Masks, MsgFault>
     ensures { Gives (λ m. (m, reader.new)) result (sets_at reader.old) }
 {
-    let satellites = field(reader, 64)?;
-    let signals = field(reader, 32)? as u32;
+    let satellites = field(reader, SATELLITE_MASK_BITS)?;
+    let signals = field(reader, SIGNAL_MASK_BITS)? as u32;
     let count = satellites.count_ones() * signals.count_ones();
-    if count > 64 {
+    if count > MOST_CELL_MASK_BITS {
         return Err(MsgFault::TooManyCells);
     }
     let cells = field(reader, count)?;

@@ -1,7 +1,8 @@
-ghost use Rattle.std.specs.Prelude.{◌≡◌, ◌++◌, ◌^◌, ◌<◌, ◌≤◌, ◌*◌, IfOk, IfErr, length, false, Ok, Err};
+ghost use Rattle.std.specs.Prelude.{◌≡◌, ◌++◌, ◌<◌, ◌≤◌, IfOk, IfErr, length, false, Ok, Err};
 ghost use Rattle.rtcm_msg.specs.Fields.{Gives};
-ghost use Rattle.rtcm_bits.specs.Bits.{bits_of, filled};
-ghost use Rattle.rtcm_msg.specs.Spelling.{message_bits, is_other, Reads, IsFault, IsMessage};
+ghost use Rattle.rtcm_bits.specs.Bits.{bits_of};
+ghost use Rattle.rtcm_bits.specs.FrameOf.{longest_message};
+ghost use Rattle.rtcm_msg.specs.Spelling.{message_bits, is_other, Reads, IsFault, IsMessage, IsEncoding};
 ghost use Rattle.rtcm_msg.specs.declared.message.Message.{Message};
 ghost use Rattle.rtcm_msg.specs.declared.fault.MsgFault.{MsgFault};
 ghost use Rattle.rtcm_msg.specs.Reading.{message_at, set_at, is_listed};
@@ -15,7 +16,7 @@ use crate::station::Station;
 use crate::view::look;
 use crate::writing::write_station;
 use arrayvec::ArrayVec;
-use rtcm_bits::{BitReader, BitWriter};
+use rtcm_bits::{BitReader, BitWriter, LONGEST_MESSAGE};
 
 /// A message of RTCM 10403.3.
 #[derive(Drop)]
@@ -26,8 +27,8 @@ pub enum Message {
     Msm4(Msm<Grid4>),
     /// Message 1077 or 1097.
     Msm7(Msm<Grid7>),
-    /// A message of another number, DF002. Of a multiple signal message of any system and type that is
-    /// long enough for them, `set` has the station, DF003, and the multiple message bit, DF393.
+    /// A message of another number, DF002. Of a multiple signal message of any system and type that
+    /// is long enough for them, `set` has the station, DF003, and the multiple message bit, DF393.
     Other {
         number: u16,
         set: Option<(u16, bool)>,
@@ -61,13 +62,13 @@ fn read_message(bytes: &[u8]) -> Result<Message, MsgFault>
     }
 }
 
-/// The first 1,023 bytes, behind which no field ends.
+/// As many bytes as the longest message has, behind which no field ends.
 pub(crate) fn front(bytes: &[u8]) -> &[u8]
-    ensures few { length result.now ≤ 1023 }
+    ensures few { length result.now ≤ longest_message }
     ensures same { message_at result.now ≡ message_at bytes.now }
 {
-    if bytes.len() > 1023 {
-        &bytes[..1023]
+    if bytes.len() > LONGEST_MESSAGE {
+        &bytes[..LONGEST_MESSAGE]
     } else {
         bytes
     }
@@ -78,10 +79,10 @@ pub(crate) fn front(bytes: &[u8]) -> &[u8]
 ///
 /// # Errors
 ///
-/// The first fault in the order of the fields: `Short` with the number of bits before the first field
-/// that does not end within the message, `BadTime` for an epoch time of a week or more as soon as it
-/// was read, `TooManyCells` for more than 64 pairs of a satellite and a signal as soon as both masks
-/// were read.
+/// The first fault in the order of the fields: `Short` with the number of bits before the first
+/// field that does not end within the message, `BadTime` for an epoch time of a week or more as
+/// soon as it was read, `TooManyCells` for more than 64 pairs of a satellite and a signal as soon
+/// as both masks were read.
 pub fn decode(bytes: &[u8]) -> Result<Message, MsgFault>
     ensures exact { Gives (λ m. m) result (message_at bytes.now) }
     // What is spelled is read, whatever the reserved bits are and whatever follows.
@@ -117,11 +118,11 @@ fn write_message(writer: &mut BitWriter, message: &Message)
     }
 }
 
-/// Replaces the bytes by the message, with zero for the reserved bits, and filled up with zero bits to
-/// a byte. `decode` gives the message back.
-pub fn encode(message: &Message, bytes: &mut ArrayVec<u8, 1023>)
+/// Replaces the bytes by the message, with zero for the reserved bits, and filled up with zero bits
+/// to a byte. `decode` gives the message back.
+pub fn encode(message: &Message, bytes: &mut ArrayVec<u8, LONGEST_MESSAGE>)
     requires { is_other message.now ≡ false }
-    ensures bits { bits_of bytes.new.items ≡ filled (message_bits message.now 0) }
+    ensures bits { IsEncoding bytes.new.items message.now }
     ensures value { IsMessage message.now }
 {
     let mut writer = BitWriter::new();

@@ -1,5 +1,5 @@
 ghost use Rattle.std.specs.Prelude.{◌≡◌, ◌<◌, ◌^◌, All, map, IfErr, Some, None, ◌++◌, ◌≤◌, IfOk, length, slice_index, count_ones};
-ghost use Rattle.rtcm_msg.specs.Msm.{IsHeader, msm_bits, IsValue};
+ghost use Rattle.rtcm_msg.specs.Msm.{IsHeader, msm_bits, IsValue, satellite_mask_bits, most_pairs};
 ghost use Rattle.rtcm_msg.specs.Packed.{total};
 ghost use Rattle.rtcm_msg.specs.Refusals.{msm_refusal};
 ghost use Rattle.rtcm_msg.specs.Columns.{EachBelow};
@@ -8,23 +8,24 @@ ghost use Rattle.rtcm_msg.specs.Views as views;
 use crate::fault::ValueFault;
 use crate::grid::Grid;
 use crate::header::{MsmHeader, WEEK, header_fault};
-use crate::masks::Masks;
+use crate::masks::{MOST_PAIRS, MOST_SATELLITES, Masks};
 use crate::view::MsmView;
 use crate::writing::{write_columns, write_header, write_masks};
 use arrayvec::ArrayVec;
 use rtcm_bits::BitWriter;
 use std::marker::{Model, PhantomData};
 
-/// A multiple signal message of GPS or Galileo, in the precision of the grid: a header, the satellites
-/// and signals that the masks name, data for each satellite, and a cell for each pair that has one.
+/// A multiple signal message of GPS or Galileo, in the precision of the grid: a header, the
+/// satellites and signals that the masks name, data for each satellite, and a cell for each pair
+/// that has one.
 // The data stand packed, each satellite's or cell's fields in one number.
 #[derive(Drop)]
 pub struct Msm<G: Grid> {
     is_galileo: bool,
     header: MsmHeader,
     masks: Masks,
-    satellites: ArrayVec<u64, 64>,
-    cells: ArrayVec<u128, 64>,
+    satellites: ArrayVec<u64, MOST_SATELLITES>,
+    cells: ArrayVec<u128, MOST_PAIRS>,
     grid: PhantomData<G>,
 }
 
@@ -35,18 +36,19 @@ impl<G: Grid> Model for Msm<G> {
 
     ghost view = { λ m. record { is_galileo = m.is_galileo; header = m.header; sets = m.masks; satellites = m.satellites.items; cells = m.cells.items } };
 
-    ghost invariant = { λ m. IsValue G.satellite_widths G.cell_widths (record { is_galileo = m.is_galileo; header = m.header; sets = m.masks; satellites = m.satellites.items; cells = m.cells.items }) };
+    ghost invariant = { λ m. IsValue G.satellite_widths G.cell_widths
+        (record { is_galileo = m.is_galileo; header = m.header; sets = m.masks; satellites = m.satellites.items; cells = m.cells.items }) };
 }
 
 impl<G: Grid> Msm<G> {
-    /// A message of these parts. The satellites stand in rising order of their IDs, the cells in the
-    /// order of the cell mask.
+    /// A message of these parts. The satellites stand in rising order of their IDs, the cells in
+    /// the order of the cell mask.
     ///
     /// # Errors
     ///
-    /// In this order: `BadTime` where the time is a week or more, `CellCount` where there are more or
-    /// fewer satellites or cells than the masks have, `OutOfRange` with the first field, in the order
-    /// of the layout, that does not fit its bits somewhere.
+    /// In this order: `BadTime` where the time is a week or more, `CellCount` where there are more
+    /// or fewer satellites or cells than the masks have, `OutOfRange` with the first field, in the
+    /// order of the layout, that does not fit its bits somewhere.
     pub fn new(
         is_galileo: bool,
         header: MsmHeader,
@@ -54,9 +56,17 @@ impl<G: Grid> Msm<G> {
         satellites: &[G::Satellite],
         cells: &[G::Cell],
     ) -> Result<Msm<G>, ValueFault>
-        ensures refused { IfErr result (λ e. msm_refusal header masks (length satellites.now) (length cells.now) (G.satellite_fault_of satellites.now) (G.cell_fault_of cells.now) ≡ Some e) }
-        ensures accepted { IfOk result (λ _. msm_refusal header masks (length satellites.now) (length cells.now) (G.satellite_fault_of satellites.now) (G.cell_fault_of cells.now) ≡ None) }
-        ensures made { IfOk result (λ m. m ≡ record { is_galileo = is_galileo; header = header; sets = masks; satellites = map G.satellite_packed satellites.now; cells = map G.cell_packed cells.now }) }
+        ensures refused { IfErr result (λ e.
+            msm_refusal header masks (length satellites.now) (length cells.now) (G.satellite_fault_of satellites.now) (G.cell_fault_of cells.now) ≡ Some e) }
+        ensures accepted { IfOk result (λ _.
+            msm_refusal header masks (length satellites.now) (length cells.now) (G.satellite_fault_of satellites.now) (G.cell_fault_of cells.now) ≡ None) }
+        ensures made { IfOk result (λ m. m ≡ record {
+          is_galileo = is_galileo;
+          header = header;
+          sets = masks;
+          satellites = map G.satellite_packed satellites.now;
+          cells = map G.cell_packed cells.now;
+        }) }
     {
         if header.time >= WEEK {
             return Err(ValueFault::BadTime);
@@ -151,7 +161,7 @@ impl<G: Grid> Msm<G> {
 }
 
 /// The satellites of a message that is looked at, each one's fields in one number.
-fn satellites_of(view: &MsmView<'_>) -> ArrayVec<u64, 64>
+fn satellites_of(view: &MsmView<'_>) -> ArrayVec<u64, MOST_SATELLITES>
     ensures { result.items ≡ view.now.msm.satellites }
 {
     let mut satellites = ArrayVec::new();
@@ -162,7 +172,7 @@ fn satellites_of(view: &MsmView<'_>) -> ArrayVec<u64, 64>
 }
 
 /// The cells of a message that is looked at, each one's fields in one number.
-fn cells_of(view: &MsmView<'_>) -> ArrayVec<u128, 64>
+fn cells_of(view: &MsmView<'_>) -> ArrayVec<u128, MOST_PAIRS>
     ensures { result.items ≡ view.now.msm.cells }
 {
     let mut cells = ArrayVec::new();
@@ -190,7 +200,7 @@ pub(crate) fn msm_of<G: Grid>(view: &MsmView<'_>) -> Msm<G>
 }
 
 /// The numbers in 128 bits.
-fn widen(numbers: &ArrayVec<u64, 64>) -> ArrayVec<u128, 64>
+fn widen(numbers: &ArrayVec<u64, MOST_SATELLITES>) -> ArrayVec<u128, MOST_PAIRS>
     ensures { result.items ≡ numbers.now.items }
 {
     let mut wide = ArrayVec::new();
@@ -217,8 +227,8 @@ pub(crate) fn write_msm<G: Grid>(writer: &mut BitWriter, msm: &Msm<G>)
 }
 
 /// Each satellite's fields in one number.
-fn pack_satellites<G: Grid>(satellites: &[G::Satellite]) -> ArrayVec<u64, 64>
-    requires few { length satellites.now ≤ 64 }
+fn pack_satellites<G: Grid>(satellites: &[G::Satellite]) -> ArrayVec<u64, MOST_SATELLITES>
+    requires few { length satellites.now ≤ satellite_mask_bits }
     requires in_range { All G.is_satellite satellites.now }
     ensures items { result.items ≡ map G.satellite_packed satellites.now }
     ensures fit { EachBelow (total G.satellite_widths) result.items }
@@ -231,8 +241,8 @@ fn pack_satellites<G: Grid>(satellites: &[G::Satellite]) -> ArrayVec<u64, 64>
 }
 
 /// Each cell's fields in one number.
-fn pack_cells<G: Grid>(cells: &[G::Cell]) -> ArrayVec<u128, 64>
-    requires few { length cells.now ≤ 64 }
+fn pack_cells<G: Grid>(cells: &[G::Cell]) -> ArrayVec<u128, MOST_PAIRS>
+    requires few { length cells.now ≤ most_pairs }
     requires in_range { All G.is_cell cells.now }
     ensures items { result.items ≡ map G.cell_packed cells.now }
     ensures fit { EachBelow (total G.cell_widths) result.items }

@@ -31,8 +31,8 @@ pub(crate) fn end_of(
     Ok(place)
 }
 
-/// The fields of the satellite or cell of place `i` in one number, the first in the most significant bits, where the data
-/// of `count` of them begin at a place.
+/// The fields of the satellite or cell of place `i` in one number, the first in the most
+/// significant bits, where the data of `count` of them begin at a place.
 pub(crate) fn row_at(bytes: &[u8], widths: &[u32], count: usize, place: usize, i: usize) -> u128
     requires narrow { All (λ w. w ≤ 64) widths.now }
     requires wide { total widths.now ≤ 128 }

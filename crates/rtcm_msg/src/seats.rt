@@ -1,9 +1,10 @@
 ghost use Rattle.std.specs.Prelude.{◌≡◌, ◌<◌, ◌≤◌, ◌^◌, length, IfSome, IfNone, ◌∷◌, [], count_ones, ℕ};
 ghost use Rattle.rtcm_bits.specs.Bits.{uint};
-ghost use Rattle.rtcm_msg.specs.Entries.{ids, seats, all_pairs, chosen};
-ghost use Rattle.rtcm_msg.specs.Walks.{pairs_left, IsWalking, ArePlaced};
+ghost use Rattle.rtcm_msg.specs.Msm.{most_pairs};
+ghost use Rattle.rtcm_msg.specs.Entries.{ids, seats, chosen};
+ghost use Rattle.rtcm_msg.specs.Walks.{pairs_left, IsWalking, ArePlaced, SplitsCells};
 
-use crate::masks::Masks;
+use crate::masks::{MOST_PAIRS, Masks, SATELLITE_MASK_BITS, SIGNAL_MASK_BITS};
 use arrayvec::ArrayVec;
 use std::marker::Model;
 
@@ -30,8 +31,9 @@ fn split_first(mask: u64, width: u32) -> (u8, u64)
     ((width - top) as u8, mask - (1 << top))
 }
 
-/// Pairs of a satellite and a signal from one pair on: those of the first satellite with the signals that are left, and
-/// those of the satellites behind it with all signals. Sets of IDs, whose first is the highest bit.
+/// Pairs of a satellite and a signal from one pair on: those of the first satellite with the
+/// signals that are left, and those of the satellites behind it with all signals. Sets of IDs,
+/// whose first is the highest bit.
 #[derive(Clone, Copy)]
 struct Pairs {
     /// The place of the first satellite in the message.
@@ -55,7 +57,7 @@ fn with_signals(pairs: Pairs) -> Pairs
     }
     Pairs {
         place: pairs.place + 1,
-        satellites: split_first(pairs.satellites, 64).1,
+        satellites: split_first(pairs.satellites, SATELLITE_MASK_BITS).1,
         signals: pairs.all,
         all: pairs.all,
     }
@@ -69,22 +71,22 @@ fn split_pairs(pairs: Pairs) -> (Seat, Pairs)
     ensures walking { IsWalking result.1 }
 {
     let pairs = with_signals(pairs);
-    let (signal, signals) = split_first(pairs.signals, 32);
+    let (signal, signals) = split_first(pairs.signals, SIGNAL_MASK_BITS);
     let seat = Seat {
         place: pairs.place,
-        satellite: split_first(pairs.satellites, 64).0,
+        satellite: split_first(pairs.satellites, SATELLITE_MASK_BITS).0,
         signal,
     };
     (seat, Pairs { signals, ..pairs })
 }
 
-/// The first cell of so many pairs that are left, of which the low bits of the number say which ones have a cell, and the
-/// pairs behind it.
+/// The first cell of so many pairs that are left, of which the low bits of the number say which
+/// ones have a cell, and the pairs behind it.
 fn split_cells(pairs: Pairs, cells: u64, left: u32) -> Option<(Seat, Pairs, u32)>
-    requires few { left ≤ 64 }
+    requires few { left ≤ most_pairs }
     requires count { length (pairs_left pairs) ≡ left }
     requires walking { IsWalking pairs }
-    ensures some { IfSome result (λ x. (chosen (uint left cells) (pairs_left pairs) ≡ x.0 ∷ chosen (uint x.2 cells) (pairs_left x.1)) × (length (pairs_left x.1) ≡ x.2) × (x.2 ≤ 64) × IsWalking x.1) }
+    ensures some { IfSome result (λ x. SplitsCells left cells pairs x.0 x.1 x.2) }
     ensures placed { IfSome result (λ x. (n : ℕ) → ArePlaced n (pairs_left pairs) → (x.0.place < n) × ArePlaced n (pairs_left x.1)) }
     ensures none { IfNone result (chosen (uint left cells) (pairs_left pairs) ≡ []) }
 {
@@ -101,8 +103,8 @@ fn split_cells(pairs: Pairs, cells: u64, left: u32) -> Option<(Seat, Pairs, u32)
     None
 }
 
-/// Goes over the satellites and signals of a message's cells, in the order of the cell mask. It takes
-/// no memory.
+/// Goes over the satellites and signals of a message's cells, in the order of the cell mask. It
+/// takes no memory.
 #[derive(Drop)]
 pub struct Seats {
     masks: Masks,
@@ -112,15 +114,15 @@ pub struct Seats {
 
 impl Model for Seats {
     ghost use Rattle.rtcm_msg.specs.Entries.{Walk, chosen};
-    ghost use Rattle.rtcm_msg.specs.Walks.{pairs_left, IsWalking, ArePlaced};
+    ghost use Rattle.rtcm_msg.specs.Walks.{pairs_left, AreLeft};
     ghost use Rattle.rtcm_bits.specs.Bits.{uint};
-    ghost use Rattle.std.specs.Prelude.{count_ones, length, ◌≡◌, ◌≤◌};
+    ghost use Rattle.std.specs.Prelude.{count_ones};
 
     ghost Value = { Walk };
 
     ghost view = { λ s. record { sets = s.masks; left = chosen (uint s.left s.masks.cells) (pairs_left s.pairs) } };
 
-    ghost invariant = { λ s. (length (pairs_left s.pairs) ≡ s.left) × (s.left ≤ 64) × IsWalking s.pairs × ArePlaced (count_ones s.masks.satellites) (pairs_left s.pairs) };
+    ghost invariant = { λ s. AreLeft (count_ones s.masks.satellites) s.left s.pairs };
 }
 
 impl Seats {
@@ -161,7 +163,7 @@ impl Seats {
 }
 
 /// The seats of all cells in order.
-pub fn all_seats(masks: Masks) -> ArrayVec<Seat, 64>
+pub fn all_seats(masks: Masks) -> ArrayVec<Seat, MOST_PAIRS>
     ensures { result.items ≡ seats masks }
 {
     let count = masks.cells().count_ones();

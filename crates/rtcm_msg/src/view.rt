@@ -1,7 +1,8 @@
 ghost use Rattle.std.specs.Prelude.{◌≡◌, ◌*◌, ◌<◌, ◌≤◌, ◌^◌, All, IfOk, length, slice_index, count_ones};
 ghost use Rattle.rtcm_bits.specs.Bits.{bits_of};
+ghost use Rattle.rtcm_bits.specs.FrameOf.{longest_message};
 ghost use Rattle.rtcm_msg.specs.Fields.{Gives, standing};
-ghost use Rattle.rtcm_msg.specs.Msm.{IsHeader, IsValue};
+ghost use Rattle.rtcm_msg.specs.Msm.{IsHeader, IsValue, satellite_mask_bits, most_pairs};
 ghost use Rattle.rtcm_msg.specs.Packed.{total};
 ghost use Rattle.rtcm_msg.specs.Reading.{message_at, body_at};
 ghost use Rattle.rtcm_msg.specs.Seen.{seen};
@@ -68,8 +69,8 @@ impl Form {
     }
 }
 
-/// A multiple signal message that is read where its bytes lie: the header and the masks are read, and it is known that the
-/// data of satellites and cells are there.
+/// A multiple signal message that is read where its bytes lie: the header and the masks are read,
+/// and it is known that the data of satellites and cells are there.
 #[derive(Drop)]
 pub struct MsmView<'a> {
     form: Form,
@@ -92,9 +93,26 @@ impl<'a> Model for MsmView<'a> {
 
     ghost Value = { FormedMsm };
 
-    ghost view = { λ v. record { form = v.form; msm = record { is_galileo = v.is_galileo; header = v.header; sets = v.masks; satellites = rows_at (satellite_widths v.form) v.satellites (bits_of v.bytes.now) v.satellites_at; cells = rows_at (cell_widths v.form) v.cells (bits_of v.bytes.now) v.cells_at } } };
+    ghost view = { λ v. record {
+      form = v.form;
+      msm = record {
+        is_galileo = v.is_galileo;
+        header = v.header;
+        sets = v.masks;
+        satellites = rows_at (satellite_widths v.form) v.satellites (bits_of v.bytes.now) v.satellites_at;
+        cells = rows_at (cell_widths v.form) v.cells (bits_of v.bytes.now) v.cells_at;
+      };
+    } };
 
-    ghost invariant = { λ v. IsValue (satellite_widths v.form) (cell_widths v.form) (record { is_galileo = v.is_galileo; header = v.header; sets = v.masks; satellites = rows_at (satellite_widths v.form) v.satellites (bits_of v.bytes.now) v.satellites_at; cells = rows_at (cell_widths v.form) v.cells (bits_of v.bytes.now) v.cells_at }) × IsLaid v.form (length v.bytes.now) v.satellites v.satellites_at v.cells v.cells_at };
+    ghost invariant = { λ v. IsValue (satellite_widths v.form) (cell_widths v.form)
+        (record {
+          is_galileo = v.is_galileo;
+          header = v.header;
+          sets = v.masks;
+          satellites = rows_at (satellite_widths v.form) v.satellites (bits_of v.bytes.now) v.satellites_at;
+          cells = rows_at (cell_widths v.form) v.cells (bits_of v.bytes.now) v.cells_at;
+        })
+        × IsLaid v.form (length v.bytes.now) v.satellites v.satellites_at v.cells v.cells_at };
 }
 
 impl<'a> MsmView<'a> {
@@ -140,7 +158,7 @@ impl<'a> MsmView<'a> {
     pub fn satellites(&self) -> usize
         ensures count { result ≡ length self.now.msm.satellites }
         ensures set { result ≡ count_ones self.now.msm.sets.satellites }
-        ensures few { result ≤ 64 }
+        ensures few { result ≤ satellite_mask_bits }
     {
         self.satellites
     }
@@ -149,7 +167,7 @@ impl<'a> MsmView<'a> {
     pub fn cells(&self) -> usize
         ensures count { result ≡ length self.now.msm.cells }
         ensures set { result ≡ count_ones self.now.msm.sets.cells }
-        ensures few { result ≤ 64 }
+        ensures few { result ≤ most_pairs }
     {
         self.cells
     }
@@ -228,7 +246,7 @@ fn view_msm<'a>(
     form: Form,
     is_galileo: bool,
 ) -> Result<MsmView<'a>, MsgFault>
-    requires small { length bytes.now ≤ 1023 }
+    requires small { length bytes.now ≤ longest_message }
     requires number { 12 ≤ 8 * length bytes.now }
     requires stands { reader.old ≡ standing (bits_of bytes.now) 12 }
     ensures { Gives views.formed result (views.formed_at form is_galileo reader.old) }
@@ -257,7 +275,7 @@ fn view_msm<'a>(
 /// Looks at what stands behind the message number.
 #[tactic(auto, unfolding(crate::specs::Reading::body_at))]
 fn view_body<'a>(number: u16, bytes: &'a [u8], reader: &mut BitReader) -> Result<View<'a>, MsgFault>
-    requires small { length bytes.now ≤ 1023 }
+    requires small { length bytes.now ≤ longest_message }
     requires number { 12 ≤ 8 * length bytes.now }
     requires stands { reader.old ≡ standing (bits_of bytes.now) 12 }
     ensures { Gives seen result (body_at number reader.old) }
@@ -280,10 +298,10 @@ fn view_body<'a>(number: u16, bytes: &'a [u8], reader: &mut BitReader) -> Result
     }
 }
 
-/// Looks at a message of at most 1,023 bytes.
+/// Looks at a message that is no longer than the longest.
 #[tactic(auto, unfolding(crate::specs::Reading::message_of))]
 fn view_message(bytes: &[u8]) -> Result<View<'_>, MsgFault>
-    requires { length bytes.now ≤ 1023 }
+    requires { length bytes.now ≤ longest_message }
     ensures { Gives seen result (message_at bytes.now) }
 {
     let mut reader = BitReader::new(bytes);
@@ -291,7 +309,8 @@ fn view_message(bytes: &[u8]) -> Result<View<'_>, MsgFault>
     view_body(number, bytes, &mut reader)
 }
 
-/// Looks at a message where its bytes lie: what `decode` answers, but nothing of the satellites' and cells' data is read yet.
+/// Looks at a message where its bytes lie: what `decode` answers, but nothing of the satellites'
+/// and cells' data is read yet.
 ///
 /// # Errors
 ///

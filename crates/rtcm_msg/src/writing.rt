@@ -1,20 +1,21 @@
 ghost use Rattle.std.specs.Prelude.{◌≡◌, ◌+◌, ◌*◌, ◌/◌, ◌^◌, ◌<◌, ◌≤◌, ◌++◌, length, IsTrue, nat_le, All};
 ghost use Rattle.std.specs.List.{list_all, flat_map};
 ghost use Rattle.rtcm_bits.specs.Bits.{uint};
+ghost use Rattle.rtcm_bits.specs.FrameOf.{longest_message_bits};
 ghost use Rattle.rtcm_msg.specs.Fields.{spelled, width_of};
 ghost use Rattle.rtcm_msg.specs.Station.{InRange, common_fields, station_fields};
 ghost use Rattle.rtcm_msg.specs.Msm.{header_fields, set_fields};
 ghost use Rattle.rtcm_msg.specs.Packed.{columns, total};
 
 use crate::header::MsmHeader;
-use crate::masks::Masks;
+use crate::masks::{Masks, SATELLITE_MASK_BITS, SIGNAL_MASK_BITS};
 use crate::station::StationParts;
 use rtcm_bits::{BitWriter, raw_of};
 
 /// Writes fields in order, each a width and a number.
 fn write_fields(writer: &mut BitWriter, fields: &[(u32, u64)])
     requires few { IsTrue (list_all (λ f. nat_le f.0 64) fields.now) }
-    requires room { length writer.old + width_of fields.now ≤ 8184 }
+    requires room { length writer.old + width_of fields.now ≤ longest_message_bits }
     ensures bits { writer.new ≡ writer.old ++ spelled fields.now }
     ensures len { length writer.new ≡ length writer.old + width_of fields.now }
 {
@@ -25,7 +26,7 @@ fn write_fields(writer: &mut BitWriter, fields: &[(u32, u64)])
 
 /// Writes the fields that messages 1005 and 1006 have both.
 fn write_common(writer: &mut BitWriter, number: u16, parts: &StationParts)
-    requires room { length writer.old ≤ 8000 }
+    requires room { length writer.old + 152 ≤ longest_message_bits }
     requires in_range { InRange parts.now }
     ensures bits { writer.new ≡ writer.old ++ spelled (common_fields number parts.now 0) }
     ensures len { length writer.new ≡ length writer.old + 152 }
@@ -55,7 +56,7 @@ fn write_common(writer: &mut BitWriter, number: u16, parts: &StationParts)
 
 /// Writes a station message with its number.
 pub(crate) fn write_station(writer: &mut BitWriter, parts: &StationParts)
-    requires room { length writer.old ≤ 8000 }
+    requires room { length writer.old + 168 ≤ longest_message_bits }
     requires in_range { InRange parts.now }
     ensures { writer.new ≡ writer.old ++ spelled (station_fields parts.now 0) }
 {
@@ -70,7 +71,7 @@ pub(crate) fn write_station(writer: &mut BitWriter, parts: &StationParts)
 
 /// Writes the head of an MSM with its number.
 pub(crate) fn write_header(writer: &mut BitWriter, number: u16, header: &MsmHeader)
-    requires { length writer.old ≤ 8000 }
+    requires { length writer.old + 73 ≤ longest_message_bits }
     ensures bits { writer.new ≡ writer.old ++ spelled (header_fields number header.now 0) }
     ensures len { length writer.new ≡ length writer.old + 73 }
 {
@@ -93,7 +94,7 @@ pub(crate) fn write_header(writer: &mut BitWriter, number: u16, header: &MsmHead
 
 /// Writes the masks.
 pub(crate) fn write_masks(writer: &mut BitWriter, masks: &Masks)
-    requires { length writer.old ≤ 8000 }
+    requires { length writer.old + 160 ≤ longest_message_bits }
     ensures bits { writer.new ≡ writer.old ++ spelled (set_fields masks.now) }
     ensures len { length writer.new ≤ length writer.old + 160 }
 {
@@ -102,8 +103,8 @@ pub(crate) fn write_masks(writer: &mut BitWriter, masks: &Masks)
     write_fields(
         writer,
         &[
-            (64, masks.satellites()),
-            (32, masks.signals() as u64),
+            (SATELLITE_MASK_BITS, masks.satellites()),
+            (SIGNAL_MASK_BITS, masks.signals() as u64),
             (pairs, masks.cells()),
         ],
     );
@@ -113,7 +114,7 @@ pub(crate) fn write_masks(writer: &mut BitWriter, masks: &Masks)
 fn write_column(writer: &mut BitWriter, shift: u32, width: u32, numbers: &[u128])
     requires few { width ≤ 64 }
     requires shift { shift < 128 }
-    requires room { length writer.old + width * length numbers.now ≤ 8184 }
+    requires room { length writer.old + width * length numbers.now ≤ longest_message_bits }
     ensures bits { writer.new ≡ writer.old ++ flat_map (λ p. uint width (p / 2 ^ shift)) numbers.now }
     ensures len { length writer.new ≡ length writer.old + width * length numbers.now }
 {
@@ -126,7 +127,7 @@ fn write_column(writer: &mut BitWriter, shift: u32, width: u32, numbers: &[u128]
 pub(crate) fn write_columns(writer: &mut BitWriter, widths: &[u32], numbers: &[u128])
     requires few { All (λ w. w ≤ 64) widths.now }
     requires wide { total widths.now < 128 }
-    requires room { length writer.old + total widths.now * length numbers.now ≤ 8184 }
+    requires room { length writer.old + total widths.now * length numbers.now ≤ longest_message_bits }
     ensures bits { writer.new ≡ writer.old ++ columns widths.now numbers.now }
     ensures len { length writer.new ≡ length writer.old + total widths.now * length numbers.now }
 {

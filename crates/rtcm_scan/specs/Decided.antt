@@ -25,6 +25,10 @@ tried b = filter (is_tried b) (places (length b))
 unfoldable pub decided : List ℕ → ℕ
 decided b = position_or_len (λ p. is_tried b p && is_open (drop p b)) (places (length b))
 
+-- fewer bytes than the longest frame has are undecided
+abbrev pub most_undecided : ℕ
+most_undecided = 1028
+
 -- the frames that begin before a place
 unfoldable pub frames_before : ℕ → List Framed → List Framed
 frames_before p fs = filter (λ f. nat_lt f.offset p) fs

@@ -1,9 +1,10 @@
 -- Damage stays local.
 use Rattle.std.specs.Prelude.{◌≡◌, ℕ, ◌+◌, ◌<◌, ◌≤◌, ◌++◌, true, List, [], ◌∷◌, length, take, drop, slice_index_or}
 use Rattle.std.specs.List.{All, Contains, flat_map}
-use Rattle.rtcm_bits.specs.FrameOf.{frame_bytes}
+use Rattle.rtcm_bits.specs.FrameOf.{frame_bytes, longest_message}
 use Rattle.rtcm_scan.specs.Frame.{begins_frame}
 use Rattle.rtcm_scan.specs.Frames.{Framed, frames_of}
+use Rattle.rtcm_scan.specs.Decided.{most_undecided}
 
 -- any bytes, and the frames of these messages behind them
 abbrev pub stream_behind : List ℕ → List (List ℕ) → List ℕ
@@ -13,14 +14,18 @@ stream_behind bytes messages = bytes ++ flat_map frame_bytes messages
 abbrev pub place_of : List ℕ → List (List ℕ) → ℕ → ℕ
 place_of bytes messages k = length (stream_behind bytes (take k messages))
 
+-- each message fits a frame
+abbrev pub FitFrames : List (List ℕ) → Type 0
+FitFrames messages = All (λ m. length m ≤ longest_message) messages
+
 -- behind the bytes and before the frame with number k, nothing looks like a frame but these frames themselves
 abbrev pub IsQuiet : List ℕ → List (List ℕ) → ℕ → Type 0
 IsQuiet bytes messages k = (q : ℕ) → length bytes ≤ q → q < place_of bytes messages k → begins_frame (drop q (stream_behind bytes messages)) ≡ true
     → (i : ℕ) × (i < k) × (q ≡ place_of bytes messages i)
 
--- from the frame with number k on, which begins 1028 bytes or more behind the bytes, all frames are found
+-- from the frame with number k on, which begins as many bytes behind these as may be undecided, or more, all frames are found
 abbrev pub StaysLocal : List ℕ → List (List ℕ) → ℕ → Type 0
-StaysLocal bytes messages k = All (λ m. length m ≤ 1023) messages → k < length messages → length bytes + 1028 ≤ place_of bytes messages k → IsQuiet bytes messages k
+StaysLocal bytes messages k = FitFrames messages → k < length messages → length bytes + most_undecided ≤ place_of bytes messages k → IsQuiet bytes messages k
     → (i : ℕ) → k ≤ i → i < length messages
     → Contains (frames_of (stream_behind bytes messages)) (record { offset = place_of bytes messages i; message = slice_index_or messages i [] })
 

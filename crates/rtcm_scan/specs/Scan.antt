@@ -1,5 +1,5 @@
 -- What a contract sees of a framer, and the streams that it stands for.
-use Rattle.std.specs.Prelude.{◌≡◌, ℕ, ◌+◌, ◌-◌, ◌<◌, ◌≤◌, Bool, false, List, [], ◌∷◌, ◌++◌, length, drop, replicate}
+use Rattle.std.specs.Prelude.{◌≡◌, ℕ, ◌+◌, ◌-◌, ◌^◌, ◌<◌, ◌≤◌, Bool, false, List, [], ◌∷◌, ◌++◌, length, drop, replicate}
 use Rattle.std.specs.List.{sum_by}
 use Rattle.rtcm_scan.specs.Frame.{begins_frame, is_open}
 use Rattle.rtcm_scan.specs.Frames.{Framed, IsFrameOf, end_of}
@@ -22,6 +22,10 @@ pub record Scan : Type 0 where
   pub looks : List ℕ
   pub examined : ℕ
   pub most : ℕ
+
+-- the most bytes of a stream
+abbrev pub most_bytes : ℕ
+most_bytes = 2 ^ 48
 
 -- by its parts
 abbrev pub scan_of : ℕ → ℕ → Held → Bool → Bool → ℕ → ℕ → Scan
@@ -50,6 +54,10 @@ with_looks v w tried = record v { looks = w.looks; examined = w.examined; most =
 -- with another window, whose candidate was examined so far
 abbrev pub with_window : Scan → Held → ℕ → Scan
 with_window v w tried = record v { held = w.bytes; looks = w.looks; examined = w.examined; most = w.most; tried = tried }
+
+-- with this byte more, which nothing has looked at
+abbrev pub with_byte : Scan → ℕ → Scan
+with_byte v byte = record v { taken = v.taken + 1; held = v.held ++ byte ∷ []; looks = v.looks ++ 0 ∷ []; is_ready = false }
 
 -- with these bytes more, which nothing has looked at
 abbrev pub with_bytes : Scan → List ℕ → Scan
@@ -80,3 +88,7 @@ pub record StandsFor (v : Scan) (b : List ℕ) (fs : List Framed) : Type 0 where
   pub scanned : Scanned v.has_ended b 0 (first_held v) fs
   pub first : IsPrefix fs (known_frames v.has_ended b)
   pub skipped : v.skipped + sum_by (λ f. length f.message + 6) fs ≡ first_held v
+
+-- whatever the framer stood for, it stands for that with this frame handed out too
+abbrev pub HandsOut : Scan → Scan → Framed → Type 0
+HandsOut old new f = (b : List ℕ) (fs : List Framed) → StandsFor old b fs → StandsFor new b (fs ++ f ∷ [])

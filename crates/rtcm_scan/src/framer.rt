@@ -1,32 +1,33 @@
 //! The frames of a stream that comes in blocks or byte by byte.
 //!
-//! The scan goes from the left: at the first undecided place either a whole frame with a right check stands, which is
-//! handed out and passed over, or none can, and the scan goes on one byte further, or bytes are missing, and it waits.
-//! So a frame inside a damaged frame is found. Each byte of a candidate is looked at once, however the stream is cut.
-ghost use Rattle.std.specs.Prelude.{◌≡◌, ◌+◌, ◌-◌, ◌*◌, ◌<◌, ◌≤◌, ◌^◌, ◌⊎◌, ℕ, List, [], ◌∷◌, ◌++◌, min, length, slice_index, take, true, false, IsTrue, IfOk, OnOk, OnErr, IfErr, IfSome, IfNone, OnSome, ◌↔◌};
+//! The scan goes from the left: at the first undecided place either a whole frame with a right
+//! check stands, which is handed out and passed over, or none can, and the scan goes on one byte
+//! further, or bytes are missing, and it waits. So a frame inside a damaged frame is found. Each
+//! byte of a candidate is looked at once, however the stream is cut.
+ghost use Rattle.std.specs.Prelude.{◌≡◌, ◌+◌, ◌-◌, ◌*◌, ◌<◌, ◌≤◌, ◌^◌, ◌⊎◌, ℕ, List, [], ◌∷◌, ◌++◌, min, length, take, true, false, IsTrue, IfOk, OnOk, OnErr, IfErr, IfSome, IfNone, OnSome, ◌↔◌};
 ghost use Rattle.rtcm_scan.specs.Frame.{begins_frame, frame_length, message_of};
 ghost use Rattle.rtcm_scan.specs.Frames.{Framed};
-ghost use Rattle.rtcm_scan.specs.Scan.{StandsFor, first_held, window_of, with_window, with_bytes};
-ghost use Rattle.rtcm_scan.specs.Candidate.{HasTaken, wanted_by};
-ghost use Rattle.rtcm_scan.specs.Examined.{HasExamined, IsCounted, IsCountedTo};
-ghost use Rattle.rtcm_scan.specs.Pending.{asked, with_candidate_examined};
+ghost use Rattle.rtcm_scan.specs.Scan.{StandsFor, HandsOut, most_bytes, first_held, window_of, with_window, with_byte, with_bytes};
+ghost use Rattle.rtcm_scan.specs.Candidate.{HasTaken};
+ghost use Rattle.rtcm_scan.specs.Examined.{HasExamined, IsCounted, CountsFrame, CountsKnown};
+ghost use Rattle.rtcm_scan.specs.Pending.{asked, HasFrame, with_candidate_examined};
+ghost use Rattle.rtcm_bits.specs.FrameOf.{longest_frame};
 ghost use Rattle.rtcm_bits.specs.Window.{looked_through, without_front};
+ghost use Rattle.rtcm_scan.specs.Decided.{most_undecided};
+ghost use Rattle.rtcm_scan.specs.Looks.{most_looks};
 ghost use Rattle.rtcm_scan.specs.Drained.{IsDrained};
-ghost use Rattle.rtcm_scan.specs.Answers.{framed, frame_at, push_answer, push_all_answer, decision, if_missing, new_scan};
+ghost use Rattle.rtcm_scan.specs.Answers.{framed, frame_at, push_answer, push_all_answer, decision, new_scan};
 
 use crate::candidate::{Candidate, PREAMBLE};
 use crate::front::{Decision, examine, judge};
 use arrayvec::ArrayVec;
-use rtcm_bits::Window;
+use rtcm_bits::{LONGEST_FRAME, LONGEST_MESSAGE, Window};
 use std::alloc::Global;
 use std::marker::Model;
 use thiserror::Error;
 
 /// The most bytes of a stream, 2^48.
 pub const MOST_BYTES: u64 = 1 << 48;
-
-/// The most bytes that a framer holds, those of the longest frame.
-const MOST_HELD: usize = 1029;
 
 /// Why a framer refused. A refused call changes nothing.
 #[derive(Clone, Copy, Debug, PartialEq, Eq, Error)]
@@ -45,20 +46,22 @@ pub enum ScanFault {
     Ended,
 }
 
-/// A frame: the place of its first byte in the stream, from 0, and its message, without header and check.
+/// A frame: the place of its first byte in the stream, from 0, and its message, without header and
+/// check.
 #[derive(Drop)]
 pub struct Frame {
     pub offset: u64,
-    pub message: ArrayVec<u8, 1023>,
+    pub message: ArrayVec<u8, LONGEST_MESSAGE>,
 }
 
-/// Takes a stream in blocks or byte by byte, and hands out its frames. It holds the undecided bytes alone, at most 1,029,
-/// in room that is reserved when it is made.
+/// Takes a stream in blocks or byte by byte, and hands out its frames. It holds the undecided bytes
+/// alone, at most 1,029, in room that is reserved when it is made.
 #[derive(Drop)]
 pub struct Framer {
     /// The held bytes.
     window: Window,
-    /// What is known of the candidate at the front of the held bytes. It is kept from one call to the next.
+    /// What is known of the candidate at the front of the held bytes. It is kept from one call to
+    /// the next.
     candidate: Candidate,
     /// The most bytes that may come.
     limit: u64,
@@ -74,15 +77,16 @@ pub struct Framer {
 
 impl Model for Framer {
     ghost use Rattle.std.specs.Prelude.{◌≡◌, ◌+◌, ◌<◌, ◌≤◌, ◌^◌, length, take, true};
-    ghost use Rattle.rtcm_scan.specs.Scan.{Scan, scan_of};
+    ghost use Rattle.rtcm_bits.specs.FrameOf.{longest_frame};
+    ghost use Rattle.rtcm_scan.specs.Scan.{Scan, most_bytes, scan_of};
     ghost use Rattle.rtcm_scan.specs.Candidate.{HasTaken};
 
     ghost Value = { Scan };
 
     ghost view = { λ f. scan_of f.limit f.place f.window f.ended f.drained f.given_up f.candidate.count };
 
-    ghost invariant = { λ f. (f.place + length f.window.bytes ≤ f.limit) × (f.limit ≤ 2 ^ 48) × (f.given_up ≤ f.place)
-        × (length f.window.bytes ≤ 1029) × (f.drained ≡ true → length f.window.bytes < 1029)
+    ghost invariant = { λ f. (f.place + length f.window.bytes ≤ f.limit) × (f.limit ≤ most_bytes) × (f.given_up ≤ f.place)
+        × (length f.window.bytes ≤ longest_frame) × (f.drained ≡ true → length f.window.bytes < longest_frame)
         × HasTaken f.candidate (take f.candidate.count f.window.bytes) × (f.candidate.count ≤ length f.window.bytes) };
 }
 
@@ -91,14 +95,15 @@ impl Framer {
     ///
     /// # Errors
     ///
-    /// `BadLimit` where the limit is above 2^48, else `Memory` where there is no room for the window.
+    /// `BadLimit` where the limit is above 2^48, else `Memory` where there is no room for the
+    /// window.
     pub fn new(alloc: Global, limit: u64) -> Result<Framer, ScanFault>
         ensures new { IfOk result (λ f. f ≡ new_scan limit) }
         ensures stands { IfOk result (λ f. StandsFor f [] []) }
         ensures counts { IfOk result (λ f. HasExamined f [] []) }
         ensures drained { IfOk result (λ f. IsDrained f [] []) }
         ensures counted { IfOk result (λ f. IsCounted f []) }
-        ensures bad_limit { result ≡ Err ScanFault.BadLimit ↔ 2 ^ 48 < limit }
+        ensures bad_limit { result ≡ Err ScanFault.BadLimit ↔ most_bytes < limit }
         ensures only { IfErr result (λ fault. (fault ≡ ScanFault.BadLimit) ⊎ (fault ≡ ScanFault.Memory)) }
     {
         if limit > MOST_BYTES {
@@ -118,15 +123,16 @@ impl Framer {
         }
     }
 
-    /// Whether bytes may be pushed: nothing was since `next` or `next_into` last answered None, or since the framer was
-    /// made.
+    /// Whether bytes may be pushed: nothing was since `next` or `next_into` last answered None, or
+    /// since the framer was made.
     pub fn ready(&self) -> bool
         ensures { result ≡ self.now.is_ready }
     {
         self.drained
     }
 
-    /// Takes one more byte, and looks at none. Then `next` or `next_into` is due until it answers None.
+    /// Takes one more byte, and looks at none. Then `next` or `next_into` is due until it answers
+    /// None.
     ///
     /// # Errors
     ///
@@ -136,7 +142,7 @@ impl Framer {
         ensures answer { result ≡ push_answer self.old }
         ensures stands { OnOk result ((b : List ℕ) (fs : List Framed) → StandsFor self.old b fs → StandsFor self.new (b ++ byte ∷ []) fs) }
         ensures counts { OnOk result ((b : List ℕ) (fs : List Framed) → HasExamined self.old b fs → HasExamined self.new (b ++ byte ∷ []) fs) }
-        ensures ok { OnOk result (self.new ≡ record self.old { taken = self.old.taken + 1; held = self.old.held ++ byte ∷ []; looks = self.old.looks ++ 0 ∷ []; is_ready = false }) }
+        ensures ok { OnOk result (self.new ≡ with_byte self.old byte) }
         ensures full { OnErr result (self.old.has_ended ≡ false → self.old.taken ≡ self.old.limit) }
         ensures err { OnErr result (self.new ≡ self.old) }
         ensures within { self.new.taken ≤ self.new.limit }
@@ -153,14 +159,16 @@ impl Framer {
         Ok(())
     }
 
-    /// Takes these bytes, and looks at none. Then `next` or `next_into` is due until it answers None.
+    /// Takes these bytes, and looks at none. Then `next` or `next_into` is due until it answers
+    /// None.
     ///
     /// # Errors
     ///
-    /// `Ended` after `end`, else `TooLong` where these bytes pass the limit; then none of them is taken.
+    /// `Ended` after `end`, else `TooLong` where these bytes pass the limit; then none of them is
+    /// taken.
     pub fn push_all(&mut self, bytes: &[u8]) -> Result<(), ScanFault>
         requires ready { IsTrue self.old.is_ready }
-        requires room { length self.old.held + length bytes.now ≤ 1029 }
+        requires room { length self.old.held + length bytes.now ≤ longest_frame }
         ensures answer { result ≡ push_all_answer self.old (length bytes.now) }
         ensures stands { OnOk result ((b : List ℕ) (fs : List Framed) → StandsFor self.old b fs → StandsFor self.new (b ++ bytes.now) fs) }
         ensures counts { OnOk result ((b : List ℕ) (fs : List Framed) → HasExamined self.old b fs → HasExamined self.new (b ++ bytes.now) fs) }
@@ -181,7 +189,8 @@ impl Framer {
         }
     }
 
-    /// Says that no byte follows: what bytes are missing never comes, and `next` decides all that is left.
+    /// Says that no byte follows: what bytes are missing never comes, and `next` decides all that
+    /// is left.
     pub fn end(&mut self)
         ensures ended { self.new ≡ record self.old { has_ended = true } }
         ensures stands { (b : List ℕ) (fs : List Framed) → StandsFor self.old b fs → StandsFor self.new b fs }
@@ -190,30 +199,31 @@ impl Framer {
         self.ended = true;
     }
 
-    /// How many bytes it holds: those from the first undecided place on, at most 1,028 once `next` answered None.
+    /// How many bytes it holds: those from the first undecided place on, at most 1,028 once `next`
+    /// answered None.
     pub fn held(&self) -> usize
         ensures value { result ≡ length self.now.held }
-        ensures bound { result ≤ 1029 }
-        ensures decided { self.now.is_ready ≡ true → result ≤ 1028 }
+        ensures bound { result ≤ longest_frame }
+        ensures decided { self.now.is_ready ≡ true → result ≤ most_undecided }
     {
         self.window.held()
     }
 
     /// How many bytes may be pushed at once: as many as there is room for, and as the limit allows.
     pub fn room(&self) -> usize
-        ensures value { result ≡ min (1029 - length self.now.held) (self.now.limit - self.now.taken) }
-        ensures fits { length self.now.held + result ≤ 1029 }
+        ensures value { result ≡ min (longest_frame - length self.now.held) (self.now.limit - self.now.taken) }
+        ensures fits { length self.now.held + result ≤ longest_frame }
         ensures within { self.now.taken + result ≤ self.now.limit }
         ensures some { self.now.is_ready ≡ true → self.now.taken < self.now.limit → 0 < result }
     {
-        let allowed = (self.limit - self.taken()).min(MOST_HELD as u64);
-        (MOST_HELD - self.held()).min(allowed as usize)
+        let allowed = (self.limit - self.taken()).min(LONGEST_FRAME as u64);
+        (LONGEST_FRAME - self.held()).min(allowed as usize)
     }
 
     /// How many bytes it has taken.
     pub fn taken(&self) -> u64
         ensures value { result ≡ self.now.taken }
-        ensures within { (result ≤ self.now.limit) × (self.now.limit ≤ 2 ^ 48) }
+        ensures within { (result ≤ self.now.limit) × (self.now.limit ≤ most_bytes) }
     {
         self.place + self.window.held() as u64
     }
@@ -228,7 +238,7 @@ impl Framer {
     /// How often bytes were looked at in all, at most 1,030 times the bytes taken.
     pub fn examined(&self) -> u64
         ensures value { result ≡ self.now.examined }
-        ensures bound { (b : List ℕ) (fs : List Framed) → HasExamined self.now b fs → result ≤ 1030 * length b }
+        ensures bound { (b : List ℕ) (fs : List Framed) → HasExamined self.now b fs → result ≤ most_looks * length b }
     {
         self.window.examined()
     }
@@ -236,19 +246,19 @@ impl Framer {
     /// How often a byte was looked at, at most: 1,030.
     pub fn most(&self) -> u16
         ensures value { result ≡ self.now.most }
-        ensures bound { (b : List ℕ) (fs : List Framed) → HasExamined self.now b fs → result ≤ 1030 }
+        ensures bound { (b : List ℕ) (fs : List Framed) → HasExamined self.now b fs → result ≤ most_looks }
     {
         self.window.most()
     }
 
     /// The next frame that the bytes so far decide, or None where they decide no further one.
     pub fn next(&mut self) -> Option<Frame>
-        ensures some { IfSome result (λ f. (b : List ℕ) (fs : List Framed) → StandsFor self.old b fs → StandsFor self.new b (fs ++ framed f ∷ [])) }
+        ensures some { IfSome result (λ f. HandsOut self.old self.new (framed f)) }
         ensures none { IfNone result ((b : List ℕ) (fs : List Framed) → StandsFor self.old b fs → StandsFor self.new b fs × IsDrained self.new b fs) }
-        ensures some_counts { IfSome result (λ f. (b : List ℕ) (fs : List Framed) → HasExamined self.old b fs → HasExamined self.new b (fs ++ framed f ∷ []) × IsCountedTo self.new b f.offset (fs ++ framed f ∷ [])) }
-        ensures none_counts { IfNone result ((b : List ℕ) (fs : List Framed) → HasExamined self.old b fs → HasExamined self.new b fs × IsCounted self.new b) }
+        ensures some_counts { IfSome result (λ f. CountsFrame self.old self.new (framed f)) }
+        ensures none_counts { IfNone result (CountsKnown self.old self.new) }
         ensures ready { IfNone result (self.new.is_ready ≡ true) }
-        ensures room { IfNone result (length self.new.held < 1029) }
+        ensures room { IfNone result (length self.new.held < longest_frame) }
         ensures waits { OnSome result (self.new.is_ready ≡ self.old.is_ready) }
         ensures less { OnSome result (length self.new.held < length self.old.held) }
         ensures held { length self.new.held ≤ length self.old.held }
@@ -263,16 +273,16 @@ impl Framer {
         }
     }
 
-    /// As `next`, but the message replaces what the caller's buffer has, so that a loop over frames needs one buffer. It
-    /// answers the place of the frame's first byte in the stream; where it answers None, the buffer keeps what it had.
-    pub fn next_into(&mut self, message: &mut ArrayVec<u8, 1023>) -> Option<u64>
-        ensures some { IfSome result (λ offset. (b : List ℕ) (fs : List Framed) → StandsFor self.old b fs → StandsFor self.new b (fs ++ frame_at offset message.new.items ∷ [])) }
+    /// As `next`, but the message replaces what the caller's buffer has, so that a loop over frames
+    /// needs one buffer. It answers the place of the frame's first byte in the stream; where it
+    /// answers None, the buffer keeps what it had.
+    pub fn next_into(&mut self, message: &mut ArrayVec<u8, LONGEST_MESSAGE>) -> Option<u64>
+        ensures some { IfSome result (λ offset. HandsOut self.old self.new (frame_at offset message.new.items)) }
         ensures none { IfNone result ((b : List ℕ) (fs : List Framed) → StandsFor self.old b fs → StandsFor self.new b fs × IsDrained self.new b fs) }
-        ensures some_counts { IfSome result (λ offset. (b : List ℕ) (fs : List Framed) → HasExamined self.old b fs
-            → HasExamined self.new b (fs ++ frame_at offset message.new.items ∷ []) × IsCountedTo self.new b offset (fs ++ frame_at offset message.new.items ∷ [])) }
-        ensures none_counts { IfNone result ((b : List ℕ) (fs : List Framed) → HasExamined self.old b fs → HasExamined self.new b fs × IsCounted self.new b) }
+        ensures some_counts { IfSome result (λ offset. CountsFrame self.old self.new (frame_at offset message.new.items)) }
+        ensures none_counts { IfNone result (CountsKnown self.old self.new) }
         ensures ready { IfNone result (self.new.is_ready ≡ true) }
-        ensures room { IfNone result (length self.new.held < 1029) }
+        ensures room { IfNone result (length self.new.held < longest_frame) }
         ensures waits { OnSome result (self.new.is_ready ≡ self.old.is_ready) }
         ensures less { OnSome result (length self.new.held < length self.old.held) }
         ensures kept { IfNone result (message.new ≡ message.old) }
@@ -287,15 +297,16 @@ impl Framer {
         }
     }
 
-    /// Gives up places until a whole frame stands at the front, and answers its size. None where no more are decided.
+    /// Gives up places until a whole frame stands at the front, and answers its size. None where no
+    /// more are decided.
     fn seek(&mut self) -> Option<usize>
-        ensures begins { IfSome result (λ size. (begins_frame self.new.held ≡ true) × (size ≡ frame_length self.new.held) × (self.new.tried ≡ asked self.new.held)) }
+        ensures begins { IfSome result (HasFrame self.new) }
         ensures stands { (b : List ℕ) (fs : List Framed) → StandsFor self.old b fs → StandsFor self.new b fs }
         ensures counts { (b : List ℕ) (fs : List Framed) → HasExamined self.old b fs → HasExamined self.new b fs }
         ensures none { IfNone result ((b : List ℕ) (fs : List Framed) → StandsFor self.old b fs → IsDrained self.new b fs) }
         ensures none_counts { IfNone result ((b : List ℕ) (fs : List Framed) → HasExamined self.old b fs → IsCounted self.new b) }
         ensures ready { IfNone result (self.new.is_ready ≡ true) }
-        ensures room { IfNone result (length self.new.held < 1029) }
+        ensures room { IfNone result (length self.new.held < longest_frame) }
         ensures waits { OnSome result (self.new.is_ready ≡ self.old.is_ready) }
         ensures held { length self.new.held ≤ length self.old.held }
         ensures limit { self.new.limit ≡ self.old.limit }
@@ -338,7 +349,8 @@ impl Framer {
         self.given_up += 1;
     }
 
-    /// Goes on over the bytes at the front that aren't the first of any frame, as many as are found at once.
+    /// Goes on over the bytes at the front that aren't the first of any frame, as many as are found
+    /// at once.
     fn pass_over(&mut self)
         requires { self.old.tried ≡ 0 }
         ensures stands { (b : List ℕ) (fs : List Framed) → StandsFor self.old b fs → StandsFor self.new b fs }
@@ -354,8 +366,9 @@ impl Framer {
         self.given_up += n as u64;
     }
 
-    /// Hands out the message of the frame at the front, answers the frame's place, and goes on behind it.
-    fn take_frame(&mut self, size: usize, message: &mut ArrayVec<u8, 1023>) -> u64
+    /// Hands out the message of the frame at the front, answers the frame's place, and goes on
+    /// behind it.
+    fn take_frame(&mut self, size: usize, message: &mut ArrayVec<u8, LONGEST_MESSAGE>) -> u64
         requires begins { begins_frame self.old.held ≡ true }
         requires size { size ≡ frame_length self.old.held }
         ensures offset { result ≡ first_held self.old }
@@ -372,9 +385,9 @@ impl Framer {
 
     /// Notes that all is decided that can be.
     fn set_drained(&mut self)
-        requires { length self.old.held < 1029 }
+        requires { length self.old.held < longest_frame }
         ensures drained { self.new ≡ record self.old { is_ready = true } }
-        ensures room { length self.new.held < 1029 }
+        ensures room { length self.new.held < longest_frame }
     {
         self.drained = true;
     }

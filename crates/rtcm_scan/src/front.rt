@@ -1,9 +1,10 @@
-//! What stands at the front of the held bytes: a candidate is examined as far as its bytes are there, and then judged.
-ghost use Rattle.std.specs.Prelude.{◌≡◌, ◌-◌, ◌<◌, ◌≤◌, ℕ, List, min, length, slice_index, take};
+//! What stands at the front of the held bytes: a candidate is examined as far as its bytes are
+//! there, and then judged.
+ghost use Rattle.std.specs.Prelude.{◌≡◌, ◌-◌, ◌<◌, ◌≤◌, ℕ, min, length, slice_index, take};
 ghost use Rattle.rtcm_scan.specs.Candidate.{HasTaken, wanted_by};
 ghost use Rattle.rtcm_scan.specs.Pending.{asked};
 ghost use Rattle.rtcm_bits.specs.Window.{looked_through};
-ghost use Rattle.rtcm_scan.specs.Answers.{decision, if_missing};
+ghost use Rattle.rtcm_scan.specs.Answers.{ComesTo, if_missing};
 
 use crate::candidate::Candidate;
 use rtcm_bits::{Window, laws};
@@ -35,7 +36,8 @@ pub(crate) fn examine(window: &mut Window, candidate: &mut Candidate)
     examine_rest(window, candidate);
 }
 
-/// Examines the candidate's header, byte by byte, since each byte of it may change how many are asked for.
+/// Examines the candidate's header, byte by byte, since each byte of it may change how many are
+/// asked for.
 fn examine_header(window: &mut Window, candidate: &mut Candidate)
     requires taken { HasTaken candidate.old (take candidate.old.count window.old.bytes) }
     requires within { candidate.old.count ≤ length window.old.bytes }
@@ -75,8 +77,7 @@ fn examine_rest(window: &mut Window, candidate: &mut Candidate)
 
 /// What a candidate comes to of which all bytes that are there were taken.
 pub(crate) fn judge(candidate: &Candidate, has_ended: bool) -> Decision
-    ensures { (s : List ℕ) → 0 < length s → ((i : ℕ) → slice_index s i < 256) → HasTaken candidate.now (take candidate.now.count s) → candidate.now.count ≡ min (wanted_by s) (length s)
-        → result ≡ decision has_ended s }
+    ensures { ComesTo candidate.now has_ended result }
 {
     if candidate.count < candidate.wanted {
         return missing(has_ended);

@@ -1,13 +1,13 @@
 //! Laws of frames.
 ghost use Rattle.std.specs.Prelude.{◌≡◌, ◌+◌, ◌*◌, ◌≤◌, ◌++◌, List, ℕ, [], length};
-ghost use Rattle.rtcm_scan.specs.Decided.{decided, decided_frames};
+ghost use Rattle.rtcm_scan.specs.Decided.{decided, decided_frames, most_undecided};
 ghost use Rattle.rtcm_bits.specs.Prefix.{IsPrefix};
 ghost use Rattle.rtcm_scan.specs.Known.{known_frames};
 ghost use Rattle.rtcm_scan.specs.Scan.{Scan, StandsFor};
-ghost use Rattle.std.specs.List.{All, flat_map};
+ghost use Rattle.std.specs.List.{flat_map};
 ghost use Rattle.rtcm_bits.specs.FrameOf.{frame_bytes};
-ghost use Rattle.rtcm_scan.specs.Local.{StaysLocal, placed};
-ghost use Rattle.rtcm_scan.specs.Looks.{most, examined, most_now, examined_now};
+ghost use Rattle.rtcm_scan.specs.Local.{FitFrames, StaysLocal, placed};
+ghost use Rattle.rtcm_scan.specs.Looks.{most_looks, most, examined, most_now, examined_now};
 ghost use Rattle.rtcm_scan.specs.Frames.{Framed, AreFrames, frames_of};
 
 /// Each list of bytes has these frames, and no other list is that of its frames.
@@ -16,22 +16,23 @@ pub fn frames()
     ensures only { (b : List ℕ) (fs : List Framed) → AreFrames b fs → fs ≡ frames_of b }
 {}
 
-/// No byte of a stream is looked at more than 1030 times, at its end or before.
+/// No byte of a stream is looked at more than 1,030 times, at its end or before.
 pub fn looks()
-    ensures most { (b : List ℕ) → most b ≤ 1030 }
-    ensures examined { (b : List ℕ) → examined b ≤ 1030 * length b }
-    ensures most_now { (b : List ℕ) → most_now b ≤ 1030 }
-    ensures examined_now { (b : List ℕ) → examined_now b ≤ 1030 * length b }
+    ensures most { (b : List ℕ) → most b ≤ most_looks }
+    ensures examined { (b : List ℕ) → examined b ≤ most_looks * length b }
+    ensures most_now { (b : List ℕ) → most_now b ≤ most_looks }
+    ensures examined_now { (b : List ℕ) → examined_now b ≤ most_looks * length b }
 {}
 
-/// Damage stays local: frames that begin far enough behind it are found, whatever their messages hold.
+/// Damage stays local: frames that begin far enough behind it are found, whatever their messages
+/// hold.
 pub fn local()
     ensures { (junk : List ℕ) (messages : List (List ℕ)) (k : ℕ) → StaysLocal junk messages k }
 {}
 
 /// Frames alone, one behind the other, are found, each where it stands.
 pub fn joined()
-    ensures { (messages : List (List ℕ)) → All (λ m. length m ≤ 1023) messages → frames_of (flat_map frame_bytes messages) ≡ placed 0 messages }
+    ensures { (messages : List (List ℕ)) → FitFrames messages → frames_of (flat_map frame_bytes messages) ≡ placed 0 messages }
 {}
 
 /// What is decided stays so: the decided frames begin those of each longer stream, decided or not.
@@ -47,7 +48,7 @@ pub fn prefix()
 /// Fewer bytes are undecided than the longest frame has.
 pub fn undecided()
     ensures within { (b : List ℕ) → decided b ≤ length b }
-    ensures near { (b : List ℕ) → length b ≤ decided b + 1028 }
+    ensures near { (b : List ℕ) → length b ≤ decided b + most_undecided }
 {}
 
 /// The frames that a framer has handed out are the first of those that are known.

@@ -57,7 +57,8 @@ struct Counts {
     most: u16,
 }
 
-/// Frames that were found: the place of each and the number of its message's bytes, and the bytes of all messages.
+/// Frames that were found: the place of each and the number of its message's bytes, and the bytes
+/// of all messages.
 #[derive(Drop)]
 struct Found {
     frames: Vec<(u64, usize)>,
@@ -110,7 +111,8 @@ fn drain(framer: &mut Framer, found: &mut Found) -> Result<(), AllocError> {
     Ok(())
 }
 
-/// Feeds a piece byte by byte, each followed by all frames that it decides. False where a byte is refused.
+/// Feeds a piece byte by byte, each followed by all frames that it decides. False where a byte is
+/// refused.
 fn feed(framer: &mut Framer, piece: &[u8], found: &mut Found) -> Result<bool, AllocError> {
     for byte in piece {
         if !framer.ready() {
@@ -124,7 +126,8 @@ fn feed(framer: &mut Framer, piece: &[u8], found: &mut Found) -> Result<bool, Al
     Ok(true)
 }
 
-/// Feeds a piece block by block, each followed by all frames that it decides. False where a block is refused.
+/// Feeds a piece block by block, each followed by all frames that it decides. False where a block
+/// is refused.
 fn feed_blocks(
     framer: &mut Framer,
     piece: &[u8],
@@ -390,7 +393,8 @@ fn slowly(alloc: Global, bytes: &[u8]) -> Result<Slow, AllocError> {
     })
 }
 
-/// Whether framer and iterator give what the definitions give, the framer by one byte at a time and by two.
+/// Whether framer and iterator give what the definitions give, the framer by one byte at a time and
+/// by two.
 fn agrees(alloc: Global, bytes: &[u8]) -> Result<bool, AllocError> {
     let want = slowly(alloc, bytes)?;
     Ok(
