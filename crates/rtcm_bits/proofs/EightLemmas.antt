@@ -8,9 +8,9 @@ use Rattle.rtcm_bits.specs.Bits.{uint, number, bits_of}
 use Rattle.rtcm_bits.specs.Check.{add_front, remainder, bits_remainder, check}
 use Rattle.rtcm_bits.specs.Register.{after_bits}
 use Rattle.rtcm_bits.specs.declared.tables.TheConstants.{TABLES}
-use Rattle.rtcm_bits.specs.BitLaws.{length-uint}
+use Rattle.rtcm_bits.specs.BitLaws.{length-uint, number_of-uint}
 use Rattle.rtcm_bits.proofs.ListLemmas.{eight_of}
-use Rattle.rtcm_bits.proofs.RegisterBits.{uint-xor, uint-split, number_of-uint}
+use Rattle.rtcm_bits.proofs.RegisterBits.{uint-xor, uint-split}
 use Rattle.rtcm_bits.proofs.CheckLemmas.{divide_all, length-add_front, add_front_to_zeros, zeros_to_front}
 use Rattle.rtcm_bits.proofs.ResidueLemmas.{add_front-append}
 use Rattle.rtcm_bits.proofs.RegisterLemmas.{check_is, check_below, check_push}

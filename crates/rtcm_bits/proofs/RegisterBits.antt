@@ -3,15 +3,9 @@ use Rattle.std.proofs.Common.{◌≡◌, ℕ, ◌+◌, ◌-◌, ◌*◌, ◌/◌
 use Rattle.std.proofs.lemmas.Bool.{cases_eq}
 use Rattle.std.proofs.lemmas.Nat.{div-add-mod'}
 use Rattle.std.proofs.lemmas.Nat.Bits.{bit_at_cat_low, bit_at_cat_high, bit_at_xor, bit_at-lt}
-use Rattle.std.proofs.Math.Nat.{mod-eq_of_lt}
 use Rattle.std.specs.Int.{bit_at}
 use Rattle.rtcm_bits.specs.Bits.{odd, uint, number}
 use Rattle.rtcm_bits.specs.Check.{plus, add_front}
-use Rattle.rtcm_bits.specs.BitLaws.{number-uint}
-
--- a number is spelled by its bits
-pub number_of-uint : (w n : ℕ) → n < 2 ^ w → number (uint w n) ≡ n
-number_of-uint w n h = number-uint w 0 n ∙ rw (mod-eq_of_lt h) (omega arith)
 
 -- only the low bits count
 pub uint-cat : (w a k b : ℕ) → w ≤ k → uint w (a * 2 ^ k + b) ≡ uint w b

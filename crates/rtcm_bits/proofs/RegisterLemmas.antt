@@ -3,9 +3,8 @@ use Rattle.std.proofs.Common.{◌≡◌, ℕ, ◌^◌, ◌<◌, Bool, List, [], 
 use Rattle.rtcm_bits.specs.Bits.{uint, number, number_from, bits_of}
 use Rattle.rtcm_bits.specs.Check.{check, bits_remainder}
 use Rattle.rtcm_bits.specs.Register.{after_bits}
-use Rattle.rtcm_bits.specs.BitLaws.{uint-number, number-fits, bits_of-append}
+use Rattle.rtcm_bits.specs.BitLaws.{uint-number, number-fits, bits_of-append, number_of-uint}
 use Rattle.rtcm_bits.proofs.BitLemmas.{bits_of-push}
-use Rattle.rtcm_bits.proofs.RegisterBits.{number_of-uint}
 use Rattle.rtcm_bits.proofs.CheckLemmas.{after_bits-append, remainder-append, length-bits_remainder}
 
 -- the bits of a check are the remainder

@@ -5,9 +5,8 @@ use Rattle.std.proofs.lemmas.List.{append-nil, length-replicate, get_or_push, ta
 use Rattle.rtcm_bits.specs.Bits.{uint, number, number_from, bits_of}
 use Rattle.rtcm_bits.specs.Check.{plus, add_front, generator, remainder, bits_remainder, check}
 use Rattle.rtcm_bits.specs.Register.{after_bit, after_bits}
-use Rattle.rtcm_bits.specs.BitLaws.{length-uint, uint-number, bits_of-append, number-split}
+use Rattle.rtcm_bits.specs.BitLaws.{length-uint, uint-number, bits_of-append, number-split, number_of-uint}
 use Rattle.rtcm_bits.proofs.BitLemmas as bit_lemmas
-use Rattle.rtcm_bits.proofs.RegisterBits.{number_of-uint}
 use Rattle.rtcm_bits.proofs.CheckLemmas.{divide_all, remainder-append, length-bits_remainder, length-add_front, add_front_to_zeros, length-after_bit, length-after_bits, length-generator}
 
 pub add_front-append : (g p q : List Bool) → length g ≤ length p → add_front g (p ++ q) ≡ add_front g p ++ q

@@ -1,7 +1,7 @@
 -- What follows from the words of Bits for numbers of w bits, lists of bits and two's complements.
 use Rattle.std.proofs.Common.{ℕ, zero, suc, ℤ, pos, negsuc, ◌≡◌, ◌+◌, ◌-◌, ◌*◌, ◌/◌, ◌%◌, ◌^◌, ◌<◌, ◌≤◌, Bool, true, false, List, [], ◌∷◌, ◌++◌, length, take, refl, sym, ap, ◌∙◌, arith, append_assoc, length-append, subst, ◌⊎◌, inl, inr, add_comm}
 use Rattle.std.proofs.lemmas.Nat.{mod-pow-add, shr_high, pow_pos}
-use Rattle.std.proofs.Math.Nat.{add-mul-div_right, pow-le-pow_right}
+use Rattle.std.proofs.Math.Nat.{add-mul-div_right, mod-eq_of_lt, pow-le-pow_right}
 use Rattle.std.proofs.lemmas.Bool.{cases_lt}
 use Rattle.std.proofs.lemmas.List.{length-take-le}
 use mir.Val.{bool_byte}
@@ -37,6 +37,10 @@ unfolding uint number_from
 number-uint zero a n = omega arith
 number-uint (suc w) a n =
     number-uint w (2 * a + bit (odd (n / 2 ^ w))) n ∙ rw (mod-suc w n, bit_odd (n / 2 ^ w)) (horner a (n / 2 ^ w % 2) (2 ^ w) (n % 2 ^ w) (2 ^ suc w) (pow-double w))
+
+-- a number is spelled by its bits
+pub number_of-uint : (w n : ℕ) → n < 2 ^ w → number (uint w n) ≡ n
+number_of-uint w n h = number-uint w 0 n ∙ rw (mod-eq_of_lt h) (omega arith)
 
 pub bit-small : (b : Bool) → bit b < 2
 bit-small false = omega arith

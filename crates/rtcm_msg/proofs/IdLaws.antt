@@ -1,9 +1,8 @@
 -- Masks and rising lists of IDs are one to one.
-use Rattle.std.proofs.Common.{ℕ, zero, suc, ◌≡◌, ◌+◌, ◌%◌, ◌==◌, ◌^◌, ◌<◌, ◌≤◌, Bool, true, false, List, [], ◌∷◌, length, refl, sym, ap, subst, ◌∙◌, arith, if◌then◌else◌, inl, inr}
+use Rattle.std.proofs.Common.{ℕ, zero, suc, ◌≡◌, ◌+◌, ◌==◌, ◌^◌, ◌<◌, ◌≤◌, Bool, true, false, List, [], ◌∷◌, length, refl, sym, ap, subst, ◌∙◌, arith, if◌then◌else◌, inl, inr}
 use Rattle.std.proofs.lemmas.Bool.{cases_eq}
-use Rattle.std.proofs.Math.Nat.{mod-eq_of_lt}
 use Rattle.rtcm_bits.specs.Bits.{uint, number}
-use Rattle.rtcm_bits.specs.BitLaws.{length-uint, uint-number, number-uint, number-fits}
+use Rattle.rtcm_bits.specs.BitLaws.{length-uint, uint-number, number-fits, number_of-uint}
 use Rattle.rtcm_msg.specs.Entries.{up_from, ids, Rising}
 
 pub weaken : (low more high : ℕ) (xs : List ℕ) → low ≤ more → Rising more high xs → Rising low high xs
@@ -19,7 +18,7 @@ up_rising i high (false ∷ bits) h = weaken i (i + 1) high (up_from (i + 1) bit
 pub ids_rising : (w m : ℕ) → Rising 1 w (ids w m)
 ids_rising w m = up_rising 1 w (uint w m) (omega (arith, length-uint w m))
 
-cons_tail : (x y : ℕ) (xs ys : List ℕ) → x ∷ xs ≡ y ∷ ys → xs ≡ ys
+pub cons_tail : (x y : ℕ) (xs ys : List ℕ) → x ∷ xs ≡ y ∷ ys → xs ≡ ys
 cons_tail x y xs ys e = cc
 
 above : (i : ℕ) (xs : List ℕ) (bits : List Bool) → i ∷ xs ≡ up_from (i + 1) bits → ⊥
@@ -38,13 +37,10 @@ up_one i (false ∷ bs) (false ∷ cs) len e = ap (λ t. false ∷ t) (up_one (i
 up_one i (true ∷ bs) (false ∷ cs) len e = absurd (above i (up_from (i + 1) bs) cs e)
 up_one i (false ∷ bs) (true ∷ cs) len e = absurd (above i (up_from (i + 1) cs) bs (sym e))
 
-pub uint_value : (w n : ℕ) → n < 2 ^ w → number (uint w n) ≡ n
-uint_value w n h = let low : n % 2 ^ w ≡ n = mod-eq_of_lt h in number-uint w 0 n ∙ omega (arith, low)
-
 pub ids_one : (w m n : ℕ) → m < 2 ^ w → n < 2 ^ w → ids w m ≡ ids w n → m ≡ n
 ids_one w m n a b e =
     let bits = up_one 1 (uint w m) (uint w n) (length-uint w m ∙ sym (length-uint w n)) e in
-    sym (uint_value w m a) ∙ (ap number bits ∙ uint_value w n b)
+    sym (number_of-uint w m a) ∙ (ap number bits ∙ number_of-uint w n b)
 
 -- the bits of a list
 mark : ℕ → ℕ → List ℕ → List Bool

@@ -3,12 +3,12 @@ use Rattle.std.proofs.Common.{ℕ, ◌≡◌, ◌+◌, ◌*◌, ◌≤◌, Bool,
 use Rattle.std.specs.List.{flat_map, zip, enumerate_from}
 use Rattle.std.proofs.lemmas.List.{length-map}
 use Rattle.rtcm_bits.specs.Bits.{uint, number}
-use Rattle.rtcm_bits.specs.BitLaws.{length-uint}
+use Rattle.rtcm_bits.specs.BitLaws.{length-uint, number_of-uint}
 use Rattle.rtcm_msg.specs.declared.seats.Seat.{Seat}
 use Rattle.rtcm_msg.specs.Msm.{MsmValue, Sets, AreSets, IsValue, pairs}
 use Rattle.rtcm_msg.specs.Entries.{ids, chosen, seat, all_pairs, seats, Rising}
 use Rattle.rtcm_msg.specs.Meaning.{Meaning, meaning, pair, pair_number, cell_pairs}
-use Rattle.rtcm_msg.proofs.IdLaws.{weaken, ids_rising, ids_one, uint_value}
+use Rattle.rtcm_msg.proofs.IdLaws.{weaken, ids_rising, ids_one, cons_tail}
 use Rattle.rtcm_msg.proofs.SeatLaws.{ids_count, pairs_count, seats_count}
 
 -- ---- pairs rise
@@ -60,9 +60,6 @@ pairs_rising s = rw (map-map (seats s)) (chosen_rising 65 4128 (uint (pairs s.sa
 
 -- ---- pairs name one mask
 
-tail_same : (x y : ℕ) (xs ys : List ℕ) → x ∷ xs ≡ y ∷ ys → xs ≡ ys
-tail_same x y xs ys e = cc
-
 not_above : (n high : ℕ) (xs ys : List ℕ) → Rising (n + 1) high ys → n ∷ xs ≡ ys → ⊥
 not_above n high xs ys r e = let s : Rising (n + 1) high (n ∷ xs) = subst (Rising (n + 1) high) (sym e) r in omega (arith, s.0)
 
@@ -72,7 +69,7 @@ chosen_one low high [] [] xs a b r e = refl
 chosen_one low high [] (c ∷ cs) xs a b r e = absurd (omega (arith, a, b))
 chosen_one low high (b ∷ bs) [] xs a c r e = absurd (omega (arith, a, c))
 chosen_one low high (b ∷ bs) (c ∷ cs) [] l m r e = absurd (omega (arith, l))
-chosen_one low high (true ∷ bs) (true ∷ cs) (x ∷ xs) l m r e = ap (λ t. true ∷ t) (chosen_one (key x + 1) high bs cs xs (omega (arith, l)) (omega (arith, m)) r.2 (tail_same (key x) (key x) (map key (chosen bs xs)) (map key (chosen cs xs)) e))
+chosen_one low high (true ∷ bs) (true ∷ cs) (x ∷ xs) l m r e = ap (λ t. true ∷ t) (chosen_one (key x + 1) high bs cs xs (omega (arith, l)) (omega (arith, m)) r.2 (cons_tail (key x) (key x) (map key (chosen bs xs)) (map key (chosen cs xs)) e))
 chosen_one low high (false ∷ bs) (false ∷ cs) (x ∷ xs) l m r e = ap (λ t. false ∷ t) (chosen_one (key x + 1) high bs cs xs (omega (arith, l)) (omega (arith, m)) r.2 e)
 chosen_one low high (true ∷ bs) (false ∷ cs) (x ∷ xs) l m r e = absurd (not_above (key x) high (map key (chosen bs xs)) (map key (chosen cs xs)) (chosen_rising (key x + 1) high cs xs r.2) e)
 chosen_one low high (false ∷ bs) (true ∷ cs) (x ∷ xs) l m r e = absurd (not_above (key x) high (map key (chosen cs xs)) (map key (chosen bs xs)) (chosen_rising (key x + 1) high bs xs r.2) (sym e))
@@ -87,7 +84,7 @@ cells_same a g m n h k e =
     let count = pairs_count s h in
     let keys : map key (seats s) ≡ map key (seats t) = sym (map-map (seats s)) ∙ (ap (map pair_number) e ∙ map-map (seats t)) in
     let bits = chosen_one 65 4128 (uint p m) (uint p n) (all_pairs s) (length-uint p m ∙ sym count) (length-uint p n ∙ sym count) (all_rising s) keys in
-    sym (uint_value p m h.cells) ∙ (ap number bits ∙ uint_value p n k.cells)
+    sym (number_of-uint p m h.cells) ∙ (ap number bits ∙ number_of-uint p n k.cells)
 
 pub sets_one : (s t : Sets) → AreSets s → AreSets t → ids 64 s.satellites ≡ ids 64 t.satellites → ids 32 s.signals ≡ ids 32 t.signals → cell_pairs s ≡ cell_pairs t → s ≡ t
 sets_one s t h k a g e =
