@@ -9,7 +9,8 @@ use crate::time::GpsTime;
 use jiff::SignedDuration;
 use jiff::civil::DateTime;
 
-/// A date of the Gregorian calendar and a time of day. GPS time has no leap seconds, so each minute has 60,000 milliseconds.
+/// A date of the Gregorian calendar and a time of day. GPS time has no leap seconds, so each minute
+/// has 60,000 milliseconds.
 #[derive(Clone, Copy, Debug, PartialEq, Eq)]
 pub struct Civil {
     /// The year, 1980 to 3896 where it is that of a `GpsTime`.
@@ -56,7 +57,8 @@ impl GpsTime {
         }
     }
 
-    /// The time that has this date and time of day, or None where no time before week 100,000 has it.
+    /// The time that has this date and time of day, or None where no time before week 100,000 has
+    /// it.
     pub fn from_civil(civil: &Civil) -> Option<GpsTime>
         ensures some { IfSome result (λ t. IsCivilOf t civil.now) }
         ensures walk { IfSome result (λ t. civil.now ≡ civil_of t) }

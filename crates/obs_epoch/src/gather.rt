@@ -70,9 +70,9 @@ impl Model for Gatherer {
 impl Gatherer {
     ghost use Rattle.obs_epoch.specs.declared.clock.Answer.{Answer};
 
-    /// Gathers the messages of a station, or of every station as those of one where none is told. The first time lies in the
-    /// starting week. Refused are a week over 99,999, and then a station over 4,095. All room is reserved here: no other call
-    /// takes memory.
+    /// Gathers the messages of a station, or of every station as those of one where none is told.
+    /// The first time lies in the starting week. Refused are a week over 99,999, and then a station
+    /// over 4,095. All room is reserved here: no other call takes memory.
     pub fn new(
         alloc: Global,
         plan: Plan,
@@ -124,11 +124,13 @@ impl Gatherer {
         })
     }
 
-    /// Takes a message, whatever it is; `end` must not have been called. Where the answer is `CloseFirst`, the pending epoch was
-    /// closed, the message wasn't taken, and it is to be handed in again at once.
+    /// Takes a message, whatever it is; `end` must not have been called. Where the answer is
+    /// `CloseFirst`, the pending epoch was closed, the message wasn't taken, and it is to be handed
+    /// in again at once.
     pub fn take(&mut self, m: &Message) -> Taken
         requires { self.old.has_ended ≡ false }
-        // The pending epoch is closed first exactly where this message's time is greater and within the weeks.
+        // The pending epoch is closed first exactly where this message's time is greater and within
+        // the weeks.
         ensures exactly { (s : Setup) (ms : List Heard) (es : List Closed) → Gathers self.old s ms es None
             → is_close_first result.kind ≡ closes_first s (timed s ms) (heard m.now) }
         ensures first { (s : Setup) (ms : List Heard) (es : List Closed) → Gathers self.old s ms es None → is_close_first result.kind ≡ true
@@ -151,7 +153,8 @@ impl Gatherer {
         }
     }
 
-    /// No message follows: closes the pending epoch, and says whether there was one. After the first `end` there is none.
+    /// No message follows: closes the pending epoch, and says whether there was one. After the
+    /// first `end` there is none.
     pub fn end(&mut self) -> bool
         ensures closes { (s : Setup) (ms : List Heard) (es : List Closed) → Gathers self.old s ms es None → self.old.has_ended ≡ false
             → (result ≡ is_pending s (timed s ms)) × Gathers self.new s ms (es ++ closed_by (closed_in self.new) self.new.values) None }
@@ -168,10 +171,12 @@ impl Gatherer {
         self.finish()
     }
 
-    /// The epoch that the last `take` or `end` closed, or None where that call closed none, and before the first call.
+    /// The epoch that the last `take` or `end` closed, or None where that call closed none, and
+    /// before the first call.
     pub fn closed(&self) -> Option<&Epoch>
         ensures order { IfSome (option_map (λ e. e.now.epoch) result) (λ e. StandBy (plan_in self.now).gps e.gps × StandBy (plan_in self.now).galileo e.galileo) }
-        // It is the last of those that were handed out, with the station values that were known when it was closed.
+        // It is the last of those that were handed out, with the station values that were known
+        // when it was closed.
         ensures closed { option_to_list (option_map (λ e. e.now) result) ≡ closed_by (closed_in self.now) self.now.values }
     {
         if self.handed {
@@ -188,7 +193,8 @@ impl Gatherer {
         self.has_ended
     }
 
-    /// How many cells of a system are held: those of the pending epoch or, where none is pending, of the one last closed.
+    /// How many cells of a system are held: those of the pending epoch or, where none is pending,
+    /// of the one last closed.
     pub fn cells(&self, system: System) -> usize
         ensures count { result ≡ length (cells_in system self.now.epoch) }
         ensures held { (s : Setup) (ms : List Heard) (es : List Closed) (again : Option Heard) → Gathers self.now s ms es again
@@ -198,8 +204,8 @@ impl Gatherer {
         self.held.len(system)
     }
 
-    /// How many lock records are held: one for each satellite and signal of which a closed epoch has a kept cell with a
-    /// valid phase and a known lock.
+    /// How many lock records are held: one for each satellite and signal of which a closed epoch
+    /// has a kept cell with a valid phase and a known lock.
     pub fn locks(&self) -> usize
         ensures count { result ≡ recorded self.now.locks }
         ensures keys { (s : Setup) (ms : List Heard) (es : List Closed) (again : Option Heard) → Gathers self.now s ms es again
@@ -236,7 +242,7 @@ impl Gatherer {
         self.handed = step.closed.is_some();
         let counts = self.load(step.answer, before, m);
         if step.closed.is_some() {
-            self.note_locks();
+            self.close_pending();
         }
         Outcome {
             answer: step.answer,
@@ -254,7 +260,7 @@ impl Gatherer {
         self.has_ended = true;
         self.handed = was;
         if was {
-            self.note_locks();
+            self.close_pending();
         }
         was
     }
@@ -368,10 +374,10 @@ impl Gatherer {
     }
 
     // The pending epoch closes.
-    fn note_locks(&mut self)
+    fn close_pending(&mut self)
         ensures { self.new ≡ noted self.old }
     {
-        self.held.note(&mut self.locks);
+        self.held.close(&mut self.locks);
     }
 }
 

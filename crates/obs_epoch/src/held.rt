@@ -21,7 +21,8 @@ use gnss_obs::System;
 use std::alloc::{AllocError, Global};
 use std::marker::Model;
 
-/// The epoch that is held, with the station values so far. Beside each of its cells stands how that is tracked.
+/// The epoch that is held, with the station values so far. Beside each of its cells stands how that
+/// is tracked.
 #[derive(Drop)]
 pub struct Held {
     epoch: Epoch,
@@ -29,7 +30,8 @@ pub struct Held {
     galileo: Vec<Tracking>,
 }
 
-/// Where a cell stands or is to stand: so many cells of its system don't stand behind it. And whether its key is held.
+/// Where a cell stands or is to stand: so many cells of its system don't stand behind it. And
+/// whether its key is held.
 #[derive(Clone, Copy, Debug, PartialEq, Eq)]
 pub struct Spot {
     pub at: usize,
@@ -152,10 +154,12 @@ impl Held {
         }
     }
 
-    /// The locks of the epoch, which closes, are noted.
-    pub fn note(&self, locks: &mut Locks)
-        ensures { locks.new ≡ note_all self.now.epoch.time (note_all self.now.epoch.time locks.old self.now.epoch.gps) self.now.epoch.galileo }
+    /// The epoch closes: its satellites are counted, and its locks noted.
+    pub fn close(&mut self, locks: &mut Locks)
+        ensures same { self.new ≡ self.old }
+        ensures noted { locks.new ≡ note_all self.old.epoch.time (note_all self.old.epoch.time locks.old self.old.epoch.gps) self.old.epoch.galileo }
     {
+        self.epoch.close();
         let time = self.time();
         note_cells(
             locks,

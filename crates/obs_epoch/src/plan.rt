@@ -12,7 +12,8 @@ use gnss_obs::{Signal, System};
 use std::alloc::Global;
 use std::marker::Model;
 
-/// The signals of each system that are wanted, in the order in which they are written: at least one in all.
+/// The signals of each system that are wanted, in the order in which they are written: at least one
+/// in all.
 #[derive(Drop)]
 pub struct Plan {
     gps: Signals,
@@ -32,8 +33,9 @@ impl Model for Plan {
 }
 
 impl Plan {
-    /// The signals that two texts want. Each text is `all` for the table's order, `none`, or codes with single commas between
-    /// them, as `1C,2W`. The GPS text is read first, from the left; an empty text is one unknown code.
+    /// The signals that two texts want. Each text is `all` for the table's order, `none`, or codes
+    /// with single commas between them, as `1C,2W`. The GPS text is read first, from the left; an
+    /// empty text is one unknown code.
     pub fn parse(alloc: Global, gps: &str, galileo: &str) -> Result<Plan, PlanFault>
         ensures { MatchResult result
             (λ p. plan_of gps.now galileo.now ≡ Ok p)
@@ -47,8 +49,9 @@ impl Plan {
         Ok(Plan { gps, galileo })
     }
 
-    /// The plan of these signals in this order. A signal of another system and one that came before are refused, those of
-    /// GPS first and from the left, and so is no signal at all; and want of memory, where a growth was refused.
+    /// The plan of these signals in this order. A signal of another system and one that came before
+    /// are refused, those of GPS first and from the left, and so is no signal at all; and want of
+    /// memory, where a growth was refused.
     pub fn from_signals(
         alloc: Global,
         gps: &[Signal],
@@ -98,7 +101,8 @@ impl Plan {
         self.of(system)[place]
     }
 
-    /// The place of a signal among those of its system that are wanted, from 0, or None where it isn't wanted.
+    /// The place of a signal among those of its system that are wanted, from 0, or None where it
+    /// isn't wanted.
     pub fn place(&self, signal: Signal) -> Option<usize>
         ensures place { result ≡ place_in signal (planned_of signal.system self.now) }
     {

@@ -19,7 +19,7 @@ invariant_of-self c =
     let held = subst (AreHeld Gps) (sym c.insert_cell.ensures.items)
     (held_more Gps c.self.inside.gps.items c.args.at c.args.x.now c.args.mark c.self.invariant.0 within few is c.requires.observed c.requires.mark) in
     let room : most_cells ≤ vec_capacity c.insert_cell.new.cells = omega (arith, c.self.invariant.2, c.insert_cell.ensures.room) in
-    (held, c.self.invariant.1, room, c.self.invariant.3, sorted, c.self.invariant.5)
+    (held, c.self.invariant.1, room, c.self.invariant.3, sorted, c.self.invariant.5, tt)
 
 pub invariant_of-self-in-Galileo : goal.invariant_of-self-in-Galileo
 invariant_of-self-in-Galileo c =
@@ -33,4 +33,4 @@ invariant_of-self-in-Galileo c =
     let held = subst (AreHeld Galileo) (sym c.insert_cell-in-Galileo.ensures.items)
     (held_more Galileo c.self.inside.galileo.items c.args.at c.args.x.now c.args.mark c.self.invariant.1 within few is c.requires.observed c.requires.mark) in
     let room : most_cells ≤ vec_capacity c.insert_cell-in-Galileo.new.cells = omega (arith, c.self.invariant.3, c.insert_cell-in-Galileo.ensures.room) in
-    (c.self.invariant.0, held, c.self.invariant.2, room, c.self.invariant.4, sorted)
+    (c.self.invariant.0, held, c.self.invariant.2, room, c.self.invariant.4, sorted, tt)
