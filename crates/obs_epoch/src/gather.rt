@@ -9,12 +9,12 @@ ghost use Rattle.obs_epoch.specs.Cells.{firsts};
 ghost use Rattle.obs_epoch.specs.Order.{StandBy};
 ghost use Rattle.obs_epoch.specs.Marked.{IsObserved, lock_codes, shown};
 ghost use Rattle.obs_epoch.specs.Epochs.{told as values_told, no_values, values_of, closed_so_far};
-ghost use Rattle.obs_epoch.specs.Held.{count_in, recorded};
+ghost use Rattle.obs_epoch.specs.Held.{count_in, most_locks, recorded};
 ghost use Rattle.obs_epoch.specs.Step.{answer_by, closed_by as closes};
 ghost use Rattle.obs_epoch.specs.Clock.{closes_first, answer_of, is_pending};
 ghost use Rattle.obs_epoch.specs.Standing.{Standing, held_at, locked_in};
 ghost use Rattle.obs_epoch.specs.Values.{Closed, most_cells};
-ghost use Rattle.obs_epoch.specs.Kinds.{is_close_first, kind_of, is_by_bit, is_no_station};
+ghost use Rattle.obs_epoch.specs.Kinds.{is_close_first, kind_by, kind_of, is_by_bit, is_no_station};
 ghost use Rattle.obs_epoch.specs.Gathering.{Gathers, Fits, closed_by, closed_in, is_done, plan_in};
 ghost use Rattle.obs_epoch.specs.declared.fault.PlanFault.{PlanFault};
 ghost use Rattle.obs_epoch.specs.Gather.{take_step, end_step, loaded_by, load_heard, load_entry, load_entries, begun, is_same as is_same_lem, no_epoch, no_counts, cells_in, load, noted, rested, fate_in, hold};
@@ -37,14 +37,6 @@ use gnss_obs::System;
 use rtcm_msg::{Entry, Message, entries};
 use std::alloc::{AllocError, Global};
 use std::marker::Model;
-
-/// What becomes of a message, and of its cells.
-#[derive(Clone, Copy, Debug, PartialEq, Eq)]
-pub struct Outcome {
-    pub answer: Answer,
-    pub counts: Counts,
-    pub closed: bool,
-}
 
 /// Messages of a station, gathered into epochs.
 #[derive(Drop)]
@@ -146,11 +138,7 @@ impl Gatherer {
         ensures closed { result.closed ≡ is_some (closed_in self.new) }
         ensures going { self.new.has_ended ≡ false }
     {
-        let outcome = self.step(m);
-        Taken {
-            kind: kind_by(m, outcome.answer, outcome.counts),
-            closed: outcome.closed,
-        }
+        self.step(m)
     }
 
     /// No message follows: closes the pending epoch, and says whether there was one. After the
@@ -210,7 +198,7 @@ impl Gatherer {
         ensures count { result ≡ recorded self.now.locks }
         ensures keys { (s : Setup) (ms : List Heard) (es : List Closed) (again : Option Heard) → Gathers self.now s ms es again
             → result ≡ length (firsts (locked_in s (timed s ms) (closed_so_far s (timed s ms) (is_done self.now s ms again)))) }
-        ensures bound { result ≤ 1_164 }
+        ensures bound { result ≤ most_locks }
     {
         self.locks.len()
     }
@@ -230,24 +218,23 @@ impl Gatherer {
         self.clock.plan()
     }
 
-    fn step(&mut self, m: &Message) -> Outcome
-        ensures answer { result.answer ≡ answer_by self.old.clock (heard m.now) }
+    fn step(&mut self, m: &Message) -> Taken
+        ensures kind { result.kind ≡ kind_by (heard m.now) (answer_by self.old.clock (heard m.now)) (take_step self.old (heard m.now)).counts }
         ensures closed { result.closed ≡ is_some (closes self.old.clock (heard m.now)) }
-        ensures step { record { state = self.new; counts = result.counts } ≡ take_step self.old (heard m.now) }
+        ensures step { self.new ≡ (take_step self.old (heard m.now)).state }
     {
         let before = self.clock.latest();
         let values = self.told(m);
         self.held.tell(values);
-        let step = self.clock.step_closing(told_of(m));
-        self.handed = step.closed.is_some();
-        let counts = self.load(step.answer, before, m);
-        if step.closed.is_some() {
+        let (answer, closed) = self.clock.step_closing(told_of(m));
+        self.handed = closed.is_some();
+        let counts = self.load(answer, before, m);
+        if closed.is_some() {
             self.close_pending();
         }
-        Outcome {
-            answer: step.answer,
-            counts,
-            closed: step.closed.is_some(),
+        Taken {
+            kind: kind_by(m, answer, counts),
+            closed: closed.is_some(),
         }
     }
 
