@@ -10,15 +10,18 @@ use indexmap::IndexSet;
 use std::alloc::{AllocError, Global};
 use std::marker::Model;
 
-/// The longest table of signals, that of Galileo, has so many.
-const MOST_SIGNALS: usize = 19;
+/// So many signals the table of GPS has.
+pub const GPS_SIGNALS: usize = 15;
+
+/// So many signals the table of Galileo has, which is the longest.
+pub const GALILEO_SIGNALS: usize = 19;
 
 /// Signals of a system, each once, in the order in which they were added.
 #[derive(Drop)]
 pub struct Signals {
     order: IndexSet<Signal>,
     // For each signal of the table, by its place there: its place in the order.
-    places: [Option<usize>; MOST_SIGNALS],
+    places: [Option<usize>; GALILEO_SIGNALS],
 }
 
 impl Model for Signals {
@@ -40,7 +43,7 @@ impl Signals {
     {
         Signals {
             order: IndexSet::new(alloc),
-            places: [None; MOST_SIGNALS],
+            places: [None; GALILEO_SIGNALS],
         }
     }
 
