@@ -6,6 +6,7 @@ use Rattle.gnss_obs.specs.declared.system.System.{System}
 use Rattle.gnss_obs.specs.declared.system.System.TheVariants.{Gps, Galileo}
 use Rattle.gnss_obs.specs.Satellites.{satellites}
 use Rattle.gnss_obs.specs.Signals.{table}
+use Rattle.obs_epoch.specs.declared.cell.Cell.{Cell}
 use Rattle.obs_epoch.specs.declared.seen.Seen.{Seen}
 use Rattle.obs_epoch.specs.declared.seen.KnownLock.{KnownLock}
 use Rattle.obs_epoch.specs.Marked.{Marked}
@@ -13,7 +14,7 @@ use Rattle.obs_epoch.specs.declared.seen.Counts.{Counts}
 use Rattle.obs_epoch.specs.declared.seen.Fate.{Fate}
 use Rattle.obs_epoch.specs.declared.seen.Fate.TheVariants.{Skipped, Repeated, Crowded, Kept}
 use Rattle.obs_epoch.specs.Heard.{Setup}
-use Rattle.obs_epoch.specs.Cells.{is_among, firsts, has_same_key, is_planned, is_listed}
+use Rattle.obs_epoch.specs.Cells.{is_among, firsts, has_same_key, same_key, is_planned, is_listed}
 use Rattle.obs_epoch.specs.Values.{most_cells}
 use Rattle.obs_epoch.specs.Loss.{lock_of}
 
@@ -71,6 +72,10 @@ pub record Tracks (locks : List (Option KnownLock)) (noted : List Seen) : Type 0
 
 abbrev pub is_held : List Marked → Seen → Bool
 is_held ms x = list_any (λ m. has_same_key x m.seen) ms
+
+-- a cell of that key
+abbrev pub is_cell_of : Seen → Cell → Bool
+is_cell_of x c = same_key x.satellite x.signal c.satellite c.signal
 
 abbrev pub fate_of : Setup → List Marked → Seen → Fate
 fate_of s ms x =

@@ -1,5 +1,5 @@
 -- Signals as a plan holds them.
-use Rattle.std.specs.Prelude.{◌≡◌, ℕ, ◌+◌, ◌<◌, List, [], ◌∷◌, ◌++◌, map, length, All, Option, Some, None, true, ◌==◌, get_or, position}
+use Rattle.std.specs.Prelude.{◌≡◌, ℕ, ◌+◌, ◌<◌, List, [], ◌∷◌, ◌++◌, map, length, All, Option, Some, None, true, false, ◌==◌, get_or, position}
 use Rattle.gnss_obs.specs.declared.system.System.{System}
 use Rattle.gnss_obs.specs.Signals.{SignalAt, IsSignal, table}
 use Rattle.gnss_obs.specs.declared.system.System.TheVariants.{Gps, Galileo}
@@ -18,6 +18,10 @@ indices ss = map (λ s. s.index) ss
 pub record IsOf (system : System) (ss : List SignalAt) : Type 0 where
   pub each : All (λ s. (s.system ≡ system) × IsSignal s) ss
   pub apart : IsDistinct nat_eq (indices ss)
+
+-- one signal more, which isn't among those before it
+abbrev pub IsAdded : List SignalAt → SignalAt → List SignalAt → Type 0
+IsAdded before s after = (after ≡ before ++ s ∷ []) × (list_any (λ r. s.index == r.index) before ≡ false) × IsOf s.system after
 
 -- the place of each signal of a table among these, at its own place in the table; that of Galileo is the longest
 pub record AreFound (places : List (Option ℕ)) (planned : List ℕ) : Type 0 where

@@ -1,9 +1,9 @@
 //! An epoch: what was observed at one time.
 ghost use Rattle.std.specs.Prelude.{◌≡◌, ◌+◌, ◌<◌, ◌≤◌, [], length, drop, IfOk, insert};
 ghost use Rattle.std.specs.Vec.{vec_len, vec_capacity};
-ghost use Rattle.obs_epoch.specs.Values.{EpochValue, Closed, AreHeld, IsHeld, cells_of, satellites, is_written, written_among, most_cells, most_satellites, run};
+ghost use Rattle.obs_epoch.specs.Values.{AreHeld, cells_of, satellites, is_written, written_among, most_cells, most_satellites, run};
 ghost use Rattle.obs_epoch.specs.Epochs.{no_values};
-ghost use Rattle.obs_epoch.specs.Marked.{with_cell_of, cell_of, IsObserved};
+ghost use Rattle.obs_epoch.specs.Marked.{with_cell_of, marked_cell, IsObserved};
 ghost use Rattle.obs_epoch.specs.Order.{AreSorted};
 ghost use Rattle.gnss_obs.specs.Satellites.{satellites as satellites_in};
 
@@ -31,17 +31,16 @@ pub struct Epoch {
 }
 
 impl Model for Epoch {
-    ghost use Rattle.std.specs.Prelude.{◌≤◌};
     ghost use Rattle.std.specs.Vec.{vec_capacity};
     ghost use Rattle.gnss_obs.specs.declared.system.System.TheVariants.{Gps, Galileo};
-    ghost use Rattle.obs_epoch.specs.Values.{Closed, AreHeld, IsCount, most_cells};
-    ghost use Rattle.obs_epoch.specs.Order.{AreSorted};
+    ghost use Rattle.obs_epoch.specs.Values.{Closed, IsCount};
+    ghost use Rattle.obs_epoch.specs.Order.{AreHeldIn};
 
     ghost Value = { Closed };
 
     ghost view = { λ e. record { epoch = record { time = e.time; gps = e.gps.items; galileo = e.galileo.items }; values = e.values } };
 
-    ghost invariant = { λ e. AreHeld Gps e.gps.items × AreHeld Galileo e.galileo.items × (most_cells ≤ vec_capacity e.gps) × (most_cells ≤ vec_capacity e.galileo) × AreSorted e.gps.items × AreSorted e.galileo.items
+    ghost invariant = { λ e. AreHeldIn Gps (vec_capacity e.gps) e.gps.items × AreHeldIn Galileo (vec_capacity e.galileo) e.galileo.items
         × IsCount e.counted (record { time = e.time; gps = e.gps.items; galileo = e.galileo.items }) };
 }
 
@@ -89,8 +88,8 @@ impl Epoch {
         requires mark { mark < 4 }
         requires room { length (cells_of x.now.satellite.system self.old.epoch) < most_cells }
         requires within { at ≤ length (cells_of x.now.satellite.system self.old.epoch) }
-        requires order { AreSorted (insert (cells_of x.now.satellite.system self.old.epoch) at (cell_of (record { seen = x.now; mark = mark }))) }
-        ensures { self.new ≡ record { epoch = with_cell_of x.now.satellite.system at self.old.epoch (cell_of (record { seen = x.now; mark = mark })); values = self.old.values } }
+        requires order { AreSorted (insert (cells_of x.now.satellite.system self.old.epoch) at (marked_cell x.now mark)) }
+        ensures { self.new ≡ record { epoch = with_cell_of x.now.satellite.system at self.old.epoch (marked_cell x.now mark); values = self.old.values } }
     {
         self.counted = None;
         match x.satellite.system() {
@@ -201,7 +200,7 @@ fn written(cells: &[Cell], system: System) -> usize
 fn insert_cell(cells: &mut Vec<Cell>, at: usize, x: &Seen, mark: u8)
     requires room { vec_len cells.old < vec_capacity cells.old }
     requires within { at ≤ vec_len cells.old }
-    ensures items { cells.new.items ≡ insert cells.old.items at (cell_of (record { seen = x.now; mark = mark })) }
+    ensures items { cells.new.items ≡ insert cells.old.items at (marked_cell x.now mark) }
     ensures len { vec_len cells.new ≡ vec_len cells.old + 1 }
     ensures room { vec_capacity cells.old ≤ vec_capacity cells.new }
 {

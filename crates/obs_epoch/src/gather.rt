@@ -6,7 +6,7 @@ ghost use Rattle.obs_epoch.specs.Weeks.{week, weeks};
 ghost use Rattle.obs_epoch.specs.Heard.{Setup, Heard, heard, seen_in, system_of};
 ghost use Rattle.obs_epoch.specs.Times.{timed};
 ghost use Rattle.obs_epoch.specs.Cells.{firsts};
-ghost use Rattle.obs_epoch.specs.Order.{StandBy};
+ghost use Rattle.obs_epoch.specs.Order.{StandByPlan};
 ghost use Rattle.obs_epoch.specs.Marked.{IsObserved, lock_codes, shown};
 ghost use Rattle.obs_epoch.specs.Epochs.{told as values_told, no_values, values_of, closed_so_far};
 ghost use Rattle.obs_epoch.specs.Held.{count_in, most_locks, recorded};
@@ -14,7 +14,7 @@ ghost use Rattle.obs_epoch.specs.Step.{answer_by, closed_by as closes};
 ghost use Rattle.obs_epoch.specs.Clock.{closes_first, answer_of, is_pending};
 ghost use Rattle.obs_epoch.specs.Standing.{Standing, held_at, locked_in};
 ghost use Rattle.obs_epoch.specs.Values.{Closed, most_cells};
-ghost use Rattle.obs_epoch.specs.Kinds.{is_close_first, kind_by, kind_of, is_by_bit, is_no_station};
+ghost use Rattle.obs_epoch.specs.Kinds.{is_close_first, kind_by, kind_of, is_no_station, setup_of};
 ghost use Rattle.obs_epoch.specs.Gathering.{Gathers, Fits, closed_by, closed_in, is_done, plan_in};
 ghost use Rattle.obs_epoch.specs.declared.fault.PlanFault.{PlanFault};
 ghost use Rattle.obs_epoch.specs.Gather.{take_step, end_step, loaded_by, load_heard, load_entry, load_entries, begun, is_same as is_same_lem, no_epoch, no_counts, cells_in, load, noted, rested, fate_in, hold};
@@ -54,7 +54,14 @@ impl Model for Gatherer {
 
     ghost Value = { Gathered };
 
-    ghost view = { λ a. record { clock = a.clock; epoch = a.held.epoch; locks = a.locks; values = a.held.values; handed = a.handed; has_ended = a.has_ended } };
+    ghost view = { λ a. record {
+      clock = a.clock;
+      epoch = a.held.epoch;
+      locks = a.locks;
+      values = a.held.values;
+      handed = a.handed;
+      has_ended = a.has_ended;
+    } };
 
     ghost invariant = { λ a. AreInOrder a.clock.setup.plan a.held.epoch };
 }
@@ -72,7 +79,7 @@ impl Gatherer {
         station: Option<u16>,
         gather: Gather,
     ) -> Result<Gatherer, PlanFault>
-        ensures stands { IfOk result (λ g. Gathers g (record { plan = plan; start_week = start_week; station = station; by_bit = is_by_bit gather }) [] [] None) }
+        ensures stands { IfOk result (λ g. Gathers g (setup_of plan start_week station gather) [] [] None) }
         ensures going { IfOk result (λ g. g.has_ended ≡ false) }
         ensures none { IfOk result (λ g. closed_in g ≡ None) }
         ensures accepted { IsOk result → (start_week < weeks) × (is_no_station station ≡ false) }
@@ -128,7 +135,8 @@ impl Gatherer {
         ensures first { (s : Setup) (ms : List Heard) (es : List Closed) → Gathers self.old s ms es None → is_close_first result.kind ≡ true
             → Gathers self.new s ms (es ++ closed_by (closed_in self.new) self.new.values) (Some (heard m.now)) }
         // A message that comes again is taken.
-        ensures again { (s : Setup) (ms : List Heard) (es : List Closed) → Gathers self.old s ms es (Some (heard m.now)) → is_close_first result.kind ≡ false }
+        ensures again { (s : Setup) (ms : List Heard) (es : List Closed) → Gathers self.old s ms es (Some (heard m.now))
+            → is_close_first result.kind ≡ false }
         // Every other message is taken, and hands out the epoch that it closes.
         ensures taken { (s : Setup) (ms : List Heard) (es : List Closed) (again : Option Heard) → Gathers self.old s ms es again → Fits again (heard m.now)
             → is_close_first result.kind ≡ false
@@ -149,8 +157,8 @@ impl Gatherer {
         ensures closed { result ≡ is_some (closed_in self.new) }
         ensures ended { self.new.has_ended ≡ true }
         ensures twice { self.old.has_ended ≡ true → (result ≡ false) × (self.new ≡ rested self.old) }
-        ensures stays { (s : Setup) (ms : List Heard) (es : List Closed) (again : Option Heard) → Gathers self.old s ms es again → self.old.has_ended ≡ true
-            → Gathers self.new s ms es again }
+        ensures stays { (s : Setup) (ms : List Heard) (es : List Closed) (again : Option Heard) → Gathers self.old s ms es again
+            → self.old.has_ended ≡ true → Gathers self.new s ms es again }
     {
         if self.has_ended {
             self.handed = false;
@@ -162,7 +170,7 @@ impl Gatherer {
     /// The epoch that the last `take` or `end` closed, or None where that call closed none, and
     /// before the first call.
     pub fn closed(&self) -> Option<&Epoch>
-        ensures order { IfSome (option_map (λ e. e.now.epoch) result) (λ e. StandBy (plan_in self.now).gps e.gps × StandBy (plan_in self.now).galileo e.galileo) }
+        ensures order { IfSome (option_map (λ e. e.now.epoch) result) (StandByPlan (plan_in self.now)) }
         // It is the last of those that were handed out, with the station values that were known
         // when it was closed.
         ensures closed { option_to_list (option_map (λ e. e.now) result) ≡ closed_by (closed_in self.now) self.now.values }
@@ -206,7 +214,8 @@ impl Gatherer {
     /// The station values so far.
     pub fn station_values(&self) -> StationValues
         ensures now { result ≡ self.now.values }
-        ensures told { (s : Setup) (ms : List Heard) (es : List Closed) (again : Option Heard) → Gathers self.now s ms es again → result ≡ values_of s ms }
+        ensures told { (s : Setup) (ms : List Heard) (es : List Closed) (again : Option Heard) → Gathers self.now s ms es again
+            → result ≡ values_of s ms }
     {
         self.held.values()
     }
@@ -352,7 +361,8 @@ impl Gatherer {
     // A cell of the message that is taken.
     fn take_entry(&mut self, is_long: bool, system: System, entry: &Entry) -> Fate
         requires { IsEntry (lock_codes is_long) entry.now }
-        ensures { (n : Counts) → record { state = self.new; counts = count_in result n } ≡ load_entry is_long system (record { state = self.old; counts = n }) entry.now }
+        ensures { (n : Counts) → record { state = self.new; counts = count_in result n }
+            ≡ load_entry is_long system (record { state = self.old; counts = n }) entry.now }
     {
         match observe(is_long, system, entry) {
             None => Fate::Skipped,

@@ -32,6 +32,7 @@ fn seen(is_long: bool, entry: &Entry, satellite: Sat, signal: Signal) -> Seen
     ensures value { result ≡ observed (lock_by is_long entry.now.lock) entry.now satellite signal }
     ensures observed { IsObserved result }
 {
+    // These two calls tell the prover that the satellite and the signal are listed.
     let _ = satellite.id();
     let _ = signal.index();
     Seen {

@@ -3,7 +3,7 @@ ghost use Rattle.std.specs.Prelude.{◌≡◌, ◌<◌, ◌≤◌, ◌+◌, ◌�
 ghost use Rattle.gnss_obs.specs.declared.system.System.TheVariants.{Gps, Galileo};
 ghost use Rattle.gnss_obs.specs.Signals.{IsSignal, table, signal_of_code};
 ghost use Rattle.obs_epoch.specs.Values.{planned_of};
-ghost use Rattle.obs_epoch.specs.Plans.{plan_of, signals_of, signals_after, one_more, between_commas, below, place_in};
+ghost use Rattle.obs_epoch.specs.Plans.{plan_of, signals_of, signals_after, IsTaken, IsRefused, between_commas, below, place_in};
 ghost use Rattle.obs_epoch.specs.Signals.{indices, IsOf, codes_in, IsUnfitBehind, IsUnfit, IsUnplanned, IsPlanOf};
 
 use crate::fault::PlanFault;
@@ -60,7 +60,8 @@ impl Plan {
         ensures cases { MatchResult result
             (λ p. IsPlanOf gps.now galileo.now p)
             (λ e. (e ≡ PlanFault.Memory) ⊎ IsUnplanned gps.now galileo.now e) }
-        ensures planned { IsOf Gps gps.now → IsOf Galileo galileo.now → 0 < length gps.now + length galileo.now → IfErr result (λ e. e ≡ PlanFault.Memory) }
+        ensures planned { IsOf Gps gps.now → IsOf Galileo galileo.now → 0 < length gps.now + length galileo.now
+            → IfErr result (λ e. e ≡ PlanFault.Memory) }
     {
         let first = collected(alloc, System::Gps, gps)?;
         let second = collected(alloc, System::Galileo, galileo)?;
@@ -220,8 +221,8 @@ fn first_code(codes: &str) -> (&str, Option<&str>)
 fn add_code(signals: &mut Signals, system: System, code: &str) -> Result<(), PlanFault>
     requires { IsOf system signals.old }
     ensures { MatchResult result
-        (λ _. ((rest : List ℕ → Result (List ℕ) PlanFault) → one_more system (indices signals.old) (signal_of_code system code.now) rest ≡ rest (indices signals.new)) × IsOf system signals.new)
-        (λ e. (e ≡ PlanFault.Memory) ⊎ ((rest : List ℕ → Result (List ℕ) PlanFault) → one_more system (indices signals.old) (signal_of_code system code.now) rest ≡ Err e)) }
+        (λ _. IsTaken system (indices signals.old) (signal_of_code system code.now) (indices signals.new) × IsOf system signals.new)
+        (λ e. (e ≡ PlanFault.Memory) ⊎ IsRefused system (indices signals.old) (signal_of_code system code.now) e) }
 {
     let place = signals.len();
     let signal = match Signal::from_code(system, code) {

@@ -3,7 +3,7 @@ ghost use Rattle.std.specs.Prelude.{◌≡◌, ◌↔◌, ◌==◌, ◌++◌, �
 ghost use Rattle.std.specs.List.{list_any};
 ghost use Rattle.gnss_obs.specs.Signals.{SignalAt, table};
 ghost use Rattle.obs_epoch.specs.Plans.{place_in};
-ghost use Rattle.obs_epoch.specs.Signals.{indices, IsOf};
+ghost use Rattle.obs_epoch.specs.Signals.{indices, IsAdded, IsOf};
 
 use gnss_obs::Signal;
 use indexmap::IndexSet;
@@ -50,7 +50,7 @@ impl Signals {
     /// Adds a signal of the same system as those before it, and says whether it wasn't there.
     pub fn add(&mut self, signal: Signal) -> Result<bool, AllocError>
         requires { IsOf signal.system self.old }
-        ensures new { result ≡ Ok true → (self.new ≡ self.old ++ signal ∷ []) × (list_any (λ s. signal.index == s.index) self.old ≡ false) × IsOf signal.system self.new }
+        ensures new { result ≡ Ok true → IsAdded self.old signal self.new }
         ensures old { result ≡ Ok false → (self.new ≡ self.old) × (list_any (λ s. signal.index == s.index) self.old ≡ true) }
     {
         let index = signal.index();
