@@ -1,5 +1,5 @@
 -- The lock records: what they say after a closing, and how many they are.
-use Rattle.std.proofs.Common.{◌≡◌, ◌≢◌, ℕ, zero, suc, ◌+◌, ◌<◌, ◌≤◌, Bool, true, false, ◌||◌, ◌&&◌, List, [], ◌∷◌, ◌++◌, map, filter, refl, sym, ap, ap₂, ◌∙◌, subst, arith, length, append_assoc, append-nil, length-append, Option, Some, None, is_some, get_or, set, replicate, nat_lt, nat_le}
+use Rattle.std.proofs.Common.{◌≡◌, ◌≢◌, ℕ, zero, suc, ◌+◌, ◌-◌, ◌*◌, ◌<◌, ◌≤◌, Bool, true, false, ◌||◌, ◌&&◌, List, [], ◌∷◌, ◌++◌, map, filter, refl, sym, ap, ap₂, ◌∙◌, subst, arith, length, append_assoc, append-nil, length-append, Option, Some, None, is_some, get_or, set, replicate, nat_lt, nat_le}
 use Rattle.std.specs.Prelude.{if◌then◌else◌, cond, find, option_and_then}
 use Rattle.std.specs.Option.{option_map_or, option_or}
 use Rattle.std.specs.List.{IsDistinct, AllByRecursion}
@@ -13,7 +13,7 @@ use Rattle.gnss_obs.specs.declared.system.System.TheVariants.{Gps, Galileo}
 use Rattle.obs_epoch.specs.declared.seen.Seen.{Seen}
 use Rattle.obs_epoch.specs.declared.seen.KnownLock.{KnownLock}
 use Rattle.obs_epoch.specs.Marked.{Marked}
-use Rattle.obs_epoch.specs.Cells.{has_same_key, is_among, is_listed, firsts, most_satellites, listed_signals}
+use Rattle.obs_epoch.specs.Cells.{has_same_key, is_among, is_listed, firsts}
 use Rattle.gnss_obs.specs.Satellites.{satellites}
 use Rattle.gnss_obs.specs.Signals.{table}
 use Rattle.obs_epoch.specs.Marked.{IsKey}
@@ -23,44 +23,53 @@ use Rattle.obs_epoch.proofs.CellsLemmas.{same_key_laws, firsts-push, new_key, am
 
 -- ---- keys and their entries
 
-below_place : (system : System) (satellite signal : ℕ) → 0 < satellite → satellite ≤ most_satellites system → signal < listed_signals system → entry_in system satellite signal < 1164
-below_place Gps satellite signal a b c = omega (arith, a, b, c)
-below_place Galileo satellite signal a b c = omega (arith, a, b, c)
+-- in numbers: 15 entries for each of 32 satellites, and 19 for each of 36
+below_gps : (s i : ℕ) → 0 < s → s ≤ 32 → i < 15 → 15 * (s - 1) + i < 480
+below_gps s i a b c = omega (arith, a, b, c)
+
+below_galileo : (s i : ℕ) → 0 < s → s ≤ 36 → i < 19 → 480 + (19 * (s - 1) + i) < 1164
+below_galileo s i a b c = omega (arith, a, b, c)
+
+below_place : (system : System) (s i : ℕ) → 0 < s → s ≤ satellites system → i < length (table system) → entry_in system s i < most_locks
+below_place Gps s i a b c = (let e : 15 * (s - 1) + i < 1164 = omega (arith, below_gps s i a b c) in e)
+below_place Galileo s i a b c = below_galileo s i a b c
+
+differs_gps : (s i t j : ℕ) → 0 < s → 0 < t → i < 15 → j < 15 → 15 * (s - 1) + i ≡ 15 * (t - 1) + j → (s ≡ t) × (i ≡ j)
+differs_gps s i t j p q li lj e = (omega (arith, p, q, li, lj, e), omega (arith, p, q, li, lj, e))
+
+differs_galileo : (s i t j : ℕ) → 0 < s → 0 < t → i < 19 → j < 19 → 480 + (19 * (s - 1) + i) ≡ 480 + (19 * (t - 1) + j) → (s ≡ t) × (i ≡ j)
+differs_galileo s i t j p q li lj e = (omega (arith, p, q, li, lj, e), omega (arith, p, q, li, lj, e))
+
+apart : (s i k : ℕ) → 0 < s → s ≤ 32 → i < 15 → 15 * (s - 1) + i ≡ 480 + k → ⊥
+apart s i k p l li e = absurd (omega (arith, below_gps s i p l li, e))
 
 -- where a key is another, its place is
-place_differs : (a b : System) (s i t j : ℕ) → 0 < s → 0 < t → s ≤ most_satellites a → t ≤ most_satellites b → i < listed_signals a → j < listed_signals b
+place_differs : (a b : System) (s i t j : ℕ) → 0 < s → 0 < t → s ≤ satellites a → t ≤ satellites b → i < length (table a) → j < length (table b)
     → entry_in a s i ≡ entry_in b t j → (s ≡ t) × (i ≡ j) × (a ≡ b)
-place_differs Gps Gps s i t j p q ls lt li lj e = (omega (arith, p, q, ls, lt, li, lj, e), omega (arith, p, q, ls, lt, li, lj, e), refl)
-place_differs Galileo Galileo s i t j p q ls lt li lj e = (omega (arith, p, q, ls, lt, li, lj, e), omega (arith, p, q, ls, lt, li, lj, e), refl)
-place_differs Gps Galileo s i t j p q ls lt li lj e = absurd (omega (arith, p, q, ls, lt, li, lj, e))
-place_differs Galileo Gps s i t j p q ls lt li lj e = absurd (omega (arith, p, q, ls, lt, li, lj, e))
+place_differs Gps Gps s i t j p q ls lt li lj e = (let d = differs_gps s i t j p q li lj e in (d.0, d.1, refl))
+place_differs Galileo Galileo s i t j p q ls lt li lj e = (let d = differs_galileo s i t j p q li lj e in (d.0, d.1, refl))
+place_differs Gps Galileo s i t j p q ls lt li lj e = absurd (apart s i _ p ls li e)
+place_differs Galileo Gps s i t j p q ls lt li lj e = absurd (apart t j _ q lt lj (sym e))
 
 record Listed (x : Seen) : Type 0 where
   one : 0 < x.satellite.id
-  most : x.satellite.id ≤ most_satellites x.satellite.system
-  signal : x.signal.index < listed_signals x.satellite.system
+  most : x.satellite.id ≤ satellites x.satellite.system
+  signal : x.signal.index < length (table x.satellite.system)
 
 listed : (x : Seen) → IsKey x → Listed x
 listed x h = record {
   one = omega (arith, h.satellite.0);
-  most = most_of x.satellite.system x.satellite.id h.satellite.1;
-  signal = signal_of x.satellite.system x.signal.index (subst (λ system. x.signal.index < length (table system)) h.same h.signal);
-} where
-  most_of : (system : System) (id : ℕ) → id ≤ satellites system → id ≤ most_satellites system
-  most_of Gps id h = h
-  most_of Galileo id h = h
-
-  signal_of : (system : System) (i : ℕ) → i < length (table system) → i < listed_signals system
-  signal_of Gps i h = h
-  signal_of Galileo i h = h
+  most = h.satellite.1;
+  signal = subst (λ system. x.signal.index < length (table system)) h.same h.signal;
+}
 
 abbrev listed_at : System → ℕ → ℕ → Bool
-listed_at system id index = nat_lt 0 id && nat_le id (most_satellites system) && nat_lt index (listed_signals system)
+listed_at system id index = nat_lt 0 id && nat_le id (satellites system) && nat_lt index (length (table system))
 
-from_listed : (system : System) (id index : ℕ) → listed_at system id index ≡ true → (0 < id) × (id ≤ most_satellites system) × (index < listed_signals system)
+from_listed : (system : System) (id index : ℕ) → listed_at system id index ≡ true → (0 < id) × (id ≤ satellites system) × (index < length (table system))
 from_listed system id index h = (grind (arith, h), grind (arith, h), grind (arith, h))
 
-to_listed : (system : System) (id index : ℕ) → 0 < id → id ≤ most_satellites system → index < listed_signals system → listed_at system id index ≡ true
+to_listed : (system : System) (id index : ℕ) → 0 < id → id ≤ satellites system → index < length (table system) → listed_at system id index ≡ true
 to_listed system id index a b c = grind (arith, a, b, c)
 
 pub entry_below : (x : Seen) → is_listed x ≡ true → entry_of x < most_locks

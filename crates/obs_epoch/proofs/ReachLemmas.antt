@@ -25,7 +25,7 @@ use Rattle.obs_epoch.specs.Values.{Closed, Fits, cells_of, planned_of, most_cell
 use Rattle.obs_epoch.specs.Plans.{place_in}
 use Rattle.obs_epoch.specs.Heard.{Setup, Heard, heard, observed, seen_in, lock_by, is_own}
 use Rattle.obs_epoch.specs.Times.{Timed, is_at, timed, timed_after, taken_at, is_late, is_past, time_of}
-use Rattle.obs_epoch.specs.Cells.{is_of, is_system, is_planned, is_listed, is_among, has_same_key, offered, firsts_after, firsts, kept, kept_at, most_satellites}
+use Rattle.obs_epoch.specs.Cells.{is_of, is_system, is_planned, is_listed, is_among, has_same_key, offered, firsts_after, firsts, kept, kept_at}
 use Rattle.obs_epoch.specs.Marked.{cell_of, shown}
 use Rattle.obs_epoch.specs.Loss.{times, mark_with, mark_of, has_lost, previous}
 use Rattle.obs_epoch.specs.Epochs.{marked, epoch_at, told, no_values, is_shut}
@@ -201,10 +201,6 @@ system_is Gps Galileo h = absurd (grind (arith, h))
 system_is Galileo Gps h = absurd (grind (arith, h))
 system_is Galileo Galileo h = refl
 
-same_number : (system : System) → most_satellites system ≡ satellites system
-same_number Gps = refl
-same_number Galileo = refl
-
 first_of : (a b : Bool) → (a && b) ≡ true → a ≡ true
 first_of true b h = refl
 first_of false b h = h
@@ -234,9 +230,9 @@ gathered s system x mark h few none =
     let here : x.satellite.system ≡ system = system_is system x.satellite.system h.1 in
     let listed : is_listed x ≡ true = first_of (is_listed x) _ h.0.1 in
     let planned : is_some (place_in x.signal (planned_of x.satellite.system s.plan)) ≡ true = second_of (is_listed x) _ h.0.1 in
-    let number = number_is x.satellite.id (most_satellites x.satellite.system) _ listed in
+    let number = number_is x.satellite.id (satellites x.satellite.system) _ listed in
     record {
-      number = (number.0, subst (λ n. x.satellite.id ≤ n) (same_number x.satellite.system ∙ ap satellites here) number.1);
+      number = (number.0, subst (λ n. x.satellite.id ≤ n) (ap satellites here) number.1);
       planned = subst (λ c. is_some (place_in x.signal (planned_of c s.plan)) ≡ true) here planned;
       c = h.0.0.c;
       l = h.0.0.l;

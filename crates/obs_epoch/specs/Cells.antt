@@ -1,10 +1,10 @@
--- The cells of an epoch: of each key the first, and of these the first 256 of a system.
+-- The cells of an epoch: of each key the first, and of these the first of a system, as many as are kept.
 use Rattle.std.specs.Prelude.{ℕ, ◌+◌, ◌-◌, ◌==◌, ◌&&◌, ◌||◌, Bool, true, false, not, nat_le, nat_lt, List, [], ◌∷◌, ◌++◌, filter, flat_map, take, length, count_by, is_some, if◌then◌else◌}
 use Rattle.std.specs.List.{list_any}
 use Rattle.gnss_obs.specs.declared.system.System.{System}
 use Rattle.gnss_obs.specs.declared.system.System.TheVariants.{Gps, Galileo}
-use Rattle.gnss_obs.specs.Satellites.{Satellite}
-use Rattle.gnss_obs.specs.Signals.{SignalAt}
+use Rattle.gnss_obs.specs.Satellites.{Satellite, satellites}
+use Rattle.gnss_obs.specs.Signals.{SignalAt, table}
 use Rattle.obs_epoch.specs.Values.{planned_of, most_cells}
 use Rattle.obs_epoch.specs.Plans.{place_in}
 use Rattle.obs_epoch.specs.Order.{sorted}
@@ -32,18 +32,10 @@ same_key satellite signal other_satellite other_signal =
 abbrev pub has_same_key : Seen → Seen → Bool
 has_same_key a b = same_key a.satellite a.signal b.satellite b.signal
 
--- the satellites that are taken, and the signals that are listed
-abbrev pub most_satellites : System → ℕ
-most_satellites Gps = 32
-most_satellites Galileo = 36
-
-abbrev pub listed_signals : System → ℕ
-listed_signals Gps = 15
-listed_signals Galileo = 19
-
+-- its satellite is one of its system, and its signal stands in that system's table
 abbrev pub is_listed : Seen → Bool
 is_listed x =
-    nat_lt 0 x.satellite.id && nat_le x.satellite.id (most_satellites x.satellite.system) && nat_lt x.signal.index (listed_signals x.satellite.system)
+    nat_lt 0 x.satellite.id && nat_le x.satellite.id (satellites x.satellite.system) && nat_lt x.signal.index (length (table x.satellite.system))
 
 -- satellite and signal are listed, and the signal is planned
 abbrev pub is_planned : Setup → Seen → Bool

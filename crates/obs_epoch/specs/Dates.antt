@@ -1,5 +1,5 @@
 -- GPS time as a civil date and time of day: what it is by the calendar, and a walk from 1980 on that computes it.
-use Rattle.std.specs.Prelude.{◌≡◌, ℕ, zero, suc, ◌+◌, ◌-◌, ◌*◌, ◌/◌, ◌%◌, ◌<◌, ◌==◌, ◌&&◌, ◌||◌, Bool, not, nat_lt, pos, ◌-ℤ◌, if◌then◌else◌}
+use Rattle.std.specs.Prelude.{◌≡◌, ℕ, zero, suc, ◌+◌, ◌-◌, ◌*◌, ◌/◌, ◌%◌, ◌<◌, ◌==◌, ◌&&◌, ◌||◌, Bool, not, nat_lt, ℤ, pos, ◌-ℤ◌, ◌*ℤ◌, ◌+ℤ◌, if◌then◌else◌}
 use Rattle.jiff_core.specs.Calendar.{IsCivilDate, days_from_civil}
 use Rattle.obs_epoch.specs.declared.civil.Civil.{Civil}
 use Rattle.obs_epoch.specs.Weeks.{day as day_length}
@@ -16,6 +16,10 @@ pub record IsCivil (c : Civil) : Type 0 where
 -- the milliseconds since midnight
 abbrev pub clock_of : Civil → ℕ
 clock_of c = c.hour * 3_600_000 + c.minute * 60_000 + c.millisecond
+
+-- the nanoseconds from the calendar's day 0 on
+abbrev pub nanoseconds_of : Civil → ℤ
+nanoseconds_of c = days_from_civil (pos c.year) c.month c.day *ℤ pos 86_400_000_000_000 +ℤ pos (clock_of c * 1_000_000)
 
 -- it is so many milliseconds after 1980-01-06 00:00:00: whole days by the calendar, and the rest by the clock
 pub record IsCivilOf (t : ℕ) (c : Civil) : Type 0 where

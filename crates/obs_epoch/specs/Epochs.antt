@@ -35,8 +35,12 @@ is_shut s xs t = is_closed s t xs || option_map_or (λ u. nat_lt t u) (greatest 
 abbrev pub closed_epochs : Setup → List Timed → List MarkedEpoch
 closed_epochs s xs = map (epoch_at s xs) (filter (is_shut s xs) (times xs))
 
+-- the point that a station message tells; the height stays where it tells none
+abbrev pub values_by : StationParts → ℕ → StationValues
+values_by p height = record { x = p.x; y = p.y; z = p.z; height = option_map_or (λ h. h) p.height height }
+
 abbrev pub told : Setup → StationValues → Heard → StationValues
-told s v m = if is_own s m then option_map_or (λ (p : StationParts). record { x = p.x; y = p.y; z = p.z; height = option_map_or (λ h. h) p.height v.height }) m.point v else v
+told s v m = if is_own s m then option_map_or (λ p. values_by p v.height) m.point v else v
 
 abbrev pub no_values : StationValues
 no_values = record { x = pos 0; y = pos 0; z = pos 0; height = 0 }

@@ -4,6 +4,9 @@ use Rattle.std.specs.Option.{option_map_or}
 use Rattle.std.specs.List.{list_any}
 use Rattle.gnss_obs.specs.declared.system.System.{System}
 use Rattle.gnss_obs.specs.declared.system.System.TheVariants.{Gps, Galileo}
+use Rattle.gnss_obs.specs.Satellites.{satellites}
+use Rattle.gnss_obs.specs.Signals.{table}
+use Rattle.obs_epoch.specs.declared.cell.Cell.{Cell}
 use Rattle.obs_epoch.specs.declared.seen.Seen.{Seen}
 use Rattle.obs_epoch.specs.declared.seen.KnownLock.{KnownLock}
 use Rattle.obs_epoch.specs.Marked.{Marked}
@@ -11,14 +14,18 @@ use Rattle.obs_epoch.specs.declared.seen.Counts.{Counts}
 use Rattle.obs_epoch.specs.declared.seen.Fate.{Fate}
 use Rattle.obs_epoch.specs.declared.seen.Fate.TheVariants.{Skipped, Repeated, Crowded, Kept}
 use Rattle.obs_epoch.specs.Heard.{Setup}
-use Rattle.obs_epoch.specs.Cells.{is_among, firsts, has_same_key, is_planned, is_listed}
+use Rattle.obs_epoch.specs.Cells.{is_among, firsts, has_same_key, same_key, is_planned, is_listed}
 use Rattle.obs_epoch.specs.Values.{most_cells}
 use Rattle.obs_epoch.specs.Loss.{lock_of}
 
--- ---- lock records: an entry for each key that there is, 32 satellites of 15 signals and 36 of 19
+-- ---- lock records: an entry for each key that there is, those of GPS first
+
+-- so many keys a system has: each of its satellites with each signal of its table
+abbrev pub keys_of : System → ℕ
+keys_of system = satellites system * length (table system)
 
 abbrev pub most_locks : ℕ
-most_locks = 1164
+most_locks = keys_of Gps + keys_of Galileo
 
 -- no key has a record
 abbrev pub no_locks : List (Option KnownLock)
@@ -26,8 +33,8 @@ no_locks = replicate most_locks None
 
 -- the entry of a key
 abbrev pub entry_in : System → ℕ → ℕ → ℕ
-entry_in Gps id index = 15 * (id - 1) + index
-entry_in Galileo id index = 480 + (19 * (id - 1) + index)
+entry_in Gps id index = length (table Gps) * (id - 1) + index
+entry_in Galileo id index = keys_of Gps + (length (table Galileo) * (id - 1) + index)
 
 abbrev pub entry_of : Seen → ℕ
 entry_of x = entry_in x.satellite.system x.satellite.id x.signal.index
@@ -65,6 +72,10 @@ pub record Tracks (locks : List (Option KnownLock)) (noted : List Seen) : Type 0
 
 abbrev pub is_held : List Marked → Seen → Bool
 is_held ms x = list_any (λ m. has_same_key x m.seen) ms
+
+-- a cell of that key
+abbrev pub is_cell_of : Seen → Cell → Bool
+is_cell_of x c = same_key x.satellite x.signal c.satellite c.signal
 
 abbrev pub fate_of : Setup → List Marked → Seen → Fate
 fate_of s ms x =

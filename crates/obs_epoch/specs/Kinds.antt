@@ -9,6 +9,7 @@ use Rattle.std.specs.Option.{option_map_or}
 use Rattle.obs_epoch.specs.declared.taken.Gather.{Gather}
 use Rattle.obs_epoch.specs.declared.taken.Gather.TheVariants as gathers
 use Rattle.obs_epoch.specs.declared.seen.Counts.{Counts}
+use Rattle.obs_epoch.specs.Values.{PlanValue}
 use Rattle.obs_epoch.specs.Heard.{Setup, Heard}
 use Rattle.obs_epoch.specs.Times.{timed}
 use Rattle.obs_epoch.specs.Clock.{answer_of}
@@ -45,6 +46,10 @@ kind_of s ms m = kind_by m (answer_of s (timed s ms) m) (counts_in s (timed s ms
 abbrev pub is_by_bit : Gather → Bool
 is_by_bit gathers.Bit = true
 is_by_bit gathers.Time = false
+
+-- what a gatherer is told at first
+abbrev pub setup_of : PlanValue → ℕ → Option ℕ → Gather → Setup
+setup_of plan start_week station gather = record { plan = plan; start_week = start_week; station = station; by_bit = is_by_bit gather }
 
 -- no station has this number
 abbrev pub is_no_station : Option ℕ → Bool

@@ -1,5 +1,5 @@
 -- Kept cells with their marks, and the two parts in which they are held.
-use Rattle.std.specs.Prelude.{Bool, if◌then◌else◌, ◌≡◌, ℕ, List, [], ◌∷◌, map, insert, IfSome, All}
+use Rattle.std.specs.Prelude.{Bool, if◌then◌else◌, ◌≡◌, ℕ, List, [], ◌∷◌, length, map, insert, IfSome, All}
 use Rattle.gnss_obs.specs.declared.system.System.{System}
 use Rattle.gnss_obs.specs.declared.system.System.TheVariants.{Gps, Galileo}
 use Rattle.gnss_obs.specs.Satellites.{IsSatellite}
@@ -56,6 +56,9 @@ cell_of m = record {
   mark = m.mark;
 }
 
+abbrev pub marked_cell : Seen → ℕ → Cell
+marked_cell x mark = cell_of (record { seen = x; mark = mark })
+
 abbrev pub tracking_of : Seen → Tracking
 tracking_of x = record { lock = x.lock; half_cycle = x.half_cycle }
 
@@ -75,6 +78,10 @@ abbrev pub paired : List Cell → List Tracking → List Marked
 paired [] ts = []
 paired (c ∷ cs) [] = []
 paired (c ∷ cs) (t ∷ ts) = record { seen = seen_of c t; mark = c.mark } ∷ paired cs ts
+
+-- beside each cell of an epoch stands how it is tracked
+abbrev pub AreTracked : EpochValue → List Tracking → List Tracking → Type 0
+AreTracked e gps galileo = (length e.gps ≡ length gps) × (length e.galileo ≡ length galileo)
 
 -- the epoch that others see
 abbrev pub shown : MarkedEpoch → EpochValue

@@ -1,12 +1,14 @@
 -- The order in which kept cells stand: by satellite, and within it by the plan.
-use Rattle.std.specs.Prelude.{ℕ, suc, ◌≡◌, ◌==◌, ◌&&◌, ◌||◌, ⊤, Bool, true, nat_lt, List, [], ◌∷◌, fold, map, if◌then◌else◌}
+use Rattle.std.specs.Prelude.{ℕ, suc, ◌≡◌, ◌≤◌, ◌==◌, ◌&&◌, ◌||◌, ⊤, Bool, true, nat_lt, List, [], ◌∷◌, fold, map, if◌then◌else◌}
 use Rattle.std.specs.Option.{option_map_or}
 use Rattle.std.specs.List.{AllByRecursion}
+use Rattle.gnss_obs.specs.declared.system.System.{System}
 use Rattle.gnss_obs.specs.Satellites.{Satellite}
 use Rattle.gnss_obs.specs.Signals.{SignalAt}
 use Rattle.obs_epoch.specs.declared.cell.Cell.{Cell}
 use Rattle.obs_epoch.specs.declared.seen.Seen.{Seen}
 use Rattle.obs_epoch.specs.declared.order.Seat.{Seat}
+use Rattle.obs_epoch.specs.Values.{PlanValue, EpochValue, AreHeld, most_cells}
 use Rattle.obs_epoch.specs.Plans.{place_in}
 use Rattle.obs_epoch.specs.Marked.{Marked}
 
@@ -52,6 +54,14 @@ sorted planned xs = fold (λ ys x. insert_by (seat_of planned) x ys) [] xs
 abbrev pub StandBy : List ℕ → List Cell → Type 0
 StandBy planned cells = Rise (map (cell_seat planned) cells)
 
+-- the cells of each system stand by the plan
+abbrev pub StandByPlan : PlanValue → EpochValue → Type 0
+StandByPlan p e = StandBy p.gps e.gps × StandBy p.galileo e.galileo
+
 -- cells stand by satellite, and within it in some order of signals
 abbrev pub AreSorted : List Cell → Type 0
 AreSorted cells = (planned : List ℕ) × StandBy planned cells
+
+-- the cells that an epoch holds of a system, in a list with so much room that none of them takes memory
+abbrev pub AreHeldIn : System → ℕ → List Cell → Type 0
+AreHeldIn system room cells = AreHeld system cells × AreSorted cells × (most_cells ≤ room)

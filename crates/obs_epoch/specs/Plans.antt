@@ -1,5 +1,5 @@
 -- The signals that texts plan.
-use Rattle.std.specs.Prelude.{ℕ, zero, suc, ◌==◌, List, [], ◌∷◌, ◌++◌, length, codes, nat_eq, if◌then◌else◌, Option, Some, None, Result, Ok, Err, position}
+use Rattle.std.specs.Prelude.{◌≡◌, ℕ, zero, suc, ◌==◌, List, [], ◌∷◌, ◌++◌, length, codes, nat_eq, if◌then◌else◌, Option, Some, None, Result, Ok, Err, position}
 use Rattle.std.specs.List.{list_any}
 use Rattle.std.specs.Str.{bytes_eq}
 use Rattle.gnss_obs.specs.declared.system.System.{System}
@@ -29,6 +29,14 @@ one_more system earlier (Some s) rest =
     if list_any (nat_eq s.index) earlier
     then Err (RepeatedCode system (length earlier))
     else rest (earlier ++ s.index ∷ [])
+
+-- a code's signal is taken behind these, and the signals are then those
+abbrev pub IsTaken : System → List ℕ → Option SignalAt → List ℕ → Type 0
+IsTaken system earlier s now = (rest : List ℕ → Result (List ℕ) PlanFault) → one_more system earlier s rest ≡ rest now
+
+-- it is refused by that fault
+abbrev pub IsRefused : System → List ℕ → Option SignalAt → PlanFault → Type 0
+IsRefused system earlier s fault = (rest : List ℕ → Result (List ℕ) PlanFault) → one_more system earlier s rest ≡ Err fault
 
 -- the signals that codes plan, behind those of the codes before them: from the left the first code that the table doesn't
 -- have, or whose signal came before, is the fault, with its place from 0

@@ -1,7 +1,7 @@
 -- Signals as a plan holds them.
-use Rattle.std.specs.Prelude.{◌≡◌, ℕ, ◌+◌, ◌<◌, List, [], ◌∷◌, ◌++◌, map, length, All, Option, Some, None, true, ◌==◌, get_or, position}
+use Rattle.std.specs.Prelude.{◌≡◌, ℕ, ◌+◌, ◌<◌, List, [], ◌∷◌, ◌++◌, map, length, All, Option, Some, None, true, false, ◌==◌, get_or, position}
 use Rattle.gnss_obs.specs.declared.system.System.{System}
-use Rattle.gnss_obs.specs.Signals.{SignalAt, IsSignal}
+use Rattle.gnss_obs.specs.Signals.{SignalAt, IsSignal, table}
 use Rattle.gnss_obs.specs.declared.system.System.TheVariants.{Gps, Galileo}
 use Rattle.std.specs.List.{IsDistinct, list_any}
 use Rattle.std.specs.Prelude.{nat_eq}
@@ -19,9 +19,13 @@ pub record IsOf (system : System) (ss : List SignalAt) : Type 0 where
   pub each : All (λ s. (s.system ≡ system) × IsSignal s) ss
   pub apart : IsDistinct nat_eq (indices ss)
 
--- the place of each signal of a table among these, at its own place in the table
+-- one signal more, which isn't among those before it
+abbrev pub IsAdded : List SignalAt → SignalAt → List SignalAt → Type 0
+IsAdded before s after = (after ≡ before ++ s ∷ []) × (list_any (λ r. s.index == r.index) before ≡ false) × IsOf s.system after
+
+-- the place of each signal of a table among these, at its own place in the table; that of Galileo is the longest
 pub record AreFound (places : List (Option ℕ)) (planned : List ℕ) : Type 0 where
-  pub each : (n : ℕ) → n < 19 → get_or places n None ≡ position (λ i. i == n) planned
+  pub each : (n : ℕ) → n < length (table Galileo) → get_or places n None ≡ position (λ i. i == n) planned
 
 -- the codes of what is left of a text
 abbrev pub codes_in : Option (List ℕ) → List (List ℕ)

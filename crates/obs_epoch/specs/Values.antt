@@ -1,5 +1,5 @@
 -- What others see of plans, cells and epochs.
-use Rattle.std.specs.Prelude.{◌≡◌, ℕ, zero, suc, ℤ, ◌+◌, ◌<◌, ◌≤◌, ◌^◌, ◌==◌, ◌&&◌, ◌||◌, Bool, List, [], ◌∷◌, length, All, IfSome, is_some, unsigned_abs, if◌then◌else◌}
+use Rattle.std.specs.Prelude.{◌≡◌, ℕ, zero, suc, ℤ, ◌+◌, ◌<◌, ◌≤◌, ◌^◌, ◌==◌, ◌&&◌, ◌||◌, Bool, List, [], ◌∷◌, length, All, IfSome, is_some, Option, unsigned_abs, if◌then◌else◌}
 use Rattle.std.specs.Ordering.{int_eq}
 use Rattle.std.specs.List.{list_any}
 use Rattle.gnss_obs.specs.Satellites.{satellites as satellites_in, IsSatellite}
@@ -79,6 +79,14 @@ written_among cells (suc n) = written_among cells n + (if is_written cells (suc 
 -- the satellites that are to be written: those with a cell that says something
 abbrev pub satellites : EpochValue → ℕ
 satellites e = written_among e.gps (satellites_in Gps) + written_among e.galileo (satellites_in Galileo)
+
+-- so many there are at most
+abbrev pub most_satellites : ℕ
+most_satellites = satellites_in Gps + satellites_in Galileo
+
+-- how many are to be written, where they were counted
+abbrev pub IsCount : Option ℕ → EpochValue → Type 0
+IsCount counted e = IfSome counted (λ n. (n ≡ satellites e) × (n ≤ most_satellites))
 
 -- the same in all four numbers
 abbrev pub same_values : StationValues → StationValues → Bool

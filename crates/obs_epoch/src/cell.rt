@@ -18,8 +18,9 @@ pub struct Cell {
     pub d: Option<Thousandths>,
     /// The strength in thousandths of a dB-Hz.
     pub s: Option<Thousandths>,
-    /// RINEX's loss of lock indicator: bit 0 where lock was lost since the latest epoch with a phase of this key, bit 1 where
-    /// the phase may be off by half a cycle (DF420); 0 without a phase.
+    /// RINEX's loss of lock indicator: bit 0 where lock was lost since the latest epoch with a
+    /// phase of this key, bit 1 where the phase may be off by half a cycle (DF420); 0 without a
+    /// phase.
     pub mark: u8,
 }
 
@@ -34,6 +35,17 @@ pub struct StationValues {
     pub z: i64,
     /// DF028 of the last 1006, in 0.0001 m.
     pub height: u16,
+}
+
+impl Cell {
+    ghost use Rattle.obs_epoch.specs.Values.{has_value};
+
+    /// Whether it has a pseudorange, a phase, a Doppler shift or a strength.
+    pub fn has_value(&self) -> bool
+        ensures { result ≡ has_value self.now }
+    {
+        self.c.is_some() || self.l.is_some() || self.d.is_some() || self.s.is_some()
+    }
 }
 
 impl StationValues {

@@ -1,15 +1,15 @@
 //! GPS time as a date and a time of day.
-ghost use Rattle.std.specs.Prelude.{◌≡◌, ◌≤◌, ◌<◌, ◌*◌, ◌+◌, ◌↔◌, ℕ, IsSome, IfSome, IfNone, pos, ◌*ℤ◌, ◌+ℤ◌};
+ghost use Rattle.std.specs.Prelude.{◌≡◌, ◌≤◌, ◌<◌, ◌*◌, ◌+◌, ◌↔◌, ℕ, IsSome, IfSome, IfNone, pos, ◌*ℤ◌};
 ghost use Rattle.obs_epoch.specs.Weeks.{week, weeks};
-ghost use Rattle.obs_epoch.specs.Dates.{IsCivil, IsCivilOf, civil_of, clock_of};
-ghost use Rattle.jiff_core.specs.Calendar.{days_from_civil};
+ghost use Rattle.obs_epoch.specs.Dates.{IsCivil, IsCivilOf, civil_of, nanoseconds_of};
 ghost use Rattle.jiff.specs.Words.{civil_nanos};
 
 use crate::time::GpsTime;
 use jiff::SignedDuration;
 use jiff::civil::DateTime;
 
-/// A date of the Gregorian calendar and a time of day. GPS time has no leap seconds, so each minute has 60,000 milliseconds.
+/// A date of the Gregorian calendar and a time of day. GPS time has no leap seconds, so each minute
+/// has 60,000 milliseconds.
 #[derive(Clone, Copy, Debug, PartialEq, Eq)]
 pub struct Civil {
     /// The year, 1980 to 3896 where it is that of a `GpsTime`.
@@ -56,7 +56,8 @@ impl GpsTime {
         }
     }
 
-    /// The time that has this date and time of day, or None where no time before week 100,000 has it.
+    /// The time that has this date and time of day, or None where no time before week 100,000 has
+    /// it.
     pub fn from_civil(civil: &Civil) -> Option<GpsTime>
         ensures some { IfSome result (λ t. IsCivilOf t civil.now) }
         ensures walk { IfSome result (λ t. civil.now ≡ civil_of t) }
@@ -72,7 +73,7 @@ impl GpsTime {
 
 // The date and time of day in the calendar, or None where it has none such.
 fn at_of(civil: &Civil) -> Option<DateTime>
-    ensures some { IfSome result (λ at. IsCivil civil.now × (civil_nanos at ≡ days_from_civil (pos civil.now.year) civil.now.month civil.now.day *ℤ pos 86_400_000_000_000 +ℤ pos (clock_of civil.now * 1_000_000))) }
+    ensures some { IfSome result (λ at. IsCivil civil.now × (civil_nanos at ≡ nanoseconds_of civil.now)) }
     ensures none { IfNone result (¬ IsCivil civil.now) }
 {
     if civil.hour > 23 || civil.minute > 59 || civil.millisecond > 59_999 {

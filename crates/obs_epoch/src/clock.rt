@@ -24,13 +24,6 @@ pub enum Answer {
     CloseFirst,
 }
 
-/// What becomes of a message, and the time of the epoch that was closed.
-#[derive(Clone, Copy, Debug, PartialEq, Eq)]
-pub struct Ticked {
-    pub answer: Answer,
-    pub closed: Option<u64>,
-}
-
 /// What a message tells of station and time.
 #[derive(Clone, Copy, Debug, PartialEq, Eq)]
 pub struct Told {
@@ -121,20 +114,18 @@ impl Clock {
         self.latest
     }
 
-    pub fn step_closing(&mut self, told: Told) -> Ticked
+    /// A message comes: what becomes of it, and the time of the epoch that it closes.
+    pub fn step_closing(&mut self, told: Told) -> (Answer, Option<u64>)
         requires { ForSome told.tow (λ tow. tow < week) }
-        ensures answer { result.answer ≡ answer_by self.old (heard_of told) }
-        ensures closed { result.closed ≡ closed_by self.old (heard_of told) }
+        ensures answer { result.0 ≡ answer_by self.old (heard_of told) }
+        ensures closed { result.1 ≡ closed_by self.old (heard_of told) }
         ensures step { self.new ≡ step_by self.old (heard_of told) }
     {
         let is_mark = self.by_bit && told.more == Some(false);
         let was = self.pending;
         let before = self.latest;
         let answer = self.step(told);
-        Ticked {
-            answer,
-            closed: closed_of(answer, is_mark, was, before, self.latest),
-        }
+        (answer, closed_of(answer, is_mark, was, before, self.latest))
     }
 
     fn step(&mut self, told: Told) -> Answer

@@ -1,9 +1,9 @@
 //! An epoch: what was observed at one time.
 ghost use Rattle.std.specs.Prelude.{◌≡◌, ◌+◌, ◌<◌, ◌≤◌, [], length, drop, IfOk, insert};
 ghost use Rattle.std.specs.Vec.{vec_len, vec_capacity};
-ghost use Rattle.obs_epoch.specs.Values.{EpochValue, Closed, AreHeld, IsHeld, cells_of, satellites, is_written, written_among, has_value, most_cells, run};
+ghost use Rattle.obs_epoch.specs.Values.{AreHeld, cells_of, satellites, is_written, written_among, most_cells, most_satellites, run};
 ghost use Rattle.obs_epoch.specs.Epochs.{no_values};
-ghost use Rattle.obs_epoch.specs.Marked.{with_cell_of, cell_of, IsObserved};
+ghost use Rattle.obs_epoch.specs.Marked.{with_cell_of, marked_cell, IsObserved};
 ghost use Rattle.obs_epoch.specs.Order.{AreSorted};
 ghost use Rattle.gnss_obs.specs.Satellites.{satellites as satellites_in};
 
@@ -18,27 +18,30 @@ use std::marker::Model;
 /// So many cells of a system are kept in an epoch.
 pub(crate) const MOST_CELLS: usize = 256;
 
-/// An epoch: its time, the cells of each system that are kept, and the station values that were known when it was closed.
+/// An epoch: its time, the cells of each system that are kept, and the station values that were
+/// known when it was closed.
 #[derive(Drop)]
 pub struct Epoch {
     time: GpsTime,
     gps: Vec<Cell>,
     galileo: Vec<Cell>,
     values: StationValues,
+    // How many satellites are to be written, once they were counted.
+    counted: Option<usize>,
 }
 
 impl Model for Epoch {
-    ghost use Rattle.std.specs.Prelude.{◌≤◌};
     ghost use Rattle.std.specs.Vec.{vec_capacity};
     ghost use Rattle.gnss_obs.specs.declared.system.System.TheVariants.{Gps, Galileo};
-    ghost use Rattle.obs_epoch.specs.Values.{Closed, AreHeld, most_cells};
-    ghost use Rattle.obs_epoch.specs.Order.{AreSorted};
+    ghost use Rattle.obs_epoch.specs.Values.{Closed, IsCount};
+    ghost use Rattle.obs_epoch.specs.Order.{AreHeldIn};
 
     ghost Value = { Closed };
 
     ghost view = { λ e. record { epoch = record { time = e.time; gps = e.gps.items; galileo = e.galileo.items }; values = e.values } };
 
-    ghost invariant = { λ e. AreHeld Gps e.gps.items × AreHeld Galileo e.galileo.items × (most_cells ≤ vec_capacity e.gps) × (most_cells ≤ vec_capacity e.galileo) × AreSorted e.gps.items × AreSorted e.galileo.items };
+    ghost invariant = { λ e. AreHeldIn Gps (vec_capacity e.gps) e.gps.items × AreHeldIn Galileo (vec_capacity e.galileo) e.galileo.items
+        × IsCount e.counted (record { time = e.time; gps = e.gps.items; galileo = e.galileo.items }) };
 }
 
 impl Epoch {
@@ -58,6 +61,7 @@ impl Epoch {
                 z: 0,
                 height: 0,
             },
+            counted: None,
         })
     }
 
@@ -68,6 +72,7 @@ impl Epoch {
         self.time = time;
         self.gps.clear();
         self.galileo.clear();
+        self.counted = None;
     }
 
     // Other station values.
@@ -83,13 +88,22 @@ impl Epoch {
         requires mark { mark < 4 }
         requires room { length (cells_of x.now.satellite.system self.old.epoch) < most_cells }
         requires within { at ≤ length (cells_of x.now.satellite.system self.old.epoch) }
-        requires order { AreSorted (insert (cells_of x.now.satellite.system self.old.epoch) at (cell_of (record { seen = x.now; mark = mark }))) }
-        ensures { self.new ≡ record { epoch = with_cell_of x.now.satellite.system at self.old.epoch (cell_of (record { seen = x.now; mark = mark })); values = self.old.values } }
+        requires order { AreSorted (insert (cells_of x.now.satellite.system self.old.epoch) at (marked_cell x.now mark)) }
+        ensures { self.new ≡ record { epoch = with_cell_of x.now.satellite.system at self.old.epoch (marked_cell x.now mark); values = self.old.values } }
     {
+        self.counted = None;
         match x.satellite.system() {
             System::Gps => insert_cell(&mut self.gps, at, x, mark),
             System::Galileo => insert_cell(&mut self.galileo, at, x, mark),
         }
+    }
+
+    // It closes: the satellites that are to be written are counted, once for all who ask.
+    pub(crate) fn close(&mut self)
+        ensures { self.new ≡ self.old }
+    {
+        let count = self.count();
+        self.counted = Some(count);
     }
 
     /// Its time.
@@ -106,8 +120,8 @@ impl Epoch {
         self.values
     }
 
-    /// The kept cells of a system, at most 256, by satellite and within it by the plan, no two of one key: each of a listed
-    /// satellite and signal of that system.
+    /// The kept cells of a system, at most 256, by satellite and within it by the plan, no two of
+    /// one key: each of a listed satellite and signal of that system.
     pub fn cells(&self, system: System) -> &[Cell]
         ensures cells { result.now ≡ cells_of system self.now.epoch }
         ensures held { AreHeld system result.now }
@@ -119,10 +133,22 @@ impl Epoch {
         }
     }
 
-    /// How many satellites are to be written: those with a cell that has a pseudorange, a phase, a Doppler shift or a strength.
+    /// How many satellites are to be written: those with a cell that has a pseudorange, a phase, a
+    /// Doppler shift or a strength.
     pub fn satellites(&self) -> usize
         ensures count { result ≡ satellites self.now.epoch }
-        ensures bound { result ≤ 68 }
+        ensures bound { result ≤ most_satellites }
+    {
+        match self.counted {
+            Some(count) => count,
+            None => self.count(),
+        }
+    }
+
+    // The same, by a walk over the cells.
+    fn count(&self) -> usize
+        ensures count { result ≡ satellites self.now.epoch }
+        ensures bound { result ≤ most_satellites }
     {
         written(self.gps.as_slice(), System::Gps)
             + written(self.galileo.as_slice(), System::Galileo)
@@ -141,6 +167,15 @@ pub fn end_of(cells: &[Cell], from: usize, id: u8) -> usize
         }
     }
     cells.len()
+}
+
+/// Whether the satellite of a number is to be written: one of its cells has a value.
+pub fn is_written(cells: &[Cell], id: u8) -> bool
+    ensures { result ≡ is_written cells.now id }
+{
+    cells
+        .iter()
+        .any(|cell| cell.satellite.id() == id && cell.has_value())
 }
 
 // Of a system's satellites, how many have a cell that says something.
@@ -162,22 +197,10 @@ fn written(cells: &[Cell], system: System) -> usize
     count
 }
 
-fn is_written(cells: &[Cell], id: u8) -> bool
-    ensures { result ≡ is_written cells.now id }
-{
-    cells.iter().any(|c| c.satellite.id() == id && has_value(c))
-}
-
-fn has_value(c: &Cell) -> bool
-    ensures { result ≡ has_value c.now }
-{
-    c.c.is_some() || c.l.is_some() || c.d.is_some() || c.s.is_some()
-}
-
 fn insert_cell(cells: &mut Vec<Cell>, at: usize, x: &Seen, mark: u8)
     requires room { vec_len cells.old < vec_capacity cells.old }
     requires within { at ≤ vec_len cells.old }
-    ensures items { cells.new.items ≡ insert cells.old.items at (cell_of (record { seen = x.now; mark = mark })) }
+    ensures items { cells.new.items ≡ insert cells.old.items at (marked_cell x.now mark) }
     ensures len { vec_len cells.new ≡ vec_len cells.old + 1 }
     ensures room { vec_capacity cells.old ≤ vec_capacity cells.new }
 {

@@ -6,15 +6,15 @@ ghost use Rattle.obs_epoch.specs.Weeks.{week, weeks};
 ghost use Rattle.obs_epoch.specs.Heard.{Setup, Heard, heard, seen_in, system_of};
 ghost use Rattle.obs_epoch.specs.Times.{timed};
 ghost use Rattle.obs_epoch.specs.Cells.{firsts};
-ghost use Rattle.obs_epoch.specs.Order.{StandBy};
+ghost use Rattle.obs_epoch.specs.Order.{StandByPlan};
 ghost use Rattle.obs_epoch.specs.Marked.{IsObserved, lock_codes, shown};
 ghost use Rattle.obs_epoch.specs.Epochs.{told as values_told, no_values, values_of, closed_so_far};
-ghost use Rattle.obs_epoch.specs.Held.{count_in, recorded};
+ghost use Rattle.obs_epoch.specs.Held.{count_in, most_locks, recorded};
 ghost use Rattle.obs_epoch.specs.Step.{answer_by, closed_by as closes};
 ghost use Rattle.obs_epoch.specs.Clock.{closes_first, answer_of, is_pending};
 ghost use Rattle.obs_epoch.specs.Standing.{Standing, held_at, locked_in};
 ghost use Rattle.obs_epoch.specs.Values.{Closed, most_cells};
-ghost use Rattle.obs_epoch.specs.Kinds.{is_close_first, kind_of, is_by_bit, is_no_station};
+ghost use Rattle.obs_epoch.specs.Kinds.{is_close_first, kind_by, kind_of, is_no_station, setup_of};
 ghost use Rattle.obs_epoch.specs.Gathering.{Gathers, Fits, closed_by, closed_in, is_done, plan_in};
 ghost use Rattle.obs_epoch.specs.declared.fault.PlanFault.{PlanFault};
 ghost use Rattle.obs_epoch.specs.Gather.{take_step, end_step, loaded_by, load_heard, load_entry, load_entries, begun, is_same as is_same_lem, no_epoch, no_counts, cells_in, load, noted, rested, fate_in, hold};
@@ -38,14 +38,6 @@ use rtcm_msg::{Entry, Message, entries};
 use std::alloc::{AllocError, Global};
 use std::marker::Model;
 
-/// What becomes of a message, and of its cells.
-#[derive(Clone, Copy, Debug, PartialEq, Eq)]
-pub struct Outcome {
-    pub answer: Answer,
-    pub counts: Counts,
-    pub closed: bool,
-}
-
 /// Messages of a station, gathered into epochs.
 #[derive(Drop)]
 pub struct Gatherer {
@@ -62,7 +54,14 @@ impl Model for Gatherer {
 
     ghost Value = { Gathered };
 
-    ghost view = { λ a. record { clock = a.clock; epoch = a.held.epoch; locks = a.locks; values = a.held.values; handed = a.handed; has_ended = a.has_ended } };
+    ghost view = { λ a. record {
+      clock = a.clock;
+      epoch = a.held.epoch;
+      locks = a.locks;
+      values = a.held.values;
+      handed = a.handed;
+      has_ended = a.has_ended;
+    } };
 
     ghost invariant = { λ a. AreInOrder a.clock.setup.plan a.held.epoch };
 }
@@ -70,9 +69,9 @@ impl Model for Gatherer {
 impl Gatherer {
     ghost use Rattle.obs_epoch.specs.declared.clock.Answer.{Answer};
 
-    /// Gathers the messages of a station, or of every station as those of one where none is told. The first time lies in the
-    /// starting week. Refused are a week over 99,999, and then a station over 4,095. All room is reserved here: no other call
-    /// takes memory.
+    /// Gathers the messages of a station, or of every station as those of one where none is told.
+    /// The first time lies in the starting week. Refused are a week over 99,999, and then a station
+    /// over 4,095. All room is reserved here: no other call takes memory.
     pub fn new(
         alloc: Global,
         plan: Plan,
@@ -80,7 +79,7 @@ impl Gatherer {
         station: Option<u16>,
         gather: Gather,
     ) -> Result<Gatherer, PlanFault>
-        ensures stands { IfOk result (λ g. Gathers g (record { plan = plan; start_week = start_week; station = station; by_bit = is_by_bit gather }) [] [] None) }
+        ensures stands { IfOk result (λ g. Gathers g (setup_of plan start_week station gather) [] [] None) }
         ensures going { IfOk result (λ g. g.has_ended ≡ false) }
         ensures none { IfOk result (λ g. closed_in g ≡ None) }
         ensures accepted { IsOk result → (start_week < weeks) × (is_no_station station ≡ false) }
@@ -124,17 +123,20 @@ impl Gatherer {
         })
     }
 
-    /// Takes a message, whatever it is; `end` must not have been called. Where the answer is `CloseFirst`, the pending epoch was
-    /// closed, the message wasn't taken, and it is to be handed in again at once.
+    /// Takes a message, whatever it is; `end` must not have been called. Where the answer is
+    /// `CloseFirst`, the pending epoch was closed, the message wasn't taken, and it is to be handed
+    /// in again at once.
     pub fn take(&mut self, m: &Message) -> Taken
         requires { self.old.has_ended ≡ false }
-        // The pending epoch is closed first exactly where this message's time is greater and within the weeks.
+        // The pending epoch is closed first exactly where this message's time is greater and within
+        // the weeks.
         ensures exactly { (s : Setup) (ms : List Heard) (es : List Closed) → Gathers self.old s ms es None
             → is_close_first result.kind ≡ closes_first s (timed s ms) (heard m.now) }
         ensures first { (s : Setup) (ms : List Heard) (es : List Closed) → Gathers self.old s ms es None → is_close_first result.kind ≡ true
             → Gathers self.new s ms (es ++ closed_by (closed_in self.new) self.new.values) (Some (heard m.now)) }
         // A message that comes again is taken.
-        ensures again { (s : Setup) (ms : List Heard) (es : List Closed) → Gathers self.old s ms es (Some (heard m.now)) → is_close_first result.kind ≡ false }
+        ensures again { (s : Setup) (ms : List Heard) (es : List Closed) → Gathers self.old s ms es (Some (heard m.now))
+            → is_close_first result.kind ≡ false }
         // Every other message is taken, and hands out the epoch that it closes.
         ensures taken { (s : Setup) (ms : List Heard) (es : List Closed) (again : Option Heard) → Gathers self.old s ms es again → Fits again (heard m.now)
             → is_close_first result.kind ≡ false
@@ -144,22 +146,19 @@ impl Gatherer {
         ensures closed { result.closed ≡ is_some (closed_in self.new) }
         ensures going { self.new.has_ended ≡ false }
     {
-        let outcome = self.step(m);
-        Taken {
-            kind: kind_by(m, outcome.answer, outcome.counts),
-            closed: outcome.closed,
-        }
+        self.step(m)
     }
 
-    /// No message follows: closes the pending epoch, and says whether there was one. After the first `end` there is none.
+    /// No message follows: closes the pending epoch, and says whether there was one. After the
+    /// first `end` there is none.
     pub fn end(&mut self) -> bool
         ensures closes { (s : Setup) (ms : List Heard) (es : List Closed) → Gathers self.old s ms es None → self.old.has_ended ≡ false
             → (result ≡ is_pending s (timed s ms)) × Gathers self.new s ms (es ++ closed_by (closed_in self.new) self.new.values) None }
         ensures closed { result ≡ is_some (closed_in self.new) }
         ensures ended { self.new.has_ended ≡ true }
         ensures twice { self.old.has_ended ≡ true → (result ≡ false) × (self.new ≡ rested self.old) }
-        ensures stays { (s : Setup) (ms : List Heard) (es : List Closed) (again : Option Heard) → Gathers self.old s ms es again → self.old.has_ended ≡ true
-            → Gathers self.new s ms es again }
+        ensures stays { (s : Setup) (ms : List Heard) (es : List Closed) (again : Option Heard) → Gathers self.old s ms es again
+            → self.old.has_ended ≡ true → Gathers self.new s ms es again }
     {
         if self.has_ended {
             self.handed = false;
@@ -168,10 +167,12 @@ impl Gatherer {
         self.finish()
     }
 
-    /// The epoch that the last `take` or `end` closed, or None where that call closed none, and before the first call.
+    /// The epoch that the last `take` or `end` closed, or None where that call closed none, and
+    /// before the first call.
     pub fn closed(&self) -> Option<&Epoch>
-        ensures order { IfSome (option_map (λ e. e.now.epoch) result) (λ e. StandBy (plan_in self.now).gps e.gps × StandBy (plan_in self.now).galileo e.galileo) }
-        // It is the last of those that were handed out, with the station values that were known when it was closed.
+        ensures order { IfSome (option_map (λ e. e.now.epoch) result) (StandByPlan (plan_in self.now)) }
+        // It is the last of those that were handed out, with the station values that were known
+        // when it was closed.
         ensures closed { option_to_list (option_map (λ e. e.now) result) ≡ closed_by (closed_in self.now) self.now.values }
     {
         if self.handed {
@@ -188,7 +189,8 @@ impl Gatherer {
         self.has_ended
     }
 
-    /// How many cells of a system are held: those of the pending epoch or, where none is pending, of the one last closed.
+    /// How many cells of a system are held: those of the pending epoch or, where none is pending,
+    /// of the one last closed.
     pub fn cells(&self, system: System) -> usize
         ensures count { result ≡ length (cells_in system self.now.epoch) }
         ensures held { (s : Setup) (ms : List Heard) (es : List Closed) (again : Option Heard) → Gathers self.now s ms es again
@@ -198,13 +200,13 @@ impl Gatherer {
         self.held.len(system)
     }
 
-    /// How many lock records are held: one for each satellite and signal of which a closed epoch has a kept cell with a
-    /// valid phase and a known lock.
+    /// How many lock records are held: one for each satellite and signal of which a closed epoch
+    /// has a kept cell with a valid phase and a known lock.
     pub fn locks(&self) -> usize
         ensures count { result ≡ recorded self.now.locks }
         ensures keys { (s : Setup) (ms : List Heard) (es : List Closed) (again : Option Heard) → Gathers self.now s ms es again
             → result ≡ length (firsts (locked_in s (timed s ms) (closed_so_far s (timed s ms) (is_done self.now s ms again)))) }
-        ensures bound { result ≤ 1_164 }
+        ensures bound { result ≤ most_locks }
     {
         self.locks.len()
     }
@@ -212,7 +214,8 @@ impl Gatherer {
     /// The station values so far.
     pub fn station_values(&self) -> StationValues
         ensures now { result ≡ self.now.values }
-        ensures told { (s : Setup) (ms : List Heard) (es : List Closed) (again : Option Heard) → Gathers self.now s ms es again → result ≡ values_of s ms }
+        ensures told { (s : Setup) (ms : List Heard) (es : List Closed) (again : Option Heard) → Gathers self.now s ms es again
+            → result ≡ values_of s ms }
     {
         self.held.values()
     }
@@ -224,24 +227,23 @@ impl Gatherer {
         self.clock.plan()
     }
 
-    fn step(&mut self, m: &Message) -> Outcome
-        ensures answer { result.answer ≡ answer_by self.old.clock (heard m.now) }
+    fn step(&mut self, m: &Message) -> Taken
+        ensures kind { result.kind ≡ kind_by (heard m.now) (answer_by self.old.clock (heard m.now)) (take_step self.old (heard m.now)).counts }
         ensures closed { result.closed ≡ is_some (closes self.old.clock (heard m.now)) }
-        ensures step { record { state = self.new; counts = result.counts } ≡ take_step self.old (heard m.now) }
+        ensures step { self.new ≡ (take_step self.old (heard m.now)).state }
     {
         let before = self.clock.latest();
         let values = self.told(m);
         self.held.tell(values);
-        let step = self.clock.step_closing(told_of(m));
-        self.handed = step.closed.is_some();
-        let counts = self.load(step.answer, before, m);
-        if step.closed.is_some() {
-            self.note_locks();
+        let (answer, closed) = self.clock.step_closing(told_of(m));
+        self.handed = closed.is_some();
+        let counts = self.load(answer, before, m);
+        if closed.is_some() {
+            self.close_pending();
         }
-        Outcome {
-            answer: step.answer,
-            counts,
-            closed: step.closed.is_some(),
+        Taken {
+            kind: kind_by(m, answer, counts),
+            closed: closed.is_some(),
         }
     }
 
@@ -254,7 +256,7 @@ impl Gatherer {
         self.has_ended = true;
         self.handed = was;
         if was {
-            self.note_locks();
+            self.close_pending();
         }
         was
     }
@@ -359,7 +361,8 @@ impl Gatherer {
     // A cell of the message that is taken.
     fn take_entry(&mut self, is_long: bool, system: System, entry: &Entry) -> Fate
         requires { IsEntry (lock_codes is_long) entry.now }
-        ensures { (n : Counts) → record { state = self.new; counts = count_in result n } ≡ load_entry is_long system (record { state = self.old; counts = n }) entry.now }
+        ensures { (n : Counts) → record { state = self.new; counts = count_in result n }
+            ≡ load_entry is_long system (record { state = self.old; counts = n }) entry.now }
     {
         match observe(is_long, system, entry) {
             None => Fate::Skipped,
@@ -368,10 +371,10 @@ impl Gatherer {
     }
 
     // The pending epoch closes.
-    fn note_locks(&mut self)
+    fn close_pending(&mut self)
         ensures { self.new ≡ noted self.old }
     {
-        self.held.note(&mut self.locks);
+        self.held.close(&mut self.locks);
     }
 }
 

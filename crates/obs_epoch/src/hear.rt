@@ -1,8 +1,9 @@
 //! What a gatherer hears of a message.
 ghost use Rattle.std.specs.Prelude.{◌≡◌, ◌<◌, Some};
-ghost use Rattle.std.specs.Option.{ForSome, option_map_or};
+ghost use Rattle.std.specs.Option.{ForSome};
 ghost use Rattle.obs_epoch.specs.Weeks.{week};
 ghost use Rattle.obs_epoch.specs.Heard.{heard, system_of};
+ghost use Rattle.obs_epoch.specs.Epochs.{values_by};
 
 use crate::cell::StationValues;
 use crate::clock::Told;
@@ -62,7 +63,7 @@ pub fn system_of(is_galileo: bool) -> System
 
 /// The station values of a station message; its height is that before, where it tells none.
 pub fn values_of(parts: &StationParts, height: u16) -> StationValues
-    ensures { result ≡ record { x = parts.now.x; y = parts.now.y; z = parts.now.z; height = option_map_or (λ h. h) parts.now.height height } }
+    ensures { result ≡ values_by parts.now height }
 {
     StationValues {
         x: parts.x,

@@ -3,12 +3,11 @@ ghost use Rattle.std.specs.Prelude.{◌≡◌, ◌<◌, ◌≤◌, [], length, I
 ghost use Rattle.obs_epoch.specs.Weeks.{week, weeks};
 ghost use Rattle.obs_epoch.specs.Values.{AreHeld, cells_of, most_cells};
 ghost use Rattle.obs_epoch.specs.Epochs.{no_values};
-ghost use Rattle.obs_epoch.specs.Marked.{IsKey, IsObserved, AreKept, cell_of, shown, paired};
-ghost use Rattle.obs_epoch.specs.Held.{is_held as is_held_lem, note_all};
+ghost use Rattle.obs_epoch.specs.Marked.{IsKey, IsObserved, AreKept, cell_of, marked_cell, shown, paired};
+ghost use Rattle.obs_epoch.specs.Held.{is_held as is_held_lem, is_cell_of, note_all};
 ghost use Rattle.obs_epoch.specs.Gather.{no_epoch, cells_in, more_at, spot_in, AreInOrder};
 ghost use Rattle.obs_epoch.specs.Order.{AreSorted};
 ghost use Rattle.obs_epoch.specs.declared.cell.Cell.{Cell};
-ghost use Rattle.obs_epoch.specs.Cells.{same_key};
 
 use crate::cell::{Cell, StationValues};
 use crate::epoch::{Epoch, MOST_CELLS};
@@ -21,7 +20,8 @@ use gnss_obs::System;
 use std::alloc::{AllocError, Global};
 use std::marker::Model;
 
-/// The epoch that is held, with the station values so far. Beside each of its cells stands how that is tracked.
+/// The epoch that is held, with the station values so far. Beside each of its cells stands how that
+/// is tracked.
 #[derive(Drop)]
 pub struct Held {
     epoch: Epoch,
@@ -29,7 +29,8 @@ pub struct Held {
     galileo: Vec<Tracking>,
 }
 
-/// Where a cell stands or is to stand: so many cells of its system don't stand behind it. And whether its key is held.
+/// Where a cell stands or is to stand: so many cells of its system don't stand behind it. And
+/// whether its key is held.
 #[derive(Clone, Copy, Debug, PartialEq, Eq)]
 pub struct Spot {
     pub at: usize,
@@ -37,17 +38,24 @@ pub struct Spot {
 }
 
 impl Model for Held {
-    ghost use Rattle.std.specs.Prelude.{◌≡◌, ◌≤◌, length};
+    ghost use Rattle.std.specs.Prelude.{◌≤◌};
     ghost use Rattle.std.specs.Vec.{vec_capacity};
     ghost use Rattle.obs_epoch.specs.Values.{most_cells};
-    ghost use Rattle.obs_epoch.specs.Marked.{paired};
+    ghost use Rattle.obs_epoch.specs.Marked.{AreTracked, paired};
     ghost use Rattle.obs_epoch.specs.Gather.{Holding};
 
     ghost Value = { Holding };
 
-    ghost view = { λ h. record { epoch = record { time = h.epoch.epoch.time; gps = paired h.epoch.epoch.gps h.gps.items; galileo = paired h.epoch.epoch.galileo h.galileo.items }; values = h.epoch.values } };
+    ghost view = { λ h. record {
+      epoch = record {
+        time = h.epoch.epoch.time;
+        gps = paired h.epoch.epoch.gps h.gps.items;
+        galileo = paired h.epoch.epoch.galileo h.galileo.items;
+      };
+      values = h.epoch.values;
+    } };
 
-    ghost invariant = { λ h. (length h.epoch.epoch.gps ≡ length h.gps.items) × (length h.epoch.epoch.galileo ≡ length h.galileo.items) × (most_cells ≤ vec_capacity h.gps) × (most_cells ≤ vec_capacity h.galileo) };
+    ghost invariant = { λ h. AreTracked h.epoch.epoch h.gps.items h.galileo.items × (most_cells ≤ vec_capacity h.gps) × (most_cells ≤ vec_capacity h.galileo) };
 }
 
 impl Held {
@@ -85,6 +93,7 @@ impl Held {
     pub fn values(&self) -> StationValues
         ensures { result ≡ self.now.values }
     {
+        // A look at a field gives the prover the invariant, here and below.
         let _ = &self.gps;
         self.epoch.station_values()
     }
@@ -137,7 +146,7 @@ impl Held {
         requires mark { mark < 4 }
         requires room { length (cells_in x.satellite.system self.old.epoch) < most_cells }
         requires within { at ≤ length (cells_in x.satellite.system self.old.epoch) }
-        requires order { AreSorted (insert (map cell_of (cells_in x.satellite.system self.old.epoch)) at (cell_of (record { seen = x; mark = mark }))) }
+        requires order { AreSorted (insert (map cell_of (cells_in x.satellite.system self.old.epoch)) at (marked_cell x mark)) }
         ensures { self.new ≡ record { epoch = more_at x.satellite.system at self.old.epoch (record { seen = x; mark = mark }); values = self.old.values } }
     {
         match x.satellite.system() {
@@ -152,10 +161,12 @@ impl Held {
         }
     }
 
-    /// The locks of the epoch, which closes, are noted.
-    pub fn note(&self, locks: &mut Locks)
-        ensures { locks.new ≡ note_all self.now.epoch.time (note_all self.now.epoch.time locks.old self.now.epoch.gps) self.now.epoch.galileo }
+    /// The epoch closes: its satellites are counted, and its locks noted.
+    pub fn close(&mut self, locks: &mut Locks)
+        ensures same { self.new ≡ self.old }
+        ensures noted { locks.new ≡ note_all self.old.epoch.time (note_all self.old.epoch.time locks.old self.old.epoch.gps) self.old.epoch.galileo }
     {
+        self.epoch.close();
         let time = self.time();
         note_cells(
             locks,
@@ -176,7 +187,7 @@ impl Held {
 fn is_last(cells: &[Cell], at: usize, x: &Seen) -> bool
     requires { at ≤ length cells.now }
     ensures none { at ≡ 0 → result ≡ false }
-    ensures last { (d : Cell) → 0 < at → result ≡ same_key x.now.satellite x.now.signal (slice_index_or cells.now (at - 1) d).satellite (slice_index_or cells.now (at - 1) d).signal }
+    ensures last { (d : Cell) → 0 < at → result ≡ is_cell_of x.now (slice_index_or cells.now (at - 1) d) }
 {
     if at == 0 {
         return false;

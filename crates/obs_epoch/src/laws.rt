@@ -28,8 +28,8 @@ pub fn calendar()
     ensures small { (t : ℕ) → t < weeks * week → ((civil_of t).year ≤ 9999) × ((civil_of t).month ≤ 12) × ((civil_of t).day ≤ 31) }
 {}
 
-/// The epochs of messages that were read: their times rise and are within the weeks, their cells are of planned signals and
-/// have values within their bounds, no two of one satellite and signal.
+/// The epochs of messages that were read: their times rise and are within the weeks, their cells
+/// are of planned signals and have values within their bounds, no two of one satellite and signal.
 pub fn gathered()
     ensures heard { MessagesAreHeard }
     ensures epochs { EpochsAreGathered }

@@ -1,7 +1,8 @@
 //! Observations of a station, gathered from its messages into epochs.
 //!
-//! A [`Plan`] says which signals are wanted. A [`GpsTime`] counts milliseconds and has a date. A [`Gatherer`] takes the
-//! messages of a station one by one and hands out each [`Epoch`] as soon as it is closed.
+//! A [`Plan`] says which signals are wanted. A [`GpsTime`] counts milliseconds and has a date. A
+//! [`Gatherer`] takes the messages of a station one by one and hands out each [`Epoch`] as soon as
+//! it is closed.
 #![tactic(auto)]
 
 mod cell;
@@ -25,7 +26,7 @@ mod time;
 
 pub use cell::{Cell, StationValues};
 pub use civil::Civil;
-pub use epoch::{Epoch, end_of};
+pub use epoch::{Epoch, end_of, is_written};
 pub use fault::PlanFault;
 pub use gather::Gatherer;
 pub use plan::Plan;

@@ -1,18 +1,25 @@
 //! Lock records: one of a key, for the latest closed epoch in which it had a known lock.
 ghost use Rattle.std.specs.Prelude.{◌≡◌, ◌+◌, ◌<◌, ◌≤◌, [], length, IfOk, ◌++◌, ◌∷◌, insert};
 ghost use Rattle.std.specs.Vec.{vec_len, vec_capacity};
-ghost use Rattle.obs_epoch.specs.Held.{entry_of, lookup, no_locks, note, one_if_new, put, recorded};
+ghost use Rattle.obs_epoch.specs.Held.{entry_of, lookup, most_locks, no_locks, note, one_if_new, put, recorded};
 ghost use Rattle.obs_epoch.specs.Cells.{is_system, same_key};
 ghost use Rattle.obs_epoch.specs.Marked.{IsKey};
 ghost use Rattle.obs_epoch.specs.Loss.{lock_of};
 
 use crate::seen::{KnownLock, Seen};
+use crate::signals::{GALILEO_SIGNALS, GPS_SIGNALS};
 use gnss_obs::{Sat, Signal, System};
 use std::alloc::{AllocError, Global};
 use std::marker::Model;
 
-/// So many keys there are: 32 satellites of 15 signals, and 36 of 19.
-pub const MOST_LOCKS: usize = 1_164;
+/// So many keys GPS has: each of its 32 satellites with each signal of its table.
+const GPS_KEYS: usize = 32 * GPS_SIGNALS;
+
+/// So many keys Galileo has, with 36 satellites.
+const GALILEO_KEYS: usize = 36 * GALILEO_SIGNALS;
+
+/// So many keys there are.
+pub const MOST_LOCKS: usize = GPS_KEYS + GALILEO_KEYS;
 
 /// The lock records: an entry for each key, and how many keys have one.
 #[derive(Drop)]
@@ -46,7 +53,7 @@ impl Locks {
     /// How many are recorded.
     pub fn len(&self) -> usize
         ensures count { result ≡ recorded self.now }
-        ensures bound { result ≤ 1_164 }
+        ensures bound { result ≤ most_locks }
     {
         self.count
     }
@@ -105,13 +112,13 @@ fn one_if_new(before: Option<KnownLock>) -> usize
 fn entry_of(x: &Seen) -> usize
     requires { IsKey x.now }
     ensures entry { result ≡ entry_of x.now }
-    ensures bound { result < 1_164 }
+    ensures bound { result < most_locks }
 {
     let id = x.satellite.id() as usize;
     let index = x.signal.index();
     match x.satellite.system() {
-        System::Gps => 15 * (id - 1) + index,
-        System::Galileo => 480 + 19 * (id - 1) + index,
+        System::Gps => GPS_SIGNALS * (id - 1) + index,
+        System::Galileo => GPS_KEYS + GALILEO_SIGNALS * (id - 1) + index,
     }
 }
 

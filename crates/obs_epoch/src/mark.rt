@@ -5,8 +5,8 @@ ghost use Rattle.obs_epoch.specs.Loss.{mark_with, has_lost};
 use crate::seen::{KnownLock, Seen};
 use gnss_obs::is_lost;
 
-/// RINEX's loss of lock indicator of a cell: bit 0 where the latest lock of its key before is known and was lost since, bit 1
-/// where the phase may be off by half a cycle; 0 without a phase.
+/// RINEX's loss of lock indicator of a cell: bit 0 where the latest lock of its key before is known
+/// and was lost since, bit 1 where the phase may be off by half a cycle; 0 without a phase.
 pub fn mark(x: &Seen, time: u64, before: Option<KnownLock>) -> u8
     ensures value { result ≡ mark_with time x.now before }
     ensures bound { result < 4 }

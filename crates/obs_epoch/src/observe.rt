@@ -9,7 +9,8 @@ use crate::seen::Seen;
 use gnss_obs::{Lock, Sat, Signal, System, doppler, phase, pseudorange, strength};
 use rtcm_msg::Entry;
 
-/// A cell of a message of the long form or the short one, where its satellite and its signal are listed.
+/// A cell of a message of the long form or the short one, where its satellite and its signal are
+/// listed.
 pub fn observe(is_long: bool, system: System, entry: &Entry) -> Option<Seen>
     requires { IsEntry (lock_codes is_long) entry.now }
     ensures value { result ≡ seen_in is_long system entry.now }
@@ -31,6 +32,7 @@ fn seen(is_long: bool, entry: &Entry, satellite: Sat, signal: Signal) -> Seen
     ensures value { result ≡ observed (lock_by is_long entry.now.lock) entry.now satellite signal }
     ensures observed { IsObserved result }
 {
+    // These two calls tell the prover that the satellite and the signal are listed.
     let _ = satellite.id();
     let _ = signal.index();
     Seen {

@@ -38,7 +38,8 @@ pub fn is_before(a: Seat, b: Seat) -> bool
     a.satellite < b.satellite
 }
 
-/// How many of the cells don't stand behind that seat. Most cells come in their order, so the last is looked at first.
+/// How many of the cells don't stand behind that seat. Most cells come in their order, so the last
+/// is looked at first.
 pub fn spot(cells: &[Cell], plan: &Plan, x: Seat, system: System) -> usize
     requires held { AreHeld system cells.now }
     requires order { StandBy (planned_of system plan.now) cells.now }

@@ -3,7 +3,7 @@ ghost use Rattle.std.specs.Prelude.{◌≡◌, ◌<◌, ◌≤◌, ◌+◌, ◌�
 ghost use Rattle.gnss_obs.specs.declared.system.System.TheVariants.{Gps, Galileo};
 ghost use Rattle.gnss_obs.specs.Signals.{IsSignal, table, signal_of_code};
 ghost use Rattle.obs_epoch.specs.Values.{planned_of};
-ghost use Rattle.obs_epoch.specs.Plans.{plan_of, signals_of, signals_after, one_more, between_commas, below, place_in};
+ghost use Rattle.obs_epoch.specs.Plans.{plan_of, signals_of, signals_after, IsTaken, IsRefused, between_commas, below, place_in};
 ghost use Rattle.obs_epoch.specs.Signals.{indices, IsOf, codes_in, IsUnfitBehind, IsUnfit, IsUnplanned, IsPlanOf};
 
 use crate::fault::PlanFault;
@@ -12,7 +12,8 @@ use gnss_obs::{Signal, System};
 use std::alloc::Global;
 use std::marker::Model;
 
-/// The signals of each system that are wanted, in the order in which they are written: at least one in all.
+/// The signals of each system that are wanted, in the order in which they are written: at least one
+/// in all.
 #[derive(Drop)]
 pub struct Plan {
     gps: Signals,
@@ -32,8 +33,9 @@ impl Model for Plan {
 }
 
 impl Plan {
-    /// The signals that two texts want. Each text is `all` for the table's order, `none`, or codes with single commas between
-    /// them, as `1C,2W`. The GPS text is read first, from the left; an empty text is one unknown code.
+    /// The signals that two texts want. Each text is `all` for the table's order, `none`, or codes
+    /// with single commas between them, as `1C,2W`. The GPS text is read first, from the left; an
+    /// empty text is one unknown code.
     pub fn parse(alloc: Global, gps: &str, galileo: &str) -> Result<Plan, PlanFault>
         ensures { MatchResult result
             (λ p. plan_of gps.now galileo.now ≡ Ok p)
@@ -47,8 +49,9 @@ impl Plan {
         Ok(Plan { gps, galileo })
     }
 
-    /// The plan of these signals in this order. A signal of another system and one that came before are refused, those of
-    /// GPS first and from the left, and so is no signal at all; and want of memory, where a growth was refused.
+    /// The plan of these signals in this order. A signal of another system and one that came before
+    /// are refused, those of GPS first and from the left, and so is no signal at all; and want of
+    /// memory, where a growth was refused.
     pub fn from_signals(
         alloc: Global,
         gps: &[Signal],
@@ -57,7 +60,8 @@ impl Plan {
         ensures cases { MatchResult result
             (λ p. IsPlanOf gps.now galileo.now p)
             (λ e. (e ≡ PlanFault.Memory) ⊎ IsUnplanned gps.now galileo.now e) }
-        ensures planned { IsOf Gps gps.now → IsOf Galileo galileo.now → 0 < length gps.now + length galileo.now → IfErr result (λ e. e ≡ PlanFault.Memory) }
+        ensures planned { IsOf Gps gps.now → IsOf Galileo galileo.now → 0 < length gps.now + length galileo.now
+            → IfErr result (λ e. e ≡ PlanFault.Memory) }
     {
         let first = collected(alloc, System::Gps, gps)?;
         let second = collected(alloc, System::Galileo, galileo)?;
@@ -98,7 +102,8 @@ impl Plan {
         self.of(system)[place]
     }
 
-    /// The place of a signal among those of its system that are wanted, from 0, or None where it isn't wanted.
+    /// The place of a signal among those of its system that are wanted, from 0, or None where it
+    /// isn't wanted.
     pub fn place(&self, signal: Signal) -> Option<usize>
         ensures place { result ≡ place_in signal (planned_of signal.system self.now) }
     {
@@ -216,8 +221,8 @@ fn first_code(codes: &str) -> (&str, Option<&str>)
 fn add_code(signals: &mut Signals, system: System, code: &str) -> Result<(), PlanFault>
     requires { IsOf system signals.old }
     ensures { MatchResult result
-        (λ _. ((rest : List ℕ → Result (List ℕ) PlanFault) → one_more system (indices signals.old) (signal_of_code system code.now) rest ≡ rest (indices signals.new)) × IsOf system signals.new)
-        (λ e. (e ≡ PlanFault.Memory) ⊎ ((rest : List ℕ → Result (List ℕ) PlanFault) → one_more system (indices signals.old) (signal_of_code system code.now) rest ≡ Err e)) }
+        (λ _. IsTaken system (indices signals.old) (signal_of_code system code.now) (indices signals.new) × IsOf system signals.new)
+        (λ e. (e ≡ PlanFault.Memory) ⊎ IsRefused system (indices signals.old) (signal_of_code system code.now) e) }
 {
     let place = signals.len();
     let signal = match Signal::from_code(system, code) {

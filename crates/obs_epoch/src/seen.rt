@@ -20,7 +20,8 @@ pub struct Seen {
     pub half_cycle: bool,
 }
 
-/// How the receiver tracks a signal: its lock, and whether the phase may be off by half a cycle (DF420).
+/// How the receiver tracks a signal: its lock, and whether the phase may be off by half a cycle
+/// (DF420).
 #[derive(Clone, Copy, Debug, PartialEq, Eq)]
 pub struct Tracking {
     pub lock: Lock,

@@ -3,22 +3,25 @@ ghost use Rattle.std.specs.Prelude.{◌≡◌, ◌↔◌, ◌==◌, ◌++◌, �
 ghost use Rattle.std.specs.List.{list_any};
 ghost use Rattle.gnss_obs.specs.Signals.{SignalAt, table};
 ghost use Rattle.obs_epoch.specs.Plans.{place_in};
-ghost use Rattle.obs_epoch.specs.Signals.{indices, IsOf};
+ghost use Rattle.obs_epoch.specs.Signals.{indices, IsAdded, IsOf};
 
 use gnss_obs::Signal;
 use indexmap::IndexSet;
 use std::alloc::{AllocError, Global};
 use std::marker::Model;
 
-/// The longest table of signals, that of Galileo, has so many.
-const MOST_SIGNALS: usize = 19;
+/// So many signals the table of GPS has.
+pub const GPS_SIGNALS: usize = 15;
+
+/// So many signals the table of Galileo has, which is the longest.
+pub const GALILEO_SIGNALS: usize = 19;
 
 /// Signals of a system, each once, in the order in which they were added.
 #[derive(Drop)]
 pub struct Signals {
     order: IndexSet<Signal>,
     // For each signal of the table, by its place there: its place in the order.
-    places: [Option<usize>; MOST_SIGNALS],
+    places: [Option<usize>; GALILEO_SIGNALS],
 }
 
 impl Model for Signals {
@@ -40,14 +43,14 @@ impl Signals {
     {
         Signals {
             order: IndexSet::new(alloc),
-            places: [None; MOST_SIGNALS],
+            places: [None; GALILEO_SIGNALS],
         }
     }
 
     /// Adds a signal of the same system as those before it, and says whether it wasn't there.
     pub fn add(&mut self, signal: Signal) -> Result<bool, AllocError>
         requires { IsOf signal.system self.old }
-        ensures new { result ≡ Ok true → (self.new ≡ self.old ++ signal ∷ []) × (list_any (λ s. signal.index == s.index) self.old ≡ false) × IsOf signal.system self.new }
+        ensures new { result ≡ Ok true → IsAdded self.old signal self.new }
         ensures old { result ≡ Ok false → (self.new ≡ self.old) × (list_any (λ s. signal.index == s.index) self.old ≡ true) }
     {
         let index = signal.index();

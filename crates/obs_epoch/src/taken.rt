@@ -10,7 +10,8 @@ use rtcm_msg::Message;
 /// How the epochs of a station are closed.
 #[derive(Clone, Copy, Debug, PartialEq, Eq)]
 pub enum Gather {
-    /// By a message of a later time, and by the multiple message bit: a message of the station with DF393 = 0.
+    /// By a message of a later time, and by the multiple message bit: a message of the station with
+    /// DF393 = 0.
     Bit,
     /// By a message of a later time alone.
     Time,
@@ -40,7 +41,8 @@ pub enum Kind {
         /// Cells that came when 256 of their system were kept.
         crowded: usize,
     },
-    /// Observations of a later epoch: the pending epoch was closed, and the message is to be handed in again.
+    /// Observations of a later epoch: the pending epoch was closed, and the message is to be handed
+    /// in again.
     CloseFirst,
 }
 

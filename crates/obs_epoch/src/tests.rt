@@ -23,7 +23,8 @@ fn gatherer(alloc: Global, week: u32, gather: Gather) -> Result<Gatherer, PlanFa
     Gatherer::new(alloc, plan, week, Some(7), gather)
 }
 
-/// What a gatherer that goes on makes of a message: behind a call of its own, so that no test carries its clauses.
+/// What a gatherer that goes on makes of a message: behind a call of its own, so that no test
+/// carries its clauses.
 fn take(g: &mut Gatherer, message: &Message) -> Taken {
     if g.ended() {
         return Taken {

@@ -10,7 +10,8 @@ pub(crate) const WEEK: u64 = 604_800_000;
 /// So many weeks have a number: 0 to 99,999.
 pub(crate) const WEEKS: u64 = 100_000;
 
-/// A time: milliseconds since 1980-01-06 00:00:00 GPS time, in the weeks 0 to 99,999. There are no leap seconds in it.
+/// A time: milliseconds since 1980-01-06 00:00:00 GPS time, in the weeks 0 to 99,999. There are no
+/// leap seconds in it.
 #[derive(Clone, Copy, Debug, PartialEq, Eq, PartialOrd, Ord)]
 pub struct GpsTime {
     milliseconds: u64,

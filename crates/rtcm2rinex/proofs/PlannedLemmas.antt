@@ -10,7 +10,7 @@ use Rattle.gnss_obs.specs.Signals.{SignalAt, IsSignal, table, code_of, signal_of
 use Rattle.obs_epoch.specs.declared.seen.Seen.{Seen}
 use Rattle.obs_epoch.specs.declared.fault.PlanFault.{PlanFault}
 use Rattle.obs_epoch.specs.declared.fault.PlanFault.TheVariants.{RepeatedCode}
-use Rattle.obs_epoch.specs.Cells.{is_planned, is_listed, most_satellites, listed_signals}
+use Rattle.obs_epoch.specs.Cells.{is_planned, is_listed}
 use Rattle.obs_epoch.specs.Heard.{Setup}
 use Rattle.obs_epoch.specs.Marked.{IsKey}
 use Rattle.obs_epoch.specs.Plans.{below, place_in, between_commas, onto_first, one_more, signals_after, signals_of, plan_of}
@@ -235,8 +235,8 @@ some_place test xs h = by (nat_lt (position_or_len test xs) (length xs)) (has_pl
 
 key_listed : (x : Seen) → IsKey x → is_listed x ≡ true
 key_listed x key =
-    ap₂ (λ a b. a && b) (ap₂ (λ a b. a && b) (positive x.satellite.id key.satellite.0) (few x.satellite.id (most_satellites x.satellite.system) (most x.satellite.system key.satellite.1)))
-    (less x.signal.index (listed_signals x.satellite.system) (signals x.satellite.system x.signal.system key.same key.signal))
+    ap₂ (λ a b. a && b) (ap₂ (λ a b. a && b) (positive x.satellite.id key.satellite.0) (few x.satellite.id (satellites x.satellite.system) key.satellite.1))
+    (less x.signal.index (length (table x.satellite.system)) (subst (λ (u : System). x.signal.index < length (table u)) key.same key.signal))
   where
     positive : (n : ℕ) → 1 ≤ n → nat_lt 0 n ≡ true
     positive n h = grind (arith, h)
@@ -246,17 +246,6 @@ key_listed x key =
 
     less : (a b : ℕ) → a < b → nat_lt a b ≡ true
     less a b h = grind (arith, h)
-
-    most : (s : System) → x.satellite.id ≤ satellites s → x.satellite.id ≤ most_satellites s
-    most Gps h = h
-    most Galileo h = h
-
-    own : (s : System) → x.signal.index < length (table s) → x.signal.index < listed_signals s
-    own Gps h = h
-    own Galileo h = h
-
-    signals : (s t : System) → t ≡ s → x.signal.index < length (table t) → x.signal.index < listed_signals s
-    signals s t e h = own s (subst (λ (u : System). x.signal.index < length (table u)) e h)
 
 had_in : (cells : List Seen) (system : System) → planned_of system (plan_had cells) ≡ had cells system
 had_in cells Gps = refl

@@ -26,7 +26,8 @@ fn the_first_cell_of_a_key_is_kept(rt: HostRuntime) -> Result<(), PlanFault> {
     Ok(())
 }
 
-/// A message of the long form: every GPS satellite with two signals, by their IDs, or the first with one.
+/// A message of the long form: every GPS satellite with two signals, by their IDs, or the first
+/// with one.
 fn wide(more: bool, satellites: u64, signals: u32) -> Message {
     let satellite = Satellite7 {
         whole: 70,

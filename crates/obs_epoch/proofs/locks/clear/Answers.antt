@@ -5,5 +5,6 @@ use Rattle.obs_epoch.proofs.locks.clear.Goals as goal
 
 pub returns : goal.returns
 returns c =
-    let all : c.loop.counter ≡ most_locks = omega (arith, c.loop-test.false, c.loop.auto.counter-end) in
+    let number : c.loop.counter ≡ 1164 = omega (arith, c.loop-test.false, c.loop.auto.counter-end) in
+    let all : c.loop.counter ≡ most_locks = number in
     c.loop.invariant.0 ∙ ap (λ n. replicate {A = Option KnownLock} n None) all

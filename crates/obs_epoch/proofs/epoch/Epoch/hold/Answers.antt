@@ -17,9 +17,9 @@ invariant_of-self c =
     let within = subst (λ l. c.args.at ≤ length l) cells c.requires.within in
     let few = subst (λ l. length l < most_cells) cells c.requires.room in
     let held = subst (AreHeld Gps) (sym c.insert_cell.ensures.items)
-    (held_more Gps c.self.inside.gps.items c.args.at c.args.x.now c.args.mark c.self.invariant.0 within few is c.requires.observed c.requires.mark) in
-    let room : most_cells ≤ vec_capacity c.insert_cell.new.cells = omega (arith, c.self.invariant.2, c.insert_cell.ensures.room) in
-    (held, c.self.invariant.1, room, c.self.invariant.3, sorted, c.self.invariant.5)
+    (held_more Gps c.self.inside.gps.items c.args.at c.args.x.now c.args.mark c.self.invariant.0.0 within few is c.requires.observed c.requires.mark) in
+    let room : most_cells ≤ vec_capacity c.insert_cell.new.cells = omega (arith, c.self.invariant.0.2, c.insert_cell.ensures.room) in
+    ((held, sorted, room), c.self.invariant.1, tt)
 
 pub invariant_of-self-in-Galileo : goal.invariant_of-self-in-Galileo
 invariant_of-self-in-Galileo c =
@@ -31,6 +31,6 @@ invariant_of-self-in-Galileo c =
     let within = subst (λ l. c.args.at ≤ length l) cells c.requires.within in
     let few = subst (λ l. length l < most_cells) cells c.requires.room in
     let held = subst (AreHeld Galileo) (sym c.insert_cell-in-Galileo.ensures.items)
-    (held_more Galileo c.self.inside.galileo.items c.args.at c.args.x.now c.args.mark c.self.invariant.1 within few is c.requires.observed c.requires.mark) in
-    let room : most_cells ≤ vec_capacity c.insert_cell-in-Galileo.new.cells = omega (arith, c.self.invariant.3, c.insert_cell-in-Galileo.ensures.room) in
-    (c.self.invariant.0, held, c.self.invariant.2, room, c.self.invariant.4, sorted)
+    (held_more Galileo c.self.inside.galileo.items c.args.at c.args.x.now c.args.mark c.self.invariant.1.0 within few is c.requires.observed c.requires.mark) in
+    let room : most_cells ≤ vec_capacity c.insert_cell-in-Galileo.new.cells = omega (arith, c.self.invariant.1.2, c.insert_cell-in-Galileo.ensures.room) in
+    (c.self.invariant.0, (held, sorted, room), tt)

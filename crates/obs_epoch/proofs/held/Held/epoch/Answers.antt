@@ -11,4 +11,4 @@ abbrev same : EpochValue → StationValues → Closed
 same e v = record { epoch = e; values = v }
 
 pub returns : goal.returns
-returns c = ap₂ same (sym (shown_is c.self.inside.epoch.epoch c.self.inside.gps.items c.self.inside.galileo.items c.self.invariant.0 c.self.invariant.1) ∙ ap shown (ap (λ (h : Holding). h.epoch) c.self.view_is)) (ap (λ (h : Holding). h.values) c.self.view_is)
+returns c = ap₂ same (sym (shown_is c.self.inside.epoch.epoch c.self.inside.gps.items c.self.inside.galileo.items c.self.invariant.0.0 c.self.invariant.0.1) ∙ ap shown (ap (λ (h : Holding). h.epoch) c.self.view_is)) (ap (λ (h : Holding). h.values) c.self.view_is)

@@ -16,7 +16,7 @@ spot-at-requires-clause-order c =
     let system = x.satellite.system in
     let planned = planned_of system c.args.plan.now in
     let seats = ap (λ v. map (marked_seat planned) (cells_in system v)) (sym (ap (λ (h : Holding). h.epoch) c.self.view_is))
-    ∙ seats_in system planned c.self.inside.epoch.epoch c.self.inside.gps.items c.self.inside.galileo.items c.self.invariant.0 c.self.invariant.1 in
+    ∙ seats_in system planned c.self.inside.epoch.epoch c.self.inside.gps.items c.self.inside.galileo.items c.self.invariant.0.0 c.self.invariant.0.1 in
     let rise = subst Rise seats (stand_in system c.args.plan.now c.args.self.now.epoch c.requires.order).rise in
     let cells = c.cells-cells.ensures.cells ∙ ap (λ s. cells_of s c.self.inside.epoch.epoch) c.system-system.ensures in
     subst (λ s. StandBy (planned_of s c.args.plan.now) c.cells-cells.result.now) (sym c.system-system.ensures) (subst (StandBy planned) (sym cells) rise)
@@ -27,7 +27,7 @@ returns-clause-at c =
     let system = x.satellite.system in
     let planned = planned_of system c.args.plan.now in
     let seats = ap (λ v. map (marked_seat planned) (cells_in system v)) (sym (ap (λ (h : Holding). h.epoch) c.self.view_is))
-    ∙ seats_in system planned c.self.inside.epoch.epoch c.self.inside.gps.items c.self.inside.galileo.items c.self.invariant.0 c.self.invariant.1 in
+    ∙ seats_in system planned c.self.inside.epoch.epoch c.self.inside.gps.items c.self.inside.galileo.items c.self.invariant.0.0 c.self.invariant.0.1 in
     let cells = c.cells-cells.ensures.cells ∙ ap (λ s. cells_of s c.self.inside.epoch.epoch) c.system-system.ensures in
     let own = c.seat_at.ensures ∙ ap (λ s. seat (planned_of s c.args.plan.now) x.satellite x.signal) c.requires.key.same in
     c.spot-at.ensures.spot ∙ ap (λ s. spot c.seat_at.result (map (cell_seat (planned_of s c.args.plan.now)) c.cells-cells.result.now)) c.system-system.ensures
@@ -43,17 +43,17 @@ returns-clause-held c =
     let at = c.spot-at.ensures.spot ∙ ap (λ s. spot c.seat_at.result (map (cell_seat (planned_of s c.args.plan.now)) c.cells-cells.result.now)) c.system-system.ensures
     ∙ ap (λ s. spot s (map (cell_seat planned) c.cells-cells.result.now)) own in
     let seats = ap (λ v. map (marked_seat planned) (cells_in system v)) (sym (ap (λ (h : Holding). h.epoch) c.self.view_is))
-    ∙ seats_in system planned c.self.inside.epoch.epoch c.self.inside.gps.items c.self.inside.galileo.items c.self.invariant.0 c.self.invariant.1 in
+    ∙ seats_in system planned c.self.inside.epoch.epoch c.self.inside.gps.items c.self.inside.galileo.items c.self.invariant.0.0 c.self.invariant.0.1 in
     let rise = subst (StandBy planned) (sym cells) (subst Rise seats (stand_in system c.args.plan.now c.args.self.now.epoch c.requires.order).rise) in
     held_is_last planned x c.cells-cells.result.now c.spot-at.result c.is_last.result rise at c.is_last.ensures.none c.is_last.ensures.last
     ∙ ap (list_any (λ (d : Cell). same_key x.satellite x.signal d.satellite d.signal)) cells
-    ∙ sym (held_in system c.self.inside.epoch.epoch c.self.inside.gps.items c.self.inside.galileo.items x c.self.invariant.0 c.self.invariant.1)
+    ∙ sym (held_in system c.self.inside.epoch.epoch c.self.inside.gps.items c.self.inside.galileo.items x c.self.invariant.0.0 c.self.invariant.0.1)
     ∙ ap (λ v. is_held (cells_in system v) x) (ap (λ (h : Holding). h.epoch) c.self.view_is)
 
 pub returns-clause-within : goal.returns-clause-within
 returns-clause-within c =
     let system = c.args.x.now.satellite.system in
     let cells = c.cells-cells.ensures.cells ∙ ap (λ s. cells_of s c.self.inside.epoch.epoch) c.system-system.ensures in
-    let same = ap length cells ∙ sym (length_in system c.self.inside.epoch.epoch c.self.inside.gps.items c.self.inside.galileo.items c.self.invariant.0 c.self.invariant.1)
+    let same = ap length cells ∙ sym (length_in system c.self.inside.epoch.epoch c.self.inside.gps.items c.self.inside.galileo.items c.self.invariant.0.0 c.self.invariant.0.1)
     ∙ ap (λ v. length (cells_in system v)) (ap (λ (h : Holding). h.epoch) c.self.view_is) in
     subst (λ n. c.spot-at.result ≤ n) same c.spot-at.ensures.bound
