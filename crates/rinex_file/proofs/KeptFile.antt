@@ -11,15 +11,15 @@ use Rattle.obs_epoch.specs.declared.cell.StationValues.{StationValues}
 use Rattle.obs_epoch.specs.Values.{PlanValue}
 use Rattle.obs_epoch.specs.Dates.{civil_of}
 use Rattle.rinex_file.specs.Texts.{HeaderLists}
-use Rattle.rinex_file.specs.declared.kept.KeptRow.{KeptRow}
-use Rattle.rinex_file.specs.declared.kept.KeptEpoch.{KeptEpoch}
+use Rattle.rinex_file.specs.declared.values.kept.KeptRow.{KeptRow}
+use Rattle.rinex_file.specs.declared.values.kept.KeptEpoch.{KeptEpoch}
 use Rattle.rinex_file.specs.Value.{Entry, Seen, Stamped, FileValue}
 use Rattle.rinex_file.specs.FileValues.{IsSeen, IsStamped, IsFileValue, of_system}
 use Rattle.rinex_file.specs.Header.{header_lines}
 use Rattle.rinex_file.specs.Numbers.{joined}
 use Rattle.rinex_file.specs.File.{header_text, stamped_lines, file_text}
 use Rattle.rinex_file.specs.Course.{epoch_at}
-use Rattle.rinex_file.specs.Kept.{rows_of, change_at, changes_after, epochs_with, epochs_of, row_count, AreKept, HasRoom}
+use Rattle.rinex_file.specs.Read.Kept.{rows_of, change_at, changes_after, epochs_with, epochs_of, row_count, AreKept, HasRoom}
 use Rattle.rinex_file.proofs.PlainHeader.{few_signals_of}
 use Rattle.rinex_file.proofs.KeptRows.{length-rows_of}
 use Rattle.rinex_file.proofs.Sent.{joined-append}

@@ -1,7 +1,7 @@
 -- Bytes that were read ahead.
 use Rattle.std.specs.Prelude.{◌≡◌, ℕ, ◌<◌, ◌≤◌, Bool, true, false, List, [], ◌∷◌, ◌++◌, length, Option}
 use Rattle.std.specs.Io.KnownBytes.{Consumes}
-use Rattle.rinex_file.specs.Reading.{has}
+use Rattle.rinex_file.specs.Read.Fields.{has}
 
 -- what is left is behind some of the bytes that were there
 abbrev pub Leaves : Option (List ℕ) → Option (List ℕ) → Type 0

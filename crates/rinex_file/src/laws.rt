@@ -7,7 +7,7 @@ ghost use Rattle.rinex_file.specs.FileValues.{AreTexts};
 ghost use Rattle.rinex_file.specs.Gathered.{AreSignals, IsGatheredFile};
 ghost use Rattle.rinex_file.specs.File.{header_text, closed_text, file_text, gathered};
 
-use crate::texts::HeaderTexts;
+use crate::header::texts::HeaderTexts;
 use gnss_obs::System;
 use obs_epoch::Plan;
 

@@ -6,13 +6,20 @@ ghost use Rattle.obs_epoch.specs.Values.{AreHeld, cells_of, has_value, is_writte
 ghost use Rattle.gnss_obs.specs.Satellites.{satellites};
 ghost use Rattle.rinex_file.specs.File.{header_text, event_text, epoch_text, line_among, lines_up_to};
 
-use crate::epoch::epoch_line;
-use crate::event::event_line;
-use crate::fault::HeadFault;
-use crate::head::{Head, header_lines};
-use crate::header::{delta_line, position_line};
-use crate::numbers::Line;
-use crate::satellite::put_seen;
+pub(crate) mod epoch;
+pub(crate) mod event;
+pub(crate) mod file;
+pub(crate) mod kept_line;
+pub(crate) mod numbers;
+pub(crate) mod satellite;
+
+use crate::header::fault::HeadFault;
+use crate::header::head::{Head, header_lines};
+use crate::header::lines::{delta_line, position_line};
+use crate::write::epoch::epoch_line;
+use crate::write::event::event_line;
+use crate::write::numbers::Line;
+use crate::write::satellite::put_seen;
 use gnss_obs::System;
 use obs_epoch::{Cell, Epoch, Plan, StationValues, end_of};
 use rtcm_bits::{Counted, DeviceFailed};
