@@ -1,7 +1,8 @@
 //! Observation files: RINEX 3.05.
 //!
-//! A [`Head`] says what a header shows, with the texts that [`HeaderTexts`] has judged. [`header_lines`], [`epoch_line`] and
-//! [`satellite_line`] make lines; [`write_header`], [`write_event`] and [`write_epoch`] send them out. None of these takes memory.
+//! A [`Head`] says what a header shows, with the texts that [`HeaderTexts`] has judged.
+//! [`header_lines`], [`epoch_line`] and [`satellite_line`] make lines; [`write_header`],
+//! [`write_event`] and [`write_epoch`] send them out. None of these takes memory.
 #![tactic(auto)]
 
 mod header;

@@ -1,4 +1,5 @@
-//! What no clause says: published lines, that a call can succeed, and what fails on the way to a writer.
+//! What no clause says: published lines, that a call can succeed, and what fails on the way to a
+//! writer.
 mod events;
 mod faults;
 mod reading;

@@ -109,8 +109,10 @@ fn write_system<W: Write>(
     line: &mut Line,
     writer: &mut Counted<W>,
 ) -> Result<(), DeviceFailed>
-    ensures whole { OnOk result (Appends (W.contents writer.old.inner) (W.contents writer.new.inner) (lines_up_to plan.now epoch.now.epoch system (satellites system))) }
-    ensures part { OnErr result (AppendsPrefix (W.contents writer.old.inner) (W.contents writer.new.inner) (lines_up_to plan.now epoch.now.epoch system (satellites system))) }
+    ensures whole { OnOk result (Appends (W.contents writer.old.inner) (W.contents writer.new.inner)
+        (lines_up_to plan.now epoch.now.epoch system (satellites system))) }
+    ensures part { OnErr result (AppendsPrefix (W.contents writer.old.inner) (W.contents writer.new.inner)
+        (lines_up_to plan.now epoch.now.epoch system (satellites system))) }
     ensures device { FailsWith result writer.old writer.new }
 {
     let cells = epoch.cells(system);
@@ -123,7 +125,8 @@ fn write_system<W: Write>(
     Ok(())
 }
 
-/// Writes an epoch: its line, and a line for each satellite that has a value, those of GPS first and by rising number.
+/// Writes an epoch: its line, and a line for each satellite that has a value, those of GPS first
+/// and by rising number.
 ///
 /// Where the writer fails, what went out is a prefix of these lines.
 #[tactic(auto, unfolding(crate::specs::File::epoch_text))]

@@ -65,6 +65,10 @@ pub record IsReached (k : Known) (section : Section) (h : Shown) (left : List (L
 abbrev pub IsWhole : Known → Type 0
 IsWhole k = (k.gps ≡ is_planned k.shown.plan.gps) × (k.galileo ≡ is_planned k.shown.plan.galileo) × (0 < length k.shown.plan.gps + length k.shown.plan.galileo)
 
+-- behind a section the headers go on at this place
+abbrev pub GoesOnBehind : Known → Section → Section × ℕ → Type 0
+GoesOnBehind k section next = (h : Shown) (left : List (List ℕ)) → IsPast k section h left ↔ IsHeaderLeft k next.0 next.1 h left
+
 -- the headers that go on from one place are those that go on from another
 abbrev pub StepsTo : Known → Section → ℕ → List ℕ → Known → Option (Section × ℕ) → Type 0
 StepsTo old section row line new next = (h : Shown) (left : List (List ℕ)) → IsHeaderLeft old section row h (line ∷ left) ↔ MayFollow new next h left

@@ -8,6 +8,7 @@ use Rattle.rinex_file.specs.declared.values.kept.KeptRow.{KeptRow}
 use Rattle.rinex_file.specs.declared.values.kept.KeptEpoch.{KeptEpoch}
 use Rattle.rinex_file.specs.Value.{Entry, Seen, Stamped, seen_with}
 use Rattle.rinex_file.specs.Course.{History, epoch_at}
+use Rattle.rinex_file.specs.Limits.{most_signals}
 
 -- a satellite with the first of these entries
 abbrev pub row_at : KeptRow → List Entry → Seen
@@ -38,13 +39,17 @@ epochs_with (e ∷ es) changes rows =
 abbrev pub epochs_of : List KeptEpoch → List StationValues → List KeptRow → List Entry → List Stamped
 epochs_of epochs changes rows entries = epochs_with epochs changes (rows_of rows entries)
 
+-- an epoch whose change of station values, satellites and entries are the first of these
+abbrev pub epoch_from : KeptEpoch → List StationValues → List KeptRow → List Entry → Stamped
+epoch_from e changes rows entries = epoch_at (change_at e.changed changes) e.time (rows_of (take e.rows rows) entries)
+
 -- so many entries have the satellites
 abbrev pub entry_count : List KeptRow → ℕ
 entry_count rows = sum_by (λ r. r.entries) rows
 
 -- a line has room for a satellite
 abbrev pub HasRoom : Seen → Type 0
-HasRoom s = (s.row.satellite < 100) × All IsEntry s.row.entries × (length s.row.entries ≤ 19)
+HasRoom s = (s.row.satellite < 100) × All IsEntry s.row.entries × (length s.row.entries ≤ most_signals)
 
 -- so many satellites have the epochs
 abbrev pub row_count : List KeptEpoch → ℕ

@@ -3,6 +3,7 @@ use Rattle.std.specs.Prelude.{ℕ, zero, suc, ℤ, List, [], ◌∷◌, take, dr
 use Rattle.gnss_obs.specs.declared.system.System.{System}
 use Rattle.rinex_file.specs.Read.Fields.{digits_in, number_in, has}
 use Rattle.rinex_file.specs.Value.{Entry, Row, Seen}
+use Rattle.rinex_file.specs.Limits.{signal_columns}
 
 -- the value of a field: there is one where there is a point
 unfoldable pub value_in : List ℕ → Option ℤ
@@ -20,7 +21,7 @@ entry_in text = record {
 
 abbrev pub entries_in : ℕ → List ℕ → List Entry
 entries_in zero text = []
-entries_in (suc n) text = entry_in (take 64 text) ∷ entries_in n (drop 64 text)
+entries_in (suc n) text = entry_in (take signal_columns text) ∷ entries_in n (drop signal_columns text)
 
 -- the row of a line that was filled up with blanks, where so many signals are planned
 abbrev pub row_in : ℕ → List ℕ → Row

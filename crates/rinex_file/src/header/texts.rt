@@ -184,8 +184,8 @@ impl HeaderTexts {
         }
     }
 
-    /// The texts of a header. The first field that has a fault is named, in the order of [`Texts`]: a byte outside 0x20
-    /// to 0x7E, then more bytes than columns.
+    /// The texts of a header. The first field that has a fault is named, in the order of [`Texts`]:
+    /// a byte outside 0x20 to 0x7E, then more bytes than columns.
     pub fn new(texts: &Texts) -> Result<HeaderTexts, HeadFault>
         ensures fault { result_err result ≡ first_fault (lists_of texts.now) None fields }
         ensures texts { IfOk result (λ t. t ≡ trimmed_texts (lists_of texts.now)) }

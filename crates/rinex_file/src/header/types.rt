@@ -6,6 +6,7 @@ ghost use Rattle.obs_epoch.specs.Signals.{indices, IsOf};
 ghost use Rattle.obs_epoch.specs.Values.{planned_of};
 ghost use Rattle.rinex_file.specs.Lines.{letter_of};
 ghost use Rattle.rinex_file.specs.Header.{type_line, type_front, type_columns, type_rows, types_of, codes_of, type_of};
+ghost use Rattle.rinex_file.specs.Limits.{most_line};
 
 use crate::header::labels;
 use crate::header::lines::labelled;
@@ -40,10 +41,11 @@ fn put_front(content: &mut Line, letter: u8, types: usize, row: usize)
     }
 }
 
-// Appends a blank and a signal's type: the first is its pseudorange, then come phase, Doppler and strength.
+// Appends a blank and a signal's type: the first is its pseudorange, then come phase, Doppler and
+// strength.
 fn put_type(content: &mut Line, signal: Signal, kind: usize)
     requires kind { kind < 4 }
-    requires room { array_vec_len content.old + 4 ≤ 1220 }
+    requires room { array_vec_len content.old + 4 ≤ most_line }
     ensures text { content.new.items ≡ content.old.items ++ 32 ∷ type_of kind (code_of signal) }
     ensures size { array_vec_len content.new ≡ array_vec_len content.old + 4 }
 {
@@ -74,7 +76,8 @@ fn put_types(content: &mut Line, system: System, signals: &[Signal], row: usize)
     }
 }
 
-/// Appends what a line of a system's types shows where so many signals are planned and these are the first of them.
+/// Appends what a line of a system's types shows where so many signals are planned and these are
+/// the first of them.
 pub(crate) fn put_row(
     content: &mut Line,
     system: System,

@@ -5,8 +5,9 @@ ghost use Rattle.arrayvec.specs.ArrayVec.{array_vec_len};
 ghost use Rattle.rtcm_bits.specs.Device.{HasFailed};
 ghost use Rattle.rinex_file.specs.Read.Fields.{has};
 ghost use Rattle.rinex_file.specs.Blocks.{Moves, Leaves};
+ghost use Rattle.rinex_file.specs.Limits.{most_line};
 
-use crate::write::numbers::{Line, put};
+use crate::write::numbers::{Line, MOST_LINE, put};
 use rtcm_bits::Counted;
 use std::io::Read;
 use std::marker::Model;
@@ -92,14 +93,14 @@ impl Block {
         }
     }
 
-    /// Moves bytes behind those of a line, up to its line feed or as many as there are and the line has room for. Answers
-    /// whether the line feed is among them.
+    /// Moves bytes behind those of a line, up to its line feed or as many as there are and the line
+    /// has room for. Answers whether the line feed is among them.
     pub(crate) fn move_to(&mut self, line: &mut Line) -> bool
-        requires { array_vec_len line.old ≤ 1220 }
+        requires { array_vec_len line.old ≤ most_line }
         ensures { Moves result self.old self.new line.old.items line.new.items }
     {
         let held = &self.bytes[self.at..self.end];
-        let room = held.len().min(1220 - line.len());
+        let room = held.len().min(MOST_LINE - line.len());
         let near = &held[..room];
         let feed = line_feed(near);
         let count = (feed + 1).min(room);

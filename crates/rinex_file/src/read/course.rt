@@ -1,4 +1,5 @@
-//! How far the reading of a file is: what the next line has to fit, and two counts. It doesn't grow with the file.
+//! How far the reading of a file is: what the next line has to fit, and two counts. It doesn't grow
+//! with the file.
 ghost use Rattle.std.specs.Prelude.{◌≡◌, ◌<◌, ◌≤◌, ◌+◌, ◌^◌, ◌∷◌, ◌++◌, ◌↔◌, ℕ, [], List, OnOk, IsTrue, map, length, if◌then◌else◌};
 ghost use Rattle.std.specs.List.Sorted.{IsStrictlyIncreasing};
 ghost use Rattle.rinex_file.specs.Value.{FileValue, Stamped};
@@ -11,6 +12,7 @@ ghost use Rattle.rinex_file.specs.Read.Fields.{ReadsExactly};
 ghost use Rattle.rinex_file.specs.Read.Progress.{GoesOn};
 ghost use Rattle.rinex_file.specs.Course.{EndsIn, History, HasRoom, StandsBehind, Takes, changes_of, nothing, progress_at};
 ghost use Rattle.rinex_file.specs.Read.Sound.{AreRead, MayBegin};
+ghost use Rattle.rinex_file.specs.Limits.{most_line};
 
 use crate::header::section::Section;
 use crate::read::due::{Added, Due, Refusal};
@@ -35,7 +37,8 @@ pub(crate) struct Course {
     // Of the epoch that was begun: the station values that change with it, and its time.
     pub(crate) change: Option<StationValues>,
     pub(crate) time: GpsTime,
-    // Of those before it: the time of the last, and the station values that changed last, where they did.
+    // Of those before it: the time of the last, and the station values that changed last, where
+    // they did.
     pub(crate) last: Option<u64>,
     pub(crate) values: Option<StationValues>,
     // The satellite that was read last, and its place where it is one of the epoch that was begun.
@@ -66,7 +69,8 @@ fn is_behind(last: Option<u64>, next: u64) -> bool
     }
 }
 
-// Whether an epoch may have this time behind others that rise up to the last, in a file that begins at this first time.
+// Whether an epoch may have this time behind others that rise up to the last, in a file that begins
+// at this first time.
 fn may_follow(last: Option<u64>, first: GpsTime, time: GpsTime) -> bool
     ensures { (es : List Stamped) → EndsIn (map time_of es) last → IsStrictlyIncreasing (map time_of es)
         → IsTrue result ↔ (IsStrictlyIncreasing (map time_of es ++ time ∷ []) × (es ≡ [] → first ≡ time)) }
@@ -81,8 +85,16 @@ fn may_follow(last: Option<u64>, first: GpsTime, time: GpsTime) -> bool
 fn most_rows(gps: usize, galileo: usize) -> usize
     ensures { result ≡ most_rows gps galileo }
 {
-    let of_gps = if gps > 0 { 32 } else { 0 };
-    let of_galileo = if galileo > 0 { 36 } else { 0 };
+    let of_gps = if gps > 0 {
+        System::Gps.satellites() as usize
+    } else {
+        0
+    };
+    let of_galileo = if galileo > 0 {
+        System::Galileo.satellites() as usize
+    } else {
+        0
+    };
     of_gps + of_galileo
 }
 
@@ -138,7 +150,7 @@ impl Course {
     pub(crate) fn take(&mut self, line: &[u8], again: &mut Line) -> Result<Added, Refusal>
         requires stands { (h : History) × StandsBehind self.old h }
         requires room { HasRoom self.old (2 ^ 40) }
-        requires short { length line.now ≤ 1220 }
+        requires short { length line.now ≤ most_line }
         ensures takes { Takes self.old self.new line.now result }
         ensures room { (n : ℕ) → HasRoom self.old n → OnOk result (HasRoom self.new (n + 1)) }
     {
@@ -197,7 +209,8 @@ impl Course {
     fn read_begun(&self, line: &[u8], again: &mut Line) -> Option<(GpsTime, usize)>
         requires between { (h : History) → StandsBehind self.now h → AreRead (progress_at self.now h) }
         ensures { (h : History) → StandsBehind self.now h
-            → ReadsExactly (λ (e : ℕ × ℕ). IsTime e.0 × MayBegin (progress_at self.now h) e.0 e.1) (λ (e : ℕ × ℕ). epoch_line (civil_of e.0) e.1) line.now result }
+            → ReadsExactly (λ (e : ℕ × ℕ). IsTime e.0 × MayBegin (progress_at self.now h) e.0 e.1)
+            (λ (e : ℕ × ℕ). epoch_line (civil_of e.0) e.1) line.now result }
     {
         let Some(read) = read_epoch_line(line, again) else {
             return None;
@@ -257,7 +270,8 @@ impl Course {
         }
     }
 
-    // Takes the height in an event, behind this position: they aren't both those that stand already.
+    // Takes the height in an event, behind this position: they aren't both those that stand
+    // already.
     fn take_height(&mut self, x: i64, y: i64, z: i64, line: &[u8]) -> Result<Added, Refusal>
         requires due { self.old.due ≡ Due.EventHeight x y z }
         ensures takes { Takes self.old self.new line.now result }
@@ -304,7 +318,7 @@ impl Course {
         requires stands { (h : History) × StandsBehind self.old h }
         requires room { HasRoom self.old (2 ^ 40) }
         requires due { self.old.due ≡ Due.Satellite left }
-        requires short { length line.now ≤ 1220 }
+        requires short { length line.now ≤ most_line }
         ensures takes { Takes self.old self.new line.now result }
         ensures room { (n : ℕ) → HasRoom self.old n → OnOk result (HasRoom self.new (n + 1)) }
     {

@@ -1,4 +1,5 @@
-//! The lines that show a date and time of day, read back: what stands there is judged, written again and compared.
+//! The lines that show a date and time of day, read back: what stands there is judged, written
+//! again and compared.
 ghost use Rattle.std.specs.Prelude.{◌≡◌, ◌≤◌, ℕ, length, min, IfSome, Some};
 ghost use Rattle.obs_epoch.specs.Dates.{civil_of};
 ghost use Rattle.rinex_file.specs.FileValues.{IsTime};

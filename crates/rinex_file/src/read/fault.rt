@@ -16,7 +16,8 @@ pub enum ReadFault {
     /// The line isn't that of an epoch, or not of one that may follow.
     #[error("the line of an epoch is spelled otherwise")]
     BadEpoch(u64),
-    /// The line isn't one of the two behind that of an event, or they tell the station values that stand already.
+    /// The line isn't one of the two behind that of an event, or they tell the station values that
+    /// stand already.
     #[error("a line of an event is spelled otherwise")]
     BadEvent(u64),
     /// The line isn't that of a satellite, or not of one that may follow.

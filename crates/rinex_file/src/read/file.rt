@@ -16,7 +16,8 @@ use rtcm_bits::Counted;
 use std::alloc::Global;
 use std::io::Read;
 
-/// How much a file holds: its epochs, the lines of satellites of all of them, and the events that tell station values.
+/// How much a file holds: its epochs, the lines of satellites of all of them, and the events that
+/// tell station values.
 #[derive(Clone, Copy, Debug, PartialEq, Eq)]
 pub struct Counts {
     pub epochs: u64,
@@ -25,8 +26,9 @@ pub struct Counts {
 }
 
 /// Reads a file to its end and counts what it holds. It is accepted exactly where it is spelled as
-/// [`write_header`](crate::write_header) and [`write_epoch`](crate::write_epoch) would spell it. The first fault is
-/// answered, with its line. What is held while it reads doesn't grow with the file.
+/// [`write_header`](crate::write_header) and [`write_epoch`](crate::write_epoch) would spell it.
+/// The first fault is answered, with its line. What is held while it reads doesn't grow with the
+/// file.
 pub fn check_file<R: Read>(alloc: Global, reader: &mut Counted<R>) -> Result<Counts, ReadFault>
     // What is counted is the file whose text the whole input is.
     ensures found { IfOk result (λ n. IsTextWith n (R.remaining reader.old.inner)) }
@@ -53,8 +55,9 @@ pub fn check_file<R: Read>(alloc: Global, reader: &mut Counted<R>) -> Result<Cou
     }
 }
 
-/// Reads a file to its end. It is accepted exactly where it is spelled as [`write_header`](crate::write_header) and
-/// [`write_epoch`](crate::write_epoch) would spell it. The first fault is answered, with its line.
+/// Reads a file to its end. It is accepted exactly where it is spelled as
+/// [`write_header`](crate::write_header) and [`write_epoch`](crate::write_epoch) would spell it.
+/// The first fault is answered, with its line.
 pub fn read_file<R: Read>(alloc: Global, reader: &mut Counted<R>) -> Result<ObsFile, ReadFault>
     // What is answered is the file whose text the whole input is.
     ensures found { IfOk result (λ f. IsFileValue f × IfSome (R.remaining reader.old.inner) (λ input. input ≡ file_text f)) }

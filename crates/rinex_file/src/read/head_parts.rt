@@ -27,7 +27,8 @@ impl HeadSoFar {
         }
     }
 
-    /// Texts, plan and station values of a header with some signal, unless there is no memory for the plan.
+    /// Texts, plan and station values of a header with some signal, unless there is no memory for
+    /// the plan.
     pub(crate) fn into_parts(self, alloc: Global) -> Result<HeadParts, AllocError>
         requires { 0 < length self.shown.plan.gps + length self.shown.plan.galileo }
         ensures { IfOk result (λ p. (p.texts ≡ self.shown.texts) × (p.plan ≡ self.shown.plan) × (p.values ≡ self.shown.values)) }

@@ -1,25 +1,22 @@
 //! What was read of a header.
-ghost use Rattle.std.specs.Prelude.{◌≡◌, ◌+◌, ◌*◌, ◌/◌, ◌<◌, ◌≤◌, ◌∷◌, [], ◌↔◌, ℕ, List, length, Err, Some, None, IfOk, IfErr, IfSome, IfNone, OnOk, MatchOption, IsTrue};
+ghost use Rattle.std.specs.Prelude.{◌≡◌, ◌+◌, ◌*◌, ◌/◌, ◌<◌, ◌≤◌, [], ◌↔◌, ℕ, List, length, Err, Some, None, IfOk, IfSome, IfNone, OnOk, IsTrue};
 ghost use Rattle.gnss_obs.specs.Signals.{table};
 ghost use Rattle.obs_epoch.specs.Dates.{civil_of};
 ghost use Rattle.obs_epoch.specs.Signals.{indices, IsOf};
 ghost use Rattle.obs_epoch.specs.Values.{planned_of};
 ghost use Rattle.rinex_file.specs.FileValues.{of_system};
 ghost use Rattle.rinex_file.specs.Header.{header_lines, type_rows, after};
-ghost use Rattle.rinex_file.specs.Read.Progress.{Shown, IsShown, IsHeaderLeft, MayFollow, AreTypes, types_line};
-ghost use Rattle.rinex_file.specs.Read.HeaderSteps.{IsSole, has_lines, Learned, IsPast, IsReached, IsWhole, StepsTo, NoneGoesOn, TakesRow, RefusesRow, with_signals};
+ghost use Rattle.rinex_file.specs.Read.Progress.{Shown, IsShown, IsHeaderLeft, AreTypes, types_line};
+ghost use Rattle.rinex_file.specs.Read.HeaderSteps.{IsSole, has_lines, IsReached, IsWhole, GoesOnBehind, StepsTo, NoneGoesOn, TakesRow, RefusesRow, with_signals};
+ghost use Rattle.rinex_file.specs.Limits.{most_signals};
 
 use crate::header::labels;
 use crate::header::section::Section;
 use crate::header::texts::HeaderTexts;
 use crate::read::due::Refusal;
-use crate::read::epoch::read_first;
-use crate::read::numbers::is_same;
-use crate::read::station::{is_header_line, read_delta, read_position, read_version};
-use crate::read::texts::{read_one, read_three, read_two};
+use crate::read::station::is_header_line;
 use crate::read::types::{begun, read_count, read_types};
 use crate::write::numbers::Line;
-use crate::write::satellite::letter_of;
 use gnss_obs::{Signal, System};
 use obs_epoch::{GpsTime, StationValues};
 use std::alloc::Global;
@@ -33,8 +30,8 @@ pub(crate) struct HeadSoFar {
     pub(crate) galileo: Vec<Signal>,
     pub(crate) values: StationValues,
     pub(crate) first: GpsTime,
-    has_gps: bool,
-    has_galileo: bool,
+    pub(crate) has_gps: bool,
+    pub(crate) has_galileo: bool,
     signals: usize,
 }
 
@@ -58,7 +55,7 @@ impl Model for HeadSoFar {
 
 // So many lines are needed for the types of so many signals.
 fn rows_of(signals: usize) -> usize
-    requires { signals ≤ 19 }
+    requires { signals ≤ most_signals }
     ensures { result ≡ type_rows signals }
 {
     (4 * signals + 12) / 13
@@ -117,8 +114,8 @@ impl HeadSoFar {
         }
     }
 
-    // Whether signals of a system are planned, by the first line.
-    fn plans(&self, system: System) -> bool
+    /// Whether signals of a system are planned, by the first line.
+    pub(crate) fn plans(&self, system: System) -> bool
         ensures { result ≡ of_system system self.now.gps self.now.galileo }
     {
         match system {
@@ -154,184 +151,11 @@ impl HeadSoFar {
 
     // The place of the first line behind a section, or None behind the last.
     fn place_behind(&self, section: Section) -> Option<(Section, usize)>
-        ensures some { IfSome result (λ next. (h : Shown) (left : List (List ℕ)) → IsPast self.now section h left ↔ IsHeaderLeft self.now next.0 next.1 h left) }
+        ensures some { IfSome result (λ next. GoesOnBehind self.now section next) }
         ensures none { IfNone result (after section ≡ []) }
     {
         let next = section.following()?;
         Some((self.section_from(next), 0))
-    }
-
-    // Version and systems.
-    fn take_version(&mut self, line: &[u8]) -> bool
-        ensures { Learned Section.Version line.now self.old self.new result }
-    {
-        match read_version(line) {
-            Some((gps, galileo)) => {
-                self.has_gps = gps;
-                self.has_galileo = galileo;
-                true
-            }
-            None => false,
-        }
-    }
-
-    // The program, who ran it, and when.
-    fn take_program(&mut self, line: &[u8]) -> bool
-        ensures { Learned Section.Program line.now self.old self.new result }
-    {
-        let Some((program, run_by, date)) = read_three(line, labels::PROGRAM) else {
-            return false;
-        };
-        if !is_same(program.as_slice(), labels::PROGRAM_NAME) {
-            return false;
-        }
-        self.texts.set_program(run_by, date);
-        true
-    }
-
-    // The marker's name.
-    fn take_marker(&mut self, line: &[u8]) -> bool
-        ensures { Learned Section.Marker line.now self.old self.new result }
-    {
-        match read_one(line, labels::MARKER) {
-            Some(text) => {
-                self.texts.set_marker(text);
-                true
-            }
-            None => false,
-        }
-    }
-
-    // The marker's type.
-    fn take_marker_type(&mut self, line: &[u8]) -> bool
-        ensures { Learned Section.MarkerType line.now self.old self.new result }
-    {
-        match read_one(line, labels::MARKER_TYPE) {
-            Some(text) => {
-                self.texts.set_marker_type(text);
-                true
-            }
-            None => false,
-        }
-    }
-
-    // Observer and agency.
-    fn take_observer(&mut self, line: &[u8]) -> bool
-        ensures { Learned Section.Observer line.now self.old self.new result }
-    {
-        match read_two(line, labels::OBSERVER) {
-            Some((observer, agency)) => {
-                self.texts.set_observer(observer, agency);
-                true
-            }
-            None => false,
-        }
-    }
-
-    // Number, type and version of the receiver.
-    fn take_receiver(&mut self, line: &[u8]) -> bool
-        ensures { Learned Section.Receiver line.now self.old self.new result }
-    {
-        match read_three(line, labels::RECEIVER) {
-            Some((number, kind, version)) => {
-                self.texts.set_receiver(number, kind, version);
-                true
-            }
-            None => false,
-        }
-    }
-
-    // Number and type of the antenna.
-    fn take_antenna(&mut self, line: &[u8]) -> bool
-        ensures { Learned Section.Antenna line.now self.old self.new result }
-    {
-        match read_two(line, labels::ANTENNA) {
-            Some((number, kind)) => {
-                self.texts.set_antenna(number, kind);
-                true
-            }
-            None => false,
-        }
-    }
-
-    // The position of the antenna.
-    fn take_position(&mut self, line: &[u8]) -> bool
-        ensures { Learned Section.Position line.now self.old self.new result }
-    {
-        match read_position(line) {
-            Some((x, y, z)) => {
-                let height = self.values.height;
-                self.values = StationValues { x, y, z, height };
-                true
-            }
-            None => false,
-        }
-    }
-
-    // The height of the antenna above the marker.
-    fn take_delta(&mut self, line: &[u8]) -> bool
-        ensures { Learned Section.Delta line.now self.old self.new result }
-    {
-        match read_delta(line) {
-            Some(height) => {
-                self.values.height = height;
-                true
-            }
-            None => false,
-        }
-    }
-
-    // The unit of the strengths.
-    fn take_unit(&mut self, line: &[u8]) -> bool
-        ensures { Learned Section.StrengthUnit line.now self.old self.new result }
-    {
-        is_header_line(line, labels::UNIT, labels::STRENGTH_UNIT)
-    }
-
-    // The time of the first epoch.
-    fn take_first(&mut self, line: &[u8]) -> bool
-        ensures { Learned Section.First line.now self.old self.new result }
-    {
-        match read_first(line) {
-            Some(time) => {
-                self.first = time;
-                true
-            }
-            None => false,
-        }
-    }
-
-    // That no phase of a system is shifted.
-    fn take_shift(&mut self, system: System, line: &[u8]) -> bool
-        ensures { Learned (Section.Shift system) line.now self.old self.new result }
-    {
-        if !self.plans(system) {
-            return false;
-        }
-        is_header_line(line, &[letter_of(system)], labels::SHIFT)
-    }
-
-    // Takes the line of a section, and answers whether it is one.
-    fn learn(&mut self, section: Section, line: &[u8]) -> bool
-        requires { IsSole section }
-        ensures { Learned section line.now self.old self.new result }
-    {
-        match section {
-            Section::Version => self.take_version(line),
-            Section::Program => self.take_program(line),
-            Section::Marker => self.take_marker(line),
-            Section::MarkerType => self.take_marker_type(line),
-            Section::Observer => self.take_observer(line),
-            Section::Receiver => self.take_receiver(line),
-            Section::Antenna => self.take_antenna(line),
-            Section::Position => self.take_position(line),
-            Section::Delta => self.take_delta(line),
-            Section::StrengthUnit => self.take_unit(line),
-            Section::First => self.take_first(line),
-            Section::Shift(system) => self.take_shift(system, line),
-            Section::Types(_) => false,
-            Section::End => false,
-        }
     }
 
     // Takes the line of a section that has at most one.
@@ -461,8 +285,8 @@ impl HeadSoFar {
         Ok(self.place_behind(Section::Types(system)))
     }
 
-    /// Takes a line where this one is due, and answers the place of the next, or None where the header ends. What is known
-    /// then stands for the headers that have this line next.
+    /// Takes a line where this one is due, and answers the place of the next, or None where the
+    /// header ends. What is known then stands for the headers that have this line next.
     pub(crate) fn take(
         &mut self,
         section: Section,
@@ -470,9 +294,9 @@ impl HeadSoFar {
         line: &[u8],
         again: &mut Line,
     ) -> Result<Option<(Section, usize)>, Refusal>
-        ensures taken { IfOk result (λ next. (h : Shown) (left : List (List ℕ)) → IsHeaderLeft self.old section row h (line.now ∷ left) ↔ MayFollow self.new next h left) }
+        ensures taken { IfOk result (λ next. StepsTo self.old section row line.now self.new next) }
         ensures shown { IfOk result (λ next. next ≡ None → IsShown self.new.shown) }
-        ensures bad { result ≡ Err Refusal.Bad → (h : Shown) (left : List (List ℕ)) → IsHeaderLeft self.old section row h (line.now ∷ left) → ⊥ }
+        ensures bad { result ≡ Err Refusal.Bad → NoneGoesOn self.old section row line.now }
     {
         match section {
             Section::Types(system) => self.take_types(system, row, line, again),

@@ -1,5 +1,6 @@
 //! What is kept of the epochs of a file while it is read.
 ghost use Rattle.std.specs.Prelude.{◌≡◌, ◌++◌, OnOk, IfOk, [], is_some, option_to_list};
+ghost use Rattle.rinex_file.specs.Value.{file_with};
 ghost use Rattle.rinex_file.specs.FileValues.{IsFileValue};
 ghost use Rattle.rinex_file.specs.Course.{nothing, with_epoch, with_line, with_seen};
 ghost use Rattle.rinex_file.specs.Read.Steps.{file_at};
@@ -135,9 +136,9 @@ fn file_of(
     rows: Vec<KeptRow>,
     entries: Vec<KeptEntry>,
 ) -> ObsFile
-    requires value { IsFileValue (record { texts = parts.texts; plan = parts.plan; values = parts.values; epochs = epochs_of epochs.items changes.items rows.items entries.items }) }
+    requires value { IsFileValue (file_with parts.texts parts.plan parts.values (epochs_of epochs.items changes.items rows.items entries.items)) }
     requires kept { AreKept epochs.items changes.items rows.items entries.items 0 }
-    ensures { result ≡ record { texts = parts.texts; plan = parts.plan; values = parts.values; epochs = epochs_of epochs.items changes.items rows.items entries.items } }
+    ensures { result ≡ file_with parts.texts parts.plan parts.values (epochs_of epochs.items changes.items rows.items entries.items) }
 {
     let HeadParts {
         texts,

@@ -1,4 +1,5 @@
-//! Numbers in the columns of a line, read without judging them: whoever reads writes them again, and compares.
+//! Numbers in the columns of a line, read without judging them: whoever reads writes them again,
+//! and compares.
 ghost use Rattle.std.specs.Prelude.{◌≡◌, ◌↔◌, IsTrue, ◌^◌, ◌≤◌, ◌<◌, length, unsigned_abs, pos, neg_ℤ, if◌then◌else◌};
 ghost use Rattle.rinex_file.specs.Read.Fields.{digits_in, number_in, has};
 

@@ -7,11 +7,12 @@ ghost use Rattle.rinex_file.specs.FileValues.{FitsColumns, IsFrom, IsEntry, IsRo
 ghost use Rattle.rinex_file.specs.Lines.{seen_line, letter_of};
 ghost use Rattle.rinex_file.specs.Read.Fields.{ReadsExactly, some_if};
 ghost use Rattle.rinex_file.specs.Read.Row.{value_in, entry_in, entries_in, seen_in};
+ghost use Rattle.rinex_file.specs.Limits.{most_line, signal_columns, most_signals};
 
 use crate::read::numbers::{digits_in, is_same, number_text};
 use crate::values::kept::{KeptEntry, KeptSeen};
 use crate::write::kept_line::kept_line;
-use crate::write::numbers::{Line, put, put_times};
+use crate::write::numbers::{Line, MOST_SIGNALS, SIGNAL_COLUMNS, put, put_times};
 use arrayvec::ArrayVec;
 use gnss_obs::System;
 
@@ -31,7 +32,7 @@ fn value_in(text: &[u8]) -> Option<i64>
 // What the 64 columns of a signal show.
 #[tactic(auto, unfolding(crate::specs::Read::Row::entry_in))]
 fn entry_in(text: &[u8]) -> KeptEntry
-    requires { 64 ≤ length text.now }
+    requires { signal_columns ≤ length text.now }
     ensures { result ≡ entry_in text.now }
 {
     KeptEntry {
@@ -44,21 +45,23 @@ fn entry_in(text: &[u8]) -> KeptEntry
 }
 
 // The entries that the columns of so many signals show, in place of those that were there.
-fn put_entries(text: &[u8], signals: usize, entries: &mut ArrayVec<KeptEntry, 19>)
-    requires few { signals ≤ 19 }
-    requires room { 3 + 64 * signals ≤ length text.now }
+fn put_entries(text: &[u8], signals: usize, entries: &mut ArrayVec<KeptEntry, MOST_SIGNALS>)
+    requires few { signals ≤ most_signals }
+    requires room { 3 + signal_columns * signals ≤ length text.now }
     ensures { entries.new.items ≡ entries_in signals (drop 3 text.now) }
 {
     entries.clear();
     for i in 0..signals {
-        entries.push(entry_in(&text[3 + 64 * i..3 + 64 * i + 64]));
+        entries.push(entry_in(
+            &text[3 + SIGNAL_COLUMNS * i..3 + SIGNAL_COLUMNS * i + SIGNAL_COLUMNS],
+        ));
     }
 }
 
 // What a line that was filled up with blanks shows of a satellite.
 fn put_seen_in(system: System, text: &[u8], signals: usize, seen: &mut KeptSeen)
-    requires few { signals ≤ 19 }
-    requires room { 3 + 64 * signals ≤ length text.now }
+    requires few { signals ≤ most_signals }
+    requires room { 3 + signal_columns * signals ≤ length text.now }
     ensures { seen.new ≡ seen_in system signals text.now }
 {
     seen.system = system;
@@ -114,7 +117,8 @@ fn say_something(entries: &[KeptEntry]) -> bool
     entries.iter().any(|e| says(e))
 }
 
-// Whether a system with so many satellites, of which so many signals are planned, can have this row.
+// Whether a system with so many satellites, of which so many signals are planned, can have this
+// row.
 fn is_row(seen: &KeptSeen, most: u8, signals: usize) -> bool
     ensures { IsTrue result ↔ IsRow most signals seen.now.row }
 {
@@ -128,14 +132,14 @@ fn is_row(seen: &KeptSeen, most: u8, signals: usize) -> bool
 
 // The line without its line feed, filled up with blanks.
 fn fill(text: &[u8], signals: usize, filled: &mut Line)
-    requires short { length text.now ≤ 1220 }
-    requires few { signals ≤ 19 }
-    ensures text { (t : List ℕ) → text.now ≡ t ++ 10 ∷ [] → filled.new.items ≡ t ++ replicate (3 + 64 * signals - length t) 32 }
-    ensures room { 3 + 64 * signals ≤ array_vec_len filled.new }
+    requires short { length text.now ≤ most_line }
+    requires few { signals ≤ most_signals }
+    ensures text { (t : List ℕ) → text.now ≡ t ++ 10 ∷ [] → filled.new.items ≡ t ++ replicate (3 + signal_columns * signals - length t) 32 }
+    ensures room { 3 + signal_columns * signals ≤ array_vec_len filled.new }
 {
     filled.clear();
     put(filled, &text[..text.len().saturating_sub(1)]);
-    let blanks = (3 + 64 * signals).saturating_sub(filled.len());
+    let blanks = (3 + SIGNAL_COLUMNS * signals).saturating_sub(filled.len());
     put_times(filled, b' ', blanks);
 }
 
@@ -168,8 +172,8 @@ fn read_of(
     signals: usize,
     seen: &mut KeptSeen,
 ) -> bool
-    requires short { length line.now ≤ 1220 }
-    requires few { signals ≤ 19 }
+    requires short { length line.now ≤ most_line }
+    requires few { signals ≤ most_signals }
     ensures { ReadsExactly (λ s. (s.system ≡ system) × IsRow (satellites system) signals s.row) seen_line line.now (some_if result seen.new) }
 {
     fill(line, signals, again);
@@ -181,7 +185,8 @@ fn read_of(
     is_same(again.as_slice(), line)
 }
 
-/// Reads the satellite that a line shows, where so many signals of each system are planned. Answers whether it shows one.
+/// Reads the satellite that a line shows, where so many signals of each system are planned. Answers
+/// whether it shows one.
 pub(crate) fn read_seen(
     line: &[u8],
     again: &mut Line,
@@ -189,8 +194,8 @@ pub(crate) fn read_seen(
     galileo: usize,
     seen: &mut KeptSeen,
 ) -> bool
-    requires short { length line.now ≤ 1220 }
-    requires few { (gps ≤ 19) × (galileo ≤ 19) }
+    requires short { length line.now ≤ most_line }
+    requires few { (gps ≤ most_signals) × (galileo ≤ most_signals) }
     ensures { ReadsExactly (IsSeen gps galileo) seen_line line.now (some_if result seen.new) }
 {
     let system = match system_of(line) {

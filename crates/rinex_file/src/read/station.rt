@@ -33,7 +33,8 @@ pub(crate) fn read_version(line: &[u8]) -> Option<(bool, bool)>
     None
 }
 
-// The number in 14 columns of a line that begin at `from`, in 0.0001 m; None where 38 bits don't hold it.
+// The number in 14 columns of a line that begin at `from`, in 0.0001 m; None where 38 bits don't
+// hold it.
 fn coordinate_in(line: &[u8], from: usize) -> Option<i64>
     ensures some { IfSome result (λ z. IsCoordinate z × (z ≡ number_in (take 14 (drop from line.now)))) }
     ensures none { IfNone result (IsCoordinate (number_in (take 14 (drop from line.now))) → ⊥) }

@@ -13,7 +13,8 @@ use crate::write::numbers::put;
 use crate::write::satellite::cut_length;
 use arrayvec::ArrayVec;
 
-/// The columns of a line that begin at `from`, counted from 0: `width` of them, or as many as there are.
+/// The columns of a line that begin at `from`, counted from 0: `width` of them, or as many as there
+/// are.
 pub(crate) fn columns(line: &[u8], from: usize, width: usize) -> &[u8]
     ensures value { result.now ≡ take width (drop from line.now) }
     ensures bound { length result.now ≤ width }
@@ -22,7 +23,8 @@ pub(crate) fn columns(line: &[u8], from: usize, width: usize) -> &[u8]
     &rest[..width.min(rest.len())]
 }
 
-// The text in N columns of a line that begin at `from`, without the blanks at its end; None where it isn't printable.
+// The text in N columns of a line that begin at `from`, without the blanks at its end; None where
+// it isn't printable.
 fn text_in<const N: usize>(line: &[u8], from: usize) -> Option<ArrayVec<u8, N>>
     ensures some { IfSome result (λ t. IsText N t.items × (t.items ≡ trimmed (take N (drop from line.now)))) }
     ensures none { IfNone result ((w : List ℕ) → IsText N w → trimmed (take N (drop from line.now)) ≡ w → ⊥) }

@@ -27,7 +27,8 @@ pub(crate) fn read_count(line: &[u8], system: System) -> Option<usize>
     Some(count)
 }
 
-/// Takes the signals whose types begin in a line, behind those of the lines before, where so many are planned.
+/// Takes the signals whose types begin in a line, behind those of the lines before, where so many
+/// are planned.
 pub(crate) fn read_types(
     signals: &mut Vec<Signal>,
     system: System,
@@ -56,7 +57,8 @@ pub(crate) fn read_types(
     }
 }
 
-// Takes the signals of the codes that stand in a line of types behind a `C`, the letter of a signal's first type.
+// Takes the signals of the codes that stand in a line of types behind a `C`, the letter of a
+// signal's first type.
 fn take_signals(
     signals: &mut Vec<Signal>,
     system: System,

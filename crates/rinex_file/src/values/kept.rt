@@ -1,11 +1,13 @@
 //! What was read of an epoch, as it lies in memory.
+use crate::write::numbers::MOST_SIGNALS;
 use arrayvec::ArrayVec;
 use gnss_obs::System;
 use obs_epoch::GpsTime;
 use std::marker::Model;
 
-/// What a line shows of a signal: pseudorange (0.001 m), phase (0.001 cycles), Doppler (0.001 Hz) and strength
-/// (0.001 dB-Hz), and the loss-of-lock mark of the phase. All are absent where nothing was observed.
+/// What a line shows of a signal: pseudorange (0.001 m), phase (0.001 cycles), Doppler (0.001 Hz)
+/// and strength (0.001 dB-Hz), and the loss-of-lock mark of the phase. All are absent where nothing
+/// was observed.
 #[derive(Clone, Copy, Debug, Default, PartialEq, Eq)]
 pub(crate) struct KeptEntry {
     pub(crate) c: Option<i64>,
@@ -25,12 +27,13 @@ impl Model for KeptEntry {
     ghost inverse = { λ e. record { c = e.c; l = e.l; d = e.d; s = e.s; mark = e.mark } };
 }
 
-/// A satellite of a system, with an entry for each planned signal in the plan's order, as a line shows it.
+/// A satellite of a system, with an entry for each planned signal in the plan's order, as a line
+/// shows it.
 #[derive(Drop)]
 pub(crate) struct KeptSeen {
     pub(crate) system: System,
     pub(crate) satellite: u8,
-    pub(crate) entries: ArrayVec<KeptEntry, 19>,
+    pub(crate) entries: ArrayVec<KeptEntry, MOST_SIGNALS>,
 }
 
 impl Model for KeptSeen {
@@ -49,7 +52,8 @@ pub(crate) struct KeptRow {
     pub(crate) entries: usize,
 }
 
-/// An epoch, with so many of the satellites that are kept of all, and whether it has the next of the changes of station values.
+/// An epoch, with so many of the satellites that are kept of all, and whether it has the next of
+/// the changes of station values.
 #[derive(Clone, Copy, Debug, Drop)]
 pub(crate) struct KeptEpoch {
     pub(crate) time: GpsTime,

@@ -22,17 +22,17 @@ pub struct ObsFile {
 
 impl Model for ObsFile {
     ghost use Rattle.std.specs.Prelude.{◌≡◌, length};
-    ghost use Rattle.rinex_file.specs.Value.{FileValue};
+    ghost use Rattle.rinex_file.specs.Value.{FileValue, file_with};
     ghost use Rattle.rinex_file.specs.FileValues.{IsFileValue};
     ghost use Rattle.rinex_file.specs.Read.Kept.{epochs_of, AreKept};
 
     ghost Value = { FileValue };
 
-    ghost view = { λ f. record { texts = f.texts; plan = f.plan; values = f.values; epochs = epochs_of f.epochs.items f.changes.items f.rows.items f.entries.items } };
+    ghost view = { λ f. file_with f.texts f.plan f.values (epochs_of f.epochs.items f.changes.items f.rows.items f.entries.items) };
 
     // It is a file's value, and no change, no row and no entry is left over.
     ghost invariant = { λ f.
-        IsFileValue (record { texts = f.texts; plan = f.plan; values = f.values; epochs = epochs_of f.epochs.items f.changes.items f.rows.items f.entries.items })
+        IsFileValue (file_with f.texts f.plan f.values (epochs_of f.epochs.items f.changes.items f.rows.items f.entries.items))
         × AreKept f.epochs.items f.changes.items f.rows.items f.entries.items 0 };
 }
 

@@ -28,8 +28,8 @@ fn put_epoch(line: &mut Line, civil: &Civil, satellites: usize)
     put(line, b"\n");
 }
 
-/// The line that an epoch begins with, in place of what the buffer holds: date and time of day, the flag 0 and the number
-/// of its satellites, which has three columns.
+/// The line that an epoch begins with, in place of what the buffer holds: date and time of day, the
+/// flag 0 and the number of its satellites, which has three columns.
 pub fn epoch_line(time: GpsTime, satellites: usize, line: &mut Line)
     ensures { line.new.items ≡ epoch_line (civil_of time) satellites }
 {

@@ -1,10 +1,12 @@
-//! Event records: RINEX 3.05, table A3, event flag 4. One stands in front of an epoch whose station values are no longer those before.
+//! Event records: RINEX 3.05, table A3, event flag 4. One stands in front of an epoch whose station
+//! values are no longer those before.
 ghost use Rattle.std.specs.Prelude.{◌≡◌, ◌↔◌, IsTrue};
 ghost use Rattle.rinex_file.specs.File.{event_line};
 
 use crate::read::numbers::is_same;
 
-/// The line that an event begins with: flag 4 without a time, and the number of header lines that follow.
+/// The line that an event begins with: flag 4 without a time, and the number of header lines that
+/// follow.
 #[tactic(auto, unfolding(crate::specs::File::event_line))]
 pub(crate) fn event_line() -> &'static [u8]
     ensures { result.now ≡ event_line }

@@ -3,7 +3,7 @@ ghost use Rattle.std.specs.Prelude.{◌≡◌, ◌<◌, ◌≤◌, ◌++◌, All
 ghost use Rattle.rinex_file.specs.Numbers.{joined};
 ghost use Rattle.rinex_file.specs.File.{header_text, change_lines, stamped_lines, file_text};
 ghost use Rattle.rinex_file.specs.Course.{epoch_at};
-ghost use Rattle.rinex_file.specs.Read.Kept.{row_at, rows_of, epochs_of, change_at, entry_count, AreKept, HasRoom};
+ghost use Rattle.rinex_file.specs.Read.Kept.{row_at, rows_of, epoch_from, epochs_of, change_at, entry_count, AreKept, HasRoom};
 ghost use Rattle.rinex_file.specs.Lines.{seen_line};
 
 use crate::header::head::{Head, header_lines};
@@ -53,7 +53,8 @@ fn add_row(
     Ok(end)
 }
 
-// Appends the lines of an epoch with these satellites, whose entries come first of these. Answers how many entries they have.
+// Appends the lines of an epoch with these satellites, whose entries come first of these. Answers
+// how many entries they have.
 fn add_epoch(
     text: &mut Vec<u8>,
     time: GpsTime,
@@ -75,7 +76,8 @@ fn add_epoch(
     Ok(at)
 }
 
-// Appends the event of an epoch that has the change of station values at this place, and answers where the next one is.
+// Appends the event of an epoch that has the change of station values at this place, and answers
+// where the next one is.
 #[tactic(auto, unfolding(crate::specs::File::event_text))]
 fn add_change(
     text: &mut Vec<u8>,
@@ -97,7 +99,8 @@ fn add_change(
     Ok(at + 1)
 }
 
-// Appends the lines of an epoch whose satellites, entries and change begin at these places, and answers where they end.
+// Appends the lines of an epoch whose satellites, entries and change begin at these places, and
+// answers where they end.
 fn add_next(
     text: &mut Vec<u8>,
     epoch: &KeptEpoch,
@@ -112,7 +115,7 @@ fn add_next(
     requires entries { at.1 + entry_count (take epoch.now.rows (drop at.0 rows.now)) ≤ length entries.now }
     requires room { All HasRoom (rows_of (take epoch.now.rows (drop at.0 rows.now)) (drop at.1 entries.now)) }
     ensures text { OnOk result (text.new.items ≡ text.old.items
-        ++ joined (stamped_lines (epoch_at (change_at epoch.now.changed (drop at.2 changes.now)) epoch.now.time (rows_of (take epoch.now.rows (drop at.0 rows.now)) (drop at.1 entries.now))))) }
+        ++ joined (stamped_lines (epoch_from epoch.now (drop at.2 changes.now) (drop at.0 rows.now) (drop at.1 entries.now)))) }
     ensures end { IfOk result (λ end. (end.0 ≡ at.0 + epoch.now.rows) × (end.1 ≡ at.1 + entry_count (take epoch.now.rows (drop at.0 rows.now)))
         × (end.2 ≡ at.2 + (if epoch.now.changed then 1 else 0))) }
 {

@@ -4,9 +4,10 @@ ghost use Rattle.arrayvec.specs.ArrayVec.{array_vec_len};
 ghost use Rattle.rinex_file.specs.FileValues.{FitsColumns, IsEntry};
 ghost use Rattle.rinex_file.specs.Lines.{field, strength_byte, mark_byte, entry_text, seen_line};
 ghost use Rattle.rinex_file.specs.Value.{seen_with};
+ghost use Rattle.rinex_file.specs.Limits.{most_line, signal_columns, value_columns, most_signals};
 
 use crate::values::kept::KeptEntry;
-use crate::write::numbers::{Line, put, put_times};
+use crate::write::numbers::{Line, VALUE_COLUMNS, put, put_times};
 use crate::write::satellite::{columns_of, cut_length, letter_of};
 use gnss_obs::{System, Thousandths, strength_digit};
 
@@ -14,12 +15,12 @@ use gnss_obs::{System, Thousandths, strength_digit};
 #[tactic(auto, unfolding(crate::specs::Lines::field))]
 fn put_field(line: &mut Line, value: Option<i64>, lost: u8, strength: u8)
     requires fits { IfSome value FitsColumns }
-    requires room { array_vec_len line.old + 16 ≤ 1220 }
+    requires room { array_vec_len line.old + value_columns ≤ most_line }
     ensures text { line.new.items ≡ line.old.items ++ field value lost strength }
-    ensures size { array_vec_len line.new ≡ array_vec_len line.old + 16 }
+    ensures size { array_vec_len line.new ≡ array_vec_len line.old + value_columns }
 {
     match value {
-        None => put_times(line, b' ', 16),
+        None => put_times(line, b' ', VALUE_COLUMNS),
         Some(value) => put(line, &columns_of(value, lost, strength)),
     }
 }
@@ -38,9 +39,9 @@ fn strength_column(s: Option<i64>) -> u8
 #[tactic(auto, unfolding(crate::specs::Lines::entry_text))]
 fn put_entry(line: &mut Line, entry: &KeptEntry)
     requires is { IsEntry entry.now }
-    requires room { array_vec_len line.old + 64 ≤ 1220 }
+    requires room { array_vec_len line.old + signal_columns ≤ most_line }
     ensures text { line.new.items ≡ line.old.items ++ entry_text entry.now }
-    ensures size { array_vec_len line.new ≡ array_vec_len line.old + 64 }
+    ensures size { array_vec_len line.new ≡ array_vec_len line.old + signal_columns }
 {
     let strength = strength_column(entry.s);
     let lost = if entry.mark == 0 {
@@ -58,7 +59,7 @@ fn put_entry(line: &mut Line, entry: &KeptEntry)
 pub(crate) fn kept_line(system: System, satellite: u8, entries: &[KeptEntry], line: &mut Line)
     requires satellite { satellite < 100 }
     requires entries { All IsEntry entries.now }
-    requires few { length entries.now ≤ 19 }
+    requires few { length entries.now ≤ most_signals }
     ensures { line.new.items ≡ seen_line (seen_with system satellite entries.now) }
 {
     line.clear();

@@ -2,12 +2,26 @@
 ghost use Rattle.std.specs.Prelude.{◌≡◌, ◌+◌, ◌^◌, ◌≤◌, ◌*◌, ◌++◌, ℕ, pos, replicate, decimal, length};
 ghost use Rattle.rinex_file.specs.Numbers.{fixed, padded, left, right};
 ghost use Rattle.arrayvec.specs.ArrayVec.{array_vec_len};
+ghost use Rattle.rinex_file.specs.Limits.{most_line};
 
 use arrayvec::ArrayVec;
 use itoa::Buffer;
 
-/// A line of a file, its line feed included: three columns for a satellite, and 64 for each of up to 19 signals.
-pub type Line = ArrayVec<u8, 1220>;
+/// So many columns has a value: F14.3, and the loss-of-lock and the strength column behind it.
+pub(crate) const VALUE_COLUMNS: usize = 16;
+
+/// So many columns has a signal: pseudorange, phase, Doppler shift and strength.
+pub(crate) const SIGNAL_COLUMNS: usize = 64;
+
+/// So many signals has a system at most: those of Galileo.
+pub(crate) const MOST_SIGNALS: usize = 19;
+
+/// So many bytes has a line at most, its line feed included: three columns for a satellite, and
+/// those of its signals.
+pub(crate) const MOST_LINE: usize = 1220;
+
+/// A line of a file, its line feed included.
+pub type Line = ArrayVec<u8, MOST_LINE>;
 
 /// Appends the bytes.
 pub(crate) fn put<const N: usize>(line: &mut ArrayVec<u8, N>, bytes: &[u8])
@@ -41,7 +55,7 @@ pub(crate) fn put_padded<const N: usize>(line: &mut ArrayVec<u8, N>, places: usi
 
 /// Appends a text left in its columns.
 pub(crate) fn put_left(line: &mut Line, width: usize, text: &[u8])
-    requires room { array_vec_len line.old + width + length text.now ≤ 1220 }
+    requires room { array_vec_len line.old + width + length text.now ≤ most_line }
     ensures text { line.new.items ≡ line.old.items ++ left width text.now }
     ensures size { array_vec_len line.new ≤ array_vec_len line.old + width + length text.now }
 {
@@ -51,7 +65,7 @@ pub(crate) fn put_left(line: &mut Line, width: usize, text: &[u8])
 
 /// Appends a text right in its columns.
 fn put_right(line: &mut Line, width: usize, text: &[u8])
-    requires room { array_vec_len line.old + width + length text.now ≤ 1220 }
+    requires room { array_vec_len line.old + width + length text.now ≤ most_line }
     ensures text { line.new.items ≡ line.old.items ++ right width text.now }
     ensures size { array_vec_len line.new ≤ array_vec_len line.old + width + length text.now }
 {
@@ -62,7 +76,7 @@ fn put_right(line: &mut Line, width: usize, text: &[u8])
 /// Appends a whole number right in its columns.
 pub(crate) fn put_whole(line: &mut Line, width: usize, number: u64)
     requires width { width ≤ 20 }
-    requires room { array_vec_len line.old + 60 ≤ 1220 }
+    requires room { array_vec_len line.old + 60 ≤ most_line }
     ensures text { line.new.items ≡ line.old.items ++ right width (decimal number) }
     ensures size { array_vec_len line.new ≤ array_vec_len line.old + 60 }
 {
@@ -74,7 +88,7 @@ pub(crate) fn put_whole(line: &mut Line, width: usize, number: u64)
 /// Appends a number with zeros in front, up to so many digits.
 pub(crate) fn put_digits(line: &mut Line, places: usize, number: u64)
     requires places { places ≤ 20 }
-    requires room { array_vec_len line.old + 60 ≤ 1220 }
+    requires room { array_vec_len line.old + 60 ≤ most_line }
     ensures text { line.new.items ≡ line.old.items ++ padded places number }
     ensures size { array_vec_len line.new ≤ array_vec_len line.old + 60 }
 {
@@ -102,7 +116,7 @@ pub(crate) fn fixed_text(places: usize, scale: u64, value: i64) -> ArrayVec<u8, 
 /// Appends a number of 10 to the minus `places` right in its columns.
 pub(crate) fn put_fixed(line: &mut Line, width: usize, places: usize, scale: u64, value: i64)
     requires width { width ≤ 20 }
-    requires room { array_vec_len line.old + 84 ≤ 1220 }
+    requires room { array_vec_len line.old + 84 ≤ most_line }
     requires places { places ≤ 20 }
     requires scale { scale ≡ 10 ^ places }
     ensures text { line.new.items ≡ line.old.items ++ right width (fixed places value) }
@@ -115,7 +129,7 @@ pub(crate) fn put_fixed(line: &mut Line, width: usize, places: usize, scale: u64
 /// Appends seconds with seven decimals right in their columns.
 pub(crate) fn put_seconds(line: &mut Line, width: usize, milliseconds: u16)
     requires width { width ≤ 20 }
-    requires room { array_vec_len line.old + 84 ≤ 1220 }
+    requires room { array_vec_len line.old + 84 ≤ most_line }
     ensures text { line.new.items ≡ line.old.items ++ right width (fixed 7 (pos (milliseconds * 10_000))) }
     ensures size { array_vec_len line.new ≤ array_vec_len line.old + 84 }
 {

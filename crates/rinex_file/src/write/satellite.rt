@@ -1,5 +1,5 @@
 //! Observation lines: RINEX 3.05, table A3, "OBSERVATION DATA RECORD".
-ghost use Rattle.std.specs.Prelude.{◌≡◌, ℕ, ◌+◌, ◌*◌, ◌≤◌, ◌<◌, ◌^◌, ◌++◌, [], ◌∷◌, length, take, replicate, find, IfSome, Some};
+ghost use Rattle.std.specs.Prelude.{◌≡◌, ℕ, ◌+◌, ◌*◌, ◌≤◌, ◌<◌, ◌^◌, ◌++◌, [], ◌∷◌, ◌≢◌, length, take, drop, replicate, find, IfSome, Some};
 ghost use Rattle.std.specs.Option.{option_map};
 ghost use Rattle.arrayvec.specs.ArrayVec.{array_vec_len};
 ghost use Rattle.obs_epoch.specs.Values.{Fits, AreHeld};
@@ -8,14 +8,16 @@ ghost use Rattle.rinex_file.specs.Value.{Entry, entry_of, no_entry, entry_at, is
 ghost use Rattle.rinex_file.specs.Numbers.{padded};
 ghost use Rattle.rinex_file.specs.Blanks.{trimmed};
 ghost use Rattle.rinex_file.specs.Lines.{field, strength_byte, mark_byte, entry_text, letter_of, seen_line};
+ghost use Rattle.rinex_file.specs.Limits.{most_line, signal_columns, value_columns};
 
-use crate::write::numbers::{Line, put, put_times};
+use crate::write::numbers::{Line, SIGNAL_COLUMNS, VALUE_COLUMNS, put, put_times};
 use gnss_obs::{Sat, System, Thousandths, strength_digit};
 use itoa::write_digits;
 use obs_epoch::{Cell, Epoch, Plan};
 
-// What stands behind the whole part of a value, in its columns: a point, thousandths, and two columns more.
-fn behind_whole(part: u64, lost: u8, strength: u8) -> [u8; 16]
+// What stands behind the whole part of a value, in its columns: a point, thousandths, and two
+// columns more.
+fn behind_whole(part: u64, lost: u8, strength: u8) -> [u8; VALUE_COLUMNS]
     requires { part < 1000 }
     ensures { result ≡ replicate 10 32 ++ (46 ∷ padded 3 part ++ lost ∷ strength ∷ []) }
 {
@@ -28,9 +30,10 @@ fn behind_whole(part: u64, lost: u8, strength: u8) -> [u8; 16]
     ]
 }
 
-/// A value as F14.3, with the two columns behind it. Its whole part may have ten digits, or nine and a minus.
+/// A value as F14.3, with the two columns behind it. Its whole part may have ten digits, or nine
+/// and a minus.
 #[tactic(auto, unfolding(crate::specs::Lines::field))]
-pub(crate) fn columns_of(value: i64, lost: u8, strength: u8) -> [u8; 16]
+pub(crate) fn columns_of(value: i64, lost: u8, strength: u8) -> [u8; VALUE_COLUMNS]
     requires { FitsColumns value }
     ensures { result ≡ field (Some value) lost strength }
 {
@@ -47,12 +50,12 @@ pub(crate) fn columns_of(value: i64, lost: u8, strength: u8) -> [u8; 16]
 #[tactic(auto, unfolding(crate::specs::Lines::field))]
 fn put_field(line: &mut Line, value: Option<Thousandths>, lost: u8, strength: u8)
     requires fits { IfSome value Fits }
-    requires room { array_vec_len line.old + 16 ≤ 1220 }
+    requires room { array_vec_len line.old + value_columns ≤ most_line }
     ensures text { line.new.items ≡ line.old.items ++ field value lost strength }
-    ensures size { array_vec_len line.new ≡ array_vec_len line.old + 16 }
+    ensures size { array_vec_len line.new ≡ array_vec_len line.old + value_columns }
 {
     match value {
-        None => put_times(line, b' ', 16),
+        None => put_times(line, b' ', VALUE_COLUMNS),
         Some(value) => put(line, &columns_of(value.value(), lost, strength)),
     }
 }
@@ -67,14 +70,14 @@ fn strength_column(s: Option<Thousandths>) -> u8
     }
 }
 
-// Appends the 64 columns of a signal with this cell.
+// Appends the columns of a signal with this cell.
 #[tactic(auto, unfolding(crate::specs::Lines::entry_text))]
 fn put_cell(line: &mut Line, cell: &Cell)
     requires fits { (IfSome cell.now.c Fits) × (IfSome cell.now.l Fits) × (IfSome cell.now.d Fits) × (IfSome cell.now.s Fits) }
     requires mark { cell.now.mark < 4 }
-    requires room { array_vec_len line.old + 64 ≤ 1220 }
+    requires room { array_vec_len line.old + signal_columns ≤ most_line }
     ensures text { line.new.items ≡ line.old.items ++ entry_text (entry_of cell.now) }
-    ensures size { array_vec_len line.new ≡ array_vec_len line.old + 64 }
+    ensures size { array_vec_len line.new ≡ array_vec_len line.old + signal_columns }
 {
     let strength = strength_column(cell.s);
     let lost = if cell.mark == 0 {
@@ -92,20 +95,55 @@ fn put_cell(line: &mut Line, cell: &Cell)
 fn cell_of(cells: &[Cell], id: u8, index: usize) -> Option<&Cell>
     ensures { option_map (λ c. c.now) result ≡ find (is_of id index) cells.now }
 {
-    cells.iter().find(|cell| cell.satellite.id() == id && cell.signal.index() == index)
+    cells.iter().find(|cell| is_of(cell, id, index))
 }
 
-// Appends the 64 columns of a satellite's signal, blank where it has no cell.
+// Whether a cell is of a satellite's signal.
+fn is_of(cell: &Cell, id: u8, index: usize) -> bool
+    ensures { result ≡ is_of id index cell.now }
+{
+    cell.satellite.id() == id && cell.signal.index() == index
+}
+
+// Appends the columns of a satellite's signal, blank where it has no cell.
 fn put_signal(line: &mut Line, system: System, cells: &[Cell], id: u8, index: usize)
     requires held { AreHeld system cells.now }
-    requires room { array_vec_len line.old + 64 ≤ 1220 }
+    requires room { array_vec_len line.old + signal_columns ≤ most_line }
     ensures text { line.new.items ≡ line.old.items ++ entry_text (entry_at cells.now id index) }
-    ensures size { array_vec_len line.new ≡ array_vec_len line.old + 64 }
+    ensures size { array_vec_len line.new ≡ array_vec_len line.old + signal_columns }
 {
     match cell_of(cells, id, index) {
         Some(cell) => put_cell(line, cell),
-        None => put_times(line, b' ', 64),
+        None => put_times(line, b' ', SIGNAL_COLUMNS),
     }
+}
+
+// The same among the cells from this place on. Where the first of them is the signal's, the next
+// signal's are those behind it. A satellite's cells stand in the order of the plan by which they
+// were gathered: under that plan none is searched for.
+fn put_next(
+    line: &mut Line,
+    system: System,
+    cells: &[Cell],
+    from: usize,
+    id: u8,
+    index: usize,
+) -> usize
+    requires held { AreHeld system cells.now }
+    requires from { from ≤ length cells.now }
+    requires room { array_vec_len line.old + signal_columns ≤ most_line }
+    ensures text { line.new.items ≡ line.old.items ++ entry_text (entry_at (drop from cells.now) id index) }
+    ensures size { array_vec_len line.new ≡ array_vec_len line.old + signal_columns }
+    ensures within { result ≤ length cells.now }
+    // No cell of another signal was passed.
+    ensures others { (other : ℕ) → other ≢ index → entry_at (drop result cells.now) id other ≡ entry_at (drop from cells.now) id other }
+{
+    if from < cells.len() && is_of(&cells[from], id, index) {
+        put_cell(line, &cells[from]);
+        return from + 1;
+    }
+    put_signal(line, system, &cells[from..], id, index);
+    from
 }
 
 // How much of the text is left without the blanks at its end.
@@ -140,18 +178,21 @@ pub(crate) fn put_seen(line: &mut Line, cells: &[Cell], plan: &Plan, system: Sys
     line.push(letter_of(system));
     line.push(b'0' + id / 10);
     line.push(b'0' + id % 10);
+    let signals = plan.of(system);
+    let mut from = 0;
     for i in 0..plan.signals(system) {
-        put_signal(line, system, cells, id, plan.signal(system, i).index());
+        from = put_next(line, system, cells, from, id, signals[i].index());
     }
     let end = cut_length(line.as_slice());
     line.truncate(end);
     line.push(b'\n');
 }
 
-/// The line of a satellite of the epoch, in place of what the buffer holds: its system's letter and its number in two
-/// columns, and for each planned signal pseudorange (m), phase (cycles), Doppler (Hz) and strength (dB-Hz) as F14.3 with
-/// the loss-of-lock and the strength column behind each. What wasn't observed is blank. It is written by
-/// [`write_epoch`](crate::write_epoch) where it has a value.
+/// The line of a satellite of the epoch, in place of what the buffer holds: its system's letter and
+/// its number in two columns, and for each planned signal pseudorange (m), phase (cycles), Doppler
+/// (Hz) and strength (dB-Hz) as F14.3 with the loss-of-lock and the strength column behind each.
+/// What wasn't observed is blank. It is written by [`write_epoch`](crate::write_epoch) where it has
+/// a value.
 pub fn satellite_line(epoch: &Epoch, plan: &Plan, satellite: Sat, line: &mut Line)
     ensures { line.new.items ≡ seen_line (seen_of plan.now epoch.now.epoch satellite.system satellite.id) }
 {
