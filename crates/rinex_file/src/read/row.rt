@@ -69,6 +69,7 @@ fn put_seen_in(system: System, text: &[u8], signals: usize, seen: &mut KeptSeen)
     put_entries(text, signals, &mut seen.entries);
 }
 
+// Whether a value fits into its columns, or none stands there.
 fn is_value(value: Option<i64>) -> bool
     ensures { IsTrue result ↔ IfSome value FitsColumns }
 {
@@ -78,6 +79,7 @@ fn is_value(value: Option<i64>) -> bool
     }
 }
 
+// Whether a strength is one that is written, 0.001 to 99.999 dB-Hz, or none stands there.
 fn is_strength(value: Option<i64>) -> bool
     ensures { IsTrue result ↔ IfSome value (IsFrom (pos 1) (pos 99_999)) }
 {
@@ -87,6 +89,7 @@ fn is_strength(value: Option<i64>) -> bool
     }
 }
 
+// Whether values and mark are those of an entry: a mark stands by a phase alone.
 fn is_entry(entry: &KeptEntry) -> bool
     ensures { IsTrue result ↔ IsEntry entry.now }
 {
@@ -105,12 +108,14 @@ fn says(entry: &KeptEntry) -> bool
     entry.c.is_some() || entry.l.is_some() || entry.d.is_some() || entry.s.is_some()
 }
 
+// Whether each is an entry of a file value.
 fn are_entries(entries: &[KeptEntry]) -> bool
     ensures { IsTrue result ↔ All IsEntry entries.now }
 {
     entries.iter().all(|e| is_entry(e))
 }
 
+// Whether one of them has a value.
 fn say_something(entries: &[KeptEntry]) -> bool
     ensures { IsTrue result ↔ Any (λ e. IsTrue (says e)) entries.now }
 {

@@ -120,6 +120,7 @@ fn take_signal(
     }
 }
 
+// Whether the signal of this place in its table is among these.
 fn has_signal(signals: &[Signal], index: usize) -> bool
     ensures { result ≡ list_any (λ s. index == s.index) signals.now }
 {

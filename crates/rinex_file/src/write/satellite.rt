@@ -118,9 +118,10 @@ fn put_signal(line: &mut Line, system: System, cells: &[Cell], id: u8, index: us
     }
 }
 
-// The same among the cells from this place on. Where the first of them is the signal's, the next
-// signal's are those behind it. A satellite's cells stand in the order of the plan by which they
-// were gathered: under that plan none is searched for.
+// Appends the columns of a satellite's signal from the cells that stand from this place on, and
+// answers the place from which the next signal's are to be looked for. A satellite's cells stand in
+// the order of the plan by which they were gathered: under that plan the first of them is the
+// signal's, or it has none. Only there, and under another plan, are the others looked at.
 fn put_next(
     line: &mut Line,
     system: System,
