@@ -5,7 +5,7 @@ use Rattle.std.proofs.Math.Nat.{min-eq_left, min-eq_right, min-le_left, min-le_r
 use Rattle.std.proofs.lemmas.List.{take_more, length-take-le, take-append-drop, drop-take, drop-drop, take-take}
 use Rattle.std.specs.Io.KnownBytes.{Consumes, IsAtEnd, prepend_known}
 use Rattle.std.proofs.KnownBytes.{Consumes-nil, Consumes-trans}
-use Rattle.rinex_file.specs.Reading.{has}
+use Rattle.rinex_file.specs.Read.Fields.{has}
 use Rattle.rinex_file.specs.Blocks.{Leaves, AreMoved, Moves}
 use Rattle.rinex_file.specs.Exact.{IsLine}
 use Rattle.rinex_file.proofs.Digits.{has-append}

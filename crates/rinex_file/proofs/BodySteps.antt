@@ -6,13 +6,13 @@ use Rattle.std.proofs.lemmas.List.{map-append}
 use Rattle.std.proofs.lemmas.List.Elements.{All-head, All-tail, All-nil, All-push}
 use Rattle.obs_epoch.specs.Dates.{civil_of}
 use Rattle.obs_epoch.specs.declared.cell.StationValues.{StationValues}
-use Rattle.rinex_file.specs.declared.due.Due.TheVariants.{Epoch, EventEpoch, Satellite}
+use Rattle.rinex_file.specs.declared.read.due.Due.TheVariants.{Epoch, EventEpoch, Satellite}
 use Rattle.rinex_file.specs.Value.{Seen, Stamped, FileValue}
 use Rattle.rinex_file.specs.FileValues.{IsFileValue, IsStamped, IsSeen, AreSeen, IsTime, IsChange, AreChanges, IsFirstSame, changed_by, values_behind, time_of, rank_of, most_rows}
 use Rattle.rinex_file.specs.Lines.{epoch_line, seen_line}
 use Rattle.rinex_file.specs.File.{stamped_lines, change_lines, event_line}
-use Rattle.rinex_file.specs.Progress.{Progress, file_with, stamped, StartsAt, IsAt, IsBetween, IsInEvent, IsWithin, GoesOn, begun_at, with_row, with_epoch}
-use Rattle.rinex_file.specs.Sound.{AreRead, IsBegun, IsEventDue, IsSoundAt, IsSound, MayBegin, values_now}
+use Rattle.rinex_file.specs.Read.Progress.{Progress, file_with, stamped, StartsAt, IsAt, IsBetween, IsInEvent, IsWithin, GoesOn, begun_at, with_row, with_epoch}
+use Rattle.rinex_file.specs.Read.Sound.{AreRead, IsBegun, IsEventDue, IsSoundAt, IsSound, MayBegin, values_now}
 use Rattle.rinex_file.proofs.FewRows.{few_rows, few_planned}
 use Rattle.rinex_file.proofs.Entries.{few_signals}
 use Rattle.gnss_obs.specs.declared.system.System.TheVariants.{Gps, Galileo}

@@ -8,7 +8,7 @@ use Rattle.std.proofs.lemmas.Nat.{pow-add, div-add-mod'}
 use Rattle.std.proofs.lemmas.List.{length-replicate}
 use Rattle.std.proofs.lemmas.Fmt.{decimal_by_steps, length-decimal-le}
 use Rattle.rinex_file.specs.Numbers.{right, padded, fixed}
-use Rattle.rinex_file.specs.Reading.{next_digit, digits_from, digits_in, has, number_in}
+use Rattle.rinex_file.specs.Read.Fields.{next_digit, digits_from, digits_in, has, number_in}
 
 pub digits_from-append : (n : ℕ) (xs ys : List ℕ) → digits_from n (xs ++ ys) ≡ digits_from (digits_from n xs) ys
 digits_from-append n [] ys = refl

@@ -2,19 +2,19 @@
 use Rattle.std.proofs.Common.{arith, ◌≡◌, ◌∙◌, sym, ap, subst, refl, ℕ, ◌+◌, ◌<◌, List, [], ◌∷◌, ◌++◌, length, Option, IfSome}
 use Rattle.std.specs.Prelude.{⊤, map, flat_map, is_some}
 use Rattle.obs_epoch.specs.declared.cell.StationValues.{StationValues}
-use Rattle.rinex_file.specs.declared.course.Course.{Course}
-use Rattle.rinex_file.specs.declared.section.Section.{Section}
-use Rattle.rinex_file.specs.declared.due.Due.{Due}
-use Rattle.rinex_file.specs.declared.due.Due.TheVariants.{Header, Epoch, EventPosition, EventHeight, EventEpoch, Satellite}
+use Rattle.rinex_file.specs.declared.read.course.Course.{Course}
+use Rattle.rinex_file.specs.declared.header.section.Section.{Section}
+use Rattle.rinex_file.specs.declared.read.due.Due.{Due}
+use Rattle.rinex_file.specs.declared.read.due.Due.TheVariants.{Header, Epoch, EventPosition, EventHeight, EventEpoch, Satellite}
 use Rattle.rinex_file.specs.Numbers.{joined}
 use Rattle.rinex_file.specs.Value.{Seen, Stamped, FileValue}
 use Rattle.rinex_file.specs.Lines.{seen_line}
 use Rattle.rinex_file.specs.File.{file_lines, stamped_lines}
 use Rattle.rinex_file.specs.Exact.{HasHeaderNext, HasEpochLeft, HasSatelliteNext, IsDue, IsDueAt}
-use Rattle.rinex_file.specs.Progress.{Known, Progress, IsHeaderLeft, IsInHeader, IsBetween, IsInEvent, StandAt, IsWithin, IsAt, GoesOn, shown_of, stamped}
-use Rattle.rinex_file.specs.Sound.{AreRead, IsBegun, IsSound, IsSoundAt}
+use Rattle.rinex_file.specs.Read.Progress.{Known, Progress, IsHeaderLeft, IsInHeader, IsBetween, IsInEvent, StandAt, IsWithin, IsAt, GoesOn, shown_of, stamped}
+use Rattle.rinex_file.specs.Read.Sound.{AreRead, IsBegun, IsSound, IsSoundAt}
 use Rattle.rinex_file.specs.Course.{History, StandsBehind, progress_at}
-use Rattle.rinex_file.specs.Steps.{IsTaken}
+use Rattle.rinex_file.specs.Read.Steps.{IsTaken}
 use Rattle.rinex_file.proofs.HeaderBody.{some_left}
 use Rattle.rinex_file.proofs.LineByLine.{consumed}
 

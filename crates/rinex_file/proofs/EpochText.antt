@@ -10,7 +10,7 @@ use Rattle.obs_epoch.specs.declared.civil.Civil.{Civil}
 use Rattle.obs_epoch.specs.Weeks.{day as day_length}
 use Rattle.obs_epoch.specs.Dates.{IsCivilOf, civil_of}
 use Rattle.rinex_file.specs.Numbers.{joined, left, right, padded, fixed}
-use Rattle.rinex_file.specs.Reading.{digits_in}
+use Rattle.rinex_file.specs.Read.Fields.{digits_in}
 use Rattle.rinex_file.specs.Lines.{epoch_fields, epoch_line}
 use Rattle.rinex_file.specs.Header.{header_line, first_line}
 use Rattle.rinex_file.proofs.Digits.{length-right, length-padded, length-fixed, not_negative, digits_in-right, digits_in-fixed, digits_in-padded, digits_in-whole}

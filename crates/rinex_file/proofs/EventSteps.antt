@@ -6,17 +6,17 @@ use Rattle.std.specs.Fmt.{sign_text}
 use Rattle.obs_epoch.specs.Dates.{civil_of}
 use Rattle.obs_epoch.specs.declared.civil.Civil.{Civil}
 use Rattle.obs_epoch.specs.declared.cell.StationValues.{StationValues}
-use Rattle.rinex_file.specs.declared.due.Due.{Due}
-use Rattle.rinex_file.specs.declared.due.Due.TheVariants.{Epoch, EventPosition, EventHeight, EventEpoch}
+use Rattle.rinex_file.specs.declared.read.due.Due.{Due}
+use Rattle.rinex_file.specs.declared.read.due.Due.TheVariants.{Epoch, EventPosition, EventHeight, EventEpoch}
 use Rattle.rinex_file.specs.Value.{Seen, Stamped, FileValue}
 use Rattle.rinex_file.specs.FileValues.{IsFileValue, IsCoordinate, AreValues, IsChange}
 use Rattle.rinex_file.specs.Header.{header_line, lengths, position_line, delta_line}
 use Rattle.rinex_file.specs.Lines.{epoch_fields, epoch_line}
 use Rattle.rinex_file.specs.Numbers.{joined, padded, fixed}
-use Rattle.rinex_file.specs.Reading.{has}
+use Rattle.rinex_file.specs.Read.Fields.{has}
 use Rattle.rinex_file.specs.File.{stamped_lines, event_line}
-use Rattle.rinex_file.specs.Progress.{Progress, file_with, StartsAt, IsAt, IsBetween, IsInEvent, StandAt, GoesOn, due_next}
-use Rattle.rinex_file.specs.Sound.{AreRead, IsEventDue, IsSoundAt, IsSound, values_now}
+use Rattle.rinex_file.specs.Read.Progress.{Progress, file_with, StartsAt, IsAt, IsBetween, IsInEvent, StandAt, GoesOn, due_next}
+use Rattle.rinex_file.specs.Read.Sound.{AreRead, IsEventDue, IsSoundAt, IsSound, values_now}
 use Rattle.rinex_file.proofs.Digits.{has-append}
 use Rattle.rinex_file.proofs.HeaderLearned.{coordinate_same}
 use Rattle.rinex_file.proofs.BodySteps.{lines_with, lines_are, changes_midst, sound_between}

@@ -2,10 +2,10 @@
 use Rattle.std.proofs.Common.{arith, ◌≡◌, refl, ap, ap₂, ◌≤◌, ◌&&◌, ℕ, List, [], ◌∷◌, length, Bool, true, false, Option, Some, None}
 use Rattle.std.specs.Prelude.{if◌then◌else◌, nat_lt, ◌==◌}
 use Rattle.std.specs.List.{list_all, AllByRecursion}
-use Rattle.rinex_file.specs.declared.fault.HeaderField.{HeaderField}
-use Rattle.rinex_file.specs.declared.fault.HeadFault.{HeadFault}
-use Rattle.rinex_file.specs.declared.fault.HeadFault.TheVariants.{TooLong, NotPrintable}
-use Rattle.rinex_file.specs.declared.fault.HeaderField.TheVariants.{RunBy, Date, Marker, MarkerType, Observer, Agency, RecNumber, RecType, RecVersion, AntNumber, AntType}
+use Rattle.rinex_file.specs.declared.header.fault.HeaderField.{HeaderField}
+use Rattle.rinex_file.specs.declared.header.fault.HeadFault.{HeadFault}
+use Rattle.rinex_file.specs.declared.header.fault.HeadFault.TheVariants.{TooLong, NotPrintable}
+use Rattle.rinex_file.specs.declared.header.fault.HeaderField.TheVariants.{RunBy, Date, Marker, MarkerType, Observer, Agency, RecNumber, RecType, RecVersion, AntNumber, AntType}
 use Rattle.rinex_file.specs.Blanks.{trimmed, before_cut}
 use Rattle.rinex_file.specs.Texts.{HeaderLists, width_of, text_of, is_printable, fault_of, or_else, first_fault, fields, trimmed_texts}
 use Rattle.rinex_file.specs.FileValues.{IsText, AreTexts}

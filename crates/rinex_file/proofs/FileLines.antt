@@ -19,7 +19,7 @@ use Rattle.rinex_file.specs.FileValues.{AreTexts, IsPlan, AreValues, FitsColumns
 use Rattle.rinex_file.specs.Header.{header_lines, position_line, delta_line}
 use Rattle.rinex_file.specs.Lines.{epoch_line, field, mark_byte, strength_byte, entry_text, letter_of, row_text, seen_line}
 use Rattle.rinex_file.specs.Numbers.{joined, right, padded, fixed}
-use Rattle.rinex_file.specs.Reading.{has}
+use Rattle.rinex_file.specs.Read.Fields.{has}
 use Rattle.rinex_file.specs.Texts.{HeaderLists}
 use Rattle.rinex_file.specs.Value.{Entry, Row, Seen, Stamped, FileValue}
 use Rattle.rinex_file.proofs.Cuts.{filled, length-trimmed}

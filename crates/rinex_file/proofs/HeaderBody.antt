@@ -5,18 +5,18 @@ use Rattle.std.proofs.lemmas.List.Elements.{All-head, All-nil}
 use Rattle.std.proofs.lemmas.List.{length-map}
 use Rattle.obs_epoch.specs.Dates.{civil_of}
 use Rattle.obs_epoch.specs.declared.cell.StationValues.{StationValues}
-use Rattle.rinex_file.specs.declared.section.Section.{Section}
-use Rattle.rinex_file.specs.declared.section.Section.TheVariants.{Version}
-use Rattle.rinex_file.specs.declared.due.Due.{Due}
-use Rattle.rinex_file.specs.declared.due.Due.TheVariants.{Header, Epoch, EventPosition, EventHeight, EventEpoch, Satellite}
+use Rattle.rinex_file.specs.declared.header.section.Section.{Section}
+use Rattle.rinex_file.specs.declared.header.section.Section.TheVariants.{Version}
+use Rattle.rinex_file.specs.declared.read.due.Due.{Due}
+use Rattle.rinex_file.specs.declared.read.due.Due.TheVariants.{Header, Epoch, EventPosition, EventHeight, EventEpoch, Satellite}
 use Rattle.rinex_file.specs.Value.{Seen, Stamped, FileValue}
 use Rattle.rinex_file.specs.FileValues.{IsFileValue, IsStamped, AreChanges, IsFirstSame, time_of}
 use Rattle.rinex_file.specs.Header.{header_lines}
 use Rattle.rinex_file.specs.Lines.{epoch_line, seen_line}
 use Rattle.rinex_file.specs.File.{stamped_lines, file_lines}
-use Rattle.rinex_file.specs.Progress.{Progress, Known, Shown, IsShown, shown_lines, shown_of, IsHeaderLeft, IsHeaderRead, file_with, StartsAt, IsInHeader, IsAt, IsBetween, IsInEvent, StandAt, IsWithin, GoesOn}
-use Rattle.rinex_file.specs.Sound.{AreRead, IsBegun, IsSoundAt, IsSound}
-use Rattle.rinex_file.specs.declared.course.Course.{Course}
+use Rattle.rinex_file.specs.Read.Progress.{Progress, Known, Shown, IsShown, shown_lines, shown_of, IsHeaderLeft, IsHeaderRead, file_with, StartsAt, IsInHeader, IsAt, IsBetween, IsInEvent, StandAt, IsWithin, GoesOn}
+use Rattle.rinex_file.specs.Read.Sound.{AreRead, IsBegun, IsSoundAt, IsSound}
+use Rattle.rinex_file.specs.declared.read.course.Course.{Course}
 use Rattle.rinex_file.specs.Course.{History, StandsBehind, progress_at}
 use Rattle.rinex_file.proofs.Sections.{rows_at, emit}
 use Rattle.rinex_file.proofs.BodySteps.{lines_with, lines_are}

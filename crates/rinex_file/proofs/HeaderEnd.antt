@@ -9,13 +9,13 @@ use Rattle.gnss_obs.specs.declared.system.System.TheVariants.{Gps, Galileo}
 use Rattle.obs_epoch.specs.Signals.{indices, IsOf}
 use Rattle.obs_epoch.specs.Values.{PlanValue, planned_of}
 use Rattle.obs_epoch.specs.declared.cell.StationValues.{StationValues}
-use Rattle.rinex_file.specs.declared.section.Section.TheVariants.{Version, End}
+use Rattle.rinex_file.specs.declared.header.section.Section.TheVariants.{Version, End}
 use Rattle.rinex_file.specs.Blanks.{trimmed}
 use Rattle.rinex_file.specs.Texts.{HeaderLists}
 use Rattle.rinex_file.specs.FileValues.{IsText, AreTexts, AreValues, IsPlan, IsTime}
 use Rattle.rinex_file.specs.Header.{lines_of, header_lines, end_line}
-use Rattle.rinex_file.specs.Progress.{Known, Shown, IsShown, SaidOf, SaidBefore, IsHeaderLeft, is_planned}
-use Rattle.rinex_file.specs.HeaderSteps.{IsWhole, StepsTo, NoneGoesOn}
+use Rattle.rinex_file.specs.Read.Progress.{Known, Shown, IsShown, SaidOf, SaidBefore, IsHeaderLeft, is_planned}
+use Rattle.rinex_file.specs.Read.HeaderSteps.{IsWhole, StepsTo, NoneGoesOn}
 use Rattle.obs_epoch.specs.Dates.{civil_of}
 use Rattle.std.proofs.lemmas.Int.{ints}
 use Rattle.obs_epoch.proofs.PlanLemmas.{none_of}

@@ -6,18 +6,18 @@ use Rattle.obs_epoch.specs.Values.{PlanValue, planned_of}
 use Rattle.obs_epoch.specs.declared.cell.StationValues.{StationValues}
 use Rattle.gnss_obs.specs.declared.system.System.{System}
 use Rattle.gnss_obs.specs.declared.system.System.TheVariants.{Gps, Galileo}
-use Rattle.rinex_file.specs.declared.fault.HeaderField.TheVariants.{RunBy, Date, Marker as MarkerName, MarkerType as MarkerKind, Observer as ObserverName, Agency, RecNumber, RecType, RecVersion, AntNumber, AntType}
-use Rattle.rinex_file.specs.declared.section.Section.{Section}
-use Rattle.rinex_file.specs.declared.section.Section.TheVariants.{Version, Program, Marker, MarkerType, Observer, Receiver, Antenna, Position, Delta, StrengthUnit, First, Shift}
+use Rattle.rinex_file.specs.declared.header.fault.HeaderField.TheVariants.{RunBy, Date, Marker as MarkerName, MarkerType as MarkerKind, Observer as ObserverName, Agency, RecNumber, RecType, RecVersion, AntNumber, AntType}
+use Rattle.rinex_file.specs.declared.header.section.Section.{Section}
+use Rattle.rinex_file.specs.declared.header.section.Section.TheVariants.{Version, Program, Marker, MarkerType, Observer, Receiver, Antenna, Position, Delta, StrengthUnit, First, Shift}
 use Rattle.rinex_file.specs.Blanks.{trimmed}
 use Rattle.rinex_file.specs.Texts.{HeaderLists}
 use Rattle.rinex_file.specs.FileValues.{IsText, IsCoordinate, IsTime, of_system}
 use Rattle.rinex_file.specs.Numbers.{joined, left, right, fixed}
 use Rattle.rinex_file.specs.Header.{lines_of, header_line, two, three, lengths, first_line, strength_line, shift_lines, version_line}
 use Rattle.rinex_file.specs.Lines.{letter_of}
-use Rattle.rinex_file.specs.Reading.{ReadsExactly}
-use Rattle.rinex_file.specs.Progress.{Known, Shown, IsShown, SaidBefore, shown_lines, is_planned, version_with}
-use Rattle.rinex_file.specs.HeaderSteps.{Learns, Refuses, Learned, with_texts, with_values, with_first, with_systems}
+use Rattle.rinex_file.specs.Read.Fields.{ReadsExactly}
+use Rattle.rinex_file.specs.Read.Progress.{Known, Shown, IsShown, SaidBefore, shown_lines, is_planned, version_with}
+use Rattle.rinex_file.specs.Read.HeaderSteps.{Learns, Refuses, Learned, with_texts, with_values, with_first, with_systems}
 use Rattle.std.proofs.Common.{w64, to_z, of_z, FitsSigned, neg_ℤ, ◌≤ℤ◌}
 use Rattle.std.proofs.lemmas.Int.{ints, to_z-of_z}
 use Rattle.std.proofs.lemmas.Bool.Decides.{nat_tests}

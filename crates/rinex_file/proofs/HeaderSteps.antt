@@ -6,12 +6,12 @@ use Rattle.obs_epoch.specs.Dates.{civil_of}
 use Rattle.obs_epoch.specs.Values.{PlanValue}
 use Rattle.gnss_obs.specs.declared.system.System.{System}
 use Rattle.gnss_obs.specs.declared.system.System.TheVariants.{Gps, Galileo}
-use Rattle.rinex_file.specs.declared.due.Refusal.{Refusal}
-use Rattle.rinex_file.specs.declared.section.Section.{Section}
-use Rattle.rinex_file.specs.declared.section.Section.TheVariants.{Version, Program, Marker, MarkerType, Observer, Receiver, Antenna, Position, Delta, Types, StrengthUnit, First, Shift, End}
+use Rattle.rinex_file.specs.declared.read.due.Refusal.{Refusal}
+use Rattle.rinex_file.specs.declared.header.section.Section.{Section}
+use Rattle.rinex_file.specs.declared.header.section.Section.TheVariants.{Version, Program, Marker, MarkerType, Observer, Receiver, Antenna, Position, Delta, Types, StrengthUnit, First, Shift, End}
 use Rattle.rinex_file.specs.Header.{lines_from, section_rows, after, type_rows}
-use Rattle.rinex_file.specs.Progress.{Known, Shown, IsShown, Says, SaidOf, SaidBefore, SaidWithin, NoneYet, IsHeaderLeft, shown_lines, is_planned}
-use Rattle.rinex_file.specs.HeaderSteps.{IsSole, has_lines, Unread, Learns, Refuses, Learned, IsPast, IsReached, StepsTo, NoneGoesOn}
+use Rattle.rinex_file.specs.Read.Progress.{Known, Shown, IsShown, Says, SaidOf, SaidBefore, SaidWithin, NoneYet, IsHeaderLeft, shown_lines, is_planned}
+use Rattle.rinex_file.specs.Read.HeaderSteps.{IsSole, has_lines, Unread, Learns, Refuses, Learned, IsPast, IsReached, StepsTo, NoneGoesOn}
 use Rattle.rinex_file.proofs.Sections.{rows_at, skip}
 
 pub both_ways : {A B C : Type 0} → (A ↔ B) → (B ↔ C) → A ↔ C

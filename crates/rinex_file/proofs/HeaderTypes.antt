@@ -8,14 +8,14 @@ use Rattle.gnss_obs.specs.declared.system.System.TheVariants.{Gps, Galileo}
 use Rattle.obs_epoch.specs.Signals.{indices}
 use Rattle.obs_epoch.specs.Values.{planned_of}
 use Rattle.obs_epoch.proofs.PlanLemmas.{length_indices}
-use Rattle.rinex_file.specs.declared.due.Refusal.{Refusal}
-use Rattle.rinex_file.specs.declared.section.Section.{Section}
-use Rattle.rinex_file.specs.declared.section.Section.TheVariants.{Types}
+use Rattle.rinex_file.specs.declared.read.due.Refusal.{Refusal}
+use Rattle.rinex_file.specs.declared.header.section.Section.{Section}
+use Rattle.rinex_file.specs.declared.header.section.Section.TheVariants.{Types}
 use Rattle.rinex_file.specs.FileValues.{of_system}
 use Rattle.rinex_file.specs.Lines.{letter_of}
 use Rattle.rinex_file.specs.Header.{lines_of, lines_from, after, type_line, type_rows, types_of, codes_of}
-use Rattle.rinex_file.specs.Progress.{Known, Shown, IsShown, Says, SaidBefore, SaidWithin, IsHeaderLeft, shown_lines, AreTypes, types_line, begun}
-use Rattle.rinex_file.specs.HeaderSteps.{Unread, IsPast, StepsTo, NoneGoesOn, AreBegun, TakesRow, RefusesRow, with_signals, with_count}
+use Rattle.rinex_file.specs.Read.Progress.{Known, Shown, IsShown, Says, SaidBefore, SaidWithin, IsHeaderLeft, shown_lines, AreTypes, types_line, begun}
+use Rattle.rinex_file.specs.Read.HeaderSteps.{Unread, IsPast, StepsTo, NoneGoesOn, AreBegun, TakesRow, RefusesRow, with_signals, with_count}
 use Rattle.rinex_file.proofs.TypeRows.{few_types}
 use Rattle.rinex_file.proofs.Sections.{emit, at_row}
 use Rattle.rinex_file.proofs.HeaderSteps.{both_ways, said_version, none_planned, some_planned, shown_rows}

@@ -11,15 +11,15 @@ use Rattle.obs_epoch.specs.declared.cell.StationValues.{StationValues}
 use Rattle.obs_epoch.specs.Values.{PlanValue}
 use Rattle.obs_epoch.specs.Dates.{civil_of}
 use Rattle.rinex_file.specs.Texts.{HeaderLists}
-use Rattle.rinex_file.specs.declared.kept.KeptRow.{KeptRow}
-use Rattle.rinex_file.specs.declared.kept.KeptEpoch.{KeptEpoch}
-use Rattle.rinex_file.specs.Value.{Entry, Seen, Stamped, FileValue}
+use Rattle.rinex_file.specs.declared.values.kept.KeptRow.{KeptRow}
+use Rattle.rinex_file.specs.declared.values.kept.KeptEpoch.{KeptEpoch}
+use Rattle.rinex_file.specs.Value.{Entry, Seen, Stamped, FileValue, file_with}
 use Rattle.rinex_file.specs.FileValues.{IsSeen, IsStamped, IsFileValue, of_system}
 use Rattle.rinex_file.specs.Header.{header_lines}
 use Rattle.rinex_file.specs.Numbers.{joined}
 use Rattle.rinex_file.specs.File.{header_text, stamped_lines, file_text}
 use Rattle.rinex_file.specs.Course.{epoch_at}
-use Rattle.rinex_file.specs.Kept.{rows_of, change_at, changes_after, epochs_with, epochs_of, row_count, AreKept, HasRoom}
+use Rattle.rinex_file.specs.Read.Kept.{rows_of, change_at, changes_after, epochs_with, epochs_of, row_count, AreKept, HasRoom}
 use Rattle.rinex_file.proofs.PlainHeader.{few_signals_of}
 use Rattle.rinex_file.proofs.KeptRows.{length-rows_of}
 use Rattle.rinex_file.proofs.Sent.{joined-append}
@@ -69,11 +69,8 @@ lines_have_room v epochs changes rows all is kept same =
 
 -- ---- header and epochs
 
-abbrev file_by : HeaderLists → PlanValue → StationValues → List Stamped → FileValue
-file_by t p x es = record { texts = t; plan = p; values = x; epochs = es }
-
 parts : (t : HeaderLists) (p : PlanValue) (x : StationValues) (epochs : List KeptEpoch) (changes : List StationValues) (rows : List KeptRow) (all : List Entry) (first : KeptEpoch) → 0 < length (epochs_of epochs changes rows all)
-    → first ≡ get_or epochs 0 first → header_text t p x first.time ++ joined (flat_map stamped_lines (epochs_of epochs changes rows all)) ≡ file_text (file_by t p x (epochs_of epochs changes rows all))
+    → first ≡ get_or epochs 0 first → header_text t p x first.time ++ joined (flat_map stamped_lines (epochs_of epochs changes rows all)) ≡ file_text (file_with t p x (epochs_of epochs changes rows all))
 unfolding header_text
 parts t p x [] changes rows all first some is = absurd (omega (arith, some))
 parts t p x (e ∷ es) changes rows all first some is =
@@ -82,7 +79,7 @@ parts t p x (e ∷ es) changes rows all first some is =
 
 -- header and epochs were appended to nothing
 pub all_appended : (v f : FileValue) (epochs : List KeptEpoch) (changes : List StationValues) (rows : List KeptRow) (all : List Entry) (first : KeptEpoch) (old text new : List ℕ) → f ≡ v → f.epochs ≡ epochs_of epochs changes rows all
-    → f ≡ file_by f.texts f.plan f.values (epochs_of epochs changes rows all) → IsFileValue f → first ≡ get_or epochs 0 first → old ≡ [] → text ≡ old ++ header_text v.texts v.plan v.values first.time
+    → f ≡ file_with f.texts f.plan f.values (epochs_of epochs changes rows all) → IsFileValue f → first ≡ get_or epochs 0 first → old ≡ [] → text ≡ old ++ header_text v.texts v.plan v.values first.time
     → new ≡ text ++ joined (flat_map stamped_lines (epochs_of epochs changes rows all)) → new ≡ file_text v
 all_appended v f epochs changes rows all first old text new view same by is at none grown more =
     let some : 0 < length (epochs_of epochs changes rows all) = subst (λ (l : List Stamped). 0 < length l) same is.some in

@@ -13,12 +13,12 @@ use Rattle.std.specs.List.{sum_by}
 use Rattle.std.proofs.lemmas.List.{take-append-le, drop-append-le, length-drop, length-take-le, drop-drop}
 use Rattle.std.proofs.Math.Seq.{take-length}
 use Rattle.std.proofs.lemmas.List.Sums.{sum_by-append, sum_by-cons, sum_by-take-drop}
-use Rattle.rinex_file.specs.declared.kept.KeptRow.{KeptRow}
-use Rattle.rinex_file.specs.declared.kept.KeptEpoch.{KeptEpoch}
+use Rattle.rinex_file.specs.declared.values.kept.KeptRow.{KeptRow}
+use Rattle.rinex_file.specs.declared.values.kept.KeptEpoch.{KeptEpoch}
 use Rattle.rinex_file.specs.Value.{Entry, Seen, Stamped, seen_with}
 use Rattle.obs_epoch.specs.declared.cell.StationValues.{StationValues}
 use Rattle.rinex_file.specs.Course.{History, changes_of, epoch_at, events_in, with_seen, with_epoch}
-use Rattle.rinex_file.specs.Kept.{row_at, rows_of, change_at, changes_after, epochs_with, epochs_of, row_count, entry_count, change_count, HasRoom, kept_history, AreKept}
+use Rattle.rinex_file.specs.Read.Kept.{row_at, rows_of, change_at, changes_after, epochs_with, epochs_of, row_count, entry_count, change_count, HasRoom, kept_history, AreKept}
 
 no_items : {X : Type 0} (xs : List X) → 0 ≡ length xs → xs ≡ []
 no_items [] e = refl

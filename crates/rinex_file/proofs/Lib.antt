@@ -40,3 +40,4 @@ mod HeaderTypes
 mod Groups
 mod DueLines
 mod GatheredFile
+mod PlanWalk

@@ -14,15 +14,15 @@ use Rattle.obs_epoch.specs.declared.civil.Civil.{Civil}
 use Rattle.obs_epoch.specs.Dates.{YearMonthDay, month_on, year_on, month_length, year_length, date_of, civil_with, civil_of}
 use Rattle.obs_epoch.specs.Values.{PlanValue, planned_of}
 use Rattle.obs_epoch.specs.Weeks.{day as day_length}
-use Rattle.rinex_file.specs.declared.fault.HeaderField.TheVariants.{RunBy, Date, Marker, MarkerType, Observer, Agency, RecNumber, RecType, RecVersion, AntNumber, AntType}
-use Rattle.rinex_file.specs.declared.section.Section.{Section}
-use Rattle.rinex_file.specs.declared.section.Section.TheVariants.{Version, Program, Marker as MarkerSection, MarkerType as MarkerTypeSection, Observer as ObserverSection, Receiver, Antenna, Position, Delta, Types, StrengthUnit, First, Shift, End}
+use Rattle.rinex_file.specs.declared.header.fault.HeaderField.TheVariants.{RunBy, Date, Marker, MarkerType, Observer, Agency, RecNumber, RecType, RecVersion, AntNumber, AntType}
+use Rattle.rinex_file.specs.declared.header.section.Section.{Section}
+use Rattle.rinex_file.specs.declared.header.section.Section.TheVariants.{Version, Program, Marker as MarkerSection, MarkerType as MarkerTypeSection, Observer as ObserverSection, Receiver, Antenna, Position, Delta, Types, StrengthUnit, First, Shift, End}
 use Rattle.rinex_file.specs.Exact.{IsLine}
 use Rattle.rinex_file.specs.FileValues.{AreTexts, IsPlan, AreValues, IsCoordinate, IsTime, IsFrom}
 use Rattle.rinex_file.specs.Header.{header_line, version_line, lengths, file_system, first_line, types_of, type_front, type_columns, type_line, type_rows, type_lines, shift_lines, codes_of, lines_of, all_sections, header_lines, position_line, delta_line}
 use Rattle.rinex_file.specs.Lines.{letter_of}
 use Rattle.rinex_file.specs.Numbers.{joined, left, right, fixed}
-use Rattle.rinex_file.specs.Reading.{has}
+use Rattle.rinex_file.specs.Read.Fields.{has}
 use Rattle.rinex_file.specs.Texts.{HeaderLists}
 use Rattle.rinex_file.proofs.Entries.{few_signals}
 use Rattle.rinex_file.proofs.FewRows.{few_planned}

@@ -9,7 +9,7 @@ use Rattle.std.proofs.lemmas.Fmt.{decimal_by_steps, length-decimal-le}
 use Rattle.std.proofs.lemmas.List.{length-replicate}
 use Rattle.std.proofs.lemmas.List.Elements.{All-head, All-tail}
 use Rattle.rinex_file.specs.Numbers.{joined, left, right, padded, fixed}
-use Rattle.rinex_file.specs.Reading.{has}
+use Rattle.rinex_file.specs.Read.Fields.{has}
 use Rattle.rinex_file.specs.Texts.{is_printable}
 use Rattle.rinex_file.specs.FileValues.{IsText}
 use Rattle.rinex_file.proofs.Digits.{has-append, has-not, length-fixed-le, length-padded-le}

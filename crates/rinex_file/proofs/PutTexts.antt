@@ -1,6 +1,6 @@
 -- The texts of a header stay printable, cut and short where one is put in.
 use Rattle.std.proofs.Common.{ℕ, List}
-use Rattle.rinex_file.specs.declared.fault.HeaderField.TheVariants.{RunBy, Date, Marker, MarkerType, Observer, Agency, RecNumber, RecType, RecVersion, AntNumber, AntType}
+use Rattle.rinex_file.specs.declared.header.fault.HeaderField.TheVariants.{RunBy, Date, Marker, MarkerType, Observer, Agency, RecNumber, RecType, RecVersion, AntNumber, AntType}
 use Rattle.rinex_file.specs.Texts.{HeaderLists}
 use Rattle.rinex_file.specs.FileValues.{IsText, AreTexts}
 

@@ -1,15 +1,15 @@
 -- A file that was read whole, and what was counted of it.
 use Rattle.std.proofs.Common.{arith, ◌≡◌, ◌∙◌, sym, ap, subst, ℕ, ◌+◌, List, [], length, Option, Some, None, IfSome, Ok}
-use Rattle.rinex_file.specs.declared.course.Course.{Course}
-use Rattle.rinex_file.specs.declared.due.Added.{Added}
-use Rattle.rinex_file.specs.declared.reading.Reading.{Reading}
-use Rattle.rinex_file.specs.declared.file.Counts.{Counts}
+use Rattle.rinex_file.specs.declared.read.course.Course.{Course}
+use Rattle.rinex_file.specs.declared.read.due.Added.{Added}
+use Rattle.rinex_file.specs.declared.read.reading.Reading.{Reading}
+use Rattle.rinex_file.specs.declared.read.file.Counts.{Counts}
 use Rattle.rinex_file.specs.Value.{Seen, FileValue}
 use Rattle.rinex_file.specs.FileValues.{IsFileValue}
 use Rattle.rinex_file.specs.File.{file_text}
 use Rattle.rinex_file.specs.Course.{History, rows_in, with_line}
 use Rattle.rinex_file.specs.Counting.{AreCounts, IsTextWith}
-use Rattle.rinex_file.specs.Steps.{Goes, HasRead, IsWhole, IsTextOf, file_at}
+use Rattle.rinex_file.specs.Read.Steps.{Goes, HasRead, IsWhole, IsTextOf, file_at}
 use Rattle.rinex_file.proofs.LineByLine.{said_of}
 
 abbrev pub counts_at : Course → Counts

@@ -7,7 +7,7 @@ use Rattle.std.proofs.lemmas.Int.{ints, to_z-of_z, fits_signed_from_abs}
 use Rattle.std.proofs.lemmas.List.{take_at, drop_at, take_all}
 use Rattle.std.proofs.lemmas.List.Elements.{All-head, All-tail}
 use Rattle.rinex_file.specs.Numbers.{right, padded, fixed}
-use Rattle.rinex_file.specs.Reading.{digits_in, number_in, has}
+use Rattle.rinex_file.specs.Read.Fields.{digits_in, number_in, has}
 use Rattle.rinex_file.proofs.Digits.{number_in-fixed, has_point-fixed, length-fixed, length-right, digits_in-padded, length-padded, not_negative}
 use Rattle.gnss_obs.specs.Satellites.{satellites}
 use Rattle.gnss_obs.specs.declared.system.System.{System}
@@ -18,7 +18,7 @@ use Rattle.rinex_file.specs.Blanks.{trimmed}
 use Rattle.rinex_file.specs.Lines.{field, entry_text, mark_byte, strength_byte, row_text, seen_line, letter_of}
 use Rattle.rinex_file.proofs.Columns.{padded-two}
 use Rattle.rinex_file.proofs.Cuts.{fill-trimmed, trimmed-front}
-use Rattle.rinex_file.specs.RowReading.{value_in, entry_in, entries_in, row_in, seen_in}
+use Rattle.rinex_file.specs.Read.Row.{value_in, entry_in, entries_in, row_in, seen_in}
 
 most : (n : ℕ) → FitsColumns (pos n) → n ≤ 9_999_999_999_999
 most n h = let high = h.1 in omega (arith, ints)

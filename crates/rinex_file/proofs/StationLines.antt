@@ -6,9 +6,9 @@ use Rattle.std.proofs.lemmas.Int.{ints}
 use Rattle.std.specs.Fmt.{digits, sign_text}
 use Rattle.std.proofs.lemmas.List.{take_at, drop_at}
 use Rattle.rinex_file.specs.Numbers.{joined, left, right, fixed}
-use Rattle.rinex_file.specs.Reading.{digits_in, number_in}
+use Rattle.rinex_file.specs.Read.Fields.{digits_in, number_in}
 use Rattle.rinex_file.specs.Header.{header_line, lengths}
-use Rattle.rinex_file.specs.Progress.{version_with}
+use Rattle.rinex_file.specs.Read.Progress.{version_with}
 use Rattle.rinex_file.specs.FileValues.{IsCoordinate}
 use Rattle.rinex_file.proofs.Digits.{number_in-fixed, digits_in-right, digits_in-fixed, length-fixed, length-right}
 

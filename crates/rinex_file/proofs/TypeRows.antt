@@ -14,8 +14,8 @@ use Rattle.obs_epoch.proofs.PlanLemmas.{any_index, indices-push}
 use Rattle.rinex_file.specs.Numbers.{joined, left, right}
 use Rattle.rinex_file.specs.Lines.{letter_of}
 use Rattle.rinex_file.specs.Header.{header_line, type_of, types_of, codes_of, type_front, type_columns}
-use Rattle.rinex_file.specs.Reading.{digits_in}
-use Rattle.rinex_file.specs.Progress.{AreTypes, types_line, begun}
+use Rattle.rinex_file.specs.Read.Fields.{digits_in}
+use Rattle.rinex_file.specs.Read.Progress.{AreTypes, types_line, begun}
 use Rattle.rinex_file.proofs.Digits.{length-right, digits_in-whole}
 use Rattle.rinex_file.proofs.SignalTypes.{columns, signal_type, length-system_types}
 use Rattle.rinex_file.proofs.TypeCodes.{length-code}

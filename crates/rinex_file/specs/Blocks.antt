@@ -1,7 +1,8 @@
 -- Bytes that were read ahead.
 use Rattle.std.specs.Prelude.{◌≡◌, ℕ, ◌<◌, ◌≤◌, Bool, true, false, List, [], ◌∷◌, ◌++◌, length, Option}
 use Rattle.std.specs.Io.KnownBytes.{Consumes}
-use Rattle.rinex_file.specs.Reading.{has}
+use Rattle.rinex_file.specs.Read.Fields.{has}
+use Rattle.rinex_file.specs.Limits.{most_line}
 
 -- what is left is behind some of the bytes that were there
 abbrev pub Leaves : Option (List ℕ) → Option (List ℕ) → Type 0
@@ -18,5 +19,5 @@ pub record Moves (whole : Bool) (old new line line' : List ℕ) : Type 0 where
   pub from : old ≡ bytes ++ new
   pub to : line' ≡ line ++ bytes
   pub are : AreMoved whole bytes
-  pub some : 0 < length old → length line < 1220 → 0 < length bytes
-  pub short : length line' ≤ 1220
+  pub some : 0 < length old → length line < most_line → 0 < length bytes
+  pub short : length line' ≤ most_line

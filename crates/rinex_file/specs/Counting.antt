@@ -1,7 +1,7 @@
 -- What a file's counts say of it.
 use Rattle.std.specs.Prelude.{◌≡◌, ℕ, List, length, Option, Result, Ok, Err, IfSome}
-use Rattle.rinex_file.specs.declared.file.Counts.{Counts}
-use Rattle.rinex_file.specs.declared.read_fault.ReadFault.{ReadFault}
+use Rattle.rinex_file.specs.declared.read.file.Counts.{Counts}
+use Rattle.rinex_file.specs.declared.read.fault.ReadFault.{ReadFault}
 use Rattle.rinex_file.specs.Value.{FileValue}
 use Rattle.rinex_file.specs.FileValues.{IsFileValue}
 use Rattle.rinex_file.specs.File.{file_text}

@@ -1,16 +1,16 @@
 -- How far the reading of a file is, and what it says of all that was read.
 use Rattle.std.specs.Prelude.{◌≡◌, ℕ, ◌+◌, ◌≤◌, List, [], ◌∷◌, ◌++◌, length, map, Option, Some, None, Result, Ok, Err, ⊤, ◌↔◌}
 use Rattle.std.specs.List.{sum_by}
-use Rattle.rinex_file.specs.declared.course.Course.{Course}
-use Rattle.rinex_file.specs.declared.due.Added.{Added}
-use Rattle.rinex_file.specs.declared.due.Added.TheVariants.{NoRow, OneRow, LastRow}
-use Rattle.rinex_file.specs.declared.due.Refusal.{Refusal}
-use Rattle.rinex_file.specs.declared.due.Refusal.TheVariants.{Memory, Bad}
+use Rattle.rinex_file.specs.declared.read.course.Course.{Course}
+use Rattle.rinex_file.specs.declared.read.due.Added.{Added}
+use Rattle.rinex_file.specs.declared.read.due.Added.TheVariants.{NoRow, OneRow, LastRow}
+use Rattle.rinex_file.specs.declared.read.due.Refusal.{Refusal}
+use Rattle.rinex_file.specs.declared.read.due.Refusal.TheVariants.{Memory, Bad}
 use Rattle.rinex_file.specs.Value.{Seen, Stamped, FileValue}
 use Rattle.obs_epoch.specs.declared.cell.StationValues.{StationValues}
 use Rattle.rinex_file.specs.FileValues.{time_of, rank_of, changed_by, values_behind}
-use Rattle.rinex_file.specs.Progress.{Progress, GoesOn}
-use Rattle.rinex_file.specs.Sound.{IsSound}
+use Rattle.rinex_file.specs.Read.Progress.{Progress, GoesOn}
+use Rattle.rinex_file.specs.Read.Sound.{IsSound}
 
 -- what was read of a file behind its header: epochs, and the satellites so far of an epoch that was begun
 pub record History : Type 0 where

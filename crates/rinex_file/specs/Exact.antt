@@ -1,18 +1,19 @@
 -- What is read from bytes that come line by line.
 use Rattle.std.specs.Prelude.{◌≡◌, ℕ, ◌+◌, ◌^◌, ◌<◌, ◌⊎◌, ◌==◌, true, false, List, [], ◌∷◌, ◌++◌, length, drop, map, flat_map, is_some, All, count_by, Option, Result, Ok, Err, ⊤}
 use Rattle.std.specs.Io.KnownBytes.{IsAtEnd}
-use Rattle.rinex_file.specs.declared.lines.Found.{Found}
-use Rattle.rinex_file.specs.declared.lines.Found.TheVariants.{Line, End, Cut, Long, Failed}
-use Rattle.rinex_file.specs.declared.read_fault.ReadFault.{ReadFault}
-use Rattle.rinex_file.specs.declared.read_fault.ReadFault.TheVariants.{Memory, Read, BadHeader, BadEpoch, BadEvent, BadSatellite, CutShort, TooLong}
-use Rattle.rinex_file.specs.declared.due.Due.{Due}
-use Rattle.rinex_file.specs.declared.due.Due.TheVariants.{Header, Epoch, EventPosition, EventHeight, EventEpoch, Satellite}
-use Rattle.rinex_file.specs.Reading.{has}
+use Rattle.rinex_file.specs.declared.read.lines.Found.{Found}
+use Rattle.rinex_file.specs.declared.read.lines.Found.TheVariants.{Line, End, Cut, Long, Failed}
+use Rattle.rinex_file.specs.declared.read.fault.ReadFault.{ReadFault}
+use Rattle.rinex_file.specs.declared.read.fault.ReadFault.TheVariants.{Memory, Read, BadHeader, BadEpoch, BadEvent, BadSatellite, CutShort, TooLong}
+use Rattle.rinex_file.specs.declared.read.due.Due.{Due}
+use Rattle.rinex_file.specs.declared.read.due.Due.TheVariants.{Header, Epoch, EventPosition, EventHeight, EventEpoch, Satellite}
+use Rattle.rinex_file.specs.Read.Fields.{has}
 use Rattle.rinex_file.specs.Numbers.{joined}
 use Rattle.rinex_file.specs.Value.{Seen, Stamped, FileValue}
 use Rattle.rinex_file.specs.FileValues.{IsFileValue}
 use Rattle.rinex_file.specs.Lines.{seen_line}
 use Rattle.rinex_file.specs.File.{file_text, file_lines, stamped_lines}
+use Rattle.rinex_file.specs.Limits.{most_line}
 
 -- a line: bytes that end in the one line feed among them
 abbrev pub IsLine : List ℕ → Type 0
@@ -22,8 +23,8 @@ IsLine line = (body : List ℕ) × (line ≡ body ++ 10 ∷ []) × (has 10 body 
 abbrev pub IsFound : Found → List ℕ → Option (List ℕ) → Type 0
 IsFound Line bytes left = IsLine bytes
 IsFound End bytes left = (bytes ≡ []) × IsAtEnd left
-IsFound Cut bytes left = (0 < length bytes) × (length bytes < 1220) × (has 10 bytes ≡ false) × IsAtEnd left
-IsFound Long bytes left = (length bytes ≡ 1220) × (has 10 bytes ≡ false)
+IsFound Cut bytes left = (0 < length bytes) × (length bytes < most_line) × (has 10 bytes ≡ false) × IsAtEnd left
+IsFound Long bytes left = (length bytes ≡ most_line) × (has 10 bytes ≡ false)
 IsFound Failed bytes left = ⊤
 
 -- `lines` are the first lines of the input, and `rest` follows them
@@ -50,7 +51,7 @@ pub record IsOverLong (input : List ℕ) (k : ℕ) : Type 0 where
   pub rest : List ℕ
   pub first : AreFirstLines input lines (long ++ rest)
   pub count : length lines + 1 ≡ k
-  pub size : length long ≡ 1220
+  pub size : length long ≡ most_line
   pub endless : has 10 long ≡ false
 
 abbrev pub line_feeds : List ℕ → ℕ

@@ -9,7 +9,7 @@ use Rattle.gnss_obs.specs.Signals.{table}
 use Rattle.obs_epoch.specs.declared.cell.StationValues.{StationValues}
 use Rattle.obs_epoch.specs.Values.{PlanValue, planned_of}
 use Rattle.obs_epoch.specs.Weeks.{week, weeks}
-use Rattle.rinex_file.specs.declared.fault.HeaderField.{HeaderField}
+use Rattle.rinex_file.specs.declared.header.fault.HeaderField.{HeaderField}
 use Rattle.rinex_file.specs.Blanks.{trimmed}
 use Rattle.rinex_file.specs.Texts.{HeaderLists, width_of, text_of, is_printable}
 use Rattle.rinex_file.specs.Value.{Entry, Row, Seen, Stamped, FileValue}

@@ -1,3 +1,4 @@
+pub mod Limits
 pub mod Numbers
 pub mod Blanks
 pub mod Texts
@@ -5,18 +6,11 @@ pub mod Value
 pub mod Lines
 pub mod Header
 pub mod File
-pub mod Reading
-pub mod RowReading
 pub mod TextsOf
 pub mod FileValues
 pub mod Exact
-pub mod Progress
-pub mod Sound
 pub mod Course
 pub mod Blocks
-pub mod Steps
-pub mod Kept
-pub mod Keeping
 pub mod Counting
-pub mod HeaderSteps
 pub mod Gathered
+pub mod Read

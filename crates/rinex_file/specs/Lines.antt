@@ -8,6 +8,7 @@ use Rattle.obs_epoch.specs.declared.civil.Civil.{Civil}
 use Rattle.rinex_file.specs.Numbers.{joined, right, fixed, padded}
 use Rattle.rinex_file.specs.Blanks.{trimmed}
 use Rattle.rinex_file.specs.Value.{Entry, Row, Seen}
+use Rattle.rinex_file.specs.Limits.{value_columns}
 
 -- the fields of the line that an epoch of so many satellites begins with
 abbrev pub epoch_fields : Civil → ℕ → List (List ℕ)
@@ -26,7 +27,7 @@ epoch_line t satellites = joined (epoch_fields t satellites)
 
 -- a value with its loss-of-lock and strength columns; 16 blanks where it is missing
 unfoldable pub field : Option ℤ → ℕ → ℕ → List ℕ
-field None lost strength = replicate 16 32
+field None lost strength = replicate value_columns 32
 field (Some v) lost strength = right 14 (fixed 3 v) ++ lost ∷ strength ∷ []
 
 -- the loss-of-lock column of a phase

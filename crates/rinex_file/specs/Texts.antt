@@ -1,10 +1,10 @@
 -- The eleven texts of a header that are handed in.
 use Rattle.std.specs.Prelude.{ℕ, ◌&&◌, Bool, nat_le, nat_lt, List, [], ◌∷◌, length, Option, Some, None, if◌then◌else◌}
 use Rattle.std.specs.List.{list_all}
-use Rattle.rinex_file.specs.declared.fault.HeaderField.{HeaderField}
-use Rattle.rinex_file.specs.declared.fault.HeaderField.TheVariants.{RunBy, Date, Marker, MarkerType, Observer, Agency, RecNumber, RecType, RecVersion, AntNumber, AntType}
-use Rattle.rinex_file.specs.declared.fault.HeadFault.{HeadFault}
-use Rattle.rinex_file.specs.declared.fault.HeadFault.TheVariants.{TooLong, NotPrintable}
+use Rattle.rinex_file.specs.declared.header.fault.HeaderField.{HeaderField}
+use Rattle.rinex_file.specs.declared.header.fault.HeaderField.TheVariants.{RunBy, Date, Marker, MarkerType, Observer, Agency, RecNumber, RecType, RecVersion, AntNumber, AntType}
+use Rattle.rinex_file.specs.declared.header.fault.HeadFault.{HeadFault}
+use Rattle.rinex_file.specs.declared.header.fault.HeadFault.TheVariants.{TooLong, NotPrintable}
 use Rattle.rinex_file.specs.Blanks.{trimmed}
 
 -- the bytes of each text

@@ -1,5 +1,5 @@
 -- The bytes of the texts that are handed in.
-use Rattle.rinex_file.specs.declared.texts.Texts.{Texts}
+use Rattle.rinex_file.specs.declared.header.texts.Texts.{Texts}
 use Rattle.rinex_file.specs.Texts.{HeaderLists}
 
 abbrev pub lists_of : Texts → HeaderLists

@@ -45,6 +45,10 @@ pub record FileValue : Type 0 where
   pub values : StationValues
   pub epochs : List Stamped
 
+-- a file with this header and these epochs
+abbrev pub file_with : HeaderLists → PlanValue → StationValues → List Stamped → FileValue
+file_with texts plan values epochs = record { texts = texts; plan = plan; values = values; epochs = epochs }
+
 -- ---- the values of epochs that were gathered under a plan
 
 -- the numbers from 1 to n

@@ -7,12 +7,12 @@ ghost use Rattle.rinex_file.specs.FileValues.{AreTexts};
 ghost use Rattle.rinex_file.specs.Gathered.{AreSignals, IsGatheredFile};
 ghost use Rattle.rinex_file.specs.File.{header_text, closed_text, file_text, gathered};
 
-use crate::texts::HeaderTexts;
+use crate::header::texts::HeaderTexts;
 use gnss_obs::System;
 use obs_epoch::Plan;
 
-/// What the writers send is the text of a file value: the header of the first epoch, and then each epoch in turn, behind an event
-/// where its station values are no longer those before.
+/// What the writers send is the text of a file value: the header of the first epoch, and then each
+/// epoch in turn, behind an event where its station values are no longer those before.
 pub fn file()
     // The file of epochs that were gathered under a plan is that of the value that they make.
     ensures text { (texts : HeaderLists) (plan : PlanValue) (values : StationValues) (c : Closed) (cs : List Closed)
@@ -23,7 +23,8 @@ pub fn file()
     ensures some { (texts : HeaderLists) (plan : PlanValue) (values : StationValues) (first : ℕ) → header_text texts plan values first ≢ [] }
 {}
 
-/// What is gathered of messages that were read is a file value, so its text is one that is read back.
+/// What is gathered of messages that were read is a file value, so its text is one that is read
+/// back.
 pub fn values()
     ensures { IsGatheredFile }
 {}

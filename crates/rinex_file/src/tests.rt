@@ -1,4 +1,5 @@
-//! What no clause says: published lines, that a call can succeed, and what fails on the way to a writer.
+//! What no clause says: published lines, that a call can succeed, and what fails on the way to a
+//! writer.
 mod events;
 mod faults;
 mod reading;
@@ -11,12 +12,12 @@ use crate::{
 };
 use arrayvec::ArrayVec;
 use gnss_obs::{Sat, System};
-use obs_epoch::{Gather, Gatherer, GpsTime, Plan, StationValues};
+use obs_epoch::{Epoch, Gather, Gatherer, GpsTime, Plan, StationValues};
 use rtcm_bits::Counted;
 use rtcm_bits::devices::{ShortWriter, WriteEnd};
 use rtcm_msg::decode;
 use std::alloc::Global;
-use std::io::ErrorKind;
+use std::io::{ErrorKind, Write};
 use std::test::Fail;
 
 /// The header of a file of GPS 1C alone.
@@ -184,10 +185,49 @@ fn gathered(alloc: Global, message: &[u8], gps: &str, galileo: &str) -> Result<G
     Ok(gatherer)
 }
 
+// The calls under test stand behind helpers without clauses: a test is proved for what it does to
+// its own values, and a large contract at each call would be carried through all of it.
+
+fn judge(texts: &Texts) -> Result<HeaderTexts, HeadFault> {
+    HeaderTexts::new(texts)
+}
+
+fn send_header<W: Write>(head: &Head, writer: &mut Counted<W>) -> Result<(), HeadFault> {
+    write_header(head, writer)
+}
+
+fn send_epoch<W: Write>(
+    epoch: &Epoch,
+    plan: &Plan,
+    writer: &mut Counted<W>,
+) -> Result<(), HeadFault> {
+    write_epoch(epoch, plan, writer)
+}
+
+fn make_epoch_line(time: GpsTime, satellites: usize, line: &mut Line) {
+    epoch_line(time, satellites, line)
+}
+
+fn make_satellite_line(epoch: &Epoch, plan: &Plan, satellite: Sat, line: &mut Line) {
+    satellite_line(epoch, plan, satellite, line)
+}
+
+/// The lines of a header, one after the other, where each has 81 bytes.
+fn header_of(head: &Head) -> Option<ArrayVec<u8, 4096>> {
+    let mut lines = ArrayVec::new();
+    for line in header_lines(head) {
+        if line.len() != 81 {
+            return None;
+        }
+        let _ = lines.try_extend_from_slice(line.as_slice());
+    }
+    Some(lines)
+}
+
 #[test]
 fn a_file_is_written(rt: HostRuntime) -> Result<(), Fail> {
     let gatherer = gathered(rt.alloc(), &OBSERVED, "1C", "none")?;
-    let texts = HeaderTexts::new(&texts())?;
+    let texts = judge(&texts())?;
     let mut writer = Counted::new(ArrayVec::<u8, 4096>::new());
     let Some(epoch) = gatherer.closed() else {
         assert!(rt; false);
@@ -199,8 +239,8 @@ fn a_file_is_written(rt: HostRuntime) -> Result<(), Fail> {
         values: gatherer.station_values(),
         first: epoch.time(),
     };
-    write_header(&head, &mut writer)?;
-    write_epoch(epoch, gatherer.plan(), &mut writer)?;
+    send_header(&head, &mut writer)?;
+    send_epoch(epoch, gatherer.plan(), &mut writer)?;
     let mut wanted = joined(&HEADER);
     let _ = wanted.try_extend_from_slice(joined(&EPOCH).as_slice());
     assert_eq!(rt; wanted.len(), 1236);
@@ -217,7 +257,7 @@ fn satellites_have_lines(rt: HostRuntime) -> Result<(), Fail> {
             assert!(rt; false, "{}", row.what);
             return Ok(());
         };
-        write_epoch(epoch, gatherer.plan(), &mut writer)?;
+        send_epoch(epoch, gatherer.plan(), &mut writer)?;
         let wanted = joined(&[EPOCH[0], row.line]);
         assert_eq!(rt;
             writer.into_inner().as_slice(),
@@ -238,9 +278,9 @@ fn lines_take_the_place_of_others(rt: HostRuntime) -> Result<(), Fail> {
         return Ok(());
     };
     for _ in 0..2 {
-        epoch_line(epoch.time(), 1, &mut line);
+        make_epoch_line(epoch.time(), 1, &mut line);
         assert_eq!(rt; line.as_slice(), joined(&[EPOCH[0]]).as_slice());
-        satellite_line(epoch, gatherer.plan(), satellite, &mut line);
+        make_satellite_line(epoch, gatherer.plan(), satellite, &mut line);
         assert_eq!(rt; line.as_slice(), joined(&[EPOCH[1]]).as_slice());
     }
     Ok(())
@@ -249,7 +289,7 @@ fn lines_take_the_place_of_others(rt: HostRuntime) -> Result<(), Fail> {
 #[test]
 fn a_header_shows_plan_and_station(rt: HostRuntime) -> Result<(), Fail> {
     let plan = Plan::parse(rt.alloc(), "all", "all")?;
-    let texts = HeaderTexts::new(&texts())?;
+    let texts = judge(&texts())?;
     let Some(first) = GpsTime::new(2303 * 604_800_000 + 345_600_000) else {
         assert!(rt; false);
         return Ok(());
@@ -299,11 +339,10 @@ fn a_header_shows_plan_and_station(rt: HostRuntime) -> Result<(), Fail> {
             "E                                                           SYS / PHASE SHIFT   ",
         ),
     ];
-    let mut lines = ArrayVec::<u8, 4096>::new();
-    for line in header_lines(&head) {
-        assert_eq!(rt; line.len(), 81);
-        let _ = lines.try_extend_from_slice(line.as_slice());
-    }
+    let Some(lines) = header_of(&head) else {
+        assert!(rt; false);
+        return Ok(());
+    };
     assert_eq!(rt; lines.len(), 25 * 81);
     for (number, text) in wanted {
         let here = lines.as_slice().get(81 * number..81 * number + 81);
@@ -330,20 +369,20 @@ fn texts_are_judged(rt: HostRuntime) {
             marker: text,
             ..texts()
         };
-        assert!(rt; HeaderTexts::new(&texts).err() == fault, "{text}");
+        assert!(rt; judge(&texts).err() == fault, "{text}");
     }
     let texts = Texts {
         date: "\n",
         marker: long,
         ..texts()
     };
-    assert!(rt; HeaderTexts::new(&texts).err() == Some(HeadFault::NotPrintable(HeaderField::Date)));
+    assert!(rt; judge(&texts).err() == Some(HeadFault::NotPrintable(HeaderField::Date)));
 }
 
 #[test]
 fn writing_stops_at_a_failure(rt: HostRuntime) -> Result<(), Fail> {
     let gatherer = gathered(rt.alloc(), &OBSERVED, "1C", "none")?;
-    let texts = HeaderTexts::new(&texts())?;
+    let texts = judge(&texts())?;
     let Some(epoch) = gatherer.closed() else {
         assert!(rt; false);
         return Ok(());
@@ -360,7 +399,7 @@ fn writing_stops_at_a_failure(rt: HostRuntime) -> Result<(), Fail> {
     ] {
         let out = ArrayVec::<u8, 4096>::new();
         let mut writer = Counted::new(ShortWriter::new(out, 81, taken, end));
-        assert!(rt; write_header(&head, &mut writer) == Err(HeadFault::Write));
+        assert!(rt; send_header(&head, &mut writer) == Err(HeadFault::Write));
         let out = writer.into_inner().into_inner();
         assert_eq!(rt;
             Some(out.as_slice()),
@@ -370,7 +409,7 @@ fn writing_stops_at_a_failure(rt: HostRuntime) -> Result<(), Fail> {
     let out = ArrayVec::<u8, 4096>::new();
     let end = WriteEnd::Fails(ErrorKind::Other);
     let mut writer = Counted::new(ShortWriter::new(out, 7, 50, end));
-    assert!(rt; write_epoch(epoch, gatherer.plan(), &mut writer) == Err(HeadFault::Write));
+    assert!(rt; send_epoch(epoch, gatherer.plan(), &mut writer) == Err(HeadFault::Write));
     let out = writer.into_inner().into_inner();
     assert_eq!(rt; Some(out.as_slice()), joined(&EPOCH).as_slice().get(..50));
     Ok(())

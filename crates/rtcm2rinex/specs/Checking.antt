@@ -7,8 +7,8 @@ use Rattle.rinex_file.specs.Value.{FileValue}
 use Rattle.rinex_file.specs.FileValues.{IsFileValue}
 use Rattle.rinex_file.specs.File.{file_text}
 use Rattle.rinex_file.specs.Course.{events_in}
-use Rattle.rinex_file.specs.declared.read_fault.ReadFault.{ReadFault}
-use Rattle.rinex_file.specs.declared.read_fault.ReadFault.TheVariants as reading
+use Rattle.rinex_file.specs.declared.read.fault.ReadFault.{ReadFault}
+use Rattle.rinex_file.specs.declared.read.fault.ReadFault.TheVariants as reading
 use Rattle.rtcm2rinex.specs.declared.fault.ToolFault.{ToolFault}
 use Rattle.rtcm2rinex.specs.declared.fault.ToolFault.TheVariants as faults
 use Rattle.rtcm2rinex.specs.Lines.{line}

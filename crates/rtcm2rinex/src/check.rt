@@ -2,7 +2,7 @@
 ghost use Rattle.std.specs.Prelude.{◌≡◌, ◌≤◌, Err, OnOk, OnErr, IfErr, IfSome, length};
 ghost use Rattle.std.specs.Io.KnownBytes.{Appends};
 ghost use Rattle.rtcm_bits.specs.Device.{HasFailed, AppendsPrefix};
-ghost use Rattle.rinex_file.specs.declared.read_fault.ReadFault.{ReadFault};
+ghost use Rattle.rinex_file.specs.declared.read.fault.ReadFault.{ReadFault};
 ghost use Rattle.rinex_file.specs.Value.{FileValue};
 ghost use Rattle.rinex_file.specs.FileValues.{IsFileValue};
 ghost use Rattle.rinex_file.specs.File.{file_text, file_lines};

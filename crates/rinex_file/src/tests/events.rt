@@ -1,12 +1,12 @@
 //! Events: written, read back, and refused where they stand or say otherwise.
-use super::reading::{fault, read};
+use super::reading::{check, fault, read, write_back};
 use super::{EPOCH, HEADER, joined};
-use crate::{Counts, HeadFault, ReadFault, check_file, file_bytes, write_event};
+use crate::{Counts, HeadFault, ReadFault, write_event};
 use arrayvec::ArrayVec;
 use obs_epoch::StationValues;
 use rtcm_bits::Counted;
-use rtcm_bits::devices::{PieceReader, ReadEnd, ShortWriter, WriteEnd};
-use std::io::ErrorKind;
+use rtcm_bits::devices::{ShortWriter, WriteEnd};
+use std::io::{ErrorKind, Write};
 use std::test::Fail;
 
 /// The event of a station, and the epoch behind it.
@@ -42,6 +42,10 @@ fn values() -> StationValues {
     }
 }
 
+fn send_event<W: Write>(writer: &mut Counted<W>) -> Result<(), HeadFault> {
+    write_event(values(), writer)
+}
+
 #[test]
 fn a_file_with_an_event_is_read_and_written_back(rt: HostRuntime) -> Result<(), Fail> {
     let text = joined(lines(&[&HEADER, &EPOCH, &EVENT, &SECOND]).as_slice());
@@ -59,14 +63,13 @@ fn a_file_with_an_event_is_read_and_written_back(rt: HostRuntime) -> Result<(), 
             height: 0
         })
     );
-    assert_eq!(rt; file_bytes(rt.alloc(), &file)?.as_slice(), text.as_slice());
-    let mut reader = Counted::new(PieceReader::new(text.as_slice(), &[5], ReadEnd::Ends));
+    assert_eq!(rt; write_back(rt.alloc(), &file)?.as_slice(), text.as_slice());
     let counts = Counts {
         epochs: 2,
         satellites: 2,
         events: 1,
     };
-    assert!(rt; check_file(rt.alloc(), &mut reader) == Ok(counts));
+    assert!(rt; check(rt.alloc(), text.as_slice()) == Ok(counts));
     Ok(())
 }
 
@@ -103,7 +106,7 @@ fn an_event_in_the_wrong_place_or_of_the_same_values_is_refused(rt: HostRuntime)
 fn an_event_is_written(rt: HostRuntime) {
     let text = joined(&EVENT);
     let mut writer = Counted::new(ArrayVec::<u8, 4096>::new());
-    assert!(rt; write_event(values(), &mut writer) == Ok(()));
+    assert!(rt; send_event(&mut writer) == Ok(()));
     assert_eq!(rt; writer.into_inner().as_slice(), text.as_slice());
     for (end, taken) in [
         (WriteEnd::Fails(ErrorKind::Other), 100),
@@ -112,7 +115,7 @@ fn an_event_is_written(rt: HostRuntime) {
     ] {
         let out = ArrayVec::<u8, 4096>::new();
         let mut writer = Counted::new(ShortWriter::new(out, 81, taken, end));
-        assert!(rt; write_event(values(), &mut writer) == Err(HeadFault::Write));
+        assert!(rt; send_event(&mut writer) == Err(HeadFault::Write));
         let out = writer.into_inner().into_inner();
         assert_eq!(rt; Some(out.as_slice()), text.as_slice().get(..taken));
     }

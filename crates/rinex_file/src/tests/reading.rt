@@ -6,11 +6,12 @@ use gnss_obs::System;
 use obs_epoch::StationValues;
 use rtcm_bits::Counted;
 use rtcm_bits::devices::{PieceReader, ReadEnd};
-use std::alloc::Global;
+use std::alloc::{AllocError, Global};
 use std::io::ErrorKind;
 use std::test::Fail;
 
-/// A file of two epochs, of both systems, with a signal on more lines than one, a mark and values that aren't observed.
+/// A file of two epochs, of both systems, with a signal on more lines than one, a mark and values
+/// that aren't observed.
 const TWO_SYSTEMS: [&str; 22] = [
     "     3.05           OBSERVATION DATA    M                   RINEX VERSION / TYPE",
     "rtcm2rinex          us                  20240204 000001 UTC PGM / RUN BY / DATE ",
@@ -42,11 +43,38 @@ pub fn read(alloc: Global, text: &[u8]) -> Result<ObsFile, ReadFault> {
     read_file(alloc, &mut reader)
 }
 
+/// Counts what bytes hold that come three at a time.
+pub fn check(alloc: Global, text: &[u8]) -> Result<Counts, ReadFault> {
+    let mut reader = Counted::new(PieceReader::new(text, &[3], ReadEnd::Ends));
+    check_file(alloc, &mut reader)
+}
+
+/// The bytes of a file that was read.
+pub fn write_back(alloc: Global, file: &ObsFile) -> Result<Vec<u8>, AllocError> {
+    file_bytes(alloc, file)
+}
+
 /// The fault of a file with these lines, and then these bytes.
 pub fn fault(alloc: Global, lines: &[&str], rest: &[u8]) -> Option<ReadFault> {
     let mut text = joined(lines);
     let _ = text.try_extend_from_slice(rest);
     read(alloc, text.as_slice()).err()
+}
+
+/// The fault of reading where the reader fails behind these bytes, and how many failures were
+/// counted.
+fn read_failing(alloc: Global, text: &[u8]) -> (Option<ReadFault>, u64) {
+    let end = ReadEnd::Fails(ErrorKind::Other);
+    let mut reader = Counted::new(PieceReader::new(text, &[7], end));
+    let fault = read_file(alloc, &mut reader).err();
+    (fault, reader.failures())
+}
+
+/// What checking answers there.
+fn check_failing(alloc: Global, text: &[u8]) -> Result<Counts, ReadFault> {
+    let end = ReadEnd::Fails(ErrorKind::Other);
+    let mut reader = Counted::new(PieceReader::new(text, &[7], end));
+    check_file(alloc, &mut reader)
 }
 
 /// The lines of the small file, with another in place of one.
@@ -66,9 +94,8 @@ fn a_file_is_read_and_written_back(rt: HostRuntime) -> Result<(), Fail> {
     for (lines, epochs, satellites) in [(small.as_slice(), 1, 1), (TWO_SYSTEMS.as_slice(), 2, 3)] {
         let text = joined(lines);
         let file = read(alloc, text.as_slice())?;
-        assert_eq!(rt; file.epochs(), epochs);
-        assert_eq!(rt; file.satellites(), satellites);
-        assert_eq!(rt; file_bytes(alloc, &file)?.as_slice(), text.as_slice());
+        assert_eq!(rt; (file.epochs(), file.satellites()), (epochs, satellites));
+        assert_eq!(rt; write_back(alloc, &file)?.as_slice(), text.as_slice());
     }
     Ok(())
 }
@@ -78,8 +105,7 @@ fn a_file_is_counted(rt: HostRuntime) {
     let small = with_line(99, "");
     for (lines, epochs, satellites) in [(small.as_slice(), 1, 1), (TWO_SYSTEMS.as_slice(), 2, 3)] {
         let text = joined(lines);
-        let mut reader = Counted::new(PieceReader::new(text.as_slice(), &[3], ReadEnd::Ends));
-        let counts = check_file(rt.alloc(), &mut reader);
+        let counts = check(rt.alloc(), text.as_slice());
         assert!(rt;
             counts
                 == Ok(Counts {
@@ -201,10 +227,6 @@ fn a_file_that_ends_too_soon_is_refused(rt: HostRuntime) {
 #[test]
 fn a_reader_that_fails_is_told(rt: HostRuntime) {
     let text = joined(&HEADER);
-    let end = ReadEnd::Fails(ErrorKind::Other);
-    let mut reader = Counted::new(PieceReader::new(text.as_slice(), &[7], end));
-    assert!(rt; read_file(rt.alloc(), &mut reader).err() == Some(ReadFault::Read));
-    assert_eq!(rt; reader.failures(), 1);
-    let mut reader = Counted::new(PieceReader::new(text.as_slice(), &[7], end));
-    assert!(rt; check_file(rt.alloc(), &mut reader) == Err(ReadFault::Read));
+    assert!(rt; read_failing(rt.alloc(), text.as_slice()) == (Some(ReadFault::Read), 1));
+    assert!(rt; check_failing(rt.alloc(), text.as_slice()) == Err(ReadFault::Read));
 }

@@ -5,9 +5,9 @@ use Rattle.rinex_file.specs.Value.{FileValue}
 use Rattle.rinex_file.specs.File.{file_text}
 use Rattle.rinex_file.specs.Exact.{IsNoFault}
 use Rattle.rinex_file.specs.Counting.{AreCounts}
-use Rattle.rinex_file.specs.declared.file.Counts.{Counts}
-use Rattle.rinex_file.specs.declared.read_fault.ReadFault.{ReadFault}
-use Rattle.rinex_file.specs.declared.read_fault.ReadFault.TheVariants.{Memory, Read, BadHeader, BadEpoch, BadEvent, BadSatellite, CutShort, TooLong}
+use Rattle.rinex_file.specs.declared.read.file.Counts.{Counts}
+use Rattle.rinex_file.specs.declared.read.fault.ReadFault.{ReadFault}
+use Rattle.rinex_file.specs.declared.read.fault.ReadFault.TheVariants.{Memory, Read, BadHeader, BadEpoch, BadEvent, BadSatellite, CutShort, TooLong}
 use Rattle.std.proofs.lemmas.Result.{err_from_is_err_and}
 use Rattle.rtcm2rinex.specs.declared.fault.ToolFault.TheVariants as faults
 use Rattle.rtcm2rinex.specs.Checking.{check_line, IsCheckedOr}

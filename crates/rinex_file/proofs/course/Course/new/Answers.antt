@@ -1,6 +1,0 @@
-use Rattle.std.proofs.Common.{refl}
-use Rattle.rinex_file.proofs.HeaderBody.{header_starts}
-use Rattle.rinex_file.proofs.course.Course.new.Goals as goal
-
-pub returns-clause-starts : goal.returns-clause-starts
-returns-clause-starts c = header_starts _ refl c.new-head.ensures

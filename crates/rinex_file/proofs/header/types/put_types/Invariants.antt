@@ -1,0 +1,14 @@
+use Rattle.std.proofs.Common.{◌≡◌, ◌≤◌, ◌+◌, ◌-◌, ◌*◌, ◌++◌, length, take, drop}
+use Rattle.obs_epoch.specs.Signals.{indices}
+use Rattle.rinex_file.specs.Header.{types_of, codes_of}
+use Rattle.rinex_file.proofs.SignalTypes.{columns}
+use Rattle.rinex_file.proofs.header.types.put_types.Given as goal
+
+-- the types so far stand in the line
+abbrev pub invariant-loop-i : goal.invariant-loop-i
+invariant-loop-i l = record {
+  from : 13 * l.row ≤ l.i;
+  to : l.i ≤ 13 * l.row + 13;
+  text : l.content.items ≡ l.fn.content.items ++ columns (take (l.i - 13 * l.row) (drop (13 * l.row) (types_of (codes_of l.fn.system (indices l.signals)))));
+  size : length l.content.items ≤ length l.fn.content.items + 4 * (l.i - 13 * l.row);
+}

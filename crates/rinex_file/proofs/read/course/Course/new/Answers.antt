@@ -1,0 +1,6 @@
+use Rattle.std.proofs.Common.{refl}
+use Rattle.rinex_file.proofs.HeaderBody.{header_starts}
+use Rattle.rinex_file.proofs.read.course.Course.new.Goals as goal
+
+pub returns-clause-starts : goal.returns-clause-starts
+returns-clause-starts c = header_starts _ refl c.new-head.ensures

@@ -1,0 +1,21 @@
+use Rattle.std.proofs.Common.{◌≡◌, ◌-◌, ◌+◌}
+use Rattle.rinex_file.specs.Blocks.{Leaves}
+use Rattle.rinex_file.specs.Exact.{most_lines}
+use Rattle.rinex_file.specs.Read.Keeping.{history_of, IsKept}
+use Rattle.rinex_file.specs.Read.Steps.{HasRead, IsWithin}
+use Rattle.rinex_file.proofs.read.file.read_file.Given as goal
+
+-- what is kept was read of the input
+abbrev pub invariant-loop-added : goal.invariant-loop-added
+invariant-loop-added g l =
+    let remaining = g.R.Read.remaining in
+    record {
+      read : HasRead l.reading (history_of l.keeper) (remaining l.fn.reader.inner) (remaining l.reader.inner);
+      kept : IsKept l.keeper;
+      within : IsWithin l.reading;
+      left : Leaves (remaining l.fn.reader.inner) (remaining l.reader.inner);
+      same : l.reader.failures ≡ l.fn.reader.failures;
+    }
+
+abbrev pub decreases-loop-added : goal.decreases-loop-added
+decreases-loop-added g l = most_lines + 1 - l.reading.count

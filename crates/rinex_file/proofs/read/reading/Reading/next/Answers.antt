@@ -1,0 +1,74 @@
+use Rattle.std.proofs.Common.{subst, ℕ, ◌+◌, ◌<◌, length, Err}
+use Rattle.rinex_file.specs.declared.read.due.Refusal.{Refusal}
+use Rattle.rinex_file.specs.declared.read.fault.ReadFault.TheVariants.{CutShort}
+use Rattle.rinex_file.specs.Exact.{IsFaulty, IsDueAt}
+use Rattle.rinex_file.proofs.DueLines.{due_at}
+use Rattle.rinex_file.specs.Course.{Follows, Refuses, Takes, progress_at, with_line}
+use Rattle.rinex_file.proofs.FileLines.{lines_are_lines}
+use Rattle.rinex_file.proofs.Judged.{refused as judged}
+use Rattle.rinex_file.proofs.HeaderBody.{unfinished, goes_on, only_file, file_read, sound_rows}
+use Rattle.rinex_file.proofs.LineByLine.{one_more, refused, over_long, cut_within, cut_behind, whole, behind_fault, both_said, said_of, long_some}
+use Rattle.rinex_file.proofs.read.reading.Reading.next.Goals as goal
+
+pub returns-then-may_end-clause-goes : goal.returns-then-may_end-clause-goes
+returns-then-may_end-clause-goes g c = λ h input read.
+    let course = c.args.self.now.course in
+    let s = progress_at course h in
+    let end = c.in-End.ensures in
+    let (due, counted) = c.may_end.ensures.0 c.if-may_end.true in
+    let some : 0 < length h.epochs = subst (λ (n : ℕ). 0 < n) read.stands.epochs counted in
+    record {
+      is = file_read s due read.stands.sound some;
+      text = whole lines_are_lines s c.args.self.now.count input _ _ c.next_line.new.line.items _ read.taken end.found.0 end.found.1 end.taken (goes_on s due read.stands.sound some) (only_file s due);
+      stands = read.stands;
+      none = sound_rows s due read.stands.sound;
+    }
+
+pub returns-else-may_end-clause-goes : goal.returns-else-may_end-clause-goes
+returns-else-may_end-clause-goes g c = λ h input read.
+    let course = c.args.self.now.course in
+    let end = c.in-End.ensures in
+    cut_behind lines_are_lines (progress_at course h) c.args.self.now.count input _ _ c.next_line.new.line.items read.taken end.found.0 end.found.1 end.taken
+    (unfinished course h read.stands (judged c.may_end.result _ c.may_end.ensures c.if-may_end.false))
+
+pub returns-in-Cut-clause-goes : goal.returns-in-Cut-clause-goes
+returns-in-Cut-clause-goes g c = λ h input read.
+    let s = progress_at c.args.self.now.course h in
+    let n = c.args.self.now.count in
+    let cut = c.in-Cut.ensures in
+    let bytes = c.next_line.new.line.items in
+    behind_fault s n input _ _ bytes (CutShort (n + 1)) c.fault_behind.result read.taken cut.found.0 cut.taken c.fault_behind.ensures
+    (cut_within lines_are_lines s n input _ _ bytes read.taken cut.found.0 cut.found.2 cut.found.3 cut.taken)
+
+pub returns-in-Long-clause-goes : goal.returns-in-Long-clause-goes
+returns-in-Long-clause-goes g c = λ h input read.
+    let s = progress_at c.args.self.now.course h in
+    let n = c.args.self.now.count in
+    let long = c.in-Long.ensures in
+    let bytes = c.next_line.new.line.items in
+    behind_fault s n input _ _ bytes c.fault_at.result c.fault_behind-in-Long.result read.taken (long_some bytes long.found.0) long.taken c.fault_behind-in-Long.ensures
+    (said_of input (λ text. IsFaulty text (n + 1) × IsDueAt c.due.result text (n + 1)) _ (λ text both. c.fault_at.ensures.faulty text both.0 both.1)
+    (both_said input (λ text. IsFaulty text (n + 1)) (λ text. IsDueAt c.due.result text (n + 1)) (over_long s n input _ _ bytes read.taken long.found.0 long.found.1 long.taken)
+    (due_at c.args.self.now.course h c.due.result n input _ read.taken c.due.ensures read.stands)))
+
+pub returns-in-Ok-clause-goes : goal.returns-in-Ok-clause-goes
+returns-in-Ok-clause-goes g c = λ h input read.
+    let old = progress_at c.args.self.now.course h in
+    let new = progress_at c.take.new.self (with_line c.in-Ok.added c.take.new.self h) in
+    let line = c.next_line.new.line.items in
+    let next = c.in-Ok.ensures.takes h read.stands in
+    record {
+      taken = one_more old new c.args.self.now.count input _ _ line read.taken c.in-Line.ensures.found c.in-Line.ensures.taken (subst (Follows old new) c.as_slice.ensures.value next.follows);
+      stands = next.stands;
+    }
+
+pub returns-in-Err-Bad-clause-goes : goal.returns-in-Err-Bad-clause-goes
+returns-in-Err-Bad-clause-goes g c = λ h input read.
+    let s = progress_at c.args.self.now.course h in
+    let n = c.args.self.now.count in
+    let line = c.next_line.new.line.items in
+    let takes = subst (λ (r : Refusal). Takes c.args.self.now.course c.take.new.self c.as_slice.result.now (Err r)) c.in-Err-Bad.field-0-is c.in-Err-Bad.ensures.takes in
+    said_of input (λ text. IsFaulty text (n + 1) × IsDueAt c.due-due.result text (n + 1)) _ (λ text both. c.fault_at-in-Err-Bad.ensures.faulty text both.0 both.1)
+    (both_said input (λ text. IsFaulty text (n + 1)) (λ text. IsDueAt c.due-due.result text (n + 1))
+    (refused lines_are_lines s n input _ _ line read.taken c.in-Line.ensures.found c.in-Line.ensures.taken (subst (Refuses s) c.as_slice.ensures.value (takes h read.stands)))
+    (due_at c.args.self.now.course h c.due-due.result n input _ read.taken c.due-due.ensures read.stands))

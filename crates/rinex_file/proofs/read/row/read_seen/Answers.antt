@@ -1,0 +1,60 @@
+use Rattle.std.proofs.Common.{arith, ◌≡◌, ◌∙◌, sym, ap, subst, ℕ, ◌<◌, get_or, List, Option, Some, None}
+use Rattle.gnss_obs.specs.declared.system.System.{System}
+use Rattle.gnss_obs.specs.Satellites.{satellites}
+use Rattle.rinex_file.specs.Value.{Seen}
+use Rattle.rinex_file.specs.FileValues.{IsSeen, IsRow, of_system}
+use Rattle.rinex_file.specs.Lines.{seen_line}
+use Rattle.rinex_file.specs.Read.Fields.{ReadsExactly}
+use Rattle.rinex_file.proofs.RowText.{first_byte}
+use Rattle.rinex_file.proofs.read.row.read_seen.Goals as goal
+use Rattle.rinex_file.proofs.read.row.read_seen.Goals.{After-system_of}
+
+abbrev IsOf : System → ℕ → Seen → Type 0
+IsOf system signals s = (s.system ≡ system) × IsRow (satellites system) signals s.row
+
+is_seen : (gps galileo signals : ℕ) (system : System) (s : Seen) → signals ≡ of_system system gps galileo → 0 < signals → IsOf system signals s → IsSeen gps galileo s
+is_seen gps galileo signals system s e some (same, is) =
+    let count : signals ≡ of_system s.system gps galileo = e ∙ ap (λ x. of_system x gps galileo) (sym same) in
+    record {
+      planned = subst (λ n. 0 < n) count some;
+      row = subst (λ n. IsRow (satellites s.system) n s.row) count (subst (λ x. IsRow (satellites x) signals s.row) (sym same) is);
+    }
+
+is_of : (gps galileo signals : ℕ) (system : System) (s : Seen) → signals ≡ of_system system gps galileo → s.system ≡ system → IsSeen gps galileo s → IsOf system signals s
+is_of gps galileo signals system s e same is =
+    let row : IsRow (satellites system) (of_system system gps galileo) s.row = subst (λ x. IsRow (satellites x) (of_system x gps galileo) s.row) same is.row in
+    (same, subst (λ n. IsRow (satellites system) n s.row) (sym e) row)
+
+-- where the line's letter is that of the system, each satellite is one of this system
+of_both : (gps galileo signals : ℕ) (system : System) (line : List ℕ) (r : Option Seen) → signals ≡ of_system system gps galileo → 0 < signals
+    → ((v : Seen) → line ≡ seen_line v → v.system ≡ system) → ReadsExactly (IsOf system signals) seen_line line r → ReadsExactly (IsSeen gps galileo) seen_line line r
+of_both gps galileo signals system line None count some letter read = λ v is e. read v (is_of gps galileo signals system v count (letter v e) is) e
+of_both gps galileo signals system line (Some s) count some letter (is, text, only) =
+    (is_seen gps galileo signals system s count some is, text, λ w also e. only w (is_of gps galileo signals system w count (letter w e) also) e)
+
+same_some : (x : Option System) (s t : System) → x ≡ Some s → x ≡ Some t → t ≡ s
+same_some x s t e f = cc
+
+none_some : (s : System) → None ≡ Some s → ⊥
+none_some s e = cc
+
+-- the letter at a line's front
+told : (c : After-system_of) (v : Seen) → c.args.line.now ≡ seen_line v → c.system_of.result ≡ Some v.system
+told c v e = c.system_of.ensures v.system (rw e (first_byte v).0) (ap (λ l. get_or l 0 0) e ∙ (first_byte v).1)
+
+pub returns-in-None : goal.returns-in-None
+returns-in-None c = λ v is e. none_some v.system (sym c.in-None.is ∙ told ((goal.at.returns-in-None c).After-system_of) v e)
+
+pub returns-then-signals-eq0 : goal.returns-then-signals-eq0
+returns-then-signals-eq0 c = λ v is e.
+    let system = same_some c.system_of.result c.in-Some.system v.system c.in-Some.is (told ((goal.at.returns-then-signals-eq0 c).After-system_of) v e) in
+    let count : c.of_system-signals.result ≡ of_system v.system c.args.gps c.args.galileo =
+    c.of_system-signals.ensures ∙ ap (λ s. of_system s c.args.gps c.args.galileo) (sym system) in
+    let planned = is.planned in
+    absurd (omega (arith, count, planned, c.if-signals-eq0.true))
+
+pub returns : goal.returns
+returns c =
+    let some : 0 < c.of_system-signals.result = omega (arith, c.if-signals-eq0.false) in
+    of_both c.args.gps c.args.galileo c.of_system-signals.result c.in-Some.system c.args.line.now _ c.of_system-signals.ensures some
+    (λ v e. same_some c.system_of.result c.in-Some.system v.system c.in-Some.is (told ((goal.at.returns c).After-system_of) v e)) c.read_of.ensures

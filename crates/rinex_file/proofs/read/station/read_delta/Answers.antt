@@ -1,0 +1,61 @@
+use Rattle.std.proofs.Common.{arith, refl, ◌≡◌, ◌∙◌, sym, ap, subst, w64, to_z, ◌<◌, ◌^◌, ℕ, List, take, drop, Some, None}
+use Rattle.std.specs.Prelude.{codes, pos, Result, Ok, Err}
+use Rattle.std.specs.Result.{OkIff, result_ok}
+use Rattle.std.proofs.lemmas.Int.{ints}
+use Rattle.std.proofs.lemmas.Result.{OkIff-at_ok, OkIff-at_err}
+use Rattle.rinex_file.specs.Header.{header_line, lengths}
+use Rattle.rinex_file.specs.Read.Fields.{digits_in}
+use Rattle.rinex_file.proofs.Judged.{refused}
+use Rattle.rinex_file.proofs.StationLines.{height-back}
+use Rattle.rinex_file.proofs.read.station.read_delta.Goals as goal
+
+abbrev text : ℕ → List ℕ
+text h = header_line (lengths (pos h) (pos 0) (pos 0)) (codes "ANTENNA: DELTA H/E/N")
+
+-- what stands in the first columns of the line of a height is the height
+there : (line : List ℕ) (h : ℕ) → h < 2 ^ 16 → line ≡ text h → digits_in (take 14 (drop 0 line)) ≡ h
+there line h small e = ap (λ l. digits_in (take 14 (drop 0 l))) e ∙ height-back h (pos 0) (pos 0) (codes "ANTENNA: DELTA H/E/N") small
+
+same_some : {X : Type 0} (x y : X) → Some x ≡ Some y → x ≡ y
+same_some x y e = cc
+
+-- a number that 16 bits hold, or don't
+held : {E : Type 0} (r : Result ℕ E) (n h : ℕ) → OkIff r (n < 2 ^ 16) n → Some h ≡ result_ok r → (h < 2 ^ 16) × (h ≡ n)
+held {E} (Ok x) n h is e =
+    let both = OkIff-at_ok {E = E} (Ok x) (n < 2 ^ 16) n x is refl in
+    let same : h ≡ n = same_some h x e ∙ both.1 in
+    (subst (λ k. k < 2 ^ 16) (sym same) both.0, same)
+held {E} (Err x) n h is e = cc
+
+too_great : {E : Type 0} (r : Result ℕ E) (n : ℕ) → OkIff r (n < 2 ^ 16) n → None ≡ result_ok r → n < 2 ^ 16 → ⊥
+too_great {E} (Ok x) n is e = cc
+too_great {E} (Err x) n is e = OkIff-at_err {T = ℕ} {E = E} (Err x) (n < 2 ^ 16) n x is refl
+
+widened : (h : ℕ) → h < 2 ^ 16 → header_line (lengths (to_z w64 h) (pos 0) (pos 0)) (codes "ANTENNA: DELTA H/E/N") ≡ text h
+widened h small = ap (λ z. header_line (lengths z (pos 0) (pos 0)) (codes "ANTENNA: DELTA H/E/N")) (same h small)
+  where
+    same : (n : ℕ) → n < 2 ^ 16 → to_z w64 n ≡ pos n
+    same n small = omega (arith, ints)
+
+pub returns-in_err-height : goal.returns-in_err-height
+returns-in_err-height c =
+    rw c.from_residual.ensures (
+    λ h small e.
+    let is = c.digits_in.ensures.value ∙ ap digits_in c.columns.ensures.value ∙ there c.args.line.now h small e in
+    too_great c.try_from.result c.digits_in.result c.try_from.ensures c.in_err-height.ensures.value (rw is small)
+    )
+
+pub returns-then-not-is_same : goal.returns-then-not-is_same
+returns-then-not-is_same c = λ h small e.
+    let is = c.digits_in.ensures.value ∙ ap digits_in c.columns.ensures.value ∙ there c.args.line.now h small e in
+    let found = held c.try_from.result c.digits_in.result c.in_ok-height.height c.try_from.ensures c.in_ok-height.ensures.value in
+    refused c.is_same.result _ c.is_same.ensures c.if-not-is_same.true
+    (e ∙ ap text (sym (found.1 ∙ is)) ∙ sym (c.as_slice.ensures.value ∙ c.three_lengths-again.ensures ∙ widened c.in_ok-height.height found.0))
+
+pub returns : goal.returns
+returns c =
+    let found = held c.try_from.result c.digits_in.result c.in_ok-height.height c.try_from.ensures c.in_ok-height.ensures.value in (
+      found.0,
+      c.if-not-is_same.ensures.0 refl ∙ c.as_slice.ensures.value ∙ c.three_lengths-again.ensures ∙ widened c.in_ok-height.height found.0,
+      λ h small e. sym (found.1 ∙ c.digits_in.ensures.value ∙ ap digits_in c.columns.ensures.value ∙ there c.args.line.now h small e),
+    )

@@ -1,0 +1,25 @@
+use Rattle.std.proofs.Common.{arith, ◌≡◌, ◌∙◌, sym, ap, ℕ, List, ◌≤◌, ◌++◌, length, take, true}
+use Rattle.std.specs.List.{list_all}
+use Rattle.rinex_file.specs.Blanks.{trimmed}
+use Rattle.rinex_file.specs.Texts.{is_printable}
+use Rattle.rinex_file.specs.FileValues.{IsText}
+use Rattle.rinex_file.proofs.Cuts.{length-trimmed}
+use Rattle.rinex_file.proofs.HeaderText.{trimmed-trimmed}
+use Rattle.rinex_file.proofs.read.texts.text_in.Goals as goal
+
+-- a text that was cut from so many columns
+is_text : (n : ℕ) (columns text : List ℕ) → length columns ≤ n → text ≡ trimmed columns → list_all is_printable text ≡ true → IsText n text
+is_text n columns text few is printable = record {
+  short = let l = length-trimmed columns in omega (arith, ap length is, l, few);
+  printable = printable;
+  cut = ap trimmed is ∙ trimmed-trimmed columns ∙ sym is;
+}
+
+pub returns-clause-some : goal.returns-clause-some
+returns-clause-some g c =
+    let field = c.columns-field.result.now in
+    let same : c.put.new.line.items ≡ take c.cut_length.result field = c.put.ensures.text ∙ ap (λ l. l ++ take c.cut_length.result field) c.new-text.ensures in
+    let is : c.put.new.line.items ≡ trimmed field = same ∙ c.cut_length.ensures.text in (
+      is_text g.row.N field c.put.new.line.items c.columns-field.ensures.bound is (ap (list_all is_printable) same ∙ sym c.is_printable.ensures ∙ c.if-not-is_printable.false),
+      is ∙ ap trimmed c.columns-field.ensures.value,
+    )

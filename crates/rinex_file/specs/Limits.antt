@@ -1,0 +1,18 @@
+-- How long a line of a file is at most, and what stands in it.
+use Rattle.std.specs.Prelude.{ℕ}
+
+-- a value: 14 columns, and two behind them
+abbrev pub value_columns : ℕ
+value_columns = 16
+
+-- a signal: pseudorange, phase, Doppler shift and strength
+abbrev pub signal_columns : ℕ
+signal_columns = 64
+
+-- the signals of a system: Galileo has the most
+abbrev pub most_signals : ℕ
+most_signals = 19
+
+-- a line with its line feed: three columns for a satellite, and those of its signals
+abbrev pub most_line : ℕ
+most_line = 1220

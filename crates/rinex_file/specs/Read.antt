@@ -1,0 +1,9 @@
+-- What the reading of a file says of its lines, one after the other.
+pub mod Fields
+pub mod Row
+pub mod HeaderSteps
+pub mod Progress
+pub mod Sound
+pub mod Steps
+pub mod Kept
+pub mod Keeping

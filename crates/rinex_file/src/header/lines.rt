@@ -1,0 +1,170 @@
+//! The lines of a header: RINEX 3.05, table A2.
+ghost use Rattle.std.specs.Prelude.{◌≡◌, ℕ, pos, ◌+◌, ◌*◌, ◌≤◌, [], ◌∷◌, length, if◌then◌else◌};
+ghost use Rattle.arrayvec.specs.ArrayVec.{array_vec_len};
+ghost use Rattle.obs_epoch.specs.Dates.{civil_of};
+ghost use Rattle.rinex_file.specs.Header.{header_line, version_line, two, three, lengths, program_line, observer_line, receiver_line, antenna_line, position_line, delta_line, first_line};
+ghost use Rattle.rinex_file.specs.Read.Progress.{version_with};
+
+use crate::header::fault::HeaderField;
+use crate::header::labels;
+use crate::header::texts::HeaderTexts;
+use crate::write::numbers::{Line, put, put_fixed, put_left, put_seconds, put_whole};
+use gnss_obs::System;
+use obs_epoch::{Civil, GpsTime, Plan, StationValues};
+
+/// Content in columns 1 to 60, the label from column 61 on, and a line feed.
+#[tactic(auto, unfolding(crate::specs::Header::header_line))]
+pub(crate) fn labelled(content: &[u8], label: &[u8]) -> Line
+    requires { length content.now + length label.now ≤ 1000 }
+    ensures { result.items ≡ header_line content.now label.now }
+{
+    let mut line = Line::new();
+    put_left(&mut line, 60, content);
+    put_left(&mut line, 20, label);
+    line.push(b'\n');
+    line
+}
+
+/// Two texts, the first in 20 columns.
+pub(crate) fn two_texts(a: &[u8], b: &[u8], label: &[u8]) -> Line
+    requires { (length a.now ≤ 60) × (length b.now ≤ 60) × (length label.now ≤ 20) }
+    ensures { result.items ≡ header_line (two a.now b.now) label.now }
+{
+    let mut content = Line::new();
+    put_left(&mut content, 20, a);
+    put(&mut content, b);
+    labelled(content.as_slice(), label)
+}
+
+/// Three texts, the first two in 20 columns each.
+pub(crate) fn three_texts(a: &[u8], b: &[u8], c: &[u8], label: &[u8]) -> Line
+    requires { (length a.now ≤ 60) × (length b.now ≤ 60) × (length c.now ≤ 60) × (length label.now ≤ 20) }
+    ensures { result.items ≡ header_line (three a.now b.now c.now) label.now }
+{
+    let mut content = Line::new();
+    put_left(&mut content, 20, a);
+    put_left(&mut content, 20, b);
+    put(&mut content, c);
+    labelled(content.as_slice(), label)
+}
+
+/// Three numbers in 0.0001 m, as F14.4 each.
+pub(crate) fn three_lengths(a: i64, b: i64, c: i64, label: &[u8]) -> Line
+    requires { length label.now ≤ 20 }
+    ensures { result.items ≡ header_line (lengths a b c) label.now }
+{
+    let mut content = Line::new();
+    put_fixed(&mut content, 14, 4, 10_000, a);
+    put_fixed(&mut content, 14, 4, 10_000, b);
+    put_fixed(&mut content, 14, 4, 10_000, c);
+    labelled(content.as_slice(), label)
+}
+
+// The letter of the planned systems: `M` where both are.
+fn file_system(gps: bool, galileo: bool) -> u8
+    ensures { result ≡ (if gps then (if galileo then 77 else 71) else 69) }
+{
+    if !gps {
+        return b'E';
+    }
+    if !galileo {
+        return b'G';
+    }
+    b'M'
+}
+
+/// Version 3.05, the file's type and its systems: whether GPS and Galileo are planned.
+pub(crate) fn version_with(gps: bool, galileo: bool) -> Line
+    ensures { result.items ≡ version_with gps galileo }
+{
+    let mut content = Line::new();
+    put_fixed(&mut content, 9, 2, 100, 305);
+    put(&mut content, b"           ");
+    put_left(&mut content, 20, b"OBSERVATION DATA");
+    content.push(file_system(gps, galileo));
+    labelled(content.as_slice(), labels::VERSION)
+}
+
+/// Version 3.05, the file's type and the planned systems.
+pub(crate) fn version_line(plan: &Plan) -> Line
+    ensures { result.items ≡ version_line plan.now }
+{
+    version_with(
+        plan.signals(System::Gps) > 0,
+        plan.signals(System::Galileo) > 0,
+    )
+}
+
+/// The program, who ran it, and when.
+pub(crate) fn program_line(texts: &HeaderTexts) -> Line
+    ensures { result.items ≡ program_line texts.now }
+{
+    let run_by = texts.text(HeaderField::RunBy);
+    let date = texts.text(HeaderField::Date);
+    three_texts(labels::PROGRAM_NAME, run_by, date, labels::PROGRAM)
+}
+
+/// Observer and agency.
+pub(crate) fn observer_line(texts: &HeaderTexts) -> Line
+    ensures { result.items ≡ observer_line texts.now }
+{
+    let observer = texts.text(HeaderField::Observer);
+    let agency = texts.text(HeaderField::Agency);
+    two_texts(observer, agency, labels::OBSERVER)
+}
+
+/// Number, type and version of the receiver.
+pub(crate) fn receiver_line(texts: &HeaderTexts) -> Line
+    ensures { result.items ≡ receiver_line texts.now }
+{
+    let number = texts.text(HeaderField::RecNumber);
+    let kind = texts.text(HeaderField::RecType);
+    let version = texts.text(HeaderField::RecVersion);
+    three_texts(number, kind, version, labels::RECEIVER)
+}
+
+/// Number and type of the antenna.
+pub(crate) fn antenna_line(texts: &HeaderTexts) -> Line
+    ensures { result.items ≡ antenna_line texts.now }
+{
+    let number = texts.text(HeaderField::AntNumber);
+    let kind = texts.text(HeaderField::AntType);
+    two_texts(number, kind, labels::ANTENNA)
+}
+
+/// The position of the antenna.
+pub(crate) fn position_line(values: &StationValues) -> Line
+    ensures { result.items ≡ position_line values.now }
+{
+    three_lengths(values.x, values.y, values.z, labels::POSITION)
+}
+
+/// The height of the antenna above the marker.
+pub(crate) fn delta_line(values: &StationValues) -> Line
+    ensures { result.items ≡ delta_line values.now }
+{
+    three_lengths(values.height as i64, 0, 0, labels::DELTA)
+}
+
+// The time of the first epoch, by the calendar.
+fn civil_line(civil: &Civil) -> Line
+    ensures { result.items ≡ first_line civil.now }
+{
+    let mut content = Line::new();
+    put_whole(&mut content, 6, civil.year as u64);
+    put_whole(&mut content, 6, civil.month as u64);
+    put_whole(&mut content, 6, civil.day as u64);
+    put_whole(&mut content, 6, civil.hour as u64);
+    put_whole(&mut content, 6, civil.minute as u64);
+    put_seconds(&mut content, 13, civil.millisecond);
+    put(&mut content, b"     GPS");
+    labelled(content.as_slice(), labels::FIRST)
+}
+
+/// The time of the first epoch.
+pub(crate) fn first_line(time: GpsTime) -> Line
+    ensures { result.items ≡ first_line (civil_of time) }
+{
+    let civil = time.civil();
+    civil_line(&civil)
+}

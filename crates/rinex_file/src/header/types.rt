@@ -1,0 +1,109 @@
+//! The observation types of a header: RINEX 3.05, table A2, "SYS / # / OBS TYPES".
+ghost use Rattle.std.specs.Prelude.{◌≡◌, ℕ, ◌+◌, ◌*◌, ◌/◌, ◌≤◌, ◌<◌, ◌++◌, [], ◌∷◌, length};
+ghost use Rattle.arrayvec.specs.ArrayVec.{array_vec_len};
+ghost use Rattle.gnss_obs.specs.Signals.{table, code_of};
+ghost use Rattle.obs_epoch.specs.Signals.{indices, IsOf};
+ghost use Rattle.obs_epoch.specs.Values.{planned_of};
+ghost use Rattle.rinex_file.specs.Lines.{letter_of};
+ghost use Rattle.rinex_file.specs.Header.{type_line, type_front, type_columns, type_rows, types_of, codes_of, type_of};
+ghost use Rattle.rinex_file.specs.Limits.{most_line};
+
+use crate::header::labels;
+use crate::header::lines::labelled;
+use crate::write::numbers::{Line, put, put_whole};
+use crate::write::satellite::letter_of;
+use gnss_obs::{Signal, System};
+use obs_epoch::Plan;
+
+/// So many types stand in a line.
+const TYPES: usize = 13;
+
+/// So many lines are needed for the types of a system.
+pub(crate) fn type_rows(plan: &Plan, system: System) -> usize
+    ensures { result ≡ type_rows (length (planned_of system plan.now)) }
+{
+    (4 * plan.signals(system) + TYPES - 1) / TYPES
+}
+
+// What a line of types begins with.
+fn put_front(content: &mut Line, letter: u8, types: usize, row: usize)
+    requires room { array_vec_len content.old ≤ 100 }
+    requires types { types ≤ 1000 }
+    ensures text { content.new.items ≡ content.old.items ++ type_front letter types row }
+    ensures size { array_vec_len content.new ≤ array_vec_len content.old + 63 }
+{
+    if row == 0 {
+        content.push(letter);
+        put(content, b"  ");
+        put_whole(content, 3, types as u64);
+    } else {
+        put(content, b"      ");
+    }
+}
+
+// Appends a blank and a signal's type: the first is its pseudorange, then come phase, Doppler and
+// strength.
+fn put_type(content: &mut Line, signal: Signal, kind: usize)
+    requires kind { kind < 4 }
+    requires room { array_vec_len content.old + 4 ≤ most_line }
+    ensures text { content.new.items ≡ content.old.items ++ 32 ∷ type_of kind (code_of signal) }
+    ensures size { array_vec_len content.new ≡ array_vec_len content.old + 4 }
+{
+    let letter = match kind {
+        0 => b'C',
+        1 => b'L',
+        2 => b'D',
+        _ => b'S',
+    };
+    content.push(b' ');
+    content.push(letter);
+    put(content, &signal.code());
+}
+
+// Appends a line's types, as far as the signals go.
+fn put_types(content: &mut Line, system: System, signals: &[Signal], row: usize)
+    requires of { IsOf system signals.now }
+    requires row { row ≤ 5 }
+    requires room { array_vec_len content.old ≤ 100 }
+    ensures text { content.new.items ≡ content.old.items ++ type_columns (types_of (codes_of system (indices signals.now))) row }
+    ensures size { array_vec_len content.new ≤ array_vec_len content.old + 52 }
+{
+    let types = 4 * signals.len();
+    let first = TYPES * row;
+    let end = types.min(first + TYPES);
+    for i in first..end {
+        put_type(content, signals[i / 4], i % 4);
+    }
+}
+
+/// Appends what a line of a system's types shows where so many signals are planned and these are
+/// the first of them.
+pub(crate) fn put_row(
+    content: &mut Line,
+    system: System,
+    count: usize,
+    signals: &[Signal],
+    row: usize,
+)
+    requires of { IsOf system signals.now }
+    requires count { count ≤ length (table system) }
+    requires row { row < type_rows count }
+    requires room { array_vec_len content.old ≤ 30 }
+    ensures text { content.new.items ≡ content.old.items
+        ++ (type_front (letter_of system) (4 * count) row ++ type_columns (types_of (codes_of system (indices signals.now))) row) }
+    ensures size { array_vec_len content.new ≤ array_vec_len content.old + 115 }
+{
+    put_front(content, letter_of(system), 4 * count, row);
+    put_types(content, system, signals, row);
+}
+
+/// A line of a system's types.
+pub(crate) fn type_line(plan: &Plan, system: System, row: usize) -> Line
+    requires { row < type_rows (length (planned_of system plan.now)) }
+    ensures { result.items ≡ type_line (letter_of system) (types_of (codes_of system (planned_of system plan.now))) row }
+{
+    let signals = plan.of(system);
+    let mut content = Line::new();
+    put_row(&mut content, system, signals.len(), signals, row);
+    labelled(content.as_slice(), labels::TYPES)
+}

@@ -1,0 +1,90 @@
+//! Reading a file whole.
+ghost use Rattle.std.specs.Prelude.{◌≡◌, ◌<◌, ◌≤◌, Err, IfOk, IfErr, IfSome, length, None};
+ghost use Rattle.rtcm_bits.specs.Device.{HasFailed};
+ghost use Rattle.rinex_file.specs.Value.{FileValue};
+ghost use Rattle.rinex_file.specs.FileValues.{IsFileValue};
+ghost use Rattle.rinex_file.specs.File.{file_text, file_lines};
+ghost use Rattle.rinex_file.specs.Exact.{Explains, IsReadOr, most_lines};
+ghost use Rattle.rinex_file.specs.Blocks.{Leaves};
+ghost use Rattle.rinex_file.specs.Counting.{IsTextWith, IsCountedOr};
+
+use crate::read::fault::ReadFault;
+use crate::read::keeper::Keeper;
+use crate::read::reading::Reading;
+use crate::values::obs_file::ObsFile;
+use rtcm_bits::Counted;
+use std::alloc::Global;
+use std::io::Read;
+
+/// How much a file holds: its epochs, the lines of satellites of all of them, and the events that
+/// tell station values.
+#[derive(Clone, Copy, Debug, PartialEq, Eq)]
+pub struct Counts {
+    pub epochs: u64,
+    pub satellites: u64,
+    pub events: u64,
+}
+
+/// Reads a file to its end and counts what it holds. It is accepted exactly where it is spelled as
+/// [`write_header`](crate::write_header) and [`write_epoch`](crate::write_epoch) would spell it.
+/// The first fault is answered, with its line. What is held while it reads doesn't grow with the
+/// file.
+pub fn check_file<R: Read>(alloc: Global, reader: &mut Counted<R>) -> Result<Counts, ReadFault>
+    // What is counted is the file whose text the whole input is.
+    ensures found { IfOk result (λ n. IsTextWith n (R.remaining reader.old.inner)) }
+    // Why nothing was counted.
+    ensures fault { IfErr result (λ e. IfSome (R.remaining reader.old.inner) (λ input. Explains input e)) }
+    // The text of each file value is accepted.
+    ensures only { (v : FileValue) → IsFileValue v → length (file_lines v) ≤ most_lines
+        → IfSome (R.remaining reader.old.inner) (λ input. input ≡ file_text v → IsCountedOr v result) }
+    ensures failed { result ≡ Err ReadFault.Read → HasFailed reader.old.failures reader.new.failures }
+    // Some front of the input was read.
+    ensures left { Leaves (R.remaining reader.old.inner) (R.remaining reader.new.inner) }
+{
+    let mut reading = Reading::new(alloc);
+    loop {
+        match reading.next(reader) {
+            Ok(Some(_)) => {}
+            Ok(None) => return Ok(Counts {
+                epochs: reading.course.epochs,
+                satellites: reading.course.satellites,
+                events: reading.course.events,
+            }),
+            Err(fault) => return Err(fault),
+        }
+    }
+}
+
+/// Reads a file to its end. It is accepted exactly where it is spelled as
+/// [`write_header`](crate::write_header) and [`write_epoch`](crate::write_epoch) would spell it.
+/// The first fault is answered, with its line.
+pub fn read_file<R: Read>(alloc: Global, reader: &mut Counted<R>) -> Result<ObsFile, ReadFault>
+    // What is answered is the file whose text the whole input is.
+    ensures found { IfOk result (λ f. IsFileValue f × IfSome (R.remaining reader.old.inner) (λ input. input ≡ file_text f)) }
+    // Why nothing was read.
+    ensures fault { IfErr result (λ e. IfSome (R.remaining reader.old.inner) (λ input. Explains input e)) }
+    // The text of each file value is read.
+    ensures only { (v : FileValue) → IsFileValue v → length (file_lines v) ≤ most_lines
+        → IfSome (R.remaining reader.old.inner) (λ input. input ≡ file_text v → IsReadOr v result) }
+    ensures failed { result ≡ Err ReadFault.Read → HasFailed reader.old.failures reader.new.failures }
+    // Some front of the input was read.
+    ensures left { Leaves (R.remaining reader.old.inner) (R.remaining reader.new.inner) }
+{
+    let mut reading = Reading::new(alloc);
+    let mut keeper = Keeper::new(alloc);
+    loop {
+        match reading.next(reader) {
+            Ok(Some(added)) => match keeper.keep(added, &reading.course) {
+                Ok(()) => {}
+                Err(_) => return Err(ReadFault::Memory),
+            },
+            Ok(None) => {
+                return match keeper.finish(alloc, reading.course) {
+                    Ok(file) => Ok(file),
+                    Err(_) => Err(ReadFault::Memory),
+                };
+            }
+            Err(fault) => return Err(fault),
+        }
+    }
+}

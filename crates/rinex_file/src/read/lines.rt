@@ -1,0 +1,56 @@
+//! The lines of a reader.
+ghost use Rattle.std.specs.Prelude.{◌≡◌};
+ghost use Rattle.std.specs.Io.KnownBytes.{Consumes, prepend_known};
+ghost use Rattle.rtcm_bits.specs.Device.{HasFailed};
+ghost use Rattle.rinex_file.specs.Exact.{IsFound};
+ghost use Rattle.rinex_file.specs.Blocks.{Leaves};
+
+use crate::read::block::{Block, Filled};
+use crate::write::numbers::Line;
+use rtcm_bits::Counted;
+use std::io::Read;
+
+/// What was found where a line is due.
+#[derive(Clone, Copy, Debug, PartialEq, Eq)]
+pub(crate) enum Found {
+    /// A line with its line feed.
+    Line,
+    /// The end of the input, and no byte of a line.
+    End,
+    /// Some bytes of a line, and the end of the input.
+    Cut,
+    /// No line feed in 1,220 bytes.
+    Long,
+    /// The reader failed.
+    Failed,
+}
+
+/// Takes the bytes of the next line into the buffer, in place of what it holds.
+pub(crate) fn next_line<R: Read>(
+    reader: &mut Counted<R>,
+    block: &mut Block,
+    line: &mut Line,
+) -> Found
+    ensures taken { Consumes (prepend_known block.old (R.remaining reader.old.inner)) (prepend_known block.new (R.remaining reader.new.inner)) line.new.items }
+    ensures found { IsFound result line.new.items (prepend_known block.new (R.remaining reader.new.inner)) }
+    ensures left { Leaves (R.remaining reader.old.inner) (R.remaining reader.new.inner) }
+    ensures failed { result ≡ Found.Failed → HasFailed reader.old.failures reader.new.failures }
+    ensures same { (result ≡ Found.Failed → ⊥) → reader.new.failures ≡ reader.old.failures }
+{
+    line.clear();
+    while !line.is_full() {
+        match block.fill(reader) {
+            Filled::Some => {}
+            Filled::End => return if line.is_empty() {
+                Found::End
+            } else {
+                Found::Cut
+            },
+            Filled::Failed => return Found::Failed,
+        }
+        if block.move_to(line) {
+            return Found::Line;
+        }
+    }
+    Found::Long
+}

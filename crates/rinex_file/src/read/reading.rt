@@ -1,0 +1,119 @@
+//! The reading of a file, line by line.
+ghost use Rattle.std.specs.Prelude.{◌≡◌, ◌<◌, ◌≤◌, ◌==◌, ◌↔◌, ℕ, List, Option, Some, None, Ok, Err, OnOk, if◌then◌else◌};
+ghost use Rattle.rtcm_bits.specs.Device.{HasFailed};
+ghost use Rattle.rinex_file.specs.Value.{FileValue};
+ghost use Rattle.rinex_file.specs.FileValues.{IsFileValue};
+ghost use Rattle.rinex_file.specs.File.{file_lines};
+ghost use Rattle.rinex_file.specs.Exact.{Explains, IsFaulty, IsDueAt, most_lines};
+ghost use Rattle.rinex_file.specs.Blocks.{Leaves};
+ghost use Rattle.rinex_file.specs.Course.{History, StandsBehind, nothing};
+ghost use Rattle.rinex_file.specs.Read.Steps.{Goes, HasRead, IsCounted, IsWithin};
+
+use crate::read::block::Block;
+use crate::read::course::Course;
+use crate::read::due::{Added, Due, Refusal};
+use crate::read::fault::ReadFault;
+use crate::read::lines::{Found, next_line};
+use crate::write::numbers::Line;
+use rtcm_bits::Counted;
+use std::alloc::Global;
+use std::io::Read;
+
+/// So many lines of a file have a number.
+const MOST_LINES: u64 = 1 << 32;
+
+/// The reading of a file: how far it is, the lines that were taken, and buffers.
+#[derive(Drop)]
+pub(crate) struct Reading {
+    pub(crate) course: Course,
+    pub(crate) count: u64,
+    pub(crate) block: Block,
+    line: Line,
+    again: Line,
+}
+
+// The fault of a line that is another than the one that was due.
+fn fault_at(due: Due, number: u64) -> ReadFault
+    ensures faulty { (input : List ℕ) → IsFaulty input number → IsDueAt due input number → Explains input result }
+    ensures other { result ≡ ReadFault.Read → ⊥ }
+{
+    match due {
+        Due::Header(_, _) => ReadFault::BadHeader(number),
+        Due::Epoch => ReadFault::BadEpoch(number),
+        Due::EventPosition => ReadFault::BadEvent(number),
+        Due::EventHeight(_, _, _) => ReadFault::BadEvent(number),
+        Due::EventEpoch(_) => ReadFault::BadEpoch(number),
+        Due::Satellite(_) => ReadFault::BadSatellite(number),
+    }
+}
+
+// The fault where something stands behind so many lines, which may be as many as have a number.
+fn fault_behind(lines: u64, fault: ReadFault) -> ReadFault
+    ensures { result ≡ (if lines == most_lines then ReadFault.TooLong else fault) }
+{
+    if lines == MOST_LINES {
+        ReadFault::TooLong
+    } else {
+        fault
+    }
+}
+
+impl Reading {
+    /// Nothing was read.
+    pub(crate) fn new(alloc: Global) -> Reading
+        ensures read { (input : Option (List ℕ)) → HasRead result nothing input input }
+        ensures within { IsWithin result }
+    {
+        Reading {
+            course: Course::new(alloc),
+            count: 0,
+            block: Block::new(),
+            line: Line::new(),
+            again: Line::new(),
+        }
+    }
+
+    /// Takes the next line, and answers what it adds, or None where the file ended.
+    pub(crate) fn next<R: Read>(
+        &mut self,
+        reader: &mut Counted<R>,
+    ) -> Result<Option<Added>, ReadFault>
+        requires stands { (h : History) × StandsBehind self.old.course h }
+        requires within { IsWithin self.old }
+        ensures goes { (h : History) (input : Option (List ℕ)) → HasRead self.old h input (R.remaining reader.old.inner)
+            → Goes self.new h input (R.remaining reader.new.inner) result }
+        ensures within { OnOk result (IsWithin self.new) }
+        ensures counted { IsCounted self.old self.new result }
+        ensures left { Leaves (R.remaining reader.old.inner) (R.remaining reader.new.inner) }
+        ensures failed { result ≡ Err ReadFault.Read → HasFailed reader.old.failures reader.new.failures }
+        ensures same { OnOk result (reader.new.failures ≡ reader.old.failures) }
+    {
+        let number = self.count + 1;
+        match next_line(reader, &mut self.block, &mut self.line) {
+            Found::Line => {}
+            Found::End => return if self.course.may_end() {
+                Ok(None)
+            } else {
+                Err(ReadFault::CutShort(number))
+            },
+            Found::Cut => return Err(fault_behind(self.count, ReadFault::CutShort(number))),
+            Found::Long => return Err(fault_behind(
+                self.count,
+                fault_at(self.course.due(), number),
+            )),
+            Found::Failed => return Err(ReadFault::Read),
+        }
+        if self.count == MOST_LINES {
+            return Err(ReadFault::TooLong);
+        }
+        let due = self.course.due();
+        match self.course.take(self.line.as_slice(), &mut self.again) {
+            Ok(added) => {
+                self.count = number;
+                Ok(Some(added))
+            }
+            Err(Refusal::Memory) => Err(ReadFault::Memory),
+            Err(Refusal::Bad) => Err(fault_at(due, number)),
+        }
+    }
+}

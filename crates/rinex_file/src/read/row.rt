@@ -1,0 +1,215 @@
+//! The line of a satellite, read back: what stands there is judged, written again and compared.
+ghost use Rattle.std.specs.Prelude.{◌≡◌, ◌↔◌, ℕ, pos, ◌+◌, ◌-◌, ◌*◌, ◌≤◌, ◌<◌, List, [], ◌∷◌, drop, ◌++◌, replicate, length, slice_index, All, Any, Some, IfSome, IsTrue};
+ghost use Rattle.arrayvec.specs.ArrayVec.{array_vec_len};
+ghost use Rattle.gnss_obs.specs.declared.system.System.{System};
+ghost use Rattle.gnss_obs.specs.Satellites.{satellites};
+ghost use Rattle.rinex_file.specs.FileValues.{FitsColumns, IsFrom, IsEntry, IsRow, IsSeen, says, of_system};
+ghost use Rattle.rinex_file.specs.Lines.{seen_line, letter_of};
+ghost use Rattle.rinex_file.specs.Read.Fields.{ReadsExactly, some_if};
+ghost use Rattle.rinex_file.specs.Read.Row.{value_in, entry_in, entries_in, seen_in};
+ghost use Rattle.rinex_file.specs.Limits.{most_line, signal_columns, most_signals};
+
+use crate::read::numbers::{digits_in, is_same, number_text};
+use crate::values::kept::{KeptEntry, KeptSeen};
+use crate::write::kept_line::kept_line;
+use crate::write::numbers::{Line, MOST_SIGNALS, SIGNAL_COLUMNS, put, put_times};
+use arrayvec::ArrayVec;
+use gnss_obs::System;
+
+// The value whose columns the text begins with.
+#[tactic(auto, unfolding(crate::specs::Read::Row::value_in))]
+fn value_in(text: &[u8]) -> Option<i64>
+    requires { 14 ≤ length text.now }
+    ensures { result ≡ value_in text.now }
+{
+    let number = number_text(&text[..14]);
+    if !number.has_point {
+        return None;
+    }
+    Some(number.value())
+}
+
+// What the 64 columns of a signal show.
+#[tactic(auto, unfolding(crate::specs::Read::Row::entry_in))]
+fn entry_in(text: &[u8]) -> KeptEntry
+    requires { signal_columns ≤ length text.now }
+    ensures { result ≡ entry_in text.now }
+{
+    KeptEntry {
+        c: value_in(text),
+        l: value_in(&text[16..]),
+        d: value_in(&text[32..]),
+        s: value_in(&text[48..]),
+        mark: digits_in(&text[30..31]) as u8,
+    }
+}
+
+// The entries that the columns of so many signals show, in place of those that were there.
+fn put_entries(text: &[u8], signals: usize, entries: &mut ArrayVec<KeptEntry, MOST_SIGNALS>)
+    requires few { signals ≤ most_signals }
+    requires room { 3 + signal_columns * signals ≤ length text.now }
+    ensures { entries.new.items ≡ entries_in signals (drop 3 text.now) }
+{
+    entries.clear();
+    for i in 0..signals {
+        entries.push(entry_in(
+            &text[3 + SIGNAL_COLUMNS * i..3 + SIGNAL_COLUMNS * i + SIGNAL_COLUMNS],
+        ));
+    }
+}
+
+// What a line that was filled up with blanks shows of a satellite.
+fn put_seen_in(system: System, text: &[u8], signals: usize, seen: &mut KeptSeen)
+    requires few { signals ≤ most_signals }
+    requires room { 3 + signal_columns * signals ≤ length text.now }
+    ensures { seen.new ≡ seen_in system signals text.now }
+{
+    seen.system = system;
+    seen.satellite = digits_in(&text[1..3]) as u8;
+    put_entries(text, signals, &mut seen.entries);
+}
+
+// Whether a value fits into its columns, or none stands there.
+fn is_value(value: Option<i64>) -> bool
+    ensures { IsTrue result ↔ IfSome value FitsColumns }
+{
+    match value {
+        None => true,
+        Some(v) => -999_999_999_999 <= v && v <= 9_999_999_999_999,
+    }
+}
+
+// Whether a strength is one that is written, 0.001 to 99.999 dB-Hz, or none stands there.
+fn is_strength(value: Option<i64>) -> bool
+    ensures { IsTrue result ↔ IfSome value (IsFrom (pos 1) (pos 99_999)) }
+{
+    match value {
+        None => true,
+        Some(v) => 1 <= v && v <= 99_999,
+    }
+}
+
+// Whether values and mark are those of an entry: a mark stands by a phase alone.
+fn is_entry(entry: &KeptEntry) -> bool
+    ensures { IsTrue result ↔ IsEntry entry.now }
+{
+    let c = is_value(entry.c);
+    let l = is_value(entry.l);
+    let d = is_value(entry.d);
+    let s = is_strength(entry.s);
+    let mark = entry.mark == 0 || (entry.mark < 4 && entry.l.is_some());
+    c && l && d && s && mark
+}
+
+// Whether it has a value.
+fn says(entry: &KeptEntry) -> bool
+    ensures { result ≡ says entry.now }
+{
+    entry.c.is_some() || entry.l.is_some() || entry.d.is_some() || entry.s.is_some()
+}
+
+// Whether each is an entry of a file value.
+fn are_entries(entries: &[KeptEntry]) -> bool
+    ensures { IsTrue result ↔ All IsEntry entries.now }
+{
+    entries.iter().all(|e| is_entry(e))
+}
+
+// Whether one of them has a value.
+fn say_something(entries: &[KeptEntry]) -> bool
+    ensures { IsTrue result ↔ Any (λ e. IsTrue (says e)) entries.now }
+{
+    entries.iter().any(|e| says(e))
+}
+
+// Whether a system with so many satellites, of which so many signals are planned, can have this
+// row.
+fn is_row(seen: &KeptSeen, most: u8, signals: usize) -> bool
+    ensures { IsTrue result ↔ IsRow most signals seen.now.row }
+{
+    let entries = seen.entries.as_slice();
+    1 <= seen.satellite
+        && seen.satellite <= most
+        && entries.len() == signals
+        && are_entries(entries)
+        && say_something(entries)
+}
+
+// The line without its line feed, filled up with blanks.
+fn fill(text: &[u8], signals: usize, filled: &mut Line)
+    requires short { length text.now ≤ most_line }
+    requires few { signals ≤ most_signals }
+    ensures text { (t : List ℕ) → text.now ≡ t ++ 10 ∷ [] → filled.new.items ≡ t ++ replicate (3 + signal_columns * signals - length t) 32 }
+    ensures room { 3 + signal_columns * signals ≤ array_vec_len filled.new }
+{
+    filled.clear();
+    put(filled, &text[..text.len().saturating_sub(1)]);
+    let blanks = (3 + SIGNAL_COLUMNS * signals).saturating_sub(filled.len());
+    put_times(filled, b' ', blanks);
+}
+
+// What stands for one system, and for the other.
+fn of_system(system: System, gps: usize, galileo: usize) -> usize
+    ensures { result ≡ of_system system gps galileo }
+{
+    match system {
+        System::Gps => gps,
+        System::Galileo => galileo,
+    }
+}
+
+// The system whose letter the line begins with.
+fn system_of(line: &[u8]) -> Option<System>
+    ensures { (s : System) → 0 < length line.now → slice_index line.now 0 ≡ letter_of s → result ≡ Some s }
+{
+    match line.first() {
+        Some(b'G') => Some(System::Gps),
+        Some(b'E') => Some(System::Galileo),
+        _ => None,
+    }
+}
+
+// The satellite of this system that a line shows.
+fn read_of(
+    line: &[u8],
+    again: &mut Line,
+    system: System,
+    signals: usize,
+    seen: &mut KeptSeen,
+) -> bool
+    requires short { length line.now ≤ most_line }
+    requires few { signals ≤ most_signals }
+    ensures { ReadsExactly (λ s. (s.system ≡ system) × IsRow (satellites system) signals s.row) seen_line line.now (some_if result seen.new) }
+{
+    fill(line, signals, again);
+    put_seen_in(system, again.as_slice(), signals, seen);
+    if !is_row(seen, system.satellites(), signals) {
+        return false;
+    }
+    kept_line(seen.system, seen.satellite, seen.entries.as_slice(), again);
+    is_same(again.as_slice(), line)
+}
+
+/// Reads the satellite that a line shows, where so many signals of each system are planned. Answers
+/// whether it shows one.
+pub(crate) fn read_seen(
+    line: &[u8],
+    again: &mut Line,
+    gps: usize,
+    galileo: usize,
+    seen: &mut KeptSeen,
+) -> bool
+    requires short { length line.now ≤ most_line }
+    requires few { (gps ≤ most_signals) × (galileo ≤ most_signals) }
+    ensures { ReadsExactly (IsSeen gps galileo) seen_line line.now (some_if result seen.new) }
+{
+    let system = match system_of(line) {
+        Some(system) => system,
+        None => return false,
+    };
+    let signals = of_system(system, gps, galileo);
+    if signals == 0 {
+        return false;
+    }
+    read_of(line, again, system, signals, seen)
+}

@@ -1,0 +1,82 @@
+//! Version, position and height in a header, read back; and lines that are always the same.
+ghost use Rattle.std.specs.Prelude.{◌≡◌, ◌↔◌, ◌+◌, ◌≤◌, ◌<◌, ◌^◌, ◌||◌, IsTrue, ℕ, ℤ, pos, Bool, true, IfSome, IfNone, length, take, drop, codes};
+ghost use Rattle.rinex_file.specs.FileValues.{IsCoordinate};
+ghost use Rattle.rinex_file.specs.Header.{header_line, lengths};
+ghost use Rattle.rinex_file.specs.Read.Fields.{number_in, ReadsExactly};
+ghost use Rattle.rinex_file.specs.Read.Progress.{version_with};
+
+use crate::header::labels;
+use crate::header::lines::{labelled, three_lengths, version_with};
+use crate::read::numbers::{digits_in, is_same, number_in};
+use crate::read::texts::columns;
+
+// Whether this is the first line where these systems are planned.
+fn is_version(line: &[u8], gps: bool, galileo: bool) -> bool
+    ensures { IsTrue result ↔ (line.now ≡ version_with gps galileo) }
+{
+    is_same(line, version_with(gps, galileo).as_slice())
+}
+
+/// Whether signals of GPS and of Galileo are planned, by the first line.
+pub(crate) fn read_version(line: &[u8]) -> Option<(bool, bool)>
+    ensures { ReadsExactly (λ (p : Bool × Bool). (p.0 || p.1) ≡ true) (λ (p : Bool × Bool). version_with p.0 p.1) line.now result }
+{
+    if is_version(line, true, true) {
+        return Some((true, true));
+    }
+    if is_version(line, true, false) {
+        return Some((true, false));
+    }
+    if is_version(line, false, true) {
+        return Some((false, true));
+    }
+    None
+}
+
+// The number in 14 columns of a line that begin at `from`, in 0.0001 m; None where 38 bits don't
+// hold it.
+fn coordinate_in(line: &[u8], from: usize) -> Option<i64>
+    ensures some { IfSome result (λ z. IsCoordinate z × (z ≡ number_in (take 14 (drop from line.now)))) }
+    ensures none { IfNone result (IsCoordinate (number_in (take 14 (drop from line.now))) → ⊥) }
+{
+    let length = number_in(columns(line, from, 14));
+    if length < -137_438_953_472 || length > 137_438_953_471 {
+        return None;
+    }
+    Some(length)
+}
+
+/// The position of the antenna, in 0.0001 m.
+pub(crate) fn read_position(line: &[u8]) -> Option<(i64, i64, i64)>
+    ensures { ReadsExactly (λ (p : ℤ × ℤ × ℤ). IsCoordinate p.0 × IsCoordinate p.1 × IsCoordinate p.2)
+        (λ (p : ℤ × ℤ × ℤ). header_line (lengths p.0 p.1 p.2) (codes "APPROX POSITION XYZ")) line.now result }
+{
+    let x = coordinate_in(line, 0)?;
+    let y = coordinate_in(line, 14)?;
+    let z = coordinate_in(line, 28)?;
+    let again = three_lengths(x, y, z, labels::POSITION);
+    if !is_same(line, again.as_slice()) {
+        return None;
+    }
+    Some((x, y, z))
+}
+
+/// The height of the antenna above the marker, in 0.0001 m.
+pub(crate) fn read_delta(line: &[u8]) -> Option<u16>
+    ensures { ReadsExactly (λ h. h < 2 ^ 16) (λ h. header_line (lengths (pos h) (pos 0) (pos 0)) (codes "ANTENNA: DELTA H/E/N")) line.now result }
+{
+    let height = u16::try_from(digits_in(columns(line, 0, 14))).ok()?;
+    let again = three_lengths(height as i64, 0, 0, labels::DELTA);
+    if !is_same(line, again.as_slice()) {
+        return None;
+    }
+    Some(height)
+}
+
+/// Whether the line has this content and this label.
+pub(crate) fn is_header_line(line: &[u8], content: &[u8], label: &[u8]) -> bool
+    requires { length content.now + length label.now ≤ 1000 }
+    ensures { IsTrue result ↔ (line.now ≡ header_line content.now label.now) }
+{
+    is_same(line, labelled(content, label).as_slice())
+}

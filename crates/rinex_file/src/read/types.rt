@@ -1,0 +1,141 @@
+//! The observation types in a header, read back.
+ghost use Rattle.std.specs.Prelude.{◌≡◌, ◌≤◌, ◌<◌, ◌+◌, ◌↔◌, ◌++◌, ◌∷◌, [], ◌==◌, ℕ, List, take, drop, length, nat_eq, true, IfSome, IfNone, OnOk, Err, Some};
+ghost use Rattle.std.specs.List.{list_any};
+ghost use Rattle.gnss_obs.specs.Signals.{SignalAt, IsSignal, table, code_of};
+ghost use Rattle.obs_epoch.specs.Signals.{indices, IsOf};
+ghost use Rattle.rinex_file.specs.Header.{type_rows};
+ghost use Rattle.rinex_file.specs.Read.Progress.{AreTypes, types_line, begun};
+
+use crate::header::labels;
+use crate::header::types::put_row;
+use crate::read::due::Refusal;
+use crate::read::numbers::digits_in;
+use crate::read::station::is_header_line;
+use crate::write::numbers::Line;
+use gnss_obs::{Signal, System};
+
+/// So many signals of a system are planned, by its first line of types.
+pub(crate) fn read_count(line: &[u8], system: System) -> Option<usize>
+    ensures some { IfSome result (λ n. (1 ≤ n) × (n ≤ length (table system))) }
+    ensures count { (all : List ℕ) → AreTypes system all → line.now ≡ types_line system all 0 → result ≡ Some (length all) }
+{
+    let types = digits_in(line.get(3..6)?);
+    let count = types as usize / 4;
+    if count == 0 || count > system.signals() {
+        return None;
+    }
+    Some(count)
+}
+
+/// Takes the signals whose types begin in a line, behind those of the lines before, where so many
+/// are planned.
+pub(crate) fn read_types(
+    signals: &mut Vec<Signal>,
+    system: System,
+    count: usize,
+    row: usize,
+    line: &[u8],
+    again: &mut Line,
+) -> Result<(), Refusal>
+    requires count { count ≤ length (table system) }
+    requires row { row < type_rows count }
+    requires signals { IsOf system signals.old.items }
+    ensures signals { IsOf system signals.new.items }
+    ensures grows { OnOk result (take (length signals.old.items) signals.new.items ≡ signals.old.items) }
+    ensures taken { OnOk result ((all : List ℕ) → AreTypes system all → length all ≡ count → indices signals.old.items ≡ take (begun row) all
+        → (line.now ≡ types_line system all row) ↔ (indices signals.new.items ≡ take (begun (row + 1)) all)) }
+    ensures bad { result ≡ Err Refusal.Bad → (all : List ℕ) → AreTypes system all → length all ≡ count → indices signals.old.items ≡ take (begun row) all
+        → line.now ≡ types_line system all row → ⊥ }
+{
+    take_signals(signals, system, count, row, line)?;
+    again.clear();
+    put_row(again, system, count, signals.as_slice(), row);
+    if is_header_line(line, again.as_slice(), labels::TYPES) {
+        Ok(())
+    } else {
+        Err(Refusal::Bad)
+    }
+}
+
+// Takes the signals of the codes that stand in a line of types behind a `C`, the letter of a
+// signal's first type.
+fn take_signals(
+    signals: &mut Vec<Signal>,
+    system: System,
+    count: usize,
+    row: usize,
+    line: &[u8],
+) -> Result<(), Refusal>
+    requires count { count ≤ length (table system) }
+    requires row { row < type_rows count }
+    requires signals { IsOf system signals.old.items }
+    ensures signals { IsOf system signals.new.items }
+    ensures grows { OnOk result (take (length signals.old.items) signals.new.items ≡ signals.old.items) }
+    ensures taken { OnOk result ((all : List ℕ) → AreTypes system all → length all ≡ count → indices signals.old.items ≡ take (begun row) all
+        → line.now ≡ types_line system all row → indices signals.new.items ≡ take (begun (row + 1)) all) }
+    ensures bad { result ≡ Err Refusal.Bad → (all : List ℕ) → AreTypes system all → length all ≡ count → indices signals.old.items ≡ take (begun row) all
+        → line.now ≡ types_line system all row → ⊥ }
+{
+    let end = begun(row + 1).min(count);
+    for place in begun(row)..end {
+        let column = 6 + 4 * (4 * place - 13 * row) + 2;
+        take_signal(signals, system, line, column)?;
+    }
+    Ok(())
+}
+
+/// So many signals begin in the lines in front of one.
+pub(crate) fn begun(row: usize) -> usize
+    requires { row ≤ 6 }
+    ensures { result ≡ begun row }
+{
+    (13 * row + 3) / 4
+}
+
+// Takes the signal whose code stands at a column, counted from 0.
+fn take_signal(
+    signals: &mut Vec<Signal>,
+    system: System,
+    line: &[u8],
+    column: usize,
+) -> Result<(), Refusal>
+    requires column { column ≤ 100 }
+    requires signals { IsOf system signals.old.items }
+    ensures signals { IsOf system signals.new.items }
+    ensures grows { OnOk result (take (length signals.old.items) signals.new.items ≡ signals.old.items) }
+    ensures taken { OnOk result ((s : SignalAt) → IsSignal s → s.system ≡ system → take 2 (drop column line.now) ≡ code_of s
+        → signals.new.items ≡ signals.old.items ++ s ∷ []) }
+    ensures bad { result ≡ Err Refusal.Bad → (s : SignalAt) → IsSignal s → s.system ≡ system → take 2 (drop column line.now) ≡ code_of s
+        → list_any (λ r. s.index == r.index) signals.old.items ≡ true }
+{
+    let Some(signal) = signal_in(line, system, column) else {
+        return Err(Refusal::Bad);
+    };
+    if has_signal(signals.as_slice(), signal.index()) {
+        return Err(Refusal::Bad);
+    }
+    match signals.push(signal) {
+        Ok(()) => Ok(()),
+        Err(_) => Err(Refusal::Memory),
+    }
+}
+
+// Whether the signal of this place in its table is among these.
+fn has_signal(signals: &[Signal], index: usize) -> bool
+    ensures { result ≡ list_any (λ s. index == s.index) signals.now }
+{
+    signals.iter().any(|s| index == s.index())
+}
+
+// The signal whose code stands at a column, counted from 0.
+fn signal_in(line: &[u8], system: System, column: usize) -> Option<Signal>
+    requires { column ≤ 100 }
+    ensures system { IfSome result (λ s. (s.system ≡ system) × IsSignal s) }
+    ensures read { (s : SignalAt) → IsSignal s → s.system ≡ system → take 2 (drop column line.now) ≡ code_of s → result ≡ Some s }
+{
+    let code = line.get(column..column + 2)?;
+    match str::from_utf8(code) {
+        Ok(code) => Signal::from_code(system, code),
+        Err(_) => None,
+    }
+}

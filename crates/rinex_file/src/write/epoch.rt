@@ -1,0 +1,39 @@
+//! Epoch lines: RINEX 3.05, table A3, "EPOCH record".
+ghost use Rattle.std.specs.Prelude.{◌≡◌, ℕ, [], length};
+ghost use Rattle.arrayvec.specs.ArrayVec.{array_vec_len};
+ghost use Rattle.obs_epoch.specs.Dates.{civil_of};
+ghost use Rattle.rinex_file.specs.Lines.{epoch_line};
+
+use crate::write::numbers::{Line, put, put_digits, put_seconds, put_whole};
+use obs_epoch::{Civil, GpsTime};
+
+// The line of an epoch at a date and time of day.
+fn put_epoch(line: &mut Line, civil: &Civil, satellites: usize)
+    requires { line.old.items ≡ [] }
+    ensures { line.new.items ≡ epoch_line civil.now satellites }
+{
+    put(line, b"> ");
+    put_whole(line, 4, civil.year as u64);
+    put(line, b" ");
+    put_digits(line, 2, civil.month as u64);
+    put(line, b" ");
+    put_digits(line, 2, civil.day as u64);
+    put(line, b" ");
+    put_digits(line, 2, civil.hour as u64);
+    put(line, b" ");
+    put_digits(line, 2, civil.minute as u64);
+    put_seconds(line, 11, civil.millisecond);
+    put(line, b"  0");
+    put_whole(line, 3, satellites as u64);
+    put(line, b"\n");
+}
+
+/// The line that an epoch begins with, in place of what the buffer holds: date and time of day, the
+/// flag 0 and the number of its satellites, which has three columns.
+pub fn epoch_line(time: GpsTime, satellites: usize, line: &mut Line)
+    ensures { line.new.items ≡ epoch_line (civil_of time) satellites }
+{
+    let civil = time.civil();
+    line.clear();
+    put_epoch(line, &civil, satellites);
+}

@@ -1,0 +1,143 @@
+//! Numbers of stated width, as they stand in the columns of a line.
+ghost use Rattle.std.specs.Prelude.{◌≡◌, ◌+◌, ◌^◌, ◌≤◌, ◌*◌, ◌++◌, ℕ, pos, replicate, decimal, length};
+ghost use Rattle.rinex_file.specs.Numbers.{fixed, padded, left, right};
+ghost use Rattle.arrayvec.specs.ArrayVec.{array_vec_len};
+ghost use Rattle.rinex_file.specs.Limits.{most_line};
+
+use arrayvec::ArrayVec;
+use itoa::Buffer;
+
+/// So many columns has a value: F14.3, and the loss-of-lock and the strength column behind it.
+pub(crate) const VALUE_COLUMNS: usize = 16;
+
+/// So many columns has a signal: pseudorange, phase, Doppler shift and strength.
+pub(crate) const SIGNAL_COLUMNS: usize = 64;
+
+/// So many signals has a system at most: those of Galileo.
+pub(crate) const MOST_SIGNALS: usize = 19;
+
+/// So many bytes has a line at most, its line feed included: three columns for a satellite, and
+/// those of its signals.
+pub(crate) const MOST_LINE: usize = 1220;
+
+/// A line of a file, its line feed included.
+pub type Line = ArrayVec<u8, MOST_LINE>;
+
+/// Appends the bytes.
+pub(crate) fn put<const N: usize>(line: &mut ArrayVec<u8, N>, bytes: &[u8])
+    requires { array_vec_len line.old + length bytes.now ≤ N }
+    ensures text { line.new.items ≡ line.old.items ++ bytes.now }
+    ensures size { array_vec_len line.new ≡ array_vec_len line.old + length bytes.now }
+{
+    let _ = line.try_extend_from_slice(bytes);
+}
+
+/// Appends a byte so many times.
+pub(crate) fn put_times<const N: usize>(line: &mut ArrayVec<u8, N>, byte: u8, count: usize)
+    requires { array_vec_len line.old + count ≤ N }
+    ensures { line.new.items ≡ line.old.items ++ replicate count byte }
+{
+    for _ in 0..count {
+        line.push(byte);
+    }
+}
+
+/// Appends a number with zeros in front, up to so many digits.
+pub(crate) fn put_padded<const N: usize>(line: &mut ArrayVec<u8, N>, places: usize, number: u64)
+    requires { array_vec_len line.old + length (padded places number) ≤ N }
+    ensures { line.new.items ≡ line.old.items ++ padded places number }
+{
+    let mut buffer = Buffer::new();
+    let digits = buffer.format(number).as_bytes();
+    put_times(line, b'0', places.saturating_sub(digits.len()));
+    put(line, digits);
+}
+
+/// Appends a text left in its columns.
+pub(crate) fn put_left(line: &mut Line, width: usize, text: &[u8])
+    requires room { array_vec_len line.old + width + length text.now ≤ most_line }
+    ensures text { line.new.items ≡ line.old.items ++ left width text.now }
+    ensures size { array_vec_len line.new ≤ array_vec_len line.old + width + length text.now }
+{
+    put(line, text);
+    put_times(line, b' ', width.saturating_sub(text.len()));
+}
+
+/// Appends a text right in its columns.
+fn put_right(line: &mut Line, width: usize, text: &[u8])
+    requires room { array_vec_len line.old + width + length text.now ≤ most_line }
+    ensures text { line.new.items ≡ line.old.items ++ right width text.now }
+    ensures size { array_vec_len line.new ≤ array_vec_len line.old + width + length text.now }
+{
+    put_times(line, b' ', width.saturating_sub(text.len()));
+    put(line, text);
+}
+
+/// Appends a whole number right in its columns.
+pub(crate) fn put_whole(line: &mut Line, width: usize, number: u64)
+    requires width { width ≤ 20 }
+    requires room { array_vec_len line.old + 60 ≤ most_line }
+    ensures text { line.new.items ≡ line.old.items ++ right width (decimal number) }
+    ensures size { array_vec_len line.new ≤ array_vec_len line.old + 60 }
+{
+    let mut buffer = Buffer::new();
+    let digits = buffer.format(number).as_bytes();
+    put_right(line, width, digits);
+}
+
+/// Appends a number with zeros in front, up to so many digits.
+pub(crate) fn put_digits(line: &mut Line, places: usize, number: u64)
+    requires places { places ≤ 20 }
+    requires room { array_vec_len line.old + 60 ≤ most_line }
+    ensures text { line.new.items ≡ line.old.items ++ padded places number }
+    ensures size { array_vec_len line.new ≤ array_vec_len line.old + 60 }
+{
+    put_padded(line, places, number);
+}
+
+/// A number of 10 to the minus `places`.
+pub(crate) fn fixed_text(places: usize, scale: u64, value: i64) -> ArrayVec<u8, 64>
+    requires places { places ≤ 20 }
+    requires scale { scale ≡ 10 ^ places }
+    ensures { result.items ≡ fixed places value }
+{
+    let size = value.unsigned_abs();
+    let mut text = ArrayVec::new();
+    if value < 0 {
+        text.push(b'-');
+    }
+    let mut buffer = Buffer::new();
+    put(&mut text, buffer.format(size / scale).as_bytes());
+    text.push(b'.');
+    put_padded(&mut text, places, size % scale);
+    text
+}
+
+/// Appends a number of 10 to the minus `places` right in its columns.
+pub(crate) fn put_fixed(line: &mut Line, width: usize, places: usize, scale: u64, value: i64)
+    requires width { width ≤ 20 }
+    requires room { array_vec_len line.old + 84 ≤ most_line }
+    requires places { places ≤ 20 }
+    requires scale { scale ≡ 10 ^ places }
+    ensures text { line.new.items ≡ line.old.items ++ right width (fixed places value) }
+    ensures size { array_vec_len line.new ≤ array_vec_len line.old + 84 }
+{
+    let text = fixed_text(places, scale, value);
+    put_right(line, width, text.as_slice());
+}
+
+/// Appends seconds with seven decimals right in their columns.
+pub(crate) fn put_seconds(line: &mut Line, width: usize, milliseconds: u16)
+    requires width { width ≤ 20 }
+    requires room { array_vec_len line.old + 84 ≤ most_line }
+    ensures text { line.new.items ≡ line.old.items ++ right width (fixed 7 (pos (milliseconds * 10_000))) }
+    ensures size { array_vec_len line.new ≤ array_vec_len line.old + 84 }
+{
+    put_fixed(
+        line,
+        width,
+        7,
+        10_000_000,
+        (milliseconds as u64 * 10_000) as i64,
+    );
+}
