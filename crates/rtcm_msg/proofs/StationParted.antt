@@ -40,7 +40,7 @@ unfolding station_at parts_at
 station_parted has c =
     parted (take 6 station_table) (drop 6 station_table) c whole
     ∙ (same_behind (take 6 station_table) c (λ a. reading (drop 6 station_table) a.1 (λ b. whole (both (take 6 station_table) (drop 6 station_table) a.0 b.0, b.1))) (λ a. first (heading_of a.0, a.1)) each
-      ∙ behind_all (take 6 station_table) c (λ a. Ok (heading_of a.0, a.1)) first)
+    ∙ behind_all (take 6 station_table) c (λ a. Ok (heading_of a.0, a.1)) first)
   where
     whole : Contents station_table × Cursor → Result (StationParts × Cursor) MsgFault
     whole s = height_at has s.1 >>= λ h. Ok (station_parts s.0 h.0, h.1)
