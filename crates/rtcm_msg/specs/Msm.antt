@@ -131,8 +131,12 @@ abbrev pub header_of : ℕ → ℕ → Contents header_table → MsmHeader
 header_of station time (more, (iods, (reserved, (steering, (clock, (smoothing, (interval, end))))))) =
     record { station = station; time = time; more = more; iods = iods; steering = steering; clock = clock; smoothing = smoothing; interval = interval }
 
+-- the header of this station and time
+abbrev pub behind_time_at : ℕ → ℕ → Cursor → Result (MsmHeader × Cursor) MsgFault
+behind_time_at station time c = reading header_table c (λ m. Ok (header_of station time m.0, m.1))
+
 unfoldable pub header_at : Cursor → Result (MsmHeader × Cursor) MsgFault
-header_at c = reading time_table c (λ n. timely n.0.1.0 n.1 >>= λ time. reading header_table time.1 (λ m. Ok (header_of n.0.0 time.0 m.0, m.1)))
+header_at c = reading time_table c (λ n. timely n.0.1.0 n.1 >>= λ time. behind_time_at n.0.0 time.0 time.1)
 
 -- the pairs are counted as soon as both masks were read
 abbrev pub sets_behind : ℕ → ℕ → Cursor → Result (Sets × Cursor) MsgFault

@@ -1,7 +1,7 @@
-ghost use Rattle.std.specs.Prelude.{◌≡◌, ◌<◌, IfOk, IfNone};
+ghost use Rattle.std.specs.Prelude.{◌≡◌, ◌^◌, ◌<◌, IfOk, IfNone};
 ghost use Rattle.rtcm_msg.specs.Fields.{Gives};
 ghost use Rattle.rtcm_msg.specs.Refusals.{header_fault};
-ghost use Rattle.rtcm_msg.specs.Msm.{header_at, IsHeader};
+ghost use Rattle.rtcm_msg.specs.Msm.{behind_time_at, header_at, IsHeader, week};
 
 use crate::fault::{Field, MsgFault};
 use crate::field::field;
@@ -43,6 +43,16 @@ pub(crate) fn read_header(reader: &mut BitReader) -> Result<MsmHeader, MsgFault>
     if time >= WEEK {
         return Err(MsgFault::BadTime);
     }
+    read_behind_time(reader, station, time)
+}
+
+// Reads what stands behind the time.
+fn read_behind_time(reader: &mut BitReader, station: u16, time: u32) -> Result<MsmHeader, MsgFault>
+    requires station { station < 2 ^ 12 }
+    requires time { time < week }
+    ensures read { Gives (λ h. (h, reader.new)) result (behind_time_at station time reader.old) }
+    ensures is_header { IfOk result IsHeader }
+{
     let more = field(reader, 1)? == 1;
     let iods = field(reader, 3)? as u8;
     let _reserved = field(reader, 7)?;
