@@ -1,5 +1,5 @@
 -- Lines that went out, and a part of them.
-use Rattle.std.proofs.Common.{arith, ◌≡◌, ◌∙◌, sym, ap, refl, subst, ℕ, zero, suc, ◌+◌, ◌-◌, ◌≤◌, List, [], ◌∷◌, ◌++◌, length, append_assoc, append-nil, length-append, Option, Bool, true, false, Result, Ok, Err, OnOk, OnErr}
+use Rattle.std.proofs.Common.{arith, ◌≡◌, ◌∙◌, sym, ap, refl, subst, ℕ, zero, suc, ◌+◌, ◌-◌, ◌≤◌, List, [], ◌∷◌, ◌++◌, length, append_assoc, append-nil, length-append, Option, Bool, true, false, Result, Ok, Err, OnErr}
 use Rattle.std.specs.Prelude.{map, filter, if◌then◌else◌}
 use Rattle.std.specs.Io.KnownBytes.{Appends}
 use Rattle.std.proofs.KnownBytes.{Appends-trans, Appends-nil}
@@ -164,12 +164,8 @@ epoch_parts p e =
     ∙ ap (λ l. epoch_line (civil_of e.time) (satellites e) ++ joined l) (map-append seen_line (rows_of p e Gps) (rows_of p e Galileo))
     ∙ ap (λ l. epoch_line (civil_of e.time) (satellites e) ++ l) (joined-append (map seen_line (rows_of p e Gps)) (map seen_line (rows_of p e Galileo)))
 
--- ---- what a result tells
+-- ---- a call that failed says this
 
-pub on_ok : {A E : Type 0} (P Q : Type 0) (r : Result A E) → (P → Q) → OnOk r P → OnOk r Q
-on_ok P Q (Ok x) f h = f h
-on_ok P Q (Err e) f h = tt
-
-pub on_err : {A E : Type 0} (P Q : Type 0) (r : Result A E) → (P → Q) → OnErr r P → OnErr r Q
-on_err P Q (Ok x) f h = tt
-on_err P Q (Err e) f h = f h
+pub where_failed : {A E : Type 0} (r : Result A E) (P : Type 0) → P → OnErr r P
+where_failed (Ok x) P p = tt
+where_failed (Err e) P p = p

@@ -1,6 +1,8 @@
 //! What can be wrong with a header or with writing.
 ghost use Rattle.std.specs.Prelude.{◌≡◌};
+ghost use Rattle.rinex_file.specs.declared.fault.HeadFault.TheVariants as faults;
 
+use rtcm_bits::DeviceFailed;
 use thiserror::Error;
 
 /// A text of the header that is handed in.
@@ -42,6 +44,14 @@ pub enum HeadFault {
     /// The writer failed.
     #[error("the writer failed")]
     Write,
+}
+
+impl From<DeviceFailed> for HeadFault {
+    ghost from_gives = { λ _ fault. fault ≡ faults.Write };
+
+    fn from(_failed: DeviceFailed) -> HeadFault {
+        HeadFault::Write
+    }
 }
 
 impl HeaderField {

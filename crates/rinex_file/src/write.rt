@@ -1,7 +1,7 @@
 //! Writing a file, one line at a time.
 ghost use Rattle.std.specs.Prelude.{◌≡◌, ◌+◌, ◌<◌, ◌≤◌, drop, length, OnOk, OnErr, IfErr};
 ghost use Rattle.std.specs.Io.KnownBytes.{Appends};
-ghost use Rattle.rtcm_bits.specs.Device.{AppendsPrefix, HasFailed};
+ghost use Rattle.rtcm_bits.specs.Device.{AppendsPrefix, FailsWith};
 ghost use Rattle.obs_epoch.specs.Values.{AreHeld, cells_of, has_value, is_written};
 ghost use Rattle.gnss_obs.specs.Satellites.{satellites};
 ghost use Rattle.rinex_file.specs.File.{header_text, event_text, epoch_text, line_among, lines_up_to};
@@ -15,7 +15,7 @@ use crate::numbers::Line;
 use crate::satellite::put_seen;
 use gnss_obs::System;
 use obs_epoch::{Cell, Epoch, Plan, StationValues, end_of};
-use rtcm_bits::Counted;
+use rtcm_bits::{Counted, DeviceFailed};
 use std::io::Write;
 
 /// Writes a header, line by line.
@@ -28,15 +28,10 @@ pub fn write_header<W: Write>(head: &Head, writer: &mut Counted<W>) -> Result<()
     ensures part { OnErr result (AppendsPrefix (W.contents writer.old.inner) (W.contents writer.new.inner)
         (header_text head.now.texts.now head.now.plan.now head.now.values head.now.first)) }
     ensures only { IfErr result (λ fault. fault ≡ HeadFault.Write) }
-    ensures failed { OnErr result (HasFailed writer.old.failures writer.new.failures) }
-    ensures fine { OnOk result (writer.new.failures ≡ writer.old.failures) }
-    ensures widest { writer.new.widest ≡ writer.old.widest }
+    ensures device { FailsWith result writer.old writer.new }
 {
     for line in header_lines(head) {
-        match writer.write_whole(line.as_slice()) {
-            Ok(()) => {}
-            Err(_) => return Err(HeadFault::Write),
-        }
+        writer.write_whole(line.as_slice())?;
     }
     Ok(())
 }
@@ -52,22 +47,12 @@ pub fn write_event<W: Write>(
     ensures whole { OnOk result (Appends (W.contents writer.old.inner) (W.contents writer.new.inner) (event_text values)) }
     ensures part { OnErr result (AppendsPrefix (W.contents writer.old.inner) (W.contents writer.new.inner) (event_text values)) }
     ensures only { IfErr result (λ fault. fault ≡ HeadFault.Write) }
-    ensures failed { OnErr result (HasFailed writer.old.failures writer.new.failures) }
-    ensures fine { OnOk result (writer.new.failures ≡ writer.old.failures) }
-    ensures widest { writer.new.widest ≡ writer.old.widest }
+    ensures device { FailsWith result writer.old writer.new }
 {
-    match writer.write_whole(event_line()) {
-        Ok(()) => {}
-        Err(_) => return Err(HeadFault::Write),
-    }
-    match writer.write_whole(position_line(&values).as_slice()) {
-        Ok(()) => {}
-        Err(_) => return Err(HeadFault::Write),
-    }
-    match writer.write_whole(delta_line(&values).as_slice()) {
-        Ok(()) => Ok(()),
-        Err(_) => Err(HeadFault::Write),
-    }
+    writer.write_whole(event_line())?;
+    writer.write_whole(position_line(&values).as_slice())?;
+    writer.write_whole(delta_line(&values).as_slice())?;
+    Ok(())
 }
 
 // Whether a cell has a value.
@@ -94,25 +79,19 @@ fn write_satellite<W: Write>(
     id: u8,
     line: &mut Line,
     writer: &mut Counted<W>,
-) -> Result<(), HeadFault>
+) -> Result<(), DeviceFailed>
     requires held { AreHeld system cells.now }
     requires id { id < 100 }
     ensures whole { OnOk result (Appends (W.contents writer.old.inner) (W.contents writer.new.inner) (line_among plan.now system cells.now id)) }
     ensures part { OnErr result (AppendsPrefix (W.contents writer.old.inner) (W.contents writer.new.inner) (line_among plan.now system cells.now id)) }
-    ensures only { IfErr result (λ fault. fault ≡ HeadFault.Write) }
-    ensures failed { OnErr result (HasFailed writer.old.failures writer.new.failures) }
-    ensures fine { OnOk result (writer.new.failures ≡ writer.old.failures) }
-    ensures widest { writer.new.widest ≡ writer.old.widest }
+    ensures device { FailsWith result writer.old writer.new }
 {
     if !is_written(cells, id) {
         return Ok(());
     }
     line.clear();
     put_seen(line, cells, plan, system, id);
-    match writer.write_whole(line.as_slice()) {
-        Ok(()) => Ok(()),
-        Err(_) => Err(HeadFault::Write),
-    }
+    writer.write_whole(line.as_slice())
 }
 
 // Writes the lines of a system's satellites.
@@ -122,22 +101,16 @@ fn write_system<W: Write>(
     system: System,
     line: &mut Line,
     writer: &mut Counted<W>,
-) -> Result<(), HeadFault>
+) -> Result<(), DeviceFailed>
     ensures whole { OnOk result (Appends (W.contents writer.old.inner) (W.contents writer.new.inner) (lines_up_to plan.now epoch.now.epoch system (satellites system))) }
     ensures part { OnErr result (AppendsPrefix (W.contents writer.old.inner) (W.contents writer.new.inner) (lines_up_to plan.now epoch.now.epoch system (satellites system))) }
-    ensures only { IfErr result (λ fault. fault ≡ HeadFault.Write) }
-    ensures failed { OnErr result (HasFailed writer.old.failures writer.new.failures) }
-    ensures fine { OnOk result (writer.new.failures ≡ writer.old.failures) }
-    ensures widest { writer.new.widest ≡ writer.old.widest }
+    ensures device { FailsWith result writer.old writer.new }
 {
     let cells = epoch.cells(system);
     let mut from = 0;
     for before in 0..system.satellites() {
         let to = end_of(cells, from, before + 1);
-        match write_satellite(&cells[from..to], plan, system, before + 1, line, writer) {
-            Ok(()) => {}
-            Err(fault) => return Err(fault),
-        }
+        write_satellite(&cells[from..to], plan, system, before + 1, line, writer)?;
         from = to;
     }
     Ok(())
@@ -155,19 +128,12 @@ pub fn write_epoch<W: Write>(
     ensures whole { OnOk result (Appends (W.contents writer.old.inner) (W.contents writer.new.inner) (epoch_text plan.now epoch.now.epoch)) }
     ensures part { OnErr result (AppendsPrefix (W.contents writer.old.inner) (W.contents writer.new.inner) (epoch_text plan.now epoch.now.epoch)) }
     ensures only { IfErr result (λ fault. fault ≡ HeadFault.Write) }
-    ensures failed { OnErr result (HasFailed writer.old.failures writer.new.failures) }
-    ensures fine { OnOk result (writer.new.failures ≡ writer.old.failures) }
-    ensures widest { writer.new.widest ≡ writer.old.widest }
+    ensures device { FailsWith result writer.old writer.new }
 {
     let mut line = Line::new();
     epoch_line(epoch.time(), epoch.satellites(), &mut line);
-    match writer.write_whole(line.as_slice()) {
-        Ok(()) => {}
-        Err(_) => return Err(HeadFault::Write),
-    }
-    match write_system(epoch, plan, System::Gps, &mut line, writer) {
-        Ok(()) => {}
-        Err(fault) => return Err(fault),
-    }
-    write_system(epoch, plan, System::Galileo, &mut line, writer)
+    writer.write_whole(line.as_slice())?;
+    write_system(epoch, plan, System::Gps, &mut line, writer)?;
+    write_system(epoch, plan, System::Galileo, &mut line, writer)?;
+    Ok(())
 }

@@ -1,10 +1,12 @@
 use Rattle.std.proofs.Common.{◌∙◌, sym, ap, subst, refl, [], ◌++◌, append_assoc, append-nil}
 use Rattle.std.specs.Io.KnownBytes.{Appends}
+use Rattle.std.proofs.lemmas.Result.{err_from_is_err_and}
 use Rattle.std.proofs.KnownBytes.{Appends-nil, Appends-trans}
 use Rattle.rtcm_bits.specs.Device.{AppendsPrefix, HasFailed}
 use Rattle.rinex_file.specs.Numbers.{joined}
 use Rattle.rinex_file.specs.File.{header_text}
-use Rattle.rinex_file.proofs.Sent.{part_behind}
+use Rattle.rinex_file.proofs.Appended.{failed}
+use Rattle.rinex_file.proofs.Sent.{part_behind, where_failed}
 use Rattle.rinex_file.proofs.write.write_header.Goals as goal
 
 pub loop-line-init : goal.loop-line-init
@@ -22,16 +24,16 @@ loop-line-preserved g c =
     let a = contents c.args.writer.now.inner in
     let b = contents c.loop-line.writer.inner in
     let d = contents c.write_whole.new.self.inner in
-    let whole = subst (λ l. Appends b d l) c.as_slice.ensures.value c.in-Ok.ensures.whole in (
+    let whole = subst (λ l. Appends b d l) c.as_slice.ensures.value c.in_ok-write_whole.ensures.whole in (
       tt,
       tt,
       (done ++ line, text ∙ ap (λ l. done ++ joined l) c.in-Some.ensures.steps ∙ sym (append_assoc done line rest), Appends-trans a b d done line out whole),
-      c.in-Ok.ensures.fine ∙ fine,
-      c.in-Ok.ensures.widest ∙ widest,
+      c.in_ok-write_whole.ensures.device.1 ∙ fine,
+      c.in_ok-write_whole.ensures.device.2 ∙ widest,
     )
 
-pub returns-in-Err-clause-part : goal.returns-in-Err-clause-part
-returns-in-Err-clause-part g c =
+pub returns-in_err-write_whole-clause-part : goal.returns-in_err-write_whole-clause-part
+returns-in_err-write_whole-clause-part g c =
     let contents = g.W.Write.contents in
     let h = c.args.head.now in
     let (can, ends, (done, text, out), fine, widest) = c.loop-line.invariant in
@@ -39,13 +41,15 @@ returns-in-Err-clause-part g c =
     let a = contents c.args.writer.now.inner in
     let b = contents c.loop-line.writer.inner in
     let d = contents c.write_whole.new.self.inner in
-    part_behind a b d (header_text h.texts.now h.plan.now h.values h.first) done line (joined c.next.new.self)
-    (text ∙ ap (λ l. done ++ joined l) c.in-Some.ensures.steps) out (subst (λ l. AppendsPrefix b d l) c.as_slice.ensures.value c.in-Err.ensures.part)
+    where_failed c.from_residual.result _
+    (part_behind a b d (header_text h.texts.now h.plan.now h.values h.first) done line (joined c.next.new.self)
+    (text ∙ ap (λ l. done ++ joined l) c.in-Some.ensures.steps) out (subst (λ l. AppendsPrefix b d l) c.as_slice.ensures.value c.in_err-write_whole.ensures.part))
 
-pub returns-in-Err-clause-failed : goal.returns-in-Err-clause-failed
-returns-in-Err-clause-failed g c =
+pub returns-in_err-write_whole-clause-device : goal.returns-in_err-write_whole-clause-device
+returns-in_err-write_whole-clause-device g c =
     let (can, ends, out, fine, widest) = c.loop-line.invariant in
-    subst (λ n. HasFailed n c.write_whole.new.self.failures) fine c.in-Err.ensures.failed
+    let told = err_from_is_err_and c.from_residual.result c.from_residual.ensures.1 in
+    rw told.1 (subst (λ n. HasFailed n c.write_whole.new.self.failures) fine c.in_err-write_whole.ensures.device.0, tt, c.in_err-write_whole.ensures.device.2 ∙ widest)
 
 pub returns-clause-whole : goal.returns-clause-whole
 returns-clause-whole g c =
@@ -54,3 +58,6 @@ returns-clause-whole g c =
     let a = contents c.args.writer.now.inner in
     let b = contents c.loop-line.writer.inner in
     subst (λ l. Appends a b l) (sym (text ∙ ap (λ l. done ++ joined l) c.in-None.ensures.steps.0 ∙ append-nil done)) out
+
+pub returns-in_err-write_whole-clause-whole : goal.returns-in_err-write_whole-clause-whole
+returns-in_err-write_whole-clause-whole g c = failed _ c.from_residual.result _ c.from_residual.ensures.1

@@ -6,7 +6,7 @@ use Rattle.rtcm_bits.specs.Device.{AppendsPrefix}
 use Rattle.obs_epoch.specs.Values.{cells_of}
 use Rattle.obs_epoch.proofs.GroupLemmas.{left_all, further, sorted_climbs}
 use Rattle.rinex_file.proofs.Groups.{same_line}
-use Rattle.rinex_file.proofs.Sent.{no_lines, grown_lines, part_lines}
+use Rattle.rinex_file.proofs.Sent.{no_lines, grown_lines, part_lines, where_failed}
 use Rattle.rinex_file.proofs.write.write_system.Goals as goal
 
 pub loop-before-init : goal.loop-before-init
@@ -32,14 +32,14 @@ loop-before-preserved g c =
     let d = contents c.write_satellite.new.writer.inner in
     record {
       out = grown_lines (contents c.args.writer.now.inner) (contents c.loop-before.writer.inner) (contents c.write_satellite.new.writer.inner) c.args.plan.now c.args.epoch.now.epoch c.args.system n (n + 1) next
-          inv.out (subst (λ l. Appends b d l) line c.in-Ok.ensures.whole);
-      fine = c.in-Ok.ensures.fine ∙ inv.fine;
+          inv.out (subst (λ l. Appends b d l) line c.in_ok-write_satellite.ensures.whole);
+      fine = c.in_ok-write_satellite.ensures.device.1 ∙ inv.fine;
       left = part.left;
-      widest = c.in-Ok.ensures.widest ∙ inv.widest;
+      widest = c.in_ok-write_satellite.ensures.device.2 ∙ inv.widest;
     }
 
-pub returns-in-Err-clause-part : goal.returns-in-Err-clause-part
-returns-in-Err-clause-part g c =
+pub returns-in_err-write_satellite-clause-part : goal.returns-in_err-write_satellite-clause-part
+returns-in_err-write_satellite-clause-part g c =
     let contents = g.W.Write.contents in
     let n = c.loop-before.before in
     let next : n + 1 ≡ suc n = omega arith in
@@ -49,5 +49,6 @@ returns-in-Err-clause-part g c =
     let line = same_line c.args.plan.now c.args.system cells (cells_of c.args.system c.args.epoch.now.epoch) (n + 1) _ part.group c.cells-cells.ensures.cells in
     let b = contents c.loop-before.writer.inner in
     let d = contents c.write_satellite.new.writer.inner in
-    part_lines (contents c.args.writer.now.inner) (contents c.loop-before.writer.inner) (contents c.write_satellite.new.writer.inner) c.args.plan.now c.args.epoch.now.epoch c.args.system n (n + 1)
-    (satellites c.args.system) next within c.loop-before.invariant.out (subst (λ l. AppendsPrefix b d l) line c.in-Err.ensures.part)
+    where_failed c.from_residual.result _
+    (part_lines (contents c.args.writer.now.inner) (contents c.loop-before.writer.inner) (contents c.write_satellite.new.writer.inner) c.args.plan.now c.args.epoch.now.epoch c.args.system n (n + 1)
+    (satellites c.args.system) next within c.loop-before.invariant.out (subst (λ l. AppendsPrefix b d l) line c.in_err-write_satellite.ensures.part))
