@@ -209,10 +209,10 @@ impl Converter {
         let mut buffer = [0u8; 1029];
         let piece = &mut buffer[..room];
         match reader.read(piece) {
-            Ok(n) => {
-                self.feed(&piece[..n], writer)?;
-                Ok(n)
-            }
+            Ok(n) => match self.feed(&piece[..n], writer) {
+                Ok(()) => Ok(n),
+                Err(fault) => Err(fault),
+            },
             Err(_) => {
                 self.failed = true;
                 Err(Fault::Read)

@@ -64,10 +64,10 @@ fn feed_block<W: Write>(
     ensures examined { StandsForSome framer.old → StandsForSome framer.new }
     ensures same { (framer.new.limit ≡ framer.old.limit) × (framer.new.has_ended ≡ false) }
 {
-    if framer.push_all(block).is_err() {
-        return Err(Fault::TooLong);
+    match framer.push_all(block) {
+        Err(_) => Err(Fault::TooLong),
+        Ok(()) => drain(framer, filer, writer),
     }
-    drain(framer, filer, writer)
 }
 
 /// Takes these bytes.

@@ -85,7 +85,9 @@ pub fn convert_pieces<W: Write>(
         Err(fault) => return Err(fault),
     };
     for piece in pieces {
-        converter.feed(piece, writer)?;
+        if let Err(fault) = converter.feed(piece, writer) {
+            return Err(fault);
+        }
     }
     converter.finish(writer)
 }

@@ -1,5 +1,6 @@
-use Rattle.rtcm_convert.proofs.FaultLemmas.{writer_untouched, of_refusal}
+use Rattle.std.proofs.Common.{refl}
+use Rattle.rtcm_convert.proofs.FaultLemmas.{of_refusal}
 use Rattle.rtcm_convert.proofs.converter.Converter.feed.Goals as goal
 
 pub returns-in-Some-clause-device : goal.returns-in-Some-clause-device
-returns-in-Some-clause-device g c = writer_untouched c.in-Some.fault c.args.writer.now (of_refusal c.args.self.now c.in-Some.fault c.in-Some.ensures)
+returns-in-Some-clause-device g c = ((of_refusal c.args.self.now c.in-Some.fault c.in-Some.ensures c.args.writer.now.failures).0, tt, refl)

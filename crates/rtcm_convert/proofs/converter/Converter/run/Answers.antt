@@ -1,5 +1,5 @@
 use Rattle.std.proofs.Common.{ap, arith, ◌∙◌, inl, inr, refl}
-use Rattle.rtcm_convert.proofs.FaultLemmas.{reader_since, reader_ended, reader_untouched, writer_since, writer_untouched, of_refusal}
+use Rattle.rtcm_convert.proofs.FaultLemmas.{at_most, wider, reader_after, reader_ended, writer_after, writer_since, of_refusal}
 use Rattle.rtcm_convert.proofs.PartLemmas.{same_fault}
 use Rattle.rtcm_convert.proofs.RunLemmas.{going_on, ran_start, ran-trans, ran_whole, ran_empty, ran_long, run_read, run_long, run_feeding, run_finishing}
 use Rattle.rtcm_convert.proofs.converter.Converter.run.Goals as goal
@@ -70,23 +70,31 @@ returns-in-Err-clause-read g c = λ e.
     (ap (λ d. g.W.Write.contents d.inner) p.0) p.1
 
 pub returns-in-Err-clause-reader : goal.returns-in-Err-clause-reader
-returns-in-Err-clause-reader g c = reader_since _ _ _ _ c.loop-self.invariant.reader c.loop-self.invariant.widest c.in-Err.ensures.reader
+returns-in-Err-clause-reader g c =
+    let d = c.in-Err.ensures.reader in
+    let i = c.loop-self.invariant in
+    (reader_after c.in-Err.fault _ _ _ i.reader d.0, tt, wider _ _ _ i.widest d.2)
 
 pub returns-in-Err-clause-writer : goal.returns-in-Err-clause-writer
-returns-in-Err-clause-writer g c = writer_since _ _ _ _ c.loop-self.invariant.writer c.loop-self.invariant.unread c.in-Err.ensures.writer
+returns-in-Err-clause-writer g c =
+    let d = c.in-Err.ensures.writer in
+    let i = c.loop-self.invariant in
+    (writer_after c.in-Err.fault _ _ _ i.writer d.0, tt, d.2 ∙ i.unread)
 
 pub returns-in-Ok-eq0-clause-reader : goal.returns-in-Ok-eq0-clause-reader
 returns-in-Ok-eq0-clause-reader g c =
     let n = c.in-Ok-eq0.ensures in
-    reader_ended c.finish.result _ _ (c.finish.ensures.only n.going.0) (n.reader.1 ∙ c.loop-self.invariant.reader) (omega (arith, n.reader.2, c.loop-self.invariant.widest))
+    let i = c.loop-self.invariant in
+    reader_ended c.finish.result c.args.reader.now c.pull.new.reader (c.finish.ensures.only n.going.0) (n.reader.1 ∙ i.reader) (wider _ _ _ i.widest n.reader.2)
 
 pub returns-in-Ok-eq0-clause-writer : goal.returns-in-Ok-eq0-clause-writer
 returns-in-Ok-eq0-clause-writer g c =
     let n = c.in-Ok-eq0.ensures in
-    writer_since c.finish.result _ _ _ (n.writer.1 ∙ c.loop-self.invariant.writer) (n.writer.2 ∙ c.loop-self.invariant.unread) c.finish.ensures.device
+    let i = c.loop-self.invariant in
+    writer_since c.finish.result c.args.writer.now c.pull.new.writer c.finish.new.writer (n.writer.1 ∙ i.writer) (n.writer.2 ∙ i.unread) c.finish.ensures.device
 
 pub returns-in-Some-clause-reader : goal.returns-in-Some-clause-reader
-returns-in-Some-clause-reader g c = reader_untouched c.in-Some.fault c.args.reader.now (of_refusal c.args.self.now c.in-Some.fault c.in-Some.ensures)
+returns-in-Some-clause-reader g c = ((of_refusal c.args.self.now c.in-Some.fault c.in-Some.ensures c.args.reader.now.failures).1, tt, at_most _)
 
 pub returns-in-Some-clause-writer : goal.returns-in-Some-clause-writer
-returns-in-Some-clause-writer g c = writer_untouched c.in-Some.fault c.args.writer.now (of_refusal c.args.self.now c.in-Some.fault c.in-Some.ensures)
+returns-in-Some-clause-writer g c = ((of_refusal c.args.self.now c.in-Some.fault c.in-Some.ensures c.args.writer.now.failures).0, tt, refl)
