@@ -8,7 +8,7 @@ use Rattle.rtcm_scan.specs.Known.{known_place}
 use Rattle.rtcm_convert.specs.Converted.{Settings}
 use Rattle.rtcm_convert.specs.declared.report.Report.{Report}
 use Rattle.rtcm_convert.specs.Stream.{Extends, BreaksAtEnd}
-use Rattle.rtcm_convert.specs.Conversion.{Conversion, IsGoing, refusal, StandsFor, Goes, GoesLong, Ran, Adds, Completed, CompletedEmpty, Finishes, FinishesEmpty, IsTakenFrom, Stops, StopsFeeding, StopsFinishing}
+use Rattle.rtcm_convert.specs.Conversion.{Conversion, IsGoing, refusal, StandsFor, Goes, GoesLong, Ran, Adds, Completed, CompletedEmpty, FinishesNow, FinishesEmptyNow, Finishes, FinishesEmpty, IsTakenFrom, Stops, StopsFeeding, StopsFinishing}
 use Rattle.rtcm_convert.specs.declared.fault.Fault.TheVariants.{Failed, Finished}
 use Rattle.rtcm_convert.proofs.PartLemmas.{goes_on-refl, goes_on-trans, breaks_off-after}
 
@@ -34,13 +34,6 @@ taken_more u v w p q d e = let l : length (p ++ q) ≡ length p + length q = len
 pub ran-trans : (v w x : Conversion) (r r' r'' a b c : Option (List ℕ)) → Ran v w r r' a b → Ran w x r' r'' b c → Ran v x r r'' a c
 ran-trans v w x r r' r'' a b c p q =
     (p.0 ++ q.0, Consumes-trans r r' r'' p.0 q.0 p.1 q.1, taken_more v.scan.taken w.scan.taken x.scan.taken p.0 q.0 p.2 q.2, goes-trans v w x a b c p.0 q.0 p.3 q.3)
-
--- what finishing at once does
-abbrev pub FinishesNow : Conversion → Conversion → Option (List ℕ) → Option (List ℕ) → Report → Type 0
-FinishesNow v w a b report = (s : Settings) (bytes : List ℕ) → StandsFor v s bytes → Completed w a b s bytes bytes report
-
-abbrev pub FinishesEmptyNow : Conversion → Conversion → Option (List ℕ) → Option (List ℕ) → Type 0
-FinishesEmptyNow v w a b = (s : Settings) (bytes : List ℕ) → StandsFor v s bytes → CompletedEmpty w a b s bytes bytes
 
 pub completed_after : (w : Conversion) (a b c : Option (List ℕ)) (s : Settings) (x y : List ℕ) (report : Report) → Extends a b s x y → Completed w b c s y y report → Completed w a c s x y report
 completed_after w a b c s x y report e f = record { out = goes_on-trans a b c _ _ _ e f.out; some = f.some; report_is = f.report_is; finished = f.finished }

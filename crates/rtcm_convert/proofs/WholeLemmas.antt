@@ -1,30 +1,31 @@
 -- Whole streams.
 use Rattle.std.proofs.Common.{◌≡◌, ℕ, ◌+◌, ◌<◌, ◌≤◌, ◌⊎◌, inl, inr, refl, List, [], ◌∷◌, ◌++◌, sym, ap, subst, ◌∙◌, arith, Option, Some, None, Result, Ok, Err, OnOk, IfOk, append-nil, length, length-append, take, drop, get_or, IfErr, Bool, true, false, true≢false, ◌↔◌}
-use Rattle.std.specs.Prelude.{IfSome, IsErrOf, flat_map}
-use Rattle.std.proofs.lemmas.List.{take_more, take-append-drop}
+use Rattle.std.specs.Prelude.{IfSome, IsErrOf, flat_map, Vec}
+use Rattle.std.proofs.lemmas.List.{take_more, take-append-drop, take-append-le}
 use Rattle.std.proofs.lemmas.Grind.{flat_map-append}
 use Rattle.std.proofs.Math.Seq.{take-length}
 use Rattle.std.specs.Io.KnownBytes.{Appends, Consumes}
 use Rattle.std.proofs.KnownBytes.{Appends-trans}
-use Rattle.rtcm_bits.specs.Device.{AppendsPrefix, HasFailed}
+use Rattle.rtcm_bits.specs.Device.{AppendsPrefix}
 use Rattle.rtcm_scan.specs.Frames.{frames_of}
 use Rattle.rtcm_scan.specs.Decided.{decided_frames}
 use Rattle.rtcm_convert.specs.Converted.{Settings, so_far, file, epochs_in}
 use Rattle.rtcm_convert.specs.Outcomes.{report_of}
-use Rattle.rtcm_convert.specs.Fed.{GoesOn}
+use Rattle.rtcm_convert.specs.Fed.{GoesOn, BreaksOff}
 use Rattle.rtcm_convert.specs.Laws.{NothingYet}
 use Rattle.rtcm_convert.specs.Stream.{Extends, BreaksAtEnd}
 use Rattle.rtcm_convert.specs.Told.{settings}
 use Rattle.rtcm_convert.specs.Readable.{HasValue}
 use Rattle.rtcm_convert.specs.Made.{IsMade, IsMadeEmpty}
 use Rattle.rtcm_convert.specs.declared.setup.Setup.{Setup}
-use Rattle.rtcm_convert.specs.Broken.{IsBroken, Broke, BrokeAtEnd}
-use Rattle.rtcm_convert.specs.Conversion.{Conversion, StandsFor, Goes, GoesLong, Adds, Completed, CompletedEmpty, Finishes, FinishesEmpty, StopsAt, StopsFeeding, StopsFinishing}
+use Rattle.rtcm_convert.specs.Broken.{IsBetween, IsBroken, Broke, BrokeAtEnd, BrokeAtPiece, BrokeInPieces, WrotePieces, joined, of_first}
+use Rattle.rtcm_convert.specs.Conversion.{Conversion, StandsFor, Goes, GoesLong, Adds, Stops, StopsAtEnd, Completed, CompletedEmpty, FinishesNow, FinishesEmptyNow, Finishes, FinishesEmpty, StopsAt, StopsFeeding, StopsFinishing}
 use Rattle.rtcm_convert.specs.declared.report.Report.{Report}
+use Rattle.rtcm_convert.specs.Faults.{IsRunFault, IsFinishFault}
 use Rattle.rtcm_convert.specs.declared.fault.Fault.{Fault}
 use Rattle.rtcm_convert.specs.declared.fault.Fault.TheVariants.{BadSetup, Failed, Finished, NoEpoch, Read, TooLong, Write}
-use Rattle.rtcm_convert.proofs.PartLemmas.{goes_on-trans}
-use Rattle.rtcm_convert.proofs.RunLemmas.{FinishesNow, FinishesEmptyNow, completed_after, empty_after}
+use Rattle.rtcm_convert.proofs.PartLemmas.{goes_on-trans, breaks_off-after}
+use Rattle.rtcm_convert.proofs.RunLemmas.{completed_after, empty_after}
 
 pub from_nothing : NothingYet → (a b : Option (List ℕ)) (s : Settings) (y : List ℕ) → GoesOn a b (so_far s (decided_frames [])) y → Appends a b y
 from_nothing nothing a b s y g =
@@ -86,12 +87,19 @@ pub run_long : (v : Conversion) (s : Settings) (r r' a b : Option (List ℕ)) (l
 run_long v s r r' a b limit nothing x e p =
     (p.0, p.1, subst (λ (n : ℕ). Appends a b (so_far s (decided_frames (take n p.0)))) e (from_nothing nothing a b s (so_far s (decided_frames (take v.scan.limit p.0))) (p.2 s [] x)))
 
+-- what these bytes make went out, and then a front of what follows
+between : (a b c : Option (List ℕ)) (s : Settings) (front upper : List ℕ) → NothingYet → Extends a b s [] front → BreaksOff b c (so_far s (decided_frames front)) upper
+    → IsBetween a c (so_far s (decided_frames front)) upper
+between a b c s front upper nothing before last = record {
+  out = so_far s (decided_frames front) ++ last.part;
+  went = Appends-trans a b c (so_far s (decided_frames front)) last.part (from_nothing nothing a b s (so_far s (decided_frames front)) before) last.out;
+  least = (last.part, refl);
+  most = (last.rest, last.text);
+}
+
 broken : (a b : Option (List ℕ)) (s : Settings) (front piece : List ℕ) → NothingYet → StopsAt a b s [] piece front → IsBroken a b s front piece
 broken a b s front piece nothing p = record {
-  out = so_far s (decided_frames front) ++ p.last.part;
-  went = Appends-trans a p.mid b (so_far s (decided_frames front)) p.last.part (from_nothing nothing a p.mid s (so_far s (decided_frames front)) p.before) p.last.out;
-  least = (p.last.part, refl);
-  most = (p.last.rest, p.last.text);
+  between = between a p.mid b s front (so_far s (decided_frames (front ++ piece))) nothing p.before p.last;
   near = p.near;
 }
 
@@ -142,11 +150,15 @@ piece_more v w s a b c bytes piece more x out go e =
     let p = go s bytes x in
     (subst (λ (l : List ℕ). StandsFor w s l) e p.0, subst (λ (l : List ℕ). Extends a c s [] l) e (goes_on-trans a b c _ _ _ out p.1))
 
+-- the first of some pieces and the rest of them make all
+pieces_split : {X : Type 0} (bytes : X → List ℕ) (pieces : List X) (i : ℕ) → flat_map bytes pieces ≡ flat_map bytes (take i pieces) ++ flat_map bytes (drop i pieces)
+pieces_split bytes pieces i = ap (flat_map bytes) (sym (take-append-drop i pieces)) ∙ flat_map-append bytes (take i pieces) (drop i pieces)
+
 -- the first pieces have no more bytes than all of them
 front_shorter : {X : Type 0} (bytes : X → List ℕ) (pieces : List X) (i : ℕ) → length (flat_map bytes (take i pieces)) ≤ length (flat_map bytes pieces)
 front_shorter bytes pieces i =
     let e : length (flat_map bytes pieces) ≡ length (flat_map bytes (take i pieces)) + length (flat_map bytes (drop i pieces)) =
-    ap length (ap (flat_map bytes) (sym (take-append-drop i pieces)) ∙ flat_map-append bytes (take i pieces) (drop i pieces))
+    ap length (pieces_split bytes pieces i)
     ∙ length-append (flat_map bytes (take i pieces)) (flat_map bytes (drop i pieces)) in
     omega arith
 
@@ -159,9 +171,37 @@ pieces_over v s bytes pieces i limit piece x same more over =
     let le : length (flat_map bytes (take (i + 1) pieces)) ≤ length (flat_map bytes pieces) = front_shorter bytes pieces (i + 1) in
     omega arith
 
--- a failure since a call before which none was counted
-pub failed_since : (a b c : ℕ) → b ≡ a → HasFailed b c → HasFailed a c
-failed_since a b c e h = subst (λ (n : ℕ). HasFailed n c) e h
+-- what went out up to a piece that goes over the limit: that of all the pieces up to it
+pub pieces_long : {Z : Type 0} → (v : Conversion) (s : Settings) (a b c : Option (List ℕ)) (pieces : List (Vec ℕ Z)) (i limit : ℕ) (piece : List ℕ) → NothingYet
+    → StandsFor v s (joined (take i pieces)) → Extends a b s [] (joined (take i pieces)) → v.scan.limit ≡ limit → joined (take i pieces) ++ piece ≡ joined (take (i + 1) pieces)
+    → v.scan.limit < v.scan.taken + length piece → GoesLong v b c piece → WrotePieces a c s limit pieces
+pieces_long v s a b c pieces i limit piece nothing x out same more over long =
+    let step = goes_on-trans a b c _ _ _ out (long s (joined (take i pieces)) x) in
+    let went : Appends a c (so_far s (decided_frames (take v.scan.limit (joined (take i pieces) ++ piece)))) = from_nothing nothing a c s _ step in
+    let taken : v.scan.taken ≡ length (joined (take i pieces)) = x.drained.framer.stands.taken in
+    let size : length (joined (take i pieces) ++ piece) ≡ length (joined (take i pieces)) + length piece = length-append (joined (take i pieces)) piece in
+    let room : v.scan.limit ≤ length (joined (take i pieces) ++ piece) = omega (arith, over, taken, size) in
+    let all : joined pieces ≡ (joined (take i pieces) ++ piece) ++ joined (drop (i + 1) pieces) =
+    pieces_split (λ p. p.items) pieces (i + 1) ∙ ap (λ l. l ++ joined (drop (i + 1) pieces)) (sym more) in
+    let cut : take v.scan.limit (joined (take i pieces) ++ piece) ≡ take limit (joined pieces) =
+    sym (ap (take limit) all ∙ ap (λ n. take n ((joined (take i pieces) ++ piece) ++ joined (drop (i + 1) pieces))) (sym same)
+    ∙ take-append-le v.scan.limit (joined (take i pieces) ++ piece) (joined (drop (i + 1) pieces)) room) in
+    subst (λ (l : List ℕ). Appends a c (so_far s (decided_frames l))) cut went
+
+-- what went out where the writer failed at a piece
+pub pieces_broke : {Z : Type 0} → (v : Conversion) (s : Settings) (a b c : Option (List ℕ)) (pieces : List (Vec ℕ Z)) (i : ℕ) (piece : List ℕ) → NothingYet
+    → StandsFor v s (joined (take i pieces)) → Extends a b s [] (joined (take i pieces)) → i < length pieces → joined (take i pieces) ++ piece ≡ joined (take (i + 1) pieces)
+    → Stops v b c piece → BrokeInPieces a c s pieces
+pieces_broke v s a b c pieces i piece nothing x out less more stop =
+    let last : BreaksOff b c (of_first s i pieces) (of_first s (i + 1) pieces) =
+    subst (λ (l : List ℕ). BreaksOff b c (of_first s i pieces) (so_far s (decided_frames l))) more (stop s (joined (take i pieces)) x) in
+    inl (i, less, between a b c s (joined (take i pieces)) (of_first s (i + 1) pieces) nothing out last)
+
+-- what went out where it failed behind all of them
+pub pieces_broke_at_end : {Z : Type 0} → (v : Conversion) (s : Settings) (a b c : Option (List ℕ)) (pieces : List (Vec ℕ Z)) (bytes : List ℕ) → NothingYet
+    → StandsFor v s bytes → Extends a b s [] bytes → bytes ≡ joined pieces → StopsAtEnd v b c → BrokeInPieces a c s pieces
+pieces_broke_at_end v s a b c pieces bytes nothing x out all stop =
+    inr (subst (λ (l : List ℕ). AppendsPrefix a c (file s (frames_of l))) all (broken_at_end a c s bytes nothing (breaks_off-after a b c _ _ _ out (stop s bytes x))))
 
 abbrev fault_in : {A : Type 0} → Fault → Result A Fault → Fault
 fault_in other (Ok a) = other
@@ -173,9 +213,6 @@ same_fault x y e = ap (λ fault. Err fault) (ap (fault_in y) e)
 
 -- ---- faults that a new converter doesn't answer
 
-abbrev pub Running : Fault → Type 0
-Running fault = (fault ≡ Read) ⊎ ((fault ≡ TooLong) ⊎ ((fault ≡ NoEpoch) ⊎ (fault ≡ Write)))
-
 abbrev pub is_running : Fault → Bool
 is_running Read = true
 is_running TooLong = true
@@ -183,7 +220,7 @@ is_running NoEpoch = true
 is_running Write = true
 is_running _ = false
 
-running : (fault : Fault) → Running fault → is_running fault ≡ true
+running : (fault : Fault) → IsRunFault fault → is_running fault ≡ true
 running fault (inl e) = ap is_running e
 running fault (inr (inl e)) = ap is_running e
 running fault (inr (inr (inl e))) = ap is_running e
@@ -193,11 +230,11 @@ abbrev fault_of : Result Report Fault → Bool
 fault_of (Ok report) = true
 fault_of (Err fault) = is_running fault
 
-pub not_running : (r : Result Report Fault) (fault : Fault) → IfErr r Running → is_running fault ≡ false → r ≡ Err fault → ⊥
+pub not_running : (r : Result Report Fault) (fault : Fault) → IfErr r IsRunFault → is_running fault ≡ false → r ≡ Err fault → ⊥
 not_running (Ok report) fault only hard e = true≢false (ap fault_of e ∙ hard)
 not_running (Err other) fault only hard e = true≢false (sym (running other only) ∙ ap fault_of e ∙ hard)
 
-pub never : (r : Result Report Fault) → IfErr r Running → (r ≡ Err Failed → ⊥) × (r ≡ Err Finished → ⊥)
+pub never : (r : Result Report Fault) → IfErr r IsRunFault → (r ≡ Err Failed → ⊥) × (r ≡ Err Finished → ⊥)
 never r only = (not_running r Failed only refl, not_running r Finished only refl)
 
 abbrev is_made : Result Conversion Fault → Bool
@@ -208,21 +245,18 @@ made_or_not : (made : Result Conversion Fault) (converter : Conversion) (fault :
 made_or_not made converter fault a b = true≢false (sym (ap is_made a) ∙ ap is_made b)
 
 -- a converter that was made has no bad setup
-pub not_bad : (made : Result Conversion Fault) (converter : Conversion) (bad : Type 0) (r : Result Report Fault) → made ≡ Ok converter → made ≡ Err BadSetup ↔ bad → IfErr r Running
+pub not_bad : (made : Result Conversion Fault) (converter : Conversion) (bad : Type 0) (r : Result Report Fault) → made ≡ Ok converter → made ≡ Err BadSetup ↔ bad → IfErr r IsRunFault
     → r ≡ Err BadSetup ↔ bad
 not_bad made converter bad r is iff only = (λ e. absurd (not_running r BadSetup only refl e), λ b. absurd (made_or_not made converter BadSetup is (iff.1 b)))
 
 -- ---- faults that the end of a stream doesn't answer
-
-abbrev pub Ending : Fault → Type 0
-Ending fault = (fault ≡ NoEpoch) ⊎ (fault ≡ Write)
 
 abbrev pub is_ending : Fault → Bool
 is_ending NoEpoch = true
 is_ending Write = true
 is_ending _ = false
 
-ending : (fault : Fault) → Ending fault → is_ending fault ≡ true
+ending : (fault : Fault) → IsFinishFault fault → is_ending fault ≡ true
 ending fault (inl e) = ap is_ending e
 ending fault (inr e) = ap is_ending e
 
@@ -230,16 +264,16 @@ abbrev end_of : Result Report Fault → Bool
 end_of (Ok report) = true
 end_of (Err fault) = is_ending fault
 
-pub not_ending : (r : Result Report Fault) (fault : Fault) → IfErr r Ending → is_ending fault ≡ false → r ≡ Err fault → ⊥
+pub not_ending : (r : Result Report Fault) (fault : Fault) → IfErr r IsFinishFault → is_ending fault ≡ false → r ≡ Err fault → ⊥
 not_ending (Ok report) fault only hard e = true≢false (ap end_of e ∙ hard)
 not_ending (Err other) fault only hard e = true≢false (sym (ending other only) ∙ ap end_of e ∙ hard)
 
-pub never_at_end : (r : Result Report Fault) → IfErr r Ending → (r ≡ Err Failed → ⊥) × (r ≡ Err Finished → ⊥) × (r ≡ Err Read → ⊥)
+pub never_at_end : (r : Result Report Fault) → IfErr r IsFinishFault → (r ≡ Err Failed → ⊥) × (r ≡ Err Finished → ⊥) × (r ≡ Err Read → ⊥)
 never_at_end r only = (not_ending r Failed only refl, not_ending r Finished only refl, not_ending r Read only refl)
 
-pub not_long : (r : Result Report Fault) (P : Type 0) → IfErr r Ending → r ≡ Err TooLong → P
+pub not_long : (r : Result Report Fault) (P : Type 0) → IfErr r IsFinishFault → r ≡ Err TooLong → P
 not_long r P only e = absurd (not_ending r TooLong only refl e)
 
-pub not_bad_at_end : (made : Result Conversion Fault) (converter : Conversion) (bad : Type 0) (r : Result Report Fault) → made ≡ Ok converter → made ≡ Err BadSetup ↔ bad → IfErr r Ending
+pub not_bad_at_end : (made : Result Conversion Fault) (converter : Conversion) (bad : Type 0) (r : Result Report Fault) → made ≡ Ok converter → made ≡ Err BadSetup ↔ bad → IfErr r IsFinishFault
     → r ≡ Err BadSetup ↔ bad
 not_bad_at_end made converter bad r is iff only = (λ e. absurd (not_ending r BadSetup only refl e), λ b. absurd (made_or_not made converter BadSetup is (iff.1 b)))

@@ -1,5 +1,6 @@
 -- What a contract sees of a converter, and the bytes that it stands for.
-use Rattle.std.specs.Prelude.{◌≡◌, ℕ, Bool, true, false, List, take, length, ◌+◌, ◌-◌, ◌<◌, ◌≤◌, ◌++◌, Option, Some, None, if◌then◌else◌}
+use Rattle.std.specs.Prelude.{◌≡◌, ◌⊎◌, ℕ, ◌+◌, ◌-◌, ◌<◌, ◌≤◌, List, ◌++◌, take, length}
+use Rattle.std.specs.Prelude.{Bool, true, false, Option, Some, None, if◌then◌else◌}
 use Rattle.std.specs.Io.KnownBytes.{Consumes, IsAtEnd}
 use Rattle.rtcm_scan.specs.Frames.{frames_of}
 use Rattle.rtcm_scan.specs.Decided.{decided}
@@ -54,6 +55,10 @@ pub record HasFinished (v : Conversion) (s : Settings) (b : List ℕ) : Type 0 w
   pub counted : IsCounted v.scan b
   pub gathered : HasGathered v.filer s (frames_of b)
 
+-- it took n bytes more, within the same limit, and goes on
+abbrev pub GoesOnBy : Conversion → Conversion → ℕ → Type 0
+GoesOnBy v w n = IsGoing w × (w.scan.limit ≡ v.scan.limit) × (w.scan.taken ≡ v.scan.taken + n) × (0 < n → w.scan.taken ≤ w.scan.limit)
+
 -- it took these bytes more, and what they add went out
 abbrev pub Goes : Conversion → Conversion → Option (List ℕ) → Option (List ℕ) → List ℕ → Type 0
 Goes v w a b piece = (s : Settings) (bytes : List ℕ) → StandsFor v s bytes → StandsFor w s (bytes ++ piece) × Extends a b s bytes (bytes ++ piece)
@@ -66,6 +71,14 @@ GoesLong v a b piece = (s : Settings) (bytes : List ℕ) → StandsFor v s bytes
 abbrev pub Stops : Conversion → Option (List ℕ) → Option (List ℕ) → List ℕ → Type 0
 Stops v a b piece = (s : Settings) (bytes : List ℕ) → StandsFor v s bytes → Breaks a b s bytes (bytes ++ piece)
 
+-- the stream ends here, and a front of the rest of its file went out
+abbrev pub StopsAtEnd : Conversion → Option (List ℕ) → Option (List ℕ) → Type 0
+StopsAtEnd v a b = (s : Settings) (bytes : List ℕ) → StandsFor v s bytes → BreaksAtEnd a b s bytes bytes
+
+-- with these bytes more, the stream is longer than the limit
+abbrev pub IsTooLong : Conversion → List ℕ → Type 0
+IsTooLong v rest = (s : Settings) (bytes : List ℕ) → StandsFor v s bytes → v.scan.limit < length (bytes ++ rest)
+
 -- some bytes more were read and taken, and what they add went out
 abbrev pub Ran : Conversion → Conversion → Option (List ℕ) → Option (List ℕ) → Option (List ℕ) → Option (List ℕ) → Type 0
 Ran v w r r' a b = (front : List ℕ) × Consumes r r' front × (w.scan.taken ≡ v.scan.taken + length front) × Goes v w a b front
@@ -73,6 +86,18 @@ Ran v w r r' a b = (front : List ℕ) × Consumes r r' front × (w.scan.taken �
 -- what these bytes add went out
 abbrev pub Adds : Conversion → Option (List ℕ) → Option (List ℕ) → List ℕ → Type 0
 Adds v a b front = (s : Settings) (bytes : List ℕ) → StandsFor v s bytes → Extends a b s bytes (bytes ++ front)
+
+-- some bytes more were read and taken, and what they add went out; then the reader failed
+abbrev pub RanToFault : Conversion → Conversion → Option (List ℕ) → Option (List ℕ) → Option (List ℕ) → Option (List ℕ) → Type 0
+RanToFault v w r r' a b = (front : List ℕ) × Consumes r r' front × (w.scan.taken ≡ v.scan.taken + length front) × Adds v a b front
+
+-- some bytes more were read, and taken up to the limit; what these add went out
+abbrev pub RanToLimit : Conversion → Option (List ℕ) → Option (List ℕ) → Option (List ℕ) → Option (List ℕ) → Type 0
+RanToLimit v r r' a b = (front : List ℕ) × Consumes r r' front × GoesLong v a b front
+
+-- a piece was read that goes over the limit, and was taken up to it
+abbrev pub ReadOverLimit : Conversion → Option (List ℕ) → Option (List ℕ) → Option (List ℕ) → Option (List ℕ) → Type 0
+ReadOverLimit v r r' a b = (piece : List ℕ) × Consumes r r' piece × GoesLong v a b piece × (v.scan.limit < v.scan.taken + length piece)
 
 -- What these bytes add went out, up to `mid`, and the front of what a last piece adds; the piece fits behind the bytes that were not decided.
 pub record StopsAt (a b : Option (List ℕ)) (s : Settings) (bytes piece : List ℕ) (all : List ℕ) : Type 0 where
@@ -86,15 +111,25 @@ pub record IsTakenFrom (v w : Conversion) (n m : ℕ) : Type 0 where
   pub least : v.scan.taken + n ≤ w.scan.taken
   pub most : w.scan.taken ≤ v.scan.taken + m
 
+-- a piece was read at which the writer failed; it fits behind the bytes held
+abbrev pub StopsAtPiece : Conversion → Conversion → Option (List ℕ) → Option (List ℕ) → Option (List ℕ) → Option (List ℕ) → Type 0
+StopsAtPiece v w r r' a b = (piece : List ℕ) × Consumes r r' piece × (length v.scan.held + length piece ≤ 1029)
+    × IsTakenFrom v w 0 (length piece) × Stops v a b piece
+
 -- the bytes that were read split into some that were taken and a last piece at which the writer failed
 abbrev pub StopsFeeding : Conversion → Conversion → Option (List ℕ) → Option (List ℕ) → Option (List ℕ) → Option (List ℕ) → Type 0
-StopsFeeding v w r r' a b = (front : List ℕ) × (piece : List ℕ) × Consumes r r' (front ++ piece) × IsTakenFrom v w (length front) (length front + length piece)
+StopsFeeding v w r r' a b = (front : List ℕ) × (piece : List ℕ) × Consumes r r' (front ++ piece)
+    × IsTakenFrom v w (length front) (length front + length piece)
     × ((s : Settings) (bytes : List ℕ) → StandsFor v s bytes → StopsAt a b s bytes piece (bytes ++ front))
 
 -- all was read, and the writer failed in what was left to write
 abbrev pub StopsFinishing : Conversion → Conversion → Option (List ℕ) → Option (List ℕ) → Option (List ℕ) → Option (List ℕ) → Type 0
 StopsFinishing v w r r' a b = (front : List ℕ) × Consumes r r' front × IsAtEnd r' × (w.scan.taken ≡ v.scan.taken + length front)
     × ((s : Settings) (bytes : List ℕ) → StandsFor v s bytes → BreaksAtEnd a b s bytes (bytes ++ front))
+
+-- the writer failed at one of the pieces, or when all was read
+abbrev pub StopsRunning : Conversion → Conversion → Option (List ℕ) → Option (List ℕ) → Option (List ℕ) → Option (List ℕ) → Type 0
+StopsRunning v w r r' a b = StopsFeeding v w r r' a b ⊎ StopsFinishing v w r r' a b
 
 -- The rest of the file of all these bytes went out, which has an epoch; that is the report; and all was decided and examined.
 pub record Completed (w : Conversion) (a b : Option (List ℕ)) (s : Settings) (bytes all : List ℕ) (report : Report) : Type 0 where
@@ -108,6 +143,14 @@ pub record CompletedEmpty (w : Conversion) (a b : Option (List ℕ)) (s : Settin
   pub none : epochs_in s (frames_of all) ≡ 0
   pub out : Completes a b s bytes all
   pub finished : HasFinished w s all
+
+-- the stream ends here, and the file was completed
+abbrev pub FinishesNow : Conversion → Conversion → Option (List ℕ) → Option (List ℕ) → Report → Type 0
+FinishesNow v w a b report = (s : Settings) (bytes : List ℕ) → StandsFor v s bytes → Completed w a b s bytes bytes report
+
+-- it was completed and is empty
+abbrev pub FinishesEmptyNow : Conversion → Conversion → Option (List ℕ) → Option (List ℕ) → Type 0
+FinishesEmptyNow v w a b = (s : Settings) (bytes : List ℕ) → StandsFor v s bytes → CompletedEmpty w a b s bytes bytes
 
 -- with these bytes more, the file was completed
 abbrev pub Finishes : Conversion → Conversion → Option (List ℕ) → Option (List ℕ) → Report → List ℕ → Type 0

@@ -1,7 +1,9 @@
 pub mod Converted
 pub mod Outcomes
+pub mod Faults
 pub mod Fed
 pub mod Filed
+pub mod Steps
 pub mod Stream
 pub mod Conversion
 pub mod Told

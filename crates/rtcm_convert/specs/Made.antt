@@ -3,8 +3,10 @@ use Rattle.std.specs.Prelude.{◌≡◌, ℕ, ◌<◌, ◌≤◌, List, length, 
 use Rattle.std.specs.Io.KnownBytes.{Appends}
 use Rattle.rtcm_scan.specs.Frames.{frames_of}
 use Rattle.rtcm_convert.specs.Converted.{file, epochs_in}
+use Rattle.rtcm_convert.specs.Outcomes.{report_of}
 use Rattle.rtcm_convert.specs.Readable.{HasValue}
 use Rattle.rtcm_convert.specs.Told.{settings}
+use Rattle.rtcm_convert.specs.declared.report.Report.{Report}
 use Rattle.rtcm_convert.specs.declared.setup.Setup.{Setup}
 
 -- These bytes are no more than the limit, and the file of their frames, which has an epoch, was written: the text of a file value.
@@ -19,3 +21,7 @@ pub record IsMadeEmpty (x : Setup) (a b : Option (List ℕ)) (bytes : List ℕ) 
   pub within : length bytes ≤ x.limit
   pub none : epochs_in (settings x) (frames_of bytes) ≡ 0
   pub out : Appends a b (file (settings x) (frames_of bytes))
+
+-- that is the report of these bytes
+abbrev pub IsReportOf : Setup → Report → List ℕ → Type 0
+IsReportOf x report bytes = report ≡ report_of (settings x) bytes

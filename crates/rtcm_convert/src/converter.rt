@@ -1,17 +1,19 @@
 //! The converter: a stream goes in piece by piece, and its observation file comes out.
-ghost use Rattle.std.specs.Prelude.{◌≡◌, ◌<◌, ◌≤◌, ◌+◌, ◌*◌, ◌++◌, ◌⊎◌, ◌↔◌, [], List, ℕ, Ok, true, false, OnOk, OnErr, IfOk, IfErr, IfSome, IsErrOf, length, take, drop, Err, ◌≢◌, ◌^◌, max};
-ghost use Rattle.std.specs.Io.KnownBytes.{Consumes, Keeps, IsAtEnd};
-ghost use Rattle.rtcm_bits.specs.Device.{HasFailed};
+ghost use Rattle.std.specs.Prelude.{◌≡◌, ◌<◌, ◌≤◌, ◌+◌, ◌*◌, ◌↔◌, [], List, ℕ, true, false, length, drop};
+ghost use Rattle.std.specs.Prelude.{Err, OnOk, IfOk, IfErr, IfSome, IsErrOf};
+ghost use Rattle.std.specs.Io.KnownBytes.{Keeps, IsAtEnd};
 ghost use Rattle.rtcm_scan.specs.Frames.{frames_of};
 ghost use Rattle.rtcm_scan.specs.Decided.{decided, decided_frames};
 ghost use Rattle.rtcm_scan.specs.Looks.{examined, examined_now, most, most_now};
 ghost use Rattle.obs_epoch.specs.Values.{most_cells};
 ghost use Rattle.rtcm_convert.specs.Kept.{cells_kept, locks_kept, locks_in_all};
-ghost use Rattle.rtcm_convert.specs.Converted.{Settings};
+ghost use Rattle.rtcm_convert.specs.Faults.{FailsWithReader, FailsWithWriter, IsUntouched, IsSetupFault, IsFeedFault, IsPullFault, IsFinishFault, IsRunFault};
 ghost use Rattle.rtcm_convert.specs.Told.{settings, IsBad};
+ghost use Rattle.rtcm_convert.specs.Converted.{Settings};
 ghost use Rattle.rtcm_convert.specs.Outcomes.{report_with};
-ghost use Rattle.rtcm_convert.specs.Stream.{Extends, Breaks, BreaksAtEnd};
-ghost use Rattle.rtcm_convert.specs.Conversion.{StandsFor, HasFinished, IsGoing, GoesLong, Ran, Adds, Completed, CompletedEmpty, Finishes, FinishesEmpty, IsTakenFrom, Stops, StopsFeeding, StopsFinishing, LeftBy, refusal};
+ghost use Rattle.rtcm_convert.specs.Conversion.{StandsFor, HasFinished, IsGoing, GoesOnBy, Goes, GoesLong, Stops, StopsAtEnd, LeftBy, refusal};
+ghost use Rattle.rtcm_convert.specs.Conversion.{FinishesNow, FinishesEmptyNow, Finishes, FinishesEmpty, IsTooLong};
+ghost use Rattle.rtcm_convert.specs.Conversion.{Ran, RanToFault, RanToLimit, ReadOverLimit, StopsAtPiece, StopsRunning};
 
 use crate::fault::Fault;
 use crate::filer::Filer;
@@ -48,13 +50,13 @@ impl Model for Converter {
 }
 
 impl Converter {
-    /// A converter that has taken no byte. A setup whose limit, week or station is out of range is `BadSetup`; want of
-    /// memory is `Memory`. Only this call takes memory.
+    /// A converter that has taken no byte. A setup whose limit, week or station is out of range is
+    /// `BadSetup`; want of memory is `Memory`. Only this call takes memory.
     pub fn new(alloc: Global, setup: Setup) -> Result<Converter, Fault>
         ensures stands { IfOk result (λ c. StandsFor c (settings setup) []) }
         ensures fresh { IfOk result (λ c. (c.scan.limit ≡ setup.limit) × (c.scan.taken ≡ 0)) }
         ensures bad { result ≡ Err Fault.BadSetup ↔ IsBad setup }
-        ensures only { IfErr result (λ fault. (fault ≡ Fault.BadSetup) ⊎ (fault ≡ Fault.Memory)) }
+        ensures only { IfErr result IsSetupFault }
     {
         if setup.limit > MOST_BYTES {
             return Err(Fault::BadSetup);
@@ -93,24 +95,19 @@ impl Converter {
     pub fn feed<W: Write>(&mut self, piece: &[u8], writer: &mut Counted<W>) -> Result<(), Fault>
         ensures refused { IfSome (refusal self.old) (λ fault. (result ≡ Err fault) × (self.new ≡ self.old) × (writer.new ≡ writer.old)) }
         // All was taken, and what went out is what these bytes add.
-        ensures whole { OnOk result ((s : Settings) (b : List ℕ) → StandsFor self.old s b → StandsFor self.new s (b ++ piece.now)
-            × Extends (W.contents writer.old.inner) (W.contents writer.new.inner) s b (b ++ piece.now)) }
-        ensures going { OnOk result (IsGoing self.new × (self.new.scan.limit ≡ self.old.scan.limit) × (self.new.scan.taken ≡ self.old.scan.taken + length piece.now)) }
-        ensures fine { OnOk result (writer.new.failures ≡ writer.old.failures) }
-        ensures within { OnOk result (0 < length piece.now → self.new.scan.taken ≤ self.new.scan.limit) }
+        ensures whole { OnOk result (Goes self.old self.new (W.contents writer.old.inner) (W.contents writer.new.inner) piece.now) }
+        ensures going { OnOk result (GoesOnBy self.old self.new (length piece.now)) }
         // At a fault no more than this piece was taken, and at `TooLong` all up to the limit.
         ensures taken { (self.old.scan.taken ≤ self.new.scan.taken) × (self.new.scan.taken ≤ self.old.scan.taken + length piece.now) }
         ensures full { IsErrOf result Fault.TooLong → self.new.scan.taken ≡ self.old.scan.limit }
         ensures same { self.new.scan.limit ≡ self.old.scan.limit }
         // What went out is a front of that.
-        ensures part { IsErrOf result Fault.Write → (s : Settings) (b : List ℕ) → StandsFor self.old s b
-            → Breaks (W.contents writer.old.inner) (W.contents writer.new.inner) s b (b ++ piece.now) }
-        ensures failed { IsErrOf result Fault.Write → HasFailed writer.old.failures writer.new.failures }
+        ensures part { IsErrOf result Fault.Write → Stops self.old (W.contents writer.old.inner) (W.contents writer.new.inner) piece.now }
         // The bytes up to the limit were taken, and what they add went out.
-        ensures long { IsErrOf result Fault.TooLong → (s : Settings) (b : List ℕ) → StandsFor self.old s b
-            → Extends (W.contents writer.old.inner) (W.contents writer.new.inner) s b (take self.old.scan.limit (b ++ piece.now)) }
+        ensures long { IsErrOf result Fault.TooLong → GoesLong self.old (W.contents writer.old.inner) (W.contents writer.new.inner) piece.now }
         ensures limit { IsErrOf result Fault.TooLong → self.old.scan.limit < self.old.scan.taken + length piece.now }
-        ensures only { IsGoing self.old → IfErr result (λ fault. (fault ≡ Fault.TooLong) ⊎ (fault ≡ Fault.Write)) }
+        ensures device { FailsWithWriter result writer.old writer.new }
+        ensures only { IsGoing self.old → IfErr result IsFeedFault }
         ensures err { IsGoing self.old → IfErr result (λ fault. LeftBy fault self.new) }
     {
         if let Some(fault) = self.refusal() {
@@ -125,21 +122,19 @@ impl Converter {
         }
     }
 
-    /// Ends the stream, and writes the rest of the file. Where no epoch of the whole stream was written, nothing is, and
-    /// the answer is `NoEpoch`; after that, as after `Ok`, the converter is finished.
+    /// Ends the stream, and writes the rest of the file. Where no epoch of the whole stream was
+    /// written, nothing is, and the answer is `NoEpoch`; after that, as after `Ok`, the converter
+    /// is finished.
     pub fn finish<W: Write>(&mut self, writer: &mut Counted<W>) -> Result<Report, Fault>
         ensures refused { IfSome (refusal self.old) (λ fault. (result ≡ Err fault) × (self.new ≡ self.old) × (writer.new ≡ writer.old)) }
         // The rest of the file went out, and that is the report.
-        ensures whole { IfOk result (λ report. (s : Settings) (b : List ℕ) → StandsFor self.old s b
-            → Completed self.new (W.contents writer.old.inner) (W.contents writer.new.inner) s b b report) }
+        ensures whole { IfOk result (FinishesNow self.old self.new (W.contents writer.old.inner) (W.contents writer.new.inner)) }
         // No epoch of the whole stream was written, so nothing was.
-        ensures no_epoch { IsErrOf result Fault.NoEpoch → (s : Settings) (b : List ℕ) → StandsFor self.old s b
-            → CompletedEmpty self.new (W.contents writer.old.inner) (W.contents writer.new.inner) s b b }
+        ensures no_epoch { IsErrOf result Fault.NoEpoch → FinishesEmptyNow self.old self.new (W.contents writer.old.inner) (W.contents writer.new.inner) }
         // A front of the rest of the file went out.
-        ensures part { IsErrOf result Fault.Write → (s : Settings) (b : List ℕ) → StandsFor self.old s b
-            → BreaksAtEnd (W.contents writer.old.inner) (W.contents writer.new.inner) s b b }
-        ensures failed { IsErrOf result Fault.Write → HasFailed writer.old.failures writer.new.failures }
-        ensures only { IsGoing self.old → IfErr result (λ fault. (fault ≡ Fault.NoEpoch) ⊎ (fault ≡ Fault.Write)) }
+        ensures part { IsErrOf result Fault.Write → StopsAtEnd self.old (W.contents writer.old.inner) (W.contents writer.new.inner) }
+        ensures device { FailsWithWriter result writer.old writer.new }
+        ensures only { IsGoing self.old → IfErr result IsFinishFault }
         ensures ended { OnOk result (self.new.has_ended ≡ true) }
         ensures err { IsGoing self.old → IfErr result (λ fault. LeftBy fault self.new) }
         ensures same { (self.new.scan.taken ≡ self.old.scan.taken) × (self.new.scan.limit ≡ self.old.scan.limit) }
@@ -155,9 +150,9 @@ impl Converter {
                 }
                 Ok(self.report())
             }
-            Err(_) => {
+            Err(fault) => {
                 self.failed = true;
-                Err(Fault::Write)
+                Err(fault)
             }
         }
     }
@@ -191,22 +186,23 @@ impl Converter {
         writer: &mut Counted<W>,
     ) -> Result<usize, Fault>
         requires { IsGoing self.old }
-        ensures whole { OnOk result (Ran self.old self.new (R.remaining reader.old.inner) (R.remaining reader.new.inner) (W.contents writer.old.inner) (W.contents writer.new.inner)) }
+        ensures whole { OnOk result (Ran self.old self.new (R.remaining reader.old.inner) (R.remaining reader.new.inner)
+            (W.contents writer.old.inner) (W.contents writer.new.inner)) }
         ensures end { IfOk result (λ n. n ≡ 0 → IsAtEnd (R.remaining reader.new.inner)) }
-        ensures going { IfOk result (λ n. IsGoing self.new × (self.new.scan.limit ≡ self.old.scan.limit) × (self.new.scan.taken ≡ self.old.scan.taken + n) × (0 < n → self.new.scan.taken ≤ self.new.scan.limit)) }
-        ensures read { IsErrOf result Fault.Read → Keeps (R.remaining reader.old.inner) (R.remaining reader.new.inner) × (writer.new ≡ writer.old) × (self.new.scan.taken ≡ self.old.scan.taken) }
+        ensures going { IfOk result (GoesOnBy self.old self.new) }
+        // Nothing was read.
+        ensures read { IsErrOf result Fault.Read → Keeps (R.remaining reader.old.inner) (R.remaining reader.new.inner) }
+        ensures unwritten { IsErrOf result Fault.Read → (writer.new ≡ writer.old) × (self.new.scan.taken ≡ self.old.scan.taken) }
         ensures full { IsErrOf result Fault.TooLong → self.new.scan.taken ≡ self.old.scan.limit }
         ensures same { self.new.scan.limit ≡ self.old.scan.limit }
-        ensures long { IsErrOf result Fault.TooLong → (piece : List ℕ) × Consumes (R.remaining reader.old.inner) (R.remaining reader.new.inner) piece
-            × GoesLong self.old (W.contents writer.old.inner) (W.contents writer.new.inner) piece × (self.old.scan.limit < self.old.scan.taken + length piece) }
-        ensures part { IsErrOf result Fault.Write → (piece : List ℕ) × Consumes (R.remaining reader.old.inner) (R.remaining reader.new.inner) piece
-            × (length self.old.scan.held + length piece ≤ 1029) × IsTakenFrom self.old self.new 0 (length piece) × Stops self.old (W.contents writer.old.inner) (W.contents writer.new.inner) piece }
+        ensures long { IsErrOf result Fault.TooLong → ReadOverLimit self.old (R.remaining reader.old.inner) (R.remaining reader.new.inner)
+            (W.contents writer.old.inner) (W.contents writer.new.inner) }
+        ensures part { IsErrOf result Fault.Write → StopsAtPiece self.old self.new (R.remaining reader.old.inner) (R.remaining reader.new.inner)
+            (W.contents writer.old.inner) (W.contents writer.new.inner) }
         ensures listening { self.old.scan.has_ended ≡ false }
-        ensures fine { OnOk result ((reader.new.failures ≡ reader.old.failures) × (writer.new.failures ≡ writer.old.failures)) }
-        ensures read_failed { IsErrOf result Fault.Read → HasFailed reader.old.failures reader.new.failures }
-        ensures write_failed { IsErrOf result Fault.Write → HasFailed writer.old.failures writer.new.failures }
-        ensures widest { reader.new.widest ≤ max reader.old.widest 1029 }
-        ensures only { IfErr result (λ fault. (fault ≡ Fault.Read) ⊎ ((fault ≡ Fault.TooLong) ⊎ (fault ≡ Fault.Write))) }
+        ensures reader { FailsWithReader result reader.old reader.new }
+        ensures writer { FailsWithWriter result writer.old writer.new }
+        ensures only { IfErr result IsPullFault }
         ensures err { IfErr result (λ fault. LeftBy fault self.new) }
     {
         let room = 1029 - self.held();
@@ -230,7 +226,8 @@ impl Converter {
         reader: &mut Counted<R>,
         writer: &mut Counted<W>,
     ) -> Result<Report, Fault>
-        ensures refused { IfSome (refusal self.old) (λ fault. (result ≡ Err fault) × (self.new ≡ self.old) × (writer.new ≡ writer.old) × (reader.new ≡ reader.old)) }
+        ensures refused { IfSome (refusal self.old) (λ fault.
+            (result ≡ Err fault) × (self.new ≡ self.old) × IsUntouched reader.old reader.new writer.old writer.new) }
         // The rest of the file of all the bytes went out, and that is the report.
         ensures whole { IfOk result (λ report. IfSome (R.remaining reader.old.inner)
             (Finishes self.old self.new (W.contents writer.old.inner) (W.contents writer.new.inner) report)) }
@@ -238,25 +235,23 @@ impl Converter {
         ensures no_epoch { IsErrOf result Fault.NoEpoch → IfSome (R.remaining reader.old.inner)
             (FinishesEmpty self.old self.new (W.contents writer.old.inner) (W.contents writer.new.inner)) }
         // The stream is longer than the limit.
-        ensures too_long { IsErrOf result Fault.TooLong → IfSome (R.remaining reader.old.inner) (λ rest. (s : Settings) (b : List ℕ) → StandsFor self.old s b → self.old.scan.limit < length (b ++ rest)) }
-        ensures read_failed { IsErrOf result Fault.Read → HasFailed reader.old.failures reader.new.failures }
-        ensures write_failed { IsErrOf result Fault.Write → HasFailed writer.old.failures writer.new.failures }
-        // The reader failed: what the bytes that were read add went out.
-        ensures read { IsErrOf result Fault.Read → (front : List ℕ) × Consumes (R.remaining reader.old.inner) (R.remaining reader.new.inner) front
-            × (self.new.scan.taken ≡ self.old.scan.taken + length front) × Adds self.old (W.contents writer.old.inner) (W.contents writer.new.inner) front }
+        ensures too_long { IsErrOf result Fault.TooLong → IfSome (R.remaining reader.old.inner) (IsTooLong self.old) }
         // The bytes up to the limit were taken, and what they add went out.
-        ensures long { IsErrOf result Fault.TooLong → (front : List ℕ) × Consumes (R.remaining reader.old.inner) (R.remaining reader.new.inner) front
-            × GoesLong self.old (W.contents writer.old.inner) (W.contents writer.new.inner) front }
+        ensures long { IsErrOf result Fault.TooLong → RanToLimit self.old (R.remaining reader.old.inner) (R.remaining reader.new.inner)
+            (W.contents writer.old.inner) (W.contents writer.new.inner) }
         ensures full { IsErrOf result Fault.TooLong → self.new.scan.taken ≡ self.old.scan.limit }
         ensures same { self.new.scan.limit ≡ self.old.scan.limit }
+        // The reader failed: what the bytes that were read add went out.
+        ensures read { IsErrOf result Fault.Read → RanToFault self.old self.new (R.remaining reader.old.inner) (R.remaining reader.new.inner)
+            (W.contents writer.old.inner) (W.contents writer.new.inner) }
         // The writer failed, at one of the pieces or at the end.
-        ensures write { IsErrOf result Fault.Write →
-            StopsFeeding self.old self.new (R.remaining reader.old.inner) (R.remaining reader.new.inner) (W.contents writer.old.inner) (W.contents writer.new.inner)
-            ⊎ StopsFinishing self.old self.new (R.remaining reader.old.inner) (R.remaining reader.new.inner) (W.contents writer.old.inner) (W.contents writer.new.inner) }
-        ensures only { IsGoing self.old → IfErr result (λ fault. (fault ≡ Fault.Read) ⊎ ((fault ≡ Fault.TooLong) ⊎ ((fault ≡ Fault.NoEpoch) ⊎ (fault ≡ Fault.Write)))) }
+        ensures write { IsErrOf result Fault.Write → StopsRunning self.old self.new (R.remaining reader.old.inner) (R.remaining reader.new.inner)
+            (W.contents writer.old.inner) (W.contents writer.new.inner) }
+        ensures reader { FailsWithReader result reader.old reader.new }
+        ensures writer { FailsWithWriter result writer.old writer.new }
+        ensures only { IsGoing self.old → IfErr result IsRunFault }
         ensures ended { OnOk result (self.new.has_ended ≡ true) }
         ensures err { IsGoing self.old → IfErr result (λ fault. LeftBy fault self.new) }
-        ensures widest { reader.new.widest ≤ max reader.old.widest 1029 }
     {
         if let Some(fault) = self.refusal() {
             return Err(fault);
@@ -275,14 +270,16 @@ impl Converter {
         ensures value { result ≡ length self.now.scan.held }
         ensures bound { result ≤ 1029 }
         ensures room { IsGoing self.now → result ≤ 1028 }
-        // The held bytes are those from the first undecided place on; when the stream was ended, none.
+        // The held bytes are those from the first undecided place on; when the stream was ended,
+        // none.
         ensures undecided { (s : Settings) (b : List ℕ) → StandsFor self.now s b → self.now.scan.held ≡ drop (decided b) b }
         ensures nothing { (s : Settings) (b : List ℕ) → HasFinished self.now s b → result ≡ 0 }
     {
         self.framer.held()
     }
 
-    /// How many cells of a system are held: those of the pending epoch or, where none is pending, of the one last closed.
+    /// How many cells of a system are held: those of the pending epoch or, where none is pending,
+    /// of the one last closed.
     pub fn cells(&self, system: System) -> usize
         ensures now { (s : Settings) (b : List ℕ) → StandsFor self.now s b → result ≡ cells_kept s system (decided_frames b) }
         ensures all { (s : Settings) (b : List ℕ) → HasFinished self.now s b → result ≡ cells_kept s system (frames_of b) }
@@ -291,8 +288,8 @@ impl Converter {
         self.filer.gatherer.cells(system)
     }
 
-    /// How many lock records are held: one for each satellite and signal of which a closed epoch has a kept cell with a valid
-    /// phase and a known lock.
+    /// How many lock records are held: one for each satellite and signal of which a closed epoch
+    /// has a kept cell with a valid phase and a known lock.
     pub fn locks(&self) -> usize
         ensures now { (s : Settings) (b : List ℕ) → StandsFor self.now s b → result ≡ locks_kept s (decided_frames b) }
         ensures all { (s : Settings) (b : List ℕ) → HasFinished self.now s b → result ≡ locks_in_all s (frames_of b) }

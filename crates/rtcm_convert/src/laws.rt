@@ -35,14 +35,16 @@ pub fn counts()
     obs_epoch::laws::kinds();
 }
 
-/// What is written is the text of a file value: of the epochs in which a satellite has a value, in order.
+/// What is written is the text of a file value: of the epochs in which a satellite has a value, in
+/// order.
 pub fn text()
     ensures { IsFileText }
 {
     rinex_file::laws::file();
 }
 
-/// The file that frames make is empty or the text of a file value, and so is what is written of it so far.
+/// The file that frames make is empty or the text of a file value, and so is what is written of it
+/// so far.
 pub fn readable()
     ensures file { FilesAreReadable }
     ensures some { FilesHaveValues }
@@ -55,8 +57,8 @@ pub fn readable()
     text();
 }
 
-/// Whatever the setup and the stream are: what is written is empty or the text of a file value, which
-/// [`read_file`](rinex_file::read_file) reads as that value.
+/// Whatever the setup and the stream are: what is written is empty or the text of a file value,
+/// which [`read_file`](rinex_file::read_file) reads as that value.
 pub fn read_back(setup: &Setup)
     ensures file { (b : List ℕ) → IsReadable (file (settings setup.now) (frames_of b)) }
     ensures some { (b : List ℕ) → 0 < epochs_in (settings setup.now) (frames_of b) → HasValue (file (settings setup.now) (frames_of b)) }

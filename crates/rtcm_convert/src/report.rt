@@ -1,7 +1,7 @@
 //! What a conversion reports.
 
-/// What was counted of a whole stream. Each frame is counted once among `faulty`, `station`, `other`, `ignored`,
-/// `late`, `past` and `taken`.
+/// What was counted of a whole stream. Each frame is counted once among `faulty`, `station`,
+/// `other`, `ignored`, `late`, `past` and `taken`.
 #[derive(Clone, Copy, Debug, PartialEq, Eq)]
 pub struct Report {
     /// The bytes of the stream.

@@ -12,7 +12,8 @@ pub struct Setup {
     pub texts: HeaderTexts,
     /// The GPS week of the first observations, from 0 to 99,999, without wrapping.
     pub start_week: u32,
-    /// The reference station (DF003, below 4,096) whose messages count; `None` takes those of every station.
+    /// The reference station (DF003, below 4,096) whose messages count; `None` takes those of every
+    /// station.
     pub station: Option<u16>,
     /// What closes an epoch.
     pub gather: Gather,

@@ -1,23 +1,16 @@
 //! From bytes to the bytes of a file.
-ghost use Rattle.std.specs.Prelude.{◌≡◌, ◌<◌, ◌≤◌, ◌+◌, ◌++◌, ◌∷◌, [], List, ℕ, false, true, OnOk, OnErr, IfErr, IsErrOf, length, take, ◌⊎◌};
+ghost use Rattle.std.specs.Prelude.{◌≡◌, ◌<◌, ◌≤◌, ◌+◌, false, true, OnOk, OnErr, IfErr, IsErrOf, length};
 ghost use Rattle.std.specs.Io.KnownBytes.{Keeps};
-ghost use Rattle.rtcm_bits.specs.Device.{HasFailed};
-ghost use Rattle.rtcm_scan.specs.Frames.{Framed, frames_of};
-ghost use Rattle.rtcm_scan.specs.Decided.{decided_frames};
-ghost use Rattle.rtcm_scan.specs.Known.{known_frames};
-ghost use Rattle.rtcm_scan.specs.Drained.{IsDrained};
-ghost use Rattle.rtcm_scan.specs.Examined.{HasExamined, IsCounted};
-ghost use Rattle.rtcm_convert.specs.Converted.{Settings, so_far, file, epochs_in};
-ghost use Rattle.rtcm_convert.specs.Fed.{GoesOn, BreaksOff};
-ghost use Rattle.rtcm_convert.specs.Filed.{Files, HasGathered};
-ghost use Rattle.rtcm_convert.specs.Outcomes.{outcomes, tally_of, capped};
-ghost use Rattle.rtcm_convert.specs.Stream.{Drained, StandsForSome, Extends, Breaks, Completes, BreaksAtEnd};
+ghost use Rattle.rtcm_convert.specs.Faults.{FailsToWrite, FailsWithWriter, IsFeedFault};
+ghost use Rattle.rtcm_convert.specs.Steps.{WritesRest, BreaksInRest, CountsEpochs, GathersAll};
+ghost use Rattle.rtcm_convert.specs.Stream.{StandsForSome, HandsOnAll, BreaksHandingOn, TakesBytes, BreaksInBytes, TakesUpTo, EndsBytes, BreaksAtEndOf};
+ghost use Rattle.rtcm_convert.specs.Stream.{CountsAllEpochs, CountsAllFrames, IsAllDecided, IsAllGathered, IsAllTaken};
 
 use crate::fault::Fault;
 use crate::filer::Filer;
 use crate::laws;
 use arrayvec::ArrayVec;
-use rtcm_bits::{Counted, DeviceFailed};
+use rtcm_bits::Counted;
 use rtcm_scan::{Frame, Framer};
 use std::io::Write;
 
@@ -26,15 +19,11 @@ pub(crate) fn drain<W: Write>(
     framer: &mut Framer,
     filer: &mut Filer,
     writer: &mut Counted<W>,
-) -> Result<(), DeviceFailed>
+) -> Result<(), Fault>
     requires { filer.old.gatherer.has_ended ≡ false }
-    ensures whole { OnOk result ((s : Settings) (b : List ℕ) (fs : List Framed) → HasExamined framer.old b fs → Files filer.old s fs → Drained framer.new filer.new s b
-        × GoesOn (W.contents writer.old.inner) (W.contents writer.new.inner) (so_far s fs) (so_far s (known_frames framer.old.has_ended b))) }
-    ensures part { OnErr result ((s : Settings) (b : List ℕ) (fs : List Framed) → HasExamined framer.old b fs → Files filer.old s fs
-        → BreaksOff (W.contents writer.old.inner) (W.contents writer.new.inner) (so_far s fs) (so_far s (known_frames framer.old.has_ended b))) }
-    ensures failed { OnErr result (HasFailed writer.old.failures writer.new.failures) }
-    ensures fine { OnOk result (writer.new.failures ≡ writer.old.failures) }
-    ensures widest { writer.new.widest ≡ writer.old.widest }
+    ensures whole { OnOk result (HandsOnAll framer.old filer.old framer.new filer.new (W.contents writer.old.inner) (W.contents writer.new.inner)) }
+    ensures part { OnErr result (BreaksHandingOn framer.old filer.old (W.contents writer.old.inner) (W.contents writer.new.inner)) }
+    ensures device { FailsToWrite result writer.old writer.new }
     ensures ended { filer.new.gatherer.has_ended ≡ false }
     ensures ready { OnOk result (framer.new.is_ready ≡ true) }
     ensures examined { StandsForSome framer.old → StandsForSome framer.new }
@@ -64,15 +53,10 @@ fn feed_block<W: Write>(
     requires listening { framer.old.has_ended ≡ false }
     requires room { length framer.old.held + length block.now ≤ 1029 }
     requires within { framer.old.taken + length block.now ≤ framer.old.limit }
-    ensures whole { OnOk result ((s : Settings) (b : List ℕ) → Drained framer.old filer.old s b → Drained framer.new filer.new s (b ++ block.now)
-        × Extends (W.contents writer.old.inner) (W.contents writer.new.inner) s b (b ++ block.now)) }
-    ensures part { OnErr result ((s : Settings) (b : List ℕ) → Drained framer.old filer.old s b
-        → Breaks (W.contents writer.old.inner) (W.contents writer.new.inner) s b (b ++ block.now)) }
-    ensures failed { OnErr result (HasFailed writer.old.failures writer.new.failures) }
+    ensures whole { OnOk result (TakesBytes framer.old filer.old framer.new filer.new (W.contents writer.old.inner) (W.contents writer.new.inner) block.now) }
+    ensures part { OnErr result (BreaksInBytes framer.old filer.old (W.contents writer.old.inner) (W.contents writer.new.inner) block.now) }
+    ensures device { FailsToWrite result writer.old writer.new }
     ensures most { (framer.old.taken ≤ framer.new.taken) × (framer.new.taken ≤ framer.old.taken + length block.now) }
-    ensures only { IfErr result (λ fault. fault ≡ Fault.Write) }
-    ensures fine { OnOk result (writer.new.failures ≡ writer.old.failures) }
-    ensures widest { writer.new.widest ≡ writer.old.widest }
     ensures going { filer.new.gatherer.has_ended ≡ false }
     ensures ready { OnOk result (framer.new.is_ready ≡ true) }
     ensures taken { OnOk result (framer.new.taken ≡ framer.old.taken + length block.now) }
@@ -82,10 +66,7 @@ fn feed_block<W: Write>(
 {
     match framer.push_all(block) {
         Err(_) => Err(Fault::TooLong),
-        Ok(()) => match drain(framer, filer, writer) {
-            Ok(()) => Ok(()),
-            Err(_) => Err(Fault::Write),
-        },
+        Ok(()) => drain(framer, filer, writer),
     }
 }
 
@@ -99,23 +80,19 @@ fn take_bytes<W: Write>(
     requires ready { framer.old.is_ready ≡ true }
     requires going { filer.old.gatherer.has_ended ≡ false }
     requires listening { framer.old.has_ended ≡ false }
-    ensures whole { OnOk result ((s : Settings) (b : List ℕ) → Drained framer.old filer.old s b → Drained framer.new filer.new s (b ++ piece.now)
-        × Extends (W.contents writer.old.inner) (W.contents writer.new.inner) s b (b ++ piece.now)) }
-    ensures part { IsErrOf result Fault.Write → (s : Settings) (b : List ℕ) → Drained framer.old filer.old s b
-        → Breaks (W.contents writer.old.inner) (W.contents writer.new.inner) s b (b ++ piece.now) }
-    ensures failed { IsErrOf result Fault.Write → HasFailed writer.old.failures writer.new.failures }
+    ensures whole { OnOk result (TakesBytes framer.old filer.old framer.new filer.new (W.contents writer.old.inner) (W.contents writer.new.inner) piece.now) }
+    ensures part { IsErrOf result Fault.Write → BreaksInBytes framer.old filer.old (W.contents writer.old.inner) (W.contents writer.new.inner) piece.now }
     // The bytes up to the limit were taken.
-    ensures long { IsErrOf result Fault.TooLong → (s : Settings) (b : List ℕ) → Drained framer.old filer.old s b
-        → Extends (W.contents writer.old.inner) (W.contents writer.new.inner) s b (take framer.old.limit (b ++ piece.now)) }
+    ensures long { IsErrOf result Fault.TooLong
+        → TakesUpTo framer.old filer.old (W.contents writer.old.inner) (W.contents writer.new.inner) framer.old.limit piece.now }
     ensures limit { IsErrOf result Fault.TooLong → framer.old.limit < framer.old.taken + length piece.now }
-    ensures only { IfErr result (λ fault. (fault ≡ Fault.TooLong) ⊎ (fault ≡ Fault.Write)) }
-    ensures fine { OnOk result (writer.new.failures ≡ writer.old.failures) }
-    ensures calm { IsErrOf result Fault.TooLong → writer.new.failures ≡ writer.old.failures }
-    ensures widest { writer.new.widest ≡ writer.old.widest }
+    ensures only { IfErr result IsFeedFault }
+    ensures device { FailsWithWriter result writer.old writer.new }
     ensures going { filer.new.gatherer.has_ended ≡ false }
     ensures ready { OnOk result (framer.new.is_ready ≡ true) }
     ensures taken { OnOk result (framer.new.taken ≡ framer.old.taken + length piece.now) }
-    // At a fault no byte behind the one at which it came was taken, and at `TooLong` all up to the limit.
+    // At a fault no byte behind the one at which it came was taken, and at `TooLong` all up to the
+    // limit.
     ensures most { (framer.old.taken ≤ framer.new.taken) × (framer.new.taken ≤ framer.old.taken + length piece.now) }
     ensures full { IsErrOf result Fault.TooLong → framer.new.taken ≡ framer.old.limit }
     ensures within { OnOk result (0 < length piece.now → framer.new.taken ≤ framer.new.limit) }
@@ -129,15 +106,14 @@ fn take_bytes<W: Write>(
         if next == taken {
             return Err(Fault::TooLong);
         }
-        if let Err(fault) = feed_block(framer, filer, &piece[taken..next], writer) {
-            return Err(fault);
-        }
+        feed_block(framer, filer, &piece[taken..next], writer)?;
         taken = next;
     }
     Ok(())
 }
 
-/// Takes these bytes. What they write is sent on at once, so that no line of an epoch waits for the bytes that follow.
+/// Takes these bytes. What they write is sent on at once, so that no line of an epoch waits for the
+/// bytes that follow.
 pub(crate) fn feed_bytes<W: Write>(
     framer: &mut Framer,
     filer: &mut Filer,
@@ -147,22 +123,19 @@ pub(crate) fn feed_bytes<W: Write>(
     requires ready { framer.old.is_ready ≡ true }
     requires going { filer.old.gatherer.has_ended ≡ false }
     requires listening { framer.old.has_ended ≡ false }
-    ensures whole { OnOk result ((s : Settings) (b : List ℕ) → Drained framer.old filer.old s b → Drained framer.new filer.new s (b ++ piece.now)
-        × Extends (W.contents writer.old.inner) (W.contents writer.new.inner) s b (b ++ piece.now)) }
-    ensures part { IsErrOf result Fault.Write → (s : Settings) (b : List ℕ) → Drained framer.old filer.old s b
-        → Breaks (W.contents writer.old.inner) (W.contents writer.new.inner) s b (b ++ piece.now) }
-    ensures failed { IsErrOf result Fault.Write → HasFailed writer.old.failures writer.new.failures }
+    ensures whole { OnOk result (TakesBytes framer.old filer.old framer.new filer.new (W.contents writer.old.inner) (W.contents writer.new.inner) piece.now) }
+    ensures part { IsErrOf result Fault.Write → BreaksInBytes framer.old filer.old (W.contents writer.old.inner) (W.contents writer.new.inner) piece.now }
     // The bytes up to the limit were taken.
-    ensures long { IsErrOf result Fault.TooLong → (s : Settings) (b : List ℕ) → Drained framer.old filer.old s b
-        → Extends (W.contents writer.old.inner) (W.contents writer.new.inner) s b (take framer.old.limit (b ++ piece.now)) }
+    ensures long { IsErrOf result Fault.TooLong
+        → TakesUpTo framer.old filer.old (W.contents writer.old.inner) (W.contents writer.new.inner) framer.old.limit piece.now }
     ensures limit { IsErrOf result Fault.TooLong → framer.old.limit < framer.old.taken + length piece.now }
-    ensures only { IfErr result (λ fault. (fault ≡ Fault.TooLong) ⊎ (fault ≡ Fault.Write)) }
-    ensures fine { OnOk result (writer.new.failures ≡ writer.old.failures) }
-    ensures widest { writer.new.widest ≡ writer.old.widest }
+    ensures only { IfErr result IsFeedFault }
+    ensures device { FailsWithWriter result writer.old writer.new }
     ensures going { filer.new.gatherer.has_ended ≡ false }
     ensures ready { OnOk result (framer.new.is_ready ≡ true) }
     ensures taken { OnOk result (framer.new.taken ≡ framer.old.taken + length piece.now) }
-    // At a fault no byte behind the one at which it came was taken, and at `TooLong` all up to the limit.
+    // At a fault no byte behind the one at which it came was taken, and at `TooLong` all up to the
+    // limit.
     ensures most { (framer.old.taken ≤ framer.new.taken) × (framer.new.taken ≤ framer.old.taken + length piece.now) }
     ensures full { IsErrOf result Fault.TooLong → framer.new.taken ≡ framer.old.limit }
     ensures within { OnOk result (0 < length piece.now → framer.new.taken ≤ framer.new.limit) }
@@ -172,14 +145,11 @@ pub(crate) fn feed_bytes<W: Write>(
     laws::prefix();
     let epochs = filer.epochs;
     match take_bytes(framer, filer, piece, writer) {
-        Ok(()) => match send_since(epochs, filer, writer) {
-            Ok(()) => Ok(()),
-            Err(_) => Err(Fault::Write),
-        },
-        Err(Fault::TooLong) => match send_since(epochs, filer, writer) {
-            Ok(()) => Err(Fault::TooLong),
-            Err(_) => Err(Fault::Write),
-        },
+        Ok(()) => send_since(epochs, filer, writer),
+        Err(Fault::TooLong) => {
+            send_since(epochs, filer, writer)?;
+            Err(Fault::TooLong)
+        }
         Err(fault) => Err(fault),
     }
 }
@@ -189,35 +159,29 @@ fn send_since<W: Write>(
     epochs: u64,
     filer: &Filer,
     writer: &mut Counted<W>,
-) -> Result<(), DeviceFailed>
+) -> Result<(), Fault>
     ensures kept { Keeps (W.contents writer.old.inner) (W.contents writer.new.inner) }
-    ensures failed { OnErr result (HasFailed writer.old.failures writer.new.failures) }
-    ensures fine { OnOk result (writer.new.failures ≡ writer.old.failures) }
-    ensures widest { writer.new.widest ≡ writer.old.widest }
+    ensures device { FailsToWrite result writer.old writer.new }
 {
     if filer.epochs == epochs {
         return Ok(());
     }
-    writer.flush_whole()
+    Ok(writer.flush_whole()?)
 }
 
 /// Writes the rest of the file, and sends it on.
-fn end_file<W: Write>(filer: &mut Filer, writer: &mut Counted<W>) -> Result<(), DeviceFailed>
+fn end_file<W: Write>(filer: &mut Filer, writer: &mut Counted<W>) -> Result<(), Fault>
     requires { filer.old.gatherer.has_ended ≡ false }
-    ensures whole { OnOk result ((s : Settings) (fs : List Framed) → Files filer.old s fs → GoesOn (W.contents writer.old.inner) (W.contents writer.new.inner) (so_far s fs) (file s fs)) }
-    ensures epochs { OnOk result ((s : Settings) (fs : List Framed) → Files filer.old s fs → filer.new.epochs ≡ capped (epochs_in s fs)) }
-    ensures gathered { (s : Settings) (fs : List Framed) → Files filer.old s fs → HasGathered filer.new s fs }
+    ensures whole { OnOk result (WritesRest filer.old (W.contents writer.old.inner) (W.contents writer.new.inner)) }
+    ensures epochs { OnOk result (CountsEpochs filer.old filer.new.epochs) }
+    ensures gathered { GathersAll filer.old filer.new }
     ensures same { filer.new.tally ≡ filer.old.tally }
-    ensures part { OnErr result ((s : Settings) (fs : List Framed) → Files filer.old s fs → BreaksOff (W.contents writer.old.inner) (W.contents writer.new.inner) (so_far s fs) (file s fs)) }
-    ensures failed { OnErr result (HasFailed writer.old.failures writer.new.failures) }
-    ensures fine { OnOk result (writer.new.failures ≡ writer.old.failures) }
-    ensures widest { writer.new.widest ≡ writer.old.widest }
+    ensures part { OnErr result (BreaksInRest filer.old (W.contents writer.old.inner) (W.contents writer.new.inner)) }
+    ensures device { FailsToWrite result writer.old writer.new }
     ensures ended { filer.new.gatherer.has_ended ≡ true }
 {
-    match filer.end(writer) {
-        Ok(()) => writer.flush_whole(),
-        Err(fault) => Err(fault),
-    }
+    filer.end(writer)?;
+    Ok(writer.flush_whole()?)
 }
 
 /// Ends the stream: takes the frames that are left, and writes the rest of the file.
@@ -225,21 +189,17 @@ pub(crate) fn end_stream<W: Write>(
     framer: &mut Framer,
     filer: &mut Filer,
     writer: &mut Counted<W>,
-) -> Result<(), DeviceFailed>
+) -> Result<(), Fault>
     requires going { filer.old.gatherer.has_ended ≡ false }
     requires listening { framer.old.has_ended ≡ false }
-    ensures whole { OnOk result ((s : Settings) (b : List ℕ) → Drained framer.old filer.old s b
-        → Completes (W.contents writer.old.inner) (W.contents writer.new.inner) s b b) }
-    ensures epochs { OnOk result ((s : Settings) (b : List ℕ) → Drained framer.old filer.old s b → filer.new.epochs ≡ epochs_in s (frames_of b)) }
-    ensures drained { OnOk result ((s : Settings) (b : List ℕ) → Drained framer.old filer.old s b → IsDrained framer.new b (frames_of b) × IsCounted framer.new b) }
-    ensures gathered { OnOk result ((s : Settings) (b : List ℕ) → Drained framer.old filer.old s b → HasGathered filer.new s (frames_of b)) }
-    ensures within { (s : Settings) (b : List ℕ) → Drained framer.old filer.old s b → (framer.new.taken ≡ length b) × (length b ≤ framer.new.limit) }
-    ensures tally { OnOk result ((s : Settings) (b : List ℕ) → Drained framer.old filer.old s b → filer.new.tally ≡ tally_of (outcomes s (frames_of b))) }
-    ensures part { OnErr result ((s : Settings) (b : List ℕ) → Drained framer.old filer.old s b
-        → BreaksAtEnd (W.contents writer.old.inner) (W.contents writer.new.inner) s b b) }
-    ensures failed { OnErr result (HasFailed writer.old.failures writer.new.failures) }
-    ensures fine { OnOk result (writer.new.failures ≡ writer.old.failures) }
-    ensures widest { writer.new.widest ≡ writer.old.widest }
+    ensures whole { OnOk result (EndsBytes framer.old filer.old (W.contents writer.old.inner) (W.contents writer.new.inner)) }
+    ensures epochs { OnOk result (CountsAllEpochs framer.old filer.old filer.new.epochs) }
+    ensures drained { OnOk result (IsAllDecided framer.old filer.old framer.new) }
+    ensures gathered { OnOk result (IsAllGathered framer.old filer.old filer.new) }
+    ensures within { IsAllTaken framer.old filer.old framer.new }
+    ensures tally { OnOk result (CountsAllFrames framer.old filer.old filer.new.tally) }
+    ensures part { OnErr result (BreaksAtEndOf framer.old filer.old (W.contents writer.old.inner) (W.contents writer.new.inner)) }
+    ensures device { FailsToWrite result writer.old writer.new }
     ensures examined { StandsForSome framer.old → StandsForSome framer.new }
     ensures same { (framer.new.limit ≡ framer.old.limit) × (framer.new.taken ≡ framer.old.taken) × (framer.new.has_ended ≡ true) }
 {
@@ -247,8 +207,6 @@ pub(crate) fn end_stream<W: Write>(
     laws::filed();
     rtcm_scan::laws::prefix();
     framer.end();
-    match drain(framer, filer, writer) {
-        Ok(()) => end_file(filer, writer),
-        Err(fault) => Err(fault),
-    }
+    drain(framer, filer, writer)?;
+    end_file(filer, writer)
 }

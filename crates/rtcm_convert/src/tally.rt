@@ -90,7 +90,8 @@ impl Tally {
         self.crowded = self.crowded.saturating_add(one.crowded);
     }
 
-    /// The report of so many bytes, of which some are in no frame, with these counts and so many epochs.
+    /// The report of so many bytes, of which some are in no frame, with these counts and so many
+    /// epochs.
     pub(crate) fn report(&self, bytes: u64, skipped_bytes: u64, epochs: u64) -> Report
         ensures { result ≡ report_with bytes skipped_bytes self.now epochs }
     {

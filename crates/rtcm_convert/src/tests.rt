@@ -1,5 +1,5 @@
-//! What no clause says: worked streams and their files, that each call can succeed, and what goes out where a device
-//! fails.
+//! What no clause says: worked streams and their files, that each call can succeed, and what goes
+//! out where a device fails.
 mod calls;
 mod faults;
 mod hostile;
@@ -27,7 +27,8 @@ const POINT_AND_HEIGHT: [u8; 21] = [
     0x98, 0x6F, 0x33, 0x3A, 0x98,
 ];
 
-/// Message 1077 of station 2003, one second into the week, the last of its time: satellite 5, signal 1C.
+/// Message 1077 of station 2003, one second into the week, the last of its time: satellite 5,
+/// signal 1C.
 const FULL: [u8; 36] = [
     0x43, 0x57, 0xD3, 0x00, 0x00, 0x0F, 0xA0, 0x00, 0x00, 0x04, 0x00, 0x00, 0x00, 0x00, 0x00, 0x00,
     0x00, 0x20, 0x00, 0x00, 0x00, 0x51, 0x80, 0x00, 0x01, 0x90, 0x00, 0x00, 0x00, 0x00, 0x00, 0x00,

@@ -1,4 +1,5 @@
-//! The converter's calls by themselves. They have no clause, so that a test isn't proved over what it doesn't need.
+//! The converter's calls by themselves. They have no clause, so that a test isn't proved over what
+//! it doesn't need.
 use crate::{Converter, Fault, Report, Setup, convert_pieces, convert_stream};
 use gnss_obs::System;
 use rtcm_bits::Counted;

@@ -1,4 +1,5 @@
-//! Cut and damaged streams behind one that makes a file, against functions as slow as the definitions.
+//! Cut and damaged streams behind one that makes a file, against functions as slow as the
+//! definitions.
 use super::{
     COMPACT, EPOCH, FULL, HEADER, ONE_TAKEN, Outcome, POINT, POINT_AND_HEIGHT, fed, framed, setup,
     text_of,
@@ -8,7 +9,8 @@ use rtcm_bits::crc24q;
 use std::alloc::{AllocError, Global};
 use std::test::Fail;
 
-/// What the definitions say of a stream: its frames, the bytes in none of them, all looks and the most at one byte.
+/// What the definitions say of a stream: its frames, the bytes in none of them, all looks and the
+/// most at one byte.
 #[derive(Clone, Copy, Debug, PartialEq, Eq)]
 struct Slow {
     frames: u64,
@@ -71,8 +73,8 @@ fn slowly(alloc: Global, bytes: &[u8]) -> Result<Slow, AllocError> {
     })
 }
 
-/// Whether the file is the one of the first message, and all counts are those of the definitions. Behind the first frame
-/// the stream has nothing that is read.
+/// Whether the file is the one of the first message, and all counts are those of the definitions.
+/// Behind the first frame the stream has nothing that is read.
 fn agrees(alloc: Global, stream: &[u8], file: &[u8], got: &Outcome) -> Result<bool, AllocError> {
     let slow = slowly(alloc, stream)?;
     let report = Report {
@@ -89,7 +91,8 @@ fn agrees(alloc: Global, stream: &[u8], file: &[u8], got: &Outcome) -> Result<bo
     )
 }
 
-/// Whether a stream of a good frame and these bytes gives what the definitions give, in pieces of one byte and of two.
+/// Whether a stream of a good frame and these bytes gives what the definitions give, in pieces of
+/// one byte and of two.
 fn is_told_behind(alloc: Global, good: &[u8], file: &[u8], bad: &[u8]) -> Result<bool, AllocError> {
     let mut stream = Vec::new(alloc);
     stream.extend_from_slice(good)?;

@@ -17,8 +17,8 @@ loop-offset-preserved g c =
     record {
       came = came_more c.args.framer.now c.loop-offset.framer c.next_into.new.self c.args.filer.now c.loop-offset.filer c.take_frame.new.self (frame_at c.in-Some.offset c.next_into.new.message.items) _ _ _ i.came n.some_counts t.whole;
       going = t.ended;
-      fine = t.fine ∙ i.fine;
-      widest = t.widest ∙ i.widest;
+      fine = t.device.1.1 ∙ i.fine;
+      widest = t.device.1.2 ∙ i.widest;
       limit = n.limit ∙ i.limit;
       taken = n.taken ∙ i.taken;
       examined = λ h. some_handed c.loop-offset.framer c.next_into.new.self (frame_at c.in-Some.offset c.next_into.new.message.items) n.some_counts (i.examined h);

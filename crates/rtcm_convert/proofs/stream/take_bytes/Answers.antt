@@ -2,10 +2,10 @@ use Rattle.std.proofs.Common.{◌∙◌, arith, refl}
 use Rattle.rtcm_convert.proofs.PieceLemmas.{fed_more, fed_part, fed_long, fed_whole, at_limit}
 use Rattle.rtcm_convert.proofs.stream.take_bytes.Goals as goal
 
-pub returns-in-Err-clause-part : goal.returns-in-Err-clause-part
-returns-in-Err-clause-part g c = λ e.
+pub returns-in_err-feed_block-clause-part : goal.returns-in_err-feed_block-clause-part
+returns-in_err-feed_block-clause-part g c = λ e.
     fed_part c.prefix.ensures.grows c.args.framer.now c.loop-taken.framer c.args.filer.now c.loop-taken.filer _ _ _ c.args.piece.now c.loop-taken.taken c.min.result
-    c.loop-taken.invariant.came c.in-Err.ensures.part
+    c.loop-taken.invariant.came c.in_err-feed_block.ensures.part
 
 pub returns-then-next-taken-clause-long : goal.returns-then-next-taken-clause-long
 returns-then-next-taken-clause-long g c = λ e.
@@ -17,7 +17,7 @@ returns-then-next-taken-clause-long g c = λ e.
 pub loop-taken-preserved : goal.loop-taken-preserved
 loop-taken-preserved g c =
     let i = c.loop-taken.invariant in
-    let n = c.in_default.ensures in
+    let n = c.in_ok-feed_block.ensures in
     record {
       came = fed_more c.args.framer.now c.loop-taken.framer c.feed_block.new.framer c.args.filer.now c.loop-taken.filer c.feed_block.new.filer _ _ _ c.args.piece.now c.loop-taken.taken c.min.result
           i.came n.whole;
@@ -25,8 +25,8 @@ loop-taken-preserved g c =
       ready = n.ready;
       going = n.going;
       listening = n.same.1;
-      fine = n.fine ∙ i.fine;
-      widest = n.widest ∙ i.widest;
+      fine = n.device.1.1 ∙ i.fine;
+      widest = n.device.1.2 ∙ i.widest;
       taken = omega (arith, n.taken, i.taken);
       examined = λ h. n.examined (i.examined h);
       limit = n.same.0 ∙ i.limit;
@@ -38,8 +38,8 @@ returns-clause-whole g c =
     fed_whole c.args.framer.now c.loop-taken.framer c.args.filer.now c.loop-taken.filer _ _ c.args.piece.now c.loop-taken.taken
     c.loop-taken.invariant.came c.loop-taken.invariant.bound c.loop-taken-test.false
 
-pub returns-in-Err-clause-examined : goal.returns-in-Err-clause-examined
-returns-in-Err-clause-examined g c = λ h. c.in-Err.ensures.examined (c.loop-taken.invariant.examined h)
+pub returns-in_err-feed_block-clause-examined : goal.returns-in_err-feed_block-clause-examined
+returns-in_err-feed_block-clause-examined g c = λ h. c.in_err-feed_block.ensures.examined (c.loop-taken.invariant.examined h)
 
 pub returns-then-next-taken-clause-full : goal.returns-then-next-taken-clause-full
 returns-then-next-taken-clause-full g c = λ _.

@@ -1,4 +1,5 @@
 use Rattle.std.proofs.Common.{ap, arith, ◌∙◌, inl, inr, refl}
+use Rattle.rtcm_convert.proofs.FaultLemmas.{at_most, wider, reader_after, reader_ended, writer_after, writer_since, of_refusal}
 use Rattle.rtcm_convert.proofs.PartLemmas.{same_fault}
 use Rattle.rtcm_convert.proofs.RunLemmas.{going_on, ran_start, ran-trans, ran_whole, ran_empty, ran_long, run_read, run_long, run_feeding, run_finishing}
 use Rattle.rtcm_convert.proofs.converter.Converter.run.Goals as goal
@@ -19,9 +20,10 @@ loop-self-preserved g c =
       came = ran-trans c.args.self.now c.loop-self.self c.pull.new.self _ _ _ _ _ _ i.came p;
       going = n.going.0;
       limit = n.going.1 ∙ i.limit;
-      reader = n.fine.0 ∙ i.reader;
-      writer = n.fine.1 ∙ i.writer;
-      widest = omega (arith, n.widest, i.widest);
+      reader = n.reader.1 ∙ i.reader;
+      widest = omega (arith, n.reader.2, i.widest);
+      writer = n.writer.1 ∙ i.writer;
+      unread = n.writer.2 ∙ i.unread;
     }
 
 pub returns-in-Ok-eq0-clause-write : goal.returns-in-Ok-eq0-clause-write
@@ -45,8 +47,9 @@ loop-self-init g c = record {
   going = going_on c.args.self.now c.in_default.ensures;
   limit = refl;
   reader = refl;
-  writer = refl;
   widest = omega arith;
+  writer = refl;
+  unread = refl;
 }
 
 pub returns-in-Ok-eq0-clause-no_epoch : goal.returns-in-Ok-eq0-clause-no_epoch
@@ -62,5 +65,36 @@ returns-in-Err-clause-too_long g c = λ e.
 
 pub returns-in-Err-clause-read : goal.returns-in-Err-clause-read
 returns-in-Err-clause-read g c = λ e.
-    let p = c.in-Err.ensures.read (same_fault _ _ e) in
-    run_read c.args.self.now c.loop-self.self c.pull.new.self _ _ _ _ _ _ c.loop-self.invariant.came p.0 (ap (λ d. g.W.Write.contents d.inner) p.1) p.2
+    let p = c.in-Err.ensures.unwritten (same_fault _ _ e) in
+    run_read c.args.self.now c.loop-self.self c.pull.new.self _ _ _ _ _ _ c.loop-self.invariant.came (c.in-Err.ensures.read (same_fault _ _ e))
+    (ap (λ d. g.W.Write.contents d.inner) p.0) p.1
+
+pub returns-in-Err-clause-reader : goal.returns-in-Err-clause-reader
+returns-in-Err-clause-reader g c =
+    let d = c.in-Err.ensures.reader in
+    let i = c.loop-self.invariant in
+    (reader_after c.in-Err.fault _ _ _ i.reader d.0, tt, wider _ _ _ i.widest d.2)
+
+pub returns-in-Err-clause-writer : goal.returns-in-Err-clause-writer
+returns-in-Err-clause-writer g c =
+    let d = c.in-Err.ensures.writer in
+    let i = c.loop-self.invariant in
+    (writer_after c.in-Err.fault _ _ _ i.writer d.0, tt, d.2 ∙ i.unread)
+
+pub returns-in-Ok-eq0-clause-reader : goal.returns-in-Ok-eq0-clause-reader
+returns-in-Ok-eq0-clause-reader g c =
+    let n = c.in-Ok-eq0.ensures in
+    let i = c.loop-self.invariant in
+    reader_ended c.finish.result c.args.reader.now c.pull.new.reader (c.finish.ensures.only n.going.0) (n.reader.1 ∙ i.reader) (wider _ _ _ i.widest n.reader.2)
+
+pub returns-in-Ok-eq0-clause-writer : goal.returns-in-Ok-eq0-clause-writer
+returns-in-Ok-eq0-clause-writer g c =
+    let n = c.in-Ok-eq0.ensures in
+    let i = c.loop-self.invariant in
+    writer_since c.finish.result c.args.writer.now c.pull.new.writer c.finish.new.writer (n.writer.1 ∙ i.writer) (n.writer.2 ∙ i.unread) c.finish.ensures.device
+
+pub returns-in-Some-clause-reader : goal.returns-in-Some-clause-reader
+returns-in-Some-clause-reader g c = ((of_refusal c.args.self.now c.in-Some.fault c.in-Some.ensures c.args.reader.now.failures).1, tt, at_most _)
+
+pub returns-in-Some-clause-writer : goal.returns-in-Some-clause-writer
+returns-in-Some-clause-writer g c = ((of_refusal c.args.self.now c.in-Some.fault c.in-Some.ensures c.args.writer.now.failures).0, tt, refl)

@@ -10,11 +10,11 @@ returns-in_err-open-clause-part g c =
     on_err _ _ (open_lent f.texts _ f.values _ (closed_in f.gatherer) c.in-Some.epoch.now f.gatherer.values c.in-Some.ensures.closed c.satellites.ensures.count _ _ c.if-satellites-eq0.false
     c.in_err-open.ensures.part)
 
-pub returns-in-Err-clause-part : goal.returns-in-Err-clause-part
-returns-in-Err-clause-part g c =
+pub returns-in_err-write_epoch-clause-part : goal.returns-in_err-write_epoch-clause-part
+returns-in_err-write_epoch-clause-part g c =
     let f = c.args.self.now in
-    part_lent f.texts _ f.values _ (closed_in f.gatherer) c.in-Some.epoch.now f.gatherer.values c.in-Some.ensures.closed c.satellites.ensures.count _ _ _ _ c.if-satellites-eq0.false
-    c.plan.ensures c.in_ok-open.ensures.whole c.in-Err.ensures.part
+    on_err _ _ (part_lent f.texts _ f.values _ (closed_in f.gatherer) c.in-Some.epoch.now f.gatherer.values c.in-Some.ensures.closed c.satellites.ensures.count _ _ _ _ c.if-satellites-eq0.false
+    c.plan.ensures c.in_ok-open.ensures.whole c.in_err-write_epoch.ensures.part)
 
 pub returns-then-satellites-eq0-clause-whole : goal.returns-then-satellites-eq0-clause-whole
 returns-then-satellites-eq0-clause-whole g c =
@@ -26,14 +26,14 @@ returns-then-satellites-eq0-clause-now g c =
     let f = c.args.self.now in
     now_none f.texts f.gatherer.clock.setup.plan f.values _ (closed_in f.gatherer) c.in-Some.epoch.now f.gatherer.values c.in-Some.ensures.closed c.satellites.ensures.count f.epochs c.if-satellites-eq0.true
 
-pub returns-in-Ok-clause-whole : goal.returns-in-Ok-clause-whole
-returns-in-Ok-clause-whole g c =
+pub returns-clause-whole : goal.returns-clause-whole
+returns-clause-whole g c =
     let f = c.args.self.now in
     whole_lent f.texts _ f.values _ (closed_in f.gatherer) c.in-Some.epoch.now f.gatherer.values c.in-Some.ensures.closed c.satellites.ensures.count _ _ _ _ c.if-satellites-eq0.false
-    c.plan.ensures c.in_ok-open.ensures.whole c.in-Ok.ensures.whole
+    c.plan.ensures c.in_ok-open.ensures.whole c.in_ok-write_epoch.ensures.whole
 
-pub returns-in-Ok-clause-now : goal.returns-in-Ok-clause-now
-returns-in-Ok-clause-now g c =
+pub returns-clause-now : goal.returns-clause-now
+returns-clause-now g c =
     let f = c.args.self.now in
     let l = now_lent f.texts f.gatherer.clock.setup.plan f.values _ (closed_in f.gatherer) c.in-Some.epoch.now f.gatherer.values c.in-Some.ensures.closed c.satellites.ensures.count f.epochs c.if-satellites-eq0.false in
     (c.saturating_add-self.ensures ∙ l.0, ap Some c.station_values-values.ensures ∙ l.1)

@@ -1,0 +1,58 @@
+-- What an answer says of the devices, handed on from call to call.
+use Rattle.std.proofs.Common.{◌≡◌, ◌≤◌, ℕ, max, refl, sym, ap, subst, ◌∙◌, arith, inl, inr, Bool, true, false, Option, Some, None, Result, Ok, Err, IfErr}
+use Rattle.std.specs.Prelude.{if◌then◌else◌}
+use Rattle.rtcm_bits.specs.Device.{Device}
+use Rattle.rtcm_convert.specs.Conversion.{Conversion, refusal}
+use Rattle.rtcm_convert.specs.Faults.{FailsWithReader, FailsWithWriter, ReaderFailures, WriterFailures, IsFinishFault}
+use Rattle.rtcm_convert.specs.declared.fault.Fault.{Fault}
+use Rattle.rtcm_convert.specs.declared.fault.Fault.TheVariants.{Failed, Finished}
+
+-- ---- the writer, since a call before which it was as well as now
+
+pub writer_after : (fault : Fault) (a b c : ℕ) → b ≡ a → WriterFailures fault b c → WriterFailures fault a c
+writer_after fault a b c e h = subst (λ (n : ℕ). WriterFailures fault n c) e h
+
+pub writer_since : {T A : Type 0} (r : Result A Fault) (a b c : Device T) → b.failures ≡ a.failures → b.widest ≡ a.widest → FailsWithWriter r b c → FailsWithWriter r a c
+writer_since (Ok x) a b c e w p = (tt, p.1 ∙ e, p.2 ∙ w)
+writer_since (Err fault) a b c e w p = (subst (λ (n : ℕ). WriterFailures fault n c.failures) e p.0, tt, p.2 ∙ w)
+
+-- ---- the reader
+
+pub at_most : (n : ℕ) → n ≤ max n 1029
+at_most n = omega arith
+
+pub wider : (a b c : ℕ) → b ≤ max a 1029 → c ≤ max b 1029 → c ≤ max a 1029
+wider a b c p q = omega (arith, p, q)
+
+pub reader_after : (fault : Fault) (a b c : ℕ) → b ≡ a → ReaderFailures fault b c → ReaderFailures fault a c
+reader_after fault a b c e h = subst (λ (n : ℕ). ReaderFailures fault n c) e h
+
+ended_badly : (fault : Fault) (a c : ℕ) → IsFinishFault fault → c ≡ a → ReaderFailures fault a c
+ended_badly fault a c (inl e) same = subst (λ (f : Fault). ReaderFailures f a c) (sym e) same
+ended_badly fault a c (inr e) same = subst (λ (f : Fault). ReaderFailures f a c) (sym e) same
+
+-- it did well up to its end
+pub reader_ended : {T A : Type 0} (r : Result A Fault) (a b : Device T) → IfErr r IsFinishFault → b.failures ≡ a.failures → b.widest ≤ max a.widest 1029 → FailsWithReader r a b
+reader_ended (Ok x) a b only e w = (tt, e, w)
+reader_ended (Err fault) a b only e w = (ended_badly fault a.failures b.failures only e, tt, w)
+
+-- ---- faults before any call of a device
+
+-- neither device is called
+abbrev pub IsOfNone : Fault → Type 0
+IsOfNone fault = (n : ℕ) → WriterFailures fault n n × ReaderFailures fault n n
+
+none_of : (x fault : Fault) → IsOfNone x → fault ≡ x → IsOfNone fault
+none_of x fault f e = subst (λ (y : Fault). IsOfNone y) (sym e) f
+
+abbrev given : Fault → Option Fault → Fault
+given x None = x
+given x (Some y) = y
+
+refused : (ended failed : Bool) (fault : Fault) → Some fault ≡ (if ended then Some Finished else if failed then Some Failed else None) → IsOfNone fault
+refused true failed fault e = none_of Finished fault (λ n. (refl, refl)) (ap (given fault) e)
+refused false true fault e = none_of Failed fault (λ n. (refl, refl)) (ap (given fault) e)
+refused false false fault e = absurd cc
+
+pub of_refusal : (v : Conversion) (fault : Fault) → Some fault ≡ refusal v → IsOfNone fault
+of_refusal v fault e = refused v.has_ended v.has_failed fault e

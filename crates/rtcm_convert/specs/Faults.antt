@@ -1,0 +1,53 @@
+-- What an answer says of the devices that a call reads and writes.
+use Rattle.std.specs.Prelude.{◌≡◌, ◌≤◌, ◌⊎◌, ℕ, max, Result, OnOk, IfErr}
+use Rattle.rtcm_bits.specs.Device.{Device, HasFailed, FailsWith}
+use Rattle.rtcm_convert.specs.declared.fault.Fault.{Fault}
+use Rattle.rtcm_convert.specs.declared.fault.Fault.TheVariants.{BadSetup, Memory, Read, TooLong, NoEpoch, Write}
+
+-- `Write` is the one fault of the call, and is answered only where a failure of the writer was counted; else none was
+abbrev pub FailsToWrite : {T A : Type 0} → Result A Fault → Device T → Device T → Type 0
+FailsToWrite result old new = IfErr result (λ fault. fault ≡ Write) × FailsWith result old new
+
+-- the failures of a writer before and after a fault: one was counted at `Write`, and none at any other
+abbrev pub WriterFailures : Fault → ℕ → ℕ → Type 0
+WriterFailures Write before after = HasFailed before after
+WriterFailures _ before after = after ≡ before
+
+-- the failures of a reader before and after a fault: one was counted at `Read`, and none at any other
+abbrev pub ReaderFailures : Fault → ℕ → ℕ → Type 0
+ReaderFailures Read before after = HasFailed before after
+ReaderFailures _ before after = after ≡ before
+
+-- `Write` is answered only where a failure of the writer was counted, and anything else only where none was; nothing was
+-- read from it
+abbrev pub FailsWithWriter : {T A : Type 0} → Result A Fault → Device T → Device T → Type 0
+FailsWithWriter result old new =
+    IfErr result (λ fault. WriterFailures fault old.failures new.failures) × OnOk result (new.failures ≡ old.failures) × (new.widest ≡ old.widest)
+
+-- `Read` is answered only where a failure of the reader was counted, and anything else only where none was; it was asked
+-- for no more bytes at a time than can be held
+abbrev pub FailsWithReader : {T A : Type 0} → Result A Fault → Device T → Device T → Type 0
+FailsWithReader result old new =
+    IfErr result (λ fault. ReaderFailures fault old.failures new.failures) × OnOk result (new.failures ≡ old.failures)
+    × (new.widest ≤ max old.widest 1029)
+
+-- both devices are as before
+abbrev pub IsUntouched : {R W : Type 0} → (r r' : Device R) → (w w' : Device W) → Type 0
+IsUntouched r r' w w' = (r' ≡ r) × (w' ≡ w)
+
+-- the faults of a setup
+abbrev pub IsSetupFault : Fault → Type 0
+IsSetupFault fault = (fault ≡ BadSetup) ⊎ (fault ≡ Memory)
+
+-- the faults of bytes that are handed in, of a piece that is read, of the end, and of a whole run, where no call failed before
+abbrev pub IsFeedFault : Fault → Type 0
+IsFeedFault fault = (fault ≡ TooLong) ⊎ (fault ≡ Write)
+
+abbrev pub IsPullFault : Fault → Type 0
+IsPullFault fault = (fault ≡ Read) ⊎ IsFeedFault fault
+
+abbrev pub IsFinishFault : Fault → Type 0
+IsFinishFault fault = (fault ≡ NoEpoch) ⊎ (fault ≡ Write)
+
+abbrev pub IsRunFault : Fault → Type 0
+IsRunFault fault = (fault ≡ Read) ⊎ ((fault ≡ TooLong) ⊎ IsFinishFault fault)
