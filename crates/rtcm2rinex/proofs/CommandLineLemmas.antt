@@ -1,5 +1,5 @@
 -- What a command is once an option or a command is added.
-use Rattle.std.proofs.Common.{◌≡◌, ◌+◌, ◌<◌, ◌&&◌, ◌∷◌, [], ℕ, Bool, Result, Ok, Err, IfErr, List, Option, Some, true, false, not, is_some, length, map, take, get_or, refl, sym, ap, ap₂, ◌∙◌}
+use Rattle.std.proofs.Common.{◌≡◌, ◌+◌, ◌<◌, ◌&&◌, ◌∷◌, [], ℕ, Bool, Result, Ok, Err, IfErr, List, Option, Some, true, false, not, is_some, length, map, take, get_or, inl, inr, refl, sym, subst, ap, ap₂, ◌∙◌}
 use Rattle.std.proofs.lemmas.List.{map_more}
 use Rattle.std.proofs.lemmas.List.Sums.{fold-append}
 use Rattle.clap.specs.Walk.{Rule, Text, is_empty, rule_of}
@@ -9,7 +9,9 @@ use Rattle.clap.proofs.OnLiterals.{clap_on_literals}
 use Rattle.clap.specs.Kinds.{FailsBy, HasKind, Kinds}
 use Rattle.clap.specs.declared.error.Error.{Error}
 use Rattle.std.specs.Borrow.{Bor}
-use Rattle.rtcm2rinex.specs.CommandLine.{program, text_of, with_options}
+use Rattle.rtcm2rinex.specs.CommandLine.{IsAnswered, RefusesWords, program, text_of, with_options}
+use Rattle.clap.specs.Values.{kind_of}
+use Rattle.clap.specs.declared.error.kind.ErrorKind.TheVariants as kind
 use Rattle.clap.specs.Built.{AddsArg, AddsSubcommand}
 use Rattle.clap.specs.declared.builder.arg.Arg.{Arg}
 use Rattle.clap.specs.declared.builder.command.Command.{Command}
@@ -85,3 +87,10 @@ pub one_text_more : (a : App) (ts : List (Bor Text × Bor Text × Bor Text)) (n 
     → with_rule (with_options a (map text_of (take n ts))) (text_of (get_or ts n d)) ≡ with_options a (map text_of (take (n + 1) ts))
 one_text_more a ts n d lt =
     sym (ap (with_options a) (map_more text_of ts n d lt) ∙ fold-append with_rule a (map text_of (take n ts)) (text_of (get_or ts n d) ∷ []))
+
+-- an answer to the words by the version's text is what they ask for
+pub is_version : (words : List Text) (e : Error) → RefusesWords words e → kind_of e ≡ kind.DisplayVersion → IsAnswered words kind.DisplayVersion
+is_version words e (inl memory) version =
+    let bad : kind.OutOfMemory ≡ kind.DisplayVersion = sym memory ∙ version in
+    cc
+is_version words e (inr answered) version = subst (IsAnswered words) version answered
