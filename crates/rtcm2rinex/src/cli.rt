@@ -185,8 +185,7 @@ fn date<'a>(alloc: Global) -> Arg<'a>
 fn planned<'a>(alloc: Global, name: &'a str, help: &'a str) -> Arg<'a>
     ensures { rule_of result ≡ line.planned name.entry.now }
 {
-    option(alloc, name, "SIGNALS", help)
-        .default_value("all")
+    option(alloc, name, "SIGNALS", help).default_value("all")
 }
 
 fn station<'a>(alloc: Global) -> Arg<'a>

@@ -34,7 +34,9 @@ struct Outcome {
 impl Outcome {
     /// Whether just this came of it: the status, the output, and what was told of faults.
     fn is(&self, status: u8, output: &[u8], faults: &[u8]) -> bool {
-        self.status == status && self.output.as_slice() == output && self.faults.as_slice() == faults
+        self.status == status
+            && self.output.as_slice() == output
+            && self.faults.as_slice() == faults
     }
 
     /// Whether it told this fault, and wrote this before.

@@ -191,7 +191,10 @@ fn a_stream_past_its_limit_is_told(rt: HostRuntime) -> Result<(), Fail> {
     let rows: [(&str, &[u8]); 3] = [("42", &file), ("41", &[]), ("0", &[])];
     for (limit, written) in rows {
         let outcome = converted(rt.alloc(), &TOLD, &["--limit", limit], &stream)?;
-        assert!(rt; outcome.is_fault(written, b"rtcm2rinex: TooLong\n"), "{limit}");
+        assert!(rt;
+            outcome.is_fault(written, b"rtcm2rinex: TooLong\n"),
+            "{limit}"
+        );
     }
     let outcome = converted(rt.alloc(), &TOLD, &["--limit", "43"], &stream)?;
     let report =

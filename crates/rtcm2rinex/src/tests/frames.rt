@@ -34,7 +34,13 @@ fn frames_are_listed_in_any_pieces(rt: HostRuntime) -> Result<(), Fail> {
 fn listed(alloc: Global, stream: &[u8], limit: u16) -> (Option<bool>, Vec<u8>) {
     let mut reader = Counted::new(stream);
     let mut writer = Counted::new(Vec::new(alloc));
-    let answer = list(alloc, Listing::Frames, u64::from(limit), &mut reader, &mut writer);
+    let answer = list(
+        alloc,
+        Listing::Frames,
+        u64::from(limit),
+        &mut reader,
+        &mut writer,
+    );
     let refused = match answer {
         Ok(()) => Some(false),
         Err(ToolFault::Scan(ScanFault::TooLong)) => Some(true),

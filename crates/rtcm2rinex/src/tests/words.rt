@@ -55,7 +55,14 @@ fn are_refused(alloc: Global, kind: ErrorKind, status: u8, text: &[u8]) -> bool 
 #[test]
 fn words_that_cannot_be_had_are_told(rt: HostRuntime) -> Result<(), Fail> {
     let text = b"error: a word of the command line isn't UTF-8\n";
-    assert!(rt; are_refused(rt.alloc(), ErrorKind::OutOfMemory, 1, b"rtcm2rinex: Memory\n"));
+    assert!(rt;
+        are_refused(
+            rt.alloc(),
+            ErrorKind::OutOfMemory,
+            1,
+            b"rtcm2rinex: Memory\n"
+        )
+    );
     assert!(rt; are_refused(rt.alloc(), ErrorKind::InvalidData, 2, text));
     Ok(())
 }

@@ -11,7 +11,7 @@ returns-in-Ok-clause-good g c = λ e.
 
 pub returns-in-Err-clause-good : goal.returns-in-Err-clause-good
 returns-in-Err-clause-good g c = λ e. inr (
-      is_version (texts c.args.words.now) c.in-Err.error c.in-Err.ensures.refused (c.answer.ensures.asked e),
-      refl,
-      c.answer.ensures.good e,
-    )
+  is_version (texts c.args.words.now) c.in-Err.error c.in-Err.ensures.refused (c.answer.ensures.asked e),
+  refl,
+  c.answer.ensures.good e,
+)
