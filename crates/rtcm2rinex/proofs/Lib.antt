@@ -4,6 +4,7 @@ mod LineLemmas
 mod ListedLemmas
 mod ShowLemmas
 mod ToldLemmas
+mod CommandLineLemmas
 mod ReadBackLemmas
 pub mod CheckLemmas
 mod CensusLemmas

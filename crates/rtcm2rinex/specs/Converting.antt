@@ -5,15 +5,15 @@ use Rattle.rtcm_convert.specs.Made.{IsMade}
 use Rattle.rtcm_convert.specs.declared.setup.Setup.{Setup}
 use Rattle.rtcm_convert.specs.declared.fault.Fault.{Fault}
 use Rattle.rtcm_convert.specs.declared.fault.Fault.TheVariants as convert
-use Rattle.clap.specs.declared.parser.matches.Found.{Found}
+use Rattle.clap.specs.Walk.{Row}
 use Rattle.rtcm2rinex.specs.declared.fault.ToolFault.{ToolFault}
 use Rattle.rtcm2rinex.specs.declared.fault.ToolFault.TheVariants as faults
 use Rattle.rtcm2rinex.specs.Told.{IsTold}
 
 -- Told what these options say, which isn't out of range, a conversion read all that the reader had, and wrote the file of its frames,
 -- which has an epoch.
-abbrev pub IsConverted : Found → (r w w' : Option (List ℕ)) → Type 0
-IsConverted f r w w' = (x : Setup) × IsTold f x × (IsBad x → ⊥) × IfSome r (IsMade x w w')
+abbrev pub IsConverted : List Row → (r w w' : Option (List ℕ)) → Type 0
+IsConverted options r w w' = (x : Setup) × IsTold options x × (IsBad x → ⊥) × IfSome r (IsMade x w w')
 
 -- how a fault of a conversion is told: one of a device as that of any command
 abbrev pub fault_told : Fault → ToolFault

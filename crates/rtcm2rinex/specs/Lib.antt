@@ -6,6 +6,8 @@ pub mod Kinds
 pub mod Listing
 pub mod Listed
 pub mod Told
+pub mod CommandLine
+pub mod Moves
 pub mod Converting
 pub mod ReadBack
 pub mod Checking
@@ -13,4 +15,5 @@ pub mod Buffering
 pub mod Signals
 pub mod Census
 pub mod Telling
+pub mod Commands
 pub mod SignalLaws

@@ -2,8 +2,9 @@
 use Rattle.std.specs.Prelude.{◌≡◌, ◌<◌, ◌^◌, ℕ, Bool, List, [], Option, Some, None, Ok, Err, codes, unwrap_or, not, ◌⊎◌}
 use Rattle.std.specs.Str.{bytes_eq}
 use Rattle.std.specs.Str.Parse.{IsNumeral, digits_value, without_leading_plus}
-use Rattle.clap.specs.declared.parser.matches.Found.{Found}
-use Rattle.clap.specs.Matches.{first_value, one_text}
+use Rattle.clap.specs.Walk.{Row, first_of, one_of, rows_of}
+use Rattle.clap.specs.Matches.{found_of}
+use Rattle.clap.specs.declared.parser.matches.ArgMatches.{ArgMatches}
 use Rattle.obs_epoch.specs.Kinds.{is_by_bit}
 use Rattle.obs_epoch.specs.Plans.{plan_of}
 use Rattle.obs_epoch.specs.declared.fault.PlanFault.TheVariants as plans
@@ -12,24 +13,28 @@ use Rattle.rtcm_convert.specs.declared.setup.Setup.{Setup}
 use Rattle.rtcm2rinex.specs.declared.fault.ToolFault.{ToolFault}
 use Rattle.rtcm2rinex.specs.declared.fault.ToolFault.TheVariants as faults
 
+-- the options of the command line, as clap's definitions list them
+abbrev pub options_of : ArgMatches → List Row
+options_of m = rows_of (found_of m)
+
 -- the text that an option has; an option that has none counts as empty
-abbrev pub text_told : Found → List ℕ → List ℕ
-text_told f name = unwrap_or (first_value f name) []
+abbrev pub text_told : List Row → List ℕ → List ℕ
+text_told options name = unwrap_or (first_of name options) []
 
 -- the texts of the header, each by the option of its name
-abbrev pub texts_told : Found → HeaderLists
-texts_told f = record {
-  run_by = text_told f (codes "run-by");
-  date = text_told f (codes "date");
-  marker = text_told f (codes "marker");
-  marker_type = text_told f (codes "marker-type");
-  observer = text_told f (codes "observer");
-  agency = text_told f (codes "agency");
-  rec_number = text_told f (codes "rec-number");
-  rec_type = text_told f (codes "rec-type");
-  rec_version = text_told f (codes "rec-version");
-  ant_number = text_told f (codes "ant-number");
-  ant_type = text_told f (codes "ant-type");
+abbrev pub texts_told : List Row → HeaderLists
+texts_told options = record {
+  run_by = text_told options (codes "run-by");
+  date = text_told options (codes "date");
+  marker = text_told options (codes "marker");
+  marker_type = text_told options (codes "marker-type");
+  observer = text_told options (codes "observer");
+  agency = text_told options (codes "agency");
+  rec_number = text_told options (codes "rec-number");
+  rec_type = text_told options (codes "rec-type");
+  rec_version = text_told options (codes "rec-version");
+  ant_number = text_told options (codes "ant-number");
+  ant_type = text_told options (codes "ant-type");
 }
 
 -- a text spells a number of so many bits
@@ -47,17 +52,17 @@ abbrev pub IsNumberOr : ℕ → ℕ → Option (List ℕ) → ℕ → Type 0
 IsNumberOr bits otherwise text n = (found : Option ℕ) × IsNumberOf bits text found × (n ≡ unwrap_or found otherwise)
 
 -- A conversion is told what the options say, each by its name.
-pub record IsTold (f : Found) (x : Setup) : Type 0 where
-  pub texts : x.texts ≡ trimmed_texts (texts_told f)
-  pub plan : plan_of (text_told f (codes "gps")) (text_told f (codes "galileo")) ≡ Ok x.plan
-  pub week : IsNumberOr 32 0 (one_text f (codes "week")) x.start_week
-  pub station : IsNumberOf 16 (one_text f (codes "station")) x.station
-  pub gather : is_by_bit x.gather ≡ not (bytes_eq (text_told f (codes "gather")) (codes "time"))
-  pub limit : IsNumberOr 64 (2 ^ 48) (one_text f (codes "limit")) x.limit
+pub record IsTold (options : List Row) (x : Setup) : Type 0 where
+  pub texts : x.texts ≡ trimmed_texts (texts_told options)
+  pub plan : plan_of (text_told options (codes "gps")) (text_told options (codes "galileo")) ≡ Ok x.plan
+  pub week : IsNumberOr 32 0 (one_of (codes "week") options) x.start_week
+  pub station : IsNumberOf 16 (one_of (codes "station") options) x.station
+  pub gather : is_by_bit x.gather ≡ not (bytes_eq (text_told options (codes "gather")) (codes "time"))
+  pub limit : IsNumberOr 64 (2 ^ 48) (one_of (codes "limit") options) x.limit
 
 -- Nothing can be converted so: a text of the header has this fault, or all are good and the plan has, or memory ran out for it.
-abbrev pub IsRefused : Found → ToolFault → Type 0
-IsRefused f (faults.Header e) = first_fault (texts_told f) None fields ≡ Some e
-IsRefused f (faults.Plan e) = (first_fault (texts_told f) None fields ≡ None)
-    × ((e ≡ plans.Memory) ⊎ (plan_of (text_told f (codes "gps")) (text_told f (codes "galileo")) ≡ Err e))
-IsRefused f other = ⊥
+abbrev pub IsRefused : List Row → ToolFault → Type 0
+IsRefused options (faults.Header e) = first_fault (texts_told options) None fields ≡ Some e
+IsRefused options (faults.Plan e) = (first_fault (texts_told options) None fields ≡ None)
+    × ((e ≡ plans.Memory) ⊎ (plan_of (text_told options (codes "gps")) (text_told options (codes "galileo")) ≡ Err e))
+IsRefused options other = ⊥

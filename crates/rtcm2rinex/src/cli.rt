@@ -1,7 +1,13 @@
 //! The command line.
+ghost use Rattle.std.specs.Prelude.{◌≡◌, IfOk, IfErr, codes, map};
+ghost use Rattle.clap.specs.Walk.{rule_of, texts};
+ghost use Rattle.clap.specs.Simple.{app_of, new_app};
+ghost use Rattle.rtcm2rinex.specs.CommandLine.{IsFoundIn, IsProgram, RefusesWords, text_of};
+ghost use Rattle.rtcm2rinex.specs.CommandLine as line;
+
 use crate::version::VERSION;
-use clap::{Arg, ArgAction, Command, Error, value_parser};
-use std::alloc::Global;
+use clap::{Arg, ArgAction, ArgMatches, Command, Error, value_parser};
+use std::alloc::{AllocError, Global};
 
 /// The texts of the header that may be left out: the option, what stands without it, and what it is.
 const TEXTS: [(&str, &str, &str); 10] = [
@@ -17,8 +23,19 @@ const TEXTS: [(&str, &str, &str); 10] = [
     ("ant-type", "", "Type of the antenna"),
 ];
 
+/// What the words ask for, the first of which is the program's name.
+pub fn parse<'a>(alloc: Global, words: &'a [&'a str]) -> Result<ArgMatches<'a>, Error>
+    ensures asked { IfOk result (IsFoundIn (texts words.now)) }
+    ensures refused { IfErr result (RefusesWords (texts words.now)) }
+{
+    let program = program(alloc)?;
+    program.try_get_matches_from(words)
+}
+
 /// The program and its commands.
-pub fn program<'a>(alloc: Global) -> Result<Command<'a>, Error> {
+fn program<'a>(alloc: Global) -> Result<Command<'a>, AllocError>
+    ensures { IfOk result (λ c. IsProgram (app_of c)) }
+{
     let program = Command::new(alloc, "rtcm2rinex")
         .about(
             "Reads an RTCM 3 stream from standard input and writes what it says to standard output",
@@ -37,7 +54,9 @@ pub fn program<'a>(alloc: Global) -> Result<Command<'a>, Error> {
 }
 
 /// The command that lists frames.
-fn frames<'a>(alloc: Global) -> Command<'a> {
+fn frames<'a>(alloc: Global) -> Command<'a>
+    ensures { app_of result ≡ new_app (codes "frames") }
+{
     Command::new(alloc, "frames")
         .about(
             "Lists the frames: the place of each, the length of its message and the message's number",
@@ -48,7 +67,9 @@ fn frames<'a>(alloc: Global) -> Command<'a> {
 }
 
 /// The command that shows messages.
-fn show<'a>(alloc: Global) -> Command<'a> {
+fn show<'a>(alloc: Global) -> Command<'a>
+    ensures { app_of result ≡ new_app (codes "show") }
+{
     Command::new(alloc, "show")
         .about(
             "Shows the messages: stations and their coordinates, heads of MSMs, and why a message is refused",
@@ -59,7 +80,9 @@ fn show<'a>(alloc: Global) -> Command<'a> {
 }
 
 /// The command that says which signals a stream has.
-fn signals<'a>(alloc: Global) -> Result<Command<'a>, Error> {
+fn signals<'a>(alloc: Global) -> Result<Command<'a>, AllocError>
+    ensures { IfOk result (λ c. app_of c ≡ line.signals) }
+{
     let command = Command::new(alloc, "signals")
         .about("Names the signals that the stream has, as the options of convert that plan them")
         .after_help(
@@ -71,7 +94,9 @@ fn signals<'a>(alloc: Global) -> Result<Command<'a>, Error> {
 }
 
 /// The command that reads an observation file back.
-fn check<'a>(alloc: Global) -> Command<'a> {
+fn check<'a>(alloc: Global) -> Command<'a>
+    ensures { app_of result ≡ new_app (codes "check") }
+{
     Command::new(alloc, "check")
         .about("Checks that standard input is an observation file just as convert writes it")
         .after_help(
@@ -80,7 +105,9 @@ fn check<'a>(alloc: Global) -> Command<'a> {
 }
 
 /// The command that makes an observation file.
-fn convert<'a>(alloc: Global) -> Result<Command<'a>, Error> {
+fn convert<'a>(alloc: Global) -> Result<Command<'a>, AllocError>
+    ensures { IfOk result (λ c. line.IsConvert (app_of c)) }
+{
     let command = Command::new(alloc, "convert")
         .about("Converts the observations to a RINEX 3.05 observation file")
         .after_help(
@@ -101,88 +128,104 @@ fn convert<'a>(alloc: Global) -> Result<Command<'a>, Error> {
         .arg(station(alloc))?
         .arg(gather(alloc))?
         .arg(limit(alloc))?;
-    with_texts(alloc, command)
+    with_texts(alloc, command, &TEXTS)
 }
 
-/// The command with an option for each text of the header that may be left out.
-fn with_texts<'a>(alloc: Global, command: Command<'a>) -> Result<Command<'a>, Error> {
+/// The command with an option for each of these texts: its name, what stands without it, and what it is.
+fn with_texts<'a>(
+    alloc: Global,
+    command: Command<'a>,
+    texts: &[(&'a str, &'a str, &'a str)],
+) -> Result<Command<'a>, AllocError>
+    ensures { IfOk result (λ c. app_of c ≡ line.with_options (app_of command.entry) (map text_of texts.now)) }
+{
     let mut command = command;
-    for (name, without, help) in TEXTS {
-        command = command.arg(
-            option(alloc, name, help)
-                .value_name("TEXT")
-                .default_value(without),
-        )?;
+    for (name, without, help) in texts {
+        command = command.arg(option(alloc, *name, "TEXT", *help).default_value(*without))?;
     }
     Ok(command)
 }
 
 /// An option that takes a value.
-fn option<'a>(alloc: Global, name: &'a str, help: &'a str) -> Arg<'a> {
+fn option<'a>(alloc: Global, name: &'a str, value: &'a str, help: &'a str) -> Arg<'a>
+    ensures { rule_of result ≡ line.option name.entry.now }
+{
     Arg::new(alloc, name)
         .long(name)
         .action(ArgAction::Set)
+        .value_name(value)
         .help(help)
 }
 
-fn week<'a>(alloc: Global) -> Arg<'a> {
+fn week<'a>(alloc: Global) -> Arg<'a>
+    ensures { rule_of result ≡ line.week }
+{
     option(
         alloc,
         "week",
+        "WEEK",
         "GPS week of the first observations, counted on from 1980 without wrapping",
     )
-    .value_name("WEEK")
     .required(true)
     .value_parser(value_parser!(u32).range(0..100_000))
 }
 
-fn date<'a>(alloc: Global) -> Arg<'a> {
+fn date<'a>(alloc: Global) -> Arg<'a>
+    ensures { rule_of result ≡ line.date }
+{
     option(
         alloc,
         "date",
+        "TEXT",
         "Date of the run, in RINEX's form 'yyyymmdd hhmmss UTC'",
     )
-    .value_name("TEXT")
     .required(true)
 }
 
-fn planned<'a>(alloc: Global, name: &'a str, help: &'a str) -> Arg<'a> {
-    option(alloc, name, help)
-        .value_name("SIGNALS")
-        .default_value("all")
+fn planned<'a>(alloc: Global, name: &'a str, help: &'a str) -> Arg<'a>
+    ensures { rule_of result ≡ line.planned name.entry.now }
+{
+    option(alloc, name, "SIGNALS", help).default_value("all")
 }
 
-fn station<'a>(alloc: Global) -> Arg<'a> {
+fn station<'a>(alloc: Global) -> Arg<'a>
+    ensures { rule_of result ≡ line.station }
+{
     option(
         alloc,
         "station",
+        "NUMBER",
         "Reference station (DF003) whose messages count; without it those of every station",
     )
-    .value_name("NUMBER")
     .value_parser(value_parser!(u16).range(0..4_096))
 }
 
-fn counts<'a>(alloc: Global) -> Arg<'a> {
+fn counts<'a>(alloc: Global) -> Arg<'a>
+    ensures { rule_of result ≡ line.counts }
+{
     Arg::new(alloc, "counts")
         .long("counts")
         .action(ArgAction::SetTrue)
         .help("Print a line for each signal with its number of cells, in place of the options")
 }
 
-fn gather<'a>(alloc: Global) -> Arg<'a> {
+fn gather<'a>(alloc: Global) -> Arg<'a>
+    ensures { line.IsGather (rule_of result) }
+{
     option(
         alloc,
         "gather",
+        "RULE",
         "What closes an epoch: the multiple message bit (DF393) or a later time alone",
     )
-    .value_name("RULE")
     .default_value("bit")
     .value_parser(["bit", "time"].as_slice())
 }
 
-fn limit<'a>(alloc: Global) -> Arg<'a> {
-    option(alloc, "limit", "Most bytes of the stream")
-        .value_name("BYTES")
+fn limit<'a>(alloc: Global) -> Arg<'a>
+    ensures { rule_of result ≡ line.limit }
+{
+    option(alloc, "limit", "BYTES", "Most bytes of the stream")
         .default_value("281474976710656")
         .value_parser(value_parser!(u64).range(0..281_474_976_710_657))
 }

@@ -1,19 +1,25 @@
 //! The whole program, over a reader, a writer and a fault writer.
 ghost use Rattle.std.specs.Prelude.{◌≡◌, ◌⊎◌, ◌≤◌};
-ghost use Rattle.clap.specs.declared.parser.matches.Found.{Found};
-ghost use Rattle.clap.specs.Matches.{found_of};
+ghost use Rattle.std.specs.Io.KnownBytes.{Appends};
+ghost use Rattle.clap.specs.Walk.{texts};
+ghost use Rattle.clap.specs.Simple.{subcommand_rows_of};
+ghost use Rattle.clap.specs.Values.{kind_of};
+ghost use Rattle.clap.specs.declared.error.kind.ErrorKind.TheVariants.{DisplayVersion};
 ghost use Rattle.rtcm2rinex.specs.FrameLines.{frame_lines};
 ghost use Rattle.rtcm2rinex.specs.ShowLines.{show_lines};
 ghost use Rattle.rtcm2rinex.specs.Listing.{ListsAll};
 ghost use Rattle.rtcm2rinex.specs.Converting.{IsConverted};
 ghost use Rattle.rtcm2rinex.specs.Checking.{ChecksFile};
 ghost use Rattle.rtcm2rinex.specs.Telling.{HasToldSignals};
+ghost use Rattle.rtcm2rinex.specs.CommandLine.{IsAnswered};
+ghost use Rattle.rtcm2rinex.specs.Told.{options_of};
+ghost use Rattle.rtcm2rinex.specs.Commands.{HasDone, HasDoneAsked, HasDoneOf};
+ghost use Rattle.rtcm2rinex.specs.Moves.{Moves};
 ghost use Rattle.rtcm2rinex.specs.declared.version.TheConstants.{VERSION};
-ghost use Rattle.std.specs.Io.KnownBytes.{Appends};
 
 use crate::asked::{form_of, station_of};
 use crate::check::run_check;
-use crate::cli::program;
+use crate::cli::parse;
 use crate::convert::{run_convert, tell};
 use crate::fault::ToolFault;
 use crate::listing::{run_frames, run_show};
@@ -27,8 +33,8 @@ use std::alloc::Global;
 use std::io;
 use std::io::{Read, Write};
 
-/// Runs the command that the words ask for, the first of which is the program's name, and answers the exit status:
-/// 0 is good, 1 a fault, and 2 a command line that isn't accepted or asks for help.
+/// Runs the command that the words ask for, the first of which is the program's name, and answers
+/// the exit status: 0 is good, 1 a fault, and 2 a command line that isn't accepted or asks for help.
 pub fn command<R: Read, W: Write, E: Write>(
     alloc: Global,
     words: &[&str],
@@ -38,34 +44,61 @@ pub fn command<R: Read, W: Write, E: Write>(
 ) -> u8
     ensures status { result ≤ 2 }
 
-    // Good is only a stream that was read to its end and listed, whose signals were told, or whose file was written and has an epoch,
-    // or a file that was read back, or the version.
-    ensures good { result ≡ 0 →
-        ListsAll frame_lines (R.remaining reader.old.inner) (R.remaining reader.new.inner) (W.contents writer.old.inner) (W.contents writer.new.inner)
-        ⊎ ListsAll show_lines (R.remaining reader.old.inner) (R.remaining reader.new.inner) (W.contents writer.old.inner) (W.contents writer.new.inner)
-        ⊎ ((f : Found) × IsConverted f (R.remaining reader.old.inner) (W.contents writer.old.inner) (W.contents writer.new.inner))
-        ⊎ ChecksFile (R.remaining reader.old.inner) (W.contents writer.old.inner) (W.contents writer.new.inner)
-        ⊎ ((f : Found) × HasToldSignals f (R.remaining reader.old.inner) (R.remaining reader.new.inner) (W.contents writer.old.inner) (W.contents writer.new.inner))
-        ⊎ ((reader.new ≡ reader.old) × Appends (W.contents writer.old.inner) (W.contents writer.new.inner) VERSION.now) }
+    // Good is only that the words ask for a command, by clap's own definitions under the program's options, and that it did what
+    // it is for with these options; or that they ask for the version, and it was written.
+    ensures good { result ≡ 0 → Moves R.remaining reader.old reader.new W.contents writer.old writer.new (HasDoneAsked (texts words.now))
+        ⊎ (IsAnswered (texts words.now) DisplayVersion × (reader.new ≡ reader.old)
+        × Appends (W.contents writer.old.inner) (W.contents writer.new.inner) VERSION.now) }
 
     // Of a command line that isn't accepted nothing comes but its text.
     ensures unread { result ≡ 2 → reader.new ≡ reader.old }
     ensures unwritten { result ≡ 2 → writer.new ≡ writer.old }
 {
-    let parsed = match program(alloc) {
-        Ok(program) => program.try_get_matches_from(words),
-        Err(error) => Err(error),
-    };
-    let matches = match parsed {
-        Ok(matches) => matches,
-        Err(error) => return answer(&error, writer, faults),
-    };
+    match parse(alloc, words) {
+        Ok(matches) => run_asked(alloc, &matches, reader, writer, faults),
+        Err(error) => answer(&error, writer, faults),
+    }
+}
+
+/// Runs the command that was found in the words. Answers the exit status.
+fn run_asked<R: Read, W: Write, E: Write>(
+    alloc: Global,
+    matches: &ArgMatches,
+    reader: &mut Counted<R>,
+    writer: &mut Counted<W>,
+    faults: &mut E,
+) -> u8
+    ensures status { result ≤ 2 }
+    ensures good { result ≡ 0 → Moves R.remaining reader.old reader.new W.contents writer.old writer.new (HasDoneOf (subcommand_rows_of matches.now)) }
+    ensures unread { result ≡ 2 → reader.new ≡ reader.old }
+    ensures unwritten { result ≡ 2 → writer.new ≡ writer.old }
+{
     match matches.subcommand() {
-        Some(("frames", _)) => frames(alloc, reader, writer, faults),
-        Some(("show", _)) => show(alloc, reader, writer, faults),
-        Some(("signals", options)) => signals(alloc, options, reader, writer, faults),
-        Some(("convert", options)) => convert(alloc, options, reader, writer, faults),
-        Some(("check", _)) => check(alloc, reader, writer, faults),
+        Some((name, options)) => run(alloc, name, options, reader, writer, faults),
+        None => 2,
+    }
+}
+
+/// Runs the command of a name. Answers the exit status.
+fn run<R: Read, W: Write, E: Write>(
+    alloc: Global,
+    name: &str,
+    options: &ArgMatches,
+    reader: &mut Counted<R>,
+    writer: &mut Counted<W>,
+    faults: &mut E,
+) -> u8
+    ensures status { result ≤ 2 }
+    ensures good { result ≡ 0 → Moves R.remaining reader.old reader.new W.contents writer.old writer.new (HasDone name.now (options_of options.now)) }
+    ensures unread { result ≡ 2 → reader.new ≡ reader.old }
+    ensures unwritten { result ≡ 2 → writer.new ≡ writer.old }
+{
+    match name {
+        "frames" => frames(alloc, reader, writer, faults),
+        "show" => show(alloc, reader, writer, faults),
+        "signals" => signals(alloc, options, reader, writer, faults),
+        "convert" => convert(alloc, options, reader, writer, faults),
+        "check" => check(alloc, reader, writer, faults),
         _ => 2,
     }
 }
@@ -78,7 +111,7 @@ fn frames<R: Read, W: Write, E: Write>(
     faults: &mut E,
 ) -> u8
     ensures status { result ≤ 1 }
-    ensures good { result ≡ 0 → ListsAll frame_lines (R.remaining reader.old.inner) (R.remaining reader.new.inner) (W.contents writer.old.inner) (W.contents writer.new.inner) }
+    ensures good { result ≡ 0 → Moves R.remaining reader.old reader.new W.contents writer.old writer.new (ListsAll frame_lines) }
 {
     match run_frames(alloc, reader, writer) {
         Ok(()) => 0,
@@ -94,7 +127,7 @@ fn show<R: Read, W: Write, E: Write>(
     faults: &mut E,
 ) -> u8
     ensures status { result ≤ 1 }
-    ensures good { result ≡ 0 → ListsAll show_lines (R.remaining reader.old.inner) (R.remaining reader.new.inner) (W.contents writer.old.inner) (W.contents writer.new.inner) }
+    ensures good { result ≡ 0 → Moves R.remaining reader.old reader.new W.contents writer.old writer.new (ListsAll show_lines) }
 {
     match run_show(alloc, reader, writer) {
         Ok(()) => 0,
@@ -111,7 +144,7 @@ fn signals<R: Read, W: Write, E: Write>(
     faults: &mut E,
 ) -> u8
     ensures status { result ≤ 1 }
-    ensures good { result ≡ 0 → HasToldSignals (found_of options.now) (R.remaining reader.old.inner) (R.remaining reader.new.inner) (W.contents writer.old.inner) (W.contents writer.new.inner) }
+    ensures good { result ≡ 0 → Moves R.remaining reader.old reader.new W.contents writer.old writer.new (HasToldSignals (options_of options.now)) }
 {
     match run_signals(alloc, station_of(options), form_of(options), reader, writer) {
         Ok(()) => 0,
@@ -128,7 +161,7 @@ fn convert<R: Read, W: Write, E: Write>(
     faults: &mut E,
 ) -> u8
     ensures status { result ≤ 1 }
-    ensures good { result ≡ 0 → IsConverted (found_of options.now) (R.remaining reader.old.inner) (W.contents writer.old.inner) (W.contents writer.new.inner) }
+    ensures good { result ≡ 0 → IsConverted (options_of options.now) (R.remaining reader.old.inner) (W.contents writer.old.inner) (W.contents writer.new.inner) }
 {
     let setup = match setup_of(alloc, options) {
         Ok(setup) => setup,
@@ -175,13 +208,13 @@ pub fn refuse_words<E: Write>(error: &io::Error, faults: &mut E) -> u8
 /// Tells the version where the words ask for it; else says what is wrong with them. Answers the exit status.
 fn answer<W: Write, E: Write>(error: &clap::Error, writer: &mut Counted<W>, faults: &mut E) -> u8
     ensures status { result ≤ 2 }
+    ensures asked { result ≡ 0 → kind_of error.now ≡ DisplayVersion }
     ensures good { result ≡ 0 → Appends (W.contents writer.old.inner) (W.contents writer.new.inner) VERSION.now }
     ensures unwritten { result ≡ 2 → writer.new ≡ writer.old }
 {
-    if error.kind() == ErrorKind::DisplayVersion {
-        tell_version(writer, faults)
-    } else {
-        refuse(error, faults)
+    match error.kind() {
+        ErrorKind::DisplayVersion => tell_version(writer, faults),
+        _ => refuse(error, faults),
     }
 }
 

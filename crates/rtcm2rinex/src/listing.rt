@@ -13,6 +13,7 @@ ghost use Rattle.rtcm2rinex.specs.ShowLines.{show_lines};
 ghost use Rattle.rtcm2rinex.specs.Listing.{ListsAll, ListsDecided, ListsToLimit, ListsPart, IsListFault, IsUntouched};
 ghost use Rattle.rtcm2rinex.specs.Listed.{Lists, ListsKnown, IsListed, IsRefusal, up_to_limit};
 ghost use Rattle.rtcm2rinex.specs.Kinds.{line_of, lines_of};
+ghost use Rattle.rtcm2rinex.specs.Moves.{Moves};
 
 use crate::fault::ToolFault;
 use crate::frames::frame_line;
@@ -40,18 +41,18 @@ pub fn run_frames<R: Read, W: Write>(
     reader: &mut Counted<R>,
     writer: &mut Counted<W>,
 ) -> Result<(), ToolFault>
-    ensures whole { OnOk result (ListsAll frame_lines (R.remaining reader.old.inner) (R.remaining reader.new.inner) (W.contents writer.old.inner) (W.contents writer.new.inner)) }
+    ensures whole { OnOk result (Moves R.remaining reader.old reader.new W.contents writer.old writer.new (ListsAll frame_lines)) }
 
     // The reader failed: what the bytes before decide was written.
-    ensures read { result ≡ Err ToolFault.Read → ListsDecided frame_lines (R.remaining reader.old.inner) (R.remaining reader.new.inner) (W.contents writer.old.inner) (W.contents writer.new.inner) }
+    ensures read { result ≡ Err ToolFault.Read → Moves R.remaining reader.old reader.new W.contents writer.old writer.new (ListsDecided frame_lines) }
     ensures read_failed { result ≡ Err ToolFault.Read → HasFailed reader.old.failures reader.new.failures }
 
     // The writer failed: what it took is a prefix of the lines.
-    ensures write { result ≡ Err ToolFault.Write → ListsPart frame_lines (R.remaining reader.old.inner) (R.remaining reader.new.inner) (W.contents writer.old.inner) (W.contents writer.new.inner) }
+    ensures write { result ≡ Err ToolFault.Write → Moves R.remaining reader.old reader.new W.contents writer.old writer.new (ListsPart frame_lines) }
     ensures write_failed { result ≡ Err ToolFault.Write → HasFailed writer.old.failures writer.new.failures }
 
     // A stream of more than 2^48 bytes: what the first 2^48 decide was written.
-    ensures too_long { result ≡ Err (ToolFault.Scan ScanFault.TooLong) → ListsToLimit (2 ^ 48) frame_lines (R.remaining reader.old.inner) (R.remaining reader.new.inner) (W.contents writer.old.inner) (W.contents writer.new.inner) }
+    ensures too_long { result ≡ Err (ToolFault.Scan ScanFault.TooLong) → Moves R.remaining reader.old reader.new W.contents writer.old writer.new (ListsToLimit (2 ^ 48) frame_lines) }
     ensures memory { result ≡ Err (ToolFault.Scan ScanFault.Memory) → IsUntouched reader.old reader.new writer.old writer.new }
     ensures only { IfErr result IsListFault }
 {
@@ -64,18 +65,18 @@ pub fn run_show<R: Read, W: Write>(
     reader: &mut Counted<R>,
     writer: &mut Counted<W>,
 ) -> Result<(), ToolFault>
-    ensures whole { OnOk result (ListsAll show_lines (R.remaining reader.old.inner) (R.remaining reader.new.inner) (W.contents writer.old.inner) (W.contents writer.new.inner)) }
+    ensures whole { OnOk result (Moves R.remaining reader.old reader.new W.contents writer.old writer.new (ListsAll show_lines)) }
 
     // The reader failed: what the bytes before decide was written.
-    ensures read { result ≡ Err ToolFault.Read → ListsDecided show_lines (R.remaining reader.old.inner) (R.remaining reader.new.inner) (W.contents writer.old.inner) (W.contents writer.new.inner) }
+    ensures read { result ≡ Err ToolFault.Read → Moves R.remaining reader.old reader.new W.contents writer.old writer.new (ListsDecided show_lines) }
     ensures read_failed { result ≡ Err ToolFault.Read → HasFailed reader.old.failures reader.new.failures }
 
     // The writer failed: what it took is a prefix of the lines.
-    ensures write { result ≡ Err ToolFault.Write → ListsPart show_lines (R.remaining reader.old.inner) (R.remaining reader.new.inner) (W.contents writer.old.inner) (W.contents writer.new.inner) }
+    ensures write { result ≡ Err ToolFault.Write → Moves R.remaining reader.old reader.new W.contents writer.old writer.new (ListsPart show_lines) }
     ensures write_failed { result ≡ Err ToolFault.Write → HasFailed writer.old.failures writer.new.failures }
 
     // A stream of more than 2^48 bytes: what the first 2^48 decide was written.
-    ensures too_long { result ≡ Err (ToolFault.Scan ScanFault.TooLong) → ListsToLimit (2 ^ 48) show_lines (R.remaining reader.old.inner) (R.remaining reader.new.inner) (W.contents writer.old.inner) (W.contents writer.new.inner) }
+    ensures too_long { result ≡ Err (ToolFault.Scan ScanFault.TooLong) → Moves R.remaining reader.old reader.new W.contents writer.old writer.new (ListsToLimit (2 ^ 48) show_lines) }
     ensures memory { result ≡ Err (ToolFault.Scan ScanFault.Memory) → IsUntouched reader.old reader.new writer.old writer.new }
     ensures only { IfErr result IsListFault }
 {
@@ -91,12 +92,12 @@ pub fn list<R: Read, W: Write>(
     writer: &mut Counted<W>,
 ) -> Result<(), ToolFault>
     requires { limit ≤ 2 ^ 48 }
-    ensures whole { OnOk result (ListsAll (lines_of listing) (R.remaining reader.old.inner) (R.remaining reader.new.inner) (W.contents writer.old.inner) (W.contents writer.new.inner)) }
-    ensures read { result ≡ Err ToolFault.Read → ListsDecided (lines_of listing) (R.remaining reader.old.inner) (R.remaining reader.new.inner) (W.contents writer.old.inner) (W.contents writer.new.inner) }
+    ensures whole { OnOk result (Moves R.remaining reader.old reader.new W.contents writer.old writer.new (ListsAll (lines_of listing))) }
+    ensures read { result ≡ Err ToolFault.Read → Moves R.remaining reader.old reader.new W.contents writer.old writer.new (ListsDecided (lines_of listing)) }
     ensures read_failed { result ≡ Err ToolFault.Read → HasFailed reader.old.failures reader.new.failures }
-    ensures write { result ≡ Err ToolFault.Write → ListsPart (lines_of listing) (R.remaining reader.old.inner) (R.remaining reader.new.inner) (W.contents writer.old.inner) (W.contents writer.new.inner) }
+    ensures write { result ≡ Err ToolFault.Write → Moves R.remaining reader.old reader.new W.contents writer.old writer.new (ListsPart (lines_of listing)) }
     ensures write_failed { result ≡ Err ToolFault.Write → HasFailed writer.old.failures writer.new.failures }
-    ensures too_long { result ≡ Err (ToolFault.Scan ScanFault.TooLong) → ListsToLimit limit (lines_of listing) (R.remaining reader.old.inner) (R.remaining reader.new.inner) (W.contents writer.old.inner) (W.contents writer.new.inner) }
+    ensures too_long { result ≡ Err (ToolFault.Scan ScanFault.TooLong) → Moves R.remaining reader.old reader.new W.contents writer.old writer.new (ListsToLimit limit (lines_of listing)) }
     ensures memory { result ≡ Err (ToolFault.Scan ScanFault.Memory) → IsUntouched reader.old reader.new writer.old writer.new }
     ensures only { IfErr result IsListFault }
 {
@@ -118,12 +119,12 @@ fn list_frames<R: Read, W: Write>(
     requires going { framer.old.has_ended ≡ false }
     requires within { framer.old.taken ≤ framer.old.limit }
     requires new { StandsFor framer.old [] [] × IsDrained framer.old [] [] }
-    ensures whole { OnOk result (ListsAll (lines_of listing) (R.remaining reader.old.inner) (R.remaining reader.new.inner) (W.contents writer.old.inner) (W.contents writer.new.inner)) }
-    ensures read { result ≡ Err ToolFault.Read → ListsDecided (lines_of listing) (R.remaining reader.old.inner) (R.remaining reader.new.inner) (W.contents writer.old.inner) (W.contents writer.new.inner) }
+    ensures whole { OnOk result (Moves R.remaining reader.old reader.new W.contents writer.old writer.new (ListsAll (lines_of listing))) }
+    ensures read { result ≡ Err ToolFault.Read → Moves R.remaining reader.old reader.new W.contents writer.old writer.new (ListsDecided (lines_of listing)) }
     ensures read_failed { result ≡ Err ToolFault.Read → HasFailed reader.old.failures reader.new.failures }
-    ensures write { result ≡ Err ToolFault.Write → ListsPart (lines_of listing) (R.remaining reader.old.inner) (R.remaining reader.new.inner) (W.contents writer.old.inner) (W.contents writer.new.inner) }
+    ensures write { result ≡ Err ToolFault.Write → Moves R.remaining reader.old reader.new W.contents writer.old writer.new (ListsPart (lines_of listing)) }
     ensures write_failed { result ≡ Err ToolFault.Write → HasFailed writer.old.failures writer.new.failures }
-    ensures too_long { result ≡ Err (ToolFault.Scan ScanFault.TooLong) → ListsToLimit framer.old.limit (lines_of listing) (R.remaining reader.old.inner) (R.remaining reader.new.inner) (W.contents writer.old.inner) (W.contents writer.new.inner) }
+    ensures too_long { result ≡ Err (ToolFault.Scan ScanFault.TooLong) → Moves R.remaining reader.old reader.new W.contents writer.old writer.new (ListsToLimit framer.old.limit (lines_of listing)) }
     ensures only { IfErr result (λ fault. (fault ≡ ToolFault.Read) ⊎ (fault ≡ ToolFault.Write) ⊎ (fault ≡ ToolFault.Scan ScanFault.TooLong)) }
 {
     let mut piece = [0; PIECE_BYTES];

@@ -1,10 +1,9 @@
 //! What the options of `convert` ask for.
 ghost use Rattle.std.specs.Prelude.{◌≡◌, MatchResult, codes, not};
 ghost use Rattle.std.specs.Str.{bytes_eq};
-ghost use Rattle.clap.specs.Matches.{found_of, one_text};
 ghost use Rattle.obs_epoch.specs.Kinds.{is_by_bit};
 ghost use Rattle.rinex_file.specs.TextsOf.{lists_of};
-ghost use Rattle.rtcm2rinex.specs.Told.{IsTold, IsRefused, IsNumberOf, text_told, texts_told};
+ghost use Rattle.rtcm2rinex.specs.Told.{IsTold, IsRefused, options_of, text_told, texts_told};
 
 use crate::fault::ToolFault;
 use clap::ArgMatches;
@@ -16,7 +15,7 @@ use std::alloc::Global;
 
 /// What a conversion is told at first. The texts of the header are judged before the plan.
 pub fn setup_of(alloc: Global, options: &ArgMatches) -> Result<Setup, ToolFault>
-    ensures { MatchResult result (IsTold (found_of options.now)) (IsRefused (found_of options.now)) }
+    ensures { MatchResult result (IsTold (options_of options.now)) (IsRefused (options_of options.now)) }
 {
     let texts = HeaderTexts::new(&texts_of(options))?;
     let plan = Plan::parse(alloc, text(options, "gps"), text(options, "galileo"))?;
@@ -32,7 +31,7 @@ pub fn setup_of(alloc: Global, options: &ArgMatches) -> Result<Setup, ToolFault>
 
 /// The texts of the header.
 fn texts_of<'a>(options: &ArgMatches<'a>) -> Texts<'a>
-    ensures { lists_of result ≡ texts_told (found_of options.now) }
+    ensures { lists_of result ≡ texts_told (options_of options.now) }
 {
     Texts {
         run_by: text(options, "run-by"),
@@ -61,7 +60,7 @@ fn gather_of(name: &str) -> Gather
 
 /// The value of an option: each that is asked for is required or has a default.
 fn text<'a>(options: &ArgMatches<'a>, name: &str) -> &'a str
-    ensures { result.now ≡ text_told (found_of options.now) name.now }
+    ensures { result.now ≡ text_told (options_of options.now) name.now }
 {
     match options.get_str(name) {
         Some(text) => text,

@@ -8,6 +8,7 @@ ghost use Rattle.obs_epoch.specs.declared.seen.Seen.{Seen};
 ghost use Rattle.rtcm2rinex.specs.Listing.{IsUntouched};
 ghost use Rattle.rtcm2rinex.specs.Signals.{had, codes_word, options_line, plan_had, count_line, count_lines, letter, signals_text, signal_in, TellsSignals, TellsPart, HasNoSignal, ReadsTooMuch, IsSignalsFault};
 ghost use Rattle.rtcm2rinex.specs.Census.{IsCensus};
+ghost use Rattle.rtcm2rinex.specs.Moves.{Moves};
 
 use crate::census::{Census, Form};
 use crate::fault::ToolFault;
@@ -32,7 +33,7 @@ pub fn run_signals<R: Read, W: Write>(
     reader: &mut Counted<R>,
     writer: &mut Counted<W>,
 ) -> Result<(), ToolFault>
-    ensures whole { OnOk result (TellsSignals form station (R.remaining reader.old.inner) (R.remaining reader.new.inner) (W.contents writer.old.inner) (W.contents writer.new.inner)) }
+    ensures whole { OnOk result (Moves R.remaining reader.old reader.new W.contents writer.old writer.new (TellsSignals form station)) }
 
     // No cell of the stream has a value.
     ensures none { result ≡ Err ToolFault.NoSignal → HasNoSignal station (R.remaining reader.old.inner) (R.remaining reader.new.inner) }
@@ -43,7 +44,7 @@ pub fn run_signals<R: Read, W: Write>(
     ensures memory { result ≡ Err (ToolFault.Scan ScanFault.Memory) → IsUntouched reader.old reader.new writer.old writer.new }
 
     // The writer failed: what it took is a prefix of the text. At every other fault nothing was written.
-    ensures write { result ≡ Err ToolFault.Write → TellsPart form station (R.remaining reader.old.inner) (R.remaining reader.new.inner) (W.contents writer.old.inner) (W.contents writer.new.inner) }
+    ensures write { result ≡ Err ToolFault.Write → Moves R.remaining reader.old reader.new W.contents writer.old writer.new (TellsPart form station) }
     ensures write_failed { result ≡ Err ToolFault.Write → HasFailed writer.old.failures writer.new.failures }
     ensures unwritten { IfErr result (λ fault. (fault ≡ ToolFault.Write) ⊎ (writer.new ≡ writer.old)) }
     ensures only { IfErr result IsSignalsFault }

@@ -1,10 +1,9 @@
 //! Station values that change: events between epochs, written and checked.
+use super::check::CHECK;
 use super::convert::OPTIONS;
-use super::run;
 use super::streams::{FINE, HEIGHT, changed, framed};
-use crate::command::command;
-use rtcm_bits::Counted;
-use rtcm_bits::devices::{PieceReader, ReadEnd, ShortWriter, WriteEnd};
+use super::{Outcome, run, written};
+use rtcm_bits::devices::WriteEnd;
 use std::alloc::{AllocError, Global};
 use std::io::ErrorKind;
 use std::test::Fail;
@@ -41,60 +40,68 @@ const SECOND: &[u8] =
 const REPORT: &[u8] =
     b"bytes 111 skipped_bytes 0 frames 3 faulty 0 station 1 other 0 ignored 0 late 0 past 0 taken 2 skipped 0 repeated 0 crowded 0 epochs 2\n";
 
+/// What comes of the conversion of these messages.
+fn converted(alloc: Global, messages: &[&[u8]], sizes: &[usize]) -> Result<Outcome, AllocError> {
+    let stream = framed(alloc, messages)?;
+    Ok(run(alloc, &OPTIONS, stream.as_slice(), sizes))
+}
+
 /// The file of the fine message alone, and these texts behind it.
 fn file_and(alloc: Global, texts: &[&[u8]]) -> Result<Vec<u8>, AllocError> {
-    let stream = framed(alloc, &[&FINE])?;
-    let mut file = run(alloc, OPTIONS.as_slice(), stream.as_slice(), &[]).output;
+    let mut file = converted(alloc, &[&FINE], &[])?.output;
     for text in texts {
         file.extend_from_slice(text)?;
     }
     Ok(file)
 }
 
+/// What comes of a check of these texts, one behind the other.
+fn checked(alloc: Global, parts: &[&[u8]]) -> Result<Outcome, AllocError> {
+    let mut text = Vec::new(alloc);
+    for part in parts {
+        text.extend_from_slice(part)?;
+    }
+    Ok(run(alloc, &CHECK, text.as_slice(), &[]))
+}
+
+/// The first so many bytes of a text, or all.
+fn front(text: &[u8], length: usize) -> &[u8] {
+    &text[..length.min(text.len())]
+}
+
+/// What stands behind them.
+fn behind(text: &[u8], length: usize) -> &[u8] {
+    &text[length.min(text.len())..]
+}
+
 #[test]
 fn values_that_change_stand_before_the_epoch(rt: HostRuntime) -> Result<(), Fail> {
-    let stream = framed(rt.alloc(), &[&FINE, &HEIGHT, &later()])?;
     let wanted = file_and(rt.alloc(), &[FLAG, POSITION, ABOVE, SECOND])?;
-    assert_eq!(rt; wanted.len(), 1536);
     for sizes in [[1].as_slice(), [].as_slice()] {
-        let outcome = run(rt.alloc(), OPTIONS.as_slice(), stream.as_slice(), sizes);
-        assert_eq!(rt; outcome.status, 0);
-        assert_eq!(rt; outcome.output.as_slice(), wanted.as_slice());
-        assert_eq!(rt; outcome.faults.as_slice(), REPORT);
+        let outcome = converted(rt.alloc(), &[&FINE, &HEIGHT, &later()], sizes)?;
+        assert!(rt; outcome.is(0, wanted.as_slice(), REPORT));
     }
-    let checked = run(rt.alloc(), &["rtcm2rinex", "check"], wanted.as_slice(), &[]);
-    assert_eq!(rt; checked.status, 0);
-    assert_eq!(rt;
-        checked.output.as_slice(),
-        b"epochs 2 satellites 2 events 1\n".as_slice()
-    );
+    let outcome = checked(rt.alloc(), &[wanted.as_slice()])?;
+    assert!(rt; outcome.is(0, b"epochs 2 satellites 2 events 1\n", &[]));
     Ok(())
 }
 
 // Values that are told again, or behind the last epoch, are no event.
 #[test]
 fn values_that_stay_stand_once(rt: HostRuntime) -> Result<(), Fail> {
-    let stream = framed(rt.alloc(), &[&HEIGHT, &FINE, &HEIGHT, &later()])?;
-    let outcome = run(rt.alloc(), OPTIONS.as_slice(), stream.as_slice(), &[]);
-    let text = outcome.output.as_slice();
-    assert_eq!(rt; text.len(), 1338);
-    assert!(rt; text.ends_with(SECOND));
-    let stream = framed(rt.alloc(), &[&FINE, &HEIGHT])?;
-    let outcome = run(rt.alloc(), OPTIONS.as_slice(), stream.as_slice(), &[]);
-    assert_eq!(rt; outcome.status, 0);
-    assert_eq!(rt;
-        outcome.output.as_slice(),
-        file_and(rt.alloc(), &[])?.as_slice()
-    );
+    let again = converted(rt.alloc(), &[&HEIGHT, &FINE, &HEIGHT, &later()], &[])?;
+    assert!(rt; again.output.len() == 1338 && again.output.as_slice().ends_with(SECOND));
+    let last = converted(rt.alloc(), &[&FINE, &HEIGHT], &[])?;
+    let wanted = file_and(rt.alloc(), &[])?;
+    assert!(rt; last.status == 0 && last.output.as_slice() == wanted.as_slice());
     Ok(())
 }
 
 #[test]
 fn an_event_that_is_wrong_is_told_with_its_line(rt: HostRuntime) -> Result<(), Fail> {
-    let alloc = rt.alloc();
-    let file = file_and(alloc, &[])?;
-    let header = &file.as_slice()[..file.len().min(14 * 81)];
-    let epoch = &file.as_slice()[file.len().min(14 * 81)..];
+    let file = file_and(rt.alloc(), &[])?;
+    let header = front(file.as_slice(), 14 * 81);
+    let epoch = behind(file.as_slice(), 14 * 81);
     let rows: [(&[&[u8]], &[u8]); 8] = [
         (
             &[header, FLAG, POSITION, ABOVE, epoch, SECOND],
@@ -126,15 +133,8 @@ fn an_event_that_is_wrong_is_told_with_its_line(rt: HostRuntime) -> Result<(), F
         ),
         (&[header, epoch, FLAG], b"rtcm2rinex: CutShort 18\n"),
     ];
-    for (parts, wanted) in rows {
-        let mut text = Vec::new(alloc);
-        for part in parts {
-            text.extend_from_slice(part)?;
-        }
-        let outcome = run(alloc, &["rtcm2rinex", "check"], text.as_slice(), &[]);
-        assert_eq!(rt; outcome.status, 1);
-        assert!(rt; outcome.output.is_empty());
-        assert_eq!(rt; outcome.faults.as_slice(), wanted);
+    for (parts, fault) in rows {
+        assert!(rt; checked(rt.alloc(), parts)?.is_fault(&[], fault));
     }
     Ok(())
 }
@@ -145,22 +145,10 @@ fn a_writer_that_fails_within_an_event_has_the_front(rt: HostRuntime) -> Result<
     let stream = framed(rt.alloc(), &[&FINE, &HEIGHT, &later()])?;
     let wanted = file_and(rt.alloc(), &[FLAG, POSITION, ABOVE, SECOND])?;
     for taken in [1236, 1240, 1272, 1300, 1434] {
-        let mut reader = Counted::new(PieceReader::new(stream.as_slice(), &[], ReadEnd::Ends));
-        let out = Vec::new(rt.alloc());
         let end = WriteEnd::Fails(ErrorKind::Other);
-        let mut writer = Counted::new(ShortWriter::new(out, 1000, taken, end));
-        let mut faults = Vec::new(rt.alloc());
-        let status = command(
-            rt.alloc(),
-            OPTIONS.as_slice(),
-            &mut reader,
-            &mut writer,
-            &mut faults,
-        );
-        assert_eq!(rt; status, 1);
-        assert_eq!(rt; faults.as_slice(), b"rtcm2rinex: Write\n".as_slice());
-        let out = writer.into_inner().into_inner();
-        assert_eq!(rt; Some(out.as_slice()), wanted.as_slice().get(..taken));
+        let outcome = written(rt.alloc(), &OPTIONS, stream.as_slice(), 1000, taken, end);
+        let went = front(wanted.as_slice(), taken);
+        assert!(rt; outcome.is_fault(went, b"rtcm2rinex: Write\n"));
     }
     Ok(())
 }

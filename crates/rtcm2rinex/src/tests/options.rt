@@ -1,5 +1,5 @@
 //! What each option of `convert` changes, by whole files.
-use super::files::{EPOCH, HEADER, REPORT, TOLD, converted, file_of, makes, with_line};
+use super::files::{EPOCH, HEADER, REPORT, TOLD, converted, makes, with_line};
 use super::streams::{FINE, changed, framed};
 use std::test::Fail;
 
@@ -19,78 +19,7 @@ const LATER_LINE: &str = "G05  20985472.060 7 110279400.00017      -525.504     
 const LATER_FIRST: &str =
     "  2024     2     4     0     0    2.0000000     GPS         TIME OF FIRST OBS";
 
-// Each text by itself stands in its own columns of its own line, and nothing else changes.
-#[test]
-fn each_text_stands_in_its_columns(rt: HostRuntime) -> Result<(), Fail> {
-    let stream = framed(rt.alloc(), &[&FINE])?;
-    let rows: [(&str, usize, &str); 10] = [
-        (
-            "--run-by",
-            1,
-            "rtcm2rinex          some text           20240204 000001 UTC PGM / RUN BY / DATE",
-        ),
-        (
-            "--marker",
-            2,
-            "some text                                                   MARKER NAME",
-        ),
-        (
-            "--marker-type",
-            3,
-            "some text                                                   MARKER TYPE",
-        ),
-        (
-            "--observer",
-            4,
-            "some text                                                   OBSERVER / AGENCY",
-        ),
-        (
-            "--agency",
-            4,
-            "                    some text                               OBSERVER / AGENCY",
-        ),
-        (
-            "--rec-number",
-            5,
-            "some text                                                   REC # / TYPE / VERS",
-        ),
-        (
-            "--rec-type",
-            5,
-            "                    some text                               REC # / TYPE / VERS",
-        ),
-        (
-            "--rec-version",
-            5,
-            "                                        some text           REC # / TYPE / VERS",
-        ),
-        (
-            "--ant-number",
-            6,
-            "some text                                                   ANT # / TYPE",
-        ),
-        (
-            "--ant-type",
-            6,
-            "                    some text                               ANT # / TYPE",
-        ),
-    ];
-    for (option, place, line) in rows {
-        let outcome = converted(rt.alloc(), &TOLD, &[option, "some text"], &stream)?;
-        let header = with_line(HEADER, place, line);
-        assert!(rt;
-            makes(rt.alloc(), &outcome, &header, &EPOCH, REPORT)?,
-            "{option}"
-        );
-    }
-    let told = ["--week", "2300", "--gps", "1C", "--galileo", "none"];
-    let outcome = converted(rt.alloc(), &told, &["--date", "some text"], &stream)?;
-    let line = "rtcm2rinex                              some text           PGM / RUN BY / DATE";
-    let header = with_line(HEADER, 1, line);
-    assert!(rt; makes(rt.alloc(), &outcome, &header, &EPOCH, REPORT)?);
-    Ok(())
-}
-
+// Each text in its own columns of its own line.
 #[test]
 fn eleven_texts_stand_in_one_header(rt: HostRuntime) -> Result<(), Fail> {
     let stream = framed(rt.alloc(), &[&FINE])?;
@@ -153,12 +82,7 @@ fn a_station_is_chosen(rt: HostRuntime) -> Result<(), Fail> {
         assert!(rt; makes(rt.alloc(), &outcome, header, lines, report)?);
     }
     let outcome = converted(rt.alloc(), &TOLD, &["--station", "8"], &stream)?;
-    assert_eq!(rt; outcome.status, 1);
-    assert!(rt; outcome.output.is_empty());
-    assert_eq!(rt;
-        outcome.faults.as_slice(),
-        b"rtcm2rinex: NoEpoch\n".as_slice()
-    );
+    assert!(rt; outcome.is_fault(&[], b"rtcm2rinex: NoEpoch\n"));
     Ok(())
 }
 
@@ -184,36 +108,6 @@ fn a_rule_of_gathering_is_chosen(rt: HostRuntime) -> Result<(), Fail> {
     for (options, lines, report) in rows {
         let outcome = converted(rt.alloc(), &TOLD, options, &stream)?;
         assert!(rt; makes(rt.alloc(), &outcome, &HEADER, lines, report)?);
-    }
-    Ok(())
-}
-
-// A stream of exactly the limit is good; of a longer one stands what the bytes up to the limit close.
-#[test]
-fn a_limit_is_kept(rt: HostRuntime) -> Result<(), Fail> {
-    let later = changed(&FINE, &TWO_SECONDS);
-    let stream = framed(rt.alloc(), &[&FINE, &later])?;
-    let both = [EPOCH[0], EPOCH[1], LATER_EPOCH[0], LATER_LINE];
-    let two =
-        "bytes 84 skipped_bytes 0 frames 2 faulty 0 station 0 other 0 ignored 0 late 0 past 0 taken 2 skipped 0 repeated 0 crowded 0 epochs 2\n";
-    let outcome = converted(rt.alloc(), &TOLD, &["--limit", "84"], &stream)?;
-    assert!(rt; makes(rt.alloc(), &outcome, &HEADER, &both, two)?);
-    let first = file_of(rt.alloc(), &HEADER, &EPOCH)?;
-    let rows: [(&[u8], &str, &[u8]); 5] = [
-        (&stream, "83", &first),
-        (&stream, "42", &first),
-        (&stream, "41", &[]),
-        (&stream, "0", &[]),
-        (&[0; 11], "10", &[]),
-    ];
-    for (stream, limit, output) in rows {
-        let outcome = converted(rt.alloc(), &TOLD, &["--limit", limit], stream)?;
-        assert_eq!(rt; outcome.status, 1);
-        assert_eq!(rt; outcome.output.as_slice(), output, "{limit}");
-        assert_eq!(rt;
-            outcome.faults.as_slice(),
-            b"rtcm2rinex: TooLong\n".as_slice()
-        );
     }
     Ok(())
 }

@@ -1,31 +1,32 @@
 //! The signals of streams.
 use super::streams::{COARSE, FINE, FRAMED_STATION, NO_CELLS, changed, framed};
-use super::{run, run_over};
-use rtcm_bits::Counted;
-use rtcm_bits::devices::{PieceReader, ReadEnd, ShortWriter, WriteEnd};
+use super::{cut_off, run, written};
+use rtcm_bits::devices::WriteEnd;
 use std::io::ErrorKind;
 use std::test::Fail;
 
-const WORDS: [&str; 4] = ["rtcm2rinex", "signals", "--station", "2003"];
+const SIGNALS: [&str; 2] = ["rtcm2rinex", "signals"];
 
-// Satellite 5 has signal 2, which is 1C, twice; in the second message once more as signal 10, which is 2W.
+const OF_2003: [&str; 4] = ["rtcm2rinex", "signals", "--station", "2003"];
+
+const OF_2004: [&str; 4] = ["rtcm2rinex", "signals", "--station", "2004"];
+
+const COUNTED: [&str; 3] = ["rtcm2rinex", "signals", "--counts"];
+
+// Satellite 5 has signal 2, which is 1C, twice; in the third message once more as signal 10, which
+// is 2W.
 #[test]
 fn signals_are_told_as_options_and_counted(rt: HostRuntime) -> Result<(), Fail> {
     let other = changed(&FINE, &[(17, 0x00), (18, 0x20)]);
     let stream = framed(rt.alloc(), &[&FINE, &COARSE, &other])?;
-    for (words, text) in [
-        (&WORDS[..2], b"--gps 1C,2W --galileo none\n".as_slice()),
-        (WORDS.as_slice(), b"--gps 1C,2W --galileo none\n"),
-        (
-            ["rtcm2rinex", "signals", "--counts"].as_slice(),
-            b"G 1C 2\nG 2W 1\n",
-        ),
-    ] {
+    let rows: [(&[&str], &[u8]); 3] = [
+        (&SIGNALS, b"--gps 1C,2W --galileo none\n"),
+        (&OF_2003, b"--gps 1C,2W --galileo none\n"),
+        (&COUNTED, b"G 1C 2\nG 2W 1\n"),
+    ];
+    for (words, text) in rows {
         for sizes in [[1].as_slice(), [7].as_slice(), [].as_slice()] {
-            let found = run(rt.alloc(), words, stream.as_slice(), sizes);
-            assert_eq!(rt; found.status, 0);
-            assert_eq!(rt; found.output.as_slice(), text);
-            assert!(rt; found.faults.is_empty());
+            assert!(rt; run(rt.alloc(), words, stream.as_slice(), sizes).is(0, text, &[]));
         }
     }
     Ok(())
@@ -34,84 +35,43 @@ fn signals_are_told_as_options_and_counted(rt: HostRuntime) -> Result<(), Fail> 
 // A station's messages alone count where it is told; a cell without any value doesn't.
 #[test]
 fn a_stream_without_signals_is_told(rt: HostRuntime) -> Result<(), Fail> {
-    let empty = changed(
-        &FINE,
-        &[
-            (21, 0x7F),
-            (22, 0xC0),
-            (24, 0x80),
-            (25, 0x00),
-            (32, 0x00),
-            (33, 0x00),
-        ],
-    );
-    let stream = framed(rt.alloc(), &[&FINE])?;
-    let elsewhere = run(
-        rt.alloc(),
-        ["rtcm2rinex", "signals", "--station", "2004"].as_slice(),
-        stream.as_slice(),
-        &[],
-    );
-    assert_eq!(rt;
-        elsewhere.faults.as_slice(),
-        b"rtcm2rinex: NoSignal\n".as_slice()
-    );
-    for message in [empty.as_slice(), NO_CELLS.as_slice()] {
-        let stream = framed(rt.alloc(), &[message])?;
-        let found = run(rt.alloc(), &WORDS[..2], stream.as_slice(), &[]);
-        assert_eq!(rt; found.status, 1);
-        assert!(rt; found.output.is_empty());
-        assert_eq!(rt;
-            found.faults.as_slice(),
-            b"rtcm2rinex: NoSignal\n".as_slice()
-        );
+    let blank = [
+        (21, 0x7F),
+        (22, 0xC0),
+        (24, 0x80),
+        (25, 0x00),
+        (32, 0x00),
+        (33, 0x00),
+    ];
+    let fine = framed(rt.alloc(), &[&FINE])?;
+    let empty = framed(rt.alloc(), &[&changed(&FINE, &blank)])?;
+    let no_cells = framed(rt.alloc(), &[&NO_CELLS])?;
+    let rows: [(&[&str], &[u8]); 4] = [
+        (&OF_2004, &fine),
+        (&SIGNALS, &empty),
+        (&SIGNALS, &no_cells),
+        (&SIGNALS, &FRAMED_STATION),
+    ];
+    for (words, stream) in rows {
+        let outcome = run(rt.alloc(), words, stream, &[]);
+        assert!(rt; outcome.is_fault(&[], b"rtcm2rinex: NoSignal\n"));
     }
-    let station = run(rt.alloc(), &WORDS[..2], FRAMED_STATION.as_slice(), &[]);
-    assert_eq!(rt; station.status, 1);
     Ok(())
 }
 
 #[test]
 fn devices_that_fail_are_told(rt: HostRuntime) -> Result<(), Fail> {
     let stream = framed(rt.alloc(), &[&FINE])?;
-    let fails = ReadEnd::Fails(ErrorKind::Other);
-    let mut reader = Counted::new(PieceReader::new(stream.as_slice(), &[], fails));
-    let mut writer = Counted::new(Vec::new(rt.alloc()));
-    let (status, faults) = run_over(rt.alloc(), &WORDS[..2], &mut reader, &mut writer);
-    assert_eq!(rt; status, 1);
-    assert_eq!(rt; faults.as_slice(), b"rtcm2rinex: Read\n".as_slice());
-    assert!(rt; writer.into_inner().is_empty());
-    Ok(())
-}
-
-// The line has 24 bytes.
-#[test]
-fn a_writer_that_fails_is_told(rt: HostRuntime) -> Result<(), Fail> {
-    let stream = framed(rt.alloc(), &[&FINE])?;
-    for room in 0..26 {
-        let mut reader = Counted::new(PieceReader::new(stream.as_slice(), &[], ReadEnd::Ends));
-        let bytes = Vec::new(rt.alloc());
-        let fails = WriteEnd::Fails(ErrorKind::Other);
-        let mut writer = Counted::new(ShortWriter::new(bytes, 3, room, fails));
-        let (status, faults) = run_over(rt.alloc(), &WORDS[..2], &mut reader, &mut writer);
-        if room < 24 {
-            assert_eq!(rt; status, 1);
-            assert_eq!(rt; faults.as_slice(), b"rtcm2rinex: Write\n".as_slice());
-        } else {
-            assert_eq!(rt; status, 0);
-        }
+    let outcome = cut_off(rt.alloc(), &SIGNALS, stream.as_slice());
+    assert!(rt; outcome.is_fault(&[], b"rtcm2rinex: Read\n"));
+    let line = b"--gps 1C --galileo none\n";
+    for room in 0..line.len() {
+        let end = WriteEnd::Fails(ErrorKind::Other);
+        let outcome = written(rt.alloc(), &SIGNALS, stream.as_slice(), 3, room, end);
+        assert!(rt; outcome.is_fault(&line[..room], b"rtcm2rinex: Write\n"));
     }
-    Ok(())
-}
-
-#[test]
-fn the_version_is_told(rt: HostRuntime) -> Result<(), Fail> {
-    for word in ["--version", "-V"] {
-        let found = run(rt.alloc(), ["rtcm2rinex", word].as_slice(), b"ab", &[]);
-        assert_eq!(rt; found.status, 0);
-        assert!(rt; found.output.as_slice().starts_with(b"rtcm2rinex 1."));
-        assert!(rt; found.output.as_slice().ends_with(b")\n"));
-        assert!(rt; found.faults.is_empty());
-    }
+    let end = WriteEnd::Fails(ErrorKind::Other);
+    let outcome = written(rt.alloc(), &SIGNALS, stream.as_slice(), 3, line.len(), end);
+    assert!(rt; outcome.is(0, line, &[]));
     Ok(())
 }

@@ -1,9 +1,21 @@
+use super::run;
 use super::streams::FRAMED_STATION;
 use crate::command::{command, refuse_words};
+use crate::version::VERSION;
 use rtcm_bits::Counted;
+use std::alloc::Global;
 use std::io;
 use std::io::ErrorKind;
 use std::test::Fail;
+
+/// Whether words are refused with some text, no byte is read, and none written.
+fn is_untouched(alloc: Global, words: &[&str]) -> bool {
+    let mut reader = Counted::new(FRAMED_STATION.as_slice());
+    let mut writer = Counted::new(Vec::new(alloc));
+    let mut faults = Vec::new(alloc);
+    let status = command(alloc, words, &mut reader, &mut writer, &mut faults);
+    status == 2 && !faults.is_empty() && reader.widest() == 0 && writer.into_inner().is_empty()
+}
 
 #[test]
 fn words_that_are_not_accepted_do_nothing(rt: HostRuntime) -> Result<(), Fail> {
@@ -19,32 +31,38 @@ fn words_that_are_not_accepted_do_nothing(rt: HostRuntime) -> Result<(), Fail> {
         &[],
     ];
     for words in rows {
-        let mut reader = Counted::new(FRAMED_STATION.as_slice());
-        let mut writer = Counted::new(Vec::new(rt.alloc()));
-        let mut faults = Vec::new(rt.alloc());
-        let status = command(rt.alloc(), words, &mut reader, &mut writer, &mut faults);
-        assert_eq!(rt; status, 2);
-        assert!(rt; !faults.is_empty());
-        assert_eq!(rt; reader.widest(), 0);
-        assert!(rt; writer.into_inner().is_empty());
+        assert!(rt; is_untouched(rt.alloc(), words));
     }
     Ok(())
 }
 
 #[test]
-fn words_that_cannot_be_had_are_told(rt: HostRuntime) -> Result<(), Fail> {
-    let rows: [(ErrorKind, u8, &[u8]); 2] = [
-        (ErrorKind::OutOfMemory, 1, b"rtcm2rinex: Memory\n"),
-        (
-            ErrorKind::InvalidData,
-            2,
-            b"error: a word of the command line isn't UTF-8\n",
-        ),
-    ];
-    for (kind, status, text) in rows {
-        let mut faults = Vec::new(rt.alloc());
-        assert_eq!(rt; refuse_words(&io::Error::from(kind), &mut faults), status);
-        assert_eq!(rt; faults.as_slice(), text);
+fn the_version_is_told(rt: HostRuntime) -> Result<(), Fail> {
+    for word in ["--version", "-V"] {
+        let outcome = run(rt.alloc(), &["rtcm2rinex", word], b"ab", &[]);
+        assert!(rt; outcome.is(0, VERSION.as_bytes(), &[]));
     }
+    Ok(())
+}
+
+/// Whether words that can't be had for this reason are answered by this status and text.
+fn are_refused(alloc: Global, kind: ErrorKind, status: u8, text: &[u8]) -> bool {
+    let mut faults = Vec::new(alloc);
+    let found = refuse_words(&io::Error::from(kind), &mut faults);
+    found == status && faults.as_slice() == text
+}
+
+#[test]
+fn words_that_cannot_be_had_are_told(rt: HostRuntime) -> Result<(), Fail> {
+    let text = b"error: a word of the command line isn't UTF-8\n";
+    assert!(rt;
+        are_refused(
+            rt.alloc(),
+            ErrorKind::OutOfMemory,
+            1,
+            b"rtcm2rinex: Memory\n"
+        )
+    );
+    assert!(rt; are_refused(rt.alloc(), ErrorKind::InvalidData, 2, text));
     Ok(())
 }

@@ -1,0 +1,96 @@
+-- What a command is once an option or a command is added.
+use Rattle.std.proofs.Common.{◌≡◌, ◌+◌, ◌<◌, ◌&&◌, ◌∷◌, [], ℕ, Bool, Result, Ok, Err, IfErr, List, Option, Some, true, false, not, is_some, length, map, take, get_or, inl, inr, refl, sym, subst, ap, ap₂, ◌∙◌}
+use Rattle.std.proofs.lemmas.List.{map_more}
+use Rattle.std.proofs.lemmas.List.Sums.{fold-append}
+use Rattle.clap.specs.Walk.{Rule, Text, is_empty, rule_of}
+use Rattle.clap.specs.Simple.{App, app_of, built, app_of_fields, is_simple, on_top, with_rule, with_subcommand}
+use Rattle.clap.specs.Faults.{is_free_app, is_simple_and_free}
+use Rattle.clap.proofs.OnLiterals.{clap_on_literals}
+use Rattle.clap.specs.Kinds.{FailsBy, HasKind, Kinds}
+use Rattle.clap.specs.declared.error.Error.{Error}
+use Rattle.std.specs.Borrow.{Bor}
+use Rattle.rtcm2rinex.specs.CommandLine.{IsAnswered, RefusesWords, program, text_of, with_options}
+use Rattle.clap.specs.Values.{kind_of}
+use Rattle.clap.specs.declared.error.kind.ErrorKind.TheVariants as kind
+use Rattle.clap.specs.Built.{AddsArg, AddsSubcommand}
+use Rattle.clap.specs.declared.builder.arg.Arg.{Arg}
+use Rattle.clap.specs.declared.builder.command.Command.{Command}
+use Rattle.clap.specs.declared.builder.command.Command.TheViews.{out-Command}
+
+second : (a b : Bool) → (a && b) ≡ true → b ≡ true
+second true b e = e
+second false b e = cc
+
+first_half : (a b : Bool) → (a && b) ≡ true → a ≡ true
+first_half true b e = refl
+first_half false b e = cc
+
+isnt : (a : Bool) → not a ≡ true → a ≡ false
+isnt true e = cc
+isnt false e = refl
+
+tenth : (a b c d e f g h i j : Bool) → (a && (b && (c && (d && (e && (f && (g && (h && (i && j))))))))) ≡ true → j ≡ true
+tenth a b c d e f g h i j s =
+    second i j (second h _ (second g _ (second f _ (second e _ (second d _ (second c _ (second b _ (second a _ s))))))))
+
+-- an option that clap's definitions read is of its command alone
+local : (a : Arg) (r : Rule) → rule_of a ≡ r → r.is_simple ≡ true → a.global ≡ false
+local a r is simple = isnt a.global (tenth (is_empty a.overrides.items) (is_empty a.default_vals_ifs.items) (is_empty a.groups.items)
+    (not (is_some a.val_delim)) (not (is_some a.terminator)) (not a.allow_hyphen_values) (not a.allow_negative_numbers)
+    (not a.require_equals) (not a.last) (not a.global) (ap (λ (x : Rule). x.is_simple) is ∙ simple))
+
+has_local : (c : Command) (a : App) → app_of c ≡ a → a.top.is_plain ≡ true → (out-Command c).has_globals ≡ false
+has_local c a is plain =
+    let f = out-Command c in
+    isnt f.has_globals (first_half (not f.has_globals) _ (second (not f.allow_external_subcommands) _
+    (second (is_empty f.groups.items) _ (ap (λ (x : App). x.top.is_plain) is ∙ plain))))
+
+-- help says nothing to the words
+pub described : (c d e : Command) (a : App) (t u : Option (Bor Text)) → out-Command d ≡ record (out-Command c) { about = t }
+    → out-Command e ≡ record (out-Command d) { after_help = u } → app_of c ≡ a → app_of e ≡ a
+described c d e a t u about after was = ap app_of_fields after ∙ ap app_of_fields about ∙ was
+
+-- a command with a version, that wants a subcommand
+pub versioned : (c d e : Command) (a : App) (t : Bor Text) → out-Command d ≡ record (out-Command c) { version = Some t }
+    → out-Command e ≡ record (out-Command d) { subcommand_required = true } → app_of c ≡ a
+    → app_of e ≡ on_top (λ s. record s { subcommand_required = true; has_version = true }) a
+versioned c d e a t version wants was =
+    ap app_of_fields wants ∙ ap (λ f. app_of_fields (record f { subcommand_required = true })) version
+    ∙ ap (on_top (λ s. record s { subcommand_required = true; has_version = true })) was
+
+-- one option more
+pub with_option : (old new : Command) (a : Arg) (app : App) (r : Rule) → AddsArg old a new → app_of old ≡ app → rule_of a ≡ r → r.is_simple ≡ true
+    → app_of new ≡ with_rule app r
+with_option old new a app r added was is simple = added.shape (local a r is simple) ∙ ap₂ with_rule was is
+
+-- one command more
+pub with_command : (old sub new : Command) (app below : App) → AddsSubcommand old sub new → app_of old ≡ app → app_of sub ≡ below
+    → below.top.is_plain ≡ true → app_of new ≡ with_subcommand app below.top
+with_command old sub new app below added was is plain =
+    added.shape (has_local sub below is plain) ∙ ap₂ with_subcommand was (ap (λ (a : App). a.top) is)
+
+-- clap's definitions read the words by these commands and options
+pub is_read : (names : Bor (List (Bor Text))) → is_simple_and_free (program names) ≡ true
+unfolding clap_on_literals
+is_read names = refl
+
+pub is_simple_read : (a : App) → is_simple_and_free a ≡ true → is_simple a ≡ true
+is_simple_read a read = first_half (is_simple a) (is_free_app (built a)) read
+
+-- why a parse failed, where clap's definitions read the words
+pub why : {T : Type 0} (kinds : Kinds) (r : Result T Error) → FailsBy kinds r → IfErr r (HasKind kinds)
+why kinds (Ok x) h = tt
+why kinds (Err e) h = h
+
+-- one text of the table more
+pub one_text_more : (a : App) (ts : List (Bor Text × Bor Text × Bor Text)) (n : ℕ) (d : Bor Text × Bor Text × Bor Text) → n < length ts
+    → with_rule (with_options a (map text_of (take n ts))) (text_of (get_or ts n d)) ≡ with_options a (map text_of (take (n + 1) ts))
+one_text_more a ts n d lt =
+    sym (ap (with_options a) (map_more text_of ts n d lt) ∙ fold-append with_rule a (map text_of (take n ts)) (text_of (get_or ts n d) ∷ []))
+
+-- an answer to the words by the version's text is what they ask for
+pub is_version : (words : List Text) (e : Error) → RefusesWords words e → kind_of e ≡ kind.DisplayVersion → IsAnswered words kind.DisplayVersion
+is_version words e (inl memory) version =
+    let bad : kind.OutOfMemory ≡ kind.DisplayVersion = sym memory ∙ version in
+    cc
+is_version words e (inr answered) version = subst (IsAnswered words) version answered

@@ -1,0 +1,16 @@
+use Rattle.std.proofs.Common.{◌≡◌, ◌∙◌, true, inl, inr, ap, subst}
+use Rattle.std.proofs.lemmas.Result.{IfOk-weaker, IfErr-weaker}
+use Rattle.clap.specs.Simple.{App, app_of, is_simple}
+use Rattle.clap.specs.Faults.{is_simple_and_free}
+use Rattle.rtcm2rinex.proofs.CommandLineLemmas.{is_read, is_simple_read, why}
+use Rattle.rtcm2rinex.proofs.cli.parse.Goals as goal
+
+pub returns : goal.returns
+returns c =
+    let is = c.in_ok-program.ensures in
+    let parse = c.try_get_matches_from in
+    let read : is_simple_and_free (app_of c.in_ok-program.program) ≡ true = ap is_simple_and_free is.2 ∙ is_read is.0 in
+    record {
+      asked = IfOk-weaker parse.result _ _ (λ m h. (app_of c.in_ok-program.program, is, (h (is_simple_read (app_of c.in_ok-program.program) read)).1)) parse.ensures.matches;
+      refused = IfErr-weaker parse.result _ _ (λ e h. elim h [ inl memory ↦ inl memory | inr among ↦ inr (app_of c.in_ok-program.program, is, among) ]) (why _ parse.result (parse.ensures.kinds read));
+    }

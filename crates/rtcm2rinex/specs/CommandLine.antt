@@ -1,0 +1,123 @@
+-- The program's command line: its commands and their options, as clap's definitions read words by them. The manual page says the same.
+use Rattle.std.specs.Prelude.{◌≡◌, ◌⊎◌, ℕ, pos, true, List, [], ◌∷◌, map, fold, codes, Option, Some}
+use Rattle.std.specs.Borrow.{Bor}
+use Rattle.clap.specs.Walk.{Row, Rule, Text}
+use Rattle.clap.specs.Simple.{App, new_app, new_rule, on_top, subcommand_of, subcommand_rows_of, with_rule, with_subcommand}
+use Rattle.clap.specs.Faults.{fault_of}
+use Rattle.clap.specs.Kinds.{IsAmong}
+use Rattle.clap.specs.Values.{kind_of}
+use Rattle.clap.specs.declared.error.Error.{Error}
+use Rattle.clap.specs.declared.error.kind.ErrorKind.{ErrorKind}
+use Rattle.clap.specs.declared.error.kind.ErrorKind.TheVariants as kind
+use Rattle.clap.specs.declared.parser.matches.ArgMatches.{ArgMatches}
+use Rattle.clap.specs.declared.builder.action.ArgAction.TheVariants.{Set, SetTrue}
+use Rattle.clap.specs.declared.builder.value_parser.ValueParser.{ValueParser}
+use Rattle.clap.specs.declared.builder.value_parser.ValueParser.TheVariants as value
+
+-- ---- options
+
+-- `--name VALUE` or `--name=VALUE`; it isn't given twice
+abbrev pub option : Text → Rule
+option name = record (new_rule name) { long = Some name; action = Some Set; value_names = 1 }
+
+abbrev pub or_else : Text → Rule → Rule
+or_else default a = record a { defaults = default ∷ [] }
+
+abbrev pub read_by : ValueParser → Rule → Rule
+read_by parser a = record a { parser = Some parser }
+
+abbrev pub required : Rule → Rule
+required a = record a { required = true }
+
+-- `--name`
+abbrev pub flag : Text → Rule
+flag name = record (new_rule name) { long = Some name; action = Some SetTrue }
+
+abbrev pub week : Rule
+week = read_by (value.Signed (pos 0) (pos 99999)) (required (option (codes "week")))
+
+abbrev pub date : Rule
+date = required (option (codes "date"))
+
+-- the signals that are planned of a system
+abbrev pub planned : Text → Rule
+planned name = or_else (codes "all") (option name)
+
+abbrev pub station : Rule
+station = read_by (value.Signed (pos 0) (pos 4095)) (option (codes "station"))
+
+abbrev pub counts : Rule
+counts = flag (codes "counts")
+
+-- the names of the rules of gathering; where they lie is of no account
+abbrev pub AreRules : Bor (List (Bor Text)) → Type 0
+AreRules names = map (λ s. s.now) names.now ≡ codes "bit" ∷ codes "time" ∷ []
+
+abbrev pub gather : Bor (List (Bor Text)) → Rule
+gather names = read_by (value.Names names) (or_else (codes "bit") (option (codes "gather")))
+
+abbrev pub IsGather : Rule → Type 0
+IsGather a = (names : Bor (List (Bor Text))) × AreRules names × (a ≡ gather names)
+
+-- at most 2^48 bytes
+abbrev pub limit : Rule
+limit = read_by (value.Unsigned 0 281474976710656) (or_else (codes "281474976710656") (option (codes "limit")))
+
+abbrev pub text : Text → Rule
+text name = or_else [] (option name)
+
+-- the option of a name, of what stands without it, and of its help
+abbrev pub text_of : Bor Text × Bor Text × Bor Text → Rule
+text_of t = or_else t.1.now (option t.0.now)
+
+-- the texts of the header that may be left out
+abbrev pub texts : List Rule
+texts =
+    text (codes "run-by") ∷ text (codes "marker") ∷ or_else (codes "GEODETIC") (option (codes "marker-type"))
+    ∷ text (codes "observer") ∷ text (codes "agency") ∷ text (codes "rec-number") ∷ text (codes "rec-type")
+    ∷ text (codes "rec-version") ∷ text (codes "ant-number") ∷ text (codes "ant-type") ∷ []
+
+-- ---- commands
+
+abbrev pub with_options : App → List Rule → App
+with_options a rules = fold with_rule a rules
+
+abbrev pub signals : App
+signals = with_options (new_app (codes "signals")) (station ∷ counts ∷ [])
+
+abbrev pub convert : Bor (List (Bor Text)) → App
+convert names = with_options (with_options (new_app (codes "convert"))
+    (week ∷ date ∷ planned (codes "gps") ∷ planned (codes "galileo") ∷ station ∷ gather names ∷ limit ∷ []))
+    texts
+
+abbrev pub IsConvert : App → Type 0
+IsConvert a = (names : Bor (List (Bor Text))) × AreRules names × (a ≡ convert names)
+
+-- a command is wanted, and `--version` is known
+abbrev pub program : Bor (List (Bor Text)) → App
+program names =
+    with_subcommand (with_subcommand (with_subcommand (with_subcommand (with_subcommand
+    (on_top (λ s. record s { subcommand_required = true; has_version = true }) (new_app (codes "rtcm2rinex")))
+    (new_app (codes "frames")).top) (new_app (codes "show")).top) signals.top) (convert names).top) (new_app (codes "check")).top
+
+-- these are the commands and options of the program
+abbrev pub IsProgram : App → Type 0
+IsProgram a = (names : Bor (List (Bor Text))) × AreRules names × (a ≡ program names)
+
+-- ---- what words ask for, by clap's own definitions
+
+-- the command of this name, with these options
+abbrev pub Asks : List Text → Text → List Row → Type 0
+Asks words name options = (a : App) × IsProgram a × (subcommand_of a words ≡ Some (name, options))
+
+-- with an error of this kind: the words are refused, or ask for a text
+abbrev pub IsAnswered : List Text → ErrorKind → Type 0
+IsAnswered words k = (a : App) × IsProgram a × IsAmong k (fault_of a words)
+
+-- what was found in the words is what they ask for
+abbrev pub IsFoundIn : List Text → ArgMatches → Type 0
+IsFoundIn words m = (a : App) × IsProgram a × (subcommand_rows_of m ≡ subcommand_of a words)
+
+-- why nothing was found in them: memory ran out, or the words themselves
+abbrev pub RefusesWords : List Text → Error → Type 0
+RefusesWords words e = (kind_of e ≡ kind.OutOfMemory) ⊎ IsAnswered words (kind_of e)

@@ -1,0 +1,8 @@
+-- What a call that reads and writes did.
+use Rattle.std.specs.Prelude.{ℕ, List, Option}
+use Rattle.rtcm_bits.specs.Device.{Device}
+
+-- From r to r' the reader went on, and from w to w' the writer: P relates what the reader had left and has left, and what the writer held and holds.
+abbrev pub Moves : {R W : Type 0} → (R → Option (List ℕ)) → (r r' : Device R) → (W → Option (List ℕ)) → (w w' : Device W)
+    → ((r r' w w' : Option (List ℕ)) → Type 0) → Type 0
+Moves left r r' held w w' P = P (left r.inner) (left r'.inner) (held w.inner) (held w'.inner)
