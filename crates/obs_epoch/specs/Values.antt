@@ -80,13 +80,13 @@ written_among cells (suc n) = written_among cells n + (if is_written cells (suc 
 abbrev pub satellites : EpochValue → ℕ
 satellites e = written_among e.gps (satellites_in Gps) + written_among e.galileo (satellites_in Galileo)
 
--- so many there are at most
-abbrev pub most_satellites : ℕ
-most_satellites = satellites_in Gps + satellites_in Galileo
+-- at most so many are written
+abbrev pub most_written : ℕ
+most_written = satellites_in Gps + satellites_in Galileo
 
 -- how many are to be written, where they were counted
 abbrev pub IsCount : Option ℕ → EpochValue → Type 0
-IsCount counted e = IfSome counted (λ n. (n ≡ satellites e) × (n ≤ most_satellites))
+IsCount counted e = IfSome counted (λ n. (n ≡ satellites e) × (n ≤ most_written))
 
 -- the same in all four numbers
 abbrev pub same_values : StationValues → StationValues → Bool

@@ -1,7 +1,7 @@
 //! An epoch: what was observed at one time.
 ghost use Rattle.std.specs.Prelude.{◌≡◌, ◌+◌, ◌<◌, ◌≤◌, [], length, drop, IfOk, insert};
 ghost use Rattle.std.specs.Vec.{vec_len, vec_capacity};
-ghost use Rattle.obs_epoch.specs.Values.{AreHeld, cells_of, satellites, is_written, written_among, most_cells, most_satellites, run};
+ghost use Rattle.obs_epoch.specs.Values.{AreHeld, cells_of, satellites, is_written, written_among, most_cells, most_written, run};
 ghost use Rattle.obs_epoch.specs.Epochs.{no_values};
 ghost use Rattle.obs_epoch.specs.Marked.{with_cell_of, marked_cell, IsObserved};
 ghost use Rattle.obs_epoch.specs.Order.{AreSorted};
@@ -137,7 +137,7 @@ impl Epoch {
     /// Doppler shift or a strength.
     pub fn satellites(&self) -> usize
         ensures count { result ≡ satellites self.now.epoch }
-        ensures bound { result ≤ most_satellites }
+        ensures bound { result ≤ most_written }
     {
         match self.counted {
             Some(count) => count,
@@ -148,7 +148,7 @@ impl Epoch {
     // The same, by a walk over the cells.
     fn count(&self) -> usize
         ensures count { result ≡ satellites self.now.epoch }
-        ensures bound { result ≤ most_satellites }
+        ensures bound { result ≤ most_written }
     {
         written(self.gps.as_slice(), System::Gps)
             + written(self.galileo.as_slice(), System::Galileo)

@@ -4,8 +4,6 @@ mod dates;
 mod faults;
 mod plans;
 
-ghost use Rattle.std.specs.Prelude.{◌≡◌, false, IfOk};
-
 use crate::{Gather, Gatherer, Kind, Plan, PlanFault, StationValues, Taken};
 use gnss_obs::System;
 use rtcm_msg::{
@@ -16,15 +14,27 @@ use std::test::*;
 
 const WEEK: u64 = 604_800_000;
 
-fn gatherer(alloc: Global, week: u32, gather: Gather) -> Result<Gatherer, PlanFault>
-    ensures { IfOk result (λ g. g.has_ended ≡ false) }
-{
-    let plan = Plan::parse(alloc, "all", "all")?;
-    Gatherer::new(alloc, plan, week, Some(7), gather)
+// Each call with large clauses stands behind a function without one, so that no test carries them.
+
+fn parse(alloc: Global, gps: &str, galileo: &str) -> Result<Plan, PlanFault> {
+    Plan::parse(alloc, gps, galileo)
 }
 
-/// What a gatherer that goes on makes of a message: behind a call of its own, so that no test
-/// carries its clauses.
+fn gathers(
+    alloc: Global,
+    plan: Plan,
+    week: u32,
+    station: u16,
+    gather: Gather,
+) -> Result<Gatherer, PlanFault> {
+    Gatherer::new(alloc, plan, week, Some(station), gather)
+}
+
+fn gatherer(alloc: Global, week: u32, gather: Gather) -> Result<Gatherer, PlanFault> {
+    gathers(alloc, parse(alloc, "all", "all")?, week, 7, gather)
+}
+
+/// What a gatherer that goes on makes of a message.
 fn take(g: &mut Gatherer, message: &Message) -> Taken {
     if g.ended() {
         return Taken {
@@ -33,6 +43,41 @@ fn take(g: &mut Gatherer, message: &Message) -> Taken {
         };
     }
     g.take(message)
+}
+
+fn end(g: &mut Gatherer) -> bool {
+    g.end()
+}
+
+fn has_closed(g: &Gatherer) -> bool {
+    g.closed().is_some()
+}
+
+/// The time of the epoch that was closed, in milliseconds.
+fn closed_at(g: &Gatherer) -> Option<u64> {
+    g.closed().map(|epoch| epoch.time().milliseconds())
+}
+
+/// How many satellites and how many GPS cells the epoch has that was closed.
+fn sizes(g: &Gatherer) -> Option<(usize, usize)> {
+    g.closed().map(|epoch| (epoch.satellites(), epoch.cells(System::Gps).len()))
+}
+
+fn held_cells(g: &Gatherer) -> usize {
+    g.cells(System::Gps)
+}
+
+fn locks(g: &Gatherer) -> usize {
+    g.locks()
+}
+
+fn values(g: &Gatherer) -> StationValues {
+    g.station_values()
+}
+
+/// The station values of the epoch that was closed.
+fn closed_values(g: &Gatherer) -> Option<StationValues> {
+    g.closed().map(|epoch| epoch.station_values())
 }
 
 fn header(time: u32, more: bool) -> MsmHeader {
@@ -136,18 +181,12 @@ fn times_pass_the_week_and_half_a_week(rt: HostRuntime) -> Result<(), PlanFault>
         .kind,
         kept(1, 0, 0)
     );
-    assert!(rt;
-        g.closed()
-            .is_some_and(|e| e.time().milliseconds() == 2_300 * WEEK + 604_799_000)
-    );
+    assert_eq!(rt; closed_at(&g), Some(2_300 * WEEK + 604_799_000));
     assert_eq!(rt;
         take(&mut g, &long(false, 0, false, long_cell(true, 64))).kind,
         kept(1, 0, 0)
     );
-    assert!(rt;
-        g.closed()
-            .is_some_and(|e| e.time().milliseconds() == 2_301 * WEEK)
-    );
+    assert_eq!(rt; closed_at(&g), Some(2_301 * WEEK));
     assert_eq!(rt;
         take(
             &mut g,
@@ -184,7 +223,7 @@ fn a_late_message_closes_by_its_bit(rt: HostRuntime) -> Result<(), PlanFault> {
         take(&mut g, &long(false, 5_000, true, long_cell(true, 64))).kind,
         Kind::Late
     );
-    assert_eq!(rt; g.cells(System::Gps), 1);
+    assert_eq!(rt; held_cells(&g), 1);
     Ok(())
 }
 
@@ -198,10 +237,10 @@ fn a_later_time_closes_first(rt: HostRuntime) -> Result<(), PlanFault> {
     );
     let first = take(&mut g, &next);
     assert_eq!(rt; (first.kind, first.closed), (Kind::CloseFirst, true));
-    assert!(rt; g.closed().is_some_and(|e| e.satellites() == 1));
+    assert_eq!(rt; sizes(&g), Some((1, 1)));
     assert_eq!(rt; take(&mut g, &next).kind, kept(1, 0, 0));
-    assert!(rt; g.closed().is_none());
-    assert!(rt; g.end());
+    assert!(rt; !has_closed(&g));
+    assert!(rt; end(&mut g));
     assert!(rt; g.ended());
     Ok(())
 }
@@ -240,7 +279,7 @@ fn by_time_alone_no_bit_closes(rt: HostRuntime) -> Result<(), PlanFault> {
         take(&mut g, &long(true, 1_000, false, long_cell(true, 64))).kind,
         kept(1, 0, 0)
     );
-    assert!(rt; g.end());
+    assert!(rt; end(&mut g));
     Ok(())
 }
 
@@ -282,15 +321,15 @@ fn a_lock_below_the_elapsed_time_was_lost(rt: HostRuntime) -> Result<(), PlanFau
 #[test]
 fn a_lock_without_a_phase_is_passed_over(rt: HostRuntime) -> Result<(), PlanFault> {
     let mut g = gatherer(rt.alloc(), 2_300, Gather::Bit)?;
-    assert_eq!(rt; g.locks(), 0);
+    assert_eq!(rt; locks(&g), 0);
     take(&mut g, &short(1_000, false, true, 8));
     take(&mut g, &short(2_000, false, false, 0));
     assert_eq!(rt; mark(&g), 0);
     take(&mut g, &short(3_000, true, true, 7));
-    assert!(rt; g.end());
+    assert!(rt; end(&mut g));
     assert_eq!(rt; mark(&g), 1);
-    assert_eq!(rt; g.locks(), 1);
-    assert!(rt; !g.end());
+    assert_eq!(rt; locks(&g), 1);
+    assert!(rt; !end(&mut g));
     Ok(())
 }
 
@@ -322,36 +361,36 @@ fn a_message_past_the_weeks_closes_nothing(rt: HostRuntime) -> Result<(), PlanFa
         Err(_) => take(&mut g, &nothing()),
     };
     assert_eq!(rt; (told.kind, told.closed), (Kind::Station, false));
-    assert!(rt; g.end());
-    let values = StationValues {
+    assert!(rt; end(&mut g));
+    let told = StationValues {
         x: 1,
         y: -2,
         z: 3,
         height: 15_000,
     };
-    assert_eq!(rt; g.station_values(), values);
-    assert!(rt; g.closed().is_some_and(|e| e.station_values() == values));
+    assert_eq!(rt; values(&g), told);
+    assert_eq!(rt; closed_values(&g), Some(told));
     Ok(())
 }
 
 #[test]
 fn setups_are_refused_in_order(rt: HostRuntime) -> Result<(), PlanFault> {
     let alloc = rt.alloc();
-    let plan = Plan::parse(alloc, "1C", "none")?;
+    let plan = parse(alloc, "1C", "none")?;
     assert!(rt;
         matches!(
-            Gatherer::new(alloc, plan, 2_300, Some(4_096), Gather::Bit),
+            gathers(alloc, plan, 2_300, 4_096, Gather::Bit),
             Err(PlanFault::BadStation)
         )
     );
-    let plan = Plan::parse(alloc, "1C", "none")?;
+    let plan = parse(alloc, "1C", "none")?;
     assert!(rt;
         matches!(
-            Gatherer::new(alloc, plan, 100_000, Some(4_096), Gather::Bit),
+            gathers(alloc, plan, 100_000, 4_096, Gather::Bit),
             Err(PlanFault::BadWeek)
         )
     );
-    let plan = Plan::parse(alloc, "1C", "none")?;
+    let plan = parse(alloc, "1C", "none")?;
     let g = Gatherer::new(alloc, plan, 99_999, None, Gather::Time)?;
     assert_eq!(rt; g.plan().signals(System::Gps), 1);
     Ok(())

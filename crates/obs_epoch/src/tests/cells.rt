@@ -1,9 +1,20 @@
 //! Which cells of an epoch are kept, and how they stand.
-use super::{gatherer, header, kept, long, long_cell, nothing, short, take};
-use crate::{Gather, Gatherer, Plan, PlanFault};
+use super::{
+    end, gatherer, gathers, header, held_cells, kept, locks, long, long_cell, nothing, parse,
+    short, sizes, take,
+};
+use crate::{Cell, Gather, Gatherer, PlanFault};
 use gnss_obs::System;
 use rtcm_msg::{Masks, Message, Msm, Satellite7};
 use std::test::*;
+
+/// The GPS cells of the epoch that was closed, or none where none was.
+fn closed_cells(g: &Gatherer) -> &[Cell] {
+    match g.closed() {
+        None => &[],
+        Some(epoch) => epoch.cells(System::Gps),
+    }
+}
 
 #[test]
 fn the_first_cell_of_a_key_is_kept(rt: HostRuntime) -> Result<(), PlanFault> {
@@ -16,13 +27,11 @@ fn the_first_cell_of_a_key_is_kept(rt: HostRuntime) -> Result<(), PlanFault> {
         take(&mut g, &long(false, 1_000, true, long_cell(true, 64))).kind,
         kept(0, 1, 0)
     );
-    assert!(rt; g.end());
-    assert!(rt;
-        g.closed().is_some_and(|e| e
-            .cells(System::Gps)
-            .iter()
-            .all(|c| c.d.is_none() && c.c.is_some()))
-    );
+    assert!(rt; end(&mut g));
+    let [cell] = closed_cells(&g) else {
+        return Err(PlanFault::NothingPlanned);
+    };
+    assert!(rt; cell.d.is_none() && cell.c.is_some());
     Ok(())
 }
 
@@ -70,10 +79,8 @@ fn a_set_split_over_messages_is_kept(rt: HostRuntime) -> Result<(), PlanFault> {
         take(&mut g, &wide(false, 1 << 63, 1 << 8)).kind,
         kept(1, 0, 0)
     );
-    assert!(rt;
-        g.closed().is_some_and(|e| e.satellites() == 32 && e.cells(System::Gps).len() == 65)
-    );
-    assert_eq!(rt; g.locks(), 65);
+    assert_eq!(rt; sizes(&g), Some((32, 65)));
+    assert_eq!(rt; locks(&g), 65);
     Ok(())
 }
 
@@ -97,36 +104,29 @@ fn cells_past_the_bound_are_crowded(rt: HostRuntime) -> Result<(), PlanFault> {
         take(&mut g, &wide(false, 1 << 63, 1 << 15)).kind,
         kept(0, 0, 1)
     );
-    assert_eq!(rt; g.cells(System::Gps), 256);
-    assert!(rt;
-        g.closed().is_some_and(|e| e.satellites() == 32 && e.cells(System::Gps).len() == 256)
-    );
-    assert_eq!(rt; g.locks(), 256);
+    assert_eq!(rt; held_cells(&g), 256);
+    assert_eq!(rt; sizes(&g), Some((32, 256)));
+    assert_eq!(rt; locks(&g), 256);
     Ok(())
+}
+
+/// Whether a cell is of the satellite of this number and the signal of this code.
+fn is_of(cell: &Cell, id: u8, code: [u8; 2]) -> bool {
+    cell.satellite.id() == id && cell.signal.code() == code
 }
 
 #[test]
 fn cells_stand_by_satellite_and_plan(rt: HostRuntime) -> Result<(), PlanFault> {
-    let plan = Plan::parse(rt.alloc(), "5X,2W,1C", "none")?;
-    let mut g = Gatherer::new(rt.alloc(), plan, 2_300, Some(7), Gather::Bit)?;
+    let plan = parse(rt.alloc(), "5X,2W,1C", "none")?;
+    let mut g = gathers(rt.alloc(), plan, 2_300, 7, Gather::Bit)?;
     take(&mut g, &wide(true, 1 << 63 | 1 << 61, 1 << 30 | 1 << 22));
     take(&mut g, &wide(false, 1 << 63 | 1 << 62, 1 << 8));
-    let Some(epoch) = g.closed() else {
+    let [a, b, c, d, e, f] = closed_cells(&g) else {
         return Err(PlanFault::NothingPlanned);
     };
-    let order = [
-        (1, *b"5X"),
-        (1, *b"2W"),
-        (1, *b"1C"),
-        (2, *b"5X"),
-        (3, *b"2W"),
-        (3, *b"1C"),
-    ];
-    let cells = epoch.cells(System::Gps);
-    assert_eq!(rt; cells.len(), 6);
-    for (cell, (id, code)) in cells.iter().zip(order) {
-        assert!(rt; cell.satellite.id() == id && cell.signal.code() == code);
-    }
+    assert!(rt; is_of(a, 1, *b"5X") && is_of(b, 1, *b"2W") && is_of(c, 1, *b"1C"));
+    assert!(rt; is_of(d, 2, *b"5X"));
+    assert!(rt; is_of(e, 3, *b"2W") && is_of(f, 3, *b"1C"));
     Ok(())
 }
 
@@ -141,10 +141,7 @@ fn a_second_satellite_comes_first_in_order(rt: HostRuntime) -> Result<(), PlanFa
         take(&mut g, &wide(false, 1 << 61, 1 << 30)).kind,
         kept(1, 0, 0)
     );
-    let Some(epoch) = g.closed() else {
-        return Err(PlanFault::NothingPlanned);
-    };
-    let [first, second] = epoch.cells(System::Gps) else {
+    let [first, second] = closed_cells(&g) else {
         return Err(PlanFault::NothingPlanned);
     };
     assert_eq!(rt; (first.satellite.id(), second.satellite.id()), (3, 5));

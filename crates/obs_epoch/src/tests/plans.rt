@@ -1,11 +1,16 @@
 //! Plans of texts and of signals.
+use super::parse;
 use crate::{Plan, PlanFault};
 use gnss_obs::{Signal, System};
 use std::alloc::Global;
 use std::test::*;
 
+fn is_refused(alloc: Global, gps: &str, galileo: &str, fault: PlanFault) -> bool {
+    matches!(parse(alloc, gps, galileo), Err(f) if f == fault)
+}
+
 #[test]
-fn plans_are_read(rt: HostRuntime) -> Result<(), PlanFault> {
+fn texts_are_refused(rt: HostRuntime) {
     let alloc = rt.alloc();
     let table = [
         ("1C,1C", "none", PlanFault::RepeatedCode(System::Gps, 1)),
@@ -17,17 +22,19 @@ fn plans_are_read(rt: HostRuntime) -> Result<(), PlanFault> {
         ("1C,", "none", PlanFault::UnknownCode(System::Gps, 1)),
     ];
     for (gps, galileo, fault) in table {
-        assert!(rt;
-            matches!(Plan::parse(alloc, gps, galileo), Err(f) if f == fault),
-            "{gps} {galileo}"
-        );
+        assert!(rt; is_refused(alloc, gps, galileo, fault), "{gps} {galileo}");
     }
-    let all = Plan::parse(alloc, "all", "all")?;
+}
+
+#[test]
+fn plans_are_read(rt: HostRuntime) -> Result<(), PlanFault> {
+    let alloc = rt.alloc();
+    let all = parse(alloc, "all", "all")?;
     assert_eq!(rt;
         (all.signals(System::Gps), all.signals(System::Galileo)),
         (15, 19)
     );
-    let some = Plan::parse(alloc, "2W,1C", "none")?;
+    let some = parse(alloc, "2W,1C", "none")?;
     assert_eq!(rt; some.signals(System::Gps), 2);
     let place = match Signal::from_code(System::Gps, "1C") {
         None => None,
@@ -50,11 +57,16 @@ fn signals_of(alloc: Global, system: System, codes: &[&str]) -> Result<Vec<Signa
     Ok(signals)
 }
 
+// Behind a call without clauses, as `parse` is.
+fn planned(alloc: Global, gps: &[Signal], galileo: &[Signal]) -> Result<Plan, PlanFault> {
+    Plan::from_signals(alloc, gps, galileo)
+}
+
 #[test]
 fn plans_are_made_of_signals(rt: HostRuntime) -> Result<(), PlanFault> {
     let alloc = rt.alloc();
     let gps = signals_of(alloc, System::Gps, &["2W", "1C"])?;
-    let plan = Plan::from_signals(alloc, gps.as_slice(), &[])?;
+    let plan = planned(alloc, gps.as_slice(), &[])?;
     let [first, second] = plan.of(System::Gps) else {
         return Err(PlanFault::NothingPlanned);
     };
@@ -63,22 +75,17 @@ fn plans_are_made_of_signals(rt: HostRuntime) -> Result<(), PlanFault> {
     let twice = signals_of(alloc, System::Gps, &["1C", "1C"])?;
     assert!(rt;
         matches!(
-            Plan::from_signals(alloc, twice.as_slice(), &[]),
+            planned(alloc, twice.as_slice(), &[]),
             Err(PlanFault::RepeatedCode(System::Gps, 1))
         )
     );
     let other = signals_of(alloc, System::Gps, &["1C"])?;
     assert!(rt;
         matches!(
-            Plan::from_signals(alloc, &[], other.as_slice()),
+            planned(alloc, &[], other.as_slice()),
             Err(PlanFault::UnknownCode(System::Galileo, 0))
         )
     );
-    assert!(rt;
-        matches!(
-            Plan::from_signals(alloc, &[], &[]),
-            Err(PlanFault::NothingPlanned)
-        )
-    );
+    assert!(rt; matches!(planned(alloc, &[], &[]), Err(PlanFault::NothingPlanned)));
     Ok(())
 }
