@@ -1,31 +1,31 @@
 -- Values worked out by hand, which the definitions compute.
 use Rattle.std.proofs.Common.{pos, negsuc, ◌≡◌, refl, Some, None, true, false}
-use Rattle.gnss_obs.specs.Observables.{metres, cycles, shift, decibels, digit}
+use Rattle.gnss_obs.specs.Observables.{nearest_pseudorange, nearest_phase, nearest_doppler, nearest_strength, strength_digit}
 use Rattle.gnss_obs.specs.LockTimes.{times4, times7, lost}
 
 -- 70 ms, and the next range that MSM7 tells
-range : metres (pos 150323855360) ≡ pos 20985472060
+range : nearest_pseudorange (pos 150323855360) ≡ pos 20985472060
 range = refl
 
-next_range : metres (pos 150323855364) ≡ pos 20985472061
+next_range : nearest_pseudorange (pos 150323855364) ≡ pos 20985472061
 next_range = refl
 
 -- a tie below zero: -24615937.5 thousandths of a cycle of L1
-tie_below_zero : cycles 1575420000 (negsuc 33554431) ≡ negsuc 24615937
+tie_below_zero : nearest_phase 1575420000 (negsuc 33554431) ≡ negsuc 24615937
 tie_below_zero = refl
 
 -- 0.0001 m/s on L1 and on L5: more and less than half a thousandth of a hertz
-slow_on_l1 : shift 1575420000 (pos 1) ≡ negsuc 0
+slow_on_l1 : nearest_doppler 1575420000 (pos 1) ≡ negsuc 0
 slow_on_l1 = refl
 
-slow_on_l5 : shift 1176450000 (pos 1) ≡ pos 0
+slow_on_l5 : nearest_doppler 1176450000 (pos 1) ≡ pos 0
 slow_on_l5 = refl
 
 -- 45.0625 dB-Hz is a tie
-strong : decibels 721 ≡ pos 45063
+strong : nearest_strength 721 ≡ pos 45063
 strong = refl
 
-strong_digit : digit (pos 45063) ≡ 7
+strong_digit : strength_digit (pos 45063) ≡ 7
 strong_digit = refl
 
 -- the ends of the lock times

@@ -6,7 +6,7 @@ use Rattle.std.proofs.lemmas.Int.{ints}
 use Rattle.gnss_obs.specs.declared.system.System.{System}
 use Rattle.gnss_obs.specs.declared.system.System.TheVariants.{Gps, Galileo}
 use Rattle.gnss_obs.specs.Signals.{SignalAt, carriers, carrier_of, band_of, code_of, hertz_of}
-use Rattle.gnss_obs.specs.Observables.{light, metres, cycles, shift, decibels}
+use Rattle.gnss_obs.specs.Observables.{light, nearest_pseudorange, nearest_phase, nearest_doppler, nearest_strength}
 use Rattle.gnss_obs.proofs.NearestLaws.{nearest_is, nearest_bound, product_within}
 
 -- ---- carriers
@@ -34,18 +34,18 @@ hertz_within s = carrier_within (band_of (code_of s)) (carriers s.system) (carri
 metres_below : (a t : ℕ) → a ≤ 2 ^ 40 * light → t * 2 ^ 31 ≤ a + 2 ^ 31 → t < 10 ^ 12
 metres_below a t h k = omega (arith, h, k)
 
-pub metres_small : (r : ℤ) → unsigned_abs r ≤ 2 ^ 40 → unsigned_abs (metres r) < 10 ^ 12
+pub metres_small : (r : ℤ) → unsigned_abs r ≤ 2 ^ 40 → unsigned_abs (nearest_pseudorange r) < 10 ^ 12
 metres_small r h =
     let a = r *ℤ pos light in
-    metres_below (unsigned_abs a) (unsigned_abs (metres r)) (product_within r light (2 ^ 40) light h (lit≤ tt)) (nearest_bound a (2 ^ 31) (metres r) (nearest_is a (2 ^ 31) (lit< tt)))
+    metres_below (unsigned_abs a) (unsigned_abs (nearest_pseudorange r)) (product_within r light (2 ^ 40) light h (lit≤ tt)) (nearest_bound a (2 ^ 31) (nearest_pseudorange r) (nearest_is a (2 ^ 31) (lit< tt)))
 
 cycles_below : (a t : ℕ) → a ≤ 2 ^ 40 * most_hertz → t * 2 ^ 31 ≤ a + 2 ^ 31 → t < 10 ^ 12
 cycles_below a t h k = omega (arith, h, k)
 
-pub cycles_small : (s : SignalAt) (p : ℤ) → unsigned_abs p ≤ 2 ^ 40 → unsigned_abs (cycles (hertz_of s) p) < 10 ^ 12
+pub cycles_small : (s : SignalAt) (p : ℤ) → unsigned_abs p ≤ 2 ^ 40 → unsigned_abs (nearest_phase (hertz_of s) p) < 10 ^ 12
 cycles_small s p h =
     let a = p *ℤ pos (hertz_of s) in
-    let t = cycles (hertz_of s) p in
+    let t = nearest_phase (hertz_of s) p in
     cycles_below (unsigned_abs a) (unsigned_abs t) (product_within p (hertz_of s) (2 ^ 40) most_hertz h (hertz_within s)) (nearest_bound a (2 ^ 31) t (nearest_is a (2 ^ 31) (lit< tt)))
 
 turned : (a : ℤ) → unsigned_abs (pos 0 -ℤ a) ≡ unsigned_abs a
@@ -54,12 +54,12 @@ turned a = omega (arith, ints)
 shift_below : (a b t : ℕ) → b ≡ a → a ≤ 10 ^ 8 * most_hertz → t * (10 * light) ≤ b + 10 * light → t < 10 ^ 12
 shift_below a b t e h k = omega (arith, e, h, k)
 
-pub shift_small : (s : SignalAt) (v : ℤ) → unsigned_abs v ≤ 10 ^ 8 → unsigned_abs (shift (hertz_of s) v) < 10 ^ 12
+pub shift_small : (s : SignalAt) (v : ℤ) → unsigned_abs v ≤ 10 ^ 8 → unsigned_abs (nearest_doppler (hertz_of s) v) < 10 ^ 12
 shift_small s v h =
     let a = v *ℤ pos (hertz_of s) in
-    let t = shift (hertz_of s) v in
+    let t = nearest_doppler (hertz_of s) v in
     shift_below (unsigned_abs a) (unsigned_abs (pos 0 -ℤ a)) (unsigned_abs t) (turned a) (product_within v (hertz_of s) (10 ^ 8) most_hertz h (hertz_within s))
     (nearest_bound (pos 0 -ℤ a) (10 * light) t (nearest_is (pos 0 -ℤ a) (10 * light) (lit< tt)))
 
-pub decibels_between : (s : ℕ) → 0 < s → s < 1024 → (pos 1 ≤ℤ decibels s) × (decibels s ≤ℤ pos 99_999)
+pub decibels_between : (s : ℕ) → 0 < s → s < 1024 → (pos 1 ≤ℤ nearest_strength s) × (nearest_strength s ≤ℤ pos 99_999)
 decibels_between s some few = (omega (arith, ints, some), omega (arith, ints, few))

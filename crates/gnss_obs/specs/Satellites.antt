@@ -28,8 +28,8 @@ abbrev pub IsSatellite : Satellite → Type 0
 IsSatellite s = (1 ≤ s.id) × (s.id ≤ satellites s.system)
 
 -- the satellite of a number, where there is one
-abbrev pub satellite_at : System → ℕ → Option Satellite
-satellite_at system id =
+abbrev pub satellite_of_id : System → ℕ → Option Satellite
+satellite_of_id system id =
     if nat_le 1 id && nat_le id (satellites system)
     then Some (record { system = system; id = id })
     else None

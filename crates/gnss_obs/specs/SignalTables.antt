@@ -3,13 +3,13 @@
 -- tables of signal IDs of GPS and Galileo. Codes: the observation codes that RINEX 3.05 lists for each system, without the
 -- letter of the kind of observation.
 use Rattle.std.specs.Prelude.{ℕ, List, [], ◌∷◌, codes}
-use Rattle.gnss_obs.specs.declared.tables.Entry.{Entry}
+use Rattle.gnss_obs.specs.declared.tables.ListedSignal.{ListedSignal}
 
 -- an ID and its code
-abbrev pub listed : ℕ → List ℕ → Entry
+abbrev pub listed : ℕ → List ℕ → ListedSignal
 listed id code = record { 0 = id; 1 = code }
 
-abbrev pub gps_signals : List Entry
+abbrev pub gps_signals : List ListedSignal
 gps_signals =
     listed 2 (codes "1C")  -- L1: C/A
     ∷ listed 3 (codes "1P")  -- P
@@ -28,7 +28,7 @@ gps_signals =
     ∷ listed 32 (codes "1X")  -- L1C (D+P)
     ∷ []
 
-abbrev pub galileo_signals : List Entry
+abbrev pub galileo_signals : List ListedSignal
 galileo_signals =
     listed 2 (codes "1C")  -- E1: C
     ∷ listed 3 (codes "1A")  -- A

@@ -2,13 +2,13 @@
 use Rattle.std.specs.Prelude.{ℕ, List, [], ◌∷◌, ◌+◌, ◌-◌, Bool, ◌==◌, ◌<◌, nat_lt, if◌then◌else◌, Option, Some, None, option_map, length, position, slice_get}
 use Rattle.std.specs.Option.{option_map_or}
 use Rattle.std.specs.Str.{bytes_eq}
-use Rattle.gnss_obs.specs.declared.tables.Entry.{Entry}
+use Rattle.gnss_obs.specs.declared.tables.ListedSignal.{ListedSignal}
 use Rattle.gnss_obs.specs.declared.system.System.{System}
 use Rattle.gnss_obs.specs.declared.system.System.TheVariants.{Gps, Galileo}
 use Rattle.gnss_obs.specs.SignalTables.{gps_signals, galileo_signals}
 
 -- the table of a system
-abbrev pub table : System → List Entry
+abbrev pub table : System → List ListedSignal
 table Gps = gps_signals
 table Galileo = galileo_signals
 
@@ -48,7 +48,7 @@ signal_at system index =
     else None
 
 -- the signal that a system's table has at the first place that passes a test
-abbrev pub signal_where : System → (Entry → Bool) → Option SignalAt
+abbrev pub signal_where : System → (ListedSignal → Bool) → Option SignalAt
 signal_where system test = option_map (λ i. record { system = system; index = i }) (position test (table system))
 
 -- the signal of an ID

@@ -2,7 +2,7 @@
 ghost use Rattle.std.specs.Prelude.{◌≡◌, ◌+◌, ◌*◌, ◌^◌, ◌<◌, ◌≤◌, ◌≤ℤ◌, ℕ, ℤ, pos, unsigned_abs, Some};
 ghost use Rattle.gnss_obs.specs.LockTimes.{last4, last7, least4, least7};
 ghost use Rattle.gnss_obs.specs.Rounding.{IsNearest, nearest};
-ghost use Rattle.gnss_obs.specs.Observables.{metres, cycles, shift, decibels};
+ghost use Rattle.gnss_obs.specs.Observables.{nearest_pseudorange, nearest_phase, nearest_doppler, nearest_strength};
 ghost use Rattle.gnss_obs.specs.Signals.{SignalAt, IsSignal, signal_mask_bits, behind, id_of, code_of, hertz_of, signal_of_id, signal_of_code};
 
 /// There is exactly one nearest whole number, and it is the one that `nearest` computes.
@@ -34,8 +34,8 @@ pub fn lock_times()
 /// How large the values of a message are: below 10^12 thousandths in size, and a strength from 1 to
 /// 99,999.
 pub fn sizes()
-    ensures metres { (r : ℤ) → unsigned_abs r ≤ 2 ^ 40 → unsigned_abs (metres r) < 10 ^ 12 }
-    ensures cycles { (s : SignalAt) (p : ℤ) → unsigned_abs p ≤ 2 ^ 40 → unsigned_abs (cycles (hertz_of s) p) < 10 ^ 12 }
-    ensures shift { (s : SignalAt) (v : ℤ) → unsigned_abs v ≤ 10 ^ 8 → unsigned_abs (shift (hertz_of s) v) < 10 ^ 12 }
-    ensures decibels { (s : ℕ) → 0 < s → s < 2 ^ 10 → (pos 1 ≤ℤ decibels s) × (decibels s ≤ℤ pos 99_999) }
+    ensures metres { (r : ℤ) → unsigned_abs r ≤ 2 ^ 40 → unsigned_abs (nearest_pseudorange r) < 10 ^ 12 }
+    ensures cycles { (s : SignalAt) (p : ℤ) → unsigned_abs p ≤ 2 ^ 40 → unsigned_abs (nearest_phase (hertz_of s) p) < 10 ^ 12 }
+    ensures shift { (s : SignalAt) (v : ℤ) → unsigned_abs v ≤ 10 ^ 8 → unsigned_abs (nearest_doppler (hertz_of s) v) < 10 ^ 12 }
+    ensures decibels { (s : ℕ) → 0 < s → s < 2 ^ 10 → (pos 1 ≤ℤ nearest_strength s) × (nearest_strength s ≤ℤ pos 99_999) }
 {}

@@ -1,7 +1,7 @@
 ghost use Rattle.std.specs.Prelude.{◌≡◌, ◌*◌, ◌^◌, ◌<◌, ◌≤◌, ◌*ℤ◌, ◌-ℤ◌, ◌≤ℤ◌, ◌<ℤ◌, unsigned_abs, pos, IfSome};
 ghost use Rattle.std.specs.Option.{option_map, ForSome};
 ghost use Rattle.gnss_obs.specs.Rounding.{IsRounded};
-ghost use Rattle.gnss_obs.specs.Observables.{light, metres, cycles, shift, decibels, digit};
+ghost use Rattle.gnss_obs.specs.Observables.{light, nearest_pseudorange, nearest_phase, nearest_doppler, nearest_strength, strength_digit};
 ghost use Rattle.gnss_obs.specs.Signals.{hertz_of};
 
 use crate::rounding::nearest_whole;
@@ -14,7 +14,7 @@ const LIGHT: u32 = 299_792_458;
 pub fn pseudorange(range: Option<i64>) -> Option<Thousandths>
     requires { ForSome range (λ r. unsigned_abs r ≤ 2 ^ 40) }
     ensures rounded { IsRounded (λ r. r *ℤ pos light) (2 ^ 31) range result }
-    ensures value { result ≡ option_map metres range }
+    ensures value { result ≡ option_map nearest_pseudorange range }
     ensures bound { IfSome result (λ t. unsigned_abs t < 10 ^ 12) }
 {
     match range {
@@ -28,7 +28,7 @@ pub fn pseudorange(range: Option<i64>) -> Option<Thousandths>
 pub fn phase(phase: Option<i64>, signal: Signal) -> Option<Thousandths>
     requires { ForSome phase (λ p. unsigned_abs p ≤ 2 ^ 40) }
     ensures rounded { IsRounded (λ p. p *ℤ pos (hertz_of signal)) (2 ^ 31) phase result }
-    ensures value { result ≡ option_map (cycles (hertz_of signal)) phase }
+    ensures value { result ≡ option_map (nearest_phase (hertz_of signal)) phase }
     ensures bound { IfSome result (λ t. unsigned_abs t < 10 ^ 12) }
 {
     match phase {
@@ -45,7 +45,7 @@ pub fn phase(phase: Option<i64>, signal: Signal) -> Option<Thousandths>
 pub fn doppler(rate: Option<i32>, signal: Signal) -> Option<Thousandths>
     requires { ForSome rate (λ v. unsigned_abs v ≤ 10 ^ 8) }
     ensures rounded { IsRounded (λ v. pos 0 -ℤ (v *ℤ pos (hertz_of signal))) (10 * light) rate result }
-    ensures value { result ≡ option_map (shift (hertz_of signal)) rate }
+    ensures value { result ≡ option_map (nearest_doppler (hertz_of signal)) rate }
     ensures bound { IfSome result (λ t. unsigned_abs t < 10 ^ 12) }
 {
     match rate {
@@ -61,7 +61,7 @@ pub fn doppler(rate: Option<i32>, signal: Signal) -> Option<Thousandths>
 pub fn strength(strength: Option<u16>) -> Option<Thousandths>
     requires { ForSome strength (λ s. s < 1024) }
     ensures rounded { IsRounded (λ s. pos (s * 1000)) 16 strength result }
-    ensures value { result ≡ option_map decibels strength }
+    ensures value { result ≡ option_map nearest_strength strength }
     ensures bound { IfSome result (λ t. unsigned_abs t < 10 ^ 12) }
     ensures range { IfSome result (λ t. (pos 0 ≤ℤ t) × (t <ℤ pos 100000)) }
     ensures positive { ForSome strength (λ s. 0 < s → IfSome result (λ t. pos 0 <ℤ t)) }
@@ -75,7 +75,7 @@ pub fn strength(strength: Option<u16>) -> Option<Thousandths>
 /// The digit that stands for a strength in dB-Hz, from 1 for the weakest to 9: whole steps of 6
 /// dB-Hz.
 pub fn strength_digit(strength: Thousandths) -> u8
-    ensures { result ≡ digit strength }
+    ensures { result ≡ strength_digit strength }
 {
     (strength.value() / 6000).clamp(1, 9) as u8
 }

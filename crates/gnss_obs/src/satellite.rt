@@ -1,5 +1,5 @@
 ghost use Rattle.std.specs.Prelude.{◌≡◌, ◌≤◌, ◌↔◌, IsSome};
-ghost use Rattle.gnss_obs.specs.Satellites.{Satellite, IsSatellite, satellites, satellite_at};
+ghost use Rattle.gnss_obs.specs.Satellites.{Satellite, IsSatellite, satellites, satellite_of_id};
 
 use crate::System;
 use std::marker::Model;
@@ -26,7 +26,7 @@ impl Sat {
     /// The satellite of this number, or `None` where the system has none. The number is that of
     /// RINEX, and the satellite ID of the mask DF394.
     pub fn new(system: System, id: u8) -> Option<Sat>
-        ensures value { result ≡ satellite_at system id }
+        ensures value { result ≡ satellite_of_id system id }
         ensures listed { IsSome result ↔ ((1 ≤ id) × (id ≤ satellites system)) }
     {
         if id == 0 {

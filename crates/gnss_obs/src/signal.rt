@@ -3,7 +3,7 @@ ghost use Rattle.std.specs.Str.{bytes_eq};
 ghost use Rattle.gnss_obs.specs.Signals.{SignalAt, IsSignal, table, signal_at, signal_of_id, signal_of_code, code_of, carriers, carrier_of, hertz_of};
 
 use crate::System;
-use crate::tables::{Entry, GALILEO_SIGNALS, GPS_SIGNALS};
+use crate::tables::{GALILEO_SIGNALS, GPS_SIGNALS, ListedSignal};
 use std::marker::Model;
 
 /// A signal of a system's table.
@@ -24,7 +24,7 @@ impl Model for Signal {
 }
 
 /// The table of a system.
-fn entries(system: System) -> &'static [Entry]
+fn entries(system: System) -> &'static [ListedSignal]
     ensures { result.now ≡ table system }
 {
     match system {
@@ -34,7 +34,7 @@ fn entries(system: System) -> &'static [Entry]
 }
 
 /// The line with this signal ID.
-fn place_of_id(entries: &[Entry], id: u8) -> Option<usize>
+fn place_of_id(entries: &[ListedSignal], id: u8) -> Option<usize>
     ensures value { result ≡ position (λ e. e.0 == id) entries.now }
     ensures below { IfSome result (λ i. i < length entries.now) }
 {
@@ -42,7 +42,7 @@ fn place_of_id(entries: &[Entry], id: u8) -> Option<usize>
 }
 
 /// The line with this code.
-fn place_of_code(entries: &[Entry], code: &[u8]) -> Option<usize>
+fn place_of_code(entries: &[ListedSignal], code: &[u8]) -> Option<usize>
     ensures value { result ≡ position (λ e. bytes_eq e.1 code.now) entries.now }
     ensures below { IfSome result (λ i. i < length entries.now) }
 {

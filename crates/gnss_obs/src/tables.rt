@@ -5,7 +5,7 @@
 /// signal, counted from 1; and the RINEX code in ASCII, the digit of the band and the letter of the
 /// attribute.
 #[derive(Clone, Copy, Debug, PartialEq, Eq)]
-pub struct Entry(pub u8, pub [u8; 2]);
+pub struct ListedSignal(pub u8, pub [u8; 2]);
 
 /// How many signals the table of GPS has.
 pub const GPS_SIGNAL_COUNT: usize = 15;
@@ -14,52 +14,52 @@ pub const GPS_SIGNAL_COUNT: usize = 15;
 pub const GALILEO_SIGNAL_COUNT: usize = 19;
 
 /// The GPS signals, by rising ID.
-pub const GPS_SIGNALS: [Entry; GPS_SIGNAL_COUNT] = [
+pub const GPS_SIGNALS: [ListedSignal; GPS_SIGNAL_COUNT] = [
     // L1, 1575.42 MHz
-    Entry(2, *b"1C"),
-    Entry(3, *b"1P"),
-    Entry(4, *b"1W"),
+    ListedSignal(2, *b"1C"),
+    ListedSignal(3, *b"1P"),
+    ListedSignal(4, *b"1W"),
     // L2, 1227.60 MHz
-    Entry(8, *b"2C"),
-    Entry(9, *b"2P"),
-    Entry(10, *b"2W"),
-    Entry(15, *b"2S"),
-    Entry(16, *b"2L"),
-    Entry(17, *b"2X"),
+    ListedSignal(8, *b"2C"),
+    ListedSignal(9, *b"2P"),
+    ListedSignal(10, *b"2W"),
+    ListedSignal(15, *b"2S"),
+    ListedSignal(16, *b"2L"),
+    ListedSignal(17, *b"2X"),
     // L5, 1176.45 MHz
-    Entry(22, *b"5I"),
-    Entry(23, *b"5Q"),
-    Entry(24, *b"5X"),
+    ListedSignal(22, *b"5I"),
+    ListedSignal(23, *b"5Q"),
+    ListedSignal(24, *b"5X"),
     // L1C, 1575.42 MHz
-    Entry(30, *b"1S"),
-    Entry(31, *b"1L"),
-    Entry(32, *b"1X"),
+    ListedSignal(30, *b"1S"),
+    ListedSignal(31, *b"1L"),
+    ListedSignal(32, *b"1X"),
 ];
 
 /// The Galileo signals, by rising ID.
-pub const GALILEO_SIGNALS: [Entry; GALILEO_SIGNAL_COUNT] = [
+pub const GALILEO_SIGNALS: [ListedSignal; GALILEO_SIGNAL_COUNT] = [
     // E1, 1575.42 MHz
-    Entry(2, *b"1C"),
-    Entry(3, *b"1A"),
-    Entry(4, *b"1B"),
-    Entry(5, *b"1X"),
-    Entry(6, *b"1Z"),
+    ListedSignal(2, *b"1C"),
+    ListedSignal(3, *b"1A"),
+    ListedSignal(4, *b"1B"),
+    ListedSignal(5, *b"1X"),
+    ListedSignal(6, *b"1Z"),
     // E6, 1278.75 MHz
-    Entry(8, *b"6C"),
-    Entry(9, *b"6A"),
-    Entry(10, *b"6B"),
-    Entry(11, *b"6X"),
-    Entry(12, *b"6Z"),
+    ListedSignal(8, *b"6C"),
+    ListedSignal(9, *b"6A"),
+    ListedSignal(10, *b"6B"),
+    ListedSignal(11, *b"6X"),
+    ListedSignal(12, *b"6Z"),
     // E5b, 1207.14 MHz
-    Entry(14, *b"7I"),
-    Entry(15, *b"7Q"),
-    Entry(16, *b"7X"),
+    ListedSignal(14, *b"7I"),
+    ListedSignal(15, *b"7Q"),
+    ListedSignal(16, *b"7X"),
     // E5 (E5a and E5b), 1191.795 MHz
-    Entry(18, *b"8I"),
-    Entry(19, *b"8Q"),
-    Entry(20, *b"8X"),
+    ListedSignal(18, *b"8I"),
+    ListedSignal(19, *b"8Q"),
+    ListedSignal(20, *b"8X"),
     // E5a, 1176.45 MHz
-    Entry(22, *b"5I"),
-    Entry(23, *b"5Q"),
-    Entry(24, *b"5X"),
+    ListedSignal(22, *b"5I"),
+    ListedSignal(23, *b"5Q"),
+    ListedSignal(24, *b"5X"),
 ];

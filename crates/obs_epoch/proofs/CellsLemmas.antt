@@ -10,7 +10,7 @@ use Rattle.gnss_obs.specs.declared.system.System.TheVariants.{Gps, Galileo}
 use Rattle.std.proofs.lemmas.List.Elements.{filter-append}
 use Rattle.gnss_obs.specs.declared.system.System.{System}
 use Rattle.obs_epoch.specs.declared.seen.Seen.{Seen}
-use Rattle.obs_epoch.specs.Cells.{firsts, firsts_after, is_among, is_of, kept, add, has_same_key}
+use Rattle.obs_epoch.specs.Cells.{firsts, firsts_after, is_among, is_of_system, kept, add, has_same_key}
 use Rattle.obs_epoch.specs.Values.{most_cells}
 
 abbrev pub new_key : List Seen → Seen → List Seen
@@ -68,9 +68,9 @@ pub same_key_laws : IsEquivalence has_same_key
 same_key_laws = record { refl = key_refl; symm = key_symm; congr = key_congr }
 
 -- of a cell's key, so of its system
-pub key_system : (system : System) (x y : Seen) → has_same_key x y ≡ true → is_of system x ≡ is_of system y
+pub key_system : (system : System) (x y : Seen) → has_same_key x y ≡ true → is_of_system system x ≡ is_of_system system y
 key_system system x y h = by system x.satellite.system y.satellite.system refl refl where
-  by : (c a b : System) → x.satellite.system ≡ a → y.satellite.system ≡ b → is_of c x ≡ is_of c y
+  by : (c a b : System) → x.satellite.system ≡ a → y.satellite.system ≡ b → is_of_system c x ≡ is_of_system c y
   by Gps Gps Gps e f = grind (arith, e, f)
   by Gps Galileo Galileo e f = grind (arith, e, f)
   by Galileo Gps Gps e f = grind (arith, e, f)
@@ -120,18 +120,18 @@ firsts-among xs y = firsts_after-among [] xs y
 
 -- the firsts of a system, kept or not
 abbrev pub mine : System → List Seen → List Seen
-mine system xs = filter (is_of system) (firsts xs)
+mine system xs = filter (is_of_system system) (firsts xs)
 
-pub mine-among : (system : System) (xs : List Seen) (y : Seen) → is_of system y ≡ true → is_among (mine system xs) y ≡ is_among xs y
+pub mine-among : (system : System) (xs : List Seen) (y : Seen) → is_of_system system y ≡ true → is_among (mine system xs) y ≡ is_among xs y
 mine-among system xs y of =
-    any-filter_same (has_same_key y) (is_of system) true (λ k same. sym (key_system system y k same) ∙ of) (firsts xs) ∙ firsts-among xs y
+    any-filter_same (has_same_key y) (is_of_system system) true (λ k same. sym (key_system system y k same) ∙ of) (firsts xs) ∙ firsts-among xs y
 
 -- the firsts of a system of a list with one more
-pub mine-push : (system : System) (xs : List Seen) (y : Seen) → mine system (xs ++ y ∷ []) ≡ mine system xs ++ (if is_of system y && not (is_among xs y) then y ∷ [] else [])
+pub mine-push : (system : System) (xs : List Seen) (y : Seen) → mine system (xs ++ y ∷ []) ≡ mine system xs ++ (if is_of_system system y && not (is_among xs y) then y ∷ [] else [])
 mine-push system xs y =
-    ap (filter (is_of system)) (firsts-push xs y) ∙ filter-append (is_of system) (firsts xs) (new_key xs y)
-    ∙ ap (λ l. mine system xs ++ l) (by (is_of system y) (is_among xs y) refl) where
-      by : (of among : Bool) → is_of system y ≡ of → filter (is_of system) (if among then [] else y ∷ []) ≡ (if of && not among then y ∷ [] else [])
+    ap (filter (is_of_system system)) (firsts-push xs y) ∙ filter-append (is_of_system system) (firsts xs) (new_key xs y)
+    ∙ ap (λ l. mine system xs ++ l) (by (is_of_system system y) (is_among xs y) refl) where
+      by : (of among : Bool) → is_of_system system y ≡ of → filter (is_of_system system) (if among then [] else y ∷ []) ≡ (if of && not among then y ∷ [] else [])
       by true true e = refl
       by false true e = refl
       by true false e = ap (λ b. cond b (y ∷ []) []) e
@@ -162,8 +162,8 @@ added_to n l y among is = by (nat_lt (length l) n) refl where
 
 -- what is kept of a list with one more is what was kept, with that one added
 pub kept-add : (system : System) (xs : List Seen) (y : Seen) → kept system (xs ++ y ∷ []) ≡ add system (kept system xs) y
-kept-add system xs y = ap (take most_cells) (mine-push system xs y) ∙ by (is_of system y) refl where
-  by : (of : Bool) → is_of system y ≡ of
+kept-add system xs y = ap (take most_cells) (mine-push system xs y) ∙ by (is_of_system system y) refl where
+  by : (of : Bool) → is_of_system system y ≡ of
       → take most_cells (mine system xs ++ (if of && not (is_among xs y) then y ∷ [] else []))
       ≡ (if of && not (is_among (kept system xs) y || nat_le most_cells (length (kept system xs))) then kept system xs ++ y ∷ [] else kept system xs)
   by false e = ap (take most_cells) (append-nil (mine system xs))

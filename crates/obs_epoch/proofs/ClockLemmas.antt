@@ -3,11 +3,11 @@ use Rattle.std.proofs.Common.{◌≡◌, ℕ, zero, suc, ◌+◌, ◌*◌, ◌<�
 use Rattle.std.specs.Prelude.{◌==◌}
 use Rattle.std.specs.Option.{option_map_or}
 use Rattle.obs_epoch.specs.declared.clock.Answer.TheVariants.{CloseFirst}
-use Rattle.obs_epoch.specs.Heard.{Setup, Heard, is_mark, is_own}
-use Rattle.obs_epoch.specs.Times.{Timed, is_at, max_known, greatest, is_closed, taken_at, ahead, is_late, is_past, time_of}
+use Rattle.obs_epoch.specs.Heard.{GatherSetup, Heard, ends_epoch, is_own}
+use Rattle.obs_epoch.specs.Times.{Timed, is_at, max_known, greatest_time, is_closed, taken_at, ahead, is_late, is_past, time_of}
 use Rattle.obs_epoch.specs.Weeks.{week}
 use Rattle.obs_epoch.specs.Clock.{State, is_pending, closes_first, answer_of}
-use Rattle.obs_epoch.specs.Step.{answer_by, step_by, is_late_at, is_first_at, marked}
+use Rattle.obs_epoch.specs.Step.{answer_by, step_by, is_late_at, is_first_at, ended_where}
 use Rattle.obs_epoch.proofs.TimesLemmas.{next, greatest-push, greatest-present, greater-absent, none-absent, closed-push, closed-new}
 
 -- what is known of the next message's time: it wasn't taken
@@ -16,64 +16,64 @@ max_none None = refl
 max_none (Some a) = refl
 
 -- a message that isn't taken changes no time, and may close what is pending
-pub same_time : (s : Setup) (xs : List Timed) (x : Timed) → x.time ≡ None
-    → (greatest (xs ++ x ∷ []) ≡ greatest xs) × (is_pending s (xs ++ x ∷ []) ≡ (is_pending s xs && not (is_mark s x.message)))
+pub same_time : (s : GatherSetup) (xs : List Timed) (x : Timed) → x.time ≡ None
+    → (greatest_time (xs ++ x ∷ []) ≡ greatest_time xs) × (is_pending s (xs ++ x ∷ []) ≡ (is_pending s xs && not (ends_epoch s x.message)))
 same_time s xs x e =
-    let same : greatest (xs ++ x ∷ []) ≡ greatest xs = greatest-push xs x ∙ ap (max_known (greatest xs)) e ∙ max_none (greatest xs) in
-    (same, ap (λ g. option_map_or (λ t. not (is_closed s t (xs ++ x ∷ []))) g false) same ∙ by_greatest (greatest xs) refl) where
+    let same : greatest_time (xs ++ x ∷ []) ≡ greatest_time xs = greatest-push xs x ∙ ap (max_known (greatest_time xs)) e ∙ max_none (greatest_time xs) in
+    (same, ap (λ g. option_map_or (λ t. not (is_closed s t (xs ++ x ∷ []))) g false) same ∙ by_greatest (greatest_time xs) refl) where
       not_or : (a b : Bool) → not (a || b) ≡ (not a && not b)
       not_or true b = refl
       not_or false b = refl
 
-      by_greatest : (g : Option ℕ) → greatest xs ≡ g
-          → option_map_or (λ t. not (is_closed s t (xs ++ x ∷ []))) g false ≡ (option_map_or (λ t. not (is_closed s t xs)) g false && not (is_mark s x.message))
+      by_greatest : (g : Option ℕ) → greatest_time xs ≡ g
+          → option_map_or (λ t. not (is_closed s t (xs ++ x ∷ []))) g false ≡ (option_map_or (λ t. not (is_closed s t xs)) g false && not (ends_epoch s x.message))
       by_greatest None h = refl
       by_greatest (Some t) h = ap not (closed-push s t xs x (greatest-present xs t h)) ∙ not_or _ _
 
 -- a taken message of time u is of the greatest time, which isn't closed, or of a greater one
-pub data Follows (s : Setup) (xs : List Timed) (u : ℕ) : Type 0 where
-  first : greatest xs ≡ None → Follows s xs u
-  greater : (t : ℕ) → greatest xs ≡ Some t → t < u → Follows s xs u
-  equal : greatest xs ≡ Some u → is_closed s u xs ≡ false → Follows s xs u
+pub data Follows (s : GatherSetup) (xs : List Timed) (u : ℕ) : Type 0 where
+  first : greatest_time xs ≡ None → Follows s xs u
+  greater : (t : ℕ) → greatest_time xs ≡ Some t → t < u → Follows s xs u
+  equal : greatest_time xs ≡ Some u → is_closed s u xs ≡ false → Follows s xs u
 
 pub at_self : (u : ℕ) (time : Option ℕ) → time ≡ Some u → option_map_or (λ v. v == u) time false ≡ true
 at_self u None e = grind arith
 at_self u (Some v) e = grind arith
 
-pub new_time : (s : Setup) (xs : List Timed) (x : Timed) (u : ℕ) → x.time ≡ Some u → Follows s xs u
-    → (greatest (xs ++ x ∷ []) ≡ Some u) × (is_pending s (xs ++ x ∷ []) ≡ not (is_mark s x.message))
+pub new_time : (s : GatherSetup) (xs : List Timed) (x : Timed) (u : ℕ) → x.time ≡ Some u → Follows s xs u
+    → (greatest_time (xs ++ x ∷ []) ≡ Some u) × (is_pending s (xs ++ x ∷ []) ≡ not (ends_epoch s x.message))
 new_time s xs x u e f = (latest f, ap (λ g. option_map_or (λ t. not (is_closed s t (xs ++ x ∷ []))) g false) (latest f) ∙ ap not (closed f)) where
   here : is_at u x ≡ true
   here = at_self u x.time e
 
-  latest : Follows s xs u → greatest (xs ++ x ∷ []) ≡ Some u
+  latest : Follows s xs u → greatest_time (xs ++ x ∷ []) ≡ Some u
   latest (first h) = greatest-push xs x ∙ ap₂ max_known h e
   latest (greater t h lt) = greatest-push xs x ∙ ap₂ max_known h e ∙ ap Some (omega (arith, lt))
   latest (equal h c) = greatest-push xs x ∙ ap₂ max_known h e ∙ ap Some (omega arith)
 
-  closed : Follows s xs u → is_closed s u (xs ++ x ∷ []) ≡ is_mark s x.message
+  closed : Follows s xs u → is_closed s u (xs ++ x ∷ []) ≡ ends_epoch s x.message
   closed (first h) = closed-new s u xs x (none-absent xs u h) here
   closed (greater t h lt) = closed-new s u xs x (greater-absent xs t u h lt) here
-  closed (equal h c) = closed-push s u xs x (greatest-present xs u h) ∙ ap (λ v. v || is_mark s x.message) c
+  closed (equal h c) = closed-push s u xs x (greatest-present xs u h) ∙ ap (λ v. v || ends_epoch s x.message) c
 
 -- the clock that stands for these
-abbrev pub standing : Setup → List Timed → Bool → State
-standing s xs shut = record { setup = s; latest = greatest xs; pending = is_pending s xs && not shut }
+abbrev pub standing : GatherSetup → List Timed → Bool → State
+standing s xs shut = record { setup = s; latest = greatest_time xs; pending = is_pending s xs && not shut }
 
-pub same_state : (g : State) (s : Setup) (latest : Option ℕ) (pending : Bool) → g.setup ≡ s → g.latest ≡ latest → g.pending ≡ pending
+pub same_state : (g : State) (s : GatherSetup) (latest : Option ℕ) (pending : Bool) → g.setup ≡ s → g.latest ≡ latest → g.pending ≡ pending
     → g ≡ record { setup = s; latest = latest; pending = pending }
 same_state g s latest pending a b c =
     ap (λ x. record { setup = x; latest = g.latest; pending = g.pending }) a
     ∙ ap (λ x. record { setup = s; latest = x; pending = g.pending }) b ∙ ap (λ x. record { setup = s; latest = latest; pending = x }) c
 
 -- where the message isn't of the station
-not_own : (s : Setup) (xs : List Timed) (m : Heard) (shut : Bool) → is_own s m ≡ false → closes_first s xs m ≡ shut
+not_own : (s : GatherSetup) (xs : List Timed) (m : Heard) (shut : Bool) → is_own s m ≡ false → closes_first s xs m ≡ shut
     → (answer_by (standing s xs shut) m ≡ answer_of s xs m)
     × (step_by (standing s xs shut) m ≡ standing s (xs ++ next s xs m ∷ []) false)
 not_own s xs m shut own closes =
     let untaken : taken_at s xs m ≡ None = grind (arith, own) in
     let same = same_time s xs (next s xs m) untaken in
-    let unmarked : is_mark s m ≡ false = grind (arith, own) in
+    let unmarked : ends_epoch s m ≡ false = grind (arith, own) in
     let open_still : shut ≡ false = grind (arith, own) in
     let kept : step_by (standing s xs shut) m ≡ standing s xs shut = grind (arith, own) in
     let pending : (is_pending s xs && not shut) ≡ (is_pending s (xs ++ next s xs m ∷ []) && not false) = grind (arith, same.1, unmarked, open_still) in
@@ -87,50 +87,50 @@ and_false : (a : Bool) → false ≡ (a && false)
 and_false true = refl
 and_false false = refl
 
--- a mark closes what is pending
-marked-is : (b : Bool) (s : Setup) (latest : Option ℕ) (pending : Bool)
-    → marked b (record { setup = s; latest = latest; pending = pending }) ≡ record { setup = s; latest = latest; pending = pending && not b }
+-- a message that ends its epoch closes what is pending
+marked-is : (b : Bool) (s : GatherSetup) (latest : Option ℕ) (pending : Bool)
+    → ended_where b (record { setup = s; latest = latest; pending = pending }) ≡ record { setup = s; latest = latest; pending = pending && not b }
 marked-is true s latest pending = ap (λ x. record { setup = s; latest = latest; pending = x }) (and_false pending)
 marked-is false s latest pending = ap (λ x. record { setup = s; latest = latest; pending = x }) (and_true pending)
 
-abbrev pub mark : Setup → Heard → Bool
-mark s m = s.by_bit && option_map_or not m.more false
+abbrev pub tells_end : GatherSetup → Heard → Bool
+tells_end s m = s.by_bit && option_map_or not m.more false
 
-pub own_mark : (s : Setup) (m : Heard) → is_own s m ≡ true → is_mark s m ≡ mark s m
+pub own_mark : (s : GatherSetup) (m : Heard) → is_own s m ≡ true → ends_epoch s m ≡ tells_end s m
 own_mark s m own = grind (arith, own)
 
-abbrev state : Setup → Option ℕ → Bool → State
+abbrev state : GatherSetup → Option ℕ → Bool → State
 state s latest pending = record { setup = s; latest = latest; pending = pending }
 
-same_fields : (s : Setup) (a b : Option ℕ) (p q : Bool) → a ≡ b → p ≡ q → state s a p ≡ state s b q
+same_fields : (s : GatherSetup) (a b : Option ℕ) (p q : Bool) → a ≡ b → p ≡ q → state s a p ≡ state s b q
 same_fields s a b p q e f = ap₂ (state s) e f
 
--- from the state that the message's time gives to that after a mark
-marked_to : (s : Setup) (xs : List Timed) (m : Heard) (latest : Option ℕ) (pending : Bool) → is_own s m ≡ true
-    → greatest (xs ++ next s xs m ∷ []) ≡ latest
-    → is_pending s (xs ++ next s xs m ∷ []) ≡ (pending && not (is_mark s m))
-    → marked (mark s m) (record { setup = s; latest = latest; pending = pending }) ≡ standing s (xs ++ next s xs m ∷ []) false
+-- from the state that the message's time gives to that after a message that ends its epoch
+marked_to : (s : GatherSetup) (xs : List Timed) (m : Heard) (latest : Option ℕ) (pending : Bool) → is_own s m ≡ true
+    → greatest_time (xs ++ next s xs m ∷ []) ≡ latest
+    → is_pending s (xs ++ next s xs m ∷ []) ≡ (pending && not (ends_epoch s m))
+    → ended_where (tells_end s m) (record { setup = s; latest = latest; pending = pending }) ≡ standing s (xs ++ next s xs m ∷ []) false
 marked_to s xs m latest pending own at is =
-    marked-is (mark s m) s latest pending
+    marked-is (tells_end s m) s latest pending
     ∙ same_fields s _ _ _ _ (sym at) (ap (λ b. pending && not b) (sym (own_mark s m own)) ∙ sym is ∙ and_true _)
 
 -- an own message of no time
-no_time : (s : Setup) (xs : List Timed) (m : Heard) (shut : Bool) → is_own s m ≡ true → m.tow ≡ None → closes_first s xs m ≡ shut
+no_time : (s : GatherSetup) (xs : List Timed) (m : Heard) (shut : Bool) → is_own s m ≡ true → m.tow ≡ None → closes_first s xs m ≡ shut
     → (answer_by (standing s xs shut) m ≡ answer_of s xs m)
     × (step_by (standing s xs shut) m ≡ standing s (xs ++ next s xs m ∷ []) false)
 no_time s xs m shut own none closes =
     let untaken : taken_at s xs m ≡ None = grind (arith, own, none) in
     let same = same_time s xs (next s xs m) untaken in
     let open_still : shut ≡ false = grind (arith, own, none) in
-    let step : step_by (standing s xs shut) m ≡ marked (mark s m) (record { setup = s; latest = greatest xs; pending = is_pending s xs }) =
+    let step : step_by (standing s xs shut) m ≡ ended_where (tells_end s m) (record { setup = s; latest = greatest_time xs; pending = is_pending s xs }) =
     grind (arith, own, none, open_still, and_true) in
-    (grind (arith, own, none), step ∙ marked_to s xs m (greatest xs) (is_pending s xs) own same.0 same.1)
+    (grind (arith, own, none), step ∙ marked_to s xs m (greatest_time xs) (is_pending s xs) own same.0 same.1)
 
-not_later : (s : Setup) (xs : List Timed) (m : Heard) (tow t : ℕ) (shut : Bool) → m.tow ≡ Some tow → greatest xs ≡ Some t
+not_later : (s : GatherSetup) (xs : List Timed) (m : Heard) (tow t : ℕ) (shut : Bool) → m.tow ≡ Some tow → greatest_time xs ≡ Some t
     → closes_first s xs m ≡ shut → ahead t tow ≡ 0 → shut ≡ false
 not_later s xs m tow t shut some at closes none = grind (arith, some, at, closes, none)
 
-late_by : (s : Setup) (xs : List Timed) (m : Heard) (tow : ℕ) (shut : Bool) (g : Option ℕ) → greatest xs ≡ g → m.tow ≡ Some tow → closes_first s xs m ≡ shut
+late_by : (s : GatherSetup) (xs : List Timed) (m : Heard) (tow : ℕ) (shut : Bool) (g : Option ℕ) → greatest_time xs ≡ g → m.tow ≡ Some tow → closes_first s xs m ≡ shut
     → is_late_at (record { setup = s; latest = g; pending = is_pending s xs && not shut }) tow
     ≡ option_map_or (λ t. nat_lt 302_400_000 (ahead t tow) || ((ahead t tow == 0) && is_closed s t xs)) g false
 late_by s xs m tow shut None at some closes = refl
@@ -138,12 +138,12 @@ late_by s xs m tow shut (Some t) at some closes =
     let none_shut = not_later s xs m tow t shut some at closes in
     grind (arith, at, none_shut)
 
-late_same : (s : Setup) (xs : List Timed) (m : Heard) (tow : ℕ) (shut : Bool) → m.tow ≡ Some tow → closes_first s xs m ≡ shut
+late_same : (s : GatherSetup) (xs : List Timed) (m : Heard) (tow : ℕ) (shut : Bool) → m.tow ≡ Some tow → closes_first s xs m ≡ shut
     → is_late_at (standing s xs shut) tow ≡ is_late s xs tow
-late_same s xs m tow shut some closes = late_by s xs m tow shut (greatest xs) refl some closes
+late_same s xs m tow shut some closes = late_by s xs m tow shut (greatest_time xs) refl some closes
 
 -- an own message that is late or past the weeks
-not_taken : (s : Setup) (xs : List Timed) (m : Heard) (tow : ℕ) (shut : Bool) → is_own s m ≡ true → m.tow ≡ Some tow → closes_first s xs m ≡ shut
+not_taken : (s : GatherSetup) (xs : List Timed) (m : Heard) (tow : ℕ) (shut : Bool) → is_own s m ≡ true → m.tow ≡ Some tow → closes_first s xs m ≡ shut
     → (is_late s xs tow || is_past (time_of s xs tow)) ≡ true
     → (answer_by (standing s xs shut) m ≡ answer_of s xs m)
     × (step_by (standing s xs shut) m ≡ standing s (xs ++ next s xs m ∷ []) false)
@@ -152,30 +152,30 @@ not_taken s xs m tow shut own some closes bad =
     let same = same_time s xs (next s xs m) untaken in
     let open_still : shut ≡ false = grind (arith, own, some, bad) in
     let late = late_same s xs m tow shut some closes in
-    let step : step_by (standing s xs shut) m ≡ marked (mark s m) (record { setup = s; latest = greatest xs; pending = is_pending s xs }) =
+    let step : step_by (standing s xs shut) m ≡ ended_where (tells_end s m) (record { setup = s; latest = greatest_time xs; pending = is_pending s xs }) =
     grind (arith, own, some, open_still, and_true, late, bad) in
-    (grind (arith, own, some, late, bad), step ∙ marked_to s xs m (greatest xs) (is_pending s xs) own same.0 same.1)
+    (grind (arith, own, some, late, bad), step ∙ marked_to s xs m (greatest_time xs) (is_pending s xs) own same.0 same.1)
 
-pub follows : (s : Setup) (xs : List Timed) (tow : ℕ) → is_late s xs tow ≡ false → Follows s xs (time_of s xs tow)
-follows s xs tow early = by (greatest xs) refl early where
-  at_once : (t u : ℕ) (d : ℕ) → greatest xs ≡ Some t → u ≡ t + d → (nat_lt 302_400_000 d || ((d == 0) && is_closed s t xs)) ≡ false → Follows s xs u
+pub follows : (s : GatherSetup) (xs : List Timed) (tow : ℕ) → is_late s xs tow ≡ false → Follows s xs (time_of s xs tow)
+follows s xs tow early = by (greatest_time xs) refl early where
+  at_once : (t u : ℕ) (d : ℕ) → greatest_time xs ≡ Some t → u ≡ t + d → (nat_lt 302_400_000 d || ((d == 0) && is_closed s t xs)) ≡ false → Follows s xs u
   at_once t u zero at e early = let same : t ≡ u = omega (arith, e) in subst (λ v. Follows s xs v) same (equal at early)
   at_once t u (suc d) at e early = greater t at (omega (arith, e))
 
-  by : (g : Option ℕ) → greatest xs ≡ g → option_map_or (λ t. nat_lt 302_400_000 (ahead t tow) || ((ahead t tow == 0) && is_closed s t xs)) g false ≡ false
+  by : (g : Option ℕ) → greatest_time xs ≡ g → option_map_or (λ t. nat_lt 302_400_000 (ahead t tow) || ((ahead t tow == 0) && is_closed s t xs)) g false ≡ false
       → Follows s xs (option_map_or (λ t. t + ahead t tow) g (s.start_week * week + tow))
   by None at early = first at
   by (Some t) at early = at_once t (t + ahead t tow) (ahead t tow) at refl early
 
-no_first : (s : Setup) (xs : List Timed) (m : Heard) (tow : ℕ) (shut : Bool) → is_own s m ≡ true → m.tow ≡ Some tow → closes_first s xs m ≡ shut
+no_first : (s : GatherSetup) (xs : List Timed) (m : Heard) (tow : ℕ) (shut : Bool) → is_own s m ≡ true → m.tow ≡ Some tow → closes_first s xs m ≡ shut
     → is_late s xs tow ≡ false → is_past (time_of s xs tow) ≡ false → is_first_at (standing s xs shut) tow ≡ false
-no_first s xs m tow shut own some closes early within = by (greatest xs) refl where
-  by : (g : Option ℕ) → greatest xs ≡ g → is_first_at (record { setup = s; latest = g; pending = is_pending s xs && not shut }) tow ≡ false
+no_first s xs m tow shut own some closes early within = by (greatest_time xs) refl where
+  by : (g : Option ℕ) → greatest_time xs ≡ g → is_first_at (record { setup = s; latest = g; pending = is_pending s xs && not shut }) tow ≡ false
   by None at = grind arith
   by (Some t) at = grind (arith, own, some, closes, early, within, at)
 
 -- an own message that is taken
-is_taken : (s : Setup) (xs : List Timed) (m : Heard) (tow : ℕ) (shut : Bool) → is_own s m ≡ true → m.tow ≡ Some tow → closes_first s xs m ≡ shut
+is_taken : (s : GatherSetup) (xs : List Timed) (m : Heard) (tow : ℕ) (shut : Bool) → is_own s m ≡ true → m.tow ≡ Some tow → closes_first s xs m ≡ shut
     → is_late s xs tow ≡ false → is_past (time_of s xs tow) ≡ false
     → (answer_by (standing s xs shut) m ≡ answer_of s xs m)
     × (step_by (standing s xs shut) m ≡ standing s (xs ++ next s xs m ∷ []) false)
@@ -185,12 +185,12 @@ is_taken s xs m tow shut own some closes early within =
     let new = new_time s xs (next s xs m) u taken (follows s xs tow early) in
     let late = late_same s xs m tow shut some closes in
     let none_first = no_first s xs m tow shut own some closes early within in
-    let step : step_by (standing s xs shut) m ≡ marked (mark s m) (record { setup = s; latest = Some u; pending = true }) =
+    let step : step_by (standing s xs shut) m ≡ ended_where (tells_end s m) (record { setup = s; latest = Some u; pending = true }) =
     grind (arith, own, some, late, early, within, none_first) in
     (grind (arith, own, some, late, early, within, none_first), step ∙ marked_to s xs m (Some u) true own new.0 new.1)
 
 -- a message is one more of the list
-pub takes : (s : Setup) (xs : List Timed) (m : Heard) (shut : Bool) → closes_first s xs m ≡ shut
+pub takes : (s : GatherSetup) (xs : List Timed) (m : Heard) (shut : Bool) → closes_first s xs m ≡ shut
     → (answer_by (standing s xs shut) m ≡ answer_of s xs m)
     × (step_by (standing s xs shut) m ≡ standing s (xs ++ next s xs m ∷ []) false)
 takes s xs m shut closes = by_own (is_own s m) m.tow refl refl where
@@ -207,13 +207,13 @@ takes s xs m shut closes = by_own (is_own s m) m.tow refl refl where
   by_own true (Some tow) own some = by_bad tow true _ _ own some refl refl
 
 -- a message that closes first is not
-pub closes : (s : Setup) (xs : List Timed) (m : Heard) → closes_first s xs m ≡ true
+pub closes : (s : GatherSetup) (xs : List Timed) (m : Heard) → closes_first s xs m ≡ true
     → (answer_by (standing s xs false) m ≡ CloseFirst) × (step_by (standing s xs false) m ≡ standing s xs true)
 closes s xs m h = by_tow m.tow refl where
   own : is_own s m ≡ true
   own = grind (arith, h)
 
-  by_first : (tow t : ℕ) → m.tow ≡ Some tow → greatest xs ≡ Some t
+  by_first : (tow t : ℕ) → m.tow ≡ Some tow → greatest_time xs ≡ Some t
       → (answer_by (standing s xs false) m ≡ CloseFirst) × (step_by (standing s xs false) m ≡ standing s xs true)
   by_first tow t some at =
       let early : is_late s xs tow ≡ false = grind (arith, h, own, some, at) in
@@ -221,15 +221,15 @@ closes s xs m h = by_tow m.tow refl where
       let pending : is_pending s xs ≡ true = grind (arith, h, own, some, at) in
       let ahead_of : (ahead t tow == 0) ≡ false = grind (arith, h, own, some, at) in
       let late_now : is_late_at (standing s xs false) tow ≡ false = grind (arith, own, some, at, early, pending, ahead_of) in
-      let step : step_by (standing s xs false) m ≡ marked (mark s m) (state s (greatest xs) false) =
+      let step : step_by (standing s xs false) m ≡ ended_where (tells_end s m) (state s (greatest_time xs) false) =
       grind (arith, own, some, at, late_now, within, pending, ahead_of) in (
         grind (arith, own, some, at, early, within, pending, ahead_of),
-        step ∙ marked-is (mark s m) s (greatest xs) false ∙ same_fields s _ _ _ _ refl (and_false (is_pending s xs)),
+        step ∙ marked-is (tells_end s m) s (greatest_time xs) false ∙ same_fields s _ _ _ _ refl (and_false (is_pending s xs)),
       )
 
   by_tow : (tow : Option ℕ) → m.tow ≡ tow → (answer_by (standing s xs false) m ≡ CloseFirst) × (step_by (standing s xs false) m ≡ standing s xs true)
   by_tow None none = absurd (grind (arith, h, own, none))
-  by_tow (Some tow) some = by_at tow (greatest xs) some refl where
-    by_at : (tow : ℕ) (g : Option ℕ) → m.tow ≡ Some tow → greatest xs ≡ g → (answer_by (standing s xs false) m ≡ CloseFirst) × (step_by (standing s xs false) m ≡ standing s xs true)
+  by_tow (Some tow) some = by_at tow (greatest_time xs) some refl where
+    by_at : (tow : ℕ) (g : Option ℕ) → m.tow ≡ Some tow → greatest_time xs ≡ g → (answer_by (standing s xs false) m ≡ CloseFirst) × (step_by (standing s xs false) m ≡ standing s xs true)
     by_at tow None some at = absurd (grind (arith, h, own, some, at))
     by_at tow (Some t) some at = by_first tow t some at

@@ -4,8 +4,8 @@ use Rattle.std.specs.Prelude.{if◌then◌else◌, cond}
 use Rattle.std.specs.Option.{option_map_or}
 use Rattle.std.proofs.lemmas.List.Elements.{filter-append}
 use Rattle.std.proofs.lemmas.Bool.{cases_Bool}
-use Rattle.obs_epoch.specs.Heard.{Setup, Heard, is_mark}
-use Rattle.obs_epoch.specs.Times.{Timed, max_known, greatest, is_closed, taken_at, timed, time_of, is_late}
+use Rattle.obs_epoch.specs.Heard.{GatherSetup, Heard, ends_epoch}
+use Rattle.obs_epoch.specs.Times.{Timed, max_known, greatest_time, is_closed, taken_at, timed, time_of, is_late}
 use Rattle.obs_epoch.specs.Loss.{times}
 use Rattle.obs_epoch.specs.Epochs.{is_shut, closed_times}
 use Rattle.obs_epoch.proofs.TimesLemmas.{some_eq, greatest-push, max_known-none, greatest-present, greater-absent, none-absent, closed-push, closed-new, next, timed-push}
@@ -90,13 +90,13 @@ no_times_step None rest ts e none = none e
 no_times_step (Some t) None ts e none = grind arith
 no_times_step (Some t) (Some h) ts e none = grind arith
 
-pub no_times : (xs : List Timed) → greatest xs ≡ None → times xs ≡ []
+pub no_times : (xs : List Timed) → greatest_time xs ≡ None → times xs ≡ []
 no_times [] e = refl
-no_times (x ∷ xs) e = no_times_step x.time (greatest xs) (times xs) e (no_times xs)
+no_times (x ∷ xs) e = no_times_step x.time (greatest_time xs) (times xs) e (no_times xs)
 
-pub ends : (xs : List Timed) (g : ℕ) → greatest xs ≡ Some g → Ends (times xs) g
+pub ends : (xs : List Timed) (g : ℕ) → greatest_time xs ≡ Some g → Ends (times xs) g
 ends [] g e = absurd (grind arith)
-ends (x ∷ xs) g e = ends_step x.time (greatest xs) (times xs) g e (ends xs) (no_times xs)
+ends (x ∷ xs) g e = ends_step x.time (greatest_time xs) (times xs) g e (ends xs) (no_times xs)
 
 -- ---- one message more
 
@@ -115,9 +115,9 @@ push_step (Some t) None u ts new h r =
 push_step (Some t) (Some g) u ts new h r =
     ap (λ l. t ∷ filter (λ v. nat_lt t v) l) (r (omega (arith, h))) ∙ ap (λ l. t ∷ l) (filter-append (λ v. nat_lt t v) ts (u ∷ []) ∙ ap (λ l. filter (λ v. nat_lt t v) ts ++ l) (one_passes (λ v. nat_lt t v) u (less_true t u (omega (arith, h)))))
 
-pub times-push_new : (xs : List Timed) (x : Timed) (u : ℕ) → x.time ≡ Some u → IsLess u (greatest xs) → times (xs ++ x ∷ []) ≡ times xs ++ u ∷ []
+pub times-push_new : (xs : List Timed) (x : Timed) (u : ℕ) → x.time ≡ Some u → IsLess u (greatest_time xs) → times (xs ++ x ∷ []) ≡ times xs ++ u ∷ []
 times-push_new [] x u e h = ap (λ t. front t []) e
-times-push_new (y ∷ ys) x u e h = push_step y.time (greatest ys) u (times ys) (times (ys ++ x ∷ [])) h (times-push_new ys x u e)
+times-push_new (y ∷ ys) x u e h = push_step y.time (greatest_time ys) u (times ys) (times (ys ++ x ∷ [])) h (times-push_new ys x u e)
 
 same_step : (time rest : Option ℕ) (u : ℕ) (ts new : List ℕ) → max_known time rest ≡ Some u → (rest ≡ Some u → new ≡ ts) → (IsLess u rest → new ≡ ts ++ u ∷ [])
     → front time new ≡ front time ts
@@ -135,10 +135,10 @@ same_step (Some t) rest u ts new e same more = by rest e same more where
     | inr le ↦ ap (front (Some t)) (same' (ap Some (omega (arith, some_eq _ _ e', le))))
   ]
 
-pub times-push_same : (xs : List Timed) (x : Timed) (u : ℕ) → x.time ≡ Some u → greatest xs ≡ Some u → times (xs ++ x ∷ []) ≡ times xs
+pub times-push_same : (xs : List Timed) (x : Timed) (u : ℕ) → x.time ≡ Some u → greatest_time xs ≡ Some u → times (xs ++ x ∷ []) ≡ times xs
 times-push_same [] x u e h = absurd (grind arith)
 times-push_same (y ∷ ys) x u e h =
-    same_step y.time (greatest ys) u (times ys) (times (ys ++ x ∷ [])) h (times-push_same ys x u e) (times-push_new ys x u e)
+    same_step y.time (greatest_time ys) u (times ys) (times (ys ++ x ∷ [])) h (times-push_same ys x u e) (times-push_new ys x u e)
 
 -- ---- which of them are closed
 
@@ -150,17 +150,17 @@ or_false : (a b : Bool) → b ≡ false → (a || b) ≡ a
 or_false true b h = refl
 or_false false b h = h
 
-shut_below : (s : Setup) (ys : List Timed) (g t : ℕ) → greatest ys ≡ Some g → t < g → is_shut s ys t ≡ true
+shut_below : (s : GatherSetup) (ys : List Timed) (g t : ℕ) → greatest_time ys ≡ Some g → t < g → is_shut s ys t ≡ true
 shut_below s ys g t e lt = or_true (is_closed s t ys) _ (ap (λ o. option_map_or (λ u. nat_lt t u) o false) e ∙ less_true t g lt)
 
-shut_at : (s : Setup) (ys : List Timed) (g : ℕ) → greatest ys ≡ Some g → is_shut s ys g ≡ is_closed s g ys
+shut_at : (s : GatherSetup) (ys : List Timed) (g : ℕ) → greatest_time ys ≡ Some g → is_shut s ys g ≡ is_closed s g ys
 shut_at s ys g e = or_false (is_closed s g ys) _ (ap (λ o. option_map_or (λ u. nat_lt g u) o false) e ∙ less_false g g (omega arith))
 
 abbrev pub when : Bool → ℕ → List ℕ
 when b g = if b then g ∷ [] else []
 
 -- the closed ones are all but the last, and the last where it is closed
-pub closed_is : (s : Setup) (ys : List Timed) (g : ℕ) (init : List ℕ) → greatest ys ≡ Some g → times ys ≡ init ++ g ∷ [] → Below g init
+pub closed_is : (s : GatherSetup) (ys : List Timed) (g : ℕ) (init : List ℕ) → greatest_time ys ≡ Some g → times ys ≡ init ++ g ∷ [] → Below g init
     → closed_times s ys ≡ init ++ when (is_closed s g ys) g
 closed_is s ys g init e is below =
     ap (filter (is_shut s ys)) is ∙ filter-append (is_shut s ys) init (g ∷ [])
@@ -170,79 +170,79 @@ pub Below-more : (u g : ℕ) (ts : List ℕ) → g < u → Below g ts → Below 
 Below-more u g [] lt h = (lt, tt)
 Below-more u g (t ∷ ts) lt h = (omega (arith, lt, h.0), Below-more u g ts lt h.1)
 
--- a message that isn't taken closes what is pending, where it is a mark
-pub closed-push_none : (s : Setup) (xs : List Timed) (x : Timed) (g : ℕ) → x.time ≡ None → greatest xs ≡ Some g
-    → closed_times s (xs ++ x ∷ []) ≡ closed_times s xs ++ when (not (is_closed s g xs) && is_mark s x.message) g
+-- a message that isn't taken closes what is pending, where it ends its epoch
+pub closed-push_none : (s : GatherSetup) (xs : List Timed) (x : Timed) (g : ℕ) → x.time ≡ None → greatest_time xs ≡ Some g
+    → closed_times s (xs ++ x ∷ []) ≡ closed_times s xs ++ when (not (is_closed s g xs) && ends_epoch s x.message) g
 closed-push_none s xs x g none e =
     let last = ends xs g e in
-    let latest : greatest (xs ++ x ∷ []) ≡ Some g = greatest-push xs x ∙ ap (max_known (greatest xs)) none ∙ max_known-none _ ∙ e in
+    let latest : greatest_time (xs ++ x ∷ []) ≡ Some g = greatest-push xs x ∙ ap (max_known (greatest_time xs)) none ∙ max_known-none _ ∙ e in
     closed_is s (xs ++ x ∷ []) g last.init latest (times-push_none xs x none ∙ last.is) last.below
     ∙ ap (λ b. last.init ++ when b g) (closed-push s g xs x (greatest-present xs g e))
-    ∙ either last.init (is_closed s g xs) (is_mark s x.message) g
-    ∙ ap (λ l. l ++ when (not (is_closed s g xs) && is_mark s x.message) g) (sym (closed_is s xs g last.init e last.is last.below)) where
+    ∙ either last.init (is_closed s g xs) (ends_epoch s x.message) g
+    ∙ ap (λ l. l ++ when (not (is_closed s g xs) && ends_epoch s x.message) g) (sym (closed_is s xs g last.init e last.is last.below)) where
       either : (init : List ℕ) (c m : Bool) (g : ℕ) → init ++ when (c || m) g ≡ (init ++ when c g) ++ when (not c && m) g
       either init true m g = sym (append-nil _)
       either init false true g = ap (λ l. l ++ g ∷ []) (sym (append-nil init))
       either init false false g = sym (append-nil _)
 
--- a taken message of a greater time closes what is pending, and its own epoch where it is a mark
-pub closed-push_greater : (s : Setup) (xs : List Timed) (x : Timed) (g u : ℕ) → x.time ≡ Some u → greatest xs ≡ Some g → g < u
-    → closed_times s (xs ++ x ∷ []) ≡ (closed_times s xs ++ when (not (is_closed s g xs)) g) ++ when (is_mark s x.message) u
+-- a taken message of a greater time closes what is pending, and its own epoch where it ends that
+pub closed-push_greater : (s : GatherSetup) (xs : List Timed) (x : Timed) (g u : ℕ) → x.time ≡ Some u → greatest_time xs ≡ Some g → g < u
+    → closed_times s (xs ++ x ∷ []) ≡ (closed_times s xs ++ when (not (is_closed s g xs)) g) ++ when (ends_epoch s x.message) u
 closed-push_greater s xs x g u some e lt =
     let last = ends xs g e in
-    let latest : greatest (xs ++ x ∷ []) ≡ Some u = greatest-push xs x ∙ ap₂ max_known e some ∙ ap Some (omega (arith, lt)) in
-    let less : IsLess u (greatest xs) = subst (IsLess u) (sym e) lt in
+    let latest : greatest_time (xs ++ x ∷ []) ≡ Some u = greatest-push xs x ∙ ap₂ max_known e some ∙ ap Some (omega (arith, lt)) in
+    let less : IsLess u (greatest_time xs) = subst (IsLess u) (sym e) lt in
     closed_is s (xs ++ x ∷ []) u (times xs) latest (times-push_new xs x u some less) (subst (Below u) (sym last.is) (Below-more u g last.init lt last.below))
     ∙ ap (λ b. times xs ++ when b u) (closed-new s u xs x (greater-absent xs g u e lt) (at_self u x.time some))
-    ∙ ap (λ l. l ++ when (is_mark s x.message) u) (last.is ∙ all_of last.init (is_closed s g xs) g ∙ ap (λ l. l ++ when (not (is_closed s g xs)) g) (sym (closed_is s xs g last.init e last.is last.below))) where
+    ∙ ap (λ l. l ++ when (ends_epoch s x.message) u) (last.is ∙ all_of last.init (is_closed s g xs) g ∙ ap (λ l. l ++ when (not (is_closed s g xs)) g) (sym (closed_is s xs g last.init e last.is last.below))) where
       all_of : (init : List ℕ) (c : Bool) (g : ℕ) → init ++ g ∷ [] ≡ (init ++ when c g) ++ when (not c) g
       all_of init true g = sym (append-nil _)
       all_of init false g = ap (λ l. l ++ g ∷ []) (sym (append-nil init))
 
--- a taken message of the greatest time closes its epoch, where it is a mark
-pub closed-push_same : (s : Setup) (xs : List Timed) (x : Timed) (g : ℕ) → x.time ≡ Some g → greatest xs ≡ Some g → is_closed s g xs ≡ false
-    → closed_times s (xs ++ x ∷ []) ≡ closed_times s xs ++ when (is_mark s x.message) g
+-- a taken message of the greatest time closes its epoch, where it ends its epoch
+pub closed-push_same : (s : GatherSetup) (xs : List Timed) (x : Timed) (g : ℕ) → x.time ≡ Some g → greatest_time xs ≡ Some g → is_closed s g xs ≡ false
+    → closed_times s (xs ++ x ∷ []) ≡ closed_times s xs ++ when (ends_epoch s x.message) g
 closed-push_same s xs x g some e not_closed =
     let last = ends xs g e in
-    let latest : greatest (xs ++ x ∷ []) ≡ Some g = greatest-push xs x ∙ ap₂ max_known e some ∙ ap Some (omega arith) in
+    let latest : greatest_time (xs ++ x ∷ []) ≡ Some g = greatest-push xs x ∙ ap₂ max_known e some ∙ ap Some (omega arith) in
     closed_is s (xs ++ x ∷ []) g last.init latest (times-push_same xs x g some e ∙ last.is) last.below
-    ∙ ap (λ b. last.init ++ when b g) (closed-push s g xs x (greatest-present xs g e) ∙ ap (λ c. c || is_mark s x.message) not_closed)
-    ∙ ap (λ l. l ++ when (is_mark s x.message) g) (sym (append-nil last.init) ∙ ap (λ c. last.init ++ when c g) (sym not_closed) ∙ sym (closed_is s xs g last.init e last.is last.below))
+    ∙ ap (λ b. last.init ++ when b g) (closed-push s g xs x (greatest-present xs g e) ∙ ap (λ c. c || ends_epoch s x.message) not_closed)
+    ∙ ap (λ l. l ++ when (ends_epoch s x.message) g) (sym (append-nil last.init) ∙ ap (λ c. last.init ++ when c g) (sym not_closed) ∙ sym (closed_is s xs g last.init e last.is last.below))
 
 -- the first taken message
-pub closed-push_first : (s : Setup) (xs : List Timed) (x : Timed) (u : ℕ) → x.time ≡ Some u → greatest xs ≡ None
-    → closed_times s (xs ++ x ∷ []) ≡ closed_times s xs ++ when (is_mark s x.message) u
+pub closed-push_first : (s : GatherSetup) (xs : List Timed) (x : Timed) (u : ℕ) → x.time ≡ Some u → greatest_time xs ≡ None
+    → closed_times s (xs ++ x ∷ []) ≡ closed_times s xs ++ when (ends_epoch s x.message) u
 closed-push_first s xs x u some e =
-    let latest : greatest (xs ++ x ∷ []) ≡ Some u = greatest-push xs x ∙ ap₂ max_known e some in
-    let less : IsLess u (greatest xs) = subst (IsLess u) (sym e) tt in
+    let latest : greatest_time (xs ++ x ∷ []) ≡ Some u = greatest-push xs x ∙ ap₂ max_known e some in
+    let less : IsLess u (greatest_time xs) = subst (IsLess u) (sym e) tt in
     closed_is s (xs ++ x ∷ []) u [] latest (times-push_new xs x u some less ∙ ap (λ l. l ++ u ∷ []) (no_times xs e)) tt
     ∙ ap (λ b. when b u) (closed-new s u xs x (none-absent xs u e) (at_self u x.time some))
-    ∙ ap (λ l. filter (is_shut s xs) l ++ when (is_mark s x.message) u) (sym (no_times xs e))
+    ∙ ap (λ l. filter (is_shut s xs) l ++ when (ends_epoch s x.message) u) (sym (no_times xs e))
 
-pub no_greatest : (s : Setup) (xs : List Timed) (x : Timed) → x.time ≡ None → greatest xs ≡ None → closed_times s (xs ++ x ∷ []) ≡ closed_times s xs ++ []
+pub no_greatest : (s : GatherSetup) (xs : List Timed) (x : Timed) → x.time ≡ None → greatest_time xs ≡ None → closed_times s (xs ++ x ∷ []) ≡ closed_times s xs ++ []
 no_greatest s xs x none e =
     ap (filter (is_shut s (xs ++ x ∷ []))) (times-push_none xs x none ∙ no_times xs e)
     ∙ ap (λ l. filter (is_shut s xs) l) (sym (no_times xs e)) ∙ sym (append-nil _)
 
 -- whatever comes, what is closed stays, and more may follow
-pub grows : (s : Setup) (xs : List Timed) (x : Timed) → ((u : ℕ) → x.time ≡ Some u → Follows s xs u)
+pub grows : (s : GatherSetup) (xs : List Timed) (x : Timed) → ((u : ℕ) → x.time ≡ Some u → Follows s xs u)
     → (more : List ℕ) × (closed_times s (xs ++ x ∷ []) ≡ closed_times s xs ++ more)
-grows s xs x follow = by_time x.time (greatest xs) refl refl where
+grows s xs x follow = by_time x.time (greatest_time xs) refl refl where
   by_follows : (u : ℕ) → x.time ≡ Some u → Follows s xs u → (more : List ℕ) × (closed_times s (xs ++ x ∷ []) ≡ closed_times s xs ++ more)
-  by_follows u some (first e) = (when (is_mark s x.message) u, closed-push_first s xs x u some e)
+  by_follows u some (first e) = (when (ends_epoch s x.message) u, closed-push_first s xs x u some e)
   by_follows u some (greater t e lt) = (
-    when (not (is_closed s t xs)) t ++ when (is_mark s x.message) u,
-    closed-push_greater s xs x t u some e lt ∙ append_assoc (closed_times s xs) (when (not (is_closed s t xs)) t) (when (is_mark s x.message) u),
+    when (not (is_closed s t xs)) t ++ when (ends_epoch s x.message) u,
+    closed-push_greater s xs x t u some e lt ∙ append_assoc (closed_times s xs) (when (not (is_closed s t xs)) t) (when (ends_epoch s x.message) u),
   )
-  by_follows u some (equal e c) = (when (is_mark s x.message) u, closed-push_same s xs x u some e c)
+  by_follows u some (equal e c) = (when (ends_epoch s x.message) u, closed-push_same s xs x u some e c)
 
-  by_time : (time g : Option ℕ) → x.time ≡ time → greatest xs ≡ g → (more : List ℕ) × (closed_times s (xs ++ x ∷ []) ≡ closed_times s xs ++ more)
+  by_time : (time g : Option ℕ) → x.time ≡ time → greatest_time xs ≡ g → (more : List ℕ) × (closed_times s (xs ++ x ∷ []) ≡ closed_times s xs ++ more)
   by_time None None none e = ([], no_greatest s xs x none e)
-  by_time None (Some g) none e = (when (not (is_closed s g xs) && is_mark s x.message) g, closed-push_none s xs x g none e)
+  by_time None (Some g) none e = (when (not (is_closed s g xs) && ends_epoch s x.message) g, closed-push_none s xs x g none e)
   by_time (Some u) g some e = by_follows u some (follow u some)
 
 -- a taken message isn't late
-pub taken_follows : (s : Setup) (xs : List Timed) (m : Heard) (u : ℕ) → taken_at s xs m ≡ Some u → Follows s xs u
+pub taken_follows : (s : GatherSetup) (xs : List Timed) (m : Heard) (u : ℕ) → taken_at s xs m ≡ Some u → Follows s xs u
 taken_follows s xs m u e = by_tow m.tow refl where
   by_late : (tow : ℕ) (late : Bool) → m.tow ≡ Some tow → is_late s xs tow ≡ late → Follows s xs u
   by_late tow true some late = absurd (grind (arith, e, some, late))
@@ -254,7 +254,7 @@ taken_follows s xs m u e = by_tow m.tow refl where
   by_tow None none = absurd (grind (arith, e, none))
   by_tow (Some tow) some = by_late tow (is_late s xs tow) some refl
 
-pub grows_by : (s : Setup) (ms : List Heard) (m : Heard) → (more : List ℕ) × (closed_times s (timed s (ms ++ m ∷ [])) ≡ closed_times s (timed s ms) ++ more)
+pub grows_by : (s : GatherSetup) (ms : List Heard) (m : Heard) → (more : List ℕ) × (closed_times s (timed s (ms ++ m ∷ [])) ≡ closed_times s (timed s ms) ++ more)
 grows_by s ms m =
     let step = grows s (timed s ms) (next s (timed s ms) m) (taken_follows s (timed s ms) m) in
     (step.0, ap (closed_times s) (timed-push s ms m) ∙ step.1)

@@ -4,13 +4,13 @@ use Rattle.std.specs.Prelude.{if◌then◌else◌, option_to_list}
 use Rattle.std.specs.Option.{option_map_or}
 use Rattle.obs_epoch.specs.declared.clock.Answer.{Answer}
 use Rattle.obs_epoch.specs.declared.clock.Answer.TheVariants.{OtherStation, Ignored, Late, PastWeeks, Kept, CloseFirst}
-use Rattle.obs_epoch.specs.Heard.{Setup, Heard, is_mark, is_own}
-use Rattle.obs_epoch.specs.Times.{Timed, greatest, is_closed, taken_at, is_late, is_past, time_of}
+use Rattle.obs_epoch.specs.Heard.{GatherSetup, Heard, ends_epoch, is_own}
+use Rattle.obs_epoch.specs.Times.{Timed, greatest_time, is_closed, taken_at, is_late, is_past, time_of}
 use Rattle.obs_epoch.specs.Clock.{State, is_pending, closes_first, answer_of}
 use Rattle.obs_epoch.specs.Step.{closed_of, closed_by}
 use Rattle.obs_epoch.specs.Epochs.{closed_times, closed_so_far}
 use Rattle.obs_epoch.proofs.TimesLemmas.{next}
-use Rattle.obs_epoch.proofs.ClockLemmas.{standing, takes, mark, own_mark, same_time, Follows, first, greater, equal, new_time}
+use Rattle.obs_epoch.proofs.ClockLemmas.{standing, takes, tells_end, own_mark, same_time, Follows, first, greater, equal, new_time}
 use Rattle.obs_epoch.proofs.ClosedLemmas.{when, no_greatest, taken_follows, closed-push_none, closed-push_greater, closed-push_same, closed-push_first}
 
 either : (m c : Bool) (g : ℕ) → when (not c && m) g ≡ option_to_list (if m && not c then Some g else None)
@@ -23,14 +23,14 @@ neither : (m : Bool) (g : Option ℕ) → [] ≡ option_to_list (if m && false t
 neither true g = refl
 neither false g = refl
 
--- a message that isn't taken: what a mark closes
-pub untaken : (s : Setup) (xs : List Timed) (x : Timed) → x.time ≡ None
-    → closed_times s (xs ++ x ∷ []) ≡ closed_times s xs ++ option_to_list (if is_mark s x.message && is_pending s xs then greatest xs else None)
-untaken s xs x none = by (greatest xs) refl where
-  by : (g : Option ℕ) → greatest xs ≡ g
-      → closed_times s (xs ++ x ∷ []) ≡ closed_times s xs ++ option_to_list (if is_mark s x.message && option_map_or (λ t. not (is_closed s t xs)) g false then g else None)
-  by None e = no_greatest s xs x none e ∙ ap (λ l. closed_times s xs ++ l) (neither (is_mark s x.message) None)
-  by (Some g) e = closed-push_none s xs x g none e ∙ ap (λ l. closed_times s xs ++ l) (either (is_mark s x.message) (is_closed s g xs) g)
+-- a message that isn't taken: what a message that ends its epoch closes
+pub untaken : (s : GatherSetup) (xs : List Timed) (x : Timed) → x.time ≡ None
+    → closed_times s (xs ++ x ∷ []) ≡ closed_times s xs ++ option_to_list (if ends_epoch s x.message && is_pending s xs then greatest_time xs else None)
+untaken s xs x none = by (greatest_time xs) refl where
+  by : (g : Option ℕ) → greatest_time xs ≡ g
+      → closed_times s (xs ++ x ∷ []) ≡ closed_times s xs ++ option_to_list (if ends_epoch s x.message && option_map_or (λ t. not (is_closed s t xs)) g false then g else None)
+  by None e = no_greatest s xs x none e ∙ ap (λ l. closed_times s xs ++ l) (neither (ends_epoch s x.message) None)
+  by (Some g) e = closed-push_none s xs x g none e ∙ ap (λ l. closed_times s xs ++ l) (either (ends_epoch s x.message) (is_closed s g xs) g)
 
 -- the same for the kinds of such a message
 untaken_kind : (k : Answer) (own m p : Bool) (before after : Option ℕ) → own ≡ true → (k ≡ CloseFirst → ⊥) → (k ≡ OtherStation → ⊥) → (k ≡ Kept → ⊥)
@@ -42,18 +42,18 @@ untaken_kind CloseFirst own m p before after e a b c = absurd (a refl)
 untaken_kind OtherStation own m p before after e a b c = absurd (b refl)
 untaken_kind Kept own m p before after e a b c = absurd (c refl)
 
-plain : (s : Setup) (ys : List Timed) → closed_so_far s ys false ≡ closed_times s ys
+plain : (s : GatherSetup) (ys : List Timed) → closed_so_far s ys false ≡ closed_times s ys
 plain s ys = append-nil (closed_times s ys)
 
 -- what is known of a taken message
-pub record Parts (s : Setup) (xs : List Timed) (m : Heard) (u : ℕ) : Type 0 where
+pub record Parts (s : GatherSetup) (xs : List Timed) (m : Heard) (u : ℕ) : Type 0 where
   pub tow : ℕ
   pub some : m.tow ≡ Some tow
   pub early : is_late s xs tow ≡ false
   pub within : is_past (time_of s xs tow) ≡ false
   pub time : time_of s xs tow ≡ u
 
-pub parts : (s : Setup) (xs : List Timed) (m : Heard) (u : ℕ) → taken_at s xs m ≡ Some u → Parts s xs m u
+pub parts : (s : GatherSetup) (xs : List Timed) (m : Heard) (u : ℕ) → taken_at s xs m ≡ Some u → Parts s xs m u
 parts s xs m u e = by_tow m.tow refl where
   by_late : (tow : ℕ) (late past : Bool) → m.tow ≡ Some tow → is_late s xs tow ≡ late → is_past (time_of s xs tow) ≡ past → Parts s xs m u
   by_late tow true past some late is_over = absurd (grind (arith, e, some, late))
@@ -65,7 +65,7 @@ parts s xs m u e = by_tow m.tow refl where
   by_tow (Some tow) some = by_late tow _ _ some refl refl
 
 -- where a message is taken, an epoch is closed first exactly where one is pending and its time is less
-first_is : (s : Setup) (xs : List Timed) (m : Heard) (u t : ℕ) → is_own s m ≡ true → taken_at s xs m ≡ Some u → greatest xs ≡ Some t
+first_is : (s : GatherSetup) (xs : List Timed) (m : Heard) (u t : ℕ) → is_own s m ≡ true → taken_at s xs m ≡ Some u → greatest_time xs ≡ Some t
     → closes_first s xs m ≡ (not (is_closed s t xs) && nat_lt t u)
 first_is s xs m u t own some e =
     let p = parts s xs m u some in
@@ -82,31 +82,31 @@ less : (t u : ℕ) → t < u → nat_lt t u ≡ true
 less t u h = grind arith
 
 -- a taken message: what it closes of the epoch before, and of its own
-pub taken_by : (s : Setup) (xs : List Timed) (m : Heard) (u : ℕ) → is_own s m ≡ true → taken_at s xs m ≡ Some u → Follows s xs u
+pub taken_by : (s : GatherSetup) (xs : List Timed) (m : Heard) (u : ℕ) → is_own s m ≡ true → taken_at s xs m ≡ Some u → Follows s xs u
     → (shut : Bool) → closes_first s xs m ≡ shut
-    → closed_times s (xs ++ next s xs m ∷ []) ≡ closed_so_far s xs shut ++ when (is_mark s m) u
+    → closed_times s (xs ++ next s xs m ∷ []) ≡ closed_so_far s xs shut ++ when (ends_epoch s m) u
 taken_by s xs m u own some (first e) shut h =
     let open_still : shut ≡ false = grind (arith, h, e) in
-    closed-push_first s xs (next s xs m) u some e ∙ ap (λ l. l ++ when (is_mark s m) u) (sym (plain s xs) ∙ ap (closed_so_far s xs) (sym open_still))
+    closed-push_first s xs (next s xs m) u some e ∙ ap (λ l. l ++ when (ends_epoch s m) u) (sym (plain s xs) ∙ ap (closed_so_far s xs) (sym open_still))
 taken_by s xs m u own some (equal e c) shut h =
     let open_still : shut ≡ false = not_less (is_closed s u xs) shut u (sym (first_is s xs m u u own some e) ∙ h) in
-    closed-push_same s xs (next s xs m) u some e c ∙ ap (λ l. l ++ when (is_mark s m) u) (sym (plain s xs) ∙ ap (closed_so_far s xs) (sym open_still))
+    closed-push_same s xs (next s xs m) u some e c ∙ ap (λ l. l ++ when (ends_epoch s m) u) (sym (plain s xs) ∙ ap (closed_so_far s xs) (sym open_still))
 taken_by s xs m u own some (greater t e lt) shut h =
-    let same : when (not (is_closed s t xs)) t ≡ (if shut then option_to_list (greatest xs) else []) =
-    shut_text (is_closed s t xs) shut (nat_lt t u) t (greatest xs) e (less t u lt) (sym (first_is s xs m u t own some e) ∙ h) in
-    closed-push_greater s xs (next s xs m) t u some e lt ∙ ap (λ l. (closed_times s xs ++ l) ++ when (is_mark s m) u) same
+    let same : when (not (is_closed s t xs)) t ≡ (if shut then option_to_list (greatest_time xs) else []) =
+    shut_text (is_closed s t xs) shut (nat_lt t u) t (greatest_time xs) e (less t u lt) (sym (first_is s xs m u t own some e) ∙ h) in
+    closed-push_greater s xs (next s xs m) t u some e lt ∙ ap (λ l. (closed_times s xs ++ l) ++ when (ends_epoch s m) u) same
 
 -- what a step closes, in the words of the list
-abbrev closed_in : Setup → List Timed → Heard → Bool → Option ℕ
-closed_in s xs m shut = closed_of (answer_of s xs m) (mark s m) (is_pending s xs && not shut) (greatest xs) (greatest (xs ++ next s xs m ∷ []))
+abbrev closed_in : GatherSetup → List Timed → Heard → Bool → Option ℕ
+closed_in s xs m shut = closed_of (answer_of s xs m) (tells_end s m) (is_pending s xs && not shut) (greatest_time xs) (greatest_time (xs ++ next s xs m ∷ []))
 
-closed_in_is : (s : Setup) (xs : List Timed) (m : Heard) (shut : Bool) → closes_first s xs m ≡ shut → closed_by (standing s xs shut) m ≡ closed_in s xs m shut
+closed_in_is : (s : GatherSetup) (xs : List Timed) (m : Heard) (shut : Bool) → closes_first s xs m ≡ shut → closed_by (standing s xs shut) m ≡ closed_in s xs m shut
 closed_in_is s xs m shut h =
     let step = takes s xs m shut h in
-    ap₂ (λ k (g : State). closed_of k (mark s m) (is_pending s xs && not shut) (greatest xs) g.latest) step.0 step.1
+    ap₂ (λ k (g : State). closed_of k (tells_end s m) (is_pending s xs && not shut) (greatest_time xs) g.latest) step.0 step.1
 
 -- a message that isn't taken
-closing_none : (s : Setup) (xs : List Timed) (m : Heard) (shut : Bool) → taken_at s xs m ≡ None → closes_first s xs m ≡ shut
+closing_none : (s : GatherSetup) (xs : List Timed) (m : Heard) (shut : Bool) → taken_at s xs m ≡ None → closes_first s xs m ≡ shut
     → closed_so_far s (xs ++ next s xs m ∷ []) false ≡ closed_so_far s xs shut ++ option_to_list (closed_in s xs m shut)
 closing_none s xs m shut none h =
     plain s (xs ++ next s xs m ∷ []) ∙ untaken s xs (next s xs m) none
@@ -114,28 +114,28 @@ closing_none s xs m shut none h =
       open_still : shut ≡ false
       open_still = grind (arith, none, h)
 
-      same : greatest (xs ++ next s xs m ∷ []) ≡ greatest xs
+      same : greatest_time (xs ++ next s xs m ∷ []) ≡ greatest_time xs
       same = (same_time s xs (next s xs m) none).0
 
       known : (b p sh : Bool) (c d : Bool) (g : Option ℕ) → sh ≡ false → c ≡ b → (if c && p then g else None) ≡ (if b && (p && not sh) then g else None)
       known b p sh c d g e f = grind (arith, e, f)
 
-      other : is_own s m ≡ false → (if is_mark s m && is_pending s xs then greatest xs else None) ≡ closed_in s xs m shut
+      other : is_own s m ≡ false → (if ends_epoch s m && is_pending s xs then greatest_time xs else None) ≡ closed_in s xs m shut
       other own =
           let kind : answer_of s xs m ≡ OtherStation = grind (arith, own) in
-          let unmarked : is_mark s m ≡ false = grind (arith, own) in
-          ap (λ b. if b && is_pending s xs then greatest xs else None) unmarked
-          ∙ ap (λ k. closed_of k (mark s m) (is_pending s xs && not shut) (greatest xs) (greatest (xs ++ next s xs m ∷ []))) (sym kind)
+          let unmarked : ends_epoch s m ≡ false = grind (arith, own) in
+          ap (λ b. if b && is_pending s xs then greatest_time xs else None) unmarked
+          ∙ ap (λ k. closed_of k (tells_end s m) (is_pending s xs && not shut) (greatest_time xs) (greatest_time (xs ++ next s xs m ∷ []))) (sym kind)
 
-      closed : (own : Bool) → is_own s m ≡ own → (if is_mark s m && is_pending s xs then greatest xs else None) ≡ closed_in s xs m shut
+      closed : (own : Bool) → is_own s m ≡ own → (if ends_epoch s m && is_pending s xs then greatest_time xs else None) ≡ closed_in s xs m shut
       closed false own = other own
       closed true own =
-          known (mark s m) (is_pending s xs) shut (is_mark s m) false (greatest xs) open_still (own_mark s m own)
-          ∙ ap (λ g. if mark s m && (is_pending s xs && not shut) then g else None) (sym same)
-          ∙ sym (untaken_kind (answer_of s xs m) true (mark s m) (is_pending s xs && not shut) (greatest xs) _ refl
+          known (tells_end s m) (is_pending s xs) shut (ends_epoch s m) false (greatest_time xs) open_still (own_mark s m own)
+          ∙ ap (λ g. if tells_end s m && (is_pending s xs && not shut) then g else None) (sym same)
+          ∙ sym (untaken_kind (answer_of s xs m) true (tells_end s m) (is_pending s xs && not shut) (greatest_time xs) _ refl
           (λ e. grind (arith, own, e)) (λ e. grind (arith, own, e)) (λ e. grind (arith, own, e, none)))
 
-closing_some : (s : Setup) (xs : List Timed) (m : Heard) (u : ℕ) (shut : Bool) → taken_at s xs m ≡ Some u → closes_first s xs m ≡ shut
+closing_some : (s : GatherSetup) (xs : List Timed) (m : Heard) (u : ℕ) (shut : Bool) → taken_at s xs m ≡ Some u → closes_first s xs m ≡ shut
     → closed_so_far s (xs ++ next s xs m ∷ []) false ≡ closed_so_far s xs shut ++ option_to_list (closed_in s xs m shut)
 closing_some s xs m u shut some h =
     let own : is_own s m ≡ true = own_of (is_own s m) refl in
@@ -143,9 +143,9 @@ closing_some s xs m u shut some h =
     let new = new_time s xs (next s xs m) u some (taken_follows s xs m u some) in
     let tow = p.some in let early = p.early in let within = p.within in
     let kind : answer_of s xs m ≡ Kept = grind (arith, own, tow, early, within) in
-    let closed : when (is_mark s m) u ≡ option_to_list (closed_in s xs m shut) =
-    ap (λ b. when b u) (own_mark s m own) ∙ kept_text (mark s m) u
-    ∙ ap₂ (λ k g. option_to_list (closed_of k (mark s m) (is_pending s xs && not shut) (greatest xs) g)) (sym kind) (sym new.0) in
+    let closed : when (ends_epoch s m) u ≡ option_to_list (closed_in s xs m shut) =
+    ap (λ b. when b u) (own_mark s m own) ∙ kept_text (tells_end s m) u
+    ∙ ap₂ (λ k g. option_to_list (closed_of k (tells_end s m) (is_pending s xs && not shut) (greatest_time xs) g)) (sym kind) (sym new.0) in
     plain s (xs ++ next s xs m ∷ []) ∙ taken_by s xs m u own some (taken_follows s xs m u some) shut h ∙ ap (λ l. closed_so_far s xs shut ++ l) closed where
       own_of : (own : Bool) → is_own s m ≡ own → is_own s m ≡ true
       own_of true e = e
@@ -155,7 +155,7 @@ closing_some s xs m u shut some h =
       kept_text true v = refl
       kept_text false v = refl
 
-pub closing : (s : Setup) (xs : List Timed) (m : Heard) (shut : Bool) → closes_first s xs m ≡ shut
+pub closing : (s : GatherSetup) (xs : List Timed) (m : Heard) (shut : Bool) → closes_first s xs m ≡ shut
     → closed_so_far s (xs ++ next s xs m ∷ []) false ≡ closed_so_far s xs shut ++ option_to_list (closed_by (standing s xs shut) m)
 closing s xs m shut h = by (taken_at s xs m) refl ∙ ap (λ o. closed_so_far s xs shut ++ option_to_list o) (sym (closed_in_is s xs m shut h)) where
   by : (time : Option ℕ) → taken_at s xs m ≡ time

@@ -8,10 +8,10 @@ use Rattle.std.proofs.lemmas.Map.Steps.{list_any_congr}
 use Rattle.gnss_obs.specs.declared.system.System.{System}
 use Rattle.gnss_obs.specs.declared.system.System.TheVariants.{Gps, Galileo}
 use Rattle.obs_epoch.specs.declared.seen.Seen.{Seen}
-use Rattle.obs_epoch.specs.declared.seen.Counts.{Counts}
+use Rattle.obs_epoch.specs.declared.seen.CellCounts.{CellCounts}
 use Rattle.obs_epoch.specs.declared.seen.Fate.TheVariants.{Skipped, Repeated, Crowded, Kept}
-use Rattle.obs_epoch.specs.Heard.{Setup}
-use Rattle.obs_epoch.specs.Cells.{counts_of, is_of, is_among, has_same_key, kept, both, is_planned}
+use Rattle.obs_epoch.specs.Heard.{GatherSetup}
+use Rattle.obs_epoch.specs.Cells.{counts_of, is_of_system, is_among, has_same_key, kept, kept_of_both, is_planned}
 use Rattle.obs_epoch.specs.Values.{most_cells}
 use Rattle.obs_epoch.specs.Held.{count_in}
 use Rattle.obs_epoch.specs.Gather.{no_counts}
@@ -24,7 +24,7 @@ or_false true = refl
 or_false false = refl
 
 -- a key is among the kept cells of both where it is among those of its system
-both-among : (xs : List Seen) (p : Seen) → is_among (both xs) p ≡ is_among (kept p.satellite.system xs) p
+both-among : (xs : List Seen) (p : Seen) → is_among (kept_of_both xs) p ≡ is_among (kept p.satellite.system xs) p
 both-among xs p = list_any-append (has_same_key p) (kept Gps xs) (kept Galileo xs) ∙ by p.satellite.system refl where
   by : (system : System) → p.satellite.system ≡ system → (is_among (kept Gps xs) p || is_among (kept Galileo xs) p) ≡ is_among (kept p.satellite.system xs) p
   by Gps e =
@@ -32,7 +32,7 @@ both-among xs p = list_any-append (has_same_key p) (kept Gps xs) (kept Galileo x
   by Galileo e =
       ap (λ b. b || is_among (kept Galileo xs) p) (kept_apart Gps xs p (grind (arith, e))) ∙ ap (λ c. is_among (kept c xs) p) (sym e)
 
-own : (system : System) (x : Seen) → x.satellite.system ≡ system → is_of system x ≡ true
+own : (system : System) (x : Seen) → x.satellite.system ≡ system → is_of_system system x ≡ true
 own Gps x e = grind (arith, e)
 own Galileo x e = grind (arith, e)
 
@@ -47,8 +47,8 @@ all_kept system xs h = take_all most_cells (mine system xs) (by (nat_le most_cel
   by false e = grind (arith, e)
 
 -- what was offered before is kept or not, whatever comes
-known-push : (system : System) (xs : List Seen) (y p : Seen) → is_of system p ≡ true → is_among xs p ≡ true → is_among (kept system (xs ++ y ∷ [])) p ≡ is_among (kept system xs) p
-known-push system xs y p o there = ap (λ l. is_among l p) (kept-add system xs y) ∙ by (is_of system y) (is_among (kept system xs) y) (nat_le most_cells (length (kept system xs))) refl refl where
+known-push : (system : System) (xs : List Seen) (y p : Seen) → is_of_system system p ≡ true → is_among xs p ≡ true → is_among (kept system (xs ++ y ∷ [])) p ≡ is_among (kept system xs) p
+known-push system xs y p o there = ap (λ l. is_among l p) (kept-add system xs y) ∙ by (is_of_system system y) (is_among (kept system xs) y) (nat_le most_cells (length (kept system xs))) refl refl where
   same_case : (b : Bool) → has_same_key p y ≡ b → is_among (kept system xs) y ≡ false → nat_le most_cells (length (kept system xs)) ≡ false → (is_among (kept system xs) p || b) ≡ is_among (kept system xs) p
   same_case false e f g = or_false _
   same_case true e f g =
@@ -63,33 +63,33 @@ known-push system xs y p o there = ap (λ l. is_among l p) (kept-add system xs y
   by true false true e f = refl
   by true false false e f = among-push (kept system xs) y p ∙ same_case (has_same_key p y) refl e f
 
-known-more : (system : System) (xs ys : List Seen) (p : Seen) → is_of system p ≡ true → is_among xs p ≡ true → is_among (kept system (xs ++ ys)) p ≡ is_among (kept system xs) p
+known-more : (system : System) (xs ys : List Seen) (p : Seen) → is_of_system system p ≡ true → is_among xs p ≡ true → is_among (kept system (xs ++ ys)) p ≡ is_among (kept system xs) p
 known-more system xs [] p o there = ap (λ l. is_among (kept system l) p) (append-nil xs)
 known-more system xs (y ∷ ys) p o there =
     ap (λ l. is_among (kept system l) p) (sym (append_assoc xs (y ∷ []) ys))
     ∙ known-more system (xs ++ y ∷ []) ys p o (among-push xs y p ∙ ap (λ b. b || has_same_key p y) there)
     ∙ known-push system xs y p o there
 
-length-add : (system : System) (xs : List Seen) (y : Seen) (b : Bool) → (is_of system y && not (is_among (kept system xs) y || nat_le most_cells (length (kept system xs)))) ≡ b
+length-add : (system : System) (xs : List Seen) (y : Seen) (b : Bool) → (is_of_system system y && not (is_among (kept system xs) y || nat_le most_cells (length (kept system xs)))) ≡ b
     → length (kept system (xs ++ y ∷ [])) ≡ length (kept system xs) + (if b then 1 else 0)
 length-add system xs y b e = ap length (kept-add system xs y) ∙ by b e where
-  by : (c : Bool) → (is_of system y && not (is_among (kept system xs) y || nat_le most_cells (length (kept system xs)))) ≡ c
-      → length (if is_of system y && not (is_among (kept system xs) y || nat_le most_cells (length (kept system xs))) then kept system xs ++ y ∷ [] else kept system xs) ≡ length (kept system xs) + (if c then 1 else 0)
+  by : (c : Bool) → (is_of_system system y && not (is_among (kept system xs) y || nat_le most_cells (length (kept system xs)))) ≡ c
+      → length (if is_of_system system y && not (is_among (kept system xs) y || nat_le most_cells (length (kept system xs))) then kept system xs ++ y ∷ [] else kept system xs) ≡ length (kept system xs) + (if c then 1 else 0)
   by true f = ap (λ v. length (if v then kept system xs ++ y ∷ [] else kept system xs)) f ∙ length-append (kept system xs) (y ∷ [])
   by false f = ap (λ v. length (if v then kept system xs ++ y ∷ [] else kept system xs)) f ∙ (let n : length (kept system xs) ≡ length (kept system xs) + 0 = omega arith in n)
 
-not_own : (here other : System) (y : Seen) → y.satellite.system ≡ here → (is_of other y ≡ false) → (a n : Bool) → (is_of other y && not (a || n)) ≡ false
+not_own : (here other : System) (y : Seen) → y.satellite.system ≡ here → (is_of_system other y ≡ false) → (a n : Bool) → (is_of_system other y && not (a || n)) ≡ false
 not_own here other y e f a n = ap (λ b. b && not (a || n)) f
 
-not_galileo : (y : Seen) → y.satellite.system ≡ Gps → is_of Galileo y ≡ false
+not_galileo : (y : Seen) → y.satellite.system ≡ Gps → is_of_system Galileo y ≡ false
 not_galileo y e = grind (arith, e)
 
-not_gps : (y : Seen) → y.satellite.system ≡ Galileo → is_of Gps y ≡ false
+not_gps : (y : Seen) → y.satellite.system ≡ Galileo → is_of_system Gps y ≡ false
 not_gps y e = grind (arith, e)
 
 -- how many are kept after one cell more
 both-length : (xs : List Seen) (y : Seen) (a n : Bool) → is_among (kept y.satellite.system xs) y ≡ a → nat_le most_cells (length (kept y.satellite.system xs)) ≡ n
-    → length (both (xs ++ y ∷ [])) ≡ length (both xs) + (if not (a || n) then 1 else 0)
+    → length (kept_of_both (xs ++ y ∷ [])) ≡ length (kept_of_both xs) + (if not (a || n) then 1 else 0)
 both-length xs y a n e f =
     length-append (kept Gps (xs ++ y ∷ [])) (kept Galileo (xs ++ y ∷ [])) ∙ by y.satellite.system refl ∙ ap (λ k. k + (if not (a || n) then 1 else 0)) (sym (length-append (kept Gps xs) (kept Galileo xs))) where
       by : (system : System) → y.satellite.system ≡ system
@@ -105,15 +105,15 @@ both-length xs y a n e f =
           let other = length-add Gps xs y false (not_own Galileo Gps y g (not_gps y g) (is_among (kept Gps xs) y) (nat_le most_cells (length (kept Gps xs)))) in
           omega (arith, mine_is, other)
 
-self_system : (y : Seen) → is_of y.satellite.system y ≡ true
+self_system : (y : Seen) → is_of_system y.satellite.system y ≡ true
 self_system y = by y.satellite.system refl where
-  by : (system : System) → y.satellite.system ≡ system → is_of y.satellite.system y ≡ true
+  by : (system : System) → y.satellite.system ≡ system → is_of_system y.satellite.system y ≡ true
   by Gps e = grind (arith, e)
   by Galileo e = grind (arith, e)
 
 -- whether the cell that comes is of a kept key then
 now-among : (xs ys : List Seen) (y : Seen) (a n : Bool) → is_among (kept y.satellite.system xs) y ≡ a → nat_le most_cells (length (kept y.satellite.system xs)) ≡ n
-    → is_among (both ((xs ++ y ∷ []) ++ ys)) y ≡ (a || not n)
+    → is_among (kept_of_both ((xs ++ y ∷ []) ++ ys)) y ≡ (a || not n)
 now-among xs ys y a n e f =
     both-among ((xs ++ y ∷ []) ++ ys) y ∙ known-more y.satellite.system (xs ++ y ∷ []) ys y (self_system y) (among-push xs y y ∙ ap (λ b. is_among xs y || b) (same_key_laws.refl y) ∙ or_true (is_among xs y))
     ∙ ap (λ l. is_among l y) (kept-add y.satellite.system xs y)
@@ -131,14 +131,14 @@ now-among xs ys y a n e f =
 -- ---- the sums
 
 -- N is n with so many more; there were b kept, and are a
-record Sums (N n : Counts) (b a skipped known crowded : ℕ) : Type 0 where
+record Sums (N n : CellCounts) (b a skipped known crowded : ℕ) : Type 0 where
   pub kept : N.kept + b ≡ n.kept + a
   pub skips : N.skipped ≡ n.skipped + skipped
   pub knows : N.repeated + N.kept ≡ (n.repeated + n.kept) + known
   pub crowds : N.crowded ≡ n.crowded + crowded
 
 -- one cell more in front
-one_sum : (N n : Counts) (p a f : Bool) (b b' e skipped known crowded : ℕ)
+one_sum : (N n : CellCounts) (p a f : Bool) (b b' e skipped known crowded : ℕ)
     → Sums N (count_in (if p then (if a then Repeated else (if f then Crowded else Kept)) else Skipped) n) b' e skipped known crowded
     → b' ≡ b + (if p then (if not (a || f) then 1 else 0) else 0)
     → Sums N n b e ((if not p then 1 else 0) + skipped) ((if p then (if (a || not f) then 1 else 0) else 0) + known) ((if p then (if not (a || not f) then 1 else 0) else 0) + crowded)
@@ -167,26 +167,26 @@ one_sum N n true false false b b' e skipped known crowded h g = record {
   crowds = omega (arith, h.crowds);
 }
 
-change : (N n : Counts) (b e u v w u' v' w' : ℕ) → u ≡ u' → v ≡ v' → w ≡ w' → Sums N n b e u v w → Sums N n b e u' v' w'
+change : (N n : CellCounts) (b e u v w u' v' w' : ℕ) → u ≡ u' → v ≡ v' → w ≡ w' → Sums N n b e u v w → Sums N n b e u' v' w'
 change N n b e u v w u' v' w' p q r h = record { kept = h.kept; skips = h.skips ∙ ap (λ k. n.skipped + k) p; knows = h.knows ∙ ap (λ k. (n.repeated + n.kept) + k) q; crowds = h.crowds ∙ ap (λ k. n.crowded + k) r }
 
-abbrev planned : Setup → List Seen → List Seen
+abbrev planned : GatherSetup → List Seen → List Seen
 planned s ys = filter (is_planned s) ys
 
-abbrev Tally : Setup → List Seen → Counts → List Seen → Type 0
+abbrev Tally : GatherSetup → List Seen → CellCounts → List Seen → Type 0
 Tally s xs n ys =
-    Sums (counts_after s xs n ys) n (length (both xs)) (length (both (xs ++ planned s ys))) (count_by (λ x. not (is_planned s x)) ys)
-    (count_by (is_among (both (xs ++ planned s ys))) (planned s ys)) (count_by (λ x. not (is_among (both (xs ++ planned s ys)) x)) (planned s ys))
+    Sums (counts_after s xs n ys) n (length (kept_of_both xs)) (length (kept_of_both (xs ++ planned s ys))) (count_by (λ x. not (is_planned s x)) ys)
+    (count_by (is_among (kept_of_both (xs ++ planned s ys))) (planned s ys)) (count_by (λ x. not (is_among (kept_of_both (xs ++ planned s ys)) x)) (planned s ys))
 
 count_cons : (p : Seen → Bool) (x : Seen) (xs : List Seen) → count_by p (x ∷ xs) ≡ (if p x then 1 else 0) + count_by p xs
 count_cons p x xs = sum_by-cons (λ y. cond (p y) 1 0) x xs
 
-tally_step : (s : Setup) (xs : List Seen) (n : Counts) (y : Seen) (ys : List Seen) → Tally s (xs ++ planned_one s y) (count_in (fate_after s xs y) n) ys → Tally s xs n (y ∷ ys)
+tally_step : (s : GatherSetup) (xs : List Seen) (n : CellCounts) (y : Seen) (ys : List Seen) → Tally s (xs ++ planned_one s y) (count_in (fate_after s xs y) n) ys → Tally s xs n (y ∷ ys)
 tally_step s xs n y ys h =
-    change (counts_after s (xs ++ planned_one s y) (count_in (fate_after s xs y) n) ys) n (length (both xs)) (length (both (xs ++ planned s (y ∷ ys)))) _ _ _ _ _ _ (sym skips) (sym (knows (is_planned s y))) (sym (crowds (is_planned s y)))
-    (one_sum (counts_after s (xs ++ planned_one s y) (count_in (fate_after s xs y) n) ys) n (is_planned s y) a f (length (both xs)) (length (both (xs ++ planned_one s y))) (length (both (xs ++ planned s (y ∷ ys)))) _ _ _
-    (subst (λ w. Sums (counts_after s (xs ++ planned_one s y) (count_in (fate_after s xs y) n) ys) (count_in (fate_after s xs y) n) (length (both (xs ++ planned_one s y))) (length (both w)) (count_by (λ x. not (is_planned s x)) ys)
-    (count_by (is_among (both w)) (planned s ys)) (count_by (λ x. not (is_among (both w) x)) (planned s ys))) (whole (is_planned s y)) h)
+    change (counts_after s (xs ++ planned_one s y) (count_in (fate_after s xs y) n) ys) n (length (kept_of_both xs)) (length (kept_of_both (xs ++ planned s (y ∷ ys)))) _ _ _ _ _ _ (sym skips) (sym (knows (is_planned s y))) (sym (crowds (is_planned s y)))
+    (one_sum (counts_after s (xs ++ planned_one s y) (count_in (fate_after s xs y) n) ys) n (is_planned s y) a f (length (kept_of_both xs)) (length (kept_of_both (xs ++ planned_one s y))) (length (kept_of_both (xs ++ planned s (y ∷ ys)))) _ _ _
+    (subst (λ w. Sums (counts_after s (xs ++ planned_one s y) (count_in (fate_after s xs y) n) ys) (count_in (fate_after s xs y) n) (length (kept_of_both (xs ++ planned_one s y))) (length (kept_of_both w)) (count_by (λ x. not (is_planned s x)) ys)
+    (count_by (is_among (kept_of_both w)) (planned s ys)) (count_by (λ x. not (is_among (kept_of_both w) x)) (planned s ys))) (whole (is_planned s y)) h)
     (before (is_planned s y))) where
       a : Bool
       a = is_among (kept y.satellite.system xs) y
@@ -198,43 +198,43 @@ tally_step s xs n y ys h =
       whole true = append_assoc xs (y ∷ []) (planned s ys)
       whole false = append_assoc xs [] (planned s ys)
 
-      before : (b : Bool) → length (both (xs ++ (if b then y ∷ [] else []))) ≡ length (both xs) + (if b then (if not (a || f) then 1 else 0) else 0)
+      before : (b : Bool) → length (kept_of_both (xs ++ (if b then y ∷ [] else []))) ≡ length (kept_of_both xs) + (if b then (if not (a || f) then 1 else 0) else 0)
       before true = both-length xs y a f refl refl
-      before false = ap (λ l. length (both l)) (append-nil xs) ∙ (let none : length (both xs) ≡ length (both xs) + 0 = omega arith in none)
+      before false = ap (λ l. length (kept_of_both l)) (append-nil xs) ∙ (let none : length (kept_of_both xs) ≡ length (kept_of_both xs) + 0 = omega arith in none)
 
       skips : count_by (λ x. not (is_planned s x)) (y ∷ ys) ≡ (if not (is_planned s y) then 1 else 0) + count_by (λ x. not (is_planned s x)) ys
       skips = count_cons (λ x. not (is_planned s x)) y ys
 
-      now : is_among (both (xs ++ y ∷ planned s ys)) y ≡ (a || not f)
-      now = ap (λ l. is_among (both l) y) (sym (append_assoc xs (y ∷ []) (planned s ys))) ∙ now-among xs (planned s ys) y a f refl refl
+      now : is_among (kept_of_both (xs ++ y ∷ planned s ys)) y ≡ (a || not f)
+      now = ap (λ l. is_among (kept_of_both l) y) (sym (append_assoc xs (y ∷ []) (planned s ys))) ∙ now-among xs (planned s ys) y a f refl refl
 
-      knows : (b : Bool) → count_by (is_among (both (xs ++ cond b (y ∷ planned s ys) (planned s ys)))) (cond b (y ∷ planned s ys) (planned s ys))
-          ≡ (if b then (if (a || not f) then 1 else 0) else 0) + count_by (is_among (both (xs ++ cond b (y ∷ planned s ys) (planned s ys)))) (planned s ys)
+      knows : (b : Bool) → count_by (is_among (kept_of_both (xs ++ cond b (y ∷ planned s ys) (planned s ys)))) (cond b (y ∷ planned s ys) (planned s ys))
+          ≡ (if b then (if (a || not f) then 1 else 0) else 0) + count_by (is_among (kept_of_both (xs ++ cond b (y ∷ planned s ys) (planned s ys)))) (planned s ys)
       knows true =
-          count_cons (is_among (both (xs ++ y ∷ planned s ys))) y (planned s ys)
-          ∙ ap (λ b. (if b then 1 else 0) + count_by (is_among (both (xs ++ y ∷ planned s ys))) (planned s ys)) now
+          count_cons (is_among (kept_of_both (xs ++ y ∷ planned s ys))) y (planned s ys)
+          ∙ ap (λ b. (if b then 1 else 0) + count_by (is_among (kept_of_both (xs ++ y ∷ planned s ys))) (planned s ys)) now
       knows false = let none : (n : ℕ) → n ≡ 0 + n = λ n. omega arith in none _
 
-      crowds : (b : Bool) → count_by (λ x. not (is_among (both (xs ++ cond b (y ∷ planned s ys) (planned s ys))) x)) (cond b (y ∷ planned s ys) (planned s ys))
-          ≡ (if b then (if not (a || not f) then 1 else 0) else 0) + count_by (λ x. not (is_among (both (xs ++ cond b (y ∷ planned s ys) (planned s ys))) x)) (planned s ys)
+      crowds : (b : Bool) → count_by (λ x. not (is_among (kept_of_both (xs ++ cond b (y ∷ planned s ys) (planned s ys))) x)) (cond b (y ∷ planned s ys) (planned s ys))
+          ≡ (if b then (if not (a || not f) then 1 else 0) else 0) + count_by (λ x. not (is_among (kept_of_both (xs ++ cond b (y ∷ planned s ys) (planned s ys))) x)) (planned s ys)
       crowds true =
-          count_cons (λ x. not (is_among (both (xs ++ y ∷ planned s ys)) x)) y (planned s ys)
-          ∙ ap (λ b. (if not b then 1 else 0) + count_by (λ x. not (is_among (both (xs ++ y ∷ planned s ys)) x)) (planned s ys)) now
+          count_cons (λ x. not (is_among (kept_of_both (xs ++ y ∷ planned s ys)) x)) y (planned s ys)
+          ∙ ap (λ b. (if not b then 1 else 0) + count_by (λ x. not (is_among (kept_of_both (xs ++ y ∷ planned s ys)) x)) (planned s ys)) now
       crowds false = let none : (n : ℕ) → n ≡ 0 + n = λ n. omega arith in none _
 
-tally : (s : Setup) (xs : List Seen) (n : Counts) (ys : List Seen) → Tally s xs n ys
+tally : (s : GatherSetup) (xs : List Seen) (n : CellCounts) (ys : List Seen) → Tally s xs n ys
 tally s xs n [] = record {
-  kept = ap (λ l. n.kept + length (both l)) (sym (append-nil xs));
+  kept = ap (λ l. n.kept + length (kept_of_both l)) (sym (append-nil xs));
   skips = omega arith;
   knows = omega arith;
   crowds = omega arith;
 }
 tally s xs n (y ∷ ys) = tally_step s xs n y ys (tally s (xs ++ planned_one s y) (count_in (fate_after s xs y) n) ys)
 
-pub counts_are : (s : Setup) (xs ys : List Seen) → counts_after s xs no_counts ys ≡ counts_of s xs ys
+pub counts_are : (s : GatherSetup) (xs ys : List Seen) → counts_after s xs no_counts ys ≡ counts_of s xs ys
 counts_are s xs ys =
     let h = tally s xs no_counts ys in
     same_counts (counts_after s xs no_counts ys) _ (omega (arith, h.kept)) (omega (arith, h.skips)) (omega (arith, h.knows, h.kept)) (omega (arith, h.crowds)) where
-      same_counts : (a b : Counts) → a.kept ≡ b.kept → a.skipped ≡ b.skipped → a.repeated ≡ b.repeated → a.crowded ≡ b.crowded → a ≡ b
+      same_counts : (a b : CellCounts) → a.kept ≡ b.kept → a.skipped ≡ b.skipped → a.repeated ≡ b.repeated → a.crowded ≡ b.crowded → a ≡ b
       same_counts a b p q r t =
           ap₂ (λ k l. record { kept = k; skipped = l; repeated = a.repeated; crowded = a.crowded }) p q ∙ ap₂ (λ k l. record { kept = b.kept; skipped = b.skipped; repeated = k; crowded = l }) r t

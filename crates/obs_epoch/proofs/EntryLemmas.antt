@@ -6,7 +6,7 @@ use Rattle.std.specs.List.{cons_option}
 use Rattle.gnss_obs.specs.declared.system.System.{System}
 use Rattle.rtcm_msg.specs.declared.entry.Entry.{Entry}
 use Rattle.obs_epoch.specs.declared.seen.Seen.{Seen}
-use Rattle.obs_epoch.specs.declared.seen.Counts.{Counts}
+use Rattle.obs_epoch.specs.declared.seen.CellCounts.{CellCounts}
 use Rattle.obs_epoch.specs.declared.seen.Fate.{Fate}
 use Rattle.obs_epoch.specs.declared.seen.Fate.TheVariants.{Skipped, Repeated, Crowded, Kept}
 use Rattle.obs_epoch.specs.Heard.{seen_in, unlisted_in}
@@ -14,7 +14,7 @@ use Rattle.obs_epoch.specs.Cells.{with_skipped}
 use Rattle.obs_epoch.specs.Held.{count_in}
 use Rattle.obs_epoch.specs.Gather.{Loaded, load, load_one, load_entries, with_unlisted, fate_in, hold}
 
-later_count : (k : Fate) (n : ℕ) (c : Counts) → count_in k (with_skipped n c) ≡ with_skipped n (count_in k c)
+later_count : (k : Fate) (n : ℕ) (c : CellCounts) → count_in k (with_skipped n c) ≡ with_skipped n (count_in k c)
 later_count Kept n c = refl
 later_count Repeated n c = refl
 later_count Crowded n c = refl
@@ -35,26 +35,26 @@ twice n m l = ap (λ v. record { state = l.state; counts = record l.counts { ski
   sum a b c = omega arith
 
 abbrev listed : Bool → System → List Entry → List Seen
-listed is_long system es = filter_map (seen_in is_long system) es
+listed is_msm7 system es = filter_map (seen_in is_msm7 system) es
 
 abbrev others : Bool → System → List Entry → ℕ
-others is_long system es = unlisted_in is_long system es
+others is_msm7 system es = unlisted_in is_msm7 system es
 
 none_more : (l : Loaded) → l ≡ with_unlisted 0 l
 none_more l = ap (λ v. record { state = l.state; counts = record l.counts { skipped = v } }) (plus-zero l.counts.skipped) where
   plus-zero : (n : ℕ) → n ≡ n + 0
   plus-zero n = omega arith
 
-pub load_entries_is : (is_long : Bool) (system : System) (l : Loaded) (es : List Entry)
-    → load_entries is_long system l es ≡ with_unlisted (others is_long system es) (load l (listed is_long system es))
-load_entries_is is_long system l [] = none_more l
-load_entries_is is_long system l (e ∷ es) = by (seen_in is_long system e) (λ v. load_entries_is is_long system v es) where
-  by : (o : Option Seen) → ((v : Loaded) → load_entries is_long system v es ≡ with_unlisted (others is_long system es) (load v (listed is_long system es)))
-      → load_entries is_long system (option_map_or (load_one l) o (with_unlisted 1 l)) es
-      ≡ with_unlisted (cond (is_some o) 0 1 + others is_long system es) (load l (cons_option o (listed is_long system es)))
+pub load_entries_is : (is_msm7 : Bool) (system : System) (l : Loaded) (es : List Entry)
+    → load_entries is_msm7 system l es ≡ with_unlisted (others is_msm7 system es) (load l (listed is_msm7 system es))
+load_entries_is is_msm7 system l [] = none_more l
+load_entries_is is_msm7 system l (e ∷ es) = by (seen_in is_msm7 system e) (λ v. load_entries_is is_msm7 system v es) where
+  by : (o : Option Seen) → ((v : Loaded) → load_entries is_msm7 system v es ≡ with_unlisted (others is_msm7 system es) (load v (listed is_msm7 system es)))
+      → load_entries is_msm7 system (option_map_or (load_one l) o (with_unlisted 1 l)) es
+      ≡ with_unlisted (cond (is_some o) 0 1 + others is_msm7 system es) (load l (cons_option o (listed is_msm7 system es)))
   by None more =
-      more (with_unlisted 1 l) ∙ ap (with_unlisted (others is_long system es)) (later 1 l (listed is_long system es))
-      ∙ twice (others is_long system es) 1 (load l (listed is_long system es))
-  by (Some x) more = more (load_one l x) ∙ ap (λ n. with_unlisted n (load (load_one l x) (listed is_long system es))) (zero-plus (others is_long system es)) where
+      more (with_unlisted 1 l) ∙ ap (with_unlisted (others is_msm7 system es)) (later 1 l (listed is_msm7 system es))
+      ∙ twice (others is_msm7 system es) 1 (load l (listed is_msm7 system es))
+  by (Some x) more = more (load_one l x) ∙ ap (λ n. with_unlisted n (load (load_one l x) (listed is_msm7 system es))) (zero-plus (others is_msm7 system es)) where
     zero-plus : (n : ℕ) → n ≡ 0 + n
     zero-plus n = omega arith

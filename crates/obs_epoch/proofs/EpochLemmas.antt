@@ -6,16 +6,16 @@ use Rattle.std.proofs.lemmas.List.Elements.{filter-append}
 use Rattle.std.proofs.lemmas.List.{map-append}
 use Rattle.gnss_obs.specs.declared.system.System.{System}
 use Rattle.gnss_obs.specs.declared.system.System.TheVariants.{Gps, Galileo}
-use Rattle.obs_epoch.specs.Heard.{Setup, Heard}
+use Rattle.obs_epoch.specs.Heard.{GatherSetup, Heard}
 use Rattle.obs_epoch.specs.declared.seen.Seen.{Seen}
-use Rattle.obs_epoch.specs.Times.{Timed, is_at, greatest}
+use Rattle.obs_epoch.specs.Times.{Timed, is_at, greatest_time}
 use Rattle.obs_epoch.specs.Cells.{offered, kept, kept_at, is_planned, has_same_key}
 use Rattle.obs_epoch.specs.Order.{sorted}
 use Rattle.obs_epoch.specs.Values.{planned_of}
-use Rattle.obs_epoch.specs.Loss.{times, lock_of, locked_at, previous, last_of, mark_of, mark_with}
+use Rattle.obs_epoch.specs.Loss.{times, lock_of, locked_at, previous, last_of, lli_of, lli_with}
 use Rattle.std.specs.List.{cons_option}
-use Rattle.obs_epoch.specs.Marked.{MarkedEpoch}
-use Rattle.obs_epoch.specs.Epochs.{marked, epoch_at, closed_times, closed_epochs}
+use Rattle.obs_epoch.specs.WithLli.{EpochWithLli}
+use Rattle.obs_epoch.specs.Epochs.{cells_with_lli, epoch_at, closed_times, closed_epochs}
 use Rattle.obs_epoch.specs.Times.{is_closed, timed}
 use Rattle.obs_epoch.specs.Epochs.{is_shut}
 use Rattle.obs_epoch.proofs.TimesLemmas.{next, timed-push}
@@ -31,19 +31,19 @@ not_at : (t : ℕ) (time : Option ℕ) → IsLater t time → option_map_or (λ 
 not_at t None h = refl
 not_at t (Some u) h = grind arith
 
-pub offered-push : (s : Setup) (t : ℕ) (xs : List Timed) (x : Timed) → IsLater t x.time → offered s t (xs ++ x ∷ []) ≡ offered s t xs
+pub offered-push : (s : GatherSetup) (t : ℕ) (xs : List Timed) (x : Timed) → IsLater t x.time → offered s t (xs ++ x ∷ []) ≡ offered s t xs
 offered-push s t xs x h =
     ap (flat_map (λ y. filter (is_planned s) y.message.cells))
     (filter-append (is_at t) xs (x ∷ []) ∙ ap (λ b. filter (is_at t) xs ++ cond b (x ∷ []) []) (not_at t x.time h) ∙ append-nil _)
 
-pub kept_at-push : (s : Setup) (t : ℕ) (xs : List Timed) (x : Timed) (system : System) → IsLater t x.time → kept_at s t (xs ++ x ∷ []) system ≡ kept_at s t xs system
+pub kept_at-push : (s : GatherSetup) (t : ℕ) (xs : List Timed) (x : Timed) (system : System) → IsLater t x.time → kept_at s t (xs ++ x ∷ []) system ≡ kept_at s t xs system
 kept_at-push s t xs x system h = ap (λ l. sorted (planned_of system s.plan) (kept system l)) (offered-push s t xs x h)
 
 earlier : (u t : ℕ) (time : Option ℕ) → u < t → IsLater t time → IsLater u time
 earlier u t None lt h = tt
 earlier u t (Some v) lt h = omega (arith, lt, h)
 
-locked_all : (s : Setup) (xs : List Timed) (x : Timed) (key : Seen) (t : ℕ) (us : List ℕ) → IsLater t x.time → Below t us
+locked_all : (s : GatherSetup) (xs : List Timed) (x : Timed) (key : Seen) (t : ℕ) (us : List ℕ) → IsLater t x.time → Below t us
     → filter_map (locked_at s (xs ++ x ∷ []) key) us ≡ filter_map (locked_at s xs key) us
 locked_all s xs x key t [] h b = refl
 locked_all s xs x key t (u ∷ us) h b =
@@ -59,40 +59,40 @@ below_filter : (t : ℕ) (us : List ℕ) → Below t (filter (λ u. nat_lt u t) 
 below_filter t [] = tt
 below_filter t (u ∷ us) = below_cond t u (filter (λ v. nat_lt v t) us) (nat_lt u t) refl (below_filter t us)
 
-previous-push : (s : Setup) (xs : List Timed) (x : Timed) (t : ℕ) (key : Seen) → IsLater t x.time
+previous-push : (s : GatherSetup) (xs : List Timed) (x : Timed) (t : ℕ) (key : Seen) → IsLater t x.time
     → filter (λ u. nat_lt u t) (times (xs ++ x ∷ [])) ≡ filter (λ u. nat_lt u t) (times xs) → previous s (xs ++ x ∷ []) t key ≡ previous s xs t key
 previous-push s xs x t key h same =
     ap (λ us. last_of (filter_map (locked_at s (xs ++ x ∷ []) key) us)) same
     ∙ ap last_of (locked_all s xs x key t (filter (λ u. nat_lt u t) (times xs)) h (below_filter t (times xs)))
 
-mark_of-push : (s : Setup) (xs : List Timed) (x : Timed) (t : ℕ) (c : Seen) → IsLater t x.time
-    → filter (λ u. nat_lt u t) (times (xs ++ x ∷ [])) ≡ filter (λ u. nat_lt u t) (times xs) → mark_of s (xs ++ x ∷ []) t c ≡ mark_of s xs t c
+mark_of-push : (s : GatherSetup) (xs : List Timed) (x : Timed) (t : ℕ) (c : Seen) → IsLater t x.time
+    → filter (λ u. nat_lt u t) (times (xs ++ x ∷ [])) ≡ filter (λ u. nat_lt u t) (times xs) → lli_of s (xs ++ x ∷ []) t c ≡ lli_of s xs t c
 mark_of-push s xs x t c h same =
-    ap (λ o. mark_with t c o) (previous-push s xs x t c h same)
+    ap (λ o. lli_with t c o) (previous-push s xs x t c h same)
 
-marked-push : (s : Setup) (xs : List Timed) (x : Timed) (t : ℕ) (cs : List Seen) → IsLater t x.time
-    → filter (λ u. nat_lt u t) (times (xs ++ x ∷ [])) ≡ filter (λ u. nat_lt u t) (times xs) → marked s (xs ++ x ∷ []) t cs ≡ marked s xs t cs
+marked-push : (s : GatherSetup) (xs : List Timed) (x : Timed) (t : ℕ) (cs : List Seen) → IsLater t x.time
+    → filter (λ u. nat_lt u t) (times (xs ++ x ∷ [])) ≡ filter (λ u. nat_lt u t) (times xs) → cells_with_lli s (xs ++ x ∷ []) t cs ≡ cells_with_lli s xs t cs
 marked-push s xs x t [] h same = refl
 marked-push s xs x t (c ∷ cs) h same =
-    ap₂ (λ m l. record { seen = c; mark = m } ∷ l) (mark_of-push s xs x t c h same) (marked-push s xs x t cs h same)
+    ap₂ (λ m l. record { seen = c; lli = m } ∷ l) (mark_of-push s xs x t c h same) (marked-push s xs x t cs h same)
 
 -- the epoch of time t stays as it is
-pub epoch_at-push : (s : Setup) (xs : List Timed) (x : Timed) (t : ℕ) → IsLater t x.time
+pub epoch_at-push : (s : GatherSetup) (xs : List Timed) (x : Timed) (t : ℕ) → IsLater t x.time
     → filter (λ u. nat_lt u t) (times (xs ++ x ∷ [])) ≡ filter (λ u. nat_lt u t) (times xs) → epoch_at s (xs ++ x ∷ []) t ≡ epoch_at s xs t
 epoch_at-push s xs x t h same =
     ap₂ (λ a b. record { time = t; gps = a; galileo = b })
-    (ap (marked s (xs ++ x ∷ []) t) (kept_at-push s t xs x Gps h) ∙ marked-push s xs x t (kept_at s t xs Gps) h same)
-    (ap (marked s (xs ++ x ∷ []) t) (kept_at-push s t xs x Galileo h) ∙ marked-push s xs x t (kept_at s t xs Galileo) h same)
+    (ap (cells_with_lli s (xs ++ x ∷ []) t) (kept_at-push s t xs x Gps h) ∙ marked-push s xs x t (kept_at s t xs Gps) h same)
+    (ap (cells_with_lli s (xs ++ x ∷ []) t) (kept_at-push s t xs x Galileo h) ∙ marked-push s xs x t (kept_at s t xs Galileo) h same)
 
 -- ---- all closed epochs
 
-abbrev pub Known : Setup → List Timed → Timed → Type 0
+abbrev pub Known : GatherSetup → List Timed → Timed → Type 0
 Known s xs x = (u : ℕ) → x.time ≡ Some u → Follows s xs u
 
-pub times_before : (s : Setup) (xs : List Timed) (x : Timed) (t : ℕ) → Known s xs x → IsLater t x.time
+pub times_before : (s : GatherSetup) (xs : List Timed) (x : Timed) (t : ℕ) → Known s xs x → IsLater t x.time
     → filter (λ u. nat_lt u t) (times (xs ++ x ∷ [])) ≡ filter (λ u. nat_lt u t) (times xs)
 times_before s xs x t follow h = by x.time refl where
-  added : (u : ℕ) → x.time ≡ Some u → IsLess u (greatest xs) → filter (λ v. nat_lt v t) (times (xs ++ x ∷ [])) ≡ filter (λ v. nat_lt v t) (times xs)
+  added : (u : ℕ) → x.time ≡ Some u → IsLess u (greatest_time xs) → filter (λ v. nat_lt v t) (times (xs ++ x ∷ [])) ≡ filter (λ v. nat_lt v t) (times xs)
   added u some less =
       let later : t < u = subst (IsLater t) some h in
       ap (filter (λ v. nat_lt v t)) (times-push_new xs x u some less) ∙ filter-append (λ v. nat_lt v t) (times xs) (u ∷ [])
@@ -131,7 +131,7 @@ below_less : (u g : ℕ) (ts : List ℕ) → g < u → Below g ts → Below u ts
 below_less u g [] lt h = tt
 below_less u g (t ∷ ts) lt h = (omega (arith, lt, h.0), below_less u g ts lt h.1)
 
-pub closed_below : (s : Setup) (xs : List Timed) (u : ℕ) → Follows s xs u → Below u (closed_times s xs)
+pub closed_below : (s : GatherSetup) (xs : List Timed) (u : ℕ) → Follows s xs u → Below u (closed_times s xs)
 closed_below s xs u (first e) = subst (λ l. Below u (filter (is_shut s xs) l)) (sym (no_times xs e)) tt
 closed_below s xs u (greater g e lt) =
     let last = ends xs g e in
@@ -140,12 +140,12 @@ closed_below s xs u (equal e c) =
     let last = ends xs u e in
     subst (Below u) (sym (closed_is s xs u last.init e last.is last.below ∙ ap (λ b. last.init ++ when b u) c ∙ append-nil last.init)) last.below
 
-pub all_later : (s : Setup) (xs : List Timed) (x : Timed) → Known s xs x → AllLater x.time (closed_times s xs)
+pub all_later : (s : GatherSetup) (xs : List Timed) (x : Timed) → Known s xs x → AllLater x.time (closed_times s xs)
 all_later s xs x follow = by x.time refl where
   by : (time : Option ℕ) → x.time ≡ time → AllLater x.time (closed_times s xs)
   by None none = subst (λ o. AllLater o (closed_times s xs)) (sym none) (all_none (closed_times s xs))
   by (Some u) some = subst (λ o. AllLater o (closed_times s xs)) (sym some) (all_below u (closed_times s xs) (closed_below s xs u (follow u some)))
 
-pub same_epochs : (s : Setup) (xs : List Timed) (x : Timed) → Known s xs x → (ts : List ℕ) → AllLater x.time ts → map (epoch_at s (xs ++ x ∷ [])) ts ≡ map (epoch_at s xs) ts
+pub same_epochs : (s : GatherSetup) (xs : List Timed) (x : Timed) → Known s xs x → (ts : List ℕ) → AllLater x.time ts → map (epoch_at s (xs ++ x ∷ [])) ts ≡ map (epoch_at s xs) ts
 same_epochs s xs x follow [] h = refl
 same_epochs s xs x follow (t ∷ ts) h = ap₂ (λ a l. a ∷ l) (epoch_at-push s xs x t h.0 (times_before s xs x t follow h.0)) (same_epochs s xs x follow ts h.1)

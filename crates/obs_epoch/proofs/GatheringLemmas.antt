@@ -4,9 +4,9 @@ use Rattle.std.specs.Prelude.{if◌then◌else◌, cond, option_to_list}
 use Rattle.std.specs.Option.{option_map_or}
 use Rattle.std.specs.List.{list_any}
 use Rattle.std.proofs.lemmas.List.{map-append}
-use Rattle.obs_epoch.specs.Heard.{Setup, Heard, is_mark}
-use Rattle.obs_epoch.specs.Marked.{MarkedEpoch, shown}
-use Rattle.obs_epoch.specs.Times.{Timed, is_at, max_known, greatest, from_first, is_closed, taken_at, timed}
+use Rattle.obs_epoch.specs.Heard.{GatherSetup, Heard, ends_epoch}
+use Rattle.obs_epoch.specs.WithLli.{EpochWithLli, shown}
+use Rattle.obs_epoch.specs.Times.{Timed, is_at, max_known, greatest_time, from_first, is_closed, taken_at, timed}
 use Rattle.obs_epoch.specs.Loss.{times}
 use Rattle.obs_epoch.specs.Epochs.{is_shut, closed_times, epoch_at, values_of}
 use Rattle.obs_epoch.specs.Clock.{is_pending}
@@ -18,19 +18,19 @@ use Rattle.obs_epoch.proofs.EpochLemmas.{AllLater, IsLater, epoch_at-push, times
 
 -- ---- what is closed stays closed
 
-any-more : (s : Setup) (ys : List Timed) (x : Timed) → list_any (λ (y : Timed). is_mark s y.message) ys ≡ true → list_any (λ (y : Timed). is_mark s y.message) (ys ++ x ∷ []) ≡ true
+any-more : (s : GatherSetup) (ys : List Timed) (x : Timed) → list_any (λ (y : Timed). ends_epoch s y.message) ys ≡ true → list_any (λ (y : Timed). ends_epoch s y.message) (ys ++ x ∷ []) ≡ true
 any-more s [] x h = absurd (grind (arith, h))
-any-more s (y ∷ ys) x h = by (is_mark s y.message) h (any-more s ys x) where
-  by : (b : Bool) → (b || list_any (λ (y : Timed). is_mark s y.message) ys) ≡ true → (list_any (λ (y : Timed). is_mark s y.message) ys ≡ true → list_any (λ (y : Timed). is_mark s y.message) (ys ++ x ∷ []) ≡ true)
-      → (b || list_any (λ (y : Timed). is_mark s y.message) (ys ++ x ∷ [])) ≡ true
+any-more s (y ∷ ys) x h = by (ends_epoch s y.message) h (any-more s ys x) where
+  by : (b : Bool) → (b || list_any (λ (y : Timed). ends_epoch s y.message) ys) ≡ true → (list_any (λ (y : Timed). ends_epoch s y.message) ys ≡ true → list_any (λ (y : Timed). ends_epoch s y.message) (ys ++ x ∷ []) ≡ true)
+      → (b || list_any (λ (y : Timed). ends_epoch s y.message) (ys ++ x ∷ [])) ≡ true
   by true h more = refl
   by false h more = more h
 
-closed-more : (s : Setup) (t : ℕ) (xs : List Timed) (x : Timed) → is_closed s t xs ≡ true → is_closed s t (xs ++ x ∷ []) ≡ true
+closed-more : (s : GatherSetup) (t : ℕ) (xs : List Timed) (x : Timed) → is_closed s t xs ≡ true → is_closed s t (xs ++ x ∷ []) ≡ true
 closed-more s t [] x h = absurd (grind (arith, h))
 closed-more s t (y ∷ ys) x h = by (is_at t y) h (closed-more s t ys x) where
-  by : (b : Bool) → list_any (λ (z : Timed). is_mark s z.message) (if b then y ∷ ys else from_first t ys) ≡ true → (is_closed s t ys ≡ true → is_closed s t (ys ++ x ∷ []) ≡ true)
-      → list_any (λ (z : Timed). is_mark s z.message) (if b then y ∷ (ys ++ x ∷ []) else from_first t (ys ++ x ∷ [])) ≡ true
+  by : (b : Bool) → list_any (λ (z : Timed). ends_epoch s z.message) (if b then y ∷ ys else from_first t ys) ≡ true → (is_closed s t ys ≡ true → is_closed s t (ys ++ x ∷ []) ≡ true)
+      → list_any (λ (z : Timed). ends_epoch s z.message) (if b then y ∷ (ys ++ x ∷ []) else from_first t (ys ++ x ∷ [])) ≡ true
   by true h more = any-more s (y ∷ ys) x h
   by false h more = more h
 
@@ -39,10 +39,10 @@ later_known t None b h = absurd (grind (arith, h))
 later_known t (Some u) None h = h
 later_known t (Some u) (Some v) h = grind (arith, h)
 
-pub shut-more : (s : Setup) (t : ℕ) (xs : List Timed) (x : Timed) → is_shut s xs t ≡ true → is_shut s (xs ++ x ∷ []) t ≡ true
+pub shut-more : (s : GatherSetup) (t : ℕ) (xs : List Timed) (x : Timed) → is_shut s xs t ≡ true → is_shut s (xs ++ x ∷ []) t ≡ true
 shut-more s t xs x h = by (is_closed s t xs) (is_closed s t (xs ++ x ∷ [])) h (closed-more s t xs x) where
-  later : option_map_or (λ u. nat_lt t u) (greatest xs) false ≡ true → option_map_or (λ u. nat_lt t u) (greatest (xs ++ x ∷ [])) false ≡ true
-  later e = ap (λ o. option_map_or (λ u. nat_lt t u) o false) (greatest-push xs x) ∙ later_known t (greatest xs) x.time e
+  later : option_map_or (λ u. nat_lt t u) (greatest_time xs) false ≡ true → option_map_or (λ u. nat_lt t u) (greatest_time (xs ++ x ∷ [])) false ≡ true
+  later e = ap (λ o. option_map_or (λ u. nat_lt t u) o false) (greatest-push xs x) ∙ later_known t (greatest_time xs) x.time e
 
   or_right : (a b : Bool) → b ≡ true → (a || b) ≡ true
   or_right true b e = refl
@@ -52,14 +52,14 @@ shut-more s t xs x h = by (is_closed s t xs) (is_closed s t (xs ++ x ∷ [])) h 
   or_left true b e = refl
   or_left false b e = absurd (grind (arith, e))
 
-  by : (b c : Bool) → (b || option_map_or (λ u. nat_lt t u) (greatest xs) false) ≡ true → (b ≡ true → c ≡ true) → (c || option_map_or (λ u. nat_lt t u) (greatest (xs ++ x ∷ [])) false) ≡ true
+  by : (b c : Bool) → (b || option_map_or (λ u. nat_lt t u) (greatest_time xs) false) ≡ true → (b ≡ true → c ≡ true) → (c || option_map_or (λ u. nat_lt t u) (greatest_time (xs ++ x ∷ [])) false) ≡ true
   by true c h more = or_left c _ (more refl)
   by false c h more = or_right c _ (later h)
 
-pub shut-push : (s : Setup) (t : ℕ) (ms : List Heard) (m : Heard) → is_shut s (timed s ms) t ≡ true → is_shut s (timed s (ms ++ m ∷ [])) t ≡ true
+pub shut-push : (s : GatherSetup) (t : ℕ) (ms : List Heard) (m : Heard) → is_shut s (timed s ms) t ≡ true → is_shut s (timed s (ms ++ m ∷ [])) t ≡ true
 shut-push s t ms m h = ap (λ l. is_shut s l t) (timed-push s ms m) ∙ shut-more s t (timed s ms) (next s (timed s ms) m) h
 
-shut-append : (s : Setup) (t : ℕ) (ms more : List Heard) → is_shut s (timed s ms) t ≡ true → is_shut s (timed s (ms ++ more)) t ≡ true
+shut-append : (s : GatherSetup) (t : ℕ) (ms more : List Heard) → is_shut s (timed s ms) t ≡ true → is_shut s (timed s (ms ++ more)) t ≡ true
 shut-append s t ms [] h = ap (λ l. is_shut s (timed s l) t) (append-nil ms) ∙ h
 shut-append s t ms (m ∷ more) h =
     ap (λ l. is_shut s (timed s l) t) (sym (append_assoc ms (m ∷ []) more)) ∙ shut-append s t (ms ++ m ∷ []) more (shut-push s t ms m h)
@@ -70,14 +70,14 @@ not_both : (b : Bool) → b ≡ true → b ≡ false → ⊥
 not_both true e f = grind (arith, f)
 not_both false e f = grind (arith, e)
 
-still_open : (s : Setup) (t : ℕ) (ms more : List Heard) → is_shut s (timed s (ms ++ more)) t ≡ false → is_shut s (timed s ms) t ≡ false
+still_open : (s : GatherSetup) (t : ℕ) (ms more : List Heard) → is_shut s (timed s (ms ++ more)) t ≡ false → is_shut s (timed s ms) t ≡ false
 still_open s t ms more h = by (is_shut s (timed s ms) t) refl where
   by : (b : Bool) → is_shut s (timed s ms) t ≡ b → b ≡ false
   by true e = absurd (not_both _ (shut-append s t ms more e) h)
   by false e = refl
 
 -- where it isn't closed: all of them
-open_all : (s : Setup) (t : ℕ) (earlier ms : List Heard) → is_shut s (timed s (earlier ++ ms)) t ≡ false → open_after s t earlier ms ≡ earlier ++ ms
+open_all : (s : GatherSetup) (t : ℕ) (earlier ms : List Heard) → is_shut s (timed s (earlier ++ ms)) t ≡ false → open_after s t earlier ms ≡ earlier ++ ms
 open_all s t earlier [] h = sym (append-nil earlier)
 open_all s t earlier (m ∷ ms) h =
     let same = append_assoc earlier (m ∷ []) ms in
@@ -86,7 +86,7 @@ open_all s t earlier (m ∷ ms) h =
     ∙ open_all s t (earlier ++ m ∷ []) ms h2 ∙ same
 
 -- where the last message closes it: all but that
-open_last : (s : Setup) (t : ℕ) (earlier ms : List Heard) (m : Heard) → is_shut s (timed s (earlier ++ ms)) t ≡ false → is_shut s (timed s ((earlier ++ ms) ++ m ∷ [])) t ≡ true
+open_last : (s : GatherSetup) (t : ℕ) (earlier ms : List Heard) (m : Heard) → is_shut s (timed s (earlier ++ ms)) t ≡ false → is_shut s (timed s ((earlier ++ ms) ++ m ∷ [])) t ≡ true
     → open_after s t earlier (ms ++ m ∷ []) ≡ earlier ++ ms
 open_last s t earlier [] m h k =
     let now : is_shut s (timed s (earlier ++ m ∷ [])) t ≡ true = ap (λ l. is_shut s (timed s (l ++ m ∷ [])) t) (sym (append-nil earlier)) ∙ k in
@@ -99,7 +99,7 @@ open_last s t earlier (n ∷ ms) m h k =
     ∙ open_last s t (earlier ++ n ∷ []) ms m h2 k2 ∙ same
 
 -- where it was closed before: as they were
-open_same : (s : Setup) (t : ℕ) (earlier ms : List Heard) (m : Heard) → is_shut s (timed s earlier) t ≡ false → is_shut s (timed s (earlier ++ ms)) t ≡ true
+open_same : (s : GatherSetup) (t : ℕ) (earlier ms : List Heard) (m : Heard) → is_shut s (timed s earlier) t ≡ false → is_shut s (timed s (earlier ++ ms)) t ≡ true
     → open_after s t earlier (ms ++ m ∷ []) ≡ open_after s t earlier ms
 open_same s t earlier [] m h k = absurd (not_both _ (ap (λ l. is_shut s (timed s l) t) (sym (append-nil earlier)) ∙ k) h)
 open_same s t earlier (n ∷ ms) m h k = by (is_shut s (timed s (earlier ++ n ∷ [])) t) refl (λ e. open_same s t (earlier ++ n ∷ []) ms m e k2) where
@@ -112,10 +112,10 @@ open_same s t earlier (n ∷ ms) m h k = by (is_shut s (timed s (earlier ++ n �
   by true e more = refl
   by false e more = more e
 
-pub before_all : (s : Setup) (t : ℕ) (ms : List Heard) → is_shut s (timed s ms) t ≡ false → before_closing s t ms ≡ ms
+pub before_all : (s : GatherSetup) (t : ℕ) (ms : List Heard) → is_shut s (timed s ms) t ≡ false → before_closing s t ms ≡ ms
 before_all s t ms h = open_all s t [] ms h
 
-pub before-push : (s : Setup) (t : ℕ) (ms : List Heard) (m : Heard) → is_shut s (timed s (ms ++ m ∷ [])) t ≡ true → before_closing s t (ms ++ m ∷ []) ≡ before_closing s t ms
+pub before-push : (s : GatherSetup) (t : ℕ) (ms : List Heard) (m : Heard) → is_shut s (timed s (ms ++ m ∷ [])) t ≡ true → before_closing s t (ms ++ m ∷ []) ≡ before_closing s t ms
 before-push s t ms m k = by (is_shut s (timed s ms) t) refl where
   by : (b : Bool) → is_shut s (timed s ms) t ≡ b → before_closing s t (ms ++ m ∷ []) ≡ before_closing s t ms
   by true e = open_same s t [] ms m refl e
@@ -143,24 +143,24 @@ pub each_back : (p : ℕ → Bool) (xs ys : List ℕ) → Each p (xs ++ ys) → 
 each_back p [] ys h = h
 each_back p (x ∷ xs) ys h = each_back p xs ys h.1
 
-pub closed_at-push : (s : Setup) (ms : List Heard) (m : Heard) (t : ℕ) → IsLater t (taken_at s (timed s ms) m) → is_shut s (timed s (ms ++ m ∷ [])) t ≡ true
+pub closed_at-push : (s : GatherSetup) (ms : List Heard) (m : Heard) (t : ℕ) → IsLater t (taken_at s (timed s ms) m) → is_shut s (timed s (ms ++ m ∷ [])) t ≡ true
     → closed_at s (ms ++ m ∷ []) t ≡ closed_at s ms t
 closed_at-push s ms m t later shut =
     let xs = timed s ms in
-    ap₂ (λ (e : MarkedEpoch) l. record { epoch = shown e; values = values_of s l })
+    ap₂ (λ (e : EpochWithLli) l. record { epoch = shown e; values = values_of s l })
     (ap (λ l. epoch_at s l t) (timed-push s ms m) ∙ epoch_at-push s xs (next s xs m) t later (times_before s xs (next s xs m) t (taken_follows s xs m) later))
     (before-push s t ms m shut)
 
-pub list-push : (s : Setup) (ms : List Heard) (m : Heard) (ts : List ℕ) → AllLater (taken_at s (timed s ms) m) ts → Each (is_shut s (timed s (ms ++ m ∷ []))) ts
+pub list-push : (s : GatherSetup) (ms : List Heard) (m : Heard) (ts : List ℕ) → AllLater (taken_at s (timed s ms) m) ts → Each (is_shut s (timed s (ms ++ m ∷ []))) ts
     → closed_list_at s (ms ++ m ∷ []) ts ≡ closed_list_at s ms ts
 list-push s ms m [] later shut = refl
 list-push s ms m (t ∷ ts) later shut = ap₂ (λ a l. a ∷ l) (closed_at-push s ms m t later.0 shut.0) (list-push s ms m ts later.1 shut.1)
 
-each-push : (s : Setup) (ms : List Heard) (m : Heard) (ts : List ℕ) → Each (is_shut s (timed s ms)) ts → Each (is_shut s (timed s (ms ++ m ∷ []))) ts
+each-push : (s : GatherSetup) (ms : List Heard) (m : Heard) (ts : List ℕ) → Each (is_shut s (timed s ms)) ts → Each (is_shut s (timed s (ms ++ m ∷ []))) ts
 each-push s ms m [] h = tt
 each-push s ms m (t ∷ ts) h = (shut-push s t ms m h.0, each-push s ms m ts h.1)
 
-pub epochs-push : (s : Setup) (ms : List Heard) (m : Heard) → IsPrefix (closed_epochs s ms) (closed_epochs s (ms ++ m ∷ []))
+pub epochs-push : (s : GatherSetup) (ms : List Heard) (m : Heard) → IsPrefix (closed_epochs s ms) (closed_epochs s (ms ++ m ∷ []))
 epochs-push s ms m =
     let xs = timed s ms in
     let grown = grows_by s ms m in (
@@ -176,7 +176,7 @@ prefix_trans a b c h k = (h.0 ++ k.0, k.1 ∙ ap (λ l. l ++ k.0) h.1 ∙ append
 pub prefix_self : {A : Type 0} (a : List A) → IsPrefix a a
 prefix_self a = ([], sym (append-nil a))
 
-pub epochs-more : (s : Setup) (ms more : List Heard) → IsPrefix (closed_epochs s ms) (closed_epochs s (ms ++ more))
+pub epochs-more : (s : GatherSetup) (ms more : List Heard) → IsPrefix (closed_epochs s ms) (closed_epochs s (ms ++ more))
 epochs-more s ms [] = subst (λ l. IsPrefix (closed_epochs s ms) (closed_epochs s l)) (sym (append-nil ms)) (prefix_self (closed_epochs s ms))
 epochs-more s ms (m ∷ more) =
     prefix_trans _ _ _ (epochs-push s ms m) (subst (λ l. IsPrefix (closed_epochs s (ms ++ m ∷ [])) (closed_epochs s l)) (append_assoc ms (m ∷ []) more) (epochs-more s (ms ++ m ∷ []) more))
@@ -188,12 +188,12 @@ when_not true g init = append-nil (init ++ g ∷ [])
 when_not false g init = ap (λ l. l ++ g ∷ []) (append-nil init)
 
 -- the pending epoch's time
-abbrev pub pending_in : Setup → List Timed → List ℕ
-pending_in s xs = if is_pending s xs then option_to_list (greatest xs) else []
+abbrev pub pending_in : GatherSetup → List Timed → List ℕ
+pending_in s xs = if is_pending s xs then option_to_list (greatest_time xs) else []
 
-pub with_pending : (s : Setup) (xs : List Timed) → closed_times s xs ++ pending_in s xs ≡ times xs
-with_pending s xs = by (greatest xs) refl where
-  by : (o : Option ℕ) → greatest xs ≡ o → closed_times s xs ++ pending_in s xs ≡ times xs
+pub with_pending : (s : GatherSetup) (xs : List Timed) → closed_times s xs ++ pending_in s xs ≡ times xs
+with_pending s xs = by (greatest_time xs) refl where
+  by : (o : Option ℕ) → greatest_time xs ≡ o → closed_times s xs ++ pending_in s xs ≡ times xs
   by None e =
       ap₂ (λ l (o : Option ℕ). filter (is_shut s xs) l ++ (if option_map_or (λ t. not (is_closed s t xs)) o false then option_to_list o else [])) (no_times xs e) e
       ∙ sym (no_times xs e)
@@ -202,7 +202,7 @@ with_pending s xs = by (greatest xs) refl where
       ap₂ (λ l (o : Option ℕ). l ++ (if option_map_or (λ t. not (is_closed s t xs)) o false then option_to_list o else [])) (closed_is s xs g last.init e last.is last.below) e
       ∙ when_not (is_closed s g xs) g last.init ∙ sym last.is
 
-pub all-prefix : (s : Setup) (ms : List Heard) → IsPrefix (closed_epochs s ms) (all_epochs s ms)
+pub all-prefix : (s : GatherSetup) (ms : List Heard) → IsPrefix (closed_epochs s ms) (all_epochs s ms)
 all-prefix s ms =
     let xs = timed s ms in (
       closed_list_at s ms (pending_in s xs),
@@ -211,7 +211,7 @@ all-prefix s ms =
 
 -- ---- the pending epoch
 
-pub pending_open : (s : Setup) (xs : List Timed) (t : ℕ) → greatest xs ≡ Some t → is_pending s xs ≡ true → is_shut s xs t ≡ false
+pub pending_open : (s : GatherSetup) (xs : List Timed) (t : ℕ) → greatest_time xs ≡ Some t → is_pending s xs ≡ true → is_shut s xs t ≡ false
 pending_open s xs t e p =
     let open_still : is_closed s t xs ≡ false = not_true (is_closed s t xs) (ap (λ o. option_map_or (λ u. not (is_closed s u xs)) o false) (sym e) ∙ p) in
     ap₂ (λ (b : Bool) o. b || option_map_or (λ u. nat_lt t u) o false) open_still e ∙ not_less t where

@@ -6,8 +6,8 @@ use Rattle.std.proofs.lemmas.List.Elements.{All-take, All-drop, All-head, All-ta
 use Rattle.std.proofs.lemmas.List.{length-take, length-drop, drop-drop}
 use Rattle.gnss_obs.specs.declared.system.System.{System}
 use Rattle.obs_epoch.specs.declared.cell.Cell.{Cell}
-use Rattle.obs_epoch.specs.Values.{IsHeld, AreHeld, has_value, is_written, written_among, is_from, run}
-use Rattle.obs_epoch.specs.Order.{is_before, Rise, cell_seat, AreSorted}
+use Rattle.obs_epoch.specs.Values.{IsHeld, AreHeld, has_value, is_written, written_among, is_of_satellite, run}
+use Rattle.obs_epoch.specs.Order.{is_before, SeatsRise, cell_seat, AreSorted}
 
 -- ---- cells that stand by satellite
 
@@ -23,7 +23,7 @@ before_climbs planned c (d ∷ cells) h = (first c.satellite.id d.satellite.id _
   first : (a b p q : ℕ) → (nat_lt a b || ((a == b) && nat_lt p q)) ≡ true → a ≤ b
   first a b p q h = grind (arith, h)
 
-rise_climbs : (planned : List ℕ) (cells : List Cell) → Rise (map (cell_seat planned) cells) → Climb cells
+rise_climbs : (planned : List ℕ) (cells : List Cell) → SeatsRise (map (cell_seat planned) cells) → Climb cells
 rise_climbs planned [] h = tt
 rise_climbs planned (c ∷ cells) h = (before_climbs planned c cells h.0, rise_climbs planned cells h.1)
 
@@ -41,37 +41,37 @@ abbrev pub Above : ℕ → List Cell → Type 0
 Above n cells = AllByRecursion (λ (c : Cell). n < c.satellite.id) cells
 
 pub record Parted (id : ℕ) (cells : List Cell) : Type 0 where
-  pub group : filter (is_from id) cells ≡ take (run id cells) cells
+  pub group : filter (is_of_satellite id) cells ≡ take (run id cells) cells
   pub above : Above id (drop (run id cells) cells)
-  pub rest : (later : ℕ) → id < later → filter (is_from later) cells ≡ filter (is_from later) (drop (run id cells) cells)
+  pub rest : (later : ℕ) → id < later → filter (is_of_satellite later) cells ≡ filter (is_of_satellite later) (drop (run id cells) cells)
 
 all_above : (n m : ℕ) (cells : List Cell) → n < m → AllByRecursion (λ (d : Cell). m ≤ d.satellite.id) cells → Above n cells
 all_above n m [] lt h = tt
 all_above n m (c ∷ cells) lt h = (omega (arith, lt, h.0), all_above n m cells lt h.1)
 
-none_above : (n : ℕ) (cells : List Cell) → Above n cells → filter (is_from n) cells ≡ []
+none_above : (n : ℕ) (cells : List Cell) → Above n cells → filter (is_of_satellite n) cells ≡ []
 none_above n [] h = refl
 none_above n (c ∷ cells) h = by (c.satellite.id == n) refl (none_above n cells h.1) where
-  by : (b : Bool) → (c.satellite.id == n) ≡ b → filter (is_from n) cells ≡ [] → cond b (c ∷ filter (is_from n) cells) (filter (is_from n) cells) ≡ []
+  by : (b : Bool) → (c.satellite.id == n) ≡ b → filter (is_of_satellite n) cells ≡ [] → cond b (c ∷ filter (is_of_satellite n) cells) (filter (is_of_satellite n) cells) ≡ []
   by true e k = absurd (grind (arith, e, h.0))
   by false e k = k
 
-parted_by : (n id : ℕ) (c : Cell) (cells : List Cell) (b : Bool) → is_from id c ≡ b → n < c.satellite.id → id ≡ suc n → AllByRecursion (λ (d : Cell). c.satellite.id ≤ d.satellite.id) cells
+parted_by : (n id : ℕ) (c : Cell) (cells : List Cell) (b : Bool) → is_of_satellite id c ≡ b → n < c.satellite.id → id ≡ suc n → AllByRecursion (λ (d : Cell). c.satellite.id ≤ d.satellite.id) cells
     → Parted id cells → Parted id (c ∷ cells)
 parted_by n id c cells true e lt is up h = record {
-  group = ap₂ (λ b k. cond b (c ∷ filter (is_from id) cells) (filter (is_from id) cells)) e (refl {a = zero}) ∙ ap (λ l. c ∷ l) h.group ∙ ap (λ k. take k (c ∷ cells)) (sym one);
+  group = ap₂ (λ b k. cond b (c ∷ filter (is_of_satellite id) cells) (filter (is_of_satellite id) cells)) e (refl {a = zero}) ∙ ap (λ l. c ∷ l) h.group ∙ ap (λ k. take k (c ∷ cells)) (sym one);
   above = subst (λ k. Above id (drop k (c ∷ cells))) (sym one) h.above;
-  rest = λ later l. ap (λ b. cond b (c ∷ filter (is_from later) cells) (filter (is_from later) cells)) (other later l) ∙ h.rest later l ∙ ap (λ k. filter (is_from later) (drop k (c ∷ cells))) (sym one);
+  rest = λ later l. ap (λ b. cond b (c ∷ filter (is_of_satellite later) cells) (filter (is_of_satellite later) cells)) (other later l) ∙ h.rest later l ∙ ap (λ k. filter (is_of_satellite later) (drop k (c ∷ cells))) (sym one);
 } where
   one : run id (c ∷ cells) ≡ suc (run id cells)
   one = ap (λ b. if b then suc (run id cells) else 0) e
 
-  other : (later : ℕ) → id < later → is_from later c ≡ false
+  other : (later : ℕ) → id < later → is_of_satellite later c ≡ false
   other later l = grind (arith, e, l)
 parted_by n id c cells false e lt is up h = record {
   group = none_above id (c ∷ cells) all ∙ ap (λ k. take k (c ∷ cells)) (sym none);
   above = subst (λ k. Above id (drop k (c ∷ cells))) (sym none) all;
-  rest = λ later l. ap (λ k. filter (is_from later) (drop k (c ∷ cells))) (sym none);
+  rest = λ later l. ap (λ k. filter (is_of_satellite later) (drop k (c ∷ cells))) (sym none);
 } where
   none : run id (c ∷ cells) ≡ 0
   none = ap (λ b. if b then suc (run id cells) else 0) e
@@ -85,14 +85,14 @@ parted_by n id c cells false e lt is up h = record {
 -- the cells of a satellite stand in front where none of a lower number does
 pub parted : (n id : ℕ) (cells : List Cell) → id ≡ suc n → Climb cells → Above n cells → Parted id cells
 parted n id [] is up h = record { group = refl; above = tt; rest = λ later l. refl }
-parted n id (c ∷ cells) is up h = parted_by n id c cells (is_from id c) refl h.0 is up.0 (parted n id cells is up.1 h.1)
+parted n id (c ∷ cells) is up h = parted_by n id c cells (is_of_satellite id c) refl h.0 is up.0 (parted n id cells is up.1 h.1)
 
 -- whether it is written is told by its own cells
-pub any_from : (id : ℕ) (cells : List Cell) → is_written (filter (is_from id) cells) id ≡ is_written cells id
+pub any_from : (id : ℕ) (cells : List Cell) → is_written (filter (is_of_satellite id) cells) id ≡ is_written cells id
 any_from id [] = refl
 any_from id (c ∷ cells) = by (c.satellite.id == id) refl (any_from id cells) where
-  by : (b : Bool) → (c.satellite.id == id) ≡ b → is_written (filter (is_from id) cells) id ≡ is_written cells id
-      → is_written (cond b (c ∷ filter (is_from id) cells) (filter (is_from id) cells)) id ≡ ((b && has_value c) || is_written cells id)
+  by : (b : Bool) → (c.satellite.id == id) ≡ b → is_written (filter (is_of_satellite id) cells) id ≡ is_written cells id
+      → is_written (cond b (c ∷ filter (is_of_satellite id) cells) (filter (is_of_satellite id) cells)) id ≡ ((b && has_value c) || is_written cells id)
   by true e h = ap₂ (λ v w. (v && has_value c) || w) e h
   by false e h = h
 
@@ -107,7 +107,7 @@ drop_plus a b cells = drop-drop b a cells
 pub record Left (n from : ℕ) (cells : List Cell) : Type 0 where
   pub within : from ≤ length cells
   pub above : Above n (drop from cells)
-  pub rest : (later : ℕ) → n < later → filter (is_from later) cells ≡ filter (is_from later) (drop from cells)
+  pub rest : (later : ℕ) → n < later → filter (is_of_satellite later) cells ≡ filter (is_of_satellite later) (drop from cells)
 
 pub left_all : (system : System) (cells : List Cell) → AreHeld system cells → Left 0 0 cells
 left_all system cells h = record {
@@ -121,7 +121,7 @@ left_all system cells h = record {
 
 -- one satellite further
 pub record Further (n from to id : ℕ) (cells : List Cell) : Type 0 where
-  pub group : filter (is_from id) cells ≡ take (to - from) (drop from cells)
+  pub group : filter (is_of_satellite id) cells ≡ take (to - from) (drop from cells)
   pub left : Left id to cells
 
 pub further : (n from to id : ℕ) (cells : List Cell) → id ≡ suc n → to ≡ from + run id (drop from cells) → to ≤ length cells → Climb cells → Left n from cells → Further n from to id cells
@@ -135,7 +135,7 @@ further n from to id cells is at within climb h =
       left = record {
         within = within;
         above = subst (Above id) same part.above;
-        rest = λ later l. h.rest later (omega (arith, lower, l)) ∙ part.rest later l ∙ ap (filter (is_from later)) same;
+        rest = λ later l. h.rest later (omega (arith, lower, l)) ∙ part.rest later l ∙ ap (filter (is_of_satellite later)) same;
       };
     }
 

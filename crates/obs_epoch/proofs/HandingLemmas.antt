@@ -4,18 +4,18 @@ use Rattle.std.specs.Prelude.{if◌then◌else◌, option_to_list}
 use Rattle.std.specs.Option.{option_map_or}
 use Rattle.std.specs.List.{list_any}
 use Rattle.std.proofs.lemmas.List.{map-append}
-use Rattle.obs_epoch.specs.Heard.{Setup, Heard, is_mark}
+use Rattle.obs_epoch.specs.Heard.{GatherSetup, Heard, ends_epoch}
 use Rattle.obs_epoch.specs.Values.{Closed}
-use Rattle.obs_epoch.specs.Marked.{MarkedEpoch, shown}
-use Rattle.obs_epoch.specs.Times.{Timed, is_at, greatest, from_first, is_closed, taken_at, timed}
+use Rattle.obs_epoch.specs.WithLli.{EpochWithLli, shown}
+use Rattle.obs_epoch.specs.Times.{Timed, is_at, greatest_time, from_first, is_closed, taken_at, timed}
 use Rattle.obs_epoch.specs.Loss.{times}
 use Rattle.obs_epoch.specs.Epochs.{is_shut, closed_times, closed_so_far, epoch_at, values_of}
 use Rattle.obs_epoch.specs.Clock.{is_pending, closes_first}
 use Rattle.obs_epoch.specs.Step.{closed_by as closes}
 use Rattle.obs_epoch.specs.Gather.{Gathered, no_epoch, take_step, end_step, noted}
-use Rattle.obs_epoch.specs.Standing.{Standing, held_at}
+use Rattle.obs_epoch.specs.Standing.{HasTakenMessages, held_at}
 use Rattle.rtcm_bits.specs.Prefix.{IsPrefix}
-use Rattle.obs_epoch.specs.Gathering.{before_closing, closed_at, closed_list_at, known_epochs, closed_by, closed_in, handed_over, is_done, Gathers}
+use Rattle.obs_epoch.specs.Gathering.{before_closing, closed_at, closed_list_at, known_epochs, closed_by, closed_in, handed_over, is_done, HasGatheredEpochs}
 use Rattle.obs_epoch.proofs.TimesLemmas.{next, timed-push, greater-absent, none-absent}
 use Rattle.obs_epoch.proofs.ClockLemmas.{Follows, first, greater, equal, new_time, same_time, standing as standing_at}
 use Rattle.obs_epoch.proofs.ClosedLemmas.{taken_follows}
@@ -26,18 +26,18 @@ use Rattle.obs_epoch.proofs.GatheringLemmas.{Each, each_filter, each_front, each
 
 -- ---- which epoch is new
 
-closed_absent : (s : Setup) (t : ℕ) (xs : List Timed) → list_any (is_at t) xs ≡ false → is_closed s t xs ≡ false
+closed_absent : (s : GatherSetup) (t : ℕ) (xs : List Timed) → list_any (is_at t) xs ≡ false → is_closed s t xs ≡ false
 closed_absent s t [] h = refl
 closed_absent s t (x ∷ xs) h = by (is_at t x) h (closed_absent s t xs) where
   by : (b : Bool) → (b || list_any (is_at t) xs) ≡ false → (list_any (is_at t) xs ≡ false → is_closed s t xs ≡ false)
-      → list_any (λ (y : Timed). is_mark s y.message) (if b then x ∷ xs else from_first t xs) ≡ false
+      → list_any (λ (y : Timed). ends_epoch s y.message) (if b then x ∷ xs else from_first t xs) ≡ false
   by true h more = grind (arith, h)
   by false h more = more h
 
-open_by : (s : Setup) (xs : List Timed) (t : ℕ) → is_closed s t xs ≡ false → option_map_or (λ u. nat_lt t u) (greatest xs) false ≡ false → is_shut s xs t ≡ false
+open_by : (s : GatherSetup) (xs : List Timed) (t : ℕ) → is_closed s t xs ≡ false → option_map_or (λ u. nat_lt t u) (greatest_time xs) false ≡ false → is_shut s xs t ≡ false
 open_by s xs t a b = ap₂ (λ (p q : Bool). p || q) a b
 
-open_follows : (s : Setup) (xs : List Timed) (u : ℕ) → Follows s xs u → is_shut s xs u ≡ false
+open_follows : (s : GatherSetup) (xs : List Timed) (u : ℕ) → Follows s xs u → is_shut s xs u ≡ false
 open_follows s xs u (first e) = open_by s xs u (closed_absent s u xs (none-absent xs u e)) (ap (λ o. option_map_or (λ v. nat_lt u v) o false) e)
 open_follows s xs u (greater g e lt) =
     open_by s xs u (closed_absent s u xs (greater-absent xs g u e lt)) (ap (λ o. option_map_or (λ v. nat_lt u v) o false) e ∙ above g u lt) where
@@ -51,28 +51,28 @@ some_is : (a b : ℕ) → Some a ≡ Some b → a ≡ b
 some_is a b e = grind (arith, e)
 
 -- what a step closes wasn't closed before
-new_open : (g : Gathered) (s : Setup) (ms : List Heard) (m : Heard) (shut : Bool) → Standing g s ms shut → closes_first s (timed s ms) m ≡ shut
+new_open : (g : Gathered) (s : GatherSetup) (ms : List Heard) (m : Heard) (shut : Bool) → HasTakenMessages g s ms shut → closes_first s (timed s ms) m ≡ shut
     → (t : ℕ) → closes g.clock m ≡ Some t → is_shut s (timed s ms) t ≡ false
 new_open g s ms m shut h early t e = by (taken_at s xs m) refl where
   xs : List Timed
   xs = timed s ms
 
-  now : greatest (timed s (ms ++ m ∷ [])) ≡ Some t
+  now : greatest_time (timed s (ms ++ m ∷ [])) ≡ Some t
   now = time_taken g s ms m shut h early t e
 
   by : (o : Option ℕ) → taken_at s xs m ≡ o → is_shut s xs t ≡ false
   by None none =
-      let same : greatest xs ≡ Some t = sym (same_time s xs (next s xs m) none).0 ∙ ap greatest (sym (timed-push s ms m)) ∙ now in
+      let same : greatest_time xs ≡ Some t = sym (same_time s xs (next s xs m) none).0 ∙ ap greatest_time (sym (timed-push s ms m)) ∙ now in
       pending_open s xs t same (pending_taken g s ms m shut h early none t e)
   by (Some u) some =
       let follow = taken_follows s xs m u some in
-      let is : u ≡ t = some_is u t (sym (new_time s xs (next s xs m) u some follow).0 ∙ ap greatest (sym (timed-push s ms m)) ∙ now) in
+      let is : u ≡ t = some_is u t (sym (new_time s xs (next s xs m) u some follow).0 ∙ ap greatest_time (sym (timed-push s ms m)) ∙ now) in
       subst (λ v. is_shut s xs v ≡ false) is (open_follows s xs u follow)
 
 -- ---- the list that was handed out
 
 -- what was closed before stays
-pub keeps : (s : Setup) (ms : List Heard) (m : Heard) (shut : Bool) (o : Option ℕ) → closes_first s (timed s ms) m ≡ shut
+pub keeps : (s : GatherSetup) (ms : List Heard) (m : Heard) (shut : Bool) (o : Option ℕ) → closes_first s (timed s ms) m ≡ shut
     → closed_so_far s (timed s (ms ++ m ∷ [])) false ≡ closed_so_far s (timed s ms) shut ++ option_to_list o
     → closed_list_at s (ms ++ m ∷ []) (closed_so_far s (timed s (ms ++ m ∷ [])) false) ≡ closed_list_at s ms (closed_so_far s (timed s ms) shut) ++ closed_list_at s (ms ++ m ∷ []) (option_to_list o)
 keeps s ms m shut o early grown =
@@ -84,13 +84,13 @@ keeps s ms m shut o early grown =
     ap (closed_list_at s (ms ++ m ∷ [])) grown ∙ map-append (closed_at s (ms ++ m ∷ [])) before (option_to_list o)
     ∙ ap (λ l. l ++ closed_list_at s (ms ++ m ∷ []) (option_to_list o)) (list-push s ms m before (closed_later s xs m shut early) each)
 
-shut_new : (s : Setup) (ys : List Timed) (before : List ℕ) (t : ℕ) → closed_so_far s ys false ≡ before ++ t ∷ [] → is_shut s ys t ≡ true
+shut_new : (s : GatherSetup) (ys : List Timed) (before : List ℕ) (t : ℕ) → closed_so_far s ys false ≡ before ++ t ∷ [] → is_shut s ys t ≡ true
 shut_new s ys before t grown =
     let all : closed_times s ys ≡ before ++ t ∷ [] = sym (append-nil (closed_times s ys)) ∙ grown in
     (each_back (is_shut s ys) before (t ∷ []) (subst (Each (is_shut s ys)) all (each_filter (is_shut s ys) (times ys)))).0
 
 -- the epoch that a step closes, as it is handed out
-new_closed : (g : Gathered) (s : Setup) (ms : List Heard) (m : Heard) (shut : Bool) → Standing g s ms shut → closes_first s (timed s ms) m ≡ shut → IsTold m
+new_closed : (g : Gathered) (s : GatherSetup) (ms : List Heard) (m : Heard) (shut : Bool) → HasTakenMessages g s ms shut → closes_first s (timed s ms) m ≡ shut → IsTold m
     → (o : Option ℕ) → closes g.clock m ≡ o → (take_step g m).state.handed ≡ is_some o
     → handed_over (take_step g m).state ≡ closed_list_at s (ms ++ m ∷ []) (option_to_list o)
 new_closed g s ms m shut h early told None e has = let v = (take_step g m).state in ap (λ b. closed_by (if b then Some (shown v.epoch) else None) v.values) has
@@ -106,17 +106,17 @@ new_closed g s ms m shut h early told (Some t) e has =
     let values : v.values ≡ values_of s (before_closing s t ns) =
     t1.after.values ∙ same_values s ms m (no_point_told g.clock m t told e) ∙ ap (values_of s) (sym (before-push s t ms m closed_now ∙ before_all s t ms open_still)) in
     ap (λ b. closed_by (if b then Some (shown v.epoch) else None) v.values) has
-    ∙ ap₂ (λ (a : MarkedEpoch) w. record { epoch = shown a; values = w } ∷ []) epoch values
+    ∙ ap₂ (λ (a : EpochWithLli) w. record { epoch = shown a; values = w } ∷ []) epoch values
 
 -- the pending epoch, as it is handed out
-pending_closed : (v : Gathered) (s : Setup) (ms : List Heard) (t : ℕ) → greatest (timed s ms) ≡ Some t → is_pending s (timed s ms) ≡ true
-    → v.epoch ≡ held_at s (timed s ms) → v.values ≡ values_of s ms → v.handed ≡ true → handed_over v ≡ closed_list_at s ms (option_to_list (greatest (timed s ms)))
+pending_closed : (v : Gathered) (s : GatherSetup) (ms : List Heard) (t : ℕ) → greatest_time (timed s ms) ≡ Some t → is_pending s (timed s ms) ≡ true
+    → v.epoch ≡ held_at s (timed s ms) → v.values ≡ values_of s ms → v.handed ≡ true → handed_over v ≡ closed_list_at s ms (option_to_list (greatest_time (timed s ms)))
 pending_closed v s ms t e p epoch values has =
     let xs = timed s ms in
     let here : v.epoch ≡ epoch_at s xs t = epoch ∙ ap (λ o. option_map_or (epoch_at s xs) o no_epoch) e in
     let known : v.values ≡ values_of s (before_closing s t ms) = values ∙ ap (values_of s) (sym (before_all s t ms (pending_open s xs t e p))) in
     ap (λ b. closed_by (if b then Some (shown v.epoch) else None) v.values) has
-    ∙ ap₂ (λ (a : MarkedEpoch) w. record { epoch = shown a; values = w } ∷ []) here known
+    ∙ ap₂ (λ (a : EpochWithLli) w. record { epoch = shown a; values = w } ∷ []) here known
     ∙ ap (λ o. closed_list_at s ms (option_to_list o)) (sym e)
 
 -- ---- the calls
@@ -128,17 +128,17 @@ or_and : (b a p : Bool) → a ≡ false → (b || (a && p)) ≡ b
 or_and true a p e = refl
 or_and false a p e = and_false a p e
 
-pub not_done : (v : Gathered) (s : Setup) (ms : List Heard) (again : Option Heard) → v.has_ended ≡ false → is_done v s ms again ≡ is_some again
+pub not_done : (v : Gathered) (s : GatherSetup) (ms : List Heard) (again : Option Heard) → v.has_ended ≡ false → is_done v s ms again ≡ is_some again
 not_done v s ms again going = or_and (is_some again) v.has_ended (is_pending s (timed s ms)) going
 
 -- a message is taken
-pub gathers_taken : (g : Gathered) (s : Setup) (ms : List Heard) (es : List Closed) (again : Option Heard) (m : Heard) → Gathers g s ms es again → g.has_ended ≡ false
-    → closes_first s (timed s ms) m ≡ is_some again → IsTold m → Gathers (take_step g m).state s (ms ++ m ∷ []) (es ++ handed_over (take_step g m).state) None
+pub gathers_taken : (g : Gathered) (s : GatherSetup) (ms : List Heard) (es : List Closed) (again : Option Heard) (m : Heard) → HasGatheredEpochs g s ms es again → g.has_ended ≡ false
+    → closes_first s (timed s ms) m ≡ is_some again → IsTold m → HasGatheredEpochs (take_step g m).state s (ms ++ m ∷ []) (es ++ handed_over (take_step g m).state) None
 gathers_taken g s ms es again m h going early told =
     let v = (take_step g m).state in
     let ns = ms ++ m ∷ [] in
     let shut = is_some again in
-    let standing = subst (Standing g s ms) (not_done g s ms again going) h.standing in
+    let standing = subst (HasTakenMessages g s ms) (not_done g s ms again going) h.standing in
     let was : es ≡ closed_list_at s ms (closed_so_far s (timed s ms) shut) = subst (λ b. es ≡ closed_list_at s ms (closed_so_far s (timed s ms) b)) (not_done g s ms again going) h.handed in
     let goes : v.has_ended ≡ false = ended_is g m ∙ going in
     let o = closes g.clock m in
@@ -148,26 +148,26 @@ gathers_taken g s ms es again m h going early told =
     let epochs : es ++ handed_over v ≡ known_epochs v.has_ended s ns =
     handed ∙ ap (closed_list_at s ns) (append-nil (closed_times s (timed s ns))) ∙ ap (λ b. known_epochs b s ns) (sym goes) in
     record {
-      standing = subst (Standing v s ns) (sym (not_done v s ns None goes)) (taken g s ms m shut standing early).after;
+      standing = subst (HasTakenMessages v s ns) (sym (not_done v s ns None goes)) (taken g s ms m shut standing early).after;
       handed = handed ∙ ap (λ b. closed_list_at s ns (closed_so_far s (timed s ns) b)) (sym (not_done v s ns None goes));
       epochs = λ _. epochs;
       first = subst (λ l. IsPrefix (es ++ handed_over v) (known_epochs v.has_ended s l)) (sym (append-nil ns)) (subst (IsPrefix (es ++ handed_over v)) epochs (prefix_self (es ++ handed_over v)));
       fits = tt;
-      plan = ap (λ (u : Setup). u.plan) (taken g s ms m shut standing early).after.clock.setup;
+      plan = ap (λ (u : GatherSetup). u.plan) (taken g s ms m shut standing early).after.clock.setup;
     }
 
 -- the pending epoch is closed first
-pub gathers_first : (g : Gathered) (s : Setup) (ms : List Heard) (es : List Closed) (m : Heard) → Gathers g s ms es None → g.has_ended ≡ false
-    → closes_first s (timed s ms) m ≡ true → m.point ≡ None → Gathers (take_step g m).state s ms (es ++ handed_over (take_step g m).state) (Some m)
-gathers_first g s ms es m h going early point = by (greatest (timed s ms)) refl where
+pub gathers_first : (g : Gathered) (s : GatherSetup) (ms : List Heard) (es : List Closed) (m : Heard) → HasGatheredEpochs g s ms es None → g.has_ended ≡ false
+    → closes_first s (timed s ms) m ≡ true → m.point ≡ None → HasGatheredEpochs (take_step g m).state s ms (es ++ handed_over (take_step g m).state) (Some m)
+gathers_first g s ms es m h going early point = by (greatest_time (timed s ms)) refl where
   xs : List Timed
   xs = timed s ms
 
   v : Gathered
   v = (take_step g m).state
 
-  standing : Standing g s ms false
-  standing = subst (Standing g s ms) (not_done g s ms None going) h.standing
+  standing : HasTakenMessages g s ms false
+  standing = subst (HasTakenMessages g s ms) (not_done g s ms None going) h.standing
 
   was : es ≡ closed_list_at s ms (closed_so_far s xs false)
   was = subst (λ b. es ≡ closed_list_at s ms (closed_so_far s xs b)) (not_done g s ms None going) h.handed
@@ -181,14 +181,14 @@ gathers_first g s ms es m h going early point = by (greatest (timed s ms)) refl 
     by_pending true e = refl
     by_pending false e = absurd (grind (arith, e, early))
 
-  by : (o : Option ℕ) → greatest xs ≡ o → Gathers v s ms (es ++ handed_over v) (Some m)
+  by : (o : Option ℕ) → greatest_time xs ≡ o → HasGatheredEpochs v s ms (es ++ handed_over v) (Some m)
   by None e = absurd (grind (arith, e, pending))
   by (Some t) e =
       let f = closes_it g s ms m standing early point in
       let has : v.handed ≡ true = handed_is g m ∙ f.has in
       let handed : es ++ handed_over v ≡ closed_list_at s ms (closed_so_far s xs true) =
       ap₂ (λ a b. a ++ b) (was ∙ ap (closed_list_at s ms) (append-nil (closed_times s xs))) (pending_closed v s ms t e pending f.after.epoch f.after.values has)
-      ∙ sym (map-append (closed_at s ms) (closed_times s xs) (option_to_list (greatest xs))) in
+      ∙ sym (map-append (closed_at s ms) (closed_times s xs) (option_to_list (greatest_time xs))) in
       let ns = ms ++ m ∷ [] in
       let o = closes (standing_at s xs true) m in
       let grown = ap (λ l. closed_so_far s l false) (timed-push s ms m) ∙ closing s xs m true early in
@@ -202,7 +202,7 @@ gathers_first g s ms es m h going early point = by (greatest (timed s ms)) refl 
           ap (closed_list_at s ns) (sym (append-nil (closed_times s (timed s ns)))) ∙ kept ∙ ap (λ l. l ++ closed_list_at s ns (option_to_list o)) (sym handed),
         );
         fits = early;
-        plan = ap (λ (u : Setup). u.plan) f.after.clock.setup;
+        plan = ap (λ (u : GatherSetup). u.plan) f.after.clock.setup;
       }
 
 pub has_closed : (v : Gathered) → v.handed ≡ is_some (closed_in v)
@@ -224,17 +224,17 @@ and_true true = refl
 and_true false = refl
 
 -- no message follows
-pub gathers_ended : (g : Gathered) (s : Setup) (ms : List Heard) (es : List Closed) → Gathers g s ms es None → g.has_ended ≡ false
-    → (g.clock.pending ≡ is_pending s (timed s ms)) × Gathers (end_step g) s ms (es ++ handed_over (end_step g)) None
+pub gathers_ended : (g : Gathered) (s : GatherSetup) (ms : List Heard) (es : List Closed) → HasGatheredEpochs g s ms es None → g.has_ended ≡ false
+    → (g.clock.pending ≡ is_pending s (timed s ms)) × HasGatheredEpochs (end_step g) s ms (es ++ handed_over (end_step g)) None
 gathers_ended g s ms es h going = (
   pending,
   record {
-    standing = subst (Standing v s ms) (sym done) (subst (Standing v s ms) pending f.after);
+    standing = subst (HasTakenMessages v s ms) (sym done) (subst (HasTakenMessages v s ms) pending f.after);
     handed = handed ∙ ap (λ b. closed_list_at s ms (closed_so_far s xs b)) (sym done);
     epochs = λ _. epochs;
     first = subst (λ l. IsPrefix (es ++ handed_over v) (known_epochs v.has_ended s l)) (sym (append-nil ms)) (subst (IsPrefix (es ++ handed_over v)) epochs (prefix_self (es ++ handed_over v)));
     fits = tt;
-    plan = ap (λ (u : Setup). u.plan) f.after.clock.setup;
+    plan = ap (λ (u : GatherSetup). u.plan) f.after.clock.setup;
   },
 ) where
   xs : List Timed
@@ -243,8 +243,8 @@ gathers_ended g s ms es h going = (
   v : Gathered
   v = end_step g
 
-  standing : Standing g s ms false
-  standing = subst (Standing g s ms) (not_done g s ms None going) h.standing
+  standing : HasTakenMessages g s ms false
+  standing = subst (HasTakenMessages g s ms) (not_done g s ms None going) h.standing
 
   was : es ≡ closed_list_at s ms (closed_times s xs)
   was =
@@ -266,17 +266,17 @@ gathers_ended g s ms es h going = (
   has : v.handed ≡ is_pending s xs
   has = end_handed g.clock.pending _ ∙ pending
 
-  last : (p : Bool) → is_pending s xs ≡ p → handed_over v ≡ closed_list_at s ms (if p then option_to_list (greatest xs) else [])
+  last : (p : Bool) → is_pending s xs ≡ p → handed_over v ≡ closed_list_at s ms (if p then option_to_list (greatest_time xs) else [])
   last false p = ap (λ b. closed_by (if b then Some (shown v.epoch) else None) v.values) (has ∙ p)
-  last true p = by (greatest xs) refl where
-    by : (o : Option ℕ) → greatest xs ≡ o → handed_over v ≡ closed_list_at s ms (option_to_list (greatest xs))
+  last true p = by (greatest_time xs) refl where
+    by : (o : Option ℕ) → greatest_time xs ≡ o → handed_over v ≡ closed_list_at s ms (option_to_list (greatest_time xs))
     by None e = absurd (grind (arith, e, p))
     by (Some t) e = pending_closed v s ms t e p f.after.epoch f.after.values (has ∙ p)
 
   handed : es ++ handed_over v ≡ closed_list_at s ms (closed_so_far s xs (is_pending s xs))
   handed =
       ap₂ (λ a b. a ++ b) was (last (is_pending s xs) refl)
-      ∙ sym (map-append (closed_at s ms) (closed_times s xs) (if is_pending s xs then option_to_list (greatest xs) else []))
+      ∙ sym (map-append (closed_at s ms) (closed_times s xs) (if is_pending s xs then option_to_list (greatest_time xs) else []))
 
   epochs : es ++ handed_over v ≡ known_epochs v.has_ended s ms
   epochs = handed ∙ ap (closed_list_at s ms) (with_pending s xs) ∙ ap (λ b. known_epochs b s ms) (sym over)

@@ -4,20 +4,20 @@ use Rattle.std.specs.Prelude.{if◌then◌else◌}
 use Rattle.obs_epoch.specs.declared.taken.Kind.TheVariants as kinds
 use Rattle.obs_epoch.specs.declared.clock.Answer.{Answer}
 use Rattle.obs_epoch.specs.declared.clock.Answer.TheVariants as answers
-use Rattle.obs_epoch.specs.declared.seen.Counts.{Counts}
-use Rattle.obs_epoch.specs.Heard.{Setup, Heard}
+use Rattle.obs_epoch.specs.declared.seen.CellCounts.{CellCounts}
+use Rattle.obs_epoch.specs.Heard.{GatherSetup, Heard}
 use Rattle.obs_epoch.specs.Values.{Closed}
 use Rattle.obs_epoch.specs.Times.{Timed, timed}
 use Rattle.obs_epoch.specs.Clock.{closes_first}
 use Rattle.obs_epoch.specs.Step.{answer_by}
 use Rattle.obs_epoch.specs.Kinds.{is_close_first, kind_at, station_kind, kind_by, kind_of}
 use Rattle.obs_epoch.specs.Gather.{Gathered, take_step}
-use Rattle.obs_epoch.specs.Standing.{Standing}
-use Rattle.obs_epoch.specs.Gathering.{Gathers, Fits}
+use Rattle.obs_epoch.specs.Standing.{HasTakenMessages}
+use Rattle.obs_epoch.specs.Gathering.{HasGatheredEpochs, IsAwaited}
 use Rattle.obs_epoch.proofs.TakeLemmas.{taken, closes_it, not_first}
 use Rattle.obs_epoch.proofs.HandingLemmas.{not_done}
 
-at_other : (k : Answer) (n : Counts) → (k ≡ answers.CloseFirst → ⊥) → is_close_first (kind_at k n) ≡ false
+at_other : (k : Answer) (n : CellCounts) → (k ≡ answers.CloseFirst → ⊥) → is_close_first (kind_at k n) ≡ false
 at_other answers.CloseFirst n unlike = absurd (unlike refl)
 at_other answers.Kept n unlike = refl
 at_other answers.Late n unlike = refl
@@ -33,24 +33,24 @@ of_station answers.PastWeeks = refl
 of_station answers.Ignored = refl
 of_station answers.OtherStation = refl
 
-pub kind_other : (m : Heard) (k : Answer) (n : Counts) → (k ≡ answers.CloseFirst → ⊥) → is_close_first (kind_by m k n) ≡ false
+pub kind_other : (m : Heard) (k : Answer) (n : CellCounts) → (k ≡ answers.CloseFirst → ⊥) → is_close_first (kind_by m k n) ≡ false
 kind_other m k n unlike = by (is_some m.tow) (is_some m.point) where
   by : (a b : Bool) → is_close_first (if a then kind_at k n else (if b then station_kind k else kinds.Ignored)) ≡ false
   by true b = at_other k n unlike
   by false true = of_station k
   by false false = refl
 
-kind_first : (s : Setup) (xs : List Timed) (m : Heard) (k : Answer) (n : Counts) → closes_first s xs m ≡ true → k ≡ answers.CloseFirst → is_close_first (kind_by m k n) ≡ true
+kind_first : (s : GatherSetup) (xs : List Timed) (m : Heard) (k : Answer) (n : CellCounts) → closes_first s xs m ≡ true → k ≡ answers.CloseFirst → is_close_first (kind_by m k n) ≡ true
 kind_first s xs m k n early e = ap (λ v. is_close_first (kind_by m v n)) e ∙ by m.tow refl where
   by : (o : Option ℕ) → m.tow ≡ o → is_close_first (kind_by m answers.CloseFirst n) ≡ true
   by None none = absurd (grind (arith, early, none))
   by (Some t) some = ap (λ (o : Option ℕ). is_close_first (if is_some o then kind_at answers.CloseFirst n else (if is_some m.point then station_kind answers.CloseFirst else kinds.Ignored))) some
 
-standing_of : (g : Gathered) (s : Setup) (ms : List Heard) (es : List Closed) (again : Option Heard) → Gathers g s ms es again → g.has_ended ≡ false → Standing g s ms (is_some again)
-standing_of g s ms es again h going = subst (Standing g s ms) (not_done g s ms again going) h.standing
+standing_of : (g : Gathered) (s : GatherSetup) (ms : List Heard) (es : List Closed) (again : Option Heard) → HasGatheredEpochs g s ms es again → g.has_ended ≡ false → HasTakenMessages g s ms (is_some again)
+standing_of g s ms es again h going = subst (HasTakenMessages g s ms) (not_done g s ms again going) h.standing
 
 -- which message is to come again
-pub exactly_first : (g : Gathered) (s : Setup) (ms : List Heard) (es : List Closed) (m : Heard) (n : Counts) → Gathers g s ms es None → g.has_ended ≡ false
+pub exactly_first : (g : Gathered) (s : GatherSetup) (ms : List Heard) (es : List Closed) (m : Heard) (n : CellCounts) → HasGatheredEpochs g s ms es None → g.has_ended ≡ false
     → (closes_first s (timed s ms) m ≡ true → m.point ≡ None) → is_close_first (kind_by m (answer_by g.clock m) n) ≡ closes_first s (timed s ms) m
 exactly_first g s ms es m n h going point = by (closes_first s (timed s ms) m) refl where
   by : (b : Bool) → closes_first s (timed s ms) m ≡ b → is_close_first (kind_by m (answer_by g.clock m) n) ≡ b
@@ -58,24 +58,24 @@ exactly_first g s ms es m n h going point = by (closes_first s (timed s ms) m) r
   by false e = kind_other m _ n (λ f. not_first s (timed s ms) m (sym (taken g s ms m false (standing_of g s ms es None h going) e).kind ∙ f))
 
 -- a message that comes again is taken
-pub again_taken : (g : Gathered) (s : Setup) (ms : List Heard) (es : List Closed) (m : Heard) (n : Counts) → Gathers g s ms es (Some m) → g.has_ended ≡ false
+pub again_taken : (g : Gathered) (s : GatherSetup) (ms : List Heard) (es : List Closed) (m : Heard) (n : CellCounts) → HasGatheredEpochs g s ms es (Some m) → g.has_ended ≡ false
     → is_close_first (kind_by m (answer_by g.clock m) n) ≡ false
 again_taken g s ms es m n h going =
     kind_other m _ n (λ f. not_first s (timed s ms) m (sym (taken g s ms m true (standing_of g s ms es (Some m) h going) h.fits).kind ∙ f))
 
 -- a message that is taken is the awaited one, or closes nothing first
-pub fits_now : (g : Gathered) (s : Setup) (ms : List Heard) (es : List Closed) (again : Option Heard) (m : Heard) (n : Counts) → Gathers g s ms es again → g.has_ended ≡ false
-    → (closes_first s (timed s ms) m ≡ true → m.point ≡ None) → Fits again m → is_close_first (kind_by m (answer_by g.clock m) n) ≡ false
+pub fits_now : (g : Gathered) (s : GatherSetup) (ms : List Heard) (es : List Closed) (again : Option Heard) (m : Heard) (n : CellCounts) → HasGatheredEpochs g s ms es again → g.has_ended ≡ false
+    → (closes_first s (timed s ms) m ≡ true → m.point ≡ None) → IsAwaited again m → is_close_first (kind_by m (answer_by g.clock m) n) ≡ false
     → closes_first s (timed s ms) m ≡ is_some again
 fits_now g s ms es None m n h going point fit other = sym (exactly_first g s ms es m n h going point) ∙ other
 fits_now g s ms es (Some a) m n h going point fit other = ap (closes_first s (timed s ms)) fit ∙ h.fits
 
-pub kind_taken : (g : Gathered) (s : Setup) (ms : List Heard) (es : List Closed) (again : Option Heard) (m : Heard) → Gathers g s ms es again → g.has_ended ≡ false
+pub kind_taken : (g : Gathered) (s : GatherSetup) (ms : List Heard) (es : List Closed) (again : Option Heard) (m : Heard) → HasGatheredEpochs g s ms es again → g.has_ended ≡ false
     → closes_first s (timed s ms) m ≡ is_some again → kind_by m (answer_by g.clock m) (take_step g m).counts ≡ kind_of s ms m
 kind_taken g s ms es again m h going early =
     let t = taken g s ms m (is_some again) (standing_of g s ms es again h going) early in
     ap₂ (kind_by m) t.kind t.counts
 
 -- what becomes of a message never is that it is to come again
-pub never_first : (s : Setup) (ms : List Heard) (m : Heard) → is_close_first (kind_of s ms m) ≡ false
+pub never_first : (s : GatherSetup) (ms : List Heard) (m : Heard) → is_close_first (kind_of s ms m) ≡ false
 never_first s ms m = kind_other m _ _ (not_first s (timed s ms) m)

@@ -4,47 +4,47 @@ use Rattle.std.specs.Prelude.{if◌then◌else◌, cond}
 use Rattle.gnss_obs.specs.declared.system.System.{System}
 use Rattle.gnss_obs.specs.declared.system.System.TheVariants.{Gps, Galileo}
 use Rattle.obs_epoch.specs.declared.seen.Seen.{Seen}
-use Rattle.obs_epoch.specs.Marked.{Marked}
+use Rattle.obs_epoch.specs.WithLli.{CellWithLli}
 use Rattle.obs_epoch.specs.declared.seen.KnownLock.{KnownLock}
-use Rattle.obs_epoch.specs.declared.seen.Counts.{Counts}
+use Rattle.obs_epoch.specs.declared.seen.CellCounts.{CellCounts}
 use Rattle.obs_epoch.specs.declared.seen.Fate.{Fate}
 use Rattle.obs_epoch.specs.declared.seen.Fate.TheVariants.{Skipped, Repeated, Crowded, Kept}
-use Rattle.obs_epoch.specs.Heard.{Setup}
-use Rattle.obs_epoch.specs.Cells.{is_of, has_same_key, is_among, kept, add, is_planned}
-use Rattle.obs_epoch.specs.Loss.{mark_with}
-use Rattle.obs_epoch.specs.Marked.{MarkedEpoch}
+use Rattle.obs_epoch.specs.Heard.{GatherSetup}
+use Rattle.obs_epoch.specs.Cells.{is_of_system, has_same_key, is_among, kept, add, is_planned}
+use Rattle.obs_epoch.specs.Loss.{lli_with}
+use Rattle.obs_epoch.specs.WithLli.{EpochWithLli}
 use Rattle.obs_epoch.specs.Held.{lookup, is_held, fate_of, count_in}
-use Rattle.obs_epoch.specs.Gather.{Gathered, cells_in, more_in, with_more, fate_in, hold, hold_by, load}
+use Rattle.obs_epoch.specs.Gather.{Gathered, cells_in, with_more_in, with_more, fate_in, hold, hold_by, load}
 use Rattle.obs_epoch.specs.Values.{PlanValue, planned_of, most_cells}
-use Rattle.obs_epoch.specs.Order.{insert_by, is_before, seat_of, marked_seat, sorted}
+use Rattle.obs_epoch.specs.Order.{insert_by, is_before, seat_of, seat_with_lli, sorted}
 use Rattle.obs_epoch.proofs.CellsLemmas.{kept-add}
 use Rattle.obs_epoch.proofs.OrderLemmas.{sorted-push, among-sorted, length-sorted}
 
--- cells with their marks, where the locks of their keys before are known
-abbrev pub marked_by : (Seen → Option KnownLock) → ℕ → List Seen → List Marked
+-- cells with their loss-of-lock indicators, where the locks of their keys before are known
+abbrev pub marked_by : (Seen → Option KnownLock) → ℕ → List Seen → List CellWithLli
 marked_by f t [] = []
-marked_by f t (x ∷ xs) = record { seen = x; mark = mark_with t x (f x) } ∷ marked_by f t xs
+marked_by f t (x ∷ xs) = record { seen = x; lli = lli_with t x (f x) } ∷ marked_by f t xs
 
 marked_by-insert : (planned : List ℕ) (f : Seen → Option KnownLock) (t : ℕ) (xs : List Seen) (x : Seen)
-    → marked_by f t (insert_by (seat_of planned) x xs) ≡ insert_by (marked_seat planned) (record { seen = x; mark = mark_with t x (f x) }) (marked_by f t xs)
+    → marked_by f t (insert_by (seat_of planned) x xs) ≡ insert_by (seat_with_lli planned) (record { seen = x; lli = lli_with t x (f x) }) (marked_by f t xs)
 marked_by-insert planned f t [] x = refl
 marked_by-insert planned f t (y ∷ xs) x = by (is_before (seat_of planned x) (seat_of planned y)) (marked_by-insert planned f t xs x) where
-  one : Seen → Marked
-  one z = record { seen = z; mark = mark_with t z (f z) }
+  one : Seen → CellWithLli
+  one z = record { seen = z; lli = lli_with t z (f z) }
 
-  by : (b : Bool) → marked_by f t (insert_by (seat_of planned) x xs) ≡ insert_by (marked_seat planned) (one x) (marked_by f t xs)
-      → marked_by f t (if b then x ∷ y ∷ xs else y ∷ insert_by (seat_of planned) x xs) ≡ (if b then one x ∷ one y ∷ marked_by f t xs else one y ∷ insert_by (marked_seat planned) (one x) (marked_by f t xs))
+  by : (b : Bool) → marked_by f t (insert_by (seat_of planned) x xs) ≡ insert_by (seat_with_lli planned) (one x) (marked_by f t xs)
+      → marked_by f t (if b then x ∷ y ∷ xs else y ∷ insert_by (seat_of planned) x xs) ≡ (if b then one x ∷ one y ∷ marked_by f t xs else one y ∷ insert_by (seat_with_lli planned) (one x) (marked_by f t xs))
   by true e = refl
   by false e = ap (λ l. one y ∷ l) e
 
 -- a kept cell comes to its place in the order
 marked_by-push : (planned : List ℕ) (f : Seen → Option KnownLock) (t : ℕ) (xs : List Seen) (x : Seen)
-    → marked_by f t (sorted planned (xs ++ x ∷ [])) ≡ insert_by (marked_seat planned) (record { seen = x; mark = mark_with t x (f x) }) (marked_by f t (sorted planned xs))
+    → marked_by f t (sorted planned (xs ++ x ∷ [])) ≡ insert_by (seat_with_lli planned) (record { seen = x; lli = lli_with t x (f x) }) (marked_by f t (sorted planned xs))
 marked_by-push planned f t xs x = ap (marked_by f t) (sorted-push planned xs x) ∙ marked_by-insert planned f t (sorted planned xs) x
 
 pub marked_by-same : (f g : Seen → Option KnownLock) (t : ℕ) (xs : List Seen) → ((key : Seen) → f key ≡ g key) → marked_by f t xs ≡ marked_by g t xs
 marked_by-same f g t [] h = refl
-marked_by-same f g t (x ∷ xs) h = ap₂ (λ o l. record { seen = x; mark = mark_with t x o } ∷ l) (h x) (marked_by-same f g t xs h)
+marked_by-same f g t (x ∷ xs) h = ap₂ (λ o l. record { seen = x; lli = lli_with t x o } ∷ l) (h x) (marked_by-same f g t xs h)
 
 marked_by-length : (f : Seen → Option KnownLock) (t : ℕ) (xs : List Seen) → length (marked_by f t xs) ≡ length xs
 marked_by-length f t [] = refl
@@ -55,22 +55,22 @@ marked_by-held f t [] y = refl
 marked_by-held f t (x ∷ xs) y = ap (λ b. has_same_key y x || b) (marked_by-held f t xs y)
 
 -- the epoch of time t in which these cells were offered
-abbrev pub epoch_of : PlanValue → (Seen → Option KnownLock) → ℕ → List Seen → MarkedEpoch
+abbrev pub epoch_of : PlanValue → (Seen → Option KnownLock) → ℕ → List Seen → EpochWithLli
 epoch_of p f t xs = record { time = t; gps = marked_by f t (sorted p.gps (kept Gps xs)); galileo = marked_by f t (sorted p.galileo (kept Galileo xs)) }
 
 -- what becomes of a cell after these
-abbrev pub fate_after : Setup → List Seen → Seen → Fate
+abbrev pub fate_after : GatherSetup → List Seen → Seen → Fate
 fate_after s xs x =
     if is_planned s x then (if is_among (kept x.satellite.system xs) x then Repeated else (if nat_le most_cells (length (kept x.satellite.system xs)) then Crowded else Kept)) else Skipped
 
-abbrev pub planned_one : Setup → Seen → List Seen
+abbrev pub planned_one : GatherSetup → Seen → List Seen
 planned_one s x = if is_planned s x then x ∷ [] else []
 
 cells_in_of : (system : System) (p : PlanValue) (f : Seen → Option KnownLock) (t : ℕ) (xs : List Seen) → cells_in system (epoch_of p f t xs) ≡ marked_by f t (sorted (planned_of system p) (kept system xs))
 cells_in_of Gps p f t xs = refl
 cells_in_of Galileo p f t xs = refl
 
-pub fate_is : (s : Setup) (f : Seen → Option KnownLock) (t : ℕ) (xs : List Seen) (x : Seen) → fate_of s (cells_in x.satellite.system (epoch_of s.plan f t xs)) x ≡ fate_after s xs x
+pub fate_is : (s : GatherSetup) (f : Seen → Option KnownLock) (t : ℕ) (xs : List Seen) (x : Seen) → fate_of s (cells_in x.satellite.system (epoch_of s.plan f t xs)) x ≡ fate_after s xs x
 fate_is s f t xs x =
     ap (λ ms. fate_of s ms x) (cells_in_of x.satellite.system s.plan f t xs)
     ∙ ap₂ (λ b n. if is_planned s x then (if b then Repeated else (if nat_le most_cells n then Crowded else Kept)) else Skipped)
@@ -80,22 +80,22 @@ fate_is s f t xs x =
       planned = planned_of x.satellite.system s.plan
 
 -- the other system's cells stay
-add_other : (system : System) (ks : List Seen) (x : Seen) → is_of system x ≡ false → add system ks x ≡ ks
+add_other : (system : System) (ks : List Seen) (x : Seen) → is_of_system system x ≡ false → add system ks x ≡ ks
 add_other system ks x h = ap (λ b. if b && not (is_among ks x || nat_le most_cells (length ks)) then ks ++ x ∷ [] else ks) h
 
-add_own : (system : System) (ks : List Seen) (x : Seen) → is_of system x ≡ true → add system ks x ≡ (if is_among ks x || nat_le most_cells (length ks) then ks else ks ++ x ∷ [])
+add_own : (system : System) (ks : List Seen) (x : Seen) → is_of_system system x ≡ true → add system ks x ≡ (if is_among ks x || nat_le most_cells (length ks) then ks else ks ++ x ∷ [])
 add_own system ks x h =
     ap (λ b. if b && not (is_among ks x || nat_le most_cells (length ks)) then ks ++ x ∷ [] else ks) h ∙ by (is_among ks x || nat_le most_cells (length ks)) where
       by : (b : Bool) → (if not b then ks ++ x ∷ [] else ks) ≡ (if b then ks else ks ++ x ∷ [])
       by true = refl
       by false = refl
 
-abbrev pub epoch_by : PlanValue → Fate → (Seen → Option KnownLock) → MarkedEpoch → Seen → MarkedEpoch
-epoch_by p Kept f e x = with_more p e (record { seen = x; mark = mark_with e.time x (f x) })
+abbrev pub epoch_by : PlanValue → Fate → (Seen → Option KnownLock) → EpochWithLli → Seen → EpochWithLli
+epoch_by p Kept f e x = with_more p e (record { seen = x; lli = lli_with e.time x (f x) })
 epoch_by p _ f e x = e
 
 -- a cell of GPS
-one_gps : (s : Setup) (f : Seen → Option KnownLock) (t : ℕ) (xs : List Seen) (x : Seen) (p a n : Bool) → x.satellite.system ≡ Gps
+one_gps : (s : GatherSetup) (f : Seen → Option KnownLock) (t : ℕ) (xs : List Seen) (x : Seen) (p a n : Bool) → x.satellite.system ≡ Gps
     → is_planned s x ≡ p → is_among (kept Gps xs) x ≡ a → nat_le most_cells (length (kept Gps xs)) ≡ n
     → epoch_by s.plan (if p then (if a then Repeated else (if n then Crowded else Kept)) else Skipped) f (epoch_of s.plan f t xs) x ≡ epoch_of s.plan f t (xs ++ (if p then x ∷ [] else []))
 one_gps s f t xs x false a n g e h k = ap (epoch_of s.plan f t) (sym (append-nil xs))
@@ -109,9 +109,9 @@ one_gps s f t xs x true a n g e h k = by a n h k where
   same : kept Gps (xs ++ x ∷ []) ≡ kept Gps xs → epoch_of s.plan f t xs ≡ epoch_of s.plan f t (xs ++ x ∷ [])
   same e = sym (ap₂ (λ u v. record { time = t; gps = marked_by f t (sorted s.plan.gps u); galileo = marked_by f t (sorted s.plan.galileo v) }) e other)
 
-  more : kept Gps (xs ++ x ∷ []) ≡ kept Gps xs ++ x ∷ [] → with_more s.plan (epoch_of s.plan f t xs) (record { seen = x; mark = mark_with t x (f x) }) ≡ epoch_of s.plan f t (xs ++ x ∷ [])
+  more : kept Gps (xs ++ x ∷ []) ≡ kept Gps xs ++ x ∷ [] → with_more s.plan (epoch_of s.plan f t xs) (record { seen = x; lli = lli_with t x (f x) }) ≡ epoch_of s.plan f t (xs ++ x ∷ [])
   more e =
-      ap (λ c. more_in c s.plan (epoch_of s.plan f t xs) (record { seen = x; mark = mark_with t x (f x) })) g
+      ap (λ c. with_more_in c s.plan (epoch_of s.plan f t xs) (record { seen = x; lli = lli_with t x (f x) })) g
       ∙ ap (λ l. record { time = t; gps = l; galileo = marked_by f t (sorted s.plan.galileo (kept Galileo xs)) }) (sym (marked_by-push s.plan.gps f t (kept Gps xs) x))
       ∙ sym (ap₂ (λ u v. record { time = t; gps = marked_by f t (sorted s.plan.gps u); galileo = marked_by f t (sorted s.plan.galileo v) }) e other)
 
@@ -122,7 +122,7 @@ one_gps s f t xs x true a n g e h k = by a n h k where
   by false false h k = more (own ∙ ap₂ (λ b c. if b || c then kept Gps xs else kept Gps xs ++ x ∷ []) h k)
 
 -- a cell of Galileo
-one_galileo : (s : Setup) (f : Seen → Option KnownLock) (t : ℕ) (xs : List Seen) (x : Seen) (p a n : Bool) → x.satellite.system ≡ Galileo
+one_galileo : (s : GatherSetup) (f : Seen → Option KnownLock) (t : ℕ) (xs : List Seen) (x : Seen) (p a n : Bool) → x.satellite.system ≡ Galileo
     → is_planned s x ≡ p → is_among (kept Galileo xs) x ≡ a → nat_le most_cells (length (kept Galileo xs)) ≡ n
     → epoch_by s.plan (if p then (if a then Repeated else (if n then Crowded else Kept)) else Skipped) f (epoch_of s.plan f t xs) x ≡ epoch_of s.plan f t (xs ++ (if p then x ∷ [] else []))
 one_galileo s f t xs x false a n g e h k = ap (epoch_of s.plan f t) (sym (append-nil xs))
@@ -136,9 +136,9 @@ one_galileo s f t xs x true a n g e h k = by a n h k where
   same : kept Galileo (xs ++ x ∷ []) ≡ kept Galileo xs → epoch_of s.plan f t xs ≡ epoch_of s.plan f t (xs ++ x ∷ [])
   same e = sym (ap₂ (λ u v. record { time = t; gps = marked_by f t (sorted s.plan.gps u); galileo = marked_by f t (sorted s.plan.galileo v) }) other e)
 
-  more : kept Galileo (xs ++ x ∷ []) ≡ kept Galileo xs ++ x ∷ [] → with_more s.plan (epoch_of s.plan f t xs) (record { seen = x; mark = mark_with t x (f x) }) ≡ epoch_of s.plan f t (xs ++ x ∷ [])
+  more : kept Galileo (xs ++ x ∷ []) ≡ kept Galileo xs ++ x ∷ [] → with_more s.plan (epoch_of s.plan f t xs) (record { seen = x; lli = lli_with t x (f x) }) ≡ epoch_of s.plan f t (xs ++ x ∷ [])
   more e =
-      ap (λ c. more_in c s.plan (epoch_of s.plan f t xs) (record { seen = x; mark = mark_with t x (f x) })) g
+      ap (λ c. with_more_in c s.plan (epoch_of s.plan f t xs) (record { seen = x; lli = lli_with t x (f x) })) g
       ∙ ap (λ l. record { time = t; gps = marked_by f t (sorted s.plan.gps (kept Gps xs)); galileo = l }) (sym (marked_by-push s.plan.galileo f t (kept Galileo xs) x))
       ∙ sym (ap₂ (λ u v. record { time = t; gps = marked_by f t (sorted s.plan.gps u); galileo = marked_by f t (sorted s.plan.galileo v) }) other e)
 
@@ -149,7 +149,7 @@ one_galileo s f t xs x true a n g e h k = by a n h k where
   by false false h k = more (own ∙ ap₂ (λ b c. if b || c then kept Galileo xs else kept Galileo xs ++ x ∷ []) h k)
 
 -- a cell more: the held epoch is that of the longer list
-one_more : (s : Setup) (f : Seen → Option KnownLock) (t : ℕ) (xs : List Seen) (x : Seen)
+one_more : (s : GatherSetup) (f : Seen → Option KnownLock) (t : ℕ) (xs : List Seen) (x : Seen)
     → epoch_by s.plan (fate_after s xs x) f (epoch_of s.plan f t xs) x ≡ epoch_of s.plan f t (xs ++ planned_one s x)
 one_more s f t xs x = by x.satellite.system refl where
   by : (system : System) → x.satellite.system ≡ system
@@ -163,7 +163,7 @@ one_more s f t xs x = by x.satellite.system refl where
       ∙ one_galileo s f t xs x _ _ _ g refl refl refl
 
 -- counts of cells that come after these, one by one
-abbrev pub counts_after : Setup → List Seen → Counts → List Seen → Counts
+abbrev pub counts_after : GatherSetup → List Seen → CellCounts → List Seen → CellCounts
 counts_after s xs n [] = n
 counts_after s xs n (y ∷ ys) = counts_after s (xs ++ planned_one s y) (count_in (fate_after s xs y) n) ys
 
@@ -174,7 +174,7 @@ hold_is Repeated g x = refl
 hold_is Crowded g x = refl
 
 -- the cells of a message, held one by one
-pub load_is : (g : Gathered) (n : Counts) (t : ℕ) (xs ys : List Seen) → g.epoch ≡ epoch_of g.clock.setup.plan (lookup g.locks) t xs
+pub load_is : (g : Gathered) (n : CellCounts) (t : ℕ) (xs ys : List Seen) → g.epoch ≡ epoch_of g.clock.setup.plan (lookup g.locks) t xs
     → load (record { state = g; counts = n }) ys
     ≡ record { state = record g { epoch = epoch_of g.clock.setup.plan (lookup g.locks) t (xs ++ filter (is_planned g.clock.setup) ys) }; counts = counts_after g.clock.setup xs n ys }
 load_is g n t xs [] h = ap (λ e. record { state = record g { epoch = e }; counts = n }) (h ∙ ap (epoch_of g.clock.setup.plan (lookup g.locks) t) (sym (append-nil xs)))

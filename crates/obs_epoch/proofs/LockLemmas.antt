@@ -12,13 +12,13 @@ use Rattle.gnss_obs.specs.declared.system.System.{System}
 use Rattle.gnss_obs.specs.declared.system.System.TheVariants.{Gps, Galileo}
 use Rattle.obs_epoch.specs.declared.seen.Seen.{Seen}
 use Rattle.obs_epoch.specs.declared.seen.KnownLock.{KnownLock}
-use Rattle.obs_epoch.specs.Marked.{Marked}
-use Rattle.obs_epoch.specs.Cells.{has_same_key, is_among, is_listed, firsts}
+use Rattle.obs_epoch.specs.WithLli.{CellWithLli}
+use Rattle.obs_epoch.specs.Cells.{has_same_key, is_among, has_listed_key, firsts}
 use Rattle.gnss_obs.specs.Satellites.{satellites}
 use Rattle.gnss_obs.specs.Signals.{table}
-use Rattle.obs_epoch.specs.Marked.{IsKey}
+use Rattle.obs_epoch.specs.WithLli.{IsKey}
 use Rattle.obs_epoch.specs.Loss.{lock_of, is_locked}
-use Rattle.obs_epoch.specs.Held.{lookup, put, note, note_all, entry_in, entry_of, most_locks, no_locks, recorded, one_if_new, Tracks}
+use Rattle.obs_epoch.specs.Held.{lookup, put, note, note_all, lock_place_in, lock_place, most_locks, no_locks, recorded, one_if_new, TracksLocks}
 use Rattle.obs_epoch.proofs.CellsLemmas.{same_key_laws, firsts-push, new_key, among-push}
 
 -- ---- keys and their entries
@@ -30,7 +30,7 @@ below_gps s i a b c = omega (arith, a, b, c)
 below_galileo : (s i : ℕ) → 0 < s → s ≤ 36 → i < 19 → 480 + (19 * (s - 1) + i) < 1164
 below_galileo s i a b c = omega (arith, a, b, c)
 
-below_place : (system : System) (s i : ℕ) → 0 < s → s ≤ satellites system → i < length (table system) → entry_in system s i < most_locks
+below_place : (system : System) (s i : ℕ) → 0 < s → s ≤ satellites system → i < length (table system) → lock_place_in system s i < most_locks
 below_place Gps s i a b c = (let e : 15 * (s - 1) + i < 1164 = omega (arith, below_gps s i a b c) in e)
 below_place Galileo s i a b c = below_galileo s i a b c
 
@@ -45,7 +45,7 @@ apart s i k p l li e = absurd (omega (arith, below_gps s i p l li, e))
 
 -- where a key is another, its place is
 place_differs : (a b : System) (s i t j : ℕ) → 0 < s → 0 < t → s ≤ satellites a → t ≤ satellites b → i < length (table a) → j < length (table b)
-    → entry_in a s i ≡ entry_in b t j → (s ≡ t) × (i ≡ j) × (a ≡ b)
+    → lock_place_in a s i ≡ lock_place_in b t j → (s ≡ t) × (i ≡ j) × (a ≡ b)
 place_differs Gps Gps s i t j p q ls lt li lj e = (let d = differs_gps s i t j p q li lj e in (d.0, d.1, refl))
 place_differs Galileo Galileo s i t j p q ls lt li lj e = (let d = differs_galileo s i t j p q li lj e in (d.0, d.1, refl))
 place_differs Gps Galileo s i t j p q ls lt li lj e = absurd (apart s i _ p ls li e)
@@ -72,7 +72,7 @@ from_listed system id index h = (grind (arith, h), grind (arith, h), grind (arit
 to_listed : (system : System) (id index : ℕ) → 0 < id → id ≤ satellites system → index < length (table system) → listed_at system id index ≡ true
 to_listed system id index a b c = grind (arith, a, b, c)
 
-pub entry_below : (x : Seen) → is_listed x ≡ true → entry_of x < most_locks
+pub entry_below : (x : Seen) → has_listed_key x ≡ true → lock_place x < most_locks
 entry_below x h =
     let l = from_listed x.satellite.system x.satellite.id x.signal.index h in
     below_place x.satellite.system x.satellite.id x.signal.index l.0 l.1 l.2
@@ -99,17 +99,17 @@ of_parts x y h = by x.satellite.system y.satellite.system refl refl where
   by Gps Galileo p q = absurd (grind (arith, p, q, h.system))
   by Galileo Gps p q = absurd (grind (arith, p, q, h.system))
 
-pub same_listed : (x y : Seen) → has_same_key x y ≡ true → is_listed x ≡ is_listed y
+pub same_listed : (x y : Seen) → has_same_key x y ≡ true → has_listed_key x ≡ has_listed_key y
 same_listed x y h =
     let s = same_parts x y h in
     ap (λ c. listed_at c x.satellite.id x.signal.index) s.system ∙ ap₂ (λ i j. listed_at y.satellite.system i j) s.id s.index
 
-same_entry : (x y : Seen) → has_same_key x y ≡ true → entry_of x ≡ entry_of y
+same_entry : (x y : Seen) → has_same_key x y ≡ true → lock_place x ≡ lock_place y
 same_entry x y h =
     let s = same_parts x y h in
-    ap (λ c. entry_in c x.satellite.id x.signal.index) s.system ∙ ap₂ (λ i j. entry_in y.satellite.system i j) s.id s.index
+    ap (λ c. lock_place_in c x.satellite.id x.signal.index) s.system ∙ ap₂ (λ i j. lock_place_in y.satellite.system i j) s.id s.index
 
-other_entry : (x y : Seen) → is_listed x ≡ true → is_listed y ≡ true → has_same_key x y ≡ false → entry_of x ≢ entry_of y
+other_entry : (x y : Seen) → has_listed_key x ≡ true → has_listed_key y ≡ true → has_same_key x y ≡ false → lock_place x ≢ lock_place y
 other_entry x y l m h e =
     let a = from_listed x.satellite.system x.satellite.id x.signal.index l in
     let b = from_listed y.satellite.system y.satellite.id y.signal.index m in
@@ -122,19 +122,19 @@ other_entry x y l m h e =
 abbrev answer : Bool → KnownLock → Option KnownLock → Option KnownLock
 answer same l o = if same then Some l else o
 
-pub lookup_listed : (ts : List (Option KnownLock)) (x : Seen) → is_listed x ≡ true → lookup ts x ≡ get_or ts (entry_of x) None
-lookup_listed ts x h = ap (λ b. if b then get_or ts (entry_of x) None else None) h
+pub lookup_listed : (ts : List (Option KnownLock)) (x : Seen) → has_listed_key x ≡ true → lookup ts x ≡ get_or ts (lock_place x) None
+lookup_listed ts x h = ap (λ b. if b then get_or ts (lock_place x) None else None) h
 
-pub lookup-put : (ts : List (Option KnownLock)) (x key : Seen) (l : KnownLock) → is_listed x ≡ true → length ts ≡ most_locks
+pub lookup-put : (ts : List (Option KnownLock)) (x key : Seen) (l : KnownLock) → has_listed_key x ≡ true → length ts ≡ most_locks
     → lookup (put ts x l) key ≡ answer (has_same_key key x) l (lookup ts key)
-lookup-put ts x key l k size = by (is_listed key) (has_same_key key x) refl refl where
-  less : entry_of x < length ts
-  less = subst (λ n. entry_of x < n) (sym size) (entry_below x k)
+lookup-put ts x key l k size = by (has_listed_key key) (has_same_key key x) refl refl where
+  less : lock_place x < length ts
+  less = subst (λ n. lock_place x < n) (sym size) (entry_below x k)
 
-  by : (b s : Bool) → is_listed key ≡ b → has_same_key key x ≡ s
-      → (if b then get_or (put ts x l) (entry_of key) None else None) ≡ answer s l (if b then get_or ts (entry_of key) None else None)
-  by true true e f = ap (λ i. get_or (put ts x l) i None) (same_entry key x f) ∙ get_or-set_same ts (entry_of x) (Some l) None less
-  by true false e f = get_or-set_other ts (entry_of x) (entry_of key) (Some l) None (other_entry key x e k f)
+  by : (b s : Bool) → has_listed_key key ≡ b → has_same_key key x ≡ s
+      → (if b then get_or (put ts x l) (lock_place key) None else None) ≡ answer s l (if b then get_or ts (lock_place key) None else None)
+  by true true e f = ap (λ i. get_or (put ts x l) i None) (same_entry key x f) ∙ get_or-set_same ts (lock_place x) (Some l) None less
+  by true false e f = get_or-set_other ts (lock_place x) (lock_place key) (Some l) None (other_entry key x e k f)
   by false true e f = let same = same_listed key x f in absurd (grind (arith, same, e, k))
   by false false e f = refl
 
@@ -142,7 +142,7 @@ abbrev lock_for : Seen → ℕ → Seen → Option KnownLock
 lock_for key t x = if has_same_key key x then lock_of t x else None
 
 -- what is found after a cell is noted
-pub lookup-note : (t : ℕ) (ts : List (Option KnownLock)) (x key : Seen) → is_listed x ≡ true → length ts ≡ most_locks
+pub lookup-note : (t : ℕ) (ts : List (Option KnownLock)) (x key : Seen) → has_listed_key x ≡ true → length ts ≡ most_locks
     → lookup (note t ts x) key ≡ option_or (lock_for key t x) (lookup ts key)
 lookup-note t ts x key k size = by (lock_of t x) where
   turn : (b : Bool) (l : KnownLock) (o : Option KnownLock) → answer b l o ≡ option_or (if b then Some l else None) o
@@ -161,19 +161,19 @@ pub note_size : (t : ℕ) (ts : List (Option KnownLock)) (x : Seen) → length (
 note_size t ts x = by (lock_of t x) where
   by : (l : Option KnownLock) → length (option_map_or (put ts x) l ts) ≡ length ts
   by None = refl
-  by (Some l) = length-set ts (entry_of x) (Some l)
+  by (Some l) = length-set ts (lock_place x) (Some l)
 
-pub note_all_size : (t : ℕ) (ts : List (Option KnownLock)) (ms : List Marked) → length (note_all t ts ms) ≡ length ts
+pub note_all_size : (t : ℕ) (ts : List (Option KnownLock)) (ms : List CellWithLli) → length (note_all t ts ms) ≡ length ts
 note_all_size t ts [] = refl
 note_all_size t ts (m ∷ ms) = note_all_size t (note t ts m.seen) ms ∙ note_size t ts m.seen
 
 abbrev pub AllListed : List Seen → Type 0
-AllListed xs = AllByRecursion (λ x. is_listed x ≡ true) xs
+AllListed xs = AllByRecursion (λ x. has_listed_key x ≡ true) xs
 
 -- ---- after all cells of an epoch
 
-abbrev pub seens : List Marked → List Seen
-seens ms = map (λ (m : Marked). m.seen) ms
+abbrev pub seens : List CellWithLli → List Seen
+seens ms = map (λ (m : CellWithLli). m.seen) ms
 
 pub find_none : (key : Seen) (xs : List Seen) → is_among xs key ≡ false → find (has_same_key key) xs ≡ None
 find_none key [] h = refl
@@ -188,7 +188,7 @@ head_apart x xs d = none xs (IsDistinct-head has_same_key x xs d) where
   none [] h = refl
   none (y ∷ ys) h = ap (λ b. b || is_among ys x) h.0 ∙ none ys h.1
 
-pub lookup-note_all : (t : ℕ) (ts : List (Option KnownLock)) (ms : List Marked) (key : Seen) → IsDistinct has_same_key (seens ms) → AllListed (seens ms) → length ts ≡ most_locks
+pub lookup-note_all : (t : ℕ) (ts : List (Option KnownLock)) (ms : List CellWithLli) (key : Seen) → IsDistinct has_same_key (seens ms) → AllListed (seens ms) → length ts ≡ most_locks
     → lookup (note_all t ts ms) key ≡ option_or (option_and_then (lock_of t) (find (has_same_key key) (seens ms))) (lookup ts key)
 lookup-note_all t ts [] key d k size = refl
 lookup-note_all t ts (m ∷ ms) key d k size =
@@ -222,16 +222,16 @@ length_firsts-push xs y =
       by true = refl
       by false = refl
 
-recorded-put : (ts : List (Option KnownLock)) (x : Seen) (l : KnownLock) → is_listed x ≡ true → length ts ≡ most_locks → recorded (put ts x l) ≡ recorded ts + (if is_some (lookup ts x) then 0 else 1)
+recorded-put : (ts : List (Option KnownLock)) (x : Seen) (l : KnownLock) → has_listed_key x ≡ true → length ts ≡ most_locks → recorded (put ts x l) ≡ recorded ts + (if is_some (lookup ts x) then 0 else 1)
 recorded-put ts x l k size =
-    recorded-set ts (entry_of x) l (subst (λ n. entry_of x < n) (sym size) (entry_below x k))
+    recorded-set ts (lock_place x) l (subst (λ n. lock_place x < n) (sym size) (entry_below x k))
     ∙ ap (λ o. recorded ts + one_if_new o) (sym (lookup_listed ts x k))
 
-pub tracks_put : (ts : List (Option KnownLock)) (noted : List Seen) (x : Seen) (l : KnownLock) → is_listed x ≡ true → Tracks ts noted → Tracks (put ts x l) (noted ++ x ∷ [])
+pub tracks_put : (ts : List (Option KnownLock)) (noted : List Seen) (x : Seen) (l : KnownLock) → has_listed_key x ≡ true → TracksLocks ts noted → TracksLocks (put ts x l) (noted ++ x ∷ [])
 tracks_put ts noted x l k h = record {
   has = λ key. ap is_some (lookup-put ts x key l k h.size) ∙ by (has_same_key key x) (lookup ts key) (is_among noted key) (h.has key) ∙ sym (among-push noted x key);
   count = recorded-put ts x l k h.size ∙ ap₂ (λ n b. n + (if b then 0 else 1)) h.count (h.has x) ∙ sym (length_firsts-push noted x);
-  size = length-set ts (entry_of x) (Some l) ∙ h.size;
+  size = length-set ts (lock_place x) (Some l) ∙ h.size;
 } where
   by : (b : Bool) (o : Option KnownLock) (a : Bool) → is_some o ≡ a → is_some (answer b l o) ≡ (a || b)
   by true o true e = refl
@@ -249,16 +249,16 @@ is_some_lock t x = by (is_locked x) where
   by true = refl
   by false = refl
 
-pub tracks_note : (t : ℕ) (rs : List (Option KnownLock)) (noted : List Seen) (x : Seen) → is_listed x ≡ true → Tracks rs noted → Tracks (note t rs x) (noted ++ locked (x ∷ []))
+pub tracks_note : (t : ℕ) (rs : List (Option KnownLock)) (noted : List Seen) (x : Seen) → has_listed_key x ≡ true → TracksLocks rs noted → TracksLocks (note t rs x) (noted ++ locked (x ∷ []))
 tracks_note t rs noted x k h = by (lock_of t x) (is_some_lock t x) where
-  by : (o : Option KnownLock) → is_some o ≡ is_locked x → Tracks (option_map_or (put rs x) o rs) (noted ++ cond (is_locked x) (x ∷ []) [])
-  by None e = subst (λ b. Tracks rs (noted ++ cond b (x ∷ []) [])) e (subst (Tracks rs) (sym (append-nil noted)) h)
-  by (Some l) e = subst (λ b. Tracks (put rs x l) (noted ++ cond b (x ∷ []) [])) e (tracks_put rs noted x l k h)
+  by : (o : Option KnownLock) → is_some o ≡ is_locked x → TracksLocks (option_map_or (put rs x) o rs) (noted ++ cond (is_locked x) (x ∷ []) [])
+  by None e = subst (λ b. TracksLocks rs (noted ++ cond b (x ∷ []) [])) e (subst (TracksLocks rs) (sym (append-nil noted)) h)
+  by (Some l) e = subst (λ b. TracksLocks (put rs x l) (noted ++ cond b (x ∷ []) [])) e (tracks_put rs noted x l k h)
 
-pub tracks_all : (t : ℕ) (rs : List (Option KnownLock)) (noted : List Seen) (ms : List Marked) → AllListed (seens ms) → Tracks rs noted → Tracks (note_all t rs ms) (noted ++ locked (seens ms))
-tracks_all t rs noted [] k h = subst (Tracks rs) (sym (append-nil noted)) h
+pub tracks_all : (t : ℕ) (rs : List (Option KnownLock)) (noted : List Seen) (ms : List CellWithLli) → AllListed (seens ms) → TracksLocks rs noted → TracksLocks (note_all t rs ms) (noted ++ locked (seens ms))
+tracks_all t rs noted [] k h = subst (TracksLocks rs) (sym (append-nil noted)) h
 tracks_all t rs noted (m ∷ ms) k h =
-    subst (Tracks (note_all t (note t rs m.seen) ms))
+    subst (TracksLocks (note_all t (note t rs m.seen) ms))
     (append_assoc noted (locked (m.seen ∷ [])) (locked (seens ms)) ∙ ap (λ l. noted ++ l) (sym (filter-append is_locked (m.seen ∷ []) (seens ms))))
     (tracks_all t (note t rs m.seen) (noted ++ locked (m.seen ∷ [])) ms k.1 (tracks_note t rs noted m.seen k.0 h))
 
@@ -277,7 +277,7 @@ no_entry (suc n) zero = refl
 no_entry (suc n) (suc i) = no_entry n i
 
 pub none_found : (key : Seen) → lookup no_locks key ≡ None
-none_found key = by (is_listed key) where
-  by : (b : Bool) → (if b then get_or no_locks (entry_of key) None else None) ≡ None
-  by true = no_entry most_locks (entry_of key)
+none_found key = by (has_listed_key key) where
+  by : (b : Bool) → (if b then get_or no_locks (lock_place key) None else None) ≡ None
+  by true = no_entry most_locks (lock_place key)
   by false = refl

@@ -11,7 +11,7 @@ use Rattle.obs_epoch.proofs.CellsLemmas.{same_key_laws}
 use Rattle.gnss_obs.specs.declared.system.System.{System}
 use Rattle.obs_epoch.specs.declared.cell.Cell.{Cell}
 use Rattle.obs_epoch.specs.Values.{PlanValue, planned_of}
-use Rattle.obs_epoch.specs.Order.{is_before, Rise, insert_by, spot, cell_seat, seat_of, sorted}
+use Rattle.obs_epoch.specs.Order.{is_before, SeatsRise, insert_by, spot, cell_seat, seat_of, sorted}
 
 -- ---- seats
 
@@ -86,10 +86,10 @@ insert_spot at x (y ∷ ys) = by (is_before (at x) (at y)) (insert_spot at x ys)
   by true e = refl
   by false e = ap (λ l. y ∷ l) e
 
-pub rise-insert_by : {X : Type 0} (at : X → Seat) (x : X) (ys : List X) → Rise (map at ys) → AllByRecursion (λ y. at x ≡ at y → ⊥) ys → Rise (map at (insert_by at x ys))
+pub rise-insert_by : {X : Type 0} (at : X → Seat) (x : X) (ys : List X) → SeatsRise (map at ys) → AllByRecursion (λ y. at x ≡ at y → ⊥) ys → SeatsRise (map at (insert_by at x ys))
 rise-insert_by at x [] r other = (tt, tt)
 rise-insert_by at x (y ∷ ys) r other = by (is_before (at x) (at y)) refl (rise-insert_by at x ys r.1 other.1) where
-  by : (b : Bool) → is_before (at x) (at y) ≡ b → Rise (map at (insert_by at x ys)) → Rise (map at (if b then x ∷ y ∷ ys else y ∷ insert_by at x ys))
+  by : (b : Bool) → is_before (at x) (at y) ≡ b → SeatsRise (map at (insert_by at x ys)) → SeatsRise (map at (if b then x ∷ y ∷ ys else y ∷ insert_by at x ys))
   by true e h = ((e, before_all (at x) (at y) (map at ys) e r.0), r)
   by false e h =
       let first = before_other (at x) (at y) e other.0 in
@@ -124,7 +124,7 @@ spot_upper s (t ∷ ts) (suc k) d h behind = by (is_before s t) (spot_upper s ts
   by true h = omega arith
   by false h = omega (arith, h)
 
-spot_lower : (s : Seat) (ts : List Seat) (k : ℕ) (d : Seat) → Rise ts → k < length ts → is_before s (get_or ts k d) ≡ false → suc k ≤ spot s ts
+spot_lower : (s : Seat) (ts : List Seat) (k : ℕ) (d : Seat) → SeatsRise ts → k < length ts → is_before s (get_or ts k d) ≡ false → suc k ≤ spot s ts
 spot_lower s [] k d r h front = absurd (omega (arith, h))
 spot_lower s (t ∷ ts) zero d r h front = let e : spot s (t ∷ ts) ≡ suc (spot s ts) = ap (λ b. if b then 0 else suc (spot s ts)) front in omega (arith, e)
 spot_lower s (t ∷ ts) (suc k) d r h front =
@@ -144,7 +144,7 @@ module _ {X : Type 0} (s : Seat) (f : X → Seat) (xs : List X) (k : ℕ) (x : X
   pub spot_before : is_before s (f x) ≡ true → spot s (map f xs) ≤ k
   spot_before behind = spot_upper s (map f xs) k (f x) within (ap (is_before s) here ∙ behind)
 
-  pub spot_behind : Rise (map f xs) → is_before s (f x) ≡ false → k + 1 ≤ spot s (map f xs)
+  pub spot_behind : SeatsRise (map f xs) → is_before s (f x) ≡ false → k + 1 ≤ spot s (map f xs)
   spot_behind r front = let h = spot_lower s (map f xs) k (f x) r within (ap (is_before s) here ∙ front) in omega (arith, h)
 
 pub spot_within : {X : Type 0} (s : Seat) (f : X → Seat) (xs : List X) → spot s (map f xs) ≤ length xs

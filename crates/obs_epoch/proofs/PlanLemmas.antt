@@ -8,13 +8,13 @@ use Rattle.std.proofs.lemmas.Map.Keys.{IsDistinct-push}
 use Rattle.std.proofs.lemmas.Map.Steps.{length-le_from_distinct_below}
 use Rattle.std.proofs.lemmas.List.Elements.{All-push, All-head, All-tail}
 use Rattle.std.proofs.lemmas.Str.Pattern.{IsSplitOnceResult, split_once_first}
-use Rattle.gnss_obs.specs.declared.tables.Entry.{Entry}
+use Rattle.gnss_obs.specs.declared.tables.ListedSignal.{ListedSignal}
 use Rattle.obs_epoch.specs.declared.fault.PlanFault.TheVariants.{UnknownCode, RepeatedCode}
 use Rattle.std.specs.List.{list_any, position_or_len, before_first, after_first, IsDistinct}
 use Rattle.gnss_obs.specs.declared.system.System.{System}
 use Rattle.gnss_obs.specs.Signals.{SignalAt, IsSignal, table, signal_where, signal_at}
 use Rattle.obs_epoch.specs.declared.fault.PlanFault.{PlanFault}
-use Rattle.obs_epoch.specs.Plans.{between_commas, onto_first, one_more, below, signals_of, signals_after}
+use Rattle.obs_epoch.specs.Plans.{between_commas, onto_first, one_signal_more, below, signals_of, signals_after}
 use Rattle.obs_epoch.specs.Signals.{indices, IsOf}
 
 abbrev comma : ℕ → Bool
@@ -102,20 +102,20 @@ pub has_now : (b v : Bool) (n : ℕ) (s : SignalAt) (slice : List SignalAt) → 
 has_now b v n s slice is at {ss} e h = ap₂ (λ (k : ℕ) l. list_any (λ (r : SignalAt). k == r.index) l) (sym at) (sym e) ∙ sym is ∙ h
 
 pub repeated : (system : System) (ss : List SignalAt) (o : Option SignalAt) (s : SignalAt) (rest : List ℕ → Result (List ℕ) PlanFault) → o ≡ Some s
-    → list_any (λ (r : SignalAt). s.index == r.index) ss ≡ true → one_more system (indices ss) o rest ≡ Err (RepeatedCode system (length ss))
+    → list_any (λ (r : SignalAt). s.index == r.index) ss ≡ true → one_signal_more system (indices ss) o rest ≡ Err (RepeatedCode system (length ss))
 repeated system ss o s rest is has =
-    ap (λ o. one_more system (indices ss) o rest) is
+    ap (λ o. one_signal_more system (indices ss) o rest) is
     ∙ ap (λ b. if b then Err (RepeatedCode system (length (indices ss))) else rest (indices ss ++ s.index ∷ [])) (sym (any_index s.index ss) ∙ has)
     ∙ ap (λ n. Err (RepeatedCode system n)) (length_indices ss)
 
 pub unknown : (system : System) (ss : List SignalAt) (o : Option SignalAt) (rest : List ℕ → Result (List ℕ) PlanFault) → o ≡ None
-    → one_more system (indices ss) o rest ≡ Err (UnknownCode system (length ss))
-unknown system ss o rest is = ap (λ o. one_more system (indices ss) o rest) is ∙ ap (λ n. Err (UnknownCode system n)) (length_indices ss)
+    → one_signal_more system (indices ss) o rest ≡ Err (UnknownCode system (length ss))
+unknown system ss o rest is = ap (λ o. one_signal_more system (indices ss) o rest) is ∙ ap (λ n. Err (UnknownCode system n)) (length_indices ss)
 
 pub accepted : (system : System) (ss : List SignalAt) (o : Option SignalAt) (s : SignalAt) (rest : List ℕ → Result (List ℕ) PlanFault) → o ≡ Some s
-    → list_any (λ (r : SignalAt). s.index == r.index) ss ≡ false → one_more system (indices ss) o rest ≡ rest (indices (ss ++ s ∷ []))
+    → list_any (λ (r : SignalAt). s.index == r.index) ss ≡ false → one_signal_more system (indices ss) o rest ≡ rest (indices (ss ++ s ∷ []))
 accepted system ss o s rest is has =
-    ap (λ o. one_more system (indices ss) o rest) is
+    ap (λ o. one_signal_more system (indices ss) o rest) is
     ∙ ap (λ b. if b then Err (RepeatedCode system (length (indices ss))) else rest (indices ss ++ s.index ∷ [])) (sym (any_index s.index ss) ∙ has)
     ∙ ap rest (sym (indices-push ss s))
 
@@ -126,7 +126,7 @@ test_lt : (a b : ℕ) → nat_lt a b ≡ true → a < b
 test_lt a b e = grind (arith, e)
 
 -- a signal of a code is one of the system's table
-pub of_where : (system : System) (test : Entry → Bool) (s : SignalAt) → signal_where system test ≡ Some s → (s.system ≡ system) × IsSignal s
+pub of_where : (system : System) (test : ListedSignal → Bool) (s : SignalAt) → signal_where system test ≡ Some s → (s.system ≡ system) × IsSignal s
 of_where system test s h = by (nat_lt (position_or_len test (table system)) (length (table system))) refl h where
   by : (b : Bool) → nat_lt (position_or_len test (table system)) (length (table system)) ≡ b
       → option_map (λ i. record { system = system; index = i }) (cond b (Some (position_or_len test (table system))) None) ≡ Some s → (s.system ≡ system) × IsSignal s

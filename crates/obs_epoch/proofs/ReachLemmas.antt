@@ -6,9 +6,9 @@ use Rattle.std.specs.List.{AllByRecursion, IsDistinct, cons_option}
 use Rattle.std.proofs.lemmas.Int.{ints}
 use Rattle.gnss_obs.specs.declared.system.System.{System}
 use Rattle.gnss_obs.specs.declared.system.System.TheVariants.{Gps, Galileo}
-use Rattle.gnss_obs.specs.Satellites.{Satellite, satellite_at, satellites}
+use Rattle.gnss_obs.specs.Satellites.{Satellite, satellite_of_id, satellites}
 use Rattle.gnss_obs.specs.Signals.{SignalAt, signal_of_id, hertz_of}
-use Rattle.gnss_obs.specs.Observables.{metres, cycles, shift, decibels}
+use Rattle.gnss_obs.specs.Observables.{nearest_pseudorange, nearest_phase, nearest_doppler, nearest_strength}
 use Rattle.gnss_obs.specs.LockTimes.{LockTime}
 use Rattle.rtcm_msg.specs.declared.station.StationParts.{StationParts}
 use Rattle.rtcm_msg.specs.declared.entry.Entry.{Entry}
@@ -21,16 +21,16 @@ use Rattle.obs_epoch.specs.declared.cell.StationValues.{StationValues}
 use Rattle.obs_epoch.specs.declared.seen.Seen.{Seen}
 use Rattle.obs_epoch.specs.declared.seen.KnownLock.{KnownLock}
 use Rattle.obs_epoch.specs.Weeks.{week, weeks}
-use Rattle.obs_epoch.specs.Values.{Closed, Fits, cells_of, planned_of, most_cells}
+use Rattle.obs_epoch.specs.Values.{Closed, HasTwelveDigits, cells_of, planned_of, most_cells}
 use Rattle.obs_epoch.specs.Plans.{place_in}
-use Rattle.obs_epoch.specs.Heard.{Setup, Heard, heard, observed, seen_in, lock_by, is_own}
+use Rattle.obs_epoch.specs.Heard.{GatherSetup, Heard, heard, observed, seen_in, lock_by, is_own}
 use Rattle.obs_epoch.specs.Times.{Timed, is_at, timed, timed_after, taken_at, is_late, is_past, time_of}
-use Rattle.obs_epoch.specs.Cells.{is_of, is_system, is_planned, is_listed, is_among, has_same_key, offered, firsts_after, firsts, kept, kept_at}
-use Rattle.obs_epoch.specs.Marked.{cell_of, shown}
-use Rattle.obs_epoch.specs.Loss.{times, mark_with, mark_of, has_lost, previous}
-use Rattle.obs_epoch.specs.Epochs.{marked, epoch_at, told, no_values, is_shut}
+use Rattle.obs_epoch.specs.Cells.{is_of_system, is_system, is_planned, has_listed_key, is_among, has_same_key, offered, firsts_after, firsts, kept, kept_at}
+use Rattle.obs_epoch.specs.WithLli.{shown_cell, shown}
+use Rattle.obs_epoch.specs.Loss.{times, lli_with, lli_of, has_lost, previous}
+use Rattle.obs_epoch.specs.Epochs.{cells_with_lli, epoch_at, values_told, no_values, is_shut}
 use Rattle.obs_epoch.specs.Gathering.{open_after, before_closing, closed_list_at, all_epochs}
-use Rattle.obs_epoch.specs.Reach.{IsStrength, IsTold, IsHeard, IsGathered, same_place, AreGathered, AreToldValues, IsGatheredEpoch, TimesRise, AreGatheredEpochs}
+use Rattle.obs_epoch.specs.Reach.{IsStrength, IsHeardCell, IsHeard, IsGathered, same_place, AreGathered, AreToldValues, IsGatheredEpoch, TimesRise, AreGatheredEpochs}
 use Rattle.obs_epoch.proofs.OrderLemmas.{all-sorted, distinct-sorted}
 use Rattle.obs_epoch.proofs.NotingLemmas.{kept_distinct}
 
@@ -64,34 +64,34 @@ all_take P (suc n) (x ∷ xs) h = (h.0, all_take P n xs h.1)
 
 -- the values of measured cells are within their bounds
 pub record AreSizes : Type 0 where
-  pub metres : (r : ℤ) → unsigned_abs r ≤ 2 ^ 40 → unsigned_abs (metres r) < 10 ^ 12
-  pub cycles : (s : SignalAt) (p : ℤ) → unsigned_abs p ≤ 2 ^ 40 → unsigned_abs (cycles (hertz_of s) p) < 10 ^ 12
-  pub shift : (s : SignalAt) (v : ℤ) → unsigned_abs v ≤ 10 ^ 8 → unsigned_abs (shift (hertz_of s) v) < 10 ^ 12
-  pub decibels : (s : ℕ) → 0 < s → s < 1024 → (pos 1 ≤ℤ decibels s) × (decibels s ≤ℤ pos 99_999)
+  pub metres : (r : ℤ) → unsigned_abs r ≤ 2 ^ 40 → unsigned_abs (nearest_pseudorange r) < 10 ^ 12
+  pub cycles : (s : SignalAt) (p : ℤ) → unsigned_abs p ≤ 2 ^ 40 → unsigned_abs (nearest_phase (hertz_of s) p) < 10 ^ 12
+  pub shift : (s : SignalAt) (v : ℤ) → unsigned_abs v ≤ 10 ^ 8 → unsigned_abs (nearest_doppler (hertz_of s) v) < 10 ^ 12
+  pub decibels : (s : ℕ) → 0 < s → s < 1024 → (pos 1 ≤ℤ nearest_strength s) × (nearest_strength s ≤ℤ pos 99_999)
 
 mapped : {A B : Type 0} (f : A → B) (P : A → Type 0) (Q : B → Type 0) → ((x : A) → P x → Q (f x)) → (o : Option A) → IfSome o P → IfSome (option_map f o) Q
 mapped f P Q h None k = tt
 mapped f P Q h (Some x) k = h x k
 
-observed_told : AreSizes → (lock : LockTime) (e : Entry) (satellite : Satellite) (signal : SignalAt) → IsMeasured e → IsTold (observed lock e satellite signal)
+observed_told : AreSizes → (lock : LockTime) (e : Entry) (satellite : Satellite) (signal : SignalAt) → IsMeasured e → IsHeardCell (observed lock e satellite signal)
 observed_told z lock e satellite signal h = record {
-  c = mapped metres (λ r. unsigned_abs r ≤ 2 ^ 40) Fits z.metres e.range h.range;
-  l = mapped (cycles (hertz_of signal)) (λ r. unsigned_abs r ≤ 2 ^ 40) Fits (z.cycles signal) e.phase h.phase;
-  d = mapped (shift (hertz_of signal)) (λ v. unsigned_abs v ≤ 10 ^ 8) Fits (z.shift signal) e.rate h.rate;
-  s = mapped decibels (λ (s : ℕ). (0 < s) × (s < 1024)) IsStrength (λ s k. z.decibels s k.0 k.1) e.strength h.strength;
+  c = mapped nearest_pseudorange (λ r. unsigned_abs r ≤ 2 ^ 40) HasTwelveDigits z.metres e.range h.range;
+  l = mapped (nearest_phase (hertz_of signal)) (λ r. unsigned_abs r ≤ 2 ^ 40) HasTwelveDigits (z.cycles signal) e.phase h.phase;
+  d = mapped (nearest_doppler (hertz_of signal)) (λ v. unsigned_abs v ≤ 10 ^ 8) HasTwelveDigits (z.shift signal) e.rate h.rate;
+  s = mapped nearest_strength (λ (s : ℕ). (0 < s) × (s < 1024)) IsStrength (λ s k. z.decibels s k.0 k.1) e.strength h.strength;
 }
 
-seen_told : AreSizes → (is_long : Bool) (system : System) (e : Entry) → IsMeasured e → IfSome (seen_in is_long system e) IsTold
-seen_told z is_long system e h = by (satellite_at system e.satellite) (signal_of_id system e.signal) where
-  by : (a : Option Satellite) (b : Option SignalAt) → IfSome (option_and_then (λ satellite. option_map (observed (lock_by is_long e.lock) e satellite) b) a) IsTold
+seen_told : AreSizes → (is_msm7 : Bool) (system : System) (e : Entry) → IsMeasured e → IfSome (seen_in is_msm7 system e) IsHeardCell
+seen_told z is_msm7 system e h = by (satellite_of_id system e.satellite) (signal_of_id system e.signal) where
+  by : (a : Option Satellite) (b : Option SignalAt) → IfSome (option_and_then (λ satellite. option_map (observed (lock_by is_msm7 e.lock) e satellite) b) a) IsHeardCell
   by None b = tt
   by (Some satellite) None = tt
-  by (Some satellite) (Some signal) = observed_told z (lock_by is_long e.lock) e satellite signal h
+  by (Some satellite) (Some signal) = observed_told z (lock_by is_msm7 e.lock) e satellite signal h
 
-cells_told : AreSizes → (is_long : Bool) (system : System) (es : List Entry) → AllByRecursion IsMeasured es → AllByRecursion IsTold (filter_map (seen_in is_long system) es)
-cells_told z is_long system [] h = tt
-cells_told z is_long system (e ∷ es) h = by (seen_in is_long system e) (seen_told z is_long system e h.0) (cells_told z is_long system es h.1) where
-  by : (o : Option Seen) → IfSome o IsTold → AllByRecursion IsTold (filter_map (seen_in is_long system) es) → AllByRecursion IsTold (cons_option o (filter_map (seen_in is_long system) es))
+cells_told : AreSizes → (is_msm7 : Bool) (system : System) (es : List Entry) → AllByRecursion IsMeasured es → AllByRecursion IsHeardCell (filter_map (seen_in is_msm7 system) es)
+cells_told z is_msm7 system [] h = tt
+cells_told z is_msm7 system (e ∷ es) h = by (seen_in is_msm7 system e) (seen_told z is_msm7 system e h.0) (cells_told z is_msm7 system es h.1) where
+  by : (o : Option Seen) → IfSome o IsHeardCell → AllByRecursion IsHeardCell (filter_map (seen_in is_msm7 system) es) → AllByRecursion IsHeardCell (cons_option o (filter_map (seen_in is_msm7 system) es))
   by None k l = l
   by (Some x) k l = (k, l)
 
@@ -111,7 +111,7 @@ record IsTimed (x : Timed) : Type 0 where
   heard : IsHeard x.message
   time : IfSome x.time IsWithin
 
-taken_within : (s : Setup) (earlier : List Timed) (m : Heard) → IfSome (taken_at s earlier m) IsWithin
+taken_within : (s : GatherSetup) (earlier : List Timed) (m : Heard) → IfSome (taken_at s earlier m) IsWithin
 taken_within s earlier m = by (is_own s m) m.tow where
   by_tow : (tow : ℕ) (late past : Bool) → is_past (time_of s earlier tow) ≡ past → IfSome (if late || past then None else Some (time_of s earlier tow)) IsWithin
   by_tow tow true past e = tt
@@ -124,13 +124,13 @@ taken_within s earlier m = by (is_own s m) m.tow where
   by true None = tt
   by true (Some tow) = by_tow tow (is_late s earlier tow) (is_past (time_of s earlier tow)) refl
 
-timed_more : (s : Setup) (earlier : List Timed) (ms : List Heard) → AllByRecursion IsTimed earlier → AllByRecursion IsHeard ms → AllByRecursion IsTimed (timed_after s earlier ms)
+timed_more : (s : GatherSetup) (earlier : List Timed) (ms : List Heard) → AllByRecursion IsTimed earlier → AllByRecursion IsHeard ms → AllByRecursion IsTimed (timed_after s earlier ms)
 timed_more s earlier [] h k = h
 timed_more s earlier (m ∷ ms) h k =
     timed_more s (earlier ++ record { message = m; time = taken_at s earlier m } ∷ []) ms
     (all_append IsTimed earlier (record { message = m; time = taken_at s earlier m } ∷ []) h (record { heard = k.0; time = taken_within s earlier m }, tt)) k.1
 
-timed_all : (s : Setup) (ms : List Heard) → AllByRecursion IsHeard ms → AllByRecursion IsTimed (timed s ms)
+timed_all : (s : GatherSetup) (ms : List Heard) → AllByRecursion IsHeard ms → AllByRecursion IsTimed (timed s ms)
 timed_all s ms h = timed_more s [] ms tt h
 
 -- each before all behind it
@@ -170,12 +170,12 @@ times_within (x ∷ xs) h = by x.time h.0.time (times_within xs h.1) where
 -- ---- cells
 
 -- a cell of a message that was read, planned
-abbrev IsOffered : Setup → Seen → Type 0
-IsOffered s x = IsTold x × (is_planned s x ≡ true)
+abbrev IsOffered : GatherSetup → Seen → Type 0
+IsOffered s x = IsHeardCell x × (is_planned s x ≡ true)
 
-all_offered : (s : Setup) (xs : List Timed) → AllByRecursion IsTimed xs → AllByRecursion (IsOffered s) (flat_map (λ (x : Timed). filter (is_planned s) x.message.cells) xs)
+all_offered : (s : GatherSetup) (xs : List Timed) → AllByRecursion IsTimed xs → AllByRecursion (IsOffered s) (flat_map (λ (x : Timed). filter (is_planned s) x.message.cells) xs)
 all_offered s [] h = tt
-all_offered s (x ∷ xs) h = all_append (IsOffered s) (filter (is_planned s) x.message.cells) _ (all_passed IsTold (is_planned s) x.message.cells h.0.heard.cells) (all_offered s xs h.1)
+all_offered s (x ∷ xs) h = all_append (IsOffered s) (filter (is_planned s) x.message.cells) _ (all_passed IsHeardCell (is_planned s) x.message.cells h.0.heard.cells) (all_offered s xs h.1)
 
 all_firsts : (P : Seen → Type 0) (earlier xs : List Seen) → AllByRecursion P xs → AllByRecursion P (firsts_after earlier xs)
 all_firsts P earlier [] h = tt
@@ -185,14 +185,14 @@ all_firsts P earlier (x ∷ xs) h = by (is_among earlier x) (all_firsts P (earli
   by false k = (h.0, k)
 
 -- and of a system
-abbrev IsKept : Setup → System → Seen → Type 0
-IsKept s system x = IsOffered s x × (is_of system x ≡ true)
+abbrev IsKept : GatherSetup → System → Seen → Type 0
+IsKept s system x = IsOffered s x × (is_of_system system x ≡ true)
 
-all_kept : (s : Setup) (t : ℕ) (xs : List Timed) (system : System) → AllByRecursion IsTimed xs → AllByRecursion (IsKept s system) (kept_at s t xs system)
+all_kept : (s : GatherSetup) (t : ℕ) (xs : List Timed) (system : System) → AllByRecursion IsTimed xs → AllByRecursion (IsKept s system) (kept_at s t xs system)
 all_kept s t xs system h =
     all-sorted (IsKept s system) (planned_of system s.plan) (kept system (offered s t xs))
-    (all_take (IsKept s system) most_cells (filter (is_of system) (firsts (offered s t xs)))
-    (all_passed (IsOffered s) (is_of system) (firsts (offered s t xs))
+    (all_take (IsKept s system) most_cells (filter (is_of_system system) (firsts (offered s t xs)))
+    (all_passed (IsOffered s) (is_of_system system) (firsts (offered s t xs))
     (all_firsts (IsOffered s) [] (offered s t xs) (all_offered s (filter (is_at t) xs) (all_filter IsTimed (is_at t) xs h)))))
 
 system_is : (a b : System) → is_system a b ≡ true → b ≡ a
@@ -209,7 +209,7 @@ second_of : (a b : Bool) → (a && b) ≡ true → b ≡ true
 second_of true b h = h
 second_of false b h = absurd (grind (arith, h))
 
-marks : (t : ℕ) (x : Seen) (before : Option KnownLock) → mark_with t x before < 4
+marks : (t : ℕ) (x : Seen) (before : Option KnownLock) → lli_with t x before < 4
 marks t x before = by (is_some x.l) (has_lost t x before) x.half_cycle where
   by : (l a b : Bool) → (if l then (if a then 1 else 0) + (if b then 2 else 0) else 0) < 4
   by false a b = lit< tt
@@ -218,18 +218,18 @@ marks t x before = by (is_some x.l) (has_lost t x before) x.half_cycle where
   by true true false = lit< tt
   by true true true = lit< tt
 
-unmarked : (t : ℕ) (x : Seen) (before : Option KnownLock) → x.l ≡ None → mark_with t x before ≡ 0
+unmarked : (t : ℕ) (x : Seen) (before : Option KnownLock) → x.l ≡ None → lli_with t x before ≡ 0
 unmarked t x before e = ap (λ (o : Option ℤ). if is_some o then (if has_lost t x before then 1 else 0) + (if x.half_cycle then 2 else 0) else 0) e
 
 number_is : (n most : ℕ) (rest : Bool) → (nat_lt 0 n && nat_le n most && rest) ≡ true → (1 ≤ n) × (n ≤ most)
 number_is n most rest h = (grind (arith, h), grind (arith, h))
 
-gathered : (s : Setup) (system : System) (x : Seen) (mark : ℕ) → IsKept s system x → mark < 4 → (x.l ≡ None → mark ≡ 0)
-    → IsGathered system (planned_of system s.plan) (cell_of (record { seen = x; mark = mark }))
-gathered s system x mark h few none =
+gathered : (s : GatherSetup) (system : System) (x : Seen) (lli : ℕ) → IsKept s system x → lli < 4 → (x.l ≡ None → lli ≡ 0)
+    → IsGathered system (planned_of system s.plan) (shown_cell (record { seen = x; lli = lli }))
+gathered s system x lli h few none =
     let here : x.satellite.system ≡ system = system_is system x.satellite.system h.1 in
-    let listed : is_listed x ≡ true = first_of (is_listed x) _ h.0.1 in
-    let planned : is_some (place_in x.signal (planned_of x.satellite.system s.plan)) ≡ true = second_of (is_listed x) _ h.0.1 in
+    let listed : has_listed_key x ≡ true = first_of (has_listed_key x) _ h.0.1 in
+    let planned : is_some (place_in x.signal (planned_of x.satellite.system s.plan)) ≡ true = second_of (has_listed_key x) _ h.0.1 in
     let number = number_is x.satellite.id (satellites x.satellite.system) _ listed in
     record {
       number = (number.0, subst (λ n. x.satellite.id ≤ n) (ap satellites here) number.1);
@@ -238,16 +238,16 @@ gathered s system x mark h few none =
       l = h.0.0.l;
       d = h.0.0.d;
       s = h.0.0.s;
-      mark = few;
-      unmarked = none;
+      lli = few;
+      without_phase = none;
     }
 
-each_gathered : (s : Setup) (xs : List Timed) (t : ℕ) (system : System) (cs : List Seen) → AllByRecursion (IsKept s system) cs
-    → AllByRecursion (IsGathered system (planned_of system s.plan)) (map cell_of (marked s xs t cs))
+each_gathered : (s : GatherSetup) (xs : List Timed) (t : ℕ) (system : System) (cs : List Seen) → AllByRecursion (IsKept s system) cs
+    → AllByRecursion (IsGathered system (planned_of system s.plan)) (map shown_cell (cells_with_lli s xs t cs))
 each_gathered s xs t system [] h = tt
 each_gathered s xs t system (c ∷ cs) h =
     let before = previous s xs t c in
-    (gathered s system c (mark_of s xs t c) h.0 (marks t c before) (unmarked t c before), each_gathered s xs t system cs h.1)
+    (gathered s system c (lli_of s xs t c) h.0 (marks t c before) (unmarked t c before), each_gathered s xs t system cs h.1)
 
 same_system : (a b c : System) → is_system a b ≡ true → is_system a c ≡ true → is_system b c ≡ true
 same_system Gps Gps c h k = k
@@ -255,26 +255,26 @@ same_system Gps Galileo c h k = absurd (grind (arith, h))
 same_system Galileo Gps c h k = absurd (grind (arith, h))
 same_system Galileo Galileo c h k = k
 
-other_place : (system : System) (x y : Seen) (m n : ℕ) → is_of system x ≡ true → is_of system y ≡ true → has_same_key x y ≡ false
-    → same_place (cell_of (record { seen = x; mark = m })) (cell_of (record { seen = y; mark = n })) ≡ false
+other_place : (system : System) (x y : Seen) (m n : ℕ) → is_of_system system x ≡ true → is_of_system system y ≡ true → has_same_key x y ≡ false
+    → same_place (shown_cell (record { seen = x; lli = m })) (shown_cell (record { seen = y; lli = n })) ≡ false
 other_place system x y m n h k other =
     let same = same_system system x.satellite.system y.satellite.system h k in
     sym (ap (λ b. b && (x.satellite.id == y.satellite.id) && (x.signal.index == y.signal.index)) same) ∙ other
 
-all_other : (s : Setup) (xs : List Timed) (t : ℕ) (system : System) (c : Seen) (m : ℕ) (cs : List Seen) → is_of system c ≡ true → AllByRecursion (IsKept s system) cs
+all_other : (s : GatherSetup) (xs : List Timed) (t : ℕ) (system : System) (c : Seen) (m : ℕ) (cs : List Seen) → is_of_system system c ≡ true → AllByRecursion (IsKept s system) cs
     → AllByRecursion (λ y. has_same_key c y ≡ false) cs
-    → AllByRecursion (λ y. same_place (cell_of (record { seen = c; mark = m })) y ≡ false) (map cell_of (marked s xs t cs))
+    → AllByRecursion (λ y. same_place (shown_cell (record { seen = c; lli = m })) y ≡ false) (map shown_cell (cells_with_lli s xs t cs))
 all_other s xs t system c m [] h k other = tt
-all_other s xs t system c m (y ∷ cs) h k other = (other_place system c y m (mark_of s xs t y) h k.0.1 other.0, all_other s xs t system c m cs h k.1 other.1)
+all_other s xs t system c m (y ∷ cs) h k other = (other_place system c y m (lli_of s xs t y) h k.0.1 other.0, all_other s xs t system c m cs h k.1 other.1)
 
-places_apart : (s : Setup) (xs : List Timed) (t : ℕ) (system : System) (cs : List Seen) → AllByRecursion (IsKept s system) cs → IsDistinct has_same_key cs
-    → IsDistinct same_place (map cell_of (marked s xs t cs))
+places_apart : (s : GatherSetup) (xs : List Timed) (t : ℕ) (system : System) (cs : List Seen) → AllByRecursion (IsKept s system) cs → IsDistinct has_same_key cs
+    → IsDistinct same_place (map shown_cell (cells_with_lli s xs t cs))
 unfolding IsDistinct
 places_apart s xs t system [] h d = tt
-places_apart s xs t system (c ∷ cs) h d = (all_other s xs t system c (mark_of s xs t c) cs h.0.1 h.1 d.0, places_apart s xs t system cs h.1 d.1)
+places_apart s xs t system (c ∷ cs) h d = (all_other s xs t system c (lli_of s xs t c) cs h.0.1 h.1 d.0, places_apart s xs t system cs h.1 d.1)
 
-cells_gathered : (s : Setup) (xs : List Timed) (t : ℕ) (system : System) → AllByRecursion IsTimed xs
-    → AreGathered system (planned_of system s.plan) (map cell_of (marked s xs t (kept_at s t xs system)))
+cells_gathered : (s : GatherSetup) (xs : List Timed) (t : ℕ) (system : System) → AllByRecursion IsTimed xs
+    → AreGathered system (planned_of system s.plan) (map shown_cell (cells_with_lli s xs t (kept_at s t xs system)))
 cells_gathered s xs t system h =
     let cs = kept_at s t xs system in
     let all = all_kept s t xs system h in
@@ -283,7 +283,7 @@ cells_gathered s xs t system h =
       apart = places_apart s xs t system cs all (distinct-sorted (planned_of system s.plan) (kept system (offered s t xs)) (kept_distinct system (offered s t xs)));
     }
 
-cells_at : (s : Setup) (xs : List Timed) (t : ℕ) → AllByRecursion IsTimed xs → (system : System) → AreGathered system (planned_of system s.plan) (cells_of system (shown (epoch_at s xs t)))
+cells_at : (s : GatherSetup) (xs : List Timed) (t : ℕ) → AllByRecursion IsTimed xs → (system : System) → AreGathered system (planned_of system s.plan) (cells_of system (shown (epoch_at s xs t)))
 cells_at s xs t h Gps = cells_gathered s xs t Gps h
 cells_at s xs t h Galileo = cells_gathered s xs t Galileo h
 
@@ -298,23 +298,23 @@ point_told : (v : StationValues) (o : Option StationParts) → IfSome o IsPoint 
 point_told v None k h = h
 point_told v (Some p) k h = record { x = k.x; y = k.y; z = k.z; height = height_within p.height v.height k.height h.height }
 
-told_values : (s : Setup) (v : StationValues) (m : Heard) → IsHeard m → AreToldValues v → AreToldValues (told s v m)
+told_values : (s : GatherSetup) (v : StationValues) (m : Heard) → IsHeard m → AreToldValues v → AreToldValues (values_told s v m)
 told_values s v m k h = by (is_own s m) where
   by : (b : Bool)
       → AreToldValues (if b then option_map_or (λ (p : StationParts). record { x = p.x; y = p.y; z = p.z; height = option_map_or (λ h. h) p.height v.height }) m.point v else v)
   by true = point_told v m.point k.point h
   by false = h
 
-values_from : (s : Setup) (v : StationValues) (ms : List Heard) → AllByRecursion IsHeard ms → AreToldValues v → AreToldValues (fold (told s) v ms)
+values_from : (s : GatherSetup) (v : StationValues) (ms : List Heard) → AllByRecursion IsHeard ms → AreToldValues v → AreToldValues (fold (values_told s) v ms)
 values_from s v [] k h = h
-values_from s v (m ∷ ms) k h = values_from s (told s v m) ms k.1 (told_values s v m k.0 h)
+values_from s v (m ∷ ms) k h = values_from s (values_told s v m) ms k.1 (told_values s v m k.0 h)
 
 none_told : AreToldValues no_values
 none_told = record { x = zero_between; y = zero_between; z = zero_between; height = lit< tt } where
   zero_between : IsCoordinate (pos 0)
   zero_between = (omega (arith, ints), omega (arith, ints))
 
-open_heard : (s : Setup) (t : ℕ) (earlier ms : List Heard) → AllByRecursion IsHeard earlier → AllByRecursion IsHeard ms → AllByRecursion IsHeard (open_after s t earlier ms)
+open_heard : (s : GatherSetup) (t : ℕ) (earlier ms : List Heard) → AllByRecursion IsHeard earlier → AllByRecursion IsHeard ms → AllByRecursion IsHeard (open_after s t earlier ms)
 open_heard s t earlier [] h k = h
 open_heard s t earlier (m ∷ ms) h k =
     by (is_shut s (timed s (earlier ++ m ∷ [])) t) (open_heard s t (earlier ++ m ∷ []) ms (all_append IsHeard earlier (m ∷ []) h (k.0, tt)) k.1) where
@@ -324,7 +324,7 @@ open_heard s t earlier (m ∷ ms) h k =
 
 -- ---- epochs
 
-each_epoch : (s : Setup) (ms : List Heard) (ts : List ℕ) → AllByRecursion IsHeard ms → AllByRecursion IsWithin ts → AllByRecursion (IsGatheredEpoch s.plan) (closed_list_at s ms ts)
+each_epoch : (s : GatherSetup) (ms : List Heard) (ts : List ℕ) → AllByRecursion IsHeard ms → AllByRecursion IsWithin ts → AllByRecursion (IsGatheredEpoch s.plan) (closed_list_at s ms ts)
 each_epoch s ms [] h w = tt
 each_epoch s ms (t ∷ ts) h w = (
   record {
@@ -335,15 +335,15 @@ each_epoch s ms (t ∷ ts) h w = (
   each_epoch s ms ts h w.1,
 )
 
-all_later : (s : Setup) (ms : List Heard) (t : ℕ) (ts : List ℕ) → AllByRecursion (λ u. t < u) ts → AllByRecursion (λ (f : Closed). t < f.epoch.time) (closed_list_at s ms ts)
+all_later : (s : GatherSetup) (ms : List Heard) (t : ℕ) (ts : List ℕ) → AllByRecursion (λ u. t < u) ts → AllByRecursion (λ (f : Closed). t < f.epoch.time) (closed_list_at s ms ts)
 all_later s ms t [] h = tt
 all_later s ms t (u ∷ ts) h = (h.0, all_later s ms t ts h.1)
 
-epochs_rise : (s : Setup) (ms : List Heard) (ts : List ℕ) → Rise ts → TimesRise (closed_list_at s ms ts)
+epochs_rise : (s : GatherSetup) (ms : List Heard) (ts : List ℕ) → Rise ts → TimesRise (closed_list_at s ms ts)
 epochs_rise s ms [] h = tt
 epochs_rise s ms (t ∷ ts) h = (all_later s ms t ts h.0, epochs_rise s ms ts h.1)
 
-pub epochs_gathered : (s : Setup) (ms : List Heard) → AllByRecursion IsHeard ms → AreGatheredEpochs s.plan (all_epochs s ms)
+pub epochs_gathered : (s : GatherSetup) (ms : List Heard) → AllByRecursion IsHeard ms → AreGatheredEpochs s.plan (all_epochs s ms)
 epochs_gathered s ms h = record {
   each = each_epoch s ms (times (timed s ms)) h (times_within (timed s ms) (timed_all s ms h));
   rise = epochs_rise s ms (times (timed s ms)) (times_rise (timed s ms));

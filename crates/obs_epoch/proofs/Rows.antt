@@ -2,16 +2,16 @@
 use Rattle.std.proofs.Common.{◌≡◌, ℕ, ◌+◌, ◌*◌, Bool, true, false, List, [], ◌∷◌, map, refl, Option, Some, None}
 use Rattle.std.specs.Prelude.{pos, ℤ}
 use Rattle.gnss_obs.specs.declared.system.System.TheVariants.{Gps}
-use Rattle.obs_epoch.specs.Heard.{Setup, Heard}
+use Rattle.obs_epoch.specs.Heard.{GatherSetup, Heard}
 use Rattle.obs_epoch.specs.declared.seen.Seen.{Seen}
 use Rattle.obs_epoch.specs.Times.{timed}
 use Rattle.obs_epoch.specs.Weeks.{week}
 use Rattle.obs_epoch.specs.Cells.{counts_of}
-use Rattle.obs_epoch.specs.Marked.{MarkedEpoch}
+use Rattle.obs_epoch.specs.WithLli.{EpochWithLli}
 use Rattle.obs_epoch.specs.Epochs.{epochs, closed_epochs}
-use Rattle.obs_epoch.specs.Marked.{Marked}
+use Rattle.obs_epoch.specs.WithLli.{CellWithLli}
 
-abbrev setup : Setup
+abbrev setup : GatherSetup
 setup = record { plan = record { gps = 2 ∷ []; galileo = 2 ∷ [] }; start_week = 2300; station = Some 7; by_bit = true }
 
 abbrev observed : ℕ → Bool → List Seen → Heard
@@ -51,8 +51,8 @@ cell l least = record {
   half_cycle = false;
 }
 
-abbrev marks : List MarkedEpoch → List (List ℕ)
-marks es = map (λ (e : MarkedEpoch). map (λ (m : Marked). m.mark) e.gps) es
+abbrev marks : List EpochWithLli → List (List ℕ)
+marks es = map (λ (e : EpochWithLli). map (λ (m : CellWithLli). m.lli) e.gps) es
 
 -- a lock of 4,096 ms, then an invalid phase, then a lock of 2,048 ms
 abbrev three : List Heard

@@ -11,34 +11,34 @@ use Rattle.obs_epoch.specs.declared.seen.Seen.{Seen}
 use Rattle.obs_epoch.specs.declared.seen.Tracking.{Tracking}
 use Rattle.obs_epoch.specs.declared.order.Seat.{Seat}
 use Rattle.obs_epoch.specs.Values.{EpochValue, PlanValue, planned_of, cells_of, most_cells}
-use Rattle.obs_epoch.specs.Marked.{Marked, MarkedEpoch, cell_of, paired}
+use Rattle.obs_epoch.specs.WithLli.{CellWithLli, EpochWithLli, shown_cell, paired}
 use Rattle.obs_epoch.specs.Plans.{place_in}
-use Rattle.obs_epoch.specs.Cells.{has_same_key, same_key, is_listed, is_planned}
-use Rattle.obs_epoch.specs.Heard.{Setup, Heard}
-use Rattle.obs_epoch.specs.Order.{is_before, Rise, insert_by, spot, seat_of, marked_seat, cell_seat, StandBy, AreSorted}
+use Rattle.obs_epoch.specs.Cells.{has_same_key, same_key, has_listed_key, is_planned}
+use Rattle.obs_epoch.specs.Heard.{GatherSetup, Heard}
+use Rattle.obs_epoch.specs.Order.{is_before, SeatsRise, insert_by, spot, seat_of, seat_with_lli, cell_seat, AreOrderedBy, AreSorted}
 use Rattle.obs_epoch.specs.Held.{is_held, lookup}
-use Rattle.obs_epoch.specs.Gather.{Gathered, cells_in, more_in, more_at, with_more, spot_in, Stand, AreInOrder, fate_in, hold, hold_by}
+use Rattle.obs_epoch.specs.Gather.{Gathered, cells_in, with_more_in, more_at, with_more, spot_in, AreInPlanOrder, AreInOrder, fate_in, hold, hold_by}
 use Rattle.obs_epoch.specs.declared.seen.Fate.TheVariants.{Kept, Skipped, Repeated, Crowded}
 use Rattle.obs_epoch.specs.Clock.{State}
-use Rattle.obs_epoch.specs.Step.{step_by, step_at, marked, is_told_own, is_late_at, is_first_at, time_at}
+use Rattle.obs_epoch.specs.Step.{step_by, step_at, ended_where, is_told_own, is_late_at, is_first_at, time_at}
 use Rattle.obs_epoch.specs.Times.{is_past}
-use Rattle.obs_epoch.specs.Loss.{mark_with}
+use Rattle.obs_epoch.specs.Loss.{lli_with}
 use Rattle.obs_epoch.proofs.OrderLemmas.{before_self, before_all, Before, get_before, insert_spot, rise-insert_by, all-insert_by}
 use Rattle.obs_epoch.proofs.HeldLemmas.{seen_as}
 
 -- ---- of a system
 
-pub stand_in : (system : System) (p : PlanValue) (e : MarkedEpoch) → AreInOrder p e → Stand system (planned_of system p) (cells_in system e)
+pub stand_in : (system : System) (p : PlanValue) (e : EpochWithLli) → AreInOrder p e → AreInPlanOrder system (planned_of system p) (cells_in system e)
 stand_in Gps p e h = h.gps
 stand_in Galileo p e h = h.galileo
 
-seats_paired : (planned : List ℕ) (cs : List Cell) (ts : List Tracking) → length cs ≡ length ts → map (marked_seat planned) (paired cs ts) ≡ map (cell_seat planned) cs
+seats_paired : (planned : List ℕ) (cs : List Cell) (ts : List Tracking) → length cs ≡ length ts → map (seat_with_lli planned) (paired cs ts) ≡ map (cell_seat planned) cs
 seats_paired planned [] ts e = refl
 seats_paired planned (c ∷ cs) [] e = absurd (omega (arith, e))
 seats_paired planned (c ∷ cs) (t ∷ ts) e = ap (λ l. cell_seat planned c ∷ l) (seats_paired planned cs ts (omega (arith, e)))
 
 pub seats_in : (system : System) (planned : List ℕ) (e : EpochValue) (gs vs : List Tracking) → length e.gps ≡ length gs → length e.galileo ≡ length vs
-    → map (marked_seat planned) (cells_in system (seen_as e gs vs)) ≡ map (cell_seat planned) (cells_of system e)
+    → map (seat_with_lli planned) (cells_in system (seen_as e gs vs)) ≡ map (cell_seat planned) (cells_of system e)
 seats_in Gps planned e gs vs a b = seats_paired planned e.gps gs a
 seats_in Galileo planned e gs vs a b = seats_paired planned e.galileo vs b
 
@@ -78,7 +78,7 @@ none_later p f s a (x ∷ xs) h = by (p x) refl (none_later p f s a xs h.1) wher
       let one : is_before s s ≡ true = ap (is_before s) (sym (a x e)) ∙ h.0 in
       absurd (grind (arith, self, one))
 
-pub any_none : {X : Type 0} (p : X → Bool) (f : X → Seat) (s : Seat) → Agrees p f s → (xs : List X) → Rise (map f xs) → spot s (map f xs) ≡ 0 → list_any p xs ≡ false
+pub any_none : {X : Type 0} (p : X → Bool) (f : X → Seat) (s : Seat) → Agrees p f s → (xs : List X) → SeatsRise (map f xs) → spot s (map f xs) ≡ 0 → list_any p xs ≡ false
 any_none p f s a [] r e = refl
 any_none p f s a (x ∷ xs) r e = by (is_before s (f x)) refl e where
   by : (b : Bool) → is_before s (f x) ≡ b → (if b then 0 else suc (spot s (map f xs))) ≡ 0 → list_any p (x ∷ xs) ≡ false
@@ -97,17 +97,17 @@ not_first p f s a x xs m r g true h =
     let other = spot_last s (map f xs) m s g in
     absurd (grind (arith, one, other))
 
-any_at : {X : Type 0} (p : X → Bool) (f : X → Seat) (s : Seat) → Agrees p f s → (x : X) (xs : List X) (n : ℕ) (d : X) → Rise (map f (x ∷ xs))
+any_at : {X : Type 0} (p : X → Bool) (f : X → Seat) (s : Seat) → Agrees p f s → (x : X) (xs : List X) (n : ℕ) (d : X) → SeatsRise (map f (x ∷ xs))
     → ((m : ℕ) → spot s (map f xs) ≡ suc m → list_any p xs ≡ p (get_or xs m d)) → spot s (map f xs) ≡ n → list_any p (x ∷ xs) ≡ p (get_or (x ∷ xs) n d)
 any_at p f s a x xs zero d r more g = ap (λ b. p x || b) (any_none p f s a xs r.1 g) ∙ or_false (p x)
 any_at p f s a x xs (suc m) d r more g = ap₂ (λ b c. b || c) (not_first p f s a x xs m r.0 g (p x) refl) (more m g)
 
-any_by : {X : Type 0} (p : X → Bool) (f : X → Seat) (s : Seat) → Agrees p f s → (x : X) (xs : List X) (n : ℕ) (d : X) → Rise (map f (x ∷ xs))
+any_by : {X : Type 0} (p : X → Bool) (f : X → Seat) (s : Seat) → Agrees p f s → (x : X) (xs : List X) (n : ℕ) (d : X) → SeatsRise (map f (x ∷ xs))
     → ((m : ℕ) → spot s (map f xs) ≡ suc m → list_any p xs ≡ p (get_or xs m d)) → (b : Bool) → (if b then 0 else suc (spot s (map f xs))) ≡ suc n → list_any p (x ∷ xs) ≡ p (get_or (x ∷ xs) n d)
 any_by p f s a x xs n d r more true e = absurd (omega (arith, e))
 any_by p f s a x xs n d r more false e = any_at p f s a x xs n d r more (omega (arith, e))
 
-pub any_last : {X : Type 0} (p : X → Bool) (f : X → Seat) (s : Seat) → Agrees p f s → (xs : List X) (n : ℕ) (d : X) → Rise (map f xs) → spot s (map f xs) ≡ suc n → list_any p xs ≡ p (get_or xs n d)
+pub any_last : {X : Type 0} (p : X → Bool) (f : X → Seat) (s : Seat) → Agrees p f s → (xs : List X) (n : ℕ) (d : X) → SeatsRise (map f xs) → spot s (map f xs) ≡ suc n → list_any p xs ≡ p (get_or xs n d)
 any_last p f s a [] n d r e = absurd (omega (arith, e))
 any_last p f s a (x ∷ xs) n d r e = any_by p f s a x xs n d r (λ m g. any_last p f s a xs m d r.1 g) (is_before s (f x)) e
 
@@ -124,7 +124,7 @@ same_seat planned x c h = by x.satellite.system c.satellite.system refl refl whe
   by Galileo Gps p q = absurd (grind (arith, p, q, h))
 
 -- whether a key is held is told by the last cell before its spot
-pub held_is_last : (planned : List ℕ) (x : Seen) (cells : List Cell) (at : ℕ) (r : Bool) → StandBy planned cells → at ≡ spot (seat_of planned x) (map (cell_seat planned) cells)
+pub held_is_last : (planned : List ℕ) (x : Seen) (cells : List Cell) (at : ℕ) (r : Bool) → AreOrderedBy planned cells → at ≡ spot (seat_of planned x) (map (cell_seat planned) cells)
     → (at ≡ 0 → r ≡ false)
     → ((d : Cell) → 0 < at → r ≡ same_key x.satellite x.signal (get_or cells (at - 1) d).satellite (get_or cells (at - 1) d).signal)
     → r ≡ list_any (λ c. same_key x.satellite x.signal c.satellite c.signal) cells
@@ -161,87 +161,87 @@ other_seat system planned x y a b h k other same =
       by Gps p q i j o = grind (arith, p, q, i, j, o)
       by Galileo p q i j o = grind (arith, p, q, i, j, o)
 
-others : (system : System) (planned : List ℕ) (x : Seen) (ms : List Marked) → x.satellite.system ≡ system → is_some (place_in x.signal planned) ≡ true
-    → AllByRecursion (λ (m : Marked). (m.seen.satellite.system ≡ system) × (is_some (place_in m.seen.signal planned) ≡ true)) ms → is_held ms x ≡ false
-    → AllByRecursion (λ (m : Marked). seat_of planned x ≡ marked_seat planned m → ⊥) ms
+others : (system : System) (planned : List ℕ) (x : Seen) (ms : List CellWithLli) → x.satellite.system ≡ system → is_some (place_in x.signal planned) ≡ true
+    → AllByRecursion (λ (m : CellWithLli). (m.seen.satellite.system ≡ system) × (is_some (place_in m.seen.signal planned) ≡ true)) ms → is_held ms x ≡ false
+    → AllByRecursion (λ (m : CellWithLli). seat_of planned x ≡ seat_with_lli planned m → ⊥) ms
 others system planned x [] a h all none = tt
 others system planned x (m ∷ ms) a h all none = by (has_same_key x m.seen) refl (others system planned x ms a h all.1) where
-  by : (b : Bool) → has_same_key x m.seen ≡ b → (is_held ms x ≡ false → AllByRecursion (λ (n : Marked). seat_of planned x ≡ marked_seat planned n → ⊥) ms)
-      → AllByRecursion (λ (n : Marked). seat_of planned x ≡ marked_seat planned n → ⊥) (m ∷ ms)
+  by : (b : Bool) → has_same_key x m.seen ≡ b → (is_held ms x ≡ false → AllByRecursion (λ (n : CellWithLli). seat_of planned x ≡ seat_with_lli planned n → ⊥) ms)
+      → AllByRecursion (λ (n : CellWithLli). seat_of planned x ≡ seat_with_lli planned n → ⊥) (m ∷ ms)
   by true e more = absurd (grind (arith, e, none))
   by false e more = (other_seat system planned x m.seen a all.0.0 h all.0.1 e, more (ap (λ b. b || is_held ms x) (sym e) ∙ none))
 
-stand_more : (system : System) (planned : List ℕ) (m : Marked) (ms : List Marked) → m.seen.satellite.system ≡ system → is_some (place_in m.seen.signal planned) ≡ true
-    → Stand system planned ms → is_held ms m.seen ≡ false → Stand system planned (insert_by (marked_seat planned) m ms)
+stand_more : (system : System) (planned : List ℕ) (m : CellWithLli) (ms : List CellWithLli) → m.seen.satellite.system ≡ system → is_some (place_in m.seen.signal planned) ≡ true
+    → AreInPlanOrder system planned ms → is_held ms m.seen ≡ false → AreInPlanOrder system planned (insert_by (seat_with_lli planned) m ms)
 stand_more system planned m ms a h s none = record {
-  each = all-insert_by (λ (n : Marked). (n.seen.satellite.system ≡ system) × (is_some (place_in n.seen.signal planned) ≡ true)) (marked_seat planned) m ms (a, h) s.each;
-  rise = rise-insert_by (marked_seat planned) m ms s.rise (others system planned m.seen ms a h s.each none);
+  each = all-insert_by (λ (n : CellWithLli). (n.seen.satellite.system ≡ system) × (is_some (place_in n.seen.signal planned) ≡ true)) (seat_with_lli planned) m ms (a, h) s.each;
+  rise = rise-insert_by (seat_with_lli planned) m ms s.rise (others system planned m.seen ms a h s.each none);
 }
 
 -- the epoch with one cell more stands in order
-pub order_more : (p : PlanValue) (e : MarkedEpoch) (m : Marked) → is_some (place_in m.seen.signal (planned_of m.seen.satellite.system p)) ≡ true → AreInOrder p e
+pub order_more : (p : PlanValue) (e : EpochWithLli) (m : CellWithLli) → is_some (place_in m.seen.signal (planned_of m.seen.satellite.system p)) ≡ true → AreInOrder p e
     → is_held (cells_in m.seen.satellite.system e) m.seen ≡ false → AreInOrder p (with_more p e m)
 order_more p e m h o none = by m.seen.satellite.system refl where
-  by : (system : System) → m.seen.satellite.system ≡ system → AreInOrder p (more_in m.seen.satellite.system p e m)
-  by Gps f = subst (λ s. AreInOrder p (more_in s p e m)) (sym f) (record {
+  by : (system : System) → m.seen.satellite.system ≡ system → AreInOrder p (with_more_in m.seen.satellite.system p e m)
+  by Gps f = subst (λ s. AreInOrder p (with_more_in s p e m)) (sym f) (record {
     gps = stand_more Gps p.gps m e.gps f (ap (λ s. is_some (place_in m.seen.signal (planned_of s p))) (sym f) ∙ h) o.gps (ap (λ s. is_held (cells_in s e) m.seen) (sym f) ∙ none);
     galileo = o.galileo;
   })
-  by Galileo f = subst (λ s. AreInOrder p (more_in s p e m)) (sym f) (record {
+  by Galileo f = subst (λ s. AreInOrder p (with_more_in s p e m)) (sym f) (record {
     gps = o.gps;
     galileo = stand_more Galileo p.galileo m e.galileo f (ap (λ s. is_some (place_in m.seen.signal (planned_of s p))) (sym f) ∙ h) o.galileo (ap (λ s. is_held (cells_in s e) m.seen) (sym f) ∙ none);
   })
 
 -- it comes to its spot
-pub more_is : (p : PlanValue) (e : MarkedEpoch) (m : Marked) → more_at m.seen.satellite.system (spot_in p e m.seen) e m ≡ with_more p e m
+pub more_is : (p : PlanValue) (e : EpochWithLli) (m : CellWithLli) → more_at m.seen.satellite.system (spot_in p e m.seen) e m ≡ with_more p e m
 more_is p e m = by m.seen.satellite.system where
-  by : (system : System) → more_at system (spot (seat_of (planned_of system p) m.seen) (map (marked_seat (planned_of system p)) (cells_in system e))) e m ≡ more_in system p e m
-  by Gps = ap (λ l. record e { gps = l }) (insert_spot (marked_seat p.gps) m e.gps)
-  by Galileo = ap (λ l. record e { galileo = l }) (insert_spot (marked_seat p.galileo) m e.galileo)
+  by : (system : System) → more_at system (spot (seat_of (planned_of system p) m.seen) (map (seat_with_lli (planned_of system p)) (cells_in system e))) e m ≡ with_more_in system p e m
+  by Gps = ap (λ l. record e { gps = l }) (insert_spot (seat_with_lli p.gps) m e.gps)
+  by Galileo = ap (λ l. record e { galileo = l }) (insert_spot (seat_with_lli p.galileo) m e.galileo)
 
-map_insert : (ms : List Marked) (at : ℕ) (m : Marked) → map cell_of (insert ms at m) ≡ insert (map cell_of ms) at (cell_of m)
+map_insert : (ms : List CellWithLli) (at : ℕ) (m : CellWithLli) → map shown_cell (insert ms at m) ≡ insert (map shown_cell ms) at (shown_cell m)
 map_insert ms zero m = refl
 map_insert [] (suc at) m = refl
-map_insert (n ∷ ms) (suc at) m = ap (λ l. cell_of n ∷ l) (map_insert ms at m)
+map_insert (n ∷ ms) (suc at) m = ap (λ l. shown_cell n ∷ l) (map_insert ms at m)
 
-seats_shown : (planned : List ℕ) (ms : List Marked) → map (cell_seat planned) (map cell_of ms) ≡ map (marked_seat planned) ms
+seats_shown : (planned : List ℕ) (ms : List CellWithLli) → map (cell_seat planned) (map shown_cell ms) ≡ map (seat_with_lli planned) ms
 seats_shown planned [] = refl
-seats_shown planned (m ∷ ms) = ap (λ l. marked_seat planned m ∷ l) (seats_shown planned ms)
+seats_shown planned (m ∷ ms) = ap (λ l. seat_with_lli planned m ∷ l) (seats_shown planned ms)
 
-pub stand_shown : (system : System) (planned : List ℕ) (ms : List Marked) → Stand system planned ms → StandBy planned (map cell_of ms)
-stand_shown system planned ms s = subst Rise (sym (seats_shown planned ms)) s.rise
+pub stand_shown : (system : System) (planned : List ℕ) (ms : List CellWithLli) → AreInPlanOrder system planned ms → AreOrderedBy planned (map shown_cell ms)
+stand_shown system planned ms s = subst SeatsRise (sym (seats_shown planned ms)) s.rise
 
-pub sorted_more : (p : PlanValue) (e : MarkedEpoch) (m : Marked) → AreInOrder p (with_more p e m)
-    → AreSorted (insert (map cell_of (cells_in m.seen.satellite.system e)) (spot_in p e m.seen) (cell_of m))
+pub sorted_more : (p : PlanValue) (e : EpochWithLli) (m : CellWithLli) → AreInOrder p (with_more p e m)
+    → AreSorted (insert (map shown_cell (cells_in m.seen.satellite.system e)) (spot_in p e m.seen) (shown_cell m))
 sorted_more p e m o = by m.seen.satellite.system o where
-  at : (system : System) → map cell_of (insert_by (marked_seat (planned_of system p)) m (cells_in system e))
-      ≡ insert (map cell_of (cells_in system e)) (spot (seat_of (planned_of system p) m.seen) (map (marked_seat (planned_of system p)) (cells_in system e))) (cell_of m)
+  at : (system : System) → map shown_cell (insert_by (seat_with_lli (planned_of system p)) m (cells_in system e))
+      ≡ insert (map shown_cell (cells_in system e)) (spot (seat_of (planned_of system p) m.seen) (map (seat_with_lli (planned_of system p)) (cells_in system e))) (shown_cell m)
   at system =
-      ap (map cell_of) (sym (insert_spot (marked_seat (planned_of system p)) m (cells_in system e)))
-      ∙ map_insert (cells_in system e) (spot (seat_of (planned_of system p) m.seen) (map (marked_seat (planned_of system p)) (cells_in system e))) m
+      ap (map shown_cell) (sym (insert_spot (seat_with_lli (planned_of system p)) m (cells_in system e)))
+      ∙ map_insert (cells_in system e) (spot (seat_of (planned_of system p) m.seen) (map (seat_with_lli (planned_of system p)) (cells_in system e))) m
 
-  by : (system : System) → AreInOrder p (more_in system p e m)
-      → AreSorted (insert (map cell_of (cells_in system e)) (spot (seat_of (planned_of system p) m.seen) (map (marked_seat (planned_of system p)) (cells_in system e))) (cell_of m))
-  by Gps o = (p.gps, subst (StandBy p.gps) (at Gps) (stand_shown Gps p.gps _ o.gps))
-  by Galileo o = (p.galileo, subst (StandBy p.galileo) (at Galileo) (stand_shown Galileo p.galileo _ o.galileo))
+  by : (system : System) → AreInOrder p (with_more_in system p e m)
+      → AreSorted (insert (map shown_cell (cells_in system e)) (spot (seat_of (planned_of system p) m.seen) (map (seat_with_lli (planned_of system p)) (cells_in system e))) (shown_cell m))
+  by Gps o = (p.gps, subst (AreOrderedBy p.gps) (at Gps) (stand_shown Gps p.gps _ o.gps))
+  by Galileo o = (p.galileo, subst (AreOrderedBy p.galileo) (at Galileo) (stand_shown Galileo p.galileo _ o.galileo))
 
 -- a planned cell's signal has a place
-pub planned_place : (s : Setup) (x : Seen) → is_planned s x ≡ true → is_some (place_in x.signal (planned_of x.satellite.system s.plan)) ≡ true
-planned_place s x h = by (is_listed x) h where
+pub planned_place : (s : GatherSetup) (x : Seen) → is_planned s x ≡ true → is_some (place_in x.signal (planned_of x.satellite.system s.plan)) ≡ true
+planned_place s x h = by (has_listed_key x) h where
   by : (b : Bool) → (b && is_some (place_in x.signal (planned_of x.satellite.system s.plan))) ≡ true → is_some (place_in x.signal (planned_of x.satellite.system s.plan)) ≡ true
   by true h = h
   by false h = absurd (grind (arith, h))
 
 -- a cell that is kept comes into the held epoch
-pub kept_is : (g : Gathered) (x : Seen) (at mark : ℕ) (e : MarkedEpoch) → is_planned g.clock.setup x ≡ true → is_held (cells_in x.satellite.system g.epoch) x ≡ false
-    → nat_le most_cells (length (cells_in x.satellite.system g.epoch)) ≡ false → mark ≡ mark_with g.epoch.time x (lookup g.locks x) → at ≡ spot_in g.clock.setup.plan g.epoch x
-    → e ≡ more_at x.satellite.system at g.epoch (record { seen = x; mark = mark }) → record g { epoch = e } ≡ hold g x
-kept_is g x at mark e planned held room mark_is at_is e_is =
+pub kept_is : (g : Gathered) (x : Seen) (at lli : ℕ) (e : EpochWithLli) → is_planned g.clock.setup x ≡ true → is_held (cells_in x.satellite.system g.epoch) x ≡ false
+    → nat_le most_cells (length (cells_in x.satellite.system g.epoch)) ≡ false → lli ≡ lli_with g.epoch.time x (lookup g.locks x) → at ≡ spot_in g.clock.setup.plan g.epoch x
+    → e ≡ more_at x.satellite.system at g.epoch (record { seen = x; lli = lli }) → record g { epoch = e } ≡ hold g x
+kept_is g x at lli e planned held room mark_is at_is e_is =
     let fate : fate_in g x ≡ Kept =
     ap (λ b. if b then (if is_held (cells_in x.satellite.system g.epoch) x then Repeated else (if nat_le most_cells (length (cells_in x.satellite.system g.epoch)) then Crowded else Kept)) else Skipped) planned
     ∙ ap₂ (λ b c. if b then Repeated else (if c then Crowded else Kept)) held room in
-    let m : Marked = record { seen = x; mark = mark_with g.epoch.time x (lookup g.locks x) } in
-    ap (λ v. record g { epoch = v }) (e_is ∙ ap₂ (λ i n. more_at x.satellite.system i g.epoch (record { seen = x; mark = n })) at_is mark_is ∙ more_is g.clock.setup.plan g.epoch m)
+    let m : CellWithLli = record { seen = x; lli = lli_with g.epoch.time x (lookup g.locks x) } in
+    ap (λ v. record g { epoch = v }) (e_is ∙ ap₂ (λ i n. more_at x.satellite.system i g.epoch (record { seen = x; lli = n })) at_is mark_is ∙ more_is g.clock.setup.plan g.epoch m)
     ∙ ap (λ k. hold_by k g x) (sym fate)
 
 -- a step of the clock leaves the plan
@@ -255,7 +255,7 @@ step_at_setup g tow = by (is_late_at g tow) (is_past (time_at g tow)) (is_first_
 
 pub step_setup : (g : State) (m : Heard) → (step_by g m).setup ≡ g.setup
 step_setup g m = by (is_told_own g m.station) (g.setup.by_bit && option_map_or not m.more false) m.tow where
-  by : (a b : Bool) (tow : Option ℕ) → (if a then marked b (option_map_or (step_at g) tow g) else g).setup ≡ g.setup
+  by : (a b : Bool) (tow : Option ℕ) → (if a then ended_where b (option_map_or (step_at g) tow g) else g).setup ≡ g.setup
   by false b tow = refl
   by true true None = refl
   by true false None = refl

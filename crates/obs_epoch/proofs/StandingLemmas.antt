@@ -9,14 +9,14 @@ use Rattle.std.proofs.lemmas.Grind.{flat_map-append}
 use Rattle.gnss_obs.specs.declared.system.System.TheVariants.{Gps, Galileo}
 use Rattle.obs_epoch.specs.declared.seen.Seen.{Seen}
 use Rattle.obs_epoch.specs.declared.seen.KnownLock.{KnownLock}
-use Rattle.obs_epoch.specs.Heard.{Setup, Heard, is_own, is_mark}
-use Rattle.obs_epoch.specs.Times.{Timed, is_at, greatest, is_closed, taken_at, timed}
+use Rattle.obs_epoch.specs.Heard.{GatherSetup, Heard, is_own, ends_epoch}
+use Rattle.obs_epoch.specs.Times.{Timed, is_at, greatest_time, is_closed, taken_at, timed}
 use Rattle.obs_epoch.specs.Cells.{kept_at, offered, is_planned, has_same_key}
-use Rattle.obs_epoch.specs.Loss.{lock_of, locked_at, latest_in, previous, times, last_of, is_locked, mark_with}
-use Rattle.obs_epoch.specs.Epochs.{marked, epoch_at, closed_so_far}
-use Rattle.obs_epoch.specs.Held.{lookup, no_locks, most_locks, recorded, Tracks}
+use Rattle.obs_epoch.specs.Loss.{lock_of, locked_at, latest_in, previous, times, last_of, is_locked, lli_with}
+use Rattle.obs_epoch.specs.Epochs.{cells_with_lli, epoch_at, closed_so_far}
+use Rattle.obs_epoch.specs.Held.{lookup, no_locks, most_locks, recorded, TracksLocks}
 use Rattle.obs_epoch.specs.Clock.{State, closes_first}
-use Rattle.obs_epoch.specs.Gather.{Gathered, no_epoch, no_counts, load, begun, is_same}
+use Rattle.obs_epoch.specs.Gather.{Gathered, no_epoch, no_counts, load, epoch_begun, is_same}
 use Rattle.obs_epoch.specs.Standing.{locked_in, held_at, Locked}
 use Rattle.obs_epoch.proofs.TimesLemmas.{next, greater-absent, none-absent}
 use Rattle.obs_epoch.proofs.ClockLemmas.{standing, same_time, Follows, first, greater, equal, new_time, at_self}
@@ -28,20 +28,20 @@ use Rattle.obs_epoch.proofs.LoadLemmas.{marked_by, epoch_of, load_is, counts_aft
 
 -- ---- what was closed stays, whatever comes
 
-latest-push : (s : Setup) (xs : List Timed) (x : Timed) (ts : List ℕ) (key : Seen) → AllLater x.time ts → filter_map (locked_at s (xs ++ x ∷ []) key) ts ≡ filter_map (locked_at s xs key) ts
+latest-push : (s : GatherSetup) (xs : List Timed) (x : Timed) (ts : List ℕ) (key : Seen) → AllLater x.time ts → filter_map (locked_at s (xs ++ x ∷ []) key) ts ≡ filter_map (locked_at s xs key) ts
 latest-push s xs x [] key h = refl
 latest-push s xs x (t ∷ ts) key h =
     ap₂ (λ o l. cons_option o l) (ap (λ l. option_and_then (lock_of t) (find (has_same_key key) l)) (kept_at-push s t xs x key.satellite.system h.0)) (latest-push s xs x ts key h.1)
 
-locked_in-push : (s : Setup) (xs : List Timed) (x : Timed) (ts : List ℕ) → AllLater x.time ts → locked_in s (xs ++ x ∷ []) ts ≡ locked_in s xs ts
+locked_in-push : (s : GatherSetup) (xs : List Timed) (x : Timed) (ts : List ℕ) → AllLater x.time ts → locked_in s (xs ++ x ∷ []) ts ≡ locked_in s xs ts
 locked_in-push s xs x [] h = refl
 locked_in-push s xs x (t ∷ ts) h =
     ap₂ (λ a b. a ++ b) (ap₂ (λ a b. filter is_locked (a ++ b)) (kept_at-push s t xs x Gps h.0) (kept_at-push s t xs x Galileo h.0)) (locked_in-push s xs x ts h.1)
 
-pub locked-push : (g : Gathered) (s : Setup) (xs : List Timed) (x : Timed) (ts : List ℕ) → AllLater x.time ts → Locked g s xs ts → Locked g s (xs ++ x ∷ []) ts
+pub locked-push : (g : Gathered) (s : GatherSetup) (xs : List Timed) (x : Timed) (ts : List ℕ) → AllLater x.time ts → Locked g s xs ts → Locked g s (xs ++ x ∷ []) ts
 locked-push g s xs x ts later h = record {
   found = λ key. h.found key ∙ ap last_of (sym (latest-push s xs x ts key later));
-  tracks = subst (Tracks g.locks) (sym (locked_in-push s xs x ts later)) h.tracks;
+  tracks = subst (TracksLocks g.locks) (sym (locked_in-push s xs x ts later)) h.tracks;
 }
 
 -- ---- a taken message: what was closed is what comes before its time
@@ -61,14 +61,14 @@ not_same false false e = refl
 not_same true false e = grind (arith, e)
 not_same false true e = grind (arith, e)
 
-pub own_of : (s : Setup) (xs : List Timed) (m : Heard) (u : ℕ) → taken_at s xs m ≡ Some u → is_own s m ≡ true
+pub own_of : (s : GatherSetup) (xs : List Timed) (m : Heard) (u : ℕ) → taken_at s xs m ≡ Some u → is_own s m ≡ true
 own_of s xs m u some = by (is_own s m) refl where
   by : (own : Bool) → is_own s m ≡ own → own ≡ true
   by true e = refl
   by false e = absurd (grind (arith, e, some))
 
 -- the times before that of a taken message are those that were closed
-pub before_taken : (s : Setup) (xs : List Timed) (m : Heard) (u : ℕ) (shut : Bool) → taken_at s xs m ≡ Some u → closes_first s xs m ≡ shut
+pub before_taken : (s : GatherSetup) (xs : List Timed) (m : Heard) (u : ℕ) (shut : Bool) → taken_at s xs m ≡ Some u → closes_first s xs m ≡ shut
     → (filter (λ v. nat_lt v u) (times (xs ++ next s xs m ∷ [])) ≡ closed_so_far s xs shut) × Below u (closed_so_far s xs shut)
 before_taken s xs m u shut some h =
     let x = next s xs m in
@@ -77,10 +77,10 @@ before_taken s xs m u shut some h =
     let own = own_of s xs m u some in
     let new = new_time s xs x u some follow in
     let last = ends ys u new.0 in
-    let closed : is_closed s u ys ≡ is_mark s m = not_same _ _ (ap (λ g. option_map_or (λ t. not (is_closed s t ys)) g false) (sym new.0) ∙ new.1) in
-    let two : last.init ++ when (is_mark s m) u ≡ closed_so_far s xs shut ++ when (is_mark s m) u =
+    let closed : is_closed s u ys ≡ ends_epoch s m = not_same _ _ (ap (λ g. option_map_or (λ t. not (is_closed s t ys)) g false) (sym new.0) ∙ new.1) in
+    let two : last.init ++ when (ends_epoch s m) u ≡ closed_so_far s xs shut ++ when (ends_epoch s m) u =
     ap (λ b. last.init ++ when b u) (sym closed) ∙ sym (closed_is s ys u last.init new.0 last.is last.below) ∙ taken_by s xs m u own some follow shut h in
-    let same = cancel_when last.init (closed_so_far s xs shut) (is_mark s m) u two in (
+    let same = cancel_when last.init (closed_so_far s xs shut) (ends_epoch s m) u two in (
       ap (filter (λ v. nat_lt v u)) last.is ∙ filter-append (λ v. nat_lt v u) last.init (u ∷ [])
           ∙ ap₂ (λ a b. a ++ b) (passes_all (λ v. nat_lt v u) u last.init (λ t lt. less_true t u lt) last.below) (one_fails (λ v. nat_lt v u) u (less_false u u (omega arith)))
           ∙ append-nil last.init ∙ same,
@@ -88,22 +88,22 @@ before_taken s xs m u shut some h =
     )
 
 -- all that was closed comes before the next message's time, where it has one
-pub closed_later : (s : Setup) (xs : List Timed) (m : Heard) (shut : Bool) → closes_first s xs m ≡ shut → AllLater (taken_at s xs m) (closed_so_far s xs shut)
+pub closed_later : (s : GatherSetup) (xs : List Timed) (m : Heard) (shut : Bool) → closes_first s xs m ≡ shut → AllLater (taken_at s xs m) (closed_so_far s xs shut)
 closed_later s xs m shut h = by (taken_at s xs m) refl where
   by : (o : Option ℕ) → taken_at s xs m ≡ o → AllLater o (closed_so_far s xs shut)
   by None e = all_none (closed_so_far s xs shut)
   by (Some u) e = all_below u (closed_so_far s xs shut) (before_taken s xs m u shut e h).1
 
--- ---- marks by the lock records
+-- ---- indicators by the lock records
 
-marked_is : (s : Setup) (xs : List Timed) (f : Seen → Option KnownLock) (t : ℕ) (ks : List Seen) → ((key : Seen) → f key ≡ previous s xs t key) → marked_by f t ks ≡ marked s xs t ks
+marked_is : (s : GatherSetup) (xs : List Timed) (f : Seen → Option KnownLock) (t : ℕ) (ks : List Seen) → ((key : Seen) → f key ≡ previous s xs t key) → marked_by f t ks ≡ cells_with_lli s xs t ks
 marked_is s xs f t [] h = refl
-marked_is s xs f t (k ∷ ks) h = ap₂ (λ o l. record { seen = k; mark = mark_with t k o } ∷ l) (h k) (marked_is s xs f t ks h)
+marked_is s xs f t (k ∷ ks) h = ap₂ (λ o l. record { seen = k; lli = lli_with t k o } ∷ l) (h k) (marked_is s xs f t ks h)
 
-epoch_is : (s : Setup) (xs : List Timed) (f : Seen → Option KnownLock) (t : ℕ) → ((key : Seen) → f key ≡ previous s xs t key) → epoch_of s.plan f t (offered s t xs) ≡ epoch_at s xs t
+epoch_is : (s : GatherSetup) (xs : List Timed) (f : Seen → Option KnownLock) (t : ℕ) → ((key : Seen) → f key ≡ previous s xs t key) → epoch_of s.plan f t (offered s t xs) ≡ epoch_at s xs t
 epoch_is s xs f t h = ap₂ (λ a b. record { time = t; gps = a; galileo = b }) (marked_is s xs f t (kept_at s t xs Gps) h) (marked_is s xs f t (kept_at s t xs Galileo) h)
 
-offered-more : (s : Setup) (xs : List Timed) (m : Heard) (u : ℕ) → taken_at s xs m ≡ Some u → offered s u (xs ++ next s xs m ∷ []) ≡ offered s u xs ++ filter (is_planned s) m.cells
+offered-more : (s : GatherSetup) (xs : List Timed) (m : Heard) (u : ℕ) → taken_at s xs m ≡ Some u → offered s u (xs ++ next s xs m ∷ []) ≡ offered s u xs ++ filter (is_planned s) m.cells
 offered-more s xs m u some =
     let p = λ (x : Timed). filter (is_planned s) x.message.cells in
     ap (flat_map p) (filter-append (is_at u) xs (next s xs m ∷ []) ∙ ap (λ b. filter (is_at u) xs ++ cond b (next s xs m ∷ []) []) (at_self u (taken_at s xs m) some))
@@ -116,7 +116,7 @@ none_at u (x ∷ xs) h = by (is_at u x) h (none_at u xs) where
   by true h more = grind (arith, h)
   by false h more = more h
 
-none_offered : (s : Setup) (xs : List Timed) (u : ℕ) → list_any (is_at u) xs ≡ false → offered s u xs ≡ []
+none_offered : (s : GatherSetup) (xs : List Timed) (u : ℕ) → list_any (is_at u) xs ≡ false → offered s u xs ≡ []
 none_offered s xs u h = ap (flat_map (λ (x : Timed). filter (is_planned s) x.message.cells)) (none_at u xs h)
 
 same_known : (u : ℕ) → is_same (Some u) (Some u) ≡ true
@@ -126,23 +126,23 @@ not_known : (t u : ℕ) → t < u → is_same (Some t) (Some u) ≡ false
 not_known t u h = grind arith
 
 -- the epoch that a taken message's cells come into
-begun_is : (g : Gathered) (s : Setup) (xs : List Timed) (m : Heard) (u : ℕ) (shut : Bool) → taken_at s xs m ≡ Some u → closes_first s xs m ≡ shut
+begun_is : (g : Gathered) (s : GatherSetup) (xs : List Timed) (m : Heard) (u : ℕ) (shut : Bool) → taken_at s xs m ≡ Some u → closes_first s xs m ≡ shut
     → g.epoch ≡ held_at s xs → Locked g s xs (closed_so_far s xs shut) → g.clock.latest ≡ Some u
-    → begun (greatest xs) g ≡ record g { epoch = epoch_of s.plan (lookup g.locks) u (offered s u xs) }
-begun_is g s xs m u shut some h held locks now = ap (λ o. begun_to (greatest xs) o) now ∙ by (taken_follows s xs m u some) where
+    → epoch_begun (greatest_time xs) g ≡ record g { epoch = epoch_of s.plan (lookup g.locks) u (offered s u xs) }
+begun_is g s xs m u shut some h held locks now = ap (λ o. begun_to (greatest_time xs) o) now ∙ by (taken_follows s xs m u some) where
   begun_to : Option ℕ → Option ℕ → Gathered
   begun_to a b = if is_same a b then g else record g { epoch = record { time = option_map_or (λ t. t) b 0; gps = []; galileo = [] } }
 
-  fresh : is_same (greatest xs) (Some u) ≡ false → list_any (is_at u) xs ≡ false → begun_to (greatest xs) (Some u) ≡ record g { epoch = epoch_of s.plan (lookup g.locks) u (offered s u xs) }
+  fresh : is_same (greatest_time xs) (Some u) ≡ false → list_any (is_at u) xs ≡ false → begun_to (greatest_time xs) (Some u) ≡ record g { epoch = epoch_of s.plan (lookup g.locks) u (offered s u xs) }
   fresh other none =
       ap (λ b. if b then g else record g { epoch = record { time = u; gps = []; galileo = [] } }) other
       ∙ ap (λ l. record g { epoch = epoch_of s.plan (lookup g.locks) u l }) (sym (none_offered s xs u none))
 
-  by : Follows s xs u → begun_to (greatest xs) (Some u) ≡ record g { epoch = epoch_of s.plan (lookup g.locks) u (offered s u xs) }
+  by : Follows s xs u → begun_to (greatest_time xs) (Some u) ≡ record g { epoch = epoch_of s.plan (lookup g.locks) u (offered s u xs) }
   by (first e) = fresh (ap (λ o. is_same o (Some u)) e) (none-absent xs u e)
   by (greater t e lt) = fresh (ap (λ o. is_same o (Some u)) e ∙ not_known t u lt) (greater-absent xs t u e lt)
   by (equal e c) =
-      let same : is_same (greatest xs) (Some u) ≡ true = ap (λ o. is_same o (Some u)) e ∙ same_known u in
+      let same : is_same (greatest_time xs) (Some u) ≡ true = ap (λ o. is_same o (Some u)) e ∙ same_known u in
       let at : filter (λ v. nat_lt v u) (times xs) ≡ closed_so_far s xs shut =
       ap (filter (λ v. nat_lt v u)) (sym (times-push_same xs (next s xs m) u some e)) ∙ (before_taken s xs m u shut some h).0 in
       let known : (key : Seen) → lookup g.locks key ≡ previous s xs u key =
@@ -153,9 +153,9 @@ begun_is g s xs m u shut some h held locks now = ap (λ o. begun_to (greatest xs
 -- ---- what the step leaves before the closing
 
 -- a taken message
-pub loaded_taken : (g : Gathered) (s : Setup) (xs : List Timed) (m : Heard) (u : ℕ) (shut : Bool) → taken_at s xs m ≡ Some u → closes_first s xs m ≡ shut
+pub loaded_taken : (g : Gathered) (s : GatherSetup) (xs : List Timed) (m : Heard) (u : ℕ) (shut : Bool) → taken_at s xs m ≡ Some u → closes_first s xs m ≡ shut
     → g.epoch ≡ held_at s xs → Locked g s xs (closed_so_far s xs shut) → g.clock ≡ standing s (xs ++ next s xs m ∷ []) false
-    → load (record { state = begun (greatest xs) g; counts = no_counts }) m.cells
+    → load (record { state = epoch_begun (greatest_time xs) g; counts = no_counts }) m.cells
     ≡ record { state = record g { epoch = epoch_at s (xs ++ next s xs m ∷ []) u }; counts = counts_after s (offered s u xs) no_counts m.cells }
 loaded_taken g s xs m u shut some h held locks clock =
     let x = next s xs m in
@@ -174,9 +174,9 @@ loaded_taken g s xs m u shut some h held locks clock =
     ∙ ap (λ e. record { state = record g { epoch = e }; counts = counts_after s (offered s u xs) no_counts m.cells }) (epoch_is s ys f u known)
 
 -- a message that isn't taken leaves the epoch
-pub held_same : (s : Setup) (xs : List Timed) (m : Heard) → taken_at s xs m ≡ None → held_at s (xs ++ next s xs m ∷ []) ≡ held_at s xs
+pub held_same : (s : GatherSetup) (xs : List Timed) (m : Heard) → taken_at s xs m ≡ None → held_at s (xs ++ next s xs m ∷ []) ≡ held_at s xs
 held_same s xs m none =
-    ap (λ o. option_map_or (epoch_at s (xs ++ next s xs m ∷ [])) o no_epoch) (same_time s xs (next s xs m) none).0 ∙ by (greatest xs) where
+    ap (λ o. option_map_or (epoch_at s (xs ++ next s xs m ∷ [])) o no_epoch) (same_time s xs (next s xs m) none).0 ∙ by (greatest_time xs) where
       later : (t : ℕ) → IsLater t (taken_at s xs m)
       later t = subst (IsLater t) (sym none) tt
 
@@ -193,7 +193,7 @@ none_sized : (n : ℕ) → length (replicate n none_known) ≡ n
 none_sized zero = refl
 none_sized (suc n) = ap suc (none_sized n)
 
-pub none_locked : (g : Gathered) (s : Setup) → g.locks ≡ no_locks → Locked g s [] (closed_so_far s [] false)
+pub none_locked : (g : Gathered) (s : GatherSetup) → g.locks ≡ no_locks → Locked g s [] (closed_so_far s [] false)
 none_locked g s e = record {
   found = λ key. ap (λ l. lookup l key) e ∙ none_found key;
   tracks = record {

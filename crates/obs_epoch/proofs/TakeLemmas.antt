@@ -8,15 +8,15 @@ use Rattle.rtcm_msg.specs.declared.message.Message.{Message}
 use Rattle.rtcm_msg.specs.declared.message.Message.TheVariants as message
 use Rattle.obs_epoch.specs.declared.clock.Answer.{Answer}
 use Rattle.obs_epoch.specs.declared.clock.Answer.TheVariants as answers
-use Rattle.obs_epoch.specs.Heard.{Setup, Heard, heard, is_own}
-use Rattle.obs_epoch.specs.Times.{Timed, greatest, taken_at, timed, is_late, is_past, time_of}
+use Rattle.obs_epoch.specs.Heard.{GatherSetup, Heard, heard, is_own}
+use Rattle.obs_epoch.specs.Times.{Timed, greatest_time, taken_at, timed, is_late, is_past, time_of}
 use Rattle.obs_epoch.specs.Cells.{with_skipped, offered, counts_of}
-use Rattle.obs_epoch.specs.Marked.{MarkedEpoch}
-use Rattle.obs_epoch.specs.Epochs.{epoch_at, closed_so_far, closed_times, values_of, told, no_values}
-use Rattle.obs_epoch.specs.Clock.{State, Stands, is_pending, closes_first, answer_of}
+use Rattle.obs_epoch.specs.WithLli.{EpochWithLli}
+use Rattle.obs_epoch.specs.Epochs.{epoch_at, closed_so_far, closed_times, values_of, values_told, no_values}
+use Rattle.obs_epoch.specs.Clock.{State, HasHeardMessages, is_pending, closes_first, answer_of}
 use Rattle.obs_epoch.specs.Step.{answer_by, step_by, closed_by, closed_of}
-use Rattle.obs_epoch.specs.Gather.{with_unlisted, Gathered, Loaded, no_epoch, no_counts, noted, load, loaded_by, begun, is_same, fate_in, load_one, ticked, closed_if, take_step, end_step}
-use Rattle.obs_epoch.specs.Standing.{held_at, Locked, Standing, closed_list, counts_in, handed_out}
+use Rattle.obs_epoch.specs.Gather.{with_unlisted, Gathered, Loaded, no_epoch, no_counts, noted, load, loaded_by, epoch_begun, is_same, fate_in, load_one, ticked, closed_if, take_step, end_step}
+use Rattle.obs_epoch.specs.Standing.{held_at, Locked, HasTakenMessages, closed_list, counts_of_message, handed_out}
 use Rattle.obs_epoch.proofs.TimesLemmas.{next, timed-push}
 use Rattle.obs_epoch.proofs.ClockLemmas.{standing, same_state, takes, closes, new_time}
 use Rattle.obs_epoch.proofs.ClosedLemmas.{taken_follows}
@@ -28,30 +28,30 @@ use Rattle.obs_epoch.proofs.LoadLemmas.{hold_is}
 use Rattle.obs_epoch.proofs.NotingLemmas.{noted_locked}
 use Rattle.obs_epoch.proofs.StandingLemmas.{locked-push, closed_later, own_of, loaded_taken, held_same}
 
-pub clock_is : (g : State) (s : Setup) (ms : List Heard) (shut : Bool) → Stands g s ms shut → g ≡ standing s (timed s ms) shut
+pub clock_is : (g : State) (s : GatherSetup) (ms : List Heard) (shut : Bool) → HasHeardMessages g s ms shut → g ≡ standing s (timed s ms) shut
 clock_is g s ms shut h = same_state g s _ _ h.setup h.latest h.pending
 
-pub clock_stands : (g : State) (s : Setup) (ms : List Heard) (xs : List Timed) (shut : Bool) → timed s ms ≡ xs → g ≡ standing s xs shut → Stands g s ms shut
+pub clock_stands : (g : State) (s : GatherSetup) (ms : List Heard) (xs : List Timed) (shut : Bool) → timed s ms ≡ xs → g ≡ standing s xs shut → HasHeardMessages g s ms shut
 clock_stands g s ms xs shut same e = record {
   setup = ap (λ (x : State). x.setup) e;
-  latest = ap (λ (x : State). x.latest) e ∙ ap greatest (sym same);
+  latest = ap (λ (x : State). x.latest) e ∙ ap greatest_time (sym same);
   pending = ap (λ (x : State). x.pending) e ∙ ap (λ ys. is_pending s ys && not shut) (sym same);
 }
 
-values-push : (s : Setup) (ms : List Heard) (m : Heard) → values_of s (ms ++ m ∷ []) ≡ told s (values_of s ms) m
-values-push s ms m = fold-append (told s) no_values ms (m ∷ [])
+values-push : (s : GatherSetup) (ms : List Heard) (m : Heard) → values_of s (ms ++ m ∷ []) ≡ values_told s (values_of s ms) m
+values-push s ms m = fold-append (values_told s) no_values ms (m ∷ [])
 
 -- before the closing
-pub record Mid (g : Gathered) (s : Setup) (ms : List Heard) (shut : Bool) (ts : List ℕ) : Type 0 where
-  pub clock : Stands g.clock s ms shut
+pub record Mid (g : Gathered) (s : GatherSetup) (ms : List Heard) (shut : Bool) (ts : List ℕ) : Type 0 where
+  pub clock : HasHeardMessages g.clock s ms shut
   pub epoch : g.epoch ≡ held_at s (timed s ms)
   pub locks : Locked g s (timed s ms) ts
   pub values : g.values ≡ values_of s ms
 
 -- after it
-pub assemble : (g : Gathered) (s : Setup) (ms : List Heard) (shut : Bool) (ts : List ℕ) (o : Option ℕ) → Mid g s ms shut ts
-    → ((t : ℕ) → o ≡ Some t → greatest (timed s ms) ≡ Some t) → closed_so_far s (timed s ms) shut ≡ ts ++ option_to_list o
-    → Standing (if is_some o then noted g else g) s ms shut
+pub assemble : (g : Gathered) (s : GatherSetup) (ms : List Heard) (shut : Bool) (ts : List ℕ) (o : Option ℕ) → Mid g s ms shut ts
+    → ((t : ℕ) → o ≡ Some t → greatest_time (timed s ms) ≡ Some t) → closed_so_far s (timed s ms) shut ≡ ts ++ option_to_list o
+    → HasTakenMessages (if is_some o then noted g else g) s ms shut
 assemble g s ms shut ts None h at closed = record {
   clock = h.clock;
   epoch = h.epoch;
@@ -82,7 +82,7 @@ after_closed answers.PastWeeks true true before after t unlike e = e
 after_closed answers.PastWeeks true false before after t unlike e = grind (arith, e)
 after_closed answers.PastWeeks false p before after t unlike e = grind (arith, e)
 
-pub not_first : (s : Setup) (xs : List Timed) (m : Heard) → answer_of s xs m ≡ answers.CloseFirst → ⊥
+pub not_first : (s : GatherSetup) (xs : List Timed) (m : Heard) → answer_of s xs m ≡ answers.CloseFirst → ⊥
 not_first s xs m e = by (is_own s m) m.tow refl refl where
   late : (tow : ℕ) (a b : Bool) → is_own s m ≡ true → m.tow ≡ Some tow → is_late s xs tow ≡ a → is_past (time_of s xs tow) ≡ b → ⊥
   late tow true b p q f g = grind (arith, e, p, q, f)
@@ -103,22 +103,22 @@ others answers.Late before g m unlike = refl
 others answers.PastWeeks before g m unlike = refl
 others answers.CloseFirst before g m unlike = refl
 
-kept_kind : (s : Setup) (xs : List Timed) (m : Heard) (u : ℕ) → taken_at s xs m ≡ Some u → answer_of s xs m ≡ answers.Kept
+kept_kind : (s : GatherSetup) (xs : List Timed) (m : Heard) (u : ℕ) → taken_at s xs m ≡ Some u → answer_of s xs m ≡ answers.Kept
 kept_kind s xs m u some =
     let own = own_of s xs m u some in
     let p = parts s xs m u some in
     let tow = p.some in let early = p.early in let within = p.within in
     grind (arith, own, tow, early, within)
 
-other_kind : (s : Setup) (xs : List Timed) (m : Heard) → taken_at s xs m ≡ None → answer_of s xs m ≡ answers.Kept → ⊥
+other_kind : (s : GatherSetup) (xs : List Timed) (m : Heard) → taken_at s xs m ≡ None → answer_of s xs m ≡ answers.Kept → ⊥
 other_kind s xs m none e = grind (arith, none, e)
 
 -- what is left before the closing, and the counts
-pub record Reached (l : Loaded) (s : Setup) (ms : List Heard) (m : Heard) (shut : Bool) : Type 0 where
+pub record Reached (l : Loaded) (s : GatherSetup) (ms : List Heard) (m : Heard) (shut : Bool) : Type 0 where
   pub mid : Mid l.state s (ms ++ m ∷ []) false (closed_so_far s (timed s ms) shut)
-  pub counts : l.counts ≡ counts_in s (timed s ms) m
+  pub counts : l.counts ≡ counts_of_message s (timed s ms) m
 
-reached : (g : Gathered) (s : Setup) (ms : List Heard) (m : Heard) (shut : Bool) → Standing g s ms shut → closes_first s (timed s ms) m ≡ shut
+reached : (g : Gathered) (s : GatherSetup) (ms : List Heard) (m : Heard) (shut : Bool) → HasTakenMessages g s ms shut → closes_first s (timed s ms) m ≡ shut
     → Reached (loaded_by (answer_by g.clock m) g.clock.latest (ticked g m) m) s ms m shut
 reached g s ms m shut h early = by (taken_at s xs m) refl where
   xs : List Timed
@@ -137,7 +137,7 @@ reached g s ms m shut h early = by (taken_at s xs m) refl where
   answer = ap (λ c. answer_by c m) was ∙ (takes s xs m shut early).0
 
   values : (ticked g m).values ≡ values_of s (ms ++ m ∷ [])
-  values = ap₂ (λ c v. told c v m) h.clock.setup h.values ∙ sym (values-push s ms m)
+  values = ap₂ (λ c v. values_told c v m) h.clock.setup h.values ∙ sym (values-push s ms m)
 
   locks : Locked (ticked g m) s (xs ++ next s xs m ∷ []) (closed_so_far s xs shut)
   locks =
@@ -165,7 +165,7 @@ reached g s ms m shut h early = by (taken_at s xs m) refl where
       })
   by (Some u) some =
       let new = new_time s xs (next s xs m) u some (taken_follows s xs m u some) in
-      let latest : g.clock.latest ≡ greatest xs = ap (λ (c : State). c.latest) was in
+      let latest : g.clock.latest ≡ greatest_time xs = ap (λ (c : State). c.latest) was in
       let is = ap₂ (λ k o. loaded_by k o (ticked g m) m) (answer ∙ kept_kind s xs m u some) latest
       ∙ ap (with_unlisted m.unlisted) (loaded_taken (ticked g m) s xs m u shut some early h.epoch before now) in
       subst (λ l. Reached l s ms m shut) (sym is) (record {
@@ -175,9 +175,9 @@ reached g s ms m shut h early = by (taken_at s xs m) refl where
       })
 
 -- the list of closed epochs grows by what is handed out
-grown : (s : Setup) (ms : List Heard) (m : Heard) (shut : Bool) (o : Option ℕ) (e : MarkedEpoch) → closes_first s (timed s ms) m ≡ shut
+grown : (s : GatherSetup) (ms : List Heard) (m : Heard) (shut : Bool) (o : Option ℕ) (e : EpochWithLli) → closes_first s (timed s ms) m ≡ shut
     → closed_so_far s (timed s (ms ++ m ∷ [])) false ≡ closed_so_far s (timed s ms) shut ++ option_to_list o
-    → e ≡ held_at s (timed s (ms ++ m ∷ [])) → ((t : ℕ) → o ≡ Some t → greatest (timed s (ms ++ m ∷ [])) ≡ Some t)
+    → e ≡ held_at s (timed s (ms ++ m ∷ [])) → ((t : ℕ) → o ≡ Some t → greatest_time (timed s (ms ++ m ∷ [])) ≡ Some t)
     → closed_list s (timed s (ms ++ m ∷ [])) false ≡ closed_list s (timed s ms) shut ++ handed_out (is_some o) e
 grown s ms m shut o e early closed held at =
     ap (map (epoch_at s ys)) closed ∙ map-append (epoch_at s ys) (closed_so_far s xs shut) (option_to_list o)
@@ -193,7 +193,7 @@ grown s ms m shut o e early closed held at =
           ap (λ l. map (epoch_at s l) (closed_so_far s xs shut)) (timed-push s ms m)
           ∙ same_epochs s xs (next s xs m) (taken_follows s xs m) (closed_so_far s xs shut) (closed_later s xs m shut early)
 
-      by : (o : Option ℕ) → ((t : ℕ) → o ≡ Some t → greatest ys ≡ Some t) → map (epoch_at s ys) (option_to_list o) ≡ handed_out (is_some o) e
+      by : (o : Option ℕ) → ((t : ℕ) → o ≡ Some t → greatest_time ys ≡ Some t) → map (epoch_at s ys) (option_to_list o) ≡ handed_out (is_some o) e
       by None h = refl
       by (Some t) h = ap (λ v. v ∷ []) (sym (held ∙ ap (λ o. option_map_or (epoch_at s ys) o no_epoch) (h t refl)))
 
@@ -201,14 +201,14 @@ epoch_stays : (b : Bool) (g : Gathered) → (if b then noted g else g).epoch ≡
 epoch_stays true g = refl
 epoch_stays false g = refl
 
-pub record Taken (g : Gathered) (s : Setup) (ms : List Heard) (m : Heard) (shut : Bool) : Type 0 where
+pub record Taken (g : Gathered) (s : GatherSetup) (ms : List Heard) (m : Heard) (shut : Bool) : Type 0 where
   pub kind : answer_by g.clock m ≡ answer_of s (timed s ms) m
-  pub counts : (take_step g m).counts ≡ counts_in s (timed s ms) m
-  pub after : Standing (take_step g m).state s (ms ++ m ∷ []) false
+  pub counts : (take_step g m).counts ≡ counts_of_message s (timed s ms) m
+  pub after : HasTakenMessages (take_step g m).state s (ms ++ m ∷ []) false
   pub closed : closed_list s (timed s (ms ++ m ∷ [])) false ≡ closed_list s (timed s ms) shut ++ handed_out (is_some (closed_by g.clock m)) (take_step g m).state.epoch
 
 -- a message is taken
-pub taken : (g : Gathered) (s : Setup) (ms : List Heard) (m : Heard) (shut : Bool) → Standing g s ms shut → closes_first s (timed s ms) m ≡ shut → Taken g s ms m shut
+pub taken : (g : Gathered) (s : GatherSetup) (ms : List Heard) (m : Heard) (shut : Bool) → HasTakenMessages g s ms shut → closes_first s (timed s ms) m ≡ shut → Taken g s ms m shut
 taken g s ms m shut h early =
     let xs = timed s ms in
     let o = closed_by g.clock m in
@@ -217,8 +217,8 @@ taken g s ms m shut h early =
     let now : step_by g.clock m ≡ standing s (xs ++ next s xs m ∷ []) false = ap (λ c. step_by c m) was ∙ (takes s xs m shut early).1 in
     let closed : closed_so_far s (timed s (ms ++ m ∷ [])) false ≡ closed_so_far s xs shut ++ option_to_list o =
     ap (λ l. closed_so_far s l false) (timed-push s ms m) ∙ closing s xs m shut early ∙ ap (λ c. closed_so_far s xs shut ++ option_to_list (closed_by c m)) (sym was) in
-    let at : (t : ℕ) → o ≡ Some t → greatest (timed s (ms ++ m ∷ [])) ≡ Some t =
-    λ t e. ap greatest (timed-push s ms m) ∙ ap (λ (c : State). c.latest) (sym now)
+    let at : (t : ℕ) → o ≡ Some t → greatest_time (timed s (ms ++ m ∷ [])) ≡ Some t =
+    λ t e. ap greatest_time (timed-push s ms m) ∙ ap (λ (c : State). c.latest) (sym now)
     ∙ after_closed (answer_by g.clock m) _ _ _ _ t (λ f. not_first s xs m (sym answer ∙ f)) e in
     let r = reached g s ms m shut h early in
     let l = loaded_by (answer_by g.clock m) g.clock.latest (ticked g m) m in
@@ -230,7 +230,7 @@ taken g s ms m shut h early =
     }
 
 -- the times of the closed epochs grow by what the step closes
-pub times_taken : (g : Gathered) (s : Setup) (ms : List Heard) (m : Heard) (shut : Bool) → Standing g s ms shut → closes_first s (timed s ms) m ≡ shut
+pub times_taken : (g : Gathered) (s : GatherSetup) (ms : List Heard) (m : Heard) (shut : Bool) → HasTakenMessages g s ms shut → closes_first s (timed s ms) m ≡ shut
     → closed_so_far s (timed s (ms ++ m ∷ [])) false ≡ closed_so_far s (timed s ms) shut ++ option_to_list (closed_by g.clock m)
 times_taken g s ms m shut h early =
     let xs = timed s ms in
@@ -238,14 +238,14 @@ times_taken g s ms m shut h early =
     ap (λ l. closed_so_far s l false) (timed-push s ms m) ∙ closing s xs m shut early ∙ ap (λ c. closed_so_far s xs shut ++ option_to_list (closed_by c m)) (sym was)
 
 -- that is the greatest time then
-pub time_taken : (g : Gathered) (s : Setup) (ms : List Heard) (m : Heard) (shut : Bool) → Standing g s ms shut → closes_first s (timed s ms) m ≡ shut
-    → (t : ℕ) → closed_by g.clock m ≡ Some t → greatest (timed s (ms ++ m ∷ [])) ≡ Some t
+pub time_taken : (g : Gathered) (s : GatherSetup) (ms : List Heard) (m : Heard) (shut : Bool) → HasTakenMessages g s ms shut → closes_first s (timed s ms) m ≡ shut
+    → (t : ℕ) → closed_by g.clock m ≡ Some t → greatest_time (timed s (ms ++ m ∷ [])) ≡ Some t
 time_taken g s ms m shut h early t e =
     let xs = timed s ms in
     let was = clock_is g.clock s ms shut h.clock in
     let answer : answer_by g.clock m ≡ answer_of s xs m = ap (λ c. answer_by c m) was ∙ (takes s xs m shut early).0 in
     let now : step_by g.clock m ≡ standing s (xs ++ next s xs m ∷ []) false = ap (λ c. step_by c m) was ∙ (takes s xs m shut early).1 in
-    ap greatest (timed-push s ms m) ∙ ap (λ (c : State). c.latest) (sym now)
+    ap greatest_time (timed-push s ms m) ∙ ap (λ (c : State). c.latest) (sym now)
     ∙ after_closed (answer_by g.clock m) _ _ _ _ t (λ f. not_first s xs m (sym answer ∙ f)) e
 
 -- what a message that isn't taken closes was pending
@@ -263,7 +263,7 @@ was_pending answers.PastWeeks b true before after t unlike untaken e = refl
 was_pending answers.PastWeeks true false before after t unlike untaken e = grind (arith, e)
 was_pending answers.PastWeeks false false before after t unlike untaken e = grind (arith, e)
 
-pub pending_taken : (g : Gathered) (s : Setup) (ms : List Heard) (m : Heard) (shut : Bool) → Standing g s ms shut → closes_first s (timed s ms) m ≡ shut
+pub pending_taken : (g : Gathered) (s : GatherSetup) (ms : List Heard) (m : Heard) (shut : Bool) → HasTakenMessages g s ms shut → closes_first s (timed s ms) m ≡ shut
     → taken_at s (timed s ms) m ≡ None → (t : ℕ) → closed_by g.clock m ≡ Some t → is_pending s (timed s ms) ≡ true
 pending_taken g s ms m shut h early none t e =
     let xs = timed s ms in
@@ -275,7 +275,7 @@ pending_taken g s ms m shut h early none t e =
       left_true true b e = refl
       left_true false b e = grind (arith, e)
 
--- a message that tells a point has neither a time nor a mark
+-- a message that tells a point has neither a time nor says whether its epoch ends
 abbrev pub IsTold : Heard → Type 0
 IsTold m = (m.point ≡ None) ⊎ ((m.tow ≡ None) × (m.more ≡ None))
 
@@ -295,21 +295,21 @@ no_point_told g m t (inr both) e = absurd (unlike (closes_none g m both.0 both.1
   unlike {o} a b = grind (arith, a, b)
 
 -- such a message leaves the station values
-pub same_values : (s : Setup) (ms : List Heard) (m : Heard) → m.point ≡ None → values_of s (ms ++ m ∷ []) ≡ values_of s ms
+pub same_values : (s : GatherSetup) (ms : List Heard) (m : Heard) → m.point ≡ None → values_of s (ms ++ m ∷ []) ≡ values_of s ms
 same_values s ms m none = values-push s ms m ∙ by (is_own s m) where
   by : (b : Bool) → (if b then option_map_or (λ p. record { x = p.x; y = p.y; z = p.z; height = option_map_or (λ h. h) p.height (values_of s ms).height }) m.point (values_of s ms) else values_of s ms) ≡ values_of s ms
   by true = ap (λ o. option_map_or (λ p. record { x = p.x; y = p.y; z = p.z; height = option_map_or (λ h. h) p.height (values_of s ms).height }) o (values_of s ms)) none
   by false = refl
 
-pub record First (g : Gathered) (s : Setup) (ms : List Heard) (m : Heard) : Type 0 where
+pub record First (g : Gathered) (s : GatherSetup) (ms : List Heard) (m : Heard) : Type 0 where
   pub kind : answer_by g.clock m ≡ answers.CloseFirst
   pub has : is_some (closed_by g.clock m) ≡ true
-  pub after : Standing (take_step g m).state s ms true
+  pub after : HasTakenMessages (take_step g m).state s ms true
   pub closed : closed_list s (timed s ms) true ≡ closed_list s (timed s ms) false ++ (take_step g m).state.epoch ∷ []
 
 -- a message that closes first isn't
-pub closes_it : (g : Gathered) (s : Setup) (ms : List Heard) (m : Heard) → Standing g s ms false → closes_first s (timed s ms) m ≡ true → m.point ≡ None → First g s ms m
-closes_it g s ms m h early none = by (greatest (timed s ms)) refl where
+pub closes_it : (g : Gathered) (s : GatherSetup) (ms : List Heard) (m : Heard) → HasTakenMessages g s ms false → closes_first s (timed s ms) m ≡ true → m.point ≡ None → First g s ms m
+closes_it g s ms m h early none = by (greatest_time (timed s ms)) refl where
   xs : List Timed
   xs = timed s ms
 
@@ -322,10 +322,10 @@ closes_it g s ms m h early none = by (greatest (timed s ms)) refl where
   now : step_by g.clock m ≡ standing s xs true
   now = ap (λ c. step_by c m) was ∙ (closes s xs m early).1
 
-  handed : closed_by g.clock m ≡ greatest xs
+  handed : closed_by g.clock m ≡ greatest_time xs
   handed = ap (λ k. closed_of k (g.clock.setup.by_bit && option_map_or not m.more false) g.clock.pending g.clock.latest (step_by g.clock m).latest) answer ∙ ap (λ (c : State). c.latest) was
 
-  unchanged : told g.clock.setup g.values m ≡ values_of s ms
+  unchanged : values_told g.clock.setup g.values m ≡ values_of s ms
   unchanged = by_own (is_own g.clock.setup m) ∙ h.values where
     by_own : (b : Bool) → (if b then option_map_or (λ p. record { x = p.x; y = p.y; z = p.z; height = option_map_or (λ h. h) p.height g.values.height }) m.point g.values else g.values) ≡ g.values
     by_own true = grind (arith, none)
@@ -334,7 +334,7 @@ closes_it g s ms m h early none = by (greatest (timed s ms)) refl where
   step : take_step g m ≡ closed_if (is_some (closed_by g.clock m)) (record { state = ticked g m; counts = no_counts })
   step = ap (λ k. closed_if (is_some (closed_by g.clock m)) (loaded_by k g.clock.latest (ticked g m) m)) answer
 
-  by : (o : Option ℕ) → greatest xs ≡ o → First g s ms m
+  by : (o : Option ℕ) → greatest_time xs ≡ o → First g s ms m
   by None e = absurd (grind (arith, early, e))
   by (Some t) e =
       let is : closed_by g.clock m ≡ Some t = handed ∙ e in
@@ -352,27 +352,27 @@ closes_it g s ms m h early none = by (greatest (timed s ms)) refl where
       record {
         kind = answer;
         has = ap is_some is;
-        after = subst (λ (l : Loaded). Standing l.state s ms true) (sym to)
+        after = subst (λ (l : Loaded). HasTakenMessages l.state s ms true) (sym to)
             (assemble (ticked g m) s ms true (closed_so_far s xs false) (Some t) mid (λ u f. e ∙ f) more);
         closed = ap (map (epoch_at s xs)) more ∙ map-append (epoch_at s xs) (closed_so_far s xs false) (t ∷ [])
             ∙ ap (λ v. closed_list s xs false ++ v ∷ []) (sym held ∙ ap (λ (l : Loaded). l.state.epoch) (sym to));
       }
 
-pub record Ended (g : Gathered) (s : Setup) (ms : List Heard) (shut : Bool) : Type 0 where
+pub record Ended (g : Gathered) (s : GatherSetup) (ms : List Heard) (shut : Bool) : Type 0 where
   pub was : g.clock.pending ≡ (is_pending s (timed s ms) && not shut)
-  pub after : Standing (end_step g) s ms (shut || g.clock.pending)
+  pub after : HasTakenMessages (end_step g) s ms (shut || g.clock.pending)
   pub closed : closed_list s (timed s ms) (shut || g.clock.pending) ≡ closed_list s (timed s ms) shut ++ handed_out g.clock.pending (end_step g).epoch
 
 abbrev stopping : Gathered → Gathered
 stopping g = record g { clock = record g.clock { pending = false }; handed = g.clock.pending; has_ended = true }
 
-ended_by : (g : Gathered) (s : Setup) (ms : List Heard) (shut : Bool) (b : Bool) → g.clock.pending ≡ b → g.clock.pending ≡ (is_pending s (timed s ms) && not shut)
-    → Standing (if b then noted (stopping g) else stopping g) s ms (shut || b)
+ended_by : (g : Gathered) (s : GatherSetup) (ms : List Heard) (shut : Bool) (b : Bool) → g.clock.pending ≡ b → g.clock.pending ≡ (is_pending s (timed s ms) && not shut)
+    → HasTakenMessages (if b then noted (stopping g) else stopping g) s ms (shut || b)
     → closed_list s (timed s ms) (shut || b) ≡ closed_list s (timed s ms) shut ++ handed_out b (if b then noted (stopping g) else stopping g).epoch
     → Ended g s ms shut
 ended_by g s ms shut b is was after closed = record {
   was = was;
-  after = subst (λ v. Standing (if v then noted (stopping g) else stopping g) s ms (shut || v)) (sym is) after;
+  after = subst (λ v. HasTakenMessages (if v then noted (stopping g) else stopping g) s ms (shut || v)) (sym is) after;
   closed = subst (λ v. closed_list s (timed s ms) (shut || v) ≡ closed_list s (timed s ms) shut ++ handed_out v (if v then noted (stopping g) else stopping g).epoch) (sym is) closed;
 }
 
@@ -381,10 +381,10 @@ or_none true = refl
 or_none false = refl
 
 -- nothing was pending
-ended_none : (g : Gathered) (s : Setup) (ms : List Heard) (shut : Bool) → Standing g s ms shut → g.clock.pending ≡ false → Ended g s ms shut
+ended_none : (g : Gathered) (s : GatherSetup) (ms : List Heard) (shut : Bool) → HasTakenMessages g s ms shut → g.clock.pending ≡ false → Ended g s ms shut
 ended_none g s ms shut h f =
     ended_by g s ms shut false f h.clock.pending
-    (subst (Standing (stopping g) s ms) (sym (or_none shut)) (record {
+    (subst (HasTakenMessages (stopping g) s ms) (sym (or_none shut)) (record {
       clock = record { setup = h.clock.setup; latest = h.clock.latest; pending = sym f ∙ h.clock.pending };
       epoch = h.epoch;
       locks = record { found = h.locks.found; tracks = h.locks.tracks };
@@ -397,12 +397,12 @@ and_not_true true = refl
 and_not_true false = refl
 
 -- the pending epoch closes
-ended_some : (g : Gathered) (s : Setup) (ms : List Heard) → Standing g s ms false → g.clock.pending ≡ true → Ended g s ms false
-ended_some g s ms h f = by (greatest (timed s ms)) refl where
+ended_some : (g : Gathered) (s : GatherSetup) (ms : List Heard) → HasTakenMessages g s ms false → g.clock.pending ≡ true → Ended g s ms false
+ended_some g s ms h f = by (greatest_time (timed s ms)) refl where
   xs : List Timed
   xs = timed s ms
 
-  by : (o : Option ℕ) → greatest xs ≡ o → Ended g s ms false
+  by : (o : Option ℕ) → greatest_time xs ≡ o → Ended g s ms false
   by None e = absurd (grind (arith, f, e, h.clock.pending))
   by (Some t) e =
       let mid : Mid (stopping g) s ms true (closed_so_far s xs false) = record {
@@ -419,7 +419,7 @@ ended_some g s ms h f = by (greatest (timed s ms)) refl where
       (ap (map (epoch_at s xs)) more ∙ map-append (epoch_at s xs) (closed_so_far s xs false) (t ∷ []) ∙ ap (λ v. closed_list s xs false ++ v ∷ []) (sym held))
 
 -- no message follows
-pub ended : (g : Gathered) (s : Setup) (ms : List Heard) (shut : Bool) → Standing g s ms shut → Ended g s ms shut
+pub ended : (g : Gathered) (s : GatherSetup) (ms : List Heard) (shut : Bool) → HasTakenMessages g s ms shut → Ended g s ms shut
 ended g s ms true h = by g.clock.pending refl where
   by : (p : Bool) → g.clock.pending ≡ p → Ended g s ms true
   by true f = absurd (grind (arith, f, h.clock.pending))
@@ -430,7 +430,7 @@ ended g s ms false h = by g.clock.pending refl where
   by false f = ended_none g s ms false h f
 
 -- a message with a time tells no point
-pub no_point : (s : Setup) (xs : List Timed) (m : Message) → closes_first s xs (heard m) ≡ true → (heard m).point ≡ None
+pub no_point : (s : GatherSetup) (xs : List Timed) (m : Message) → closes_first s xs (heard m) ≡ true → (heard m).point ≡ None
 no_point s xs (message.Station p) h = absurd (grind (arith, h))
 no_point s xs (message.Msm4 m) h = refl
 no_point s xs (message.Msm7 m) h = refl
@@ -448,7 +448,7 @@ begun_handed false g e h = h
 
 loaded_handed : (k : Answer) (before : Option ℕ) (g : Gathered) (m : Heard) → (loaded_by k before g m).state.handed ≡ g.handed
 loaded_handed answers.Kept before g m =
-    load_handed (record { state = begun before g; counts = no_counts }) m.cells
+    load_handed (record { state = epoch_begun before g; counts = no_counts }) m.cells
     ∙ begun_handed (is_same before g.clock.latest) g (record g { epoch = record { time = option_map_or (λ t. t) g.clock.latest 0; gps = []; galileo = [] } }) refl
 loaded_handed answers.OtherStation before g m = refl
 loaded_handed answers.Ignored before g m = refl
@@ -474,7 +474,7 @@ begun_ended false g e h = h
 
 loaded_ended : (k : Answer) (before : Option ℕ) (g : Gathered) (m : Heard) → (loaded_by k before g m).state.has_ended ≡ g.has_ended
 loaded_ended answers.Kept before g m =
-    load_ended (record { state = begun before g; counts = no_counts }) m.cells
+    load_ended (record { state = epoch_begun before g; counts = no_counts }) m.cells
     ∙ begun_ended (is_same before g.clock.latest) g (record g { epoch = record { time = option_map_or (λ t. t) g.clock.latest 0; gps = []; galileo = [] } }) refl
 loaded_ended answers.OtherStation before g m = refl
 loaded_ended answers.Ignored before g m = refl

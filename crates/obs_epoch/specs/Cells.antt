@@ -8,10 +8,10 @@ use Rattle.gnss_obs.specs.Signals.{SignalAt, table}
 use Rattle.obs_epoch.specs.Values.{planned_of, most_cells}
 use Rattle.obs_epoch.specs.Plans.{place_in}
 use Rattle.obs_epoch.specs.Order.{sorted}
-use Rattle.obs_epoch.specs.Heard.{Setup}
+use Rattle.obs_epoch.specs.Heard.{GatherSetup}
 use Rattle.obs_epoch.specs.declared.seen.Seen.{Seen}
 use Rattle.obs_epoch.specs.Times.{Timed, is_at}
-use Rattle.obs_epoch.specs.declared.seen.Counts.{Counts}
+use Rattle.obs_epoch.specs.declared.seen.CellCounts.{CellCounts}
 
 abbrev pub is_gps : System → Bool
 is_gps Gps = true
@@ -21,8 +21,8 @@ abbrev pub is_system : System → System → Bool
 is_system Gps s = is_gps s
 is_system Galileo s = not (is_gps s)
 
-abbrev pub is_of : System → Seen → Bool
-is_of system x = is_system system x.satellite.system
+abbrev pub is_of_system : System → Seen → Bool
+is_of_system system x = is_system system x.satellite.system
 
 -- of one system, satellite and signal
 abbrev pub same_key : Satellite → SignalAt → Satellite → SignalAt → Bool
@@ -33,16 +33,16 @@ abbrev pub has_same_key : Seen → Seen → Bool
 has_same_key a b = same_key a.satellite a.signal b.satellite b.signal
 
 -- its satellite is one of its system, and its signal stands in that system's table
-abbrev pub is_listed : Seen → Bool
-is_listed x =
+abbrev pub has_listed_key : Seen → Bool
+has_listed_key x =
     nat_lt 0 x.satellite.id && nat_le x.satellite.id (satellites x.satellite.system) && nat_lt x.signal.index (length (table x.satellite.system))
 
 -- satellite and signal are listed, and the signal is planned
-abbrev pub is_planned : Setup → Seen → Bool
-is_planned s x = is_listed x && is_some (place_in x.signal (planned_of x.satellite.system s.plan))
+abbrev pub is_planned : GatherSetup → Seen → Bool
+is_planned s x = has_listed_key x && is_some (place_in x.signal (planned_of x.satellite.system s.plan))
 
 -- the planned cells of the taken messages of time t, in order
-abbrev pub offered : Setup → ℕ → List Timed → List Seen
+abbrev pub offered : GatherSetup → ℕ → List Timed → List Seen
 offered s t xs = flat_map (λ x. filter (is_planned s) x.message.cells) (filter (is_at t) xs)
 
 abbrev pub is_among : List Seen → Seen → Bool
@@ -60,25 +60,25 @@ firsts xs = firsts_after [] xs
 
 -- those that are kept of a system
 abbrev pub kept : System → List Seen → List Seen
-kept system xs = take most_cells (filter (is_of system) (firsts xs))
+kept system xs = take most_cells (filter (is_of_system system) (firsts xs))
 
 -- one cell more: it is kept where it is of the system, where none of its key is kept, and where there is room
 abbrev pub add : System → List Seen → Seen → List Seen
-add system ks y = if is_of system y && not (is_among ks y || nat_le most_cells (length ks)) then ks ++ y ∷ [] else ks
+add system ks y = if is_of_system system y && not (is_among ks y || nat_le most_cells (length ks)) then ks ++ y ∷ [] else ks
 
 -- the kept cells of the epoch of time t, of a system, by satellite and within it by the plan
-abbrev pub kept_at : Setup → ℕ → List Timed → System → List Seen
+abbrev pub kept_at : GatherSetup → ℕ → List Timed → System → List Seen
 kept_at s t xs system = sorted (planned_of system s.plan) (kept system (offered s t xs))
 
-abbrev pub both : List Seen → List Seen
-both xs = kept Gps xs ++ kept Galileo xs
+abbrev pub kept_of_both : List Seen → List Seen
+kept_of_both xs = kept Gps xs ++ kept Galileo xs
 
 -- of the cells that a message brings behind those before it: how many were kept, weren't planned, are repeated, are one too many
-abbrev pub counts_of : Setup → List Seen → List Seen → Counts
+abbrev pub counts_of : GatherSetup → List Seen → List Seen → CellCounts
 counts_of s before cells =
     let planned = filter (is_planned s) cells in
-    let all = both (before ++ planned) in
-    let newly = length all - length (both before) in
+    let all = kept_of_both (before ++ planned) in
+    let newly = length all - length (kept_of_both before) in
     record {
       kept = newly;
       skipped = count_by (λ x. not (is_planned s x)) cells;
@@ -87,5 +87,5 @@ counts_of s before cells =
     }
 
 -- and of so many more that neither satellite nor signal lists
-abbrev pub with_skipped : ℕ → Counts → Counts
+abbrev pub with_skipped : ℕ → CellCounts → CellCounts
 with_skipped n c = record c { skipped = c.skipped + n }

@@ -1,48 +1,48 @@
 -- What a clock stands for, and what became of a message.
 use Rattle.std.specs.Prelude.{ℕ, ◌≡◌, ◌*◌, ◌<◌, ◌&&◌, Bool, false, not, nat_lt, List, [], Option, None, if◌then◌else◌}
 use Rattle.std.specs.Option.{option_map_or, ForSome}
-use Rattle.obs_epoch.specs.declared.clock.Told.{Told}
+use Rattle.obs_epoch.specs.declared.clock.HeardByClock.{HeardByClock}
 use Rattle.obs_epoch.specs.declared.clock.Answer.{Answer}
 use Rattle.obs_epoch.specs.declared.clock.Answer.TheVariants.{OtherStation, Ignored, Late, PastWeeks, Kept}
-use Rattle.obs_epoch.specs.Heard.{Setup, Heard, is_own}
+use Rattle.obs_epoch.specs.Heard.{GatherSetup, Heard, is_own}
 use Rattle.obs_epoch.specs.Weeks.{week, weeks}
-use Rattle.obs_epoch.specs.Times.{Timed, greatest, is_closed, is_late, is_past, time_of, timed}
+use Rattle.obs_epoch.specs.Times.{Timed, greatest_time, is_closed, is_late, is_past, time_of, timed}
 
 -- the message, as far as a clock is told of it
-abbrev pub heard_of : Told → Heard
-heard_of m = record { station = m.station; tow = m.tow; more = m.more; cells = []; unlisted = 0; point = None }
+abbrev pub heard_by_clock : HeardByClock → Heard
+heard_by_clock m = record { station = m.station; tow = m.tow; more = m.more; cells = []; unlisted = 0; point = None }
 
 -- what a clock is seen as: what it was told at first, the greatest time, and whether the epoch of that time is pending
 pub record State : Type 0 where
-  pub setup : Setup
+  pub setup : GatherSetup
   pub latest : Option ℕ
   pub pending : Bool
 
 -- the weeks that there are
-pub record IsWithin (start_week : ℕ) (latest : Option ℕ) : Type 0 where
+pub record IsWithinWeeks (start_week : ℕ) (latest : Option ℕ) : Type 0 where
   pub start : start_week < weeks
   pub time : ForSome latest (λ t. t < weeks * week)
 
 -- the epoch of the greatest time is not closed
-abbrev pub is_pending : Setup → List Timed → Bool
-is_pending s xs = option_map_or (λ t. not (is_closed s t xs)) (greatest xs) false
+abbrev pub is_pending : GatherSetup → List Timed → Bool
+is_pending s xs = option_map_or (λ t. not (is_closed s t xs)) (greatest_time xs) false
 
 -- an epoch is pending, and this message's time is greater and within the weeks
-abbrev pub closes_first : Setup → List Timed → Heard → Bool
+abbrev pub closes_first : GatherSetup → List Timed → Heard → Bool
 closes_first s xs m =
     is_pending s xs && is_own s m
     && option_map_or (λ tow. not (is_late s xs tow) && not (is_past (time_of s xs tow))
-    && option_map_or (λ t. nat_lt t (time_of s xs tow)) (greatest xs) false) m.tow false
+    && option_map_or (λ t. nat_lt t (time_of s xs tow)) (greatest_time xs) false) m.tow false
 
 -- what becomes of a message after these
-abbrev pub answer_of : Setup → List Timed → Heard → Answer
+abbrev pub answer_of : GatherSetup → List Timed → Heard → Answer
 answer_of s xs m =
     if is_own s m
     then option_map_or (λ tow. if is_late s xs tow then Late else (if is_past (time_of s xs tow) then PastWeeks else Kept)) m.tow Ignored
     else OtherStation
 
 -- the clock stands for these messages, and for a pending epoch that was closed since then where `shut` holds
-pub record Stands (g : State) (s : Setup) (ms : List Heard) (shut : Bool) : Type 0 where
+pub record HasHeardMessages (g : State) (s : GatherSetup) (ms : List Heard) (shut : Bool) : Type 0 where
   pub setup : g.setup ≡ s
-  pub latest : g.latest ≡ greatest (timed s ms)
+  pub latest : g.latest ≡ greatest_time (timed s ms)
   pub pending : g.pending ≡ (is_pending s (timed s ms) && not shut)

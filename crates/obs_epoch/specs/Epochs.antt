@@ -4,55 +4,55 @@ use Rattle.std.specs.Option.{option_map_or}
 use Rattle.gnss_obs.specs.declared.system.System.TheVariants.{Gps, Galileo}
 use Rattle.rtcm_msg.specs.declared.station.StationParts.{StationParts}
 use Rattle.obs_epoch.specs.declared.seen.Seen.{Seen}
-use Rattle.obs_epoch.specs.Marked.{Marked, MarkedEpoch}
+use Rattle.obs_epoch.specs.WithLli.{CellWithLli, EpochWithLli}
 use Rattle.obs_epoch.specs.declared.cell.StationValues.{StationValues}
-use Rattle.obs_epoch.specs.Heard.{Setup, Heard, is_own}
-use Rattle.obs_epoch.specs.Times.{Timed, greatest, is_closed}
+use Rattle.obs_epoch.specs.Heard.{GatherSetup, Heard, is_own}
+use Rattle.obs_epoch.specs.Times.{Timed, greatest_time, is_closed}
 use Rattle.obs_epoch.specs.Cells.{kept_at}
-use Rattle.obs_epoch.specs.Loss.{times, mark_of}
+use Rattle.obs_epoch.specs.Loss.{times, lli_of}
 
-abbrev pub marked : Setup → List Timed → ℕ → List Seen → List Marked
-marked s xs t [] = []
-marked s xs t (c ∷ cs) = record { seen = c; mark = mark_of s xs t c } ∷ marked s xs t cs
+abbrev pub cells_with_lli : GatherSetup → List Timed → ℕ → List Seen → List CellWithLli
+cells_with_lli s xs t [] = []
+cells_with_lli s xs t (c ∷ cs) = record { seen = c; lli = lli_of s xs t c } ∷ cells_with_lli s xs t cs
 
 -- the epoch of time t
-abbrev pub epoch_at : Setup → List Timed → ℕ → MarkedEpoch
+abbrev pub epoch_at : GatherSetup → List Timed → ℕ → EpochWithLli
 epoch_at s xs t = record {
   time = t;
-  gps = marked s xs t (kept_at s t xs Gps);
-  galileo = marked s xs t (kept_at s t xs Galileo);
+  gps = cells_with_lli s xs t (kept_at s t xs Gps);
+  galileo = cells_with_lli s xs t (kept_at s t xs Galileo);
 }
 
 -- all epochs, closed or not
-abbrev pub epochs : Setup → List Timed → List MarkedEpoch
+abbrev pub epochs : GatherSetup → List Timed → List EpochWithLli
 epochs s xs = map (epoch_at s xs) (times xs)
 
--- closed within the list: by a mark, or by a taken message of a greater time
-abbrev pub is_shut : Setup → List Timed → ℕ → Bool
-is_shut s xs t = is_closed s t xs || option_map_or (λ u. nat_lt t u) (greatest xs) false
+-- closed within the list: by a message that ends it, or by a taken message of a greater time
+abbrev pub is_shut : GatherSetup → List Timed → ℕ → Bool
+is_shut s xs t = is_closed s t xs || option_map_or (λ u. nat_lt t u) (greatest_time xs) false
 
 -- the epochs that are closed within the list
-abbrev pub closed_epochs : Setup → List Timed → List MarkedEpoch
+abbrev pub closed_epochs : GatherSetup → List Timed → List EpochWithLli
 closed_epochs s xs = map (epoch_at s xs) (filter (is_shut s xs) (times xs))
 
 -- the point that a station message tells; the height stays where it tells none
 abbrev pub values_by : StationParts → ℕ → StationValues
 values_by p height = record { x = p.x; y = p.y; z = p.z; height = option_map_or (λ h. h) p.height height }
 
-abbrev pub told : Setup → StationValues → Heard → StationValues
-told s v m = if is_own s m then option_map_or (λ p. values_by p v.height) m.point v else v
+abbrev pub values_told : GatherSetup → StationValues → Heard → StationValues
+values_told s v m = if is_own s m then option_map_or (λ p. values_by p v.height) m.point v else v
 
 abbrev pub no_values : StationValues
 no_values = record { x = pos 0; y = pos 0; z = pos 0; height = 0 }
 
 -- the point of the last own message that told one, and the last height; 0 where there was none
-abbrev pub values_of : Setup → List Heard → StationValues
-values_of s ms = fold (told s) no_values ms
+abbrev pub values_of : GatherSetup → List Heard → StationValues
+values_of s ms = fold (values_told s) no_values ms
 
 -- the times of the epochs that are closed within the list
-abbrev pub closed_times : Setup → List Timed → List ℕ
+abbrev pub closed_times : GatherSetup → List Timed → List ℕ
 closed_times s xs = filter (is_shut s xs) (times xs)
 
 -- the times of the epochs that are closed, and of the pending one where `shut` says that it was closed since
-abbrev pub closed_so_far : Setup → List Timed → Bool → List ℕ
-closed_so_far s xs shut = closed_times s xs ++ (if shut then option_to_list (greatest xs) else [])
+abbrev pub closed_so_far : GatherSetup → List Timed → Bool → List ℕ
+closed_so_far s xs shut = closed_times s xs ++ (if shut then option_to_list (greatest_time xs) else [])

@@ -4,10 +4,10 @@ use Rattle.std.specs.Option.{option_map_or}
 use Rattle.gnss_obs.specs.declared.system.System.{System}
 use Rattle.gnss_obs.specs.declared.system.System.TheVariants.{Gps, Galileo}
 use Rattle.obs_epoch.specs.declared.seen.Seen.{Seen}
-use Rattle.obs_epoch.specs.Marked.{Marked}
+use Rattle.obs_epoch.specs.WithLli.{CellWithLli}
 use Rattle.obs_epoch.specs.declared.seen.KnownLock.{KnownLock}
 use Rattle.obs_epoch.specs.declared.cell.StationValues.{StationValues}
-use Rattle.obs_epoch.specs.declared.seen.Counts.{Counts}
+use Rattle.obs_epoch.specs.declared.seen.CellCounts.{CellCounts}
 use Rattle.obs_epoch.specs.declared.seen.Fate.{Fate}
 use Rattle.obs_epoch.specs.declared.seen.Fate.TheVariants.{Kept}
 use Rattle.obs_epoch.specs.declared.clock.Answer.{Answer}
@@ -18,10 +18,10 @@ use Rattle.obs_epoch.specs.Cells.{with_skipped}
 use Rattle.std.specs.List.{AllByRecursion}
 use Rattle.obs_epoch.specs.Values.{PlanValue, planned_of}
 use Rattle.obs_epoch.specs.Plans.{place_in}
-use Rattle.obs_epoch.specs.Order.{Rise, insert_by, spot, seat_of, marked_seat}
-use Rattle.obs_epoch.specs.Loss.{mark_with}
-use Rattle.obs_epoch.specs.Marked.{MarkedEpoch}
-use Rattle.obs_epoch.specs.Epochs.{told}
+use Rattle.obs_epoch.specs.Order.{SeatsRise, insert_by, spot, seat_of, seat_with_lli}
+use Rattle.obs_epoch.specs.Loss.{lli_with}
+use Rattle.obs_epoch.specs.WithLli.{EpochWithLli}
+use Rattle.obs_epoch.specs.Epochs.{values_told}
 use Rattle.obs_epoch.specs.Held.{lookup, note_all, fate_of, count_in}
 use Rattle.obs_epoch.specs.Clock.{State}
 use Rattle.obs_epoch.specs.Step.{answer_by, step_by, closed_by}
@@ -30,49 +30,49 @@ use Rattle.obs_epoch.specs.Step.{answer_by, step_by, closed_by}
 
 -- the epoch, and the station values so far
 pub record Holding : Type 0 where
-  pub epoch : MarkedEpoch
+  pub epoch : EpochWithLli
   pub values : StationValues
 
-abbrev pub no_epoch : MarkedEpoch
+abbrev pub no_epoch : EpochWithLli
 no_epoch = record { time = 0; gps = []; galileo = [] }
 
-abbrev pub cells_in : System → MarkedEpoch → List Marked
+abbrev pub cells_in : System → EpochWithLli → List CellWithLli
 cells_in Gps e = e.gps
 cells_in Galileo e = e.galileo
 
 -- one cell more, at its place in the order of a plan
-abbrev pub more_in : System → PlanValue → MarkedEpoch → Marked → MarkedEpoch
-more_in Gps p e m = record e { gps = insert_by (marked_seat p.gps) m e.gps }
-more_in Galileo p e m = record e { galileo = insert_by (marked_seat p.galileo) m e.galileo }
+abbrev pub with_more_in : System → PlanValue → EpochWithLli → CellWithLli → EpochWithLli
+with_more_in Gps p e m = record e { gps = insert_by (seat_with_lli p.gps) m e.gps }
+with_more_in Galileo p e m = record e { galileo = insert_by (seat_with_lli p.galileo) m e.galileo }
 
-abbrev pub with_more : PlanValue → MarkedEpoch → Marked → MarkedEpoch
-with_more p e m = more_in m.seen.satellite.system p e m
+abbrev pub with_more : PlanValue → EpochWithLli → CellWithLli → EpochWithLli
+with_more p e m = with_more_in m.seen.satellite.system p e m
 
 -- one cell more, behind so many of its system
-abbrev pub more_at : System → ℕ → MarkedEpoch → Marked → MarkedEpoch
+abbrev pub more_at : System → ℕ → EpochWithLli → CellWithLli → EpochWithLli
 more_at Gps at e m = record e { gps = insert e.gps at m }
 more_at Galileo at e m = record e { galileo = insert e.galileo at m }
 
 -- how many cells don't stand behind a cell of that key
-abbrev pub spot_in : PlanValue → MarkedEpoch → Seen → ℕ
+abbrev pub spot_in : PlanValue → EpochWithLli → Seen → ℕ
 spot_in p e x =
     let planned = planned_of x.satellite.system p in
-    spot (seat_of planned x) (map (marked_seat planned) (cells_in x.satellite.system e))
+    spot (seat_of planned x) (map (seat_with_lli planned) (cells_in x.satellite.system e))
 
 -- planned cells of a system stand in the order of a plan
-pub record Stand (system : System) (planned : List ℕ) (ms : List Marked) : Type 0 where
+pub record AreInPlanOrder (system : System) (planned : List ℕ) (ms : List CellWithLli) : Type 0 where
   pub each : AllByRecursion (λ m. (m.seen.satellite.system ≡ system) × (is_some (place_in m.seen.signal planned) ≡ true)) ms
-  pub rise : Rise (map (marked_seat planned) ms)
+  pub rise : SeatsRise (map (seat_with_lli planned) ms)
 
-pub record AreInOrder (p : PlanValue) (e : MarkedEpoch) : Type 0 where
-  pub gps : Stand Gps p.gps e.gps
-  pub galileo : Stand Galileo p.galileo e.galileo
+pub record AreInOrder (p : PlanValue) (e : EpochWithLli) : Type 0 where
+  pub gps : AreInPlanOrder Gps p.gps e.gps
+  pub galileo : AreInPlanOrder Galileo p.galileo e.galileo
 
 -- ---- the gatherer
 
 pub record Gathered : Type 0 where
   pub clock : State
-  pub epoch : MarkedEpoch
+  pub epoch : EpochWithLli
   pub locks : List (Option KnownLock)
   pub values : StationValues
   pub handed : Bool
@@ -82,7 +82,7 @@ abbrev pub fate_in : Gathered → Seen → Fate
 fate_in g x = fate_of g.clock.setup (cells_in x.satellite.system g.epoch) x
 
 abbrev pub hold_by : Fate → Gathered → Seen → Gathered
-hold_by Kept g x = record g { epoch = with_more g.clock.setup.plan g.epoch (record { seen = x; mark = mark_with g.epoch.time x (lookup g.locks x) }) }
+hold_by Kept g x = record g { epoch = with_more g.clock.setup.plan g.epoch (record { seen = x; lli = lli_with g.epoch.time x (lookup g.locks x) }) }
 hold_by _ g x = g
 
 -- a cell comes
@@ -91,9 +91,9 @@ hold g x = hold_by (fate_in g x) g x
 
 pub record Loaded : Type 0 where
   pub state : Gathered
-  pub counts : Counts
+  pub counts : CellCounts
 
-abbrev pub no_counts : Counts
+abbrev pub no_counts : CellCounts
 no_counts = record { kept = 0; skipped = 0; repeated = 0; crowded = 0 }
 
 abbrev pub load_one : Loaded → Seen → Loaded
@@ -109,12 +109,12 @@ abbrev pub with_unlisted : ℕ → Loaded → Loaded
 with_unlisted n l = record { state = l.state; counts = with_skipped n l.counts }
 
 abbrev pub load_entry : Bool → System → Loaded → Entry → Loaded
-load_entry is_long system l e = option_map_or (load_one l) (seen_in is_long system e) (with_unlisted 1 l)
+load_entry is_msm7 system l e = option_map_or (load_one l) (seen_in is_msm7 system e) (with_unlisted 1 l)
 
 -- the cells of a message come, one by one
 abbrev pub load_entries : Bool → System → Loaded → List Entry → Loaded
-load_entries is_long system l [] = l
-load_entries is_long system l (e ∷ es) = load_entries is_long system (load_entry is_long system l e) es
+load_entries is_msm7 system l [] = l
+load_entries is_msm7 system l (e ∷ es) = load_entries is_msm7 system (load_entry is_msm7 system l e) es
 
 -- the cells of a message
 abbrev pub load_heard : Loaded → Heard → Loaded
@@ -133,17 +133,17 @@ is_same (Some a) None = false
 is_same (Some a) (Some b) = a == b
 
 -- the epoch of the greatest time, with no cell yet where that time is new
-abbrev pub begun : Option ℕ → Gathered → Gathered
-begun before g =
+abbrev pub epoch_begun : Option ℕ → Gathered → Gathered
+epoch_begun before g =
     if is_same before g.clock.latest then g else record g { epoch = record { time = option_map_or (λ t. t) g.clock.latest 0; gps = []; galileo = [] } }
 
 abbrev pub loaded_by : Answer → Option ℕ → Gathered → Heard → Loaded
-loaded_by answers.Kept before g m = load_heard (record { state = begun before g; counts = no_counts }) m
+loaded_by answers.Kept before g m = load_heard (record { state = epoch_begun before g; counts = no_counts }) m
 loaded_by _ before g m = record { state = g; counts = no_counts }
 
 -- the clock and the station values are told of the message
 abbrev pub ticked : Gathered → Heard → Gathered
-ticked g m = record g { clock = step_by g.clock m; values = told g.clock.setup g.values m; handed = is_some (closed_by g.clock m) }
+ticked g m = record g { clock = step_by g.clock m; values = values_told g.clock.setup g.values m; handed = is_some (closed_by g.clock m) }
 
 abbrev pub closed_if : Bool → Loaded → Loaded
 closed_if b l = record { state = if b then noted l.state else l.state; counts = l.counts }

@@ -3,44 +3,44 @@ use Rattle.std.specs.Prelude.{ℕ, ◌≡◌, ◌&&◌, ◌||◌, Bool, true, Li
 use Rattle.std.specs.Option.{IfSome, option_map_or}
 use Rattle.rtcm_bits.specs.Prefix.{IsPrefix}
 use Rattle.obs_epoch.specs.declared.cell.StationValues.{StationValues}
-use Rattle.obs_epoch.specs.Heard.{Setup, Heard}
+use Rattle.obs_epoch.specs.Heard.{GatherSetup, Heard}
 use Rattle.obs_epoch.specs.Values.{EpochValue, PlanValue, Closed}
-use Rattle.obs_epoch.specs.Marked.{shown}
+use Rattle.obs_epoch.specs.WithLli.{shown}
 use Rattle.obs_epoch.specs.Times.{timed}
 use Rattle.obs_epoch.specs.Loss.{times}
 use Rattle.obs_epoch.specs.Epochs.{epoch_at, is_shut, closed_times, closed_so_far, values_of}
 use Rattle.obs_epoch.specs.Clock.{is_pending, closes_first}
 use Rattle.obs_epoch.specs.Gather.{Gathered}
-use Rattle.obs_epoch.specs.Standing.{Standing}
+use Rattle.obs_epoch.specs.Standing.{HasTakenMessages}
 
 -- ---- the epochs of a list of messages
 
 -- the earlier messages and those of the later ones that come before the closing of time t
-abbrev pub open_after : Setup → ℕ → List Heard → List Heard → List Heard
+abbrev pub open_after : GatherSetup → ℕ → List Heard → List Heard → List Heard
 open_after s t earlier [] = earlier
 open_after s t earlier (m ∷ ms) =
     if is_shut s (timed s (earlier ++ m ∷ [])) t then earlier else open_after s t (earlier ++ m ∷ []) ms
 
 -- the messages before the closing of time t
-abbrev pub before_closing : Setup → ℕ → List Heard → List Heard
+abbrev pub before_closing : GatherSetup → ℕ → List Heard → List Heard
 before_closing s t ms = open_after s t [] ms
 
 -- the epoch of time t, with the station values that were known when it was closed
-abbrev pub closed_at : Setup → List Heard → ℕ → Closed
+abbrev pub closed_at : GatherSetup → List Heard → ℕ → Closed
 closed_at s ms t = record { epoch = shown (epoch_at s (timed s ms) t); values = values_of s (before_closing s t ms) }
 
-abbrev pub closed_list_at : Setup → List Heard → List ℕ → List Closed
+abbrev pub closed_list_at : GatherSetup → List Heard → List ℕ → List Closed
 closed_list_at s ms ts = map (closed_at s ms) ts
 
 -- the epochs that are closed within the list
-abbrev pub closed_epochs : Setup → List Heard → List Closed
+abbrev pub closed_epochs : GatherSetup → List Heard → List Closed
 closed_epochs s ms = closed_list_at s ms (closed_times s (timed s ms))
 
 -- all epochs of a list that has ended
-abbrev pub all_epochs : Setup → List Heard → List Closed
+abbrev pub all_epochs : GatherSetup → List Heard → List Closed
 all_epochs s ms = closed_list_at s ms (times (timed s ms))
 
-abbrev pub known_epochs : Bool → Setup → List Heard → List Closed
+abbrev pub known_epochs : Bool → GatherSetup → List Heard → List Closed
 known_epochs has_ended s ms = if has_ended then all_epochs s ms else closed_epochs s ms
 
 -- ---- the gatherer
@@ -62,16 +62,16 @@ abbrev pub handed_over : Gathered → List Closed
 handed_over v = closed_by (closed_in v) v.values
 
 -- the pending epoch was closed since the last message: for a message that is to come again, or by the end
-abbrev pub is_done : Gathered → Setup → List Heard → Option Heard → Bool
+abbrev pub is_done : Gathered → GatherSetup → List Heard → Option Heard → Bool
 is_done v s ms again = is_some again || (v.has_ended && is_pending s (timed s ms))
 
 -- the message that is to come again, where there is one
-abbrev pub Fits : Option Heard → Heard → Type 0
-Fits again m = IfSome again (λ awaited. m ≡ awaited)
+abbrev pub IsAwaited : Option Heard → Heard → Type 0
+IsAwaited again m = IfSome again (λ awaited. m ≡ awaited)
 
 -- the gatherer stands for these messages, handed out these epochs, and waits for a message to come again where there is one
-pub record Gathers (v : Gathered) (s : Setup) (ms : List Heard) (es : List Closed) (again : Option Heard) : Type 0 where
-  pub standing : Standing v s ms (is_done v s ms again)
+pub record HasGatheredEpochs (v : Gathered) (s : GatherSetup) (ms : List Heard) (es : List Closed) (again : Option Heard) : Type 0 where
+  pub standing : HasTakenMessages v s ms (is_done v s ms again)
   pub handed : es ≡ closed_list_at s ms (closed_so_far s (timed s ms) (is_done v s ms again))
   pub epochs : again ≡ None → es ≡ known_epochs v.has_ended s ms
   pub first : IsPrefix es (known_epochs v.has_ended s (ms ++ option_to_list again))

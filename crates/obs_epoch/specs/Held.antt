@@ -9,12 +9,12 @@ use Rattle.gnss_obs.specs.Signals.{table}
 use Rattle.obs_epoch.specs.declared.cell.Cell.{Cell}
 use Rattle.obs_epoch.specs.declared.seen.Seen.{Seen}
 use Rattle.obs_epoch.specs.declared.seen.KnownLock.{KnownLock}
-use Rattle.obs_epoch.specs.Marked.{Marked}
-use Rattle.obs_epoch.specs.declared.seen.Counts.{Counts}
+use Rattle.obs_epoch.specs.WithLli.{CellWithLli}
+use Rattle.obs_epoch.specs.declared.seen.CellCounts.{CellCounts}
 use Rattle.obs_epoch.specs.declared.seen.Fate.{Fate}
 use Rattle.obs_epoch.specs.declared.seen.Fate.TheVariants.{Skipped, Repeated, Crowded, Kept}
-use Rattle.obs_epoch.specs.Heard.{Setup}
-use Rattle.obs_epoch.specs.Cells.{is_among, firsts, has_same_key, same_key, is_planned, is_listed}
+use Rattle.obs_epoch.specs.Heard.{GatherSetup}
+use Rattle.obs_epoch.specs.Cells.{is_among, firsts, has_same_key, same_key, is_planned, has_listed_key}
 use Rattle.obs_epoch.specs.Values.{most_cells}
 use Rattle.obs_epoch.specs.Loss.{lock_of}
 
@@ -32,16 +32,16 @@ abbrev pub no_locks : List (Option KnownLock)
 no_locks = replicate most_locks None
 
 -- the entry of a key
-abbrev pub entry_in : System → ℕ → ℕ → ℕ
-entry_in Gps id index = length (table Gps) * (id - 1) + index
-entry_in Galileo id index = keys_of Gps + (length (table Galileo) * (id - 1) + index)
+abbrev pub lock_place_in : System → ℕ → ℕ → ℕ
+lock_place_in Gps id index = length (table Gps) * (id - 1) + index
+lock_place_in Galileo id index = keys_of Gps + (length (table Galileo) * (id - 1) + index)
 
-abbrev pub entry_of : Seen → ℕ
-entry_of x = entry_in x.satellite.system x.satellite.id x.signal.index
+abbrev pub lock_place : Seen → ℕ
+lock_place x = lock_place_in x.satellite.system x.satellite.id x.signal.index
 
 -- what is recorded of a key
 abbrev pub lookup : List (Option KnownLock) → Seen → Option KnownLock
-lookup locks key = if is_listed key then get_or locks (entry_of key) None else None
+lookup locks key = if has_listed_key key then get_or locks (lock_place key) None else None
 
 -- how many keys have a record
 abbrev pub recorded : List (Option KnownLock) → ℕ
@@ -52,40 +52,40 @@ abbrev pub one_if_new : Option KnownLock → ℕ
 one_if_new before = if is_some before then 0 else 1
 
 abbrev pub put : List (Option KnownLock) → Seen → KnownLock → List (Option KnownLock)
-put locks x l = set locks (entry_of x) (Some l)
+put locks x l = set locks (lock_place x) (Some l)
 
 -- a kept cell of time t is noted, where it is locked
 abbrev pub note : ℕ → List (Option KnownLock) → Seen → List (Option KnownLock)
 note t locks x = option_map_or (put locks x) (lock_of t x) locks
 
-abbrev pub note_all : ℕ → List (Option KnownLock) → List Marked → List (Option KnownLock)
+abbrev pub note_all : ℕ → List (Option KnownLock) → List CellWithLli → List (Option KnownLock)
 note_all t locks [] = locks
 note_all t locks (m ∷ ms) = note_all t (note t locks m.seen) ms
 
 -- the keys of these cells have records, and no others
-pub record Tracks (locks : List (Option KnownLock)) (noted : List Seen) : Type 0 where
+pub record TracksLocks (locks : List (Option KnownLock)) (noted : List Seen) : Type 0 where
   pub has : (key : Seen) → is_some (lookup locks key) ≡ is_among noted key
   pub count : recorded locks ≡ length (firsts noted)
   pub size : length locks ≡ most_locks
 
 -- ---- cells: of a key the first, and of these as many as there is room for
 
-abbrev pub is_held : List Marked → Seen → Bool
+abbrev pub is_held : List CellWithLli → Seen → Bool
 is_held ms x = list_any (λ m. has_same_key x m.seen) ms
 
 -- a cell of that key
 abbrev pub is_cell_of : Seen → Cell → Bool
 is_cell_of x c = same_key x.satellite x.signal c.satellite c.signal
 
-abbrev pub fate_of : Setup → List Marked → Seen → Fate
+abbrev pub fate_of : GatherSetup → List CellWithLli → Seen → Fate
 fate_of s ms x =
     if is_planned s x then (if is_held ms x then Repeated else (if nat_le most_cells (length ms) then Crowded else Kept)) else Skipped
 
-abbrev pub with_cell : Fate → List Marked → Marked → List Marked
+abbrev pub with_cell : Fate → List CellWithLli → CellWithLli → List CellWithLli
 with_cell Kept ms m = ms ++ m ∷ []
 with_cell _ ms m = ms
 
-abbrev pub count_in : Fate → Counts → Counts
+abbrev pub count_in : Fate → CellCounts → CellCounts
 count_in Kept n = record n { kept = n.kept + 1 }
 count_in Skipped n = record n { skipped = n.skipped + 1 }
 count_in Repeated n = record n { repeated = n.repeated + 1 }

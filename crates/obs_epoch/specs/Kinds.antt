@@ -8,19 +8,19 @@ use Rattle.std.specs.Prelude.{nat_lt}
 use Rattle.std.specs.Option.{option_map_or}
 use Rattle.obs_epoch.specs.declared.taken.Gather.{Gather}
 use Rattle.obs_epoch.specs.declared.taken.Gather.TheVariants as gathers
-use Rattle.obs_epoch.specs.declared.seen.Counts.{Counts}
+use Rattle.obs_epoch.specs.declared.seen.CellCounts.{CellCounts}
 use Rattle.obs_epoch.specs.Values.{PlanValue}
-use Rattle.obs_epoch.specs.Heard.{Setup, Heard}
+use Rattle.obs_epoch.specs.Heard.{GatherSetup, Heard}
 use Rattle.obs_epoch.specs.Times.{timed}
 use Rattle.obs_epoch.specs.Clock.{answer_of}
-use Rattle.obs_epoch.specs.Standing.{counts_in}
+use Rattle.obs_epoch.specs.Standing.{counts_of_message}
 
 abbrev pub is_close_first : Kind → Bool
 is_close_first kinds.CloseFirst = true
 is_close_first _ = false
 
 -- of observations: by their time
-abbrev pub kind_at : Answer → Counts → Kind
+abbrev pub kind_at : Answer → CellCounts → Kind
 kind_at answers.OtherStation n = kinds.OtherStation
 kind_at answers.Ignored n = kinds.Ignored
 kind_at answers.Late n = kinds.Late
@@ -34,13 +34,13 @@ station_kind answers.OtherStation = kinds.OtherStation
 station_kind _ = kinds.Station
 
 -- of a message that tells a time of week, that tells a point, or that tells neither
-abbrev pub kind_by : Heard → Answer → Counts → Kind
+abbrev pub kind_by : Heard → Answer → CellCounts → Kind
 kind_by m answer n =
     if is_some m.tow then kind_at answer n else (if is_some m.point then station_kind answer else kinds.Ignored)
 
 -- what becomes of a message after these
-abbrev pub kind_of : Setup → List Heard → Heard → Kind
-kind_of s ms m = kind_by m (answer_of s (timed s ms) m) (counts_in s (timed s ms) m)
+abbrev pub kind_of : GatherSetup → List Heard → Heard → Kind
+kind_of s ms m = kind_by m (answer_of s (timed s ms) m) (counts_of_message s (timed s ms) m)
 
 -- a message may close an epoch by its bit
 abbrev pub is_by_bit : Gather → Bool
@@ -48,7 +48,7 @@ is_by_bit gathers.Bit = true
 is_by_bit gathers.Time = false
 
 -- what a gatherer is told at first
-abbrev pub setup_of : PlanValue → ℕ → Option ℕ → Gather → Setup
+abbrev pub setup_of : PlanValue → ℕ → Option ℕ → Gather → GatherSetup
 setup_of plan start_week station gather = record { plan = plan; start_week = start_week; station = station; by_bit = is_by_bit gather }
 
 -- no station has this number

@@ -4,35 +4,35 @@ use Rattle.std.specs.List.{IsDistinct}
 use Rattle.gnss_obs.specs.declared.system.System.{System}
 use Rattle.gnss_obs.specs.Signals.{signal_of_code}
 use Rattle.obs_epoch.specs.Plans.{signals_after}
-use Rattle.obs_epoch.specs.Heard.{Setup, Heard}
+use Rattle.obs_epoch.specs.Heard.{GatherSetup, Heard}
 use Rattle.obs_epoch.specs.Kinds.{is_close_first, kind_of}
 use Rattle.rtcm_bits.specs.Prefix.{IsPrefix}
 use Rattle.obs_epoch.specs.Gathering.{closed_epochs, all_epochs}
 
 -- whatever messages follow, the closed epochs stay as they are, and are the first ones
 abbrev pub ClosedStay : Type 0
-ClosedStay = (s : Setup) (ms more : List Heard) → IsPrefix (closed_epochs s ms) (closed_epochs s (ms ++ more))
+ClosedStay = (s : GatherSetup) (ms more : List Heard) → IsPrefix (closed_epochs s ms) (closed_epochs s (ms ++ more))
 
 -- and the first of all that there are in the end
 abbrev pub ClosedComeFirst : Type 0
-ClosedComeFirst = (s : Setup) (ms more : List Heard) → IsPrefix (closed_epochs s ms) (all_epochs s (ms ++ more))
+ClosedComeFirst = (s : GatherSetup) (ms more : List Heard) → IsPrefix (closed_epochs s ms) (all_epochs s (ms ++ more))
 
 -- no messages have no epoch
 abbrev pub NoneClosed : Type 0
-NoneClosed = (s : Setup) → closed_epochs s [] ≡ []
+NoneClosed = (s : GatherSetup) → closed_epochs s [] ≡ []
 
 -- over a list no message is to come again
 abbrev pub NeverFirst : Type 0
-NeverFirst = (s : Setup) (ms : List Heard) (m : Heard) → is_close_first (kind_of s ms m) ≡ false
+NeverFirst = (s : GatherSetup) (ms : List Heard) (m : Heard) → is_close_first (kind_of s ms m) ≡ false
 
 -- the codes name these signals of a system, one by one
-abbrev pub Spells : System → List (List ℕ) → List ℕ → Type 0
-Spells system [] [] = Unit {0}
-Spells system [] (i ∷ signals) = ⊥
-Spells system (code ∷ codes) [] = ⊥
-Spells system (code ∷ codes) (i ∷ signals) = (signal_of_code system code ≡ Some (record { system = system; index = i })) × Spells system codes signals
+abbrev pub CodesNameSignals : System → List (List ℕ) → List ℕ → Type 0
+CodesNameSignals system [] [] = Unit {0}
+CodesNameSignals system [] (i ∷ signals) = ⊥
+CodesNameSignals system (code ∷ codes) [] = ⊥
+CodesNameSignals system (code ∷ codes) (i ∷ signals) = (signal_of_code system code ≡ Some (record { system = system; index = i })) × CodesNameSignals system codes signals
 
 -- where codes are no fault, they name their signals, and no two of these are the same
 abbrev pub CodesAreSpelled : Type 0
 CodesAreSpelled = (system : System) (codes : List (List ℕ)) (signals : List ℕ) → signals_after system [] codes ≡ Ok signals
-    → Spells system codes signals × IsDistinct nat_eq signals
+    → CodesNameSignals system codes signals × IsDistinct nat_eq signals

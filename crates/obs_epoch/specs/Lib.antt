@@ -8,7 +8,7 @@ pub mod Order
 pub mod Times
 pub mod Cells
 pub mod Loss
-pub mod Marked
+pub mod WithLli
 pub mod Epochs
 pub mod Held
 pub mod Clock

@@ -1,8 +1,8 @@
--- Marks of a phase that lost its lock.
+-- Indicators of a phase that lost its lock.
 use Rattle.std.specs.Prelude.{ℕ, ◌+◌, ◌-◌, ◌&&◌, Bool, false, nat_lt, List, [], ◌∷◌, filter, filter_map, find, unwrap_or, if◌then◌else◌, Option, Some, None, is_some, option_and_then}
 use Rattle.std.specs.Option.{option_map_or}
 use Rattle.gnss_obs.specs.LockTimes.{lost}
-use Rattle.obs_epoch.specs.Heard.{Setup}
+use Rattle.obs_epoch.specs.Heard.{GatherSetup}
 use Rattle.obs_epoch.specs.declared.seen.Seen.{Seen}
 use Rattle.obs_epoch.specs.Times.{Timed}
 use Rattle.obs_epoch.specs.declared.seen.KnownLock.{KnownLock}
@@ -22,7 +22,7 @@ abbrev pub lock_of : ℕ → Seen → Option KnownLock
 lock_of t x = if is_locked x then Some (record { time = t; lock = x.lock }) else None
 
 -- the lock of the kept cell of that key at time t, where it is locked
-abbrev pub locked_at : Setup → List Timed → Seen → ℕ → Option KnownLock
+abbrev pub locked_at : GatherSetup → List Timed → Seen → ℕ → Option KnownLock
 locked_at s xs key t = option_and_then (lock_of t) (find (has_same_key key) (kept_at s t xs key.satellite.system))
 
 abbrev pub last_of : {A : Type 0} → List A → Option A
@@ -30,21 +30,21 @@ last_of [] = None
 last_of (x ∷ xs) = Some (unwrap_or (last_of xs) x)
 
 -- the lock of the latest locked cell of that key in the epochs of these times
-abbrev pub latest_in : Setup → List Timed → List ℕ → Seen → Option KnownLock
+abbrev pub latest_in : GatherSetup → List Timed → List ℕ → Seen → Option KnownLock
 latest_in s xs ts key = last_of (filter_map (locked_at s xs key) ts)
 
 -- the same of the epochs before time t
-abbrev pub previous : Setup → List Timed → ℕ → Seen → Option KnownLock
+abbrev pub previous : GatherSetup → List Timed → ℕ → Seen → Option KnownLock
 previous s xs t key = latest_in s xs (filter (λ u. nat_lt u t) (times xs)) key
 
 -- where the latest locked cell of its key before is known: that lock was lost since
 abbrev pub has_lost : ℕ → Seen → Option KnownLock → Bool
 has_lost t x before = option_map_or (λ was. lost was.lock.least x.lock.least x.lock.upper (t - was.time)) before false
 
-abbrev pub mark_with : ℕ → Seen → Option KnownLock → ℕ
-mark_with t x before =
+abbrev pub lli_with : ℕ → Seen → Option KnownLock → ℕ
+lli_with t x before =
     if is_some x.l then (if has_lost t x before then 1 else 0) + (if x.half_cycle then 2 else 0) else 0
 
--- the mark of a kept cell of the epoch of time t: 1 where lock was lost, and 2 more for a half cycle
-abbrev pub mark_of : Setup → List Timed → ℕ → Seen → ℕ
-mark_of s xs t x = mark_with t x (previous s xs t x)
+-- the loss-of-lock indicator of a kept cell of the epoch of time t: 1 where lock was lost, and 2 more for a half cycle
+abbrev pub lli_of : GatherSetup → List Timed → ℕ → Seen → ℕ
+lli_of s xs t x = lli_with t x (previous s xs t x)

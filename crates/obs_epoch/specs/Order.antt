@@ -10,20 +10,20 @@ use Rattle.obs_epoch.specs.declared.seen.Seen.{Seen}
 use Rattle.obs_epoch.specs.declared.order.Seat.{Seat}
 use Rattle.obs_epoch.specs.Values.{PlanValue, EpochValue, AreHeld, most_cells}
 use Rattle.obs_epoch.specs.Plans.{place_in}
-use Rattle.obs_epoch.specs.Marked.{Marked}
+use Rattle.obs_epoch.specs.WithLli.{CellWithLli}
 
 -- the seat of a key: its satellite's number, and its signal's place among those that are planned
-abbrev pub seat : List ℕ → Satellite → SignalAt → Seat
-seat planned satellite signal = record { satellite = satellite.id; place = option_map_or (λ p. p) (place_in signal planned) 0 }
+abbrev pub plan_seat : List ℕ → Satellite → SignalAt → Seat
+plan_seat planned satellite signal = record { satellite = satellite.id; place = option_map_or (λ p. p) (place_in signal planned) 0 }
 
 -- by satellite, and within it by place
 abbrev pub is_before : Seat → Seat → Bool
 is_before a b = nat_lt a.satellite b.satellite || ((a.satellite == b.satellite) && nat_lt a.place b.place)
 
 -- each before all behind it
-abbrev pub Rise : List Seat → Type 0
-Rise [] = ⊤
-Rise (s ∷ ss) = AllByRecursion (λ t. is_before s t ≡ true) ss × Rise ss
+abbrev pub SeatsRise : List Seat → Type 0
+SeatsRise [] = ⊤
+SeatsRise (s ∷ ss) = AllByRecursion (λ t. is_before s t ≡ true) ss × SeatsRise ss
 
 -- before the first that stands behind it
 abbrev pub insert_by : {X : Type 0} → (X → Seat) → X → List X → List X
@@ -38,29 +38,29 @@ spot s (t ∷ ts) = if is_before s t then 0 else suc (spot s ts)
 -- ---- cells
 
 abbrev pub seat_of : List ℕ → Seen → Seat
-seat_of planned x = seat planned x.satellite x.signal
+seat_of planned x = plan_seat planned x.satellite x.signal
 
-abbrev pub marked_seat : List ℕ → Marked → Seat
-marked_seat planned m = seat_of planned m.seen
+abbrev pub seat_with_lli : List ℕ → CellWithLli → Seat
+seat_with_lli planned m = seat_of planned m.seen
 
 abbrev pub cell_seat : List ℕ → Cell → Seat
-cell_seat planned c = seat planned c.satellite c.signal
+cell_seat planned c = plan_seat planned c.satellite c.signal
 
 -- cells in the order of their seats
 abbrev pub sorted : List ℕ → List Seen → List Seen
 sorted planned xs = fold (λ ys x. insert_by (seat_of planned) x ys) [] xs
 
 -- cells stand by satellite, and within it by the place of their signals among these; no two have one seat
-abbrev pub StandBy : List ℕ → List Cell → Type 0
-StandBy planned cells = Rise (map (cell_seat planned) cells)
+abbrev pub AreOrderedBy : List ℕ → List Cell → Type 0
+AreOrderedBy planned cells = SeatsRise (map (cell_seat planned) cells)
 
 -- the cells of each system stand by the plan
 abbrev pub StandByPlan : PlanValue → EpochValue → Type 0
-StandByPlan p e = StandBy p.gps e.gps × StandBy p.galileo e.galileo
+StandByPlan p e = AreOrderedBy p.gps e.gps × AreOrderedBy p.galileo e.galileo
 
 -- cells stand by satellite, and within it in some order of signals
 abbrev pub AreSorted : List Cell → Type 0
-AreSorted cells = (planned : List ℕ) × StandBy planned cells
+AreSorted cells = (planned : List ℕ) × AreOrderedBy planned cells
 
 -- the cells that an epoch holds of a system, in a list with so much room that none of them takes memory
 abbrev pub AreHeldIn : System → ℕ → List Cell → Type 0

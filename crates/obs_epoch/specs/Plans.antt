@@ -23,27 +23,27 @@ between_commas [] = [] ∷ []
 between_commas (b ∷ bs) = if b == 44 then [] ∷ between_commas bs else onto_first b (between_commas bs)
 
 -- one signal more, and what follows it; or its fault
-abbrev pub one_more : System → List ℕ → Option SignalAt → (List ℕ → Result (List ℕ) PlanFault) → Result (List ℕ) PlanFault
-one_more system earlier None rest = Err (UnknownCode system (length earlier))
-one_more system earlier (Some s) rest =
+abbrev pub one_signal_more : System → List ℕ → Option SignalAt → (List ℕ → Result (List ℕ) PlanFault) → Result (List ℕ) PlanFault
+one_signal_more system earlier None rest = Err (UnknownCode system (length earlier))
+one_signal_more system earlier (Some s) rest =
     if list_any (nat_eq s.index) earlier
     then Err (RepeatedCode system (length earlier))
     else rest (earlier ++ s.index ∷ [])
 
 -- a code's signal is taken behind these, and the signals are then those
 abbrev pub IsTaken : System → List ℕ → Option SignalAt → List ℕ → Type 0
-IsTaken system earlier s now = (rest : List ℕ → Result (List ℕ) PlanFault) → one_more system earlier s rest ≡ rest now
+IsTaken system earlier s now = (rest : List ℕ → Result (List ℕ) PlanFault) → one_signal_more system earlier s rest ≡ rest now
 
 -- it is refused by that fault
 abbrev pub IsRefused : System → List ℕ → Option SignalAt → PlanFault → Type 0
-IsRefused system earlier s fault = (rest : List ℕ → Result (List ℕ) PlanFault) → one_more system earlier s rest ≡ Err fault
+IsRefused system earlier s fault = (rest : List ℕ → Result (List ℕ) PlanFault) → one_signal_more system earlier s rest ≡ Err fault
 
 -- the signals that codes plan, behind those of the codes before them: from the left the first code that the table doesn't
 -- have, or whose signal came before, is the fault, with its place from 0
 abbrev pub signals_after : System → List ℕ → List (List ℕ) → Result (List ℕ) PlanFault
 signals_after system earlier [] = Ok earlier
 signals_after system earlier (code ∷ rest) =
-    one_more system earlier (signal_of_code system code) (λ signals. signals_after system signals rest)
+    one_signal_more system earlier (signal_of_code system code) (λ signals. signals_after system signals rest)
 
 -- the numbers below n, rising
 abbrev pub below : ℕ → List ℕ

@@ -10,9 +10,9 @@ use Rattle.obs_epoch.specs.declared.cell.Cell.{Cell}
 use Rattle.obs_epoch.specs.declared.cell.StationValues.{StationValues}
 use Rattle.obs_epoch.specs.declared.seen.Seen.{Seen}
 use Rattle.obs_epoch.specs.Weeks.{week, weeks}
-use Rattle.obs_epoch.specs.Values.{PlanValue, Closed, Fits, cells_of, planned_of}
+use Rattle.obs_epoch.specs.Values.{PlanValue, Closed, HasTwelveDigits, cells_of, planned_of}
 use Rattle.obs_epoch.specs.Plans.{place_in}
-use Rattle.obs_epoch.specs.Heard.{Setup, Heard, heard}
+use Rattle.obs_epoch.specs.Heard.{GatherSetup, Heard, heard}
 use Rattle.obs_epoch.specs.Gathering.{all_epochs}
 
 -- ---- messages
@@ -22,15 +22,15 @@ abbrev pub IsStrength : ℤ → Type 0
 IsStrength s = (pos 1 ≤ℤ s) × (s ≤ℤ pos 99_999)
 
 -- the values of a cell of a message that was read
-pub record IsTold (x : Seen) : Type 0 where
-  pub c : IfSome x.c Fits
-  pub l : IfSome x.l Fits
-  pub d : IfSome x.d Fits
+pub record IsHeardCell (x : Seen) : Type 0 where
+  pub c : IfSome x.c HasTwelveDigits
+  pub l : IfSome x.l HasTwelveDigits
+  pub d : IfSome x.d HasTwelveDigits
   pub s : IfSome x.s IsStrength
 
 -- what is heard of a message that was read
 pub record IsHeard (m : Heard) : Type 0 where
-  pub cells : AllByRecursion IsTold m.cells
+  pub cells : AllByRecursion IsHeardCell m.cells
   pub point : IfSome m.point IsPoint
 
 -- ---- epochs
@@ -39,12 +39,12 @@ pub record IsHeard (m : Heard) : Type 0 where
 pub record IsGathered (system : System) (signals : List ℕ) (x : Cell) : Type 0 where
   pub number : (1 ≤ x.satellite.id) × (x.satellite.id ≤ satellites system)
   pub planned : is_some (place_in x.signal signals) ≡ true
-  pub c : IfSome x.c Fits
-  pub l : IfSome x.l Fits
-  pub d : IfSome x.d Fits
+  pub c : IfSome x.c HasTwelveDigits
+  pub l : IfSome x.l HasTwelveDigits
+  pub d : IfSome x.d HasTwelveDigits
   pub s : IfSome x.s IsStrength
-  pub mark : x.mark < 4
-  pub unmarked : x.l ≡ None → x.mark ≡ 0
+  pub lli : x.lli < 4
+  pub without_phase : x.l ≡ None → x.lli ≡ 0
 
 -- of one satellite and signal
 abbrev pub same_place : Cell → Cell → Bool
@@ -83,4 +83,4 @@ abbrev pub MessagesAreHeard : Type 0
 MessagesAreHeard = (m : Message) → IsMessage m → IsHeard (heard m)
 
 abbrev pub EpochsAreGathered : Type 0
-EpochsAreGathered = (s : Setup) (ms : List Heard) → AllByRecursion IsHeard ms → AreGatheredEpochs s.plan (all_epochs s ms)
+EpochsAreGathered = (s : GatherSetup) (ms : List Heard) → AllByRecursion IsHeard ms → AreGatheredEpochs s.plan (all_epochs s ms)

@@ -3,7 +3,7 @@ use Rattle.std.specs.Prelude.{ℕ, ◌+◌, ◌*◌, ◌==◌, ◌&&◌, ◌||�
 use Rattle.std.specs.Option.{option_map_or}
 use Rattle.obs_epoch.specs.declared.clock.Answer.{Answer}
 use Rattle.obs_epoch.specs.declared.clock.Answer.TheVariants.{OtherStation, Ignored, Late, PastWeeks, Kept, CloseFirst}
-use Rattle.obs_epoch.specs.Heard.{Heard, is_mark}
+use Rattle.obs_epoch.specs.Heard.{Heard, ends_epoch}
 use Rattle.obs_epoch.specs.Weeks.{week}
 use Rattle.obs_epoch.specs.Times.{ahead, is_past}
 use Rattle.obs_epoch.specs.Clock.{State}
@@ -37,23 +37,23 @@ is_first _ = false
 abbrev pub answer_by : State → Heard → Answer
 answer_by g m = if is_told_own g m.station then option_map_or (answer_at g) m.tow Ignored else OtherStation
 
-abbrev pub marked : Bool → State → State
-marked is_mark g = if is_mark then record g { pending = false } else g
+abbrev pub ended_where : Bool → State → State
+ended_where ends_epoch g = if ends_epoch then record g { pending = false } else g
 
 abbrev pub step_by : State → Heard → State
 step_by g m =
     if is_told_own g m.station
-    then marked (g.setup.by_bit && option_map_or not m.more false) (option_map_or (step_at g) m.tow g)
+    then ended_where (g.setup.by_bit && option_map_or not m.more false) (option_map_or (step_at g) m.tow g)
     else g
 
--- what a step closes, by its kind, the mark, and what was pending and known before and after
+-- what a step closes, by its kind, whether the message ends its epoch, and what was pending and known before and after
 abbrev pub closed_of : Answer → Bool → Bool → Option ℕ → Option ℕ → Option ℕ
-closed_of CloseFirst is_mark was before after = before
-closed_of OtherStation is_mark was before after = None
-closed_of Kept is_mark was before after = if is_mark then after else None
-closed_of Ignored is_mark was before after = if is_mark && was then after else None
-closed_of Late is_mark was before after = if is_mark && was then after else None
-closed_of PastWeeks is_mark was before after = if is_mark && was then after else None
+closed_of CloseFirst ends_epoch was before after = before
+closed_of OtherStation ends_epoch was before after = None
+closed_of Kept ends_epoch was before after = if ends_epoch then after else None
+closed_of Ignored ends_epoch was before after = if ends_epoch && was then after else None
+closed_of Late ends_epoch was before after = if ends_epoch && was then after else None
+closed_of PastWeeks ends_epoch was before after = if ends_epoch && was then after else None
 
 abbrev pub closed_by : State → Heard → Option ℕ
 closed_by g m = closed_of (answer_by g m) (g.setup.by_bit && option_map_or not m.more false) g.pending g.latest (step_by g m).latest

@@ -3,7 +3,7 @@ use Rattle.std.specs.Prelude.{ℕ, ◌+◌, ◌-◌, ◌*◌, ◌%◌, ◌==◌,
 use Rattle.std.specs.Option.{option_map_or}
 use Rattle.std.specs.List.{list_any}
 use Rattle.obs_epoch.specs.Weeks.{week, weeks}
-use Rattle.obs_epoch.specs.Heard.{Setup, Heard, is_own, is_mark}
+use Rattle.obs_epoch.specs.Heard.{GatherSetup, Heard, is_own, ends_epoch}
 
 -- a message with its time, where it was taken
 pub record Timed : Type 0 where
@@ -21,48 +21,48 @@ max_known (Some a) None = Some a
 max_known (Some a) (Some b) = Some (max a b)
 
 -- the greatest time of those that were taken
-abbrev pub greatest : List Timed → Option ℕ
-greatest [] = None
-greatest (x ∷ xs) = max_known x.time (greatest xs)
+abbrev pub greatest_time : List Timed → Option ℕ
+greatest_time [] = None
+greatest_time (x ∷ xs) = max_known x.time (greatest_time xs)
 
 -- what comes from the first taken message of time t on, that message included
 abbrev pub from_first : ℕ → List Timed → List Timed
 from_first t [] = []
 from_first t (x ∷ xs) = if is_at t x then x ∷ xs else from_first t xs
 
--- some mark stands at or after the first taken message of time t
-abbrev pub is_closed : Setup → ℕ → List Timed → Bool
-is_closed s t xs = list_any (λ x. is_mark s x.message) (from_first t xs)
+-- a message that ends its epoch stands at or after the first taken message of time t
+abbrev pub is_closed : GatherSetup → ℕ → List Timed → Bool
+is_closed s t xs = list_any (λ x. ends_epoch s x.message) (from_first t xs)
 
 -- how far a time of week lies ahead of time t, less than a week
 abbrev pub ahead : ℕ → ℕ → ℕ
 ahead t tow = (tow + (week - t % week)) % week
 
 -- the time that a time of week stands for
-abbrev pub time_of : Setup → List Timed → ℕ → ℕ
-time_of s earlier tow = option_map_or (λ t. t + ahead t tow) (greatest earlier) (s.start_week * week + tow)
+abbrev pub time_of : GatherSetup → List Timed → ℕ → ℕ
+time_of s earlier tow = option_map_or (λ t. t + ahead t tow) (greatest_time earlier) (s.start_week * week + tow)
 
 -- more than half a week ahead, so behind; or of the greatest time, where that is closed
-abbrev pub is_late : Setup → List Timed → ℕ → Bool
+abbrev pub is_late : GatherSetup → List Timed → ℕ → Bool
 is_late s earlier tow =
-    option_map_or (λ t. nat_lt 302_400_000 (ahead t tow) || ((ahead t tow == 0) && is_closed s t earlier)) (greatest earlier) false
+    option_map_or (λ t. nat_lt 302_400_000 (ahead t tow) || ((ahead t tow == 0) && is_closed s t earlier)) (greatest_time earlier) false
 
 -- past the weeks that there are
 abbrev pub is_past : ℕ → Bool
 is_past t = not (nat_lt t (weeks * week))
 
 -- the time of a message after these, where it is taken
-abbrev pub taken_at : Setup → List Timed → Heard → Option ℕ
+abbrev pub taken_at : GatherSetup → List Timed → Heard → Option ℕ
 taken_at s earlier m =
     if is_own s m
     then option_and_then (λ tow. if is_late s earlier tow || is_past (time_of s earlier tow) then None else Some (time_of s earlier tow)) m.tow
     else None
 
 -- the earlier messages, and then these with their times: a time hangs on the earlier ones
-abbrev pub timed_after : Setup → List Timed → List Heard → List Timed
+abbrev pub timed_after : GatherSetup → List Timed → List Heard → List Timed
 timed_after s earlier [] = earlier
 timed_after s earlier (m ∷ ms) = timed_after s (earlier ++ record { message = m; time = taken_at s earlier m } ∷ []) ms
 
 -- all messages of a list, with their times
-abbrev pub timed : Setup → List Heard → List Timed
+abbrev pub timed : GatherSetup → List Heard → List Timed
 timed s ms = timed_after s [] ms

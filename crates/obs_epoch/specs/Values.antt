@@ -35,8 +35,8 @@ abbrev pub most_cells : ℕ
 most_cells = 256
 
 -- a value that fourteen columns have room for
-abbrev pub Fits : ℤ → Type 0
-Fits v = unsigned_abs v < 10 ^ 12
+abbrev pub HasTwelveDigits : ℤ → Type 0
+HasTwelveDigits v = unsigned_abs v < 10 ^ 12
 
 -- a kept cell of a system
 pub record IsHeld (system : System) (cell : Cell) : Type 0 where
@@ -44,11 +44,11 @@ pub record IsHeld (system : System) (cell : Cell) : Type 0 where
   pub signal : cell.signal.system ≡ system
   pub number : IsSatellite cell.satellite
   pub place : IsSignal cell.signal
-  pub c : IfSome cell.c Fits
-  pub l : IfSome cell.l Fits
-  pub d : IfSome cell.d Fits
-  pub s : IfSome cell.s Fits
-  pub mark : cell.mark < 4
+  pub c : IfSome cell.c HasTwelveDigits
+  pub l : IfSome cell.l HasTwelveDigits
+  pub d : IfSome cell.d HasTwelveDigits
+  pub s : IfSome cell.s HasTwelveDigits
+  pub lli : cell.lli < 4
 
 pub record AreHeld (system : System) (cells : List Cell) : Type 0 where
   pub each : All (IsHeld system) cells
@@ -63,13 +63,13 @@ abbrev pub is_written : List Cell → ℕ → Bool
 is_written cells id = list_any (λ c. (c.satellite.id == id) && has_value c) cells
 
 -- a cell of the satellite of this number
-abbrev pub is_from : ℕ → Cell → Bool
-is_from id c = c.satellite.id == id
+abbrev pub is_of_satellite : ℕ → Cell → Bool
+is_of_satellite id c = c.satellite.id == id
 
 -- how many cells of the satellite of this number stand in front
 abbrev pub run : ℕ → List Cell → ℕ
 run id [] = 0
-run id (c ∷ cells) = if is_from id c then suc (run id cells) else 0
+run id (c ∷ cells) = if is_of_satellite id c then suc (run id cells) else 0
 
 -- of the first n satellites so many are to be written
 abbrev pub written_among : List Cell → ℕ → ℕ
@@ -77,8 +77,8 @@ written_among cells zero = 0
 written_among cells (suc n) = written_among cells n + (if is_written cells (suc n) then 1 else 0)
 
 -- the satellites that are to be written: those with a cell that says something
-abbrev pub satellites : EpochValue → ℕ
-satellites e = written_among e.gps (satellites_in Gps) + written_among e.galileo (satellites_in Galileo)
+abbrev pub satellites_written : EpochValue → ℕ
+satellites_written e = written_among e.gps (satellites_in Gps) + written_among e.galileo (satellites_in Galileo)
 
 -- at most so many are written
 abbrev pub most_written : ℕ
@@ -86,7 +86,7 @@ most_written = satellites_in Gps + satellites_in Galileo
 
 -- how many are to be written, where they were counted
 abbrev pub IsCount : Option ℕ → EpochValue → Type 0
-IsCount counted e = IfSome counted (λ n. (n ≡ satellites e) × (n ≤ most_written))
+IsCount counted e = IfSome counted (λ n. (n ≡ satellites_written e) × (n ≤ most_written))
 
 -- the same in all four numbers
 abbrev pub same_values : StationValues → StationValues → Bool

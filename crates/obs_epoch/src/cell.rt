@@ -21,7 +21,7 @@ pub struct Cell {
     /// RINEX's loss of lock indicator: bit 0 where lock was lost since the latest epoch with a
     /// phase of this key, bit 1 where the phase may be off by half a cycle (DF420); 0 without a
     /// phase.
-    pub mark: u8,
+    pub lli: u8,
 }
 
 /// Where the station's antenna stands, by the last messages that told it; 0 where none did.

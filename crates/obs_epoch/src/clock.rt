@@ -3,9 +3,9 @@ ghost use Rattle.std.specs.Prelude.{option_to_list, ◌==◌, ◌≡◌, ◌<◌
 ghost use Rattle.std.specs.Option.{ForSome};
 ghost use Rattle.std.specs.List.{list_any};
 ghost use Rattle.obs_epoch.specs.Cells.{is_planned as is_planned_lem};
-ghost use Rattle.obs_epoch.specs.Heard.{Setup, Heard};
+ghost use Rattle.obs_epoch.specs.Heard.{GatherSetup, Heard};
 ghost use Rattle.obs_epoch.specs.Weeks.{week, weeks};
-ghost use Rattle.obs_epoch.specs.Marked.{IsKey};
+ghost use Rattle.obs_epoch.specs.WithLli.{IsKey};
 ghost use Rattle.obs_epoch.specs.Times.{timed};
 
 use crate::plan::Plan;
@@ -26,7 +26,7 @@ pub enum Answer {
 
 /// What a message tells of station and time.
 #[derive(Clone, Copy, Debug, PartialEq, Eq)]
-pub struct Told {
+pub struct HeardByClock {
     pub station: Option<u16>,
     pub tow: Option<u32>,
     pub more: Option<bool>,
@@ -47,7 +47,7 @@ pub struct Clock {
 
 impl Model for Clock {
     ghost use Rattle.std.specs.Prelude.{[]};
-    ghost use Rattle.obs_epoch.specs.Clock.{State, IsWithin};
+    ghost use Rattle.obs_epoch.specs.Clock.{State, IsWithinWeeks};
 
     ghost Value = { State };
 
@@ -57,11 +57,11 @@ impl Model for Clock {
       pending = c.pending;
     } };
 
-    ghost invariant = { λ c. IsWithin c.start_week c.latest };
+    ghost invariant = { λ c. IsWithinWeeks c.start_week c.latest };
 }
 
 impl Clock {
-    ghost use Rattle.obs_epoch.specs.Clock.{Stands, heard_of};
+    ghost use Rattle.obs_epoch.specs.Clock.{HasHeardMessages, heard_by_clock};
     ghost use Rattle.obs_epoch.specs.Step.{answer_by, step_by, answer_at, step_at, is_told_own, closed_by};
     ghost use Rattle.obs_epoch.specs.declared.clock.Answer.{Answer};
 
@@ -69,7 +69,7 @@ impl Clock {
     pub fn new(plan: Plan, start_week: u32, station: Option<u16>, by_bit: bool) -> Clock
         requires { start_week < weeks }
         ensures setup { result.setup ≡ record { plan = plan; start_week = start_week; station = station; by_bit = by_bit } }
-        ensures stands { Stands result result.setup [] false }
+        ensures stands { HasHeardMessages result result.setup [] false }
     {
         Clock {
             plan,
@@ -115,11 +115,11 @@ impl Clock {
     }
 
     /// A message comes: what becomes of it, and the time of the epoch that it closes.
-    pub fn step_closing(&mut self, told: Told) -> (Answer, Option<u64>)
+    pub fn step_closing(&mut self, told: HeardByClock) -> (Answer, Option<u64>)
         requires { ForSome told.tow (λ tow. tow < week) }
-        ensures answer { result.0 ≡ answer_by self.old (heard_of told) }
-        ensures closed { result.1 ≡ closed_by self.old (heard_of told) }
-        ensures step { self.new ≡ step_by self.old (heard_of told) }
+        ensures answer { result.0 ≡ answer_by self.old (heard_by_clock told) }
+        ensures closed { result.1 ≡ closed_by self.old (heard_by_clock told) }
+        ensures step { self.new ≡ step_by self.old (heard_by_clock told) }
     {
         let is_mark = self.by_bit && told.more == Some(false);
         let was = self.pending;
@@ -128,10 +128,10 @@ impl Clock {
         (answer, closed_of(answer, is_mark, was, before, self.latest))
     }
 
-    fn step(&mut self, told: Told) -> Answer
+    fn step(&mut self, told: HeardByClock) -> Answer
         requires { ForSome told.tow (λ tow. tow < week) }
-        ensures answer { result ≡ answer_by self.old (heard_of told) }
-        ensures step { self.new ≡ step_by self.old (heard_of told) }
+        ensures answer { result ≡ answer_by self.old (heard_by_clock told) }
+        ensures step { self.new ≡ step_by self.old (heard_by_clock told) }
     {
         if !self.is_own(told.station) {
             return Answer::OtherStation;

@@ -1,9 +1,9 @@
 //! An epoch: what was observed at one time.
 ghost use Rattle.std.specs.Prelude.{◌≡◌, ◌+◌, ◌<◌, ◌≤◌, [], length, drop, IfOk, insert};
 ghost use Rattle.std.specs.Vec.{vec_len, vec_capacity};
-ghost use Rattle.obs_epoch.specs.Values.{AreHeld, cells_of, satellites, is_written, written_among, most_cells, most_written, run};
+ghost use Rattle.obs_epoch.specs.Values.{AreHeld, cells_of, satellites_written, is_written, written_among, most_cells, most_written, run};
 ghost use Rattle.obs_epoch.specs.Epochs.{no_values};
-ghost use Rattle.obs_epoch.specs.Marked.{with_cell_of, marked_cell, IsObserved};
+ghost use Rattle.obs_epoch.specs.WithLli.{with_cell_of, marked_cell, IsObserved};
 ghost use Rattle.obs_epoch.specs.Order.{AreSorted};
 ghost use Rattle.gnss_obs.specs.Satellites.{satellites as satellites_in};
 
@@ -82,19 +82,19 @@ impl Epoch {
         self.values = values;
     }
 
-    // One cell more, with its mark, behind so many of its system.
-    pub(crate) fn hold(&mut self, at: usize, x: &Seen, mark: u8)
+    // One cell more, with its loss-of-lock indicator, behind so many of its system.
+    pub(crate) fn hold(&mut self, at: usize, x: &Seen, lli: u8)
         requires observed { IsObserved x.now }
-        requires mark { mark < 4 }
+        requires mark { lli < 4 }
         requires room { length (cells_of x.now.satellite.system self.old.epoch) < most_cells }
         requires within { at ≤ length (cells_of x.now.satellite.system self.old.epoch) }
-        requires order { AreSorted (insert (cells_of x.now.satellite.system self.old.epoch) at (marked_cell x.now mark)) }
-        ensures { self.new ≡ record { epoch = with_cell_of x.now.satellite.system at self.old.epoch (marked_cell x.now mark); values = self.old.values } }
+        requires order { AreSorted (insert (cells_of x.now.satellite.system self.old.epoch) at (marked_cell x.now lli)) }
+        ensures { self.new ≡ record { epoch = with_cell_of x.now.satellite.system at self.old.epoch (marked_cell x.now lli); values = self.old.values } }
     {
         self.counted = None;
         match x.satellite.system() {
-            System::Gps => insert_cell(&mut self.gps, at, x, mark),
-            System::Galileo => insert_cell(&mut self.galileo, at, x, mark),
+            System::Gps => insert_cell(&mut self.gps, at, x, lli),
+            System::Galileo => insert_cell(&mut self.galileo, at, x, lli),
         }
     }
 
@@ -136,7 +136,7 @@ impl Epoch {
     /// How many satellites are to be written: those with a cell that has a pseudorange, a phase, a
     /// Doppler shift or a strength.
     pub fn satellites(&self) -> usize
-        ensures count { result ≡ satellites self.now.epoch }
+        ensures count { result ≡ satellites_written self.now.epoch }
         ensures bound { result ≤ most_written }
     {
         match self.counted {
@@ -147,7 +147,7 @@ impl Epoch {
 
     // The same, by a walk over the cells.
     fn count(&self) -> usize
-        ensures count { result ≡ satellites self.now.epoch }
+        ensures count { result ≡ satellites_written self.now.epoch }
         ensures bound { result ≤ most_written }
     {
         written(self.gps.as_slice(), System::Gps)
@@ -197,10 +197,10 @@ fn written(cells: &[Cell], system: System) -> usize
     count
 }
 
-fn insert_cell(cells: &mut Vec<Cell>, at: usize, x: &Seen, mark: u8)
+fn insert_cell(cells: &mut Vec<Cell>, at: usize, x: &Seen, lli: u8)
     requires room { vec_len cells.old < vec_capacity cells.old }
     requires within { at ≤ vec_len cells.old }
-    ensures items { cells.new.items ≡ insert cells.old.items at (marked_cell x.now mark) }
+    ensures items { cells.new.items ≡ insert cells.old.items at (marked_cell x.now lli) }
     ensures len { vec_len cells.new ≡ vec_len cells.old + 1 }
     ensures room { vec_capacity cells.old ≤ vec_capacity cells.new }
 {
@@ -211,7 +211,7 @@ fn insert_cell(cells: &mut Vec<Cell>, at: usize, x: &Seen, mark: u8)
         l: x.l,
         d: x.d,
         s: x.s,
-        mark,
+        lli,
     };
     insert_within(cells, at, cell);
 }

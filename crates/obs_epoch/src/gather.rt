@@ -1,24 +1,24 @@
-//! Messages into epochs, with the marks of lost lock.
+//! Messages into epochs, with the indicators of lost lock.
 ghost use Rattle.std.specs.Prelude.{◌≡◌, ◌↔◌, ◌⊎◌, ◌+◌, ◌<◌, ◌≤◌, [], true, false, length, None, Some, is_some, IfOk, IfErr, IfSome, IsOk, Err, option_map, option_to_list, ◌&&◌, ◌||◌, not, List, Bool, Option, ◌++◌, ◌∷◌, All};
 ghost use Rattle.std.specs.Option.{ForSome, option_map_or};
 ghost use Rattle.rtcm_msg.specs.Entries.{IsEntry};
 ghost use Rattle.obs_epoch.specs.Weeks.{week, weeks};
-ghost use Rattle.obs_epoch.specs.Heard.{Setup, Heard, heard, seen_in, system_of};
+ghost use Rattle.obs_epoch.specs.Heard.{GatherSetup, Heard, heard, seen_in, system_of};
 ghost use Rattle.obs_epoch.specs.Times.{timed};
 ghost use Rattle.obs_epoch.specs.Cells.{firsts};
 ghost use Rattle.obs_epoch.specs.Order.{StandByPlan};
-ghost use Rattle.obs_epoch.specs.Marked.{IsObserved, lock_codes, shown};
-ghost use Rattle.obs_epoch.specs.Epochs.{told as values_told, no_values, values_of, closed_so_far};
+ghost use Rattle.obs_epoch.specs.WithLli.{IsObserved, lock_codes, shown};
+ghost use Rattle.obs_epoch.specs.Epochs.{values_told, no_values, values_of, closed_so_far};
 ghost use Rattle.obs_epoch.specs.Held.{count_in, most_locks, recorded};
 ghost use Rattle.obs_epoch.specs.Step.{answer_by, closed_by as closes};
 ghost use Rattle.obs_epoch.specs.Clock.{closes_first, answer_of, is_pending};
-ghost use Rattle.obs_epoch.specs.Standing.{Standing, held_at, locked_in};
+ghost use Rattle.obs_epoch.specs.Standing.{HasTakenMessages, held_at, locked_in};
 ghost use Rattle.obs_epoch.specs.Values.{Closed, most_cells};
 ghost use Rattle.obs_epoch.specs.Kinds.{is_close_first, kind_by, kind_of, is_no_station, setup_of};
-ghost use Rattle.obs_epoch.specs.Gathering.{Gathers, Fits, closed_by, closed_in, is_done, plan_in};
+ghost use Rattle.obs_epoch.specs.Gathering.{HasGatheredEpochs, IsAwaited, closed_by, closed_in, is_done, plan_in};
 ghost use Rattle.obs_epoch.specs.declared.fault.PlanFault.{PlanFault};
-ghost use Rattle.obs_epoch.specs.Gather.{take_step, end_step, loaded_by, load_heard, load_entry, load_entries, begun, is_same as is_same_lem, no_epoch, no_counts, cells_in, load, noted, rested, fate_in, hold};
-ghost use Rattle.obs_epoch.specs.declared.seen.Counts.{Counts};
+ghost use Rattle.obs_epoch.specs.Gather.{take_step, end_step, loaded_by, load_heard, load_entry, load_entries, epoch_begun, is_same as is_same_lem, no_epoch, no_counts, cells_in, load, noted, rested, fate_in, hold};
+ghost use Rattle.obs_epoch.specs.declared.seen.CellCounts.{CellCounts};
 
 use crate::cell::StationValues;
 use crate::clock::{Answer, Clock};
@@ -26,11 +26,11 @@ use crate::epoch::{Epoch, MOST_CELLS};
 use crate::fault::PlanFault;
 use crate::hear::{system_of, told_of, values_of};
 use crate::held::Held;
+use crate::lli::lli;
 use crate::locks::Locks;
-use crate::mark::mark;
 use crate::observe::observe;
 use crate::plan::Plan;
-use crate::seen::{Counts, Fate, Seen, counted, no_counts};
+use crate::seen::{CellCounts, Fate, Seen, counted, no_counts};
 use crate::taken::{Gather, Taken, is_by_bit, is_no_station, kind_by};
 use crate::time::{GpsTime, WEEKS};
 use gnss_obs::System;
@@ -79,7 +79,7 @@ impl Gatherer {
         station: Option<u16>,
         gather: Gather,
     ) -> Result<Gatherer, PlanFault>
-        ensures stands { IfOk result (λ g. Gathers g (setup_of plan start_week station gather) [] [] None) }
+        ensures stands { IfOk result (λ g. HasGatheredEpochs g (setup_of plan start_week station gather) [] [] None) }
         ensures going { IfOk result (λ g. g.has_ended ≡ false) }
         ensures none { IfOk result (λ g. closed_in g ≡ None) }
         ensures accepted { IsOk result → (start_week < weeks) × (is_no_station station ≡ false) }
@@ -108,7 +108,7 @@ impl Gatherer {
         by_bit: bool,
     ) -> Result<Gatherer, AllocError>
         requires { start_week < weeks }
-        ensures stands { IfOk result (λ g. Standing g (record { plan = plan; start_week = start_week; station = station; by_bit = by_bit }) [] false) }
+        ensures stands { IfOk result (λ g. HasTakenMessages g (record { plan = plan; start_week = start_week; station = station; by_bit = by_bit }) [] false) }
         ensures going { IfOk result (λ g. g.has_ended ≡ false) }
         ensures none { IfOk result (λ g. closed_in g ≡ None) }
     {
@@ -130,18 +130,18 @@ impl Gatherer {
         requires { self.old.has_ended ≡ false }
         // The pending epoch is closed first exactly where this message's time is greater and within
         // the weeks.
-        ensures exactly { (s : Setup) (ms : List Heard) (es : List Closed) → Gathers self.old s ms es None
+        ensures exactly { (s : GatherSetup) (ms : List Heard) (es : List Closed) → HasGatheredEpochs self.old s ms es None
             → is_close_first result.kind ≡ closes_first s (timed s ms) (heard m.now) }
-        ensures first { (s : Setup) (ms : List Heard) (es : List Closed) → Gathers self.old s ms es None → is_close_first result.kind ≡ true
-            → Gathers self.new s ms (es ++ closed_by (closed_in self.new) self.new.values) (Some (heard m.now)) }
+        ensures first { (s : GatherSetup) (ms : List Heard) (es : List Closed) → HasGatheredEpochs self.old s ms es None → is_close_first result.kind ≡ true
+            → HasGatheredEpochs self.new s ms (es ++ closed_by (closed_in self.new) self.new.values) (Some (heard m.now)) }
         // A message that comes again is taken.
-        ensures again { (s : Setup) (ms : List Heard) (es : List Closed) → Gathers self.old s ms es (Some (heard m.now))
+        ensures again { (s : GatherSetup) (ms : List Heard) (es : List Closed) → HasGatheredEpochs self.old s ms es (Some (heard m.now))
             → is_close_first result.kind ≡ false }
         // Every other message is taken, and hands out the epoch that it closes.
-        ensures taken { (s : Setup) (ms : List Heard) (es : List Closed) (again : Option Heard) → Gathers self.old s ms es again → Fits again (heard m.now)
+        ensures taken { (s : GatherSetup) (ms : List Heard) (es : List Closed) (again : Option Heard) → HasGatheredEpochs self.old s ms es again → IsAwaited again (heard m.now)
             → is_close_first result.kind ≡ false
-            → Gathers self.new s (ms ++ heard m.now ∷ []) (es ++ closed_by (closed_in self.new) self.new.values) None }
-        ensures kind { (s : Setup) (ms : List Heard) (es : List Closed) (again : Option Heard) → Gathers self.old s ms es again → Fits again (heard m.now)
+            → HasGatheredEpochs self.new s (ms ++ heard m.now ∷ []) (es ++ closed_by (closed_in self.new) self.new.values) None }
+        ensures kind { (s : GatherSetup) (ms : List Heard) (es : List Closed) (again : Option Heard) → HasGatheredEpochs self.old s ms es again → IsAwaited again (heard m.now)
             → is_close_first result.kind ≡ false → result.kind ≡ kind_of s ms (heard m.now) }
         ensures closed { result.closed ≡ is_some (closed_in self.new) }
         ensures going { self.new.has_ended ≡ false }
@@ -152,13 +152,13 @@ impl Gatherer {
     /// No message follows: closes the pending epoch, and says whether there was one. After the
     /// first `end` there is none.
     pub fn end(&mut self) -> bool
-        ensures closes { (s : Setup) (ms : List Heard) (es : List Closed) → Gathers self.old s ms es None → self.old.has_ended ≡ false
-            → (result ≡ is_pending s (timed s ms)) × Gathers self.new s ms (es ++ closed_by (closed_in self.new) self.new.values) None }
+        ensures closes { (s : GatherSetup) (ms : List Heard) (es : List Closed) → HasGatheredEpochs self.old s ms es None → self.old.has_ended ≡ false
+            → (result ≡ is_pending s (timed s ms)) × HasGatheredEpochs self.new s ms (es ++ closed_by (closed_in self.new) self.new.values) None }
         ensures closed { result ≡ is_some (closed_in self.new) }
         ensures ended { self.new.has_ended ≡ true }
         ensures twice { self.old.has_ended ≡ true → (result ≡ false) × (self.new ≡ rested self.old) }
-        ensures stays { (s : Setup) (ms : List Heard) (es : List Closed) (again : Option Heard) → Gathers self.old s ms es again
-            → self.old.has_ended ≡ true → Gathers self.new s ms es again }
+        ensures stays { (s : GatherSetup) (ms : List Heard) (es : List Closed) (again : Option Heard) → HasGatheredEpochs self.old s ms es again
+            → self.old.has_ended ≡ true → HasGatheredEpochs self.new s ms es again }
     {
         if self.has_ended {
             self.handed = false;
@@ -193,7 +193,7 @@ impl Gatherer {
     /// of the one last closed.
     pub fn cells(&self, system: System) -> usize
         ensures count { result ≡ length (cells_in system self.now.epoch) }
-        ensures held { (s : Setup) (ms : List Heard) (es : List Closed) (again : Option Heard) → Gathers self.now s ms es again
+        ensures held { (s : GatherSetup) (ms : List Heard) (es : List Closed) (again : Option Heard) → HasGatheredEpochs self.now s ms es again
             → result ≡ length (cells_in system (held_at s (timed s ms))) }
         ensures bound { result ≤ most_cells }
     {
@@ -204,7 +204,7 @@ impl Gatherer {
     /// has a kept cell with a valid phase and a known lock.
     pub fn locks(&self) -> usize
         ensures count { result ≡ recorded self.now.locks }
-        ensures keys { (s : Setup) (ms : List Heard) (es : List Closed) (again : Option Heard) → Gathers self.now s ms es again
+        ensures keys { (s : GatherSetup) (ms : List Heard) (es : List Closed) (again : Option Heard) → HasGatheredEpochs self.now s ms es again
             → result ≡ length (firsts (locked_in s (timed s ms) (closed_so_far s (timed s ms) (is_done self.now s ms again)))) }
         ensures bound { result ≤ most_locks }
     {
@@ -214,7 +214,7 @@ impl Gatherer {
     /// The station values so far.
     pub fn station_values(&self) -> StationValues
         ensures now { result ≡ self.now.values }
-        ensures told { (s : Setup) (ms : List Heard) (es : List Closed) (again : Option Heard) → Gathers self.now s ms es again
+        ensures told { (s : GatherSetup) (ms : List Heard) (es : List Closed) (again : Option Heard) → HasGatheredEpochs self.now s ms es again
             → result ≡ values_of s ms }
     {
         self.held.values()
@@ -279,7 +279,7 @@ impl Gatherer {
         }
     }
 
-    fn load(&mut self, answer: Answer, before: Option<u64>, m: &Message) -> Counts
+    fn load(&mut self, answer: Answer, before: Option<u64>, m: &Message) -> CellCounts
         ensures { record { state = self.new; counts = result } ≡ loaded_by answer before self.old (heard m.now) }
     {
         match answer {
@@ -295,7 +295,7 @@ impl Gatherer {
         }
     }
 
-    fn take_all(&mut self, m: &Message) -> Counts
+    fn take_all(&mut self, m: &Message) -> CellCounts
         ensures { record { state = self.new; counts = result } ≡ load_heard (record { state = self.old; counts = no_counts }) (heard m.now) }
     {
         match m {
@@ -314,7 +314,7 @@ impl Gatherer {
     }
 
     fn begin(&mut self, before: Option<u64>)
-        ensures { self.new ≡ begun before self.old }
+        ensures { self.new ≡ epoch_begun before self.old }
     {
         let latest = self.clock.latest();
         if !is_same(before, latest) {
@@ -341,30 +341,30 @@ impl Gatherer {
         if self.held.len(x.satellite.system()) >= MOST_CELLS {
             return Fate::Crowded;
         }
-        let mark = mark(&x, self.held.time(), self.locks.latest(&x));
-        self.held.hold(spot.at, x, mark);
+        let lli = lli(&x, self.held.time(), self.locks.latest(&x));
+        self.held.hold(spot.at, x, lli);
         Fate::Kept
     }
 
     // The cells of the message that is taken, of the long form or the short one.
-    fn take_entries(&mut self, is_long: bool, system: System, entries: &[Entry]) -> Counts
-        requires { All (IsEntry (lock_codes is_long)) entries.now }
-        ensures { record { state = self.new; counts = result } ≡ load_entries is_long system (record { state = self.old; counts = no_counts }) entries.now }
+    fn take_entries(&mut self, is_msm7: bool, system: System, entries: &[Entry]) -> CellCounts
+        requires { All (IsEntry (lock_codes is_msm7)) entries.now }
+        ensures { record { state = self.new; counts = result } ≡ load_entries is_msm7 system (record { state = self.old; counts = no_counts }) entries.now }
     {
         let mut counts = no_counts();
         for i in 0..entries.len() {
-            counts = counted(self.take_entry(is_long, system, &entries[i]), counts);
+            counts = counted(self.take_entry(is_msm7, system, &entries[i]), counts);
         }
         counts
     }
 
     // A cell of the message that is taken.
-    fn take_entry(&mut self, is_long: bool, system: System, entry: &Entry) -> Fate
-        requires { IsEntry (lock_codes is_long) entry.now }
-        ensures { (n : Counts) → record { state = self.new; counts = count_in result n }
-            ≡ load_entry is_long system (record { state = self.old; counts = n }) entry.now }
+    fn take_entry(&mut self, is_msm7: bool, system: System, entry: &Entry) -> Fate
+        requires { IsEntry (lock_codes is_msm7) entry.now }
+        ensures { (n : CellCounts) → record { state = self.new; counts = count_in result n }
+            ≡ load_entry is_msm7 system (record { state = self.old; counts = n }) entry.now }
     {
-        match observe(is_long, system, entry) {
+        match observe(is_msm7, system, entry) {
             None => Fate::Skipped,
             Some(x) => self.take_cell(x),
         }

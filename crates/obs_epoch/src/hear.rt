@@ -6,19 +6,19 @@ ghost use Rattle.obs_epoch.specs.Heard.{heard, system_of};
 ghost use Rattle.obs_epoch.specs.Epochs.{values_by};
 
 use crate::cell::StationValues;
-use crate::clock::Told;
+use crate::clock::HeardByClock;
 use gnss_obs::System;
 use rtcm_msg::{Message, MsmHeader, StationParts};
 
 /// What a clock is told of a message.
-pub fn told_of(m: &Message) -> Told
+pub fn told_of(m: &Message) -> HeardByClock
     ensures station { result.station ≡ (heard m.now).station }
     ensures tow { result.tow ≡ (heard m.now).tow }
     ensures more { result.more ≡ (heard m.now).more }
     ensures week { ForSome result.tow (λ tow. tow < week) }
 {
     match m {
-        Message::Station(station) => Told {
+        Message::Station(station) => HeardByClock {
             station: Some(station.parts().station),
             tow: None,
             more: None,
@@ -26,12 +26,12 @@ pub fn told_of(m: &Message) -> Told
         Message::Msm4(m) => told_by(&m.header()),
         Message::Msm7(m) => told_by(&m.header()),
         Message::Other { number: _, set } => match set {
-            None => Told {
+            None => HeardByClock {
                 station: None,
                 tow: None,
                 more: None,
             },
-            Some(set) => Told {
+            Some(set) => HeardByClock {
                 station: Some(set.0),
                 tow: None,
                 more: Some(set.1),
@@ -40,10 +40,10 @@ pub fn told_of(m: &Message) -> Told
     }
 }
 
-fn told_by(header: &MsmHeader) -> Told
+fn told_by(header: &MsmHeader) -> HeardByClock
     ensures { result ≡ record { station = Some header.now.station; tow = Some header.now.time; more = Some header.now.more } }
 {
-    Told {
+    HeardByClock {
         station: Some(header.station),
         tow: Some(header.time),
         more: Some(header.more),

@@ -3,7 +3,7 @@ ghost use Rattle.std.specs.Prelude.{◌≡◌, ◌<◌, ◌≤◌, [], length, I
 ghost use Rattle.obs_epoch.specs.Weeks.{week, weeks};
 ghost use Rattle.obs_epoch.specs.Values.{AreHeld, cells_of, most_cells};
 ghost use Rattle.obs_epoch.specs.Epochs.{no_values};
-ghost use Rattle.obs_epoch.specs.Marked.{IsKey, IsObserved, AreKept, cell_of, marked_cell, shown, paired};
+ghost use Rattle.obs_epoch.specs.WithLli.{IsKey, IsObserved, MayBeHeld, shown_cell, marked_cell, shown, paired};
 ghost use Rattle.obs_epoch.specs.Held.{is_held as is_held_lem, is_cell_of, note_all};
 ghost use Rattle.obs_epoch.specs.Gather.{no_epoch, cells_in, more_at, spot_in, AreInOrder};
 ghost use Rattle.obs_epoch.specs.Order.{AreSorted};
@@ -41,7 +41,7 @@ impl Model for Held {
     ghost use Rattle.std.specs.Prelude.{◌≤◌};
     ghost use Rattle.std.specs.Vec.{vec_capacity};
     ghost use Rattle.obs_epoch.specs.Values.{most_cells};
-    ghost use Rattle.obs_epoch.specs.Marked.{AreTracked, paired};
+    ghost use Rattle.obs_epoch.specs.WithLli.{AreTracked, paired};
     ghost use Rattle.obs_epoch.specs.Gather.{Holding};
 
     ghost Value = { Holding };
@@ -141,21 +141,21 @@ impl Held {
     }
 
     /// One cell more, behind so many of its system.
-    pub fn hold(&mut self, at: usize, x: Seen, mark: u8)
+    pub fn hold(&mut self, at: usize, x: Seen, lli: u8)
         requires observed { IsObserved x }
-        requires mark { mark < 4 }
+        requires mark { lli < 4 }
         requires room { length (cells_in x.satellite.system self.old.epoch) < most_cells }
         requires within { at ≤ length (cells_in x.satellite.system self.old.epoch) }
-        requires order { AreSorted (insert (map cell_of (cells_in x.satellite.system self.old.epoch)) at (marked_cell x mark)) }
-        ensures { self.new ≡ record { epoch = more_at x.satellite.system at self.old.epoch (record { seen = x; mark = mark }); values = self.old.values } }
+        requires order { AreSorted (insert (map shown_cell (cells_in x.satellite.system self.old.epoch)) at (marked_cell x lli)) }
+        ensures { self.new ≡ record { epoch = more_at x.satellite.system at self.old.epoch (record { seen = x; lli = lli }); values = self.old.values } }
     {
         match x.satellite.system() {
             System::Gps => {
-                self.epoch.hold(at, &x, mark);
+                self.epoch.hold(at, &x, lli);
                 insert_within(&mut self.gps, at, x.tracking());
             }
             System::Galileo => {
-                self.epoch.hold(at, &x, mark);
+                self.epoch.hold(at, &x, lli);
                 insert_within(&mut self.galileo, at, x.tracking());
             }
         }
@@ -197,7 +197,7 @@ fn is_last(cells: &[Cell], at: usize, x: &Seen) -> bool
 }
 
 fn note_cells(locks: &mut Locks, time: u64, cells: &[Cell], tracking: &[Tracking])
-    requires held { AreKept cells.now }
+    requires held { MayBeHeld cells.now }
     requires paired { length cells.now ≡ length tracking.now }
     ensures { locks.new ≡ note_all time locks.old (paired cells.now tracking.now) }
 {

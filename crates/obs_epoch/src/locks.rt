@@ -1,9 +1,9 @@
 //! Lock records: one of a key, for the latest closed epoch in which it had a known lock.
 ghost use Rattle.std.specs.Prelude.{◌≡◌, ◌+◌, ◌<◌, ◌≤◌, [], length, IfOk, ◌++◌, ◌∷◌, insert};
 ghost use Rattle.std.specs.Vec.{vec_len, vec_capacity};
-ghost use Rattle.obs_epoch.specs.Held.{entry_of, lookup, most_locks, no_locks, note, one_if_new, put, recorded};
+ghost use Rattle.obs_epoch.specs.Held.{lock_place, lookup, most_locks, no_locks, note, one_if_new, put, recorded};
 ghost use Rattle.obs_epoch.specs.Cells.{is_system, same_key};
-ghost use Rattle.obs_epoch.specs.Marked.{IsKey};
+ghost use Rattle.obs_epoch.specs.WithLli.{IsKey};
 ghost use Rattle.obs_epoch.specs.Loss.{lock_of};
 
 use crate::seen::{KnownLock, Seen};
@@ -63,7 +63,7 @@ impl Locks {
         requires { IsKey x.now }
         ensures { result ≡ lookup self.now x.now }
     {
-        self.entries[entry_of(x)]
+        self.entries[lock_place(x)]
     }
 
     /// A kept cell of an epoch that closes: its lock, where it is known.
@@ -80,7 +80,7 @@ impl Locks {
         requires { IsKey x.now }
         ensures { self.new ≡ put self.old x.now lock }
     {
-        let entry = entry_of(x);
+        let entry = lock_place(x);
         let count = self.count + one_if_new(self.entries[entry]);
         self.entries[entry] = Some(lock);
         self.count = count;
@@ -109,9 +109,9 @@ fn one_if_new(before: Option<KnownLock>) -> usize
 }
 
 // The entry of a key.
-fn entry_of(x: &Seen) -> usize
+fn lock_place(x: &Seen) -> usize
     requires { IsKey x.now }
-    ensures entry { result ≡ entry_of x.now }
+    ensures entry { result ≡ lock_place x.now }
     ensures bound { result < most_locks }
 {
     let id = x.satellite.id() as usize;

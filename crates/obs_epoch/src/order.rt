@@ -1,6 +1,6 @@
 //! The order in which kept cells stand.
 ghost use Rattle.std.specs.Prelude.{◌≡◌, ◌≤◌, length, map};
-ghost use Rattle.obs_epoch.specs.Order.{seat, is_before, cell_seat, StandBy};
+ghost use Rattle.obs_epoch.specs.Order.{plan_seat, is_before, cell_seat, AreOrderedBy};
 ghost use Rattle.obs_epoch.specs.Values.{AreHeld, planned_of};
 ghost use Rattle.obs_epoch.specs.Order.{spot as spot_of};
 
@@ -17,7 +17,7 @@ pub struct Seat {
 
 /// The seat of a key.
 pub fn seat_at(plan: &Plan, satellite: Sat, signal: Signal) -> Seat
-    ensures { result ≡ seat (planned_of signal.system plan.now) satellite signal }
+    ensures { result ≡ plan_seat (planned_of signal.system plan.now) satellite signal }
 {
     Seat {
         satellite: satellite.id(),
@@ -42,7 +42,7 @@ pub fn is_before(a: Seat, b: Seat) -> bool
 /// is looked at first.
 pub fn spot(cells: &[Cell], plan: &Plan, x: Seat, system: System) -> usize
     requires held { AreHeld system cells.now }
-    requires order { StandBy (planned_of system plan.now) cells.now }
+    requires order { AreOrderedBy (planned_of system plan.now) cells.now }
     ensures spot { result ≡ spot_of x (map (cell_seat (planned_of system plan.now)) cells.now) }
     ensures bound { result ≤ length cells.now }
 {
@@ -59,7 +59,7 @@ pub fn spot(cells: &[Cell], plan: &Plan, x: Seat, system: System) -> usize
 // The same, found by halves.
 fn spot_by_halves(cells: &[Cell], plan: &Plan, x: Seat, system: System) -> usize
     requires held { AreHeld system cells.now }
-    requires order { StandBy (planned_of system plan.now) cells.now }
+    requires order { AreOrderedBy (planned_of system plan.now) cells.now }
     ensures spot { result ≡ spot_of x (map (cell_seat (planned_of system plan.now)) cells.now) }
     ensures bound { result ≤ length cells.now }
 {

@@ -2,7 +2,7 @@
 ghost use Rattle.std.specs.Prelude.{◌≡◌, ◌+◌, ◌<◌};
 ghost use Rattle.obs_epoch.specs.Held.{count_in};
 ghost use Rattle.obs_epoch.specs.Gather.{no_counts};
-ghost use Rattle.obs_epoch.specs.Marked.{cell_of, seen_of, tracking_of};
+ghost use Rattle.obs_epoch.specs.WithLli.{shown_cell, seen_of, tracking_of};
 
 use crate::cell::Cell;
 use gnss_obs::{Lock, Sat, Signal, Thousandths};
@@ -37,7 +37,7 @@ pub struct KnownLock {
 
 /// What became of the cells of a message.
 #[derive(Clone, Copy, Debug, PartialEq, Eq)]
-pub struct Counts {
+pub struct CellCounts {
     pub kept: usize,
     pub skipped: usize,
     pub repeated: usize,
@@ -82,10 +82,10 @@ impl Seen {
 }
 
 /// No cell came.
-pub fn no_counts() -> Counts
+pub fn no_counts() -> CellCounts
     ensures { result ≡ no_counts }
 {
-    Counts {
+    CellCounts {
         kept: 0,
         skipped: 0,
         repeated: 0,
@@ -94,7 +94,7 @@ pub fn no_counts() -> Counts
 }
 
 /// One cell more.
-pub fn counted(fate: Fate, n: Counts) -> Counts
+pub fn counted(fate: Fate, n: CellCounts) -> CellCounts
     requires { n.kept + n.skipped + n.repeated + n.crowded < usize.MAX }
     ensures counts { result ≡ count_in fate n }
     ensures all { result.kept + result.skipped + result.repeated + result.crowded ≡ n.kept + n.skipped + n.repeated + n.crowded + 1 }

@@ -4,7 +4,7 @@ ghost use Rattle.obs_epoch.specs.Heard.{heard};
 ghost use Rattle.obs_epoch.specs.Kinds.{is_close_first, kind_at, station_kind, kind_by, is_by_bit, is_no_station};
 
 use crate::clock::Answer;
-use crate::seen::Counts;
+use crate::seen::CellCounts;
 use rtcm_msg::Message;
 
 /// How the epochs of a station are closed.
@@ -64,7 +64,7 @@ impl Kind {
     }
 
     // The kind of a message with observations.
-    pub(crate) fn of_observations(answer: Answer, counts: Counts) -> Kind
+    pub(crate) fn of_observations(answer: Answer, counts: CellCounts) -> Kind
         ensures { result ≡ kind_at answer counts }
     {
         match answer {
@@ -98,7 +98,7 @@ impl Kind {
 }
 
 // What became of a message, by its time and its cells.
-pub(crate) fn kind_by(m: &Message, answer: Answer, counts: Counts) -> Kind
+pub(crate) fn kind_by(m: &Message, answer: Answer, counts: CellCounts) -> Kind
     ensures { result ≡ kind_by (heard m.now) answer counts }
 {
     match m {

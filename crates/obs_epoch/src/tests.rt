@@ -283,12 +283,12 @@ fn by_time_alone_no_bit_closes(rt: HostRuntime) -> Result<(), PlanFault> {
     Ok(())
 }
 
-fn mark(g: &Gatherer) -> u8 {
+fn lli(g: &Gatherer) -> u8 {
     match g.closed() {
         None => 255,
         Some(e) => match e.cells(System::Gps).first() {
             None => 254,
-            Some(cell) => cell.mark,
+            Some(cell) => cell.lli,
         },
     }
 }
@@ -297,9 +297,9 @@ fn mark(g: &Gatherer) -> u8 {
 fn a_shorter_lock_was_lost(rt: HostRuntime) -> Result<(), PlanFault> {
     let mut g = gatherer(rt.alloc(), 2_300, Gather::Bit)?;
     take(&mut g, &short(1_000, false, true, 15));
-    assert_eq!(rt; mark(&g), 0);
+    assert_eq!(rt; lli(&g), 0);
     take(&mut g, &short(2_000, false, true, 14));
-    assert_eq!(rt; mark(&g), 1);
+    assert_eq!(rt; lli(&g), 1);
     Ok(())
 }
 
@@ -308,13 +308,13 @@ fn a_lock_below_the_elapsed_time_was_lost(rt: HostRuntime) -> Result<(), PlanFau
     let mut g = gatherer(rt.alloc(), 2_300, Gather::Bit)?;
     take(&mut g, &long(false, 1_000, false, long_cell(true, 0)));
     take(&mut g, &long(false, 2_000, false, long_cell(true, 0)));
-    assert_eq!(rt; mark(&g), 1);
+    assert_eq!(rt; lli(&g), 1);
     take(&mut g, &long(false, 3_000, false, long_cell(true, 704)));
     take(
         &mut g,
         &long(false, 18_003_000, false, long_cell(true, 704)),
     );
-    assert_eq!(rt; mark(&g), 0);
+    assert_eq!(rt; lli(&g), 0);
     Ok(())
 }
 
@@ -324,10 +324,10 @@ fn a_lock_without_a_phase_is_passed_over(rt: HostRuntime) -> Result<(), PlanFaul
     assert_eq!(rt; locks(&g), 0);
     take(&mut g, &short(1_000, false, true, 8));
     take(&mut g, &short(2_000, false, false, 0));
-    assert_eq!(rt; mark(&g), 0);
+    assert_eq!(rt; lli(&g), 0);
     take(&mut g, &short(3_000, true, true, 7));
     assert!(rt; end(&mut g));
-    assert_eq!(rt; mark(&g), 1);
+    assert_eq!(rt; lli(&g), 1);
     assert_eq!(rt; locks(&g), 1);
     assert!(rt; !end(&mut g));
     Ok(())

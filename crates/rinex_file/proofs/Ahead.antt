@@ -6,7 +6,7 @@ use Rattle.std.proofs.lemmas.List.{take_more, length-take-le, take-append-drop, 
 use Rattle.std.specs.Io.KnownBytes.{Consumes, IsAtEnd, prepend_known}
 use Rattle.std.proofs.KnownBytes.{Consumes-nil, Consumes-trans}
 use Rattle.rinex_file.specs.Read.Fields.{has}
-use Rattle.rinex_file.specs.Blocks.{Leaves, AreMoved, Moves}
+use Rattle.rinex_file.specs.Blocks.{LeavesRest, AreMoved, MovesBytes}
 use Rattle.rinex_file.specs.Exact.{IsLine}
 use Rattle.rinex_file.proofs.Digits.{has-append}
 
@@ -40,7 +40,7 @@ moved_are near feed count room false is size none found bound e =
 
 pub moved : (held near new line line' : List ℕ) (room feed count : ℕ) → near ≡ take room held → room ≡ min (length held) (1220 - length line) → feed ≤ length near
     → has 10 (take feed near) ≡ false → (feed < length near → take 1 (drop feed near) ≡ 10 ∷ []) → count ≡ min (feed + 1) room → new ≡ drop count held → line' ≡ line ++ take count near
-    → length line ≤ 1220 → Moves (nat_lt feed room) held new line line'
+    → length line ≤ 1220 → MovesBytes (nat_lt feed room) held new line line'
 moved held near new line line' room feed count is most bound none found e rest pushed short =
     let low : room ≤ length held = subst (λ (n : ℕ). n ≤ length held) (sym most) (min-le_left (length held) (1220 - length line)) in
     let right : room ≤ 1220 - length line = subst (λ (n : ℕ). n ≤ 1220 - length line) (sym most) (min-le_right (length held) (1220 - length line)) in
@@ -61,8 +61,8 @@ moved held near new line line' room feed count is most bound none found e rest p
       short = let both : length line' ≡ length line + length (take count near) = ap length pushed ∙ length-append line (take count near) in omega (arith, both, long, few, right, short);
     }
 
-pub moved_of : (b : Bool) (held old new line line' : List ℕ) → held ≡ old → Moves b held new line line' → Moves b old new line line'
-moved_of b held old new line line' e m = subst (λ (o : List ℕ). Moves b o new line line') e m
+pub moved_of : (b : Bool) (held old new line line' : List ℕ) → held ≡ old → MovesBytes b held new line line' → MovesBytes b old new line line'
+moved_of b held old new line line' e m = subst (λ (o : List ℕ). MovesBytes b o new line line') e m
 
 -- what is left where some of the bytes were moved
 pub left_ahead : (bytes : List ℕ) (at end count : ℕ) → count ≤ end - at → take (end - (at + count)) (drop (at + count) bytes) ≡ drop count (take (end - at) (drop at bytes))
@@ -79,31 +79,31 @@ ahead_moved : (r : Option (List ℕ)) (old new bytes : List ℕ) → old ≡ byt
 ahead_moved None old new bytes e = tt
 ahead_moved (Some x) old new bytes e = ap (λ l. l ++ x) e ∙ append_assoc bytes new x
 
-pub moved_taken : (a b r : Option (List ℕ)) (whole : Bool) (old new line line' : List ℕ) → Consumes a b line → Consumes b (prepend_known old r) [] → Moves whole old new line line'
+pub moved_taken : (a b r : Option (List ℕ)) (whole : Bool) (old new line line' : List ℕ) → Consumes a b line → Consumes b (prepend_known old r) [] → MovesBytes whole old new line line'
     → Consumes a (prepend_known new r) line'
 moved_taken a b r whole old new line line' first none m =
     subst (Consumes a (prepend_known new r)) (sym m.to)
     (Consumes-trans a (prepend_known old r) (prepend_known new r) line m.bytes (consumed_none a b (prepend_known old r) line first none) (ahead_moved r old new m.bytes m.from))
 
 -- the line feed is the last byte of the line
-pub line_whole : (old new line line' : List ℕ) → has 10 line ≡ false → Moves true old new line line' → IsLine line'
+pub line_whole : (old new line line' : List ℕ) → has 10 line ≡ false → MovesBytes true old new line line' → IsLine line'
 line_whole old new line line' endless m =
     let (body, shape, none) = m.are in
     (line ++ body, m.to ∙ ap (λ l. line ++ l) shape ∙ sym (append_assoc line body (10 ∷ [])), endless_append line body endless none)
 
-pub still_endless : (old new line line' : List ℕ) → has 10 line ≡ false → Moves false old new line line' → has 10 line' ≡ false
+pub still_endless : (old new line line' : List ℕ) → has 10 line ≡ false → MovesBytes false old new line line' → has 10 line' ≡ false
 still_endless old new line line' endless m = ap (has 10) m.to ∙ endless_append line m.bytes endless m.are
 
-pub longer : (old new line line' : List ℕ) → Moves false old new line line' → 0 < length old → length line < 1220 → length line < length line'
+pub longer : (old new line line' : List ℕ) → MovesBytes false old new line line' → 0 < length old → length line < 1220 → length line < length line'
 longer old new line line' m some less =
     let more = m.some some less in
     let both : length line' ≡ length line + length m.bytes = ap length m.to ∙ length-append line m.bytes in
     omega (arith, both, more)
 
-pub leaves_more : (a b c : Option (List ℕ)) → Leaves a b → Leaves b c → Leaves a c
+pub leaves_more : (a b c : Option (List ℕ)) → LeavesRest a b → LeavesRest b c → LeavesRest a c
 leaves_more a b c (xs, first) (ys, next) = (xs ++ ys, Consumes-trans a b c xs ys first next)
 
-pub leaves_all : (a : Option (List ℕ)) → Leaves a a
+pub leaves_all : (a : Option (List ℕ)) → LeavesRest a a
 leaves_all a = ([], Consumes-nil a)
 
 -- nothing is left ahead, nor of the reader

@@ -7,11 +7,11 @@ use Rattle.std.proofs.lemmas.List.Elements.{All-head, All-tail, All-nil, All-pus
 use Rattle.obs_epoch.specs.Dates.{civil_of}
 use Rattle.obs_epoch.specs.declared.cell.StationValues.{StationValues}
 use Rattle.rinex_file.specs.declared.read.due.Due.TheVariants.{Epoch, EventEpoch, Satellite}
-use Rattle.rinex_file.specs.Value.{Seen, Stamped, FileValue}
-use Rattle.rinex_file.specs.FileValues.{IsFileValue, IsStamped, IsSeen, AreSeen, IsTime, IsChange, AreChanges, IsFirstSame, changed_by, values_behind, time_of, rank_of, most_rows}
-use Rattle.rinex_file.specs.Lines.{epoch_line, seen_line}
+use Rattle.rinex_file.specs.Value.{SatelliteRow, Stamped, FileValue}
+use Rattle.rinex_file.specs.FileValues.{IsFileValue, IsStamped, IsSatelliteRow, AreSatelliteRows, IsTime, IsChange, AreChanges, IsFirstSame, changed_by, values_behind, time_stamped, rank_of, most_rows}
+use Rattle.rinex_file.specs.Lines.{epoch_line, satellite_line}
 use Rattle.rinex_file.specs.File.{stamped_lines, change_lines, event_line}
-use Rattle.rinex_file.specs.Read.Progress.{Progress, file_with, stamped, StartsAt, IsAt, IsBetween, IsInEvent, IsWithin, GoesOn, begun_at, with_row, with_epoch}
+use Rattle.rinex_file.specs.Read.Progress.{Progress, file_with, stamped, StartsAt, IsAt, IsBetween, IsInEvent, IsInEpoch, HasLinesLeft, begun_at, with_row, with_epoch}
 use Rattle.rinex_file.specs.Read.Sound.{AreRead, IsBegun, IsEventDue, IsSoundAt, IsSound, MayBegin, values_now}
 use Rattle.rinex_file.proofs.FewRows.{few_rows, few_planned}
 use Rattle.rinex_file.proofs.Entries.{few_signals}
@@ -26,7 +26,7 @@ All-midst P (x ∷ xs) ys y h = All-midst P xs ys y (All-tail P x (xs ++ y ∷ y
 
 -- the lines of an epoch behind this change of station values
 abbrev pub lines_with : Option StationValues → Stamped → List (List ℕ)
-lines_with c e = change_lines c ++ (epoch_line (civil_of e.time) (length e.rows) ∷ map seen_line e.rows)
+lines_with c e = change_lines c ++ (epoch_line (civil_of e.time) (length e.rows) ∷ map satellite_line e.rows)
 
 pub lines_are : (e : Stamped) (c : Option StationValues) → e.change ≡ c → stamped_lines e ≡ lines_with c e
 lines_are e c h = ap (λ x. lines_with x e) h
@@ -56,13 +56,13 @@ first_more (e ∷ es) x h k = h
 -- ---- the line of an epoch
 
 -- an epoch behind this change, at this time, with these satellites
-abbrev pub at_time : Option StationValues → ℕ → List Seen → Stamped
+abbrev pub at_time : Option StationValues → ℕ → List SatelliteRow → Stamped
 at_time c t rows = record { change = c; time = t; rows = rows }
 
 abbrev SameEpoch : Stamped → Stamped → Type 0
 SameEpoch a b = a ≡ b
 
-made : (change c : Option StationValues) (time t : ℕ) (rows : List Seen) → change ≡ c → time ≡ t → SameEpoch (record { change = change; time = time; rows = rows }) (at_time c t rows)
+made : (change c : Option StationValues) (time t : ℕ) (rows : List SatelliteRow) → change ≡ c → time ≡ t → SameEpoch (record { change = change; time = time; rows = rows }) (at_time c t rows)
 made change c time t rows h k = ap (λ x. record { change = x; time = time; rows = rows }) h ∙ ap (λ x. at_time c x rows) k
 
 same_epoch : (e : Stamped) (c : Option StationValues) (t : ℕ) → e.change ≡ c → e.time ≡ t → e ≡ at_time c t e.rows
@@ -79,14 +79,14 @@ pub record EpochNext (s : Progress) (c : Option StationValues) (v : FileValue) (
   pub value : v ≡ file_with s (s.epochs ++ e ∷ es)
   pub starts : StartsAt s.known.shown.first (s.epochs ++ e ∷ es)
   pub is : IsStamped (length s.known.shown.plan.gps) (length s.known.shown.plan.galileo) e
-  pub rising : IsStrictlyIncreasing (map time_of s.epochs ++ e.time ∷ map time_of es)
+  pub rising : IsStrictlyIncreasing (map time_stamped s.epochs ++ e.time ∷ map time_stamped es)
   pub change : e.change ≡ c
   pub shown : line ≡ epoch_line (civil_of e.time) (length e.rows)
-  pub rest : left ≡ map seen_line e.rows ++ flat_map stamped_lines es
+  pub rest : left ≡ map satellite_line e.rows ++ flat_map stamped_lines es
 
 next_with : (s : Progress) (c : Option StationValues) (v : FileValue) (line : List ℕ) (left : List (List ℕ)) (e : Stamped) (es : List Stamped) → IsFileValue v
     → v ≡ file_with s (s.epochs ++ e ∷ es) → StartsAt s.known.shown.first (s.epochs ++ e ∷ es) → e.change ≡ c
-    → line ∷ left ≡ (epoch_line (civil_of e.time) (length e.rows) ∷ map seen_line e.rows) ++ flat_map stamped_lines es → EpochNext s c v line left
+    → line ∷ left ≡ (epoch_line (civil_of e.time) (length e.rows) ∷ map satellite_line e.rows) ++ flat_map stamped_lines es → EpochNext s c v line left
 next_with s c v line left e es is value starts change text =
     let valid : IsFileValue (file_with s (s.epochs ++ e ∷ es)) = subst IsFileValue value is in
     record {
@@ -95,7 +95,7 @@ next_with s c v line left e es is value starts change text =
       value = value;
       starts = starts;
       is = All-midst (IsStamped (length s.known.shown.plan.gps) (length s.known.shown.plan.galileo)) s.epochs es e valid.epochs;
-      rising = subst IsStrictlyIncreasing (map-append time_of s.epochs (e ∷ es)) valid.rising;
+      rising = subst IsStrictlyIncreasing (map-append time_stamped s.epochs (e ∷ es)) valid.rising;
       change = change;
       shown = cc;
       rest = cc;
@@ -120,14 +120,14 @@ from_others s v line left (e ∷ es) never is value starts rest = by e.change re
       let text : line ∷ left ≡ lines_with (Some w) e ++ flat_map stamped_lines es = rest ∙ ap (λ l. l ++ flat_map stamped_lines es) (lines_are e (Some w) h) in
       absurd (never (some_epochs s.epochs es e w valid.first h, cc))
 
-pub plain_next : (s : Progress) (v : FileValue) (line : List ℕ) (left : List (List ℕ)) → s.due ≡ Epoch → NoEvent s line → GoesOn s v (line ∷ left) → EpochNext s None v line left
-unfolding GoesOn
+pub plain_next : (s : Progress) (v : FileValue) (line : List ℕ) (left : List (List ℕ)) → s.due ≡ Epoch → NoEvent s line → HasLinesLeft s v (line ∷ left) → EpochNext s None v line left
+unfolding HasLinesLeft
 plain_next s v line left due never (is, at) =
     let here : IsBetween s v (line ∷ left) = subst (λ d. IsAt s d v (line ∷ left)) due at in
     from_others s v line left here.others never is here.value here.starts here.rest
 
-pub changed_next : (s : Progress) (w : StationValues) (v : FileValue) (line : List ℕ) (left : List (List ℕ)) → s.due ≡ EventEpoch w → GoesOn s v (line ∷ left) → EpochNext s (Some w) v line left
-unfolding GoesOn
+pub changed_next : (s : Progress) (w : StationValues) (v : FileValue) (line : List ℕ) (left : List (List ℕ)) → s.due ≡ EventEpoch w → HasLinesLeft s v (line ∷ left) → EpochNext s (Some w) v line left
+unfolding HasLinesLeft
 changed_next s w v line left due (is, at) =
     let here : IsInEvent s 3 (λ x. x ≡ w) v (line ∷ left) = subst (λ d. IsAt s d v (line ∷ left)) due at in
     let change : here.next.change ≡ Some w = here.change ∙ ap Some here.shown in
@@ -151,8 +151,8 @@ may_begin s c v line left next = (
   next.is.time,
   record {
     later =
-        rise_front (map time_of s.epochs ++ next.e.time ∷ []) (map time_of next.es)
-        (subst IsStrictlyIncreasing (sym (append_assoc (map time_of s.epochs) (next.e.time ∷ []) (map time_of next.es))) next.rising);
+        rise_front (map time_stamped s.epochs ++ next.e.time ∷ []) (map time_stamped next.es)
+        (subst IsStrictlyIncreasing (sym (append_assoc (map time_stamped s.epochs) (next.e.time ∷ []) (map time_stamped next.es))) next.rising);
     first = λ none. subst (λ x. StartsAt s.known.shown.first (x ++ next.e ∷ next.es)) none next.starts;
     some = next.is.some;
     room = few_rows (length s.known.shown.plan.gps) (length s.known.shown.plan.galileo) next.e.rows next.is.rows;
@@ -170,16 +170,16 @@ begin_line w = epoch_line (civil_of w.0) w.1
 no_begin : (s : Progress) (c : Option StationValues) (v : FileValue) (line : List ℕ) (left : List (List ℕ)) → ((w : ℕ × ℕ) → Begins s w → line ≡ begin_line w → ⊥) → EpochNext s c v line left → ⊥
 no_begin s c v line left none next = none (next.e.time, length next.e.rows) (may_begin s c v line left next) next.shown
 
-pub no_plain : (s : Progress) (line : List ℕ) → s.due ≡ Epoch → NoEvent s line → ((w : ℕ × ℕ) → Begins s w → line ≡ begin_line w → ⊥) → (v : FileValue) (left : List (List ℕ)) → GoesOn s v (line ∷ left) → ⊥
+pub no_plain : (s : Progress) (line : List ℕ) → s.due ≡ Epoch → NoEvent s line → ((w : ℕ × ℕ) → Begins s w → line ≡ begin_line w → ⊥) → (v : FileValue) (left : List (List ℕ)) → HasLinesLeft s v (line ∷ left) → ⊥
 no_plain s line due never none v left on = no_begin s None v line left none (plain_next s v line left due never on)
 
-pub no_changed : (s : Progress) (w : StationValues) (line : List ℕ) → s.due ≡ EventEpoch w → ((w : ℕ × ℕ) → Begins s w → line ≡ begin_line w → ⊥) → (v : FileValue) (left : List (List ℕ)) → GoesOn s v (line ∷ left) → ⊥
+pub no_changed : (s : Progress) (w : StationValues) (line : List ℕ) → s.due ≡ EventEpoch w → ((w : ℕ × ℕ) → Begins s w → line ≡ begin_line w → ⊥) → (v : FileValue) (left : List (List ℕ)) → HasLinesLeft s v (line ∷ left) → ⊥
 no_changed s w line due none v left on = no_begin s (Some w) v line left none (changed_next s w v line left due on)
 
 module _ (s : Progress) (c : Option StationValues) (t n : ℕ) (line : List ℕ) (none : s.rows ≡ []) (shown : line ≡ epoch_line (civil_of t) n)
     (only : (w : ℕ × ℕ) → Begins s w → line ≡ begin_line w → w ≡ (t, n)) where
   -- the epoch that the line begins
-  to_within : (v : FileValue) (left : List (List ℕ)) → EpochNext s c v line left → IsWithin (begun_at s c t n) n v left
+  to_within : (v : FileValue) (left : List (List ℕ)) → EpochNext s c v line left → IsInEpoch (begun_at s c t n) n v left
   to_within v left next =
       let same : SameLine next.e.time (length next.e.rows) t n = only (next.e.time, length next.e.rows) (may_begin s c v line left next) next.shown in
       let time : next.e.time ≡ t = ap (λ w. w.0) same in
@@ -194,22 +194,22 @@ module _ (s : Progress) (c : Option StationValues) (t n : ℕ) (line : List ℕ)
       }
 
   -- its lines, from that line on
-  begun_lines : (left : List (List ℕ)) (more : List Seen) (others : List Stamped) → length more ≡ n → left ≡ map seen_line more ++ flat_map stamped_lines others
-      → line ∷ left ≡ (epoch_line (civil_of t) (length (s.rows ++ more)) ∷ map seen_line (s.rows ++ more)) ++ flat_map stamped_lines others
+  begun_lines : (left : List (List ℕ)) (more : List SatelliteRow) (others : List Stamped) → length more ≡ n → left ≡ map satellite_line more ++ flat_map stamped_lines others
+      → line ∷ left ≡ (epoch_line (civil_of t) (length (s.rows ++ more)) ∷ map satellite_line (s.rows ++ more)) ++ flat_map stamped_lines others
   begun_lines left more others count rest =
       let rows : s.rows ++ more ≡ more = ap (λ r. r ++ more) none in
       ap (λ l. l ∷ left) shown ∙ ap (λ k. epoch_line (civil_of t) k ∷ left) (sym count) ∙ ap (λ l. epoch_line (civil_of t) (length more) ∷ l) rest
-      ∙ ap (λ r. epoch_line (civil_of t) (length r) ∷ (map seen_line r ++ flat_map stamped_lines others)) (sym rows)
+      ∙ ap (λ r. epoch_line (civil_of t) (length r) ∷ (map satellite_line r ++ flat_map stamped_lines others)) (sym rows)
 
 -- the line of an epoch with the station values before
 pub plain_taken : (s : Progress) (t n : ℕ) (line : List ℕ) → s.due ≡ Epoch → NoEvent s line → s.rows ≡ [] → line ≡ epoch_line (civil_of t) n
     → ((w : ℕ × ℕ) → Begins s w → line ≡ begin_line w → w ≡ (t, n))
-    → (v : FileValue) (left : List (List ℕ)) → GoesOn s v (line ∷ left) ↔ GoesOn (begun_at s None t n) v left
-unfolding GoesOn
+    → (v : FileValue) (left : List (List ℕ)) → HasLinesLeft s v (line ∷ left) ↔ HasLinesLeft (begun_at s None t n) v left
+unfolding HasLinesLeft
 plain_taken s t n line due never none shown only v left = (
   λ on. (on.0, to_within s None t n line none shown only v left (plain_next s v line left due never on)),
   λ on.
-      let here : IsWithin (begun_at s None t n) n v left = on.1 in
+      let here : IsInEpoch (begun_at s None t n) n v left = on.1 in
       let between : IsBetween s v (line ∷ left) = record {
         others = at_time None t (s.rows ++ here.more) ∷ here.others;
         value = here.value;
@@ -222,12 +222,12 @@ plain_taken s t n line due never none shown only v left = (
 -- the line of an epoch behind an event
 pub changed_taken : (s : Progress) (w : StationValues) (t n : ℕ) (line : List ℕ) → s.due ≡ EventEpoch w → s.rows ≡ [] → line ≡ epoch_line (civil_of t) n
     → ((w : ℕ × ℕ) → Begins s w → line ≡ begin_line w → w ≡ (t, n))
-    → (v : FileValue) (left : List (List ℕ)) → GoesOn s v (line ∷ left) ↔ GoesOn (begun_at s (Some w) t n) v left
-unfolding GoesOn
+    → (v : FileValue) (left : List (List ℕ)) → HasLinesLeft s v (line ∷ left) ↔ HasLinesLeft (begun_at s (Some w) t n) v left
+unfolding HasLinesLeft
 changed_taken s w t n line due none shown only v left = (
   λ on. (on.0, to_within s (Some w) t n line none shown only v left (changed_next s w v line left due on)),
   λ on.
-      let here : IsWithin (begun_at s (Some w) t n) n v left = on.1 in
+      let here : IsInEpoch (begun_at s (Some w) t n) n v left = on.1 in
       let event : IsInEvent s 3 (λ x. x ≡ w) v (line ∷ left) = record {
         next = at_time (Some w) t (s.rows ++ here.more);
         values = w;
@@ -243,8 +243,8 @@ changed_taken s w t n line due none shown only v left = (
 
 -- ---- what holds where the line of an epoch is taken
 
-no_rows : (gps galileo : ℕ) → AreSeen gps galileo []
-no_rows gps galileo = record { each = All-nil (IsSeen gps galileo); rise = λ k h. absurd (omega (arith, h)) }
+no_rows : (gps galileo : ℕ) → AreSatelliteRows gps galileo []
+no_rows gps galileo = record { each = All-nil (IsSatelliteRow gps galileo); rise = λ k h. absurd (omega (arith, h)) }
 
 pub sound_between : (s : Progress) → s.due ≡ Epoch → IsSound s → AreRead s × (s.rows ≡ [])
 sound_between s due sound = subst (λ d. IsSoundAt s d) due sound
@@ -259,7 +259,7 @@ sound_begun s c t n read none may time change same = (
   record {
     time = time;
     later = may.later;
-    rows = subst (AreSeen (length s.known.shown.plan.gps) (length s.known.shown.plan.galileo)) (sym none) (no_rows (length s.known.shown.plan.gps) (length s.known.shown.plan.galileo));
+    rows = subst (AreSatelliteRows (length s.known.shown.plan.gps) (length s.known.shown.plan.galileo)) (sym none) (no_rows (length s.known.shown.plan.gps) (length s.known.shown.plan.galileo));
     first = may.first;
     change = change;
     same = same;
@@ -271,20 +271,20 @@ sound_begun s c t n read none may time change same = (
 
 -- what follows where satellites are due and a line does
 pub record RowNext (s : Progress) (n : ℕ) (v : FileValue) (line : List ℕ) (left : List (List ℕ)) : Type 0 where
-  pub seen : Seen
-  pub more : List Seen
+  pub seen : SatelliteRow
+  pub more : List SatelliteRow
   pub others : List Stamped
   pub count : length more ≡ n
   pub value : v ≡ file_with s (s.epochs ++ stamped s (s.rows ++ seen ∷ more) ∷ others)
   pub starts : StartsAt s.known.shown.first (s.epochs ++ stamped s (s.rows ++ seen ∷ more) ∷ others)
-  pub is : IsSeen (length s.known.shown.plan.gps) (length s.known.shown.plan.galileo) seen
+  pub is : IsSatelliteRow (length s.known.shown.plan.gps) (length s.known.shown.plan.galileo) seen
   pub rising : IsStrictlyIncreasing (map rank_of s.rows ++ rank_of seen ∷ map rank_of more)
-  pub shown : line ≡ seen_line seen
-  pub rest : left ≡ map seen_line more ++ flat_map stamped_lines others
+  pub shown : line ≡ satellite_line seen
+  pub rest : left ≡ map satellite_line more ++ flat_map stamped_lines others
 
-from_more : (s : Progress) (n : ℕ) (v : FileValue) (line : List ℕ) (left : List (List ℕ)) (more : List Seen) (others : List Stamped) → IsFileValue v → length more ≡ suc n
+from_more : (s : Progress) (n : ℕ) (v : FileValue) (line : List ℕ) (left : List (List ℕ)) (more : List SatelliteRow) (others : List Stamped) → IsFileValue v → length more ≡ suc n
     → v ≡ file_with s (s.epochs ++ stamped s (s.rows ++ more) ∷ others) → StartsAt s.known.shown.first (s.epochs ++ stamped s (s.rows ++ more) ∷ others)
-    → line ∷ left ≡ map seen_line more ++ flat_map stamped_lines others → RowNext s n v line left
+    → line ∷ left ≡ map satellite_line more ++ flat_map stamped_lines others → RowNext s n v line left
 from_more s n v line left [] others is count value starts rest = absurd (omega (arith, count))
 from_more s n v line left (m ∷ ms) others is count value starts rest =
     let valid : IsFileValue (file_with s (s.epochs ++ stamped s (s.rows ++ m ∷ ms) ∷ others)) = subst IsFileValue value is in
@@ -297,25 +297,25 @@ from_more s n v line left (m ∷ ms) others is count value starts rest =
       count = omega (arith, count);
       value = value;
       starts = starts;
-      is = All-midst (IsSeen (length s.known.shown.plan.gps) (length s.known.shown.plan.galileo)) s.rows ms m one.rows.each;
+      is = All-midst (IsSatelliteRow (length s.known.shown.plan.gps) (length s.known.shown.plan.galileo)) s.rows ms m one.rows.each;
       rising = subst IsStrictlyIncreasing (map-append rank_of s.rows (m ∷ ms)) one.rows.rise;
       shown = cc;
       rest = cc;
     }
 
-pub row_next : (s : Progress) (n : ℕ) (v : FileValue) (line : List ℕ) (left : List (List ℕ)) → s.due ≡ Satellite (suc n) → GoesOn s v (line ∷ left) → RowNext s n v line left
-unfolding GoesOn
+pub row_next : (s : Progress) (n : ℕ) (v : FileValue) (line : List ℕ) (left : List (List ℕ)) → s.due ≡ Satellite (suc n) → HasLinesLeft s v (line ∷ left) → RowNext s n v line left
+unfolding HasLinesLeft
 row_next s n v line left due (is, at) =
-    let here : IsWithin s (suc n) v (line ∷ left) = subst (λ d. IsAt s d v (line ∷ left)) due at in
+    let here : IsInEpoch s (suc n) v (line ∷ left) = subst (λ d. IsAt s d v (line ∷ left)) due at in
     from_more s n v line left here.more here.others is here.count here.value here.starts here.rest
 
 module _ (s : Progress) (n : ℕ) (line : List ℕ) (due : s.due ≡ Satellite (suc n)) where
-  pub no_row : ((w : Seen) → IsSeen (length s.known.shown.plan.gps) (length s.known.shown.plan.galileo) w → line ≡ seen_line w → ⊥)
-      → (v : FileValue) (left : List (List ℕ)) → GoesOn s v (line ∷ left) → ⊥
+  pub no_row : ((w : SatelliteRow) → IsSatelliteRow (length s.known.shown.plan.gps) (length s.known.shown.plan.galileo) w → line ≡ satellite_line w → ⊥)
+      → (v : FileValue) (left : List (List ℕ)) → HasLinesLeft s v (line ∷ left) → ⊥
   no_row none v left on = let next = row_next s n v line left due on in none next.seen next.is next.shown
 
-  pub bad_row : (seen : Seen) → ((w : Seen) → IsSeen (length s.known.shown.plan.gps) (length s.known.shown.plan.galileo) w → line ≡ seen_line w → w ≡ seen)
-      → (IsStrictlyIncreasing (map rank_of s.rows ++ rank_of seen ∷ []) → ⊥) → (v : FileValue) (left : List (List ℕ)) → GoesOn s v (line ∷ left) → ⊥
+  pub bad_row : (seen : SatelliteRow) → ((w : SatelliteRow) → IsSatelliteRow (length s.known.shown.plan.gps) (length s.known.shown.plan.galileo) w → line ≡ satellite_line w → w ≡ seen)
+      → (IsStrictlyIncreasing (map rank_of s.rows ++ rank_of seen ∷ []) → ⊥) → (v : FileValue) (left : List (List ℕ)) → HasLinesLeft s v (line ∷ left) → ⊥
   bad_row seen only never v left on =
       let next = row_next s n v line left due on in
       let same : next.seen ≡ seen = only next.seen next.is next.shown in
@@ -324,9 +324,9 @@ module _ (s : Progress) (n : ℕ) (line : List ℕ) (due : s.due ≡ Satellite (
       (subst IsStrictlyIncreasing (sym (append_assoc (map rank_of s.rows) (rank_of next.seen ∷ []) (map rank_of next.more))) next.rising) in
       never (subst (λ w. IsStrictlyIncreasing (map rank_of s.rows ++ rank_of w ∷ [])) same rise)
 
-  pub row_taken : (seen : Seen) → line ≡ seen_line seen → ((w : Seen) → IsSeen (length s.known.shown.plan.gps) (length s.known.shown.plan.galileo) w → line ≡ seen_line w → w ≡ seen)
-      → (v : FileValue) (left : List (List ℕ)) → GoesOn s v (line ∷ left) ↔ GoesOn (with_row s seen n) v left
-  unfolding GoesOn
+  pub row_taken : (seen : SatelliteRow) → line ≡ satellite_line seen → ((w : SatelliteRow) → IsSatelliteRow (length s.known.shown.plan.gps) (length s.known.shown.plan.galileo) w → line ≡ satellite_line w → w ≡ seen)
+      → (v : FileValue) (left : List (List ℕ)) → HasLinesLeft s v (line ∷ left) ↔ HasLinesLeft (with_row s seen n) v left
+  unfolding HasLinesLeft
   row_taken seen shown only v left = (
     λ on.
         let next = row_next s n v line left due on in
@@ -344,22 +344,22 @@ module _ (s : Progress) (n : ℕ) (line : List ℕ) (due : s.due ≡ Satellite (
           },
         ),
     λ on.
-        let here : IsWithin (with_row s seen n) n v left = on.1 in
+        let here : IsInEpoch (with_row s seen n) n v left = on.1 in
         let rows : (s.rows ++ seen ∷ []) ++ here.more ≡ s.rows ++ seen ∷ here.more = append_assoc s.rows (seen ∷ []) here.more in
-        let within : IsWithin s (suc n) v (line ∷ left) = record {
+        let within : IsInEpoch s (suc n) v (line ∷ left) = record {
           more = seen ∷ here.more;
           others = here.others;
           count = omega (arith, here.count);
           value = here.value ∙ ap (λ r. file_with s (s.epochs ++ stamped s r ∷ here.others)) rows;
           starts = subst (λ r. StartsAt s.known.shown.first (s.epochs ++ stamped s r ∷ here.others)) rows here.starts;
-          rest = ap (λ l. l ∷ left) shown ∙ ap (λ l. seen_line seen ∷ l) here.rest;
+          rest = ap (λ l. l ∷ left) shown ∙ ap (λ l. satellite_line seen ∷ l) here.rest;
         } in
         (on.0, subst (λ d. IsAt s d v (line ∷ left)) (sym due) within),
   )
 
-from_none : (s : Progress) (v : FileValue) (left : List (List ℕ)) (more : List Seen) (others : List Stamped) → length more ≡ 0
+from_none : (s : Progress) (v : FileValue) (left : List (List ℕ)) (more : List SatelliteRow) (others : List Stamped) → length more ≡ 0
     → v ≡ file_with s (s.epochs ++ stamped s (s.rows ++ more) ∷ others) → StartsAt s.known.shown.first (s.epochs ++ stamped s (s.rows ++ more) ∷ others)
-    → left ≡ map seen_line more ++ flat_map stamped_lines others → IsBetween (with_epoch s) v left
+    → left ≡ map satellite_line more ++ flat_map stamped_lines others → IsBetween (with_epoch s) v left
 from_none s v left (m ∷ ms) others count value starts rest = absurd (omega (arith, count))
 from_none s v left [] others count value starts rest =
     let rows : s.rows ++ [] ≡ s.rows = append-nil s.rows in
@@ -373,17 +373,17 @@ from_none s v left [] others count value starts rest =
     }
 
 -- an epoch whose satellites were all read
-pub epoch_closed : (s : Progress) → s.due ≡ Satellite 0 → (v : FileValue) (left : List (List ℕ)) → GoesOn s v left ↔ GoesOn (with_epoch s) v left
-unfolding GoesOn
+pub epoch_closed : (s : Progress) → s.due ≡ Satellite 0 → (v : FileValue) (left : List (List ℕ)) → HasLinesLeft s v left ↔ HasLinesLeft (with_epoch s) v left
+unfolding HasLinesLeft
 epoch_closed s due v left = (
   λ on.
-      let here : IsWithin s 0 v left = subst (λ d. IsAt s d v left) due on.1 in
+      let here : IsInEpoch s 0 v left = subst (λ d. IsAt s d v left) due on.1 in
       (on.0, from_none s v left here.more here.others here.count here.value here.starts here.rest),
   λ on.
       let here : IsBetween (with_epoch s) v left = on.1 in
       let all : (s.epochs ++ stamped s s.rows ∷ []) ++ here.others ≡ s.epochs ++ stamped s (s.rows ++ []) ∷ here.others =
       append_assoc s.epochs (stamped s s.rows ∷ []) here.others ∙ ap (λ r. s.epochs ++ stamped s r ∷ here.others) (sym (append-nil s.rows)) in
-      let within : IsWithin s 0 v left = record {
+      let within : IsInEpoch s 0 v left = record {
         more = [];
         others = here.others;
         count = refl;
@@ -408,11 +408,11 @@ few_at s n due sound =
     let e = few_signals Galileo in
     (omega (arith, gps, g), omega (arith, galileo, e))
 
-seen_more : (gps galileo : ℕ) (rows : List Seen) (seen : Seen) → AreSeen gps galileo rows → IsSeen gps galileo seen → IsStrictlyIncreasing (map rank_of rows ++ rank_of seen ∷ [])
-    → AreSeen gps galileo (rows ++ seen ∷ [])
+seen_more : (gps galileo : ℕ) (rows : List SatelliteRow) (seen : SatelliteRow) → AreSatelliteRows gps galileo rows → IsSatelliteRow gps galileo seen → IsStrictlyIncreasing (map rank_of rows ++ rank_of seen ∷ [])
+    → AreSatelliteRows gps galileo (rows ++ seen ∷ [])
 seen_more gps galileo rows seen these is rise =
     record {
-      each = All-push (IsSeen gps galileo) rows seen these.each is;
+      each = All-push (IsSatelliteRow gps galileo) rows seen these.each is;
       rise = subst IsStrictlyIncreasing (sym (map-append rank_of rows (seen ∷ []))) rise;
     }
 
@@ -420,9 +420,9 @@ starts_more : (first : ℕ) (es : List Stamped) (x : Stamped) → StartsAt first
 starts_more first [] x starts none = none refl
 starts_more first (e ∷ es) x starts none = starts
 
-module _ (s : Progress) (n left : ℕ) (due : s.due ≡ Satellite left) (sound : IsSound s) (seen : Seen)
-    (is : IsSeen (length s.known.shown.plan.gps) (length s.known.shown.plan.galileo) seen) (rise : IsStrictlyIncreasing (map rank_of s.rows ++ rank_of seen ∷ [])) where
-  rows_more : AreSeen (length s.known.shown.plan.gps) (length s.known.shown.plan.galileo) (s.rows ++ seen ∷ [])
+module _ (s : Progress) (n left : ℕ) (due : s.due ≡ Satellite left) (sound : IsSound s) (seen : SatelliteRow)
+    (is : IsSatelliteRow (length s.known.shown.plan.gps) (length s.known.shown.plan.galileo) seen) (rise : IsStrictlyIncreasing (map rank_of s.rows ++ rank_of seen ∷ [])) where
+  rows_more : AreSatelliteRows (length s.known.shown.plan.gps) (length s.known.shown.plan.galileo) (s.rows ++ seen ∷ [])
   rows_more = seen_more (length s.known.shown.plan.gps) (length s.known.shown.plan.galileo) s.rows seen (sound_open s left due sound).1.rows is rise
 
   pub sound_row : 0 < n → IsSound (with_row s seen n)
@@ -444,7 +444,7 @@ module _ (s : Progress) (n left : ℕ) (due : s.due ≡ Satellite left) (sound :
             rows = rows_more;
             some = omega (arith, size);
           });
-          rising = subst IsStrictlyIncreasing (sym (map-append time_of s.epochs (stamped s (s.rows ++ seen ∷ []) ∷ []))) begun.later;
+          rising = subst IsStrictlyIncreasing (sym (map-append time_stamped s.epochs (stamped s (s.rows ++ seen ∷ []) ∷ []))) begun.later;
           starts = starts_more s.known.shown.first s.epochs (stamped s (s.rows ++ seen ∷ [])) read.starts begun.first;
           first = first_more s.epochs (stamped s (s.rows ++ seen ∷ [])) read.first begun.same;
           changes = changes_more s.known.shown.values s.epochs (stamped s (s.rows ++ seen ∷ [])) read.changes begun.change;
@@ -453,9 +453,9 @@ module _ (s : Progress) (n left : ℕ) (due : s.due ≡ Satellite left) (sound :
       )
 
 -- the last line of an epoch's satellites
-pub last_taken : (s : Progress) (line : List ℕ) → s.due ≡ Satellite 1 → (seen : Seen) → line ≡ seen_line seen
-    → ((w : Seen) → IsSeen (length s.known.shown.plan.gps) (length s.known.shown.plan.galileo) w → line ≡ seen_line w → w ≡ seen)
-    → (v : FileValue) (left : List (List ℕ)) → GoesOn s v (line ∷ left) ↔ GoesOn (with_epoch (with_row s seen 0)) v left
+pub last_taken : (s : Progress) (line : List ℕ) → s.due ≡ Satellite 1 → (seen : SatelliteRow) → line ≡ satellite_line seen
+    → ((w : SatelliteRow) → IsSatelliteRow (length s.known.shown.plan.gps) (length s.known.shown.plan.galileo) w → line ≡ satellite_line w → w ≡ seen)
+    → (v : FileValue) (left : List (List ℕ)) → HasLinesLeft s v (line ∷ left) ↔ HasLinesLeft (with_epoch (with_row s seen 0)) v left
 last_taken s line due seen shown only v left =
     let row = row_taken s 0 line due seen shown only v left in
     let closed = epoch_closed (with_row s seen 0) refl v left in

@@ -7,13 +7,13 @@ use Rattle.rinex_file.specs.declared.header.section.Section.{Section}
 use Rattle.rinex_file.specs.declared.read.due.Due.{Due}
 use Rattle.rinex_file.specs.declared.read.due.Due.TheVariants.{Header, Epoch, EventPosition, EventHeight, EventEpoch, Satellite}
 use Rattle.rinex_file.specs.Numbers.{joined}
-use Rattle.rinex_file.specs.Value.{Seen, Stamped, FileValue}
-use Rattle.rinex_file.specs.Lines.{seen_line}
+use Rattle.rinex_file.specs.Value.{SatelliteRow, Stamped, FileValue}
+use Rattle.rinex_file.specs.Lines.{satellite_line}
 use Rattle.rinex_file.specs.File.{file_lines, stamped_lines}
 use Rattle.rinex_file.specs.Exact.{HasHeaderNext, HasEpochLeft, HasSatelliteNext, IsDue, IsDueAt}
-use Rattle.rinex_file.specs.Read.Progress.{Known, Progress, IsHeaderLeft, IsInHeader, IsBetween, IsInEvent, StandAt, IsWithin, IsAt, GoesOn, shown_of, stamped}
+use Rattle.rinex_file.specs.Read.Progress.{Known, Progress, IsHeaderLeft, IsInHeader, IsBetween, IsInEvent, HasPosition, IsInEpoch, IsAt, HasLinesLeft, shown_of, stamped}
 use Rattle.rinex_file.specs.Read.Sound.{AreRead, IsBegun, IsSound, IsSoundAt}
-use Rattle.rinex_file.specs.Course.{History, StandsBehind, progress_at}
+use Rattle.rinex_file.specs.Course.{History, FollowsHistory, progress_at}
 use Rattle.rinex_file.specs.Read.Steps.{IsTaken}
 use Rattle.rinex_file.proofs.HeaderBody.{some_left}
 use Rattle.rinex_file.proofs.LineByLine.{consumed}
@@ -53,8 +53,8 @@ event_next s k Show v taken line left at e = record {
   left = e ∙ ap (λ l. taken ++ l) at.rest;
 }
 
-satellite_next : (s : Progress) (n : ℕ) (v : FileValue) (taken : List (List ℕ)) (line : List ℕ) (left : List (List ℕ)) (rows : List Seen) (others : List Stamped) → 0 < n → length rows ≡ n
-    → v.epochs ≡ s.epochs ++ stamped s (s.rows ++ rows) ∷ others → line ∷ left ≡ map seen_line rows ++ flat_map stamped_lines others → file_lines v ≡ taken ++ line ∷ left → HasSatelliteNext v taken
+satellite_next : (s : Progress) (n : ℕ) (v : FileValue) (taken : List (List ℕ)) (line : List ℕ) (left : List (List ℕ)) (rows : List SatelliteRow) (others : List Stamped) → 0 < n → length rows ≡ n
+    → v.epochs ≡ s.epochs ++ stamped s (s.rows ++ rows) ∷ others → line ∷ left ≡ map satellite_line rows ++ flat_map stamped_lines others → file_lines v ≡ taken ++ line ∷ left → HasSatelliteNext v taken
 satellite_next s n v taken line left [] others some count epochs rest e = absurd (omega (arith, some, count))
 satellite_next s n v taken line left (next ∷ more) others some count epochs rest e = record {
   before = s.epochs;
@@ -70,7 +70,7 @@ satellite_next s n v taken line left (next ∷ more) others some count epochs re
 
 -- where these lines were taken, and some bytes follow
 due_behind : (s : Progress) (due : Due) (n : ℕ) (a b : Option (List ℕ)) (t : IsTaken s n a b) (rest : List ℕ) → s.due ≡ due → IsSound s → IsDueAt due (joined t.lines ++ rest) (n + 1)
-unfolding GoesOn
+unfolding HasLinesLeft
 due_behind s (Header section row) n a b t rest same sound = record {
   lines = t.lines;
   rest = rest;
@@ -99,7 +99,7 @@ due_behind s (EventHeight x y z) n a b t rest same sound = record {
   rest = rest;
   first = record { are = t.are; first = refl };
   count = ap (λ k. k + 1) t.many;
-  due = λ v line left is e. event_next s 2 (StandAt x y z) v t.lines line left (subst (λ d. IsAt s d v (line ∷ left)) same (t.stands.goes v (line ∷ left) is e).1) e;
+  due = λ v line left is e. event_next s 2 (HasPosition x y z) v t.lines line left (subst (λ d. IsAt s d v (line ∷ left)) same (t.stands.goes v (line ∷ left) is e).1) e;
 }
 due_behind s (EventEpoch values) n a b t rest same sound = record {
   lines = t.lines;
@@ -116,10 +116,10 @@ due_behind s (Satellite m) n a b t rest same sound =
       first = record { are = t.are; first = refl };
       count = ap (λ k. k + 1) t.many;
       due = λ v line left is e.
-          let at : IsWithin s m v (line ∷ left) = subst (λ d. IsAt s d v (line ∷ left)) same (t.stands.goes v (line ∷ left) is e).1 in
+          let at : IsInEpoch s m v (line ∷ left) = subst (λ d. IsAt s d v (line ∷ left)) same (t.stands.goes v (line ∷ left) is e).1 in
           satellite_next s m v t.lines line left at.more at.others all.2 at.count (ap (λ f. f.epochs) at.value) at.rest e;
     }
 
-pub due_at : (c : Course) (h : History) (due : Due) (n : ℕ) (a b : Option (List ℕ)) → IsTaken (progress_at c h) n a b → due ≡ c.due → StandsBehind c h → IfSome a (λ input. IsDueAt due input (n + 1))
+pub due_at : (c : Course) (h : History) (due : Due) (n : ℕ) (a b : Option (List ℕ)) → IsTaken (progress_at c h) n a b → due ≡ c.due → FollowsHistory c h → IfSome a (λ input. IsDueAt due input (n + 1))
 due_at c h due n a b t same stands =
     consumed a b (joined t.lines) (λ input. IsDueAt due input (n + 1)) t.taken (λ rest. due_behind (progress_at c h) due n a b t rest (sym same) stands.sound)

@@ -8,14 +8,14 @@ use Rattle.obs_epoch.specs.declared.civil.Civil.{Civil}
 use Rattle.obs_epoch.specs.declared.cell.StationValues.{StationValues}
 use Rattle.rinex_file.specs.declared.read.due.Due.{Due}
 use Rattle.rinex_file.specs.declared.read.due.Due.TheVariants.{Epoch, EventPosition, EventHeight, EventEpoch}
-use Rattle.rinex_file.specs.Value.{Seen, Stamped, FileValue}
+use Rattle.rinex_file.specs.Value.{SatelliteRow, Stamped, FileValue}
 use Rattle.rinex_file.specs.FileValues.{IsFileValue, IsCoordinate, AreValues, IsChange}
 use Rattle.rinex_file.specs.Header.{header_line, lengths, position_line, delta_line}
 use Rattle.rinex_file.specs.Lines.{epoch_fields, epoch_line}
 use Rattle.rinex_file.specs.Numbers.{joined, padded, fixed}
 use Rattle.rinex_file.specs.Read.Fields.{has}
 use Rattle.rinex_file.specs.File.{stamped_lines, event_line}
-use Rattle.rinex_file.specs.Read.Progress.{Progress, file_with, StartsAt, IsAt, IsBetween, IsInEvent, StandAt, GoesOn, due_next}
+use Rattle.rinex_file.specs.Read.Progress.{Progress, file_with, StartsAt, IsAt, IsBetween, IsInEvent, HasPosition, HasLinesLeft, due_next}
 use Rattle.rinex_file.specs.Read.Sound.{AreRead, IsEventDue, IsSoundAt, IsSound, values_now}
 use Rattle.rinex_file.proofs.Digits.{has-append}
 use Rattle.rinex_file.proofs.HeaderLearned.{coordinate_same}
@@ -97,8 +97,8 @@ to_next s d k Show v left h = record {
   rest = h.rest;
 }
 
-pub event_taken : (s : Progress) (line : List ℕ) → s.due ≡ Epoch → line ≡ event_line → (v : FileValue) (left : List (List ℕ)) → GoesOn s v (line ∷ left) ↔ GoesOn (due_next s EventPosition) v left
-unfolding GoesOn
+pub event_taken : (s : Progress) (line : List ℕ) → s.due ≡ Epoch → line ≡ event_line → (v : FileValue) (left : List (List ℕ)) → HasLinesLeft s v (line ∷ left) ↔ HasLinesLeft (due_next s EventPosition) v left
+unfolding HasLinesLeft
 event_taken s line due shown v left = (
   λ on.
       let here : IsBetween s v (line ∷ left) = subst (λ d. IsAt s d v (line ∷ left)) due on.1 in
@@ -139,8 +139,8 @@ record PositionNext (s : Progress) (v : FileValue) (line : List ℕ) (left : Lis
   pub event : IsInEvent s 2 (λ w. line ≡ position_line w) v left
   pub are : AreValues event.values
 
-position_next : (s : Progress) (v : FileValue) (line : List ℕ) (left : List (List ℕ)) → s.due ≡ EventPosition → GoesOn s v (line ∷ left) → PositionNext s v line left
-unfolding GoesOn
+position_next : (s : Progress) (v : FileValue) (line : List ℕ) (left : List (List ℕ)) → s.due ≡ EventPosition → HasLinesLeft s v (line ∷ left) → PositionNext s v line left
+unfolding HasLinesLeft
 position_next s v line left due (is, at) =
     let here : IsInEvent s 1 (λ w. ⊤) v (line ∷ left) = subst (λ d. IsAt s d v (line ∷ left)) due at in
     let lines = lines_are here.next (Some here.values) here.change in
@@ -168,7 +168,7 @@ pub position_back : (p : ℤ × ℤ × ℤ) → IsPosition p → SamePosition (b
 position_back p is =
     ap (λ t. (t, back p.1, back p.2)) (coordinate_same p.0 is.0) ∙ ap (λ t. (p.0, t, back p.2)) (coordinate_same p.1 is.1) ∙ ap (λ t. (p.0, p.1, t)) (coordinate_same p.2 is.2)
 
-pub no_position : (s : Progress) (line : List ℕ) → s.due ≡ EventPosition → ((p : ℤ × ℤ × ℤ) → IsPosition p → line ≡ position_text p → ⊥) → (v : FileValue) (left : List (List ℕ)) → GoesOn s v (line ∷ left) → ⊥
+pub no_position : (s : Progress) (line : List ℕ) → s.due ≡ EventPosition → ((p : ℤ × ℤ × ℤ) → IsPosition p → line ≡ position_text p → ⊥) → (v : FileValue) (left : List (List ℕ)) → HasLinesLeft s v (line ∷ left) → ⊥
 no_position s line due none v left on =
     let next = position_next s v line left due on in
     let w = next.event.values in
@@ -183,14 +183,14 @@ event_from e w others line left change shown rest =
 
 pub position_taken : (s : Progress) (x y z : ℤ) (line : List ℕ) → s.due ≡ EventPosition → line ≡ position_text (x, y, z)
     → ((p : ℤ × ℤ × ℤ) → IsPosition p → line ≡ position_text p → p ≡ (x, y, z))
-    → (v : FileValue) (left : List (List ℕ)) → GoesOn s v (line ∷ left) ↔ GoesOn (due_next s (EventHeight x y z)) v left
-unfolding GoesOn
+    → (v : FileValue) (left : List (List ℕ)) → HasLinesLeft s v (line ∷ left) ↔ HasLinesLeft (due_next s (EventHeight x y z)) v left
+unfolding HasLinesLeft
 position_taken s x y z line due shown only v left = (
   λ on.
       let next = position_next s v line left due on in
       let here = next.event in
       let same : SamePosition (here.values.x, here.values.y, here.values.z) (x, y, z) = only (here.values.x, here.values.y, here.values.z) (next.are.x, next.are.y, next.are.z) here.shown in
-      let event : IsInEvent (due_next s (EventHeight x y z)) 2 (StandAt x y z) v left = record {
+      let event : IsInEvent (due_next s (EventHeight x y z)) 2 (HasPosition x y z) v left = record {
         next = here.next;
         values = here.values;
         others = here.others;
@@ -202,7 +202,7 @@ position_taken s x y z line due shown only v left = (
       } in
       (on.0, event),
   λ on.
-      let here : IsInEvent (due_next s (EventHeight x y z)) 2 (StandAt x y z) v left = on.1 in
+      let here : IsInEvent (due_next s (EventHeight x y z)) 2 (HasPosition x y z) v left = on.1 in
       let w = here.values in
       let same : position_text (x, y, z) ≡ position_line w =
       ap (λ t. position_text (t, y, z)) (sym here.shown.0) ∙ ap (λ t. position_text (w.x, t, z)) (sym here.shown.1) ∙ ap (λ t. position_text (w.x, w.y, t)) (sym here.shown.2) in
@@ -235,15 +235,15 @@ same_with w x y z h a b c d =
     ap (λ t. values_with t w.y w.z w.height) a ∙ ap (λ t. values_with x t w.z w.height) b ∙ ap (λ t. values_with x y t w.height) c ∙ ap (λ t. values_with x y z t) d
 
 record HeightNext (s : Progress) (x y z : ℤ) (v : FileValue) (line : List ℕ) (left : List (List ℕ)) : Type 0 where
-  pub event : IsInEvent s 3 (StandAt x y z) v left
+  pub event : IsInEvent s 3 (HasPosition x y z) v left
   pub shown : line ≡ delta_line event.values
   pub are : AreValues event.values
   pub other : event.values ≢ values_now s
 
-height_next : (s : Progress) (x y z : ℤ) (v : FileValue) (line : List ℕ) (left : List (List ℕ)) → s.due ≡ EventHeight x y z → GoesOn s v (line ∷ left) → HeightNext s x y z v line left
-unfolding GoesOn
+height_next : (s : Progress) (x y z : ℤ) (v : FileValue) (line : List ℕ) (left : List (List ℕ)) → s.due ≡ EventHeight x y z → HasLinesLeft s v (line ∷ left) → HeightNext s x y z v line left
+unfolding HasLinesLeft
 height_next s x y z v line left due (is, at) =
-    let here : IsInEvent s 2 (StandAt x y z) v (line ∷ left) = subst (λ d. IsAt s d v (line ∷ left)) due at in
+    let here : IsInEvent s 2 (HasPosition x y z) v (line ∷ left) = subst (λ d. IsAt s d v (line ∷ left)) due at in
     let lines = lines_are here.next (Some here.values) here.change in
     let text : line ∷ left ≡ drop 2 (lines_with (Some here.values) here.next) ++ Others here.others = here.rest ∙ ap (λ l. drop 2 l ++ Others here.others) lines in
     let behind : left ≡ drop 3 (lines_with (Some here.values) here.next) ++ Others here.others = ap (drop 1) text in
@@ -265,7 +265,7 @@ height_next s x y z v line left due (is, at) =
     }
 
 module _ (s : Progress) (x y z : ℤ) (line : List ℕ) (due : s.due ≡ EventHeight x y z) where
-  pub no_height : ((h : ℕ) → h < 2 ^ 16 → line ≡ height_text h → ⊥) → (v : FileValue) (left : List (List ℕ)) → GoesOn s v (line ∷ left) → ⊥
+  pub no_height : ((h : ℕ) → h < 2 ^ 16 → line ≡ height_text h → ⊥) → (v : FileValue) (left : List (List ℕ)) → HasLinesLeft s v (line ∷ left) → ⊥
   no_height none v left on =
       let next = height_next s x y z v line left due on in
       none next.event.values.height next.are.height next.shown
@@ -277,13 +277,13 @@ module _ (s : Progress) (x y z : ℤ) (line : List ℕ) (due : s.due ≡ EventHe
         same_with w x y z h next.event.shown.0 next.event.shown.1 next.event.shown.2 (only w.height next.are.height next.shown)
 
     -- the station values are those before
-    pub same_height : values_with x y z h ≡ values_now s → (v : FileValue) (left : List (List ℕ)) → GoesOn s v (line ∷ left) → ⊥
+    pub same_height : values_with x y z h ≡ values_now s → (v : FileValue) (left : List (List ℕ)) → HasLinesLeft s v (line ∷ left) → ⊥
     same_height same v left on =
         let next = height_next s x y z v line left due on in
         next.other (same_next v left next ∙ same)
 
-    pub height_taken : line ≡ height_text h → (v : FileValue) (left : List (List ℕ)) → GoesOn s v (line ∷ left) ↔ GoesOn (due_next s (EventEpoch (values_with x y z h))) v left
-    unfolding GoesOn
+    pub height_taken : line ≡ height_text h → (v : FileValue) (left : List (List ℕ)) → HasLinesLeft s v (line ∷ left) ↔ HasLinesLeft (due_next s (EventEpoch (values_with x y z h))) v left
+    unfolding HasLinesLeft
     height_taken shown v left = (
       λ on.
           let next = height_next s x y z v line left due on in
@@ -306,7 +306,7 @@ module _ (s : Progress) (x y z : ℤ) (line : List ℕ) (due : s.due ≡ EventHe
           let same : height_text h ≡ delta_line w = ap (λ (u : StationValues). delta_line u) (sym here.shown) in
           let text : line ∷ left ≡ drop 2 (stamped_lines here.next) ++ Others here.others =
           ap (λ l. l ∷ left) (shown ∙ same) ∙ ap (λ l. delta_line w ∷ l) (here.rest ∙ ap (λ l. drop 3 l ++ Others here.others) lines) ∙ ap (λ l. drop 2 l ++ Others here.others) (sym lines) in
-          let event : IsInEvent s 2 (StandAt x y z) v (line ∷ left) = record {
+          let event : IsInEvent s 2 (HasPosition x y z) v (line ∷ left) = record {
             next = here.next;
             values = w;
             others = here.others;
@@ -321,9 +321,9 @@ module _ (s : Progress) (x y z : ℤ) (line : List ℕ) (due : s.due ≡ EventHe
 
 -- the same with other names of these station values
 pub height_taken_as : (s : Progress) (x y z : ℤ) (h : ℕ) (w : StationValues) (line : List ℕ) → w ≡ values_with x y z h
-    → ((v : FileValue) (left : List (List ℕ)) → GoesOn s v (line ∷ left) ↔ GoesOn (due_next s (EventEpoch (values_with x y z h))) v left)
-    → (v : FileValue) (left : List (List ℕ)) → GoesOn s v (line ∷ left) ↔ GoesOn (due_next s (EventEpoch w)) v left
-height_taken_as s x y z h w line same = subst (λ u. (v : FileValue) (left : List (List ℕ)) → GoesOn s v (line ∷ left) ↔ GoesOn (due_next s (EventEpoch u)) v left) (sym same)
+    → ((v : FileValue) (left : List (List ℕ)) → HasLinesLeft s v (line ∷ left) ↔ HasLinesLeft (due_next s (EventEpoch (values_with x y z h))) v left)
+    → (v : FileValue) (left : List (List ℕ)) → HasLinesLeft s v (line ∷ left) ↔ HasLinesLeft (due_next s (EventEpoch w)) v left
+height_taken_as s x y z h w line same = subst (λ u. (v : FileValue) (left : List (List ℕ)) → HasLinesLeft s v (line ∷ left) ↔ HasLinesLeft (due_next s (EventEpoch u)) v left) (sym same)
 
 -- ---- what holds where a line of an event is taken
 

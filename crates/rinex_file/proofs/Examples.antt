@@ -6,8 +6,8 @@ use Rattle.gnss_obs.specs.declared.system.System.TheVariants.{Gps}
 use Rattle.rinex_file.specs.Blanks.{trimmed}
 use Rattle.rinex_file.specs.Texts.{HeaderLists}
 use Rattle.rinex_file.specs.Value.{FileValue}
-use Rattle.rinex_file.specs.Header.{header_line, header_lines, lines_of}
-use Rattle.rinex_file.specs.Lines.{field, entry_text, seen_line, epoch_line}
+use Rattle.rinex_file.specs.Header.{header_line, header_lines, section_lines}
+use Rattle.rinex_file.specs.Lines.{field, signal_text, satellite_line, epoch_line}
 use Rattle.rinex_file.specs.Numbers.{joined}
 use Rattle.rinex_file.specs.File.{file_text}
 
@@ -35,7 +35,7 @@ one = record {
   epochs = record {
     change = None;
     time = 2300 * 604_800_000 + 1000;
-    rows = record { system = Gps; row = record { satellite = 5; entries = record { c = Some (pos 20_985_472_060); l = Some (pos 110_279_400_000); d = Some (negsuc 525_503); s = Some (pos 45_063); mark = 0 } ∷ [] } } ∷ [];
+    rows = record { system = Gps; row = record { satellite = 5; entries = record { c = Some (pos 20_985_472_060); l = Some (pos 110_279_400_000); d = Some (negsuc 525_503); s = Some (pos 45_063); lli = 0 } ∷ [] } } ∷ [];
   } ∷ [];
 }
 
@@ -60,9 +60,9 @@ pub one_text : file_text one ≡ lines (
     ∷ codes "> 2024 02 04 00 00  1.0000000  0  1"
     ∷ codes "G05  20985472.060 7 110279400.000 7      -525.504          45.063"
     ∷ [])
-unfolding digits header_line header_lines lines_of epoch_line seen_line trimmed entry_text field
+unfolding digits header_line header_lines section_lines epoch_line satellite_line trimmed signal_text field
 one_text = refl
 
 pub one_length : length (file_text one) ≡ 1236
-unfolding digits header_line header_lines lines_of epoch_line seen_line trimmed entry_text field
+unfolding digits header_line header_lines section_lines epoch_line satellite_line trimmed signal_text field
 one_length = refl

@@ -7,26 +7,26 @@ use Rattle.rinex_file.specs.declared.header.fault.HeadFault.{HeadFault}
 use Rattle.rinex_file.specs.declared.header.fault.HeadFault.TheVariants.{TooLong, NotPrintable}
 use Rattle.rinex_file.specs.declared.header.fault.HeaderField.TheVariants.{RunBy, Date, Marker, MarkerType, Observer, Agency, RecNumber, RecType, RecVersion, AntNumber, AntType}
 use Rattle.rinex_file.specs.Blanks.{trimmed, before_cut}
-use Rattle.rinex_file.specs.Texts.{HeaderLists, width_of, text_of, is_printable, fault_of, or_else, first_fault, fields, trimmed_texts}
+use Rattle.rinex_file.specs.Texts.{HeaderLists, width_of, text_of, is_printable, fault_of, or_later, first_fault, fields, trimmed_texts}
 use Rattle.rinex_file.specs.FileValues.{IsText, AreTexts}
 use Rattle.rinex_file.proofs.HeaderText.{trimmed-trimmed}
 
-first_none : (found later : Option HeadFault) → or_else found later ≡ None → found ≡ None
+first_none : (found later : Option HeadFault) → or_later found later ≡ None → found ≡ None
 first_none None later e = refl
 first_none (Some fault) later e = cc
 
-later_none : (found later : Option HeadFault) → or_else found later ≡ None → later ≡ None
+later_none : (found later : Option HeadFault) → or_later found later ≡ None → later ≡ None
 later_none None later e = e
 later_none (Some fault) later e = cc
 
 found_none : (t : HeaderLists) (fs : List HeaderField) (found : Option HeadFault) → first_fault t found fs ≡ None → found ≡ None
 found_none t [] found e = e
-found_none t (f ∷ fs) found e = first_none found (fault_of f (text_of t f)) (found_none t fs (or_else found (fault_of f (text_of t f))) e)
+found_none t (f ∷ fs) found e = first_none found (fault_of f (text_of t f)) (found_none t fs (or_later found (fault_of f (text_of t f))) e)
 
 pub all_none : (t : HeaderLists) (fs : List HeaderField) (found : Option HeadFault) → first_fault t found fs ≡ None → AllByRecursion (λ f. fault_of f (text_of t f) ≡ None) fs
 all_none t [] found e = tt
 all_none t (f ∷ fs) found e =
-    let next = or_else found (fault_of f (text_of t f)) in
+    let next = or_later found (fault_of f (text_of t f)) in
     (later_none found (fault_of f (text_of t f)) (found_none t fs next e), all_none t fs next e)
 
 judged : (f : HeaderField) (printable long : Bool) → (if printable then (if long then Some (TooLong f) else None) else Some (NotPrintable f)) ≡ None → long ≡ false

@@ -11,8 +11,8 @@ use Rattle.gnss_obs.specs.declared.system.System.{System}
 use Rattle.gnss_obs.specs.declared.system.System.TheVariants.{Gps, Galileo}
 use Rattle.obs_epoch.specs.Values.{PlanValue, planned_of}
 use Rattle.gnss_obs.specs.Satellites.{satellites}
-use Rattle.rinex_file.specs.Value.{Seen}
-use Rattle.rinex_file.specs.FileValues.{IsPlan, IsSeen, AreSeen, of_system, rank_of, most_rows}
+use Rattle.rinex_file.specs.Value.{SatelliteRow}
+use Rattle.rinex_file.specs.FileValues.{IsPlan, IsSatelliteRow, AreSatelliteRows, of_system, rank_of, most_rows}
 
 -- ---- signals
 
@@ -79,13 +79,13 @@ next_first : (x : ℕ) (xs : List ℕ) → IsStrictlyIncreasing (x ∷ xs) → F
 unfolding FromFirst
 next_first x xs rise h = let less : x < slice_index xs 0 = rise 0 (omega (arith, h)) in omega (arith, less)
 
-few_from : (gps galileo k : ℕ) (rows : List Seen) → All (IsSeen gps galileo) rows → IsStrictlyIncreasing (map rank_of rows) → FromFirst k (map rank_of rows)
+few_from : (gps galileo k : ℕ) (rows : List SatelliteRow) → All (IsSatelliteRow gps galileo) rows → IsStrictlyIncreasing (map rank_of rows) → FromFirst k (map rank_of rows)
     → length rows ≤ room (nat_lt 0 gps) (nat_lt 0 galileo) k
 unfolding FromFirst
 few_from gps galileo k [] each rise low = omega arith
 few_from gps galileo k (s ∷ rows) each rise low =
-    let is = All-head (IsSeen gps galileo) s rows each in
-    let others = few_from gps galileo (rank_of s + 1) rows (All-tail (IsSeen gps galileo) s rows each) (rise-tail (rank_of s) (map rank_of rows) rise)
+    let is = All-head (IsSatelliteRow gps galileo) s rows each in
+    let others = few_from gps galileo (rank_of s + 1) rows (All-tail (IsSatelliteRow gps galileo) s rows each) (rise-tail (rank_of s) (map rank_of rows) rise)
     (next_first (rank_of s) (map rank_of rows) rise) in
     one_less gps galileo k s.row.satellite (length rows) s.system is.planned is.row.satellite (low (omega arith)) others
 
@@ -96,15 +96,15 @@ from_one true false = refl
 from_one false true = refl
 from_one false false = refl
 
-low_first : (gps galileo : ℕ) (rows : List Seen) → All (IsSeen gps galileo) rows → FromFirst 1 (map rank_of rows)
+low_first : (gps galileo : ℕ) (rows : List SatelliteRow) → All (IsSatelliteRow gps galileo) rows → FromFirst 1 (map rank_of rows)
 unfolding FromFirst
 low_first gps galileo [] each h = absurd (omega (arith, h))
-low_first gps galileo (s ∷ rows) each h = some s.system s.row.satellite (All-head (IsSeen gps galileo) s rows each).row.satellite.0 where
+low_first gps galileo (s ∷ rows) each h = some s.system s.row.satellite (All-head (IsSatelliteRow gps galileo) s rows each).row.satellite.0 where
   some : (system : System) (r : ℕ) → 1 ≤ r → 1 ≤ of_system system r (100 + r)
   some Gps r h = h
   some Galileo r h = omega arith
 
-pub few_rows : (gps galileo : ℕ) (rows : List Seen) → AreSeen gps galileo rows → length rows ≤ most_rows gps galileo
+pub few_rows : (gps galileo : ℕ) (rows : List SatelliteRow) → AreSatelliteRows gps galileo rows → length rows ≤ most_rows gps galileo
 few_rows gps galileo rows are =
     let few = few_from gps galileo 1 rows are.each are.rise (low_first gps galileo rows are.each) in
     subst (λ n. length rows ≤ n) (from_one (nat_lt 0 gps) (nat_lt 0 galileo)) few

@@ -14,14 +14,14 @@ use Rattle.obs_epoch.specs.Dates.{civil_of}
 use Rattle.obs_epoch.specs.Values.{PlanValue}
 use Rattle.rinex_file.specs.Blanks.{trimmed}
 use Rattle.rinex_file.specs.Exact.{IsLine}
-use Rattle.rinex_file.specs.File.{event_line, stamped_lines, change_lines, lines_of as lines_of_file, file_lines}
-use Rattle.rinex_file.specs.FileValues.{AreTexts, IsPlan, AreValues, FitsColumns, IsFrom, IsEntry, IsRow, IsSeen, IsStamped, IsChange, AreChanges, IsFileValue, changed_by, of_system, most_rows}
+use Rattle.rinex_file.specs.File.{event_line, stamped_lines, change_lines, lines_of_parts as lines_of_file, file_lines}
+use Rattle.rinex_file.specs.FileValues.{AreTexts, IsPlan, AreValues, FitsColumns, IsFrom, AreSignalValues, IsRow, IsSatelliteRow, IsStamped, IsChange, AreChanges, IsFileValue, changed_by, of_system, most_rows}
 use Rattle.rinex_file.specs.Header.{header_lines, position_line, delta_line}
-use Rattle.rinex_file.specs.Lines.{epoch_line, field, mark_byte, strength_byte, entry_text, letter_of, row_text, seen_line}
+use Rattle.rinex_file.specs.Lines.{epoch_line, field, lli_byte, strength_byte, signal_text, letter_of, row_text, satellite_line}
 use Rattle.rinex_file.specs.Numbers.{joined, right, padded, fixed}
 use Rattle.rinex_file.specs.Read.Fields.{has}
 use Rattle.rinex_file.specs.Texts.{HeaderLists}
-use Rattle.rinex_file.specs.Value.{Entry, Row, Seen, Stamped, FileValue}
+use Rattle.rinex_file.specs.Value.{SignalValues, Row, SatelliteRow, Stamped, FileValue}
 use Rattle.rinex_file.proofs.Cuts.{filled, length-trimmed}
 use Rattle.rinex_file.proofs.Digits.{has-append, length-right, length-fixed, length-padded, not_negative}
 use Rattle.rinex_file.proofs.FewRows.{few_rows}
@@ -126,7 +126,7 @@ unfolding field
 plain_field None lost strength h a b = record { clean = refl; short = lit≤ tt }
 plain_field (Some v) lost strength h a b = plain-append 14 2 (right 14 (fixed 3 v)) (lost ∷ strength ∷ []) (plain_value v h) (two_columns lost strength a b)
 
-mark_other : (m : ℕ) → m < 4 → mark_byte m ≡ 10 → ⊥
+mark_other : (m : ℕ) → m < 4 → lli_byte m ≡ 10 → ⊥
 mark_other m h e = grind arith
 
 strength_other : (s : Option ℤ) → strength_byte s ≡ 10 → ⊥
@@ -140,22 +140,22 @@ strength_fits : (s : Option ℤ) → IfSome s (IsFrom (pos 1) (pos 99_999)) → 
 strength_fits None h = tt
 strength_fits (Some s) h = let low = h.0 in let high = h.1 in (omega (arith, ints, low), omega (arith, ints, high))
 
-plain_entry : (e : Entry) → IsEntry e → IsPlain 64 (entry_text e)
-unfolding entry_text
+plain_entry : (e : SignalValues) → AreSignalValues e → IsPlain 64 (signal_text e)
+unfolding signal_text
 plain_entry e h =
     let c = field e.c 32 (strength_byte e.s) in
-    let l = field e.l (mark_byte e.mark) (strength_byte e.s) in
+    let l = field e.l (lli_byte e.lli) (strength_byte e.s) in
     let d = field e.d 32 32 in
     let s = field e.s 32 32 in
     plain-append 16 48 c (l ++ (d ++ s)) (plain_field e.c 32 (strength_byte e.s) h.c blank_other (strength_other e.s))
-    (plain-append 16 32 l (d ++ s) (plain_field e.l (mark_byte e.mark) (strength_byte e.s) h.l (mark_other e.mark h.mark) (strength_other e.s))
+    (plain-append 16 32 l (d ++ s) (plain_field e.l (lli_byte e.lli) (strength_byte e.s) h.l (mark_other e.lli h.lli) (strength_other e.s))
     (plain-append 16 16 d s (plain_field e.d 32 32 h.d blank_other blank_other) (plain_field e.s 32 32 (strength_fits e.s h.s) blank_other blank_other)))
 
-plain_entries : (es : List Entry) → All IsEntry es → IsPlain (64 * length es) (flat_map entry_text es)
+plain_entries : (es : List SignalValues) → All AreSignalValues es → IsPlain (64 * length es) (flat_map signal_text es)
 plain_entries [] all = record { clean = refl; short = lit≤ tt }
 plain_entries (e ∷ es) all =
-    plain-wider (64 + 64 * length es) (64 * suc (length es)) (entry_text e ++ flat_map entry_text es) (omega arith)
-    (plain-append 64 (64 * length es) (entry_text e) (flat_map entry_text es) (plain_entry e (All-head IsEntry e es all)) (plain_entries es (All-tail IsEntry e es all)))
+    plain-wider (64 + 64 * length es) (64 * suc (length es)) (signal_text e ++ flat_map signal_text es) (omega arith)
+    (plain-append 64 (64 * length es) (signal_text e) (flat_map signal_text es) (plain_entry e (All-head AreSignalValues e es all)) (plain_entries es (All-tail AreSignalValues e es all)))
 
 or_false : (a b : Bool) → (a || b) ≡ false → a ≡ false
 or_false true b h = cc
@@ -183,13 +183,13 @@ line_of_row letter signals most r is other few less =
     let count = is.whole in
     let number = is.satellite.1 in
     let small : r.satellite < 100 = omega (arith, number, few) in
-    let columns = plain-append 2 (64 * length r.entries) (padded 2 r.satellite) (flat_map entry_text r.entries) (plain_number r.satellite small) (plain_entries r.entries is.entries) in
-    let all = plain-append 1 (2 + 64 * length r.entries) (letter ∷ []) (padded 2 r.satellite ++ flat_map entry_text r.entries)
+    let columns = plain-append 2 (64 * length r.entries) (padded 2 r.satellite) (flat_map signal_text r.entries) (plain_number r.satellite small) (plain_entries r.entries is.entries) in
+    let all = plain-append 1 (2 + 64 * length r.entries) (letter ∷ []) (padded 2 r.satellite ++ flat_map signal_text r.entries)
     (record { clean = ap (λ c. c || false) other; short = lit≤ tt }) columns in
     as_line (1 + (2 + 64 * length r.entries)) (trimmed (row_text letter r)) (plain_trimmed (1 + (2 + 64 * length r.entries)) (row_text letter r) all) (omega (arith, count, less))
 
-line_of_seen : (gps galileo : ℕ) (s : Seen) → IsSeen gps galileo s → gps ≤ 19 → galileo ≤ 19 → IsFileLine (seen_line s)
-unfolding seen_line
+line_of_seen : (gps galileo : ℕ) (s : SatelliteRow) → IsSatelliteRow gps galileo s → gps ≤ 19 → galileo ≤ 19 → IsFileLine (satellite_line s)
+unfolding satellite_line
 line_of_seen gps galileo s is few less =
     line_of_row (letter_of s.system) (of_system s.system gps galileo) (satellites s.system) s.row is.row (no_letter s.system) (few_satellites s.system) (either_few s.system) where
       either_few : (system : System) → of_system system gps galileo ≤ 19
@@ -223,9 +223,9 @@ lines_of_stamped gps galileo v e is change few less =
     let rows = few_rows gps galileo e.rows is.rows in
     let top = at_most_68 gps galileo in
     let count : length e.rows < 2 ^ 64 = omega (arith, rows, top) in
-    All-append IsFileLine (change_lines e.change) (epoch_line (civil_of e.time) (length e.rows) ∷ map seen_line e.rows) (lines_of_change v e.change change)
-    (All-cons IsFileLine (epoch_line (civil_of e.time) (length e.rows)) (map seen_line e.rows) (line_of_epoch (civil_of e.time) (length e.rows) (short_time e.time is.time) count)
-    (All-map IsFileLine seen_line e.rows (λ k d h. line_of_seen gps galileo (get_or e.rows k d) (is.rows.each k d h) few less)))
+    All-append IsFileLine (change_lines e.change) (epoch_line (civil_of e.time) (length e.rows) ∷ map satellite_line e.rows) (lines_of_change v e.change change)
+    (All-cons IsFileLine (epoch_line (civil_of e.time) (length e.rows)) (map satellite_line e.rows) (line_of_epoch (civil_of e.time) (length e.rows) (short_time e.time is.time) count)
+    (All-map IsFileLine satellite_line e.rows (λ k d h. line_of_seen gps galileo (get_or e.rows k d) (is.rows.each k d h) few less)))
 
 lines_of_epochs : (gps galileo : ℕ) (v : StationValues) (es : List Stamped) → All (IsStamped gps galileo) es → AreChanges v es → gps ≤ 19 → galileo ≤ 19 → All IsFileLine (flat_map stamped_lines es)
 lines_of_epochs gps galileo v [] are changes few less = λ k d h. absurd (omega (arith, h))

@@ -12,15 +12,15 @@ use Rattle.gnss_obs.specs.declared.system.System.{System}
 use Rattle.gnss_obs.specs.declared.system.System.TheVariants.{Gps, Galileo}
 use Rattle.gnss_obs.specs.Satellites.{satellites as satellites_in}
 use Rattle.obs_epoch.specs.declared.cell.Cell.{Cell}
-use Rattle.obs_epoch.specs.Values.{PlanValue, EpochValue, Closed, Fits, same_values, cells_of, planned_of, satellites, has_value, is_written}
+use Rattle.obs_epoch.specs.Values.{PlanValue, EpochValue, Closed, HasTwelveDigits, same_values, cells_of, planned_of, satellites_written, has_value, is_written}
 use Rattle.obs_epoch.specs.Plans.{place_in}
 use Rattle.obs_epoch.specs.Reach.{IsGathered, AreGathered, IsGatheredEpoch, AreGatheredEpochs, TimesRise, AreToldValues, same_place}
 use Rattle.std.specs.Ordering.{int_eq}
 use Rattle.std.proofs.lemmas.Bool.Decides.{Decides-int_eq}
 use Rattle.obs_epoch.specs.declared.cell.StationValues.{StationValues}
 use Rattle.rinex_file.specs.Texts.{HeaderLists}
-use Rattle.rinex_file.specs.Value.{Entry, Row, Seen, Stamped, numbers, written, no_entry, entry_of, is_of, entry_at, row_of, seen_among, seen_of, rows_of, change_from, stamped_behind, all_stamped}
-use Rattle.rinex_file.specs.FileValues.{AreTexts, IsPlan, AreValues, IsTime, says, FitsColumns, IsEntry, IsRow, of_system, rank_of, IsSeen, AreSeen, IsStamped, IsChange, AreChanges, changed_by, time_of, IsFileValue}
+use Rattle.rinex_file.specs.Value.{SignalValues, Row, SatelliteRow, Stamped, numbers, written_satellites, no_signal_values, signal_values_of, is_of_key, signal_values_at, row_of, row_among, row_in_epoch, rows_of, change_from, stamped_behind, all_stamped}
+use Rattle.rinex_file.specs.FileValues.{AreTexts, IsPlan, AreValues, IsTime, has_some_value, FitsColumns, AreSignalValues, IsRow, of_system, rank_of, IsSatelliteRow, AreSatelliteRows, IsStamped, IsChange, AreChanges, changed_by, time_stamped, IsFileValue}
 use Rattle.rinex_file.specs.File.{gathered}
 use Rattle.rinex_file.specs.Gathered.{AreSignals, HasSatellite}
 use Rattle.rinex_file.proofs.Sent.{length-rows}
@@ -101,34 +101,34 @@ numbers_rise (suc n) = below_all (suc n) (numbers n) (suc n ∷ []) (all_below n
 
 -- ---- entries
 
-fits : (v : ℤ) → Fits v → FitsColumns v
+fits : (v : ℤ) → HasTwelveDigits v → FitsColumns v
 fits v h = (omega (arith, ints, h), omega (arith, ints, h))
 
-if_fits : (o : Option ℤ) → IfSome o Fits → IfSome o FitsColumns
+if_fits : (o : Option ℤ) → IfSome o HasTwelveDigits → IfSome o FitsColumns
 if_fits None h = tt
 if_fits (Some v) h = fits v h
 
-cell_entry : (system : System) (signals : List ℕ) (c : Cell) → IsGathered system signals c → IsEntry (entry_of c)
+cell_entry : (system : System) (signals : List ℕ) (c : Cell) → IsGathered system signals c → AreSignalValues (signal_values_of c)
 cell_entry system signals c h = record {
   c = if_fits c.c h.c;
   l = if_fits c.l h.l;
   d = if_fits c.d h.d;
   s = h.s;
-  mark = h.mark;
-  unmarked = h.unmarked;
+  lli = h.lli;
+  without_phase = h.without_phase;
 }
 
-none_entry : IsEntry no_entry
-none_entry = record { c = tt; l = tt; d = tt; s = tt; mark = omega arith; unmarked = λ e. refl }
+none_entry : AreSignalValues no_signal_values
+none_entry = record { c = tt; l = tt; d = tt; s = tt; lli = omega arith; without_phase = λ e. refl }
 
-found_entry : (system : System) (signals : List ℕ) (id index : ℕ) (cells : List Cell) → AllByRecursion (IsGathered system signals) cells → IsEntry (entry_at cells id index)
+found_entry : (system : System) (signals : List ℕ) (id index : ℕ) (cells : List Cell) → AllByRecursion (IsGathered system signals) cells → AreSignalValues (signal_values_at cells id index)
 found_entry system signals id index [] h = none_entry
-found_entry system signals id index (c ∷ cells) h = by (is_of id index c) (found_entry system signals id index cells h.1) where
-  by : (b : Bool) → IsEntry (entry_at cells id index) → IsEntry (option_map_or entry_of (if b then Some c else find (is_of id index) cells) no_entry)
+found_entry system signals id index (c ∷ cells) h = by (is_of_key id index c) (found_entry system signals id index cells h.1) where
+  by : (b : Bool) → AreSignalValues (signal_values_at cells id index) → AreSignalValues (option_map_or signal_values_of (if b then Some c else find (is_of_key id index) cells) no_signal_values)
   by true k = cell_entry system signals c h.0
   by false k = k
 
-are_entries : (system : System) (signals ss : List ℕ) (id : ℕ) (cells : List Cell) → AllByRecursion (IsGathered system signals) cells → AllByRecursion IsEntry (map (entry_at cells id) ss)
+are_entries : (system : System) (signals ss : List ℕ) (id : ℕ) (cells : List Cell) → AllByRecursion (IsGathered system signals) cells → AllByRecursion AreSignalValues (map (signal_values_at cells id) ss)
 are_entries system signals [] id cells h = tt
 are_entries system signals (i ∷ ss) id cells h = (found_entry system signals id i cells h, are_entries system signals ss id cells h)
 
@@ -137,9 +137,9 @@ are_entries system signals (i ∷ ss) id cells h = (found_entry system signals i
 record IsFoundIn (P : Cell → Type 0) (cells : List Cell) (id : ℕ) : Type 0 where
   cell : Cell
   own : (cell.satellite.id == id) ≡ true
-  says : has_value cell ≡ true
+  has_some_value : has_value cell ≡ true
   is : P cell
-  found : find (is_of id cell.signal.index) cells ≡ Some cell
+  found : find (is_of_key id cell.signal.index) cells ≡ Some cell
 
 both : (a b : Bool) → (a && b) ≡ true → (a ≡ true) × (b ≡ true)
 both true b h = (refl, h)
@@ -161,13 +161,13 @@ at_head P c cells id p h =
       own = two.0;
       says = two.1;
       is = p;
-      found = ap₂ (λ a b. if a && b then Some c else find (is_of id c.signal.index) cells) two.0 self;
+      found = ap₂ (λ a b. if a && b then Some c else find (is_of_key id c.signal.index) cells) two.0 self;
     }
 
 behind : (P : Cell → Type 0) (c : Cell) (cells : List Cell) (id : ℕ) → IsFoundIn (λ d. P d × (same_place c d ≡ false)) cells id → IsFoundIn P (c ∷ cells) id
 behind P c cells id f = record { cell = f.cell; own = f.own; says = f.says; is = f.is.0; found = by (c.satellite.id == id) (c.signal.index == f.cell.signal.index) refl refl } where
   by : (a b : Bool) → (c.satellite.id == id) ≡ a → (c.signal.index == f.cell.signal.index) ≡ b
-      → (if a && b then Some c else find (is_of id f.cell.signal.index) cells) ≡ Some f.cell
+      → (if a && b then Some c else find (is_of_key id f.cell.signal.index) cells) ≡ Some f.cell
   by false b e g = f.found
   by true false e g = f.found
   by true true e g =
@@ -195,16 +195,16 @@ same_index : (a b : ℕ) → (a == b) ≡ true → a ≡ b
 same_index a b h = grind (arith, h)
 
 one_says : (signals : List ℕ) (cells : List Cell) (id : ℕ) (c : Cell) → is_some (place_in c.signal signals) ≡ true → has_value c ≡ true
-    → find (is_of id c.signal.index) cells ≡ Some c → Any (λ e. IsTrue (says e)) (map (entry_at cells id) signals)
+    → find (is_of_key id c.signal.index) cells ≡ Some c → Any (λ e. IsTrue (has_some_value e)) (map (signal_values_at cells id) signals)
 one_says signals cells id c planned value found =
     let at = some_at (place_in c.signal signals) planned in
     let place = position-Some (λ i. i == c.signal.index) signals at.0 0 at.1 in
     let here : get_or signals at.0 0 ≡ c.signal.index = same_index _ _ place.1 in
-    let entry : entry_at cells id c.signal.index ≡ entry_of c = ap (λ o. option_map_or entry_of o no_entry) found in
-    let is : get_or (map (entry_at cells id) signals) at.0 (entry_of c) ≡ entry_of c =
-    get_or-map (entry_at cells id) signals at.0 0 (entry_of c) place.0 ∙ ap (entry_at cells id) here ∙ entry in
-    let size : length (map (entry_at cells id) signals) ≡ length signals = length-map signals (entry_at cells id) in
-    (at.0, entry_of c, subst (λ n. at.0 < n) (sym size) place.0, is, value)
+    let entry : signal_values_at cells id c.signal.index ≡ signal_values_of c = ap (λ o. option_map_or signal_values_of o no_signal_values) found in
+    let is : get_or (map (signal_values_at cells id) signals) at.0 (signal_values_of c) ≡ signal_values_of c =
+    get_or-map (signal_values_at cells id) signals at.0 0 (signal_values_of c) place.0 ∙ ap (signal_values_at cells id) here ∙ entry in
+    let size : length (map (signal_values_at cells id) signals) ≡ length signals = length-map signals (signal_values_at cells id) in
+    (at.0, signal_values_of c, subst (λ n. at.0 < n) (sym size) place.0, is, value)
 
 some_planned : (signals : List ℕ) (c : Cell) → is_some (place_in c.signal signals) ≡ true → 0 < length signals
 some_planned signals c planned =
@@ -224,33 +224,33 @@ row_is system signals cells id h n =
       some_planned signals f.cell f.is.planned,
       record {
         satellite = n.0;
-        entries = All-from_recursion IsEntry (map (entry_at cells id) signals) (are_entries system signals signals id cells h.each);
-        whole = length-map signals (entry_at cells id);
+        entries = All-from_recursion AreSignalValues (map (signal_values_at cells id) signals) (are_entries system signals signals id cells h.each);
+        whole = length-map signals (signal_values_at cells id);
         some = one_says signals cells id f.cell f.is.planned f.says f.found;
       },
     )
 
 row_seen : (plan : PlanValue) (system : System) (cells : List Cell) (id : ℕ) → AreGathered system (planned_of system plan) cells → IsNumber cells (satellites_in system) id
-    → IsSeen (length plan.gps) (length plan.galileo) (seen_among plan system cells id)
+    → IsSatelliteRow (length plan.gps) (length plan.galileo) (row_among plan system cells id)
 row_seen plan Gps cells id h n = let r = row_is Gps plan.gps cells id h n in record { planned = r.0; row = r.1 }
 row_seen plan Galileo cells id h n = let r = row_is Galileo plan.galileo cells id h n in record { planned = r.0; row = r.1 }
 
-numbers_of : (cells : List Cell) (most : ℕ) → AllByRecursion (IsNumber cells most) (written cells most)
+numbers_of : (cells : List Cell) (most : ℕ) → AllByRecursion (IsNumber cells most) (written_satellites cells most)
 numbers_of cells most = all_filter (IsUpTo most) (is_written cells) (numbers most) (numbers_within most)
 
 rows_seen : (plan : PlanValue) (e : EpochValue) (system : System) → AreGathered system (planned_of system plan) (cells_of system e)
-    → AllByRecursion (IsSeen (length plan.gps) (length plan.galileo)) (rows_of plan e system)
+    → AllByRecursion (IsSatelliteRow (length plan.gps) (length plan.galileo)) (rows_of plan e system)
 rows_seen plan e system h =
-    all_map (seen_of plan e system) (IsNumber (cells_of system e) (satellites_in system)) (IsSeen (length plan.gps) (length plan.galileo))
-    (λ id n. row_seen plan system (cells_of system e) id h n) (written (cells_of system e) (satellites_in system)) (numbers_of (cells_of system e) (satellites_in system))
+    all_map (row_in_epoch plan e system) (IsNumber (cells_of system e) (satellites_in system)) (IsSatelliteRow (length plan.gps) (length plan.galileo))
+    (λ id n. row_seen plan system (cells_of system e) id h n) (written_satellites (cells_of system e) (satellites_in system)) (numbers_of (cells_of system e) (satellites_in system))
 
 -- ---- ranks
 
-gps_ranks : (plan : PlanValue) (e : EpochValue) (ids : List ℕ) → map rank_of (map (seen_of plan e Gps) ids) ≡ ids
+gps_ranks : (plan : PlanValue) (e : EpochValue) (ids : List ℕ) → map rank_of (map (row_in_epoch plan e Gps) ids) ≡ ids
 gps_ranks plan e [] = refl
 gps_ranks plan e (id ∷ ids) = ap (λ l. id ∷ l) (gps_ranks plan e ids)
 
-galileo_ranks : (plan : PlanValue) (e : EpochValue) (ids : List ℕ) → map rank_of (map (seen_of plan e Galileo) ids) ≡ map (λ id. 100 + id) ids
+galileo_ranks : (plan : PlanValue) (e : EpochValue) (ids : List ℕ) → map rank_of (map (row_in_epoch plan e Galileo) ids) ≡ map (λ id. 100 + id) ids
 galileo_ranks plan e [] = refl
 galileo_ranks plan e (id ∷ ids) = ap (λ l. (100 + id) ∷ l) (galileo_ranks plan e ids)
 
@@ -268,8 +268,8 @@ high (id ∷ ids) = (omega arith, high ids)
 
 ranks_rise : (plan : PlanValue) (e : EpochValue) → Rise (map rank_of (rows_of plan e Gps ++ rows_of plan e Galileo))
 ranks_rise plan e =
-    let gps = written e.gps (satellites_in Gps) in
-    let galileo = written e.galileo (satellites_in Galileo) in
+    let gps = written_satellites e.gps (satellites_in Gps) in
+    let galileo = written_satellites e.galileo (satellites_in Galileo) in
     let is : map rank_of (rows_of plan e Gps ++ rows_of plan e Galileo) ≡ gps ++ map (λ id. 100 + id) galileo =
     map-append rank_of (rows_of plan e Gps) (rows_of plan e Galileo) ∙ ap₂ (λ a b. a ++ b) (gps_ranks plan e gps) (galileo_ranks plan e galileo) in
     subst Rise (sym is) (below_all 100 gps (map (λ id. 100 + id) galileo) (low e.gps gps (numbers_of e.gps (satellites_in Gps))) (high galileo)
@@ -282,8 +282,8 @@ epoch_is : (plan : PlanValue) (v : StationValues) (c : Closed) → IsGatheredEpo
 epoch_is plan v c h some = record {
   time = h.time;
   rows = record {
-    each = All-from_recursion (IsSeen (length plan.gps) (length plan.galileo)) (rows_of plan c.epoch Gps ++ rows_of plan c.epoch Galileo)
-        (all_append (IsSeen (length plan.gps) (length plan.galileo)) (rows_of plan c.epoch Gps) (rows_of plan c.epoch Galileo) (rows_seen plan c.epoch Gps (h.cells Gps)) (rows_seen plan c.epoch Galileo (h.cells Galileo)));
+    each = All-from_recursion (IsSatelliteRow (length plan.gps) (length plan.galileo)) (rows_of plan c.epoch Gps ++ rows_of plan c.epoch Galileo)
+        (all_append (IsSatelliteRow (length plan.gps) (length plan.galileo)) (rows_of plan c.epoch Gps) (rows_of plan c.epoch Galileo) (rows_seen plan c.epoch Gps (h.cells Gps)) (rows_seen plan c.epoch Galileo (h.cells Galileo)));
     rise = rises _ (ranks_rise plan c.epoch);
   };
   some = subst (λ n. 0 < n) (sym (length-rows plan c.epoch)) some;
@@ -294,11 +294,11 @@ epochs_are : (plan : PlanValue) (v : StationValues) (es : List Closed) → AllBy
 epochs_are plan v [] h k = tt
 epochs_are plan v (e ∷ es) h k = (epoch_is plan v e h.0 k.0, epochs_are plan e.values es h.1 k.1)
 
-later : (plan : PlanValue) (v : StationValues) (t : ℕ) (es : List Closed) → AllByRecursion (λ (f : Closed). t < f.epoch.time) es → AllByRecursion (λ u. t < u) (map time_of (all_stamped plan v es))
+later : (plan : PlanValue) (v : StationValues) (t : ℕ) (es : List Closed) → AllByRecursion (λ (f : Closed). t < f.epoch.time) es → AllByRecursion (λ u. t < u) (map time_stamped (all_stamped plan v es))
 later plan v t [] h = tt
 later plan v t (e ∷ es) h = (h.0, later plan e.values t es h.1)
 
-times_rise : (plan : PlanValue) (v : StationValues) (es : List Closed) → TimesRise es → Rise (map time_of (all_stamped plan v es))
+times_rise : (plan : PlanValue) (v : StationValues) (es : List Closed) → TimesRise es → Rise (map time_stamped (all_stamped plan v es))
 times_rise plan v [] h = tt
 times_rise plan v (e ∷ es) h = (later plan e.values e.epoch.time es h.0, times_rise plan e.values es h.1)
 
@@ -347,7 +347,7 @@ first_same : (v : StationValues) → change_from v v ≡ None
 first_same v = ap (λ (b : Bool). if b then None else Some v) (same_self v)
 
 -- where a satellite is written a signal is planned
-planned_by : (gps galileo : ℕ) (rows : List Seen) → AllByRecursion (IsSeen gps galileo) rows → 0 < length rows → 0 < gps + galileo
+planned_by : (gps galileo : ℕ) (rows : List SatelliteRow) → AllByRecursion (IsSatelliteRow gps galileo) rows → 0 < length rows → 0 < gps + galileo
 planned_by gps galileo [] h some = absurd (omega (arith, some))
 planned_by gps galileo (r ∷ rows) h some = by r.system h.0.planned where
   by : (system : System) → 0 < of_system system gps galileo → 0 < gps + galileo
@@ -358,7 +358,7 @@ pub gathered_file : (texts : HeaderLists) (plan : PlanValue) (e : Closed) (es : 
     → AllByRecursion HasSatellite (e ∷ es) → IsFileValue (gathered texts plan e.values (e ∷ es))
 gathered_file texts plan e es x p h some =
     let rows = rows_of plan e.epoch Gps ++ rows_of plan e.epoch Galileo in
-    let seen = all_append (IsSeen (length plan.gps) (length plan.galileo)) (rows_of plan e.epoch Gps) (rows_of plan e.epoch Galileo)
+    let seen = all_append (IsSatelliteRow (length plan.gps) (length plan.galileo)) (rows_of plan e.epoch Gps) (rows_of plan e.epoch Galileo)
     (rows_seen plan e.epoch Gps (h.each.0.cells Gps)) (rows_seen plan e.epoch Galileo (h.each.0.cells Galileo)) in
     record {
       texts = x;
@@ -370,7 +370,7 @@ gathered_file texts plan e es x p h some =
       values = values_fit e.values h.each.0.values;
       some = omega arith;
       epochs = All-from_recursion (IsStamped (length plan.gps) (length plan.galileo)) (all_stamped plan e.values (e ∷ es)) (epochs_are plan e.values (e ∷ es) h.each some);
-      rising = rises (map time_of (all_stamped plan e.values (e ∷ es))) (times_rise plan e.values (e ∷ es) h.rise);
+      rising = rises (map time_stamped (all_stamped plan e.values (e ∷ es))) (times_rise plan e.values (e ∷ es) h.rise);
       first = first_same e.values;
       changes = changes_are plan e.values (e ∷ es) h.each;
     }

@@ -4,31 +4,31 @@ use Rattle.std.specs.Prelude.{if◌then◌else◌, cond, find}
 use Rattle.std.specs.Option.{option_map_or}
 use Rattle.gnss_obs.specs.declared.system.System.{System}
 use Rattle.obs_epoch.specs.declared.cell.Cell.{Cell}
-use Rattle.obs_epoch.specs.Values.{PlanValue, planned_of, is_from}
+use Rattle.obs_epoch.specs.Values.{PlanValue, planned_of, is_of_satellite}
 use Rattle.obs_epoch.proofs.GroupLemmas.{any_from}
-use Rattle.rinex_file.specs.Value.{is_of, entry_at, entry_of, no_entry}
-use Rattle.rinex_file.specs.Lines.{seen_line}
+use Rattle.rinex_file.specs.Value.{is_of_key, signal_values_at, signal_values_of, no_signal_values}
+use Rattle.rinex_file.specs.Lines.{satellite_line}
 use Rattle.rinex_file.specs.File.{line_among}
 
-find_from : (id index : ℕ) (cells : List Cell) → find (is_of id index) (filter (is_from id) cells) ≡ find (is_of id index) cells
+find_from : (id index : ℕ) (cells : List Cell) → find (is_of_key id index) (filter (is_of_satellite id) cells) ≡ find (is_of_key id index) cells
 find_from id index [] = refl
 find_from id index (c ∷ cells) = by (c.satellite.id == id) refl (find_from id index cells) where
-  by : (b : Bool) → (c.satellite.id == id) ≡ b → find (is_of id index) (filter (is_from id) cells) ≡ find (is_of id index) cells
-      → find (is_of id index) (cond b (c ∷ filter (is_from id) cells) (filter (is_from id) cells)) ≡ (if b && (c.signal.index == index) then Some c else find (is_of id index) cells)
+  by : (b : Bool) → (c.satellite.id == id) ≡ b → find (is_of_key id index) (filter (is_of_satellite id) cells) ≡ find (is_of_key id index) cells
+      → find (is_of_key id index) (cond b (c ∷ filter (is_of_satellite id) cells) (filter (is_of_satellite id) cells)) ≡ (if b && (c.signal.index == index) then Some c else find (is_of_key id index) cells)
   by true e h = ap₂ (λ v w. if v && (c.signal.index == index) then Some c else w) e h
   by false e h = h
 
-entries_from : (id : ℕ) (cells : List Cell) (signals : List ℕ) → map (entry_at (filter (is_from id) cells) id) signals ≡ map (entry_at cells id) signals
+entries_from : (id : ℕ) (cells : List Cell) (signals : List ℕ) → map (signal_values_at (filter (is_of_satellite id) cells) id) signals ≡ map (signal_values_at cells id) signals
 entries_from id cells [] = refl
-entries_from id cells (i ∷ signals) = ap₂ (λ o l. option_map_or entry_of o no_entry ∷ l) (find_from id i cells) (entries_from id cells signals)
+entries_from id cells (i ∷ signals) = ap₂ (λ o l. option_map_or signal_values_of o no_signal_values ∷ l) (find_from id i cells) (entries_from id cells signals)
 
-pub line_from : (p : PlanValue) (system : System) (cells : List Cell) (id : ℕ) → line_among p system (filter (is_from id) cells) id ≡ line_among p system cells id
+pub line_from : (p : PlanValue) (system : System) (cells : List Cell) (id : ℕ) → line_among p system (filter (is_of_satellite id) cells) id ≡ line_among p system cells id
 unfolding line_among
 line_from p system cells id =
-    ap₂ (λ b l. if b then seen_line (record { system = system; row = record { satellite = id; entries = l } }) else [])
+    ap₂ (λ b l. if b then satellite_line (record { system = system; row = record { satellite = id; entries = l } }) else [])
     (any_from id cells) (entries_from id cells (planned_of system p))
 
-pub same_line : (p : PlanValue) (system : System) (cells all : List Cell) (id : ℕ) (group : List Cell) → filter (is_from id) cells ≡ group → cells ≡ all
+pub same_line : (p : PlanValue) (system : System) (cells all : List Cell) (id : ℕ) (group : List Cell) → filter (is_of_satellite id) cells ≡ group → cells ≡ all
     → line_among p system group id ≡ line_among p system all id
 same_line p system cells all id group is same =
     ap (λ l. line_among p system l id) (sym is) ∙ line_from p system cells id ∙ ap (λ l. line_among p system l id) same

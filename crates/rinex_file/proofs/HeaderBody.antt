@@ -9,15 +9,15 @@ use Rattle.rinex_file.specs.declared.header.section.Section.{Section}
 use Rattle.rinex_file.specs.declared.header.section.Section.TheVariants.{Version}
 use Rattle.rinex_file.specs.declared.read.due.Due.{Due}
 use Rattle.rinex_file.specs.declared.read.due.Due.TheVariants.{Header, Epoch, EventPosition, EventHeight, EventEpoch, Satellite}
-use Rattle.rinex_file.specs.Value.{Seen, Stamped, FileValue}
-use Rattle.rinex_file.specs.FileValues.{IsFileValue, IsStamped, AreChanges, IsFirstSame, time_of}
+use Rattle.rinex_file.specs.Value.{SatelliteRow, Stamped, FileValue}
+use Rattle.rinex_file.specs.FileValues.{IsFileValue, IsStamped, AreChanges, IsFirstSame, time_stamped}
 use Rattle.rinex_file.specs.Header.{header_lines}
-use Rattle.rinex_file.specs.Lines.{epoch_line, seen_line}
+use Rattle.rinex_file.specs.Lines.{epoch_line, satellite_line}
 use Rattle.rinex_file.specs.File.{stamped_lines, file_lines}
-use Rattle.rinex_file.specs.Read.Progress.{Progress, Known, Shown, IsShown, shown_lines, shown_of, IsHeaderLeft, IsHeaderRead, file_with, StartsAt, IsInHeader, IsAt, IsBetween, IsInEvent, StandAt, IsWithin, GoesOn}
+use Rattle.rinex_file.specs.Read.Progress.{Progress, Known, Shown, IsShown, shown_lines, shown_of, IsHeaderLeft, IsHeaderRead, file_with, StartsAt, IsInHeader, IsAt, IsBetween, IsInEvent, HasPosition, IsInEpoch, HasLinesLeft}
 use Rattle.rinex_file.specs.Read.Sound.{AreRead, IsBegun, IsSoundAt, IsSound}
 use Rattle.rinex_file.specs.declared.read.course.Course.{Course}
-use Rattle.rinex_file.specs.Course.{History, StandsBehind, progress_at}
+use Rattle.rinex_file.specs.Course.{History, FollowsHistory, progress_at}
 use Rattle.rinex_file.proofs.Sections.{rows_at, emit}
 use Rattle.rinex_file.proofs.BodySteps.{lines_with, lines_are}
 
@@ -38,7 +38,7 @@ some_left k section row h left =
 -- the lines of a file, by its first epoch
 lines_by_first : (v : FileValue) (e : Stamped) (es : List Stamped) → v.epochs ≡ e ∷ es
     → file_lines v ≡ header_lines v.texts v.plan v.values (civil_of e.time) ++ flat_map stamped_lines (e ∷ es)
-lines_by_first v e es same = ap (Rattle.rinex_file.specs.File.lines_of v.texts v.plan v.values) same
+lines_by_first v e es same = ap (Rattle.rinex_file.specs.File.lines_of_parts v.texts v.plan v.values) same
 
 -- ---- a line of the header
 
@@ -70,9 +70,9 @@ from_lines s section row v line left first others (l ∷ ls) epochs header rest 
       rest = cc;
     }
 
-header_next : (s : Progress) (section : Section) (row : ℕ) (v : FileValue) (line : List ℕ) (left : List (List ℕ)) → s.due ≡ Header section row → GoesOn s v (line ∷ left)
+header_next : (s : Progress) (section : Section) (row : ℕ) (v : FileValue) (line : List ℕ) (left : List (List ℕ)) → s.due ≡ Header section row → HasLinesLeft s v (line ∷ left)
     → HeaderNext s section row v line left
-unfolding GoesOn
+unfolding HasLinesLeft
 header_next s section row v line left due (is, at) =
     let here : IsInHeader s section row v (line ∷ left) = subst (λ d. IsAt s d v (line ∷ left)) due at in
     from_lines s section row v line left here.first here.others here.lines here.epochs here.header here.rest
@@ -92,13 +92,13 @@ abbrev SameShown : Shown → Shown → Type 0
 SameShown h k = h ≡ k
 
 module _ (s : Progress) (section : Section) (row : ℕ) (line : List ℕ) (due : s.due ≡ Header section row) where
-  pub no_header : ((h : Shown) (left : List (List ℕ)) → IsHeaderLeft s.known section row h (line ∷ left) → ⊥) → (v : FileValue) (left : List (List ℕ)) → GoesOn s v (line ∷ left) → ⊥
+  pub no_header : ((h : Shown) (left : List (List ℕ)) → IsHeaderLeft s.known section row h (line ∷ left) → ⊥) → (v : FileValue) (left : List (List ℕ)) → HasLinesLeft s v (line ∷ left) → ⊥
   no_header never v left on = let next = header_next s section row v line left due on in never (shown_of v next.first.time) next.lines next.header
 
   pub header_taken : (k : Known) (section' : Section) (row' : ℕ)
       → ((h : Shown) (left : List (List ℕ)) → IsHeaderLeft s.known section row h (line ∷ left) ↔ IsHeaderLeft k section' row' h left)
-      → (v : FileValue) (left : List (List ℕ)) → GoesOn s v (line ∷ left) ↔ GoesOn (known_as s k (Header section' row')) v left
-  unfolding GoesOn
+      → (v : FileValue) (left : List (List ℕ)) → HasLinesLeft s v (line ∷ left) ↔ HasLinesLeft (known_as s k (Header section' row')) v left
+  unfolding HasLinesLeft
   header_taken k section' row' step v left = (
     λ on.
         let next = header_next s section row v line left due on in (
@@ -162,8 +162,8 @@ module _ (s : Progress) (section : Section) (row : ℕ) (line : List ℕ) (due :
           rest = ap (λ l. line ∷ l) rest;
         }
 
-    pub header_ended : (v : FileValue) (left : List (List ℕ)) → GoesOn s v (line ∷ left) ↔ GoesOn (known_as s k Epoch) v left
-    unfolding GoesOn
+    pub header_ended : (v : FileValue) (left : List (List ℕ)) → HasLinesLeft s v (line ∷ left) ↔ HasLinesLeft (known_as s k Epoch) v left
+    unfolding HasLinesLeft
     header_ended v left = (
       λ on. (on.0, ended v left (header_next s section row v line left due on)),
       λ on.
@@ -177,7 +177,7 @@ sound_start s k shown none =
     record {
       shown = shown;
       epochs = subst (All (IsStamped (length k.shown.plan.gps) (length k.shown.plan.galileo))) (sym none) (All-nil (IsStamped (length k.shown.plan.gps) (length k.shown.plan.galileo)));
-      rising = λ i h. absurd (let size = ap length none in let same = length-map s.epochs time_of in omega (arith, h, size, same));
+      rising = λ i h. absurd (let size = ap length none in let same = length-map s.epochs time_stamped in omega (arith, h, size, same));
       starts = subst (StartsAt k.shown.first) (sym none) tt;
       first = subst IsFirstSame (sym none) tt;
       changes = subst (AreChanges k.shown.values) (sym none) tt;
@@ -205,8 +205,8 @@ module _ (s : Progress) (due : s.due ≡ Header Version 0)
         rest = lines ∙ lines_by_first v e es epochs;
       }
 
-  pub header_starts : (v : FileValue) (left : List (List ℕ)) → GoesOn s v left ↔ (IsFileValue v × (left ≡ file_lines v))
-  unfolding GoesOn
+  pub header_starts : (v : FileValue) (left : List (List ℕ)) → HasLinesLeft s v left ↔ (IsFileValue v × (left ≡ file_lines v))
+  unfolding HasLinesLeft
   header_starts v left = (
     λ on.
         let here : IsInHeader s Version 0 v left = subst (λ d. IsAt s d v left) due on.1 in
@@ -222,20 +222,20 @@ none_begins : (s : Progress) (section : Section) (row : ℕ) (v : FileValue) (fi
 none_begins s section row v first others [] header rest = some_left s.known section row (shown_of v first.time) header
 none_begins s section row v first others (l ∷ ls) header rest = cc
 
-pub header_unfinished : (s : Progress) (section : Section) (row : ℕ) → s.due ≡ Header section row → (v : FileValue) → GoesOn s v [] → ⊥
-unfolding GoesOn
+pub header_unfinished : (s : Progress) (section : Section) (row : ℕ) → s.due ≡ Header section row → (v : FileValue) → HasLinesLeft s v [] → ⊥
+unfolding HasLinesLeft
 header_unfinished s section row due v (is, at) =
     let here : IsInHeader s section row v [] = subst (λ d. IsAt s d v []) due at in
     none_begins s section row v here.first here.others here.lines here.header here.rest
 
-no_rows_left : (n : ℕ) (more : List Seen) (others : List Stamped) → 0 < n → length more ≡ n → [] ≡ map seen_line more ++ flat_map stamped_lines others → ⊥
+no_rows_left : (n : ℕ) (more : List SatelliteRow) (others : List Stamped) → 0 < n → length more ≡ n → [] ≡ map satellite_line more ++ flat_map stamped_lines others → ⊥
 no_rows_left n [] others some count rest = omega (arith, some, count)
 no_rows_left n (m ∷ ms) others some count rest = cc
 
-pub epoch_unfinished : (s : Progress) (n : ℕ) → s.due ≡ Satellite n → IsSound s → (v : FileValue) → GoesOn s v [] → ⊥
-unfolding GoesOn
+pub epoch_unfinished : (s : Progress) (n : ℕ) → s.due ≡ Satellite n → IsSound s → (v : FileValue) → HasLinesLeft s v [] → ⊥
+unfolding HasLinesLeft
 epoch_unfinished s n due sound v (is, at) =
-    let here : IsWithin s n v [] = subst (λ d. IsAt s d v []) due at in
+    let here : IsInEpoch s n v [] = subst (λ d. IsAt s d v []) due at in
     let all : AreRead s × IsBegun s × (0 < n) = subst (λ d. IsSoundAt s d) due sound in
     no_rows_left n here.more here.others all.2 here.count here.rest
 
@@ -259,18 +259,18 @@ none_left s v (e ∷ es) is value rest = absurd (by e.change refl) where
   by (Some w) h = let text : [] ≡ lines_with (Some w) e ++ flat_map stamped_lines es = rest ∙ ap (λ l. l ++ flat_map stamped_lines es) (lines_are e (Some w) h) in cc
 
 -- what was read whole is the only file that goes on without a line
-pub only_file : (s : Progress) → s.due ≡ Epoch → (v : FileValue) → GoesOn s v [] → v ≡ file_with s s.epochs
-unfolding GoesOn
+pub only_file : (s : Progress) → s.due ≡ Epoch → (v : FileValue) → HasLinesLeft s v [] → v ≡ file_with s s.epochs
+unfolding HasLinesLeft
 only_file s due v (is, at) =
     let here : IsBetween s v [] = subst (λ d. IsAt s d v []) due at in
     let none = none_left s v here.others is here.value here.rest in
     here.value ∙ ap (file_with s) (ap (λ x. s.epochs ++ x) none ∙ append-nil s.epochs)
 
-file_value : (s : Progress) (v : FileValue) (left : List (List ℕ)) → GoesOn s v left → IsFileValue v
-unfolding GoesOn
+file_value : (s : Progress) (v : FileValue) (left : List (List ℕ)) → HasLinesLeft s v left → IsFileValue v
+unfolding HasLinesLeft
 file_value s v left on = on.0
 
-pub no_file : (s : Progress) → s.due ≡ Epoch → s.epochs ≡ [] → (v : FileValue) → GoesOn s v [] → ⊥
+pub no_file : (s : Progress) → s.due ≡ Epoch → s.epochs ≡ [] → (v : FileValue) → HasLinesLeft s v [] → ⊥
 no_file s due none v on =
     let value = only_file s due v on in
     let is : IsFileValue v = file_value s v [] on in
@@ -293,8 +293,8 @@ file_read s due sound some =
       changes = read.0.changes;
     }
 
-pub goes_on : (s : Progress) → s.due ≡ Epoch → IsSound s → 0 < length s.epochs → GoesOn s (file_with s s.epochs) []
-unfolding GoesOn
+pub goes_on : (s : Progress) → s.due ≡ Epoch → IsSound s → 0 < length s.epochs → HasLinesLeft s (file_with s s.epochs) []
+unfolding HasLinesLeft
 goes_on s due sound some =
     let read : AreRead s × (s.rows ≡ []) = subst (λ d. IsSoundAt s d) due sound in
     let all : s.epochs ≡ s.epochs ++ [] = sym (append-nil s.epochs) in
@@ -312,20 +312,20 @@ no_epochs : (es : List Stamped) (n : ℕ) → n ≡ length es → (0 < n → ⊥
 no_epochs [] n size never = refl
 no_epochs (e ∷ es) n size never = absurd (never (omega (arith, size)))
 
-at_due : (s : Progress) (d : Due) → s.due ≡ d → (v : FileValue) (left : List (List ℕ)) → GoesOn s v left → IsAt s d v left
-unfolding GoesOn
+at_due : (s : Progress) (d : Due) → s.due ≡ d → (v : FileValue) (left : List (List ℕ)) → HasLinesLeft s v left → IsAt s d v left
+unfolding HasLinesLeft
 at_due s d due v left on = subst (λ d. IsAt s d v left) due on.1
 
-unfinished_at : (c : Course) (h : History) (due : Due) → c.due ≡ due → StandsBehind c h → ((due ≡ Epoch) × (0 < c.epochs) → ⊥) → (v : FileValue) → GoesOn (progress_at c h) v [] → ⊥
+unfinished_at : (c : Course) (h : History) (due : Due) → c.due ≡ due → FollowsHistory c h → ((due ≡ Epoch) × (0 < c.epochs) → ⊥) → (v : FileValue) → HasLinesLeft (progress_at c h) v [] → ⊥
 unfinished_at c h (Header section row) same stands never v on = header_unfinished (progress_at c h) section row same v on
 unfinished_at c h Epoch same stands never v on = no_file (progress_at c h) same (no_epochs h.epochs c.epochs stands.epochs (λ some. never (refl, some))) v on
 unfinished_at c h EventPosition same stands never v on = event_unfinished (progress_at c h) 1 (λ w. ⊤) (lit< tt) v (at_due (progress_at c h) EventPosition same v [] on)
-unfinished_at c h (EventHeight x y z) same stands never v on = event_unfinished (progress_at c h) 2 (StandAt x y z) (lit< tt) v (at_due (progress_at c h) (EventHeight x y z) same v [] on)
+unfinished_at c h (EventHeight x y z) same stands never v on = event_unfinished (progress_at c h) 2 (HasPosition x y z) (lit< tt) v (at_due (progress_at c h) (EventHeight x y z) same v [] on)
 unfinished_at c h (EventEpoch w) same stands never v on = event_unfinished (progress_at c h) 3 (λ x. x ≡ w) (lit< tt) v (at_due (progress_at c h) (EventEpoch w) same v [] on)
 unfinished_at c h (Satellite n) same stands never v on = epoch_unfinished (progress_at c h) n same stands.sound v on
 
 -- lines are missing
-pub unfinished : (c : Course) (h : History) → StandsBehind c h → ((c.due ≡ Epoch) × (0 < c.epochs) → ⊥) → (v : FileValue) → GoesOn (progress_at c h) v [] → ⊥
+pub unfinished : (c : Course) (h : History) → FollowsHistory c h → ((c.due ≡ Epoch) × (0 < c.epochs) → ⊥) → (v : FileValue) → HasLinesLeft (progress_at c h) v [] → ⊥
 unfinished c h stands never v on = unfinished_at c h c.due refl stands never v on
 
 -- no satellite is read where an epoch is due

@@ -13,8 +13,8 @@ use Rattle.rinex_file.specs.declared.header.section.Section.TheVariants.{Version
 use Rattle.rinex_file.specs.Blanks.{trimmed}
 use Rattle.rinex_file.specs.Texts.{HeaderLists}
 use Rattle.rinex_file.specs.FileValues.{IsText, AreTexts, AreValues, IsPlan, IsTime}
-use Rattle.rinex_file.specs.Header.{lines_of, header_lines, end_line}
-use Rattle.rinex_file.specs.Read.Progress.{Known, Shown, IsShown, SaidOf, SaidBefore, IsHeaderLeft, is_planned}
+use Rattle.rinex_file.specs.Header.{section_lines, header_lines, end_line}
+use Rattle.rinex_file.specs.Read.Progress.{Known, Shown, IsShown, KnowsFirst, KnowsBefore, IsHeaderLeft, is_some_planned}
 use Rattle.rinex_file.specs.Read.HeaderSteps.{IsWhole, StepsTo, NoneGoesOn}
 use Rattle.obs_epoch.specs.Dates.{civil_of}
 use Rattle.std.proofs.lemmas.Int.{ints}
@@ -79,7 +79,7 @@ same_shown g h a b c d =
     ∙ ap (λ v. made_shown h.texts h.plan v g.first) c
     ∙ ap (λ t. made_shown h.texts h.plan h.values t) d
 
-all_said : (k : Known) (h : Shown) → SaidBefore End k h → k.shown ≡ h
+all_said : (k : Known) (h : Shown) → KnowsBefore End k h → k.shown ≡ h
 all_said k h s =
     let to_delta = s.0.0.0.0.0.0 in
     let to_marker = to_delta.0.0.0.0.0.0 in
@@ -98,11 +98,11 @@ all_said k h s =
     s.0.0.1
 
 -- what a header says of itself
-said_of_itself : (k : Known) → IsWhole k → SaidBefore End k k.shown
+said_of_itself : (k : Known) → IsWhole k → KnowsBefore End k k.shown
 said_of_itself k whole =
-    let version : SaidOf 1 k k.shown = (tt, (whole.0, whole.1)) in
-    let texts : SaidOf 7 k k.shown = ((((((version, (refl, refl)), refl), refl), (refl, refl)), (refl, refl, refl)), (refl, refl)) in
-    let values : SaidOf 9 k k.shown = ((texts, (refl, refl, refl)), refl) in
+    let version : KnowsFirst 1 k k.shown = (tt, (whole.0, whole.1)) in
+    let texts : KnowsFirst 7 k k.shown = ((((((version, (refl, refl)), refl), refl), (refl, refl)), (refl, refl, refl)), (refl, refl)) in
+    let values : KnowsFirst 9 k k.shown = ((texts, (refl, refl, refl)), refl) in
     ((((((values, refl), refl), tt), refl), tt), tt)
 
 -- ---- the last line
@@ -111,23 +111,23 @@ one_end : (line x : List ℕ) (left : List (List ℕ)) → line ∷ left ≡ x �
 one_end line x left e = (cc, cc)
 
 end_lines : (k : Known) (h : Shown) (line : List ℕ) (left : List (List ℕ)) → IsHeaderLeft k End 0 h (line ∷ left) → (line ≡ end_line) × (left ≡ [])
-unfolding lines_of
+unfolding section_lines
 end_lines k h line left i = one_end line end_line left i.lines
 
-whole_by : (k : Known) (h : Shown) → SaidBefore End k h → IsShown h → IsWhole k
+whole_by : (k : Known) (h : Shown) → KnowsBefore End k h → IsShown h → IsWhole k
 whole_by k h said is =
     let same : h ≡ k.shown = sym (all_said k h said) in
     let version = said.0.0.0.0.0.0.0.0.0.0.0.0.0.0.1 in
-    subst (λ (g : Shown). (k.gps ≡ is_planned g.plan.gps) × (k.galileo ≡ is_planned g.plan.galileo) × (0 < length g.plan.gps + length g.plan.galileo)) same
+    subst (λ (g : Shown). (k.gps ≡ is_some_planned g.plan.gps) × (k.galileo ≡ is_some_planned g.plan.galileo) × (0 < length g.plan.gps + length g.plan.galileo)) same
     (version.0, version.1, is.plan.some)
 
 pub end_steps : (k : Known) (line : List ℕ) → line ≡ end_line → IsWhole k → StepsTo k End 0 line k None
-unfolding lines_of
+unfolding section_lines
 end_steps k line e whole h left = (
   λ i. record { is = i.is; same = sym (all_said k h i.before); lines = (end_lines k h line left i).1 },
   λ r. record {
     is = r.is;
-    before = subst (λ g. SaidBefore End k g) (sym r.same) (said_of_itself k whole);
+    before = subst (λ g. KnowsBefore End k g) (sym r.same) (said_of_itself k whole);
     within = tt;
     due = omega arith;
     lines = ap (λ l. l ∷ left) e ∙ ap (λ l. end_line ∷ l) r.lines;

@@ -13,11 +13,11 @@ use Rattle.rinex_file.specs.Blanks.{trimmed}
 use Rattle.rinex_file.specs.Texts.{HeaderLists}
 use Rattle.rinex_file.specs.FileValues.{IsText, IsCoordinate, IsTime, of_system}
 use Rattle.rinex_file.specs.Numbers.{joined, left, right, fixed}
-use Rattle.rinex_file.specs.Header.{lines_of, header_line, two, three, lengths, first_line, strength_line, shift_lines, version_line}
+use Rattle.rinex_file.specs.Header.{section_lines, header_line, two, three, lengths, first_line, strength_line, shift_lines, version_line}
 use Rattle.rinex_file.specs.Lines.{letter_of}
 use Rattle.rinex_file.specs.Read.Fields.{ReadsExactly}
-use Rattle.rinex_file.specs.Read.Progress.{Known, Shown, IsShown, SaidBefore, shown_lines, is_planned, version_with}
-use Rattle.rinex_file.specs.Read.HeaderSteps.{Learns, Refuses, Learned, with_texts, with_values, with_first, with_systems}
+use Rattle.rinex_file.specs.Read.Progress.{Known, Shown, IsShown, KnowsBefore, shown_lines, is_some_planned, version_with}
+use Rattle.rinex_file.specs.Read.HeaderSteps.{LearnsLine, RefusesHeaderLine, LearnsOrRefuses, with_texts, with_values, with_first, with_systems}
 use Rattle.std.proofs.Common.{w64, to_z, of_z, FitsSigned, neg_ℤ, ◌≤ℤ◌}
 use Rattle.std.proofs.lemmas.Int.{ints, to_z-of_z}
 use Rattle.std.proofs.lemmas.Bool.Decides.{nat_tests}
@@ -70,35 +70,35 @@ same_triple a d b e c f = (
 )
 
 -- texts that are put in
-pub put_texts : (s : Section) (line : List ℕ) (old k : Known) (x t : HeaderLists) → k ≡ old → x ≡ t → Learns s line k (with_texts k t) → Learns s line old (with_texts k x)
-put_texts s line old k x t e f l = subst (λ o. Learns s line o (with_texts k x)) e (subst (λ y. Learns s line k (with_texts k y)) (sym f) l)
+pub put_texts : (s : Section) (line : List ℕ) (old k : Known) (x t : HeaderLists) → k ≡ old → x ≡ t → LearnsLine s line k (with_texts k t) → LearnsLine s line old (with_texts k x)
+put_texts s line old k x t e f l = subst (λ o. LearnsLine s line o (with_texts k x)) e (subst (λ y. LearnsLine s line k (with_texts k y)) (sym f) l)
 
-pub learn_marker : (k : Known) (t line : List ℕ) → OneText 60 (codes "MARKER NAME") line (Some t) → Learns Marker line k (with_texts k (record k.shown.texts { marker = t }))
-unfolding lines_of
+pub learn_marker : (k : Known) (t line : List ℕ) → OneText 60 (codes "MARKER NAME") line (Some t) → LearnsLine Marker line k (with_texts k (record k.shown.texts { marker = t }))
+unfolding section_lines
 learn_marker k t line r = record {
   plan = refl;
   before = λ h. (λ b. b, λ b. b);
   says = λ h is b. reads (IsText 60) (λ t. header_line t (codes "MARKER NAME")) line t h.texts.marker r (is.texts MarkerName);
 }
 
-pub refuse_marker : (k : Known) (line : List ℕ) → OneText 60 (codes "MARKER NAME") line None → Refuses Marker line k
-unfolding lines_of
+pub refuse_marker : (k : Known) (line : List ℕ) → OneText 60 (codes "MARKER NAME") line None → RefusesHeaderLine Marker line k
+unfolding section_lines
 refuse_marker k line r h is b e = misread (IsText 60) (λ t. header_line t (codes "MARKER NAME")) line h.texts.marker r (is.texts MarkerName) e
 
-pub learn_marker_type : (k : Known) (t line : List ℕ) → OneText 20 (codes "MARKER TYPE") line (Some t) → Learns MarkerType line k (with_texts k (record k.shown.texts { marker_type = t }))
-unfolding lines_of
+pub learn_marker_type : (k : Known) (t line : List ℕ) → OneText 20 (codes "MARKER TYPE") line (Some t) → LearnsLine MarkerType line k (with_texts k (record k.shown.texts { marker_type = t }))
+unfolding section_lines
 learn_marker_type k t line r = record {
   plan = refl;
   before = λ h. (λ b. b, λ b. b);
   says = λ h is b. reads (IsText 20) (λ t. header_line t (codes "MARKER TYPE")) line t h.texts.marker_type r (is.texts MarkerKind);
 }
 
-pub refuse_marker_type : (k : Known) (line : List ℕ) → OneText 20 (codes "MARKER TYPE") line None → Refuses MarkerType line k
-unfolding lines_of
+pub refuse_marker_type : (k : Known) (line : List ℕ) → OneText 20 (codes "MARKER TYPE") line None → RefusesHeaderLine MarkerType line k
+unfolding section_lines
 refuse_marker_type k line r h is b e = misread (IsText 20) (λ t. header_line t (codes "MARKER TYPE")) line h.texts.marker_type r (is.texts MarkerKind) e
 
-pub learn_observer : (k : Known) (a b line : List ℕ) → TwoTexts 40 (codes "OBSERVER / AGENCY") line (Some (a, b)) → Learns Observer line k (with_texts k (record k.shown.texts { observer = a; agency = b }))
-unfolding lines_of
+pub learn_observer : (k : Known) (a b line : List ℕ) → TwoTexts 40 (codes "OBSERVER / AGENCY") line (Some (a, b)) → LearnsLine Observer line k (with_texts k (record k.shown.texts { observer = a; agency = b }))
+unfolding section_lines
 learn_observer k a b line r = record {
   plan = refl;
   before = λ h. (λ b. b, λ b. b);
@@ -108,14 +108,14 @@ learn_observer k a b line r = record {
       (same_pair a h.texts.observer b h.texts.agency);
 }
 
-pub refuse_observer : (k : Known) (line : List ℕ) → TwoTexts 40 (codes "OBSERVER / AGENCY") line None → Refuses Observer line k
-unfolding lines_of
+pub refuse_observer : (k : Known) (line : List ℕ) → TwoTexts 40 (codes "OBSERVER / AGENCY") line None → RefusesHeaderLine Observer line k
+unfolding section_lines
 refuse_observer k line r h is before e =
     misread (λ (t : List ℕ × List ℕ). IsText 20 t.0 × IsText 40 t.1) (λ (t : List ℕ × List ℕ). header_line (two t.0 t.1) (codes "OBSERVER / AGENCY")) line
     (pair h.texts.observer h.texts.agency) r (is.texts ObserverName, is.texts Agency) e
 
-pub learn_antenna : (k : Known) (a b line : List ℕ) → TwoTexts 20 (codes "ANT # / TYPE") line (Some (a, b)) → Learns Antenna line k (with_texts k (record k.shown.texts { ant_number = a; ant_type = b }))
-unfolding lines_of
+pub learn_antenna : (k : Known) (a b line : List ℕ) → TwoTexts 20 (codes "ANT # / TYPE") line (Some (a, b)) → LearnsLine Antenna line k (with_texts k (record k.shown.texts { ant_number = a; ant_type = b }))
+unfolding section_lines
 learn_antenna k a b line r = record {
   plan = refl;
   before = λ h. (λ b. b, λ b. b);
@@ -125,15 +125,15 @@ learn_antenna k a b line r = record {
       (same_pair a h.texts.ant_number b h.texts.ant_type);
 }
 
-pub refuse_antenna : (k : Known) (line : List ℕ) → TwoTexts 20 (codes "ANT # / TYPE") line None → Refuses Antenna line k
-unfolding lines_of
+pub refuse_antenna : (k : Known) (line : List ℕ) → TwoTexts 20 (codes "ANT # / TYPE") line None → RefusesHeaderLine Antenna line k
+unfolding section_lines
 refuse_antenna k line r h is before e =
     misread (λ (t : List ℕ × List ℕ). IsText 20 t.0 × IsText 20 t.1) (λ (t : List ℕ × List ℕ). header_line (two t.0 t.1) (codes "ANT # / TYPE")) line
     (pair h.texts.ant_number h.texts.ant_type) r (is.texts AntNumber, is.texts AntType) e
 
 pub learn_receiver : (k : Known) (a b c line : List ℕ) → ThreeTexts (codes "REC # / TYPE / VERS") line (Some (a, b, c))
-    → Learns Receiver line k (with_texts k (record k.shown.texts { rec_number = a; rec_type = b; rec_version = c }))
-unfolding lines_of
+    → LearnsLine Receiver line k (with_texts k (record k.shown.texts { rec_number = a; rec_type = b; rec_version = c }))
+unfolding section_lines
 learn_receiver k a b c line r = record {
   plan = refl;
   before = λ h. (λ b. b, λ b. b);
@@ -144,8 +144,8 @@ learn_receiver k a b c line r = record {
       (same_triple a h.texts.rec_number b h.texts.rec_type c h.texts.rec_version);
 }
 
-pub refuse_receiver : (k : Known) (line : List ℕ) → ThreeTexts (codes "REC # / TYPE / VERS") line None → Refuses Receiver line k
-unfolding lines_of
+pub refuse_receiver : (k : Known) (line : List ℕ) → ThreeTexts (codes "REC # / TYPE / VERS") line None → RefusesHeaderLine Receiver line k
+unfolding section_lines
 refuse_receiver k line r h is before e =
     misread (λ (t : List ℕ × List ℕ × List ℕ). IsText 20 t.0 × IsText 20 t.1 × IsText 20 t.2)
     (λ (t : List ℕ × List ℕ × List ℕ). header_line (three t.0 t.1 t.2) (codes "REC # / TYPE / VERS")) line
@@ -158,7 +158,7 @@ is_name = record { short = lit≤ tt; printable = refl; cut = refl }
 
 program_reads : (line : List ℕ) (a b c : List ℕ) (h : Shown) → IsShown h → ThreeTexts (codes "PGM / RUN BY / DATE") line (Some (a, b, c))
     → (shown_lines h Program ≡ line ∷ []) ↔ ((a ≡ codes "rtcm2rinex") × (b ≡ h.texts.run_by) × (c ≡ h.texts.date))
-unfolding lines_of
+unfolding section_lines
 program_reads line a b c h is r =
     both_ways (reads (λ (t : List ℕ × List ℕ × List ℕ). IsText 20 t.0 × IsText 20 t.1 × IsText 20 t.2)
     (λ (t : List ℕ × List ℕ × List ℕ). header_line (three t.0 t.1 t.2) (codes "PGM / RUN BY / DATE")) line
@@ -166,7 +166,7 @@ program_reads line a b c h is r =
     (same_triple a (codes "rtcm2rinex") b h.texts.run_by c h.texts.date)
 
 pub learn_program : (k : Known) (a b c line : List ℕ) → a ≡ codes "rtcm2rinex" → ThreeTexts (codes "PGM / RUN BY / DATE") line (Some (a, b, c))
-    → Learns Program line k (with_texts k (record k.shown.texts { run_by = b; date = c }))
+    → LearnsLine Program line k (with_texts k (record k.shown.texts { run_by = b; date = c }))
 learn_program k a b c line name r = record {
   plan = refl;
   before = λ h. (λ b. b, λ b. b);
@@ -175,21 +175,21 @@ learn_program k a b c line name r = record {
       (λ e. let all = read.0 e in (all.1, all.2), λ s. read.1 (name, s.0, s.1));
 }
 
-pub refuse_program : (k : Known) (line : List ℕ) → ThreeTexts (codes "PGM / RUN BY / DATE") line None → Refuses Program line k
-unfolding lines_of
+pub refuse_program : (k : Known) (line : List ℕ) → ThreeTexts (codes "PGM / RUN BY / DATE") line None → RefusesHeaderLine Program line k
+unfolding section_lines
 refuse_program k line r h is before e =
     misread (λ (t : List ℕ × List ℕ × List ℕ). IsText 20 t.0 × IsText 20 t.1 × IsText 20 t.2)
     (λ (t : List ℕ × List ℕ × List ℕ). header_line (three t.0 t.1 t.2) (codes "PGM / RUN BY / DATE")) line
     (triple (codes "rtcm2rinex") h.texts.run_by h.texts.date) r (is_name, is.texts RunBy, is.texts Date) e
 
 -- another program
-pub refuse_name : (k : Known) (a b c line : List ℕ) → (a ≡ codes "rtcm2rinex" → ⊥) → ThreeTexts (codes "PGM / RUN BY / DATE") line (Some (a, b, c)) → Refuses Program line k
+pub refuse_name : (k : Known) (a b c line : List ℕ) → (a ≡ codes "rtcm2rinex" → ⊥) → ThreeTexts (codes "PGM / RUN BY / DATE") line (Some (a, b, c)) → RefusesHeaderLine Program line k
 refuse_name k a b c line other r h is before e = other ((program_reads line a b c h is r).0 e).0
 
 -- ---- station values
 
-pub put_values : (s : Section) (line : List ℕ) (old k : Known) (v : StationValues) → k ≡ old → Learns s line k (with_values k v) → Learns s line old (with_values k v)
-put_values s line old k v e l = subst (λ o. Learns s line o (with_values k v)) e l
+pub put_values : (s : Section) (line : List ℕ) (old k : Known) (v : StationValues) → k ≡ old → LearnsLine s line k (with_values k v) → LearnsLine s line old (with_values k v)
+put_values s line old k v e l = subst (λ o. LearnsLine s line o (with_values k v)) e l
 
 abbrev Coordinates : List ℕ → Option (ℤ × ℤ × ℤ) → Type 0
 Coordinates line r =
@@ -197,8 +197,8 @@ Coordinates line r =
     (λ (p : ℤ × ℤ × ℤ). header_line (lengths p.0 p.1 p.2) (codes "APPROX POSITION XYZ")) line r
 
 pub learn_position : (k : Known) (x y z : ℤ) (line : List ℕ) → Coordinates line (Some (x, y, z))
-    → Learns Position line k (with_values k (record { x = x; y = y; z = z; height = k.shown.values.height }))
-unfolding lines_of
+    → LearnsLine Position line k (with_values k (record { x = x; y = y; z = z; height = k.shown.values.height }))
+unfolding section_lines
 learn_position k x y z line r = record {
   plan = refl;
   before = λ h. (λ b. b, λ b. b);
@@ -209,8 +209,8 @@ learn_position k x y z line r = record {
       (same_triple x h.values.x y h.values.y z h.values.z);
 }
 
-pub refuse_position : (k : Known) (line : List ℕ) → Coordinates line None → Refuses Position line k
-unfolding lines_of
+pub refuse_position : (k : Known) (line : List ℕ) → Coordinates line None → RefusesHeaderLine Position line k
+unfolding section_lines
 refuse_position k line r h is before e =
     misread (λ (p : ℤ × ℤ × ℤ). IsCoordinate p.0 × IsCoordinate p.1 × IsCoordinate p.2)
     (λ (p : ℤ × ℤ × ℤ). header_line (lengths p.0 p.1 p.2) (codes "APPROX POSITION XYZ")) line
@@ -220,8 +220,8 @@ abbrev Height : List ℕ → Option ℕ → Type 0
 Height line r = ReadsExactly (λ h. h < 2 ^ 16) (λ h. header_line (lengths (pos h) (pos 0) (pos 0)) (codes "ANTENNA: DELTA H/E/N")) line r
 
 pub learn_delta : (k : Known) (height : ℕ) (line : List ℕ) → Height line (Some height)
-    → Learns Delta line k (with_values k (record { x = k.shown.values.x; y = k.shown.values.y; z = k.shown.values.z; height = height }))
-unfolding lines_of
+    → LearnsLine Delta line k (with_values k (record { x = k.shown.values.x; y = k.shown.values.y; z = k.shown.values.z; height = height }))
+unfolding section_lines
 learn_delta k height line r = record {
   plan = refl;
   before = λ h. (λ b. b, λ b. b);
@@ -229,32 +229,32 @@ learn_delta k height line r = record {
       reads (λ n. n < 2 ^ 16) (λ n. header_line (lengths (pos n) (pos 0) (pos 0)) (codes "ANTENNA: DELTA H/E/N")) line height h.values.height r is.values.height;
 }
 
-pub refuse_delta : (k : Known) (line : List ℕ) → Height line None → Refuses Delta line k
-unfolding lines_of
+pub refuse_delta : (k : Known) (line : List ℕ) → Height line None → RefusesHeaderLine Delta line k
+unfolding section_lines
 refuse_delta k line r h is before e =
     misread (λ n. n < 2 ^ 16) (λ n. header_line (lengths (pos n) (pos 0) (pos 0)) (codes "ANTENNA: DELTA H/E/N")) line h.values.height r is.values.height e
 
 -- ---- the first epoch
 
-pub put_first : (line : List ℕ) (old k : Known) (t : ℕ) → k ≡ old → Learns First line k (with_first k t) → Learns First line old (with_first k t)
-put_first line old k t e l = subst (λ o. Learns First line o (with_first k t)) e l
+pub put_first : (line : List ℕ) (old k : Known) (t : ℕ) → k ≡ old → LearnsLine First line k (with_first k t) → LearnsLine First line old (with_first k t)
+put_first line old k t e l = subst (λ o. LearnsLine First line o (with_first k t)) e l
 
-pub learn_first : (k : Known) (t : ℕ) (line : List ℕ) → ReadsExactly IsTime (λ t. first_line (civil_of t)) line (Some t) → Learns First line k (with_first k t)
-unfolding lines_of
+pub learn_first : (k : Known) (t : ℕ) (line : List ℕ) → ReadsExactly IsTime (λ t. first_line (civil_of t)) line (Some t) → LearnsLine First line k (with_first k t)
+unfolding section_lines
 learn_first k t line r = record {
   plan = refl;
   before = λ h. (λ b. b, λ b. b);
   says = λ h is before. reads IsTime (λ t. first_line (civil_of t)) line t h.first r is.first;
 }
 
-pub refuse_first : (k : Known) (line : List ℕ) → ReadsExactly IsTime (λ t. first_line (civil_of t)) line None → Refuses First line k
-unfolding lines_of
+pub refuse_first : (k : Known) (line : List ℕ) → ReadsExactly IsTime (λ t. first_line (civil_of t)) line None → RefusesHeaderLine First line k
+unfolding section_lines
 refuse_first k line r h is before e = misread IsTime (λ t. first_line (civil_of t)) line h.first r is.first e
 
 -- ---- lines that are always the same
 
-pub learn_unit : (k : Known) (line : List ℕ) (b : Bool) → (IsTrue b ↔ (line ≡ strength_line)) → Learned StrengthUnit line k k b
-unfolding lines_of
+pub learn_unit : (k : Known) (line : List ℕ) (b : Bool) → (IsTrue b ↔ (line ≡ strength_line)) → LearnsOrRefuses StrengthUnit line k k b
+unfolding section_lines
 learn_unit k line true is = record {
   plan = refl;
   before = λ h. (λ b. b, λ b. b);
@@ -263,7 +263,7 @@ learn_unit k line true is = record {
 learn_unit k line false is = λ h shown before e. false_true (is.1 (same_line strength_line line e))
 
 -- signals of a system are planned, where the first line says so
-planned_before : (system : System) (k : Known) (h : Shown) → SaidBefore (Shift system) k h → of_system system k.gps k.galileo ≡ is_planned (planned_of system h.plan)
+planned_before : (system : System) (k : Known) (h : Shown) → KnowsBefore (Shift system) k h → of_system system k.gps k.galileo ≡ is_some_planned (planned_of system h.plan)
 planned_before Gps k h said = (said_version 12 k h said).0
 planned_before Galileo k h said = (said_version 13 k h said).1
 
@@ -278,8 +278,8 @@ unfolding shift_line
 one_shift system signals some = ap (λ n. replicate n (header_line (letter_of system ∷ []) (codes "SYS / PHASE SHIFT"))) (one_at_most (length signals) some)
 
 pub learn_shift : (system : System) (k : Known) (line : List ℕ) (b : Bool) → of_system system k.gps k.galileo ≡ true
-    → (IsTrue b ↔ (line ≡ header_line (letter_of system ∷ []) (codes "SYS / PHASE SHIFT"))) → Learned (Shift system) line k k b
-unfolding lines_of shift_line
+    → (IsTrue b ↔ (line ≡ header_line (letter_of system ∷ []) (codes "SYS / PHASE SHIFT"))) → LearnsOrRefuses (Shift system) line k k b
+unfolding section_lines shift_line
 learn_shift system k line true planned is = record {
   plan = refl;
   before = λ h. (λ b. b, λ b. b);
@@ -295,8 +295,8 @@ pub other_letter : (system : System) (letter : ℕ) (line : List ℕ) (b : Bool)
     → (IsTrue b ↔ (line ≡ header_line (letter ∷ []) (codes "SYS / PHASE SHIFT"))) → IsTrue b ↔ (line ≡ header_line (letter_of system ∷ []) (codes "SYS / PHASE SHIFT"))
 other_letter system letter line b e is = subst (λ l. IsTrue b ↔ (line ≡ header_line (l ∷ []) (codes "SYS / PHASE SHIFT"))) e is
 
-pub refuse_shift : (system : System) (k : Known) (line : List ℕ) → of_system system k.gps k.galileo ≡ false → Refuses (Shift system) line k
-unfolding lines_of
+pub refuse_shift : (system : System) (k : Known) (line : List ℕ) → of_system system k.gps k.galileo ≡ false → RefusesHeaderLine (Shift system) line k
+unfolding section_lines
 refuse_shift system k line unplanned h shown before e =
     let none = none_planned (of_system system k.gps k.galileo) (planned_of system h.plan) (planned_before system k h before) unplanned in
     some_none line (sym (ap (λ l. shift_lines system l) none) ∙ e)
@@ -315,7 +315,7 @@ same_system true false = refl
 same_system false true = refl
 same_system false false = refl
 
-pub version_same : (p : PlanValue) → version_line p ≡ version_with (is_planned p.gps) (is_planned p.galileo)
+pub version_same : (p : PlanValue) → version_line p ≡ version_with (is_some_planned p.gps) (is_some_planned p.galileo)
 version_same p =
     ap (λ (b : ℕ). header_line
     (joined (right 9 (fixed 2 (pos 305)) ∷ replicate 11 32 ∷ left 20 (codes "OBSERVATION DATA") ∷ (b ∷ []) ∷ []))
@@ -330,27 +330,27 @@ either_planned (suc a) b some = grind (arith, nat_tests)
 abbrev Systems : List ℕ → Option (Bool × Bool) → Type 0
 Systems line r = ReadsExactly (λ (p : Bool × Bool). (p.0 || p.1) ≡ true) (λ (p : Bool × Bool). version_with p.0 p.1) line r
 
-pub put_systems : (line : List ℕ) (old k : Known) (gps galileo : Bool) → k ≡ old → Learns Version line k (with_systems k gps galileo) → Learns Version line old (with_systems k gps galileo)
-put_systems line old k gps galileo e l = subst (λ o. Learns Version line o (with_systems k gps galileo)) e l
+pub put_systems : (line : List ℕ) (old k : Known) (gps galileo : Bool) → k ≡ old → LearnsLine Version line k (with_systems k gps galileo) → LearnsLine Version line old (with_systems k gps galileo)
+put_systems line old k gps galileo e l = subst (λ o. LearnsLine Version line o (with_systems k gps galileo)) e l
 
-pub learn_version : (k : Known) (gps galileo : Bool) (line : List ℕ) → Systems line (Some (gps, galileo)) → Learns Version line k (with_systems k gps galileo)
-unfolding lines_of
+pub learn_version : (k : Known) (gps galileo : Bool) (line : List ℕ) → Systems line (Some (gps, galileo)) → LearnsLine Version line k (with_systems k gps galileo)
+unfolding section_lines
 learn_version k gps galileo line r = record {
   plan = refl;
   before = λ h. (λ b. b, λ b. b);
   says = λ h is before.
       let same = version_same h.plan in
       let read = reads (λ (p : Bool × Bool). (p.0 || p.1) ≡ true) (λ (p : Bool × Bool). version_with p.0 p.1) line (pair gps galileo)
-      (pair (is_planned h.plan.gps) (is_planned h.plan.galileo)) r (either_planned (length h.plan.gps) (length h.plan.galileo) is.plan.some) in
-      let pairs = same_pair gps (is_planned h.plan.gps) galileo (is_planned h.plan.galileo) in
+      (pair (is_some_planned h.plan.gps) (is_some_planned h.plan.galileo)) r (either_planned (length h.plan.gps) (length h.plan.galileo) is.plan.some) in
+      let pairs = same_pair gps (is_some_planned h.plan.gps) galileo (is_some_planned h.plan.galileo) in
       (λ e. pairs.0 (read.0 (ap (λ l. l ∷ []) (sym same) ∙ e)), λ s. ap (λ l. l ∷ []) same ∙ read.1 (pairs.1 s));
 }
 
-pub refuse_version : (k : Known) (line : List ℕ) → Systems line None → Refuses Version line k
-unfolding lines_of
+pub refuse_version : (k : Known) (line : List ℕ) → Systems line None → RefusesHeaderLine Version line k
+unfolding section_lines
 refuse_version k line r h is before e =
     misread (λ (p : Bool × Bool). (p.0 || p.1) ≡ true) (λ (p : Bool × Bool). version_with p.0 p.1) line
-    (pair (is_planned h.plan.gps) (is_planned h.plan.galileo)) r (either_planned (length h.plan.gps) (length h.plan.galileo) is.plan.some)
+    (pair (is_some_planned h.plan.gps) (is_some_planned h.plan.galileo)) r (either_planned (length h.plan.gps) (length h.plan.galileo) is.plan.some)
     (ap (λ l. l ∷ []) (sym (version_same h.plan)) ∙ e)
 
 -- ---- a coordinate as its bits have it
@@ -361,11 +361,11 @@ coordinate_same z is = let fits : FitsSigned w64 z = fits_of z is.0 is.1 in to_z
   fits_of z low high = omega (arith, ints)
 
 pub put_position : (line : List ℕ) (old k : Known) (x y z : ℤ) → k ≡ old → Coordinates line (Some (x, y, z))
-    → Learns Position line old
+    → LearnsLine Position line old
     (with_values k (record { x = to_z w64 (of_z w64 x); y = to_z w64 (of_z w64 y); z = to_z w64 (of_z w64 z); height = k.shown.values.height }))
 put_position line old k x y z e r =
     let made = λ (a b c : ℤ). with_values k (record { x = a; y = b; z = c; height = k.shown.values.height }) in
     put_values Position line old k _ e
-    (subst (λ a. Learns Position line k (made a (to_z w64 (of_z w64 y)) (to_z w64 (of_z w64 z)))) (sym (coordinate_same x r.0.0))
-    (subst (λ b. Learns Position line k (made x b (to_z w64 (of_z w64 z)))) (sym (coordinate_same y r.0.1))
-    (subst (λ c. Learns Position line k (made x y c)) (sym (coordinate_same z r.0.2)) (learn_position k x y z line r))))
+    (subst (λ a. LearnsLine Position line k (made a (to_z w64 (of_z w64 y)) (to_z w64 (of_z w64 z)))) (sym (coordinate_same x r.0.0))
+    (subst (λ b. LearnsLine Position line k (made x b (to_z w64 (of_z w64 z)))) (sym (coordinate_same y r.0.1))
+    (subst (λ c. LearnsLine Position line k (made x y c)) (sym (coordinate_same z r.0.2)) (learn_position k x y z line r))))

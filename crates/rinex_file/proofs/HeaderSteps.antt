@@ -9,9 +9,9 @@ use Rattle.gnss_obs.specs.declared.system.System.TheVariants.{Gps, Galileo}
 use Rattle.rinex_file.specs.declared.read.due.Refusal.{Refusal}
 use Rattle.rinex_file.specs.declared.header.section.Section.{Section}
 use Rattle.rinex_file.specs.declared.header.section.Section.TheVariants.{Version, Program, Marker, MarkerType, Observer, Receiver, Antenna, Position, Delta, Types, StrengthUnit, First, Shift, End}
-use Rattle.rinex_file.specs.Header.{lines_from, section_rows, after, type_rows}
-use Rattle.rinex_file.specs.Read.Progress.{Known, Shown, IsShown, Says, SaidOf, SaidBefore, SaidWithin, NoneYet, IsHeaderLeft, shown_lines, is_planned}
-use Rattle.rinex_file.specs.Read.HeaderSteps.{IsSole, has_lines, Unread, Learns, Refuses, Learned, IsPast, IsReached, StepsTo, NoneGoesOn}
+use Rattle.rinex_file.specs.Header.{lines_from, section_rows, sections_behind, type_rows}
+use Rattle.rinex_file.specs.Read.Progress.{Known, Shown, IsShown, KnowsSection, KnowsFirst, KnowsBefore, KnowsWithin, NoneYet, IsHeaderLeft, shown_lines, is_some_planned}
+use Rattle.rinex_file.specs.Read.HeaderSteps.{IsSole, has_lines, IsUnread, LearnsLine, RefusesHeaderLine, LearnsOrRefuses, IsPast, IsReached, StepsTo, NoneGoesOn}
 use Rattle.rinex_file.proofs.Sections.{rows_at, skip}
 
 pub both_ways : {A B C : Type 0} → (A ↔ B) → (B ↔ C) → A ↔ C
@@ -50,7 +50,7 @@ shown_rows h s = rows_at h.texts h.plan h.values (civil_of h.first) s
 none_still : (old new : Known) → new.shown.plan ≡ old.shown.plan → NoneYet old → NoneYet new
 none_still old new same none = (ap (λ (p : PlanValue). p.gps) same ∙ none.0, ap (λ (p : PlanValue). p.galileo) same ∙ none.1)
 
-still_unread : (s : Section) (old new : Known) (h : Shown) → IsSole s → new.shown.plan ≡ old.shown.plan → SaidWithin s 0 old h → Unread s new
+still_unread : (s : Section) (old new : Known) (h : Shown) → IsSole s → new.shown.plan ≡ old.shown.plan → KnowsWithin s 0 old h → IsUnread s new
 still_unread Version old new h sole same w = none_still old new same w
 still_unread Program old new h sole same w = none_still old new same w
 still_unread Marker old new h sole same w = none_still old new same w
@@ -66,7 +66,7 @@ still_unread First old new h sole same w = tt
 still_unread (Shift system) old new h sole same w = tt
 still_unread End old new h sole same w = tt
 
-was_unread : (s : Section) (old new : Known) (h : Shown) → IsSole s → new.shown.plan ≡ old.shown.plan → Unread s new → SaidWithin s 0 old h
+was_unread : (s : Section) (old new : Known) (h : Shown) → IsSole s → new.shown.plan ≡ old.shown.plan → IsUnread s new → KnowsWithin s 0 old h
 was_unread Version old new h sole same u = none_still new old (sym same) u
 was_unread Program old new h sole same u = none_still new old (sym same) u
 was_unread Marker old new h sole same u = none_still new old (sym same) u
@@ -82,7 +82,7 @@ was_unread First old new h sole same u = tt
 was_unread (Shift system) old new h sole same u = tt
 was_unread End old new h sole same u = tt
 
-pub past_line : (s : Section) (line : List ℕ) (old new : Known) → IsSole s → Learns s line old new → (h : Shown) (left : List (List ℕ))
+pub past_line : (s : Section) (line : List ℕ) (old new : Known) → IsSole s → LearnsLine s line old new → (h : Shown) (left : List (List ℕ))
     → IsHeaderLeft old s 0 h (line ∷ left) ↔ IsPast new s h left
 past_line s line old new sole learned h left = (on, back) where
   rows : length (shown_lines h s) ≡ section_rows h.plan s
@@ -92,7 +92,7 @@ past_line s line old new sole learned h left = (on, back) where
   on i =
       let due = i.due in
       let few = few_rows h.plan s sole in
-      let both = one_line (shown_lines h s) (flat_map (shown_lines h) (after s)) line left (omega (arith, rows, due)) (omega (arith, rows, few)) i.lines in
+      let both = one_line (shown_lines h s) (flat_map (shown_lines h) (sections_behind s)) line left (omega (arith, rows, due)) (omega (arith, rows, few)) i.lines in
       let before = (learned.before h).0 i.before in
       record {
         is = i.is;
@@ -111,16 +111,16 @@ past_line s line old new sole learned h left = (on, back) where
         before = (learned.before h).1 p.before;
         within = was_unread s old new h sole learned.plan p.unread;
         due = omega (arith, count);
-        lines = from_one (shown_lines h s) (flat_map (shown_lines h) (after s)) line left only p.lines;
+        lines = from_one (shown_lines h s) (flat_map (shown_lines h) (sections_behind s)) line left only p.lines;
       }
 
 -- a line that is refused
-pub none_past : (s : Section) (line : List ℕ) (old : Known) → IsSole s → Refuses s line old → NoneGoesOn old s 0 line
+pub none_past : (s : Section) (line : List ℕ) (old : Known) → IsSole s → RefusesHeaderLine s line old → NoneGoesOn old s 0 line
 none_past s line old sole refuses h left i =
     let rows = shown_rows h s in
     let due = i.due in
     let few = few_rows h.plan s sole in
-    let both = one_line (shown_lines h s) (flat_map (shown_lines h) (after s)) line left (omega (arith, rows, due)) (omega (arith, rows, few)) i.lines in
+    let both = one_line (shown_lines h s) (flat_map (shown_lines h) (sections_behind s)) line left (omega (arith, rows, due)) (omega (arith, rows, few)) i.lines in
     refuses h i.is i.before both.0
 
 -- there is one row
@@ -133,7 +133,7 @@ no_row s row line old sole far h left i =
 -- ---- the section behind
 
 behind : Section → Section
-behind s = get_or (after s) 0 End
+behind s = get_or (sections_behind s) 0 End
 
 -- a section behind which there is another
 abbrev HasNext : Section → Type 0
@@ -178,7 +178,7 @@ past_from (Shift Gps) k h left next r = record { is = r.is; before = r.before.0;
 past_from (Shift Galileo) k h left next r = record { is = r.is; before = r.before.0; says = r.before.1; unread = tt; lines = r.lines }
 past_from End k h left next r = absurd next
 
-some_next : (s n : Section) → after s ≡ n ∷ after n → HasNext s
+some_next : (s n : Section) → sections_behind s ≡ n ∷ sections_behind n → HasNext s
 some_next Version n e = tt
 some_next Program n e = tt
 some_next Marker n e = tt
@@ -194,11 +194,11 @@ some_next First n e = tt
 some_next (Shift system) n e = tt
 some_next End n e = cc
 
-is_behind : (s n : Section) → after s ≡ n ∷ after n → n ≡ behind s
+is_behind : (s n : Section) → sections_behind s ≡ n ∷ sections_behind n → n ≡ behind s
 unfolding behind
 is_behind s n e = sym (ap (λ l. get_or l 0 End) e)
 
-pub past_reached : (s n : Section) (k : Known) (h : Shown) (left : List (List ℕ)) → after s ≡ n ∷ after n → IsPast k s h left ↔ IsReached k n h left
+pub past_reached : (s n : Section) (k : Known) (h : Shown) (left : List (List ℕ)) → sections_behind s ≡ n ∷ sections_behind n → IsPast k s h left ↔ IsReached k n h left
 past_reached s n k h left e =
     let next = some_next s n e in
     let at = is_behind s n e in (
@@ -208,25 +208,25 @@ past_reached s n k h left e =
 
 -- ---- sections without lines
 
-pub said_version : (n : ℕ) (k : Known) (h : Shown) → SaidOf (suc n) k h → Says Version k h
+pub said_version : (n : ℕ) (k : Known) (h : Shown) → KnowsFirst (suc n) k h → KnowsSection Version k h
 said_version zero k h said = said.1
 said_version (suc n) k h said = said_version n k h said.0
 
-more_planned : (x : ℕ) (xs : List ℕ) → is_planned (x ∷ xs) ≡ true
+more_planned : (x : ℕ) (xs : List ℕ) → is_some_planned (x ∷ xs) ≡ true
 more_planned x xs = grind (arith, nat_tests)
 
-pub none_planned : (b : Bool) (signals : List ℕ) → b ≡ is_planned signals → b ≡ false → signals ≡ []
+pub none_planned : (b : Bool) (signals : List ℕ) → b ≡ is_some_planned signals → b ≡ false → signals ≡ []
 none_planned b [] e f = refl
 none_planned b (x ∷ xs) e f = let m = more_planned x xs in cc
 
-pub some_planned : (b : Bool) (signals : List ℕ) → b ≡ is_planned signals → b ≡ true → 0 < length signals
+pub some_planned : (b : Bool) (signals : List ℕ) → b ≡ is_some_planned signals → b ≡ true → 0 < length signals
 some_planned b [] e f = cc
 some_planned b (x ∷ xs) e f = omega arith
 
 no_rows : (lines rows : ℕ) (all : List ℕ) (f : ℕ → ℕ) → all ≡ [] → lines ≡ f (length all) → f 0 ≡ 0 → lines ≤ 0
 no_rows lines rows all f none count zero_is = omega (arith, count ∙ ap (λ (l : List ℕ). f (length l)) none ∙ zero_is)
 
-over : (m n : Section) (k : Known) (h : Shown) (left : List (List ℕ)) → length (shown_lines h m) ≤ 0 → after m ≡ n ∷ after n
+over : (m n : Section) (k : Known) (h : Shown) (left : List (List ℕ)) → length (shown_lines h m) ≤ 0 → sections_behind m ≡ n ∷ sections_behind n
     → (left ≡ lines_from (shown_lines h) m 0) ↔ (left ≡ lines_from (shown_lines h) n 0)
 over m n k h left short e =
     let same = skip (shown_lines h) m n 0 short e in
@@ -295,7 +295,7 @@ skip_from (Shift Galileo) k h left lacks r =
 skip_from End k h left lacks r = cc
 
 -- a section without lines is passed over
-pub skipped : (m n : Section) (k : Known) (h : Shown) (left : List (List ℕ)) → has_lines k m ≡ false → after m ≡ n ∷ after n → IsReached k m h left ↔ IsReached k n h left
+pub skipped : (m n : Section) (k : Known) (h : Shown) (left : List (List ℕ)) → has_lines k m ≡ false → sections_behind m ≡ n ∷ sections_behind n → IsReached k m h left ↔ IsReached k n h left
 skipped m n k h left lacks e =
     let at = is_behind m n e in (
       λ r. subst (λ s. IsReached k s h left) (sym at) (skip_to m k h left lacks r),
@@ -310,7 +310,7 @@ some_type_rows n some = omega (arith, some)
 some_least : (n : ℕ) → 0 < n → 0 < min n 1
 some_least n some = omega (arith, some)
 
-due_here : (m : Section) (k : Known) (h : Shown) → has_lines k m ≡ true → SaidBefore m k h → 0 < section_rows h.plan m
+due_here : (m : Section) (k : Known) (h : Shown) → has_lines k m ≡ true → KnowsBefore m k h → 0 < section_rows h.plan m
 due_here Version k h has_some said = omega arith
 due_here Program k h has_some said = omega arith
 due_here Marker k h has_some said = omega arith
@@ -336,7 +336,7 @@ reached_left m k h left has_some = (
 )
 
 -- behind the last section there is none, and it has a line
-pub last_has_lines : (m : Section) (k : Known) → after m ≡ [] → has_lines k m ≡ true
+pub last_has_lines : (m : Section) (k : Known) → sections_behind m ≡ [] → has_lines k m ≡ true
 last_has_lines Version k e = cc
 last_has_lines Program k e = cc
 last_has_lines Marker k e = cc
@@ -357,12 +357,12 @@ last_has_lines End k e = refl
 -- ---- from a line to the next
 
 -- the place of the next line, behind a section of one line
-steps_by : (s : Section) (line : List ℕ) (old new : Known) (next : Section × ℕ) → IsSole s → Learns s line old new
+steps_by : (s : Section) (line : List ℕ) (old new : Known) (next : Section × ℕ) → IsSole s → LearnsLine s line old new
     → ((h : Shown) (left : List (List ℕ)) → IsPast new s h left ↔ IsHeaderLeft new next.0 next.1 h left) → StepsTo old s 0 line new (Some next)
 steps_by s line old new next sole learned behind h left = both_ways (past_line s line old new sole learned h left) (behind h left)
 
 -- there is a section behind one of one line
-sole_next : (s : Section) → IsSole s → after s ≡ [] → ⊥
+sole_next : (s : Section) → IsSole s → sections_behind s ≡ [] → ⊥
 sole_next Version sole e = cc
 sole_next Program sole e = cc
 sole_next Marker sole e = cc
@@ -379,18 +379,18 @@ sole_next (Shift Gps) sole e = cc
 sole_next (Shift Galileo) sole e = cc
 sole_next End sole e = sole
 
-pub steps_on : (s : Section) (line : List ℕ) (old new : Known) (r : Option (Section × ℕ)) → IsSole s → Learns s line old new
-    → IfSome r (λ next. (h : Shown) (left : List (List ℕ)) → IsPast new s h left ↔ IsHeaderLeft new next.0 next.1 h left) → IfNone r (after s ≡ [])
+pub steps_on : (s : Section) (line : List ℕ) (old new : Known) (r : Option (Section × ℕ)) → IsSole s → LearnsLine s line old new
+    → IfSome r (λ next. (h : Shown) (left : List (List ℕ)) → IsPast new s h left ↔ IsHeaderLeft new next.0 next.1 h left) → IfNone r (sections_behind s ≡ [])
     → StepsTo old s 0 line new r
 steps_on s line old new (Some next) sole learned here last = steps_by s line old new next sole learned here
 steps_on s line old new None sole learned here last = absurd (sole_next s sole last)
 
-pub not_last : (s : Section) (r : Option (Section × ℕ)) → IsSole s → IfNone r (after s ≡ []) → r ≡ None → ⊥
+pub not_last : (s : Section) (r : Option (Section × ℕ)) → IsSole s → IfNone r (sections_behind s ≡ []) → r ≡ None → ⊥
 not_last s (Some next) sole last e = cc
 not_last s None sole last e = sole_next s sole last
 
-pub same_section : (s t : Section) (line : List ℕ) (old new : Known) (taken : Bool) → s ≡ t → Learned t line old new taken → Learned s line old new taken
-same_section s t line old new taken e l = subst (λ u. Learned u line old new taken) (sym e) l
+pub same_section : (s t : Section) (line : List ℕ) (old new : Known) (taken : Bool) → s ≡ t → LearnsOrRefuses t line old new taken → LearnsOrRefuses s line old new taken
+same_section s t line old new taken e l = subst (λ u. LearnsOrRefuses u line old new taken) (sym e) l
 
 -- ---- whichever section it is
 

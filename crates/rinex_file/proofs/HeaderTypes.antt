@@ -13,9 +13,9 @@ use Rattle.rinex_file.specs.declared.header.section.Section.{Section}
 use Rattle.rinex_file.specs.declared.header.section.Section.TheVariants.{Types}
 use Rattle.rinex_file.specs.FileValues.{of_system}
 use Rattle.rinex_file.specs.Lines.{letter_of}
-use Rattle.rinex_file.specs.Header.{lines_of, lines_from, after, type_line, type_rows, types_of, codes_of}
-use Rattle.rinex_file.specs.Read.Progress.{Known, Shown, IsShown, Says, SaidBefore, SaidWithin, IsHeaderLeft, shown_lines, AreTypes, types_line, begun}
-use Rattle.rinex_file.specs.Read.HeaderSteps.{Unread, IsPast, StepsTo, NoneGoesOn, AreBegun, TakesRow, RefusesRow, with_signals, with_count}
+use Rattle.rinex_file.specs.Header.{section_lines, lines_from, sections_behind, type_line, type_rows, types_of, codes_of}
+use Rattle.rinex_file.specs.Read.Progress.{Known, Shown, IsShown, KnowsSection, KnowsBefore, KnowsWithin, IsHeaderLeft, shown_lines, AreTypes, types_line, signals_begun}
+use Rattle.rinex_file.specs.Read.HeaderSteps.{IsUnread, IsPast, StepsTo, NoneGoesOn, AreBegun, TakesRow, RefusesRow, with_signals, with_count}
 use Rattle.rinex_file.proofs.TypeRows.{few_types}
 use Rattle.rinex_file.proofs.Sections.{emit, at_row}
 use Rattle.rinex_file.proofs.HeaderSteps.{both_ways, said_version, none_planned, some_planned, shown_rows}
@@ -23,24 +23,24 @@ use Rattle.rinex_file.proofs.HeaderSteps.{both_ways, said_version, none_planned,
 -- ---- numbers of signals
 
 -- of the signals of a line all begin in it or before where it is the last
-last_begins : (count row : ℕ) → type_rows count ≤ row + 1 → count ≤ begun (row + 1)
+last_begins : (count row : ℕ) → type_rows count ≤ row + 1 → count ≤ signals_begun (row + 1)
 last_begins count row last = omega (arith, last)
 
-begun_more : (row : ℕ) → begun row ≤ begun (row + 1)
+begun_more : (row : ℕ) → signals_begun row ≤ signals_begun (row + 1)
 begun_more row = omega arith
 
 -- what stands in front was taken before
-pub begun_in_front : (old new all : List ℕ) (row : ℕ) → take (length old) new ≡ old → length old ≡ begun row → new ≡ take (begun (row + 1)) all → old ≡ take (begun row) all
+pub begun_in_front : (old new all : List ℕ) (row : ℕ) → take (length old) new ≡ old → length old ≡ signals_begun row → new ≡ take (signals_begun (row + 1)) all → old ≡ take (signals_begun row) all
 begun_in_front old new all row grows size is =
-    sym grows ∙ ap (λ n. take n new) size ∙ ap (take (begun row)) is ∙ take-take (begun row) (begun (row + 1)) all (begun_more row)
+    sym grows ∙ ap (λ n. take n new) size ∙ ap (take (signals_begun row)) is ∙ take-take (signals_begun row) (signals_begun (row + 1)) all (begun_more row)
 
 pub grows_indices : (old new : List SignalAt) → take (length old) new ≡ old → take (length (indices old)) (indices new) ≡ indices old
 grows_indices old new e =
     ap (λ n. take n (indices new)) (length_indices old) ∙ take-map (λ s. s.index) (length old) new ∙ ap indices e
 
 pub row_taken : (system : System) (count row : ℕ) (line : List ℕ) (old new : List SignalAt)
-    → take (length old) new ≡ old → length old ≡ begun row → length new ≡ min (begun (row + 1)) count
-    → ((all : List ℕ) → AreTypes system all → length all ≡ count → indices old ≡ take (begun row) all → (line ≡ types_line system all row) ↔ (indices new ≡ take (begun (row + 1)) all))
+    → take (length old) new ≡ old → length old ≡ signals_begun row → length new ≡ min (signals_begun (row + 1)) count
+    → ((all : List ℕ) → AreTypes system all → length all ≡ count → indices old ≡ take (signals_begun row) all → (line ≡ types_line system all row) ↔ (indices new ≡ take (signals_begun (row + 1)) all))
     → TakesRow system count row line (indices old) (indices new)
 row_taken system count row line old new grows before size taken = record { taken = steps; size = length_indices new ∙ size } where
   steps : (all : List ℕ) → AreTypes system all → (AreBegun count row (indices old) all × (line ≡ types_line system all row)) ↔ AreBegun count (row + 1) (indices new) all
@@ -54,7 +54,7 @@ row_taken system count row line old new grows before size taken = record { taken
 -- ---- the line that is due
 
 -- the signals that a header shows
-types_shown : (system : System) (k : Known) (h : Shown) → IsShown h → SaidBefore (Types system) k h → of_system system k.gps k.galileo ≡ true → AreTypes system (planned_of system h.plan)
+types_shown : (system : System) (k : Known) (h : Shown) → IsShown h → KnowsBefore (Types system) k h → of_system system k.gps k.galileo ≡ true → AreTypes system (planned_of system h.plan)
 types_shown Gps k h is before planned =
     record { listed = is.plan.listed Gps; apart = is.plan.apart Gps; some = some_planned k.gps h.plan.gps (said_version 8 k h before).0 planned }
 types_shown Galileo k h is before planned =
@@ -62,10 +62,10 @@ types_shown Galileo k h is before planned =
 
 record IsAtRow (k : Known) (system : System) (row : ℕ) (line : List ℕ) (h : Shown) (left : List (List ℕ)) : Type 0 where
   is : IsShown h
-  before : SaidBefore (Types system) k h
-  unread : Unread (Types system) k
+  before : KnowsBefore (Types system) k h
+  unread : IsUnread (Types system) k
   count : 0 < row → k.signals ≡ length (planned_of system h.plan)
-  begins : planned_of system k.shown.plan ≡ take (begun row) (planned_of system h.plan)
+  begins : planned_of system k.shown.plan ≡ take (signals_begun row) (planned_of system h.plan)
   due : row < type_rows (length (planned_of system h.plan))
   here : line ≡ types_line system (planned_of system h.plan) row
   lines : left ≡ lines_from (shown_lines h) (Types system) (row + 1)
@@ -73,8 +73,8 @@ record IsAtRow (k : Known) (system : System) (row : ℕ) (line : List ℕ) (h : 
 nothing_in_front : (n : ℕ) → n < n → ⊥
 nothing_in_front n h = omega (arith, h)
 
-within_parts : (system : System) (row : ℕ) (k : Known) (h : Shown) → SaidWithin (Types system) row k h
-    → Unread (Types system) k × (0 < row → k.signals ≡ length (planned_of system h.plan)) × (planned_of system k.shown.plan ≡ take (begun row) (planned_of system h.plan))
+within_parts : (system : System) (row : ℕ) (k : Known) (h : Shown) → KnowsWithin (Types system) row k h
+    → IsUnread (Types system) k × (0 < row → k.signals ≡ length (planned_of system h.plan)) × (planned_of system k.shown.plan ≡ take (signals_begun row) (planned_of system h.plan))
 within_parts Gps zero k h w = (w.1, λ far. absurd (nothing_in_front 0 far), w.0)
 within_parts Gps (suc row) k h w = (w.0, λ far. w.1, w.2)
 within_parts Galileo zero k h w = (tt, λ far. absurd (nothing_in_front 0 far), w)
@@ -83,8 +83,8 @@ within_parts Galileo (suc row) k h w = (tt, λ far. w.0, w.1)
 above_none : (row : ℕ) → 0 < suc row
 above_none row = omega arith
 
-within_by : (system : System) (row : ℕ) (k : Known) (h : Shown) → Unread (Types system) k → (0 < row → k.signals ≡ length (planned_of system h.plan))
-    → planned_of system k.shown.plan ≡ take (begun row) (planned_of system h.plan) → SaidWithin (Types system) row k h
+within_by : (system : System) (row : ℕ) (k : Known) (h : Shown) → IsUnread (Types system) k → (0 < row → k.signals ≡ length (planned_of system h.plan))
+    → planned_of system k.shown.plan ≡ take (signals_begun row) (planned_of system h.plan) → KnowsWithin (Types system) row k h
 within_by Gps zero k h unread count begins = (begins, unread)
 within_by Gps (suc row) k h unread count begins = (unread, count (above_none row), begins)
 within_by Galileo zero k h unread count begins = begins
@@ -95,7 +95,7 @@ same_head line x left rest e = (cc, cc)
 
 one_row : (system : System) (h : Shown) (row : ℕ) → row < type_rows (length (planned_of system h.plan))
     → lines_from (shown_lines h) (Types system) row ≡ types_line system (planned_of system h.plan) row ∷ lines_from (shown_lines h) (Types system) (row + 1)
-unfolding lines_of
+unfolding section_lines
 one_row system h row due =
     let rows = shown_rows h (Types system) in
     let less : row < length (shown_lines h (Types system)) = omega (arith, rows, due) in
@@ -164,12 +164,12 @@ pub made_is : (system : System) (k m : Known) (signals : List ℕ) (count : ℕ)
 unfolding made
 made_is system k m signals count e = ap (λ n. with_count n count) (sym e)
 
-before_same : (system : System) (k : Known) (signals : List ℕ) (count : ℕ) (h : Shown) → SaidBefore (Types system) k h ↔ SaidBefore (Types system) (made system k signals count) h
+before_same : (system : System) (k : Known) (signals : List ℕ) (count : ℕ) (h : Shown) → KnowsBefore (Types system) k h ↔ KnowsBefore (Types system) (made system k signals count) h
 unfolding made
 before_same Gps k signals count h = (λ b. b, λ b. b)
 before_same Galileo k signals count h = (λ b. b, λ b. b)
 
-unread_same : (system : System) (k : Known) (signals : List ℕ) (count : ℕ) → Unread (Types system) k ↔ Unread (Types system) (made system k signals count)
+unread_same : (system : System) (k : Known) (signals : List ℕ) (count : ℕ) → IsUnread (Types system) k ↔ IsUnread (Types system) (made system k signals count)
 unfolding made
 unread_same Gps k signals count = (λ u. u, λ u. u)
 unread_same Galileo k signals count = (λ u. u, λ u. u)
@@ -186,18 +186,18 @@ count_made system k signals count = refl
 -- what a line of types leaves
 record IsTaken (k : Known) (system : System) (row count : ℕ) (signals : List ℕ) (h : Shown) (left : List (List ℕ)) : Type 0 where
   is : IsShown h
-  before : SaidBefore (Types system) k h
-  unread : Unread (Types system) k
+  before : KnowsBefore (Types system) k h
+  unread : IsUnread (Types system) k
   begins : AreBegun count (row + 1) signals (planned_of system h.plan)
   lines : left ≡ lines_from (shown_lines h) (Types system) (row + 1)
 
 least : (a b : ℕ) → b ≤ a → min a b ≡ b
 least a b h = omega (arith, h)
 
-says_by : (system : System) (k : Known) (h : Shown) → planned_of system k.shown.plan ≡ planned_of system h.plan → Says (Types system) k h
+says_by : (system : System) (k : Known) (h : Shown) → planned_of system k.shown.plan ≡ planned_of system h.plan → KnowsSection (Types system) k h
 says_by system k h e = e
 
-said_by : (system : System) (k : Known) (h : Shown) → Says (Types system) k h → planned_of system k.shown.plan ≡ planned_of system h.plan
+said_by : (system : System) (k : Known) (h : Shown) → KnowsSection (Types system) k h → planned_of system k.shown.plan ≡ planned_of system h.plan
 said_by system k h e = e
 
 module _ (k : Known) (system : System) (row : ℕ) (line : List ℕ) (r : Option ℕ) (count : ℕ) (signals : List ℕ) (planned : of_system system k.gps k.galileo ≡ true) (due : IsDue k system row line r)
@@ -256,19 +256,19 @@ module _ (k : Known) (system : System) (row : ℕ) (line : List ℕ) (r : Option
     new : Known
     new = made system k signals count
 
-    all_begin : count ≤ begun (row + 1)
+    all_begin : count ≤ signals_begun (row + 1)
     all_begin = last_begins count row last
 
-    at_end : length (planned_of system h.plan) ≡ count → lines_from (shown_lines h) (Types system) (row + 1) ≡ flat_map (shown_lines h) (after (Types system))
+    at_end : length (planned_of system h.plan) ≡ count → lines_from (shown_lines h) (Types system) (row + 1) ≡ flat_map (shown_lines h) (sections_behind (Types system))
     at_end size =
         let rows = shown_rows h (Types system) in
         let short : length (shown_lines h (Types system)) ≤ row + 1 = subst (λ n. n ≤ row + 1) (sym (rows ∙ ap type_rows size)) last in
-        ap (λ l. l ++ flat_map (shown_lines h) (after (Types system))) (drop_all (row + 1) (shown_lines h (Types system)) short)
+        ap (λ l. l ++ flat_map (shown_lines h) (sections_behind (Types system))) (drop_all (row + 1) (shown_lines h (Types system)) short)
 
     on : IsTaken k system row count signals h left → IsPast new (Types system) h left
     on t =
-        let fits : length (planned_of system h.plan) ≤ begun (row + 1) = subst (λ n. n ≤ begun (row + 1)) (sym t.begins.0) all_begin in
-        let whole : signals ≡ planned_of system h.plan = t.begins.1 ∙ take_all (begun (row + 1)) (planned_of system h.plan) fits in
+        let fits : length (planned_of system h.plan) ≤ signals_begun (row + 1) = subst (λ n. n ≤ signals_begun (row + 1)) (sym t.begins.0) all_begin in
+        let whole : signals ≡ planned_of system h.plan = t.begins.1 ∙ take_all (signals_begun (row + 1)) (planned_of system h.plan) fits in
         record {
           is = t.is;
           before = (before_same system k signals count h).0 t.before;
@@ -280,29 +280,29 @@ module _ (k : Known) (system : System) (row : ℕ) (line : List ℕ) (r : Option
     back : IsPast new (Types system) h left → IsTaken k system row count signals h left
     back p =
         let whole : signals ≡ planned_of system h.plan = sym (planned_made system k signals count) ∙ said_by system new h p.says in
-        let size : length (planned_of system h.plan) ≡ count = ap length (sym whole) ∙ takes.size ∙ least (begun (row + 1)) count all_begin in
-        let fits : length (planned_of system h.plan) ≤ begun (row + 1) = subst (λ n. n ≤ begun (row + 1)) (sym size) all_begin in
+        let size : length (planned_of system h.plan) ≡ count = ap length (sym whole) ∙ takes.size ∙ least (signals_begun (row + 1)) count all_begin in
+        let fits : length (planned_of system h.plan) ≤ signals_begun (row + 1) = subst (λ n. n ≤ signals_begun (row + 1)) (sym size) all_begin in
         record {
           is = p.is;
           before = (before_same system k signals count h).1 p.before;
           unread = (unread_same system k signals count).1 p.unread;
-          begins = (size, whole ∙ sym (take_all (begun (row + 1)) (planned_of system h.plan) fits));
+          begins = (size, whole ∙ sym (take_all (signals_begun (row + 1)) (planned_of system h.plan) fits));
           lines = p.lines ∙ sym (at_end size);
         }
 
 -- behind the types of a system there is a section
-types_next : (system : System) → after (Types system) ≡ [] → ⊥
+types_next : (system : System) → sections_behind (Types system) ≡ [] → ⊥
 types_next Gps e = cc
 types_next Galileo e = cc
 
 pub types_on : (old new : Known) (system : System) (row : ℕ) (line : List ℕ) (r : Option (Section × ℕ))
     → ((h : Shown) (left : List (List ℕ)) → IsHeaderLeft old (Types system) row h (line ∷ left) ↔ IsPast new (Types system) h left)
     → IfSome r (λ next. (h : Shown) (left : List (List ℕ)) → IsPast new (Types system) h left ↔ IsHeaderLeft new next.0 next.1 h left)
-    → IfNone r (after (Types system) ≡ []) → StepsTo old (Types system) row line new r
+    → IfNone r (sections_behind (Types system) ≡ []) → StepsTo old (Types system) row line new r
 types_on old new system row line (Some next) past here last = λ h left. both_ways (past h left) (here h left)
 types_on old new system row line None past here last = absurd (types_next system last)
 
-pub types_not_last : (system : System) (r : Option (Section × ℕ)) → IfNone r (after (Types system) ≡ []) → r ≡ None → ⊥
+pub types_not_last : (system : System) (r : Option (Section × ℕ)) → IfNone r (sections_behind (Types system) ≡ []) → r ≡ None → ⊥
 types_not_last system (Some next) last e = cc
 types_not_last system None last e = types_next system last
 

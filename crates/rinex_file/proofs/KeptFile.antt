@@ -13,12 +13,12 @@ use Rattle.obs_epoch.specs.Dates.{civil_of}
 use Rattle.rinex_file.specs.Texts.{HeaderLists}
 use Rattle.rinex_file.specs.declared.values.kept.KeptRow.{KeptRow}
 use Rattle.rinex_file.specs.declared.values.kept.KeptEpoch.{KeptEpoch}
-use Rattle.rinex_file.specs.Value.{Entry, Seen, Stamped, FileValue, file_with}
-use Rattle.rinex_file.specs.FileValues.{IsSeen, IsStamped, IsFileValue, of_system}
+use Rattle.rinex_file.specs.Value.{SignalValues, SatelliteRow, Stamped, FileValue, file_with}
+use Rattle.rinex_file.specs.FileValues.{IsSatelliteRow, IsStamped, IsFileValue, of_system}
 use Rattle.rinex_file.specs.Header.{header_lines}
 use Rattle.rinex_file.specs.Numbers.{joined}
 use Rattle.rinex_file.specs.File.{header_text, stamped_lines, file_text}
-use Rattle.rinex_file.specs.Course.{epoch_at}
+use Rattle.rinex_file.specs.Course.{stamped_at}
 use Rattle.rinex_file.specs.Read.Kept.{rows_of, change_at, changes_after, epochs_with, epochs_of, row_count, AreKept, HasRoom}
 use Rattle.rinex_file.proofs.PlainHeader.{few_signals_of}
 use Rattle.rinex_file.proofs.KeptRows.{length-rows_of}
@@ -34,7 +34,7 @@ either_few : (s : System) (gps galileo : ℕ) → gps ≤ 19 → galileo ≤ 19 
 either_few Gps gps galileo few less = few
 either_few Galileo gps galileo few less = less
 
-has_room : (gps galileo : ℕ) (s : Seen) → gps ≤ 19 → galileo ≤ 19 → IsSeen gps galileo s → HasRoom s
+has_room : (gps galileo : ℕ) (s : SatelliteRow) → gps ≤ 19 → galileo ≤ 19 → IsSatelliteRow gps galileo s → HasRoom s
 has_room gps galileo s g e is =
     let few = few_satellites s.system in
     let most = is.row.satellite.1 in
@@ -42,7 +42,7 @@ has_room gps galileo s g e is =
     let whole = is.row.whole in
     (omega (arith, few, most), is.row.entries, omega (arith, signals, whole))
 
-have_room : (gps galileo : ℕ) (epochs : List KeptEpoch) (changes : List StationValues) (rows : List Seen) → gps ≤ 19 → galileo ≤ 19 → row_count epochs ≡ length rows
+have_room : (gps galileo : ℕ) (epochs : List KeptEpoch) (changes : List StationValues) (rows : List SatelliteRow) → gps ≤ 19 → galileo ≤ 19 → row_count epochs ≡ length rows
     → All (IsStamped gps galileo) (epochs_with epochs changes rows) → All HasRoom rows
 have_room gps galileo [] changes rows g e size are = λ k d less. absurd (omega (arith, size, less))
 have_room gps galileo (x ∷ xs) changes rows g e size are =
@@ -52,12 +52,12 @@ have_room gps galileo (x ∷ xs) changes rows g e size are =
     let rest = drop x.rows rows in
     let sum : row_count (x ∷ xs) ≡ x.rows + row_count xs = sum_by-cons (λ (y : KeptEpoch). y.rows) x xs in
     let left : length rest ≡ length rows - x.rows = length-drop x.rows rows in
-    let one = All-head (IsStamped gps galileo) (epoch_at c x.time own) (epochs_with xs cs rest) are in
-    let more = All-tail (IsStamped gps galileo) (epoch_at c x.time own) (epochs_with xs cs rest) are in
+    let one = All-head (IsStamped gps galileo) (stamped_at c x.time own) (epochs_with xs cs rest) are in
+    let more = All-tail (IsStamped gps galileo) (stamped_at c x.time own) (epochs_with xs cs rest) are in
     subst (All HasRoom) (take-append-drop x.rows rows)
     (All-append HasRoom own rest (λ k d less. has_room gps galileo (get_or own k d) g e (one.rows.each k d less)) (have_room gps galileo xs cs rest g e (omega (arith, size, sum, left)) more))
 
-pub lines_have_room : (v : FileValue) (epochs : List KeptEpoch) (changes : List StationValues) (rows : List KeptRow) (all : List Entry) → IsFileValue v → AreKept epochs changes rows all 0
+pub lines_have_room : (v : FileValue) (epochs : List KeptEpoch) (changes : List StationValues) (rows : List KeptRow) (all : List SignalValues) → IsFileValue v → AreKept epochs changes rows all 0
     → v.epochs ≡ epochs_of epochs changes rows all → All HasRoom (rows_of rows all)
 lines_have_room v epochs changes rows all is kept same =
     let gps = length v.plan.gps in
@@ -69,7 +69,7 @@ lines_have_room v epochs changes rows all is kept same =
 
 -- ---- header and epochs
 
-parts : (t : HeaderLists) (p : PlanValue) (x : StationValues) (epochs : List KeptEpoch) (changes : List StationValues) (rows : List KeptRow) (all : List Entry) (first : KeptEpoch) → 0 < length (epochs_of epochs changes rows all)
+parts : (t : HeaderLists) (p : PlanValue) (x : StationValues) (epochs : List KeptEpoch) (changes : List StationValues) (rows : List KeptRow) (all : List SignalValues) (first : KeptEpoch) → 0 < length (epochs_of epochs changes rows all)
     → first ≡ get_or epochs 0 first → header_text t p x first.time ++ joined (flat_map stamped_lines (epochs_of epochs changes rows all)) ≡ file_text (file_with t p x (epochs_of epochs changes rows all))
 unfolding header_text
 parts t p x [] changes rows all first some is = absurd (omega (arith, some))
@@ -78,7 +78,7 @@ parts t p x (e ∷ es) changes rows all first some is =
     ∙ sym (joined-append (header_lines t p x (civil_of e.time)) (flat_map stamped_lines (epochs_of (e ∷ es) changes rows all)))
 
 -- header and epochs were appended to nothing
-pub all_appended : (v f : FileValue) (epochs : List KeptEpoch) (changes : List StationValues) (rows : List KeptRow) (all : List Entry) (first : KeptEpoch) (old text new : List ℕ) → f ≡ v → f.epochs ≡ epochs_of epochs changes rows all
+pub all_appended : (v f : FileValue) (epochs : List KeptEpoch) (changes : List StationValues) (rows : List KeptRow) (all : List SignalValues) (first : KeptEpoch) (old text new : List ℕ) → f ≡ v → f.epochs ≡ epochs_of epochs changes rows all
     → f ≡ file_with f.texts f.plan f.values (epochs_of epochs changes rows all) → IsFileValue f → first ≡ get_or epochs 0 first → old ≡ [] → text ≡ old ++ header_text v.texts v.plan v.values first.time
     → new ≡ text ++ joined (flat_map stamped_lines (epochs_of epochs changes rows all)) → new ≡ file_text v
 all_appended v f epochs changes rows all first old text new view same by is at none grown more =

@@ -5,7 +5,7 @@ use Rattle.std.proofs.Math.Seq.{drop-cons}
 use Rattle.std.proofs.Math.ListN.{drop_of_length-le}
 use Rattle.std.proofs.lemmas.List.Elements.{All-head, All-tail, All-take, All-drop}
 use Rattle.rinex_file.specs.Numbers.{joined}
-use Rattle.rinex_file.specs.Lines.{seen_line}
+use Rattle.rinex_file.specs.Lines.{satellite_line}
 use Rattle.rinex_file.specs.File.{change_lines, stamped_lines}
 use Rattle.rinex_file.proofs.Sent.{joined-append}
 use Rattle.rinex_file.proofs.Appended.{passed}
@@ -15,10 +15,10 @@ use Rattle.std.proofs.Math.Seq.{take-length}
 use Rattle.std.proofs.lemmas.List.Sums.{sum_by-append, sum_by-cons, sum_by-take-drop}
 use Rattle.rinex_file.specs.declared.values.kept.KeptRow.{KeptRow}
 use Rattle.rinex_file.specs.declared.values.kept.KeptEpoch.{KeptEpoch}
-use Rattle.rinex_file.specs.Value.{Entry, Seen, Stamped, seen_with}
+use Rattle.rinex_file.specs.Value.{SignalValues, SatelliteRow, Stamped, satellite_row}
 use Rattle.obs_epoch.specs.declared.cell.StationValues.{StationValues}
-use Rattle.rinex_file.specs.Course.{History, changes_of, epoch_at, events_in, with_seen, with_epoch}
-use Rattle.rinex_file.specs.Read.Kept.{row_at, rows_of, change_at, changes_after, epochs_with, epochs_of, row_count, entry_count, change_count, HasRoom, kept_history, AreKept}
+use Rattle.rinex_file.specs.Course.{History, changes_of, stamped_at, events_in, with_satellite, with_epoch}
+use Rattle.rinex_file.specs.Read.Kept.{kept_row, rows_of, change_at, changes_after, epochs_with, epochs_of, row_count, entry_count, change_count, HasRoom, kept_history, AreKept}
 
 no_items : {X : Type 0} (xs : List X) → 0 ≡ length xs → xs ≡ []
 no_items [] e = refl
@@ -29,21 +29,21 @@ all_of xs n e = ap (λ k. take k xs) e ∙ take-length xs
 
 -- ---- one satellite more
 
-pub rows_more : (rows : List KeptRow) (all new : List Entry) (r : KeptRow) → sum_by (λ x. x.entries) rows ≡ length all → r.entries ≡ length new
-    → rows_of (rows ++ r ∷ []) (all ++ new) ≡ rows_of rows all ++ seen_with r.system r.satellite new ∷ []
+pub rows_more : (rows : List KeptRow) (all new : List SignalValues) (r : KeptRow) → sum_by (λ x. x.entries) rows ≡ length all → r.entries ≡ length new
+    → rows_of (rows ++ r ∷ []) (all ++ new) ≡ rows_of rows all ++ satellite_row r.system r.satellite new ∷ []
 rows_more [] all new r taken size =
     let none : all ++ new ≡ new = ap (λ l. l ++ new) (no_items all taken) in
-    ap (λ l. seen_with r.system r.satellite l ∷ []) (ap (take r.entries) none ∙ all_of new r.entries size)
+    ap (λ l. satellite_row r.system r.satellite l ∷ []) (ap (take r.entries) none ∙ all_of new r.entries size)
 rows_more (x ∷ xs) all new r taken size =
     let sum : sum_by (λ r. r.entries) (x ∷ xs) ≡ x.entries + sum_by (λ r. r.entries) xs = sum_by-cons (λ (r : KeptRow). r.entries) x xs in
     let few : x.entries ≤ length all = omega (arith, taken, sum) in
     let left : length (drop x.entries all) ≡ length all - x.entries = length-drop x.entries all in
     let rest = rows_more xs (drop x.entries all) new r (omega (arith, taken, left, sum)) size in
-    ap (λ l. seen_with x.system x.satellite l ∷ rows_of (xs ++ r ∷ []) (drop x.entries (all ++ new))) (take-append-le x.entries all new few)
-    ∙ ap (λ l. seen_with x.system x.satellite (take x.entries all) ∷ rows_of (xs ++ r ∷ []) l) (drop-append-le x.entries all new few)
-    ∙ ap (λ l. seen_with x.system x.satellite (take x.entries all) ∷ l) rest
+    ap (λ l. satellite_row x.system x.satellite l ∷ rows_of (xs ++ r ∷ []) (drop x.entries (all ++ new))) (take-append-le x.entries all new few)
+    ∙ ap (λ l. satellite_row x.system x.satellite (take x.entries all) ∷ rows_of (xs ++ r ∷ []) l) (drop-append-le x.entries all new few)
+    ∙ ap (λ l. satellite_row x.system x.satellite (take x.entries all) ∷ l) rest
 
-pub length-rows_of : (rows : List KeptRow) (all : List Entry) → length (rows_of rows all) ≡ length rows
+pub length-rows_of : (rows : List KeptRow) (all : List SignalValues) → length (rows_of rows all) ≡ length rows
 length-rows_of [] all = refl
 length-rows_of (x ∷ xs) all = ap suc (length-rows_of xs (drop x.entries all))
 
@@ -71,7 +71,7 @@ pub count_changes : (e : KeptEpoch) (es : List KeptEpoch) → change_count (e �
 count_changes e es = sum_by-cons (λ (x : KeptEpoch). one_if x.changed) e es
 
 -- epochs don't change by satellites behind theirs
-pub epochs_same : (epochs : List KeptEpoch) (changes : List StationValues) (rows new : List Seen) → row_count epochs ≤ length rows → epochs_with epochs changes (rows ++ new) ≡ epochs_with epochs changes rows
+pub epochs_same : (epochs : List KeptEpoch) (changes : List StationValues) (rows new : List SatelliteRow) → row_count epochs ≤ length rows → epochs_with epochs changes (rows ++ new) ≡ epochs_with epochs changes rows
 epochs_same [] changes rows new few = refl
 epochs_same (e ∷ es) changes rows new few =
     let c = change_at e.changed changes in
@@ -79,23 +79,23 @@ epochs_same (e ∷ es) changes rows new few =
     let sum : row_count (e ∷ es) ≡ e.rows + row_count es = sum_by-cons (λ (e : KeptEpoch). e.rows) e es in
     let here : e.rows ≤ length rows = omega (arith, few, sum) in
     let left : length (drop e.rows rows) ≡ length rows - e.rows = length-drop e.rows rows in
-    ap (λ l. epoch_at c e.time l ∷ epochs_with es cs (drop e.rows (rows ++ new))) (take-append-le e.rows rows new here)
-    ∙ ap (λ l. epoch_at c e.time (take e.rows rows) ∷ epochs_with es cs l) (drop-append-le e.rows rows new here)
-    ∙ ap (λ l. epoch_at c e.time (take e.rows rows) ∷ l) (epochs_same es cs (drop e.rows rows) new (omega (arith, few, left, sum)))
+    ap (λ l. stamped_at c e.time l ∷ epochs_with es cs (drop e.rows (rows ++ new))) (take-append-le e.rows rows new here)
+    ∙ ap (λ l. stamped_at c e.time (take e.rows rows) ∷ epochs_with es cs l) (drop-append-le e.rows rows new here)
+    ∙ ap (λ l. stamped_at c e.time (take e.rows rows) ∷ l) (epochs_same es cs (drop e.rows rows) new (omega (arith, few, left, sum)))
 
 -- ---- one epoch more
 
-behind_one : (n m k : ℕ) (rows : List Seen) → k ≡ m + n → drop n (drop m rows) ≡ drop k rows
+behind_one : (n m k : ℕ) (rows : List SatelliteRow) → k ≡ m + n → drop n (drop m rows) ≡ drop k rows
 behind_one n m k rows sum = drop-drop n m rows ∙ ap (λ j. drop j rows) (sym sum)
 
-pub epochs_more : (epochs : List KeptEpoch) (changes : List StationValues) (c : Option StationValues) (rows : List Seen) (e : KeptEpoch) → change_count epochs ≡ length changes → e.changed ≡ is_some c
+pub epochs_more : (epochs : List KeptEpoch) (changes : List StationValues) (c : Option StationValues) (rows : List SatelliteRow) (e : KeptEpoch) → change_count epochs ≡ length changes → e.changed ≡ is_some c
     → row_count epochs + e.rows ≡ length rows
-    → epochs_with (epochs ++ e ∷ []) (changes ++ option_to_list c) rows ≡ epochs_with epochs changes rows ++ epoch_at c e.time (drop (row_count epochs) rows) ∷ []
+    → epochs_with (epochs ++ e ∷ []) (changes ++ option_to_list c) rows ≡ epochs_with epochs changes rows ++ stamped_at c e.time (drop (row_count epochs) rows) ∷ []
 epochs_more [] changes c rows e taken is size =
     let none : changes ++ option_to_list c ≡ option_to_list c = ap (λ l. l ++ option_to_list c) (no_items changes taken) in
-    ap (λ l. epoch_at (change_at e.changed l) e.time (take e.rows rows) ∷ []) none
-    ∙ ap (λ x. epoch_at x e.time (take e.rows rows) ∷ []) (last_change e.changed c is)
-    ∙ ap (λ l. epoch_at c e.time l ∷ []) (all_of rows e.rows (omega (arith, size)))
+    ap (λ l. stamped_at (change_at e.changed l) e.time (take e.rows rows) ∷ []) none
+    ∙ ap (λ x. stamped_at x e.time (take e.rows rows) ∷ []) (last_change e.changed c is)
+    ∙ ap (λ l. stamped_at c e.time l ∷ []) (all_of rows e.rows (omega (arith, size)))
 epochs_more (x ∷ xs) changes c rows e taken is size =
     let count = count_changes x xs in
     let takes = takes_change x.changed changes (option_to_list c) (omega (arith, count, taken)) in
@@ -104,29 +104,29 @@ epochs_more (x ∷ xs) changes c rows e taken is size =
     let cs = changes_after x.changed changes in
     let sum : row_count (x ∷ xs) ≡ x.rows + row_count xs = sum_by-cons (λ (e : KeptEpoch). e.rows) x xs in
     let left : length (drop x.rows rows) ≡ length rows - x.rows = length-drop x.rows rows in
-    ap (λ o. epoch_at o x.time (take x.rows rows) ∷ epochs_with (xs ++ e ∷ []) (changes_after x.changed (changes ++ option_to_list c)) (drop x.rows rows)) takes.same
-    ∙ ap (λ l. epoch_at own x.time (take x.rows rows) ∷ epochs_with (xs ++ e ∷ []) l (drop x.rows rows)) takes.after
-    ∙ ap (λ l. epoch_at own x.time (take x.rows rows) ∷ l)
+    ap (λ o. stamped_at o x.time (take x.rows rows) ∷ epochs_with (xs ++ e ∷ []) (changes_after x.changed (changes ++ option_to_list c)) (drop x.rows rows)) takes.same
+    ∙ ap (λ l. stamped_at own x.time (take x.rows rows) ∷ epochs_with (xs ++ e ∷ []) l (drop x.rows rows)) takes.after
+    ∙ ap (λ l. stamped_at own x.time (take x.rows rows) ∷ l)
     (epochs_more xs cs c (drop x.rows rows) e (omega (arith, taken, count, behind)) is (omega (arith, size, left, sum))
-    ∙ ap (λ l. epochs_with xs cs (drop x.rows rows) ++ epoch_at c e.time l ∷ []) (behind_one (row_count xs) x.rows (row_count (x ∷ xs)) rows sum))
+    ∙ ap (λ l. epochs_with xs cs (drop x.rows rows) ++ stamped_at c e.time l ∷ []) (behind_one (row_count xs) x.rows (row_count (x ∷ xs)) rows sum))
 
-pub none_open : (epochs : List KeptEpoch) (rows : List Seen) → length rows ≡ row_count epochs → drop (row_count epochs) rows ≡ []
+pub none_open : (epochs : List KeptEpoch) (rows : List SatelliteRow) → length rows ≡ row_count epochs → drop (row_count epochs) rows ≡ []
 none_open epochs rows size = no_items (drop (row_count epochs) rows) (let left = length-drop (row_count epochs) rows in omega (arith, size, left))
 
 -- ---- the history that is kept
 
-abbrev history : List Stamped → List Seen → History
+abbrev history : List Stamped → List SatelliteRow → History
 history epochs rows = record { epochs = epochs; rows = rows }
 
-same_history : (a b : List Stamped) (x y : List Seen) → a ≡ b → x ≡ y → history a x ≡ history b y
+same_history : (a b : List Stamped) (x y : List SatelliteRow) → a ≡ b → x ≡ y → history a x ≡ history b y
 same_history a b x y e f = ap (λ l. history l x) e ∙ ap (history b) f
 
-module _ (epochs : List KeptEpoch) (changes : List StationValues) (rows : List KeptRow) (all : List Entry) (n : ℕ) (kept : AreKept epochs changes rows all n) where
+module _ (epochs : List KeptEpoch) (changes : List StationValues) (rows : List KeptRow) (all : List SignalValues) (n : ℕ) (kept : AreKept epochs changes rows all n) where
   few : row_count epochs ≤ length (rows_of rows all)
   few = let size = length-rows_of rows all in let counted = kept.counted in omega (arith, size, counted)
 
-  pub row_kept : (rows' : List KeptRow) (all' new : List Entry) (r : KeptRow) (seen : Seen) → rows' ≡ rows ++ r ∷ [] → all' ≡ all ++ new → r.entries ≡ length new
-      → seen_with r.system r.satellite new ≡ seen → kept_history epochs changes rows' all' ≡ with_seen (kept_history epochs changes rows all) seen
+  pub row_kept : (rows' : List KeptRow) (all' new : List SignalValues) (r : KeptRow) (seen : SatelliteRow) → rows' ≡ rows ++ r ∷ [] → all' ≡ all ++ new → r.entries ≡ length new
+      → satellite_row r.system r.satellite new ≡ seen → kept_history epochs changes rows' all' ≡ with_satellite (kept_history epochs changes rows all) seen
   row_kept rows' all' new r seen one more size same =
       let here : rows_of rows' all' ≡ rows_of rows all ++ seen ∷ [] =
       ap (λ l. rows_of l all') one ∙ ap (rows_of (rows ++ r ∷ [])) more ∙ rows_more rows all new r kept.taken size ∙ ap (λ s. rows_of rows all ++ s ∷ []) same in
@@ -177,14 +177,14 @@ module _ (epochs : List KeptEpoch) (changes : List StationValues) (rows : List K
 -- ---- the satellites that are left
 
 -- what the next satellite takes
-pub record NextRow (rows : List KeptRow) (i : ℕ) (rest : List Entry) (r : KeptRow) : Type 0 where
+pub record NextRow (rows : List KeptRow) (i : ℕ) (rest : List SignalValues) (r : KeptRow) : Type 0 where
   pub few : r.entries ≤ length rest
-  pub room : HasRoom (seen_with r.system r.satellite (take r.entries rest))
-  pub shown : rows_of (drop i rows) rest ≡ seen_with r.system r.satellite (take r.entries rest) ∷ rows_of (drop (i + 1) rows) (drop r.entries rest)
+  pub room : HasRoom (satellite_row r.system r.satellite (take r.entries rest))
+  pub shown : rows_of (drop i rows) rest ≡ satellite_row r.system r.satellite (take r.entries rest) ∷ rows_of (drop (i + 1) rows) (drop r.entries rest)
   pub count : entry_count (drop i rows) ≡ r.entries + entry_count (drop (i + 1) rows)
   pub others : All HasRoom (rows_of (drop (i + 1) rows) (drop r.entries rest))
 
-pub next_row : (rows : List KeptRow) (i : ℕ) (rest : List Entry) (d : KeptRow) → i < length rows → All HasRoom (rows_of (drop i rows) rest) → entry_count (drop i rows) ≤ length rest
+pub next_row : (rows : List KeptRow) (i : ℕ) (rest : List SignalValues) (d : KeptRow) → i < length rows → All HasRoom (rows_of (drop i rows) rest) → entry_count (drop i rows) ≤ length rest
     → NextRow rows i rest (get_or rows i d)
 next_row rows i rest d less room few =
     let r = get_or rows i d in
@@ -192,41 +192,41 @@ next_row rows i rest d less room few =
     let shape : drop i rows ≡ r ∷ drop (i + 1) rows = drop-cons rows i d less ∙ ap (λ (n : ℕ). r ∷ drop n rows) next in
     let count : entry_count (drop i rows) ≡ r.entries + entry_count (drop (i + 1) rows) =
     ap (λ l. entry_count l) shape ∙ sum_by-cons (λ (x : KeptRow). x.entries) r (drop (i + 1) rows) in
-    let shown : rows_of (drop i rows) rest ≡ seen_with r.system r.satellite (take r.entries rest) ∷ rows_of (drop (i + 1) rows) (drop r.entries rest) = ap (λ l. rows_of l rest) shape in
+    let shown : rows_of (drop i rows) rest ≡ satellite_row r.system r.satellite (take r.entries rest) ∷ rows_of (drop (i + 1) rows) (drop r.entries rest) = ap (λ l. rows_of l rest) shape in
     let all = subst (All HasRoom) shown room in
     record {
       few = omega (arith, few, count);
-      room = All-head HasRoom (seen_with r.system r.satellite (take r.entries rest)) (rows_of (drop (i + 1) rows) (drop r.entries rest)) all;
+      room = All-head HasRoom (satellite_row r.system r.satellite (take r.entries rest)) (rows_of (drop (i + 1) rows) (drop r.entries rest)) all;
       shown = shown;
       count = count;
-      others = All-tail HasRoom (seen_with r.system r.satellite (take r.entries rest)) (rows_of (drop (i + 1) rows) (drop r.entries rest)) all;
+      others = All-tail HasRoom (satellite_row r.system r.satellite (take r.entries rest)) (rows_of (drop (i + 1) rows) (drop r.entries rest)) all;
     }
 
 -- a line of a satellite was appended
-pub row_passed : (rows : List KeptRow) (i n at to : ℕ) (all : List Entry) (r : KeptRow) (text new whole : List ℕ) → NextRow rows i (drop at all) r → n ≡ i + 1 → to ≡ at + r.entries
-    → text ++ joined (map seen_line (rows_of (drop i rows) (drop at all))) ≡ whole → new ≡ text ++ seen_line (row_at r (drop at all))
-    → (new ++ joined (map seen_line (rows_of (drop n rows) (drop to all))) ≡ whole) × All HasRoom (rows_of (drop n rows) (drop to all))
+pub row_passed : (rows : List KeptRow) (i n at to : ℕ) (all : List SignalValues) (r : KeptRow) (text new whole : List ℕ) → NextRow rows i (drop at all) r → n ≡ i + 1 → to ≡ at + r.entries
+    → text ++ joined (map satellite_line (rows_of (drop i rows) (drop at all))) ≡ whole → new ≡ text ++ satellite_line (kept_row r (drop at all))
+    → (new ++ joined (map satellite_line (rows_of (drop n rows) (drop to all))) ≡ whole) × All HasRoom (rows_of (drop n rows) (drop to all))
 row_passed rows i n at to all r text new whole next count gone before e =
     let others = rows_of (drop (i + 1) rows) (drop r.entries (drop at all)) in
     let same : rows_of (drop n rows) (drop to all) ≡ others =
     ap (λ (k : ℕ). rows_of (drop k rows) (drop to all)) count ∙ ap (λ (k : ℕ). rows_of (drop (i + 1) rows) (drop k all)) gone ∙ ap (rows_of (drop (i + 1) rows)) (sym (drop-drop r.entries at all)) in (
-      ap (λ (l : List Seen). new ++ joined (map seen_line l)) same
-          ∙ passed text (seen_line (row_at r (drop at all))) (joined (map seen_line others)) new whole (ap (λ (l : List Seen). text ++ joined (map seen_line l)) (sym next.shown) ∙ before) e,
+      ap (λ (l : List SatelliteRow). new ++ joined (map satellite_line l)) same
+          ∙ passed text (satellite_line (kept_row r (drop at all))) (joined (map satellite_line others)) new whole (ap (λ (l : List SatelliteRow). text ++ joined (map satellite_line l)) (sym next.shown) ∙ before) e,
       subst (All HasRoom) (sym same) next.others,
     )
 
 -- no satellite is left
-pub rows_passed : (rows : List KeptRow) (i : ℕ) (rest : List Entry) (text whole : List ℕ) → length rows ≤ i → text ++ joined (map seen_line (rows_of (drop i rows) rest)) ≡ whole → text ≡ whole
+pub rows_passed : (rows : List KeptRow) (i : ℕ) (rest : List SignalValues) (text whole : List ℕ) → length rows ≤ i → text ++ joined (map satellite_line (rows_of (drop i rows) rest)) ≡ whole → text ≡ whole
 rows_passed rows i rest text whole all before =
-    sym (ap (λ (l : List KeptRow). text ++ joined (map seen_line (rows_of l rest))) (drop_of_length-le rows all) ∙ append-nil text) ∙ before
+    sym (ap (λ (l : List KeptRow). text ++ joined (map satellite_line (rows_of l rest))) (drop_of_length-le rows all) ∙ append-nil text) ∙ before
 
 -- ---- the numbers of epochs and satellites
 
-pub length-epochs_with : (epochs : List KeptEpoch) (changes : List StationValues) (rows : List Seen) → length (epochs_with epochs changes rows) ≡ length epochs
+pub length-epochs_with : (epochs : List KeptEpoch) (changes : List StationValues) (rows : List SatelliteRow) → length (epochs_with epochs changes rows) ≡ length epochs
 length-epochs_with [] changes rows = refl
 length-epochs_with (e ∷ es) changes rows = ap suc (length-epochs_with es (changes_after e.changed changes) (drop e.rows rows))
 
-all_events : (epochs : List KeptEpoch) (changes : List StationValues) (rows : List Seen) → change_count epochs ≡ length changes → events_in (epochs_with epochs changes rows) ≡ length changes
+all_events : (epochs : List KeptEpoch) (changes : List StationValues) (rows : List SatelliteRow) → change_count epochs ≡ length changes → events_in (epochs_with epochs changes rows) ≡ length changes
 all_events [] changes rows taken = taken
 all_events (e ∷ es) changes rows taken =
     let count = count_changes e es in
@@ -235,17 +235,17 @@ all_events (e ∷ es) changes rows taken =
     let rest = all_events es (changes_after e.changed changes) (drop e.rows rows) (omega (arith, taken, count, size)) in
     let own = of_one e.changed changes (omega (arith, count, taken)) in
     let both : events_in (epochs_with (e ∷ es) changes rows) ≡ changes_of (change_at e.changed changes) + events_in (epochs_with es (changes_after e.changed changes) (drop e.rows rows)) =
-    sum_by-cons (λ (x : Stamped). changes_of x.change) (epoch_at (change_at e.changed changes) e.time (take e.rows rows)) (epochs_with es (changes_after e.changed changes) (drop e.rows rows)) in
+    sum_by-cons (λ (x : Stamped). changes_of x.change) (stamped_at (change_at e.changed changes) e.time (take e.rows rows)) (epochs_with es (changes_after e.changed changes) (drop e.rows rows)) in
     omega (arith, both, rest, own, size) where
       of_one : (b : Bool) (vs : List StationValues) → one_if b ≤ length vs → changes_of (change_at b vs) ≡ one_if b
       of_one false vs h = refl
       of_one true [] h = absurd (omega (arith, h))
       of_one true (v ∷ vs) h = refl
 
-pub events_counted : (epochs : List KeptEpoch) (changes : List StationValues) (rows : List KeptRow) (all : List Entry) → AreKept epochs changes rows all 0 → length changes ≡ events_in (epochs_of epochs changes rows all)
+pub events_counted : (epochs : List KeptEpoch) (changes : List StationValues) (rows : List KeptRow) (all : List SignalValues) → AreKept epochs changes rows all 0 → length changes ≡ events_in (epochs_of epochs changes rows all)
 events_counted epochs changes rows all kept = sym (all_events epochs changes (rows_of rows all) kept.changed)
 
-all_rows : (epochs : List KeptEpoch) (changes : List StationValues) (rows : List Seen) → row_count epochs ≤ length rows → sum_by (λ e. length e.rows) (epochs_with epochs changes rows) ≡ row_count epochs
+all_rows : (epochs : List KeptEpoch) (changes : List StationValues) (rows : List SatelliteRow) → row_count epochs ≤ length rows → sum_by (λ e. length e.rows) (epochs_with epochs changes rows) ≡ row_count epochs
 all_rows [] changes rows few = refl
 all_rows (e ∷ es) changes rows few =
     let c = change_at e.changed changes in
@@ -255,10 +255,10 @@ all_rows (e ∷ es) changes rows few =
     let left : length (drop e.rows rows) ≡ length rows - e.rows = length-drop e.rows rows in
     let rest = all_rows es cs (drop e.rows rows) (omega (arith, few, sum, left)) in
     let both : sum_by (λ x. length x.rows) (epochs_with (e ∷ es) changes rows) ≡ length (take e.rows rows) + sum_by (λ x. length x.rows) (epochs_with es cs (drop e.rows rows)) =
-    sum_by-cons (λ (x : Stamped). length x.rows) (epoch_at c e.time (take e.rows rows)) (epochs_with es cs (drop e.rows rows)) in
+    sum_by-cons (λ (x : Stamped). length x.rows) (stamped_at c e.time (take e.rows rows)) (epochs_with es cs (drop e.rows rows)) in
     omega (arith, both, here, rest, sum)
 
-pub rows_counted : (epochs : List KeptEpoch) (changes : List StationValues) (rows : List KeptRow) (all : List Entry) → AreKept epochs changes rows all 0
+pub rows_counted : (epochs : List KeptEpoch) (changes : List StationValues) (rows : List KeptRow) (all : List SignalValues) → AreKept epochs changes rows all 0
     → length rows ≡ sum_by (λ e. length e.rows) (epochs_of epochs changes rows all)
 rows_counted epochs changes rows all kept =
     let long = length-rows_of rows all in
@@ -268,15 +268,15 @@ rows_counted epochs changes rows all kept =
 
 -- ---- the epochs that are left
 
-drop_more : (n m : ℕ) (all : List Entry) → drop (m + n) all ≡ drop n (drop m all)
+drop_more : (n m : ℕ) (all : List SignalValues) → drop (m + n) all ≡ drop n (drop m all)
 drop_more n m all = sym (drop-drop n m all)
 
-pub take_rows : (n : ℕ) (rows : List KeptRow) (all : List Entry) → take n (rows_of rows all) ≡ rows_of (take n rows) all
+pub take_rows : (n : ℕ) (rows : List KeptRow) (all : List SignalValues) → take n (rows_of rows all) ≡ rows_of (take n rows) all
 take_rows zero rows all = refl
 take_rows (suc n) [] all = refl
-take_rows (suc n) (r ∷ rows) all = ap (λ l. row_at r all ∷ l) (take_rows n rows (drop r.entries all))
+take_rows (suc n) (r ∷ rows) all = ap (λ l. kept_row r all ∷ l) (take_rows n rows (drop r.entries all))
 
-pub drop_rows : (n : ℕ) (rows : List KeptRow) (all : List Entry) → drop n (rows_of rows all) ≡ rows_of (drop n rows) (drop (entry_count (take n rows)) all)
+pub drop_rows : (n : ℕ) (rows : List KeptRow) (all : List SignalValues) → drop n (rows_of rows all) ≡ rows_of (drop n rows) (drop (entry_count (take n rows)) all)
 drop_rows zero rows all = refl
 drop_rows (suc n) [] all = refl
 drop_rows (suc n) (r ∷ rows) all =
@@ -290,7 +290,7 @@ drop_changes false k changes = ap (λ (n : ℕ). drop n changes) (same k) where
 drop_changes true k changes = drop-drop 1 k changes
 
 -- what the next epoch takes
-pub record NextEpoch (epochs : List KeptEpoch) (changes : List StationValues) (rows : List KeptRow) (all : List Entry) (i row entry change : ℕ) (e : KeptEpoch) : Type 0 where
+pub record NextEpoch (epochs : List KeptEpoch) (changes : List StationValues) (rows : List KeptRow) (all : List SignalValues) (i row entry change : ℕ) (e : KeptEpoch) : Type 0 where
   pub rows_fit : row + e.rows ≤ length rows
   pub entries_fit : entry + entry_count (take e.rows (drop row rows)) ≤ length all
   pub room : All HasRoom (rows_of (take e.rows (drop row rows)) (drop entry all))
@@ -299,10 +299,10 @@ pub record NextEpoch (epochs : List KeptEpoch) (changes : List StationValues) (r
   pub entry_sum : (entry + entry_count (take e.rows (drop row rows))) + entry_count (drop (row + e.rows) rows) ≡ length all
   pub change_fits : change + one_if e.changed ≤ length changes
   pub change_sum : (change + one_if e.changed) + change_count (drop (i + 1) epochs) ≡ length changes
-  pub shown : epochs_of (drop i epochs) (drop change changes) (drop row rows) (drop entry all) ≡ epoch_at (change_at e.changed (drop change changes)) e.time (rows_of (take e.rows (drop row rows)) (drop entry all))
+  pub shown : epochs_of (drop i epochs) (drop change changes) (drop row rows) (drop entry all) ≡ stamped_at (change_at e.changed (drop change changes)) e.time (rows_of (take e.rows (drop row rows)) (drop entry all))
       ∷ epochs_of (drop (i + 1) epochs) (drop (change + one_if e.changed) changes) (drop (row + e.rows) rows) (drop (entry + entry_count (take e.rows (drop row rows))) all)
 
-pub next_of : (epochs : List KeptEpoch) (changes : List StationValues) (rows : List KeptRow) (all : List Entry) (i row entry change : ℕ) (e : KeptEpoch) → i < length epochs → e ≡ get_or epochs i e
+pub next_of : (epochs : List KeptEpoch) (changes : List StationValues) (rows : List KeptRow) (all : List SignalValues) (i row entry change : ℕ) (e : KeptEpoch) → i < length epochs → e ≡ get_or epochs i e
     → change + change_count (drop i epochs) ≡ length changes → row + row_count (drop i epochs) ≡ length rows → entry + entry_count (drop row rows) ≡ length all → All HasRoom (rows_of (drop row rows) (drop entry all))
     → NextEpoch epochs changes rows all i row entry change e
 next_of epochs changes rows all i row entry change e less is change_sum row_sum entry_sum room =
@@ -329,16 +329,16 @@ next_of epochs changes rows all i row entry change e less is change_sum row_sum 
       change_fits = omega (arith, change_sum, taken);
       change_sum = omega (arith, change_sum, taken);
       shown = ap (λ l. epochs_of l (drop change changes) here (drop entry all)) shape
-          ∙ ap (λ l. epoch_at c e.time (take e.rows (rows_of here (drop entry all))) ∷ epochs_with (drop (i + 1) epochs) l (drop e.rows (rows_of here (drop entry all)))) after
-          ∙ ap (λ l. epoch_at c e.time l ∷ epochs_with (drop (i + 1) epochs) (drop (change + one_if e.changed) changes) (drop e.rows (rows_of here (drop entry all)))) (take_rows e.rows here (drop entry all))
-          ∙ ap (λ l. epoch_at c e.time (rows_of own (drop entry all)) ∷ epochs_with (drop (i + 1) epochs) (drop (change + one_if e.changed) changes) l) left;
+          ∙ ap (λ l. stamped_at c e.time (take e.rows (rows_of here (drop entry all))) ∷ epochs_with (drop (i + 1) epochs) l (drop e.rows (rows_of here (drop entry all)))) after
+          ∙ ap (λ l. stamped_at c e.time l ∷ epochs_with (drop (i + 1) epochs) (drop (change + one_if e.changed) changes) (drop e.rows (rows_of here (drop entry all)))) (take_rows e.rows here (drop entry all))
+          ∙ ap (λ l. stamped_at c e.time (rows_of own (drop entry all)) ∷ epochs_with (drop (i + 1) epochs) (drop (change + one_if e.changed) changes) l) left;
     }
 
 -- the lines of an epoch were appended behind those of its change
-pub changed_text : (old mid new : List ℕ) (c : Option StationValues) (time : ℕ) (rows : List Seen) → mid ≡ old ++ joined (change_lines c) → new ≡ mid ++ joined (stamped_lines (epoch_at None time rows))
-    → new ≡ old ++ joined (stamped_lines (epoch_at c time rows))
+pub changed_text : (old mid new : List ℕ) (c : Option StationValues) (time : ℕ) (rows : List SatelliteRow) → mid ≡ old ++ joined (change_lines c) → new ≡ mid ++ joined (stamped_lines (stamped_at None time rows))
+    → new ≡ old ++ joined (stamped_lines (stamped_at c time rows))
 changed_text old mid new c time rows first last =
-    let own = stamped_lines (epoch_at None time rows) in
+    let own = stamped_lines (stamped_at None time rows) in
     last ∙ ap (λ l. l ++ joined own) first ∙ append_assoc old (joined (change_lines c)) (joined own) ∙ ap (λ l. old ++ l) (sym (joined-append (change_lines c) own))
 
 -- the lines of an epoch were appended
@@ -350,11 +350,11 @@ epoch_passed e left others text new whole shape before grown =
     passed text (joined (stamped_lines e)) (joined (flat_map stamped_lines others)) new whole (ap (λ l. text ++ l) (sym split) ∙ before) grown
 
 -- what was appended, and where the next epoch begins
-pub next_passed : (epochs : List KeptEpoch) (changes : List StationValues) (rows : List KeptRow) (all : List Entry) (i row entry change row' entry' change' : ℕ) (e : KeptEpoch) (text new whole : List ℕ)
+pub next_passed : (epochs : List KeptEpoch) (changes : List StationValues) (rows : List KeptRow) (all : List SignalValues) (i row entry change row' entry' change' : ℕ) (e : KeptEpoch) (text new whole : List ℕ)
     → NextEpoch epochs changes rows all i row entry change e
     → row' ≡ row + e.rows → entry' ≡ entry + entry_count (take e.rows (drop row rows)) → change' ≡ change + one_if e.changed
     → text ++ joined (flat_map stamped_lines (epochs_of (drop i epochs) (drop change changes) (drop row rows) (drop entry all))) ≡ whole
-    → new ≡ text ++ joined (stamped_lines (epoch_at (change_at e.changed (drop change changes)) e.time (rows_of (take e.rows (drop row rows)) (drop entry all))))
+    → new ≡ text ++ joined (stamped_lines (stamped_at (change_at e.changed (drop change changes)) e.time (rows_of (take e.rows (drop row rows)) (drop entry all))))
     → (new ++ joined (flat_map stamped_lines (epochs_of (drop (i + 1) epochs) (drop change' changes) (drop row' rows) (drop entry' all))) ≡ whole)
     × All HasRoom (rows_of (drop row' rows) (drop entry' all)) × (row' + row_count (drop (i + 1) epochs) ≡ length rows) × (entry' + entry_count (drop row' rows) ≡ length all)
     × (change' + change_count (drop (i + 1) epochs) ≡ length changes)
@@ -363,7 +363,7 @@ next_passed epochs changes rows all i row entry change row' entry' change' e tex
     let end = entry + entry_count (take e.rows (drop row rows)) in
     let behind = change + one_if e.changed in
     let others = epochs_of (drop (i + 1) epochs) (drop behind changes) (drop to rows) (drop end all) in
-    let own = epoch_at (change_at e.changed (drop change changes)) e.time (rows_of (take e.rows (drop row rows)) (drop entry all)) in (
+    let own = stamped_at (change_at e.changed (drop change changes)) e.time (rows_of (take e.rows (drop row rows)) (drop entry all)) in (
       ap (λ (k : ℕ). new ++ joined (flat_map stamped_lines (epochs_of (drop (i + 1) epochs) (drop change' changes) (drop k rows) (drop entry' all)))) at_row
           ∙ ap (λ (k : ℕ). new ++ joined (flat_map stamped_lines (epochs_of (drop (i + 1) epochs) (drop change' changes) (drop to rows) (drop k all)))) at_entry
           ∙ ap (λ (k : ℕ). new ++ joined (flat_map stamped_lines (epochs_of (drop (i + 1) epochs) (drop k changes) (drop to rows) (drop end all)))) at_change

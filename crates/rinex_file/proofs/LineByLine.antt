@@ -12,10 +12,10 @@ use Rattle.rinex_file.specs.Numbers.{joined}
 use Rattle.rinex_file.specs.Value.{FileValue}
 use Rattle.rinex_file.specs.FileValues.{IsFileValue}
 use Rattle.rinex_file.specs.File.{file_text, file_lines}
-use Rattle.rinex_file.specs.Exact.{IsLine, NoFileBegins, IsCutShort, IsTooLong, IsFaulty, Explains, IsNoFault, line_feeds, most_lines}
-use Rattle.rinex_file.specs.Read.Progress.{Progress, GoesOn, StandsFor}
-use Rattle.rinex_file.specs.Course.{Follows, Refuses}
-use Rattle.rinex_file.specs.Read.Steps.{IsTaken, IsTextOf}
+use Rattle.rinex_file.specs.Exact.{IsLine, NoFileBegins, IsCutShort, IsTooLong, IsFaulty, ExplainsFault, IsNoFault, line_feeds, most_lines}
+use Rattle.rinex_file.specs.Read.Progress.{Progress, HasLinesLeft, HasReadLines}
+use Rattle.rinex_file.specs.Course.{GoesOnWithLine, RefusesLine}
+use Rattle.rinex_file.specs.Read.Steps.{IsTaken, IsTextOfOnly}
 use Rattle.rinex_file.proofs.Sent.{joined-append}
 use Rattle.rinex_file.proofs.Splits.{splits, or_false, has-line}
 
@@ -147,7 +147,7 @@ taken_more a b c taken line first next = subst (Consumes a c) (sym (joined-more 
 -- ---- what was read
 
 -- nothing was read
-pub start : (s : Progress) (a : Option (List ℕ)) → ((v : FileValue) (left : List (List ℕ)) → GoesOn s v left ↔ (IsFileValue v × (left ≡ file_lines v))) → IsTaken s 0 a a
+pub start : (s : Progress) (a : Option (List ℕ)) → ((v : FileValue) (left : List (List ℕ)) → HasLinesLeft s v left ↔ (IsFileValue v × (left ≡ file_lines v))) → IsTaken s 0 a a
 start s a new = record {
   lines = [];
   are = λ k d less. absurd (omega (arith, less));
@@ -159,7 +159,7 @@ start s a new = record {
   };
 }
 
-stands_more : (old new : Progress) (taken : List (List ℕ)) (line : List ℕ) → StandsFor old taken → Follows old new line → StandsFor new (taken ++ line ∷ [])
+stands_more : (old new : Progress) (taken : List (List ℕ)) (line : List ℕ) → HasReadLines old taken → GoesOnWithLine old new line → HasReadLines new (taken ++ line ∷ [])
 stands_more old new taken line stands more = record {
   goes = λ v left is e. (more v left).0 (stands.goes v (line ∷ left) is (e ∙ append_assoc taken (line ∷ []) left));
   begins = λ v left goes.
@@ -168,7 +168,7 @@ stands_more old new taken line stands more = record {
 }
 
 -- one line more was read
-pub one_more : (old new : Progress) (n : ℕ) (a b c : Option (List ℕ)) (line : List ℕ) → IsTaken old n a b → IsLine line → Consumes b c line → Follows old new line → IsTaken new (n + 1) a c
+pub one_more : (old new : Progress) (n : ℕ) (a b c : Option (List ℕ)) (line : List ℕ) → IsTaken old n a b → IsLine line → Consumes b c line → GoesOnWithLine old new line → IsTaken new (n + 1) a c
 one_more old new n a b c line t is next more = record {
   lines = t.lines ++ line ∷ [];
   are = are_more t.lines line t.are is;
@@ -203,13 +203,13 @@ too_long s n a b c bytes t most some next =
     })
 
 module _ (are_lines : (v : FileValue) → IsFileValue v → All IsLine (file_lines v)) where
-  refuted : (s : Progress) (taken : List (List ℕ)) (line : List ℕ) → All IsLine (taken ++ line ∷ []) → StandsFor s taken → Refuses s line → NoFileBegins (joined (taken ++ line ∷ []))
+  refuted : (s : Progress) (taken : List (List ℕ)) (line : List ℕ) → All IsLine (taken ++ line ∷ []) → HasReadLines s taken → RefusesLine s line → NoFileBegins (joined (taken ++ line ∷ []))
   refuted s taken line are stands bad v rest is e =
       let (more, lines, text) = splits (file_lines v) (taken ++ line ∷ []) rest (are_lines v is) are e in
       bad v more (stands.goes v (line ∷ more) is (lines ∙ append_assoc taken (line ∷ []) more))
 
   -- the line is refused
-  pub refused : (s : Progress) (n : ℕ) (a b c : Option (List ℕ)) (line : List ℕ) → IsTaken s n a b → IsLine line → Consumes b c line → Refuses s line → IfSome a (λ input. IsFaulty input (n + 1))
+  pub refused : (s : Progress) (n : ℕ) (a b c : Option (List ℕ)) (line : List ℕ) → IsTaken s n a b → IsLine line → Consumes b c line → RefusesLine s line → IfSome a (λ input. IsFaulty input (n + 1))
   refused s n a b c line t is next bad =
       let all = are_more t.lines line t.are is in
       consumed a c (joined (t.lines ++ line ∷ [])) (λ input. IsFaulty input (n + 1)) (taken_more a b c t.lines line t.taken next) (λ rest. inl (record {
@@ -238,7 +238,7 @@ module _ (are_lines : (v : FileValue) → IsFileValue v → All IsLine (file_lin
 
   -- the input ends behind a line, where more lines are due
   pub cut_behind : (s : Progress) (n : ℕ) (a b c : Option (List ℕ)) (bytes : List ℕ) → IsTaken s n a b → bytes ≡ [] → IsAtEnd c → Consumes b c bytes
-      → ((v : FileValue) → GoesOn s v [] → ⊥) → IfSome a (λ input. IsCutShort input (n + 1))
+      → ((v : FileValue) → HasLinesLeft s v [] → ⊥) → IfSome a (λ input. IsCutShort input (n + 1))
   cut_behind s n a b c bytes t none end next never =
       let endless : has 10 bytes ≡ false = ap (has 10) none in
       consumed_all a c (joined t.lines ++ bytes) (λ input. IsCutShort input (n + 1)) (Consumes-trans a b c (joined t.lines) bytes t.taken next) end (record {
@@ -247,12 +247,12 @@ module _ (are_lines : (v : FileValue) → IsFileValue v → All IsLine (file_lin
       })
 
   -- the input is the text of the file that was read
-  pub whole : (s : Progress) (n : ℕ) (a b c : Option (List ℕ)) (bytes : List ℕ) (f : FileValue) → IsTaken s n a b → bytes ≡ [] → IsAtEnd c → Consumes b c bytes → GoesOn s f []
-      → ((v : FileValue) → GoesOn s v [] → v ≡ f) → IfSome a (IsTextOf f)
+  pub whole : (s : Progress) (n : ℕ) (a b c : Option (List ℕ)) (bytes : List ℕ) (f : FileValue) → IsTaken s n a b → bytes ≡ [] → IsAtEnd c → Consumes b c bytes → HasLinesLeft s f []
+      → ((v : FileValue) → HasLinesLeft s v [] → v ≡ f) → IfSome a (IsTextOfOnly f)
   whole s n a b c bytes f t none end next goes only =
       let (is, lines) = t.stands.begins f [] goes in
       let endless : has 10 bytes ≡ false = ap (has 10) none in
-      consumed_all a c (joined t.lines ++ bytes) (IsTextOf f) (Consumes-trans a b c (joined t.lines) bytes t.taken next) end (record {
+      consumed_all a c (joined t.lines ++ bytes) (IsTextOfOnly f) (Consumes-trans a b c (joined t.lines) bytes t.taken next) end (record {
         same = ap (λ l. joined t.lines ++ l) none ∙ append-nil (joined t.lines) ∙ sym (ap joined (lines ∙ append-nil t.lines));
         only = λ v also e. only v (t.stands.goes v [] also (behind v t.lines bytes also t.are e endless ∙ sym (append-nil t.lines)));
       })
@@ -279,7 +279,7 @@ module _ (are_lines : (v : FileValue) → IsFileValue v → All IsLine (file_lin
     faulty_not v input k is (inr l) e = not_long v l.lines l.long l.rest is l.first.are l.size l.endless (sym e ∙ l.first.first)
 
     -- a fault that is explained isn't that of a file's text
-    not_explained : (v : FileValue) (input : List ℕ) (fault : ReadFault) → IsFileValue v → length (file_lines v) ≤ most_lines → Explains input fault → input ≡ file_text v → IsNoFault fault
+    not_explained : (v : FileValue) (input : List ℕ) (fault : ReadFault) → IsFileValue v → length (file_lines v) ≤ most_lines → ExplainsFault input fault → input ≡ file_text v → IsNoFault fault
     not_explained v input Memory is few why e = tt
     not_explained v input Read is few why e = tt
     not_explained v input (BadHeader k) is few why e = faulty_not v input k is why.0 e
@@ -289,18 +289,18 @@ module _ (are_lines : (v : FileValue) → IsFileValue v → All IsLine (file_lin
     not_explained v input (CutShort k) is few why e = why.none v is e
     not_explained v input TooLong is few why e = not_many v why.lines why.rest is why.first.are why.count why.more few (sym e ∙ why.first.first)
 
-    pub only_faults : (a : Option (List ℕ)) (fault : ReadFault) (v : FileValue) → IfSome a (λ input. Explains input fault) → IsFileValue v → length (file_lines v) ≤ most_lines
+    pub only_faults : (a : Option (List ℕ)) (fault : ReadFault) (v : FileValue) → IfSome a (λ input. ExplainsFault input fault) → IsFileValue v → length (file_lines v) ≤ most_lines
         → IfSome a (λ input. input ≡ file_text v → IsNoFault fault)
     only_faults None fault v why is few = tt
     only_faults (Some input) fault v why is few = not_explained v input fault is few why
 
 -- the fault where something stands behind so many lines
 pub behind_fault : (s : Progress) (n : ℕ) (a b c : Option (List ℕ)) (bytes : List ℕ) (fault result : ReadFault) → IsTaken s n a b → 0 < length bytes → Consumes b c bytes
-    → result ≡ (if n == most_lines then TooLong else fault) → IfSome a (λ input. Explains input fault) → IfSome a (λ input. Explains input result)
+    → result ≡ (if n == most_lines then TooLong else fault) → IfSome a (λ input. ExplainsFault input fault) → IfSome a (λ input. ExplainsFault input result)
 behind_fault s n a b c bytes fault result t some next is why =
-    elim (n == most_lines) as (λ most. (n == most_lines) ≡ most → result ≡ (if most then TooLong else fault) → IfSome a (λ input. Explains input result)) [
-      | true ↦ λ most same. subst (λ f. IfSome a (λ input. Explains input f)) (sym same) (too_long s n a b c bytes t (same_number n most_lines most) some next)
-      | false ↦ λ most same. subst (λ f. IfSome a (λ input. Explains input f)) (sym same) why
+    elim (n == most_lines) as (λ most. (n == most_lines) ≡ most → result ≡ (if most then TooLong else fault) → IfSome a (λ input. ExplainsFault input result)) [
+      | true ↦ λ most same. subst (λ f. IfSome a (λ input. ExplainsFault input f)) (sym same) (too_long s n a b c bytes t (same_number n most_lines most) some next)
+      | false ↦ λ most same. subst (λ f. IfSome a (λ input. ExplainsFault input f)) (sym same) why
     ] refl is
 
 -- what is said of all bytes in two ways

@@ -6,7 +6,7 @@ use Rattle.std.specs.Option.{option_map_or}
 use Rattle.std.proofs.lemmas.Int.{ints}
 use Rattle.std.proofs.lemmas.List.Elements.{All-head, All-tail, All-cons, All-append, All-replicate, All-map, All-drop}
 use Rattle.gnss_obs.specs.Signals.{table, code_of}
-use Rattle.gnss_obs.specs.declared.tables.Entry.{Entry as TableEntry}
+use Rattle.gnss_obs.specs.declared.tables.ListedSignal.{ListedSignal as TableEntry}
 use Rattle.gnss_obs.specs.declared.system.System.{System}
 use Rattle.gnss_obs.specs.declared.system.System.TheVariants.{Gps, Galileo}
 use Rattle.obs_epoch.specs.declared.cell.StationValues.{StationValues}
@@ -19,7 +19,7 @@ use Rattle.rinex_file.specs.declared.header.section.Section.{Section}
 use Rattle.rinex_file.specs.declared.header.section.Section.TheVariants.{Version, Program, Marker as MarkerSection, MarkerType as MarkerTypeSection, Observer as ObserverSection, Receiver, Antenna, Position, Delta, Types, StrengthUnit, First, Shift, End}
 use Rattle.rinex_file.specs.Exact.{IsLine}
 use Rattle.rinex_file.specs.FileValues.{AreTexts, IsPlan, AreValues, IsCoordinate, IsTime, IsFrom}
-use Rattle.rinex_file.specs.Header.{header_line, version_line, lengths, file_system, first_line, types_of, type_front, type_columns, type_line, type_rows, type_lines, shift_lines, codes_of, lines_of, all_sections, header_lines, position_line, delta_line}
+use Rattle.rinex_file.specs.Header.{header_line, version_line, lengths, file_system, first_line, types_of, type_front, type_columns, type_line, type_rows, type_lines, shift_lines, codes_of, section_lines, all_sections, header_lines, position_line, delta_line}
 use Rattle.rinex_file.specs.Lines.{letter_of}
 use Rattle.rinex_file.specs.Numbers.{joined, left, right, fixed}
 use Rattle.rinex_file.specs.Read.Fields.{has}
@@ -319,8 +319,8 @@ line_of_delta v values = three_lengths (pos v.height) (pos 0) (pos 0) (codes "AN
 
 -- ---- sections
 
-lines_in : (x : HeaderLists) (p : PlanValue) (v : StationValues) (t : Civil) → AreTexts x → IsPlan p → AreValues v → IsShort t → (s : Section) → All IsFileLine (lines_of x p v t s)
-unfolding lines_of
+lines_in : (x : HeaderLists) (p : PlanValue) (v : StationValues) (t : Civil) → AreTexts x → IsPlan p → AreValues v → IsShort t → (s : Section) → All IsFileLine (section_lines x p v t s)
+unfolding section_lines
 lines_in x p v t texts plan values time Version = only (version_line p) (version p)
 lines_in x p v t texts plan values time Program = only _ (three_fields (codes "rtcm2rinex") x.run_by x.date (codes "PGM / RUN BY / DATE")
     (record { clean = refl; short = lit≤ tt }) (run_by x texts) (date x texts) (plain_label _ refl (lit≤ tt)))
@@ -344,4 +344,4 @@ lines_of_sections lines each (s ∷ sections) = All-append IsFileLine (lines s) 
 
 pub lines_of_header : (x : HeaderLists) (p : PlanValue) (v : StationValues) (t : Civil) → AreTexts x → IsPlan p → AreValues v → IsShort t → All IsFileLine (header_lines x p v t)
 unfolding header_lines
-lines_of_header x p v t texts plan values time = lines_of_sections (lines_of x p v t) (lines_in x p v t texts plan values time) all_sections
+lines_of_header x p v t texts plan values time = lines_of_sections (section_lines x p v t) (lines_in x p v t texts plan values time) all_sections

@@ -4,18 +4,18 @@ use Rattle.rinex_file.specs.declared.read.course.Course.{Course}
 use Rattle.rinex_file.specs.declared.read.due.Added.{Added}
 use Rattle.rinex_file.specs.declared.read.reading.Reading.{Reading}
 use Rattle.rinex_file.specs.declared.read.file.Counts.{Counts}
-use Rattle.rinex_file.specs.Value.{Seen, FileValue}
+use Rattle.rinex_file.specs.Value.{SatelliteRow, FileValue}
 use Rattle.rinex_file.specs.FileValues.{IsFileValue}
 use Rattle.rinex_file.specs.File.{file_text}
 use Rattle.rinex_file.specs.Course.{History, rows_in, with_line}
 use Rattle.rinex_file.specs.Counting.{AreCounts, IsTextWith}
-use Rattle.rinex_file.specs.Read.Steps.{Goes, HasRead, IsWhole, IsTextOf, file_at}
+use Rattle.rinex_file.specs.Read.Steps.{ReadsNextLine, HasRead, IsWhole, IsTextOfOnly, file_at}
 use Rattle.rinex_file.proofs.LineByLine.{said_of}
 
 abbrev pub counts_at : Course → Counts
 counts_at c = record { epochs = c.epochs; satellites = c.satellites; events = c.events }
 
-no_more : (n m : ℕ) (rows : List Seen) → n ≡ m + length rows → rows ≡ [] → n ≡ m
+no_more : (n m : ℕ) (rows : List SatelliteRow) → n ≡ m + length rows → rows ≡ [] → n ≡ m
 no_more n m rows e none = let zero : length rows ≡ 0 = ap length none in omega (arith, e, zero)
 
 counted_at : (c : Course) (h : History) (input : Option (List ℕ)) → IsWhole c h input → AreCounts (counts_at c) (file_at c h)
@@ -29,32 +29,32 @@ pub counts_found : (c : Course) (h : History) (input : Option (List ℕ)) → Is
 counts_found c h input whole = record {
   v = file_at c h;
   is = whole.is;
-  text = said_of input (IsTextOf (file_at c h)) (λ bytes. bytes ≡ file_text (file_at c h)) (λ bytes text. text.same) whole.text;
+  text = said_of input (IsTextOfOnly (file_at c h)) (λ bytes. bytes ≡ file_text (file_at c h)) (λ bytes text. text.same) whole.text;
   counted = counted_at c h input whole;
 }
 
 pub counts_only : (c : Course) (h : History) (input : Option (List ℕ)) (v : FileValue) → IsWhole c h input → IsFileValue v → IfSome input (λ bytes. bytes ≡ file_text v → AreCounts (counts_at c) v)
 counts_only c h input v whole is =
-    said_of input (IsTextOf (file_at c h)) _ (λ bytes text e. subst (λ (f : FileValue). AreCounts (counts_at c) f) (sym (text.only v is e)) (counted_at c h input whole)) whole.text
+    said_of input (IsTextOfOnly (file_at c h)) _ (λ bytes text e. subst (λ (f : FileValue). AreCounts (counts_at c) f) (sym (text.only v is e)) (counted_at c h input whole)) whole.text
 
 -- ---- a step by what it answers
 
-pub one_more : (new : Reading) (h : History) (input left : Option (List ℕ)) (o : Option Added) (added : Added) → o ≡ Some added → Goes new h input left (Ok o)
+pub one_more : (new : Reading) (h : History) (input left : Option (List ℕ)) (o : Option Added) (added : Added) → o ≡ Some added → ReadsNextLine new h input left (Ok o)
     → HasRead new (with_line added new.course h) input left
-one_more new h input left o added e goes = subst (λ (x : Option Added). Goes new h input left (Ok x)) e goes
+one_more new h input left o added e goes = subst (λ (x : Option Added). ReadsNextLine new h input left (Ok x)) e goes
 
-pub the_end : (new : Reading) (h : History) (input left : Option (List ℕ)) (o : Option Added) → o ≡ None → Goes new h input left (Ok o) → IsWhole new.course h input
-the_end new h input left o e goes = subst (λ (x : Option Added). Goes new h input left (Ok x)) e goes
+pub the_end : (new : Reading) (h : History) (input left : Option (List ℕ)) (o : Option Added) → o ≡ None → ReadsNextLine new h input left (Ok o) → IsWhole new.course h input
+the_end new h input left o e goes = subst (λ (x : Option Added). ReadsNextLine new h input left (Ok x)) e goes
 
 pub file_found : (c : Course) (h : History) (input : Option (List ℕ)) (f : FileValue) → IsWhole c h input → f ≡ file_at c h
     → IsFileValue f × IfSome input (λ bytes. bytes ≡ file_text f)
 file_found c h input f whole same =
     subst (λ (x : FileValue). IsFileValue x × IfSome input (λ bytes. bytes ≡ file_text x)) (sym same)
-    (whole.is, said_of input (IsTextOf (file_at c h)) (λ bytes. bytes ≡ file_text (file_at c h)) (λ bytes text. text.same) whole.text)
+    (whole.is, said_of input (IsTextOfOnly (file_at c h)) (λ bytes. bytes ≡ file_text (file_at c h)) (λ bytes text. text.same) whole.text)
 
 pub file_only : (c : Course) (h : History) (input : Option (List ℕ)) (f v : FileValue) → IsWhole c h input → f ≡ file_at c h → IsFileValue v
     → IfSome input (λ bytes. bytes ≡ file_text v → f ≡ v)
-file_only c h input f v whole same is = said_of input (IsTextOf (file_at c h)) _ (λ bytes text e. same ∙ sym (text.only v is e)) whole.text
+file_only c h input f v whole same is = said_of input (IsTextOfOnly (file_at c h)) _ (λ bytes text e. same ∙ sym (text.only v is e)) whole.text
 
 -- what is kept is a history that was read
 pub kept_read : (r : Reading) (h k : History) (input left : Option (List ℕ)) → k ≡ h → HasRead r h input left → HasRead r k input left

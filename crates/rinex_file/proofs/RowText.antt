@@ -12,13 +12,13 @@ use Rattle.rinex_file.proofs.Digits.{number_in-fixed, has_point-fixed, length-fi
 use Rattle.gnss_obs.specs.Satellites.{satellites}
 use Rattle.gnss_obs.specs.declared.system.System.{System}
 use Rattle.gnss_obs.specs.declared.system.System.TheVariants.{Gps, Galileo}
-use Rattle.rinex_file.specs.Value.{Entry, Row, Seen}
-use Rattle.rinex_file.specs.FileValues.{FitsColumns, IsEntry, IsFrom, IsRow}
+use Rattle.rinex_file.specs.Value.{SignalValues, Row, SatelliteRow}
+use Rattle.rinex_file.specs.FileValues.{FitsColumns, AreSignalValues, IsFrom, IsRow}
 use Rattle.rinex_file.specs.Blanks.{trimmed}
-use Rattle.rinex_file.specs.Lines.{field, entry_text, mark_byte, strength_byte, row_text, seen_line, letter_of}
+use Rattle.rinex_file.specs.Lines.{field, signal_text, lli_byte, strength_byte, row_text, satellite_line, letter_of}
 use Rattle.rinex_file.proofs.Columns.{padded-two}
 use Rattle.rinex_file.proofs.Cuts.{fill-trimmed, trimmed-front}
-use Rattle.rinex_file.specs.Read.Row.{value_in, entry_in, entries_in, row_in, seen_in}
+use Rattle.rinex_file.specs.Read.Row.{value_in, signal_values_in, signals_in, row_in, satellite_row_in}
 
 most : (n : ℕ) → FitsColumns (pos n) → n ≤ 9_999_999_999_999
 most n h = let high = h.1 in omega (arith, ints)
@@ -101,10 +101,10 @@ first_of_rest x a t rest m n is l k =
     let shape : x ≡ (a ++ t) ++ (m ∷ n ∷ rest) = is ∙ ap (λ y. a ++ y) (append_assoc t (m ∷ n ∷ []) rest) ∙ sym (append_assoc a t (m ∷ n ∷ rest)) in
     ap (take 1) (ap (drop 30) shape ∙ drop_at (a ++ t) (m ∷ n ∷ rest) 30 (simp length-append (omega (arith, l, k))))
 
-mark_read : (m : ℕ) → m < 4 → digits_in (mark_byte m ∷ []) ≡ m
+mark_read : (m : ℕ) → m < 4 → digits_in (lli_byte m ∷ []) ≡ m
 mark_read m h = grind arith
 
-mark_shown : (v : Option ℤ) (m : ℕ) → m < 4 → (v ≡ None → m ≡ 0) → digits_in (shown v (mark_byte m) ∷ []) ≡ m
+mark_shown : (v : Option ℤ) (m : ℕ) → m < 4 → (v ≡ None → m ≡ 0) → digits_in (shown v (lli_byte m) ∷ []) ≡ m
 mark_shown None m h none = sym (none refl)
 mark_shown (Some v) m h none = mark_read m h
 
@@ -113,80 +113,80 @@ strength_fits None h = tt
 strength_fits (Some s) h = let low = h.0 in let high = h.1 in (omega (arith, ints), omega (arith, ints))
 
 -- the parts of a record of five
-made : Option ℤ → Option ℤ → Option ℤ → Option ℤ → ℕ → Entry
-made c l d s m = record { c = c; l = l; d = d; s = s; mark = m }
+made : Option ℤ → Option ℤ → Option ℤ → Option ℤ → ℕ → SignalValues
+made c l d s m = record { c = c; l = l; d = d; s = s; lli = m }
 
 same_parts : (a b c d e f g h : Option ℤ) (m n : ℕ) → a ≡ b → c ≡ d → e ≡ f → g ≡ h → m ≡ n → made a c e g m ≡ made b d f h n
 same_parts a b c d e f g h m n p q r s t = cc
 
-pub same_entry : (x y : Entry) → x.c ≡ y.c → x.l ≡ y.l → x.d ≡ y.d → x.s ≡ y.s → x.mark ≡ y.mark → x ≡ y
+pub same_entry : (x y : SignalValues) → x.c ≡ y.c → x.l ≡ y.l → x.d ≡ y.d → x.s ≡ y.s → x.lli ≡ y.lli → x ≡ y
 unfolding made
-same_entry x y c l d s m = same_parts x.c y.c x.l y.l x.d y.d x.s y.s x.mark y.mark c l d s m
+same_entry x y c l d s m = same_parts x.c y.c x.l y.l x.d y.d x.s y.s x.lli y.lli c l d s m
 
 four_lengths : (a b c d : List ℕ) → length a ≡ 16 → length b ≡ 16 → length c ≡ 16 → length d ≡ 16 → length (a ++ (b ++ (c ++ d))) ≡ 64
 four_lengths a b c d k l m n = simp length-append (omega (arith, k, l, m, n))
 
-pub length-entry : (e : Entry) → IsEntry e → length (entry_text e) ≡ 64
-unfolding entry_text
+pub length-entry : (e : SignalValues) → AreSignalValues e → length (signal_text e) ≡ 64
+unfolding signal_text
 length-entry e h =
     let c = length-field e.c 32 (strength_byte e.s) h.c in
-    let l = length-field e.l (mark_byte e.mark) (strength_byte e.s) h.l in
+    let l = length-field e.l (lli_byte e.lli) (strength_byte e.s) h.l in
     let d = length-field e.d 32 32 h.d in
     let s = length-field e.s 32 32 (strength_fits e.s h.s) in
-    four_lengths (field e.c 32 (strength_byte e.s)) (field e.l (mark_byte e.mark) (strength_byte e.s)) (field e.d 32 32) (field e.s 32 32) c l d s
+    four_lengths (field e.c 32 (strength_byte e.s)) (field e.l (lli_byte e.lli) (strength_byte e.s)) (field e.d 32 32) (field e.s 32 32) c l d s
 
-pub entry_in-text : (e : Entry) (rest : List ℕ) → IsEntry e → entry_in (entry_text e ++ rest) ≡ e
-unfolding entry_in entry_text
+pub entry_in-text : (e : SignalValues) (rest : List ℕ) → AreSignalValues e → signal_values_in (signal_text e ++ rest) ≡ e
+unfolding signal_values_in signal_text
 entry_in-text e rest h =
     let c = field e.c 32 (strength_byte e.s) in
-    let l = field e.l (mark_byte e.mark) (strength_byte e.s) in
+    let l = field e.l (lli_byte e.lli) (strength_byte e.s) in
     let d = field e.d 32 32 in
     let s = field e.s 32 32 in
     let lc = length-field e.c 32 (strength_byte e.s) h.c in
-    let ll = length-field e.l (mark_byte e.mark) (strength_byte e.s) h.l in
+    let ll = length-field e.l (lli_byte e.lli) (strength_byte e.s) h.l in
     let ld = length-field e.d 32 32 h.d in
     let x = (c ++ (l ++ (d ++ s))) ++ rest in
-    let (t, lt, parts) = in_parts e.l (mark_byte e.mark) (strength_byte e.s) h.l in
+    let (t, lt, parts) = in_parts e.l (lli_byte e.lli) (strength_byte e.s) h.l in
     let front : x ≡ c ++ ((l ++ (d ++ s)) ++ rest) = append_assoc c (l ++ (d ++ s)) rest in
-    let marked : x ≡ c ++ ((t ++ shown e.l (mark_byte e.mark) ∷ shown e.l (strength_byte e.s) ∷ []) ++ ((d ++ s) ++ rest)) =
+    let marked : x ≡ c ++ ((t ++ shown e.l (lli_byte e.lli) ∷ shown e.l (strength_byte e.s) ∷ []) ++ ((d ++ s) ++ rest)) =
     front ∙ ap (λ y. c ++ y) (append_assoc l (d ++ s) rest) ∙ ap (λ y. c ++ (y ++ ((d ++ s) ++ rest))) parts in
-    same_entry (entry_in x) e
+    same_entry (signal_values_in x) e
     (ap value_in front ∙ value_in-field e.c 32 (strength_byte e.s) ((l ++ (d ++ s)) ++ rest) h.c)
-    (ap value_in (second x c l d s rest refl lc) ∙ value_in-field e.l (mark_byte e.mark) (strength_byte e.s) (d ++ (s ++ rest)) h.l)
+    (ap value_in (second x c l d s rest refl lc) ∙ value_in-field e.l (lli_byte e.lli) (strength_byte e.s) (d ++ (s ++ rest)) h.l)
     (ap value_in (third x c l d s rest refl lc ll) ∙ value_in-field e.d 32 32 (s ++ rest) h.d)
     (ap value_in (fourth x c l d s rest refl lc ll ld) ∙ value_in-field e.s 32 32 rest (strength_fits e.s h.s))
-    (ap digits_in (first_of_rest x c t ((d ++ s) ++ rest) (shown e.l (mark_byte e.mark)) (shown e.l (strength_byte e.s)) marked lc lt) ∙ mark_shown e.l e.mark h.mark h.unmarked)
+    (ap digits_in (first_of_rest x c t ((d ++ s) ++ rest) (shown e.l (lli_byte e.lli)) (shown e.l (strength_byte e.s)) marked lc lt) ∙ mark_shown e.l e.lli h.lli h.without_phase)
 
-entry_alone : (e : Entry) → IsEntry e → entry_in (entry_text e) ≡ e
-entry_alone e h = ap entry_in (sym (append-nil (entry_text e))) ∙ entry_in-text e [] h
+entry_alone : (e : SignalValues) → AreSignalValues e → signal_values_in (signal_text e) ≡ e
+entry_alone e h = ap signal_values_in (sym (append-nil (signal_text e))) ∙ entry_in-text e [] h
 
 rest_lengths : (a b : List ℕ) (n : ℕ) → length a ≡ 64 → length b ≡ 64 * n → length (a ++ b) ≡ 64 * suc n
 rest_lengths a b n l m = simp length-append (omega (arith, l, m))
 
-pub entries_in-text : (es : List Entry) → All IsEntry es → entries_in (length es) (flat_map entry_text es) ≡ es
+pub entries_in-text : (es : List SignalValues) → All AreSignalValues es → signals_in (length es) (flat_map signal_text es) ≡ es
 entries_in-text [] all = refl
 entries_in-text (e ∷ es) all =
-    let one = All-head IsEntry e es all in
-    let more = All-tail IsEntry e es all in
+    let one = All-head AreSignalValues e es all in
+    let more = All-tail AreSignalValues e es all in
     let l = length-entry e one in
-    ap (λ t. entry_in t ∷ entries_in (length es) (drop 64 (entry_text e ++ flat_map entry_text es))) (take_at (entry_text e) (flat_map entry_text es) 64 l)
-    ∙ ap (λ x. x ∷ entries_in (length es) (drop 64 (entry_text e ++ flat_map entry_text es))) (entry_alone e one)
-    ∙ ap (λ t. e ∷ entries_in (length es) t) (drop_at (entry_text e) (flat_map entry_text es) 64 l)
+    ap (λ t. signal_values_in t ∷ signals_in (length es) (drop 64 (signal_text e ++ flat_map signal_text es))) (take_at (signal_text e) (flat_map signal_text es) 64 l)
+    ∙ ap (λ x. x ∷ signals_in (length es) (drop 64 (signal_text e ++ flat_map signal_text es))) (entry_alone e one)
+    ∙ ap (λ t. e ∷ signals_in (length es) t) (drop_at (signal_text e) (flat_map signal_text es) 64 l)
     ∙ ap (λ xs. e ∷ xs) (entries_in-text es more)
 
-pub length-entries : (es : List Entry) → All IsEntry es → length (flat_map entry_text es) ≡ 64 * length es
+pub length-entries : (es : List SignalValues) → All AreSignalValues es → length (flat_map signal_text es) ≡ 64 * length es
 length-entries [] all = refl
 length-entries (e ∷ es) all =
-    let l = length-entry e (All-head IsEntry e es all) in
-    let more = length-entries es (All-tail IsEntry e es all) in
-    rest_lengths (entry_text e) (flat_map entry_text es) (length es) l more
+    let l = length-entry e (All-head AreSignalValues e es all) in
+    let more = length-entries es (All-tail AreSignalValues e es all) in
+    rest_lengths (signal_text e) (flat_map signal_text es) (length es) l more
 
 -- ---- the line
 
-made_row : ℕ → List Entry → Row
+made_row : ℕ → List SignalValues → Row
 made_row n es = record { satellite = n; entries = es }
 
-same_row_parts : (m n : ℕ) (es fs : List Entry) → m ≡ n → es ≡ fs → made_row m es ≡ made_row n fs
+same_row_parts : (m n : ℕ) (es fs : List SignalValues) → m ≡ n → es ≡ fs → made_row m es ≡ made_row n fs
 same_row_parts m n es fs p q = cc
 
 pub same_row : (x y : Row) → x.satellite ≡ y.satellite → x.entries ≡ y.entries → x ≡ y
@@ -204,15 +204,15 @@ module _ (letter signals : ℕ) (r : Row) (most : ℕ) (is : IsRow most signals 
   two = length-padded 2 r.satellite (omega arith) small (omega (arith, small))
 
   pub length-row : length (row_text letter r) ≡ 3 + 64 * signals
-  length-row = row_lengths letter (padded 2 r.satellite) (flat_map entry_text r.entries) signals two (length-entries r.entries is.entries ∙ ap (λ n. 64 * n) is.whole)
+  length-row = row_lengths letter (padded 2 r.satellite) (flat_map signal_text r.entries) signals two (length-entries r.entries is.entries ∙ ap (λ n. 64 * n) is.whole)
 
   pub row_in-text : row_in signals (row_text letter r) ≡ r
   row_in-text =
       let p = padded 2 r.satellite in
-      let f = flat_map entry_text r.entries in
+      let f = flat_map signal_text r.entries in
       same_row (row_in signals (row_text letter r)) r
       (ap digits_in (take_at p f 2 two) ∙ digits_in-padded 2 r.satellite (omega arith) small (omega (arith, small)))
-      (ap (entries_in signals) (drop_at p f 2 two) ∙ ap (λ n. entries_in n f) (sym is.whole) ∙ entries_in-text r.entries is.entries)
+      (ap (signals_in signals) (drop_at p f 2 two) ∙ ap (λ n. signals_in n f) (sym is.whole) ∙ entries_in-text r.entries is.entries)
 
 -- a row is read from its line: the line without the line feed, filled up with blanks
 pub row_in-line : (letter signals : ℕ) (r : Row) (most : ℕ) → IsRow most signals r → most < 100
@@ -226,11 +226,11 @@ letter_is : (s : System) → letter_of s ≡ 32 → ⊥
 letter_is Gps e = absurd (omega (arith, e))
 letter_is Galileo e = absurd (omega (arith, e))
 
-pub front_line : (s : Seen) → seen_line s ≡ letter_of s.system ∷ (trimmed (padded 2 s.row.satellite ++ flat_map entry_text s.row.entries) ++ 10 ∷ [])
-unfolding seen_line
-front_line s = ap (λ t. t ++ 10 ∷ []) (trimmed-front (letter_of s.system) (padded 2 s.row.satellite ++ flat_map entry_text s.row.entries) (letter_is s.system))
+pub front_line : (s : SatelliteRow) → satellite_line s ≡ letter_of s.system ∷ (trimmed (padded 2 s.row.satellite ++ flat_map signal_text s.row.entries) ++ 10 ∷ [])
+unfolding satellite_line
+front_line s = ap (λ t. t ++ 10 ∷ []) (trimmed-front (letter_of s.system) (padded 2 s.row.satellite ++ flat_map signal_text s.row.entries) (letter_is s.system))
 
-pub first_byte : (s : Seen) → (0 < length (seen_line s)) × (get_or (seen_line s) 0 0 ≡ letter_of s.system)
+pub first_byte : (s : SatelliteRow) → (0 < length (satellite_line s)) × (get_or (satellite_line s) 0 0 ≡ letter_of s.system)
 first_byte s =
     let e = front_line s in
     (rw e (omega arith), ap (λ l. get_or l 0 0) e)
@@ -239,31 +239,31 @@ pub most_few : (s : System) → satellites s < 100
 most_few Gps = omega arith
 most_few Galileo = omega arith
 
-made_seen : System → Row → Seen
+made_seen : System → Row → SatelliteRow
 made_seen s r = record { system = s; row = r }
 
 same_seen_parts : (s t : System) (q r : Row) → s ≡ t → q ≡ r → made_seen s q ≡ made_seen t r
 same_seen_parts s t q r e f = cc
 
-pub same_seen : (s t : Seen) → s.system ≡ t.system → s.row ≡ t.row → s ≡ t
+pub same_seen : (s t : SatelliteRow) → s.system ≡ t.system → s.row ≡ t.row → s ≡ t
 unfolding made_seen
 same_seen s t e f = same_seen_parts s.system t.system s.row t.row e f
 
 -- ---- the line, entry after entry
 
-pub kept_done : (letter id : ℕ) (es fs : List Entry) (i : ℕ) (text : List ℕ) → id < 100 → length es ≤ i → es ≡ fs
-    → text ≡ (letter ∷ (48 + id / 10) ∷ (48 + id % 10) ∷ []) ++ flat_map entry_text (take i es)
-    → text ≡ (letter ∷ padded 2 id) ++ flat_map entry_text fs
+pub kept_done : (letter id : ℕ) (es fs : List SignalValues) (i : ℕ) (text : List ℕ) → id < 100 → length es ≤ i → es ≡ fs
+    → text ≡ (letter ∷ (48 + id / 10) ∷ (48 + id % 10) ∷ []) ++ flat_map signal_text (take i es)
+    → text ≡ (letter ∷ padded 2 id) ++ flat_map signal_text fs
 kept_done letter id es fs i text few all same is =
-    is ∙ ap (λ l. (letter ∷ (48 + id / 10) ∷ (48 + id % 10) ∷ []) ++ flat_map entry_text l) (take_all i es all ∙ same)
-    ∙ ap (λ l. (letter ∷ l) ++ flat_map entry_text fs) (sym (padded-two id few))
+    is ∙ ap (λ l. (letter ∷ (48 + id / 10) ∷ (48 + id % 10) ∷ []) ++ flat_map signal_text l) (take_all i es all ∙ same)
+    ∙ ap (λ l. (letter ∷ l) ++ flat_map signal_text fs) (sym (padded-two id few))
 
 -- ---- a satellite is read from its line, filled up with blanks
 
-pub seen_in-line : (system : System) (signals : ℕ) (v : Seen) (line filled : List ℕ) → v.system ≡ system → IsRow (satellites system) signals v.row → line ≡ seen_line v
-    → ((t : List ℕ) → line ≡ t ++ 10 ∷ [] → filled ≡ t ++ replicate (3 + 64 * signals - length t) 32) → seen_in system signals filled ≡ v
-unfolding seen_line
+pub seen_in-line : (system : System) (signals : ℕ) (v : SatelliteRow) (line filled : List ℕ) → v.system ≡ system → IsRow (satellites system) signals v.row → line ≡ satellite_line v
+    → ((t : List ℕ) → line ≡ t ++ 10 ∷ [] → filled ≡ t ++ replicate (3 + 64 * signals - length t) 32) → satellite_row_in system signals filled ≡ v
+unfolding satellite_line
 seen_in-line system signals v line filled same is e fill =
     let text = trimmed (row_text (letter_of v.system) v.row) in
-    same_seen (seen_in system signals filled) v (sym same)
+    same_seen (satellite_row_in system signals filled) v (sym same)
     (ap (row_in signals) (fill text e) ∙ row_in-line (letter_of v.system) signals v.row (satellites system) is (most_few system))

@@ -10,7 +10,7 @@ use Rattle.rinex_file.specs.declared.header.section.Section.{Section}
 use Rattle.rinex_file.specs.declared.header.section.Section.TheVariants.{Version, Program, Marker, MarkerType, Observer, Receiver, Antenna, Position, Delta, Types, StrengthUnit, First, Shift, End}
 use Rattle.rinex_file.specs.Texts.{HeaderLists}
 use Rattle.rinex_file.specs.Lines.{letter_of}
-use Rattle.rinex_file.specs.Header.{lines_of, lines_from, section_rows, after, header_line, type_line, types_of, codes_of, type_rows, header_lines}
+use Rattle.rinex_file.specs.Header.{section_lines, lines_from, section_rows, sections_behind, header_line, type_line, types_of, codes_of, type_rows, header_lines}
 
 length-range : (a n : ℕ) → length (range_with_len a n) ≡ n
 length-range a zero = refl
@@ -20,8 +20,8 @@ length-lines : (f : ℕ → List ℕ) (xs : List ℕ) → length (map f xs) ≡ 
 length-lines f [] = refl
 length-lines f (x ∷ xs) = ap suc (length-lines f xs)
 
-pub rows_at : (x : HeaderLists) (p : PlanValue) (v : StationValues) (t : Civil) (s : Section) → length (lines_of x p v t s) ≡ section_rows p s
-unfolding lines_of
+pub rows_at : (x : HeaderLists) (p : PlanValue) (v : StationValues) (t : Civil) (s : Section) → length (section_lines x p v t s) ≡ section_rows p s
+unfolding section_lines
 rows_at x p v t Version = refl
 rows_at x p v t Program = refl
 rows_at x p v t Marker = refl
@@ -40,8 +40,8 @@ rows_at x p v t (Shift s) = length-replicate (min (length (planned_of s p)) 1) (
 rows_at x p v t End = refl
 
 -- a section is at its end
-pub skip : (lines : Section → List (List ℕ)) (s n : Section) (row : ℕ) → length (lines s) ≤ row → after s ≡ n ∷ after n → lines_from lines s row ≡ lines_from lines n 0
-skip lines s n row short e = ap (λ l. l ++ flat_map lines (after s)) (drop_all row (lines s) short) ∙ ap (flat_map lines) e
+pub skip : (lines : Section → List (List ℕ)) (s n : Section) (row : ℕ) → length (lines s) ≤ row → sections_behind s ≡ n ∷ sections_behind n → lines_from lines s row ≡ lines_from lines n 0
+skip lines s n row short e = ap (λ l. l ++ flat_map lines (sections_behind s)) (drop_all row (lines s) short) ∙ ap (flat_map lines) e
 
 pub at_end : (rows count here line : ℕ) → rows ≡ here → count ≡ here → count ≤ line → rows ≤ line
 at_end rows count here line p q less = omega (arith, p, q, less)
@@ -50,8 +50,8 @@ pub below : (row here rows : ℕ) → row < here → rows ≡ here → row < row
 below row here rows less p = omega (arith, less, p)
 
 -- and so is the last
-pub ended : (lines : Section → List (List ℕ)) (s : Section) (row : ℕ) → length (lines s) ≤ row → after s ≡ [] → lines_from lines s row ≡ []
-ended lines s row short e = ap (λ l. l ++ flat_map lines (after s)) (drop_all row (lines s) short) ∙ ap (flat_map lines) e
+pub ended : (lines : Section → List (List ℕ)) (s : Section) (row : ℕ) → length (lines s) ≤ row → sections_behind s ≡ [] → lines_from lines s row ≡ []
+ended lines s row short e = ap (λ l. l ++ flat_map lines (sections_behind s)) (drop_all row (lines s) short) ∙ ap (flat_map lines) e
 
 next_of : (xs : List (List ℕ)) (row : ℕ) (d : List ℕ) → row < length xs → drop row xs ≡ get_or xs row d ∷ drop (row + 1) xs
 next_of [] row d h = absurd (omega (arith, h))
@@ -62,7 +62,7 @@ next_of (x ∷ xs) (suc row) d h =
 
 -- a line, and those behind it
 pub emit : (lines : Section → List (List ℕ)) (s : Section) (row : ℕ) → row < length (lines s) → lines_from lines s row ≡ get_or (lines s) row [] ∷ lines_from lines s (row + 1)
-emit lines s row h = ap (λ l. l ++ flat_map lines (after s)) (next_of (lines s) row [] h)
+emit lines s row h = ap (λ l. l ++ flat_map lines (sections_behind s)) (next_of (lines s) row [] h)
 
 -- the only line of a section
 pub sole : (lines : Section → List (List ℕ)) (count : Section → ℕ) (s t : Section) (x y : List ℕ) (row : ℕ) → s ≡ t → lines t ≡ x ∷ [] → count t ≡ 1 → row < count s → y ≡ x
@@ -95,6 +95,6 @@ at_same x zero row h = absurd (omega (arith, h))
 at_same x (suc n) zero h = refl
 at_same x (suc n) (suc row) h = at_same x n row (omega (arith, h))
 
-pub all_lines : (x : HeaderLists) (p : PlanValue) (v : StationValues) (t : Civil) → lines_from (lines_of x p v t) Version 0 ≡ header_lines x p v t
+pub all_lines : (x : HeaderLists) (p : PlanValue) (v : StationValues) (t : Civil) → lines_from (section_lines x p v t) Version 0 ≡ header_lines x p v t
 unfolding header_lines
 all_lines x p v t = refl

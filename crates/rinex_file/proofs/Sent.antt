@@ -10,10 +10,10 @@ use Rattle.gnss_obs.specs.declared.system.System.TheVariants.{Gps, Galileo}
 use Rattle.gnss_obs.specs.Satellites.{satellites as satellites_in}
 use Rattle.obs_epoch.specs.declared.cell.Cell.{Cell}
 use Rattle.obs_epoch.specs.Dates.{civil_of}
-use Rattle.obs_epoch.specs.Values.{PlanValue, EpochValue, cells_of, is_written, written_among, satellites}
+use Rattle.obs_epoch.specs.Values.{PlanValue, EpochValue, cells_of, is_written, written_among, satellites_written}
 use Rattle.rinex_file.specs.Numbers.{joined}
-use Rattle.rinex_file.specs.Value.{numbers, written, seen_among, seen_of, rows_of}
-use Rattle.rinex_file.specs.Lines.{seen_line, epoch_line}
+use Rattle.rinex_file.specs.Value.{numbers, written_satellites, row_among, row_in_epoch, rows_of}
+use Rattle.rinex_file.specs.Lines.{satellite_line, epoch_line}
 use Rattle.obs_epoch.specs.declared.cell.StationValues.{StationValues}
 use Rattle.rinex_file.specs.Header.{position_line, delta_line}
 use Rattle.rinex_file.specs.File.{event_line, event_text, line_among, line_or_none, lines_up_to, epoch_text}
@@ -72,19 +72,19 @@ module _ (v : StationValues) (a b c d : Option (List ℕ)) where
 -- ---- satellite by satellite
 
 one_of : (p : PlanValue) (e : EpochValue) (s : System) (n : ℕ) (b : Bool)
-    → joined (map seen_line (map (seen_of p e s) (if b then suc n ∷ [] else []))) ≡ (if b then seen_line (seen_of p e s (suc n)) else [])
-one_of p e s n true = append-nil (seen_line (seen_of p e s (suc n)))
+    → joined (map satellite_line (map (row_in_epoch p e s) (if b then suc n ∷ [] else []))) ≡ (if b then satellite_line (row_in_epoch p e s (suc n)) else [])
+one_of p e s n true = append-nil (satellite_line (row_in_epoch p e s (suc n)))
 one_of p e s n false = refl
 
 lines_suc : (p : PlanValue) (e : EpochValue) (s : System) (n : ℕ) → lines_up_to p e s (suc n) ≡ lines_up_to p e s n ++ line_or_none p e s (suc n)
 unfolding lines_up_to line_among
 lines_suc p e s n =
     let cells = cells_of s e in
-    let split : written cells (suc n) ≡ written cells n ++ (if is_written cells (suc n) then suc n ∷ [] else []) = filter-append (is_written cells) (numbers n) (suc n ∷ []) in
-    ap (λ l. joined (map seen_line (map (seen_of p e s) l))) split
-    ∙ ap (λ l. joined (map seen_line l)) (map-append (seen_of p e s) (written cells n) (if is_written cells (suc n) then suc n ∷ [] else []))
-    ∙ ap joined (map-append seen_line (map (seen_of p e s) (written cells n)) (map (seen_of p e s) (if is_written cells (suc n) then suc n ∷ [] else [])))
-    ∙ joined-append (map seen_line (map (seen_of p e s) (written cells n))) (map seen_line (map (seen_of p e s) (if is_written cells (suc n) then suc n ∷ [] else [])))
+    let split : written_satellites cells (suc n) ≡ written_satellites cells n ++ (if is_written cells (suc n) then suc n ∷ [] else []) = filter-append (is_written cells) (numbers n) (suc n ∷ []) in
+    ap (λ l. joined (map satellite_line (map (row_in_epoch p e s) l))) split
+    ∙ ap (λ l. joined (map satellite_line l)) (map-append (row_in_epoch p e s) (written_satellites cells n) (if is_written cells (suc n) then suc n ∷ [] else []))
+    ∙ ap joined (map-append satellite_line (map (row_in_epoch p e s) (written_satellites cells n)) (map (row_in_epoch p e s) (if is_written cells (suc n) then suc n ∷ [] else [])))
+    ∙ joined-append (map satellite_line (map (row_in_epoch p e s) (written_satellites cells n))) (map satellite_line (map (row_in_epoch p e s) (if is_written cells (suc n) then suc n ∷ [] else [])))
     ∙ ap (λ l. lines_up_to p e s n ++ l) (one_of p e s n (is_written cells (suc n)))
 
 lines_more : (p : PlanValue) (e : EpochValue) (s : System) (n m : ℕ) → m ≡ suc n → lines_up_to p e s m ≡ lines_up_to p e s n ++ line_or_none p e s m
@@ -96,11 +96,11 @@ no_lines p e s = refl
 
 pub not_written : (p : PlanValue) (s : System) (cells : List Cell) (id : ℕ) → is_written cells id ≡ false → line_among p s cells id ≡ []
 unfolding line_among
-not_written p s cells id h = ap (λ b. if b then seen_line (seen_among p s cells id) else []) h
+not_written p s cells id h = ap (λ b. if b then satellite_line (row_among p s cells id) else []) h
 
-pub is_shown : (p : PlanValue) (s : System) (cells : List Cell) (id : ℕ) → is_written cells id ≡ true → line_among p s cells id ≡ seen_line (seen_among p s cells id)
+pub is_shown : (p : PlanValue) (s : System) (cells : List Cell) (id : ℕ) → is_written cells id ≡ true → line_among p s cells id ≡ satellite_line (row_among p s cells id)
 unfolding line_among
-is_shown p s cells id h = ap (λ b. if b then seen_line (seen_among p s cells id) else []) h
+is_shown p s cells id h = ap (λ b. if b then satellite_line (row_among p s cells id) else []) h
 
 -- one satellite more went out
 pub grown_lines : (a b c : Option (List ℕ)) (p : PlanValue) (e : EpochValue) (s : System) (n m : ℕ) → m ≡ suc n → Appends a b (lines_up_to p e s n) → Appends b c (line_or_none p e s m)
@@ -138,11 +138,11 @@ one_more : (n : ℕ) (b : Bool) → length (if b then suc n ∷ [] else []) ≡ 
 one_more n true = refl
 one_more n false = refl
 
-length-written : (cells : List Cell) (n : ℕ) → length (written cells n) ≡ written_among cells n
+length-written : (cells : List Cell) (n : ℕ) → length (written_satellites cells n) ≡ written_among cells n
 length-written cells zero = refl
 length-written cells (suc n) =
     ap length (filter-append (is_written cells) (numbers n) (suc n ∷ []))
-    ∙ length-append (written cells n) (if is_written cells (suc n) then suc n ∷ [] else [])
+    ∙ length-append (written_satellites cells n) (if is_written cells (suc n) then suc n ∷ [] else [])
     ∙ ap (λ k. k + length (if is_written cells (suc n) then suc n ∷ [] else [])) (length-written cells n)
     ∙ ap (λ k. written_among cells n + k) (one_more n (is_written cells (suc n)))
 
@@ -150,19 +150,19 @@ length-of : {X : Type 0} (f : ℕ → X) (ids : List ℕ) → length (map f ids)
 length-of f [] = refl
 length-of f (x ∷ xs) = ap suc (length-of f xs)
 
-pub length-rows : (p : PlanValue) (e : EpochValue) → length (rows_of p e Gps ++ rows_of p e Galileo) ≡ satellites e
+pub length-rows : (p : PlanValue) (e : EpochValue) → length (rows_of p e Gps ++ rows_of p e Galileo) ≡ satellites_written e
 length-rows p e =
     length-append (rows_of p e Gps) (rows_of p e Galileo)
-    ∙ ap (λ k. k + length (rows_of p e Galileo)) (length-of (seen_of p e Gps) (written e.gps (satellites_in Gps)) ∙ length-written e.gps (satellites_in Gps))
-    ∙ ap (λ k. written_among e.gps (satellites_in Gps) + k) (length-of (seen_of p e Galileo) (written e.galileo (satellites_in Galileo)) ∙ length-written e.galileo (satellites_in Galileo))
+    ∙ ap (λ k. k + length (rows_of p e Galileo)) (length-of (row_in_epoch p e Gps) (written_satellites e.gps (satellites_in Gps)) ∙ length-written e.gps (satellites_in Gps))
+    ∙ ap (λ k. written_among e.gps (satellites_in Gps) + k) (length-of (row_in_epoch p e Galileo) (written_satellites e.galileo (satellites_in Galileo)) ∙ length-written e.galileo (satellites_in Galileo))
 
 -- the lines of an epoch: its own, those of GPS and those of Galileo
-pub epoch_parts : (p : PlanValue) (e : EpochValue) → epoch_text p e ≡ epoch_line (civil_of e.time) (satellites e) ++ (lines_up_to p e Gps (satellites_in Gps) ++ lines_up_to p e Galileo (satellites_in Galileo))
+pub epoch_parts : (p : PlanValue) (e : EpochValue) → epoch_text p e ≡ epoch_line (civil_of e.time) (satellites_written e) ++ (lines_up_to p e Gps (satellites_in Gps) ++ lines_up_to p e Galileo (satellites_in Galileo))
 unfolding epoch_text lines_up_to
 epoch_parts p e =
-    ap (λ n. epoch_line (civil_of e.time) n ++ joined (map seen_line (rows_of p e Gps ++ rows_of p e Galileo))) (length-rows p e)
-    ∙ ap (λ l. epoch_line (civil_of e.time) (satellites e) ++ joined l) (map-append seen_line (rows_of p e Gps) (rows_of p e Galileo))
-    ∙ ap (λ l. epoch_line (civil_of e.time) (satellites e) ++ l) (joined-append (map seen_line (rows_of p e Gps)) (map seen_line (rows_of p e Galileo)))
+    ap (λ n. epoch_line (civil_of e.time) n ++ joined (map satellite_line (rows_of p e Gps ++ rows_of p e Galileo))) (length-rows p e)
+    ∙ ap (λ l. epoch_line (civil_of e.time) (satellites_written e) ++ joined l) (map-append satellite_line (rows_of p e Gps) (rows_of p e Galileo))
+    ∙ ap (λ l. epoch_line (civil_of e.time) (satellites_written e) ++ l) (joined-append (map satellite_line (rows_of p e Gps)) (map satellite_line (rows_of p e Galileo)))
 
 -- ---- a call that failed says this
 

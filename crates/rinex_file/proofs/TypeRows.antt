@@ -15,7 +15,7 @@ use Rattle.rinex_file.specs.Numbers.{joined, left, right}
 use Rattle.rinex_file.specs.Lines.{letter_of}
 use Rattle.rinex_file.specs.Header.{header_line, type_of, types_of, codes_of, type_front, type_columns}
 use Rattle.rinex_file.specs.Read.Fields.{digits_in}
-use Rattle.rinex_file.specs.Read.Progress.{AreTypes, types_line, begun}
+use Rattle.rinex_file.specs.Read.Progress.{AreTypes, types_line, signals_begun}
 use Rattle.rinex_file.proofs.Digits.{length-right, digits_in-whole}
 use Rattle.rinex_file.proofs.SignalTypes.{columns, signal_type, length-system_types}
 use Rattle.rinex_file.proofs.TypeCodes.{length-code}
@@ -131,10 +131,10 @@ row_take ts n m enough =
     let e : m ≡ n + (m - n) = omega (arith, enough) in
     ap (λ k. take 13 (drop n (take k ts))) e ∙ ap (take 13) (drop-take n (m - n) ts) ∙ take-take 13 (m - n) (drop n ts) (omega (arith, enough))
 
-pub row_shown : (system : System) (all : List ℕ) (row : ℕ) → type_columns (types_of (codes_of system (take (begun (row + 1)) all))) row ≡ type_columns (types_of (codes_of system all)) row
+pub row_shown : (system : System) (all : List ℕ) (row : ℕ) → type_columns (types_of (codes_of system (take (signals_begun (row + 1)) all))) row ≡ type_columns (types_of (codes_of system all)) row
 row_shown system all row =
     let f : ℕ → List ℕ = λ index. code_of (record { system = system; index = index }) in
-    let m = begun (row + 1) in
+    let m = signals_begun (row + 1) in
     ap (λ cs. columns (take 13 (drop (13 * row) (types_of cs)))) (sym (take-map f m all))
     ∙ ap (λ ts. columns (take 13 (drop (13 * row) ts))) (types_take m (codes_of system all))
     ∙ ap columns (row_take (types_of (codes_of system all)) (13 * row) (4 * m) (enough row)) where
@@ -165,12 +165,12 @@ abbrev CodeOf : System → List ℕ → ℕ → ℕ → SignalAt → Type 0
 CodeOf system line row place s = take 2 (drop (6 + 4 * (4 * place - 13 * row) + 2) line) ≡ code_of s
 
 code_here : (system : System) (all line : List ℕ) (row place : ℕ) → AreTypes system all → 4 * length all < 1000 → line ≡ types_line system all row
-    → begun row ≤ place → place < begun (row + 1) → place < length all → CodeOf system line row place (signal_at system all place)
+    → signals_begun row ≤ place → place < signals_begun (row + 1) → place < length all → CodeOf system line row place (signal_at system all place)
 code_here system all line row place are few is low high less =
     code_in_line system all line row (4 * place - 13 * row) place are few is (in_row row place high) (same_place row place low) less
 
 pub taken_more : (system : System) (all line : List ℕ) (row place : ℕ) (old new : List SignalAt) → AreTypes system all → 4 * length all < 1000 → line ≡ types_line system all row
-    → begun row ≤ place → place < begun (row + 1) → place < length all
+    → signals_begun row ≤ place → place < signals_begun (row + 1) → place < length all
     → ((s : SignalAt) → IsSignal s → s.system ≡ system → CodeOf system line row place s → new ≡ old ++ s ∷ [])
     → indices old ≡ take place all → indices new ≡ take (place + 1) all
 taken_more system all line row place old new are few is low high less more before =
@@ -182,7 +182,7 @@ not_both : (b : Bool) → b ≡ true → b ≡ false → ⊥
 not_both b h k = grind (arith, h, k)
 
 pub taken_before : (system : System) (all line : List ℕ) (row place : ℕ) (old : List SignalAt) → AreTypes system all → 4 * length all < 1000 → line ≡ types_line system all row
-    → begun row ≤ place → place < begun (row + 1) → place < length all
+    → signals_begun row ≤ place → place < signals_begun (row + 1) → place < length all
     → ((s : SignalAt) → IsSignal s → s.system ≡ system → CodeOf system line row place s → list_any (λ (r : SignalAt). s.index == r.index) old ≡ true)
     → indices old ≡ take place all → ⊥
 taken_before system all line row place old are few is low high less bad before =
@@ -193,7 +193,7 @@ taken_before system all line row place old are few is low high less bad before =
 -- ---- the whole line
 
 -- a line that shows as many types and the signals so far is that of all
-pub shown_line : (system : System) (all so_far : List ℕ) (row count : ℕ) → length all ≡ count → so_far ≡ take (begun (row + 1)) all
+pub shown_line : (system : System) (all so_far : List ℕ) (row count : ℕ) → length all ≡ count → so_far ≡ take (signals_begun (row + 1)) all
     → header_line (type_front (letter_of system) (4 * count) row ++ type_columns (types_of (codes_of system so_far)) row) (codes "SYS / # / OBS TYPES") ≡ types_line system all row
 shown_line system all so_far row count size is =
     ap₂ (λ (n : ℕ) ts. header_line (type_front (letter_of system) n row ++ ts) (codes "SYS / # / OBS TYPES"))

@@ -5,8 +5,8 @@ use Rattle.rinex_file.specs.Read.Fields.{has}
 use Rattle.rinex_file.specs.Limits.{most_line}
 
 -- what is left is behind some of the bytes that were there
-abbrev pub Leaves : Option (List ℕ) → Option (List ℕ) → Type 0
-Leaves old new = (bytes : List ℕ) × Consumes old new bytes
+abbrev pub LeavesRest : Option (List ℕ) → Option (List ℕ) → Type 0
+LeavesRest old new = (bytes : List ℕ) × Consumes old new bytes
 
 -- the bytes that were moved: the line's last, or without a line feed
 abbrev pub AreMoved : Bool → List ℕ → Type 0
@@ -14,7 +14,7 @@ AreMoved true bytes = (body : List ℕ) × (bytes ≡ body ++ 10 ∷ []) × (has
 AreMoved false bytes = has 10 bytes ≡ false
 
 -- the first bytes of `old` were moved behind those of the line
-pub record Moves (whole : Bool) (old new line line' : List ℕ) : Type 0 where
+pub record MovesBytes (whole : Bool) (old new line line' : List ℕ) : Type 0 where
   pub bytes : List ℕ
   pub from : old ≡ bytes ++ new
   pub to : line' ≡ line ++ bytes

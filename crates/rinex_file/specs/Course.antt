@@ -6,16 +6,16 @@ use Rattle.rinex_file.specs.declared.read.due.Added.{Added}
 use Rattle.rinex_file.specs.declared.read.due.Added.TheVariants.{NoRow, OneRow, LastRow}
 use Rattle.rinex_file.specs.declared.read.due.Refusal.{Refusal}
 use Rattle.rinex_file.specs.declared.read.due.Refusal.TheVariants.{Memory, Bad}
-use Rattle.rinex_file.specs.Value.{Seen, Stamped, FileValue}
+use Rattle.rinex_file.specs.Value.{SatelliteRow, Stamped, FileValue}
 use Rattle.obs_epoch.specs.declared.cell.StationValues.{StationValues}
-use Rattle.rinex_file.specs.FileValues.{time_of, rank_of, changed_by, values_behind}
-use Rattle.rinex_file.specs.Read.Progress.{Progress, GoesOn}
+use Rattle.rinex_file.specs.FileValues.{time_stamped, rank_of, changed_by, values_behind}
+use Rattle.rinex_file.specs.Read.Progress.{Progress, HasLinesLeft}
 use Rattle.rinex_file.specs.Read.Sound.{IsSound}
 
 -- what was read of a file behind its header: epochs, and the satellites so far of an epoch that was begun
 pub record History : Type 0 where
   pub epochs : List Stamped
-  pub rows : List Seen
+  pub rows : List SatelliteRow
 
 abbrev pub nothing : History
 nothing = record { epochs = []; rows = [] }
@@ -42,9 +42,9 @@ abbrev pub events_in : List Stamped → ℕ
 events_in epochs = sum_by (λ e. changes_of e.change) epochs
 
 -- a course stands behind this history
-pub record StandsBehind (c : Course) (h : History) : Type 0 where
+pub record FollowsHistory (c : Course) (h : History) : Type 0 where
   pub sound : IsSound (progress_at c h)
-  pub last : EndsIn (map time_of h.epochs) c.last
+  pub last : EndsIn (map time_stamped h.epochs) c.last
   pub rank : EndsIn (map rank_of h.rows) c.rank
   pub epochs : c.epochs ≡ length h.epochs
   pub satellites : c.satellites ≡ rows_in h.epochs + length h.rows
@@ -52,41 +52,41 @@ pub record StandsBehind (c : Course) (h : History) : Type 0 where
   pub values : (v : StationValues) → changed_by v c.values ≡ values_behind v h.epochs
 
 -- an epoch behind this change of station values
-abbrev pub epoch_at : Option StationValues → ℕ → List Seen → Stamped
-epoch_at change time rows = record { change = change; time = time; rows = rows }
+abbrev pub stamped_at : Option StationValues → ℕ → List SatelliteRow → Stamped
+stamped_at change time rows = record { change = change; time = time; rows = rows }
 
 -- a history with one satellite more
-abbrev pub with_seen : History → Seen → History
-with_seen h seen = record { epochs = h.epochs; rows = h.rows ++ seen ∷ [] }
+abbrev pub with_satellite : History → SatelliteRow → History
+with_satellite h seen = record { epochs = h.epochs; rows = h.rows ++ seen ∷ [] }
 
 -- a history where the epoch that was begun, behind this change and at this time, has all its satellites
 abbrev pub with_epoch : History → Option StationValues → ℕ → History
-with_epoch h change time = record { epochs = h.epochs ++ epoch_at change time h.rows ∷ []; rows = [] }
+with_epoch h change time = record { epochs = h.epochs ++ stamped_at change time h.rows ∷ []; rows = [] }
 
 -- the history with what a line added, behind which the course stands
 abbrev pub with_line : Added → Course → History → History
 with_line NoRow c h = h
-with_line OneRow c h = with_seen h c.seen
-with_line LastRow c h = with_epoch (with_seen h c.seen) c.change c.time
+with_line OneRow c h = with_satellite h c.seen
+with_line LastRow c h = with_epoch (with_satellite h c.seen) c.change c.time
 
 -- the line is the one that may follow
-abbrev pub Follows : Progress → Progress → List ℕ → Type 0
-Follows old new line = (v : FileValue) (left : List (List ℕ)) → GoesOn old v (line ∷ left) ↔ GoesOn new v left
+abbrev pub GoesOnWithLine : Progress → Progress → List ℕ → Type 0
+GoesOnWithLine old new line = (v : FileValue) (left : List (List ℕ)) → HasLinesLeft old v (line ∷ left) ↔ HasLinesLeft new v left
 
 -- no file goes on with the line
-abbrev pub Refuses : Progress → List ℕ → Type 0
-Refuses s line = (v : FileValue) (left : List (List ℕ)) → GoesOn s v (line ∷ left) → ⊥
+abbrev pub RefusesLine : Progress → List ℕ → Type 0
+RefusesLine s line = (v : FileValue) (left : List (List ℕ)) → HasLinesLeft s v (line ∷ left) → ⊥
 
 -- a line was taken: it may follow whatever was read, and the course stands behind that and what the line adds
 pub record IsNext (old new : Course) (added : Added) (line : List ℕ) (h : History) : Type 0 where
-  pub stands : StandsBehind new (with_line added new h)
-  pub follows : Follows (progress_at old h) (progress_at new (with_line added new h)) line
+  pub stands : FollowsHistory new (with_line added new h)
+  pub follows : GoesOnWithLine (progress_at old h) (progress_at new (with_line added new h)) line
 
 -- what a course does with a line
-abbrev pub Takes : Course → Course → List ℕ → Result Added Refusal → Type 0
-Takes old new line (Ok added) = (h : History) → StandsBehind old h → IsNext old new added line h
-Takes old new line (Err Bad) = (h : History) → StandsBehind old h → Refuses (progress_at old h) line
-Takes old new line (Err Memory) = ⊤
+abbrev pub TakesLine : Course → Course → List ℕ → Result Added Refusal → Type 0
+TakesLine old new line (Ok added) = (h : History) → FollowsHistory old h → IsNext old new added line h
+TakesLine old new line (Err Bad) = (h : History) → FollowsHistory old h → RefusesLine (progress_at old h) line
+TakesLine old new line (Err Memory) = ⊤
 
 -- so many lines hold what was counted
 abbrev pub HasRoom : Course → ℕ → Type 0

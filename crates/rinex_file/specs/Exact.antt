@@ -9,9 +9,9 @@ use Rattle.rinex_file.specs.declared.read.due.Due.{Due}
 use Rattle.rinex_file.specs.declared.read.due.Due.TheVariants.{Header, Epoch, EventPosition, EventHeight, EventEpoch, Satellite}
 use Rattle.rinex_file.specs.Read.Fields.{has}
 use Rattle.rinex_file.specs.Numbers.{joined}
-use Rattle.rinex_file.specs.Value.{Seen, Stamped, FileValue}
+use Rattle.rinex_file.specs.Value.{SatelliteRow, Stamped, FileValue}
 use Rattle.rinex_file.specs.FileValues.{IsFileValue}
-use Rattle.rinex_file.specs.Lines.{seen_line}
+use Rattle.rinex_file.specs.Lines.{satellite_line}
 use Rattle.rinex_file.specs.File.{file_text, file_lines, stamped_lines}
 use Rattle.rinex_file.specs.Limits.{most_line}
 
@@ -84,12 +84,12 @@ pub record HasSatelliteNext (v : FileValue) (lines : List (List ℕ)) : Type 0 w
   pub before : List Stamped
   pub epoch : Stamped
   pub others : List Stamped
-  pub first : List Seen
-  pub satellite : Seen
-  pub more : List Seen
+  pub first : List SatelliteRow
+  pub satellite : SatelliteRow
+  pub more : List SatelliteRow
   pub epochs : v.epochs ≡ before ++ epoch ∷ others
   pub rows : epoch.rows ≡ first ++ satellite ∷ more
-  pub left : file_lines v ≡ lines ++ (map seen_line (satellite ∷ more) ++ flat_map stamped_lines others)
+  pub left : file_lines v ≡ lines ++ (map satellite_line (satellite ∷ more) ++ flat_map stamped_lines others)
 
 -- so does every file value that has line k, and whose first k - 1 lines are those of the input
 pub record IsDue (HasNext : FileValue → List (List ℕ) → Type 0) (input : List ℕ) (k : ℕ) : Type 0 where
@@ -126,15 +126,15 @@ pub record IsTooLong (input : List ℕ) : Type 0 where
   pub more : 0 < length rest
 
 -- what each fault says of the input
-abbrev pub Explains : List ℕ → ReadFault → Type 0
-Explains input Memory = ⊤
-Explains input Read = ⊤
-Explains input (BadHeader k) = IsFaulty input k × IsDue HasHeaderNext input k
-Explains input (BadEpoch k) = IsFaulty input k × (IsDue (HasEpochLeft 0) input k ⊎ IsDue (HasEpochLeft 3) input k)
-Explains input (BadEvent k) = IsFaulty input k × (IsDue (HasEpochLeft 1) input k ⊎ IsDue (HasEpochLeft 2) input k)
-Explains input (BadSatellite k) = IsFaulty input k × IsDue HasSatelliteNext input k
-Explains input (CutShort k) = IsCutShort input k
-Explains input TooLong = IsTooLong input
+abbrev pub ExplainsFault : List ℕ → ReadFault → Type 0
+ExplainsFault input Memory = ⊤
+ExplainsFault input Read = ⊤
+ExplainsFault input (BadHeader k) = IsFaulty input k × IsDue HasHeaderNext input k
+ExplainsFault input (BadEpoch k) = IsFaulty input k × (IsDue (HasEpochLeft 0) input k ⊎ IsDue (HasEpochLeft 3) input k)
+ExplainsFault input (BadEvent k) = IsFaulty input k × (IsDue (HasEpochLeft 1) input k ⊎ IsDue (HasEpochLeft 2) input k)
+ExplainsFault input (BadSatellite k) = IsFaulty input k × IsDue HasSatelliteNext input k
+ExplainsFault input (CutShort k) = IsCutShort input k
+ExplainsFault input TooLong = IsTooLong input
 
 -- want of memory, or a failed reader
 abbrev pub IsNoFault : ReadFault → Type 0

@@ -5,10 +5,10 @@ use Rattle.obs_epoch.specs.declared.cell.StationValues.{StationValues}
 use Rattle.obs_epoch.specs.Values.{EpochValue, PlanValue, Closed, same_values, cells_of, is_written}
 use Rattle.obs_epoch.specs.Dates.{civil_of}
 use Rattle.rinex_file.specs.Texts.{HeaderLists}
-use Rattle.rinex_file.specs.Value.{Stamped, FileValue, stamped_of, all_stamped, seen_among, seen_of, written}
+use Rattle.rinex_file.specs.Value.{Stamped, FileValue, stamped_of, all_stamped, row_among, row_in_epoch, written_satellites}
 use Rattle.obs_epoch.specs.declared.cell.Cell.{Cell}
 use Rattle.rinex_file.specs.Header.{header_lines, position_line, delta_line}
-use Rattle.rinex_file.specs.Lines.{epoch_line, seen_line}
+use Rattle.rinex_file.specs.Lines.{epoch_line, satellite_line}
 use Rattle.rinex_file.specs.Numbers.{joined}
 
 -- the header of a file whose first epoch is at this time
@@ -33,7 +33,7 @@ event_text v = joined (event_lines v)
 
 -- the lines of an epoch
 abbrev pub stamped_lines : Stamped → List (List ℕ)
-stamped_lines e = change_lines e.change ++ (epoch_line (civil_of e.time) (length e.rows) ∷ map seen_line e.rows)
+stamped_lines e = change_lines e.change ++ (epoch_line (civil_of e.time) (length e.rows) ∷ map satellite_line e.rows)
 
 -- an epoch that was gathered under a plan
 unfoldable pub epoch_text : PlanValue → EpochValue → List ℕ
@@ -41,23 +41,23 @@ epoch_text plan epoch = joined (stamped_lines (stamped_of plan epoch))
 
 -- the line of a satellite, where it is written
 unfoldable pub line_among : PlanValue → System → List Cell → ℕ → List ℕ
-line_among plan system cells id = if is_written cells id then seen_line (seen_among plan system cells id) else []
+line_among plan system cells id = if is_written cells id then satellite_line (row_among plan system cells id) else []
 
 abbrev pub line_or_none : PlanValue → EpochValue → System → ℕ → List ℕ
 line_or_none plan epoch system id = line_among plan system (cells_of system epoch) id
 
 -- the lines of a system's satellites up to a number
 unfoldable pub lines_up_to : PlanValue → EpochValue → System → ℕ → List ℕ
-lines_up_to plan epoch system most = joined (map seen_line (map (seen_of plan epoch system) (written (cells_of system epoch) most)))
+lines_up_to plan epoch system most = joined (map satellite_line (map (row_in_epoch plan epoch system) (written_satellites (cells_of system epoch) most)))
 
 -- header and epochs; nothing where there is no epoch
-abbrev pub lines_of : HeaderLists → PlanValue → StationValues → List Stamped → List (List ℕ)
-lines_of x p v [] = []
-lines_of x p v (e ∷ es) = header_lines x p v (civil_of e.time) ++ flat_map stamped_lines (e ∷ es)
+abbrev pub lines_of_parts : HeaderLists → PlanValue → StationValues → List Stamped → List (List ℕ)
+lines_of_parts x p v [] = []
+lines_of_parts x p v (e ∷ es) = header_lines x p v (civil_of e.time) ++ flat_map stamped_lines (e ∷ es)
 
 -- the lines of a file value
 abbrev pub file_lines : FileValue → List (List ℕ)
-file_lines v = lines_of v.texts v.plan v.values v.epochs
+file_lines v = lines_of_parts v.texts v.plan v.values v.epochs
 
 -- the text of a file value
 abbrev pub file_text : FileValue → List ℕ

@@ -12,7 +12,7 @@ use Rattle.obs_epoch.specs.Weeks.{week, weeks}
 use Rattle.rinex_file.specs.declared.header.fault.HeaderField.{HeaderField}
 use Rattle.rinex_file.specs.Blanks.{trimmed}
 use Rattle.rinex_file.specs.Texts.{HeaderLists, width_of, text_of, is_printable}
-use Rattle.rinex_file.specs.Value.{Entry, Row, Seen, Stamped, FileValue}
+use Rattle.rinex_file.specs.Value.{SignalValues, Row, SatelliteRow, Stamped, FileValue}
 
 -- ---- the header
 
@@ -51,28 +51,28 @@ IsTime t = t < weeks * week
 -- ---- epochs
 
 -- it says something
-abbrev pub says : Entry → Bool
-says e = is_some e.c || is_some e.l || is_some e.d || is_some e.s
+abbrev pub has_some_value : SignalValues → Bool
+has_some_value e = is_some e.c || is_some e.l || is_some e.d || is_some e.s
 
 -- a value that fourteen columns have room for
 abbrev pub FitsColumns : ℤ → Type 0
 FitsColumns v = IsFrom (neg_ℤ (pos 999_999_999_999)) (pos 9_999_999_999_999) v
 
--- values that their columns have room for, and no mark where there is no phase
-pub record IsEntry (e : Entry) : Type 0 where
+-- values that their columns have room for, and no loss-of-lock indicator where there is no phase
+pub record AreSignalValues (e : SignalValues) : Type 0 where
   pub c : IfSome e.c FitsColumns
   pub l : IfSome e.l FitsColumns
   pub d : IfSome e.d FitsColumns
   pub s : IfSome e.s (IsFrom (pos 1) (pos 99_999))
-  pub mark : e.mark < 4
-  pub unmarked : e.l ≡ None → e.mark ≡ 0
+  pub lli : e.lli < 4
+  pub without_phase : e.l ≡ None → e.lli ≡ 0
 
 -- a satellite of a system that has so many, of which so many signals are planned
 pub record IsRow (most signals : ℕ) (r : Row) : Type 0 where
   pub satellite : (1 ≤ r.satellite) × (r.satellite ≤ most)
-  pub entries : All IsEntry r.entries
+  pub entries : All AreSignalValues r.entries
   pub whole : length r.entries ≡ signals
-  pub some : Any (λ e. IsTrue (says e)) r.entries
+  pub some : Any (λ e. IsTrue (has_some_value e)) r.entries
 
 -- what stands for one system, and for the other
 abbrev pub of_system : {X : Type 0} → System → X → X → X
@@ -80,17 +80,17 @@ of_system Gps gps galileo = gps
 of_system Galileo gps galileo = galileo
 
 -- a satellite's place among all: those of GPS come first
-abbrev pub rank_of : Seen → ℕ
+abbrev pub rank_of : SatelliteRow → ℕ
 rank_of s = of_system s.system s.row.satellite (100 + s.row.satellite)
 
 -- a row of a system of which some signal is planned, where so many signals of each are
-pub record IsSeen (gps galileo : ℕ) (s : Seen) : Type 0 where
+pub record IsSatelliteRow (gps galileo : ℕ) (s : SatelliteRow) : Type 0 where
   pub planned : 0 < of_system s.system gps galileo
   pub row : IsRow (satellites s.system) (of_system s.system gps galileo) s.row
 
 -- satellites that rise
-pub record AreSeen (gps galileo : ℕ) (rows : List Seen) : Type 0 where
-  pub each : All (IsSeen gps galileo) rows
+pub record AreSatelliteRows (gps galileo : ℕ) (rows : List SatelliteRow) : Type 0 where
+  pub each : All (IsSatelliteRow gps galileo) rows
   pub rise : IsStrictlyIncreasing (map rank_of rows)
 
 -- so many satellites have the systems of which some signal is planned
@@ -100,11 +100,11 @@ most_rows gps galileo = (if nat_lt 0 gps then satellites Gps else 0) + (if nat_l
 -- an epoch of at least one satellite
 pub record IsStamped (gps galileo : ℕ) (e : Stamped) : Type 0 where
   pub time : IsTime e.time
-  pub rows : AreSeen gps galileo e.rows
+  pub rows : AreSatelliteRows gps galileo e.rows
   pub some : 0 < length e.rows
 
-abbrev pub time_of : Stamped → ℕ
-time_of e = e.time
+abbrev pub time_stamped : Stamped → ℕ
+time_stamped e = e.time
 
 -- ---- station values that change
 
@@ -141,6 +141,6 @@ pub record IsFileValue (v : FileValue) : Type 0 where
   pub values : AreValues v.values
   pub some : 0 < length v.epochs
   pub epochs : All (IsStamped (length v.plan.gps) (length v.plan.galileo)) v.epochs
-  pub rising : IsStrictlyIncreasing (map time_of v.epochs)
+  pub rising : IsStrictlyIncreasing (map time_stamped v.epochs)
   pub first : IsFirstSame v.epochs
   pub changes : AreChanges v.values v.epochs

@@ -3,7 +3,7 @@ use Rattle.std.specs.Prelude.{◌<◌, List, ◌∷◌, length, All, nat_eq}
 use Rattle.std.specs.List.{AllByRecursion, IsDistinct}
 use Rattle.gnss_obs.specs.declared.system.System.{System}
 use Rattle.gnss_obs.specs.Signals.{table}
-use Rattle.obs_epoch.specs.Values.{PlanValue, Closed, planned_of, satellites}
+use Rattle.obs_epoch.specs.Values.{PlanValue, Closed, planned_of, satellites_written}
 use Rattle.obs_epoch.specs.Reach.{AreGatheredEpochs}
 use Rattle.rinex_file.specs.Texts.{HeaderLists}
 use Rattle.rinex_file.specs.FileValues.{AreTexts, IsFileValue}
@@ -16,7 +16,7 @@ pub record AreSignals (p : PlanValue) : Type 0 where
 
 -- a satellite of the epoch is written
 abbrev pub HasSatellite : Closed → Type 0
-HasSatellite c = 0 < satellites c.epoch
+HasSatellite c = 0 < satellites_written c.epoch
 
 -- with the texts of a header: epochs of messages that were read, in each of which a satellite is written
 abbrev pub IsGatheredFile : Type 0

@@ -120,25 +120,25 @@ end_line = header_line [] (codes "END OF HEADER")
 
 -- ---- the whole
 
-abbrev pub one : List ℕ → List (List ℕ)
-one line = line ∷ []
+abbrev pub one_line : List ℕ → List (List ℕ)
+one_line line = line ∷ []
 
 -- the lines of a section
-unfoldable pub lines_of : HeaderLists → PlanValue → StationValues → Civil → Section → List (List ℕ)
-lines_of x p v t Version = one (version_line p)
-lines_of x p v t Program = one (program_line x)
-lines_of x p v t Marker = one (marker_line x)
-lines_of x p v t MarkerType = one (marker_type_line x)
-lines_of x p v t Observer = one (observer_line x)
-lines_of x p v t Receiver = one (receiver_line x)
-lines_of x p v t Antenna = one (antenna_line x)
-lines_of x p v t Position = one (position_line v)
-lines_of x p v t Delta = one (delta_line v)
-lines_of x p v t (Types system) = type_lines system (planned_of system p)
-lines_of x p v t StrengthUnit = one strength_line
-lines_of x p v t First = one (first_line t)
-lines_of x p v t (Shift system) = shift_lines system (planned_of system p)
-lines_of x p v t End = one end_line
+unfoldable pub section_lines : HeaderLists → PlanValue → StationValues → Civil → Section → List (List ℕ)
+section_lines x p v t Version = one_line (version_line p)
+section_lines x p v t Program = one_line (program_line x)
+section_lines x p v t Marker = one_line (marker_line x)
+section_lines x p v t MarkerType = one_line (marker_type_line x)
+section_lines x p v t Observer = one_line (observer_line x)
+section_lines x p v t Receiver = one_line (receiver_line x)
+section_lines x p v t Antenna = one_line (antenna_line x)
+section_lines x p v t Position = one_line (position_line v)
+section_lines x p v t Delta = one_line (delta_line v)
+section_lines x p v t (Types system) = type_lines system (planned_of system p)
+section_lines x p v t StrengthUnit = one_line strength_line
+section_lines x p v t First = one_line (first_line t)
+section_lines x p v t (Shift system) = shift_lines system (planned_of system p)
+section_lines x p v t End = one_line end_line
 
 -- the sections in order
 abbrev pub all_sections : List Section
@@ -148,7 +148,7 @@ all_sections =
 
 -- the lines of a header, in order
 unfoldable pub header_lines : HeaderLists → PlanValue → StationValues → Civil → List (List ℕ)
-header_lines x p v t = flat_map (lines_of x p v t) all_sections
+header_lines x p v t = flat_map (section_lines x p v t) all_sections
 
 -- ---- one line after the other
 
@@ -159,28 +159,28 @@ section_rows p (Shift system) = min (length (planned_of system p)) 1
 section_rows p other = 1
 
 -- the place of a section among all
-abbrev pub place_of : Section → ℕ
-place_of Version = 0
-place_of Program = 1
-place_of Marker = 2
-place_of MarkerType = 3
-place_of Observer = 4
-place_of Receiver = 5
-place_of Antenna = 6
-place_of Position = 7
-place_of Delta = 8
-place_of (Types Gps) = 9
-place_of (Types Galileo) = 10
-place_of StrengthUnit = 11
-place_of First = 12
-place_of (Shift Gps) = 13
-place_of (Shift Galileo) = 14
-place_of End = 15
+abbrev pub section_place : Section → ℕ
+section_place Version = 0
+section_place Program = 1
+section_place Marker = 2
+section_place MarkerType = 3
+section_place Observer = 4
+section_place Receiver = 5
+section_place Antenna = 6
+section_place Position = 7
+section_place Delta = 8
+section_place (Types Gps) = 9
+section_place (Types Galileo) = 10
+section_place StrengthUnit = 11
+section_place First = 12
+section_place (Shift Gps) = 13
+section_place (Shift Galileo) = 14
+section_place End = 15
 
 -- the sections behind one
-abbrev pub after : Section → List Section
-after section = drop (suc (place_of section)) all_sections
+abbrev pub sections_behind : Section → List Section
+sections_behind section = drop (suc (section_place section)) all_sections
 
 -- the lines from a line of a section on, where the sections have these
 abbrev pub lines_from : (Section → List (List ℕ)) → Section → ℕ → List (List ℕ)
-lines_from lines section row = drop row (lines section) ++ flat_map lines (after section)
+lines_from lines section row = drop row (lines section) ++ flat_map lines (sections_behind section)

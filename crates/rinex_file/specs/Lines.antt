@@ -1,13 +1,13 @@
 -- Epoch records and observation records of RINEX 3.05, table A3.
 use Rattle.std.specs.Prelude.{ℕ, ℤ, pos, ◌+◌, ◌*◌, ◌==◌, List, [], ◌∷◌, ◌++◌, flat_map, replicate, decimal, codes, if◌then◌else◌, Option, Some, None}
 use Rattle.std.specs.Option.{option_map_or}
-use Rattle.gnss_obs.specs.Observables.{digit}
+use Rattle.gnss_obs.specs.Observables.{strength_digit}
 use Rattle.gnss_obs.specs.declared.system.System.{System}
 use Rattle.gnss_obs.specs.declared.system.System.TheVariants.{Gps, Galileo}
 use Rattle.obs_epoch.specs.declared.civil.Civil.{Civil}
 use Rattle.rinex_file.specs.Numbers.{joined, right, fixed, padded}
 use Rattle.rinex_file.specs.Blanks.{trimmed}
-use Rattle.rinex_file.specs.Value.{Entry, Row, Seen}
+use Rattle.rinex_file.specs.Value.{SignalValues, Row, SatelliteRow}
 use Rattle.rinex_file.specs.Limits.{value_columns}
 
 -- the fields of the line that an epoch of so many satellites begins with
@@ -31,17 +31,17 @@ field None lost strength = replicate value_columns 32
 field (Some v) lost strength = right 14 (fixed 3 v) ++ lost ∷ strength ∷ []
 
 -- the loss-of-lock column of a phase
-abbrev pub mark_byte : ℕ → ℕ
-mark_byte mark = if mark == 0 then 32 else 48 + mark
+abbrev pub lli_byte : ℕ → ℕ
+lli_byte lli = if lli == 0 then 32 else 48 + lli
 
 -- the strength column
 abbrev pub strength_byte : Option ℤ → ℕ
-strength_byte s = option_map_or (λ t. 48 + digit t) s 32
+strength_byte s = option_map_or (λ t. 48 + strength_digit t) s 32
 
 -- the 64 columns of a signal
-unfoldable pub entry_text : Entry → List ℕ
-entry_text e =
-    field e.c 32 (strength_byte e.s) ++ (field e.l (mark_byte e.mark) (strength_byte e.s) ++ (field e.d 32 32 ++ field e.s 32 32))
+unfoldable pub signal_text : SignalValues → List ℕ
+signal_text e =
+    field e.c 32 (strength_byte e.s) ++ (field e.l (lli_byte e.lli) (strength_byte e.s) ++ (field e.d 32 32 ++ field e.s 32 32))
 
 -- the letter of a system
 abbrev pub letter_of : System → ℕ
@@ -50,8 +50,8 @@ letter_of Galileo = 69
 
 -- letter and number of a satellite, and the columns of its signals
 abbrev pub row_text : ℕ → Row → List ℕ
-row_text letter r = letter ∷ padded 2 r.satellite ++ flat_map entry_text r.entries
+row_text letter r = letter ∷ padded 2 r.satellite ++ flat_map signal_text r.entries
 
 -- the line of a satellite; blanks at its end are cut
-unfoldable pub seen_line : Seen → List ℕ
-seen_line s = trimmed (row_text (letter_of s.system) s.row) ++ 10 ∷ []
+unfoldable pub satellite_line : SatelliteRow → List ℕ
+satellite_line s = trimmed (row_text (letter_of s.system) s.row) ++ 10 ∷ []

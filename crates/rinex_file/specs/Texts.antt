@@ -64,14 +64,14 @@ fault_of field text =
     else Some (NotPrintable field)
 
 -- the fault that was found, or else a later one
-abbrev pub or_else : Option HeadFault → Option HeadFault → Option HeadFault
-or_else None later = later
-or_else (Some fault) later = Some fault
+abbrev pub or_later : Option HeadFault → Option HeadFault → Option HeadFault
+or_later None later = later
+or_later (Some fault) later = Some fault
 
 -- the fault that was found, or else the first of these fields
 abbrev pub first_fault : HeaderLists → Option HeadFault → List HeaderField → Option HeadFault
 first_fault t found [] = found
-first_fault t found (field ∷ rest) = first_fault t (or_else found (fault_of field (text_of t field))) rest
+first_fault t found (field ∷ rest) = first_fault t (or_later found (fault_of field (text_of t field))) rest
 
 -- each text without the blanks at its end
 abbrev pub trimmed_texts : HeaderLists → HeaderLists

@@ -10,34 +10,34 @@ use Rattle.obs_epoch.specs.Values.{EpochValue, PlanValue, Closed, same_values, c
 use Rattle.rinex_file.specs.Texts.{HeaderLists}
 
 -- what was observed of a planned signal: values in thousandths, all absent where nothing was
-pub record Entry : Type 0 where
+pub record SignalValues : Type 0 where
   pub c : Option ℤ
   pub l : Option ℤ
   pub d : Option ℤ
   pub s : Option ℤ
-  pub mark : ℕ
+  pub lli : ℕ
 
--- A satellite's entries: a map from the planned signals of its system to values and mark, as one entry for each signal in
--- the plan's order. An entry without a value and without a mark stands for a signal that the map doesn't have.
+-- A satellite's entries: a map from the planned signals of its system to values and indicator, as one entry for each signal in
+-- the plan's order. An entry without a value and without an indicator stands for a signal that the map doesn't have.
 pub record Row : Type 0 where
   pub satellite : ℕ
-  pub entries : List Entry
+  pub entries : List SignalValues
 
 -- a satellite of a system, with its entries
-pub record Seen : Type 0 where
+pub record SatelliteRow : Type 0 where
   pub system : System
   pub row : Row
 
 -- a satellite of a system with these entries
-abbrev pub seen_with : System → ℕ → List Entry → Seen
-seen_with system satellite entries = record { system = system; row = record { satellite = satellite; entries = entries } }
+abbrev pub satellite_row : System → ℕ → List SignalValues → SatelliteRow
+satellite_row system satellite entries = record { system = system; row = record { satellite = satellite; entries = entries } }
 
 -- An epoch: a map from satellites to entries, as a list of rising satellites, those of GPS first. `change` are the station
 -- values that hold from this epoch on, where they are no longer those before.
 pub record Stamped : Type 0 where
   pub change : Option StationValues
   pub time : ℕ
-  pub rows : List Seen
+  pub rows : List SatelliteRow
 
 pub record FileValue : Type 0 where
   pub texts : HeaderLists
@@ -57,36 +57,36 @@ numbers zero = []
 numbers (suc n) = numbers n ++ suc n ∷ []
 
 -- the satellites that are written, up to a number
-abbrev pub written : List Cell → ℕ → List ℕ
-written cells most = filter (is_written cells) (numbers most)
+abbrev pub written_satellites : List Cell → ℕ → List ℕ
+written_satellites cells most = filter (is_written cells) (numbers most)
 
-abbrev pub no_entry : Entry
-no_entry = record { c = None; l = None; d = None; s = None; mark = 0 }
+abbrev pub no_signal_values : SignalValues
+no_signal_values = record { c = None; l = None; d = None; s = None; lli = 0 }
 
-abbrev pub entry_of : Cell → Entry
-entry_of c = record { c = c.c; l = c.l; d = c.d; s = c.s; mark = c.mark }
+abbrev pub signal_values_of : Cell → SignalValues
+signal_values_of c = record { c = c.c; l = c.l; d = c.d; s = c.s; lli = c.lli }
 
 -- a satellite's cell of the signal at this place of its system's table
-abbrev pub is_of : ℕ → ℕ → Cell → Bool
-is_of id index c = (c.satellite.id == id) && (c.signal.index == index)
+abbrev pub is_of_key : ℕ → ℕ → Cell → Bool
+is_of_key id index c = (c.satellite.id == id) && (c.signal.index == index)
 
-abbrev pub entry_at : List Cell → ℕ → ℕ → Entry
-entry_at cells id index = option_map_or entry_of (find (is_of id index) cells) no_entry
+abbrev pub signal_values_at : List Cell → ℕ → ℕ → SignalValues
+signal_values_at cells id index = option_map_or signal_values_of (find (is_of_key id index) cells) no_signal_values
 
 -- a satellite's entries of these signals
 abbrev pub row_of : List ℕ → List Cell → ℕ → Row
-row_of signals cells id = record { satellite = id; entries = map (entry_at cells id) signals }
+row_of signals cells id = record { satellite = id; entries = map (signal_values_at cells id) signals }
 
 -- a satellite of a system with these cells, with its entries
-abbrev pub seen_among : PlanValue → System → List Cell → ℕ → Seen
-seen_among plan system cells id = record { system = system; row = row_of (planned_of system plan) cells id }
+abbrev pub row_among : PlanValue → System → List Cell → ℕ → SatelliteRow
+row_among plan system cells id = record { system = system; row = row_of (planned_of system plan) cells id }
 
-abbrev pub seen_of : PlanValue → EpochValue → System → ℕ → Seen
-seen_of plan epoch system id = seen_among plan system (cells_of system epoch) id
+abbrev pub row_in_epoch : PlanValue → EpochValue → System → ℕ → SatelliteRow
+row_in_epoch plan epoch system id = row_among plan system (cells_of system epoch) id
 
 -- the satellites of a system that are written
-abbrev pub rows_of : PlanValue → EpochValue → System → List Seen
-rows_of plan epoch system = map (seen_of plan epoch system) (written (cells_of system epoch) (satellites system))
+abbrev pub rows_of : PlanValue → EpochValue → System → List SatelliteRow
+rows_of plan epoch system = map (row_in_epoch plan epoch system) (written_satellites (cells_of system epoch) (satellites system))
 
 abbrev pub stamped_of : PlanValue → EpochValue → Stamped
 stamped_of plan epoch = record { change = None; time = epoch.time; rows = rows_of plan epoch Gps ++ rows_of plan epoch Galileo }

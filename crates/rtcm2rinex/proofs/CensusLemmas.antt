@@ -2,22 +2,22 @@
 use Rattle.std.proofs.Common.{◌≡◌, ℕ, ◌+◌, ◌-◌, ◌*◌, ◌<◌, ◌≤◌, ◌^◌, ◌==◌, ◌&&◌, ◌||◌, Bool, true, false, List, [], ◌∷◌, ◌++◌, length, get_or, set, take, refl, sym, ap, ap₂, ◌∙◌, subst, arith, Option, Some, None, min, filter, append-nil, append_assoc, length-append, is_some}
 use Rattle.std.specs.Prelude.{filter_map, cond, nat_lt, nat_le, if◌then◌else◌}
 use Rattle.std.specs.List.{cons_option, position_or_len}
-use Rattle.gnss_obs.specs.declared.tables.Entry as tables
+use Rattle.gnss_obs.specs.declared.tables.ListedSignal as tables
 use Rattle.std.specs.Option.{option_map, option_and_then, option_map_or}
 use Rattle.std.proofs.lemmas.List.{get_or-set_same, get_or-set_other, take_more, length-set, length-take}
 use Rattle.gnss_obs.specs.declared.system.System.{System}
 use Rattle.gnss_obs.specs.declared.system.System.TheVariants.{Gps, Galileo}
-use Rattle.gnss_obs.specs.Satellites.{Satellite, satellite_at}
+use Rattle.gnss_obs.specs.Satellites.{Satellite, satellite_of_id}
 use Rattle.gnss_obs.specs.Signals.{SignalAt, IsSignal, table, signal_of_id, hertz_of}
 use Rattle.gnss_obs.specs.LockTimes.{LockTime}
-use Rattle.gnss_obs.specs.Observables.{metres, cycles, shift, decibels}
+use Rattle.gnss_obs.specs.Observables.{nearest_pseudorange, nearest_phase, nearest_doppler, nearest_strength}
 use Rattle.rtcm_msg.specs.declared.entry.Entry.{Entry}
 use Rattle.obs_epoch.specs.declared.seen.Seen.{Seen}
 use Rattle.obs_epoch.specs.Heard.{Heard, seen_in, lock_by, observed}
 use Rattle.obs_epoch.specs.Cells.{is_system}
 use Rattle.rtcm2rinex.specs.declared.census.Census.{Census}
-use Rattle.rtcm2rinex.specs.Signals.{has_value, is_from, valued, is_of_signal, count_of, signal_in}
-use Rattle.rtcm2rinex.specs.Census.{IsCensus, counted, more_of, more_in, one_up, entry_signal, entry_value}
+use Rattle.rtcm2rinex.specs.Signals.{brings_value, is_of_station, valued, is_of_signal, count_of, signal_in}
+use Rattle.rtcm2rinex.specs.Census.{IsCensus, counted, counted_of, counted_in, one_up, entry_signal, entry_value}
 
 -- ---- filters over joined lists
 
@@ -92,18 +92,18 @@ one_up_at xs g i within few = by (g == i) refl where
   by false h = get_or-set_other xs g i (min (get_or xs g 0 + 1) (2 ^ 64 - 1)) 0 (other g i h) ∙ none (get_or xs i 0)
 
 -- a cell more of a signal of the tables
-census_more : (c : Census) (cells : List Seen) (x : Seen) → IsCensus c cells → length cells < 2 ^ 64 - 1 → IsSignal x.signal → IsCensus (more_of c x.signal) (cells ++ x ∷ [])
+census_more : (c : Census) (cells : List Seen) (x : Seen) → IsCensus c cells → length cells < 2 ^ 64 - 1 → IsSignal x.signal → IsCensus (counted_of c x.signal) (cells ++ x ∷ [])
 census_more c cells x h few listed = record {
   gps = long_gps x.signal.system;
   galileo = long_galileo x.signal.system;
   each = λ system i within. each system i within ∙ sym (count_more (signal_in system i) cells x);
 }
   where
-    long_gps : (s : System) → length (more_in s x.signal.index c).gps ≡ 15
+    long_gps : (s : System) → length (counted_in s x.signal.index c).gps ≡ 15
     long_gps Gps = length-set c.gps x.signal.index (min (get_or c.gps x.signal.index 0 + 1) (2 ^ 64 - 1)) ∙ h.gps
     long_gps Galileo = h.gps
 
-    long_galileo : (s : System) → length (more_in s x.signal.index c).galileo ≡ 19
+    long_galileo : (s : System) → length (counted_in s x.signal.index c).galileo ≡ 19
     long_galileo Gps = h.galileo
     long_galileo Galileo = length-set c.galileo x.signal.index (min (get_or c.galileo x.signal.index 0 + 1) (2 ^ 64 - 1)) ∙ h.galileo
 
@@ -114,14 +114,14 @@ census_more c cells x h few listed = record {
     same n m e = omega (arith, e)
 
     step : (s t : System) (i : ℕ) → x.signal.index < length (table s) → i < length (table t)
-        → counted (more_in s x.signal.index c) t i ≡ counted c t i + (if is_system t s && (x.signal.index == i) then 1 else 0)
+        → counted (counted_in s x.signal.index c) t i ≡ counted c t i + (if is_system t s && (x.signal.index == i) then 1 else 0)
     step Gps Gps i at within = one_up_at c.gps x.signal.index i (omega (arith, at, h.gps)) (below_most Gps x.signal.index at)
     step Gps Galileo i at within = same _ _ refl
     step Galileo Gps i at within = same _ _ refl
     step Galileo Galileo i at within = one_up_at c.galileo x.signal.index i (omega (arith, at, h.galileo)) (below_most Galileo x.signal.index at)
 
     each : (t : System) (i : ℕ) → i < length (table t)
-        → counted (more_of c x.signal) t i ≡ count_of (signal_in t i) cells + (if is_system t x.signal.system && (x.signal.index == i) then 1 else 0)
+        → counted (counted_of c x.signal) t i ≡ count_of (signal_in t i) cells + (if is_system t x.signal.system && (x.signal.index == i) then 1 else 0)
     each t i within =
         step x.signal.system t i listed within ∙ ap (λ (n : ℕ). n + (if is_system t x.signal.system && (x.signal.index == i) then 1 else 0)) (h.each t i within)
 
@@ -148,60 +148,60 @@ is_some-map : {X Y : Type 0} (f : X → Y) (o : Option X) → is_some (option_ma
 is_some-map f None = refl
 is_some-map f (Some x) = refl
 
-value_same : (lock : LockTime) (e : Entry) (s : Satellite) (g : SignalAt) → has_value (observed lock e s g) ≡ entry_value e
+value_same : (lock : LockTime) (e : Entry) (s : Satellite) (g : SignalAt) → brings_value (observed lock e s g) ≡ entry_value e
 value_same lock e s g =
-    ap₂ (λ a b. a || b) (ap₂ (λ a b. a || b) (ap₂ (λ a b. a || b) (is_some-map metres e.range) (is_some-map (cycles (hertz_of g)) e.phase)) (is_some-map (shift (hertz_of g)) e.rate)) (is_some-map decibels e.strength)
+    ap₂ (λ a b. a || b) (ap₂ (λ a b. a || b) (ap₂ (λ a b. a || b) (is_some-map nearest_pseudorange e.range) (is_some-map (nearest_phase (hertz_of g)) e.phase)) (is_some-map (nearest_doppler (hertz_of g)) e.rate)) (is_some-map nearest_strength e.strength)
 
 -- an entry is counted where its cell is one that counts
-pub entry_counted : (is_long : Bool) (system : System) (e : Entry) (o : Option SignalAt) (c after : Census) (cells : List Seen) → o ≡ entry_signal system e → after ≡ option_map_or (more_of c) o c
-    → length cells < 2 ^ 64 - 1 → IsCensus c cells → IsCensus after (cells ++ filter has_value (cons_option (seen_in is_long system e) []))
-entry_counted is_long system e o c after cells is made few h =
-    subst (λ (a : Census). IsCensus a (cells ++ filter has_value (cons_option (seen_in is_long system e) []))) (sym made)
-    (subst (λ (p : Option SignalAt). IsCensus (option_map_or (more_of c) p c) (cells ++ filter has_value (cons_option (seen_in is_long system e) []))) (sym is)
-    (by (satellite_at system e.satellite) (signal_of_id system e.signal) (λ g same. (listed_of system e.signal g same).1)))
+pub entry_counted : (is_msm7 : Bool) (system : System) (e : Entry) (o : Option SignalAt) (c after : Census) (cells : List Seen) → o ≡ entry_signal system e → after ≡ option_map_or (counted_of c) o c
+    → length cells < 2 ^ 64 - 1 → IsCensus c cells → IsCensus after (cells ++ filter brings_value (cons_option (seen_in is_msm7 system e) []))
+entry_counted is_msm7 system e o c after cells is made few h =
+    subst (λ (a : Census). IsCensus a (cells ++ filter brings_value (cons_option (seen_in is_msm7 system e) []))) (sym made)
+    (subst (λ (p : Option SignalAt). IsCensus (option_map_or (counted_of c) p c) (cells ++ filter brings_value (cons_option (seen_in is_msm7 system e) []))) (sym is)
+    (by (satellite_of_id system e.satellite) (signal_of_id system e.signal) (λ g same. (listed_of system e.signal g same).1)))
   where
     none : IsCensus c (cells ++ [])
     none = subst (IsCensus c) (sym (append-nil cells)) h
 
     seen : Satellite → SignalAt → Seen
-    seen s g = observed (lock_by is_long e.lock) e s g
+    seen s g = observed (lock_by is_msm7 e.lock) e s g
 
-    valued : (s : Satellite) (g : SignalAt) → IsSignal g → (b : Bool) → has_value (seen s g) ≡ b
-        → IsCensus (option_map_or (more_of c) (cond b (Some g) None) c) (cells ++ cond b (seen s g ∷ []) [])
+    valued : (s : Satellite) (g : SignalAt) → IsSignal g → (b : Bool) → brings_value (seen s g) ≡ b
+        → IsCensus (option_map_or (counted_of c) (cond b (Some g) None) c) (cells ++ cond b (seen s g ∷ []) [])
     valued s g listed true same = census_more c cells (seen s g) h few listed
     valued s g listed false same = none
 
-    both : (s : Satellite) (g : SignalAt) → IsSignal g → IsCensus (option_map_or (more_of c) (cond (entry_value e) (Some g) None) c) (cells ++ filter has_value (seen s g ∷ []))
+    both : (s : Satellite) (g : SignalAt) → IsSignal g → IsCensus (option_map_or (counted_of c) (cond (entry_value e) (Some g) None) c) (cells ++ filter brings_value (seen s g ∷ []))
     both s g listed =
-        subst (λ (b : Bool). IsCensus (option_map_or (more_of c) (cond b (Some g) None) c) (cells ++ filter has_value (seen s g ∷ []))) (value_same (lock_by is_long e.lock) e s g)
-        (valued s g listed (has_value (seen s g)) refl)
+        subst (λ (b : Bool). IsCensus (option_map_or (counted_of c) (cond b (Some g) None) c) (cells ++ filter brings_value (seen s g ∷ []))) (value_same (lock_by is_msm7 e.lock) e s g)
+        (valued s g listed (brings_value (seen s g)) refl)
 
-    neither : (b : Bool) → IsCensus (option_map_or (more_of c) (cond b None None) c) (cells ++ [])
+    neither : (b : Bool) → IsCensus (option_map_or (counted_of c) (cond b None None) c) (cells ++ [])
     neither true = none
     neither false = none
 
     by : (s : Option Satellite) (g : Option SignalAt) → ((x : SignalAt) → g ≡ Some x → IsSignal x)
-        → IsCensus (option_map_or (more_of c) (cond (is_some s && entry_value e) g None) c) (cells ++ filter has_value (cons_option (option_and_then (λ s. option_map (seen s) g) s) []))
+        → IsCensus (option_map_or (counted_of c) (cond (is_some s && entry_value e) g None) c) (cells ++ filter brings_value (cons_option (option_and_then (λ s. option_map (seen s) g) s) []))
     by None g listed = none
     by (Some s) None listed = neither (entry_value e)
     by (Some s) (Some g) listed = both s g (listed g refl)
 
 -- what is counted of one entry more
-pub entries_more : (is_long : Bool) (system : System) (es : List Entry) (i : ℕ) (d : Entry) (o : Option SignalAt) (c after : Census) (cells : List Seen) → i < length es
-    → o ≡ entry_signal system (get_or es i d) → after ≡ option_map_or (more_of c) o c → length cells + length es < 2 ^ 63
-    → IsCensus c (cells ++ filter has_value (filter_map (seen_in is_long system) (take i es)))
-    → IsCensus after (cells ++ filter has_value (filter_map (seen_in is_long system) (take (i + 1) es)))
-entries_more is_long system es i d o c after cells within is made few h =
-    let seen = seen_in is_long system in
+pub entries_more : (is_msm7 : Bool) (system : System) (es : List Entry) (i : ℕ) (d : Entry) (o : Option SignalAt) (c after : Census) (cells : List Seen) → i < length es
+    → o ≡ entry_signal system (get_or es i d) → after ≡ option_map_or (counted_of c) o c → length cells + length es < 2 ^ 63
+    → IsCensus c (cells ++ filter brings_value (filter_map (seen_in is_msm7 system) (take i es)))
+    → IsCensus after (cells ++ filter brings_value (filter_map (seen_in is_msm7 system) (take (i + 1) es)))
+entries_more is_msm7 system es i d o c after cells within is made few h =
+    let seen = seen_in is_msm7 system in
     let e : Entry = get_or es i d in
-    let front : List Seen = filter has_value (filter_map seen (take i es)) in
-    let last : List Seen = filter has_value (cons_option (seen e) []) in
-    let small : length front ≤ i = short (length front) (length (filter_map seen (take i es))) (length (take i es)) i (length-filter has_value (filter_map seen (take i es))) (length-filter_map seen (take i es)) (length-take i es) in
+    let front : List Seen = filter brings_value (filter_map seen (take i es)) in
+    let last : List Seen = filter brings_value (cons_option (seen e) []) in
+    let small : length front ≤ i = short (length front) (length (filter_map seen (take i es))) (length (take i es)) i (length-filter brings_value (filter_map seen (take i es))) (length-filter_map seen (take i es)) (length-take i es) in
     let fewer : length (cells ++ front) < 2 ^ 64 - 1 = room (length (cells ++ front)) (length cells) (length front) i (length es) (length-append cells front) small within few in
-    let counted : IsCensus after ((cells ++ front) ++ last) = entry_counted is_long system e o c after (cells ++ front) is made fewer h in
-    let joined : filter has_value (filter_map seen (take (i + 1) es)) ≡ front ++ last =
-    ap (λ (l : List Entry). filter has_value (filter_map seen l)) (take_more es i d within) ∙ ap (filter has_value) (filter_map-push seen (take i es) e)
-    ∙ filter-append has_value (filter_map seen (take i es)) (cons_option (seen e) []) in
+    let counted : IsCensus after ((cells ++ front) ++ last) = entry_counted is_msm7 system e o c after (cells ++ front) is made fewer h in
+    let joined : filter brings_value (filter_map seen (take (i + 1) es)) ≡ front ++ last =
+    ap (λ (l : List Entry). filter brings_value (filter_map seen l)) (take_more es i d within) ∙ ap (filter brings_value) (filter_map-push seen (take i es) e)
+    ∙ filter-append brings_value (filter_map seen (take i es)) (cons_option (seen e) []) in
     subst (IsCensus after) (append_assoc cells front last ∙ ap (λ (l : List Seen). cells ++ l) (sym joined)) counted
   where
     short : (a b c n : ℕ) → a ≤ b → b ≤ c → c ≡ min n (length es) → a ≤ n
@@ -214,22 +214,22 @@ entries_more is_long system es i d o c after cells within is made few h =
 
 -- all cells of a message that is wanted
 pub wanted_cells : (wanted : Option ℕ) (station : ℕ) (m : Heard) (w : Bool) → m.station ≡ Some station → w ≡ option_map_or (λ n. station == n) wanted true → w ≡ true
-    → valued wanted m ≡ filter has_value m.cells
+    → valued wanted m ≡ filter brings_value m.cells
 wanted_cells wanted station m w at is holds =
-    ap (λ (b : Bool). cond b (filter has_value m.cells) []) (same wanted ∙ sym is ∙ holds)
+    ap (λ (b : Bool). cond b (filter brings_value m.cells) []) (same wanted ∙ sym is ∙ holds)
   where
-    same : (o : Option ℕ) → is_from o m ≡ option_map_or (λ n. station == n) o true
+    same : (o : Option ℕ) → is_of_station o m ≡ option_map_or (λ n. station == n) o true
     same None = refl
     same (Some n) = ap (λ (o : Option ℕ). option_map_or (λ from. from == n) o false) at
 
 pub message_counted : (after : Census) (cells front : List Seen) (wanted : Option ℕ) (m : Heard) → valued wanted m ≡ front → IsCensus after (cells ++ front) → IsCensus after (cells ++ valued wanted m)
 message_counted after cells front wanted m same h = subst (λ (l : List Seen). IsCensus after (cells ++ l)) (sym same) h
 
-pub few_valued : (is_long : Bool) (system : System) (es : List Entry) (cells : List Seen) → cells ≡ filter has_value (filter_map (seen_in is_long system) es) → length es ≤ 64 → length cells ≤ 64
-few_valued is_long system es cells is few =
-    let a = length-filter has_value (filter_map (seen_in is_long system) es) in
-    let b = length-filter_map (seen_in is_long system) es in
-    join (length cells) (length (filter has_value (filter_map (seen_in is_long system) es))) (length (filter_map (seen_in is_long system) es)) (length es) (ap length is) a b few
+pub few_valued : (is_msm7 : Bool) (system : System) (es : List Entry) (cells : List Seen) → cells ≡ filter brings_value (filter_map (seen_in is_msm7 system) es) → length es ≤ 64 → length cells ≤ 64
+few_valued is_msm7 system es cells is few =
+    let a = length-filter brings_value (filter_map (seen_in is_msm7 system) es) in
+    let b = length-filter_map (seen_in is_msm7 system) es in
+    join (length cells) (length (filter brings_value (filter_map (seen_in is_msm7 system) es))) (length (filter_map (seen_in is_msm7 system) es)) (length es) (ap length is) a b few
   where
     join : (n a b c : ℕ) → n ≡ a → a ≤ b → b ≤ c → c ≤ 64 → n ≤ 64
     join n a b c x y z w = omega (arith, x, y, z, w)

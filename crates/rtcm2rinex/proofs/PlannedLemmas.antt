@@ -10,10 +10,10 @@ use Rattle.gnss_obs.specs.Signals.{SignalAt, IsSignal, table, code_of, signal_of
 use Rattle.obs_epoch.specs.declared.seen.Seen.{Seen}
 use Rattle.obs_epoch.specs.declared.fault.PlanFault.{PlanFault}
 use Rattle.obs_epoch.specs.declared.fault.PlanFault.TheVariants.{RepeatedCode}
-use Rattle.obs_epoch.specs.Cells.{is_planned, is_listed}
-use Rattle.obs_epoch.specs.Heard.{Setup}
-use Rattle.obs_epoch.specs.Marked.{IsKey}
-use Rattle.obs_epoch.specs.Plans.{below, place_in, between_commas, onto_first, one_more, signals_after, signals_of, plan_of}
+use Rattle.obs_epoch.specs.Cells.{is_planned, has_listed_key}
+use Rattle.obs_epoch.specs.Heard.{GatherSetup}
+use Rattle.obs_epoch.specs.WithLli.{IsKey}
+use Rattle.obs_epoch.specs.Plans.{below, place_in, between_commas, onto_first, one_signal_more, signals_after, signals_of, plan_of}
 use Rattle.obs_epoch.specs.Values.{PlanValue, planned_of}
 use Rattle.rtcm2rinex.specs.Signals.{is_of_signal, count_of, signal_in, had, plan_had, code_list, codes_word}
 use Rattle.rtcm2rinex.proofs.CensusLemmas.{filter-append}
@@ -132,7 +132,7 @@ codes_read : CodesReadBack → (system : System) (earlier : List ℕ) (low : ℕ
 codes_read law system earlier low [] h new = ap Ok (sym (append-nil earlier))
 codes_read law system earlier low (i ∷ is) h new =
     let after : List ℕ → Result (List ℕ) PlanFault = λ signals. signals_after system signals (map (code_at system) is) in
-    ap (λ o. one_more system earlier o after) (law (signal_in system i) h.1)
+    ap (λ o. one_signal_more system earlier o after) (law (signal_in system i) h.1)
     ∙ ap (λ (b : Bool). cond b (Err (RepeatedCode system (length earlier))) (after (earlier ++ i ∷ []))) (new i h.0)
     ∙ codes_read law system (earlier ++ i ∷ []) (i + 1) is h.2 (λ j le. newer j le) ∙ ap Ok (append_assoc earlier (i ∷ []) is)
   where
@@ -233,7 +233,7 @@ some_place test xs h = by (nat_lt (position_or_len test xs) (length xs)) (has_pl
   by true e = refl
   by false e = absurd (grind (arith, e))
 
-key_listed : (x : Seen) → IsKey x → is_listed x ≡ true
+key_listed : (x : Seen) → IsKey x → has_listed_key x ≡ true
 key_listed x key =
     ap₂ (λ a b. a && b) (ap₂ (λ a b. a && b) (positive x.satellite.id key.satellite.0) (few x.satellite.id (satellites x.satellite.system) key.satellite.1))
     (less x.signal.index (length (table x.satellite.system)) (subst (λ (u : System). x.signal.index < length (table u)) key.same key.signal))
@@ -251,14 +251,14 @@ had_in : (cells : List Seen) (system : System) → planned_of system (plan_had c
 had_in cells Gps = refl
 had_in cells Galileo = refl
 
-planned_one : (s : Setup) (cells : List Seen) (x : Seen) → s.plan ≡ plan_had cells → IsKey x → 0 < count_of x.signal cells → is_planned s x ≡ true
+planned_one : (s : GatherSetup) (cells : List Seen) (x : Seen) → s.plan ≡ plan_had cells → IsKey x → 0 < count_of x.signal cells → is_planned s x ≡ true
 planned_one s cells x plan key some =
     let same : planned_of x.satellite.system s.plan ≡ had cells x.signal.system = ap (planned_of x.satellite.system) plan ∙ had_in cells x.satellite.system ∙ ap (had cells) (sym key.same) in
     let place : is_some (place_in x.signal (planned_of x.satellite.system s.plan)) ≡ true =
     ap (λ (l : List ℕ). is_some (place_in x.signal l)) same ∙ some_place (λ i. i == x.signal.index) (had cells x.signal.system) (own_among cells x.signal key.signal some) in
     ap₂ (λ a b. a && b) (key_listed x key) place
 
-pub all_planned : (s : Setup) (cells : List Seen) → s.plan ≡ plan_had cells → All IsKey cells → All (λ x. is_planned s x ≡ true) cells
+pub all_planned : (s : GatherSetup) (cells : List Seen) → s.plan ≡ plan_had cells → All IsKey cells → All (λ x. is_planned s x ≡ true) cells
 all_planned s cells plan keys = λ k d within. planned_one s cells (get_or cells k d) plan (keys k d within) (count_in (get_or cells k d).signal cells k d within (own_signal (get_or cells k d)))
 
 -- ---- the line is read as the plan

@@ -5,8 +5,8 @@ use Rattle.rtcm_bits.specs.FrameOf.{frame_bytes}
 use Rattle.rtcm_scan.specs.Frames.{Framed, AreFrames, frames_of}
 use Rattle.rtcm_scan.specs.Local.{placed}
 use Rattle.rtcm_msg.specs.declared.message.Message.{Message}
-use Rattle.rtcm_msg.specs.Spelling.{IsMessage, Reads, is_other, message_bits}
-use Rattle.rtcm2rinex.specs.ReadBack.{Encodes, AreEncoded, AreReadAs, ReadsBack, AreKnown}
+use Rattle.rtcm_msg.specs.Spelling.{IsMessage, ReadsMessage, is_other, message_bits}
+use Rattle.rtcm2rinex.specs.ReadBack.{EncodesMessage, AreEncoded, AreReadAs, ReadsBack, AreKnown}
 
 -- laws of the layers below
 abbrev pub EightBits : Type 0
@@ -19,10 +19,10 @@ abbrev pub FewBits : Type 0
 FewBits = (v : Message) → IsMessage v → length (message_bits v 0) ≤ 8184
 
 abbrev pub IsReadBack : Type 0
-IsReadBack = (v : Message) → IsMessage v → is_other v ≡ false → Reads (filled (message_bits v 0)) v
+IsReadBack = (v : Message) → IsMessage v → is_other v ≡ false → ReadsMessage (filled (message_bits v 0)) v
 
 abbrev pub OneValue : Type 0
-OneValue = (bits : List Bool) (v w : Message) → Reads bits v → Reads bits w → v ≡ w
+OneValue = (bits : List Bool) (v w : Message) → ReadsMessage bits v → ReadsMessage bits w → v ≡ w
 
 length-filled : (bits : List Bool) → length (filled bits) ≡ length bits + missing (length bits)
 length-filled bits = length-append bits (replicate (missing (length bits)) false) ∙ ap (λ (n : ℕ). length bits + n) (length-zeros (missing (length bits)))
@@ -32,7 +32,7 @@ length-filled bits = length-append bits (replicate (missing (length bits)) false
     length-zeros (suc n) = ap suc (length-zeros n)
 
 -- an encoding fits a frame
-encoding_short : EightBits → FewBits → (bytes : List ℕ) (v : Message) → IsMessage v → Encodes bytes v → length bytes ≤ 1023
+encoding_short : EightBits → FewBits → (bytes : List ℕ) (v : Message) → IsMessage v → EncodesMessage bytes v → length bytes ≤ 1023
 encoding_short eight few bytes v is e =
     let bits : 8 * length bytes ≡ length (message_bits v 0) + missing (length (message_bits v 0)) = sym (eight bytes) ∙ ap length e ∙ length-filled (message_bits v 0) in
     whole_bytes (length bytes) (length (message_bits v 0)) bits (few v is)
@@ -55,7 +55,7 @@ read_as back one p [] [] h = tt
 read_as back one p [] (v ∷ vs) h = absurd h
 read_as back one p (e ∷ es) [] h = absurd h
 read_as back one p (e ∷ es) (v ∷ vs) h =
-    let reads : Reads (bits_of e) v = subst (λ (bits : List Bool). Reads bits v) (sym h.1) (back v h.0.0 h.0.1) in
+    let reads : ReadsMessage (bits_of e) v = subst (λ (bits : List Bool). ReadsMessage bits v) (sym h.1) (back v h.0.0 h.0.1) in
     (record { reads = reads; only = λ w r. one (bits_of e) w v r reads }, read_as back one (p + (length e + 6)) es vs h.2)
 
 pub reads_back : EightBits → FewBits → IsReadBack → OneValue → ((b : List ℕ) → AreFrames b (frames_of b))

@@ -9,7 +9,7 @@ use Rattle.rtcm_msg.specs.Reading.{message_at}
 use Rattle.rtcm_msg.specs.declared.view.Form.{Form}
 use Rattle.rtcm_msg.specs.declared.view.Form.TheVariants as forms
 use Rattle.rtcm_msg.specs.Msm.{MsmValue}
-use Rattle.rtcm_msg.specs.Views.{FormedMsm, formed, message_in, number}
+use Rattle.rtcm_msg.specs.Views.{FormedMsm, formed, message_in, message_number}
 use Rattle.rtcm2rinex.specs.ShowLines.{show_line, read_line, msm_line}
 
 pub shown : (f : Framed) (r : Result Message MsgFault) {bytes : List ℕ} → bytes ≡ f.message → message_at bytes ≡ r → show_line f ≡ read_line f r
@@ -20,10 +20,10 @@ pub shown_value : (f : Framed) (v m : Message) {bytes : List ℕ} → bytes ≡ 
 shown_value f v m e h same = shown f (Ok m) e (h ∙ ap (λ (x : Message). Ok x) same)
 
 -- the line of a multiple signal message, in whichever form
-pub shown_msm : (f : Framed) (m : FormedMsm) → read_line f (Ok (formed m)) ≡ msm_line f.offset (number m.form m.msm.is_galileo) m.msm
+pub shown_msm : (f : Framed) (m : FormedMsm) → read_line f (Ok (formed m)) ≡ msm_line f.offset (message_number m.form m.msm.is_galileo) m.msm
 shown_msm f m = by_form m.form m.msm
   where
-    by_form : (form : Form) (v : MsmValue) → read_line f (Ok (message_in form v)) ≡ msm_line f.offset (number form v.is_galileo) v
+    by_form : (form : Form) (v : MsmValue) → read_line f (Ok (message_in form v)) ≡ msm_line f.offset (message_number form v.is_galileo) v
     by_form forms.Msm4 v = refl
     by_form forms.Msm7 v = refl
 

@@ -4,7 +4,7 @@ use Rattle.std.proofs.lemmas.List.{map-append}
 use Rattle.std.specs.Prelude.{cond, nat_lt, codes}
 use Rattle.std.specs.List.{list_any}
 use Rattle.std.proofs.lemmas.List.Elements.{All-head}
-use Rattle.obs_epoch.specs.Marked.{IsKey}
+use Rattle.obs_epoch.specs.WithLli.{IsKey}
 use Rattle.obs_epoch.specs.Cells.{is_system}
 use Rattle.gnss_obs.specs.declared.system.System.TheVariants.{Gps, Galileo}
 use Rattle.std.specs.List.{flat_map, join_with_byte}

@@ -5,7 +5,7 @@ use Rattle.std.specs.Option.{option_map, option_and_then, option_map_or}
 use Rattle.std.specs.List.{cons_option, flat_map}
 use Rattle.std.proofs.lemmas.List.Elements.{All-nil, All-cons, All-head, All-tail, All-append}
 use Rattle.gnss_obs.specs.declared.system.System.{System}
-use Rattle.gnss_obs.specs.Satellites.{Satellite, IsSatellite, satellites, satellite_at}
+use Rattle.gnss_obs.specs.Satellites.{Satellite, IsSatellite, satellites, satellite_of_id}
 use Rattle.gnss_obs.specs.Signals.{SignalAt, IsSignal, signal_of_id}
 use Rattle.rtcm_msg.specs.declared.entry.Entry.{Entry}
 use Rattle.rtcm_msg.specs.declared.message.Message.{Message}
@@ -16,12 +16,12 @@ use Rattle.rtcm_msg.specs.Reading.{message_at}
 use Rattle.rtcm_scan.specs.Frames.{Framed}
 use Rattle.obs_epoch.specs.declared.seen.Seen.{Seen}
 use Rattle.obs_epoch.specs.Heard.{Heard, heard, seen_in, lock_by, observed, system_of}
-use Rattle.obs_epoch.specs.Marked.{IsKey}
+use Rattle.obs_epoch.specs.WithLli.{IsKey}
 use Rattle.rtcm_convert.specs.Converted.{heard_in, heard_of}
-use Rattle.rtcm2rinex.specs.Signals.{has_value, is_from, valued, valued_of, valued_in}
+use Rattle.rtcm2rinex.specs.Signals.{brings_value, is_of_station, valued, valued_of, valued_in}
 use Rattle.rtcm2rinex.proofs.CensusLemmas.{listed_of, some_same}
 
-satellite_listed : (system : System) (id : ℕ) (s : Satellite) → satellite_at system id ≡ Some s → (s.system ≡ system) × IsSatellite s
+satellite_listed : (system : System) (id : ℕ) (s : Satellite) → satellite_of_id system id ≡ Some s → (s.system ≡ system) × IsSatellite s
 satellite_listed system id s h = by (nat_le 1 id && nat_le id (satellites system)) refl h where
   both : (a b : ℕ) → (nat_le 1 a && nat_le a b) ≡ true → (1 ≤ a) × (a ≤ b)
   both a b e = (grind (arith, e), grind (arith, e))
@@ -33,10 +33,10 @@ satellite_listed system id s h = by (nat_le 1 id && nat_le id (satellites system
   by false t e = absurd (grind (arith, e))
 
 -- a cell that is seen
-seen_key : (is_long : Bool) (system : System) (e : Entry) (x : Seen) → seen_in is_long system e ≡ Some x → IsKey x
-seen_key is_long system e x h = by (satellite_at system e.satellite) (signal_of_id system e.signal) (satellite_listed system e.satellite) (listed_of system e.signal) h where
+seen_key : (is_msm7 : Bool) (system : System) (e : Entry) (x : Seen) → seen_in is_msm7 system e ≡ Some x → IsKey x
+seen_key is_msm7 system e x h = by (satellite_of_id system e.satellite) (signal_of_id system e.signal) (satellite_listed system e.satellite) (listed_of system e.signal) h where
   seen : Satellite → SignalAt → Seen
-  seen s g = observed (lock_by is_long e.lock) e s g
+  seen s g = observed (lock_by is_msm7 e.lock) e s g
 
   key : (s : Satellite) (g : SignalAt) → (s.system ≡ system) × IsSatellite s → (g.system ≡ system) × IsSignal g → IsKey (seen s g)
   key s g a b = record { satellite = a.1; signal = b.1; same = b.0 ∙ sym a.0 }
@@ -47,12 +47,12 @@ seen_key is_long system e x h = by (satellite_at system e.satellite) (signal_of_
   by (Some s) None a b h = absurd (grind (arith, h))
   by (Some s) (Some g) a b h = subst IsKey (some_same (seen s g) x h) (key s g (a s refl) (b g refl))
 
-all_seen : (is_long : Bool) (system : System) (es : List Entry) → All IsKey (filter_map (seen_in is_long system) es)
-all_seen is_long system [] = All-nil IsKey
-all_seen is_long system (e ∷ es) = by (seen_in is_long system e) (seen_key is_long system e) (all_seen is_long system es) where
-  by : (o : Option Seen) → ((x : Seen) → o ≡ Some x → IsKey x) → All IsKey (filter_map (seen_in is_long system) es) → All IsKey (cons_option o (filter_map (seen_in is_long system) es))
+all_seen : (is_msm7 : Bool) (system : System) (es : List Entry) → All IsKey (filter_map (seen_in is_msm7 system) es)
+all_seen is_msm7 system [] = All-nil IsKey
+all_seen is_msm7 system (e ∷ es) = by (seen_in is_msm7 system e) (seen_key is_msm7 system e) (all_seen is_msm7 system es) where
+  by : (o : Option Seen) → ((x : Seen) → o ≡ Some x → IsKey x) → All IsKey (filter_map (seen_in is_msm7 system) es) → All IsKey (cons_option o (filter_map (seen_in is_msm7 system) es))
   by None h rest = rest
-  by (Some x) h rest = All-cons IsKey x (filter_map (seen_in is_long system) es) (h x refl) rest
+  by (Some x) h rest = All-cons IsKey x (filter_map (seen_in is_msm7 system) es) (h x refl) rest
 
 all_passed : (p : Seen → Bool) (xs : List Seen) → All IsKey xs → All IsKey (filter p xs)
 all_passed p [] h = All-nil IsKey
@@ -68,9 +68,9 @@ all_heard (Msm7 m) = all_seen true (system_of m.is_galileo) (entries (Msm7 m))
 all_heard (Other n set) = All-nil IsKey
 
 all_valued : (wanted : Option ℕ) (m : Heard) → All IsKey m.cells → All IsKey (valued wanted m)
-all_valued wanted m h = by (is_from wanted m) where
-  by : (b : Bool) → All IsKey (cond b (filter has_value m.cells) [])
-  by true = all_passed has_value m.cells h
+all_valued wanted m h = by (is_of_station wanted m) where
+  by : (b : Bool) → All IsKey (cond b (filter brings_value m.cells) [])
+  by true = all_passed brings_value m.cells h
   by false = All-nil IsKey
 
 frame_keys : (wanted : Option ℕ) (f : Framed) → All IsKey (valued_of wanted f)

@@ -5,24 +5,24 @@ use Rattle.std.specs.List.{list_any}
 use Rattle.std.specs.Io.KnownBytes.{Consumes, IsAtEnd}
 use Rattle.gnss_obs.specs.declared.system.System.{System}
 use Rattle.gnss_obs.specs.declared.system.System.TheVariants.{Gps, Galileo}
-use Rattle.gnss_obs.specs.Satellites.{satellite_at}
+use Rattle.gnss_obs.specs.Satellites.{satellite_of_id}
 use Rattle.gnss_obs.specs.Signals.{SignalAt, table, signal_of_id}
 use Rattle.rtcm_msg.specs.declared.entry.Entry.{Entry}
 use Rattle.rtcm_scan.specs.Frames.{Framed, frames_of}
 use Rattle.rtcm_scan.specs.Known.{known_frames}
-use Rattle.rtcm_scan.specs.Scan.{Scan, StandsFor}
+use Rattle.rtcm_scan.specs.Scan.{FramerValue, HasFramed}
 use Rattle.obs_epoch.specs.declared.seen.Seen.{Seen}
 use Rattle.rtcm2rinex.specs.declared.census.Census.{Census}
 use Rattle.rtcm2rinex.specs.Signals.{signal_in, count_of, valued_in}
 
 -- ---- one cell more
 
-abbrev pub counts_in : System → Census → List ℕ
-counts_in Gps c = c.gps
-counts_in Galileo c = c.galileo
+abbrev pub signal_counts : System → Census → List ℕ
+signal_counts Gps c = c.gps
+signal_counts Galileo c = c.galileo
 
 abbrev pub counted : Census → System → ℕ → ℕ
-counted c system i = get_or (counts_in system c) i 0
+counted c system i = get_or (signal_counts system c) i 0
 
 -- there is a cell of some signal
 abbrev pub has_any : Census → Bool
@@ -32,19 +32,19 @@ has_any c = list_any (λ n. nat_lt 0 n) c.gps || list_any (λ n. nat_lt 0 n) c.g
 abbrev pub one_up : List ℕ → ℕ → List ℕ
 one_up counts i = set counts i (min (get_or counts i 0 + 1) (2 ^ 64 - 1))
 
-abbrev pub more_in : System → ℕ → Census → Census
-more_in Gps i c = record c { gps = one_up c.gps i }
-more_in Galileo i c = record c { galileo = one_up c.galileo i }
+abbrev pub counted_in : System → ℕ → Census → Census
+counted_in Gps i c = record c { gps = one_up c.gps i }
+counted_in Galileo i c = record c { galileo = one_up c.galileo i }
 
-abbrev pub more_of : Census → SignalAt → Census
-more_of c g = more_in g.system g.index c
+abbrev pub counted_of : Census → SignalAt → Census
+counted_of c g = counted_in g.system g.index c
 
 -- the signal of a cell of a listed satellite and signal that has a value
 abbrev pub entry_value : Entry → Bool
 entry_value e = is_some e.range || is_some e.phase || is_some e.rate || is_some e.strength
 
 abbrev pub entry_signal : System → Entry → Option SignalAt
-entry_signal system e = if is_some (satellite_at system e.satellite) && entry_value e then signal_of_id system e.signal else None
+entry_signal system e = if is_some (satellite_of_id system e.satellite) && entry_value e then signal_of_id system e.signal else None
 
 -- ---- all cells so far
 
@@ -55,23 +55,23 @@ pub record IsCensus (c : Census) (cells : List Seen) : Type 0 where
   pub each : (system : System) (i : ℕ) → i < length (table system) → counted c system i ≡ count_of (signal_in system i) cells
 
 -- the counts are those of the cells of these frames, of which each has so many at most
-pub record Surveys (c : Census) (wanted : Option ℕ) (fs : List Framed) : Type 0 where
+pub record SurveysFrames (c : Census) (wanted : Option ℕ) (fs : List Framed) : Type 0 where
   pub census : IsCensus c (valued_in wanted fs)
   pub few : length (valued_in wanted fs) ≤ 64 * length fs
 
 -- A framer took the bytes b and handed out fs, and their cells were counted.
-pub record Counts (c : Census) (wanted : Option ℕ) (v : Scan) (b : List ℕ) (fs : List Framed) : Type 0 where
-  pub framer : StandsFor v b fs
-  pub surveys : Surveys c wanted fs
+pub record CountsCells (c : Census) (wanted : Option ℕ) (v : FramerValue) (b : List ℕ) (fs : List Framed) : Type 0 where
+  pub framer : HasFramed v b fs
+  pub surveys : SurveysFrames c wanted fs
 
 -- all that is known of b was handed out
-abbrev pub CountsKnown : Census → Option ℕ → Scan → List ℕ → Type 0
-CountsKnown c wanted v b = Counts c wanted v b (known_frames v.has_ended b)
+abbrev pub CountsKnownCells : Census → Option ℕ → FramerValue → List ℕ → Type 0
+CountsKnownCells c wanted v b = CountsCells c wanted v b (known_frames v.has_ended b)
 
 -- The reader, which had r left, gave the bytes b, and the cells of all that is known of them were counted.
-abbrev pub HasCounted : Census → Option ℕ → (r r' : Option (List ℕ)) → Scan → Type 0
-HasCounted c wanted r r' v = (b : List ℕ) × Consumes r r' b × CountsKnown c wanted v b
+abbrev pub HasCounted : Census → Option ℕ → (r r' : Option (List ℕ)) → FramerValue → Type 0
+HasCounted c wanted r r' v = (b : List ℕ) × Consumes r r' b × CountsKnownCells c wanted v b
 
 -- The stream was read to its end, and the cells of its frames were counted.
 abbrev pub HasSurveyed : Census → Option ℕ → (r r' : Option (List ℕ)) → Type 0
-HasSurveyed c wanted r r' = (b : List ℕ) × Consumes r r' b × IsAtEnd r' × Surveys c wanted (frames_of b)
+HasSurveyed c wanted r r' = (b : List ℕ) × Consumes r r' b × IsAtEnd r' × SurveysFrames c wanted (frames_of b)

@@ -1,6 +1,6 @@
 -- What the command `convert` has read and written.
 use Rattle.std.specs.Prelude.{◌≡◌, ◌⊎◌, ℕ, List, Option, IfSome}
-use Rattle.rtcm_convert.specs.Told.{IsBad}
+use Rattle.rtcm_convert.specs.SetupValues.{IsBad}
 use Rattle.rtcm_convert.specs.Made.{IsMade}
 use Rattle.rtcm_convert.specs.declared.setup.Setup.{Setup}
 use Rattle.rtcm_convert.specs.declared.fault.Fault.{Fault}
@@ -8,12 +8,12 @@ use Rattle.rtcm_convert.specs.declared.fault.Fault.TheVariants as convert
 use Rattle.clap.specs.Walk.{Row}
 use Rattle.rtcm2rinex.specs.declared.fault.ToolFault.{ToolFault}
 use Rattle.rtcm2rinex.specs.declared.fault.ToolFault.TheVariants as faults
-use Rattle.rtcm2rinex.specs.Told.{IsTold}
+use Rattle.rtcm2rinex.specs.SetupTold.{IsSetupOf}
 
 -- Told what these options say, which isn't out of range, a conversion read all that the reader had, and wrote the file of its frames,
 -- which has an epoch.
 abbrev pub IsConverted : List Row → (r w w' : Option (List ℕ)) → Type 0
-IsConverted options r w w' = (x : Setup) × IsTold options x × (IsBad x → ⊥) × IfSome r (IsMade x w w')
+IsConverted options r w w' = (x : Setup) × IsSetupOf options x × (IsBad x → ⊥) × IfSome r (IsMade x w w')
 
 -- how a fault of a conversion is told: one of a device as that of any command
 abbrev pub fault_told : Fault → ToolFault

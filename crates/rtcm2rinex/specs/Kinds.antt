@@ -8,10 +8,10 @@ use Rattle.rtcm2rinex.specs.FrameLines.{frame_line}
 use Rattle.rtcm2rinex.specs.ShowLines.{show_line}
 
 -- the line of a frame
-abbrev pub line_of : Listing → Framed → List ℕ
-line_of Frames f = frame_line f
-line_of Messages f = show_line f
+abbrev pub listing_line : Listing → Framed → List ℕ
+listing_line Frames f = frame_line f
+listing_line Messages f = show_line f
 
 -- those of frames, one behind the other
-abbrev pub lines_of : Listing → List Framed → List ℕ
-lines_of listing fs = flat_map (line_of listing) fs
+abbrev pub listing_lines : Listing → List Framed → List ℕ
+listing_lines listing fs = flat_map (listing_line listing) fs

@@ -5,7 +5,7 @@ pub mod ShowLines
 pub mod Kinds
 pub mod Listing
 pub mod Listed
-pub mod Told
+pub mod SetupTold
 pub mod CommandLine
 pub mod Moves
 pub mod Converting

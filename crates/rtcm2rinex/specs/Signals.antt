@@ -14,8 +14,8 @@ use Rattle.obs_epoch.specs.Cells.{is_system}
 use Rattle.obs_epoch.specs.Plans.{below}
 use Rattle.obs_epoch.specs.Values.{PlanValue}
 use Rattle.rtcm_convert.specs.Converted.{heard_in}
-use Rattle.rtcm2rinex.specs.declared.census.Form.{Form}
-use Rattle.rtcm2rinex.specs.declared.census.Form.TheVariants.{Options, Counts}
+use Rattle.rtcm2rinex.specs.declared.census.SignalsForm.{SignalsForm}
+use Rattle.rtcm2rinex.specs.declared.census.SignalsForm.TheVariants.{Options, Counts}
 use Rattle.rtcm2rinex.specs.declared.fault.ToolFault.{ToolFault}
 use Rattle.rtcm2rinex.specs.declared.fault.ToolFault.TheVariants.{NoSignal}
 use Rattle.rtcm2rinex.specs.Lines.{line}
@@ -24,16 +24,16 @@ use Rattle.rtcm2rinex.specs.Listing.{IsListFault}
 -- ---- the cells that count
 
 -- a pseudorange, a phase, a Doppler shift or a strength
-abbrev pub has_value : Seen → Bool
-has_value x = is_some x.c || is_some x.l || is_some x.d || is_some x.s
+abbrev pub brings_value : Seen → Bool
+brings_value x = is_some x.c || is_some x.l || is_some x.d || is_some x.s
 
 -- a message of the station that is wanted; where none is told, of whatever station
-abbrev pub is_from : Option ℕ → Heard → Bool
-is_from wanted m = option_map_or (λ n. option_map_or (λ from. from == n) m.station false) wanted true
+abbrev pub is_of_station : Option ℕ → Heard → Bool
+is_of_station wanted m = option_map_or (λ n. option_map_or (λ from. from == n) m.station false) wanted true
 
 -- a message's cells of listed satellites and signals that have a value
 abbrev pub valued : Option ℕ → Heard → List Seen
-valued wanted m = if is_from wanted m then filter has_value m.cells else []
+valued wanted m = if is_of_station wanted m then filter brings_value m.cells else []
 
 -- those of a frame, whose message may be refused
 abbrev pub valued_of : Option ℕ → Framed → List Seen
@@ -97,7 +97,7 @@ abbrev pub count_lines : List Seen → System → List ℕ
 count_lines cells system = lines_below cells system (length (table system))
 
 -- what is printed of these cells
-abbrev pub signals_text : Form → List Seen → List ℕ
+abbrev pub signals_text : SignalsForm → List Seen → List ℕ
 signals_text Options cells = options_line (plan_had cells)
 signals_text Counts cells = count_lines cells Gps ++ count_lines cells Galileo
 
@@ -108,11 +108,11 @@ abbrev pub ReadsCells : Option ℕ → (r r' : Option (List ℕ)) → (List Seen
 ReadsCells wanted r r' Does = (b : List ℕ) × Consumes r r' b × IsAtEnd r' × (0 < length (valued_in wanted (frames_of b))) × Does (valued_in wanted (frames_of b))
 
 -- what is printed of its cells was written
-abbrev pub TellsSignals : Form → Option ℕ → (r r' w w' : Option (List ℕ)) → Type 0
+abbrev pub TellsSignals : SignalsForm → Option ℕ → (r r' w w' : Option (List ℕ)) → Type 0
 TellsSignals form wanted r r' w w' = ReadsCells wanted r r' (λ cells. Appends w w' (signals_text form cells))
 
 -- a prefix of it was
-abbrev pub TellsPart : Form → Option ℕ → (r r' w w' : Option (List ℕ)) → Type 0
+abbrev pub TellsPart : SignalsForm → Option ℕ → (r r' w w' : Option (List ℕ)) → Type 0
 TellsPart form wanted r r' w w' = ReadsCells wanted r r' (λ cells. AppendsPrefix w w' (signals_text form cells))
 
 -- the stream was read to its end and has no such cell

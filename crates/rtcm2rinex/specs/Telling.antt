@@ -1,17 +1,17 @@
 -- What the command `signals` is asked for, and what it told.
 use Rattle.std.specs.Prelude.{◌≡◌, ◌⊎◌, ℕ, List, Option, Some, None, codes}
 use Rattle.clap.specs.Walk.{Row, one_of}
-use Rattle.rtcm2rinex.specs.declared.census.Form.{Form}
-use Rattle.rtcm2rinex.specs.declared.census.Form.TheVariants.{Options, Counts}
+use Rattle.rtcm2rinex.specs.declared.census.SignalsForm.{SignalsForm}
+use Rattle.rtcm2rinex.specs.declared.census.SignalsForm.TheVariants.{Options, Counts}
 use Rattle.rtcm2rinex.specs.Signals.{TellsSignals}
-use Rattle.rtcm2rinex.specs.Told.{IsNumberOf}
+use Rattle.rtcm2rinex.specs.SetupTold.{IsNumberOf}
 
 -- the options ask for this form: with the flag for the counts
-pub record IsFormOf (found : List Row) (form : Form) : Type 0 where
+pub record IsFormOf (found : List Row) (form : SignalsForm) : Type 0 where
   pub counts : one_of (codes "counts") found ≡ Some (codes "true") → form ≡ Counts
   pub otherwise : (one_of (codes "counts") found ≡ None) ⊎ (one_of (codes "counts") found ≡ Some (codes "false")) → form ≡ Options
 
 -- Of the station that these options name, or of every station, the signals of a stream were told in the form that they ask for.
 abbrev pub HasToldSignals : List Row → (r r' w w' : Option (List ℕ)) → Type 0
 HasToldSignals options r r' w w' =
-    (form : Form) × (wanted : Option ℕ) × IsFormOf options form × IsNumberOf 16 (one_of (codes "station") options) wanted × TellsSignals form wanted r r' w w'
+    (form : SignalsForm) × (wanted : Option ℕ) × IsFormOf options form × IsNumberOf 16 (one_of (codes "station") options) wanted × TellsSignals form wanted r r' w w'

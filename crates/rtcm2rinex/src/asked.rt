@@ -1,10 +1,10 @@
 //! What the options of `signals` ask for.
 ghost use Rattle.std.specs.Prelude.{codes};
 ghost use Rattle.clap.specs.Walk.{one_of};
-ghost use Rattle.rtcm2rinex.specs.Told.{IsNumberOf, options_of};
+ghost use Rattle.rtcm2rinex.specs.SetupTold.{IsNumberOf, options_of};
 ghost use Rattle.rtcm2rinex.specs.Telling.{IsFormOf};
 
-use crate::census::Form;
+use crate::census::SignalsForm;
 use clap::ArgMatches;
 
 /// The station whose messages count, where one is told.
@@ -15,12 +15,12 @@ pub fn station_of(options: &ArgMatches) -> Option<u16>
 }
 
 /// What is to be printed.
-pub fn form_of(options: &ArgMatches) -> Form
+pub fn form_of(options: &ArgMatches) -> SignalsForm
     ensures { IsFormOf (options_of options.now) result }
 {
     if options.get_flag("counts") {
-        Form::Counts
+        SignalsForm::Counts
     } else {
-        Form::Options
+        SignalsForm::Options
     }
 }

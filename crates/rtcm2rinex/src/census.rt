@@ -5,15 +5,15 @@ ghost use Rattle.std.specs.Option.{option_map_or};
 ghost use Rattle.gnss_obs.specs.Signals.{table};
 ghost use Rattle.obs_epoch.specs.declared.seen.Seen.{Seen};
 ghost use Rattle.obs_epoch.specs.Heard.{heard, seen_in, system_of};
-ghost use Rattle.rtcm2rinex.specs.Signals.{has_value, valued};
-ghost use Rattle.rtcm2rinex.specs.Census.{counted, has_any, more_of, entry_value, entry_signal, IsCensus};
+ghost use Rattle.rtcm2rinex.specs.Signals.{brings_value, valued};
+ghost use Rattle.rtcm2rinex.specs.Census.{counted, has_any, counted_of, entry_value, entry_signal, IsCensus};
 
 use gnss_obs::{Sat, Signal, System};
 use rtcm_msg::{Entry, Message, entries};
 
 /// What is printed of the signals of a stream.
 #[derive(Clone, Copy)]
-pub enum Form {
+pub enum SignalsForm {
     /// One line, the options of `convert` that plan them.
     Options,
     /// For each a line with its number of cells.
@@ -81,8 +81,8 @@ impl Census {
 
     /// Counts the cells of listed satellites and signals that have a value.
     fn count_entries(&mut self, system: System, entries: &[Entry])
-        ensures { (is_long : Bool) (cells : List Seen) → length cells + length entries.now < 2 ^ 63 → IsCensus self.old cells
-            → IsCensus self.new (cells ++ filter has_value (filter_map (seen_in is_long system) entries.now)) }
+        ensures { (is_msm7 : Bool) (cells : List Seen) → length cells + length entries.now < 2 ^ 63 → IsCensus self.old cells
+            → IsCensus self.new (cells ++ filter brings_value (filter_map (seen_in is_msm7 system) entries.now)) }
     {
         for i in 0..entries.len() {
             if let Some(signal) = signal_of(system, &entries[i]) {
@@ -93,7 +93,7 @@ impl Census {
 
     /// One cell more of a signal.
     fn add(&mut self, signal: Signal)
-        ensures { self.new ≡ more_of self.old signal }
+        ensures { self.new ≡ counted_of self.old signal }
     {
         let place = signal.index();
         match signal.system() {

@@ -6,8 +6,8 @@ ghost use Rattle.rinex_file.specs.declared.read.fault.ReadFault.{ReadFault};
 ghost use Rattle.rinex_file.specs.Value.{FileValue};
 ghost use Rattle.rinex_file.specs.FileValues.{IsFileValue};
 ghost use Rattle.rinex_file.specs.File.{file_text, file_lines};
-ghost use Rattle.rinex_file.specs.Exact.{Explains, most_lines};
-ghost use Rattle.rinex_file.specs.Blocks.{Leaves};
+ghost use Rattle.rinex_file.specs.Exact.{ExplainsFault, most_lines};
+ghost use Rattle.rinex_file.specs.Blocks.{LeavesRest};
 ghost use Rattle.rinex_file.specs.Counting.{AreCounts};
 ghost use Rattle.rtcm2rinex.specs.Checking.{check_line, ChecksFile, ChecksPart, IsCheckFault, IsCheckedOr};
 
@@ -43,13 +43,13 @@ pub fn run_check<R: Read, W: Write>(
     ensures whole { OnOk result (ChecksFile (R.remaining reader.old.inner) (W.contents writer.old.inner) (W.contents writer.new.inner)) }
 
     // Why the input isn't a file; nothing was written.
-    ensures fault { (e : ReadFault) → result ≡ Err (ToolFault.Check e) → IfSome (R.remaining reader.old.inner) (λ input. Explains input e) }
+    ensures fault { (e : ReadFault) → result ≡ Err (ToolFault.Check e) → IfSome (R.remaining reader.old.inner) (λ input. ExplainsFault input e) }
     ensures unwritten { (e : ReadFault) → result ≡ Err (ToolFault.Check e) → writer.new ≡ writer.old }
     ensures read_failed { result ≡ Err (ToolFault.Check ReadFault.Read) → HasFailed reader.old.failures reader.new.failures }
 
-    // No other fault comes than these; and some front of the input was read.
+    // No other fault comes than these; and some prefix of the input was read.
     ensures known { IfErr result IsCheckFault }
-    ensures left { Leaves (R.remaining reader.old.inner) (R.remaining reader.new.inner) }
+    ensures left { LeavesRest (R.remaining reader.old.inner) (R.remaining reader.new.inner) }
 
     // The writer failed: what it took is a prefix of the counts.
     ensures write { result ≡ Err ToolFault.Write → ChecksPart (R.remaining reader.old.inner) (W.contents writer.old.inner) (W.contents writer.new.inner) }

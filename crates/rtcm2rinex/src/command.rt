@@ -12,7 +12,7 @@ ghost use Rattle.rtcm2rinex.specs.Converting.{IsConverted};
 ghost use Rattle.rtcm2rinex.specs.Checking.{ChecksFile};
 ghost use Rattle.rtcm2rinex.specs.Telling.{HasToldSignals};
 ghost use Rattle.rtcm2rinex.specs.CommandLine.{IsAnswered};
-ghost use Rattle.rtcm2rinex.specs.Told.{options_of};
+ghost use Rattle.rtcm2rinex.specs.SetupTold.{options_of};
 ghost use Rattle.rtcm2rinex.specs.Commands.{HasDone, HasDoneAsked, HasDoneOf};
 ghost use Rattle.rtcm2rinex.specs.Moves.{Moves};
 ghost use Rattle.rtcm2rinex.specs.declared.version.TheConstants.{VERSION};

@@ -4,10 +4,10 @@ ghost use Rattle.std.specs.Io.KnownBytes.{Appends, Consumes};
 ghost use Rattle.rtcm_bits.specs.Device.{HasFailed};
 ghost use Rattle.rtcm_scan.specs.Decided.{decided_frames};
 ghost use Rattle.rtcm_convert.specs.Converted.{so_far};
-ghost use Rattle.rtcm_convert.specs.Broken.{Broke, BrokeAtEnd};
+ghost use Rattle.rtcm_convert.specs.Broken.{FailedWriting, FailedWritingAtEnd};
 ghost use Rattle.rtcm_convert.specs.Made.{IsMade, IsMadeEmpty};
 ghost use Rattle.rtcm_convert.specs.Outcomes.{report_of};
-ghost use Rattle.rtcm_convert.specs.Told.{settings, IsBad};
+ghost use Rattle.rtcm_convert.specs.SetupValues.{setup_value, IsBad};
 ghost use Rattle.rtcm2rinex.specs.Converting.{IsConvertFault};
 ghost use Rattle.rtcm2rinex.specs.Listing.{IsUntouched};
 
@@ -27,7 +27,7 @@ pub fn run_convert<R: Read, W: Write>(
     writer: &mut Counted<W>,
 ) -> Result<Report, ToolFault>
     ensures file { OnOk result (IfSome (R.remaining reader.old.inner) (IsMade setup (W.contents writer.old.inner) (W.contents writer.new.inner))) }
-    ensures report { IfOk result (λ report. IfSome (R.remaining reader.old.inner) (λ b. report ≡ report_of (settings setup) b)) }
+    ensures report { IfOk result (λ report. IfSome (R.remaining reader.old.inner) (λ b. report ≡ report_of (setup_value setup) b)) }
 
     // No epoch stands in that file, and it is empty.
     ensures no_epoch { result ≡ Err (ToolFault.Convert Fault.NoEpoch) → IfSome (R.remaining reader.old.inner) (IsMadeEmpty setup (W.contents writer.old.inner) (W.contents writer.new.inner)) }
@@ -35,17 +35,17 @@ pub fn run_convert<R: Read, W: Write>(
     // The bytes up to the limit were taken, and what went out is the file of the epochs that they close.
     ensures too_long { result ≡ Err (ToolFault.Convert Fault.TooLong) → IfSome (R.remaining reader.old.inner) (λ b. setup.limit < length b) }
     ensures long { result ≡ Err (ToolFault.Convert Fault.TooLong) → (front : List ℕ) × Consumes (R.remaining reader.old.inner) (R.remaining reader.new.inner) front
-        × Appends (W.contents writer.old.inner) (W.contents writer.new.inner) (so_far (settings setup) (decided_frames (take setup.limit front))) }
+        × Appends (W.contents writer.old.inner) (W.contents writer.new.inner) (so_far (setup_value setup) (decided_frames (take setup.limit front))) }
 
     // The reader failed: what went out is the file of the epochs that the bytes before close.
     ensures read { result ≡ Err ToolFault.Read → (front : List ℕ) × Consumes (R.remaining reader.old.inner) (R.remaining reader.new.inner) front
-        × Appends (W.contents writer.old.inner) (W.contents writer.new.inner) (so_far (settings setup) (decided_frames front)) }
+        × Appends (W.contents writer.old.inner) (W.contents writer.new.inner) (so_far (setup_value setup) (decided_frames front)) }
     ensures read_failed { result ≡ Err ToolFault.Read → HasFailed reader.old.failures reader.new.failures }
 
-    // The writer failed: what it took is a front of the file.
+    // The writer failed: what it took is a prefix of the file.
     ensures write { result ≡ Err ToolFault.Write →
-        Broke (R.remaining reader.old.inner) (R.remaining reader.new.inner) (W.contents writer.old.inner) (W.contents writer.new.inner) (settings setup)
-        ⊎ BrokeAtEnd (R.remaining reader.old.inner) (R.remaining reader.new.inner) (W.contents writer.old.inner) (W.contents writer.new.inner) (settings setup) }
+        FailedWriting (R.remaining reader.old.inner) (R.remaining reader.new.inner) (W.contents writer.old.inner) (W.contents writer.new.inner) (setup_value setup)
+        ⊎ FailedWritingAtEnd (R.remaining reader.old.inner) (R.remaining reader.new.inner) (W.contents writer.old.inner) (W.contents writer.new.inner) (setup_value setup) }
     ensures write_failed { result ≡ Err ToolFault.Write → HasFailed writer.old.failures writer.new.failures }
     ensures bad_setup { result ≡ Err (ToolFault.Convert Fault.BadSetup) ↔ IsBad setup }
     ensures untouched { (result ≡ Err (ToolFault.Convert Fault.BadSetup)) ⊎ (result ≡ Err (ToolFault.Convert Fault.Memory)) → IsUntouched reader.old reader.new writer.old writer.new }

@@ -5,14 +5,14 @@ ghost use Rattle.rtcm_scan.specs.Frames.{Framed, frames_of};
 ghost use Rattle.rtcm_scan.specs.Decided.{decided_frames};
 ghost use Rattle.rtcm_scan.specs.Drained.{IsDrained};
 ghost use Rattle.rtcm_scan.specs.Known.{known_frames};
-ghost use Rattle.rtcm_scan.specs.Scan.{Scan, StandsFor};
+ghost use Rattle.rtcm_scan.specs.Scan.{FramerValue, HasFramed};
 ghost use Rattle.std.specs.Io.KnownBytes.{Appends, IsAtEnd};
 ghost use Rattle.rtcm_scan.specs.Answers.{framed};
 ghost use Rattle.rtcm2rinex.specs.FrameLines.{frame_lines};
 ghost use Rattle.rtcm2rinex.specs.ShowLines.{show_lines};
 ghost use Rattle.rtcm2rinex.specs.Listing.{ListsAll, ListsDecided, ListsToLimit, ListsPart, IsListFault, IsUntouched};
-ghost use Rattle.rtcm2rinex.specs.Listed.{Lists, ListsKnown, IsListed, IsRefusal, up_to_limit};
-ghost use Rattle.rtcm2rinex.specs.Kinds.{line_of, lines_of};
+ghost use Rattle.rtcm2rinex.specs.Listed.{ListsFrames, ListsKnown, IsListed, IsRefusal, up_to_limit};
+ghost use Rattle.rtcm2rinex.specs.Kinds.{listing_line, listing_lines};
 ghost use Rattle.rtcm2rinex.specs.Moves.{Moves};
 
 use crate::fault::ToolFault;
@@ -92,12 +92,12 @@ pub fn list<R: Read, W: Write>(
     writer: &mut Counted<W>,
 ) -> Result<(), ToolFault>
     requires { limit ≤ 2 ^ 48 }
-    ensures whole { OnOk result (Moves R.remaining reader.old reader.new W.contents writer.old writer.new (ListsAll (lines_of listing))) }
-    ensures read { result ≡ Err ToolFault.Read → Moves R.remaining reader.old reader.new W.contents writer.old writer.new (ListsDecided (lines_of listing)) }
+    ensures whole { OnOk result (Moves R.remaining reader.old reader.new W.contents writer.old writer.new (ListsAll (listing_lines listing))) }
+    ensures read { result ≡ Err ToolFault.Read → Moves R.remaining reader.old reader.new W.contents writer.old writer.new (ListsDecided (listing_lines listing)) }
     ensures read_failed { result ≡ Err ToolFault.Read → HasFailed reader.old.failures reader.new.failures }
-    ensures write { result ≡ Err ToolFault.Write → Moves R.remaining reader.old reader.new W.contents writer.old writer.new (ListsPart (lines_of listing)) }
+    ensures write { result ≡ Err ToolFault.Write → Moves R.remaining reader.old reader.new W.contents writer.old writer.new (ListsPart (listing_lines listing)) }
     ensures write_failed { result ≡ Err ToolFault.Write → HasFailed writer.old.failures writer.new.failures }
-    ensures too_long { result ≡ Err (ToolFault.Scan ScanFault.TooLong) → Moves R.remaining reader.old reader.new W.contents writer.old writer.new (ListsToLimit limit (lines_of listing)) }
+    ensures too_long { result ≡ Err (ToolFault.Scan ScanFault.TooLong) → Moves R.remaining reader.old reader.new W.contents writer.old writer.new (ListsToLimit limit (listing_lines listing)) }
     ensures memory { result ≡ Err (ToolFault.Scan ScanFault.Memory) → IsUntouched reader.old reader.new writer.old writer.new }
     ensures only { IfErr result IsListFault }
 {
@@ -118,13 +118,13 @@ fn list_frames<R: Read, W: Write>(
 ) -> Result<(), ToolFault>
     requires going { framer.old.has_ended ≡ false }
     requires within { framer.old.taken ≤ framer.old.limit }
-    requires new { StandsFor framer.old [] [] × IsDrained framer.old [] [] }
-    ensures whole { OnOk result (Moves R.remaining reader.old reader.new W.contents writer.old writer.new (ListsAll (lines_of listing))) }
-    ensures read { result ≡ Err ToolFault.Read → Moves R.remaining reader.old reader.new W.contents writer.old writer.new (ListsDecided (lines_of listing)) }
+    requires new { HasFramed framer.old [] [] × IsDrained framer.old [] [] }
+    ensures whole { OnOk result (Moves R.remaining reader.old reader.new W.contents writer.old writer.new (ListsAll (listing_lines listing))) }
+    ensures read { result ≡ Err ToolFault.Read → Moves R.remaining reader.old reader.new W.contents writer.old writer.new (ListsDecided (listing_lines listing)) }
     ensures read_failed { result ≡ Err ToolFault.Read → HasFailed reader.old.failures reader.new.failures }
-    ensures write { result ≡ Err ToolFault.Write → Moves R.remaining reader.old reader.new W.contents writer.old writer.new (ListsPart (lines_of listing)) }
+    ensures write { result ≡ Err ToolFault.Write → Moves R.remaining reader.old reader.new W.contents writer.old writer.new (ListsPart (listing_lines listing)) }
     ensures write_failed { result ≡ Err ToolFault.Write → HasFailed writer.old.failures writer.new.failures }
-    ensures too_long { result ≡ Err (ToolFault.Scan ScanFault.TooLong) → Moves R.remaining reader.old reader.new W.contents writer.old writer.new (ListsToLimit framer.old.limit (lines_of listing)) }
+    ensures too_long { result ≡ Err (ToolFault.Scan ScanFault.TooLong) → Moves R.remaining reader.old reader.new W.contents writer.old writer.new (ListsToLimit framer.old.limit (listing_lines listing)) }
     ensures only { IfErr result (λ fault. (fault ≡ ToolFault.Read) ⊎ (fault ≡ ToolFault.Write) ⊎ (fault ≡ ToolFault.Scan ScanFault.TooLong)) }
 {
     let mut piece = [0; PIECE_BYTES];
@@ -148,19 +148,19 @@ fn list_next<R: Read, W: Write>(
     requires room { 0 < length piece.old }
     requires going { framer.old.has_ended ≡ false }
     requires within { framer.old.taken ≤ framer.old.limit }
-    ensures listed { OnOk result ((r w : Option (List ℕ)) → IsListed (lines_of listing) r (R.remaining reader.old.inner) w (W.contents writer.old.inner) framer.old
-        → IsListed (lines_of listing) r (R.remaining reader.new.inner) w (W.contents writer.new.inner) framer.new) }
+    ensures listed { OnOk result ((r w : Option (List ℕ)) → IsListed (listing_lines listing) r (R.remaining reader.old.inner) w (W.contents writer.old.inner) framer.old
+        → IsListed (listing_lines listing) r (R.remaining reader.new.inner) w (W.contents writer.new.inner) framer.new) }
     ensures end { result ≡ Ok 0 → (framer.new.has_ended ≡ true) × IsAtEnd (R.remaining reader.new.inner) }
     ensures more { IfOk result (λ n. n ≢ 0 → framer.new.has_ended ≡ false) }
     ensures taken { IfOk result (λ n. framer.new.taken ≡ framer.old.taken + n) }
-    ensures read { result ≡ Err ToolFault.Read → (r w : Option (List ℕ)) → IsListed (lines_of listing) r (R.remaining reader.old.inner) w (W.contents writer.old.inner) framer.old
-        → ListsDecided (lines_of listing) r (R.remaining reader.new.inner) w (W.contents writer.new.inner) }
+    ensures read { result ≡ Err ToolFault.Read → (r w : Option (List ℕ)) → IsListed (listing_lines listing) r (R.remaining reader.old.inner) w (W.contents writer.old.inner) framer.old
+        → ListsDecided (listing_lines listing) r (R.remaining reader.new.inner) w (W.contents writer.new.inner) }
     ensures read_failed { result ≡ Err ToolFault.Read → HasFailed reader.old.failures reader.new.failures }
-    ensures write { result ≡ Err ToolFault.Write → (r w : Option (List ℕ)) → IsListed (lines_of listing) r (R.remaining reader.old.inner) w (W.contents writer.old.inner) framer.old
-        → ListsPart (lines_of listing) r (R.remaining reader.new.inner) w (W.contents writer.new.inner) }
+    ensures write { result ≡ Err ToolFault.Write → (r w : Option (List ℕ)) → IsListed (listing_lines listing) r (R.remaining reader.old.inner) w (W.contents writer.old.inner) framer.old
+        → ListsPart (listing_lines listing) r (R.remaining reader.new.inner) w (W.contents writer.new.inner) }
     ensures write_failed { result ≡ Err ToolFault.Write → HasFailed writer.old.failures writer.new.failures }
-    ensures too_long { result ≡ Err (ToolFault.Scan ScanFault.TooLong) → (r w : Option (List ℕ)) → IsListed (lines_of listing) r (R.remaining reader.old.inner) w (W.contents writer.old.inner) framer.old
-        → ListsToLimit framer.old.limit (lines_of listing) r (R.remaining reader.new.inner) w (W.contents writer.new.inner) }
+    ensures too_long { result ≡ Err (ToolFault.Scan ScanFault.TooLong) → (r w : Option (List ℕ)) → IsListed (listing_lines listing) r (R.remaining reader.old.inner) w (W.contents writer.old.inner) framer.old
+        → ListsToLimit framer.old.limit (listing_lines listing) r (R.remaining reader.new.inner) w (W.contents writer.new.inner) }
     ensures only { IfErr result (λ fault. (fault ≡ ToolFault.Read) ⊎ (fault ≡ ToolFault.Write) ⊎ (fault ≡ ToolFault.Scan ScanFault.TooLong)) }
     ensures limit { framer.new.limit ≡ framer.old.limit }
     ensures within { OnOk result (framer.new.taken ≤ framer.old.limit) }
@@ -191,10 +191,10 @@ fn list_piece<W: Write>(
 ) -> Result<Option<ScanFault>, DeviceFailed>
     requires going { framer.old.has_ended ≡ true → length piece.now ≡ 0 }
     requires within { framer.old.taken ≤ framer.old.limit }
-    ensures listed { OnOk result ((w : Option (List ℕ)) (b : List ℕ) (fs : List Framed) → Lists (lines_of listing) w (W.contents writer.old.inner) framer.old b fs
-        → ListsKnown (lines_of listing) w (W.contents writer.new.inner) framer.new (b ++ up_to_limit framer.old piece.now)) }
-    ensures part { OnErr result ((w : Option (List ℕ)) (b : List ℕ) (fs : List Framed) → Lists (lines_of listing) w (W.contents writer.old.inner) framer.old b fs
-        → AppendsPrefix w (W.contents writer.new.inner) (lines_of listing (known_frames framer.old.has_ended (b ++ piece.now)))) }
+    ensures listed { OnOk result ((w : Option (List ℕ)) (b : List ℕ) (fs : List Framed) → ListsFrames (listing_lines listing) w (W.contents writer.old.inner) framer.old b fs
+        → ListsKnown (listing_lines listing) w (W.contents writer.new.inner) framer.new (b ++ up_to_limit framer.old piece.now)) }
+    ensures part { OnErr result ((w : Option (List ℕ)) (b : List ℕ) (fs : List Framed) → ListsFrames (listing_lines listing) w (W.contents writer.old.inner) framer.old b fs
+        → AppendsPrefix w (W.contents writer.new.inner) (listing_lines listing (known_frames framer.old.has_ended (b ++ piece.now)))) }
     ensures failed { OnErr result (HasFailed writer.old.failures writer.new.failures) }
     ensures fine { OnOk result (writer.new.failures ≡ writer.old.failures) }
     ensures refusal { IfOk result (λ refusal. IsRefusal framer.old (length piece.now) refusal) }
@@ -223,10 +223,10 @@ fn take_piece<W: Write>(
 ) -> Result<Option<ScanFault>, DeviceFailed>
     requires going { framer.old.has_ended ≡ true → length piece.now ≡ 0 }
     requires within { framer.old.taken ≤ framer.old.limit }
-    ensures listed { OnOk result ((w : Option (List ℕ)) (b : List ℕ) (fs : List Framed) → Lists (lines_of listing) w (W.contents writer.old.inner) framer.old b fs
-        → ListsKnown (lines_of listing) w (W.contents writer.new.inner) framer.new (b ++ up_to_limit framer.old piece.now)) }
-    ensures part { OnErr result ((w : Option (List ℕ)) (b : List ℕ) (fs : List Framed) → Lists (lines_of listing) w (W.contents writer.old.inner) framer.old b fs
-        → AppendsPrefix w (W.contents writer.new.inner) (lines_of listing (known_frames framer.old.has_ended (b ++ piece.now)))) }
+    ensures listed { OnOk result ((w : Option (List ℕ)) (b : List ℕ) (fs : List Framed) → ListsFrames (listing_lines listing) w (W.contents writer.old.inner) framer.old b fs
+        → ListsKnown (listing_lines listing) w (W.contents writer.new.inner) framer.new (b ++ up_to_limit framer.old piece.now)) }
+    ensures part { OnErr result ((w : Option (List ℕ)) (b : List ℕ) (fs : List Framed) → ListsFrames (listing_lines listing) w (W.contents writer.old.inner) framer.old b fs
+        → AppendsPrefix w (W.contents writer.new.inner) (listing_lines listing (known_frames framer.old.has_ended (b ++ piece.now)))) }
     ensures failed { OnErr result (HasFailed writer.old.failures writer.new.failures) }
     ensures fine { OnOk result (writer.new.failures ≡ writer.old.failures) }
     ensures refusal { IfOk result (λ refusal. IsRefusal framer.old (length piece.now) refusal) }
@@ -261,10 +261,10 @@ fn list_decided<W: Write>(
     framer: &mut Framer,
     writer: &mut Counted<W>,
 ) -> Result<(), DeviceFailed>
-    ensures listed { OnOk result ((w : Option (List ℕ)) (b : List ℕ) (fs : List Framed) → Lists (lines_of listing) w (W.contents writer.old.inner) framer.old b fs
-        → ListsKnown (lines_of listing) w (W.contents writer.new.inner) framer.new b) }
-    ensures part { OnErr result ((w : Option (List ℕ)) (b : List ℕ) (fs : List Framed) → Lists (lines_of listing) w (W.contents writer.old.inner) framer.old b fs
-        → AppendsPrefix w (W.contents writer.new.inner) (lines_of listing (known_frames framer.old.has_ended b))) }
+    ensures listed { OnOk result ((w : Option (List ℕ)) (b : List ℕ) (fs : List Framed) → ListsFrames (listing_lines listing) w (W.contents writer.old.inner) framer.old b fs
+        → ListsKnown (listing_lines listing) w (W.contents writer.new.inner) framer.new b) }
+    ensures part { OnErr result ((w : Option (List ℕ)) (b : List ℕ) (fs : List Framed) → ListsFrames (listing_lines listing) w (W.contents writer.old.inner) framer.old b fs
+        → AppendsPrefix w (W.contents writer.new.inner) (listing_lines listing (known_frames framer.old.has_ended b))) }
     ensures failed { OnErr result (HasFailed writer.old.failures writer.new.failures) }
     ensures fine { OnOk result (writer.new.failures ≡ writer.old.failures) }
     ensures ready { OnOk result (framer.new.is_ready ≡ true) }
@@ -292,8 +292,8 @@ fn write_line<W: Write>(
     frame: &Frame,
     writer: &mut Counted<W>,
 ) -> Result<(), DeviceFailed>
-    ensures whole { OnOk result (Appends (W.contents writer.old.inner) (W.contents writer.new.inner) (line_of listing (framed frame.now))) }
-    ensures part { OnErr result (AppendsPrefix (W.contents writer.old.inner) (W.contents writer.new.inner) (line_of listing (framed frame.now))) }
+    ensures whole { OnOk result (Appends (W.contents writer.old.inner) (W.contents writer.new.inner) (listing_line listing (framed frame.now))) }
+    ensures part { OnErr result (AppendsPrefix (W.contents writer.old.inner) (W.contents writer.new.inner) (listing_line listing (framed frame.now))) }
     ensures failed { OnErr result (HasFailed writer.old.failures writer.new.failures) }
     ensures fine { OnOk result (writer.new.failures ≡ writer.old.failures) }
 {

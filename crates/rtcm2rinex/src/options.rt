@@ -3,7 +3,7 @@ ghost use Rattle.std.specs.Prelude.{◌≡◌, MatchResult, codes, not};
 ghost use Rattle.std.specs.Str.{bytes_eq};
 ghost use Rattle.obs_epoch.specs.Kinds.{is_by_bit};
 ghost use Rattle.rinex_file.specs.TextsOf.{lists_of};
-ghost use Rattle.rtcm2rinex.specs.Told.{IsTold, IsRefused, options_of, text_told, texts_told};
+ghost use Rattle.rtcm2rinex.specs.SetupTold.{IsSetupOf, IsSetupRefused, options_of, text_told, texts_told};
 
 use crate::fault::ToolFault;
 use clap::ArgMatches;
@@ -15,7 +15,7 @@ use std::alloc::Global;
 
 /// What a conversion is told at first. The texts of the header are judged before the plan.
 pub fn setup_of(alloc: Global, options: &ArgMatches) -> Result<Setup, ToolFault>
-    ensures { MatchResult result (IsTold (options_of options.now)) (IsRefused (options_of options.now)) }
+    ensures { MatchResult result (IsSetupOf (options_of options.now)) (IsSetupRefused (options_of options.now)) }
 {
     let texts = HeaderTexts::new(&texts_of(options))?;
     let plan = Plan::parse(alloc, text(options, "gps"), text(options, "galileo"))?;

@@ -2,7 +2,7 @@
 ghost use Rattle.std.specs.Prelude.{◌≡◌, ◌+◌, ◌<◌, ◌≤◌, ◌^◌, if◌then◌else◌, is_some, [], length, MatchOption};
 ghost use Rattle.rtcm_scan.specs.Answers.{framed};
 ghost use Rattle.rtcm_msg.specs.Station.{InRange};
-ghost use Rattle.rtcm_msg.specs.Views.{number};
+ghost use Rattle.rtcm_msg.specs.Views.{message_number};
 ghost use Rattle.rtcm2rinex.specs.Lines.{with_words};
 ghost use Rattle.rtcm2rinex.specs.ShowLines.{show_line, station_line, msm_line, fault_line, height_words, fault_words};
 
@@ -63,7 +63,7 @@ fn station_number(height: Option<u16>) -> u64
 
 /// The line of an MSM: place, number, station, time, DF393, and how many satellites, signals and cells it has.
 fn msm_line(offset: u64, msm: &MsmView<'_>) -> Line
-    ensures { result ≡ msm_line offset (number msm.now.form msm.now.msm.is_galileo) msm.now.msm }
+    ensures { result ≡ msm_line offset (message_number msm.now.form msm.now.msm.is_galileo) msm.now.msm }
 {
     let header = msm.header();
     let mut line = Line::starting_with(offset);

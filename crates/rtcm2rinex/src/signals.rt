@@ -10,7 +10,7 @@ ghost use Rattle.rtcm2rinex.specs.Signals.{had, codes_word, options_line, plan_h
 ghost use Rattle.rtcm2rinex.specs.Census.{IsCensus};
 ghost use Rattle.rtcm2rinex.specs.Moves.{Moves};
 
-use crate::census::{Census, Form};
+use crate::census::{Census, SignalsForm};
 use crate::fault::ToolFault;
 use crate::line::Line;
 use crate::survey::survey;
@@ -29,7 +29,7 @@ const TEXT_BYTES: usize = 1_024;
 pub fn run_signals<R: Read, W: Write>(
     alloc: Global,
     station: Option<u16>,
-    form: Form,
+    form: SignalsForm,
     reader: &mut Counted<R>,
     writer: &mut Counted<W>,
 ) -> Result<(), ToolFault>
@@ -64,7 +64,7 @@ pub fn run_signals<R: Read, W: Write>(
 
 /// Writes the text of the counts, and sends it on.
 fn tell_signals<W: Write>(
-    form: Form,
+    form: SignalsForm,
     census: &Census,
     writer: &mut Counted<W>,
 ) -> Result<(), DeviceFailed>
@@ -73,8 +73,8 @@ fn tell_signals<W: Write>(
     ensures failed { OnErr result (HasFailed writer.old.failures writer.new.failures) }
 {
     match form {
-        Form::Options => send(options_line(census).as_bytes(), writer),
-        Form::Counts => send(count_lines(census).as_slice(), writer),
+        SignalsForm::Options => send(options_line(census).as_bytes(), writer),
+        SignalsForm::Counts => send(count_lines(census).as_slice(), writer),
     }
 }
 

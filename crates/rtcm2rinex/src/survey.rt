@@ -5,10 +5,10 @@ ghost use Rattle.rtcm_bits.specs.Device.{HasFailed};
 ghost use Rattle.rtcm_scan.specs.Frames.{Framed};
 ghost use Rattle.rtcm_scan.specs.Answers.{framed};
 ghost use Rattle.rtcm_scan.specs.Drained.{IsDrained};
-ghost use Rattle.rtcm_scan.specs.Scan.{StandsFor};
+ghost use Rattle.rtcm_scan.specs.Scan.{HasFramed};
 ghost use Rattle.rtcm2rinex.specs.Listed.{IsRefusal, up_to_limit};
 ghost use Rattle.rtcm2rinex.specs.Signals.{ReadsTooMuch};
-ghost use Rattle.rtcm2rinex.specs.Census.{IsCensus, Surveys, HasSurveyed, Counts, CountsKnown, HasCounted};
+ghost use Rattle.rtcm2rinex.specs.Census.{IsCensus, SurveysFrames, HasSurveyed, CountsCells, CountsKnownCells, HasCounted};
 
 use crate::census::Census;
 use crate::fault::ToolFault;
@@ -57,7 +57,7 @@ fn count_stream<R: Read>(
 ) -> Result<(), ToolFault>
     requires going { framer.old.has_ended ≡ false }
     requires within { framer.old.taken ≤ framer.old.limit }
-    requires new { StandsFor framer.old [] [] × IsDrained framer.old [] [] }
+    requires new { HasFramed framer.old [] [] × IsDrained framer.old [] [] }
     requires none { IsCensus census.old [] }
     ensures whole { OnOk result (HasSurveyed census.new station (R.remaining reader.old.inner) (R.remaining reader.new.inner)) }
     ensures read_failed { result ≡ Err ToolFault.Read → HasFailed reader.old.failures reader.new.failures }
@@ -122,8 +122,8 @@ fn count_piece(
 ) -> Option<ScanFault>
     requires going { framer.old.has_ended ≡ true → length piece.now ≡ 0 }
     requires within { framer.old.taken ≤ framer.old.limit }
-    ensures counted { (b : List ℕ) (fs : List Framed) → Counts census.old station framer.old b fs
-        → CountsKnown census.new station framer.new (b ++ up_to_limit framer.old piece.now) }
+    ensures counted { (b : List ℕ) (fs : List Framed) → CountsCells census.old station framer.old b fs
+        → CountsKnownCells census.new station framer.new (b ++ up_to_limit framer.old piece.now) }
     ensures refusal { IsRefusal framer.old (length piece.now) result }
     ensures taken { result ≡ None → framer.new.taken ≡ framer.old.taken + length piece.now }
     ensures limit { framer.new.limit ≡ framer.old.limit }
@@ -147,7 +147,7 @@ fn count_piece(
 
 /// Counts the cells of the frames that are decided.
 fn count_decided(station: Option<u16>, framer: &mut Framer, census: &mut Census)
-    ensures counted { (b : List ℕ) (fs : List Framed) → Counts census.old station framer.old b fs → CountsKnown census.new station framer.new b }
+    ensures counted { (b : List ℕ) (fs : List Framed) → CountsCells census.old station framer.old b fs → CountsKnownCells census.new station framer.new b }
     ensures ready { framer.new.is_ready ≡ true }
     ensures limit { framer.new.limit ≡ framer.old.limit }
     ensures taken { framer.new.taken ≡ framer.old.taken }
@@ -167,7 +167,7 @@ fn count_decided(station: Option<u16>, framer: &mut Framer, census: &mut Census)
 
 /// Counts the cells of a frame's message; one that is refused has none.
 fn count_frame(station: Option<u16>, census: &mut Census, frame: &Frame)
-    ensures { (fs : List Framed) → length fs < 2 ^ 56 → Surveys census.old station fs → Surveys census.new station (fs ++ framed frame.now ∷ []) }
+    ensures { (fs : List Framed) → length fs < 2 ^ 56 → SurveysFrames census.old station fs → SurveysFrames census.new station (fs ++ framed frame.now ∷ []) }
 {
     match decode(frame.message.as_slice()) {
         Ok(message) => census.count_message(station, &message),

@@ -3,7 +3,7 @@ use Rattle.std.proofs.Common.{◌≡◌, [], ◌∷◌, take, drop, refl, negsuc
 use Rattle.rtcm_bits.specs.Bits.{uint, number, number_from, bits_of, signed}
 use Rattle.rtcm_bits.specs.Check.{check, bits_remainder, remainder, add_front, generator}
 use Rattle.rtcm_bits.specs.FrameOf.{frame_bytes}
-use Rattle.rtcm_bits.specs.Window.{Held, nothing_held, pushed, looked, looked_through, without_front}
+use Rattle.rtcm_bits.specs.Window.{WindowValue, nothing_held, pushed, looked, looked_through, without_front}
 
 -- the byte B5 is 5 in three bits and -11 in five
 first_field : number (take 3 (bits_of (0xB5 ∷ []))) ≡ 5
@@ -25,7 +25,7 @@ unfolding check bits_remainder remainder add_front generator uint number_from bi
 station_frame = refl
 
 -- five bytes of which the first is looked at twice, the next two are handed over, and the first is dropped
-four_left : Held
+four_left : WindowValue
 four_left = record { bytes = 11 ∷ 12 ∷ 13 ∷ 14 ∷ []; looks = 1 ∷ 1 ∷ 0 ∷ 0 ∷ []; examined = 4; most = 2 }
 
 window_looks : without_front (looked_through (looked (looked (pushed (pushed (pushed (pushed (pushed nothing_held 10) 11) 12) 13) 14) 0) 0) 1 2) 1 ≡ four_left

@@ -4,7 +4,7 @@ use Rattle.std.proofs.lemmas.Bool.{cases_lt}
 use Rattle.std.proofs.lemmas.List.{take-append-le, drop-append-le, append-nil, take_rest, take_all, drop_all, get_or_default, length-replicate}
 use Rattle.std.proofs.Math.Seq.{take-append-add, drop-append-add}
 use Rattle.rtcm_bits.specs.FrameOf.{longest_frame}
-use Rattle.rtcm_bits.specs.Window.{Held, held_of, counts_alone, looked_through, pushed_all}
+use Rattle.rtcm_bits.specs.Window.{WindowValue, held_of, counts_alone, looked_through, pushed_all}
 use Rattle.std.specs.List.{All, refill}
 use Rattle.std.proofs.lemmas.List.Elements.{All-append, All-push, All-nil}
 use Rattle.circular_buffer.specs.Buffer.{Buffer, buffer, keep_last}
@@ -111,10 +111,10 @@ view_pushed b b' c c' more e m i h p q =
     rw (x, y) refl
 
 -- one look more at each byte of a range
-pub view_looked : (b xs ys : List ℕ) (e e' m m' start n : ℕ) (w : Held) → held_of b xs e m ≡ w → e ≤ 18446744073709551615 → length ys ≡ length xs
+pub view_looked : (b xs ys : List ℕ) (e e' m m' start n : ℕ) (w : WindowValue) → held_of b xs e m ≡ w → e ≤ 18446744073709551615 → length ys ≡ length xs
     → ((ws : List ℕ) → length ws ≡ length xs → refill (length xs) xs ws ≡ ws)
     → ys ≡ (looked_through (counts_alone xs m) start n).looks → m' ≡ (looked_through (counts_alone xs m) start n).most → e' ≡ min (e + n) 18446744073709551615
     → held_of b (refill (length xs) xs ys) e' m' ≡ looked_through w start n
 view_looked b xs ys e e' m m' start n w v h l r y k i =
     let t : refill (length xs) xs ys ≡ ys = r ys l in
-    rw (t, y, k, i) (sym (through_counts b xs e m start n h)) ∙ ap (λ (u : Held). looked_through u start n) v
+    rw (t, y, k, i) (sym (through_counts b xs e m start n h)) ∙ ap (λ (u : WindowValue). looked_through u start n) v

@@ -5,9 +5,9 @@ use Rattle.std.proofs.lemmas.List.Sums.{sum_by-cons}
 use Rattle.rtcm_scan.specs.Frames.{Framed, frames_of}
 use Rattle.obs_epoch.specs.declared.taken.Kind.{Kind}
 use Rattle.obs_epoch.specs.declared.taken.Kind.TheVariants as kind
-use Rattle.obs_epoch.specs.Heard.{Setup, Heard}
+use Rattle.obs_epoch.specs.Heard.{GatherSetup, Heard}
 use Rattle.obs_epoch.specs.Kinds.{is_close_first, kind_of}
-use Rattle.rtcm_convert.specs.Converted.{Settings, messages_of, heard_in}
+use Rattle.rtcm_convert.specs.Converted.{SetupValue, messages_of, heard_in}
 use Rattle.rtcm_convert.specs.Outcomes.{outcomes, outcomes_after, tally_of_one, report_of}
 use Rattle.rtcm_convert.proofs.ExactLemmas.{outcomes_length}
 use Rattle.rtcm_convert.specs.Laws.{IsCountedOnce}
@@ -23,13 +23,13 @@ AreDone [] = Unit {0}
 AreDone (o ∷ os) = (is_first o ≡ false) × AreDone os
 
 abbrev Kinds : Type 0
-Kinds = (s : Setup) (ms : List Heard) (m : Heard) → is_close_first (kind_of s ms m) ≡ false
+Kinds = (s : GatherSetup) (ms : List Heard) (m : Heard) → is_close_first (kind_of s ms m) ≡ false
 
-heard_done : Kinds → (s : Setup) (ms : List Heard) (o : Option Heard) → is_first (option_map (λ m. kind_of s ms m) o) ≡ false
+heard_done : Kinds → (s : GatherSetup) (ms : List Heard) (o : Option Heard) → is_first (option_map (λ m. kind_of s ms m) o) ≡ false
 heard_done kinds s ms None = refl
 heard_done kinds s ms (Some m) = kinds s ms m
 
-outcomes_done : Kinds → (s : Settings) (before fs : List Framed) → AreDone (outcomes_after s before fs)
+outcomes_done : Kinds → (s : SetupValue) (before fs : List Framed) → AreDone (outcomes_after s before fs)
 outcomes_done kinds s before [] = tt
 outcomes_done kinds s before (f ∷ fs) = (heard_done kinds s.gather (messages_of before) (heard_in f), outcomes_done kinds s (before ++ f ∷ []) fs)
 
@@ -81,7 +81,7 @@ sum_frames : (os : List (Option Kind)) → sum (λ t. t.frames) os ≡ length os
 sum_frames [] = refl
 sum_frames (o ∷ os) = one_more _ _ _ (length os) (sum-cons (λ t. t.frames) o os) (one_frame o) (sum_frames os)
 
-pub counted_once : Kinds → (s : Settings) (b : List ℕ) → IsCountedOnce (report_of s b) (length (frames_of b))
+pub counted_once : Kinds → (s : SetupValue) (b : List ℕ) → IsCountedOnce (report_of s b) (length (frames_of b))
 counted_once kinds s b =
     let os = outcomes s (frames_of b) in
     let n : length os ≡ length (frames_of b) = outcomes_length s [] (frames_of b) in

@@ -11,27 +11,27 @@ use Rattle.rtcm_scan.specs.Frames.{Framed}
 use Rattle.rtcm_msg.specs.declared.message.Message.{Message}
 use Rattle.rtcm_msg.specs.declared.message.Message.TheVariants as message
 use Rattle.rtcm_msg.specs.declared.entry.Entry.{Entry}
-use Rattle.rtcm_msg.specs.Msm.{Sets, MsmValue, AreSets, pairs}
+use Rattle.rtcm_msg.specs.Msm.{MasksValue, MsmValue, AreMasks, pairs}
 use Rattle.rtcm_msg.specs.Spelling.{IsMessage}
 use Rattle.rtcm_msg.specs.Entries.{chosen, seats, all_pairs, entries, entry4, entry7}
 use Rattle.obs_epoch.specs.declared.seen.Seen.{Seen}
-use Rattle.obs_epoch.specs.declared.seen.Counts.{Counts}
+use Rattle.obs_epoch.specs.declared.seen.CellCounts.{CellCounts}
 use Rattle.obs_epoch.specs.declared.taken.Kind.{Kind}
 use Rattle.obs_epoch.specs.declared.taken.Kind.TheVariants as kind
 use Rattle.obs_epoch.specs.declared.clock.Answer.{Answer}
 use Rattle.obs_epoch.specs.declared.clock.Answer.TheVariants as answers
-use Rattle.obs_epoch.specs.Heard.{Setup, Heard, heard, heard_msm, seen_in, system_of, unlisted_in}
+use Rattle.obs_epoch.specs.Heard.{GatherSetup, Heard, heard, heard_msm, seen_in, system_of, unlisted_in}
 use Rattle.obs_epoch.specs.Times.{Timed, timed, timed_after, taken_at}
 use Rattle.obs_epoch.specs.Loss.{times}
-use Rattle.obs_epoch.specs.Cells.{counts_of, with_skipped, is_planned, is_among, both as kept_both, offered}
+use Rattle.obs_epoch.specs.Cells.{counts_of, with_skipped, is_planned, is_among, kept_of_both as kept_both, offered}
 use Rattle.obs_epoch.specs.Gather.{no_counts}
-use Rattle.obs_epoch.specs.Standing.{counts_in}
+use Rattle.obs_epoch.specs.Standing.{counts_of_message}
 use Rattle.obs_epoch.specs.Clock.{answer_of}
 use Rattle.obs_epoch.specs.Kinds.{kind_of, kind_at, station_kind}
 use Rattle.obs_epoch.specs.Gathering.{all_epochs, closed_at}
-use Rattle.obs_epoch.specs.Values.{satellites}
-use Rattle.rtcm_convert.specs.Converted.{Settings, messages_of, heard_in, epochs_in}
-use Rattle.rtcm_convert.specs.Outcomes.{outcomes_after, capped, capped_tally, total, tally_of, tally_of_one, IsFew, AreFew}
+use Rattle.obs_epoch.specs.Values.{satellites_written}
+use Rattle.rtcm_convert.specs.Converted.{SetupValue, messages_of, heard_in, epochs_in}
+use Rattle.rtcm_convert.specs.Outcomes.{outcomes_after, capped, capped_tally, sum_of_counts, tally_of, tally_of_one, IsFew, AreFew}
 use Rattle.rtcm_convert.specs.declared.tally.Tally.{Tally}
 
 -- ---- the cells of a message
@@ -53,7 +53,7 @@ zip_few [] ys = omega arith
 zip_few (x ∷ xs) [] = omega arith
 zip_few (x ∷ xs) (y ∷ ys) = let i = zip_few xs ys in omega arith
 
-seats_few : {B : Type 0} (s : Sets) (ys : List B) → AreSets s → length (zip (seats s) ys) ≤ 64
+seats_few : {B : Type 0} (s : MasksValue) (ys : List B) → AreMasks s → length (zip (seats s) ys) ≤ 64
 seats_few s ys h =
     let a = zip_few (seats s) ys in
     let b : length (seats s) ≤ length (uint (pairs s.satellites s.signals) s.cells) = chosen_few (uint (pairs s.satellites s.signals) s.cells) (all_pairs s) in
@@ -81,9 +81,9 @@ unlisted_step : (b : Bool) (n k : ℕ) → n ≤ k → (if b then 0 else 1) + n 
 unlisted_step true n k le = omega arith
 unlisted_step false n k le = omega arith
 
-unlisted_few : (is_long : Bool) (system : System) (es : List Entry) → unlisted_in is_long system es ≤ length es
-unlisted_few is_long system [] = omega arith
-unlisted_few is_long system (e ∷ es) = unlisted_step (is_some (seen_in is_long system e)) (unlisted_in is_long system es) (length es) (unlisted_few is_long system es)
+unlisted_few : (is_msm7 : Bool) (system : System) (es : List Entry) → unlisted_in is_msm7 system es ≤ length es
+unlisted_few is_msm7 system [] = omega arith
+unlisted_few is_msm7 system (e ∷ es) = unlisted_step (is_some (seen_in is_msm7 system e)) (unlisted_in is_msm7 system es) (length es) (unlisted_few is_msm7 system es)
 
 -- what is heard of a message has so few cells
 record HasFew (m : Heard) : Type 0 where
@@ -93,10 +93,10 @@ record HasFew (m : Heard) : Type 0 where
 short_of : (n k : ℕ) → n ≤ k → k ≤ 64 → n ≤ 64
 short_of n k a b = omega arith
 
-heard_msm_few : (is_long : Bool) (v : MsmValue) (es : List Entry) → length es ≤ 64 → HasFew (heard_msm is_long v es)
-heard_msm_few is_long v es le = record {
-  cells = short_of _ _ (filter_map_few (seen_in is_long (system_of v.is_galileo)) es) le;
-  unlisted = short_of _ _ (unlisted_few is_long (system_of v.is_galileo) es) le;
+heard_msm_few : (is_msm7 : Bool) (v : MsmValue) (es : List Entry) → length es ≤ 64 → HasFew (heard_msm is_msm7 v es)
+heard_msm_few is_msm7 v es le = record {
+  cells = short_of _ _ (filter_map_few (seen_in is_msm7 (system_of v.is_galileo)) es) le;
+  unlisted = short_of _ _ (unlisted_few is_msm7 (system_of v.is_galileo) es) le;
 }
 
 heard_few : (m : Message) → IsMessage m → HasFew (heard m)
@@ -107,12 +107,12 @@ heard_few (message.Other n set) h = record { cells = omega arith; unlisted = ome
 
 -- ---- the counts of a message
 
-record CountsFew (n : Counts) : Type 0 where
+record CountsFew (n : CellCounts) : Type 0 where
   skipped : n.skipped ≤ 128
   repeated : n.repeated ≤ 128
   crowded : n.crowded ≤ 128
 
-planned_few : (s : Setup) (xs : List Seen) → length (filter (is_planned s) xs) ≤ length xs
+planned_few : (s : GatherSetup) (xs : List Seen) → length (filter (is_planned s) xs) ≤ length xs
 planned_few s xs = subst (λ (n : ℕ). n ≤ length xs) (sym (length-filter (is_planned s) xs)) (count_by-le-length (is_planned s) xs)
 
 less : (a b c n : ℕ) → a ≤ b → b ≤ c → c ≤ 64 → a - n ≤ 128
@@ -124,7 +124,7 @@ at_most a b c p q r = omega arith
 sum_few : (a b c : ℕ) → a ≤ b → b ≤ 64 → c ≤ 64 → a + c ≤ 128
 sum_few a b c p q r = omega arith
 
-counts_few : (s : Setup) (before : List Seen) (m : Heard) → HasFew m → CountsFew (with_skipped m.unlisted (counts_of s before m.cells))
+counts_few : (s : GatherSetup) (before : List Seen) (m : Heard) → HasFew m → CountsFew (with_skipped m.unlisted (counts_of s before m.cells))
 counts_few s before m h =
     let planned = filter (is_planned s) m.cells in
     let all = kept_both (before ++ planned) in
@@ -134,7 +134,7 @@ counts_few s before m h =
       crowded = at_most _ _ _ (count_by-le-length (λ x. not (is_among all x)) planned) (planned_few s m.cells) h.cells;
     }
 
-counts_few_at : (s : Setup) (xs : List Timed) (m : Heard) (o : Option ℕ) → HasFew m
+counts_few_at : (s : GatherSetup) (xs : List Timed) (m : Heard) (o : Option ℕ) → HasFew m
     → CountsFew (option_map_or (λ u. with_skipped m.unlisted (counts_of s (offered s u xs) m.cells)) o no_counts)
 counts_few_at s xs m None h = record { skipped = omega arith; repeated = omega arith; crowded = omega arith }
 counts_few_at s xs m (Some u) h = counts_few s (offered s u xs) m h
@@ -147,7 +147,7 @@ plain_few t a b c d e f g h i j k = record { frames = a; faulty = b; station = c
 pub refused_few : IsFew (tally_of_one None)
 refused_few = plain_few (tally_of_one None) (omega arith) (omega arith) (omega arith) (omega arith) (omega arith) (omega arith) (omega arith) (omega arith) (omega arith) (omega arith) (omega arith)
 
-kind_few : (a : Answer) (n : Counts) → CountsFew n → IsFew (tally_of_one (Some (kind_at a n)))
+kind_few : (a : Answer) (n : CellCounts) → CountsFew n → IsFew (tally_of_one (Some (kind_at a n)))
 kind_few answers.OtherStation n h = plain_few (tally_of_one (Some kind.OtherStation)) (omega arith) (omega arith) (omega arith) (omega arith) (omega arith) (omega arith) (omega arith) (omega arith) (omega arith) (omega arith) (omega arith)
 kind_few answers.Ignored n h = plain_few (tally_of_one (Some kind.Ignored)) (omega arith) (omega arith) (omega arith) (omega arith) (omega arith) (omega arith) (omega arith) (omega arith) (omega arith) (omega arith) (omega arith)
 kind_few answers.Late n h = plain_few (tally_of_one (Some kind.Late)) (omega arith) (omega arith) (omega arith) (omega arith) (omega arith) (omega arith) (omega arith) (omega arith) (omega arith) (omega arith) (omega arith)
@@ -163,16 +163,16 @@ station_few answers.PastWeeks = plain_few (tally_of_one (Some kind.Station)) (om
 station_few answers.CloseFirst = plain_few (tally_of_one (Some kind.Station)) (omega arith) (omega arith) (omega arith) (omega arith) (omega arith) (omega arith) (omega arith) (omega arith) (omega arith) (omega arith) (omega arith)
 station_few answers.Kept = plain_few (tally_of_one (Some kind.Station)) (omega arith) (omega arith) (omega arith) (omega arith) (omega arith) (omega arith) (omega arith) (omega arith) (omega arith) (omega arith) (omega arith)
 
-kind_by_few : (p q : Bool) (a : Answer) (n : Counts) → CountsFew n → IsFew (tally_of_one (Some (if p then kind_at a n else (if q then station_kind a else kind.Ignored))))
+kind_by_few : (p q : Bool) (a : Answer) (n : CellCounts) → CountsFew n → IsFew (tally_of_one (Some (if p then kind_at a n else (if q then station_kind a else kind.Ignored))))
 kind_by_few true q a n h = kind_few a n h
 kind_by_few false true a n h = station_few a
 kind_by_few false false a n h = plain_few (tally_of_one (Some kind.Ignored)) (omega arith) (omega arith) (omega arith) (omega arith) (omega arith) (omega arith) (omega arith) (omega arith) (omega arith) (omega arith) (omega arith)
 
-heard_kind_few : (s : Setup) (ms : List Heard) (m : Heard) → HasFew m → IsFew (tally_of_one (Some (kind_of s ms m)))
+heard_kind_few : (s : GatherSetup) (ms : List Heard) (m : Heard) → HasFew m → IsFew (tally_of_one (Some (kind_of s ms m)))
 heard_kind_few s ms m h =
-    kind_by_few (is_some m.tow) (is_some m.point) (answer_of s (timed s ms) m) (counts_in s (timed s ms) m) (counts_few_at s (timed s ms) m (taken_at s (timed s ms) m) h)
+    kind_by_few (is_some m.tow) (is_some m.point) (answer_of s (timed s ms) m) (counts_of_message s (timed s ms) m) (counts_few_at s (timed s ms) m (taken_at s (timed s ms) m) h)
 
-pub message_few : (s : Setup) (ms : List Heard) (m : Message) → IsMessage m → IsFew (tally_of_one (Some (kind_of s ms (heard m))))
+pub message_few : (s : GatherSetup) (ms : List Heard) (m : Message) → IsMessage m → IsFew (tally_of_one (Some (kind_of s ms (heard m))))
 message_few s ms m h = heard_kind_few s ms (heard m) (heard_few m h)
 
 pub few_more : (os : List (Option Kind)) (o : Option Kind) → AreFew os → IsFew (tally_of_one o) → AreFew (os ++ o ∷ [])
@@ -184,30 +184,30 @@ few_more (p ∷ os) o h k = (h.0, few_more os o h.1 k)
 add_few : (a b c n : ℕ) → c ≡ a + b → a ≤ 128 → b ≤ 128 * n → c ≤ 128 * suc n
 add_few a b c n e p q = omega arith
 
-total_few : (count : Tally → ℕ) → ((t : Tally) → IsFew t → count t ≤ 128) → (os : List (Option Kind)) → AreFew os → total count os ≤ 128 * length os
+total_few : (count : Tally → ℕ) → ((t : Tally) → IsFew t → count t ≤ 128) → (os : List (Option Kind)) → AreFew os → sum_of_counts count os ≤ 128 * length os
 total_few count below [] h = omega arith
 total_few count below (o ∷ os) h =
-    add_few (count (tally_of_one o)) (total count os) (total count (o ∷ os)) (length os) (sum_by-cons (λ o. count (tally_of_one o)) o os) (below (tally_of_one o) h.0) (total_few count below os h.1)
+    add_few (count (tally_of_one o)) (sum_of_counts count os) (sum_of_counts count (o ∷ os)) (length os) (sum_by-cons (λ o. count (tally_of_one o)) o os) (below (tally_of_one o) h.0) (total_few count below os h.1)
 
 whole_count : (n k most : ℕ) → n ≤ 128 * k → 6 * k ≤ most → most ≤ 2 ^ 48 → capped n ≡ n
 whole_count n k most a b c = omega arith
 
 pub tally_whole : (os : List (Option Kind)) (most : ℕ) → AreFew os → 6 * length os ≤ most → most ≤ 2 ^ 48 → capped_tally (tally_of os) ≡ tally_of os
 tally_whole os most few short small =
-    let frames_is = whole_count (total (λ t. t.frames) os) (length os) most (total_few (λ t. t.frames) (λ t h. h.frames) os few) short small in
-    let faulty_is = whole_count (total (λ t. t.faulty) os) (length os) most (total_few (λ t. t.faulty) (λ t h. h.faulty) os few) short small in
-    let station_is = whole_count (total (λ t. t.station) os) (length os) most (total_few (λ t. t.station) (λ t h. h.station) os few) short small in
-    let other_is = whole_count (total (λ t. t.other) os) (length os) most (total_few (λ t. t.other) (λ t h. h.other) os few) short small in
-    let ignored_is = whole_count (total (λ t. t.ignored) os) (length os) most (total_few (λ t. t.ignored) (λ t h. h.ignored) os few) short small in
-    let late_is = whole_count (total (λ t. t.late) os) (length os) most (total_few (λ t. t.late) (λ t h. h.late) os few) short small in
-    let past_is = whole_count (total (λ t. t.past) os) (length os) most (total_few (λ t. t.past) (λ t h. h.past) os few) short small in
-    let taken_is = whole_count (total (λ t. t.taken) os) (length os) most (total_few (λ t. t.taken) (λ t h. h.taken) os few) short small in
-    let skipped_is = whole_count (total (λ t. t.skipped) os) (length os) most (total_few (λ t. t.skipped) (λ t h. h.skipped) os few) short small in
-    let repeated_is = whole_count (total (λ t. t.repeated) os) (length os) most (total_few (λ t. t.repeated) (λ t h. h.repeated) os few) short small in
-    let crowded_is = whole_count (total (λ t. t.crowded) os) (length os) most (total_few (λ t. t.crowded) (λ t h. h.crowded) os few) short small in
+    let frames_is = whole_count (sum_of_counts (λ t. t.frames) os) (length os) most (total_few (λ t. t.frames) (λ t h. h.frames) os few) short small in
+    let faulty_is = whole_count (sum_of_counts (λ t. t.faulty) os) (length os) most (total_few (λ t. t.faulty) (λ t h. h.faulty) os few) short small in
+    let station_is = whole_count (sum_of_counts (λ t. t.station) os) (length os) most (total_few (λ t. t.station) (λ t h. h.station) os few) short small in
+    let other_is = whole_count (sum_of_counts (λ t. t.other) os) (length os) most (total_few (λ t. t.other) (λ t h. h.other) os few) short small in
+    let ignored_is = whole_count (sum_of_counts (λ t. t.ignored) os) (length os) most (total_few (λ t. t.ignored) (λ t h. h.ignored) os few) short small in
+    let late_is = whole_count (sum_of_counts (λ t. t.late) os) (length os) most (total_few (λ t. t.late) (λ t h. h.late) os few) short small in
+    let past_is = whole_count (sum_of_counts (λ t. t.past) os) (length os) most (total_few (λ t. t.past) (λ t h. h.past) os few) short small in
+    let taken_is = whole_count (sum_of_counts (λ t. t.taken) os) (length os) most (total_few (λ t. t.taken) (λ t h. h.taken) os few) short small in
+    let skipped_is = whole_count (sum_of_counts (λ t. t.skipped) os) (length os) most (total_few (λ t. t.skipped) (λ t h. h.skipped) os few) short small in
+    let repeated_is = whole_count (sum_of_counts (λ t. t.repeated) os) (length os) most (total_few (λ t. t.repeated) (λ t h. h.repeated) os few) short small in
+    let crowded_is = whole_count (sum_of_counts (λ t. t.crowded) os) (length os) most (total_few (λ t. t.crowded) (λ t h. h.crowded) os few) short small in
     cc
 
-pub outcomes_length : (s : Settings) (before fs : List Framed) → length (outcomes_after s before fs) ≡ length fs
+pub outcomes_length : (s : SetupValue) (before fs : List Framed) → length (outcomes_after s before fs) ≡ length fs
 outcomes_length s before [] = refl
 outcomes_length s before (f ∷ fs) = ap (λ n. suc n) (outcomes_length s (before ++ f ∷ []) fs)
 
@@ -221,7 +221,7 @@ times_few : (xs : List Timed) → length (times xs) ≤ length xs
 times_few [] = omega arith
 times_few (x ∷ xs) = timed_step x.time (times xs) (length xs) (times_few xs)
 
-timed_length : (s : Setup) (earlier : List Timed) (ms : List Heard) → length (timed_after s earlier ms) ≡ length earlier + length ms
+timed_length : (s : GatherSetup) (earlier : List Timed) (ms : List Heard) → length (timed_after s earlier ms) ≡ length earlier + length ms
 timed_length s earlier [] = sym (add-zero (length earlier))
 timed_length s earlier (m ∷ ms) =
     let x : Timed = record { message = m; time = taken_at s earlier m } in
@@ -235,12 +235,12 @@ timed_length s earlier (m ∷ ms) =
 chain_few : (a b c d e f : ℕ) → a ≤ b → b ≡ c → c ≤ d → d ≡ 0 + e → e ≤ f → a ≤ f
 chain_few a b c d e f p q r s t = omega arith
 
-pub epochs_few : (s : Settings) (fs : List Framed) → epochs_in s fs ≤ length fs
+pub epochs_few : (s : SetupValue) (fs : List Framed) → epochs_in s fs ≤ length fs
 epochs_few s fs =
     let ms = messages_of fs in
     let g = s.gather in
     chain_few _ _ _ _ _ _
-    (subst (λ (n : ℕ). n ≤ length (all_epochs g ms)) (sym (length-filter (λ e. nat_lt 0 (satellites e.epoch)) (all_epochs g ms))) (count_by-le-length (λ e. nat_lt 0 (satellites e.epoch)) (all_epochs g ms)))
+    (subst (λ (n : ℕ). n ≤ length (all_epochs g ms)) (sym (length-filter (λ e. nat_lt 0 (satellites_written e.epoch)) (all_epochs g ms))) (count_by-le-length (λ e. nat_lt 0 (satellites_written e.epoch)) (all_epochs g ms)))
     (length-map (times (timed g ms)) (closed_at g ms)) (times_few (timed g ms)) (timed_length g [] ms) (filter_map_few heard_in fs)
 
 pub whole_epochs : (n k most : ℕ) → n ≤ k → 6 * k ≤ most → most ≤ 2 ^ 48 → capped n ≡ n

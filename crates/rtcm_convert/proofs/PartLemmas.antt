@@ -5,7 +5,7 @@ use Rattle.std.specs.Io.KnownBytes.{Appends, Keeps}
 use Rattle.std.proofs.KnownBytes.{Appends-trans, Appends-nil, Appends-kept}
 use Rattle.rtcm_bits.specs.Device.{AppendsPrefix}
 use Rattle.rtcm_bits.specs.Prefix.{IsPrefix}
-use Rattle.rtcm_convert.specs.Fed.{GoesOn, BreaksOff}
+use Rattle.rtcm_convert.specs.Fed.{AppendsBetween, AppendsPrefixBetween}
 
 pub on_err : {A E : Type 0} (r : Result A E) (P : Type 0) → P → OnErr r P
 on_err (Ok v) P p = tt
@@ -17,17 +17,17 @@ prefix_more a b x y p = (p.0 ++ y, (p.1.0, ap (λ l. l ++ y) p.1.1 ∙ append_as
 pub prefix_after : (a b c : Option (List ℕ)) (x y : List ℕ) → Appends a b x → AppendsPrefix b c y → AppendsPrefix a c (x ++ y)
 prefix_after a b c x y e p = (p.0, (x ++ p.1.0, ap (λ l. x ++ l) p.1.1 ∙ sym (append_assoc x p.1.0 p.0), Appends-trans a b c x p.1.0 e p.1.2))
 
-pub goes_on-refl : (a : Option (List ℕ)) (x : List ℕ) → GoesOn a a x x
+pub goes_on-refl : (a : Option (List ℕ)) (x : List ℕ) → AppendsBetween a a x x
 goes_on-refl a x = record { part = []; text = sym (append-nil x); out = Appends-nil a }
 
-pub goes_on-trans : (a b c : Option (List ℕ)) (x y z : List ℕ) → GoesOn a b x y → GoesOn b c y z → GoesOn a c x z
+pub goes_on-trans : (a b c : Option (List ℕ)) (x y z : List ℕ) → AppendsBetween a b x y → AppendsBetween b c y z → AppendsBetween a c x z
 goes_on-trans a b c x y z f g = record {
   part = f.part ++ g.part;
   text = g.text ∙ ap (λ l. l ++ g.part) f.text ∙ append_assoc x f.part g.part;
   out = Appends-trans a b c f.part g.part f.out g.out;
 }
 
-pub breaks_off-after : (a b c : Option (List ℕ)) (x y z : List ℕ) → GoesOn a b x y → BreaksOff b c y z → BreaksOff a c x z
+pub breaks_off-after : (a b c : Option (List ℕ)) (x y z : List ℕ) → AppendsBetween a b x y → AppendsPrefixBetween b c y z → AppendsPrefixBetween a c x z
 breaks_off-after a b c x y z f g = record {
   part = f.part ++ g.part;
   rest = g.rest;
@@ -35,7 +35,7 @@ breaks_off-after a b c x y z f g = record {
   out = Appends-trans a b c f.part g.part f.out g.out;
 }
 
-pub breaks_off-before : (a b : Option (List ℕ)) (x y z : List ℕ) → BreaksOff a b x y → IsPrefix y z → BreaksOff a b x z
+pub breaks_off-before : (a b : Option (List ℕ)) (x y z : List ℕ) → AppendsPrefixBetween a b x y → IsPrefix y z → AppendsPrefixBetween a b x z
 breaks_off-before a b x y z f p = record {
   part = f.part;
   rest = f.rest ++ p.0;
@@ -44,11 +44,11 @@ breaks_off-before a b x y z f p = record {
 }
 
 -- all of what the text went on by
-pub goes_on-by : (a b : Option (List ℕ)) (x y z : List ℕ) → z ≡ x ++ y → Appends a b y → GoesOn a b x z
+pub goes_on-by : (a b : Option (List ℕ)) (x y z : List ℕ) → z ≡ x ++ y → Appends a b y → AppendsBetween a b x z
 goes_on-by a b x y z e o = record { part = y; text = e; out = o }
 
 -- a part of it
-pub breaks_off-by : (a b : Option (List ℕ)) (x y z : List ℕ) → z ≡ x ++ y → AppendsPrefix a b y → BreaksOff a b x z
+pub breaks_off-by : (a b : Option (List ℕ)) (x y z : List ℕ) → z ≡ x ++ y → AppendsPrefix a b y → AppendsPrefixBetween a b x z
 breaks_off-by a b x y z e p = record {
   part = p.1.0;
   rest = p.0;
@@ -57,11 +57,11 @@ breaks_off-by a b x y z e p = record {
 }
 
 -- what is sent on stays as it is known
-pub goes_on-kept : (a b c : Option (List ℕ)) (x y : List ℕ) → GoesOn a b x y → Keeps b c → GoesOn a c x y
+pub goes_on-kept : (a b c : Option (List ℕ)) (x y : List ℕ) → AppendsBetween a b x y → Keeps b c → AppendsBetween a c x y
 goes_on-kept a b c x y f k = record { part = f.part; text = f.text; out = Appends-kept a b c f.part f.out k }
 
 -- what went on whole is a front
-pub goes_on-front : (a b : Option (List ℕ)) (x y : List ℕ) → GoesOn a b x y → BreaksOff a b x y
+pub goes_on-front : (a b : Option (List ℕ)) (x y : List ℕ) → AppendsBetween a b x y → AppendsPrefixBetween a b x y
 goes_on-front a b x y f = record { part = f.part; rest = []; text = f.text ∙ sym (append-nil (x ++ f.part)); out = f.out }
 
 pub prefix-refl : {A : Type 0} (xs : List A) → IsPrefix xs xs

@@ -7,7 +7,7 @@ use Rattle.rtcm_msg.specs.declared.message.Message.{Message}
 use Rattle.rtcm_msg.specs.declared.fault.MsgFault.{MsgFault}
 use Rattle.rtcm_msg.specs.Spelling.{IsMessage}
 use Rattle.rtcm_msg.specs.Reading.{message_at}
-use Rattle.obs_epoch.specs.Values.{PlanValue, Closed, satellites}
+use Rattle.obs_epoch.specs.Values.{PlanValue, Closed, satellites_written}
 use Rattle.obs_epoch.specs.Heard.{Heard, heard}
 use Rattle.rtcm_bits.specs.Prefix.{IsPrefix}
 use Rattle.obs_epoch.specs.Gathering.{all_epochs, closed_epochs}
@@ -17,7 +17,7 @@ use Rattle.rinex_file.specs.Texts.{HeaderLists}
 use Rattle.rinex_file.specs.FileValues.{AreTexts}
 use Rattle.rinex_file.specs.File.{gathered}
 use Rattle.rinex_file.specs.Gathered.{AreSignals, HasSatellite, IsGatheredFile}
-use Rattle.rtcm_convert.specs.Converted.{Settings, heard_of, heard_in, messages_of, written, text_of, text_with, file, so_far, epochs_in}
+use Rattle.rtcm_convert.specs.Converted.{SetupValue, heard_of, heard_in, messages_of, written_epochs, text_of_epochs, text_with, file, so_far, epochs_in}
 use Rattle.rtcm_convert.specs.Laws.{IsFileText}
 use Rattle.rtcm_convert.specs.Readable.{HasValue, IsReadable, AreSound}
 
@@ -62,11 +62,11 @@ rise_filter p (e ∷ es) h = by (p e) (rise_filter p es h.1) where
 above : (n : ℕ) → nat_lt 0 n ≡ true → 0 < n
 above n h = grind (arith, h)
 
-written_some : (es : List Closed) → AllByRecursion HasSatellite (written es)
+written_some : (es : List Closed) → AllByRecursion HasSatellite (written_epochs es)
 written_some [] = tt
-written_some (e ∷ es) = by (nat_lt 0 (satellites e.epoch)) refl (written_some es) where
-  by : (b : Bool) → nat_lt 0 (satellites e.epoch) ≡ b → AllByRecursion HasSatellite (written es) → AllByRecursion HasSatellite (cond b (e ∷ written es) (written es))
-  by true h l = (above (satellites e.epoch) h, l)
+written_some (e ∷ es) = by (nat_lt 0 (satellites_written e.epoch)) refl (written_some es) where
+  by : (b : Bool) → nat_lt 0 (satellites_written e.epoch) ≡ b → AllByRecursion HasSatellite (written_epochs es) → AllByRecursion HasSatellite (cond b (e ∷ written_epochs es) (written_epochs es))
+  by true h l = (above (satellites_written e.epoch) h, l)
   by false h l = l
 
 all_front : (P : Closed → Type 0) (es rest : List Closed) → AllByRecursion P (es ++ rest) → AllByRecursion P es
@@ -85,33 +85,33 @@ front plan es all p h =
 -- ---- their text
 
 text_valued : Known → (texts : HeaderLists) (plan : PlanValue) (es : List Closed) → AreTexts texts → AreSignals plan → AreGatheredEpochs plan es → AllByRecursion HasSatellite es
-    → 0 < length es → HasValue (text_of texts plan es)
-unfolding text_of
+    → 0 < length es → HasValue (text_of_epochs texts plan es)
+unfolding text_of_epochs
 text_valued k texts plan [] x p h some none = absurd (omega (arith, none))
 text_valued k texts plan (e ∷ es) x p h some none =
     (gathered texts plan e.values (e ∷ es), record { is = k.gathered texts plan e es x p h some; same = k.text texts plan e es })
 
-with_valued : Known → (s : Settings) (es : List Closed) → AreSound s → AreGatheredEpochs s.gather.plan es → 0 < length (written es) → HasValue (text_with s es)
+with_valued : Known → (s : SetupValue) (es : List Closed) → AreSound s → AreGatheredEpochs s.gather.plan es → 0 < length (written_epochs es) → HasValue (text_with s es)
 with_valued k s es sound h =
-    text_valued k s.texts s.gather.plan (written es) sound.texts sound.plan
-    (record { each = all_filter (IsGatheredEpoch s.gather.plan) (λ e. nat_lt 0 (satellites e.epoch)) es h.each; rise = rise_filter (λ e. nat_lt 0 (satellites e.epoch)) es h.rise })
+    text_valued k s.texts s.gather.plan (written_epochs es) sound.texts sound.plan
+    (record { each = all_filter (IsGatheredEpoch s.gather.plan) (λ e. nat_lt 0 (satellites_written e.epoch)) es h.each; rise = rise_filter (λ e. nat_lt 0 (satellites_written e.epoch)) es h.rise })
     (written_some es)
 
-no_text : (texts : HeaderLists) (plan : PlanValue) (es : List Closed) → (0 < length es → HasValue (text_of texts plan es)) → IsReadable (text_of texts plan es)
-unfolding text_of
+no_text : (texts : HeaderLists) (plan : PlanValue) (es : List Closed) → (0 < length es → HasValue (text_of_epochs texts plan es)) → IsReadable (text_of_epochs texts plan es)
+unfolding text_of_epochs
 no_text texts plan [] h = inl refl
 no_text texts plan (e ∷ es) h = inr (h (omega arith))
 
-with_readable : Known → (s : Settings) (es : List Closed) → AreSound s → AreGatheredEpochs s.gather.plan es → IsReadable (text_with s es)
-with_readable k s es sound h = no_text s.texts s.gather.plan (written es) (with_valued k s es sound h)
+with_readable : Known → (s : SetupValue) (es : List Closed) → AreSound s → AreGatheredEpochs s.gather.plan es → IsReadable (text_with s es)
+with_readable k s es sound h = no_text s.texts s.gather.plan (written_epochs es) (with_valued k s es sound h)
 
-pub file_valued : Known → (s : Settings) (fs : List Framed) → AreSound s → 0 < epochs_in s fs → HasValue (file s fs)
+pub file_valued : Known → (s : SetupValue) (fs : List Framed) → AreSound s → 0 < epochs_in s fs → HasValue (file s fs)
 file_valued k s fs sound some = with_valued k s (all_epochs s.gather (messages_of fs)) sound (k.epochs s.gather (messages_of fs) (messages_heard k fs)) some
 
-pub file_readable : Known → (s : Settings) (fs : List Framed) → AreSound s → IsReadable (file s fs)
+pub file_readable : Known → (s : SetupValue) (fs : List Framed) → AreSound s → IsReadable (file s fs)
 file_readable k s fs sound = with_readable k s (all_epochs s.gather (messages_of fs)) sound (k.epochs s.gather (messages_of fs) (messages_heard k fs))
 
-pub so_far_readable : Known → (s : Settings) (fs : List Framed) → AreSound s → IsReadable (so_far s fs)
+pub so_far_readable : Known → (s : SetupValue) (fs : List Framed) → AreSound s → IsReadable (so_far s fs)
 so_far_readable k s fs sound =
     let ms = messages_of fs in
     let all = subst (λ l. AreGatheredEpochs s.gather.plan (all_epochs s.gather l)) (sym (append-nil ms)) (k.epochs s.gather ms (messages_heard k fs)) in

@@ -5,10 +5,10 @@ use Rattle.std.specs.Io.KnownBytes.{Consumes, Keeps, IsAtEnd}
 use Rattle.std.proofs.KnownBytes.{Consumes-trans, Consumes-whole, Consumes-kept, Consumes-nil}
 use Rattle.rtcm_scan.specs.Decided.{decided}
 use Rattle.rtcm_scan.specs.Known.{known_place}
-use Rattle.rtcm_convert.specs.Converted.{Settings}
+use Rattle.rtcm_convert.specs.Converted.{SetupValue}
 use Rattle.rtcm_convert.specs.declared.report.Report.{Report}
-use Rattle.rtcm_convert.specs.Stream.{Extends, BreaksAtEnd}
-use Rattle.rtcm_convert.specs.Conversion.{Conversion, IsGoing, refusal, StandsFor, Goes, GoesLong, Ran, Adds, Completed, CompletedEmpty, FinishesNow, FinishesEmptyNow, Finishes, FinishesEmpty, IsTakenFrom, Stops, StopsFeeding, StopsFinishing}
+use Rattle.rtcm_convert.specs.Stream.{AppendsDecided, AppendsPrefixOfRest}
+use Rattle.rtcm_convert.specs.Conversion.{Conversion, IsGoing, refusal, HasConverted, TakesPiece, TakesToLimit, TakesFromReader, WritesAdded, Completed, CompletedEmpty, FinishesNow, FinishesEmptyNow, CompletesFile, CompletesEmptyFile, IsTakenFrom, WritesPrefixOfAdded, FailsFeeding, FailsFinishing}
 use Rattle.rtcm_convert.specs.declared.fault.Fault.TheVariants.{Failed, Finished}
 use Rattle.rtcm_convert.proofs.PartLemmas.{goes_on-refl, goes_on-trans, breaks_off-after}
 
@@ -21,40 +21,40 @@ flags false false e = (refl, refl)
 pub going_on : (v : Conversion) → None ≡ refusal v → IsGoing v
 going_on v e = let p = flags v.has_ended v.has_failed e in record { fine = p.0; more = p.1 }
 
-pub goes-trans : (v w x : Conversion) (a b c : Option (List ℕ)) (p q : List ℕ) → Goes v w a b p → Goes w x b c q → Goes v x a c (p ++ q)
+pub goes-trans : (v w x : Conversion) (a b c : Option (List ℕ)) (p q : List ℕ) → TakesPiece v w a b p → TakesPiece w x b c q → TakesPiece v x a c (p ++ q)
 goes-trans v w x a b c p q f g s bytes y =
     let i = f s bytes y in
     let j = g s (bytes ++ p) i.0 in
     let e : (bytes ++ p) ++ q ≡ bytes ++ (p ++ q) = append_assoc bytes p q in
-    (subst (λ (l : List ℕ). StandsFor x s l) e j.0, subst (λ (l : List ℕ). Extends a c s bytes l) e (goes_on-trans a b c _ _ _ i.1 j.1))
+    (subst (λ (l : List ℕ). HasConverted x s l) e j.0, subst (λ (l : List ℕ). AppendsDecided a c s bytes l) e (goes_on-trans a b c _ _ _ i.1 j.1))
 
 taken_more : (u v w : ℕ) (p q : List ℕ) → v ≡ u + length p → w ≡ v + length q → w ≡ u + length (p ++ q)
 taken_more u v w p q d e = let l : length (p ++ q) ≡ length p + length q = length-append p q in omega arith
 
-pub ran-trans : (v w x : Conversion) (r r' r'' a b c : Option (List ℕ)) → Ran v w r r' a b → Ran w x r' r'' b c → Ran v x r r'' a c
+pub ran-trans : (v w x : Conversion) (r r' r'' a b c : Option (List ℕ)) → TakesFromReader v w r r' a b → TakesFromReader w x r' r'' b c → TakesFromReader v x r r'' a c
 ran-trans v w x r r' r'' a b c p q =
     (p.0 ++ q.0, Consumes-trans r r' r'' p.0 q.0 p.1 q.1, taken_more v.scan.taken w.scan.taken x.scan.taken p.0 q.0 p.2 q.2, goes-trans v w x a b c p.0 q.0 p.3 q.3)
 
-pub completed_after : (w : Conversion) (a b c : Option (List ℕ)) (s : Settings) (x y : List ℕ) (report : Report) → Extends a b s x y → Completed w b c s y y report → Completed w a c s x y report
+pub completed_after : (w : Conversion) (a b c : Option (List ℕ)) (s : SetupValue) (x y : List ℕ) (report : Report) → AppendsDecided a b s x y → Completed w b c s y y report → Completed w a c s x y report
 completed_after w a b c s x y report e f = record { out = goes_on-trans a b c _ _ _ e f.out; some = f.some; report_is = f.report_is; finished = f.finished }
 
-pub empty_after : (w : Conversion) (a b c : Option (List ℕ)) (s : Settings) (x y : List ℕ) → Extends a b s x y → CompletedEmpty w b c s y y → CompletedEmpty w a c s x y
+pub empty_after : (w : Conversion) (a b c : Option (List ℕ)) (s : SetupValue) (x y : List ℕ) → AppendsDecided a b s x y → CompletedEmpty w b c s y y → CompletedEmpty w a c s x y
 empty_after w a b c s x y e f = record { none = f.none; out = goes_on-trans a b c _ _ _ e f.out; finished = f.finished }
 
-pub ran_whole : {E : Type 0} (v w x : Conversion) (r r' a b c : Option (List ℕ)) (result : Result Report E) → Ran v w r r' a b → IsAtEnd r' → IfOk result (λ report. FinishesNow w x b c report)
-    → IfOk result (λ report. IfSome r (Finishes v x a c report))
+pub ran_whole : {E : Type 0} (v w x : Conversion) (r r' a b c : Option (List ℕ)) (result : Result Report E) → TakesFromReader v w r r' a b → IsAtEnd r' → IfOk result (λ report. FinishesNow w x b c report)
+    → IfOk result (λ report. IfSome r (CompletesFile v x a c report))
 ran_whole v w x r r' a b c (Ok report) p e f =
-    Consumes-whole r r' p.0 (Finishes v x a c report) p.1 e
+    Consumes-whole r r' p.0 (CompletesFile v x a c report) p.1 e
     (λ s bytes y. let i = p.3 s bytes y in completed_after x a b c s bytes (bytes ++ p.0) report i.1 (f s (bytes ++ p.0) i.0))
 ran_whole v w x r r' a b c (Err d) p e f = tt
 
-pub run_read : (v w x : Conversion) (r r' r'' a b c : Option (List ℕ)) → Ran v w r r' a b → Keeps r' r'' → c ≡ b → x.scan.taken ≡ w.scan.taken
-    → (front : List ℕ) × Consumes r r'' front × (x.scan.taken ≡ v.scan.taken + length front) × Adds v a c front
+pub run_read : (v w x : Conversion) (r r' r'' a b c : Option (List ℕ)) → TakesFromReader v w r r' a b → Keeps r' r'' → c ≡ b → x.scan.taken ≡ w.scan.taken
+    → (front : List ℕ) × Consumes r r'' front × (x.scan.taken ≡ v.scan.taken + length front) × WritesAdded v a c front
 run_read v w x r r' r'' a b c p k e same =
-    (p.0, Consumes-kept r r' r'' p.0 p.1 k, same ∙ p.2, λ s bytes y. subst (λ (o : Option (List ℕ)). Extends a o s bytes (bytes ++ p.0)) (sym e) (p.3 s bytes y).1)
+    (p.0, Consumes-kept r r' r'' p.0 p.1 k, same ∙ p.2, λ s bytes y. subst (λ (o : Option (List ℕ)). AppendsDecided a o s bytes (bytes ++ p.0)) (sym e) (p.3 s bytes y).1)
 
-pub run_long : (v w : Conversion) (r r' r'' a b c : Option (List ℕ)) → Ran v w r r' a b → w.scan.limit ≡ v.scan.limit
-    → ((piece : List ℕ) × Consumes r' r'' piece × GoesLong w b c piece × (w.scan.limit < w.scan.taken + length piece)) → (front : List ℕ) × Consumes r r'' front × GoesLong v a c front
+pub run_long : (v w : Conversion) (r r' r'' a b c : Option (List ℕ)) → TakesFromReader v w r r' a b → w.scan.limit ≡ v.scan.limit
+    → ((piece : List ℕ) × Consumes r' r'' piece × TakesToLimit w b c piece × (w.scan.limit < w.scan.taken + length piece)) → (front : List ℕ) × Consumes r r'' front × TakesToLimit v a c front
 run_long v w r r' r'' a b c p same q = (
   p.0 ++ q.0,
   Consumes-trans r r' r'' p.0 q.0 p.1 q.1,
@@ -62,11 +62,11 @@ run_long v w r r' r'' a b c p same q = (
       let i = p.3 s bytes y in
       let j = goes_on-trans a b c _ _ _ i.1 (q.2 s (bytes ++ p.0) i.0) in
       let e : take w.scan.limit ((bytes ++ p.0) ++ q.0) ≡ take v.scan.limit (bytes ++ (p.0 ++ q.0)) = ap (λ n. take n ((bytes ++ p.0) ++ q.0)) same ∙ ap (λ l. take v.scan.limit l) (append_assoc bytes p.0 q.0) in
-      subst (λ (l : List ℕ). Extends a c s bytes l) e j,
+      subst (λ (l : List ℕ). AppendsDecided a c s bytes l) e j,
 )
 
 -- the held bytes are those that are not decided
-held_near : (w : Conversion) (s : Settings) (bytes : List ℕ) (n : ℕ) → w.scan.has_ended ≡ false → StandsFor w s bytes → length w.scan.held + n ≤ 1029 → (length bytes - decided bytes) + n ≤ 1029
+held_near : (w : Conversion) (s : SetupValue) (bytes : List ℕ) (n : ℕ) → w.scan.has_ended ≡ false → HasConverted w s bytes → length w.scan.held + n ≤ 1029 → (length bytes - decided bytes) + n ≤ 1029
 held_near w s bytes n going x le =
     let e : length w.scan.held ≡ length bytes - decided bytes =
     ap length x.drained.drained.held ∙ ap (λ h. length (drop (known_place h bytes) bytes)) going ∙ length-drop (decided bytes) bytes in
@@ -75,8 +75,8 @@ held_near w s bytes n going x le =
 taken_from : (u v w n m : ℕ) → v ≡ u + n → v + 0 ≤ w → w ≤ v + m → (u + n ≤ w) × (w ≤ u + (n + m))
 taken_from u v w n m d e f = (omega arith, omega arith)
 
-pub run_feeding : (v w x : Conversion) (r r' r'' a b c : Option (List ℕ)) → Ran v w r r' a b → w.scan.has_ended ≡ false
-    → ((piece : List ℕ) × Consumes r' r'' piece × (length w.scan.held + length piece ≤ 1029) × IsTakenFrom w x 0 (length piece) × Stops w b c piece) → StopsFeeding v x r r'' a c
+pub run_feeding : (v w x : Conversion) (r r' r'' a b c : Option (List ℕ)) → TakesFromReader v w r r' a b → w.scan.has_ended ≡ false
+    → ((piece : List ℕ) × Consumes r' r'' piece × (length w.scan.held + length piece ≤ 1029) × IsTakenFrom w x 0 (length piece) × WritesPrefixOfAdded w b c piece) → FailsFeeding v x r r'' a c
 run_feeding v w x r r' r'' a b c p going q =
     let t = taken_from v.scan.taken w.scan.taken x.scan.taken (length p.0) (length q.0) p.2 q.3.least q.3.most in (
       p.0,
@@ -88,23 +88,23 @@ run_feeding v w x r r' r'' a b c p going q =
           record { mid = b; before = i.1; last = q.4 s (bytes ++ p.0) i.0; near = held_near w s (bytes ++ p.0) (length q.0) going i.0 q.2 },
     )
 
-pub run_finishing : (v w x : Conversion) (r r' a b c : Option (List ℕ)) → Ran v w r r' a b → IsAtEnd r' → x.scan.taken ≡ w.scan.taken
-    → ((s : Settings) (bytes : List ℕ) → StandsFor w s bytes → BreaksAtEnd b c s bytes bytes) → StopsFinishing v x r r' a c
+pub run_finishing : (v w x : Conversion) (r r' a b c : Option (List ℕ)) → TakesFromReader v w r r' a b → IsAtEnd r' → x.scan.taken ≡ w.scan.taken
+    → ((s : SetupValue) (bytes : List ℕ) → HasConverted w s bytes → AppendsPrefixOfRest b c s bytes bytes) → FailsFinishing v x r r' a c
 run_finishing v w x r r' a b c p e same f =
     (p.0, p.1, e, same ∙ p.2, λ s bytes y. let i = p.3 s bytes y in breaks_off-after a b c _ _ _ i.1 (f s (bytes ++ p.0) i.0))
 
-pub ran_start : (v : Conversion) (r a : Option (List ℕ)) → Ran v v r r a a
+pub ran_start : (v : Conversion) (r a : Option (List ℕ)) → TakesFromReader v v r r a a
 ran_start v r a = (
   [],
   Consumes-nil r,
   sym (add-zero v.scan.taken),
   λ s bytes x.
-      (subst (λ (l : List ℕ). StandsFor v s l) (sym (append-nil bytes)) x, subst (λ (l : List ℕ). Extends a a s bytes l) (sym (append-nil bytes)) (goes_on-refl a _)),
+      (subst (λ (l : List ℕ). HasConverted v s l) (sym (append-nil bytes)) x, subst (λ (l : List ℕ). AppendsDecided a a s bytes l) (sym (append-nil bytes)) (goes_on-refl a _)),
 )
 
-pub ran_empty : (v w x : Conversion) (r r' a b c : Option (List ℕ)) → Ran v w r r' a b → IsAtEnd r' → FinishesEmptyNow w x b c → IfSome r (FinishesEmpty v x a c)
+pub ran_empty : (v w x : Conversion) (r r' a b c : Option (List ℕ)) → TakesFromReader v w r r' a b → IsAtEnd r' → FinishesEmptyNow w x b c → IfSome r (CompletesEmptyFile v x a c)
 ran_empty v w x r r' a b c p e f =
-    Consumes-whole r r' p.0 (FinishesEmpty v x a c) p.1 e
+    Consumes-whole r r' p.0 (CompletesEmptyFile v x a c) p.1 e
     (λ s bytes y. let i = p.3 s bytes y in empty_after x a b c s bytes (bytes ++ p.0) i.1 (f s (bytes ++ p.0) i.0))
 
 longer : (n : ℕ) (bytes xs front ys : List ℕ) → n < length (bytes ++ front) → xs ≡ front ++ ys → n < length (bytes ++ xs)
@@ -119,11 +119,11 @@ above None r'' front P c f = tt
 above (Some xs) None front P c f = absurd c
 above (Some xs) (Some ys) front P c f = f xs ys c
 
-pub ran_long : (v w : Conversion) (r r' r'' a b c : Option (List ℕ)) → Ran v w r r' a b → w.scan.limit ≡ v.scan.limit
-    → ((piece : List ℕ) × Consumes r' r'' piece × GoesLong w b c piece × (w.scan.limit < w.scan.taken + length piece))
-    → IfSome r (λ rest. (s : Settings) (bytes : List ℕ) → StandsFor v s bytes → v.scan.limit < length (bytes ++ rest))
+pub ran_long : (v w : Conversion) (r r' r'' a b c : Option (List ℕ)) → TakesFromReader v w r r' a b → w.scan.limit ≡ v.scan.limit
+    → ((piece : List ℕ) × Consumes r' r'' piece × TakesToLimit w b c piece × (w.scan.limit < w.scan.taken + length piece))
+    → IfSome r (λ rest. (s : SetupValue) (bytes : List ℕ) → HasConverted v s bytes → v.scan.limit < length (bytes ++ rest))
 ran_long v w r r' r'' a b c p same q =
-    above r r'' (p.0 ++ q.0) (λ rest. (s : Settings) (bytes : List ℕ) → StandsFor v s bytes → v.scan.limit < length (bytes ++ rest)) (Consumes-trans r r' r'' p.0 q.0 p.1 q.1)
+    above r r'' (p.0 ++ q.0) (λ rest. (s : SetupValue) (bytes : List ℕ) → HasConverted v s bytes → v.scan.limit < length (bytes ++ rest)) (Consumes-trans r r' r'' p.0 q.0 p.1 q.1)
     (λ xs ys e s bytes y.
     let i = p.3 s bytes y in
     let taken : w.scan.taken ≡ length (bytes ++ p.0) = i.0.drained.framer.stands.taken in
@@ -132,11 +132,11 @@ ran_long v w r r' r'' a b c p same q =
     let lt : v.scan.limit < length (bytes ++ (p.0 ++ q.0)) = omega arith in
     longer v.scan.limit bytes xs (p.0 ++ q.0) ys lt e)
 
-pub pulled_long : (v : Conversion) (r r' a b : Option (List ℕ)) (piece : List ℕ) → Consumes r r' piece → GoesLong v a b piece → v.scan.limit < v.scan.taken + length piece
-    → (p : List ℕ) × Consumes r r' p × GoesLong v a b p × (v.scan.limit < v.scan.taken + length p)
+pub pulled_long : (v : Conversion) (r r' a b : Option (List ℕ)) (piece : List ℕ) → Consumes r r' piece → TakesToLimit v a b piece → v.scan.limit < v.scan.taken + length piece
+    → (p : List ℕ) × Consumes r r' p × TakesToLimit v a b p × (v.scan.limit < v.scan.taken + length p)
 pulled_long v r r' a b piece c g l = (piece, c, g, l)
 
 pub pulled_part : (v w : Conversion) (r r' a b : Option (List ℕ)) (piece : List ℕ) → Consumes r r' piece → length v.scan.held + length piece ≤ 1029
-    → v.scan.taken ≤ w.scan.taken → w.scan.taken ≤ v.scan.taken + length piece → Stops v a b piece
-    → (p : List ℕ) × Consumes r r' p × (length v.scan.held + length p ≤ 1029) × IsTakenFrom v w 0 (length p) × Stops v a b p
+    → v.scan.taken ≤ w.scan.taken → w.scan.taken ≤ v.scan.taken + length piece → WritesPrefixOfAdded v a b piece
+    → (p : List ℕ) × Consumes r r' p × (length v.scan.held + length p ≤ 1029) × IsTakenFrom v w 0 (length p) × WritesPrefixOfAdded v a b p
 pulled_part v w r r' a b piece c l least most g = (piece, c, l, record { least = subst (λ (n : ℕ). n ≤ w.scan.taken) (sym (add-zero v.scan.taken)) least; most = most }, g)

@@ -7,24 +7,24 @@ use Rattle.rtcm_bits.specs.Device.{AppendsPrefix}
 use Rattle.rtcm_bits.specs.Prefix.{IsPrefix}
 use Rattle.obs_epoch.specs.declared.taken.Kind.{Kind}
 use Rattle.obs_epoch.specs.Values.{Closed}
-use Rattle.obs_epoch.specs.Heard.{Setup, Heard}
+use Rattle.obs_epoch.specs.Heard.{GatherSetup, Heard}
 use Rattle.obs_epoch.specs.Kinds.{is_close_first}
 use Rattle.obs_epoch.specs.Gather.{Gathered}
-use Rattle.obs_epoch.specs.Gathering.{Gathers, Fits, closed_by, closed_in, plan_in, closed_epochs, known_epochs}
-use Rattle.rtcm_convert.specs.Converted.{Settings, text_with}
-use Rattle.rtcm_convert.specs.Fed.{GoesOn, BreaksOff}
-use Rattle.rtcm_convert.specs.Filed.{added, epochs_after, values_after, Writes}
+use Rattle.obs_epoch.specs.Gathering.{HasGatheredEpochs, IsAwaited, closed_by, closed_in, plan_in, closed_epochs, known_epochs}
+use Rattle.rtcm_convert.specs.Converted.{SetupValue, text_with}
+use Rattle.rtcm_convert.specs.Fed.{AppendsBetween, AppendsPrefixBetween}
+use Rattle.rtcm_convert.specs.Filed.{added, epochs_after, values_after, HasFiledEpochs}
 use Rattle.rtcm_convert.specs.declared.filer.Filer.{Filer}
 use Rattle.rtcm_convert.proofs.PartLemmas.{goes_on-by, breaks_off-by, breaks_off-before}
 use Rattle.rtcm_convert.proofs.TextLemmas.{last, text-closed, count-closed, last-closed, text-more}
 
 -- what the gatherer says of a message that it was handed
 pub record Took (old new : Gathered) (kind : Kind) (m : Heard) : Type 0 where
-  pub first : (s : Setup) (ms : List Heard) (es : List Closed) → Gathers old s ms es None → is_close_first kind ≡ true
-      → Gathers new s ms (es ++ closed_by (closed_in new) new.values) (Some m)
-  pub taken : (s : Setup) (ms : List Heard) (es : List Closed) (again : Option Heard) → Gathers old s ms es again → Fits again m → is_close_first kind ≡ false
-      → Gathers new s (ms ++ m ∷ []) (es ++ closed_by (closed_in new) new.values) None
-  pub again : (s : Setup) (ms : List Heard) (es : List Closed) → Gathers old s ms es (Some m) → is_close_first kind ≡ false
+  pub first : (s : GatherSetup) (ms : List Heard) (es : List Closed) → HasGatheredEpochs old s ms es None → is_close_first kind ≡ true
+      → HasGatheredEpochs new s ms (es ++ closed_by (closed_in new) new.values) (Some m)
+  pub taken : (s : GatherSetup) (ms : List Heard) (es : List Closed) (again : Option Heard) → HasGatheredEpochs old s ms es again → IsAwaited again m → is_close_first kind ≡ false
+      → HasGatheredEpochs new s (ms ++ m ∷ []) (es ++ closed_by (closed_in new) new.values) None
+  pub again : (s : GatherSetup) (ms : List Heard) (es : List Closed) → HasGatheredEpochs old s ms es (Some m) → is_close_first kind ≡ false
   pub ended : new.has_ended ≡ false
 
 -- what the filer wrote of the epoch that was closed
@@ -35,9 +35,9 @@ pub record Wrote (old new : Filer) (now : Gathered) (a b : Option (List ℕ)) : 
   pub values : new.values ≡ values_after old.values (closed_in now) now.values
   pub out : Appends a b (added old.texts (plan_in now) old.values (closed_in now) now.values)
 
-pub wrote_all : (v w : Filer) (g : Gathered) (a b : Option (List ℕ)) (s : Settings) (ms ms' : List Heard) (es : List Closed) (again again' : Option Heard)
-    → Wrote v w g a b → Writes v s ms es again → Gathers g s.gather ms' (es ++ closed_by (closed_in g) g.values) again'
-    → (all : List Closed) × Writes w s ms' all again' × GoesOn a b (text_with s es) (text_with s all)
+pub wrote_all : (v w : Filer) (g : Gathered) (a b : Option (List ℕ)) (s : SetupValue) (ms ms' : List Heard) (es : List Closed) (again again' : Option Heard)
+    → Wrote v w g a b → HasFiledEpochs v s ms es again → HasGatheredEpochs g s.gather ms' (es ++ closed_by (closed_in g) g.values) again'
+    → (all : List Closed) × HasFiledEpochs w s ms' all again' × AppendsBetween a b (text_with s es) (text_with s all)
 wrote_all v w g a b s ms ms' es again again' o x y =
     let out : Appends a b (added s.texts s.gather.plan (last es) (closed_in g) g.values) = rw (← x.texts, ← y.plan, ← x.values) o.out in (
       es ++ closed_by (closed_in g) g.values,
@@ -51,35 +51,35 @@ wrote_all v w g a b s ms ms' es again again' o x y =
     )
 
 -- a gatherer of that plan, which closed these epochs among those that these messages close
-abbrev Front : Gathered → Setup → List Heard → List Closed → Type 0
+abbrev Front : Gathered → GatherSetup → List Heard → List Closed → Type 0
 Front g s ms es = (plan_in g ≡ s.plan) × IsPrefix es (closed_epochs s ms)
 
-front : (g : Gathered) (s : Setup) (ms : List Heard) (es : List Closed) (again : Option Heard) → g.has_ended ≡ false → Gathers g s ms es again → Front g s (ms ++ option_to_list again) es
+front : (g : Gathered) (s : GatherSetup) (ms : List Heard) (es : List Closed) (again : Option Heard) → g.has_ended ≡ false → HasGatheredEpochs g s ms es again → Front g s (ms ++ option_to_list again) es
 front g s ms es again going x = (x.plan, subst (λ (e : Bool). IsPrefix es (known_epochs e s (ms ++ option_to_list again))) going x.first)
 
-front_none : (g : Gathered) (s : Setup) (ms : List Heard) (es : List Closed) → g.has_ended ≡ false → Gathers g s ms es None → Front g s ms es
+front_none : (g : Gathered) (s : GatherSetup) (ms : List Heard) (es : List Closed) → g.has_ended ≡ false → HasGatheredEpochs g s ms es None → Front g s ms es
 front_none g s ms es going x = subst (λ (l : List Heard). Front g s l es) (append-nil ms) (front g s ms es None going x)
 
 -- what was closed stands among the epochs that the message closes
-closed_front : (v g : Gathered) (k : Kind) (m : Heard) (s : Setup) (ms : List Heard) (es : List Closed) (again : Option Heard)
-    → Took v g k m → Fits again m → Gathers v s ms es again → Front g s (ms ++ m ∷ []) (es ++ closed_by (closed_in g) g.values)
+closed_front : (v g : Gathered) (k : Kind) (m : Heard) (s : GatherSetup) (ms : List Heard) (es : List Closed) (again : Option Heard)
+    → Took v g k m → IsAwaited again m → HasGatheredEpochs v s ms es again → Front g s (ms ++ m ∷ []) (es ++ closed_by (closed_in g) g.values)
 closed_front v g k m s ms es None t f x = elim (cases_Bool (is_close_first k)) [
   | inl shut ↦ front g s ms _ (Some m) t.ended (t.first s ms es x shut)
   | inr kept ↦ front_none g s (ms ++ m ∷ []) _ t.ended (t.taken s ms es None x f kept)
 ]
 closed_front v g k m s ms es (Some n) t f x =
-    let y : Gathers v s ms es (Some m) = subst (λ (q : Heard). Gathers v s ms es (Some q)) (sym f) x in
+    let y : HasGatheredEpochs v s ms es (Some m) = subst (λ (q : Heard). HasGatheredEpochs v s ms es (Some q)) (sym f) x in
     front_none g s (ms ++ m ∷ []) _ t.ended (t.taken s ms es (Some n) x f (t.again s ms es y))
 
 -- what was added, by the words of the definitions
-pub part_of : (v : Filer) (g : Gathered) (a b : Option (List ℕ)) (s : Settings) (ms : List Heard) (es : List Closed) (again : Option Heard) → Writes v s ms es again → plan_in g ≡ s.gather.plan
+pub part_of : (v : Filer) (g : Gathered) (a b : Option (List ℕ)) (s : SetupValue) (ms : List Heard) (es : List Closed) (again : Option Heard) → HasFiledEpochs v s ms es again → plan_in g ≡ s.gather.plan
     → AppendsPrefix a b (added v.texts (plan_in g) v.values (closed_in g) g.values) → AppendsPrefix a b (added s.texts s.gather.plan (last es) (closed_in g) g.values)
 part_of v g a b s ms es again x plan p = rw (← x.texts, ← plan, ← x.values) p
 
 pub wrote_part : (v : Filer) (g : Gathered) (k : Kind) (m : Heard) (a b : Option (List ℕ))
     → Took v.gatherer g k m → AppendsPrefix a b (added v.texts (plan_in g) v.values (closed_in g) g.values)
-    → (s : Settings) (ms : List Heard) (es : List Closed) (again : Option Heard) → Fits again m → Writes v s ms es again
-    → BreaksOff a b (text_with s es) (text_with s (closed_epochs s.gather (ms ++ m ∷ [])))
+    → (s : SetupValue) (ms : List Heard) (es : List Closed) (again : Option Heard) → IsAwaited again m → HasFiledEpochs v s ms es again
+    → AppendsPrefixBetween a b (text_with s es) (text_with s (closed_epochs s.gather (ms ++ m ∷ [])))
 wrote_part v g k m a b t p s ms es again f x =
     let c = closed_front v.gatherer g k m s.gather ms es again t f x.gatherer in
     let out : AppendsPrefix a b (added s.texts s.gather.plan (last es) (closed_in g) g.values) = part_of v g a b s ms es again x c.0 p in

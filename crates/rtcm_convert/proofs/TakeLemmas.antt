@@ -12,14 +12,14 @@ use Rattle.rtcm_msg.specs.Reading.{message_at}
 use Rattle.rtcm_msg.specs.Spelling.{IsMessage}
 use Rattle.obs_epoch.specs.declared.taken.Kind.{Kind}
 use Rattle.obs_epoch.specs.Values.{Closed}
-use Rattle.obs_epoch.specs.Heard.{Setup, Heard, heard}
+use Rattle.obs_epoch.specs.Heard.{GatherSetup, Heard, heard}
 use Rattle.obs_epoch.specs.Kinds.{is_close_first, kind_of}
 use Rattle.obs_epoch.specs.Gather.{Gathered}
-use Rattle.obs_epoch.specs.Gathering.{Gathers, Fits, closed_by, closed_in, plan_in, closed_epochs, all_epochs, known_epochs}
-use Rattle.rtcm_convert.specs.Converted.{Settings, text_with, so_far, file, epochs_in, messages_of, heard_in}
-use Rattle.rtcm_convert.specs.Outcomes.{outcome, outcomes, outcomes_after, capped, capped_tally, both, total, tally_of, tally_of_one, IsFew, AreFew}
-use Rattle.rtcm_convert.specs.Fed.{GoesOn, BreaksOff}
-use Rattle.rtcm_convert.specs.Filed.{added, Writes, Settled, Files, HasGathered}
+use Rattle.obs_epoch.specs.Gathering.{HasGatheredEpochs, IsAwaited, closed_by, closed_in, plan_in, closed_epochs, all_epochs, known_epochs}
+use Rattle.rtcm_convert.specs.Converted.{SetupValue, text_with, so_far, file, epochs_in, messages_of, heard_in}
+use Rattle.rtcm_convert.specs.Outcomes.{outcome, outcomes, outcomes_after, capped, capped_tally, tallies_added, sum_of_counts, tally_of, tally_of_one, IsFew, AreFew}
+use Rattle.rtcm_convert.specs.Fed.{AppendsBetween, AppendsPrefixBetween}
+use Rattle.rtcm_convert.specs.Filed.{added, HasFiledEpochs, Settled, HasFiledFrames, HasGathered}
 use Rattle.rtcm_convert.specs.declared.tally.Tally.{Tally}
 use Rattle.rtcm_convert.specs.declared.filer.Filer.{Filer}
 use Rattle.rtcm_convert.proofs.PartLemmas.{goes_on-refl, goes_on-trans, breaks_off-after, breaks_off-by}
@@ -32,35 +32,35 @@ if_ok_both (Ok k) A B P f a b = f k a b
 if_ok_both (Err e) A B P f a b = tt
 
 -- what was written then, and which epochs these are
-abbrev pub Written : Filer → Settings → List Heard → Option Heard → Option (List ℕ) → Option (List ℕ) → List Closed → Type 0
-Written w s ms again a b es = (all : List Closed) × Writes w s ms all again × GoesOn a b (text_with s es) (text_with s all)
+abbrev pub Written : Filer → SetupValue → List Heard → Option Heard → Option (List ℕ) → Option (List ℕ) → List Closed → Type 0
+Written w s ms again a b es = (all : List Closed) × HasFiledEpochs w s ms all again × AppendsBetween a b (text_with s es) (text_with s all)
 
 abbrev pub IsPart : Filer → Heard → Option (List ℕ) → Option (List ℕ) → Type 0
-IsPart v m a b = (s : Settings) (ms : List Heard) (es : List Closed) (again : Option Heard) → Fits again m → Writes v s ms es again
-    → BreaksOff a b (text_with s es) (text_with s (closed_epochs s.gather (ms ++ m ∷ [])))
+IsPart v m a b = (s : SetupValue) (ms : List Heard) (es : List Closed) (again : Option Heard) → IsAwaited again m → HasFiledEpochs v s ms es again
+    → AppendsPrefixBetween a b (text_with s es) (text_with s (closed_epochs s.gather (ms ++ m ∷ [])))
 
-abbrev pub Goes : Option (List ℕ) → Option (List ℕ) → Settings → List Heard → List Heard → Type 0
-Goes a b s ms ns = GoesOn a b (text_with s (closed_epochs s.gather ms)) (text_with s (closed_epochs s.gather ns))
+abbrev pub Goes : Option (List ℕ) → Option (List ℕ) → SetupValue → List Heard → List Heard → Type 0
+Goes a b s ms ns = AppendsBetween a b (text_with s (closed_epochs s.gather ms)) (text_with s (closed_epochs s.gather ns))
 
-abbrev pub Breaks : Option (List ℕ) → Option (List ℕ) → Settings → List Heard → List Heard → Type 0
-Breaks a b s ms ns = BreaksOff a b (text_with s (closed_epochs s.gather ms)) (text_with s (closed_epochs s.gather ns))
+abbrev pub Breaks : Option (List ℕ) → Option (List ℕ) → SetupValue → List Heard → List Heard → Type 0
+Breaks a b s ms ns = AppendsPrefixBetween a b (text_with s (closed_epochs s.gather ms)) (text_with s (closed_epochs s.gather ns))
 
-pub settle : (w : Filer) (s : Settings) (ms : List Heard) (a b : Option (List ℕ)) (es : List Closed) → w.gatherer.has_ended ≡ false
-    → Written w s ms None a b es → Settled w s ms × GoesOn a b (text_with s es) (text_with s (closed_epochs s.gather ms))
+pub settle : (w : Filer) (s : SetupValue) (ms : List Heard) (a b : Option (List ℕ)) (es : List Closed) → w.gatherer.has_ended ≡ false
+    → Written w s ms None a b es → Settled w s ms × AppendsBetween a b (text_with s es) (text_with s (closed_epochs s.gather ms))
 settle w s ms a b es going p =
     let e : p.0 ≡ closed_epochs s.gather ms = p.1.gatherer.epochs refl ∙ ap (λ e. known_epochs e s.gather ms) going in
-    (subst (λ (all : List Closed). Writes w s ms all None) e p.1, subst (λ (all : List Closed). GoesOn a b (text_with s es) (text_with s all)) e p.2)
+    (subst (λ (all : List Closed). HasFiledEpochs w s ms all None) e p.1, subst (λ (all : List Closed). AppendsBetween a b (text_with s es) (text_with s all)) e p.2)
 
-pub settle_again : (v w x : Filer) (s : Settings) (ms ns : List Heard) (m : Heard) (a b c : Option (List ℕ)) → x.gatherer.has_ended ≡ false
+pub settle_again : (v w x : Filer) (s : SetupValue) (ms ns : List Heard) (m : Heard) (a b c : Option (List ℕ)) → x.gatherer.has_ended ≡ false
     → (first : Written w s ms (Some m) a b (closed_epochs s.gather ms)) → Written x s ns None b c first.0 → Settled x s ns × Goes a c s ms ns
 settle_again v w x s ms ns m a b c going first p =
     let q = settle x s ns b c first.0 going p in
     (q.0, goes_on-trans a b c _ _ _ first.2 q.1)
 
-pub part_alone : (v : Filer) (m : Heard) (a b : Option (List ℕ)) → IsPart v m a b → (s : Settings) (ms : List Heard) → Settled v s ms → Breaks a b s ms (ms ++ m ∷ [])
+pub part_alone : (v : Filer) (m : Heard) (a b : Option (List ℕ)) → IsPart v m a b → (s : SetupValue) (ms : List Heard) → Settled v s ms → Breaks a b s ms (ms ++ m ∷ [])
 part_alone v m a b p s ms x = p s ms (closed_epochs s.gather ms) None tt x
 
-pub part_again : (w : Filer) (m : Heard) (a b c : Option (List ℕ)) (s : Settings) (ms : List Heard)
+pub part_again : (w : Filer) (m : Heard) (a b c : Option (List ℕ)) (s : SetupValue) (ms : List Heard)
     → Written w s ms (Some m) a b (closed_epochs s.gather ms) → IsPart w m b c → Breaks a c s ms (ms ++ m ∷ [])
 part_again w m a b c s ms first p = breaks_off-after a b c _ _ _ first.2 (p s ms first.0 (Some m) refl first.1)
 
@@ -76,7 +76,7 @@ messages_same fs f d e =
     filter_map-append heard_in fs (f ∷ []) ∙ ap (λ l. messages_of fs ++ l) none ∙ append-nil (messages_of fs)
 
 -- one outcome more
-outcomes_after-one : (s : Settings) (before fs : List Framed) (f : Framed) → outcomes_after s before (fs ++ f ∷ []) ≡ outcomes_after s before fs ++ outcome s (before ++ fs) f ∷ []
+outcomes_after-one : (s : SetupValue) (before fs : List Framed) (f : Framed) → outcomes_after s before (fs ++ f ∷ []) ≡ outcomes_after s before fs ++ outcome s (before ++ fs) f ∷ []
 outcomes_after-one s before [] f = ap (λ l. outcome s l f ∷ []) (sym (append-nil before))
 outcomes_after-one s before (g ∷ fs) f =
     ap (λ l. outcome s before g ∷ l) (outcomes_after-one s (before ++ g ∷ []) fs f ∙ ap (λ l. outcomes_after s (before ++ g ∷ []) fs ++ outcome s l f ∷ []) (append_assoc before (g ∷ []) fs))
@@ -86,10 +86,10 @@ sum_one w os o =
     let one : sum_by w (o ∷ []) ≡ w o = grind (arith, common_steps) in
     cap_more (sum_by w os) (w o) ∙ ap capped (ap (λ k. sum_by w os + k) (sym one) ∙ sym (sum_by-append w os (o ∷ [])))
 
-total_one : (count : Tally → ℕ) (os : List (Option Kind)) (o : Option Kind) → capped (capped (total count os) + count (tally_of_one o)) ≡ capped (total count (os ++ o ∷ []))
+total_one : (count : Tally → ℕ) (os : List (Option Kind)) (o : Option Kind) → capped (capped (sum_of_counts count os) + count (tally_of_one o)) ≡ capped (sum_of_counts count (os ++ o ∷ []))
 total_one count os o = sum_one (λ o. count (tally_of_one o)) os o
 
-tally_more : (os : List (Option Kind)) (o : Option Kind) → both (capped_tally (tally_of os)) (tally_of_one o) ≡ capped_tally (tally_of (os ++ o ∷ []))
+tally_more : (os : List (Option Kind)) (o : Option Kind) → tallies_added (capped_tally (tally_of os)) (tally_of_one o) ≡ capped_tally (tally_of (os ++ o ∷ []))
 tally_more os o =
     let frames = total_one (λ t. t.frames) os o in
     let faulty = total_one (λ t. t.faulty) os o in
@@ -104,26 +104,26 @@ tally_more os o =
     let crowded = total_one (λ t. t.crowded) os o in
     cc
 
-tally_one : (s : Settings) (fs : List Framed) (f : Framed) (r r' : Tally) (o : Option Kind) → o ≡ outcome s fs f → r ≡ capped_tally (tally_of (outcomes s fs)) → r' ≡ both r (tally_of_one o) → r' ≡ capped_tally (tally_of (outcomes s (fs ++ f ∷ [])))
+tally_one : (s : SetupValue) (fs : List Framed) (f : Framed) (r r' : Tally) (o : Option Kind) → o ≡ outcome s fs f → r ≡ capped_tally (tally_of (outcomes s fs)) → r' ≡ tallies_added r (tally_of_one o) → r' ≡ capped_tally (tally_of (outcomes s (fs ++ f ∷ [])))
 tally_one s fs f r r' o is old new =
-    new ∙ ap (λ x. both x (tally_of_one o)) old ∙ tally_more (outcomes s fs) o ∙ ap (λ x. capped_tally (tally_of (outcomes s fs ++ x ∷ []))) is ∙ ap (λ l. capped_tally (tally_of l)) (sym (outcomes_after-one s [] fs f))
+    new ∙ ap (λ x. tallies_added x (tally_of_one o)) old ∙ tally_more (outcomes s fs) o ∙ ap (λ x. capped_tally (tally_of (outcomes s fs ++ x ∷ []))) is ∙ ap (λ l. capped_tally (tally_of l)) (sym (outcomes_after-one s [] fs f))
 
 -- so few cells as that no count is capped
-few_one : (s : Settings) (fs : List Framed) (f : Framed) (o : Option Kind) → o ≡ outcome s fs f → AreFew (outcomes s fs) → IsFew (tally_of_one o) → AreFew (outcomes s (fs ++ f ∷ []))
+few_one : (s : SetupValue) (fs : List Framed) (f : Framed) (o : Option Kind) → o ≡ outcome s fs f → AreFew (outcomes s fs) → IsFew (tally_of_one o) → AreFew (outcomes s (fs ++ f ∷ []))
 few_one s fs f o is few one =
     subst (λ (l : List (Option Kind)). AreFew l) (sym (outcomes_after-one s [] fs f)) (subst (λ (x : Option Kind). AreFew (outcomes s fs ++ x ∷ [])) is (few_more (outcomes s fs) o few one))
 
-outcome_ok : (s : Settings) (fs : List Framed) (f : Framed) (m : Message) (k : Kind) → message_at f.message ≡ Ok m → k ≡ kind_of s.gather (messages_of fs) (heard m) → Some k ≡ outcome s fs f
+outcome_ok : (s : SetupValue) (fs : List Framed) (f : Framed) (m : Message) (k : Kind) → message_at f.message ≡ Ok m → k ≡ kind_of s.gather (messages_of fs) (heard m) → Some k ≡ outcome s fs f
 outcome_ok s fs f m k e is = rw e (ap Some is)
 
-outcome_err : (s : Settings) (fs : List Framed) (f : Framed) (d : MsgFault) → message_at f.message ≡ Err d → None ≡ outcome s fs f
+outcome_err : (s : SetupValue) (fs : List Framed) (f : Framed) (d : MsgFault) → message_at f.message ≡ Err d → None ≡ outcome s fs f
 outcome_err s fs f d e = rw e refl
 
-pub files_more : (v w x : Filer) (s : Settings) (fs : List Framed) (f : Framed) (m : Message) (k : Kind) (a b : Option (List ℕ)) → message_at f.message ≡ Ok m → IsMessage m
-    → ((s : Settings) (ms : List Heard) → Settled v s ms → Settled w s (ms ++ heard m ∷ []) × Goes a b s ms (ms ++ heard m ∷ []))
-    → ((s : Settings) (ms : List Heard) → Settled v s ms → k ≡ kind_of s.gather ms (heard m))
-    → w.tally ≡ v.tally → x ≡ record w { tally = both w.tally (tally_of_one (Some k)) }
-    → Files v s fs → Files x s (fs ++ f ∷ []) × GoesOn a b (so_far s fs) (so_far s (fs ++ f ∷ []))
+pub files_more : (v w x : Filer) (s : SetupValue) (fs : List Framed) (f : Framed) (m : Message) (k : Kind) (a b : Option (List ℕ)) → message_at f.message ≡ Ok m → IsMessage m
+    → ((s : SetupValue) (ms : List Heard) → Settled v s ms → Settled w s (ms ++ heard m ∷ []) × Goes a b s ms (ms ++ heard m ∷ []))
+    → ((s : SetupValue) (ms : List Heard) → Settled v s ms → k ≡ kind_of s.gather ms (heard m))
+    → w.tally ≡ v.tally → x ≡ record w { tally = tallies_added w.tally (tally_of_one (Some k)) }
+    → HasFiledFrames v s fs → HasFiledFrames x s (fs ++ f ∷ []) × AppendsBetween a b (so_far s fs) (so_far s (fs ++ f ∷ []))
 files_more v w x s fs f m k a b e valid t kind same now y =
     let p = t s (messages_of fs) y.settled in
     let ms = sym (messages_more fs f m e) in
@@ -136,8 +136,8 @@ files_more v w x s fs f m k a b e valid t kind same now y =
       subst (λ (ns : List Heard). Goes a b s (messages_of fs) ns) ms p.1,
     )
 
-pub files_same : (v x : Filer) (s : Settings) (fs : List Framed) (f : Framed) (d : MsgFault) (a : Option (List ℕ)) → message_at f.message ≡ Err d → x ≡ record v { tally = both v.tally (tally_of_one None) }
-    → Files v s fs → Files x s (fs ++ f ∷ []) × GoesOn a a (so_far s fs) (so_far s (fs ++ f ∷ []))
+pub files_same : (v x : Filer) (s : SetupValue) (fs : List Framed) (f : Framed) (d : MsgFault) (a : Option (List ℕ)) → message_at f.message ≡ Err d → x ≡ record v { tally = tallies_added v.tally (tally_of_one None) }
+    → HasFiledFrames v s fs → HasFiledFrames x s (fs ++ f ∷ []) × AppendsBetween a a (so_far s fs) (so_far s (fs ++ f ∷ []))
 files_same v x s fs f d a e now y =
     let ms = sym (messages_same fs f d e) in
     let z : Settled v s (messages_of (fs ++ f ∷ [])) = subst (λ (ms : List Heard). Settled v s ms) ms y.settled in (
@@ -150,62 +150,62 @@ files_same v x s fs f d a e now y =
     )
 
 pub files_part : (v : Filer) (f : Framed) (m : Message) (a b : Option (List ℕ)) → message_at f.message ≡ Ok m
-    → ((s : Settings) (ms : List Heard) → Settled v s ms → Breaks a b s ms (ms ++ heard m ∷ []))
-    → (s : Settings) (fs : List Framed) → Files v s fs → BreaksOff a b (so_far s fs) (so_far s (fs ++ f ∷ []))
+    → ((s : SetupValue) (ms : List Heard) → Settled v s ms → Breaks a b s ms (ms ++ heard m ∷ []))
+    → (s : SetupValue) (fs : List Framed) → HasFiledFrames v s fs → AppendsPrefixBetween a b (so_far s fs) (so_far s (fs ++ f ∷ []))
 files_part v f m a b e t s fs x =
     subst (λ (ns : List Heard). Breaks a b s (messages_of fs) ns) (sym (messages_more fs f m e)) (t s (messages_of fs) x.settled)
 
 -- the rest of the file
 pub file_whole : (v w : Filer) (g : Gathered) (a b : Option (List ℕ)) → Wrote v w g a b → g.has_ended ≡ true
-    → ((s : Setup) (ms : List Heard) (es : List Closed) → Gathers v.gatherer s ms es None → Gathers g s ms (es ++ closed_by (closed_in g) g.values) None)
-    → (s : Settings) (fs : List Framed) → Files v s fs → GoesOn a b (so_far s fs) (file s fs) × (w.epochs ≡ capped (epochs_in s fs))
+    → ((s : GatherSetup) (ms : List Heard) (es : List Closed) → HasGatheredEpochs v.gatherer s ms es None → HasGatheredEpochs g s ms (es ++ closed_by (closed_in g) g.values) None)
+    → (s : SetupValue) (fs : List Framed) → HasFiledFrames v s fs → AppendsBetween a b (so_far s fs) (file s fs) × (w.epochs ≡ capped (epochs_in s fs))
 file_whole v w g a b o over t s fs x =
     let ms = messages_of fs in
     let es = closed_epochs s.gather ms in
     let p = wrote_all v w g a b s ms ms es None None o x.settled (t s.gather ms es x.settled.gatherer) in
     let e : p.0 ≡ all_epochs s.gather ms = p.1.gatherer.epochs refl ∙ ap (λ (h : Gathered). known_epochs h.has_ended s.gather ms) o.gatherer ∙ ap (λ h. known_epochs h s.gather ms) over in
-    (subst (λ (all : List Closed). GoesOn a b (so_far s fs) (text_with s all)) e p.2, p.1.epochs ∙ ap count e)
+    (subst (λ (all : List Closed). AppendsBetween a b (so_far s fs) (text_with s all)) e p.2, p.1.epochs ∙ ap count e)
 
 -- no message follows
 pub gathered : (v w : Filer) (g : Gathered) → w.gatherer ≡ g → g.has_ended ≡ true
-    → ((s : Setup) (ms : List Heard) (es : List Closed) → Gathers v.gatherer s ms es None → Gathers g s ms (es ++ closed_by (closed_in g) g.values) None)
-    → (s : Settings) (fs : List Framed) → Files v s fs → HasGathered w s fs
+    → ((s : GatherSetup) (ms : List Heard) (es : List Closed) → HasGatheredEpochs v.gatherer s ms es None → HasGatheredEpochs g s ms (es ++ closed_by (closed_in g) g.values) None)
+    → (s : SetupValue) (fs : List Framed) → HasFiledFrames v s fs → HasGathered w s fs
 gathered v w g is over t s fs x =
     let es = closed_epochs s.gather (messages_of fs) in
     let all = es ++ closed_by (closed_in g) g.values in
     record {
       ended = ap (λ (h : Gathered). h.has_ended) is ∙ over;
       epochs = all;
-      gathers = subst (λ (h : Gathered). Gathers h s.gather (messages_of fs) all None) (sym is) (t s.gather (messages_of fs) es x.settled.gatherer);
+      gathers = subst (λ (h : Gathered). HasGatheredEpochs h s.gather (messages_of fs) all None) (sym is) (t s.gather (messages_of fs) es x.settled.gatherer);
     }
 
 pub file_part : (v : Filer) (g : Gathered) (a b : Option (List ℕ)) → AppendsPrefix a b (added v.texts (plan_in g) v.values (closed_in g) g.values) → g.has_ended ≡ true
-    → ((s : Setup) (ms : List Heard) (es : List Closed) → Gathers v.gatherer s ms es None → Gathers g s ms (es ++ closed_by (closed_in g) g.values) None)
-    → (s : Settings) (fs : List Framed) → Files v s fs → BreaksOff a b (so_far s fs) (file s fs)
+    → ((s : GatherSetup) (ms : List Heard) (es : List Closed) → HasGatheredEpochs v.gatherer s ms es None → HasGatheredEpochs g s ms (es ++ closed_by (closed_in g) g.values) None)
+    → (s : SetupValue) (fs : List Framed) → HasFiledFrames v s fs → AppendsPrefixBetween a b (so_far s fs) (file s fs)
 file_part v g a b p over t s fs x =
     let ms = messages_of fs in
     let es = closed_epochs s.gather ms in
     let now = t s.gather ms es x.settled.gatherer in
     let e : es ++ closed_by (closed_in g) g.values ≡ all_epochs s.gather ms = now.epochs refl ∙ ap (λ h. known_epochs h s.gather ms) over in
     let out : AppendsPrefix a b (added s.texts s.gather.plan (last es) (closed_in g) g.values) = part_of v g a b s ms es None x.settled now.plan p in
-    subst (λ (all : List Closed). BreaksOff a b (so_far s fs) (text_with s all)) e (breaks_off-by a b _ _ _ (text-closed s es (closed_in g) g.values) out)
+    subst (λ (all : List Closed). AppendsPrefixBetween a b (so_far s fs) (text_with s all)) e (breaks_off-by a b _ _ _ (text-closed s es (closed_in g) g.values) out)
 
 -- a message that was handed in twice
 pub taken_again : {E : Type 0} (v w x : Filer) (m : Heard) (a b c : Option (List ℕ)) (r : Result Kind E) → x.gatherer.has_ended ≡ false
-    → ((s : Settings) (ms : List Heard) (es : List Closed) → Writes v s ms es None → Written w s ms (Some m) a b es)
-    → IfOk r (λ k. is_close_first k ≡ false → (s : Settings) (ms : List Heard) (es : List Closed) (again : Option Heard) → Fits again m → Writes w s ms es again → Written x s (ms ++ m ∷ []) None b c es)
-    → IfOk r (λ k. (s : Settings) (ms : List Heard) (es : List Closed) → Writes w s ms es (Some m) → is_close_first k ≡ false)
-    → OnOk r ((s : Settings) (ms : List Heard) → Settled v s ms → Settled x s (ms ++ m ∷ []) × Goes a c s ms (ms ++ m ∷ []))
+    → ((s : SetupValue) (ms : List Heard) (es : List Closed) → HasFiledEpochs v s ms es None → Written w s ms (Some m) a b es)
+    → IfOk r (λ k. is_close_first k ≡ false → (s : SetupValue) (ms : List Heard) (es : List Closed) (again : Option Heard) → IsAwaited again m → HasFiledEpochs w s ms es again → Written x s (ms ++ m ∷ []) None b c es)
+    → IfOk r (λ k. (s : SetupValue) (ms : List Heard) (es : List Closed) → HasFiledEpochs w s ms es (Some m) → is_close_first k ≡ false)
+    → OnOk r ((s : SetupValue) (ms : List Heard) → Settled v s ms → Settled x s (ms ++ m ∷ []) × Goes a c s ms (ms ++ m ∷ []))
 taken_again v w x m a b c (Ok k) going first taken again = λ s ms y.
     let one : Written w s ms (Some m) a b (closed_epochs s.gather ms) = first s ms (closed_epochs s.gather ms) y in
     settle_again v w x s ms (ms ++ m ∷ []) m a b c going one (taken (again s ms one.0 one.1) s ms one.0 (Some m) refl one.1)
 taken_again v w x m a b c (Err e) going first taken again = tt
 
 pub kind_again : {E : Type 0} (v w : Filer) (m : Heard) (a b : Option (List ℕ)) (r : Result Kind E)
-    → ((s : Settings) (ms : List Heard) (es : List Closed) → Writes v s ms es None → Written w s ms (Some m) a b es)
-    → IfOk r (λ k. is_close_first k ≡ false → (s : Settings) (ms : List Heard) (es : List Closed) (again : Option Heard) → Fits again m → Writes w s ms es again → k ≡ kind_of s.gather ms m)
-    → IfOk r (λ k. (s : Settings) (ms : List Heard) (es : List Closed) → Writes w s ms es (Some m) → is_close_first k ≡ false)
-    → IfOk r (λ k. (s : Settings) (ms : List Heard) → Settled v s ms → k ≡ kind_of s.gather ms m)
+    → ((s : SetupValue) (ms : List Heard) (es : List Closed) → HasFiledEpochs v s ms es None → Written w s ms (Some m) a b es)
+    → IfOk r (λ k. is_close_first k ≡ false → (s : SetupValue) (ms : List Heard) (es : List Closed) (again : Option Heard) → IsAwaited again m → HasFiledEpochs w s ms es again → k ≡ kind_of s.gather ms m)
+    → IfOk r (λ k. (s : SetupValue) (ms : List Heard) (es : List Closed) → HasFiledEpochs w s ms es (Some m) → is_close_first k ≡ false)
+    → IfOk r (λ k. (s : SetupValue) (ms : List Heard) → Settled v s ms → k ≡ kind_of s.gather ms m)
 kind_again v w m a b (Ok k) first kind again = λ s ms y.
     let one : Written w s ms (Some m) a b (closed_epochs s.gather ms) = first s ms (closed_epochs s.gather ms) y in
     kind (again s ms one.0 one.1) s ms one.0 (Some m) refl one.1

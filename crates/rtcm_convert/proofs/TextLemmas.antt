@@ -8,15 +8,15 @@ use Rattle.std.proofs.KnownBytes.{Appends-trans, Appends-nil}
 use Rattle.rtcm_bits.specs.Device.{AppendsPrefix}
 use Rattle.rtcm_scan.specs.Frames.{Framed}
 use Rattle.rtcm_bits.specs.Prefix.{IsPrefix}
-use Rattle.obs_epoch.specs.Values.{PlanValue, EpochValue, Closed, same_values, satellites}
+use Rattle.obs_epoch.specs.Values.{PlanValue, EpochValue, Closed, same_values, satellites_written}
 use Rattle.obs_epoch.specs.declared.cell.StationValues.{StationValues}
-use Rattle.obs_epoch.specs.Heard.{Setup, Heard}
+use Rattle.obs_epoch.specs.Heard.{GatherSetup, Heard}
 use Rattle.obs_epoch.specs.Gathering.{closed_epochs, all_epochs, closed_by}
 use Rattle.rinex_file.specs.Texts.{HeaderLists}
 use Rattle.rinex_file.specs.File.{header_text, epoch_text, event_text, change_text, closed_text, file_text, gathered}
-use Rattle.rtcm_convert.specs.Converted.{Settings, messages_of, written, text_of, text_with, so_far, file}
+use Rattle.rtcm_convert.specs.Converted.{SetupValue, messages_of, written_epochs, text_of_epochs, text_with, so_far, file}
 use Rattle.rtcm_convert.specs.Outcomes.{capped}
-use Rattle.rtcm_convert.specs.Filed.{opening, added, epochs_after, values_after, values_behind, last_values}
+use Rattle.rtcm_convert.specs.Filed.{opening, added, epochs_after, values_after, values_behind_closed, last_values}
 use Rattle.rtcm_convert.proofs.PartLemmas.{prefix_more, prefix_after}
 
 -- a count that is capped, and counts on
@@ -42,44 +42,44 @@ no_change v = ap (λ (b : Bool). if b then [] else event_text v) (same_self v)
 
 -- ---- more epochs
 
-closed_text-append : (p : PlanValue) (v : StationValues) (cs ds : List Closed) → closed_text p v (cs ++ ds) ≡ closed_text p v cs ++ closed_text p (values_behind v cs) ds
+closed_text-append : (p : PlanValue) (v : StationValues) (cs ds : List Closed) → closed_text p v (cs ++ ds) ≡ closed_text p v cs ++ closed_text p (values_behind_closed v cs) ds
 closed_text-append p v [] ds = refl
 closed_text-append p v (c ∷ cs) ds =
-    let rest = closed_text p (values_behind c.values cs) ds in
+    let rest = closed_text p (values_behind_closed c.values cs) ds in
     ap (λ l. change_text v c.values ++ (epoch_text p c.epoch ++ l)) (closed_text-append p c.values cs ds)
     ∙ ap (λ l. change_text v c.values ++ l) (sym (append_assoc (epoch_text p c.epoch) (closed_text p c.values cs) rest))
     ∙ sym (append_assoc (change_text v c.values) (epoch_text p c.epoch ++ closed_text p c.values cs) rest)
 
 -- more epochs go behind a file with one, and make one where there is none
-pub text_of-append : (t : HeaderLists) (p : PlanValue) (es fs : List Closed) → IsPrefix (text_of t p es) (text_of t p (es ++ fs))
-unfolding text_of
-text_of-append t p [] fs = (text_of t p fs, refl)
+pub text_of-append : (t : HeaderLists) (p : PlanValue) (es fs : List Closed) → IsPrefix (text_of_epochs t p es) (text_of_epochs t p (es ++ fs))
+unfolding text_of_epochs
+text_of-append t p [] fs = (text_of_epochs t p fs, refl)
 text_of-append t p (e ∷ es) fs = (
-  closed_text p (values_behind e.values (e ∷ es)) fs,
+  closed_text p (values_behind_closed e.values (e ∷ es)) fs,
   ap (λ l. header_text t p e.values e.epoch.time ++ l) (closed_text-append p e.values (e ∷ es) fs)
-      ∙ sym (append_assoc (header_text t p e.values e.epoch.time) (closed_text p e.values (e ∷ es)) (closed_text p (values_behind e.values (e ∷ es)) fs)),
+      ∙ sym (append_assoc (header_text t p e.values e.epoch.time) (closed_text p e.values (e ∷ es)) (closed_text p (values_behind_closed e.values (e ∷ es)) fs)),
 )
 
 -- one epoch more
 text_of-one : (t : HeaderLists) (p : PlanValue) (es : List Closed) (c : Closed)
-    → text_of t p (es ++ c ∷ []) ≡ text_of t p es ++ (opening t p (last_values es) c.epoch c.values ++ epoch_text p c.epoch)
-unfolding text_of
+    → text_of_epochs t p (es ++ c ∷ []) ≡ text_of_epochs t p es ++ (opening t p (last_values es) c.epoch c.values ++ epoch_text p c.epoch)
+unfolding text_of_epochs
 text_of-one t p [] c =
     ap (λ l. header_text t p c.values c.epoch.time ++ (l ++ (epoch_text p c.epoch ++ []))) (no_change c.values)
     ∙ ap (λ l. header_text t p c.values c.epoch.time ++ l) (append-nil (epoch_text p c.epoch))
 text_of-one t p (e ∷ es) c =
-    let before = values_behind e.values es in
+    let before = values_behind_closed e.values es in
     let last = change_text before c.values ++ epoch_text p c.epoch in
     ap (λ l. header_text t p e.values e.epoch.time ++ l) (closed_text-append p e.values (e ∷ es) (c ∷ []) ∙ ap (λ l. closed_text p e.values (e ∷ es) ++ (change_text before c.values ++ l)) (append-nil (epoch_text p c.epoch)))
     ∙ sym (append_assoc (header_text t p e.values e.epoch.time) (closed_text p e.values (e ∷ es)) last)
 
 -- one epoch more, if it is written
 text_of-maybe : (t : HeaderLists) (p : PlanValue) (es : List Closed) (c : Closed) (b : Bool)
-    → text_of t p (es ++ (if b then c ∷ [] else [])) ≡ text_of t p es ++ (if b then opening t p (last_values es) c.epoch c.values ++ epoch_text p c.epoch else [])
+    → text_of_epochs t p (es ++ (if b then c ∷ [] else [])) ≡ text_of_epochs t p es ++ (if b then opening t p (last_values es) c.epoch c.values ++ epoch_text p c.epoch else [])
 text_of-maybe t p es c true = text_of-one t p es c
-text_of-maybe t p es c false = ap (text_of t p) (append-nil es) ∙ sym (append-nil (text_of t p es))
+text_of-maybe t p es c false = ap (text_of_epochs t p) (append-nil es) ∙ sym (append-nil (text_of_epochs t p es))
 
-values_behind-one : (v : StationValues) (es : List Closed) (c : Closed) → values_behind v (es ++ c ∷ []) ≡ c.values
+values_behind-one : (v : StationValues) (es : List Closed) (c : Closed) → values_behind_closed v (es ++ c ∷ []) ≡ c.values
 values_behind-one v [] c = refl
 values_behind-one v (e ∷ es) c = values_behind-one e.values es c
 
@@ -97,44 +97,44 @@ count-maybe es c false = ap (λ l. capped (length l)) (append-nil es)
 
 -- how many epochs are in the text, as they are counted
 abbrev pub count : List Closed → ℕ
-count es = capped (length (written es))
+count es = capped (length (written_epochs es))
 
 -- the station values in the text that were written last
 abbrev pub last : List Closed → Option StationValues
-last es = last_values (written es)
+last es = last_values (written_epochs es)
 
 pub last-closed : (es : List Closed) (o : Option EpochValue) (v : StationValues) → last (es ++ closed_by o v) ≡ values_after (last es) o v
 last-closed es None v = ap last (append-nil es)
-last-closed es (Some e) v = rw filter-append (last_values-maybe (written es) (record { epoch = e; values = v }) (nat_lt 0 (satellites e)))
+last-closed es (Some e) v = rw filter-append (last_values-maybe (written_epochs es) (record { epoch = e; values = v }) (nat_lt 0 (satellites_written e)))
 
 -- what the epoch that was closed last adds
-pub text-closed : (s : Settings) (es : List Closed) (o : Option EpochValue) (v : StationValues)
+pub text-closed : (s : SetupValue) (es : List Closed) (o : Option EpochValue) (v : StationValues)
     → text_with s (es ++ closed_by o v) ≡ text_with s es ++ added s.texts s.gather.plan (last es) o v
 text-closed s es None v = ap (text_with s) (append-nil es) ∙ sym (append-nil (text_with s es))
-text-closed s es (Some e) v = rw filter-append (text_of-maybe s.texts s.gather.plan (written es) (record { epoch = e; values = v }) (nat_lt 0 (satellites e)))
+text-closed s es (Some e) v = rw filter-append (text_of-maybe s.texts s.gather.plan (written_epochs es) (record { epoch = e; values = v }) (nat_lt 0 (satellites_written e)))
 
 pub count-closed : (es : List Closed) (o : Option EpochValue) (v : StationValues) → count (es ++ closed_by o v) ≡ epochs_after (count es) o
 count-closed es None v = ap count (append-nil es)
-count-closed es (Some e) v = rw filter-append (count-maybe (written es) (record { epoch = e; values = v }) (nat_lt 0 (satellites e)))
+count-closed es (Some e) v = rw filter-append (count-maybe (written_epochs es) (record { epoch = e; values = v }) (nat_lt 0 (satellites_written e)))
 
--- more epochs leave the front of the text
-pub text-more : (s : Settings) (es fs : List Closed) → IsPrefix es fs → IsPrefix (text_with s es) (text_with s fs)
-text-more s es fs p = rw (p.1, filter-append) (text_of-append s.texts s.gather.plan (written es) (written p.0))
+-- more epochs leave the text as a prefix
+pub text-more : (s : SetupValue) (es fs : List Closed) → IsPrefix es fs → IsPrefix (text_with s es) (text_with s fs)
+text-more s es fs p = rw (p.1, filter-append) (text_of-append s.texts s.gather.plan (written_epochs es) (written_epochs p.0))
 
 -- what is closed stays so, and stands among all epochs in the end
 abbrev pub ClosedStay : Type 0
-ClosedStay = (s : Setup) (ms more : List Heard) → IsPrefix (closed_epochs s ms) (closed_epochs s (ms ++ more))
+ClosedStay = (s : GatherSetup) (ms more : List Heard) → IsPrefix (closed_epochs s ms) (closed_epochs s (ms ++ more))
 
 abbrev pub ClosedInAll : Type 0
-ClosedInAll = (s : Setup) (ms more : List Heard) → IsPrefix (closed_epochs s ms) (all_epochs s (ms ++ more))
+ClosedInAll = (s : GatherSetup) (ms more : List Heard) → IsPrefix (closed_epochs s ms) (all_epochs s (ms ++ more))
 
--- more frames leave the front of the text
-pub so_far-more : ClosedStay → (s : Settings) (fs more : List Framed) → IsPrefix (so_far s fs) (so_far s (fs ++ more))
+-- more frames leave the text as a prefix
+pub so_far-more : ClosedStay → (s : SetupValue) (fs more : List Framed) → IsPrefix (so_far s fs) (so_far s (fs ++ more))
 so_far-more stay s fs more =
     text-more s (closed_epochs s.gather (messages_of fs)) (closed_epochs s.gather (messages_of (fs ++ more)))
     (rw filter_map-append (stay s.gather (messages_of fs) (messages_of more)))
 
-pub so_far-all : ClosedInAll → (s : Settings) (fs more : List Framed) → IsPrefix (so_far s fs) (file s (fs ++ more))
+pub so_far-all : ClosedInAll → (s : SetupValue) (fs more : List Framed) → IsPrefix (so_far s fs) (file s (fs ++ more))
 so_far-all stay s fs more =
     text-more s (closed_epochs s.gather (messages_of fs)) (all_epochs s.gather (messages_of (fs ++ more)))
     (rw filter_map-append (stay s.gather (messages_of fs) (messages_of more)))
@@ -146,33 +146,33 @@ lt_false : (k : ℕ) → k ≡ 0 → nat_lt 0 k ≡ false
 lt_false k none = ap (λ n. nat_lt 0 n) none
 
 -- what an epoch with a satellite adds
-added_is : (t : HeaderLists) (p : PlanValue) (n : Option StationValues) (k : ℕ) (o : Option EpochValue) (e : EpochValue) (v : StationValues) → Some e ≡ o → k ≡ satellites e → (k ≡ 0 → ⊥)
+added_is : (t : HeaderLists) (p : PlanValue) (n : Option StationValues) (k : ℕ) (o : Option EpochValue) (e : EpochValue) (v : StationValues) → Some e ≡ o → k ≡ satellites_written e → (k ≡ 0 → ⊥)
     → added t p n o v ≡ opening t p n e v ++ epoch_text p e
 added_is t p n k o e v is count none =
     sym (ap (λ q. added t p n q v) is) ∙ ap (λ (b : Bool). if b then opening t p n e v ++ epoch_text p e else []) (sym (ap (λ m. nat_lt 0 m) count) ∙ lt_true k none)
 
 -- one without adds nothing
-added_not : (t : HeaderLists) (p : PlanValue) (n : Option StationValues) (k : ℕ) (o : Option EpochValue) (e : EpochValue) (v : StationValues) → Some e ≡ o → k ≡ satellites e → k ≡ 0 → added t p n o v ≡ []
+added_not : (t : HeaderLists) (p : PlanValue) (n : Option StationValues) (k : ℕ) (o : Option EpochValue) (e : EpochValue) (v : StationValues) → Some e ≡ o → k ≡ satellites_written e → k ≡ 0 → added t p n o v ≡ []
 added_not t p n k o e v is count none =
     sym (ap (λ q. added t p n q v) is) ∙ ap (λ (b : Bool). if b then opening t p n e v ++ epoch_text p e else []) (sym (ap (λ m. nat_lt 0 m) count) ∙ lt_false k none)
 
-whole_none : (a : Option (List ℕ)) (t : HeaderLists) (p : PlanValue) (n : Option StationValues) (k : ℕ) (o : Option EpochValue) (e : EpochValue) (v : StationValues) → Some e ≡ o → k ≡ satellites e → k ≡ 0
+whole_none : (a : Option (List ℕ)) (t : HeaderLists) (p : PlanValue) (n : Option StationValues) (k : ℕ) (o : Option EpochValue) (e : EpochValue) (v : StationValues) → Some e ≡ o → k ≡ satellites_written e → k ≡ 0
     → Appends a a (added t p n o v)
 whole_none a t p n k o e v is count none = subst (λ (l : List ℕ). Appends a a l) (sym (added_not t p n k o e v is count none)) (Appends-nil a)
 
-whole_epoch : (a b c : Option (List ℕ)) (t : HeaderLists) (p q : PlanValue) (n : Option StationValues) (k : ℕ) (o : Option EpochValue) (e : EpochValue) (v : StationValues) → Some e ≡ o → k ≡ satellites e → (k ≡ 0 → ⊥) → q ≡ p
+whole_epoch : (a b c : Option (List ℕ)) (t : HeaderLists) (p q : PlanValue) (n : Option StationValues) (k : ℕ) (o : Option EpochValue) (e : EpochValue) (v : StationValues) → Some e ≡ o → k ≡ satellites_written e → (k ≡ 0 → ⊥) → q ≡ p
     → Appends a b (opening t p n e v) → Appends b c (epoch_text q e) → Appends a c (added t p n o v)
 whole_epoch a b c t p q n k o e v is count none same first x =
     let y : Appends b c (epoch_text p e) = subst (λ (r : PlanValue). Appends b c (epoch_text r e)) same x in
     subst (λ (l : List ℕ). Appends a c l) (sym (added_is t p n k o e v is count none)) (Appends-trans a b c (opening t p n e v) (epoch_text p e) first y)
 
 -- the writer failed in what stands before the epoch
-part_open : (a b : Option (List ℕ)) (t : HeaderLists) (p : PlanValue) (n : Option StationValues) (k : ℕ) (o : Option EpochValue) (e : EpochValue) (v : StationValues) → Some e ≡ o → k ≡ satellites e → (k ≡ 0 → ⊥)
+part_open : (a b : Option (List ℕ)) (t : HeaderLists) (p : PlanValue) (n : Option StationValues) (k : ℕ) (o : Option EpochValue) (e : EpochValue) (v : StationValues) → Some e ≡ o → k ≡ satellites_written e → (k ≡ 0 → ⊥)
     → AppendsPrefix a b (opening t p n e v) → AppendsPrefix a b (added t p n o v)
 part_open a b t p n k o e v is count none x = rw (added_is t p n k o e v is count none) (prefix_more a b (opening t p n e v) (epoch_text p e) x)
 
 -- and in the epoch
-part_epoch : (a b c : Option (List ℕ)) (t : HeaderLists) (p q : PlanValue) (n : Option StationValues) (k : ℕ) (o : Option EpochValue) (e : EpochValue) (v : StationValues) → Some e ≡ o → k ≡ satellites e → (k ≡ 0 → ⊥) → q ≡ p
+part_epoch : (a b c : Option (List ℕ)) (t : HeaderLists) (p q : PlanValue) (n : Option StationValues) (k : ℕ) (o : Option EpochValue) (e : EpochValue) (v : StationValues) → Some e ≡ o → k ≡ satellites_written e → (k ≡ 0 → ⊥) → q ≡ p
     → Appends a b (opening t p n e v) → AppendsPrefix b c (epoch_text q e) → AppendsPrefix a c (added t p n o v)
 part_epoch a b c t p q n k o e v is count none same first x =
     let y : AppendsPrefix b c (epoch_text p e) = subst (λ (r : PlanValue). AppendsPrefix b c (epoch_text r e)) same x in
@@ -186,7 +186,7 @@ lent e (Some x) v h = same h where
   same h = let is : e ≡ record { epoch = x; values = v } = cc in (ap (λ (c : Closed). Some c.epoch) is, ap (λ (c : Closed). c.values) is)
 
 -- the same of an epoch that the gatherer lends
-module _ (t : HeaderLists) (p : PlanValue) (n : Option StationValues) (k : ℕ) (o : Option EpochValue) (e : Closed) (v : StationValues) (is : e ∷ [] ≡ closed_by o v) (size : k ≡ satellites e.epoch) where
+module _ (t : HeaderLists) (p : PlanValue) (n : Option StationValues) (k : ℕ) (o : Option EpochValue) (e : Closed) (v : StationValues) (is : e ∷ [] ≡ closed_by o v) (size : k ≡ satellites_written e.epoch) where
   pub none_lent : (a : Option (List ℕ)) → k ≡ 0 → Appends a a (added t p n o v)
   none_lent a none = whole_none a t p n k o e.epoch v (lent e o v is).0 size none
 
@@ -209,7 +209,7 @@ module _ (t : HeaderLists) (p : PlanValue) (n : Option StationValues) (k : ℕ) 
   pub now_none : (m : ℕ) → k ≡ 0 → (m ≡ epochs_after m o) × (n ≡ values_after n o v)
   now_none m none =
       let l = lent e o v is in
-      let no : nat_lt 0 (satellites e.epoch) ≡ false = sym (ap (λ x. nat_lt 0 x) size) ∙ lt_false k none in (
+      let no : nat_lt 0 (satellites_written e.epoch) ≡ false = sym (ap (λ x. nat_lt 0 x) size) ∙ lt_false k none in (
         sym (sym (ap (λ q. epochs_after m q) l.0) ∙ ap (λ (b : Bool). if b then capped (m + 1) else m) no),
         sym (sym (ap (λ q. values_after n q v) l.0) ∙ ap (λ (b : Bool). if b then Some v else n) no),
       )
@@ -217,18 +217,18 @@ module _ (t : HeaderLists) (p : PlanValue) (n : Option StationValues) (k : ℕ) 
   pub now_lent : (m : ℕ) → (k ≡ 0 → ⊥) → (capped (m + 1) ≡ epochs_after m o) × (Some e.values ≡ values_after n o v)
   now_lent m some =
       let l = lent e o v is in
-      let yes : nat_lt 0 (satellites e.epoch) ≡ true = sym (ap (λ x. nat_lt 0 x) size) ∙ lt_true k some in (
+      let yes : nat_lt 0 (satellites_written e.epoch) ≡ true = sym (ap (λ x. nat_lt 0 x) size) ∙ lt_true k some in (
         sym (sym (ap (λ q. epochs_after m q) l.0) ∙ ap (λ (b : Bool). if b then capped (m + 1) else m) yes),
         sym (sym (ap (λ q. values_after n q v) l.0) ∙ ap (λ (b : Bool). if b then Some v else n) yes ∙ ap Some (sym l.1)),
       )
 
 -- nothing is written of no frames
-pub so_far-none : ((s : Setup) → closed_epochs s [] ≡ []) → (s : Settings) → so_far s [] ≡ []
-unfolding text_of
+pub so_far-none : ((s : GatherSetup) → closed_epochs s [] ≡ []) → (s : SetupValue) → so_far s [] ≡ []
+unfolding text_of_epochs
 so_far-none none s = ap (text_with s) (none s.gather)
 
 -- the text of one epoch and more is that of a file value
 pub text_of-file : ((t : HeaderLists) (p : PlanValue) (v : StationValues) (c : Closed) (cs : List Closed) → header_text t p v c.epoch.time ++ closed_text p v (c ∷ cs) ≡ file_text (gathered t p v (c ∷ cs)))
-    → (t : HeaderLists) (p : PlanValue) (c : Closed) (cs : List Closed) → text_of t p (c ∷ cs) ≡ file_text (gathered t p c.values (c ∷ cs))
-unfolding text_of
+    → (t : HeaderLists) (p : PlanValue) (c : Closed) (cs : List Closed) → text_of_epochs t p (c ∷ cs) ≡ file_text (gathered t p c.values (c ∷ cs))
+unfolding text_of_epochs
 text_of-file law t p c cs = law t p c.values c cs

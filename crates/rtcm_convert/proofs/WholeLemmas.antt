@@ -9,17 +9,17 @@ use Rattle.std.proofs.KnownBytes.{Appends-trans}
 use Rattle.rtcm_bits.specs.Device.{AppendsPrefix}
 use Rattle.rtcm_scan.specs.Frames.{frames_of}
 use Rattle.rtcm_scan.specs.Decided.{decided_frames}
-use Rattle.rtcm_convert.specs.Converted.{Settings, so_far, file, epochs_in}
+use Rattle.rtcm_convert.specs.Converted.{SetupValue, so_far, file, epochs_in}
 use Rattle.rtcm_convert.specs.Outcomes.{report_of}
-use Rattle.rtcm_convert.specs.Fed.{GoesOn, BreaksOff}
+use Rattle.rtcm_convert.specs.Fed.{AppendsBetween, AppendsPrefixBetween}
 use Rattle.rtcm_convert.specs.Laws.{NothingYet}
-use Rattle.rtcm_convert.specs.Stream.{Extends, BreaksAtEnd}
-use Rattle.rtcm_convert.specs.Told.{settings}
+use Rattle.rtcm_convert.specs.Stream.{AppendsDecided, AppendsPrefixOfRest}
+use Rattle.rtcm_convert.specs.SetupValues.{setup_value}
 use Rattle.rtcm_convert.specs.Readable.{HasValue}
 use Rattle.rtcm_convert.specs.Made.{IsMade, IsMadeEmpty}
 use Rattle.rtcm_convert.specs.declared.setup.Setup.{Setup}
-use Rattle.rtcm_convert.specs.Broken.{IsBetween, IsBroken, Broke, BrokeAtEnd, BrokeAtPiece, BrokeInPieces, WrotePieces, joined, of_first}
-use Rattle.rtcm_convert.specs.Conversion.{Conversion, StandsFor, Goes, GoesLong, Adds, Stops, StopsAtEnd, Completed, CompletedEmpty, FinishesNow, FinishesEmptyNow, Finishes, FinishesEmpty, StopsAt, StopsFeeding, StopsFinishing}
+use Rattle.rtcm_convert.specs.Broken.{IsBetween, IsBroken, FailedWriting, FailedWritingAtEnd, BrokeAtPiece, BrokeInPieces, WrotePieces, joined_pieces, of_first}
+use Rattle.rtcm_convert.specs.Conversion.{Conversion, HasConverted, TakesPiece, TakesToLimit, WritesAdded, WritesPrefixOfAdded, StopsAtEnd, Completed, CompletedEmpty, FinishesNow, FinishesEmptyNow, CompletesFile, CompletesEmptyFile, FailsAtPiece, FailsFeeding, FailsFinishing}
 use Rattle.rtcm_convert.specs.declared.report.Report.{Report}
 use Rattle.rtcm_convert.specs.Faults.{IsRunFault, IsFinishFault}
 use Rattle.rtcm_convert.specs.declared.fault.Fault.{Fault}
@@ -27,7 +27,7 @@ use Rattle.rtcm_convert.specs.declared.fault.Fault.TheVariants.{BadSetup, Failed
 use Rattle.rtcm_convert.proofs.PartLemmas.{goes_on-trans, breaks_off-after}
 use Rattle.rtcm_convert.proofs.RunLemmas.{completed_after, empty_after}
 
-pub from_nothing : NothingYet → (a b : Option (List ℕ)) (s : Settings) (y : List ℕ) → GoesOn a b (so_far s (decided_frames [])) y → Appends a b y
+pub from_nothing : NothingYet → (a b : Option (List ℕ)) (s : SetupValue) (y : List ℕ) → AppendsBetween a b (so_far s (decided_frames [])) y → Appends a b y
 from_nothing nothing a b s y g =
     let e : y ≡ g.part = g.text ∙ ap (λ l. l ++ g.part) (nothing s) in
     subst (λ (l : List ℕ). Appends a b l) (sym e) g.out
@@ -42,53 +42,53 @@ same_limit v w n limit le same e = subst (λ (k : ℕ). n ≤ k) (same ∙ e) le
 
 -- a file with an epoch is the text of a file value
 abbrev pub IsValued : Setup → Type 0
-IsValued x = (b : List ℕ) → 0 < epochs_in (settings x) (frames_of b) → HasValue (file (settings x) (frames_of b))
+IsValued x = (b : List ℕ) → 0 < epochs_in (setup_value x) (frames_of b) → HasValue (file (setup_value x) (frames_of b))
 
 pub made : (v w : Conversion) (x : Setup) (a b : Option (List ℕ)) (bytes : List ℕ) (report : Report) → NothingYet → IsValued x → w.scan.limit ≡ v.scan.limit → v.scan.limit ≡ x.limit
-    → Completed w a b (settings x) [] bytes report → IsMade x a b bytes
+    → Completed w a b (setup_value x) [] bytes report → IsMade x a b bytes
 made v w x a b bytes report nothing valued same e p = record {
   within = same_limit v w (length bytes) x.limit p.finished.within same e;
   some = p.some;
   value = valued bytes p.some;
-  out = from_nothing nothing a b (settings x) (file (settings x) (frames_of bytes)) p.out;
+  out = from_nothing nothing a b (setup_value x) (file (setup_value x) (frames_of bytes)) p.out;
 }
 
 pub made_empty : (v w : Conversion) (x : Setup) (a b : Option (List ℕ)) (bytes : List ℕ) → NothingYet → w.scan.limit ≡ v.scan.limit → v.scan.limit ≡ x.limit
-    → CompletedEmpty w a b (settings x) [] bytes → IsMadeEmpty x a b bytes
+    → CompletedEmpty w a b (setup_value x) [] bytes → IsMadeEmpty x a b bytes
 made_empty v w x a b bytes nothing same e p = record {
   within = same_limit v w (length bytes) x.limit p.finished.within same e;
   none = p.none;
-  out = from_nothing nothing a b (settings x) (file (settings x) (frames_of bytes)) p.out;
+  out = from_nothing nothing a b (setup_value x) (file (setup_value x) (frames_of bytes)) p.out;
 }
 
-pub run_whole : {E : Type 0} (v w : Conversion) (x : Setup) (r a b : Option (List ℕ)) (result : Result Report E) → NothingYet → IsValued x → StandsFor v (settings x) [] → w.scan.limit ≡ v.scan.limit → v.scan.limit ≡ x.limit
-    → IfOk result (λ report. IfSome r (Finishes v w a b report)) → OnOk result (IfSome r (IsMade x a b))
+pub run_whole : {E : Type 0} (v w : Conversion) (x : Setup) (r a b : Option (List ℕ)) (result : Result Report E) → NothingYet → IsValued x → HasConverted v (setup_value x) [] → w.scan.limit ≡ v.scan.limit → v.scan.limit ≡ x.limit
+    → IfOk result (λ report. IfSome r (CompletesFile v w a b report)) → OnOk result (IfSome r (IsMade x a b))
 run_whole v w x r a b (Ok report) nothing valued y same e h =
-    some_weaker r (Finishes v w a b report) (IsMade x a b) (λ l f. made v w x a b l report nothing valued same e (f (settings x) [] y)) h
+    some_weaker r (CompletesFile v w a b report) (IsMade x a b) (λ l f. made v w x a b l report nothing valued same e (f (setup_value x) [] y)) h
 run_whole v w x r a b (Err d) nothing valued y same e h = tt
 
-pub run_report : {E : Type 0} (v w : Conversion) (s : Settings) (r a b : Option (List ℕ)) (result : Result Report E) → StandsFor v s [] → IfOk result (λ report. IfSome r (Finishes v w a b report))
+pub run_report : {E : Type 0} (v w : Conversion) (s : SetupValue) (r a b : Option (List ℕ)) (result : Result Report E) → HasConverted v s [] → IfOk result (λ report. IfSome r (CompletesFile v w a b report))
     → IfOk result (λ report. IfSome r (λ x. report ≡ report_of s x))
 run_report v w s r a b (Ok report) x h =
-    some_weaker r (Finishes v w a b report) (λ x. report ≡ report_of s x) (λ l f. (f s [] x).report_is) h
+    some_weaker r (CompletesFile v w a b report) (λ x. report ≡ report_of s x) (λ l f. (f s [] x).report_is) h
 run_report v w s r a b (Err e) x h = tt
 
-pub run_empty : (v w : Conversion) (x : Setup) (r a b : Option (List ℕ)) → NothingYet → StandsFor v (settings x) [] → w.scan.limit ≡ v.scan.limit → v.scan.limit ≡ x.limit
-    → IfSome r (FinishesEmpty v w a b) → IfSome r (IsMadeEmpty x a b)
+pub run_empty : (v w : Conversion) (x : Setup) (r a b : Option (List ℕ)) → NothingYet → HasConverted v (setup_value x) [] → w.scan.limit ≡ v.scan.limit → v.scan.limit ≡ x.limit
+    → IfSome r (CompletesEmptyFile v w a b) → IfSome r (IsMadeEmpty x a b)
 run_empty v w x r a b nothing y same e h =
-    some_weaker r (FinishesEmpty v w a b) (IsMadeEmpty x a b) (λ l f. made_empty v w x a b l nothing same e (f (settings x) [] y)) h
+    some_weaker r (CompletesEmptyFile v w a b) (IsMadeEmpty x a b) (λ l f. made_empty v w x a b l nothing same e (f (setup_value x) [] y)) h
 
-pub run_read : (v w : Conversion) (s : Settings) (r r' a b : Option (List ℕ)) → NothingYet → StandsFor v s [] → ((front : List ℕ) × Consumes r r' front × (w.scan.taken ≡ v.scan.taken + length front) × Adds v a b front)
+pub run_read : (v w : Conversion) (s : SetupValue) (r r' a b : Option (List ℕ)) → NothingYet → HasConverted v s [] → ((front : List ℕ) × Consumes r r' front × (w.scan.taken ≡ v.scan.taken + length front) × WritesAdded v a b front)
     → (front : List ℕ) × Consumes r r' front × Appends a b (so_far s (decided_frames front))
 run_read v w s r r' a b nothing x p = (p.0, p.1, from_nothing nothing a b s (so_far s (decided_frames p.0)) (p.3 s [] x))
 
-pub run_long : (v : Conversion) (s : Settings) (r r' a b : Option (List ℕ)) (limit : ℕ) → NothingYet → StandsFor v s [] → v.scan.limit ≡ limit → ((front : List ℕ) × Consumes r r' front × GoesLong v a b front)
+pub run_long : (v : Conversion) (s : SetupValue) (r r' a b : Option (List ℕ)) (limit : ℕ) → NothingYet → HasConverted v s [] → v.scan.limit ≡ limit → ((front : List ℕ) × Consumes r r' front × TakesToLimit v a b front)
     → (front : List ℕ) × Consumes r r' front × Appends a b (so_far s (decided_frames (take limit front)))
 run_long v s r r' a b limit nothing x e p =
     (p.0, p.1, subst (λ (n : ℕ). Appends a b (so_far s (decided_frames (take n p.0)))) e (from_nothing nothing a b s (so_far s (decided_frames (take v.scan.limit p.0))) (p.2 s [] x)))
 
 -- what these bytes make went out, and then a front of what follows
-between : (a b c : Option (List ℕ)) (s : Settings) (front upper : List ℕ) → NothingYet → Extends a b s [] front → BreaksOff b c (so_far s (decided_frames front)) upper
+between : (a b c : Option (List ℕ)) (s : SetupValue) (front upper : List ℕ) → NothingYet → AppendsDecided a b s [] front → AppendsPrefixBetween b c (so_far s (decided_frames front)) upper
     → IsBetween a c (so_far s (decided_frames front)) upper
 between a b c s front upper nothing before last = record {
   out = so_far s (decided_frames front) ++ last.part;
@@ -97,40 +97,40 @@ between a b c s front upper nothing before last = record {
   most = (last.rest, last.text);
 }
 
-broken : (a b : Option (List ℕ)) (s : Settings) (front piece : List ℕ) → NothingYet → StopsAt a b s [] piece front → IsBroken a b s front piece
+broken : (a b : Option (List ℕ)) (s : SetupValue) (front piece : List ℕ) → NothingYet → FailsAtPiece a b s [] piece front → IsBroken a b s front piece
 broken a b s front piece nothing p = record {
   between = between a p.mid b s front (so_far s (decided_frames (front ++ piece))) nothing p.before p.last;
   near = p.near;
 }
 
-broken_at_end : (a b : Option (List ℕ)) (s : Settings) (front : List ℕ) → NothingYet → BreaksAtEnd a b s [] front → AppendsPrefix a b (file s (frames_of front))
+broken_at_end : (a b : Option (List ℕ)) (s : SetupValue) (front : List ℕ) → NothingYet → AppendsPrefixOfRest a b s [] front → AppendsPrefix a b (file s (frames_of front))
 broken_at_end a b s front nothing p =
     let e : file s (frames_of front) ≡ p.part ++ p.rest = p.text ∙ ap (λ l. (l ++ p.part) ++ p.rest) (nothing s) in
     (p.rest, (p.part, e, p.out))
 
-pub run_write : (v w : Conversion) (s : Settings) (r r' a b : Option (List ℕ)) → NothingYet → StandsFor v s [] → (StopsFeeding v w r r' a b ⊎ StopsFinishing v w r r' a b)
-    → Broke r r' a b s ⊎ BrokeAtEnd r r' a b s
+pub run_write : (v w : Conversion) (s : SetupValue) (r r' a b : Option (List ℕ)) → NothingYet → HasConverted v s [] → (FailsFeeding v w r r' a b ⊎ FailsFinishing v w r r' a b)
+    → FailedWriting r r' a b s ⊎ FailedWritingAtEnd r r' a b s
 run_write v w s r r' a b nothing x (inl p) = inl (p.0, p.1, p.2, broken a b s p.0 p.1 nothing (p.4 s [] x))
 run_write v w s r r' a b nothing x (inr p) = inr (p.0, p.1, p.2, broken_at_end a b s p.0 nothing (p.4 s [] x))
 
-pub run_over : (v : Conversion) (s : Settings) (r : Option (List ℕ)) (limit : ℕ) → StandsFor v s [] → v.scan.limit ≡ limit
-    → IfSome r (λ rest. (s : Settings) (b : List ℕ) → StandsFor v s b → v.scan.limit < length (b ++ rest)) → IfSome r (λ b. limit < length b)
+pub run_over : (v : Conversion) (s : SetupValue) (r : Option (List ℕ)) (limit : ℕ) → HasConverted v s [] → v.scan.limit ≡ limit
+    → IfSome r (λ rest. (s : SetupValue) (b : List ℕ) → HasConverted v s b → v.scan.limit < length (b ++ rest)) → IfSome r (λ b. limit < length b)
 run_over v s r limit x e h =
-    some_weaker r (λ rest. (s : Settings) (b : List ℕ) → StandsFor v s b → v.scan.limit < length (b ++ rest)) (λ b. limit < length b)
+    some_weaker r (λ rest. (s : SetupValue) (b : List ℕ) → HasConverted v s b → v.scan.limit < length (b ++ rest)) (λ b. limit < length b)
     (λ l f. subst (λ (n : ℕ). n < length l) e (f s [] x)) h
 
-pub pieces_whole : {E : Type 0} (v w : Conversion) (x : Setup) (a b c : Option (List ℕ)) (bytes all : List ℕ) (result : Result Report E) → NothingYet → IsValued x → StandsFor v (settings x) bytes
-    → Extends a b (settings x) [] bytes → bytes ≡ all → w.scan.limit ≡ v.scan.limit → v.scan.limit ≡ x.limit → IfOk result (λ report. FinishesNow v w b c report) → OnOk result (IsMade x a c all)
+pub pieces_whole : {E : Type 0} (v w : Conversion) (x : Setup) (a b c : Option (List ℕ)) (bytes all : List ℕ) (result : Result Report E) → NothingYet → IsValued x → HasConverted v (setup_value x) bytes
+    → AppendsDecided a b (setup_value x) [] bytes → bytes ≡ all → w.scan.limit ≡ v.scan.limit → v.scan.limit ≡ x.limit → IfOk result (λ report. FinishesNow v w b c report) → OnOk result (IsMade x a c all)
 pieces_whole v w x a b c bytes all (Ok report) nothing valued y out e same limit h =
-    subst (λ (l : List ℕ). IsMade x a c l) e (made v w x a c bytes report nothing valued same limit (completed_after w a b c (settings x) [] bytes report out (h (settings x) bytes y)))
+    subst (λ (l : List ℕ). IsMade x a c l) e (made v w x a c bytes report nothing valued same limit (completed_after w a b c (setup_value x) [] bytes report out (h (setup_value x) bytes y)))
 pieces_whole v w x a b c bytes all (Err d) nothing valued y out e same limit h = tt
 
-pub pieces_empty : (v w : Conversion) (x : Setup) (a b c : Option (List ℕ)) (bytes all : List ℕ) → NothingYet → StandsFor v (settings x) bytes
-    → Extends a b (settings x) [] bytes → bytes ≡ all → w.scan.limit ≡ v.scan.limit → v.scan.limit ≡ x.limit → FinishesEmptyNow v w b c → IsMadeEmpty x a c all
+pub pieces_empty : (v w : Conversion) (x : Setup) (a b c : Option (List ℕ)) (bytes all : List ℕ) → NothingYet → HasConverted v (setup_value x) bytes
+    → AppendsDecided a b (setup_value x) [] bytes → bytes ≡ all → w.scan.limit ≡ v.scan.limit → v.scan.limit ≡ x.limit → FinishesEmptyNow v w b c → IsMadeEmpty x a c all
 pieces_empty v w x a b c bytes all nothing y out e same limit h =
-    subst (λ (l : List ℕ). IsMadeEmpty x a c l) e (made_empty v w x a c bytes nothing same limit (empty_after w a b c (settings x) [] bytes out (h (settings x) bytes y)))
+    subst (λ (l : List ℕ). IsMadeEmpty x a c l) e (made_empty v w x a c bytes nothing same limit (empty_after w a b c (setup_value x) [] bytes out (h (setup_value x) bytes y)))
 
-pub pieces_report : {E : Type 0} (v w : Conversion) (s : Settings) (b c : Option (List ℕ)) (bytes all : List ℕ) (result : Result Report E) → StandsFor v s bytes → bytes ≡ all
+pub pieces_report : {E : Type 0} (v w : Conversion) (s : SetupValue) (b c : Option (List ℕ)) (bytes all : List ℕ) (result : Result Report E) → HasConverted v s bytes → bytes ≡ all
     → IfOk result (λ report. FinishesNow v w b c report) → IfOk result (λ report. report ≡ report_of s all)
 pieces_report v w s b c bytes all (Ok report) x e h = subst (λ (l : List ℕ). report ≡ report_of s l) e (h s bytes x).report_is
 pieces_report v w s b c bytes all (Err d) x e h = tt
@@ -144,11 +144,11 @@ pieces_more bytes pieces i d lt =
 pub pieces_all : {X : Type 0} (bytes : X → List ℕ) (pieces : List X) (i : ℕ) → i ≤ length pieces → length pieces ≤ i → flat_map bytes (take i pieces) ≡ flat_map bytes pieces
 pieces_all bytes pieces i le ge = let e : i ≡ length pieces = omega arith in ap (λ k. flat_map bytes (take k pieces)) e ∙ ap (flat_map bytes) (take-length pieces)
 
-pub piece_more : (v w : Conversion) (s : Settings) (a b c : Option (List ℕ)) (bytes piece more : List ℕ) → StandsFor v s bytes → Extends a b s [] bytes → Goes v w b c piece → bytes ++ piece ≡ more
-    → StandsFor w s more × Extends a c s [] more
+pub piece_more : (v w : Conversion) (s : SetupValue) (a b c : Option (List ℕ)) (bytes piece more : List ℕ) → HasConverted v s bytes → AppendsDecided a b s [] bytes → TakesPiece v w b c piece → bytes ++ piece ≡ more
+    → HasConverted w s more × AppendsDecided a c s [] more
 piece_more v w s a b c bytes piece more x out go e =
     let p = go s bytes x in
-    (subst (λ (l : List ℕ). StandsFor w s l) e p.0, subst (λ (l : List ℕ). Extends a c s [] l) e (goes_on-trans a b c _ _ _ out p.1))
+    (subst (λ (l : List ℕ). HasConverted w s l) e p.0, subst (λ (l : List ℕ). AppendsDecided a c s [] l) e (goes_on-trans a b c _ _ _ out p.1))
 
 -- the first of some pieces and the rest of them make all
 pieces_split : {X : Type 0} (bytes : X → List ℕ) (pieces : List X) (i : ℕ) → flat_map bytes pieces ≡ flat_map bytes (take i pieces) ++ flat_map bytes (drop i pieces)
@@ -163,7 +163,7 @@ front_shorter bytes pieces i =
     omega arith
 
 -- a piece that goes over the limit makes all the pieces do so
-pub pieces_over : {X : Type 0} (v : Conversion) (s : Settings) (bytes : X → List ℕ) (pieces : List X) (i limit : ℕ) (piece : List ℕ) → StandsFor v s (flat_map bytes (take i pieces))
+pub pieces_over : {X : Type 0} (v : Conversion) (s : SetupValue) (bytes : X → List ℕ) (pieces : List X) (i limit : ℕ) (piece : List ℕ) → HasConverted v s (flat_map bytes (take i pieces))
     → v.scan.limit ≡ limit → flat_map bytes (take i pieces) ++ piece ≡ flat_map bytes (take (i + 1) pieces) → v.scan.limit < v.scan.taken + length piece → limit < length (flat_map bytes pieces)
 pieces_over v s bytes pieces i limit piece x same more over =
     let taken : v.scan.taken ≡ length (flat_map bytes (take i pieces)) = x.drained.framer.stands.taken in
@@ -172,34 +172,34 @@ pieces_over v s bytes pieces i limit piece x same more over =
     omega arith
 
 -- what went out up to a piece that goes over the limit: that of all the pieces up to it
-pub pieces_long : {Z : Type 0} → (v : Conversion) (s : Settings) (a b c : Option (List ℕ)) (pieces : List (Vec ℕ Z)) (i limit : ℕ) (piece : List ℕ) → NothingYet
-    → StandsFor v s (joined (take i pieces)) → Extends a b s [] (joined (take i pieces)) → v.scan.limit ≡ limit → joined (take i pieces) ++ piece ≡ joined (take (i + 1) pieces)
-    → v.scan.limit < v.scan.taken + length piece → GoesLong v b c piece → WrotePieces a c s limit pieces
+pub pieces_long : {Z : Type 0} → (v : Conversion) (s : SetupValue) (a b c : Option (List ℕ)) (pieces : List (Vec ℕ Z)) (i limit : ℕ) (piece : List ℕ) → NothingYet
+    → HasConverted v s (joined_pieces (take i pieces)) → AppendsDecided a b s [] (joined_pieces (take i pieces)) → v.scan.limit ≡ limit → joined_pieces (take i pieces) ++ piece ≡ joined_pieces (take (i + 1) pieces)
+    → v.scan.limit < v.scan.taken + length piece → TakesToLimit v b c piece → WrotePieces a c s limit pieces
 pieces_long v s a b c pieces i limit piece nothing x out same more over long =
-    let step = goes_on-trans a b c _ _ _ out (long s (joined (take i pieces)) x) in
-    let went : Appends a c (so_far s (decided_frames (take v.scan.limit (joined (take i pieces) ++ piece)))) = from_nothing nothing a c s _ step in
-    let taken : v.scan.taken ≡ length (joined (take i pieces)) = x.drained.framer.stands.taken in
-    let size : length (joined (take i pieces) ++ piece) ≡ length (joined (take i pieces)) + length piece = length-append (joined (take i pieces)) piece in
-    let room : v.scan.limit ≤ length (joined (take i pieces) ++ piece) = omega (arith, over, taken, size) in
-    let all : joined pieces ≡ (joined (take i pieces) ++ piece) ++ joined (drop (i + 1) pieces) =
-    pieces_split (λ p. p.items) pieces (i + 1) ∙ ap (λ l. l ++ joined (drop (i + 1) pieces)) (sym more) in
-    let cut : take v.scan.limit (joined (take i pieces) ++ piece) ≡ take limit (joined pieces) =
-    sym (ap (take limit) all ∙ ap (λ n. take n ((joined (take i pieces) ++ piece) ++ joined (drop (i + 1) pieces))) (sym same)
-    ∙ take-append-le v.scan.limit (joined (take i pieces) ++ piece) (joined (drop (i + 1) pieces)) room) in
+    let step = goes_on-trans a b c _ _ _ out (long s (joined_pieces (take i pieces)) x) in
+    let went : Appends a c (so_far s (decided_frames (take v.scan.limit (joined_pieces (take i pieces) ++ piece)))) = from_nothing nothing a c s _ step in
+    let taken : v.scan.taken ≡ length (joined_pieces (take i pieces)) = x.drained.framer.stands.taken in
+    let size : length (joined_pieces (take i pieces) ++ piece) ≡ length (joined_pieces (take i pieces)) + length piece = length-append (joined_pieces (take i pieces)) piece in
+    let room : v.scan.limit ≤ length (joined_pieces (take i pieces) ++ piece) = omega (arith, over, taken, size) in
+    let all : joined_pieces pieces ≡ (joined_pieces (take i pieces) ++ piece) ++ joined_pieces (drop (i + 1) pieces) =
+    pieces_split (λ p. p.items) pieces (i + 1) ∙ ap (λ l. l ++ joined_pieces (drop (i + 1) pieces)) (sym more) in
+    let cut : take v.scan.limit (joined_pieces (take i pieces) ++ piece) ≡ take limit (joined_pieces pieces) =
+    sym (ap (take limit) all ∙ ap (λ n. take n ((joined_pieces (take i pieces) ++ piece) ++ joined_pieces (drop (i + 1) pieces))) (sym same)
+    ∙ take-append-le v.scan.limit (joined_pieces (take i pieces) ++ piece) (joined_pieces (drop (i + 1) pieces)) room) in
     subst (λ (l : List ℕ). Appends a c (so_far s (decided_frames l))) cut went
 
 -- what went out where the writer failed at a piece
-pub pieces_broke : {Z : Type 0} → (v : Conversion) (s : Settings) (a b c : Option (List ℕ)) (pieces : List (Vec ℕ Z)) (i : ℕ) (piece : List ℕ) → NothingYet
-    → StandsFor v s (joined (take i pieces)) → Extends a b s [] (joined (take i pieces)) → i < length pieces → joined (take i pieces) ++ piece ≡ joined (take (i + 1) pieces)
-    → Stops v b c piece → BrokeInPieces a c s pieces
+pub pieces_broke : {Z : Type 0} → (v : Conversion) (s : SetupValue) (a b c : Option (List ℕ)) (pieces : List (Vec ℕ Z)) (i : ℕ) (piece : List ℕ) → NothingYet
+    → HasConverted v s (joined_pieces (take i pieces)) → AppendsDecided a b s [] (joined_pieces (take i pieces)) → i < length pieces → joined_pieces (take i pieces) ++ piece ≡ joined_pieces (take (i + 1) pieces)
+    → WritesPrefixOfAdded v b c piece → BrokeInPieces a c s pieces
 pieces_broke v s a b c pieces i piece nothing x out less more stop =
-    let last : BreaksOff b c (of_first s i pieces) (of_first s (i + 1) pieces) =
-    subst (λ (l : List ℕ). BreaksOff b c (of_first s i pieces) (so_far s (decided_frames l))) more (stop s (joined (take i pieces)) x) in
-    inl (i, less, between a b c s (joined (take i pieces)) (of_first s (i + 1) pieces) nothing out last)
+    let last : AppendsPrefixBetween b c (of_first s i pieces) (of_first s (i + 1) pieces) =
+    subst (λ (l : List ℕ). AppendsPrefixBetween b c (of_first s i pieces) (so_far s (decided_frames l))) more (stop s (joined_pieces (take i pieces)) x) in
+    inl (i, less, between a b c s (joined_pieces (take i pieces)) (of_first s (i + 1) pieces) nothing out last)
 
 -- what went out where it failed behind all of them
-pub pieces_broke_at_end : {Z : Type 0} → (v : Conversion) (s : Settings) (a b c : Option (List ℕ)) (pieces : List (Vec ℕ Z)) (bytes : List ℕ) → NothingYet
-    → StandsFor v s bytes → Extends a b s [] bytes → bytes ≡ joined pieces → StopsAtEnd v b c → BrokeInPieces a c s pieces
+pub pieces_broke_at_end : {Z : Type 0} → (v : Conversion) (s : SetupValue) (a b c : Option (List ℕ)) (pieces : List (Vec ℕ Z)) (bytes : List ℕ) → NothingYet
+    → HasConverted v s bytes → AppendsDecided a b s [] bytes → bytes ≡ joined_pieces pieces → StopsAtEnd v b c → BrokeInPieces a c s pieces
 pieces_broke_at_end v s a b c pieces bytes nothing x out all stop =
     inr (subst (λ (l : List ℕ). AppendsPrefix a c (file s (frames_of l))) all (broken_at_end a c s bytes nothing (breaks_off-after a b c _ _ _ out (stop s bytes x))))
 

@@ -4,13 +4,13 @@ use Rattle.std.specs.Prelude.{Bool, true, false, Option, Some, None, if◌then�
 use Rattle.std.specs.Io.KnownBytes.{Consumes, IsAtEnd}
 use Rattle.rtcm_scan.specs.Frames.{frames_of}
 use Rattle.rtcm_scan.specs.Decided.{decided}
-use Rattle.rtcm_scan.specs.Scan.{Scan}
+use Rattle.rtcm_scan.specs.Scan.{FramerValue}
 use Rattle.rtcm_scan.specs.Drained.{IsDrained}
-use Rattle.rtcm_scan.specs.Examined.{IsCounted}
-use Rattle.rtcm_convert.specs.Converted.{Settings, epochs_in}
+use Rattle.rtcm_scan.specs.Examined.{IsCountedExactly}
+use Rattle.rtcm_convert.specs.Converted.{SetupValue, epochs_in}
 use Rattle.rtcm_convert.specs.Filed.{HasGathered}
 use Rattle.rtcm_convert.specs.Outcomes.{report_of}
-use Rattle.rtcm_convert.specs.Stream.{Drained, StandsForSome, Extends, Breaks, Completes, BreaksAtEnd}
+use Rattle.rtcm_convert.specs.Stream.{Drained, HasFramedSome, AppendsDecided, AppendsPrefixOfDecided, AppendsRest, AppendsPrefixOfRest}
 use Rattle.rtcm_convert.specs.declared.filer.Filer.{Filer}
 use Rattle.rtcm_convert.specs.declared.report.Report.{Report}
 use Rattle.rtcm_convert.specs.declared.fault.Fault.{Fault}
@@ -19,7 +19,7 @@ use Rattle.rtcm_convert.specs.declared.fault.Fault.TheVariants.{Failed, Finished
 -- scan: what is seen of its framer; filer: what writes the epochs; has_failed: an earlier call failed; has_ended: the
 -- stream was ended
 pub record Conversion : Type 0 where
-  pub scan : Scan
+  pub scan : FramerValue
   pub filer : Filer
   pub has_failed : Bool
   pub has_ended : Bool
@@ -34,7 +34,7 @@ pub record IsFit (v : Conversion) : Type 0 where
   pub going : IsGoing v → v.filer.gatherer.has_ended ≡ false
   pub listening : IsGoing v → v.scan.has_ended ≡ false
   pub ready : IsGoing v → v.scan.is_ready ≡ true
-  pub examined : StandsForSome v.scan
+  pub examined : HasFramedSome v.scan
 
 -- the fault that every call answers from then on
 abbrev pub refusal : Conversion → Option Fault
@@ -42,17 +42,17 @@ refusal v = (if v.has_ended then Some Finished else if v.has_failed then Some Fa
 
 -- Made with these settings, the converter took these bytes: it holds those that are not decided, examined what the
 -- decided ones ask for, and wrote the epochs that their frames close.
-pub record StandsFor (v : Conversion) (s : Settings) (b : List ℕ) : Type 0 where
+pub record HasConverted (v : Conversion) (s : SetupValue) (b : List ℕ) : Type 0 where
   pub going : IsGoing v
   pub drained : Drained v.scan v.filer s b
 
 -- the stream of these bytes, which are no more than the limit, was ended: all of it was taken, decided, examined and gathered
-pub record HasFinished (v : Conversion) (s : Settings) (b : List ℕ) : Type 0 where
+pub record HasFinished (v : Conversion) (s : SetupValue) (b : List ℕ) : Type 0 where
   pub ended : v.scan.has_ended ≡ true
   pub taken : v.scan.taken ≡ length b
   pub within : length b ≤ v.scan.limit
   pub drained : IsDrained v.scan b (frames_of b)
-  pub counted : IsCounted v.scan b
+  pub counted : IsCountedExactly v.scan b
   pub gathered : HasGathered v.filer s (frames_of b)
 
 -- it took n bytes more, within the same limit, and goes on
@@ -60,50 +60,50 @@ abbrev pub GoesOnBy : Conversion → Conversion → ℕ → Type 0
 GoesOnBy v w n = IsGoing w × (w.scan.limit ≡ v.scan.limit) × (w.scan.taken ≡ v.scan.taken + n) × (0 < n → w.scan.taken ≤ w.scan.limit)
 
 -- it took these bytes more, and what they add went out
-abbrev pub Goes : Conversion → Conversion → Option (List ℕ) → Option (List ℕ) → List ℕ → Type 0
-Goes v w a b piece = (s : Settings) (bytes : List ℕ) → StandsFor v s bytes → StandsFor w s (bytes ++ piece) × Extends a b s bytes (bytes ++ piece)
+abbrev pub TakesPiece : Conversion → Conversion → Option (List ℕ) → Option (List ℕ) → List ℕ → Type 0
+TakesPiece v w a b piece = (s : SetupValue) (bytes : List ℕ) → HasConverted v s bytes → HasConverted w s (bytes ++ piece) × AppendsDecided a b s bytes (bytes ++ piece)
 
 -- it took these bytes up to its limit, and what they add went out
-abbrev pub GoesLong : Conversion → Option (List ℕ) → Option (List ℕ) → List ℕ → Type 0
-GoesLong v a b piece = (s : Settings) (bytes : List ℕ) → StandsFor v s bytes → Extends a b s bytes (take v.scan.limit (bytes ++ piece))
+abbrev pub TakesToLimit : Conversion → Option (List ℕ) → Option (List ℕ) → List ℕ → Type 0
+TakesToLimit v a b piece = (s : SetupValue) (bytes : List ℕ) → HasConverted v s bytes → AppendsDecided a b s bytes (take v.scan.limit (bytes ++ piece))
 
--- the front of what these bytes add went out
-abbrev pub Stops : Conversion → Option (List ℕ) → Option (List ℕ) → List ℕ → Type 0
-Stops v a b piece = (s : Settings) (bytes : List ℕ) → StandsFor v s bytes → Breaks a b s bytes (bytes ++ piece)
+-- a prefix of what these bytes add went out
+abbrev pub WritesPrefixOfAdded : Conversion → Option (List ℕ) → Option (List ℕ) → List ℕ → Type 0
+WritesPrefixOfAdded v a b piece = (s : SetupValue) (bytes : List ℕ) → HasConverted v s bytes → AppendsPrefixOfDecided a b s bytes (bytes ++ piece)
 
 -- the stream ends here, and a front of the rest of its file went out
 abbrev pub StopsAtEnd : Conversion → Option (List ℕ) → Option (List ℕ) → Type 0
-StopsAtEnd v a b = (s : Settings) (bytes : List ℕ) → StandsFor v s bytes → BreaksAtEnd a b s bytes bytes
+StopsAtEnd v a b = (s : SetupValue) (bytes : List ℕ) → HasConverted v s bytes → AppendsPrefixOfRest a b s bytes bytes
 
 -- with these bytes more, the stream is longer than the limit
-abbrev pub IsTooLong : Conversion → List ℕ → Type 0
-IsTooLong v rest = (s : Settings) (bytes : List ℕ) → StandsFor v s bytes → v.scan.limit < length (bytes ++ rest)
+abbrev pub IsPastLimit : Conversion → List ℕ → Type 0
+IsPastLimit v rest = (s : SetupValue) (bytes : List ℕ) → HasConverted v s bytes → v.scan.limit < length (bytes ++ rest)
 
 -- some bytes more were read and taken, and what they add went out
-abbrev pub Ran : Conversion → Conversion → Option (List ℕ) → Option (List ℕ) → Option (List ℕ) → Option (List ℕ) → Type 0
-Ran v w r r' a b = (front : List ℕ) × Consumes r r' front × (w.scan.taken ≡ v.scan.taken + length front) × Goes v w a b front
+abbrev pub TakesFromReader : Conversion → Conversion → Option (List ℕ) → Option (List ℕ) → Option (List ℕ) → Option (List ℕ) → Type 0
+TakesFromReader v w r r' a b = (front : List ℕ) × Consumes r r' front × (w.scan.taken ≡ v.scan.taken + length front) × TakesPiece v w a b front
 
 -- what these bytes add went out
-abbrev pub Adds : Conversion → Option (List ℕ) → Option (List ℕ) → List ℕ → Type 0
-Adds v a b front = (s : Settings) (bytes : List ℕ) → StandsFor v s bytes → Extends a b s bytes (bytes ++ front)
+abbrev pub WritesAdded : Conversion → Option (List ℕ) → Option (List ℕ) → List ℕ → Type 0
+WritesAdded v a b front = (s : SetupValue) (bytes : List ℕ) → HasConverted v s bytes → AppendsDecided a b s bytes (bytes ++ front)
 
 -- some bytes more were read and taken, and what they add went out; then the reader failed
 abbrev pub RanToFault : Conversion → Conversion → Option (List ℕ) → Option (List ℕ) → Option (List ℕ) → Option (List ℕ) → Type 0
-RanToFault v w r r' a b = (front : List ℕ) × Consumes r r' front × (w.scan.taken ≡ v.scan.taken + length front) × Adds v a b front
+RanToFault v w r r' a b = (front : List ℕ) × Consumes r r' front × (w.scan.taken ≡ v.scan.taken + length front) × WritesAdded v a b front
 
 -- some bytes more were read, and taken up to the limit; what these add went out
 abbrev pub RanToLimit : Conversion → Option (List ℕ) → Option (List ℕ) → Option (List ℕ) → Option (List ℕ) → Type 0
-RanToLimit v r r' a b = (front : List ℕ) × Consumes r r' front × GoesLong v a b front
+RanToLimit v r r' a b = (front : List ℕ) × Consumes r r' front × TakesToLimit v a b front
 
 -- a piece was read that goes over the limit, and was taken up to it
 abbrev pub ReadOverLimit : Conversion → Option (List ℕ) → Option (List ℕ) → Option (List ℕ) → Option (List ℕ) → Type 0
-ReadOverLimit v r r' a b = (piece : List ℕ) × Consumes r r' piece × GoesLong v a b piece × (v.scan.limit < v.scan.taken + length piece)
+ReadOverLimit v r r' a b = (piece : List ℕ) × Consumes r r' piece × TakesToLimit v a b piece × (v.scan.limit < v.scan.taken + length piece)
 
--- What these bytes add went out, up to `mid`, and the front of what a last piece adds; the piece fits behind the bytes that were not decided.
-pub record StopsAt (a b : Option (List ℕ)) (s : Settings) (bytes piece : List ℕ) (all : List ℕ) : Type 0 where
+-- What these bytes add went out, up to `mid`, and a prefix of what a last piece adds; the piece fits behind the bytes that were not decided.
+pub record FailsAtPiece (a b : Option (List ℕ)) (s : SetupValue) (bytes piece : List ℕ) (all : List ℕ) : Type 0 where
   pub mid : Option (List ℕ)
-  pub before : Extends a mid s bytes all
-  pub last : Breaks mid b s all (all ++ piece)
+  pub before : AppendsDecided a mid s bytes all
+  pub last : AppendsPrefixOfDecided mid b s all (all ++ piece)
   pub near : (length all - decided all) + length piece ≤ 1029
 
 -- at least n bytes more were taken, and at most m
@@ -114,51 +114,51 @@ pub record IsTakenFrom (v w : Conversion) (n m : ℕ) : Type 0 where
 -- a piece was read at which the writer failed; it fits behind the bytes held
 abbrev pub StopsAtPiece : Conversion → Conversion → Option (List ℕ) → Option (List ℕ) → Option (List ℕ) → Option (List ℕ) → Type 0
 StopsAtPiece v w r r' a b = (piece : List ℕ) × Consumes r r' piece × (length v.scan.held + length piece ≤ 1029)
-    × IsTakenFrom v w 0 (length piece) × Stops v a b piece
+    × IsTakenFrom v w 0 (length piece) × WritesPrefixOfAdded v a b piece
 
 -- the bytes that were read split into some that were taken and a last piece at which the writer failed
-abbrev pub StopsFeeding : Conversion → Conversion → Option (List ℕ) → Option (List ℕ) → Option (List ℕ) → Option (List ℕ) → Type 0
-StopsFeeding v w r r' a b = (front : List ℕ) × (piece : List ℕ) × Consumes r r' (front ++ piece)
+abbrev pub FailsFeeding : Conversion → Conversion → Option (List ℕ) → Option (List ℕ) → Option (List ℕ) → Option (List ℕ) → Type 0
+FailsFeeding v w r r' a b = (front : List ℕ) × (piece : List ℕ) × Consumes r r' (front ++ piece)
     × IsTakenFrom v w (length front) (length front + length piece)
-    × ((s : Settings) (bytes : List ℕ) → StandsFor v s bytes → StopsAt a b s bytes piece (bytes ++ front))
+    × ((s : SetupValue) (bytes : List ℕ) → HasConverted v s bytes → FailsAtPiece a b s bytes piece (bytes ++ front))
 
 -- all was read, and the writer failed in what was left to write
-abbrev pub StopsFinishing : Conversion → Conversion → Option (List ℕ) → Option (List ℕ) → Option (List ℕ) → Option (List ℕ) → Type 0
-StopsFinishing v w r r' a b = (front : List ℕ) × Consumes r r' front × IsAtEnd r' × (w.scan.taken ≡ v.scan.taken + length front)
-    × ((s : Settings) (bytes : List ℕ) → StandsFor v s bytes → BreaksAtEnd a b s bytes (bytes ++ front))
+abbrev pub FailsFinishing : Conversion → Conversion → Option (List ℕ) → Option (List ℕ) → Option (List ℕ) → Option (List ℕ) → Type 0
+FailsFinishing v w r r' a b = (front : List ℕ) × Consumes r r' front × IsAtEnd r' × (w.scan.taken ≡ v.scan.taken + length front)
+    × ((s : SetupValue) (bytes : List ℕ) → HasConverted v s bytes → AppendsPrefixOfRest a b s bytes (bytes ++ front))
 
 -- the writer failed at one of the pieces, or when all was read
 abbrev pub StopsRunning : Conversion → Conversion → Option (List ℕ) → Option (List ℕ) → Option (List ℕ) → Option (List ℕ) → Type 0
-StopsRunning v w r r' a b = StopsFeeding v w r r' a b ⊎ StopsFinishing v w r r' a b
+StopsRunning v w r r' a b = FailsFeeding v w r r' a b ⊎ FailsFinishing v w r r' a b
 
 -- The rest of the file of all these bytes went out, which has an epoch; that is the report; and all was decided and examined.
-pub record Completed (w : Conversion) (a b : Option (List ℕ)) (s : Settings) (bytes all : List ℕ) (report : Report) : Type 0 where
-  pub out : Completes a b s bytes all
+pub record Completed (w : Conversion) (a b : Option (List ℕ)) (s : SetupValue) (bytes all : List ℕ) (report : Report) : Type 0 where
+  pub out : AppendsRest a b s bytes all
   pub some : 0 < epochs_in s (frames_of all)
   pub report_is : report ≡ report_of s all
   pub finished : HasFinished w s all
 
 -- No epoch stands in the file of all these bytes; the rest of it, which is nothing, went out; and all was decided and examined.
-pub record CompletedEmpty (w : Conversion) (a b : Option (List ℕ)) (s : Settings) (bytes all : List ℕ) : Type 0 where
+pub record CompletedEmpty (w : Conversion) (a b : Option (List ℕ)) (s : SetupValue) (bytes all : List ℕ) : Type 0 where
   pub none : epochs_in s (frames_of all) ≡ 0
-  pub out : Completes a b s bytes all
+  pub out : AppendsRest a b s bytes all
   pub finished : HasFinished w s all
 
 -- the stream ends here, and the file was completed
 abbrev pub FinishesNow : Conversion → Conversion → Option (List ℕ) → Option (List ℕ) → Report → Type 0
-FinishesNow v w a b report = (s : Settings) (bytes : List ℕ) → StandsFor v s bytes → Completed w a b s bytes bytes report
+FinishesNow v w a b report = (s : SetupValue) (bytes : List ℕ) → HasConverted v s bytes → Completed w a b s bytes bytes report
 
 -- it was completed and is empty
 abbrev pub FinishesEmptyNow : Conversion → Conversion → Option (List ℕ) → Option (List ℕ) → Type 0
-FinishesEmptyNow v w a b = (s : Settings) (bytes : List ℕ) → StandsFor v s bytes → CompletedEmpty w a b s bytes bytes
+FinishesEmptyNow v w a b = (s : SetupValue) (bytes : List ℕ) → HasConverted v s bytes → CompletedEmpty w a b s bytes bytes
 
 -- with these bytes more, the file was completed
-abbrev pub Finishes : Conversion → Conversion → Option (List ℕ) → Option (List ℕ) → Report → List ℕ → Type 0
-Finishes v w a b report rest = (s : Settings) (bytes : List ℕ) → StandsFor v s bytes → Completed w a b s bytes (bytes ++ rest) report
+abbrev pub CompletesFile : Conversion → Conversion → Option (List ℕ) → Option (List ℕ) → Report → List ℕ → Type 0
+CompletesFile v w a b report rest = (s : SetupValue) (bytes : List ℕ) → HasConverted v s bytes → Completed w a b s bytes (bytes ++ rest) report
 
 -- with these bytes more, it was completed and is empty
-abbrev pub FinishesEmpty : Conversion → Conversion → Option (List ℕ) → Option (List ℕ) → List ℕ → Type 0
-FinishesEmpty v w a b rest = (s : Settings) (bytes : List ℕ) → StandsFor v s bytes → CompletedEmpty w a b s bytes (bytes ++ rest)
+abbrev pub CompletesEmptyFile : Conversion → Conversion → Option (List ℕ) → Option (List ℕ) → List ℕ → Type 0
+CompletesEmptyFile v w a b rest = (s : SetupValue) (bytes : List ℕ) → HasConverted v s bytes → CompletedEmpty w a b s bytes (bytes ++ rest)
 
 -- what a refused call leaves of a converter that went on: one that is finished, or one that has failed
 abbrev pub LeftBy : Fault → Conversion → Type 0

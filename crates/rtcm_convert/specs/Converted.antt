@@ -5,15 +5,15 @@ use Rattle.rtcm_scan.specs.Frames.{Framed}
 use Rattle.rtcm_msg.specs.declared.message.Message.{Message}
 use Rattle.rtcm_msg.specs.declared.fault.MsgFault.{MsgFault}
 use Rattle.rtcm_msg.specs.Reading.{message_at}
-use Rattle.obs_epoch.specs.Values.{PlanValue, Closed, satellites}
-use Rattle.obs_epoch.specs.Heard.{Setup, Heard, heard}
+use Rattle.obs_epoch.specs.Values.{PlanValue, Closed, satellites_written}
+use Rattle.obs_epoch.specs.Heard.{GatherSetup, Heard, heard}
 use Rattle.obs_epoch.specs.Gathering.{all_epochs, closed_epochs}
 use Rattle.rinex_file.specs.Texts.{HeaderLists}
 use Rattle.rinex_file.specs.File.{header_text, closed_text}
 
 -- what a conversion is told at first
-pub record Settings : Type 0 where
-  pub gather : Setup
+pub record SetupValue : Type 0 where
+  pub gather : GatherSetup
   pub texts : HeaderLists
 
 -- what is heard of a message that was read; nothing of one that was refused
@@ -30,27 +30,27 @@ abbrev pub messages_of : List Framed → List Heard
 messages_of fs = filter_map heard_in fs
 
 -- the epochs in which a satellite has a value
-abbrev pub written : List Closed → List Closed
-written es = filter (λ e. nat_lt 0 (satellites e.epoch)) es
+abbrev pub written_epochs : List Closed → List Closed
+written_epochs es = filter (λ e. nat_lt 0 (satellites_written e.epoch)) es
 
 -- a header with the first epoch's time and the station values known when it was closed, then the epochs, each behind an event
 -- where the station values known when it was closed are no longer those of the epoch before; nothing where there is no epoch
-unfoldable pub text_of : HeaderLists → PlanValue → List Closed → List ℕ
-text_of texts plan [] = []
-text_of texts plan (e ∷ es) = header_text texts plan e.values e.epoch.time ++ closed_text plan e.values (e ∷ es)
+unfoldable pub text_of_epochs : HeaderLists → PlanValue → List Closed → List ℕ
+text_of_epochs texts plan [] = []
+text_of_epochs texts plan (e ∷ es) = header_text texts plan e.values e.epoch.time ++ closed_text plan e.values (e ∷ es)
 
 -- the text of those of these epochs in which a satellite has a value
-abbrev pub text_with : Settings → List Closed → List ℕ
-text_with s es = text_of s.texts s.gather.plan (written es)
+abbrev pub text_with : SetupValue → List Closed → List ℕ
+text_with s es = text_of_epochs s.texts s.gather.plan (written_epochs es)
 
 -- the file that these frames make
-abbrev pub file : Settings → List Framed → List ℕ
+abbrev pub file : SetupValue → List Framed → List ℕ
 file s fs = text_with s (all_epochs s.gather (messages_of fs))
 
 -- as far as its epochs are closed by these frames
-abbrev pub so_far : Settings → List Framed → List ℕ
+abbrev pub so_far : SetupValue → List Framed → List ℕ
 so_far s fs = text_with s (closed_epochs s.gather (messages_of fs))
 
 -- how many epochs stand in the file
-abbrev pub epochs_in : Settings → List Framed → ℕ
-epochs_in s fs = length (written (all_epochs s.gather (messages_of fs)))
+abbrev pub epochs_in : SetupValue → List Framed → ℕ
+epochs_in s fs = length (written_epochs (all_epochs s.gather (messages_of fs)))

@@ -1,13 +1,13 @@
 -- What stands in the file when the epochs of some messages were written.
 use Rattle.std.specs.Prelude.{◌≡◌, ℕ, ◌+◌, nat_lt, true, List, [], ◌∷◌, ◌++◌, length, Option, Some, None, if◌then◌else◌}
 use Rattle.rtcm_scan.specs.Frames.{Framed}
-use Rattle.obs_epoch.specs.Values.{PlanValue, EpochValue, Closed, satellites}
+use Rattle.obs_epoch.specs.Values.{PlanValue, EpochValue, Closed, satellites_written}
 use Rattle.obs_epoch.specs.declared.cell.StationValues.{StationValues}
 use Rattle.obs_epoch.specs.Heard.{Heard}
-use Rattle.obs_epoch.specs.Gathering.{Gathers, closed_epochs}
+use Rattle.obs_epoch.specs.Gathering.{HasGatheredEpochs, closed_epochs}
 use Rattle.rinex_file.specs.Texts.{HeaderLists}
 use Rattle.rinex_file.specs.File.{header_text, epoch_text, change_text}
-use Rattle.rtcm_convert.specs.Converted.{Settings, messages_of, written}
+use Rattle.rtcm_convert.specs.Converted.{SetupValue, messages_of, written_epochs}
 use Rattle.rtcm_convert.specs.Outcomes.{outcomes, tally_of, capped, capped_tally, AreFew}
 use Rattle.rtcm_convert.specs.declared.filer.Filer.{Filer}
 
@@ -20,47 +20,47 @@ opening texts plan (Some before) e values = change_text before values
 -- what an epoch that was closed adds to a file
 abbrev pub added : HeaderLists → PlanValue → Option StationValues → Option EpochValue → StationValues → List ℕ
 added texts plan before None values = []
-added texts plan before (Some e) values = (if nat_lt 0 (satellites e) then opening texts plan before e values ++ epoch_text plan e else [])
+added texts plan before (Some e) values = (if nat_lt 0 (satellites_written e) then opening texts plan before e values ++ epoch_text plan e else [])
 
 -- the station values that were written last then
 abbrev pub values_after : Option StationValues → Option EpochValue → StationValues → Option StationValues
 values_after before None values = before
-values_after before (Some e) values = (if nat_lt 0 (satellites e) then Some values else before)
+values_after before (Some e) values = (if nat_lt 0 (satellites_written e) then Some values else before)
 
 -- the station values behind these epochs, where these stand before them
-abbrev pub values_behind : StationValues → List Closed → StationValues
-values_behind v [] = v
-values_behind v (c ∷ cs) = values_behind c.values cs
+abbrev pub values_behind_closed : StationValues → List Closed → StationValues
+values_behind_closed v [] = v
+values_behind_closed v (c ∷ cs) = values_behind_closed c.values cs
 
 -- the station values that were written last in a file of these epochs
 abbrev pub last_values : List Closed → Option StationValues
 last_values [] = None
-last_values (c ∷ cs) = Some (values_behind c.values cs)
+last_values (c ∷ cs) = Some (values_behind_closed c.values cs)
 
 -- how many epochs the file has then
 abbrev pub epochs_after : ℕ → Option EpochValue → ℕ
 epochs_after n None = n
-epochs_after n (Some e) = (if nat_lt 0 (satellites e) then capped (n + 1) else n)
+epochs_after n (Some e) = (if nat_lt 0 (satellites_written e) then capped (n + 1) else n)
 
 -- the filer took these messages and wrote these epochs; where `again` is a message, it is to be handed in again
-pub record Writes (v : Filer) (s : Settings) (ms : List Heard) (es : List Closed) (again : Option Heard) : Type 0 where
+pub record HasFiledEpochs (v : Filer) (s : SetupValue) (ms : List Heard) (es : List Closed) (again : Option Heard) : Type 0 where
   pub texts : v.texts ≡ s.texts
-  pub gatherer : Gathers v.gatherer s.gather ms es again
-  pub epochs : v.epochs ≡ capped (length (written es))
-  pub values : v.values ≡ last_values (written es)
+  pub gatherer : HasGatheredEpochs v.gatherer s.gather ms es again
+  pub epochs : v.epochs ≡ capped (length (written_epochs es))
+  pub values : v.values ≡ last_values (written_epochs es)
 
 -- the filer took these messages and wrote the epochs that they close
-abbrev pub Settled : Filer → Settings → List Heard → Type 0
-Settled v s ms = Writes v s ms (closed_epochs s.gather ms) None
+abbrev pub Settled : Filer → SetupValue → List Heard → Type 0
+Settled v s ms = HasFiledEpochs v s ms (closed_epochs s.gather ms) None
 
 -- the filer took the messages of these frames, and no more will come
-pub record HasGathered (v : Filer) (s : Settings) (fs : List Framed) : Type 0 where
+pub record HasGathered (v : Filer) (s : SetupValue) (fs : List Framed) : Type 0 where
   pub ended : v.gatherer.has_ended ≡ true
   pub epochs : List Closed
-  pub gathers : Gathers v.gatherer s.gather (messages_of fs) epochs None
+  pub gathers : HasGatheredEpochs v.gatherer s.gather (messages_of fs) epochs None
 
 -- the filer took the messages of these frames and wrote the epochs that they close
-pub record Files (v : Filer) (s : Settings) (fs : List Framed) : Type 0 where
+pub record HasFiledFrames (v : Filer) (s : SetupValue) (fs : List Framed) : Type 0 where
   pub settled : Settled v s (messages_of fs)
   pub tally : v.tally ≡ capped_tally (tally_of (outcomes s fs))
   pub few : AreFew (outcomes s fs)

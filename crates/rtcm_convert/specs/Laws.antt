@@ -6,31 +6,31 @@ use Rattle.rtcm_bits.specs.Prefix.{IsPrefix}
 use Rattle.obs_epoch.specs.Values.{PlanValue, Closed}
 use Rattle.rinex_file.specs.Texts.{HeaderLists}
 use Rattle.rinex_file.specs.File.{file_text, gathered}
-use Rattle.rtcm_convert.specs.Converted.{Settings, text_of, so_far, file}
+use Rattle.rtcm_convert.specs.Converted.{SetupValue, text_of_epochs, so_far, file}
 use Rattle.rtcm_convert.specs.Outcomes.{report_of}
 use Rattle.rtcm_convert.specs.declared.report.Report.{Report}
 
--- what is written of some bytes stands at the front of the file, however the stream goes on
+-- what is written of some bytes is a prefix of the file, however the stream goes on
 abbrev pub WrittenStays : Type 0
-WrittenStays = (s : Settings) (b more : List ℕ) → IsPrefix (so_far s (decided_frames b)) (file s (frames_of (b ++ more)))
+WrittenStays = (s : SetupValue) (b more : List ℕ) → IsPrefix (so_far s (decided_frames b)) (file s (frames_of (b ++ more)))
 
--- and at the front of what is written of more bytes
+-- and a prefix of what is written of more bytes
 abbrev pub WrittenGrows : Type 0
-WrittenGrows = (s : Settings) (b more : List ℕ) → IsPrefix (so_far s (decided_frames b)) (so_far s (decided_frames (b ++ more)))
+WrittenGrows = (s : SetupValue) (b more : List ℕ) → IsPrefix (so_far s (decided_frames b)) (so_far s (decided_frames (b ++ more)))
 
 -- the same over frames
 abbrev pub FiledStays : Type 0
-FiledStays = (s : Settings) (fs more : List Framed) → IsPrefix (so_far s fs) (file s (fs ++ more))
+FiledStays = (s : SetupValue) (fs more : List Framed) → IsPrefix (so_far s fs) (file s (fs ++ more))
 
 abbrev pub FiledGrows : Type 0
-FiledGrows = (s : Settings) (fs more : List Framed) → IsPrefix (so_far s fs) (so_far s (fs ++ more))
+FiledGrows = (s : SetupValue) (fs more : List Framed) → IsPrefix (so_far s fs) (so_far s (fs ++ more))
 
 -- nothing is written of no bytes
 abbrev pub NothingYet : Type 0
-NothingYet = (s : Settings) → so_far s (decided_frames []) ≡ []
+NothingYet = (s : SetupValue) → so_far s (decided_frames []) ≡ []
 
 abbrev pub NothingFiled : Type 0
-NothingFiled = (s : Settings) → so_far s [] ≡ []
+NothingFiled = (s : SetupValue) → so_far s [] ≡ []
 
 -- so many frames were counted, and each of them once among the seven kinds
 pub record IsCountedOnce (r : Report) (frames : ℕ) : Type 0 where
@@ -39,10 +39,10 @@ pub record IsCountedOnce (r : Report) (frames : ℕ) : Type 0 where
 
 -- so it is in the report of each stream that a converter takes
 abbrev pub CountedOnce : Type 0
-CountedOnce = (s : Settings) (b : List ℕ) → IsCountedOnce (report_of s b) (length (frames_of b))
+CountedOnce = (s : SetupValue) (b : List ℕ) → IsCountedOnce (report_of s b) (length (frames_of b))
 
 -- epochs in which a satellite has a value make the text of a file value, with the station values known when the first was closed,
 -- and a change of them wherever those of the next are others
 abbrev pub IsFileText : Type 0
 IsFileText = (texts : HeaderLists) (plan : PlanValue) (e : Closed) (es : List Closed)
-    → text_of texts plan (e ∷ es) ≡ file_text (gathered texts plan e.values (e ∷ es))
+    → text_of_epochs texts plan (e ∷ es) ≡ file_text (gathered texts plan e.values (e ∷ es))

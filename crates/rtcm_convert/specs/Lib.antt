@@ -6,7 +6,7 @@ pub mod Filed
 pub mod Steps
 pub mod Stream
 pub mod Conversion
-pub mod Told
+pub mod SetupValues
 pub mod Made
 pub mod Kept
 pub mod Laws

@@ -1,45 +1,45 @@
 -- What becomes of each frame, and the counts of that.
 use Rattle.std.specs.Prelude.{ℕ, ◌≤◌, ◌+◌, ◌-◌, ◌^◌, min, List, [], ◌∷◌, ◌++◌, length, sum_by, Option, Some, None, option_map}
 use Rattle.rtcm_scan.specs.Frames.{Framed, frames_of}
-use Rattle.rtcm_scan.specs.Decided.{given_up}
+use Rattle.rtcm_scan.specs.Decided.{skipped_before}
 use Rattle.obs_epoch.specs.declared.taken.Kind.{Kind}
 use Rattle.obs_epoch.specs.declared.taken.Kind.TheVariants as kind
 use Rattle.obs_epoch.specs.Kinds.{kind_of}
-use Rattle.rtcm_convert.specs.Converted.{Settings, messages_of, heard_in, epochs_in}
+use Rattle.rtcm_convert.specs.Converted.{SetupValue, messages_of, heard_in, epochs_in}
 use Rattle.rtcm_convert.specs.declared.report.Report.{Report}
 use Rattle.rtcm_convert.specs.declared.tally.Tally.{Tally}
 
 -- what becomes of a frame behind these: nothing where its message is refused, else what becomes of the message
-abbrev pub outcome : Settings → List Framed → Framed → Option Kind
+abbrev pub outcome : SetupValue → List Framed → Framed → Option Kind
 outcome s before f = option_map (λ m. kind_of s.gather (messages_of before) m) (heard_in f)
 
-abbrev pub outcomes_after : Settings → List Framed → List Framed → List (Option Kind)
+abbrev pub outcomes_after : SetupValue → List Framed → List Framed → List (Option Kind)
 outcomes_after s before [] = []
 outcomes_after s before (f ∷ fs) = outcome s before f ∷ outcomes_after s (before ++ f ∷ []) fs
 
 -- what becomes of each frame
-abbrev pub outcomes : Settings → List Framed → List (Option Kind)
+abbrev pub outcomes : SetupValue → List Framed → List (Option Kind)
 outcomes s fs = outcomes_after s [] fs
 
 abbrev pub no_tally : Tally
 no_tally = record { frames = 0; faulty = 0; station = 0; other = 0; ignored = 0; late = 0; past = 0; taken = 0; skipped = 0; repeated = 0; crowded = 0 }
 
 -- a frame whose message was read
-abbrev one : Tally
-one = record no_tally { frames = 1 }
+abbrev one_frame : Tally
+one_frame = record no_tally { frames = 1 }
 
 abbrev tally_by : Kind → Tally
-tally_by kind.Station = record one { station = 1 }
-tally_by kind.OtherStation = record one { other = 1 }
-tally_by kind.Ignored = record one { ignored = 1 }
-tally_by kind.Late = record one { late = 1 }
-tally_by kind.PastWeeks = record one { past = 1 }
-tally_by (kind.Kept kept skipped repeated crowded) = record one { taken = 1; skipped = skipped; repeated = repeated; crowded = crowded }
-tally_by kind.CloseFirst = one
+tally_by kind.Station = record one_frame { station = 1 }
+tally_by kind.OtherStation = record one_frame { other = 1 }
+tally_by kind.Ignored = record one_frame { ignored = 1 }
+tally_by kind.Late = record one_frame { late = 1 }
+tally_by kind.PastWeeks = record one_frame { past = 1 }
+tally_by (kind.Kept kept skipped repeated crowded) = record one_frame { taken = 1; skipped = skipped; repeated = repeated; crowded = crowded }
+tally_by kind.CloseFirst = one_frame
 
 -- what one frame adds to each count
 abbrev pub tally_of_one : Option Kind → Tally
-tally_of_one None = record one { faulty = 1 }
+tally_of_one None = record one_frame { faulty = 1 }
 tally_of_one (Some k) = tally_by k
 
 -- a count, up to the greatest number that is counted
@@ -47,8 +47,8 @@ abbrev pub capped : ℕ → ℕ
 capped n = min n (2 ^ 64 - 1)
 
 -- both counts together
-abbrev pub both : Tally → Tally → Tally
-both a b = record {
+abbrev pub tallies_added : Tally → Tally → Tally
+tallies_added a b = record {
   frames = capped (a.frames + b.frames);
   faulty = capped (a.faulty + b.faulty);
   station = capped (a.station + b.station);
@@ -97,23 +97,23 @@ AreFew [] = Unit {0}
 AreFew (o ∷ os) = IsFew (tally_of_one o) × AreFew os
 
 -- the sum over these outcomes of what each adds to a count
-abbrev pub total : (Tally → ℕ) → List (Option Kind) → ℕ
-total count os = sum_by (λ o. count (tally_of_one o)) os
+abbrev pub sum_of_counts : (Tally → ℕ) → List (Option Kind) → ℕ
+sum_of_counts count os = sum_by (λ o. count (tally_of_one o)) os
 
 -- the counts of these outcomes
 abbrev pub tally_of : List (Option Kind) → Tally
 tally_of os = record {
-  frames = total (λ t. t.frames) os;
-  faulty = total (λ t. t.faulty) os;
-  station = total (λ t. t.station) os;
-  other = total (λ t. t.other) os;
-  ignored = total (λ t. t.ignored) os;
-  late = total (λ t. t.late) os;
-  past = total (λ t. t.past) os;
-  taken = total (λ t. t.taken) os;
-  skipped = total (λ t. t.skipped) os;
-  repeated = total (λ t. t.repeated) os;
-  crowded = total (λ t. t.crowded) os;
+  frames = sum_of_counts (λ t. t.frames) os;
+  faulty = sum_of_counts (λ t. t.faulty) os;
+  station = sum_of_counts (λ t. t.station) os;
+  other = sum_of_counts (λ t. t.other) os;
+  ignored = sum_of_counts (λ t. t.ignored) os;
+  late = sum_of_counts (λ t. t.late) os;
+  past = sum_of_counts (λ t. t.past) os;
+  taken = sum_of_counts (λ t. t.taken) os;
+  skipped = sum_of_counts (λ t. t.skipped) os;
+  repeated = sum_of_counts (λ t. t.repeated) os;
+  crowded = sum_of_counts (λ t. t.crowded) os;
 }
 
 -- the report of so many bytes, of which some are in no frame, with these counts and so many epochs
@@ -136,5 +136,5 @@ report_with bytes skipped_bytes t epochs = record {
 }
 
 -- the report of a stream
-abbrev pub report_of : Settings → List ℕ → Report
-report_of s b = report_with (length b) (given_up (length b) (frames_of b)) (tally_of (outcomes s (frames_of b))) (epochs_in s (frames_of b))
+abbrev pub report_of : SetupValue → List ℕ → Report
+report_of s b = report_with (length b) (skipped_before (length b) (frames_of b)) (tally_of (outcomes s (frames_of b))) (epochs_in s (frames_of b))

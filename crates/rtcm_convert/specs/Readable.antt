@@ -5,7 +5,7 @@ use Rattle.rinex_file.specs.Value.{FileValue}
 use Rattle.rinex_file.specs.FileValues.{AreTexts, IsFileValue}
 use Rattle.rinex_file.specs.Gathered.{AreSignals}
 use Rattle.rinex_file.specs.File.{file_text}
-use Rattle.rtcm_convert.specs.Converted.{Settings, file, so_far, epochs_in}
+use Rattle.rtcm_convert.specs.Converted.{SetupValue, file, so_far, epochs_in}
 
 -- the text of a file value
 pub record IsTextOf (v : FileValue) (text : List ℕ) : Type 0 where
@@ -20,17 +20,17 @@ abbrev pub IsReadable : List ℕ → Type 0
 IsReadable text = (text ≡ []) ⊎ HasValue text
 
 -- texts that fit their columns, and listed signals: those of a setup are
-pub record AreSound (s : Settings) : Type 0 where
+pub record AreSound (s : SetupValue) : Type 0 where
   pub texts : AreTexts s.texts
   pub plan : AreSignals s.gather.plan
 
 -- the file that frames make, and what is written of it so far
 abbrev pub FilesAreReadable : Type 0
-FilesAreReadable = (s : Settings) (fs : List Framed) → AreSound s → IsReadable (file s fs)
+FilesAreReadable = (s : SetupValue) (fs : List Framed) → AreSound s → IsReadable (file s fs)
 
 -- where an epoch is written the file isn't empty
 abbrev pub FilesHaveValues : Type 0
-FilesHaveValues = (s : Settings) (fs : List Framed) → AreSound s → 0 < epochs_in s fs → HasValue (file s fs)
+FilesHaveValues = (s : SetupValue) (fs : List Framed) → AreSound s → 0 < epochs_in s fs → HasValue (file s fs)
 
 abbrev pub SoFarIsReadable : Type 0
-SoFarIsReadable = (s : Settings) (fs : List Framed) → AreSound s → IsReadable (so_far s fs)
+SoFarIsReadable = (s : SetupValue) (fs : List Framed) → AreSound s → IsReadable (so_far s fs)

@@ -8,12 +8,12 @@ ghost use Rattle.rtcm_scan.specs.Looks.{examined, examined_now, most, most_now};
 ghost use Rattle.obs_epoch.specs.Values.{most_cells};
 ghost use Rattle.rtcm_convert.specs.Kept.{cells_kept, locks_kept, locks_in_all};
 ghost use Rattle.rtcm_convert.specs.Faults.{FailsWithReader, FailsWithWriter, IsUntouched, IsSetupFault, IsFeedFault, IsPullFault, IsFinishFault, IsRunFault};
-ghost use Rattle.rtcm_convert.specs.Told.{settings, IsBad};
-ghost use Rattle.rtcm_convert.specs.Converted.{Settings};
+ghost use Rattle.rtcm_convert.specs.SetupValues.{setup_value, IsBad};
+ghost use Rattle.rtcm_convert.specs.Converted.{SetupValue};
 ghost use Rattle.rtcm_convert.specs.Outcomes.{report_with};
-ghost use Rattle.rtcm_convert.specs.Conversion.{StandsFor, HasFinished, IsGoing, GoesOnBy, Goes, GoesLong, Stops, StopsAtEnd, LeftBy, refusal};
-ghost use Rattle.rtcm_convert.specs.Conversion.{FinishesNow, FinishesEmptyNow, Finishes, FinishesEmpty, IsTooLong};
-ghost use Rattle.rtcm_convert.specs.Conversion.{Ran, RanToFault, RanToLimit, ReadOverLimit, StopsAtPiece, StopsRunning};
+ghost use Rattle.rtcm_convert.specs.Conversion.{HasConverted, HasFinished, IsGoing, GoesOnBy, TakesPiece, TakesToLimit, WritesPrefixOfAdded, StopsAtEnd, LeftBy, refusal};
+ghost use Rattle.rtcm_convert.specs.Conversion.{FinishesNow, FinishesEmptyNow, CompletesFile, CompletesEmptyFile, IsPastLimit};
+ghost use Rattle.rtcm_convert.specs.Conversion.{TakesFromReader, RanToFault, RanToLimit, ReadOverLimit, StopsAtPiece, StopsRunning};
 
 use crate::fault::Fault;
 use crate::filer::Filer;
@@ -53,7 +53,7 @@ impl Converter {
     /// A converter that has taken no byte. A setup whose limit, week or station is out of range is
     /// `BadSetup`; want of memory is `Memory`. Only this call takes memory.
     pub fn new(alloc: Global, setup: Setup) -> Result<Converter, Fault>
-        ensures stands { IfOk result (λ c. StandsFor c (settings setup) []) }
+        ensures stands { IfOk result (λ c. HasConverted c (setup_value setup) []) }
         ensures fresh { IfOk result (λ c. (c.scan.limit ≡ setup.limit) × (c.scan.taken ≡ 0)) }
         ensures bad { result ≡ Err Fault.BadSetup ↔ IsBad setup }
         ensures only { IfErr result IsSetupFault }
@@ -95,16 +95,16 @@ impl Converter {
     pub fn feed<W: Write>(&mut self, piece: &[u8], writer: &mut Counted<W>) -> Result<(), Fault>
         ensures refused { IfSome (refusal self.old) (λ fault. (result ≡ Err fault) × (self.new ≡ self.old) × (writer.new ≡ writer.old)) }
         // All was taken, and what went out is what these bytes add.
-        ensures whole { OnOk result (Goes self.old self.new (W.contents writer.old.inner) (W.contents writer.new.inner) piece.now) }
+        ensures whole { OnOk result (TakesPiece self.old self.new (W.contents writer.old.inner) (W.contents writer.new.inner) piece.now) }
         ensures going { OnOk result (GoesOnBy self.old self.new (length piece.now)) }
         // At a fault no more than this piece was taken, and at `TooLong` all up to the limit.
         ensures taken { (self.old.scan.taken ≤ self.new.scan.taken) × (self.new.scan.taken ≤ self.old.scan.taken + length piece.now) }
         ensures full { IsErrOf result Fault.TooLong → self.new.scan.taken ≡ self.old.scan.limit }
         ensures same { self.new.scan.limit ≡ self.old.scan.limit }
-        // What went out is a front of that.
-        ensures part { IsErrOf result Fault.Write → Stops self.old (W.contents writer.old.inner) (W.contents writer.new.inner) piece.now }
+        // What went out is a prefix of that.
+        ensures part { IsErrOf result Fault.Write → WritesPrefixOfAdded self.old (W.contents writer.old.inner) (W.contents writer.new.inner) piece.now }
         // The bytes up to the limit were taken, and what they add went out.
-        ensures long { IsErrOf result Fault.TooLong → GoesLong self.old (W.contents writer.old.inner) (W.contents writer.new.inner) piece.now }
+        ensures long { IsErrOf result Fault.TooLong → TakesToLimit self.old (W.contents writer.old.inner) (W.contents writer.new.inner) piece.now }
         ensures limit { IsErrOf result Fault.TooLong → self.old.scan.limit < self.old.scan.taken + length piece.now }
         ensures device { FailsWithWriter result writer.old writer.new }
         ensures only { IsGoing self.old → IfErr result IsFeedFault }
@@ -131,7 +131,7 @@ impl Converter {
         ensures whole { IfOk result (FinishesNow self.old self.new (W.contents writer.old.inner) (W.contents writer.new.inner)) }
         // No epoch of the whole stream was written, so nothing was.
         ensures no_epoch { IsErrOf result Fault.NoEpoch → FinishesEmptyNow self.old self.new (W.contents writer.old.inner) (W.contents writer.new.inner) }
-        // A front of the rest of the file went out.
+        // A prefix of the rest of the file went out.
         ensures part { IsErrOf result Fault.Write → StopsAtEnd self.old (W.contents writer.old.inner) (W.contents writer.new.inner) }
         ensures device { FailsWithWriter result writer.old writer.new }
         ensures only { IsGoing self.old → IfErr result IsFinishFault }
@@ -186,7 +186,7 @@ impl Converter {
         writer: &mut Counted<W>,
     ) -> Result<usize, Fault>
         requires { IsGoing self.old }
-        ensures whole { OnOk result (Ran self.old self.new (R.remaining reader.old.inner) (R.remaining reader.new.inner)
+        ensures whole { OnOk result (TakesFromReader self.old self.new (R.remaining reader.old.inner) (R.remaining reader.new.inner)
             (W.contents writer.old.inner) (W.contents writer.new.inner)) }
         ensures end { IfOk result (λ n. n ≡ 0 → IsAtEnd (R.remaining reader.new.inner)) }
         ensures going { IfOk result (GoesOnBy self.old self.new) }
@@ -230,12 +230,12 @@ impl Converter {
             (result ≡ Err fault) × (self.new ≡ self.old) × IsUntouched reader.old reader.new writer.old writer.new) }
         // The rest of the file of all the bytes went out, and that is the report.
         ensures whole { IfOk result (λ report. IfSome (R.remaining reader.old.inner)
-            (Finishes self.old self.new (W.contents writer.old.inner) (W.contents writer.new.inner) report)) }
+            (CompletesFile self.old self.new (W.contents writer.old.inner) (W.contents writer.new.inner) report)) }
         // No epoch of the whole stream was written, so nothing was.
         ensures no_epoch { IsErrOf result Fault.NoEpoch → IfSome (R.remaining reader.old.inner)
-            (FinishesEmpty self.old self.new (W.contents writer.old.inner) (W.contents writer.new.inner)) }
+            (CompletesEmptyFile self.old self.new (W.contents writer.old.inner) (W.contents writer.new.inner)) }
         // The stream is longer than the limit.
-        ensures too_long { IsErrOf result Fault.TooLong → IfSome (R.remaining reader.old.inner) (IsTooLong self.old) }
+        ensures too_long { IsErrOf result Fault.TooLong → IfSome (R.remaining reader.old.inner) (IsPastLimit self.old) }
         // The bytes up to the limit were taken, and what they add went out.
         ensures long { IsErrOf result Fault.TooLong → RanToLimit self.old (R.remaining reader.old.inner) (R.remaining reader.new.inner)
             (W.contents writer.old.inner) (W.contents writer.new.inner) }
@@ -272,8 +272,8 @@ impl Converter {
         ensures room { IsGoing self.now → result ≤ 1028 }
         // The held bytes are those from the first undecided place on; when the stream was ended,
         // none.
-        ensures undecided { (s : Settings) (b : List ℕ) → StandsFor self.now s b → self.now.scan.held ≡ drop (decided b) b }
-        ensures nothing { (s : Settings) (b : List ℕ) → HasFinished self.now s b → result ≡ 0 }
+        ensures undecided { (s : SetupValue) (b : List ℕ) → HasConverted self.now s b → self.now.scan.held ≡ drop (decided b) b }
+        ensures nothing { (s : SetupValue) (b : List ℕ) → HasFinished self.now s b → result ≡ 0 }
     {
         self.framer.held()
     }
@@ -281,8 +281,8 @@ impl Converter {
     /// How many cells of a system are held: those of the pending epoch or, where none is pending,
     /// of the one last closed.
     pub fn cells(&self, system: System) -> usize
-        ensures now { (s : Settings) (b : List ℕ) → StandsFor self.now s b → result ≡ cells_kept s system (decided_frames b) }
-        ensures all { (s : Settings) (b : List ℕ) → HasFinished self.now s b → result ≡ cells_kept s system (frames_of b) }
+        ensures now { (s : SetupValue) (b : List ℕ) → HasConverted self.now s b → result ≡ cells_kept s system (decided_frames b) }
+        ensures all { (s : SetupValue) (b : List ℕ) → HasFinished self.now s b → result ≡ cells_kept s system (frames_of b) }
         ensures bound { result ≤ most_cells }
     {
         self.filer.gatherer.cells(system)
@@ -291,8 +291,8 @@ impl Converter {
     /// How many lock records are held: one for each satellite and signal of which a closed epoch
     /// has a kept cell with a valid phase and a known lock.
     pub fn locks(&self) -> usize
-        ensures now { (s : Settings) (b : List ℕ) → StandsFor self.now s b → result ≡ locks_kept s (decided_frames b) }
-        ensures all { (s : Settings) (b : List ℕ) → HasFinished self.now s b → result ≡ locks_in_all s (frames_of b) }
+        ensures now { (s : SetupValue) (b : List ℕ) → HasConverted self.now s b → result ≡ locks_kept s (decided_frames b) }
+        ensures all { (s : SetupValue) (b : List ℕ) → HasFinished self.now s b → result ≡ locks_in_all s (frames_of b) }
         ensures bound { result ≤ 1_164 }
     {
         self.filer.gatherer.locks()
@@ -303,8 +303,8 @@ impl Converter {
         ensures value { result ≡ self.now.scan.examined }
         // Not more than 1,030 times the bytes taken, at every moment.
         ensures bound { result ≤ 1030 * self.now.scan.taken }
-        ensures now { (s : Settings) (b : List ℕ) → StandsFor self.now s b → result ≡ examined_now b }
-        ensures all { (s : Settings) (b : List ℕ) → HasFinished self.now s b → result ≡ examined b }
+        ensures now { (s : SetupValue) (b : List ℕ) → HasConverted self.now s b → result ≡ examined_now b }
+        ensures all { (s : SetupValue) (b : List ℕ) → HasFinished self.now s b → result ≡ examined b }
     {
         self.framer.examined()
     }
@@ -313,8 +313,8 @@ impl Converter {
     pub fn most(&self) -> u16
         ensures value { result ≡ self.now.scan.most }
         ensures bound { result ≤ 1030 }
-        ensures now { (s : Settings) (b : List ℕ) → StandsFor self.now s b → result ≡ most_now b }
-        ensures all { (s : Settings) (b : List ℕ) → HasFinished self.now s b → result ≡ most b }
+        ensures now { (s : SetupValue) (b : List ℕ) → HasConverted self.now s b → result ≡ most_now b }
+        ensures all { (s : SetupValue) (b : List ℕ) → HasFinished self.now s b → result ≡ most b }
     {
         self.framer.most()
     }

@@ -99,11 +99,7 @@ impl Filer {
     }
 
     /// Hands a message to the gatherer, and writes the epoch that this closes.
-    fn step<W: Write>(
-        &mut self,
-        message: &Message,
-        writer: &mut Counted<W>,
-    ) -> Result<Kind, Fault>
+    fn step<W: Write>(&mut self, message: &Message, writer: &mut Counted<W>) -> Result<Kind, Fault>
         requires { self.old.gatherer.has_ended ≡ false }
         // The message is to be handed in again.
         ensures first { IfOk result (λ kind. is_close_first kind ≡ true → WritesFirst self.old self.new (heard message.now)
@@ -124,11 +120,7 @@ impl Filer {
     }
 
     /// Takes a message: where the gatherer closes an epoch first, it is handed in again.
-    fn take<W: Write>(
-        &mut self,
-        message: &Message,
-        writer: &mut Counted<W>,
-    ) -> Result<Kind, Fault>
+    fn take<W: Write>(&mut self, message: &Message, writer: &mut Counted<W>) -> Result<Kind, Fault>
         requires { self.old.gatherer.has_ended ≡ false }
         ensures whole { OnOk result (TakesNext self.old self.new (heard message.now) (W.contents writer.old.inner) (W.contents writer.new.inner)) }
         ensures kind { IfOk result (λ kind. IsKindOfNext self.old (heard message.now) kind) }

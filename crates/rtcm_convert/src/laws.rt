@@ -4,12 +4,12 @@ ghost use Rattle.std.specs.Prelude.{ℕ, ◌<◌, List};
 ghost use Rattle.rtcm_scan.specs.Frames.{frames_of};
 ghost use Rattle.rtcm_scan.specs.Decided.{decided_frames};
 ghost use Rattle.rtcm_convert.specs.Converted.{so_far, file, epochs_in};
-ghost use Rattle.rtcm_convert.specs.Told.{settings};
+ghost use Rattle.rtcm_convert.specs.SetupValues.{setup_value};
 ghost use Rattle.rtcm_convert.specs.Readable.{FilesAreReadable, FilesHaveValues, SoFarIsReadable, IsReadable, HasValue};
 
 use crate::setup::Setup;
 
-/// What is written of some bytes stands at the front of the file, however the stream goes on.
+/// What is written of some bytes is a prefix of the file, however the stream goes on.
 pub fn prefix()
     ensures file { WrittenStays }
     ensures grows { WrittenGrows }
@@ -19,7 +19,7 @@ pub fn prefix()
     rtcm_scan::laws::prefix();
 }
 
-/// What is written of some frames stands at the front of what is written of these and more.
+/// What is written of some frames is a prefix of what is written of these and more.
 pub fn filed()
     ensures file { FiledStays }
     ensures grows { FiledGrows }
@@ -60,9 +60,9 @@ pub fn readable()
 /// Whatever the setup and the stream are: what is written is empty or the text of a file value,
 /// which [`read_file`](rinex_file::read_file) reads as that value.
 pub fn read_back(setup: &Setup)
-    ensures file { (b : List ℕ) → IsReadable (file (settings setup.now) (frames_of b)) }
-    ensures some { (b : List ℕ) → 0 < epochs_in (settings setup.now) (frames_of b) → HasValue (file (settings setup.now) (frames_of b)) }
-    ensures so_far { (b : List ℕ) → IsReadable (so_far (settings setup.now) (decided_frames b)) }
+    ensures file { (b : List ℕ) → IsReadable (file (setup_value setup.now) (frames_of b)) }
+    ensures some { (b : List ℕ) → 0 < epochs_in (setup_value setup.now) (frames_of b) → HasValue (file (setup_value setup.now) (frames_of b)) }
+    ensures so_far { (b : List ℕ) → IsReadable (so_far (setup_value setup.now) (decided_frames b)) }
 {
     readable();
     rinex_file::laws::head(&setup.texts, &setup.plan);

@@ -3,7 +3,7 @@ ghost use Rattle.std.specs.Prelude.{◌≡◌, ◌<◌, ◌≤◌, ◌+◌, fals
 ghost use Rattle.std.specs.Io.KnownBytes.{Keeps};
 ghost use Rattle.rtcm_convert.specs.Faults.{FailsToWrite, FailsWithWriter, IsFeedFault};
 ghost use Rattle.rtcm_convert.specs.Steps.{WritesRest, BreaksInRest, CountsEpochs, GathersAll};
-ghost use Rattle.rtcm_convert.specs.Stream.{StandsForSome, HandsOnAll, BreaksHandingOn, TakesBytes, BreaksInBytes, TakesUpTo, EndsBytes, BreaksAtEndOf};
+ghost use Rattle.rtcm_convert.specs.Stream.{HasFramedSome, HandsOnAll, BreaksHandingOn, TakesBytes, BreaksInBytes, TakesUpTo, EndsBytes, BreaksAtEndOf};
 ghost use Rattle.rtcm_convert.specs.Stream.{CountsAllEpochs, CountsAllFrames, IsAllDecided, IsAllGathered, IsAllTaken};
 
 use crate::fault::Fault;
@@ -26,7 +26,7 @@ pub(crate) fn drain<W: Write>(
     ensures device { FailsToWrite result writer.old writer.new }
     ensures ended { filer.new.gatherer.has_ended ≡ false }
     ensures ready { OnOk result (framer.new.is_ready ≡ true) }
-    ensures examined { StandsForSome framer.old → StandsForSome framer.new }
+    ensures examined { HasFramedSome framer.old → HasFramedSome framer.new }
     ensures same { (framer.new.limit ≡ framer.old.limit) × (framer.new.taken ≡ framer.old.taken) × (framer.new.has_ended ≡ framer.old.has_ended) }
 {
     laws::filed();
@@ -61,7 +61,7 @@ fn feed_block<W: Write>(
     ensures ready { OnOk result (framer.new.is_ready ≡ true) }
     ensures taken { OnOk result (framer.new.taken ≡ framer.old.taken + length block.now) }
     ensures within { framer.new.taken ≤ framer.new.limit }
-    ensures examined { StandsForSome framer.old → StandsForSome framer.new }
+    ensures examined { HasFramedSome framer.old → HasFramedSome framer.new }
     ensures same { (framer.new.limit ≡ framer.old.limit) × (framer.new.has_ended ≡ false) }
 {
     match framer.push_all(block) {
@@ -96,7 +96,7 @@ fn take_bytes<W: Write>(
     ensures most { (framer.old.taken ≤ framer.new.taken) × (framer.new.taken ≤ framer.old.taken + length piece.now) }
     ensures full { IsErrOf result Fault.TooLong → framer.new.taken ≡ framer.old.limit }
     ensures within { OnOk result (0 < length piece.now → framer.new.taken ≤ framer.new.limit) }
-    ensures examined { StandsForSome framer.old → StandsForSome framer.new }
+    ensures examined { HasFramedSome framer.old → HasFramedSome framer.new }
     ensures same { (framer.new.limit ≡ framer.old.limit) × (framer.new.has_ended ≡ false) }
 {
     laws::prefix();
@@ -139,7 +139,7 @@ pub(crate) fn feed_bytes<W: Write>(
     ensures most { (framer.old.taken ≤ framer.new.taken) × (framer.new.taken ≤ framer.old.taken + length piece.now) }
     ensures full { IsErrOf result Fault.TooLong → framer.new.taken ≡ framer.old.limit }
     ensures within { OnOk result (0 < length piece.now → framer.new.taken ≤ framer.new.limit) }
-    ensures examined { StandsForSome framer.old → StandsForSome framer.new }
+    ensures examined { HasFramedSome framer.old → HasFramedSome framer.new }
     ensures same { (framer.new.limit ≡ framer.old.limit) × (framer.new.has_ended ≡ false) }
 {
     laws::prefix();
@@ -155,11 +155,7 @@ pub(crate) fn feed_bytes<W: Write>(
 }
 
 /// Sends on what was written since the file had so many epochs. Most pieces close none.
-fn send_since<W: Write>(
-    epochs: u64,
-    filer: &Filer,
-    writer: &mut Counted<W>,
-) -> Result<(), Fault>
+fn send_since<W: Write>(epochs: u64, filer: &Filer, writer: &mut Counted<W>) -> Result<(), Fault>
     ensures kept { Keeps (W.contents writer.old.inner) (W.contents writer.new.inner) }
     ensures device { FailsToWrite result writer.old writer.new }
 {
@@ -200,7 +196,7 @@ pub(crate) fn end_stream<W: Write>(
     ensures tally { OnOk result (CountsAllFrames framer.old filer.old filer.new.tally) }
     ensures part { OnErr result (BreaksAtEndOf framer.old filer.old (W.contents writer.old.inner) (W.contents writer.new.inner)) }
     ensures device { FailsToWrite result writer.old writer.new }
-    ensures examined { StandsForSome framer.old → StandsForSome framer.new }
+    ensures examined { HasFramedSome framer.old → HasFramedSome framer.new }
     ensures same { (framer.new.limit ≡ framer.old.limit) × (framer.new.taken ≡ framer.old.taken) × (framer.new.has_ended ≡ true) }
 {
     laws::prefix();

@@ -1,6 +1,6 @@
 //! What is counted of the frames so far.
 ghost use Rattle.std.specs.Prelude.{◌≡◌};
-ghost use Rattle.rtcm_convert.specs.Outcomes.{no_tally, tally_of_one, both, report_with};
+ghost use Rattle.rtcm_convert.specs.Outcomes.{no_tally, tally_of_one, tallies_added, report_with};
 
 use crate::report::Report;
 use obs_epoch::Kind;
@@ -74,7 +74,7 @@ impl Tally {
 
     /// Counts a frame: refused, or with what became of its message.
     pub(crate) fn count(&mut self, outcome: Option<Kind>)
-        ensures { self.new ≡ both self.old (tally_of_one outcome) }
+        ensures { self.new ≡ tallies_added self.old (tally_of_one outcome) }
     {
         let one = Tally::of(outcome);
         self.frames = self.frames.saturating_add(one.frames);

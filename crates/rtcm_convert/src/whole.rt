@@ -1,9 +1,9 @@
 //! Whole streams.
 ghost use Rattle.std.specs.Prelude.{◌≡◌, ◌≢◌, ◌<◌, ◌↔◌, Err, IsErrOf, IfOk, IfErr, OnOk, IfSome, length};
 ghost use Rattle.rtcm_convert.specs.Faults.{FailsWithReader, FailsWithWriter, IsSetupFault, IsUntouched};
-ghost use Rattle.rtcm_convert.specs.Broken.{WroteSoFar, WroteToLimit, BrokeReading, WrotePieces, BrokeInPieces, joined};
+ghost use Rattle.rtcm_convert.specs.Broken.{WroteSoFar, WroteToLimit, BrokeReading, WrotePieces, BrokeInPieces, joined_pieces};
 ghost use Rattle.rtcm_convert.specs.Made.{IsMade, IsMadeEmpty, IsReportOf};
-ghost use Rattle.rtcm_convert.specs.Told.{settings, IsBad};
+ghost use Rattle.rtcm_convert.specs.SetupValues.{setup_value, IsBad};
 
 use crate::converter::Converter;
 use crate::fault::Fault;
@@ -32,13 +32,13 @@ pub fn convert_stream<R: Read, W: Write>(
     // The bytes up to the limit were taken, and what went out is the file of the epochs that they
     // close.
     ensures long { IsErrOf result Fault.TooLong → WroteToLimit (R.remaining reader.old.inner) (R.remaining reader.new.inner)
-        (W.contents writer.old.inner) (W.contents writer.new.inner) (settings setup) setup.limit }
+        (W.contents writer.old.inner) (W.contents writer.new.inner) (setup_value setup) setup.limit }
     // What went out is the file of the epochs that the bytes read close.
     ensures read { IsErrOf result Fault.Read → WroteSoFar (R.remaining reader.old.inner) (R.remaining reader.new.inner)
-        (W.contents writer.old.inner) (W.contents writer.new.inner) (settings setup) }
+        (W.contents writer.old.inner) (W.contents writer.new.inner) (setup_value setup) }
     // The writer failed at one of the pieces read, or when all was read.
     ensures write { IsErrOf result Fault.Write → BrokeReading (R.remaining reader.old.inner) (R.remaining reader.new.inner)
-        (W.contents writer.old.inner) (W.contents writer.new.inner) (settings setup) }
+        (W.contents writer.old.inner) (W.contents writer.new.inner) (setup_value setup) }
     ensures reader { FailsWithReader result reader.old reader.new }
     ensures writer { FailsWithWriter result writer.old writer.new }
     ensures bad_setup { result ≡ Err Fault.BadSetup ↔ IsBad setup }
@@ -63,16 +63,16 @@ pub fn convert_pieces<W: Write>(
 ) -> Result<Report, Fault>
     // However the stream is cut into pieces, the file that was written is the one of its frames in
     // order, has an epoch, and is the text of a file value.
-    ensures file { OnOk result (IsMade setup (W.contents writer.old.inner) (W.contents writer.new.inner) (joined pieces.now)) }
-    ensures report { IfOk result (λ report. IsReportOf setup report (joined pieces.now)) }
+    ensures file { OnOk result (IsMade setup (W.contents writer.old.inner) (W.contents writer.new.inner) (joined_pieces pieces.now)) }
+    ensures report { IfOk result (λ report. IsReportOf setup report (joined_pieces pieces.now)) }
     // No epoch stands in that file, and it is empty.
-    ensures no_epoch { IsErrOf result Fault.NoEpoch → IsMadeEmpty setup (W.contents writer.old.inner) (W.contents writer.new.inner) (joined pieces.now) }
-    ensures too_long { IsErrOf result Fault.TooLong → setup.limit < length (joined pieces.now) }
+    ensures no_epoch { IsErrOf result Fault.NoEpoch → IsMadeEmpty setup (W.contents writer.old.inner) (W.contents writer.new.inner) (joined_pieces pieces.now) }
+    ensures too_long { IsErrOf result Fault.TooLong → setup.limit < length (joined_pieces pieces.now) }
     // What went out is the file of the epochs that the bytes up to the limit close.
     ensures long { IsErrOf result Fault.TooLong
-        → WrotePieces (W.contents writer.old.inner) (W.contents writer.new.inner) (settings setup) setup.limit pieces.now }
+        → WrotePieces (W.contents writer.old.inner) (W.contents writer.new.inner) (setup_value setup) setup.limit pieces.now }
     // The writer failed at one of the pieces, or when all were taken.
-    ensures write { IsErrOf result Fault.Write → BrokeInPieces (W.contents writer.old.inner) (W.contents writer.new.inner) (settings setup) pieces.now }
+    ensures write { IsErrOf result Fault.Write → BrokeInPieces (W.contents writer.old.inner) (W.contents writer.new.inner) (setup_value setup) pieces.now }
     ensures writer { FailsWithWriter result writer.old writer.new }
     ensures bad_setup { result ≡ Err Fault.BadSetup ↔ IsBad setup }
     ensures untouched { IfErr result (λ fault. IsSetupFault fault → writer.new ≡ writer.old) }

@@ -3,7 +3,7 @@ use Rattle.std.proofs.Common.{ℕ, ◌≡◌, ◌+◌, ◌^◌, ◌<◌, ◌≤�
 use Rattle.std.proofs.lemmas.Bool.{cases_lt}
 use Rattle.std.proofs.lemmas.List.{take-append-drop, length-take-le}
 use Rattle.rtcm_bits.specs.Bits.{uint, number}
-use Rattle.rtcm_bits.specs.Reading.{Cursor, after, unsigned_at}
+use Rattle.rtcm_bits.specs.Reading.{Cursor, advanced, unsigned_at}
 use Rattle.rtcm_bits.specs.BitLaws.{number-take-fits, uint-number}
 use Rattle.rtcm_msg.specs.declared.fault.MsgFault.{MsgFault}
 use Rattle.rtcm_msg.specs.declared.fault.MsgFault.TheVariants.{Short}
@@ -13,7 +13,7 @@ pub bind_ok : {A B : Type 0} (r : Result A MsgFault) (f : A → Result B MsgFaul
 bind_ok (Ok x) f y e = (x, refl, e)
 bind_ok (Err d) f y e = cc
 
-pub number_there : (w : ℕ) (c : Cursor) → w ≤ length c.rest → number_at w c ≡ Ok (unsigned_at w c, after c w)
+pub number_there : (w : ℕ) (c : Cursor) → w ≤ length c.rest → number_at w c ≡ Ok (unsigned_at w c, advanced c w)
 unfolding number_at
 number_there w c h = grind arith
 
@@ -31,7 +31,7 @@ pub record Took (w : ℕ) (c : Cursor) (x : ℕ × Cursor) : Type 0 where
   pub bits : c.rest ≡ uint w x.0 ++ x.1.rest
   pub place : x.1.place ≡ c.place + w
 
-pub took_at : (w : ℕ) (c : Cursor) → w ≤ length c.rest → Took w c (unsigned_at w c, after c w)
+pub took_at : (w : ℕ) (c : Cursor) → w ≤ length c.rest → Took w c (unsigned_at w c, advanced c w)
 took_at w c h = record {
   fits = number-take-fits c.rest w h;
   room = h;
@@ -42,7 +42,7 @@ took_at w c h = record {
 pub number_took : (w : ℕ) (c : Cursor) (x : ℕ × Cursor) → number_at w c ≡ Ok x → Took w c x
 number_took w c x e = elim (cases_lt (length c.rest) w) [
   | inl short ↦ absurd (no_ok (number_at w c) (Short c.place) x (number_short w c short) e)
-  | inr there ↦ let is = ok_inj (unsigned_at w c, after c w) x (number_at w c) (number_there w c there) e in subst (Took w c) is (took_at w c there)
+  | inr there ↦ let is = ok_inj (unsigned_at w c, advanced c w) x (number_at w c) (number_there w c there) e in subst (Took w c) is (took_at w c there)
 ]
   where
     no_ok : {A : Type 0} (r : Result A MsgFault) (d : MsgFault) (x : A) → r ≡ Err d → r ≡ Ok x → ⊥

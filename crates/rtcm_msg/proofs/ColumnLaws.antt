@@ -8,7 +8,7 @@ use Rattle.rtcm_bits.specs.Bits.{uint}
 use Rattle.rtcm_bits.specs.Reading.{Cursor}
 use Rattle.rtcm_bits.specs.BitLaws.{uint-low}
 use Rattle.rtcm_msg.specs.Fields.{number_at}
-use Rattle.rtcm_msg.specs.Packed.{total, columns}
+use Rattle.rtcm_msg.specs.Packed.{total_width, columns}
 use Rattle.rtcm_msg.specs.Columns.{column_at, columns_at, EachBelow}
 use Rattle.rtcm_msg.proofs.Binds.{bind_ok, ok_inj, number_took, Took}
 use Rattle.rtcm_msg.proofs.Combine.{cursor, number_again}
@@ -44,7 +44,7 @@ column_took w (p ∷ ps) c x e =
 -- the columns that were read stand there
 pub record ColumnsTook (ws ps : List ℕ) (c : Cursor) (x : List ℕ × Cursor) : Type 0 where
   pub bits : c.rest ≡ columns ws x.0 ++ x.1.rest
-  pub high : highs (total ws) x.0 ≡ ps
+  pub high : highs (total_width ws) x.0 ≡ ps
 
 column_of_highs : (w t : ℕ) (ns : List ℕ) → flat_map (uint w) (highs t ns) ≡ flat_map (λ p. uint w (p / 2 ^ t)) ns
 column_of_highs w t [] = refl
@@ -69,8 +69,8 @@ columns_took (w ∷ ws) ps c x e =
   where
     join : (w : ℕ) (ws ps : List ℕ) (c : Cursor) (q x : List ℕ × Cursor) → ColumnTook w ps c q → ColumnsTook ws q.0 q.1 x → ColumnsTook (w ∷ ws) ps c x
     join w ws ps c q x a b = record {
-      bits = a.bits ∙ rw (← b.high, column_of_highs w (total ws) x.0, b.bits) (sym (append_assoc (flat_map (λ p. uint w (p / 2 ^ total ws)) x.0) (columns ws x.0) x.1.rest));
-      high = sym (highs_highs w (total ws) x.0) ∙ (rw b.high a.high);
+      bits = a.bits ∙ rw (← b.high, column_of_highs w (total_width ws) x.0, b.bits) (sym (append_assoc (flat_map (λ p. uint w (p / 2 ^ total_width ws)) x.0) (columns ws x.0) x.1.rest));
+      high = sym (highs_highs w (total_width ws) x.0) ∙ (rw b.high a.high);
     }
 
 -- ---- what is read again
@@ -89,14 +89,14 @@ column_again w (n ∷ ns) place rest =
     far : (place w k : ℕ) → place + w + w * k ≡ place + w * suc k
     far place w k = omega arith
 
-pub columns_again : (ws ns : List ℕ) (place : ℕ) (rest : List Bool) → columns_at ws (highs (total ws) ns) (cursor place (columns ws ns ++ rest)) ≡ Ok (ns, cursor (place + total ws * length ns) rest)
+pub columns_again : (ws ns : List ℕ) (place : ℕ) (rest : List Bool) → columns_at ws (highs (total_width ws) ns) (cursor place (columns ws ns ++ rest)) ≡ Ok (ns, cursor (place + total_width ws * length ns) rest)
 unfolding columns_at columns
 columns_again [] ns place rest = let e : place + 0 * length ns ≡ place = omega arith in rw (e, highs_none ns) refl
 columns_again (w ∷ ws) ns place rest =
-    let here = column_again w (highs (total ws) ns) place (columns ws ns ++ rest) in
-    let others = columns_again ws ns (place + w * length (highs (total ws) ns)) rest in
-    let places : place + w * length (highs (total ws) ns) + total ws * length ns ≡ place + (w + total ws) * length ns = far place w (total ws) (length ns) (length (highs (total ws) ns)) (length-map ns (λ n. n / 2 ^ total ws)) in
-    rw (append_assoc (flat_map (λ p. uint w (p / 2 ^ total ws)) ns) (columns ws ns) rest, ← column_of_highs w (total ws) ns, ← highs_highs w (total ws) ns, here, others, places) refl
+    let here = column_again w (highs (total_width ws) ns) place (columns ws ns ++ rest) in
+    let others = columns_again ws ns (place + w * length (highs (total_width ws) ns)) rest in
+    let places : place + w * length (highs (total_width ws) ns) + total_width ws * length ns ≡ place + (w + total_width ws) * length ns = far place w (total_width ws) (length ns) (length (highs (total_width ws) ns)) (length-map ns (λ n. n / 2 ^ total_width ws)) in
+    rw (append_assoc (flat_map (λ p. uint w (p / 2 ^ total_width ws)) ns) (columns ws ns) rest, ← column_of_highs w (total_width ws) ns, ← highs_highs w (total_width ws) ns, here, others, places) refl
   where
     far : (place w t k m : ℕ) → m ≡ k → place + w * m + t * k ≡ place + (w + t) * k
     far place w t k m e = rw e (omega arith)

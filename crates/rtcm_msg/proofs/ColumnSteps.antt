@@ -4,7 +4,7 @@ use Rattle.std.proofs.Math.Seq.{drop-cons}
 use Rattle.std.proofs.lemmas.Nat.{one_shl, pow-add, pow_pos}
 use Rattle.rtcm_bits.specs.Reading.{Cursor}
 use Rattle.rtcm_msg.specs.Fields.{number_at}
-use Rattle.rtcm_msg.specs.Packed.{total}
+use Rattle.rtcm_msg.specs.Packed.{total_width}
 use Rattle.rtcm_msg.proofs.Binds.{bind_ok, ok_inj, number_took}
 use Rattle.rtcm_msg.specs.Columns.{column_at, columns_at, EachBelow}
 
@@ -38,10 +38,10 @@ column_below w a (p ∷ ps) c x e h =
     each b n ns h t zero = h
     each b n ns h t (suc k) = t k
 
-pub total-drop : (i : ℕ) (ws : List ℕ) → i < length ws → total (drop i ws) ≡ get_or ws i 0 + total (drop (i + 1) ws)
+pub total-drop : (i : ℕ) (ws : List ℕ) → i < length ws → total_width (drop i ws) ≡ get_or ws i 0 + total_width (drop (i + 1) ws)
 total-drop i ws h = rw (add-one i, drop-cons ws i 0 h) refl
 
-pub columns_below : (ws : List ℕ) (a : ℕ) (ps : List ℕ) (c : Cursor) (x : List ℕ × Cursor) → columns_at ws ps c ≡ Ok x → EachBelow a ps → EachBelow (a + total ws) x.0
+pub columns_below : (ws : List ℕ) (a : ℕ) (ps : List ℕ) (c : Cursor) (x : List ℕ × Cursor) → columns_at ws ps c ≡ Ok x → EachBelow a ps → EachBelow (a + total_width ws) x.0
 unfolding columns_at
 columns_below [] a ps c x e h =
     let is : ps ≡ x.0 = ap (λ (y : List ℕ × Cursor). y.0) (ok_inj (ps, c) x (columns_at [] ps c) refl e) in
@@ -51,7 +51,7 @@ columns_below (w ∷ ws) a ps c x e h =
     let more = column_below w a ps c next.0 next.1 h in
     let rest = columns_below ws (a + w) next.0.0 next.0.1 x next.2 more in
     let P : ℕ → Type 0 = λ n. EachBelow n x.0 in
-    subst P (add_assoc a w (total ws)) rest
+    subst P (add_assoc a w (total_width ws)) rest
 
 -- zeros
 pub zeros_below : (a n : ℕ) → EachBelow a (replicate n 0)
@@ -59,5 +59,5 @@ zeros_below a zero k = pow_pos a
 zeros_below a (suc n) zero = pow_pos a
 zeros_below a (suc n) (suc k) = zeros_below a n k
 
-pub columns_fit : (ws : List ℕ) (n : ℕ) (c : Cursor) (x : List ℕ × Cursor) → columns_at ws (replicate n 0) c ≡ Ok x → EachBelow (total ws) x.0
-columns_fit ws n c x e = let P : ℕ → Type 0 = λ m. EachBelow m x.0 in subst P (zero-add (total ws)) (columns_below ws 0 (replicate n 0) c x e (zeros_below 0 n))
+pub columns_fit : (ws : List ℕ) (n : ℕ) (c : Cursor) (x : List ℕ × Cursor) → columns_at ws (replicate n 0) c ≡ Ok x → EachBelow (total_width ws) x.0
+columns_fit ws n c x e = let P : ℕ → Type 0 = λ m. EachBelow m x.0 in subst P (zero-add (total_width ws)) (columns_below ws 0 (replicate n 0) c x e (zeros_below 0 n))

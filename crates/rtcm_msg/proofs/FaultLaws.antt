@@ -7,10 +7,10 @@ use Rattle.rtcm_msg.specs.declared.fault.MsgFault.{MsgFault}
 use Rattle.rtcm_msg.specs.declared.fault.MsgFault.TheVariants.{BadTime, TooManyCells, Short}
 use Rattle.rtcm_msg.specs.declared.header.MsmHeader.{MsmHeader}
 use Rattle.rtcm_msg.specs.Fields.{number_at, ◌>>=◌, first_past}
-use Rattle.rtcm_msg.specs.Packed.{total}
+use Rattle.rtcm_msg.specs.Packed.{total_width}
 use Rattle.rtcm_msg.specs.Columns.{column_at, columns_at}
 use Rattle.rtcm_msg.specs.Spelling.{repeated}
-use Rattle.rtcm_msg.specs.Msm.{time_table, header_table, mask_table, header_of, header_at, sets_at, msm_at, week, MsmValue, Sets, pairs}
+use Rattle.rtcm_msg.specs.Msm.{time_table, header_table, mask_table, header_of, header_at, masks_at, msm_at, week, MsmValue, MasksValue, pairs}
 use Rattle.rtcm_msg.proofs.FieldLaws.{contents_at, fields_at, standing, field_at, number_there_at, ShortAt, short_at_more, short_at_behind, fields_read, past_none, past_through}
 use Rattle.rtcm_msg.proofs.Binds.{number_short, ok_inj}
 use Rattle.rtcm_msg.proofs.Combine.{past_here, past_next, ok_err}
@@ -42,17 +42,17 @@ column_read w (p ∷ ps) bits place h = elim (cases_lt (length bits) (place + w)
 abbrev ColumnsRead : List ℕ → ℕ → List ℕ → List Bool → ℕ → Type 0
 ColumnsRead ws count ps bits place =
     ((e : MsgFault) × (columns_at ws ps (standing bits place) ≡ Err e) × ShortAt bits place (repeated count ws) e)
-    ⊎ ((ns : List ℕ) × (columns_at ws ps (standing bits place) ≡ Ok (ns, standing bits (place + total ws * count))) × (place + total ws * count ≤ length bits))
+    ⊎ ((ns : List ℕ) × (columns_at ws ps (standing bits place) ≡ Ok (ns, standing bits (place + total_width ws * count))) × (place + total_width ws * count ≤ length bits))
 
-pub total-append : (ws vs : List ℕ) → total (ws ++ vs) ≡ total ws + total vs
+pub total-append : (ws vs : List ℕ) → total_width (ws ++ vs) ≡ total_width ws + total_width vs
 total-append [] vs = omega arith
 total-append (w ∷ ws) vs = rw (total-append ws vs) (omega arith)
 
-total-replicate : (n w : ℕ) → total (replicate n w) ≡ w * n
+total-replicate : (n w : ℕ) → total_width (replicate n w) ≡ w * n
 total-replicate zero w = omega arith
 total-replicate (suc n) w = rw (total-replicate n w) (omega arith)
 
-pub total-repeated : (count : ℕ) (ws : List ℕ) → total (repeated count ws) ≡ total ws * count
+pub total-repeated : (count : ℕ) (ws : List ℕ) → total_width (repeated count ws) ≡ total_width ws * count
 total-repeated count [] = omega arith
 total-repeated count (w ∷ ws) = total-append (replicate count w) (repeated count ws) ∙ rw (total-replicate count w, total-repeated count ws) (omega arith)
 
@@ -64,10 +64,10 @@ columns_read (w ∷ ws) count ps bits place len h = elim (column_read w ps bits 
   | inr here ↦
       let all : place + w * count ≤ length bits = rw len at here.3 in
       let read : column_at w ps (standing bits place) ≡ Ok (here.0, standing bits (place + w * count)) = rw len at here.1 in
-      let width : total (replicate count w) ≡ w * count = total-replicate count w in
+      let width : total_width (replicate count w) ≡ w * count = total-replicate count w in
       elim (columns_read ws count here.0 bits (place + w * count) (here.2 ∙ len) all) [
         | inl rest ↦ inl (rest.0, rw (read, rest.1) refl, short_at_behind (replicate count w) (repeated count ws) bits place rest.0 (rw width all) (rw width rest.2))
-        | inr rest ↦ inr (rest.0, rw (read, rest.1, two_more place w (total ws) count) refl, rw (two_more place w (total ws) count) at rest.2)
+        | inr rest ↦ inr (rest.0, rw (read, rest.1, two_more place w (total_width ws) count) refl, rw (two_more place w (total_width ws) count) at rest.2)
       ]
 ]
   where
@@ -117,10 +117,10 @@ header_end bits h = elim (fields_read time_table bits 12 h) [
 
 -- by the sets
 data SetsEnd (bits : List Bool) : Type 0 where
-  no_masks : (e : MsgFault) → length bits < 169 → ShortAt bits 73 mask_widths e → sets_at (standing bits 73) ≡ Err e → SetsEnd bits
-  many : 169 ≤ length bits → 64 < pairs_of bits → sets_at (standing bits 73) ≡ Err TooManyCells → SetsEnd bits
-  short : (e : MsgFault) → pairs_of bits ≤ 64 → ShortAt bits 73 (64 ∷ 32 ∷ pairs_of bits ∷ []) e → sets_at (standing bits 73) ≡ Err e → SetsEnd bits
-  good : pairs_of bits ≤ 64 → 169 + pairs_of bits ≤ length bits → sets_at (standing bits 73) ≡ Ok (record { satellites = field_at bits 73 64; signals = field_at bits 137 32; cells = field_at bits 169 (pairs_of bits) }, standing bits (169 + pairs_of bits)) → SetsEnd bits
+  no_masks : (e : MsgFault) → length bits < 169 → ShortAt bits 73 mask_widths e → masks_at (standing bits 73) ≡ Err e → SetsEnd bits
+  many : 169 ≤ length bits → 64 < pairs_of bits → masks_at (standing bits 73) ≡ Err TooManyCells → SetsEnd bits
+  short : (e : MsgFault) → pairs_of bits ≤ 64 → ShortAt bits 73 (64 ∷ 32 ∷ pairs_of bits ∷ []) e → masks_at (standing bits 73) ≡ Err e → SetsEnd bits
+  good : pairs_of bits ≤ 64 → 169 + pairs_of bits ≤ length bits → masks_at (standing bits 73) ≡ Ok (record { satellites = field_at bits 73 64; signals = field_at bits 137 32; cells = field_at bits 169 (pairs_of bits) }, standing bits (169 + pairs_of bits)) → SetsEnd bits
 
 sets_end : (bits : List Bool) → 73 ≤ length bits → SetsEnd bits
 sets_end bits h = elim (fields_read mask_table bits 73 h) [
@@ -131,7 +131,7 @@ sets_end bits h = elim (fields_read mask_table bits 73 h) [
       elim (cases_lt 64 p) [
         | inl over ↦ many there.0 over (sets_chain (standing bits 73) ∙ rw (there.1, many_rest (field_at bits 73 64) (field_at bits 137 32) c over) refl)
         | inr few ↦
-            let chain : sets_at (standing bits 73) ≡ (number_at p c >>= λ cells. Ok (record { satellites = field_at bits 73 64; signals = field_at bits 137 32; cells = cells.0 }, cells.1)) = sets_chain (standing bits 73) ∙ rw (there.1, few_rest (field_at bits 73 64) (field_at bits 137 32) c few) refl in
+            let chain : masks_at (standing bits 73) ≡ (number_at p c >>= λ cells. Ok (record { satellites = field_at bits 73 64; signals = field_at bits 137 32; cells = cells.0 }, cells.1)) = sets_chain (standing bits 73) ∙ rw (there.1, few_rest (field_at bits 73 64) (field_at bits 137 32) c few) refl in
             elim (cases_lt (length bits) (169 + p)) [
               | inl less ↦ short (Short 169) few (short_at_behind mask_widths (p ∷ []) bits 73 (Short 169) there.0 (record { first = 169; is = refl; past = past_here p [] (length bits) 169 less })) (chain ∙ rw (number_short p c (omega (arith, length-drop 169 bits))) refl)
               | inr all ↦ good few all (chain ∙ rw (number_there_at p bits 169 all) refl)
@@ -158,38 +158,38 @@ header_stands bits h c room e = by_end (header_end bits room)
     by_end (short f early few s is) = absurd (ok_err (h, c) f (header_at (standing bits 12)) e is)
     by_end (good v early all is) = (ap (λ (x : MsmHeader × Cursor). x.1) (ok_inj (h, c) (v, standing bits 73) (header_at (standing bits 12)) e is), all)
 
-sets_stand : (bits : List Bool) (s : Sets) (c : Cursor) → 73 ≤ length bits → sets_at (standing bits 73) ≡ Ok (s, c) → Stands bits c
+sets_stand : (bits : List Bool) (s : MasksValue) (c : Cursor) → 73 ≤ length bits → masks_at (standing bits 73) ≡ Ok (s, c) → Stands bits c
 sets_stand bits s c room e = by_end (sets_end bits room)
   where
     by_end : SetsEnd bits → Stands bits c
-    by_end (no_masks f few t is) = absurd (ok_err (s, c) f (sets_at (standing bits 73)) e is)
-    by_end (many there over is) = absurd (ok_err (s, c) TooManyCells (sets_at (standing bits 73)) e is)
-    by_end (short f few t is) = absurd (ok_err (s, c) f (sets_at (standing bits 73)) e is)
-    by_end (good few there is) = stands_at bits c (169 + pairs_of bits) (ap (λ (x : Sets × Cursor). x.1) (ok_inj (s, c) _ (sets_at (standing bits 73)) e is)) there
+    by_end (no_masks f few t is) = absurd (ok_err (s, c) f (masks_at (standing bits 73)) e is)
+    by_end (many there over is) = absurd (ok_err (s, c) TooManyCells (masks_at (standing bits 73)) e is)
+    by_end (short f few t is) = absurd (ok_err (s, c) f (masks_at (standing bits 73)) e is)
+    by_end (good few there is) = stands_at bits c (169 + pairs_of bits) (ap (λ (x : MasksValue × Cursor). x.1) (ok_inj (s, c) _ (masks_at (standing bits 73)) e is)) there
 
-pub masks_stand : (bits : List Bool) (h : MsmHeader) (s : Sets) (c d : Cursor) → 12 ≤ length bits → header_at (standing bits 12) ≡ Ok (h, c) → sets_at c ≡ Ok (s, d) → Stands bits d
+pub masks_stand : (bits : List Bool) (h : MsmHeader) (s : MasksValue) (c d : Cursor) → 12 ≤ length bits → header_at (standing bits 12) ≡ Ok (h, c) → masks_at c ≡ Ok (s, d) → Stands bits d
 masks_stand bits h s c d room e f =
     let head = header_stands bits h c room e in
-    sets_stand bits s d head.1 (sym (ap sets_at head.0) ∙ f)
+    sets_stand bits s d head.1 (sym (ap masks_at head.0) ∙ f)
 
 -- by the columns
 data DataEnd (sw cw : List ℕ) (satellites cells : ℕ) (bits : List Bool) (place : ℕ) : Type 0 where
   short : (e : MsgFault) → ShortAt bits place (repeated satellites sw ++ repeated cells cw) e → ((f : List ℕ → List ℕ × Cursor → Result (MsmValue × Cursor) MsgFault) → (columns_at sw (replicate satellites 0) (standing bits place) >>= λ s. columns_at cw (replicate cells 0) s.1 >>= λ c. f s.0 c) ≡ Err e) → DataEnd sw cw satellites cells bits place
-  good : (s : List ℕ) (c : List ℕ × Cursor) → place + total (repeated satellites sw ++ repeated cells cw) ≤ length bits → ((f : List ℕ → List ℕ × Cursor → Result (MsmValue × Cursor) MsgFault) → (columns_at sw (replicate satellites 0) (standing bits place) >>= λ s. columns_at cw (replicate cells 0) s.1 >>= λ c. f s.0 c) ≡ f s c) → DataEnd sw cw satellites cells bits place
+  good : (s : List ℕ) (c : List ℕ × Cursor) → place + total_width (repeated satellites sw ++ repeated cells cw) ≤ length bits → ((f : List ℕ → List ℕ × Cursor → Result (MsmValue × Cursor) MsgFault) → (columns_at sw (replicate satellites 0) (standing bits place) >>= λ s. columns_at cw (replicate cells 0) s.1 >>= λ c. f s.0 c) ≡ f s c) → DataEnd sw cw satellites cells bits place
 
 data_end : (sw cw : List ℕ) (satellites cells : ℕ) (bits : List Bool) (place : ℕ) → place ≤ length bits → DataEnd sw cw satellites cells bits place
 data_end sw cw satellites cells bits place h = elim (columns_read sw satellites (replicate satellites 0) bits place (length-replicate satellites 0) h) [
   | inl few ↦ short few.0 (short_at_more (repeated satellites sw) (repeated cells cw) bits place few.0 few.2) (λ f. rw few.1 refl)
   | inr one ↦
-      let next = place + total sw * satellites in
+      let next = place + total_width sw * satellites in
       let width = total-repeated satellites sw in
       elim (columns_read cw cells (replicate cells 0) bits next (length-replicate cells 0) one.2) [
         | inl few ↦ short few.0 (short_at_behind (repeated satellites sw) (repeated cells cw) bits place few.0 (rw width one.2) (rw width few.2)) (λ f. rw (one.1, few.1) refl)
-        | inr two ↦ good one.0 (two.0, standing bits (next + total cw * cells)) (room place (repeated satellites sw) (repeated cells cw) _ _ _ width (total-repeated cells cw) two.2) (λ f. rw (one.1, two.1) refl)
+        | inr two ↦ good one.0 (two.0, standing bits (next + total_width cw * cells)) (room place (repeated satellites sw) (repeated cells cw) _ _ _ width (total-repeated cells cw) two.2) (λ f. rw (one.1, two.1) refl)
       ]
 ]
   where
-    room : (place : ℕ) (ws vs : List ℕ) (a b len : ℕ) → total ws ≡ a → total vs ≡ b → place + a + b ≤ len → place + total (ws ++ vs) ≤ len
+    room : (place : ℕ) (ws vs : List ℕ) (a b len : ℕ) → total_width ws ≡ a → total_width vs ≡ b → place + a + b ≤ len → place + total_width (ws ++ vs) ≤ len
     room place ws vs a b len e f h = rw (total-append ws vs, e, f) (omega arith)
 
 abbrev header_widths : List ℕ
@@ -199,10 +199,10 @@ pub msm_end : (sw cw : List ℕ) (g : Bool) (bits : List Bool) → 12 ≤ length
 unfolding msm_at
 msm_end sw cw g bits h = by_header (header_end bits h)
   where
-    place : (p : ℕ) → 12 + total (header_widths ++ (64 ∷ 32 ∷ p ∷ [])) ≡ 169 + p
+    place : (p : ℕ) → 12 + total_width (header_widths ++ (64 ∷ 32 ∷ p ∷ [])) ≡ 169 + p
     place p = omega arith
 
-    long : (p : ℕ) → 169 + p ≤ length bits → 12 + total (header_widths ++ (64 ∷ 32 ∷ p ∷ [])) ≤ length bits
+    long : (p : ℕ) → 169 + p ≤ length bits → 12 + total_width (header_widths ++ (64 ∷ 32 ∷ p ∷ [])) ≤ length bits
     long p h = omega (arith, h)
 
     p : ℕ
@@ -212,11 +212,11 @@ msm_end sw cw g bits h = by_header (header_end bits h)
     data_widths = repeated (count_ones (field_at bits 73 64)) sw ++ repeated (count_ones (field_at bits 169 p)) cw
 
     by_data : (v : MsmHeader) → field_at bits 24 30 < week → header_at (standing bits 12) ≡ Ok (v, standing bits 73) → 73 ≤ length bits → p ≤ 64 → 169 + p ≤ length bits
-        → sets_at (standing bits 73) ≡ Ok (record { satellites = field_at bits 73 64; signals = field_at bits 137 32; cells = field_at bits 169 p }, standing bits (169 + p)) → DataEnd sw cw (count_ones (field_at bits 73 64)) (count_ones (field_at bits 169 p)) bits (169 + p) → MsmEnd sw cw g bits
+        → masks_at (standing bits 73) ≡ Ok (record { satellites = field_at bits 73 64; signals = field_at bits 137 32; cells = field_at bits 169 p }, standing bits (169 + p)) → DataEnd sw cw (count_ones (field_at bits 73 64)) (count_ones (field_at bits 169 p)) bits (169 + p) → MsmEnd sw cw g bits
     by_data v early header room few there sets (short e s is) = short e early few (short_at_behind (header_widths ++ (64 ∷ 32 ∷ p ∷ [])) data_widths bits 12 e (long p there) (rw (place p) s))
         (rw (header, sets) (is (λ s c. Ok (record { is_galileo = g; header = v; sets = record { satellites = field_at bits 73 64; signals = field_at bits 137 32; cells = field_at bits 169 p }; satellites = s; cells = c.0 }, c.1))))
     by_data v early header room few there sets (good s c all is) = good (record { is_galileo = g; header = v; sets = record { satellites = field_at bits 73 64; signals = field_at bits 137 32; cells = field_at bits 169 p }; satellites = s; cells = c.0 }, c.1) early few
-        (past_through (header_widths ++ (64 ∷ 32 ∷ p ∷ [])) data_widths (length bits) 12 (long p there) ∙ past_none data_widths (length bits) (12 + total (header_widths ++ (64 ∷ 32 ∷ p ∷ []))) (rw (place p) all))
+        (past_through (header_widths ++ (64 ∷ 32 ∷ p ∷ [])) data_widths (length bits) 12 (long p there) ∙ past_none data_widths (length bits) (12 + total_width (header_widths ++ (64 ∷ 32 ∷ p ∷ []))) (rw (place p) all))
         (rw (header, sets) (is (λ s c. Ok (record { is_galileo = g; header = v; sets = record { satellites = field_at bits 73 64; signals = field_at bits 137 32; cells = field_at bits 169 p }; satellites = s; cells = c.0 }, c.1))))
 
     by_sets : (v : MsmHeader) → field_at bits 24 30 < week → header_at (standing bits 12) ≡ Ok (v, standing bits 73) → 73 ≤ length bits → SetsEnd bits → MsmEnd sw cw g bits

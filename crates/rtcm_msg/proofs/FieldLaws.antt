@@ -5,12 +5,12 @@ use Rattle.std.proofs.lemmas.List.{length-drop, drop-drop}
 use Rattle.rtcm_bits.specs.Bits.{uint}
 use Rattle.rtcm_msg.specs.LayoutLaws.{has_sign, have_signs, FitAll, number-content, content_fits, content-number, number_fits, sign_first, sign_others}
 use Rattle.rtcm_msg.specs.Layout.{Table, width, widths, Contents, number_of, content, fields_of}
-use Rattle.rtcm_bits.specs.Reading.{Cursor, after, unsigned_at}
+use Rattle.rtcm_bits.specs.Reading.{Cursor, advanced, unsigned_at}
 use Rattle.rtcm_msg.specs.declared.fault.MsgFault.{MsgFault}
 use Rattle.rtcm_msg.specs.declared.fault.MsgFault.TheVariants.{Short}
 use Rattle.rtcm_msg.specs.Fields.{number_at, ◌>>=◌, spelled, first_past, reading}
 pub use Rattle.rtcm_msg.specs.Fields.{standing, field_at}
-use Rattle.rtcm_msg.specs.Packed.{total}
+use Rattle.rtcm_msg.specs.Packed.{total_width}
 use Rattle.rtcm_msg.proofs.Binds.{ok_inj, number_there, number_short, took_at}
 use Rattle.rtcm_msg.proofs.Combine.{past_here, past_next, cursor, number_again, ok_err, bind_bind}
 
@@ -33,60 +33,60 @@ reading_is (f ∷ fs) c next = go (λ h. reading_is fs h.1 (λ o. next ((content
 -- the contents that stand there
 abbrev pub values : (t : Table) → Cursor → Contents t
 values [] c = tt
-values (f ∷ fs) c = (content f.1 (unsigned_at (width f.1) c), values fs (after c (width f.1)))
+values (f ∷ fs) c = (content f.1 (unsigned_at (width f.1) c), values fs (advanced c (width f.1)))
 
 abbrev pub behind : Table → Cursor → Cursor
 behind [] c = c
-behind (f ∷ fs) c = behind fs (after c (width f.1))
+behind (f ∷ fs) c = behind fs (advanced c (width f.1))
 
 pub record FieldsTook (t : Table) (c : Cursor) (x : Contents t × Cursor) : Type 0 where
-  pub room : total (widths t) ≤ length c.rest
+  pub room : total_width (widths t) ≤ length c.rest
   pub fit : FitAll t x.0
   pub bits : c.rest ≡ spelled (fields_of t x.0) ++ x.1.rest
 
-fields_there : (t : Table) (c : Cursor) → total (widths t) ≤ length c.rest → fields_at t c ≡ Ok (values t c, behind t c)
+fields_there : (t : Table) (c : Cursor) → total_width (widths t) ≤ length c.rest → fields_at t c ≡ Ok (values t c, behind t c)
 fields_there [] c room = refl
 fields_there (f ∷ fs) c room =
     let here = number_there (width f.1) c (omega arith) in
-    let others = fields_there fs (after c (width f.1)) (omega (arith, length-drop (width f.1) c.rest)) in
+    let others = fields_there fs (advanced c (width f.1)) (omega (arith, length-drop (width f.1) c.rest)) in
     rw (here, others) refl
 
-values_took : (t : Table) (c : Cursor) → have_signs t ≡ true → total (widths t) ≤ length c.rest → FieldsTook t c (values t c, behind t c)
+values_took : (t : Table) (c : Cursor) → have_signs t ≡ true → total_width (widths t) ≤ length c.rest → FieldsTook t c (values t c, behind t c)
 unfolding spelled
 values_took [] c signs room = record { room = room; fit = tt; bits = refl }
 values_took (f ∷ fs) c signs room =
     let w = width f.1 in
     let sign = sign_first (has_sign f.1) (have_signs fs) signs in
     let took = took_at w c (omega arith) in
-    let rest = values_took fs (after c w) (sign_others (has_sign f.1) (have_signs fs) signs) (omega (arith, length-drop w c.rest)) in
+    let rest = values_took fs (advanced c w) (sign_others (has_sign f.1) (have_signs fs) signs) (omega (arith, length-drop w c.rest)) in
     let n = unsigned_at w c in
-    let tail = spelled (fields_of fs (values fs (after c w))) in
+    let tail = spelled (fields_of fs (values fs (advanced c w))) in
     record {
       room = room;
       fit = (content_fits f.1 n sign took.fits, rest.fit);
-      bits = took.bits ∙ (ap (λ t. uint w n ++ t) rest.bits ∙ (sym (append_assoc (uint w n) tail (behind fs (after c w)).rest) ∙ ap (λ (k : ℕ). (uint w k ++ tail) ++ (behind fs (after c w)).rest) (sym (number-content f.1 n sign took.fits))));
+      bits = took.bits ∙ (ap (λ t. uint w n ++ t) rest.bits ∙ (sym (append_assoc (uint w n) tail (behind fs (advanced c w)).rest) ∙ ap (λ (k : ℕ). (uint w k ++ tail) ++ (behind fs (advanced c w)).rest) (sym (number-content f.1 n sign took.fits))));
     }
 
-pub fields_short : (t : Table) (c : Cursor) → length c.rest < total (widths t) → (k : ℕ) × (fields_at t c ≡ Err (Short k)) × (first_past (c.place + length c.rest) c.place (widths t) ≡ Some k)
+pub fields_short : (t : Table) (c : Cursor) → length c.rest < total_width (widths t) → (k : ℕ) × (fields_at t c ≡ Err (Short k)) × (first_past (c.place + length c.rest) c.place (widths t) ≡ Some k)
 fields_short [] c h = absurd (omega arith)
 fields_short (f ∷ fs) c h = elim (cases_lt (length c.rest) (width f.1)) [
   | inl short ↦ (c.place, rw (number_short (width f.1) c short) refl, past_here (width f.1) (widths fs) (c.place + length c.rest) c.place (omega arith))
   | inr there ↦
       let w = width f.1 in
-      let rest = fields_short fs (after c w) (omega (arith, length-drop w c.rest)) in
+      let rest = fields_short fs (advanced c w) (omega (arith, length-drop w c.rest)) in
       let same : c.place + w + length (drop w c.rest) ≡ c.place + length c.rest = omega (arith, length-drop w c.rest) in
       (rest.0, rw (number_there w c there, rest.1) refl, past_next w (widths fs) (c.place + length c.rest) c.place (omega arith) ∙ (rw same at rest.2))
 ]
 
 pub fields_ok : (t : Table) (c : Cursor) (x : Contents t × Cursor) → have_signs t ≡ true → fields_at t c ≡ Ok x → FieldsTook t c x
-fields_ok t c x signs e = elim (cases_lt (length c.rest) (total (widths t))) [
+fields_ok t c x signs e = elim (cases_lt (length c.rest) (total_width (widths t))) [
   | inl short ↦ let s = fields_short t c short in absurd (ok_err x (Short s.0) (fields_at t c) e s.1)
   | inr there ↦ subst (FieldsTook t c) (ok_inj (values t c, behind t c) x (fields_at t c) (fields_there t c there) e) (values_took t c signs there)
 ]
 
 -- ---- what is read again
 
-pub fields_again : (t : Table) (cs : Contents t) (place : ℕ) (rest : List Bool) → have_signs t ≡ true → FitAll t cs → fields_at t (cursor place (spelled (fields_of t cs) ++ rest)) ≡ Ok (cs, cursor (place + total (widths t)) rest)
+pub fields_again : (t : Table) (cs : Contents t) (place : ℕ) (rest : List Bool) → have_signs t ≡ true → FitAll t cs → fields_at t (cursor place (spelled (fields_of t cs) ++ rest)) ≡ Ok (cs, cursor (place + total_width (widths t)) rest)
 unfolding spelled
 fields_again [] cs place rest signs fit = rw (add-zero place) refl
 fields_again (f ∷ fs) cs place rest signs fit =
@@ -95,7 +95,7 @@ fields_again (f ∷ fs) cs place rest signs fit =
     let sign = sign_first (has_sign f.1) (have_signs fs) signs in
     let here = number_again w n place (spelled (fields_of fs cs.1) ++ rest) (number_fits f.1 cs.0 sign fit.0) in
     let others = fields_again fs cs.1 (place + w) rest (sign_others (has_sign f.1) (have_signs fs) signs) fit.1 in
-    rw (append_assoc (uint w n) (spelled (fields_of fs cs.1)) rest, here, others, content-number f.1 cs.0 sign fit.0, add_assoc place w (total (widths fs))) refl
+    rw (append_assoc (uint w n) (spelled (fields_of fs cs.1)) rest, here, others, content-number f.1 cs.0 sign fit.0, add_assoc place w (total_width (widths fs))) refl
 
 -- ---- where fields end
 
@@ -107,11 +107,11 @@ past_more (w ∷ ws) vs len place k h = elim (cases_lt len (place + w)) [
   | inr there ↦ past_next w (ws ++ vs) len place there ∙ past_more ws vs len (place + w) k (sym (past_next w ws len place there) ∙ h)
 ]
 
-pub past_through : (ws vs : List ℕ) (len place : ℕ) → place + total ws ≤ len → first_past len place (ws ++ vs) ≡ first_past len (place + total ws) vs
+pub past_through : (ws vs : List ℕ) (len place : ℕ) → place + total_width ws ≤ len → first_past len place (ws ++ vs) ≡ first_past len (place + total_width ws) vs
 past_through [] vs len place h = rw (add-zero place) refl
-past_through (w ∷ ws) vs len place h = past_next w (ws ++ vs) len place (omega arith) ∙ (past_through ws vs len (place + w) (omega arith) ∙ rw (add_assoc place w (total ws)) refl)
+past_through (w ∷ ws) vs len place h = past_next w (ws ++ vs) len place (omega arith) ∙ (past_through ws vs len (place + w) (omega arith) ∙ rw (add_assoc place w (total_width ws)) refl)
 
-pub past_none : (ws : List ℕ) (len place : ℕ) → place + total ws ≤ len → first_past len place ws ≡ None
+pub past_none : (ws : List ℕ) (len place : ℕ) → place + total_width ws ≤ len → first_past len place ws ≡ None
 unfolding first_past
 past_none [] len place h = refl
 past_none (w ∷ ws) len place h = past_next w ws len place (omega arith) ∙ past_none ws len (place + w) (omega arith)
@@ -122,7 +122,7 @@ abbrev pub contents_at : (t : Table) → List Bool → ℕ → Contents t
 contents_at [] bits place = tt
 contents_at (f ∷ fs) bits place = (content f.1 (field_at bits place (width f.1)), contents_at fs bits (place + width f.1))
 
-pub step_on : (w : ℕ) (bits : List Bool) (place : ℕ) → after (standing bits place) w ≡ standing bits (place + w)
+pub step_on : (w : ℕ) (bits : List Bool) (place : ℕ) → advanced (standing bits place) w ≡ standing bits (place + w)
 step_on w bits place = ap (cursor (place + w)) (drop-drop w place bits)
 
 pub number_there_at : (w : ℕ) (bits : List Bool) (place : ℕ) → place + w ≤ length bits → number_at w (standing bits place) ≡ Ok (field_at bits place w, standing bits (place + w))
@@ -137,17 +137,17 @@ pub record ShortAt (bits : List Bool) (place : ℕ) (ws : List ℕ) (e : MsgFaul
 pub short_at_more : (ws vs : List ℕ) (bits : List Bool) (place : ℕ) (e : MsgFault) → ShortAt bits place ws e → ShortAt bits place (ws ++ vs) e
 short_at_more ws vs bits place e s = record { first = s.first; is = s.is; past = past_more ws vs (length bits) place s.first s.past }
 
-pub short_at_behind : (ws vs : List ℕ) (bits : List Bool) (place : ℕ) (e : MsgFault) → place + total ws ≤ length bits → ShortAt bits (place + total ws) vs e → ShortAt bits place (ws ++ vs) e
+pub short_at_behind : (ws vs : List ℕ) (bits : List Bool) (place : ℕ) (e : MsgFault) → place + total_width ws ≤ length bits → ShortAt bits (place + total_width ws) vs e → ShortAt bits place (ws ++ vs) e
 short_at_behind ws vs bits place e room s = record { first = s.first; is = s.is; past = past_through ws vs (length bits) place room ∙ s.past }
 
 -- either they are there, or one of them is the first that is not
 abbrev pub FieldsRead : Table → List Bool → ℕ → Type 0
 FieldsRead t bits place =
-    ((length bits < place + total (widths t)) × ((e : MsgFault) × (fields_at t (standing bits place) ≡ Err e) × ShortAt bits place (widths t) e))
-    ⊎ ((place + total (widths t) ≤ length bits) × (fields_at t (standing bits place) ≡ Ok (contents_at t bits place, standing bits (place + total (widths t)))))
+    ((length bits < place + total_width (widths t)) × ((e : MsgFault) × (fields_at t (standing bits place) ≡ Err e) × ShortAt bits place (widths t) e))
+    ⊎ ((place + total_width (widths t) ≤ length bits) × (fields_at t (standing bits place) ≡ Ok (contents_at t bits place, standing bits (place + total_width (widths t)))))
 
 pub fields_read : (t : Table) (bits : List Bool) (place : ℕ) → place ≤ length bits → FieldsRead t bits place
-fields_read t bits place h = elim (cases_lt (length bits) (place + total (widths t))) [
+fields_read t bits place h = elim (cases_lt (length bits) (place + total_width (widths t))) [
   | inl few ↦
       let s = fields_short t (standing bits place) (omega (arith, length-drop place bits)) in
       let whole : place + length (drop place bits) ≡ length bits = omega (arith, length-drop place bits) in
@@ -155,10 +155,10 @@ fields_read t bits place h = elim (cases_lt (length bits) (place + total (widths
   | inr there ↦ inr (there, all_there t bits place there)
 ]
   where
-    all_there : (t : Table) (bits : List Bool) (place : ℕ) → place + total (widths t) ≤ length bits → fields_at t (standing bits place) ≡ Ok (contents_at t bits place, standing bits (place + total (widths t)))
+    all_there : (t : Table) (bits : List Bool) (place : ℕ) → place + total_width (widths t) ≤ length bits → fields_at t (standing bits place) ≡ Ok (contents_at t bits place, standing bits (place + total_width (widths t)))
     all_there [] bits place h = rw (add-zero place) refl
     all_there (f ∷ fs) bits place h =
         let w = width f.1 in
         let here = number_there_at w bits place (omega arith) in
         let others = all_there fs bits (place + w) (omega arith) in
-        rw (here, others, add_assoc place w (total (widths fs))) refl
+        rw (here, others, add_assoc place w (total_width (widths fs))) refl

@@ -9,9 +9,9 @@ use Rattle.rtcm_msg.specs.declared.fault.MsgFault.{MsgFault}
 use Rattle.rtcm_msg.specs.declared.fault.MsgFault.TheVariants.{BadTime, TooManyCells, Short}
 use Rattle.rtcm_msg.specs.declared.message.Message.{Message}
 use Rattle.rtcm_msg.specs.Fields.{first_past}
-use Rattle.rtcm_msg.specs.Packed.{total}
+use Rattle.rtcm_msg.specs.Packed.{total_width}
 use Rattle.rtcm_msg.specs.Reading.{message_of, message_at}
-use Rattle.rtcm_msg.specs.Spelling.{Reads, IsFault, is_msm, is_read, number_of, set_of, layout, layout_of, has_bad_time, has_too_many, repeated}
+use Rattle.rtcm_msg.specs.Spelling.{ReadsMessage, IsFault, is_read_msm, is_read, number_of, set_of, layout, layout_of, has_bad_time, has_too_many, repeated}
 use Rattle.rtcm_msg.proofs.FieldLaws.{past_none, field_at}
 use Rattle.rtcm_msg.proofs.FaultLaws.{total-append, total-repeated, pairs_of}
 use Rattle.rtcm_msg.proofs.MessageLaws.{Kind, station, msm4, msm7, other, kind_of, read_again, message_found, message_fault, message_only_fault, layout_station, layout_msm4, layout_msm7, msm4_is_msm, msm7_is_msm, and_all, le_true, lt_true, not_true, some_none}
@@ -34,7 +34,7 @@ module _ (a b : List Bool) (long : 8184 ≤ length a) where
   set_more : set_of (a ++ b) ≡ set_of a
   set_more = rw (number_more, le_more 55 a b (omega (arith, long)), field_more a b 12 12 (omega (arith, long)), field_more a b 54 1 (omega (arith, long))) refl
 
-  reads_more : (v : Message) → Reads a v → Reads (a ++ b) v
+  reads_more : (v : Message) → ReadsMessage a v → ReadsMessage (a ++ b) v
   reads_more v (inl r) = inl (record { is_value = r.is_value; known = r.known; front = r.front; rest = r.rest ++ b; joined = ap (λ t. t ++ b) r.joined ∙ append_assoc r.front r.rest b; spells = r.spells })
   reads_more v (inr r) = inr (record { number_there = omega (arith, long, length-append a b); unread = ap is_read number_more ∙ r.unread; value = r.value ∙ (ap (λ (n : ℕ). messages.Other n (set_of a)) (sym number_more) ∙ ap (λ (s : Option (ℕ × Bool)). messages.Other (number_of (a ++ b)) s) (sym set_more)) })
 
@@ -45,10 +45,10 @@ module _ (a b : List Bool) (long : 8184 ≤ length a) where
   few_more = rw (number_more, le_more 169 a b (omega (arith, long)), field_more a b 73 64 (omega (arith, long)), field_more a b 137 32 (omega (arith, long))) refl
 
 -- the most bits of a message
-total_few : (s c p : ℕ) (sw cw : List ℕ) → total sw ≤ 36 → total cw ≤ 80 → s ≤ 64 → c ≤ 64 → p ≤ 64 → total (12 ∷ 12 ∷ 30 ∷ 1 ∷ 3 ∷ 7 ∷ 2 ∷ 2 ∷ 1 ∷ 3 ∷ 64 ∷ 32 ∷ p ∷ (repeated s sw ++ repeated c cw)) ≤ 8184
+total_few : (s c p : ℕ) (sw cw : List ℕ) → total_width sw ≤ 36 → total_width cw ≤ 80 → s ≤ 64 → c ≤ 64 → p ≤ 64 → total_width (12 ∷ 12 ∷ 30 ∷ 1 ∷ 3 ∷ 7 ∷ 2 ∷ 2 ∷ 1 ∷ 3 ∷ 64 ∷ 32 ∷ p ∷ (repeated s sw ++ repeated c cw)) ≤ 8184
 total_few s c p sw cw a b hs hc hp =
-    let one : total sw * s ≤ 36 * 64 = mul-le (total sw) s 36 64 a hs in
-    let two : total cw * c ≤ 80 * 64 = mul-le (total cw) c 80 64 b hc in
+    let one : total_width sw * s ≤ 36 * 64 = mul-le (total_width sw) s 36 64 a hs in
+    let two : total_width cw * c ≤ 80 * 64 = mul-le (total_width cw) c 80 64 b hc in
     rw (total-append (repeated s sw) (repeated c cw), total-repeated s sw, total-repeated c cw) (omega (arith, one, two, hp))
 
 ones_few : (bits : List Bool) (place w : ℕ) → w ≤ 64 → place + w ≤ length bits → count_ones (field_at bits place w) ≤ 64
@@ -57,24 +57,24 @@ ones_few bits place w few h =
     let most : count_ones (field_at bits place w) ≤ w = ones-le w (field_at bits place w) fits in
     omega (arith, most, few)
 
-pairs_are : (bits : List Bool) → is_msm (number_of bits) ≡ true → 8184 ≤ length bits → has_too_many bits ≡ false → pairs_of bits ≤ 64
+pairs_are : (bits : List Bool) → is_read_msm (number_of bits) ≡ true → 8184 ≤ length bits → has_too_many bits ≡ false → pairs_of bits ≤ 64
 pairs_are bits msm long few = elim (cases_lt 64 (pairs_of bits)) [
-  | inl over ↦ absurd (not_true (has_too_many bits) few (and_all (is_msm (number_of bits)) (nat_le 169 (length bits)) (nat_lt 64 (pairs_of bits)) msm (le_true 169 (length bits) (omega (arith, long))) (lt_true 64 (pairs_of bits) over)))
+  | inl over ↦ absurd (not_true (has_too_many bits) few (and_all (is_read_msm (number_of bits)) (nat_le 169 (length bits)) (nat_lt 64 (pairs_of bits)) msm (le_true 169 (length bits) (omega (arith, long))) (lt_true 64 (pairs_of bits) over)))
   | inr fine ↦ fine
 ]
 
-layout_few : (bits : List Bool) (n : ℕ) → Kind n → number_of bits ≡ n → 8184 ≤ length bits → has_too_many bits ≡ false → total (layout bits) ≤ 8184
+layout_few : (bits : List Bool) (n : ℕ) → Kind n → number_of bits ≡ n → 8184 ≤ length bits → has_too_many bits ≡ false → total_width (layout bits) ≤ 8184
 layout_few bits n (station has e) is long few = rw (ap (λ (k : ℕ). layout_of k bits) (is ∙ e) ∙ layout_station has bits) (short has)
   where
-    short : (has : Bool) → total (12 ∷ (station_widths ++ height_widths has)) ≤ 8184
+    short : (has : Bool) → total_width (12 ∷ (station_widths ++ height_widths has)) ≤ 8184
     short true = lit≤ tt
     short false = lit≤ tt
 layout_few bits n (msm4 g e) is long few =
-    let pairs_few = pairs_are bits (ap is_msm (is ∙ e) ∙ msm4_is_msm g) long few in
+    let pairs_few = pairs_are bits (ap is_read_msm (is ∙ e) ∙ msm4_is_msm g) long few in
     rw (ap (λ (k : ℕ). layout_of k bits) (is ∙ e) ∙ layout_msm4 g bits)
     (total_few (count_ones (field_at bits 73 64)) (count_ones (field_at bits 169 (pairs_of bits))) (pairs_of bits) grid4.satellite_widths grid4.cell_widths (lit≤ tt) (lit≤ tt) (ones_few bits 73 64 (lit≤ tt) (omega (arith, long))) (ones_few bits 169 (pairs_of bits) pairs_few (omega (arith, long, pairs_few))) pairs_few)
 layout_few bits n (msm7 g e) is long few =
-    let pairs_few = pairs_are bits (ap is_msm (is ∙ e) ∙ msm7_is_msm g) long few in
+    let pairs_few = pairs_are bits (ap is_read_msm (is ∙ e) ∙ msm7_is_msm g) long few in
     rw (ap (λ (k : ℕ). layout_of k bits) (is ∙ e) ∙ layout_msm7 g bits)
     (total_few (count_ones (field_at bits 73 64)) (count_ones (field_at bits 169 (pairs_of bits))) (pairs_of bits) grid7.satellite_widths grid7.cell_widths (lit≤ tt) (lit≤ tt) (ones_few bits 73 64 (lit≤ tt) (omega (arith, long))) (ones_few bits 169 (pairs_of bits) pairs_few (omega (arith, long, pairs_few))) pairs_few)
 layout_few bits n (other unread no_msm empty body) is long few = rw (ap (λ (k : ℕ). layout_of k bits) is ∙ empty bits) (lit≤ tt)
@@ -83,7 +83,7 @@ fault_more : (a b : List Bool) (e : MsgFault) → 8184 ≤ length a → IsFault 
 fault_more a b BadTime long f = time_more a b long ∙ f
 fault_more a b TooManyCells long f = (time_more a b long ∙ f.0, few_more a b long ∙ f.1)
 fault_more a b (Short k) long (time, few, inl x) = absurd (omega (arith, long, x.0))
-fault_more a b (Short k) long (time, few, inr x) = absurd (some_none (first_past (length a) 0 (layout a)) k x.1 (past_none (layout a) (length a) 0 (le_all (total (layout a)) (length a) (layout_few a (number_of a) (kind_of (number_of a)) refl long few) long)))
+fault_more a b (Short k) long (time, few, inr x) = absurd (some_none (first_past (length a) 0 (layout a)) k x.1 (past_none (layout a) (length a) 0 (le_all (total_width (layout a)) (length a) (layout_few a (number_of a) (kind_of (number_of a)) refl long few) long)))
   where
     le_all : (t n : ℕ) → t ≤ 8184 → 8184 ≤ n → 0 + t ≤ n
     le_all t n h k = omega arith

@@ -6,7 +6,7 @@ use Rattle.std.proofs.lemmas.Nat.{pow_pos}
 use Rattle.rtcm_bits.specs.Bits.{uint, number}
 use Rattle.rtcm_bits.specs.BitLaws.{uint-number, number-fits}
 use Rattle.rtcm_msg.specs.declared.seats.Seat.{Seat}
-use Rattle.rtcm_msg.specs.Msm.{MsmValue, Sets, AreSets, IsValue, pairs}
+use Rattle.rtcm_msg.specs.Msm.{MsmValue, MasksValue, AreMasks, IsValue, pairs}
 use Rattle.rtcm_msg.specs.Entries.{ids, chosen, seat, all_pairs, seats, Rising}
 use Rattle.rtcm_msg.specs.Meaning.{Meaning, meaning, pair, pair_number, cell_pairs, IsMeaning, IsIn, Each, keys, data_of}
 use Rattle.rtcm_msg.proofs.IdLaws.{weaken, ids_all}
@@ -150,7 +150,7 @@ pub record Masked (a g : ℕ) (ps : List (ℕ × ℕ)) : Type 0 where
 masked : (a g : ℕ) (ps : List (ℕ × ℕ)) → a < 2 ^ 64 → g < 2 ^ 32 → pairs a g ≤ 64 → Rising 65 4128 (map pair_number ps) → Each (λ p. IsIn p (cross (ids 64 a) (ids 32 g))) ps → Masked a g ps
 masked a g ps fa fg few s h =
     let all = cross (ids 64 a) (ids 32 g) in
-    let t : Sets = record { satellites = a; signals = g; cells = 0 } in
+    let t : MasksValue = record { satellites = a; signals = g; cells = 0 } in
     let is_all : map pair (all_pairs t) ≡ all = all_are_cross 0 (ids 64 a) (ids 32 g) in
     let r : Rising 65 4128 (map pair_number all) = rw is_all at (rw (← map-map (all_pairs t)) at (all_rising t)) in
     let p = picked 65 4128 65 4128 all ps r s h in
@@ -176,8 +176,8 @@ value_all sw cw m h =
     let few : pairs a g ≤ 64 = rw (some, more) h.few in
     let each = each_cross (ids 64 a) (ids 32 g) (keys m.cells) (rw (one.2, two.2) h.pairs) in
     let k = masked a g (keys m.cells) one.1 two.1 few h.cells each in
-    let s : Sets = record { satellites = a; signals = g; cells = k.cells } in
-    let are : AreSets s = record { satellites = one.1; signals = two.1; few = few; cells = k.fits } in
+    let s : MasksValue = record { satellites = a; signals = g; cells = k.cells } in
+    let are : AreMasks s = record { satellites = one.1; signals = two.1; few = few; cells = k.fits } in
     let v : MsmValue = record { is_galileo = m.is_galileo; header = m.header; sets = s; satellites = data_of m.satellites; cells = data_of m.cells } in
     let value : IsValue sw cw v = record {
       header = h.header;

@@ -5,7 +5,7 @@ use Rattle.std.proofs.lemmas.List.{length-map}
 use Rattle.rtcm_bits.specs.Bits.{uint, number}
 use Rattle.rtcm_bits.specs.BitLaws.{length-uint, number_of-uint}
 use Rattle.rtcm_msg.specs.declared.seats.Seat.{Seat}
-use Rattle.rtcm_msg.specs.Msm.{MsmValue, Sets, AreSets, IsValue, pairs}
+use Rattle.rtcm_msg.specs.Msm.{MsmValue, MasksValue, AreMasks, IsValue, pairs}
 use Rattle.rtcm_msg.specs.Entries.{ids, chosen, seat, all_pairs, seats, Rising}
 use Rattle.rtcm_msg.specs.Meaning.{Meaning, meaning, pair, pair_number, cell_pairs}
 use Rattle.rtcm_msg.proofs.IdLaws.{weaken, ids_rising, ids_one, cons_tail}
@@ -41,7 +41,7 @@ rows_rising gs k low (x ∷ xs) g h r =
     rw (map-append key (map (seat (k, x)) gs) (flat_map (λ y. map (seat y) gs) (enumerate_from (k + 1) xs)))
     (rising-append (64 * low + 1) (64 * x + 32) (64 * 64 + 32) _ _ (omega (arith, r.0)) (omega (arith, r.1)) here above)
 
-pub all_rising : (s : Sets) → Rising (64 * 1 + 1) (64 * 64 + 32) (map key (all_pairs s))
+pub all_rising : (s : MasksValue) → Rising (64 * 1 + 1) (64 * 64 + 32) (map key (all_pairs s))
 all_rising s = rows_rising (ids 32 s.signals) 0 1 (ids 64 s.satellites) (ids_rising 32 s.signals) (omega arith) (ids_rising 64 s.satellites)
 
 chosen_rising : (low high : ℕ) (bits : List Bool) (xs : List Seat) → Rising low high (map key xs) → Rising low high (map key (chosen bits xs))
@@ -55,7 +55,7 @@ pub map-map : (xs : List Seat) → map pair_number (map pair xs) ≡ map key xs
 map-map [] = refl
 map-map (x ∷ xs) = ap (λ t. key x ∷ t) (map-map xs)
 
-pub pairs_rising : (s : Sets) → Rising 65 4128 (map pair_number (cell_pairs s))
+pub pairs_rising : (s : MasksValue) → Rising 65 4128 (map pair_number (cell_pairs s))
 pairs_rising s = rw (map-map (seats s)) (chosen_rising 65 4128 (uint (pairs s.satellites s.signals) s.cells) (all_pairs s) (all_rising s))
 
 -- ---- pairs name one mask
@@ -75,25 +75,25 @@ chosen_one low high (true ∷ bs) (false ∷ cs) (x ∷ xs) l m r e = absurd (no
 chosen_one low high (false ∷ bs) (true ∷ cs) (x ∷ xs) l m r e = absurd (not_above (key x) high (map key (chosen cs xs)) (map key (chosen bs xs)) (chosen_rising (key x + 1) high bs xs r.2) (sym e))
 
 -- masks of the same satellites, signals and pairs
-cells_same : (a g m n : ℕ) → AreSets (record { satellites = a; signals = g; cells = m }) → AreSets (record { satellites = a; signals = g; cells = n })
+cells_same : (a g m n : ℕ) → AreMasks (record { satellites = a; signals = g; cells = m }) → AreMasks (record { satellites = a; signals = g; cells = n })
     → cell_pairs (record { satellites = a; signals = g; cells = m }) ≡ cell_pairs (record { satellites = a; signals = g; cells = n }) → m ≡ n
 cells_same a g m n h k e =
     let p = pairs a g in
-    let s : Sets = record { satellites = a; signals = g; cells = m } in
-    let t : Sets = record { satellites = a; signals = g; cells = n } in
+    let s : MasksValue = record { satellites = a; signals = g; cells = m } in
+    let t : MasksValue = record { satellites = a; signals = g; cells = n } in
     let count = pairs_count s h in
     let keys : map key (seats s) ≡ map key (seats t) = sym (map-map (seats s)) ∙ (ap (map pair_number) e ∙ map-map (seats t)) in
     let bits = chosen_one 65 4128 (uint p m) (uint p n) (all_pairs s) (length-uint p m ∙ sym count) (length-uint p n ∙ sym count) (all_rising s) keys in
     sym (number_of-uint p m h.cells) ∙ (ap number bits ∙ number_of-uint p n k.cells)
 
-pub sets_one : (s t : Sets) → AreSets s → AreSets t → ids 64 s.satellites ≡ ids 64 t.satellites → ids 32 s.signals ≡ ids 32 t.signals → cell_pairs s ≡ cell_pairs t → s ≡ t
+pub sets_one : (s t : MasksValue) → AreMasks s → AreMasks t → ids 64 s.satellites ≡ ids 64 t.satellites → ids 32 s.signals ≡ ids 32 t.signals → cell_pairs s ≡ cell_pairs t → s ≡ t
 sets_one s t h k a g e =
     let sat : s.satellites ≡ t.satellites = ids_one 64 s.satellites t.satellites h.satellites k.satellites a in
     let sig : s.signals ≡ t.signals = ids_one 32 s.signals t.signals h.signals k.signals g in
     join s.satellites t.satellites s.signals t.signals s.cells t.cells sat sig h k e
   where
-    join : (a b g f m n : ℕ) → a ≡ b → g ≡ f → AreSets (record { satellites = a; signals = g; cells = m }) → AreSets (record { satellites = b; signals = f; cells = n })
-        → cell_pairs (record { satellites = a; signals = g; cells = m }) ≡ cell_pairs (record { satellites = b; signals = f; cells = n }) → Path Sets (record { satellites = a; signals = g; cells = m }) (record { satellites = b; signals = f; cells = n })
+    join : (a b g f m n : ℕ) → a ≡ b → g ≡ f → AreMasks (record { satellites = a; signals = g; cells = m }) → AreMasks (record { satellites = b; signals = f; cells = n })
+        → cell_pairs (record { satellites = a; signals = g; cells = m }) ≡ cell_pairs (record { satellites = b; signals = f; cells = n }) → Path MasksValue (record { satellites = a; signals = g; cells = m }) (record { satellites = b; signals = f; cells = n })
     join a b g f m n p q h k e =
         let h' = rw (p, q) at h in
         let e' = rw (p, q) at e in

@@ -10,11 +10,11 @@ use Rattle.rtcm_msg.specs.declared.fault.MsgFault.TheVariants.{BadTime, TooManyC
 use Rattle.rtcm_msg.specs.declared.station.StationParts.{StationParts}
 use Rattle.rtcm_msg.specs.declared.message.Message.{Message}
 use Rattle.rtcm_msg.specs.Fields.{◌>>=◌, spelled, first_past}
-use Rattle.rtcm_msg.specs.Packed.{total, columns}
+use Rattle.rtcm_msg.specs.Packed.{total_width, columns}
 use Rattle.rtcm_msg.specs.Station.{station_at, station_table, station_parts}
-use Rattle.rtcm_msg.specs.Msm.{msm_at, MsmValue, week, set_fields}
+use Rattle.rtcm_msg.specs.Msm.{msm_at, MsmValue, week, mask_fields}
 use Rattle.rtcm_msg.specs.Reading.{message_of, body_at, start, other_at, set_at}
-use Rattle.rtcm_msg.specs.Spelling.{Reads, IsMessage, IsFault, message_bits, reserved_width, is_other, is_read, is_msm, number_of, set_of, layout, layout_of, has_bad_time, has_too_many}
+use Rattle.rtcm_msg.specs.Spelling.{ReadsMessage, IsMessage, IsFault, message_bits, reserved_width, is_other, is_read, is_read_msm, number_of, set_of, layout, layout_of, has_bad_time, has_too_many}
 use Rattle.rtcm_msg.proofs.Binds.{bind_ok, ok_inj, number_took, number_short}
 use Rattle.rtcm_msg.proofs.Combine.{cursor, number_again, ok_err, past_here, past_next}
 use Rattle.rtcm_msg.proofs.StationLaws.{station_again, station_took, station_tail, station_widths, height_widths, station_chain, IsRead}
@@ -35,9 +35,9 @@ eq_other a b h = grind arith
 
 pub data Kind (n : ℕ) : Type 0 where
   station : (has : Bool) → n ≡ station_number has → Kind n
-  msm4 : (g : Bool) → n ≡ grid4.number g → Kind n
-  msm7 : (g : Bool) → n ≡ grid7.number g → Kind n
-  other : is_read n ≡ false → is_msm n ≡ false → ((bits : List Bool) → layout_of n bits ≡ []) → ((c : Cursor) → body_at n c ≡ Ok (other_at n c)) → Kind n
+  msm4 : (g : Bool) → n ≡ grid4.message_number g → Kind n
+  msm7 : (g : Bool) → n ≡ grid7.message_number g → Kind n
+  other : is_read n ≡ false → is_read_msm n ≡ false → ((bits : List Bool) → layout_of n bits ≡ []) → ((c : Cursor) → body_at n c ≡ Ok (other_at n c)) → Kind n
 
 pub kind_of : (n : ℕ) → Kind n
 unfolding body_at
@@ -73,12 +73,12 @@ unfolding body_at
 body_station true c = refl
 body_station false c = refl
 
-body_msm4 : (g : Bool) (c : Cursor) → body_at (grid4.number g) c ≡ (msm_at grid4.satellite_widths grid4.cell_widths g c >>= λ m. Ok (messages.Msm4 m.0))
+body_msm4 : (g : Bool) (c : Cursor) → body_at (grid4.message_number g) c ≡ (msm_at grid4.satellite_widths grid4.cell_widths g c >>= λ m. Ok (messages.Msm4 m.0))
 unfolding body_at
 body_msm4 true c = refl
 body_msm4 false c = refl
 
-body_msm7 : (g : Bool) (c : Cursor) → body_at (grid7.number g) c ≡ (msm_at grid7.satellite_widths grid7.cell_widths g c >>= λ m. Ok (messages.Msm7 m.0))
+body_msm7 : (g : Bool) (c : Cursor) → body_at (grid7.message_number g) c ≡ (msm_at grid7.satellite_widths grid7.cell_widths g c >>= λ m. Ok (messages.Msm7 m.0))
 unfolding body_at
 body_msm7 true c = refl
 body_msm7 false c = refl
@@ -128,19 +128,19 @@ message_again bits rest (messages.Station s) reserved h known small is =
 message_again bits rest (messages.Msm4 m) reserved h known small is =
     let tail = msm_tail grid4.satellite_widths grid4.cell_widths m reserved in
     let read = msm_again grid4.satellite_widths grid4.cell_widths m reserved 12 rest h small in
-    again bits (grid4.number m.is_galileo) tail rest (few_number m.is_galileo) (is ∙ ap (λ t. t ++ rest) (append_assoc (uint 12 (grid4.number m.is_galileo)) (spelled (header_tail m.header reserved)) (spelled (set_fields m.sets) ++ (columns grid4.satellite_widths m.satellites ++ columns grid4.cell_widths m.cells))))
+    again bits (grid4.message_number m.is_galileo) tail rest (few_number m.is_galileo) (is ∙ ap (λ t. t ++ rest) (append_assoc (uint 12 (grid4.message_number m.is_galileo)) (spelled (header_tail m.header reserved)) (spelled (mask_fields m.sets) ++ (columns grid4.satellite_widths m.satellites ++ columns grid4.cell_widths m.cells))))
     ∙ (body_msm4 m.is_galileo (cursor 12 (tail ++ rest)) ∙ rw read.1 refl)
   where
-    few_number : (g : Bool) → grid4.number g < 2 ^ 12
+    few_number : (g : Bool) → grid4.message_number g < 2 ^ 12
     few_number true = lit< tt
     few_number false = lit< tt
 message_again bits rest (messages.Msm7 m) reserved h known small is =
     let tail = msm_tail grid7.satellite_widths grid7.cell_widths m reserved in
     let read = msm_again grid7.satellite_widths grid7.cell_widths m reserved 12 rest h small in
-    again bits (grid7.number m.is_galileo) tail rest (few_number m.is_galileo) (is ∙ ap (λ t. t ++ rest) (append_assoc (uint 12 (grid7.number m.is_galileo)) (spelled (header_tail m.header reserved)) (spelled (set_fields m.sets) ++ (columns grid7.satellite_widths m.satellites ++ columns grid7.cell_widths m.cells))))
+    again bits (grid7.message_number m.is_galileo) tail rest (few_number m.is_galileo) (is ∙ ap (λ t. t ++ rest) (append_assoc (uint 12 (grid7.message_number m.is_galileo)) (spelled (header_tail m.header reserved)) (spelled (mask_fields m.sets) ++ (columns grid7.satellite_widths m.satellites ++ columns grid7.cell_widths m.cells))))
     ∙ (body_msm7 m.is_galileo (cursor 12 (tail ++ rest)) ∙ rw read.1 refl)
   where
-    few_number : (g : Bool) → grid7.number g < 2 ^ 12
+    few_number : (g : Bool) → grid7.message_number g < 2 ^ 12
     few_number true = lit< tt
     few_number false = lit< tt
 message_again bits rest (messages.Other n set) reserved h known small is = cc
@@ -149,7 +149,7 @@ true_false : (b : Bool) → b ≡ true → b ≡ false → ⊥
 true_false b p q = cc
 
 -- a value whose bits stand in front is read
-pub read_again : (bits : List Bool) (v : Message) → Reads bits v → message_of bits ≡ Ok v
+pub read_again : (bits : List Bool) (v : Message) → ReadsMessage bits v → message_of bits ≡ Ok v
 read_again bits v (inl b) = message_again bits b.rest v b.spells.reserved b.is_value b.known b.spells.fits (b.joined ∙ ap (λ t. t ++ b.rest) b.spells.bits_are)
 read_again bits v (inr o) = message_there bits o.number_there ∙ go (number_of bits) (kind_of (number_of bits)) o.unread (standing bits 12) ∙ ap Ok (other_is bits o.number_there ∙ sym o.value)
   where
@@ -166,7 +166,7 @@ read_again bits v (inr o) = message_there bits o.number_there ∙ go (number_of 
 
 pub record Found (bits : List Bool) (v : Message) : Type 0 where
   pub is_message : IsMessage v
-  pub reads : Reads bits v
+  pub reads : ReadsMessage bits v
 
 -- the message number and what stands behind it
 in_front : (bits : List Bool) → 12 ≤ length bits → bits ≡ uint 12 (number_of bits) ++ drop 12 bits
@@ -185,23 +185,23 @@ found_station bits has s d front r =
     let number : station_number has ≡ station_number (is_some s.height) = ap station_number (sym r.height) in
     begins bits (messages.Station s) r.reserved d.rest r.in_range refl r.one (with_number bits (station_number (is_some s.height)) (spelled (station_tail s r.reserved)) d.rest (front ∙ ap (λ (n : ℕ). uint 12 n ++ drop 12 bits) number) r.bits)
 
-found_msm4 : (bits : List Bool) (g : Bool) (m : MsmValue) (d : Cursor) → bits ≡ uint 12 (grid4.number g) ++ drop 12 bits → IsMsmRead grid4.satellite_widths grid4.cell_widths g m (standing bits 12) d → Found bits (messages.Msm4 m)
+found_msm4 : (bits : List Bool) (g : Bool) (m : MsmValue) (d : Cursor) → bits ≡ uint 12 (grid4.message_number g) ++ drop 12 bits → IsMsmRead grid4.satellite_widths grid4.cell_widths g m (standing bits 12) d → Found bits (messages.Msm4 m)
 unfolding spelled
 found_msm4 bits g m d front r =
-    let n = grid4.number m.is_galileo in
+    let n = grid4.message_number m.is_galileo in
     let content = columns grid4.satellite_widths m.satellites ++ columns grid4.cell_widths m.cells in
-    let number : grid4.number g ≡ n = ap grid4.number (sym r.galileo) in
+    let number : grid4.message_number g ≡ n = ap grid4.message_number (sym r.galileo) in
     begins bits (messages.Msm4 m) r.reserved d.rest r.is_value refl r.small (with_number bits n (msm_tail grid4.satellite_widths grid4.cell_widths m r.reserved) d.rest (front ∙ ap (λ (n : ℕ). uint 12 n ++ drop 12 bits) number) r.bits
-    ∙ ap (λ (t : List Bool). t ++ d.rest) (sym (append_assoc (uint 12 n) (spelled (header_tail m.header r.reserved)) (spelled (set_fields m.sets) ++ content))))
+    ∙ ap (λ (t : List Bool). t ++ d.rest) (sym (append_assoc (uint 12 n) (spelled (header_tail m.header r.reserved)) (spelled (mask_fields m.sets) ++ content))))
 
-found_msm7 : (bits : List Bool) (g : Bool) (m : MsmValue) (d : Cursor) → bits ≡ uint 12 (grid7.number g) ++ drop 12 bits → IsMsmRead grid7.satellite_widths grid7.cell_widths g m (standing bits 12) d → Found bits (messages.Msm7 m)
+found_msm7 : (bits : List Bool) (g : Bool) (m : MsmValue) (d : Cursor) → bits ≡ uint 12 (grid7.message_number g) ++ drop 12 bits → IsMsmRead grid7.satellite_widths grid7.cell_widths g m (standing bits 12) d → Found bits (messages.Msm7 m)
 unfolding spelled
 found_msm7 bits g m d front r =
-    let n = grid7.number m.is_galileo in
+    let n = grid7.message_number m.is_galileo in
     let content = columns grid7.satellite_widths m.satellites ++ columns grid7.cell_widths m.cells in
-    let number : grid7.number g ≡ n = ap grid7.number (sym r.galileo) in
+    let number : grid7.message_number g ≡ n = ap grid7.message_number (sym r.galileo) in
     begins bits (messages.Msm7 m) r.reserved d.rest r.is_value refl r.small (with_number bits n (msm_tail grid7.satellite_widths grid7.cell_widths m r.reserved) d.rest (front ∙ ap (λ (n : ℕ). uint 12 n ++ drop 12 bits) number) r.bits
-    ∙ ap (λ (t : List Bool). t ++ d.rest) (sym (append_assoc (uint 12 n) (spelled (header_tail m.header r.reserved)) (spelled (set_fields m.sets) ++ content))))
+    ∙ ap (λ (t : List Bool). t ++ d.rest) (sym (append_assoc (uint 12 n) (spelled (header_tail m.header r.reserved)) (spelled (mask_fields m.sets) ++ content))))
 
 body_found : (bits : List Bool) (n : ℕ) (v : Message) → 12 ≤ length bits → number_of bits ≡ n → Kind n → body_at n (standing bits 12) ≡ Ok v → Found bits v
 body_found bits n v h is (station has e) read =
@@ -269,8 +269,8 @@ pub record InTime (bits : List Bool) : Type 0 where
   pub time : has_bad_time bits ≡ false
   pub few : has_too_many bits ≡ false
 
-no_msm_in_time : (bits : List Bool) → is_msm (number_of bits) ≡ false → InTime bits
-no_msm_in_time bits h = record { time = and_first (is_msm (number_of bits)) (nat_le 54 (length bits)) (nat_le week (field_at bits 24 30)) h; few = and_first (is_msm (number_of bits)) (nat_le 169 (length bits)) (nat_lt 64 (pairs_of bits)) h }
+no_msm_in_time : (bits : List Bool) → is_read_msm (number_of bits) ≡ false → InTime bits
+no_msm_in_time bits h = record { time = and_first (is_read_msm (number_of bits)) (nat_le 54 (length bits)) (nat_le week (field_at bits 24 30)) h; few = and_first (is_read_msm (number_of bits)) (nat_le 169 (length bits)) (nat_lt 64 (pairs_of bits)) h }
 
 no_fault : (bits : List Bool) → 12 ≤ length bits → InTime bits → first_past (length bits) 0 (layout bits) ≡ None → (f : MsgFault) → IsFault bits f → ⊥
 no_fault bits h clean none BadTime f = not_true (has_bad_time bits) clean.time f
@@ -291,7 +291,7 @@ station_end bits has h = elim (fields_read station_table bits 12 h) [
   | inr there ↦ by_height has there.0 there.1
 ]
   where
-    by_height : (has : Bool) → 12 + total station_widths ≤ length bits → fields_at station_table (standing bits 12) ≡ Ok (contents_at station_table bits 12, standing bits (12 + total station_widths))
+    by_height : (has : Bool) → 12 + total_width station_widths ≤ length bits → fields_at station_table (standing bits 12) ≡ Ok (contents_at station_table bits 12, standing bits (12 + total_width station_widths))
         → ((e : MsgFault) × (station_at has (standing bits 12) ≡ Err e) × ShortAt bits 12 (station_widths ++ height_widths has) e) ⊎ ((v : StationParts × Cursor) × (station_at has (standing bits 12) ≡ Ok v) × (first_past (length bits) 12 (station_widths ++ height_widths has) ≡ None))
     by_height false room read = inr ((station_parts (contents_at station_table bits 12) None, standing bits 152), station_chain false (standing bits 12) ∙ rw read refl, past_none (station_widths ++ []) (length bits) 12 room)
     by_height true room read = elim (cases_lt (length bits) 168) [
@@ -303,33 +303,33 @@ pub layout_station : (has : Bool) (bits : List Bool) → layout_of (station_numb
 layout_station true bits = refl
 layout_station false bits = refl
 
-pub layout_msm4 : (g : Bool) (bits : List Bool) → layout_of (grid4.number g) bits ≡ 12 ∷ msm_widths grid4.satellite_widths grid4.cell_widths bits
+pub layout_msm4 : (g : Bool) (bits : List Bool) → layout_of (grid4.message_number g) bits ≡ 12 ∷ msm_widths grid4.satellite_widths grid4.cell_widths bits
 layout_msm4 true bits = refl
 layout_msm4 false bits = refl
 
-pub layout_msm7 : (g : Bool) (bits : List Bool) → layout_of (grid7.number g) bits ≡ 12 ∷ msm_widths grid7.satellite_widths grid7.cell_widths bits
+pub layout_msm7 : (g : Bool) (bits : List Bool) → layout_of (grid7.message_number g) bits ≡ 12 ∷ msm_widths grid7.satellite_widths grid7.cell_widths bits
 layout_msm7 true bits = refl
 layout_msm7 false bits = refl
 
-station_no_msm : (has : Bool) → is_msm (station_number has) ≡ false
+station_no_msm : (has : Bool) → is_read_msm (station_number has) ≡ false
 station_no_msm true = refl
 station_no_msm false = refl
 
-pub msm4_is_msm : (g : Bool) → is_msm (grid4.number g) ≡ true
+pub msm4_is_msm : (g : Bool) → is_read_msm (grid4.message_number g) ≡ true
 msm4_is_msm true = refl
 msm4_is_msm false = refl
 
-pub msm7_is_msm : (g : Bool) → is_msm (grid7.number g) ≡ true
+pub msm7_is_msm : (g : Bool) → is_read_msm (grid7.message_number g) ≡ true
 msm7_is_msm true = refl
 msm7_is_msm false = refl
 
 -- how a multiple signal message ends, by the widths of either grid
-msm_message_end : (bits : List Bool) (sw cw : List ℕ) (g : Bool) (wrap : MsmValue → Message) → 12 ≤ length bits → is_msm (number_of bits) ≡ true → layout bits ≡ 12 ∷ msm_widths sw cw bits
+msm_message_end : (bits : List Bool) (sw cw : List ℕ) (g : Bool) (wrap : MsmValue → Message) → 12 ≤ length bits → is_read_msm (number_of bits) ≡ true → layout bits ≡ 12 ∷ msm_widths sw cw bits
     → message_of bits ≡ (msm_at sw cw g (standing bits 12) >>= λ m. Ok (wrap m.0)) → MsmEnd sw cw g bits → MessageEnd bits
 msm_message_end bits sw cw g wrap h msm lay read end = go end
   where
     m : Bool
-    m = is_msm (number_of bits)
+    m = is_read_msm (number_of bits)
 
     early_is : field_at bits 24 30 < week → has_bad_time bits ≡ false
     early_is early = and_third m (nat_le 54 (length bits)) (nat_le week (field_at bits 24 30)) (le_false week (field_at bits 24 30) early)
@@ -349,8 +349,8 @@ message_end : (bits : List Bool) → MessageEnd bits
 unfolding first_past
 message_end bits = elim (cases_lt (length bits) 12) [
   | inl few ↦ faulty (Short 0) (
-    and_second (is_msm (number_of bits)) (nat_le 54 (length bits)) (nat_le week (field_at bits 24 30)) (le_false 54 (length bits) (omega (arith, few))),
-    and_second (is_msm (number_of bits)) (nat_le 169 (length bits)) (nat_lt 64 (pairs_of bits)) (le_false 169 (length bits) (omega (arith, few))),
+    and_second (is_read_msm (number_of bits)) (nat_le 54 (length bits)) (nat_le week (field_at bits 24 30)) (le_false 54 (length bits) (omega (arith, few))),
+    and_second (is_read_msm (number_of bits)) (nat_le 169 (length bits)) (nat_lt 64 (pairs_of bits)) (le_false 169 (length bits) (omega (arith, few))),
     inl (few, refl),
   ) (message_none bits few)
   | inr there ↦ go (number_of bits) refl there (kind_of (number_of bits))
@@ -359,17 +359,17 @@ message_end bits = elim (cases_lt (length bits) 12) [
     go : (n : ℕ) → number_of bits ≡ n → 12 ≤ length bits → Kind n → MessageEnd bits
     go n is h (station has e) =
         let lay : layout bits ≡ 12 ∷ (station_widths ++ height_widths has) = ap (λ (k : ℕ). layout_of k bits) (is ∙ e) ∙ layout_station has bits in
-        let clean = no_msm_in_time bits (ap is_msm (is ∙ e) ∙ station_no_msm has) in
+        let clean = no_msm_in_time bits (ap is_read_msm (is ∙ e) ∙ station_no_msm has) in
         let read : message_of bits ≡ (station_at has (standing bits 12) >>= λ s. Ok (messages.Station s.0)) = message_there bits h ∙ (ap (λ (k : ℕ). body_at k (standing bits 12)) (is ∙ e) ∙ body_station has (standing bits 12)) in
         elim (station_end bits has h) [
           | inl bad ↦ faulty bad.0 (short_fault bits (station_widths ++ height_widths has) bad.0 h clean lay bad.2) (read ∙ rw bad.1 refl)
           | inr fine ↦ sound (messages.Station fine.0.0) (no_fault bits h clean (past_all bits (station_widths ++ height_widths has) h lay fine.2)) (read ∙ rw fine.1 refl)
         ]
-    go n is h (msm4 g e) = msm_message_end bits grid4.satellite_widths grid4.cell_widths g messages.Msm4 h (ap is_msm (is ∙ e) ∙ msm4_is_msm g) (ap (λ (k : ℕ). layout_of k bits) (is ∙ e) ∙ layout_msm4 g bits)
+    go n is h (msm4 g e) = msm_message_end bits grid4.satellite_widths grid4.cell_widths g messages.Msm4 h (ap is_read_msm (is ∙ e) ∙ msm4_is_msm g) (ap (λ (k : ℕ). layout_of k bits) (is ∙ e) ∙ layout_msm4 g bits)
         (message_there bits h ∙ (ap (λ (k : ℕ). body_at k (standing bits 12)) (is ∙ e) ∙ body_msm4 g (standing bits 12))) (msm_end grid4.satellite_widths grid4.cell_widths g bits h)
-    go n is h (msm7 g e) = msm_message_end bits grid7.satellite_widths grid7.cell_widths g messages.Msm7 h (ap is_msm (is ∙ e) ∙ msm7_is_msm g) (ap (λ (k : ℕ). layout_of k bits) (is ∙ e) ∙ layout_msm7 g bits)
+    go n is h (msm7 g e) = msm_message_end bits grid7.satellite_widths grid7.cell_widths g messages.Msm7 h (ap is_read_msm (is ∙ e) ∙ msm7_is_msm g) (ap (λ (k : ℕ). layout_of k bits) (is ∙ e) ∙ layout_msm7 g bits)
         (message_there bits h ∙ (ap (λ (k : ℕ). body_at k (standing bits 12)) (is ∙ e) ∙ body_msm7 g (standing bits 12))) (msm_end grid7.satellite_widths grid7.cell_widths g bits h)
-    go n is h (other unread no_msm empty body) = sound (other_at n (standing bits 12)) (no_fault bits h (no_msm_in_time bits (ap is_msm is ∙ no_msm)) (ap (first_past (length bits) 0) (ap (λ (k : ℕ). layout_of k bits) is ∙ empty bits)))
+    go n is h (other unread no_msm empty body) = sound (other_at n (standing bits 12)) (no_fault bits h (no_msm_in_time bits (ap is_read_msm is ∙ no_msm)) (ap (first_past (length bits) 0) (ap (λ (k : ℕ). layout_of k bits) is ∙ empty bits)))
         (message_there bits h ∙ (ap (λ (k : ℕ). body_at k (standing bits 12)) is ∙ body (standing bits 12)))
 
 pub message_fault : (bits : List Bool) (e : MsgFault) → message_of bits ≡ Err e → IsFault bits e
@@ -408,7 +408,7 @@ message_only_fault bits f fault = go (message_end bits)
 
 -- ---- what is written
 
-pub zero_read : (v : Message) → IsMessage v → is_other v ≡ false → Reads (filled (message_bits v 0)) v
+pub zero_read : (v : Message) → IsMessage v → is_other v ≡ false → ReadsMessage (filled (message_bits v 0)) v
 zero_read v value known = inl (record { is_value = value; known = known; front = message_bits v 0; rest = replicate (missing (length (message_bits v 0))) false; joined = refl; spells = record { reserved = 0; fits = zero_fits v; bits_are = refl } })
   where
     zero_fits : (v : Message) → 0 < 2 ^ reserved_width v

@@ -8,9 +8,9 @@ use Rattle.rtcm_msg.specs.declared.fault.MsgFault.{MsgFault}
 use Rattle.rtcm_msg.specs.declared.fault.MsgFault.TheVariants.{BadTime, TooManyCells}
 use Rattle.rtcm_msg.specs.declared.header.MsmHeader.{MsmHeader}
 use Rattle.rtcm_msg.specs.Fields.{number_at, reading, ◌>>=◌, spelled}
-use Rattle.rtcm_msg.specs.Packed.{total, columns}
+use Rattle.rtcm_msg.specs.Packed.{total_width, columns}
 use Rattle.rtcm_msg.specs.Columns.{columns_at, EachBelow}
-use Rattle.rtcm_msg.specs.Msm.{sets_behind, header_at, sets_at, msm_at, timely, week, IsHeader, AreSets, IsValue, Sets, MsmValue, pairs, set_fields, time_table, header_table, mask_table, time_contents, header_contents, header_of}
+use Rattle.rtcm_msg.specs.Msm.{masks_behind, header_at, masks_at, msm_at, timely, week, IsHeader, AreMasks, IsValue, MasksValue, MsmValue, pairs, mask_fields, time_table, header_table, mask_table, time_contents, header_contents, header_of}
 use Rattle.rtcm_msg.proofs.Binds.{ok_inj, bind_ok, number_took}
 use Rattle.rtcm_msg.proofs.Combine.{ok_err, cursor, number_again}
 use Rattle.rtcm_msg.proofs.WritingSteps.{spelled-append}
@@ -99,21 +99,21 @@ header_again v reserved place rest h small =
 
 -- ---- sets
 
-pub sets_chain : (c : Cursor) → sets_at c ≡ (fields_at mask_table c >>= λ n. sets_behind n.0.0 n.0.1.0 n.1)
-unfolding sets_at
-sets_chain c = reading_is mask_table c (λ n. sets_behind n.0.0 n.0.1.0 n.1)
+pub sets_chain : (c : Cursor) → masks_at c ≡ (fields_at mask_table c >>= λ n. masks_behind n.0.0 n.0.1.0 n.1)
+unfolding masks_at
+sets_chain c = reading_is mask_table c (λ n. masks_behind n.0.0 n.0.1.0 n.1)
 
-pub few_rest : (satellites signals : ℕ) (c : Cursor) → pairs satellites signals ≤ 64 → sets_behind satellites signals c ≡ (number_at (pairs satellites signals) c >>= λ cells. Ok (record { satellites = satellites; signals = signals; cells = cells.0 }, cells.1))
+pub few_rest : (satellites signals : ℕ) (c : Cursor) → pairs satellites signals ≤ 64 → masks_behind satellites signals c ≡ (number_at (pairs satellites signals) c >>= λ cells. Ok (record { satellites = satellites; signals = signals; cells = cells.0 }, cells.1))
 few_rest a b c h = grind arith
 
-pub many_rest : (satellites signals : ℕ) (c : Cursor) → 64 < pairs satellites signals → sets_behind satellites signals c ≡ Err TooManyCells
+pub many_rest : (satellites signals : ℕ) (c : Cursor) → 64 < pairs satellites signals → masks_behind satellites signals c ≡ Err TooManyCells
 many_rest a b c h = grind arith
 
-pub record AreSetsRead (v : Sets) (c d : Cursor) : Type 0 where
-  pub are_sets : AreSets v
-  pub bits : c.rest ≡ spelled (set_fields v) ++ d.rest
+pub record AreSetsRead (v : MasksValue) (c d : Cursor) : Type 0 where
+  pub are_sets : AreMasks v
+  pub bits : c.rest ≡ spelled (mask_fields v) ++ d.rest
 
-pub sets_took : (c : Cursor) (v : Sets × Cursor) → sets_at c ≡ Ok v → AreSetsRead v.0 c v.1
+pub sets_took : (c : Cursor) (v : MasksValue × Cursor) → masks_at c ≡ Ok v → AreSetsRead v.0 c v.1
 unfolding spelled
 sets_took c v e =
     let masks = bind_ok (fields_at mask_table c) _ v (sym (sets_chain c) ∙ e) in
@@ -125,18 +125,18 @@ sets_took c v e =
       | inr few ↦
           let cells = bind_ok (number_at (pairs a b) masks.0.1) _ v (sym (few_rest a b masks.0.1 few) ∙ masks.2) in
           let read = number_took (pairs a b) masks.0.1 cells.0 cells.1 in
-          subst (λ (w : Sets × Cursor). AreSetsRead w.0 c w.1) (ok_inj _ v _ refl cells.2) (record {
+          subst (λ (w : MasksValue × Cursor). AreSetsRead w.0 c w.1) (ok_inj _ v _ refl cells.2) (record {
             are_sets = record { satellites = took.fit.0; signals = took.fit.1.0; few = few; cells = read.fits };
             bits = both (fields_of mask_table masks.0.0) ((pairs a b, cells.0.0) ∷ []) _ _ _ took.bits (read.bits ∙ sym (append_assoc (uint (pairs a b) cells.0.0) [] cells.0.1.rest));
           })
     ]
 
-pub sets_again : (v : Sets) (place : ℕ) (rest : List Bool) → AreSets v → sets_at (cursor place (spelled (set_fields v) ++ rest)) ≡ Ok (v, cursor (place + 96 + pairs v.satellites v.signals) rest)
+pub sets_again : (v : MasksValue) (place : ℕ) (rest : List Bool) → AreMasks v → masks_at (cursor place (spelled (mask_fields v) ++ rest)) ≡ Ok (v, cursor (place + 96 + pairs v.satellites v.signals) rest)
 unfolding spelled
 sets_again v place rest h =
     let n : Contents mask_table = (v.satellites, (v.signals, tt)) in
     let p = pairs v.satellites v.signals in
-    let c = cursor place (spelled (set_fields v) ++ rest) in
+    let c = cursor place (spelled (mask_fields v) ++ rest) in
     let split : c ≡ cursor place (spelled (fields_of mask_table n) ++ (spelled ((p, v.cells) ∷ []) ++ rest)) = ap (cursor place) (ap (λ t. t ++ rest) (spelled-append (fields_of mask_table n) ((p, v.cells) ∷ [])) ∙ append_assoc (spelled (fields_of mask_table n)) (spelled ((p, v.cells) ∷ [])) rest) in
     let first = fields_again mask_table n place (spelled ((p, v.cells) ∷ []) ++ rest) refl (h.satellites, (h.signals, tt)) in
     let second = number_again p v.cells (place + 96) rest h.cells in
@@ -146,7 +146,7 @@ sets_again v place rest h =
 
 -- the bits behind the message number
 abbrev pub msm_tail : List ℕ → List ℕ → MsmValue → ℕ → List Bool
-msm_tail sw cw v reserved = spelled (header_tail v.header reserved) ++ (spelled (set_fields v.sets) ++ (columns sw v.satellites ++ columns cw v.cells))
+msm_tail sw cw v reserved = spelled (header_tail v.header reserved) ++ (spelled (mask_fields v.sets) ++ (columns sw v.satellites ++ columns cw v.cells))
 
 pub record IsMsmRead (sw cw : List ℕ) (g : Bool) (v : MsmValue) (c d : Cursor) : Type 0 where
   pub reserved : ℕ
@@ -157,9 +157,9 @@ pub record IsMsmRead (sw cw : List ℕ) (g : Bool) (v : MsmValue) (c d : Cursor)
 
 -- as many columns' numbers are read as were asked for
 columns_count : (ws : List ℕ) (n : ℕ) (c : Cursor) (x : List ℕ × Cursor) → ColumnsTook ws (replicate n 0) c x → length x.0 ≡ n
-columns_count ws n c x t = sym (length-map x.0 (λ k. k / 2 ^ total ws)) ∙ (ap length t.high ∙ length-replicate n 0)
+columns_count ws n c x t = sym (length-map x.0 (λ k. k / 2 ^ total_width ws)) ∙ (ap length t.high ∙ length-replicate n 0)
 
-msm_done : (sw cw : List ℕ) (g : Bool) (c : Cursor) (h : MsmHeader × Cursor) (s : Sets × Cursor) (x y : List ℕ × Cursor) → IsHeaderRead h.0 c h.1 → AreSetsRead s.0 h.1 s.1
+msm_done : (sw cw : List ℕ) (g : Bool) (c : Cursor) (h : MsmHeader × Cursor) (s : MasksValue × Cursor) (x y : List ℕ × Cursor) → IsHeaderRead h.0 c h.1 → AreSetsRead s.0 h.1 s.1
     → columns_at sw (replicate (count_ones s.0.satellites) 0) s.1 ≡ Ok x → columns_at cw (replicate (count_ones s.0.cells) 0) x.1 ≡ Ok y
     → IsMsmRead sw cw g (record { is_galileo = g; header = h.0; sets = s.0; satellites = x.0; cells = y.0 }) c y.1
 msm_done sw cw g c h s x y a b e f =
@@ -177,21 +177,21 @@ msm_done sw cw g c h s x y a b e f =
         satellites = columns_fit sw (count_ones s.0.satellites) s.1 x e;
         cells = columns_fit cw (count_ones s.0.cells) x.1 y f;
       };
-      bits = join4 (spelled (header_tail h.0 a.reserved)) (spelled (set_fields s.0)) (columns sw x.0) (columns cw y.0) _ _ _ _ _ a.bits b.bits xs.bits ys.bits;
+      bits = join4 (spelled (header_tail h.0 a.reserved)) (spelled (mask_fields s.0)) (columns sw x.0) (columns cw y.0) _ _ _ _ _ a.bits b.bits xs.bits ys.bits;
     }
   where
     join4 : (p q r t a b c d e : List Bool) → a ≡ p ++ b → b ≡ q ++ c → c ≡ r ++ d → d ≡ t ++ e → a ≡ (p ++ (q ++ (r ++ t))) ++ e
     join4 p q r t a b c d e i j k l = i ∙ (ap (λ z. p ++ z) (j ∙ ap (λ z. q ++ z) (k ∙ ap (λ z. r ++ z) l)) ∙ sym (append_assoc p (q ++ (r ++ t)) e ∙ ap (λ z. p ++ z) (append_assoc q (r ++ t) e ∙ ap (λ z. q ++ z) (append_assoc r t e))))
 
 -- numbers in range are read again from zeros
-columns_same : (ws ns : List ℕ) (count place : ℕ) (rest : List Bool) → length ns ≡ count → EachBelow (total ws) ns → columns_at ws (replicate count 0) (cursor place (columns ws ns ++ rest)) ≡ Ok (ns, cursor (place + total ws * length ns) rest)
-columns_same ws ns count place rest len below = rw (← len, ← highs_zero (total ws) ns below) (columns_again ws ns place rest)
+columns_same : (ws ns : List ℕ) (count place : ℕ) (rest : List Bool) → length ns ≡ count → EachBelow (total_width ws) ns → columns_at ws (replicate count 0) (cursor place (columns ws ns ++ rest)) ≡ Ok (ns, cursor (place + total_width ws * length ns) rest)
+columns_same ws ns count place rest len below = rw (← len, ← highs_zero (total_width ws) ns below) (columns_again ws ns place rest)
 
 pub msm_took : (sw cw : List ℕ) (g : Bool) (c : Cursor) (v : MsmValue × Cursor) → msm_at sw cw g c ≡ Ok v → IsMsmRead sw cw g v.0 c v.1
 unfolding msm_at
 msm_took sw cw g c v e =
     let header = bind_ok (header_at c) _ v e in
-    let sets = bind_ok (sets_at header.0.1) _ v header.2 in
+    let sets = bind_ok (masks_at header.0.1) _ v header.2 in
     let satellites = bind_ok (columns_at sw (replicate (count_ones sets.0.0.satellites) 0) sets.0.1) _ v sets.2 in
     let cells = bind_ok (columns_at cw (replicate (count_ones sets.0.0.cells) 0) satellites.0.1) _ v satellites.2 in
     subst (λ (w : MsmValue × Cursor). IsMsmRead sw cw g w.0 c w.1) (ok_inj _ v _ refl cells.2)
@@ -205,13 +205,13 @@ msm_again sw cw v reserved place rest h small =
     let there = here + 96 + p in
     let last = columns cw v.cells ++ rest in
     let mid = columns sw v.satellites ++ last in
-    let sets = spelled (set_fields v.sets) ++ mid in
+    let sets = spelled (mask_fields v.sets) ++ mid in
     let split : msm_tail sw cw v reserved ++ rest ≡ spelled (header_tail v.header reserved) ++ sets =
-    append_assoc (spelled (header_tail v.header reserved)) (spelled (set_fields v.sets) ++ (columns sw v.satellites ++ columns cw v.cells)) rest
-    ∙ ap (λ t. spelled (header_tail v.header reserved) ++ t) (append_assoc (spelled (set_fields v.sets)) (columns sw v.satellites ++ columns cw v.cells) rest
-    ∙ ap (λ t. spelled (set_fields v.sets) ++ t) (append_assoc (columns sw v.satellites) (columns cw v.cells) rest)) in
+    append_assoc (spelled (header_tail v.header reserved)) (spelled (mask_fields v.sets) ++ (columns sw v.satellites ++ columns cw v.cells)) rest
+    ∙ ap (λ t. spelled (header_tail v.header reserved) ++ t) (append_assoc (spelled (mask_fields v.sets)) (columns sw v.satellites ++ columns cw v.cells) rest
+    ∙ ap (λ t. spelled (mask_fields v.sets) ++ t) (append_assoc (columns sw v.satellites) (columns cw v.cells) rest)) in
     let first = header_again v.header reserved place sets h.header small in
     let second = sets_again v.sets here mid h.sets in
     let third = columns_same sw v.satellites (count_ones v.sets.satellites) there last h.satellite_count h.satellites in
-    let fourth = columns_same cw v.cells (count_ones v.sets.cells) (there + total sw * length v.satellites) rest h.cell_count h.cells in
-    (cursor (there + total sw * length v.satellites + total cw * length v.cells) rest, rw (split, first, second, third, fourth) refl)
+    let fourth = columns_same cw v.cells (count_ones v.sets.cells) (there + total_width sw * length v.satellites) rest h.cell_count h.cells in
+    (cursor (there + total_width sw * length v.satellites + total_width cw * length v.cells) rest, rw (split, first, second, third, fourth) refl)

@@ -14,7 +14,7 @@ use Rattle.rtcm_msg.specs.declared.grid4.Cell4.{Cell4}
 use Rattle.rtcm_msg.specs.declared.grid7.Satellite7.{Satellite7}
 use Rattle.rtcm_msg.specs.declared.grid7.Cell7.{Cell7}
 use Rattle.rtcm_msg.specs.LayoutLaws.{unpacked_fit}
-use Rattle.rtcm_msg.specs.Fractions.{scaled, joined, rate_joined, strength_of}
+use Rattle.rtcm_msg.specs.Fractions.{scaled, range_joined, rate_joined, strength_of}
 use Rattle.rtcm_msg.specs.Msm.{MsmValue}
 use Rattle.rtcm_msg.specs.Entries.{entry4, entry7, seats, entries}
 use Rattle.rtcm_msg.specs.declared.station.StationParts.{StationParts}
@@ -43,7 +43,7 @@ fine_within invalid k m z h room = by (int_eq z invalid) where
 sum_far : (whole fraction : ℕ) (fine : ℤ) → whole < 2 ^ 8 → fraction < 2 ^ 10 → Small fine → Far (pos (whole * 2 ^ 31 + fraction * 2 ^ 21) +ℤ fine)
 sum_far whole fraction fine w f s = omega (arith, ints, w, f, s)
 
-joined_within : (whole fraction : ℕ) (fine : Option ℤ) → whole < 2 ^ 8 → fraction < 2 ^ 10 → IfSome fine Small → IfSome (joined whole fraction fine) Far
+joined_within : (whole fraction : ℕ) (fine : Option ℤ) → whole < 2 ^ 8 → fraction < 2 ^ 10 → IfSome fine Small → IfSome (range_joined whole fraction fine) Far
 joined_within whole fraction None w f s = tt
 joined_within whole fraction (Some fine) w f s = by (whole == 255) where
   by : (b : Bool) → IfSome (if b then None else Some (pos (whole * 2 ^ 31 + fraction * 2 ^ 21) +ℤ fine)) Far
@@ -72,7 +72,7 @@ signed_within w m (negsuc n) h k = omega (arith, h, k)
 
 -- ---- cells
 
-measured4 : (v : MsmValue) (x : Seat × ℕ) (s : Satellite4) (c : Cell4) → grid4.IsSatellite s → grid4.IsCell c
+measured4 : (v : MsmValue) (x : Seat × ℕ) (s : Satellite4) (c : Cell4) → grid4.IsSatelliteData s → grid4.IsCellData c
     → IsMeasured (record { satellite = x.0.satellite; signal = x.0.signal; range = grid4.range_of s c; phase = grid4.phase_of s c; rate = grid4.rate_of s c; strength = grid4.strength_of c; lock = c.lock; half_cycle = c.half_cycle })
 measured4 v x s c a b = record {
   range = joined_within s.whole s.fraction _ a.whole a.fraction (fine_within (negsuc 16383) 128 (2 ^ 14) c.range (signed_within 15 (2 ^ 14) c.range b.range (lit≤ tt)) (lit≤ tt));
@@ -81,7 +81,7 @@ measured4 v x s c a b = record {
   strength = strength_within c.strength 16 (omega arith) (let few = b.strength in omega (arith, few));
 }
 
-measured7 : (v : MsmValue) (x : Seat × ℕ) (s : Satellite7) (c : Cell7) → grid7.IsSatellite s → grid7.IsCell c
+measured7 : (v : MsmValue) (x : Seat × ℕ) (s : Satellite7) (c : Cell7) → grid7.IsSatelliteData s → grid7.IsCellData c
     → IsMeasured (record { satellite = x.0.satellite; signal = x.0.signal; range = grid7.range_of s c; phase = grid7.phase_of s c; rate = grid7.rate_of s c; strength = grid7.strength_of c; lock = c.lock; half_cycle = c.half_cycle })
 measured7 v x s c a b = record {
   range = joined_within s.whole s.fraction _ a.whole a.fraction (fine_within (negsuc 524287) 4 (2 ^ 19) c.range (signed_within 20 (2 ^ 19) c.range b.range (lit≤ tt)) (lit≤ tt));
@@ -91,16 +91,16 @@ measured7 v x s c a b = record {
 }
 
 -- the fields of any number fit
-satellite4 : (n : ℕ) → grid4.IsSatellite (grid4.satellite_at n)
+satellite4 : (n : ℕ) → grid4.IsSatelliteData (grid4.satellite_data n)
 satellite4 n = let h = unpacked_fit grid4.satellite_table n refl in record { whole = h.0; fraction = h.1.0 }
 
-cell4 : (n : ℕ) → grid4.IsCell (grid4.cell_at n)
+cell4 : (n : ℕ) → grid4.IsCellData (grid4.cell_data n)
 cell4 n = let h = unpacked_fit grid4.cell_table n refl in record { range = h.0; phase = h.1.0; lock = h.1.1.0; strength = h.1.1.1.1.0 }
 
-satellite7 : (n : ℕ) → grid7.IsSatellite (grid7.satellite_at n)
+satellite7 : (n : ℕ) → grid7.IsSatelliteData (grid7.satellite_data n)
 satellite7 n = let h = unpacked_fit grid7.satellite_table n refl in record { whole = h.0; extended = h.1.0; fraction = h.1.1.0; rate = h.1.1.1.0 }
 
-cell7 : (n : ℕ) → grid7.IsCell (grid7.cell_at n)
+cell7 : (n : ℕ) → grid7.IsCellData (grid7.cell_data n)
 cell7 n = let h = unpacked_fit grid7.cell_table n refl in record { range = h.0; phase = h.1.0; lock = h.1.1.0; strength = h.1.1.1.1.0; rate = h.1.1.1.1.1.0 }
 
 each4 : (v : MsmValue) (xs : List (Seat × ℕ)) → AllByRecursion IsMeasured (map (entry4 v) xs)

@@ -9,25 +9,25 @@ use Rattle.rtcm_bits.specs.Reading.{Cursor}
 use Rattle.rtcm_msg.specs.declared.fault.MsgFault.{MsgFault}
 use Rattle.rtcm_msg.specs.declared.fault.MsgFault.TheVariants.{Short}
 use Rattle.rtcm_msg.specs.Fields.{standing, field_at}
-use Rattle.rtcm_msg.specs.Packed.{total}
+use Rattle.rtcm_msg.specs.Packed.{total_width}
 use Rattle.rtcm_msg.specs.Columns.{column_at, columns_at}
-use Rattle.rtcm_msg.specs.Rows.{numbers_in, rows_at, end_of, row_at}
+use Rattle.rtcm_msg.specs.Rows.{numbers_in, rows_at, end_of_rows, row_at}
 use Rattle.rtcm_msg.proofs.Binds.{ok_inj, number_short}
 use Rattle.rtcm_msg.proofs.Combine.{ok_err}
 use Rattle.rtcm_msg.proofs.FieldLaws.{number_there_at}
 
 -- ---- the loops over the widths
 
-pub end_step : (k : ℕ) (ws : List ℕ) (n len p : ℕ) → k < length ws → p + n * get_or ws k 0 ≤ len → end_of (drop k ws) n len p ≡ end_of (drop (k + 1) ws) n len (p + n * get_or ws k 0)
-unfolding end_of
+pub end_step : (k : ℕ) (ws : List ℕ) (n len p : ℕ) → k < length ws → p + n * get_or ws k 0 ≤ len → end_of_rows (drop k ws) n len p ≡ end_of_rows (drop (k + 1) ws) n len (p + n * get_or ws k 0)
+unfolding end_of_rows
 end_step k ws n len p h there = let more : nat_lt len (p + n * get_or ws k 0) ≡ false = grind (arith, there) in rw (add-one k, drop-cons ws k 0 h, more) refl
 
-pub end_short : (k : ℕ) (ws : List ℕ) (n len p : ℕ) → k < length ws → len < p + n * get_or ws k 0 → end_of (drop k ws) n len p ≡ Err (Short (len - (len - p) % get_or ws k 0))
-unfolding end_of
+pub end_short : (k : ℕ) (ws : List ℕ) (n len p : ℕ) → k < length ws → len < p + n * get_or ws k 0 → end_of_rows (drop k ws) n len p ≡ Err (Short (len - (len - p) % get_or ws k 0))
+unfolding end_of_rows
 end_short k ws n len p h few = let less : nat_lt len (p + n * get_or ws k 0) ≡ true = grind (arith, few) in rw (drop-cons ws k 0 h, less) refl
 
-pub end_over : (k : ℕ) (ws : List ℕ) (n len p : ℕ) → k ≡ length ws → end_of (drop k ws) n len p ≡ Ok p
-unfolding end_of
+pub end_over : (k : ℕ) (ws : List ℕ) (n len p : ℕ) → k ≡ length ws → end_of_rows (drop k ws) n len p ≡ Ok p
+unfolding end_of_rows
 end_over k ws n len p h = rw (h, drop-length ws) refl
 
 pub row_step : (k : ℕ) (ws : List ℕ) (n : ℕ) (bits : List Bool) (p i m field : ℕ) → k < length ws → get_or ws k 0 ≤ 64 → field ≡ field_at bits (p + i * get_or ws k 0) (get_or ws k 0)
@@ -105,8 +105,8 @@ abbrev pub Ends : List Bool → Result ℕ MsgFault → Result (List ℕ × Curs
 Ends bits (Ok e) read = read ≡ Ok (numbers_in read, standing bits e)
 Ends bits (Err f) read = read ≡ Err f
 
-columns_end : (ws ps : List ℕ) (bits : List Bool) (n place : ℕ) → length ps ≡ n → place ≤ length bits → Ends bits (end_of ws n (length bits) place) (columns_at ws ps (standing bits place))
-unfolding columns_at end_of
+columns_end : (ws ps : List ℕ) (bits : List Bool) (n place : ℕ) → length ps ≡ n → place ≤ length bits → Ends bits (end_of_rows ws n (length bits) place) (columns_at ws ps (standing bits place))
+unfolding columns_at end_of_rows
 columns_end [] ps bits n place len h = refl
 columns_end (w ∷ ws) ps bits n place len h = elim (cases_lt (length bits) (place + n * w)) [
   | inl few ↦
@@ -119,16 +119,16 @@ columns_end (w ∷ ws) ps bits n place len h = elim (cases_lt (length bits) (pla
       rw (more, read.1, behind) (columns_end ws read.0.0 bits n (place + n * w) (read.2.len ∙ len) there)
 ]
 
-pub rows_end : (ws : List ℕ) (bits : List Bool) (n place : ℕ) → place ≤ length bits → Ends bits (end_of ws n (length bits) place) (columns_at ws (replicate n 0) (standing bits place))
+pub rows_end : (ws : List ℕ) (bits : List Bool) (n place : ℕ) → place ≤ length bits → Ends bits (end_of_rows ws n (length bits) place) (columns_at ws (replicate n 0) (standing bits place))
 rows_end ws bits n place h = columns_end ws (replicate n 0) bits n place (length-replicate n 0) h
 
 -- where the data end
-pub end_is : (ws : List ℕ) (n len place end : ℕ) → end_of ws n len place ≡ Ok end → end ≡ place + n * total ws
-unfolding end_of
-end_is [] n len place end e = let same : place ≡ place + n * 0 = omega arith in sym (ok_inj place end (end_of [] n len place) refl e) ∙ same
+pub end_is : (ws : List ℕ) (n len place end : ℕ) → end_of_rows ws n len place ≡ Ok end → end ≡ place + n * total_width ws
+unfolding end_of_rows
+end_is [] n len place end e = let same : place ≡ place + n * 0 = omega arith in sym (ok_inj place end (end_of_rows [] n len place) refl e) ∙ same
 end_is (w ∷ ws) n len place end e = elim (cases_lt len (place + n * w)) [
-  | inl few ↦ let less : nat_lt len (place + n * w) ≡ true = grind (arith, few) in absurd (ok_err end (Short (len - (len - place) % w)) (end_of (w ∷ ws) n len place) e (rw less refl))
-  | inr there ↦ let more : nat_lt len (place + n * w) ≡ false = grind (arith, there) in end_is ws n len (place + n * w) end (rw more at e) ∙ two_more place n w (total ws)
+  | inl few ↦ let less : nat_lt len (place + n * w) ≡ true = grind (arith, few) in absurd (ok_err end (Short (len - (len - place) % w)) (end_of_rows (w ∷ ws) n len place) e (rw less refl))
+  | inr there ↦ let more : nat_lt len (place + n * w) ≡ false = grind (arith, there) in end_is ws n len (place + n * w) end (rw more at e) ∙ two_more place n w (total_width ws)
 ]
 
 columns_next : (w : ℕ) (ws ps xs : List ℕ) (c d : Cursor) → column_at w ps c ≡ Ok (xs, d) → columns_at (w ∷ ws) ps c ≡ columns_at ws xs d
@@ -141,27 +141,27 @@ first_read w ws ps bits n place len x =
     let behind : x.0.1 ≡ standing bits (place + n * w) = rw len at x.2.behind in
     columns_next w ws ps x.0.0 (standing bits place) x.0.1 x.1 ∙ ap (columns_at ws x.0.0) behind
 
-columns_row : (ws ps : List ℕ) (bits : List Bool) (n place i : ℕ) → length ps ≡ n → place + n * total ws ≤ length bits → i < n → get_or (numbers_in (columns_at ws ps (standing bits place))) i 0 ≡ row_at ws n bits place i (get_or ps i 0)
+columns_row : (ws ps : List ℕ) (bits : List Bool) (n place i : ℕ) → length ps ≡ n → place + n * total_width ws ≤ length bits → i < n → get_or (numbers_in (columns_at ws ps (standing bits place))) i 0 ≡ row_at ws n bits place i (get_or ps i 0)
 unfolding columns_at row_at
 columns_row [] ps bits n place i len h there = refl
 columns_row (w ∷ ws) ps bits n place i len h there =
-    let room : place + n * w + n * total ws ≤ length bits = rw (two_more place n w (total ws)) h in
+    let room : place + n * w + n * total_width ws ≤ length bits = rw (two_more place n w (total_width ws)) h in
     let read = column_row w ps bits place (rw len (omega (arith, room))) in
     let here = read.2.row i (rw len there) in
     ap (λ (r : Result (List ℕ × Cursor) MsgFault). get_or (numbers_in r) i 0) (first_read w ws ps bits n place len read)
     ∙ (columns_row ws read.0.0 bits n (place + n * w) i (read.2.len ∙ len) room there ∙ ap (row_at ws n bits (place + n * w) i) here)
 
-columns_length : (ws ps : List ℕ) (bits : List Bool) (n place : ℕ) → length ps ≡ n → place + n * total ws ≤ length bits → length (numbers_in (columns_at ws ps (standing bits place))) ≡ n
+columns_length : (ws ps : List ℕ) (bits : List Bool) (n place : ℕ) → length ps ≡ n → place + n * total_width ws ≤ length bits → length (numbers_in (columns_at ws ps (standing bits place))) ≡ n
 unfolding columns_at
 columns_length [] ps bits n place len h = len
 columns_length (w ∷ ws) ps bits n place len h =
-    let room : place + n * w + n * total ws ≤ length bits = rw (two_more place n w (total ws)) h in
+    let room : place + n * w + n * total_width ws ≤ length bits = rw (two_more place n w (total_width ws)) h in
     let read = column_row w ps bits place (rw len (omega (arith, room))) in
     ap (λ (r : Result (List ℕ × Cursor) MsgFault). length (numbers_in r)) (first_read w ws ps bits n place len read) ∙ columns_length ws read.0.0 bits n (place + n * w) (read.2.len ∙ len) room
 
 -- the one of place i
-pub row_is : (ws : List ℕ) (bits : List Bool) (n place i : ℕ) → place + n * total ws ≤ length bits → i < n → get_or (rows_at ws n bits place) i 0 ≡ row_at ws n bits place i 0
+pub row_is : (ws : List ℕ) (bits : List Bool) (n place i : ℕ) → place + n * total_width ws ≤ length bits → i < n → get_or (rows_at ws n bits place) i 0 ≡ row_at ws n bits place i 0
 row_is ws bits n place i h there = columns_row ws (replicate n 0) bits n place i (length-replicate n 0) h there ∙ ap (row_at ws n bits place i) (get_or-replicate n i 0 0 there)
 
-pub rows_count : (ws : List ℕ) (bits : List Bool) (n place : ℕ) → place + n * total ws ≤ length bits → length (rows_at ws n bits place) ≡ n
+pub rows_count : (ws : List ℕ) (bits : List Bool) (n place : ℕ) → place + n * total_width ws ≤ length bits → length (rows_at ws n bits place) ≡ n
 rows_count ws bits n place h = columns_length ws (replicate n 0) bits n place (length-replicate n 0) h

@@ -7,7 +7,7 @@ use Rattle.std.proofs.lemmas.List.{length-map}
 use Rattle.std.proofs.lemmas.List.FromFn.{length-enumerate_from}
 use Rattle.std.specs.List.{flat_map, enumerate_from}
 use Rattle.rtcm_msg.specs.declared.seats.Seat.{Seat}
-use Rattle.rtcm_msg.specs.Msm.{Sets, AreSets, pairs}
+use Rattle.rtcm_msg.specs.Msm.{MasksValue, AreMasks, pairs}
 use Rattle.rtcm_bits.specs.Bits.{uint}
 use Rattle.rtcm_bits.specs.BitLaws.{length-uint, mod-suc}
 use Rattle.rtcm_msg.specs.Entries.{up_from, ids, chosen, seat, all_pairs, seats}
@@ -45,7 +45,7 @@ rows_length : (f : ℕ × ℕ → ℕ → Seat) (sig : List ℕ) (xs : List (ℕ
 rows_length f sig [] = omega arith
 rows_length f sig (x ∷ xs) = length-append (map (f x) sig) (flat_map (λ x. map (f x) sig) xs) ∙ rw (length-map sig (f x), rows_length f sig xs) (omega arith)
 
-pub pairs_count : (s : Sets) → AreSets s → length (all_pairs s) ≡ pairs s.satellites s.signals
+pub pairs_count : (s : MasksValue) → AreMasks s → length (all_pairs s) ≡ pairs s.satellites s.signals
 pairs_count s h =
     rows_length seat (ids 32 s.signals) (enumerate_from 0 (ids 64 s.satellites))
     ∙ rw (length-enumerate_from 0 (ids 64 s.satellites), ids_count 64 s.satellites h.satellites, ids_count 32 s.signals h.signals) refl
@@ -57,7 +57,7 @@ chosen_count i (b ∷ bits) [] h = absurd (omega (arith, h))
 chosen_count i (true ∷ bits) (x ∷ xs) h = ap suc (chosen_count (i + 1) bits xs (omega (arith, h)))
 chosen_count i (false ∷ bits) (x ∷ xs) h = chosen_count (i + 1) bits xs (omega (arith, h))
 
-pub seats_count : (s : Sets) → AreSets s → length (seats s) ≡ count_ones s.cells
+pub seats_count : (s : MasksValue) → AreMasks s → length (seats s) ≡ count_ones s.cells
 seats_count s h =
     let p = pairs s.satellites s.signals in
     chosen_count 1 (uint p s.cells) (all_pairs s) (omega (arith, length-uint p s.cells, pairs_count s h)) ∙ (up_count p s.cells 1 ∙ ap count_ones (mod-eq_of_lt h.cells))

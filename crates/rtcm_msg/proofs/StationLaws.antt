@@ -4,7 +4,7 @@ use Rattle.rtcm_bits.specs.Bits.{uint}
 use Rattle.rtcm_bits.specs.Reading.{Cursor}
 use Rattle.rtcm_msg.specs.declared.station.StationParts.{StationParts}
 use Rattle.rtcm_msg.specs.Fields.{number_at, ◌>>=◌, spelled}
-use Rattle.rtcm_msg.specs.Packed.{total}
+use Rattle.rtcm_msg.specs.Packed.{total_width}
 use Rattle.rtcm_msg.specs.Station.{station_at, height_at, InRange, height_fields, station_table, height_table, station_contents, station_parts}
 use Rattle.rtcm_msg.proofs.Binds.{bind_ok, ok_inj, number_took}
 use Rattle.rtcm_msg.proofs.Combine.{cursor, number_again}
@@ -79,17 +79,17 @@ station_took has c v e =
 fit_again : (s : StationParts) (reserved : ℕ) → InRange s → reserved < 2 → FitAll station_table (station_contents s reserved)
 fit_again s reserved r one = (r.station, (r.realization, (tt, (tt, (tt, (tt, (r.x, (tt, (one, (r.y, (r.quarter, (r.z, tt))))))))))))
 
-height_again : (h : Option ℕ) (place : ℕ) (rest : List Bool) → IfSome h (λ k. k < 2 ^ 16) → height_at (is_some h) (cursor place (spelled (height_fields h) ++ rest)) ≡ Ok (h, cursor (place + total (height_widths (is_some h))) rest)
+height_again : (h : Option ℕ) (place : ℕ) (rest : List Bool) → IfSome h (λ k. k < 2 ^ 16) → height_at (is_some h) (cursor place (spelled (height_fields h) ++ rest)) ≡ Ok (h, cursor (place + total_width (height_widths (is_some h))) rest)
 unfolding spelled
 height_again None place rest fits = rw (add-zero place) refl
 height_again (Some h) place rest fits = rw (append_assoc (uint 16 h) [] rest, number_again 16 h place rest fits) refl
 
 pub station_again : (s : StationParts) (reserved place : ℕ) (rest : List Bool) → InRange s → reserved < 2
-    → station_at (is_some s.height) (cursor place (spelled (station_tail s reserved) ++ rest)) ≡ Ok (s, cursor (place + total station_widths + total (height_widths (is_some s.height))) rest)
+    → station_at (is_some s.height) (cursor place (spelled (station_tail s reserved) ++ rest)) ≡ Ok (s, cursor (place + total_width station_widths + total_width (height_widths (is_some s.height))) rest)
 station_again s reserved place rest r one =
     let cs = station_contents s reserved in
     let c = cursor place (spelled (fields_of station_table cs ++ height_fields s.height) ++ rest) in
     let split : c ≡ cursor place (spelled (fields_of station_table cs) ++ (spelled (height_fields s.height) ++ rest)) = ap (cursor place) (ap (λ t. t ++ rest) (spelled-append (fields_of station_table cs) (height_fields s.height)) ∙ append_assoc (spelled (fields_of station_table cs)) (spelled (height_fields s.height)) rest) in
     let first = fields_again station_table cs place (spelled (height_fields s.height) ++ rest) refl (fit_again s reserved r one) in
-    let second = height_again s.height (place + total station_widths) rest r.height in
+    let second = height_again s.height (place + total_width station_widths) rest r.height in
     station_chain (is_some s.height) c ∙ rw (split, first, second) refl

@@ -1,17 +1,17 @@
 -- A message that is looked at is the one that is read.
 use Rattle.std.proofs.Common.{ℕ, ◌≡◌, ◌+◌, ◌*◌, ◌<◌, ◌≤◌, Bool, List, length, slice_index, Result, Ok, Err, refl, sym, ap, subst, ◌∙◌, replicate, count_ones}
 use Rattle.rtcm_bits.specs.Bits.{bits_of}
-use Rattle.rtcm_bits.specs.Reading.{Cursor, after, unsigned_at}
+use Rattle.rtcm_bits.specs.Reading.{Cursor, advanced, unsigned_at}
 use Rattle.rtcm_bits.specs.BitLaws.{length-bits_of}
 use Rattle.rtcm_msg.specs.declared.fault.MsgFault.{MsgFault}
 use Rattle.rtcm_msg.specs.declared.header.MsmHeader.{MsmHeader}
 use Rattle.rtcm_msg.specs.declared.view.Form.{Form}
 use Rattle.rtcm_msg.specs.Fields.{standing, number_at}
-use Rattle.rtcm_msg.specs.Packed.{total}
+use Rattle.rtcm_msg.specs.Packed.{total_width}
 use Rattle.rtcm_msg.specs.Columns.{columns_at, EachBelow}
-use Rattle.rtcm_msg.specs.Msm.{Sets, IsHeader, AreSets, IsValue, header_at, sets_at, msm_at}
-use Rattle.rtcm_msg.specs.Rows.{rows_at, row_at, end_of}
-use Rattle.rtcm_msg.specs.Views.{satellite_widths, cell_widths, message_in, formed_at, IsLaid}
+use Rattle.rtcm_msg.specs.Msm.{MasksValue, IsHeader, AreMasks, IsValue, header_at, masks_at, msm_at}
+use Rattle.rtcm_msg.specs.Rows.{rows_at, row_at, end_of_rows}
+use Rattle.rtcm_msg.specs.Views.{satellite_widths, cell_widths, message_in, formed_at, AreDataThere}
 use Rattle.rtcm_msg.proofs.Binds.{ok_inj, number_took, number_there}
 use Rattle.rtcm_msg.proofs.FaultLaws.{Stands, masks_stand}
 use Rattle.rtcm_msg.proofs.ColumnSteps.{columns_fit}
@@ -19,18 +19,18 @@ use Rattle.rtcm_msg.proofs.RowLaws.{Ends, rows_end, rows_count, end_is, row_is}
 
 -- ---- what is read, by its parts
 
-pub msm_good : (sw cw : List ℕ) (g : Bool) (c0 c1 c2 c3 c4 : Cursor) (h : MsmHeader) (s : Sets) (xs ys : List ℕ) → header_at c0 ≡ Ok (h, c1) → sets_at c1 ≡ Ok (s, c2)
+pub msm_good : (sw cw : List ℕ) (g : Bool) (c0 c1 c2 c3 c4 : Cursor) (h : MsmHeader) (s : MasksValue) (xs ys : List ℕ) → header_at c0 ≡ Ok (h, c1) → masks_at c1 ≡ Ok (s, c2)
     → columns_at sw (replicate (count_ones s.satellites) 0) c2 ≡ Ok (xs, c3) → columns_at cw (replicate (count_ones s.cells) 0) c3 ≡ Ok (ys, c4)
     → msm_at sw cw g c0 ≡ Ok (record { is_galileo = g; header = h; sets = s; satellites = xs; cells = ys }, c4)
 unfolding msm_at
 msm_good sw cw g c0 c1 c2 c3 c4 h s xs ys e f i j = rw (e, f, i, j) refl
 
-pub msm_first : (sw cw : List ℕ) (g : Bool) (c0 c1 c2 : Cursor) (h : MsmHeader) (s : Sets) (x : MsgFault) → header_at c0 ≡ Ok (h, c1) → sets_at c1 ≡ Ok (s, c2)
+pub msm_first : (sw cw : List ℕ) (g : Bool) (c0 c1 c2 : Cursor) (h : MsmHeader) (s : MasksValue) (x : MsgFault) → header_at c0 ≡ Ok (h, c1) → masks_at c1 ≡ Ok (s, c2)
     → columns_at sw (replicate (count_ones s.satellites) 0) c2 ≡ Err x → msm_at sw cw g c0 ≡ Err x
 unfolding msm_at
 msm_first sw cw g c0 c1 c2 h s x e f i = rw (e, f, i) refl
 
-pub msm_second : (sw cw : List ℕ) (g : Bool) (c0 c1 c2 c3 : Cursor) (h : MsmHeader) (s : Sets) (xs : List ℕ) (x : MsgFault) → header_at c0 ≡ Ok (h, c1) → sets_at c1 ≡ Ok (s, c2)
+pub msm_second : (sw cw : List ℕ) (g : Bool) (c0 c1 c2 c3 : Cursor) (h : MsmHeader) (s : MasksValue) (xs : List ℕ) (x : MsgFault) → header_at c0 ≡ Ok (h, c1) → masks_at c1 ≡ Ok (s, c2)
     → columns_at sw (replicate (count_ones s.satellites) 0) c2 ≡ Ok (xs, c3) → columns_at cw (replicate (count_ones s.cells) 0) c3 ≡ Err x → msm_at sw cw g c0 ≡ Err x
 unfolding msm_at
 msm_second sw cw g c0 c1 c2 c3 h s xs x e f i j = rw (e, f, i, j) refl
@@ -41,28 +41,28 @@ pub ends : (bits : List Bool) (r : Result ℕ MsgFault) (read : Result (List ℕ
 ends bits r read x e h = subst (λ (y : Result ℕ MsgFault). Ends bits y read) (sym e) h
 
 -- so many rows were found to end at a place
-abbrev pub data_read : (ws : List ℕ) (bits : List Bool) (n m place : ℕ) (x : Result ℕ MsgFault) → n ≡ m → place ≤ length bits → x ≡ end_of ws n (length bits) place → Ends bits x (columns_at ws (replicate m 0) (standing bits place))
-data_read ws bits n m place x same h e = ends bits (end_of ws m (length bits) place) _ x (e ∙ ap (λ (k : ℕ). end_of ws k (length bits) place) same) (rows_end ws bits m place h)
+abbrev pub data_read : (ws : List ℕ) (bits : List Bool) (n m place : ℕ) (x : Result ℕ MsgFault) → n ≡ m → place ≤ length bits → x ≡ end_of_rows ws n (length bits) place → Ends bits x (columns_at ws (replicate m 0) (standing bits place))
+data_read ws bits n m place x same h e = ends bits (end_of_rows ws m (length bits) place) _ x (e ∙ ap (λ (k : ℕ). end_of_rows ws k (length bits) place) same) (rows_end ws bits m place h)
 
 pub formed_short : (form : Form) (g : Bool) (c0 : Cursor) (x : MsgFault) → msm_at (satellite_widths form) (cell_widths form) g c0 ≡ Err x → formed_at form g c0 ≡ Err x
 formed_short form g c0 x e = rw e refl
 
-pub first_short : (form : Form) (g : Bool) (bits : List Bool) (c0 c1 c2 : Cursor) (h : MsmHeader) (s : Sets) (n : ℕ) (x : MsgFault) → header_at c0 ≡ Ok (h, c1) → sets_at c1 ≡ Ok (s, c2)
-    → c2 ≡ standing bits c2.place → c2.place ≤ length bits → n ≡ count_ones s.satellites → Err x ≡ end_of (satellite_widths form) n (length bits) c2.place → formed_at form g c0 ≡ Err x
+pub first_short : (form : Form) (g : Bool) (bits : List Bool) (c0 c1 c2 : Cursor) (h : MsmHeader) (s : MasksValue) (n : ℕ) (x : MsgFault) → header_at c0 ≡ Ok (h, c1) → masks_at c1 ≡ Ok (s, c2)
+    → c2 ≡ standing bits c2.place → c2.place ≤ length bits → n ≡ count_ones s.satellites → Err x ≡ end_of_rows (satellite_widths form) n (length bits) c2.place → formed_at form g c0 ≡ Err x
 first_short form g bits c0 c1 c2 h s n x e f stands there same short =
     let read = data_read (satellite_widths form) bits n (count_ones s.satellites) c2.place (Err x) same there short in
     formed_short form g c0 x (msm_first (satellite_widths form) (cell_widths form) g c0 c1 c2 h s x e f (ap (columns_at (satellite_widths form) (replicate (count_ones s.satellites) 0)) stands ∙ read))
 
-pub second_short : (form : Form) (g : Bool) (bits : List Bool) (c0 c1 c2 : Cursor) (h : MsmHeader) (s : Sets) (n m at : ℕ) (x : MsgFault) → header_at c0 ≡ Ok (h, c1) → sets_at c1 ≡ Ok (s, c2)
-    → c2 ≡ standing bits c2.place → c2.place ≤ length bits → n ≡ count_ones s.satellites → m ≡ count_ones s.cells → Ok at ≡ end_of (satellite_widths form) n (length bits) c2.place → at ≤ length bits
-    → Err x ≡ end_of (cell_widths form) m (length bits) at → formed_at form g c0 ≡ Err x
+pub second_short : (form : Form) (g : Bool) (bits : List Bool) (c0 c1 c2 : Cursor) (h : MsmHeader) (s : MasksValue) (n m at : ℕ) (x : MsgFault) → header_at c0 ≡ Ok (h, c1) → masks_at c1 ≡ Ok (s, c2)
+    → c2 ≡ standing bits c2.place → c2.place ≤ length bits → n ≡ count_ones s.satellites → m ≡ count_ones s.cells → Ok at ≡ end_of_rows (satellite_widths form) n (length bits) c2.place → at ≤ length bits
+    → Err x ≡ end_of_rows (cell_widths form) m (length bits) at → formed_at form g c0 ≡ Err x
 second_short form g bits c0 c1 c2 h s n m at x e f stands there same same2 first room short =
     let one = data_read (satellite_widths form) bits n (count_ones s.satellites) c2.place (Ok at) same there first in
     let two = data_read (cell_widths form) bits m (count_ones s.cells) at (Err x) same2 room short in
     formed_short form g c0 x (msm_second (satellite_widths form) (cell_widths form) g c0 c1 c2 (standing bits at) h s _ x e f (ap (columns_at (satellite_widths form) (replicate (count_ones s.satellites) 0)) stands ∙ one) two)
 
 -- the same, where the code names them otherwise
-pub moved : (r : Result ℕ MsgFault) (vs ws : List ℕ) (n a b p q : ℕ) → r ≡ end_of vs n a p → vs ≡ ws → a ≡ b → p ≡ q → r ≡ end_of ws n b q
+pub moved : (r : Result ℕ MsgFault) (vs ws : List ℕ) (n a b p q : ℕ) → r ≡ end_of_rows vs n a p → vs ≡ ws → a ≡ b → p ≡ q → r ≡ end_of_rows ws n b q
 moved r vs ws n a b p q e f g h = e ∙ rw (f, g, h) refl
 
 -- where the reader stands behind the number, and behind the masks
@@ -71,34 +71,34 @@ number_stands bytes r c n is e =
     let read : number_at 12 (record { place = 0; rest = bits_of bytes }) ≡ Ok (n, c) = ap (number_at 12) (sym is) ∙ e in
     let took = number_took 12 (record { place = 0; rest = bits_of bytes }) (n, c) read in
     let there : 12 ≤ length (bits_of bytes) = took.room in
-    (rw (← length-bits_of bytes) there, ap (λ (x : ℕ × Cursor). x.1) (ok_inj (n, c) (unsigned_at 12 (record { place = 0; rest = bits_of bytes }), after (record { place = 0; rest = bits_of bytes }) 12) _ read (number_there 12 (record { place = 0; rest = bits_of bytes }) there)))
+    (rw (← length-bits_of bytes) there, ap (λ (x : ℕ × Cursor). x.1) (ok_inj (n, c) (unsigned_at 12 (record { place = 0; rest = bits_of bytes }), advanced (record { place = 0; rest = bits_of bytes }) 12) _ read (number_there 12 (record { place = 0; rest = bits_of bytes }) there)))
 
-pub stood : (bytes : List ℕ) (r c d : Cursor) (h : MsmHeader) (s : Sets) → 12 ≤ 8 * length bytes → r ≡ standing (bits_of bytes) 12 → header_at r ≡ Ok (h, c) → sets_at c ≡ Ok (s, d) → Stands (bits_of bytes) d
+pub stood : (bytes : List ℕ) (r c d : Cursor) (h : MsmHeader) (s : MasksValue) → 12 ≤ 8 * length bytes → r ≡ standing (bits_of bytes) 12 → header_at r ≡ Ok (h, c) → masks_at c ≡ Ok (s, d) → Stands (bits_of bytes) d
 stood bytes r c d h s room is e f = masks_stand (bits_of bytes) h s c d (rw (length-bits_of bytes) room) (ap header_at (sym is) ∙ e) f
 
-pub rows_counted : (ws bytes : List ℕ) (n place : ℕ) → place + n * total ws ≤ 8 * length bytes → length (rows_at ws n (bits_of bytes) place) ≡ n
+pub rows_counted : (ws bytes : List ℕ) (n place : ℕ) → place + n * total_width ws ≤ 8 * length bytes → length (rows_at ws n (bits_of bytes) place) ≡ n
 rows_counted ws bytes n place h = rows_count ws (bits_of bytes) n place (rw (length-bits_of bytes) h)
 
-pub row_value : (vs ws bytes : List ℕ) (n place i : ℕ) → vs ≡ ws → place + n * total ws ≤ 8 * length bytes → i < n → row_at vs n (bits_of bytes) place i 0 ≡ slice_index (rows_at ws n (bits_of bytes) place) i
+pub row_value : (vs ws bytes : List ℕ) (n place i : ℕ) → vs ≡ ws → place + n * total_width ws ≤ 8 * length bytes → i < n → row_at vs n (bits_of bytes) place i 0 ≡ slice_index (rows_at ws n (bits_of bytes) place) i
 row_value vs ws bytes n place i same h there = ap (λ (us : List ℕ). row_at us n (bits_of bytes) place i 0) same ∙ sym (row_is ws (bits_of bytes) n place i (rw (length-bits_of bytes) h) there)
 
 -- a message whose data are there
-pub record Found (form : Form) (g : Bool) (bits : List Bool) (c0 : Cursor) (h : MsmHeader) (s : Sets) (n place m at : ℕ) : Type 0 where
+pub record Found (form : Form) (g : Bool) (bits : List Bool) (c0 : Cursor) (h : MsmHeader) (s : MasksValue) (n place m at : ℕ) : Type 0 where
   pub read : formed_at form g c0 ≡ Ok (message_in form (record { is_galileo = g; header = h; sets = s; satellites = rows_at (satellite_widths form) n bits place; cells = rows_at (cell_widths form) m bits at }))
   pub value : IsValue (satellite_widths form) (cell_widths form) (record { is_galileo = g; header = h; sets = s; satellites = rows_at (satellite_widths form) n bits place; cells = rows_at (cell_widths form) m bits at })
-  pub satellites_there : place + n * total (satellite_widths form) ≤ length bits
-  pub cells_there : at + m * total (cell_widths form) ≤ length bits
+  pub satellites_there : place + n * total_width (satellite_widths form) ≤ length bits
+  pub cells_there : at + m * total_width (cell_widths form) ≤ length bits
 
-pub found : (form : Form) (g : Bool) (bits : List Bool) (c0 c1 c2 : Cursor) (h : MsmHeader) (s : Sets) (n m at end : ℕ) → header_at c0 ≡ Ok (h, c1) → sets_at c1 ≡ Ok (s, c2)
-    → c2 ≡ standing bits c2.place → c2.place ≤ length bits → n ≡ count_ones s.satellites → m ≡ count_ones s.cells → Ok at ≡ end_of (satellite_widths form) n (length bits) c2.place → at ≤ length bits
-    → Ok end ≡ end_of (cell_widths form) m (length bits) at → end ≤ length bits → IsHeader h → AreSets s → Found form g bits c0 h s n c2.place m at
+pub found : (form : Form) (g : Bool) (bits : List Bool) (c0 c1 c2 : Cursor) (h : MsmHeader) (s : MasksValue) (n m at end : ℕ) → header_at c0 ≡ Ok (h, c1) → masks_at c1 ≡ Ok (s, c2)
+    → c2 ≡ standing bits c2.place → c2.place ≤ length bits → n ≡ count_ones s.satellites → m ≡ count_ones s.cells → Ok at ≡ end_of_rows (satellite_widths form) n (length bits) c2.place → at ≤ length bits
+    → Ok end ≡ end_of_rows (cell_widths form) m (length bits) at → end ≤ length bits → IsHeader h → AreMasks s → Found form g bits c0 h s n c2.place m at
 found form g bits c0 c1 c2 h s n m at end e f stands there same same2 first room second last is_header are_sets =
     let sw = satellite_widths form in
     let cw = cell_widths form in
     let one = data_read sw bits n (count_ones s.satellites) c2.place (Ok at) same there first in
     let two = data_read cw bits m (count_ones s.cells) at (Ok end) same2 room second in
-    let first_end : c2.place + n * total sw ≤ length bits = rw (← end_is sw n (length bits) c2.place at (sym first)) room in
-    let second_end : at + m * total cw ≤ length bits = rw (← end_is cw m (length bits) at end (sym second)) last in
+    let first_end : c2.place + n * total_width sw ≤ length bits = rw (← end_is sw n (length bits) c2.place at (sym first)) room in
+    let second_end : at + m * total_width cw ≤ length bits = rw (← end_is cw m (length bits) at end (sym second)) last in
     let xs : rows_at sw n bits c2.place ≡ rows_at sw (count_ones s.satellites) bits c2.place = ap (λ (k : ℕ). rows_at sw k bits c2.place) same in
     let ys : rows_at cw m bits at ≡ rows_at cw (count_ones s.cells) bits at = ap (λ (k : ℕ). rows_at cw k bits at) same2 in
     let good = msm_good sw cw g c0 c1 c2 (standing bits at) (standing bits end) h s (rows_at sw (count_ones s.satellites) bits c2.place) (rows_at cw (count_ones s.cells) bits at) e f (ap (columns_at sw (replicate (count_ones s.satellites) 0)) stands ∙ one) two in
@@ -109,16 +109,16 @@ found form g bits c0 c1 c2 h s n m at end e f stands there same same2 first room
         sets = are_sets;
         satellite_count = rows_count sw bits n c2.place first_end ∙ same;
         cell_count = rows_count cw bits m at second_end ∙ same2;
-        satellites = subst (EachBelow (total sw)) (sym xs) (columns_fit sw (count_ones s.satellites) (standing bits c2.place) (rows_at sw (count_ones s.satellites) bits c2.place, standing bits at) one);
-        cells = subst (EachBelow (total cw)) (sym ys) (columns_fit cw (count_ones s.cells) (standing bits at) (rows_at cw (count_ones s.cells) bits at, standing bits end) two);
+        satellites = subst (EachBelow (total_width sw)) (sym xs) (columns_fit sw (count_ones s.satellites) (standing bits c2.place) (rows_at sw (count_ones s.satellites) bits c2.place, standing bits at) one);
+        cells = subst (EachBelow (total_width cw)) (sym ys) (columns_fit cw (count_ones s.cells) (standing bits at) (rows_at cw (count_ones s.cells) bits at, standing bits end) two);
       };
       satellites_there = first_end;
       cells_there = second_end;
     }
 
 -- where the data lie, counted in bytes
-pub laid : (form : Form) (bytes : List ℕ) (n place m at : ℕ) → length bytes ≤ 1023 → n ≤ 64 → m ≤ 64 → place + n * total (satellite_widths form) ≤ length (bits_of bytes) → at + m * total (cell_widths form) ≤ length (bits_of bytes)
-    → IsLaid form (length bytes) n place m at
+pub laid : (form : Form) (bytes : List ℕ) (n place m at : ℕ) → length bytes ≤ 1023 → n ≤ 64 → m ≤ 64 → place + n * total_width (satellite_widths form) ≤ length (bits_of bytes) → at + m * total_width (cell_widths form) ≤ length (bits_of bytes)
+    → AreDataThere form (length bytes) n place m at
 laid form bytes n place m at small a b first second = record {
   small = small;
   satellites_few = a;

@@ -9,7 +9,7 @@ use Rattle.rtcm_msg.specs.declared.seats.Seat.{Seat}
 use Rattle.rtcm_msg.specs.declared.seats.Pairs.{Pairs}
 use Rattle.rtcm_bits.specs.BitLaws.{uint-low, pow_mono, length-uint}
 use Rattle.rtcm_msg.specs.Entries.{up_from, ids, seat, chosen}
-use Rattle.rtcm_msg.specs.Msm.{Sets, AreSets, pairs}
+use Rattle.rtcm_msg.specs.Msm.{MasksValue, AreMasks, pairs}
 use Rattle.rtcm_msg.specs.Walks.{rows, pairs_from, pairs_left, IsWalking, ArePlaced}
 use Rattle.rtcm_msg.proofs.SeatLaws.{ids_count, pairs_count}
 
@@ -121,12 +121,12 @@ rows_placed n gs k [] h = tt
 rows_placed n gs k (x ∷ xs) h = placed_row n k x gs (rows gs (k + 1) xs) (omega (arith, h)) (rows_placed n gs (k + 1) xs (omega (arith, h)))
 
 -- all pairs
-pub record Start (s : Sets) (p : Pairs) : Type 0 where
+pub record Start (s : MasksValue) (p : Pairs) : Type 0 where
   pub count : length (pairs_left p) ≡ pairs s.satellites s.signals
   pub walking : IsWalking p
   pub placed : ArePlaced (count_ones s.satellites) (pairs_left p)
 
-pub start : (s : Sets) (m g : ℕ) → AreSets s → m ≡ s.satellites → g ≡ s.signals → Start s (record { place = 0; satellites = m; signals = g; all = g })
+pub start : (s : MasksValue) (m g : ℕ) → AreMasks s → m ≡ s.satellites → g ≡ s.signals → Start s (record { place = 0; satellites = m; signals = g; all = g })
 start s m g sets e f = rw (e, f) (record {
   count = ap length (sym (rows_are (ids 32 s.signals) 0 (ids 64 s.satellites))) ∙ pairs_count s sets;
   walking = record { satellites = sets.satellites; signals = sets.signals; all = sets.signals; place = rw (zero-add (length (ids 64 s.satellites))) (ids_few 64 s.satellites) };

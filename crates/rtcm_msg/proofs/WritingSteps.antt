@@ -5,8 +5,8 @@ use Rattle.std.proofs.lemmas.Nat.{one_shl, div-add-mod'}
 use Rattle.std.specs.List.{flat_map}
 use Rattle.rtcm_bits.specs.Bits.{uint}
 use Rattle.rtcm_bits.specs.BitLaws.{uint-low}
-use Rattle.rtcm_msg.specs.Fields.{spelled, width_of}
-use Rattle.rtcm_msg.specs.Packed.{columns, total}
+use Rattle.rtcm_msg.specs.Fields.{spelled, fields_width}
+use Rattle.rtcm_msg.specs.Packed.{columns, total_width}
 
 pub spelled-append : (fs gs : List (ℕ × ℕ)) → spelled (fs ++ gs) ≡ spelled fs ++ spelled gs
 unfolding spelled
@@ -19,7 +19,7 @@ fields_next fs i old new whole h put inv =
     let here = rw (drop-cons fs i (0, 0) h) at inv in
     rw (add-one i, put, append_assoc old (uint (get_or fs i (0, 0)).0 (get_or fs i (0, 0)).1) (spelled (drop (suc i) fs))) here
 
-pub width_next : (fs : List (ℕ × ℕ)) (i : ℕ) → i < length fs → width_of (drop i fs) ≡ (get_or fs i (0, 0)).0 + width_of (drop (i + 1) fs)
+pub width_next : (fs : List (ℕ × ℕ)) (i : ℕ) → i < length fs → fields_width (drop i fs) ≡ (get_or fs i (0, 0)).0 + fields_width (drop (i + 1) fs)
 width_next fs i h = rw (add-one i, drop-cons fs i (0, 0) h) refl
 
 -- ---- columns
@@ -34,8 +34,8 @@ column_next f ns i old new whole h put inv =
     let here = rw (drop-cons ns i 0 h) at inv in
     rw (add-one i, put, append_assoc old (f (get_or ns i 0)) (flat_map f (drop (suc i) ns))) here
 
-pub columns_next : (ws ns : List ℕ) (i : ℕ) (old new whole : List Bool) → i < length ws → new ≡ old ++ flat_map (λ p. uint (get_or ws i 0) (p / 2 ^ total (drop (i + 1) ws))) ns → old ++ columns (drop i ws) ns ≡ whole → new ++ columns (drop (i + 1) ws) ns ≡ whole
+pub columns_next : (ws ns : List ℕ) (i : ℕ) (old new whole : List Bool) → i < length ws → new ≡ old ++ flat_map (λ p. uint (get_or ws i 0) (p / 2 ^ total_width (drop (i + 1) ws))) ns → old ++ columns (drop i ws) ns ≡ whole → new ++ columns (drop (i + 1) ws) ns ≡ whole
 unfolding columns
 columns_next ws ns i old new whole h put inv =
     let here = rw (drop-cons ws i 0 h) at inv in
-    rw (put, add-one i, append_assoc old (flat_map (λ p. uint (get_or ws i 0) (p / 2 ^ total (drop (suc i) ws))) ns) (columns (drop (suc i) ws) ns)) here
+    rw (put, add-one i, append_assoc old (flat_map (λ p. uint (get_or ws i 0) (p / 2 ^ total_width (drop (suc i) ws))) ns) (columns (drop (suc i) ws) ns)) here

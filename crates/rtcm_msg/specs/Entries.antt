@@ -6,7 +6,7 @@ use Rattle.rtcm_msg.specs.declared.message.Message.{Message}
 use Rattle.rtcm_msg.specs.declared.message.Message.TheVariants.{Station, Msm4, Msm7, Other}
 use Rattle.rtcm_msg.specs.declared.seats.Seat.{Seat}
 use Rattle.rtcm_msg.specs.declared.entry.Entry.{Entry}
-use Rattle.rtcm_msg.specs.Msm.{MsmValue, Sets, pairs, satellite_mask_bits, signal_mask_bits}
+use Rattle.rtcm_msg.specs.Msm.{MsmValue, MasksValue, pairs, satellite_mask_bits, signal_mask_bits}
 use Rattle.rtcm_msg.specs.Grid4 as grid4
 use Rattle.rtcm_msg.specs.Grid7 as grid7
 
@@ -35,16 +35,16 @@ abbrev pub seat : ℕ × ℕ → ℕ → Seat
 seat x g = record { place = x.0; satellite = x.1; signal = g }
 
 -- all pairs, by satellite and within it by signal
-abbrev pub all_pairs : Sets → List Seat
+abbrev pub all_pairs : MasksValue → List Seat
 all_pairs s = flat_map (λ x. map (seat x) (ids signal_mask_bits s.signals)) (enumerate_from 0 (ids satellite_mask_bits s.satellites))
 
 -- the pairs that have a cell
-abbrev pub seats : Sets → List Seat
+abbrev pub seats : MasksValue → List Seat
 seats s = chosen (uint (pairs s.satellites s.signals) s.cells) (all_pairs s)
 
 -- a walk over the cells: of which sets, and the seats that are left
 pub record Walk : Type 0 where
-  pub sets : Sets
+  pub sets : MasksValue
   pub left : List Seat
 
 -- how far the numbers of a cell reach, where there are so many lock time indicators
@@ -63,10 +63,10 @@ entry_by satellite_at cell_at range_of phase_of rate_of strength_of lock_of half
     record { satellite = x.0.satellite; signal = x.0.signal; range = range_of s c; phase = phase_of s c; rate = rate_of s c; strength = strength_of c; lock = lock_of c; half_cycle = half_cycle_of c }
 
 abbrev pub entry4 : MsmValue → Seat × ℕ → Entry
-entry4 v = entry_by grid4.satellite_at grid4.cell_at grid4.range_of grid4.phase_of grid4.rate_of grid4.strength_of (λ c. c.lock) (λ c. c.half_cycle) v.satellites
+entry4 v = entry_by grid4.satellite_data grid4.cell_data grid4.range_of grid4.phase_of grid4.rate_of grid4.strength_of (λ c. c.lock) (λ c. c.half_cycle) v.satellites
 
 abbrev pub entry7 : MsmValue → Seat × ℕ → Entry
-entry7 v = entry_by grid7.satellite_at grid7.cell_at grid7.range_of grid7.phase_of grid7.rate_of grid7.strength_of (λ c. c.lock) (λ c. c.half_cycle) v.satellites
+entry7 v = entry_by grid7.satellite_data grid7.cell_data grid7.range_of grid7.phase_of grid7.rate_of grid7.strength_of (λ c. c.lock) (λ c. c.half_cycle) v.satellites
 
 -- the cells of a message in order
 abbrev pub entries : Message → List Entry

@@ -1,7 +1,7 @@
 -- Fields of a message: numbers of stated widths, one after the other.
 use Rattle.std.specs.Prelude.{◌≡◌, ℕ, ◌+◌, nat_lt, if◌then◌else◌, Bool, List, [], ◌∷◌, ◌++◌, length, take, drop, Option, Some, None, Result, Ok, Err}
 use Rattle.rtcm_bits.specs.Bits.{uint, number}
-use Rattle.rtcm_bits.specs.Reading.{Cursor, after, unsigned_at}
+use Rattle.rtcm_bits.specs.Reading.{Cursor, advanced, unsigned_at}
 use Rattle.rtcm_msg.specs.Layout.{Table, Contents, width, content}
 use Rattle.rtcm_msg.specs.declared.fault.MsgFault.{MsgFault}
 use Rattle.rtcm_msg.specs.declared.fault.MsgFault.TheVariants.{Short}
@@ -23,9 +23,9 @@ spelled [] = []
 spelled (f ∷ fs) = uint f.0 f.1 ++ spelled fs
 
 -- how wide the fields are together
-abbrev pub width_of : List (ℕ × ℕ) → ℕ
-width_of [] = 0
-width_of (f ∷ fs) = f.0 + width_of fs
+abbrev pub fields_width : List (ℕ × ℕ) → ℕ
+fields_width [] = 0
+fields_width (f ∷ fs) = f.0 + fields_width fs
 
 -- where the first field begins that does not end within len bits
 unfoldable pub first_past : ℕ → ℕ → List ℕ → Option ℕ
@@ -40,13 +40,13 @@ abbrev pub ◌>>=◌ : {A B : Type 0} → Result A MsgFault → (A → Result B 
 (Err e) >>= f = Err e
 
 -- what a function returned, seen by view, is what reading gives
-abbrev pub Gives : {X Y : Type 0} → (X → Y) → Result X MsgFault → Result Y MsgFault → Type 0
-Gives view (Ok x) read = read ≡ Ok (view x)
-Gives view (Err e) read = read ≡ Err e
+abbrev pub GivesViewed : {X Y : Type 0} → (X → Y) → Result X MsgFault → Result Y MsgFault → Type 0
+GivesViewed view (Ok x) read = read ≡ Ok (view x)
+GivesViewed view (Err e) read = read ≡ Err e
 
 -- one field: the number and the cursor behind it
 unfoldable pub number_at : ℕ → Cursor → Result (ℕ × Cursor) MsgFault
-number_at w c = if nat_lt (length c.rest) w then Err (Short c.place) else Ok (unsigned_at w c, after c w)
+number_at w c = if nat_lt (length c.rest) w then Err (Short c.place) else Ok (unsigned_at w c, advanced c w)
 
 -- the fields of a table one after the other, and then what follows
 abbrev pub reading : {B : Type 0} (t : Table) → Cursor → (Contents t × Cursor → Result B MsgFault) → Result B MsgFault

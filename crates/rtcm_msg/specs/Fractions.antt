@@ -11,9 +11,9 @@ abbrev pub invalid_range : ℕ
 invalid_range = 255
 
 -- the rough range in units of 2^-31 ms with a fine part, absent where either is invalid
-abbrev pub joined : ℕ → ℕ → Option ℤ → Option ℤ
-joined whole fraction None = None
-joined whole fraction (Some fine) = if whole == invalid_range then None else Some (pos (whole * 2 ^ 31 + fraction * 2 ^ 21) +ℤ fine)
+abbrev pub range_joined : ℕ → ℕ → Option ℤ → Option ℤ
+range_joined whole fraction None = None
+range_joined whole fraction (Some fine) = if whole == invalid_range then None else Some (pos (whole * 2 ^ 31 + fraction * 2 ^ 21) +ℤ fine)
 
 -- a rate in 0.0001 m/s
 abbrev pub rate_joined : ℤ → ℤ → Option ℤ

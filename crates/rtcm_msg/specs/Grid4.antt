@@ -5,7 +5,7 @@ use Rattle.rtcm_msg.specs.declared.fault.Field.{Field}
 use Rattle.rtcm_msg.specs.Ranges.{fits_int}
 use Rattle.rtcm_bits.specs.Bits.{FitsInt}
 use Rattle.rtcm_msg.specs.Layout.{Table, Uint, Int, Flag, Contents, widths, ◌▸◌}
-use Rattle.rtcm_msg.specs.Fractions.{scaled, joined}
+use Rattle.rtcm_msg.specs.Fractions.{scaled, range_joined}
 use Rattle.rtcm_msg.specs.Packed.{packed, unpacked}
 use Rattle.rtcm_msg.specs.declared.grid4.Satellite4.{Satellite4}
 use Rattle.rtcm_msg.specs.declared.grid4.Cell4.{Cell4}
@@ -35,11 +35,11 @@ satellite_widths = widths satellite_table
 abbrev pub cell_widths : List ℕ
 cell_widths = widths cell_table
 
-pub record IsSatellite (s : Satellite4) : Type 0 where
+pub record IsSatelliteData (s : Satellite4) : Type 0 where
   pub whole : s.whole < 2 ^ 8
   pub fraction : s.fraction < 2 ^ 10
 
-pub record IsCell (c : Cell4) : Type 0 where
+pub record IsCellData (c : Cell4) : Type 0 where
   pub range : FitsInt 15 c.range
   pub phase : FitsInt 22 c.phase
   pub lock : c.lock < 2 ^ 4
@@ -62,17 +62,17 @@ cell_of (range, (phase, (lock, (half_cycle, (strength, end))))) = record { range
 abbrev pub satellite_number : Satellite4 → ℕ
 satellite_number s = packed satellite_table (satellite_contents s)
 
-abbrev pub satellite_at : ℕ → Satellite4
-satellite_at p = satellite_of (unpacked satellite_table p)
+abbrev pub satellite_data : ℕ → Satellite4
+satellite_data p = satellite_of (unpacked satellite_table p)
 
 abbrev pub cell_number : Cell4 → ℕ
 cell_number c = packed cell_table (cell_contents c)
 
-abbrev pub cell_at : ℕ → Cell4
-cell_at p = cell_of (unpacked cell_table p)
+abbrev pub cell_data : ℕ → Cell4
+cell_data p = cell_of (unpacked cell_table p)
 
-abbrev pub number : Bool → ℕ
-number is_galileo = if is_galileo then 1094 else 1074
+abbrev pub message_number : Bool → ℕ
+message_number is_galileo = if is_galileo then 1094 else 1074
 
 abbrev pub satellite_fault : List Satellite4 → Option Field
 satellite_fault xs =
@@ -89,10 +89,10 @@ cell_fault xs =
     else None)))
 
 abbrev pub range_of : Satellite4 → Cell4 → Option ℤ
-range_of s c = joined s.whole s.fraction (scaled (negsuc 16383) 128 c.range)
+range_of s c = range_joined s.whole s.fraction (scaled (negsuc 16383) 128 c.range)
 
 abbrev pub phase_of : Satellite4 → Cell4 → Option ℤ
-phase_of s c = joined s.whole s.fraction (scaled (negsuc 2097151) 4 c.phase)
+phase_of s c = range_joined s.whole s.fraction (scaled (negsuc 2097151) 4 c.phase)
 
 abbrev pub rate_of : Satellite4 → Cell4 → Option ℤ
 rate_of s c = None

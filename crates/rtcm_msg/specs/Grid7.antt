@@ -5,7 +5,7 @@ use Rattle.rtcm_msg.specs.declared.fault.Field.{Field}
 use Rattle.rtcm_msg.specs.Ranges.{fits_int}
 use Rattle.rtcm_bits.specs.Bits.{FitsInt}
 use Rattle.rtcm_msg.specs.Layout.{Table, Uint, Int, Flag, Contents, widths, ◌▸◌}
-use Rattle.rtcm_msg.specs.Fractions.{scaled, joined, rate_joined}
+use Rattle.rtcm_msg.specs.Fractions.{scaled, range_joined, rate_joined}
 use Rattle.rtcm_msg.specs.Packed.{packed, unpacked}
 use Rattle.rtcm_msg.specs.declared.grid7.Satellite7.{Satellite7}
 use Rattle.rtcm_msg.specs.declared.grid7.Cell7.{Cell7}
@@ -38,13 +38,13 @@ satellite_widths = widths satellite_table
 abbrev pub cell_widths : List ℕ
 cell_widths = widths cell_table
 
-pub record IsSatellite (s : Satellite7) : Type 0 where
+pub record IsSatelliteData (s : Satellite7) : Type 0 where
   pub whole : s.whole < 2 ^ 8
   pub extended : s.extended < 2 ^ 4
   pub fraction : s.fraction < 2 ^ 10
   pub rate : FitsInt 14 s.rate
 
-pub record IsCell (c : Cell7) : Type 0 where
+pub record IsCellData (c : Cell7) : Type 0 where
   pub range : FitsInt 20 c.range
   pub phase : FitsInt 24 c.phase
   pub lock : c.lock < 2 ^ 10
@@ -68,17 +68,17 @@ cell_of (range, (phase, (lock, (half_cycle, (strength, (rate, end)))))) = record
 abbrev pub satellite_number : Satellite7 → ℕ
 satellite_number s = packed satellite_table (satellite_contents s)
 
-abbrev pub satellite_at : ℕ → Satellite7
-satellite_at p = satellite_of (unpacked satellite_table p)
+abbrev pub satellite_data : ℕ → Satellite7
+satellite_data p = satellite_of (unpacked satellite_table p)
 
 abbrev pub cell_number : Cell7 → ℕ
 cell_number c = packed cell_table (cell_contents c)
 
-abbrev pub cell_at : ℕ → Cell7
-cell_at p = cell_of (unpacked cell_table p)
+abbrev pub cell_data : ℕ → Cell7
+cell_data p = cell_of (unpacked cell_table p)
 
-abbrev pub number : Bool → ℕ
-number is_galileo = if is_galileo then 1097 else 1077
+abbrev pub message_number : Bool → ℕ
+message_number is_galileo = if is_galileo then 1097 else 1077
 
 abbrev pub satellite_fault : List Satellite7 → Option Field
 satellite_fault xs =
@@ -98,10 +98,10 @@ cell_fault xs =
     else None))))
 
 abbrev pub range_of : Satellite7 → Cell7 → Option ℤ
-range_of s c = joined s.whole s.fraction (scaled (negsuc 524287) 4 c.range)
+range_of s c = range_joined s.whole s.fraction (scaled (negsuc 524287) 4 c.range)
 
 abbrev pub phase_of : Satellite7 → Cell7 → Option ℤ
-phase_of s c = joined s.whole s.fraction (scaled (negsuc 8388607) 1 c.phase)
+phase_of s c = range_joined s.whole s.fraction (scaled (negsuc 8388607) 1 c.phase)
 
 abbrev pub rate_of : Satellite7 → Cell7 → Option ℤ
 rate_of s c = rate_joined s.rate c.rate

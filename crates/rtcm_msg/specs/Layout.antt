@@ -3,17 +3,17 @@ use Rattle.std.specs.Prelude.{ℕ, ℤ, ◌==◌, Bool, List, [], ◌∷◌}
 use Rattle.rtcm_bits.specs.Bits.{bit, raw, signed}
 
 -- a whole number or a two's complement of so many bits, one bit that is 1 for yes, or reserved bits
-pub data Kind : Type 0 where
-  Uint : ℕ → Kind
-  Int : ℕ → Kind
-  Flag : Kind
-  Reserved : ℕ → Kind
+pub data FieldKind : Type 0 where
+  Uint : ℕ → FieldKind
+  Int : ℕ → FieldKind
+  Flag : FieldKind
+  Reserved : ℕ → FieldKind
 
 -- a table: of each field the number in the standard, DF.., and the kind
 abbrev pub Table : Type 0
-Table = List (ℕ × Kind)
+Table = List (ℕ × FieldKind)
 
-abbrev pub width : Kind → ℕ
+abbrev pub width : FieldKind → ℕ
 width (Uint w) = w
 width (Int w) = w
 width Flag = 1
@@ -24,7 +24,7 @@ widths [] = []
 widths (f ∷ fs) = width f.1 ∷ widths fs
 
 -- what a field of a kind holds
-abbrev pub Content : Kind → Type 0
+abbrev pub Content : FieldKind → Type 0
 Content (Uint w) = ℕ
 Content (Int w) = ℤ
 Content Flag = Bool
@@ -41,13 +41,13 @@ abbrev pub ◌▸◌ : {A B : Type 0} → A → B → A × B
 a ▸ b = (a, b)
 
 -- a content as the number that its bits spell, and back
-abbrev pub number_of : (k : Kind) → Content k → ℕ
+abbrev pub number_of : (k : FieldKind) → Content k → ℕ
 number_of (Uint w) n = n
 number_of (Int w) z = raw w z
 number_of Flag b = bit b
 number_of (Reserved w) n = n
 
-abbrev pub content : (k : Kind) → ℕ → Content k
+abbrev pub content : (k : FieldKind) → ℕ → Content k
 content (Uint w) n = n
 content (Int w) n = signed w n
 content Flag n = n == 1

@@ -4,9 +4,9 @@ use Rattle.std.specs.Prelude.{ℕ, ◌≡◌, ◌+◌, ◌*◌, ◌≤◌, ◌�
 use Rattle.std.specs.List.{zip}
 use Rattle.rtcm_msg.specs.declared.header.MsmHeader.{MsmHeader}
 use Rattle.rtcm_msg.specs.declared.seats.Seat.{Seat}
-use Rattle.rtcm_msg.specs.Packed.{total}
+use Rattle.rtcm_msg.specs.Packed.{total_width}
 use Rattle.rtcm_msg.specs.Columns.{EachBelow}
-use Rattle.rtcm_msg.specs.Msm.{MsmValue, Sets, IsHeader, satellite_mask_bits, signal_mask_bits, most_pairs}
+use Rattle.rtcm_msg.specs.Msm.{MsmValue, MasksValue, IsHeader, satellite_mask_bits, signal_mask_bits, most_pairs}
 use Rattle.rtcm_msg.specs.Entries.{ids, seats, Rising}
 
 -- Of each satellite the ID and the data, by rising IDs; the IDs of the signals, rising; of each cell the
@@ -22,7 +22,7 @@ abbrev pub pair : Seat → ℕ × ℕ
 pair x = (x.satellite, x.signal)
 
 -- the pairs of a satellite and a signal that have a cell
-abbrev pub cell_pairs : Sets → List (ℕ × ℕ)
+abbrev pub cell_pairs : MasksValue → List (ℕ × ℕ)
 cell_pairs s = map pair (seats s)
 
 -- a pair as one number, which rises by satellite and within it by signal
@@ -71,5 +71,5 @@ pub record IsMeaning (satellite_widths cell_widths : List ℕ) (m : Meaning) : T
   pub few : length (keys m.satellites) * length m.signals ≤ most_pairs
   pub cells : Rising first_pair last_pair (map pair_number (keys m.cells))
   pub pairs : Each (λ p. IsIn p.0 (keys m.satellites) × IsIn p.1 m.signals) (keys m.cells)
-  pub satellite_data : EachBelow (total satellite_widths) (data_of m.satellites)
-  pub cell_data : EachBelow (total cell_widths) (data_of m.cells)
+  pub satellite_data : EachBelow (total_width satellite_widths) (data_of m.satellites)
+  pub cell_data : EachBelow (total_width cell_widths) (data_of m.cells)

@@ -6,7 +6,7 @@ use Rattle.rtcm_msg.specs.declared.fault.MsgFault.TheVariants.{TooManyCells, Bad
 use Rattle.rtcm_msg.specs.declared.header.MsmHeader.{MsmHeader}
 use Rattle.rtcm_msg.specs.Fields.{spelled, reading, ◌>>=◌}
 use Rattle.rtcm_msg.specs.Layout.{Table, Uint, Flag, Reserved, Contents, fields_of, ◌▸◌, number_table}
-use Rattle.rtcm_msg.specs.Packed.{total, columns}
+use Rattle.rtcm_msg.specs.Packed.{total_width, columns}
 use Rattle.rtcm_msg.specs.Columns.{columns_at, EachBelow}
 
 -- milliseconds
@@ -27,7 +27,7 @@ most_pairs = 64
 
 -- The satellites, the signals, and the pairs of one of each that have a cell. The highest bit of the
 -- first two is ID 1, and the highest of the last is the first pair.
-pub record Sets : Type 0 where
+pub record MasksValue : Type 0 where
   pub satellites : ℕ
   pub signals : ℕ
   pub cells : ℕ
@@ -40,7 +40,7 @@ pairs satellites signals = count_ones satellites * count_ones signals
 pub record MsmValue : Type 0 where
   pub is_galileo : Bool
   pub header : MsmHeader
-  pub sets : Sets
+  pub sets : MasksValue
   pub satellites : List ℕ
   pub cells : List ℕ
 
@@ -52,7 +52,7 @@ pub record IsHeader (h : MsmHeader) : Type 0 where
   pub clock : h.clock < 2 ^ 2
   pub interval : h.interval < 2 ^ 3
 
-pub record AreSets (s : Sets) : Type 0 where
+pub record AreMasks (s : MasksValue) : Type 0 where
   pub satellites : s.satellites < 2 ^ satellite_mask_bits
   pub signals : s.signals < 2 ^ signal_mask_bits
   pub few : pairs s.satellites s.signals ≤ most_pairs
@@ -61,11 +61,11 @@ pub record AreSets (s : Sets) : Type 0 where
 -- a value whose fields have these widths
 pub record IsValue (satellite_widths cell_widths : List ℕ) (v : MsmValue) : Type 0 where
   pub header : IsHeader v.header
-  pub sets : AreSets v.sets
+  pub sets : AreMasks v.sets
   pub satellite_count : length v.satellites ≡ count_ones v.sets.satellites
   pub cell_count : length v.cells ≡ count_ones v.sets.cells
-  pub satellites : EachBelow (total satellite_widths) v.satellites
-  pub cells : EachBelow (total cell_widths) v.cells
+  pub satellites : EachBelow (total_width satellite_widths) v.satellites
+  pub cells : EachBelow (total_width cell_widths) v.cells
 
 -- ---- the layout
 
@@ -113,13 +113,13 @@ abbrev pub header_fields : ℕ → MsmHeader → ℕ → List (ℕ × ℕ)
 header_fields number h reserved =
     fields_of number_table (number ▸ tt) ++ (fields_of time_table (time_contents h) ++ fields_of header_table (header_contents h reserved))
 
-abbrev pub set_fields : Sets → List (ℕ × ℕ)
-set_fields s = fields_of mask_table (s.satellites ▸ s.signals ▸ tt) ++ fields_of (cell_mask_table (pairs s.satellites s.signals)) (s.cells ▸ tt)
+abbrev pub mask_fields : MasksValue → List (ℕ × ℕ)
+mask_fields s = fields_of mask_table (s.satellites ▸ s.signals ▸ tt) ++ fields_of (cell_mask_table (pairs s.satellites s.signals)) (s.cells ▸ tt)
 
 -- all bits of a message of this number: behind the masks a field of all satellites, then the next, then a field of all cells
 abbrev pub msm_bits : List ℕ → List ℕ → ℕ → MsmValue → ℕ → List Bool
 msm_bits satellite_widths cell_widths number v reserved =
-    spelled (header_fields number v.header reserved) ++ (spelled (set_fields v.sets) ++ (columns satellite_widths v.satellites ++ columns cell_widths v.cells))
+    spelled (header_fields number v.header reserved) ++ (spelled (mask_fields v.sets) ++ (columns satellite_widths v.satellites ++ columns cell_widths v.cells))
 
 -- ---- reading, behind the message number
 
@@ -139,18 +139,18 @@ unfoldable pub header_at : Cursor → Result (MsmHeader × Cursor) MsgFault
 header_at c = reading time_table c (λ n. timely n.0.1.0 n.1 >>= λ time. behind_time_at n.0.0 time.0 time.1)
 
 -- the pairs are counted as soon as both masks were read
-abbrev pub sets_behind : ℕ → ℕ → Cursor → Result (Sets × Cursor) MsgFault
-sets_behind satellites signals c =
+abbrev pub masks_behind : ℕ → ℕ → Cursor → Result (MasksValue × Cursor) MsgFault
+masks_behind satellites signals c =
     if nat_lt most_pairs (pairs satellites signals) then Err TooManyCells
     else reading (cell_mask_table (pairs satellites signals)) c (λ cells. Ok (record { satellites = satellites; signals = signals; cells = cells.0.0 }, cells.1))
 
-unfoldable pub sets_at : Cursor → Result (Sets × Cursor) MsgFault
-sets_at c = reading mask_table c (λ m. sets_behind m.0.0 m.0.1.0 m.1)
+unfoldable pub masks_at : Cursor → Result (MasksValue × Cursor) MsgFault
+masks_at c = reading mask_table c (λ m. masks_behind m.0.0 m.0.1.0 m.1)
 
 unfoldable pub msm_at : List ℕ → List ℕ → Bool → Cursor → Result (MsmValue × Cursor) MsgFault
 msm_at satellite_widths cell_widths is_galileo c = do
   header ← header_at c
-  sets ← sets_at header.1
+  sets ← masks_at header.1
   satellites ← columns_at satellite_widths (replicate (count_ones sets.0.satellites) 0) sets.1
   cells ← columns_at cell_widths (replicate (count_ones sets.0.cells) 0) satellites.1
   Ok (record { is_galileo = is_galileo; header = header.0; sets = sets.0; satellites = satellites.0; cells = cells.0 }, cells.1)

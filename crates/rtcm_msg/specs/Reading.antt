@@ -1,7 +1,7 @@
 -- What a message's bits are read as.
 use Rattle.std.specs.Prelude.{ℕ, ◌%◌, ◌==◌, ◌&&◌, nat_lt, nat_le, if◌then◌else◌, Bool, true, false, List, length, Option, Some, None, Result, Ok}
 use Rattle.rtcm_bits.specs.Bits.{bits_of}
-use Rattle.rtcm_bits.specs.Reading.{Cursor, after, unsigned_at}
+use Rattle.rtcm_bits.specs.Reading.{Cursor, advanced, unsigned_at}
 use Rattle.rtcm_msg.specs.declared.fault.MsgFault.{MsgFault}
 use Rattle.rtcm_msg.specs.declared.message.Message.{Message}
 use Rattle.rtcm_msg.specs.Fields.{number_at, ◌>>=◌}
@@ -12,15 +12,15 @@ use Rattle.rtcm_msg.specs.Grid4 as grid4
 use Rattle.rtcm_msg.specs.Grid7 as grid7
 
 -- the numbers of the multiple signal messages of all systems
-abbrev pub is_listed : ℕ → Bool
-is_listed n = nat_le 1071 n && nat_le n 1127 && nat_le 1 (n % 10) && nat_le (n % 10) 7
+abbrev pub is_any_msm : ℕ → Bool
+is_any_msm n = nat_le 1071 n && nat_le n 1127 && nat_le 1 (n % 10) && nat_le (n % 10) 7
 
 -- the station and DF393 of a listed message, behind its number
 abbrev pub set_at : Cursor → Option (ℕ × Bool)
-set_at c = if nat_lt (length c.rest) 43 then None else Some (unsigned_at 12 c, unsigned_at 1 (after (after c 12) 30) == 1)
+set_at c = if nat_lt (length c.rest) 43 then None else Some (unsigned_at 12 c, unsigned_at 1 (advanced (advanced c 12) 30) == 1)
 
 abbrev pub other_at : ℕ → Cursor → Message
-other_at n c = messages.Other n (if is_listed n then set_at c else None)
+other_at n c = messages.Other n (if is_any_msm n then set_at c else None)
 
 abbrev pub start : List Bool → Cursor
 start bits = record { place = 0; rest = bits }

@@ -5,12 +5,12 @@ use Rattle.rtcm_msg.specs.declared.header.MsmHeader.{MsmHeader}
 use Rattle.rtcm_msg.specs.declared.station.StationParts.{StationParts}
 use Rattle.rtcm_msg.specs.declared.fault.ValueFault.{ValueFault}
 use Rattle.rtcm_msg.specs.Ranges.{fits_int}
-use Rattle.rtcm_msg.specs.Msm.{Sets, pairs, week, most_pairs}
+use Rattle.rtcm_msg.specs.Msm.{MasksValue, pairs, week, most_pairs}
 use Rattle.rtcm_msg.specs.declared.fault.ValueFault.TheVariants as faults
 use Rattle.rtcm_msg.specs.declared.fault.Field.TheVariants as fields
 
-abbrev pub sets_of : ℕ → ℕ → ℕ → Result Sets ValueFault
-sets_of satellites signals cells =
+abbrev pub masks_of : ℕ → ℕ → ℕ → Result MasksValue ValueFault
+masks_of satellites signals cells =
     if nat_lt most_pairs (pairs satellites signals) then Err faults.TooManyCells
     else (if nat_le (2 ^ pairs satellites signals) cells then Err (faults.OutOfRange fields.Cells)
     else Ok (record { satellites = satellites; signals = signals; cells = cells }))
@@ -41,18 +41,18 @@ header_fault h =
     else None))))
 
 -- the first of these
-abbrev pub or_else : Option Field → Option Field → Option Field
-or_else None g = g
-or_else (Some f) g = Some f
+abbrev pub first_field : Option Field → Option Field → Option Field
+first_field None g = g
+first_field (Some f) g = Some f
 
 abbrev pub out_of_range : Option Field → Option ValueFault
 out_of_range None = None
 out_of_range (Some f) = Some (faults.OutOfRange f)
 
 -- why parts are no message, where the last two are the first bad part of the satellites and of the cells
-abbrev pub msm_refusal : MsmHeader → Sets → ℕ → ℕ → Option Field → Option Field → Option ValueFault
+abbrev pub msm_refusal : MsmHeader → MasksValue → ℕ → ℕ → Option Field → Option Field → Option ValueFault
 msm_refusal h s satellites cells satellite_fault cell_fault =
     if nat_le week h.time then Some faults.BadTime
     else (if (satellites == count_ones s.satellites) && (cells == count_ones s.cells)
-    then out_of_range (or_else (header_fault h) (or_else satellite_fault cell_fault))
+    then out_of_range (first_field (header_fault h) (first_field satellite_fault cell_fault))
     else Some faults.CellCount)

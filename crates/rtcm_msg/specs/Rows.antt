@@ -16,10 +16,10 @@ abbrev pub rows_at : List ℕ → ℕ → List Bool → ℕ → List ℕ
 rows_at widths count bits place = numbers_in (columns_at widths (replicate count 0) (standing bits place))
 
 -- the place behind so many of them in so many bits, or else the first field that isn't there whole
-unfoldable pub end_of : List ℕ → ℕ → ℕ → ℕ → Result ℕ MsgFault
-end_of [] count len place = Ok place
-end_of (w ∷ ws) count len place =
-    if nat_lt len (place + count * w) then Err (Short (len - (len - place) % w)) else end_of ws count len (place + count * w)
+unfoldable pub end_of_rows : List ℕ → ℕ → ℕ → ℕ → Result ℕ MsgFault
+end_of_rows [] count len place = Ok place
+end_of_rows (w ∷ ws) count len place =
+    if nat_lt len (place + count * w) then Err (Short (len - (len - place) % w)) else end_of_rows ws count len (place + count * w)
 
 -- the fields of the one of place i, each below what was read of it before
 unfoldable pub row_at : List ℕ → ℕ → List Bool → ℕ → ℕ → ℕ → ℕ

@@ -9,7 +9,7 @@ use Rattle.rtcm_msg.specs.Fields.{spelled, first_past, field_at}
 use Rattle.rtcm_msg.specs.Station.{station_fields, InRange, station_table, height_table}
 use Rattle.rtcm_msg.specs.Msm.{msm_bits, IsValue, pairs, week, time_table, header_table, mask_table, cell_mask_table, satellite_mask_bits, signal_mask_bits, most_pairs}
 use Rattle.rtcm_msg.specs.Layout.{widths, number_table}
-use Rattle.rtcm_msg.specs.Reading.{is_listed}
+use Rattle.rtcm_msg.specs.Reading.{is_any_msm}
 use Rattle.rtcm_msg.specs.Grid4 as grid4
 use Rattle.rtcm_msg.specs.Grid7 as grid7
 
@@ -36,8 +36,8 @@ reserved_width (Other n set) = 0
 -- the bits of a message whose reserved bits are given
 abbrev pub message_bits : Message → ℕ → List Bool
 message_bits (Station s) reserved = spelled (station_fields s reserved)
-message_bits (Msm4 m) reserved = msm_bits grid4.satellite_widths grid4.cell_widths (grid4.number m.is_galileo) m reserved
-message_bits (Msm7 m) reserved = msm_bits grid7.satellite_widths grid7.cell_widths (grid7.number m.is_galileo) m reserved
+message_bits (Msm4 m) reserved = msm_bits grid4.satellite_widths grid4.cell_widths (grid4.message_number m.is_galileo) m reserved
+message_bits (Msm7 m) reserved = msm_bits grid7.satellite_widths grid7.cell_widths (grid7.message_number m.is_galileo) m reserved
 message_bits (Other n set) reserved = []
 
 -- the bytes spell the message with reserved bits of 0, filled up with zero bits to a byte
@@ -45,7 +45,7 @@ abbrev pub IsEncoding : List ℕ → Message → Type 0
 IsEncoding bytes v = bits_of bytes ≡ filled (message_bits v 0)
 
 -- the bits spell the message; its reserved bits are any
-pub record Spells (v : Message) (bits : List Bool) : Type 0 where
+pub record IsSpelledBy (v : Message) (bits : List Bool) : Type 0 where
   pub reserved : ℕ
   pub fits : reserved < 2 ^ reserved_width v
   pub bits_are : bits ≡ message_bits v reserved
@@ -53,15 +53,15 @@ pub record Spells (v : Message) (bits : List Bool) : Type 0 where
 abbrev pub number_of : List Bool → ℕ
 number_of bits = field_at bits 0 12
 
-abbrev pub is_msm : ℕ → Bool
-is_msm n = n == 1074 || n == 1077 || n == 1094 || n == 1097
+abbrev pub is_read_msm : ℕ → Bool
+is_read_msm n = n == 1074 || n == 1077 || n == 1094 || n == 1097
 
 abbrev pub is_read : ℕ → Bool
-is_read n = n == 1005 || n == 1006 || is_msm n
+is_read n = n == 1005 || n == 1006 || is_read_msm n
 
 -- the station and DF393 of a message that is not read
 abbrev pub set_of : List Bool → Option (ℕ × Bool)
-set_of bits = if is_listed (number_of bits) then (if nat_le 55 (length bits) then Some (field_at bits 12 12, field_at bits 54 1 == 1) else None) else None
+set_of bits = if is_any_msm (number_of bits) then (if nat_le 55 (length bits) then Some (field_at bits 12 12, field_at bits 54 1 == 1) else None) else None
 
 -- a message that is not read
 pub record IsOther (bits : List Bool) (v : Message) : Type 0 where
@@ -76,10 +76,10 @@ pub record BeginsWith (bits : List Bool) (v : Message) : Type 0 where
   pub front : List Bool
   pub rest : List Bool
   pub joined : bits ≡ front ++ rest
-  pub spells : Spells v front
+  pub spells : IsSpelledBy v front
 
-abbrev pub Reads : List Bool → Message → Type 0
-Reads bits v = BeginsWith bits v ⊎ IsOther bits v
+abbrev pub ReadsMessage : List Bool → Message → Type 0
+ReadsMessage bits v = BeginsWith bits v ⊎ IsOther bits v
 
 -- ---- faults
 
@@ -108,11 +108,11 @@ abbrev pub layout : List Bool → List ℕ
 layout bits = layout_of (number_of bits) bits
 
 abbrev pub has_bad_time : List Bool → Bool
-has_bad_time bits = is_msm (number_of bits) && nat_le 54 (length bits) && nat_le week (field_at bits 24 30)
+has_bad_time bits = is_read_msm (number_of bits) && nat_le 54 (length bits) && nat_le week (field_at bits 24 30)
 
 abbrev pub has_too_many : List Bool → Bool
 has_too_many bits =
-    is_msm (number_of bits) && nat_le 169 (length bits) && nat_lt most_pairs (pairs (field_at bits 73 satellite_mask_bits) (field_at bits 137 signal_mask_bits))
+    is_read_msm (number_of bits) && nat_le 169 (length bits) && nat_lt most_pairs (pairs (field_at bits 73 satellite_mask_bits) (field_at bits 137 signal_mask_bits))
 
 -- which fault stands, if one does
 abbrev pub IsFault : List Bool → MsgFault → Type 0

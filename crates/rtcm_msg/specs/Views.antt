@@ -9,7 +9,7 @@ use Rattle.rtcm_bits.specs.Reading.{Cursor}
 use Rattle.rtcm_msg.specs.declared.fault.MsgFault.{MsgFault}
 use Rattle.rtcm_msg.specs.Fields.{◌>>=◌}
 use Rattle.rtcm_msg.specs.Msm.{MsmValue, msm_at, satellite_mask_bits, most_pairs}
-use Rattle.rtcm_msg.specs.Packed.{total}
+use Rattle.rtcm_msg.specs.Packed.{total_width}
 use Rattle.rtcm_msg.specs.Grid4 as grid4
 use Rattle.rtcm_msg.specs.Grid7 as grid7
 
@@ -23,9 +23,9 @@ abbrev pub cell_widths : Form → List ℕ
 cell_widths forms.Msm4 = grid4.cell_widths
 cell_widths forms.Msm7 = grid7.cell_widths
 
-abbrev pub number : Form → Bool → ℕ
-number forms.Msm4 is_galileo = grid4.number is_galileo
-number forms.Msm7 is_galileo = grid7.number is_galileo
+abbrev pub message_number : Form → Bool → ℕ
+message_number forms.Msm4 is_galileo = grid4.message_number is_galileo
+message_number forms.Msm7 is_galileo = grid7.message_number is_galileo
 
 abbrev pub message_in : Form → MsmValue → Message
 message_in forms.Msm4 v = messages.Msm4 v
@@ -45,9 +45,9 @@ abbrev pub formed_at : Form → Bool → Cursor → Result Message MsgFault
 formed_at form is_galileo c = msm_at (satellite_widths form) (cell_widths form) is_galileo c >>= λ m. Ok (message_in form m.0)
 
 -- so many satellites' and cells' data lie at these places of so many bytes
-pub record IsLaid (form : Form) (bytes satellites satellites_at cells cells_at : ℕ) : Type 0 where
+pub record AreDataThere (form : Form) (bytes satellites satellites_at cells cells_at : ℕ) : Type 0 where
   pub small : bytes ≤ longest_message
   pub satellites_few : satellites ≤ satellite_mask_bits
-  pub satellites_there : satellites_at + satellites * total (satellite_widths form) ≤ 8 * bytes
+  pub satellites_there : satellites_at + satellites * total_width (satellite_widths form) ≤ 8 * bytes
   pub cells_few : cells ≤ most_pairs
-  pub cells_there : cells_at + cells * total (cell_widths form) ≤ 8 * bytes
+  pub cells_there : cells_at + cells * total_width (cell_widths form) ≤ 8 * bytes

@@ -1,7 +1,7 @@
 ghost use Rattle.std.specs.Prelude.{◌≡◌, All, Bool, ◌+◌, ℕ, ℤ, List, ◌^◌, ◌<◌, ◌≤◌, Option, IfNone, IfSome, unsigned_abs};
 ghost use Rattle.std.specs.Option.{ForSome};
-ghost use Rattle.rtcm_msg.specs.Fractions.{joined};
-ghost use Rattle.rtcm_msg.specs.Packed.{total};
+ghost use Rattle.rtcm_msg.specs.Fractions.{range_joined};
+ghost use Rattle.rtcm_msg.specs.Packed.{total_width};
 ghost use Rattle.rtcm_msg.specs.declared.fault.Field.{Field};
 
 use crate::fault::Field;
@@ -131,7 +131,7 @@ pub trait Grid {
 
     /// The satellite whose fields are in the number.
     fn satellite_of(number: u64) -> Self::Satellite
-        requires { number < 2 ^ total satellite_widths }
+        requires { number < 2 ^ total_width satellite_widths }
         ensures { result ≡ satellite_at number };
 
     /// A cell's fields in one number, the first in the most significant bits.
@@ -141,37 +141,37 @@ pub trait Grid {
 
     /// The cell whose fields are in the number.
     fn cell_of(number: u128) -> Self::Cell
-        requires { number < 2 ^ total cell_widths }
+        requires { number < 2 ^ total_width cell_widths }
         ensures { result ≡ cell_at number };
 
     // A field has at most 64 bits, and a satellite or a cell fits its number.
     ghost satellite_widths_few: { All (λ w. w ≤ 64) satellite_widths };
 
     /// The largest message has room.
-    ghost room: { total satellite_widths + total cell_widths ≤ 124 };
+    ghost room: { total_width satellite_widths + total_width cell_widths ≤ 124 };
 
-    ghost satellite_width: { total satellite_widths ≤ 64 };
+    ghost satellite_width: { total_width satellite_widths ≤ 64 };
 
     ghost cell_widths_few: { All (λ w. w ≤ 64) cell_widths };
 
-    ghost cell_width: { total cell_widths ≤ 128 };
+    ghost cell_width: { total_width cell_widths ≤ 128 };
 
     // Packing and unpacking undo each other.
-    ghost satellite_fits: { (s : Self.Satellite) → is_satellite s → satellite_packed s < 2 ^ total satellite_widths };
+    ghost satellite_fits: { (s : Self.Satellite) → is_satellite s → satellite_packed s < 2 ^ total_width satellite_widths };
 
     ghost satellite_back: { (s : Self.Satellite) → is_satellite s → satellite_at (satellite_packed s) ≡ s };
 
-    ghost satellite_in_range: { (n : ℕ) → n < 2 ^ total satellite_widths → is_satellite (satellite_at n) };
+    ghost satellite_in_range: { (n : ℕ) → n < 2 ^ total_width satellite_widths → is_satellite (satellite_at n) };
 
-    ghost satellite_same: { (n : ℕ) → n < 2 ^ total satellite_widths → satellite_packed (satellite_at n) ≡ n };
+    ghost satellite_same: { (n : ℕ) → n < 2 ^ total_width satellite_widths → satellite_packed (satellite_at n) ≡ n };
 
-    ghost cell_fits: { (c : Self.Cell) → is_cell c → cell_packed c < 2 ^ total cell_widths };
+    ghost cell_fits: { (c : Self.Cell) → is_cell c → cell_packed c < 2 ^ total_width cell_widths };
 
     ghost cell_back: { (c : Self.Cell) → is_cell c → cell_at (cell_packed c) ≡ c };
 
-    ghost cell_in_range: { (n : ℕ) → n < 2 ^ total cell_widths → is_cell (cell_at n) };
+    ghost cell_in_range: { (n : ℕ) → n < 2 ^ total_width cell_widths → is_cell (cell_at n) };
 
-    ghost cell_same: { (n : ℕ) → n < 2 ^ total cell_widths → cell_packed (cell_at n) ≡ n };
+    ghost cell_same: { (n : ℕ) → n < 2 ^ total_width cell_widths → cell_packed (cell_at n) ≡ n };
 
     // A lock time indicator is one of these.
     ghost lock_fits: { (c : Self.Cell) → is_cell c → lock_code_of c < lock_codes };
@@ -181,9 +181,9 @@ pub trait Grid {
 const INVALID_RANGE: u8 = 255;
 
 /// The rough range in units of 2^-31 ms with a fine part.
-pub(crate) fn joined(whole: u8, fraction: u16, fine: Option<i64>) -> Option<i64>
+pub(crate) fn range_joined(whole: u8, fraction: u16, fine: Option<i64>) -> Option<i64>
     requires fits { ForSome fine (λ z. unsigned_abs z ≤ 2 ^ 33) }
-    ensures value { result ≡ joined whole fraction fine }
+    ensures value { result ≡ range_joined whole fraction fine }
     ensures bound { fraction < 2 ^ 10 → ForSome fine (λ z. unsigned_abs z ≤ 2 ^ 26) → IfSome result (λ r. unsigned_abs r ≤ 2 ^ 40) }
 {
     match fine {

@@ -5,7 +5,7 @@ ghost use Rattle.rtcm_msg.specs.Ranges.{fits_int};
 ghost use Rattle.rtcm_msg.specs.Grid4 as grid4;
 
 use crate::fault::Field;
-use crate::grid::{Grid, joined};
+use crate::grid::{Grid, range_joined};
 use rtcm_bits::{raw_of, signed_of};
 
 /// The data of a satellite in MSM4.
@@ -84,7 +84,7 @@ fn has_bad_strength(cells: &[Cell4]) -> bool
 fn fine_range(cell: &Cell4) -> Option<i64>
     ensures value { result ≡ scaled (negsuc 16383) 128 cell.now.range }
     ensures fits { IfSome result (λ z. unsigned_abs z ≤ 2 ^ 33) }
-    ensures small { grid4.IsCell cell.now → IfSome result (λ z. unsigned_abs z ≤ 2 ^ 26) }
+    ensures small { grid4.IsCellData cell.now → IfSome result (λ z. unsigned_abs z ≤ 2 ^ 26) }
 {
     if cell.range == -16384 {
         None
@@ -97,7 +97,7 @@ fn fine_range(cell: &Cell4) -> Option<i64>
 fn fine_phase(cell: &Cell4) -> Option<i64>
     ensures value { result ≡ scaled (negsuc 2097151) 4 cell.now.phase }
     ensures fits { IfSome result (λ z. unsigned_abs z ≤ 2 ^ 33) }
-    ensures small { grid4.IsCell cell.now → IfSome result (λ z. unsigned_abs z ≤ 2 ^ 26) }
+    ensures small { grid4.IsCellData cell.now → IfSome result (λ z. unsigned_abs z ≤ 2 ^ 26) }
 {
     if cell.phase == -2097152 {
         None
@@ -117,19 +117,19 @@ impl Grid for Grid4 {
 
     ghost cell_widths = { grid4.cell_widths };
 
-    ghost is_satellite = { grid4.IsSatellite };
+    ghost is_satellite = { grid4.IsSatelliteData };
 
-    ghost is_cell = { grid4.IsCell };
+    ghost is_cell = { grid4.IsCellData };
 
     ghost satellite_packed = { grid4.satellite_number };
 
-    ghost satellite_at = { grid4.satellite_at };
+    ghost satellite_at = { grid4.satellite_data };
 
     ghost cell_packed = { grid4.cell_number };
 
-    ghost cell_at = { grid4.cell_at };
+    ghost cell_at = { grid4.cell_data };
 
-    ghost number_of = { grid4.number };
+    ghost number_of = { grid4.message_number };
 
     fn number_of(is_galileo: bool) -> u16 {
         if is_galileo { 1094 } else { 1074 }
@@ -180,11 +180,11 @@ impl Grid for Grid4 {
     ghost lock_codes = { 2 ^ 4 };
 
     fn range(satellite: &Satellite4, cell: &Cell4) -> Option<i64> {
-        joined(satellite.whole, satellite.fraction, fine_range(cell))
+        range_joined(satellite.whole, satellite.fraction, fine_range(cell))
     }
 
     fn phase(satellite: &Satellite4, cell: &Cell4) -> Option<i64> {
-        joined(satellite.whole, satellite.fraction, fine_phase(cell))
+        range_joined(satellite.whole, satellite.fraction, fine_phase(cell))
     }
 
     fn rate(_satellite: &Satellite4, _cell: &Cell4) -> Option<i32> {

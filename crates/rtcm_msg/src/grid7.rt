@@ -5,7 +5,7 @@ ghost use Rattle.rtcm_msg.specs.Ranges.{fits_int};
 ghost use Rattle.rtcm_msg.specs.Grid7 as grid7;
 
 use crate::fault::Field;
-use crate::grid::{Grid, joined};
+use crate::grid::{Grid, range_joined};
 use rtcm_bits::{raw_of, signed_of};
 
 /// The data of a satellite in MSM7.
@@ -108,7 +108,7 @@ fn has_bad_fine_rate(cells: &[Cell7]) -> bool
 fn fine_range(cell: &Cell7) -> Option<i64>
     ensures value { result ≡ scaled (negsuc 524287) 4 cell.now.range }
     ensures fits { IfSome result (λ z. unsigned_abs z ≤ 2 ^ 33) }
-    ensures small { grid7.IsCell cell.now → IfSome result (λ z. unsigned_abs z ≤ 2 ^ 26) }
+    ensures small { grid7.IsCellData cell.now → IfSome result (λ z. unsigned_abs z ≤ 2 ^ 26) }
 {
     if cell.range == -524288 {
         None
@@ -121,7 +121,7 @@ fn fine_range(cell: &Cell7) -> Option<i64>
 fn fine_phase(cell: &Cell7) -> Option<i64>
     ensures value { result ≡ scaled (negsuc 8388607) 1 cell.now.phase }
     ensures fits { IfSome result (λ z. unsigned_abs z ≤ 2 ^ 33) }
-    ensures small { grid7.IsCell cell.now → IfSome result (λ z. unsigned_abs z ≤ 2 ^ 26) }
+    ensures small { grid7.IsCellData cell.now → IfSome result (λ z. unsigned_abs z ≤ 2 ^ 26) }
 {
     if cell.phase == -8388608 {
         None
@@ -141,19 +141,19 @@ impl Grid for Grid7 {
 
     ghost cell_widths = { grid7.cell_widths };
 
-    ghost is_satellite = { grid7.IsSatellite };
+    ghost is_satellite = { grid7.IsSatelliteData };
 
-    ghost is_cell = { grid7.IsCell };
+    ghost is_cell = { grid7.IsCellData };
 
     ghost satellite_packed = { grid7.satellite_number };
 
-    ghost satellite_at = { grid7.satellite_at };
+    ghost satellite_at = { grid7.satellite_data };
 
     ghost cell_packed = { grid7.cell_number };
 
-    ghost cell_at = { grid7.cell_at };
+    ghost cell_at = { grid7.cell_data };
 
-    ghost number_of = { grid7.number };
+    ghost number_of = { grid7.message_number };
 
     fn number_of(is_galileo: bool) -> u16 {
         if is_galileo { 1097 } else { 1077 }
@@ -213,11 +213,11 @@ impl Grid for Grid7 {
     ghost lock_codes = { 2 ^ 10 };
 
     fn range(satellite: &Satellite7, cell: &Cell7) -> Option<i64> {
-        joined(satellite.whole, satellite.fraction, fine_range(cell))
+        range_joined(satellite.whole, satellite.fraction, fine_range(cell))
     }
 
     fn phase(satellite: &Satellite7, cell: &Cell7) -> Option<i64> {
-        joined(satellite.whole, satellite.fraction, fine_phase(cell))
+        range_joined(satellite.whole, satellite.fraction, fine_phase(cell))
     }
 
     fn rate(satellite: &Satellite7, cell: &Cell7) -> Option<i32> {

@@ -1,5 +1,5 @@
 ghost use Rattle.std.specs.Prelude.{◌≡◌, ◌^◌, ◌<◌, IfOk, IfNone};
-ghost use Rattle.rtcm_msg.specs.Fields.{Gives};
+ghost use Rattle.rtcm_msg.specs.Fields.{GivesViewed};
 ghost use Rattle.rtcm_msg.specs.Refusals.{header_fault};
 ghost use Rattle.rtcm_msg.specs.Msm.{behind_time_at, header_at, IsHeader, week};
 
@@ -35,7 +35,7 @@ pub struct MsmHeader {
 /// was read.
 #[tactic(auto, unfolding(crate::specs::Msm::header_at))]
 pub(crate) fn read_header(reader: &mut BitReader) -> Result<MsmHeader, MsgFault>
-    ensures read { Gives (λ h. (h, reader.new)) result (header_at reader.old) }
+    ensures read { GivesViewed (λ h. (h, reader.new)) result (header_at reader.old) }
     ensures is_header { IfOk result IsHeader }
 {
     let station = field(reader, 12)? as u16;
@@ -50,7 +50,7 @@ pub(crate) fn read_header(reader: &mut BitReader) -> Result<MsmHeader, MsgFault>
 fn read_behind_time(reader: &mut BitReader, station: u16, time: u32) -> Result<MsmHeader, MsgFault>
     requires station { station < 2 ^ 12 }
     requires time { time < week }
-    ensures read { Gives (λ h. (h, reader.new)) result (behind_time_at station time reader.old) }
+    ensures read { GivesViewed (λ h. (h, reader.new)) result (behind_time_at station time reader.old) }
     ensures is_header { IfOk result IsHeader }
 {
     let more = field(reader, 1)? == 1;

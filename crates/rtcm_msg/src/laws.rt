@@ -4,16 +4,16 @@ ghost use Rattle.std.specs.Prelude.{◌≤◌, length, ◌<◌, ◌^◌, ◌≡�
 ghost use Rattle.rtcm_bits.specs.Bits.{filled};
 ghost use Rattle.rtcm_bits.specs.FrameOf.{longest_message_bits};
 ghost use Rattle.rtcm_msg.specs.declared.message.Message.{Message};
-ghost use Rattle.rtcm_msg.specs.Spelling.{message_bits, is_other, Reads, IsMessage, IsEncoding};
+ghost use Rattle.rtcm_msg.specs.Spelling.{message_bits, is_other, ReadsMessage, IsMessage, IsEncoding};
 ghost use Rattle.rtcm_msg.specs.Reading.{message_at};
 ghost use Rattle.rtcm_msg.specs.Reach.{EntriesAreMeasured, PointsAreTold};
-ghost use Rattle.rtcm_msg.specs.Msm.{MsmValue, Sets, IsValue, satellite_mask_bits};
+ghost use Rattle.rtcm_msg.specs.Msm.{MsmValue, MasksValue, IsValue, satellite_mask_bits};
 ghost use Rattle.rtcm_msg.specs.Meaning.{Meaning, IsMeaning, meaning, pair_number, cell_pairs, first_pair, last_pair, keys};
 
 /// What is spelled with zero for the reserved bits, and filled up with zero bits to a byte, is read
 /// back.
 pub fn read_back()
-    ensures spelled { (v : Message) → IsMessage v → is_other v ≡ false → Reads (filled (message_bits v 0)) v }
+    ensures spelled { (v : Message) → IsMessage v → is_other v ≡ false → ReadsMessage (filled (message_bits v 0)) v }
     ensures read { (v : Message) (bytes : List ℕ) → IsMessage v → is_other v ≡ false → IsEncoding bytes v → message_at bytes ≡ Ok v }
     // so that its bytes fit a frame
     ensures short { (v : Message) → IsMessage v → length (message_bits v 0) ≤ longest_message_bits }
@@ -21,7 +21,7 @@ pub fn read_back()
 
 /// Bits are read as one value at most.
 pub fn one_value()
-    ensures { (bits : List Bool) (v w : Message) → Reads bits v → Reads bits w → v ≡ w }
+    ensures { (bits : List Bool) (v w : Message) → ReadsMessage bits v → ReadsMessage bits w → v ≡ w }
 {}
 
 /// A mask of w bits is a set of IDs: a rising list of numbers from 1 to w, and each such list is
@@ -37,7 +37,7 @@ pub fn masks_are_sets()
 pub fn values_are_maps()
     ensures satellites { (sw cw : List ℕ) (v : MsmValue) → IsValue sw cw v → keys (meaning v).satellites ≡ ids satellite_mask_bits v.sets.satellites }
     ensures cells { (sw cw : List ℕ) (v : MsmValue) → IsValue sw cw v → keys (meaning v).cells ≡ cell_pairs v.sets }
-    ensures rising { (s : Sets) → Rising first_pair last_pair (map pair_number (cell_pairs s)) }
+    ensures rising { (s : MasksValue) → Rising first_pair last_pair (map pair_number (cell_pairs s)) }
     ensures one { (sw cw : List ℕ) (v w : MsmValue) → IsValue sw cw v → IsValue sw cw w → meaning v ≡ meaning w → v ≡ w }
     ensures all { (sw cw : List ℕ) (m : Meaning) → IsMeaning sw cw m → (v : MsmValue) × IsValue sw cw v × (meaning v ≡ m) }
 {}

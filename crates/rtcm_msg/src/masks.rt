@@ -1,7 +1,7 @@
 ghost use Rattle.std.specs.Prelude.{◌≡◌};
-ghost use Rattle.rtcm_msg.specs.Fields.{Gives};
-ghost use Rattle.rtcm_msg.specs.Msm.{sets_at, AreSets};
-ghost use Rattle.rtcm_msg.specs.Refusals.{sets_of};
+ghost use Rattle.rtcm_msg.specs.Fields.{GivesViewed};
+ghost use Rattle.rtcm_msg.specs.Msm.{masks_at, AreMasks};
+ghost use Rattle.rtcm_msg.specs.Refusals.{masks_of};
 
 use crate::fault::{Field, MsgFault, ValueFault};
 use crate::field::field;
@@ -32,13 +32,13 @@ pub struct Masks {
 }
 
 impl Model for Masks {
-    ghost use Rattle.rtcm_msg.specs.Msm.{Sets, AreSets};
+    ghost use Rattle.rtcm_msg.specs.Msm.{MasksValue, AreMasks};
 
-    ghost Value = { Sets };
+    ghost Value = { MasksValue };
 
     ghost view = { λ m. record { satellites = m.satellites; signals = m.signals; cells = m.cells } };
 
-    ghost invariant = { λ m. AreSets (record { satellites = m.satellites; signals = m.signals; cells = m.cells }) };
+    ghost invariant = { λ m. AreMasks (record { satellites = m.satellites; signals = m.signals; cells = m.cells }) };
 
     ghost inverse = { λ s. record { satellites = s.satellites; signals = s.signals; cells = s.cells } };
 }
@@ -53,7 +53,7 @@ impl Masks {
     /// `TooManyCells` where there are more than 64 pairs of a satellite and a signal, else
     /// `OutOfRange(Field::Cells)` where the cell mask has more bits than there are pairs.
     pub fn new(satellites: u64, signals: u32, cells: u64) -> Result<Masks, ValueFault>
-        ensures { result ≡ sets_of satellites signals cells }
+        ensures { result ≡ masks_of satellites signals cells }
     {
         let pairs = satellites.count_ones() * signals.count_ones();
         if pairs > MOST_CELL_MASK_BITS {
@@ -86,16 +86,16 @@ impl Masks {
     /// The cell mask, DF396, as a number.
     pub fn cells(&self) -> u64
         ensures value { result ≡ self.now.cells }
-        ensures sets { AreSets self.now }
+        ensures sets { AreMasks self.now }
     {
         self.cells
     }
 }
 
 /// Reads the masks. More than 64 pairs are a fault as soon as the first two masks were read.
-#[tactic(auto, unfolding(crate::specs::Msm::sets_at))]
+#[tactic(auto, unfolding(crate::specs::Msm::masks_at))]
 pub(crate) fn read_masks(reader: &mut BitReader) -> Result<Masks, MsgFault>
-    ensures { Gives (λ m. (m, reader.new)) result (sets_at reader.old) }
+    ensures { GivesViewed (λ m. (m, reader.new)) result (masks_at reader.old) }
 {
     let satellites = field(reader, SATELLITE_MASK_BITS)?;
     let signals = field(reader, SIGNAL_MASK_BITS)? as u32;

@@ -1,11 +1,11 @@
 ghost use Rattle.std.specs.Prelude.{◌≡◌, ◌++◌, ◌<◌, ◌≤◌, IfOk, IfErr, length, false, Ok, Err};
-ghost use Rattle.rtcm_msg.specs.Fields.{Gives};
+ghost use Rattle.rtcm_msg.specs.Fields.{GivesViewed};
 ghost use Rattle.rtcm_bits.specs.Bits.{bits_of};
 ghost use Rattle.rtcm_bits.specs.FrameOf.{longest_message};
-ghost use Rattle.rtcm_msg.specs.Spelling.{message_bits, is_other, Reads, IsFault, IsMessage, IsEncoding};
+ghost use Rattle.rtcm_msg.specs.Spelling.{message_bits, is_other, ReadsMessage, IsFault, IsMessage, IsEncoding};
 ghost use Rattle.rtcm_msg.specs.declared.message.Message.{Message};
 ghost use Rattle.rtcm_msg.specs.declared.fault.MsgFault.{MsgFault};
-ghost use Rattle.rtcm_msg.specs.Reading.{message_at, set_at, is_listed};
+ghost use Rattle.rtcm_msg.specs.Reading.{message_at, set_at, is_any_msm};
 ghost use Rattle.rtcm_msg.specs.declared.message.Message.TheVariants as messages;
 
 use crate::fault::MsgFault;
@@ -46,15 +46,15 @@ pub(crate) fn read_set(reader: &mut BitReader) -> Option<(u16, bool)>
 }
 
 /// Whether a message of this number is a multiple signal message, of whatever system and type.
-pub(crate) fn is_listed(number: u16) -> bool
-    ensures { result ≡ is_listed number }
+pub(crate) fn is_any_msm(number: u16) -> bool
+    ensures { result ≡ is_any_msm number }
 {
     number >= 1071 && number <= 1127 && number % 10 >= 1 && number % 10 <= 7
 }
 
 /// Reads the message that is looked at.
 fn read_message(bytes: &[u8]) -> Result<Message, MsgFault>
-    ensures { Gives (λ m. m) result (message_at bytes.now) }
+    ensures { GivesViewed (λ m. m) result (message_at bytes.now) }
 {
     match look(bytes) {
         Ok(view) => Ok(view.message()),
@@ -84,10 +84,10 @@ pub(crate) fn front(bytes: &[u8]) -> &[u8]
 /// soon as it was read, `TooManyCells` for more than 64 pairs of a satellite and a signal as soon
 /// as both masks were read.
 pub fn decode(bytes: &[u8]) -> Result<Message, MsgFault>
-    ensures exact { Gives (λ m. m) result (message_at bytes.now) }
+    ensures exact { GivesViewed (λ m. m) result (message_at bytes.now) }
     // What is spelled is read, whatever the reserved bits are and whatever follows.
-    ensures only { (v : Message) → Reads (bits_of bytes.now) v → result ≡ Ok v }
-    ensures found { IfOk result (λ v. IsMessage v × Reads (bits_of bytes.now) v) }
+    ensures only { (v : Message) → ReadsMessage (bits_of bytes.now) v → result ≡ Ok v }
+    ensures found { IfOk result (λ v. IsMessage v × ReadsMessage (bits_of bytes.now) v) }
     ensures fault { IfErr result (IsFault (bits_of bytes.now)) }
     ensures only_fault { (f : MsgFault) → IsFault (bits_of bytes.now) f → result ≡ Err f }
 {

@@ -1,6 +1,6 @@
 ghost use Rattle.std.specs.Prelude.{◌≡◌, ◌<◌, ◌^◌, All, map, IfErr, Some, None, ◌++◌, ◌≤◌, IfOk, length, slice_index, count_ones};
 ghost use Rattle.rtcm_msg.specs.Msm.{IsHeader, msm_bits, IsValue, satellite_mask_bits, most_pairs};
-ghost use Rattle.rtcm_msg.specs.Packed.{total};
+ghost use Rattle.rtcm_msg.specs.Packed.{total_width};
 ghost use Rattle.rtcm_msg.specs.Refusals.{msm_refusal};
 ghost use Rattle.rtcm_msg.specs.Columns.{EachBelow};
 ghost use Rattle.rtcm_msg.specs.Views as views;
@@ -231,7 +231,7 @@ fn pack_satellites<G: Grid>(satellites: &[G::Satellite]) -> ArrayVec<u64, MOST_S
     requires few { length satellites.now ≤ satellite_mask_bits }
     requires in_range { All G.is_satellite satellites.now }
     ensures items { result.items ≡ map G.satellite_packed satellites.now }
-    ensures fit { EachBelow (total G.satellite_widths) result.items }
+    ensures fit { EachBelow (total_width G.satellite_widths) result.items }
 {
     let mut packed = ArrayVec::new();
     for satellite in satellites {
@@ -245,7 +245,7 @@ fn pack_cells<G: Grid>(cells: &[G::Cell]) -> ArrayVec<u128, MOST_PAIRS>
     requires few { length cells.now ≤ most_pairs }
     requires in_range { All G.is_cell cells.now }
     ensures items { result.items ≡ map G.cell_packed cells.now }
-    ensures fit { EachBelow (total G.cell_widths) result.items }
+    ensures fit { EachBelow (total_width G.cell_widths) result.items }
 {
     let mut packed = ArrayVec::new();
     for cell in cells {

@@ -1,13 +1,13 @@
 ghost use Rattle.std.specs.Prelude.{◌≡◌, ◌+◌, ◌*◌, ◌^◌, ◌<◌, ◌≤◌, All, IfOk, length};
 ghost use Rattle.rtcm_bits.specs.Bits.{bits_of};
-ghost use Rattle.rtcm_msg.specs.Packed.{total};
+ghost use Rattle.rtcm_msg.specs.Packed.{total_width};
 ghost use Rattle.rtcm_msg.specs.Rows as rows;
 
 use crate::fault::MsgFault;
 use rtcm_bits::number_at;
 
 /// The place behind the data of so many satellites or cells, whose fields have these widths.
-pub(crate) fn end_of(
+pub(crate) fn end_of_rows(
     bits: usize,
     widths: &[u32],
     count: usize,
@@ -17,7 +17,7 @@ pub(crate) fn end_of(
     requires few { count ≤ 64 }
     requires within { place ≤ bits }
     requires small { bits < 2 ^ 62 }
-    ensures exact { result ≡ rows.end_of widths.now count bits place }
+    ensures exact { result ≡ rows.end_of_rows widths.now count bits place }
     ensures within { IfOk result (λ end. end ≤ bits) }
 {
     let mut place = place;
@@ -35,10 +35,10 @@ pub(crate) fn end_of(
 /// significant bits, where the data of `count` of them begin at a place.
 pub(crate) fn row_at(bytes: &[u8], widths: &[u32], count: usize, place: usize, i: usize) -> u128
     requires narrow { All (λ w. w ≤ 64) widths.now }
-    requires wide { total widths.now ≤ 128 }
+    requires wide { total_width widths.now ≤ 128 }
     requires few { count ≤ 64 }
     requires there { i < count }
-    requires within { place + count * total widths.now ≤ 8 * length bytes.now }
+    requires within { place + count * total_width widths.now ≤ 8 * length bytes.now }
     requires small { 8 * length bytes.now < 2 ^ 62 }
     ensures { result ≡ rows.row_at widths.now count (bits_of bytes.now) place i 0 }
 {

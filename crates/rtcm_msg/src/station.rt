@@ -1,5 +1,5 @@
 ghost use Rattle.std.specs.Prelude.{◌≡◌, ◌^◌, ◌<◌, IfOk, IfSome, IsTrue, ◌↔◌};
-ghost use Rattle.rtcm_msg.specs.Fields.{Gives};
+ghost use Rattle.rtcm_msg.specs.Fields.{GivesViewed};
 ghost use Rattle.rtcm_bits.specs.Bits.{FitsInt};
 ghost use Rattle.rtcm_msg.specs.Ranges.{fits_int};
 ghost use Rattle.rtcm_msg.specs.Station.{InRange, heading_at, height_at, parts_at, position_at, station_at};
@@ -128,7 +128,7 @@ pub(crate) struct Position {
 }
 
 fn read_heading(reader: &mut BitReader) -> Result<Heading, MsgFault>
-    ensures read { Gives (λ h. (h, reader.new)) result (heading_at reader.old) }
+    ensures read { GivesViewed (λ h. (h, reader.new)) result (heading_at reader.old) }
     ensures in_range { IfOk result (λ h. (h.station < 2 ^ 12) × (h.realization < 2 ^ 6)) }
 {
     Ok(Heading {
@@ -142,7 +142,7 @@ fn read_heading(reader: &mut BitReader) -> Result<Heading, MsgFault>
 }
 
 fn read_position(reader: &mut BitReader) -> Result<Position, MsgFault>
-    ensures read { Gives (λ p. (p, reader.new)) result (position_at reader.old) }
+    ensures read { GivesViewed (λ p. (p, reader.new)) result (position_at reader.old) }
     ensures in_range { IfOk result (λ p. FitsInt 38 p.x × FitsInt 38 p.y × (p.quarter < 2 ^ 2) × FitsInt 38 p.z) }
 {
     let x = signed_of(field(reader, 38)?, 38);
@@ -161,7 +161,7 @@ fn read_position(reader: &mut BitReader) -> Result<Position, MsgFault>
 }
 
 fn read_height(reader: &mut BitReader, has_height: bool) -> Result<Option<u16>, MsgFault>
-    ensures read { Gives (λ h. (h, reader.new)) result (height_at has_height reader.old) }
+    ensures read { GivesViewed (λ h. (h, reader.new)) result (height_at has_height reader.old) }
     ensures in_range { IfOk result (λ h. IfSome h (λ n. n < 2 ^ 16)) }
 {
     if has_height {
@@ -175,7 +175,7 @@ fn read_height(reader: &mut BitReader, has_height: bool) -> Result<Option<u16>, 
 /// Reads the fields behind the message number, in the order of the table.
 #[tactic(auto, unfolding(crate::specs::Station::parts_at))]
 fn read_parts(reader: &mut BitReader, has_height: bool) -> Result<StationParts, MsgFault>
-    ensures read { Gives (λ parts. (parts, reader.new)) result (parts_at has_height reader.old) }
+    ensures read { GivesViewed (λ parts. (parts, reader.new)) result (parts_at has_height reader.old) }
     ensures in_range { IfOk result InRange }
 {
     let heading = read_heading(reader)?;
@@ -199,7 +199,7 @@ fn read_parts(reader: &mut BitReader, has_height: bool) -> Result<StationParts, 
 
 /// Reads a station message behind its number.
 pub(crate) fn read_station(reader: &mut BitReader, has_height: bool) -> Result<Station, MsgFault>
-    ensures { Gives (λ s. (s, reader.new)) result (station_at has_height reader.old) }
+    ensures { GivesViewed (λ s. (s, reader.new)) result (station_at has_height reader.old) }
 {
     match read_parts(reader, has_height) {
         Ok(parts) => Ok(Station { parts }),

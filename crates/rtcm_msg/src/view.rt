@@ -1,11 +1,11 @@
 ghost use Rattle.std.specs.Prelude.{◌≡◌, ◌*◌, ◌<◌, ◌≤◌, ◌^◌, All, IfOk, length, slice_index, count_ones};
 ghost use Rattle.rtcm_bits.specs.Bits.{bits_of};
 ghost use Rattle.rtcm_bits.specs.FrameOf.{longest_message};
-ghost use Rattle.rtcm_msg.specs.Fields.{Gives, standing};
+ghost use Rattle.rtcm_msg.specs.Fields.{GivesViewed, standing};
 ghost use Rattle.rtcm_msg.specs.Msm.{IsHeader, IsValue, satellite_mask_bits, most_pairs};
-ghost use Rattle.rtcm_msg.specs.Packed.{total};
+ghost use Rattle.rtcm_msg.specs.Packed.{total_width};
 ghost use Rattle.rtcm_msg.specs.Reading.{message_at, body_at};
-ghost use Rattle.rtcm_msg.specs.Seen.{seen};
+ghost use Rattle.rtcm_msg.specs.Viewed.{viewed_message};
 ghost use Rattle.rtcm_msg.specs.Spelling.{IsMessage};
 ghost use Rattle.rtcm_msg.specs.Views as views;
 
@@ -16,9 +16,9 @@ use crate::grid4::Grid4;
 use crate::grid7::Grid7;
 use crate::header::{MsmHeader, read_header};
 use crate::masks::{Masks, read_masks};
-use crate::message::{Message, front, is_listed, read_set};
+use crate::message::{Message, front, is_any_msm, read_set};
 use crate::msm::msm_of;
-use crate::rows::{end_of, row_at};
+use crate::rows::{end_of_rows, row_at};
 use crate::station::{Station, read_station};
 use rtcm_bits::BitReader;
 use std::marker::Model;
@@ -35,7 +35,7 @@ pub enum Form {
 impl Form {
     /// The message number, DF002.
     fn number(self, is_galileo: bool) -> u16
-        ensures value { result ≡ views.number self is_galileo }
+        ensures value { result ≡ views.message_number self is_galileo }
         ensures bound { result < 2 ^ 12 }
     {
         match self {
@@ -48,7 +48,7 @@ impl Form {
     fn satellite_widths(self) -> &'static [u32]
         ensures value { result.now ≡ views.satellite_widths self }
         ensures narrow { All (λ w. w ≤ 64) result.now }
-        ensures wide { total result.now ≤ 64 }
+        ensures wide { total_width result.now ≤ 64 }
     {
         match self {
             Form::Msm4 => Grid4::satellite_widths(),
@@ -60,7 +60,7 @@ impl Form {
     fn cell_widths(self) -> &'static [u32]
         ensures value { result.now ≡ views.cell_widths self }
         ensures narrow { All (λ w. w ≤ 64) result.now }
-        ensures wide { total result.now ≤ 128 }
+        ensures wide { total_width result.now ≤ 128 }
     {
         match self {
             Form::Msm4 => Grid4::cell_widths(),
@@ -86,7 +86,7 @@ pub struct MsmView<'a> {
 
 impl<'a> Model for MsmView<'a> {
     ghost use Rattle.std.specs.Prelude.{length};
-    ghost use Rattle.rtcm_msg.specs.Views.{FormedMsm, IsLaid, satellite_widths, cell_widths};
+    ghost use Rattle.rtcm_msg.specs.Views.{FormedMsm, AreDataThere, satellite_widths, cell_widths};
     ghost use Rattle.rtcm_msg.specs.Rows.{rows_at};
     ghost use Rattle.rtcm_msg.specs.Msm.{IsValue};
     ghost use Rattle.rtcm_bits.specs.Bits.{bits_of};
@@ -112,7 +112,7 @@ impl<'a> Model for MsmView<'a> {
           satellites = rows_at (satellite_widths v.form) v.satellites (bits_of v.bytes.now) v.satellites_at;
           cells = rows_at (cell_widths v.form) v.cells (bits_of v.bytes.now) v.cells_at;
         })
-        × IsLaid v.form (length v.bytes.now) v.satellites v.satellites_at v.cells v.cells_at };
+        × AreDataThere v.form (length v.bytes.now) v.satellites v.satellites_at v.cells v.cells_at };
 }
 
 impl<'a> MsmView<'a> {
@@ -133,7 +133,7 @@ impl<'a> MsmView<'a> {
 
     /// The message number, DF002.
     pub fn number(&self) -> u16
-        ensures value { result ≡ views.number self.now.form self.now.msm.is_galileo }
+        ensures value { result ≡ views.message_number self.now.form self.now.msm.is_galileo }
         ensures bound { result < 2 ^ 12 }
     {
         self.form.number(self.is_galileo)
@@ -228,7 +228,7 @@ pub enum View<'a> {
 impl<'a> View<'a> {
     /// The message with its data.
     pub fn message(self) -> Message
-        ensures { result ≡ seen self.entry }
+        ensures { result ≡ viewed_message self.entry }
     {
         match self {
             View::Station(station) => Message::Station(station),
@@ -249,7 +249,7 @@ fn view_msm<'a>(
     requires small { length bytes.now ≤ longest_message }
     requires number { 12 ≤ 8 * length bytes.now }
     requires stands { reader.old ≡ standing (bits_of bytes.now) 12 }
-    ensures { Gives views.formed result (views.formed_at form is_galileo reader.old) }
+    ensures { GivesViewed views.formed result (views.formed_at form is_galileo reader.old) }
 {
     let header = read_header(reader)?;
     let masks = read_masks(reader)?;
@@ -257,8 +257,8 @@ fn view_msm<'a>(
     let cells = masks.cells().count_ones() as usize;
     let satellites_at = reader.place();
     let bits = 8 * bytes.len();
-    let cells_at = end_of(bits, form.satellite_widths(), satellites, satellites_at)?;
-    end_of(bits, form.cell_widths(), cells, cells_at)?;
+    let cells_at = end_of_rows(bits, form.satellite_widths(), satellites, satellites_at)?;
+    end_of_rows(bits, form.cell_widths(), cells, cells_at)?;
     Ok(MsmView {
         form,
         is_galileo,
@@ -278,7 +278,7 @@ fn view_body<'a>(number: u16, bytes: &'a [u8], reader: &mut BitReader) -> Result
     requires small { length bytes.now ≤ longest_message }
     requires number { 12 ≤ 8 * length bytes.now }
     requires stands { reader.old ≡ standing (bits_of bytes.now) 12 }
-    ensures { Gives seen result (body_at number reader.old) }
+    ensures { GivesViewed viewed_message result (body_at number reader.old) }
 {
     match number {
         1005 => Ok(View::Station(read_station(reader, false)?)),
@@ -289,7 +289,7 @@ fn view_body<'a>(number: u16, bytes: &'a [u8], reader: &mut BitReader) -> Result
         1097 => Ok(View::Msm(view_msm(bytes, reader, Form::Msm7, true)?)),
         _ => Ok(View::Other {
             number,
-            set: if is_listed(number) {
+            set: if is_any_msm(number) {
                 read_set(reader)
             } else {
                 None
@@ -302,7 +302,7 @@ fn view_body<'a>(number: u16, bytes: &'a [u8], reader: &mut BitReader) -> Result
 #[tactic(auto, unfolding(crate::specs::Reading::message_of))]
 fn view_message(bytes: &[u8]) -> Result<View<'_>, MsgFault>
     requires { length bytes.now ≤ longest_message }
-    ensures { Gives seen result (message_at bytes.now) }
+    ensures { GivesViewed viewed_message result (message_at bytes.now) }
 {
     let mut reader = BitReader::new(bytes);
     let number = field(&mut reader, 12)? as u16;
@@ -316,8 +316,8 @@ fn view_message(bytes: &[u8]) -> Result<View<'_>, MsgFault>
 ///
 /// Those of `decode`.
 pub fn look(bytes: &[u8]) -> Result<View<'_>, MsgFault>
-    ensures exact { Gives seen result (message_at bytes.now) }
-    ensures message { IfOk result (λ v. IsMessage (seen v)) }
+    ensures exact { GivesViewed viewed_message result (message_at bytes.now) }
+    ensures message { IfOk result (λ v. IsMessage (viewed_message v)) }
 {
     view_message(front(bytes))
 }

@@ -2,10 +2,10 @@ ghost use Rattle.std.specs.Prelude.{◌≡◌, ◌+◌, ◌*◌, ◌/◌, ◌^�
 ghost use Rattle.std.specs.List.{list_all, flat_map};
 ghost use Rattle.rtcm_bits.specs.Bits.{uint};
 ghost use Rattle.rtcm_bits.specs.FrameOf.{longest_message_bits};
-ghost use Rattle.rtcm_msg.specs.Fields.{spelled, width_of};
+ghost use Rattle.rtcm_msg.specs.Fields.{spelled, fields_width};
 ghost use Rattle.rtcm_msg.specs.Station.{InRange, common_fields, station_fields};
-ghost use Rattle.rtcm_msg.specs.Msm.{header_fields, set_fields};
-ghost use Rattle.rtcm_msg.specs.Packed.{columns, total};
+ghost use Rattle.rtcm_msg.specs.Msm.{header_fields, mask_fields};
+ghost use Rattle.rtcm_msg.specs.Packed.{columns, total_width};
 
 use crate::header::MsmHeader;
 use crate::masks::{Masks, SATELLITE_MASK_BITS, SIGNAL_MASK_BITS};
@@ -15,9 +15,9 @@ use rtcm_bits::{BitWriter, raw_of};
 /// Writes fields in order, each a width and a number.
 fn write_fields(writer: &mut BitWriter, fields: &[(u32, u64)])
     requires few { IsTrue (list_all (λ f. nat_le f.0 64) fields.now) }
-    requires room { length writer.old + width_of fields.now ≤ longest_message_bits }
+    requires room { length writer.old + fields_width fields.now ≤ longest_message_bits }
     ensures bits { writer.new ≡ writer.old ++ spelled fields.now }
-    ensures len { length writer.new ≡ length writer.old + width_of fields.now }
+    ensures len { length writer.new ≡ length writer.old + fields_width fields.now }
 {
     for (width, number) in fields {
         writer.put(*number, *width);
@@ -95,7 +95,7 @@ pub(crate) fn write_header(writer: &mut BitWriter, number: u16, header: &MsmHead
 /// Writes the masks.
 pub(crate) fn write_masks(writer: &mut BitWriter, masks: &Masks)
     requires { length writer.old + 160 ≤ longest_message_bits }
-    ensures bits { writer.new ≡ writer.old ++ spelled (set_fields masks.now) }
+    ensures bits { writer.new ≡ writer.old ++ spelled (mask_fields masks.now) }
     ensures len { length writer.new ≤ length writer.old + 160 }
 {
     let _ = masks.cells();
@@ -126,10 +126,10 @@ fn write_column(writer: &mut BitWriter, shift: u32, width: u32, numbers: &[u128]
 /// Writes one field of all after the other.
 pub(crate) fn write_columns(writer: &mut BitWriter, widths: &[u32], numbers: &[u128])
     requires few { All (λ w. w ≤ 64) widths.now }
-    requires wide { total widths.now < 128 }
-    requires room { length writer.old + total widths.now * length numbers.now ≤ longest_message_bits }
+    requires wide { total_width widths.now < 128 }
+    requires room { length writer.old + total_width widths.now * length numbers.now ≤ longest_message_bits }
     ensures bits { writer.new ≡ writer.old ++ columns widths.now numbers.now }
-    ensures len { length writer.new ≡ length writer.old + total widths.now * length numbers.now }
+    ensures len { length writer.new ≡ length writer.old + total_width widths.now * length numbers.now }
 {
     let mut shift = total_width(widths);
     for width in widths {
@@ -140,8 +140,8 @@ pub(crate) fn write_columns(writer: &mut BitWriter, widths: &[u32], numbers: &[u
 
 /// The widths together.
 fn total_width(widths: &[u32]) -> u32
-    requires { total widths.now ≤ 128 }
-    ensures { result ≡ total widths.now }
+    requires { total_width widths.now ≤ 128 }
+    ensures { result ≡ total_width widths.now }
 {
     let mut sum = 0;
     for width in widths {

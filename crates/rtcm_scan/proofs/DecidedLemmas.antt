@@ -6,8 +6,8 @@ use Rattle.std.proofs.lemmas.List.{length_push, append-nil, get_or_push, get_or_
 use Rattle.std.proofs.lemmas.List.Sums.{prefix_len_is}
 use Rattle.std.proofs.lemmas.List.Folds.{list_any-append}
 use Rattle.std.proofs.lemmas.List.Elements.{filter-append}
-use Rattle.rtcm_scan.specs.Frame.{begins_frame, is_open, frame_length, message_of}
-use Rattle.rtcm_scan.specs.Frames.{Framed, end_of, frames_from, frames_of}
+use Rattle.rtcm_scan.specs.Frame.{begins_frame, is_open, frame_length, framed_message}
+use Rattle.rtcm_scan.specs.Frames.{Framed, frame_end, frames_from, frames_of}
 use Rattle.rtcm_scan.specs.Decided.{places, is_inside, is_tried, decided, frames_before, decided_frames}
 use Rattle.rtcm_scan.specs.Scan.{Scanned}
 use Rattle.rtcm_scan.proofs.FrameLemmas.{begins_parts, closed_whole}
@@ -45,12 +45,12 @@ place_scanned b from to k (f ∷ fs) s h i =
     (λ (g : f.offset ≤ k).
     ⊎_elim (λ (e : k ≡ f.offset). inl (rw e (closed_whole (drop f.offset b) (begins_parts (drop f.offset b) s.2.begins).1)))
     (λ (n : k ≡ f.offset → ⊥).
-    ⊎_elim (λ (m : k < end_of f). inr (or_first (is_inside k f) (list_any (is_inside k) fs) (and_from _ _ (lt-ltb f.offset k (omega arith)) (lt-ltb k (end_of f) m))))
-    (λ (m : end_of f ≤ k).
+    ⊎_elim (λ (m : k < frame_end f). inr (or_first (is_inside k f) (list_any (is_inside k) fs) (and_from _ _ (lt-ltb f.offset k (omega arith)) (lt-ltb k (frame_end f) m))))
+    (λ (m : frame_end f ≤ k).
     ⊎_elim (λ (q : is_open (drop k b) ≡ false). inl q)
     (λ (q : list_any (is_inside k) fs ≡ true). inr (or_second (is_inside k f) (list_any (is_inside k) fs) q))
-    (place_scanned b (end_of f) to k fs s.3 m i))
-    (cases_lt k (end_of f)))
+    (place_scanned b (frame_end f) to k fs s.3 m i))
+    (cases_lt k (frame_end f)))
     (cases_eq k f.offset))
     (cases_lt k f.offset)
 
@@ -58,17 +58,17 @@ place_scanned b from to k (f ∷ fs) s h i =
 pub none_past : (e : Bool) (b : List ℕ) (from to : ℕ) (fs : List Framed) → Scanned e b from to fs → list_any (is_inside to) fs ≡ false
 none_past e b from to [] s = refl
 none_past e b from to (f ∷ fs) s =
-    let l : end_of f ≤ to = scanned_le e b (end_of f) to fs s.3 in
-    let n : (ltb f.offset to && ltb to (end_of f)) ≡ false = and_right _ _ (le-ltb to (end_of f) l) in
-    rw n (none_past e b (end_of f) to fs s.3)
+    let l : frame_end f ≤ to = scanned_le e b (frame_end f) to fs s.3 in
+    let n : (ltb f.offset to && ltb to (frame_end f)) ≡ false = and_right _ _ (le-ltb to (frame_end f) l) in
+    rw n (none_past e b (frame_end f) to fs s.3)
 
 pub none_later : (to p k : ℕ) (s : List ℕ) → to ≤ p → list_any (is_inside to) (frames_from p k s) ≡ false
 unfolding frames_from
 none_later to p k [] h = refl
 none_later to p (suc k) (x ∷ s) h = none_later to (p + 1) k s (omega arith)
 none_later to p zero (x ∷ s) h =
-    let n : (ltb p to && ltb to (p + (length (message_of (x ∷ s)) + 6))) ≡ false = and_left _ _ (le-ltb p to h) in
-    elim (begins_frame (x ∷ s)) as (λ v. list_any (is_inside to) (cond v (record { offset = p; message = message_of (x ∷ s) } ∷ frames_from (p + 1) (frame_length (x ∷ s) - 1) s) (frames_from (p + 1) 0 s)) ≡ false) [
+    let n : (ltb p to && ltb to (p + (length (framed_message (x ∷ s)) + 6))) ≡ false = and_left _ _ (le-ltb p to h) in
+    elim (begins_frame (x ∷ s)) as (λ v. list_any (is_inside to) (cond v (record { offset = p; message = framed_message (x ∷ s) } ∷ frames_from (p + 1) (frame_length (x ∷ s) - 1) s) (frames_from (p + 1) 0 s)) ≡ false) [
       | true ↦ rw n (none_later to (p + 1) (frame_length (x ∷ s) - 1) s (omega arith))
       | false ↦ none_later to (p + 1) 0 s (omega arith)
     ]
@@ -77,9 +77,9 @@ all_before : (e : Bool) (b : List ℕ) (from to : ℕ) (fs : List Framed) → Sc
 unfolding frames_before
 all_before e b from to [] s = refl
 all_before e b from to (f ∷ fs) s =
-    let l : end_of f ≤ to = scanned_le e b (end_of f) to fs s.3 in
+    let l : frame_end f ≤ to = scanned_le e b (frame_end f) to fs s.3 in
     let n : ltb f.offset to ≡ true = lt-ltb f.offset to (omega arith) in
-    rw n (ap (λ r. f ∷ r) (all_before e b (end_of f) to fs s.3))
+    rw n (ap (λ r. f ∷ r) (all_before e b (frame_end f) to fs s.3))
 
 none_before : (to p k : ℕ) (s : List ℕ) → to ≤ p → frames_before to (frames_from p k s) ≡ []
 unfolding frames_before frames_from
@@ -87,7 +87,7 @@ none_before to p k [] h = refl
 none_before to p (suc k) (x ∷ s) h = none_before to (p + 1) k s (omega arith)
 none_before to p zero (x ∷ s) h =
     let n : ltb p to ≡ false = le-ltb p to h in
-    elim (begins_frame (x ∷ s)) as (λ v. filter (λ f. ltb f.offset to) (cond v (record { offset = p; message = message_of (x ∷ s) } ∷ frames_from (p + 1) (frame_length (x ∷ s) - 1) s) (frames_from (p + 1) 0 s)) ≡ []) [
+    elim (begins_frame (x ∷ s)) as (λ v. filter (λ f. ltb f.offset to) (cond v (record { offset = p; message = framed_message (x ∷ s) } ∷ frames_from (p + 1) (frame_length (x ∷ s) - 1) s) (frames_from (p + 1) 0 s)) ≡ []) [
       | true ↦ rw n (none_before to (p + 1) (frame_length (x ∷ s) - 1) s (omega arith))
       | false ↦ none_before to (p + 1) 0 s (omega arith)
     ]

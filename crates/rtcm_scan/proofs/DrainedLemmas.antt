@@ -4,14 +4,14 @@ use Rattle.std.proofs.lemmas.List.{drop_all}
 use Rattle.rtcm_scan.specs.Frame.{is_open}
 use Rattle.rtcm_scan.specs.Frames.{Framed}
 use Rattle.rtcm_scan.specs.Decided.{decided}
-use Rattle.rtcm_scan.specs.Scan.{Scan, StandsFor, first_held, Scanned}
+use Rattle.rtcm_scan.specs.Scan.{FramerValue, HasFramed, first_held, Scanned}
 use Rattle.rtcm_scan.specs.Drained.{IsDrained}
 use Rattle.rtcm_scan.proofs.ScanLemmas.{scanned_all}
 use Rattle.rtcm_scan.proofs.DecidedLemmas.{decided_is, decided_frames_are}
 use Rattle.rtcm_scan.proofs.SkippedLemmas.{given_up_is}
 
 -- all is decided where nothing is held, and where what is held is open
-pub drained_ended : (v : Scan) (b : List ℕ) (fs : List Framed) → v.has_ended ≡ true → v.held ≡ [] → StandsFor v b fs → IsDrained v b fs
+pub drained_ended : (v : FramerValue) (b : List ℕ) (fs : List Framed) → v.has_ended ≡ true → v.held ≡ [] → HasFramed v b fs → IsDrained v b fs
 drained_ended v b fs e h s =
     let l : length v.held ≡ 0 = ap length h in
     let t : v.taken ≡ length b = s.taken in
@@ -24,7 +24,7 @@ drained_ended v b fs e h s =
       skipped = rw e (let g = given_up_is v.has_ended b (length b) fs (omega arith) c in omega (arith, g, k, p));
     }
 
-pub drained_waiting : (v : Scan) (b : List ℕ) (fs : List Framed) → v.has_ended ≡ false → (0 < length v.held → is_open v.held ≡ true) → StandsFor v b fs → IsDrained v b fs
+pub drained_waiting : (v : FramerValue) (b : List ℕ) (fs : List Framed) → v.has_ended ≡ false → (0 < length v.held → is_open v.held ≡ true) → HasFramed v b fs → IsDrained v b fs
 drained_waiting v b fs e h s =
     let t : v.taken ≡ length b = s.taken in
     let f : length v.held ≤ v.taken = s.fits in

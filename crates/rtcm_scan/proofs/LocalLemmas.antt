@@ -6,10 +6,10 @@ use Rattle.std.proofs.lemmas.List.{append-nil, take_at, drop_at, length-drop, dr
 use Rattle.std.proofs.lemmas.List.Elements.{All-head, All-tail, All-drop, Contains-append_right}
 use Rattle.std.proofs.lemmas.List.Concat.{flat_map-append}
 use Rattle.rtcm_bits.specs.Check.{check}
-use Rattle.rtcm_bits.specs.FrameOf.{frame_bytes, header_of, three_bytes}
-use Rattle.rtcm_scan.specs.Frame.{begins_frame, message_length, frame_length, sent_check, message_of}
-use Rattle.rtcm_scan.specs.Frames.{Framed, IsFrameOf, end_of, frames_from, frames_of}
-use Rattle.rtcm_scan.specs.Local.{stream_behind, place_of, IsQuiet, StaysLocal, placed}
+use Rattle.rtcm_bits.specs.FrameOf.{frame_bytes, frame_header, three_bytes}
+use Rattle.rtcm_scan.specs.Frame.{begins_frame, message_length, frame_length, sent_check, framed_message}
+use Rattle.rtcm_scan.specs.Frames.{Framed, IsFrameOf, frame_end, frames_from, frames_of}
+use Rattle.rtcm_scan.specs.Local.{stream_behind, frame_place, IsQuiet, StaysLocal, placed}
 use Rattle.rtcm_scan.specs.Scan.{Scanned}
 use Rattle.rtcm_scan.proofs.ScanLemmas.{scanned_frames, scanned_all}
 use Rattle.rtcm_scan.proofs.FrameLemmas.{length-message}
@@ -17,8 +17,8 @@ use Rattle.rtcm_scan.proofs.DecisionLemmas.{frame_length_bound}
 use Rattle.rtcm_scan.proofs.LawLemmas.{frames_scanned, same_frame}
 
 -- what a list begins with: header, message, check and what follows
-spread : (m rest : List ℕ) → frame_bytes m ++ rest ≡ (header_of m ++ m) ++ (three_bytes (check (header_of m ++ m)) ++ rest)
-spread m rest = append_assoc (header_of m ++ m) (three_bytes (check (header_of m ++ m))) rest
+spread : (m rest : List ℕ) → frame_bytes m ++ rest ≡ (frame_header m ++ m) ++ (three_bytes (check (frame_header m ++ m)) ++ rest)
+spread m rest = append_assoc (frame_header m ++ m) (three_bytes (check (frame_header m ++ m))) rest
 
 length_claimed : (m rest : List ℕ) → length m ≤ 1023 → message_length (frame_bytes m ++ rest) ≡ length m
 length_claimed m rest h = omega arith
@@ -27,14 +27,14 @@ pub frame_begins : (m rest : List ℕ) → length m ≤ 1023 → begins_frame (f
 unfolding begins_frame
 frame_begins m rest h =
     let s : List ℕ = frame_bytes m ++ rest in
-    let c : ℕ = check (header_of m ++ m) in
+    let c : ℕ = check (frame_header m ++ m) in
     let l : message_length (frame_bytes m ++ rest) ≡ length m = length_claimed m rest h in
     let e = spread m rest in
-    let n : length (header_of m ++ m) ≡ length m + 3 = omega arith in
-    let t : take (length m + 3) (frame_bytes m ++ rest) ≡ header_of m ++ m = ap (take (length m + 3)) e ∙ take_at (header_of m ++ m) (three_bytes (check (header_of m ++ m)) ++ rest) (length m + 3) n in
-    let d : drop (length m + 3) (frame_bytes m ++ rest) ≡ three_bytes (check (header_of m ++ m)) ++ rest = ap (drop (length m + 3)) e ∙ drop_at (header_of m ++ m) (three_bytes (check (header_of m ++ m)) ++ rest) (length m + 3) n in
-    let w : sent_check (frame_bytes m ++ rest) (length m + 3) ≡ check (header_of m ++ m) = sent_at (frame_bytes m ++ rest) rest (length m + 3) (check (header_of m ++ m)) d in
-    let u : length (frame_bytes m ++ rest) ≡ length m + 6 + length rest = ap length e ∙ (length-append (header_of m ++ m) (three_bytes (check (header_of m ++ m)) ++ rest) ∙ (omega arith)) in
+    let n : length (frame_header m ++ m) ≡ length m + 3 = omega arith in
+    let t : take (length m + 3) (frame_bytes m ++ rest) ≡ frame_header m ++ m = ap (take (length m + 3)) e ∙ take_at (frame_header m ++ m) (three_bytes (check (frame_header m ++ m)) ++ rest) (length m + 3) n in
+    let d : drop (length m + 3) (frame_bytes m ++ rest) ≡ three_bytes (check (frame_header m ++ m)) ++ rest = ap (drop (length m + 3)) e ∙ drop_at (frame_header m ++ m) (three_bytes (check (frame_header m ++ m)) ++ rest) (length m + 3) n in
+    let w : sent_check (frame_bytes m ++ rest) (length m + 3) ≡ check (frame_header m ++ m) = sent_at (frame_bytes m ++ rest) rest (length m + 3) (check (frame_header m ++ m)) d in
+    let u : length (frame_bytes m ++ rest) ≡ length m + 6 + length rest = ap length e ∙ (length-append (frame_header m ++ m) (three_bytes (check (frame_header m ++ m)) ++ rest) ∙ (omega arith)) in
     and_from _ _ refl (and_from _ _ (le-leb (frame_length (frame_bytes m ++ rest)) (length (frame_bytes m ++ rest)) (omega arith))
     (eq-eqb _ _ (ap (λ x. sent_check (frame_bytes m ++ rest) (x + 3)) l ∙ w ∙ ap check (sym t) ∙ ap (λ x. check (take (x + 3) (frame_bytes m ++ rest))) (sym l))))
   where
@@ -45,21 +45,21 @@ frame_begins m rest h =
         let e : get_or s (n + 2) 0 ≡ c % 256 = sym (get_or-drop n s 2 0) ∙ ap (λ x. get_or x 2 0) d in
         rw (a, b, e) (omega arith)
 
-pub frame_message : (m rest : List ℕ) → length m ≤ 1023 → message_of (frame_bytes m ++ rest) ≡ m
+pub frame_message : (m rest : List ℕ) → length m ≤ 1023 → framed_message (frame_bytes m ++ rest) ≡ m
 frame_message m rest h =
     let l : message_length (frame_bytes m ++ rest) ≡ length m = length_claimed m rest h in
     ap (λ n. take n (drop 3 (frame_bytes m ++ rest))) l
     ∙ ap (λ x. take (length m) (drop 3 x)) (spread m rest)
-    ∙ take_at m (three_bytes (check (header_of m ++ m)) ++ rest) (length m) refl
+    ∙ take_at m (three_bytes (check (frame_header m ++ m)) ++ rest) (length m) refl
 
 -- ---- a list of frames behind bytes
 length-frame : (m : List ℕ) → length (frame_bytes m) ≡ length m + 6
-length-frame m = length-append (header_of m ++ m) (three_bytes (check (header_of m ++ m))) ∙ (omega arith)
+length-frame m = length-append (frame_header m ++ m) (three_bytes (check (frame_header m ++ m))) ∙ (omega arith)
 
 frame_here : (pre m : List ℕ) (rest : List ℕ) → length m ≤ 1023 → IsFrameOf (pre ++ (frame_bytes m ++ rest)) (record { offset = length pre; message = m })
 frame_here pre m rest h =
     let d : drop (length pre) (pre ++ (frame_bytes m ++ rest)) ≡ frame_bytes m ++ rest = drop_at pre (frame_bytes m ++ rest) (length pre) refl in
-    record { begins = ap begins_frame d ∙ frame_begins m rest h; message = sym (ap message_of d ∙ frame_message m rest h) }
+    record { begins = ap begins_frame d ∙ frame_begins m rest h; message = sym (ap framed_message d ∙ frame_message m rest h) }
 
 scanned_list : (pre : List ℕ) (ms : List (List ℕ)) (b : List ℕ) (p n : ℕ) → b ≡ pre ++ flat_map frame_bytes ms → p ≡ length pre → n ≡ length b → All (λ m. length m ≤ 1023) ms → Scanned true b p n (placed p ms)
 scanned_list pre [] b p n e q r a = (let l : length b ≡ length pre = ap length (e ∙ append-nil pre) in omega arith, λ k i j. (let l : length b ≡ length pre = ap length (e ∙ append-nil pre) in absurd (omega arith)))
@@ -75,13 +75,13 @@ scanned_list pre (m ∷ ms) b p n e q r a =
     )
 
 -- a scan can be cut where no frame lies across
-scanned_cut : (b : List ℕ) (from x n : ℕ) (fs : List Framed) → from ≤ x → x ≤ n → ((f : Framed) → IsFrameOf b f → f.offset < x → x < end_of f → ⊥) → Scanned true b from n fs
+scanned_cut : (b : List ℕ) (from x n : ℕ) (fs : List Framed) → from ≤ x → x ≤ n → ((f : Framed) → IsFrameOf b f → f.offset < x → x < frame_end f → ⊥) → Scanned true b from n fs
     → (front : List Framed) × (rest : List Framed) × (fs ≡ front ++ rest) × Scanned true b x n rest
 scanned_cut b from x n [] h k c s = ([], [], refl, (k, λ q i j. s.1 q (omega arith) j))
 scanned_cut b from x n (f ∷ fs) h k c s = ⊎_elim
     (λ (l : f.offset < x).
-    let e : end_of f ≤ x = ⊎_elim (λ (y : x < end_of f). absurd (c f s.2 l y)) (λ (y : end_of f ≤ x). y) (cases_lt x (end_of f)) in
-    let r = scanned_cut b (end_of f) x n fs e k c s.3 in
+    let e : frame_end f ≤ x = ⊎_elim (λ (y : x < frame_end f). absurd (c f s.2 l y)) (λ (y : frame_end f ≤ x). y) (cases_lt x (frame_end f)) in
+    let r = scanned_cut b (frame_end f) x n fs e k c s.3 in
     (f ∷ r.0, r.1, ap (λ t. f ∷ t) r.2, r.3))
     (λ (l : x ≤ f.offset). ([], f ∷ fs, refl, (l, (λ q i j. s.1 q (omega arith) j), s.2, s.3)))
     (cases_lt f.offset x)
@@ -113,44 +113,44 @@ cut_at : (bytes : List ℕ) (ms : List (List ℕ)) (k : ℕ) → stream_behind b
 cut_at bytes ms k =
     ap (stream_behind bytes) (sym (take-append-drop k ms)) ∙ ap (λ x. bytes ++ x) (flat_map-append frame_bytes (take k ms) (drop k ms)) ∙ sym (append_assoc bytes (flat_map frame_bytes (take k ms)) (flat_map frame_bytes (drop k ms)))
 
-place_split : (bytes : List ℕ) (ms : List (List ℕ)) (k d : ℕ) → place_of bytes ms (k + d) ≡ place_of bytes ms k + length (flat_map frame_bytes (take d (drop k ms)))
+place_split : (bytes : List ℕ) (ms : List (List ℕ)) (k d : ℕ) → frame_place bytes ms (k + d) ≡ frame_place bytes ms k + length (flat_map frame_bytes (take d (drop k ms)))
 place_split bytes ms k d =
     ap (λ x. length (stream_behind bytes x)) (take-add k d ms) ∙ ap (λ x. length (bytes ++ x)) (flat_map-append frame_bytes (take k ms) (take d (drop k ms)))
     ∙ ap length (sym (append_assoc bytes (flat_map frame_bytes (take k ms)) (flat_map frame_bytes (take d (drop k ms))))) ∙ length-append (stream_behind bytes (take k ms)) (flat_map frame_bytes (take d (drop k ms)))
 
 -- the frame with number i
-frame_number : (bytes : List ℕ) (ms : List (List ℕ)) (i : ℕ) → i < length ms → All (λ m. length m ≤ 1023) ms → IsFrameOf (stream_behind bytes ms) (record { offset = place_of bytes ms i; message = get_or ms i [] })
+frame_number : (bytes : List ℕ) (ms : List (List ℕ)) (i : ℕ) → i < length ms → All (λ m. length m ≤ 1023) ms → IsFrameOf (stream_behind bytes ms) (record { offset = frame_place bytes ms i; message = get_or ms i [] })
 frame_number bytes ms i h a =
     let d : drop i ms ≡ get_or ms i [] ∷ drop (i + 1) ms = drop_more ms i [] h in
     let e : stream_behind bytes ms ≡ stream_behind bytes (take i ms) ++ (frame_bytes (get_or ms i []) ++ flat_map frame_bytes (drop (i + 1) ms)) = cut_at bytes ms i ∙ ap (λ x. stream_behind bytes (take i ms) ++ flat_map frame_bytes x) d in
-    subst (λ (x : List ℕ). IsFrameOf x (record { offset = place_of bytes ms i; message = get_or ms i [] })) (sym e) (frame_here (stream_behind bytes (take i ms)) (get_or ms i []) (flat_map frame_bytes (drop (i + 1) ms)) (a i [] h))
+    subst (λ (x : List ℕ). IsFrameOf x (record { offset = frame_place bytes ms i; message = get_or ms i [] })) (sym e) (frame_here (stream_behind bytes (take i ms)) (get_or ms i []) (flat_map frame_bytes (drop (i + 1) ms)) (a i [] h))
 
 -- it ends where the next begins, and so before each later one begins
-frame_ends : (bytes : List ℕ) (ms : List (List ℕ)) (i k : ℕ) → i < k → k < length ms → place_of bytes ms i + (length (get_or ms i []) + 6) ≤ place_of bytes ms k
+frame_ends : (bytes : List ℕ) (ms : List (List ℕ)) (i k : ℕ) → i < k → k < length ms → frame_place bytes ms i + (length (get_or ms i []) + 6) ≤ frame_place bytes ms k
 frame_ends bytes ms i k h l =
     let z : i + suc (k - (i + 1)) ≡ k = omega arith in
-    let p : place_of bytes ms (i + suc (k - (i + 1))) ≡ place_of bytes ms i + length (flat_map frame_bytes (take (suc (k - (i + 1))) (drop i ms))) = place_split bytes ms i (suc (k - (i + 1))) in
+    let p : frame_place bytes ms (i + suc (k - (i + 1))) ≡ frame_place bytes ms i + length (flat_map frame_bytes (take (suc (k - (i + 1))) (drop i ms))) = place_split bytes ms i (suc (k - (i + 1))) in
     let d : drop i ms ≡ get_or ms i [] ∷ drop (i + 1) ms = drop_more ms i [] (omega arith) in
     let e : length (flat_map frame_bytes (take (suc (k - (i + 1))) (drop i ms))) ≡ length (frame_bytes (get_or ms i [])) + length (flat_map frame_bytes (take (k - (i + 1)) (drop (i + 1) ms))) =
     ap (λ x. length (flat_map frame_bytes (take (suc (k - (i + 1))) x))) d ∙ length-append (frame_bytes (get_or ms i [])) (flat_map frame_bytes (take (k - (i + 1)) (drop (i + 1) ms))) in
-    close _ _ _ _ _ _ (ap (place_of bytes ms) (sym z) ∙ p) e (length-frame (get_or ms i []))
+    close _ _ _ _ _ _ (ap (frame_place bytes ms) (sym z) ∙ p) e (length-frame (get_or ms i []))
   where
     close : (x y u w r m : ℕ) → x ≡ y + u → u ≡ w + r → w ≡ m + 6 → y + (m + 6) ≤ x
     close x y u w r m a b c = omega arith
 
 -- no frame lies across the beginning of a frame that is far enough behind the bytes
-none_across : (bytes : List ℕ) (ms : List (List ℕ)) (k : ℕ) → All (λ m. length m ≤ 1023) ms → k < length ms → length bytes + 1028 ≤ place_of bytes ms k → IsQuiet bytes ms k
-    → (f : Framed) → IsFrameOf (stream_behind bytes ms) f → f.offset < place_of bytes ms k → place_of bytes ms k < end_of f → ⊥
+none_across : (bytes : List ℕ) (ms : List (List ℕ)) (k : ℕ) → All (λ m. length m ≤ 1023) ms → k < length ms → length bytes + 1028 ≤ frame_place bytes ms k → IsQuiet bytes ms k
+    → (f : Framed) → IsFrameOf (stream_behind bytes ms) f → f.offset < frame_place bytes ms k → frame_place bytes ms k < frame_end f → ⊥
 none_across bytes ms k a l far quiet f v h c = ⊎_elim
     (λ (x : f.offset < length bytes).
     let m : length f.message ≡ message_length (drop f.offset (stream_behind bytes ms)) = ap length v.message ∙ length-message (drop f.offset (stream_behind bytes ms)) v.begins in
     let n : frame_length (drop f.offset (stream_behind bytes ms)) ≤ 1029 = frame_length_bound (drop f.offset (stream_behind bytes ms)) in
-    short _ _ _ (length bytes) (place_of bytes ms k) m n x far c)
+    short _ _ _ (length bytes) (frame_place bytes ms k) m n x far c)
     (λ (x : length bytes ≤ f.offset).
     let w = quiet f.offset x h v.begins in
     let g = frame_number bytes ms w.0 (omega (arith, w.1, l)) a in
-    let s : f ≡ record { offset = place_of bytes ms w.0; message = get_or ms w.0 [] } = same_frame (stream_behind bytes ms) f (record { offset = place_of bytes ms w.0; message = get_or ms w.0 [] }) v g w.2 in
-    let t : end_of f ≡ place_of bytes ms w.0 + (length (get_or ms w.0 []) + 6) = ap end_of s in
+    let s : f ≡ record { offset = frame_place bytes ms w.0; message = get_or ms w.0 [] } = same_frame (stream_behind bytes ms) f (record { offset = frame_place bytes ms w.0; message = get_or ms w.0 [] }) v g w.2 in
+    let t : frame_end f ≡ frame_place bytes ms w.0 + (length (get_or ms w.0 []) + 6) = ap frame_end s in
     crossing _ _ _ t (frame_ends bytes ms w.0 k w.1 l) c)
     (cases_lt f.offset (length bytes))
   where
@@ -164,23 +164,23 @@ pub stays_local : (bytes : List ℕ) (ms : List (List ℕ)) (k : ℕ) → StaysL
 unfolding frames_of
 stays_local bytes ms k a l far quiet i hi li =
     let b : List ℕ = stream_behind bytes ms in
-    let x : ℕ = place_of bytes ms k in
+    let x : ℕ = frame_place bytes ms k in
     let e : stream_behind bytes ms ≡ stream_behind bytes (take k ms) ++ flat_map frame_bytes (drop k ms) = cut_at bytes ms k in
-    let within : place_of bytes ms k ≤ length (stream_behind bytes ms) = (let y : length (stream_behind bytes ms) ≡ length (stream_behind bytes (take k ms)) + length (flat_map frame_bytes (drop k ms)) = ap length e ∙ length-append (stream_behind bytes (take k ms)) (flat_map frame_bytes (drop k ms)) in ends_within _ _ _ y) in
+    let within : frame_place bytes ms k ≤ length (stream_behind bytes ms) = (let y : length (stream_behind bytes ms) ≡ length (stream_behind bytes (take k ms)) + length (flat_map frame_bytes (drop k ms)) = ap length e ∙ length-append (stream_behind bytes (take k ms)) (flat_map frame_bytes (drop k ms)) in ends_within _ _ _ y) in
     let s : Scanned true b 0 (length b) (frames_from 0 0 b) = frames_scanned (length b) b 0 (omega arith) (omega arith) in
-    let c = scanned_cut b 0 (place_of bytes ms k) (length b) (frames_from 0 0 b) (omega arith) within (none_across bytes ms k a l far quiet) s in
-    let t : Scanned true b (place_of bytes ms k) (length b) (placed (place_of bytes ms k) (drop k ms)) =
-    scanned_list (stream_behind bytes (take k ms)) (drop k ms) b (place_of bytes ms k) (length b) e refl refl (All-drop (λ m. length m ≤ 1023) k ms a) in
-    let r : c.1 ≡ placed (place_of bytes ms k) (drop k ms) = scanned_one b (place_of bytes ms k) c.1 (placed (place_of bytes ms k) (drop k ms)) c.3 t in
+    let c = scanned_cut b 0 (frame_place bytes ms k) (length b) (frames_from 0 0 b) (omega arith) within (none_across bytes ms k a l far quiet) s in
+    let t : Scanned true b (frame_place bytes ms k) (length b) (placed (frame_place bytes ms k) (drop k ms)) =
+    scanned_list (stream_behind bytes (take k ms)) (drop k ms) b (frame_place bytes ms k) (length b) e refl refl (All-drop (λ m. length m ≤ 1023) k ms a) in
+    let r : c.1 ≡ placed (frame_place bytes ms k) (drop k ms) = scanned_one b (frame_place bytes ms k) c.1 (placed (frame_place bytes ms k) (drop k ms)) c.3 t in
     let z : k + (i - k) ≡ i = omega arith in
-    let o : place_of bytes ms k + length (flat_map frame_bytes (take (i - k) (drop k ms))) ≡ place_of bytes ms i = sym (place_split bytes ms k (i - k)) ∙ ap (place_of bytes ms) z in
+    let o : frame_place bytes ms k + length (flat_map frame_bytes (take (i - k) (drop k ms))) ≡ frame_place bytes ms i = sym (place_split bytes ms k (i - k)) ∙ ap (frame_place bytes ms) z in
     let m : get_or (drop k ms) (i - k) [] ≡ get_or ms i [] = get_or-drop k ms (i - k) [] ∙ ap (λ n. get_or ms n []) z in
-    let f : Contains (placed (place_of bytes ms k) (drop k ms)) (record { offset = place_of bytes ms k + length (flat_map frame_bytes (take (i - k) (drop k ms))); message = get_or (drop k ms) (i - k) [] }) =
-    list_contains (place_of bytes ms k) (i - k) (drop k ms) (let q : length (drop k ms) ≡ length ms - k = length-drop k ms in omega (arith, q, hi, li)) in
-    let g : record { offset = place_of bytes ms k + length (flat_map frame_bytes (take (i - k) (drop k ms))); message = get_or (drop k ms) (i - k) [] } ≡ record { offset = place_of bytes ms i; message = get_or ms i [] } =
-    ap (λ (y : ℕ). let q : Framed = record { offset = y; message = get_or (drop k ms) (i - k) [] } in q) o ∙ ap (λ (y : List ℕ). let q : Framed = record { offset = place_of bytes ms i; message = y } in q) m in
-    subst (λ (y : List Framed). Contains y (record { offset = place_of bytes ms i; message = get_or ms i [] })) (sym (c.2 ∙ ap (λ y. c.0 ++ y) r))
-    (Contains-append_right c.0 (placed (place_of bytes ms k) (drop k ms)) (record { offset = place_of bytes ms i; message = get_or ms i [] }) (subst (λ (y : Framed). Contains (placed (place_of bytes ms k) (drop k ms)) y) g f))
+    let f : Contains (placed (frame_place bytes ms k) (drop k ms)) (record { offset = frame_place bytes ms k + length (flat_map frame_bytes (take (i - k) (drop k ms))); message = get_or (drop k ms) (i - k) [] }) =
+    list_contains (frame_place bytes ms k) (i - k) (drop k ms) (let q : length (drop k ms) ≡ length ms - k = length-drop k ms in omega (arith, q, hi, li)) in
+    let g : record { offset = frame_place bytes ms k + length (flat_map frame_bytes (take (i - k) (drop k ms))); message = get_or (drop k ms) (i - k) [] } ≡ record { offset = frame_place bytes ms i; message = get_or ms i [] } =
+    ap (λ (y : ℕ). let q : Framed = record { offset = y; message = get_or (drop k ms) (i - k) [] } in q) o ∙ ap (λ (y : List ℕ). let q : Framed = record { offset = frame_place bytes ms i; message = y } in q) m in
+    subst (λ (y : List Framed). Contains y (record { offset = frame_place bytes ms i; message = get_or ms i [] })) (sym (c.2 ∙ ap (λ y. c.0 ++ y) r))
+    (Contains-append_right c.0 (placed (frame_place bytes ms k) (drop k ms)) (record { offset = frame_place bytes ms i; message = get_or ms i [] }) (subst (λ (y : Framed). Contains (placed (frame_place bytes ms k) (drop k ms)) y) g f))
   where
     ends_within : (x y z : ℕ) → x ≡ y + z → y ≤ x
     ends_within x y z e = omega arith

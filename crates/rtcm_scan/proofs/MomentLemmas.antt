@@ -1,29 +1,29 @@
 -- What holds at every moment.
 use Rattle.std.proofs.Common.{ℕ, ◌≡◌, ◌*◌, ◌≤◌, ◌^◌, true, false, List, [], length, refl, arith}
 use Rattle.rtcm_scan.specs.Frames.{Framed, frames_of, frames_from}
-use Rattle.rtcm_bits.specs.Window.{Held, nothing_held}
-use Rattle.rtcm_scan.specs.Scan.{Scan, scan_of, StandsFor, first_held}
+use Rattle.rtcm_bits.specs.Window.{WindowValue, nothing_held}
+use Rattle.rtcm_scan.specs.Scan.{FramerValue, scan_of, HasFramed, first_held}
 use Rattle.rtcm_scan.specs.Answers.{new_scan}
 use Rattle.rtcm_scan.specs.Decided.{places, tried, decided, decided_frames, frames_before}
 use Rattle.rtcm_scan.specs.Drained.{IsDrained}
-use Rattle.rtcm_scan.specs.Looks.{greatest, spans_now, looks_at, all_looks, spans_at, tried_before}
-use Rattle.rtcm_scan.specs.Examined.{HasExamined, IsCounted}
+use Rattle.rtcm_scan.specs.Looks.{greatest_below, spans_now, looks_at, all_looks, spans_at, tried_before}
+use Rattle.rtcm_scan.specs.Examined.{HasExamined, IsCountedExactly}
 use Rattle.rtcm_scan.proofs.BoundLemmas.{looks_bound, all_bound, greatest_bound}
 use Rattle.rtcm_scan.proofs.StandsLemmas.{stands_end, stands_by}
 use Rattle.rtcm_scan.proofs.ScanLemmas.{scanned_none}
 
-pub most_moment : (v : Scan) (b : List ℕ) (fs : List Framed) → length v.held ≤ 1029 → HasExamined v b fs → v.most ≤ 1030
+pub most_moment : (v : FramerValue) (b : List ℕ) (fs : List Framed) → length v.held ≤ 1029 → HasExamined v b fs → v.most ≤ 1030
 most_moment v b fs h x =
-    let s : StandsFor v b fs = x.stands in
+    let s : HasFramed v b fs = x.stands in
     let k : v.tried ≤ length v.held = x.tried in
-    let e : v.most ≡ greatest (looks_at (spans_at b fs (first_held v) v.tried)) (length b) = x.counts.greatest_is in
-    let g : greatest (looks_at (spans_at b fs (first_held v) v.tried)) (length b) ≤ 1030 =
+    let e : v.most ≡ greatest_below (looks_at (spans_at b fs (first_held v) v.tried)) (length b) = x.counts.greatest_is in
+    let g : greatest_below (looks_at (spans_at b fs (first_held v) v.tried)) (length b) ≤ 1030 =
     greatest_bound (looks_at (spans_at b fs (first_held v) v.tried)) (length b) 1030 (λ i. looks_bound v.has_ended b fs (first_held v) v.tried i s.scanned (omega arith)) in
     rw e g
 
-pub examined_moment : (v : Scan) (b : List ℕ) (fs : List Framed) → length v.held ≤ 1029 → HasExamined v b fs → v.examined ≤ 1030 * length b
+pub examined_moment : (v : FramerValue) (b : List ℕ) (fs : List Framed) → length v.held ≤ 1029 → HasExamined v b fs → v.examined ≤ 1030 * length b
 examined_moment v b fs h x =
-    let s : StandsFor v b fs = x.stands in
+    let s : HasFramed v b fs = x.stands in
     let k : v.tried ≤ length v.held = x.tried in
     let f : length v.held ≤ v.taken = s.fits in
     let t : v.taken ≡ length b = s.taken in
@@ -31,14 +31,14 @@ examined_moment v b fs h x =
     let g : all_looks (spans_at b fs (first_held v) v.tried) ≤ 1030 * length b = all_bound v.has_ended b fs (first_held v) v.tried (length b) s.scanned (omega arith) (omega arith) in
     rw e g
 
-pub counts_end : (v : Scan) (b : List ℕ) (fs : List Framed) → HasExamined v b fs → HasExamined (record v { has_ended = true }) b fs
+pub counts_end : (v : FramerValue) (b : List ℕ) (fs : List Framed) → HasExamined v b fs → HasExamined (record v { has_ended = true }) b fs
 counts_end v b fs x = record { stands = stands_end v b fs x.stands; limit = x.limit; within = x.within; each = x.each; tried = x.tried; counts = x.counts }
 
-stands_new : (limit : ℕ) → StandsFor (new_scan limit) [] []
+stands_new : (limit : ℕ) → HasFramed (new_scan limit) [] []
 stands_new limit = stands_by (new_scan limit) [] [] refl refl (omega arith) (scanned_none false [] 0) refl
 
-counts_empty : (limit : ℕ) → limit ≤ 2 ^ 48 → StandsFor (new_scan limit) [] [] → HasExamined (new_scan limit) [] []
-unfolding tried_before places greatest
+counts_empty : (limit : ℕ) → limit ≤ 2 ^ 48 → HasFramed (new_scan limit) [] [] → HasExamined (new_scan limit) [] []
+unfolding tried_before places greatest_below
 counts_empty limit h s = record {
   stands = s;
   limit = h;
@@ -48,13 +48,13 @@ counts_empty limit h s = record {
   counts = record { each = λ j l. absurd (omega arith); total = refl; greatest_is = refl };
 }
 
-pub counts_new : (limit tried : ℕ) (w : Held) → limit ≤ 2 ^ 48 → w ≡ nothing_held → tried ≡ 0 → HasExamined (scan_of limit 0 w false true 0 tried) [] []
+pub counts_new : (limit tried : ℕ) (w : WindowValue) → limit ≤ 2 ^ 48 → w ≡ nothing_held → tried ≡ 0 → HasExamined (scan_of limit 0 w false true 0 tried) [] []
 counts_new limit tried w h e z = rw (e, z) (counts_empty limit h (stands_new limit))
 
-pub drained_new : (limit tried : ℕ) (w : Held) → w ≡ nothing_held → IsDrained (scan_of limit 0 w false true 0 tried) [] []
+pub drained_new : (limit tried : ℕ) (w : WindowValue) → w ≡ nothing_held → IsDrained (scan_of limit 0 w false true 0 tried) [] []
 unfolding decided decided_frames frames_of frames_before frames_from places
 drained_new limit tried w e = rw e (record { frames = refl; held = refl; skipped = refl })
 
-pub counted_new : (limit tried : ℕ) (w : Held) → w ≡ nothing_held → IsCounted (scan_of limit 0 w false true 0 tried) []
-unfolding spans_now tried decided decided_frames frames_of frames_before frames_from places greatest
+pub counted_new : (limit tried : ℕ) (w : WindowValue) → w ≡ nothing_held → IsCountedExactly (scan_of limit 0 w false true 0 tried) []
+unfolding spans_now tried decided decided_frames frames_of frames_before frames_from places greatest_below
 counted_new limit tried w e = rw e (record { examined = refl; most = refl })

@@ -2,12 +2,12 @@
 use Rattle.std.proofs.Common.{ℕ, ◌≡◌, ◌+◌, ◌-◌, ◌<◌, ◌≤◌, true, false, List, [], ◌∷◌, ◌++◌, length, drop, refl, sym, ap, ◌∙◌, arith, ⊎_elim}
 use Rattle.std.proofs.lemmas.Bool.{cases_Bool}
 use Rattle.std.proofs.lemmas.List.{nil_from_length}
-use Rattle.rtcm_scan.specs.Frame.{begins_frame, is_open, frame_length, message_of}
+use Rattle.rtcm_scan.specs.Frame.{begins_frame, is_open, frame_length, framed_message}
 use Rattle.rtcm_scan.specs.Frames.{Framed}
-use Rattle.rtcm_bits.specs.Window.{Held, looked_through, without_front}
-use Rattle.rtcm_scan.specs.Scan.{Scan, StandsFor, first_held, IsPassed, window_of, with_window, with_looks}
+use Rattle.rtcm_bits.specs.Window.{WindowValue, looked_through, without_front}
+use Rattle.rtcm_scan.specs.Scan.{FramerValue, HasFramed, first_held, IsPassed, window_of, with_window, with_looks}
 use Rattle.rtcm_scan.specs.Pending.{asked, with_candidate_examined}
-use Rattle.rtcm_scan.specs.Examined.{HasExamined, IsCounted, IsCountedTo}
+use Rattle.rtcm_scan.specs.Examined.{HasExamined, IsCountedExactly, IsCountedTo}
 use Rattle.rtcm_scan.proofs.StepLemmas.{step_examined, step_give_up, step_take, looked_bytes}
 use Rattle.rtcm_scan.proofs.KnownLemmas.{counted_empty, counted_open, counted_frame}
 use Rattle.rtcm_scan.proofs.FrameLemmas.{length-message, begins_parts}
@@ -19,65 +19,65 @@ use Rattle.rtcm_scan.proofs.StandsLemmas.{stands_give_up, stands_take, stands_re
 use Rattle.rtcm_scan.proofs.DrainedLemmas.{drained_ended, drained_waiting}
 
 -- other counts change nothing of what a framer stands for
-stands_looks : (v : Scan) (w : Held) (t : ℕ) (b : List ℕ) (fs : List Framed) → StandsFor v b fs → StandsFor (with_looks v w t) b fs
+stands_looks : (v : FramerValue) (w : WindowValue) (t : ℕ) (b : List ℕ) (fs : List Framed) → HasFramed v b fs → HasFramed (with_looks v w t) b fs
 stands_looks v w t b fs s = record { taken = s.taken; held = s.held; fits = s.fits; scanned = s.scanned; first = s.first; skipped = s.skipped }
 
 -- what give_up and take_frame make of a framer
-abbrev pub passed : Scan → Scan
+abbrev pub passed : FramerValue → FramerValue
 passed u = record (with_window u (without_front (window_of u) 1) 0) { skipped = u.skipped + 1 }
 
-abbrev frame_taken : Scan → ℕ → Scan
+abbrev frame_taken : FramerValue → ℕ → FramerValue
 frame_taken u size = with_window u (without_front (looked_through (window_of u) 3 (size - 6)) size) 0
 
-pub step_passed : (v u w : Scan) (b : List ℕ) (fs : List Framed) → u ≡ with_candidate_examined v → w ≡ passed u → 0 < length v.held → IsPassed v.has_ended v.held
-    → StandsFor v b fs → StandsFor w b fs
+pub step_passed : (v u w : FramerValue) (b : List ℕ) (fs : List Framed) → u ≡ with_candidate_examined v → w ≡ passed u → 0 < length v.held → IsPassed v.has_ended v.held
+    → HasFramed v b fs → HasFramed w b fs
 step_passed v u w b fs e f h p s =
     let r = stands_give_up v b fs h p s in
     rw (f, e) (record { taken = r.taken; held = r.held; fits = r.fits; scanned = r.scanned; first = r.first; skipped = r.skipped })
 
-pub counts_passed : (v u w : Scan) (b : List ℕ) (fs : List Framed) → u ≡ with_candidate_examined v → w ≡ passed u → 0 < length v.held → IsPassed v.has_ended v.held → v.tried ≤ asked v.held
+pub counts_passed : (v u w : FramerValue) (b : List ℕ) (fs : List Framed) → u ≡ with_candidate_examined v → w ≡ passed u → 0 < length v.held → IsPassed v.has_ended v.held → v.tried ≤ asked v.held
     → HasExamined v b fs → HasExamined w b fs
 counts_passed v u w b fs e f h p t x = rw (f, e) (step_give_up (with_candidate_examined v) b fs h refl p (step_examined v b fs t x))
 
 -- where a frame stands at the front
-pub found_begins : (v u : Scan) (size : ℕ) → u ≡ with_candidate_examined v → (begins_frame v.held ≡ true) × (size ≡ frame_length v.held)
+pub found_begins : (v u : FramerValue) (size : ℕ) → u ≡ with_candidate_examined v → (begins_frame v.held ≡ true) × (size ≡ frame_length v.held)
     → (begins_frame u.held ≡ true) × (size ≡ frame_length u.held) × (u.tried ≡ asked u.held)
 found_begins v u size e f = rw e (f.0, f.1, refl)
 
-pub found_stands : (v u : Scan) (b : List ℕ) (fs : List Framed) → u ≡ with_candidate_examined v → StandsFor v b fs → StandsFor u b fs
+pub found_stands : (v u : FramerValue) (b : List ℕ) (fs : List Framed) → u ≡ with_candidate_examined v → HasFramed v b fs → HasFramed u b fs
 found_stands v u b fs e s = rw e (stands_looks v (looked_through (window_of v) v.tried (asked v.held - v.tried)) (asked v.held) b fs s)
 
-pub found_counts : (v u : Scan) (b : List ℕ) (fs : List Framed) → u ≡ with_candidate_examined v → v.tried ≤ asked v.held → HasExamined v b fs → HasExamined u b fs
+pub found_counts : (v u : FramerValue) (b : List ℕ) (fs : List Framed) → u ≡ with_candidate_examined v → v.tried ≤ asked v.held → HasExamined v b fs → HasExamined u b fs
 found_counts v u b fs e t x = rw e (step_examined v b fs t x)
 
 same_framed : (f g : Framed) → f.offset ≡ g.offset → f.message ≡ g.message → f ≡ g
 same_framed f g o m = ap (λ (p : ℕ). let r : Framed = record { offset = p; message = f.message } in r) o ∙ ap (λ (q : List ℕ). let r : Framed = record { offset = g.offset; message = q } in r) m
 
-abbrev found : Scan → Framed
-found v = record { offset = first_held v; message = message_of v.held }
+abbrev found : FramerValue → Framed
+found v = record { offset = first_held v; message = framed_message v.held }
 
 -- the frame at the front is taken
-pub step_found : (v w : Scan) (b : List ℕ) (fs : List Framed) (size : ℕ) (f : Framed) → w ≡ frame_taken v size → size ≡ frame_length v.held → begins_frame v.held ≡ true
-    → f.offset ≡ first_held v → f.message ≡ message_of v.held → StandsFor v b fs → StandsFor w b (fs ++ f ∷ [])
+pub step_found : (v w : FramerValue) (b : List ℕ) (fs : List Framed) (size : ℕ) (f : Framed) → w ≡ frame_taken v size → size ≡ frame_length v.held → begins_frame v.held ≡ true
+    → f.offset ≡ first_held v → f.message ≡ framed_message v.held → HasFramed v b fs → HasFramed w b (fs ++ f ∷ [])
 step_found v w b fs size f g z h o m s =
     let x : f ≡ found v = same_framed f (found v) o m in
     let n = stands_take v b fs h s in
     let d : drop (frame_length v.held) (looked_through (window_of v) 3 (frame_length v.held - 6)).bytes ≡ drop (frame_length v.held) v.held =
     ap (drop (frame_length v.held)) (looked_bytes (window_of v) 3 (frame_length v.held - 6)) in
-    rw (g, z, x) (subst (λ (r : List ℕ). StandsFor (record (frame_taken v (frame_length v.held)) { held = r }) b (fs ++ found v ∷ [])) (sym d)
+    rw (g, z, x) (subst (λ (r : List ℕ). HasFramed (record (frame_taken v (frame_length v.held)) { held = r }) b (fs ++ found v ∷ [])) (sym d)
     (record { taken = n.taken; held = n.held; fits = n.fits; scanned = n.scanned; first = n.first; skipped = n.skipped }))
 
-pub left_found : (v w : Scan) (size : ℕ) → w ≡ frame_taken v size → length w.held ≡ length v.held - size
-left_found v w size g = ap (λ (y : Scan). length y.held) g ∙ length-drop size _ ∙ ap (λ q. length q - size) (looked_bytes (window_of v) 3 (size - 6))
+pub left_found : (v w : FramerValue) (size : ℕ) → w ≡ frame_taken v size → length w.held ≡ length v.held - size
+left_found v w size g = ap (λ (y : FramerValue). length y.held) g ∙ length-drop size _ ∙ ap (λ q. length q - size) (looked_bytes (window_of v) 3 (size - 6))
 
-pub less_found : (v w : Scan) (size : ℕ) → w ≡ frame_taken v size → size ≡ frame_length v.held → begins_frame v.held ≡ true → length w.held < length v.held
+pub less_found : (v w : FramerValue) (size : ℕ) → w ≡ frame_taken v size → size ≡ frame_length v.held → begins_frame v.held ≡ true → length w.held < length v.held
 less_found v w size g z h =
     let a : frame_length v.held ≤ length v.held = (begins_parts v.held h).1 in
     let l : length w.held ≡ length v.held - size = left_found v w size g in
     omega arith
 
-pub counts_found : (v w : Scan) (b : List ℕ) (fs : List Framed) (size : ℕ) (f : Framed) → w ≡ frame_taken v size → size ≡ frame_length v.held → begins_frame v.held ≡ true
-    → f.offset ≡ first_held v → f.message ≡ message_of v.held → v.tried ≡ asked v.held → HasExamined v b fs → HasExamined w b (fs ++ f ∷ []) × IsCountedTo w b f.offset (fs ++ f ∷ [])
+pub counts_found : (v w : FramerValue) (b : List ℕ) (fs : List Framed) (size : ℕ) (f : Framed) → w ≡ frame_taken v size → size ≡ frame_length v.held → begins_frame v.held ≡ true
+    → f.offset ≡ first_held v → f.message ≡ framed_message v.held → v.tried ≡ asked v.held → HasExamined v b fs → HasExamined w b (fs ++ f ∷ []) × IsCountedTo w b f.offset (fs ++ f ∷ [])
 counts_found v w b fs size f g z h o m t x =
     let y : f ≡ found v = same_framed f (found v) o m in
     let r : HasExamined (frame_taken v (message_length v.held + 6)) b (fs ++ found v ∷ []) =
@@ -85,47 +85,47 @@ counts_found v w b fs size f g z h o m t x =
     subst (λ (k : ℕ). HasExamined (with_window v (without_front (looked_through (window_of v) 3 k) (frame_length v.held)) 0) b (fs ++ found v ∷ [])) q
     (step_take v b fs h t x)) in
     let k : frame_taken v (frame_length v.held) ≡ w = sym (rw (g, z) refl) in
-    let r' : HasExamined w b (fs ++ found v ∷ []) = subst (λ (y : Scan). HasExamined y b (fs ++ found v ∷ [])) k r in
-    let s : StandsFor v b fs = x.stands in
-    let l : length (message_of v.held) ≡ message_length v.held = length-message v.held h in
+    let r' : HasExamined w b (fs ++ found v ∷ []) = subst (λ (y : FramerValue). HasExamined y b (fs ++ found v ∷ [])) k r in
+    let s : HasFramed v b fs = x.stands in
+    let l : length (framed_message v.held) ≡ message_length v.held = length-message v.held h in
     let a : frame_length v.held ≤ length v.held = (begins_parts v.held h).1 in
     let fit : length v.held ≤ v.taken = s.fits in
     let d : length w.held ≡ length v.held - frame_length v.held = left_found v w (frame_length v.held) (sym k) in
-    let tk : w.taken ≡ v.taken = ap (λ (y : Scan). y.taken) (sym k) in
-    let i : first_held w ≡ first_held v + (length (message_of v.held) + 6) = omega arith in
-    let tr : w.tried ≡ 0 = ap (λ (y : Scan). y.tried) (sym k) in
+    let tk : w.taken ≡ v.taken = ap (λ (y : FramerValue). y.taken) (sym k) in
+    let i : first_held w ≡ first_held v + (length (framed_message v.held) + 6) = omega arith in
+    let tr : w.tried ≡ 0 = ap (λ (y : FramerValue). y.tried) (sym k) in
     rw y (r', counted_frame w b fs (found v) i tr (none_past v.has_ended b 0 (first_held v) fs s.scanned) r')
 
-finish : (d w : Scan) (b : List ℕ) (fs : List Framed) → w ≡ record d { is_ready = true } → StandsFor d b fs → IsDrained d b fs → StandsFor w b fs × IsDrained w b fs
+finish : (d w : FramerValue) (b : List ℕ) (fs : List Framed) → w ≡ record d { is_ready = true } → HasFramed d b fs → IsDrained d b fs → HasFramed w b fs × IsDrained w b fs
 finish d w b fs f s r = rw f (stands_ready d b fs true s, record { frames = r.frames; held = r.held; skipped = r.skipped })
 
-counts_finish : (d w : Scan) (b : List ℕ) (fs : List Framed) → w ≡ record d { is_ready = true } → HasExamined d b fs → IsCounted d b → HasExamined w b fs × IsCounted w b
+counts_finish : (d w : FramerValue) (b : List ℕ) (fs : List Framed) → w ≡ record d { is_ready = true } → HasExamined d b fs → IsCountedExactly d b → HasExamined w b fs × IsCountedExactly w b
 counts_finish d w b fs f x r = rw f (record { stands = stands_ready d b fs true x.stands; limit = x.limit; within = x.within; each = x.each; tried = x.tried; counts = x.counts }, record { examined = r.examined; most = r.most })
 
-pub finish_empty : (v d w : Scan) (b : List ℕ) (fs : List Framed) → d ≡ v → w ≡ record d { is_ready = true } → length v.held ≡ 0 → StandsFor v b fs → StandsFor w b fs × IsDrained w b fs
+pub finish_empty : (v d w : FramerValue) (b : List ℕ) (fs : List Framed) → d ≡ v → w ≡ record d { is_ready = true } → length v.held ≡ 0 → HasFramed v b fs → HasFramed w b fs × IsDrained w b fs
 finish_empty v d w b fs e f h s =
-    let s' : StandsFor d b fs = rw e s in
-    let n : d.held ≡ [] = nil_from_length d.held (ap (λ (y : Scan). length y.held) e ∙ h) in
+    let s' : HasFramed d b fs = rw e s in
+    let n : d.held ≡ [] = nil_from_length d.held (ap (λ (y : FramerValue). length y.held) e ∙ h) in
     let l : length d.held ≡ 0 = ap length n in
     ⊎_elim (λ (t : d.has_ended ≡ true). finish d w b fs f s' (drained_ended d b fs t n s'))
     (λ (t : d.has_ended ≡ false). finish d w b fs f s' (drained_waiting d b fs t (λ i. absurd (omega arith)) s')) (cases_Bool d.has_ended)
 
-pub counts_empty : (v d w : Scan) (b : List ℕ) (fs : List Framed) → d ≡ v → w ≡ record d { is_ready = true } → length v.held ≡ 0 → HasExamined v b fs → HasExamined w b fs × IsCounted w b
-counts_empty v d w b fs e f h x = let x' : HasExamined d b fs = rw e x in counts_finish d w b fs f x' (counted_empty d b fs (ap (λ (y : Scan). length y.held) e ∙ h) x')
+pub counts_empty : (v d w : FramerValue) (b : List ℕ) (fs : List Framed) → d ≡ v → w ≡ record d { is_ready = true } → length v.held ≡ 0 → HasExamined v b fs → HasExamined w b fs × IsCountedExactly w b
+counts_empty v d w b fs e f h x = let x' : HasExamined d b fs = rw e x in counts_finish d w b fs f x' (counted_empty d b fs (ap (λ (y : FramerValue). length y.held) e ∙ h) x')
 
-pub finish_open : (v u d w : Scan) (b : List ℕ) (fs : List Framed) → u ≡ with_candidate_examined v → d ≡ u → w ≡ record d { is_ready = true } → v.has_ended ≡ false → is_open v.held ≡ true
-    → StandsFor v b fs → StandsFor w b fs × IsDrained w b fs
+pub finish_open : (v u d w : FramerValue) (b : List ℕ) (fs : List Framed) → u ≡ with_candidate_examined v → d ≡ u → w ≡ record d { is_ready = true } → v.has_ended ≡ false → is_open v.held ≡ true
+    → HasFramed v b fs → HasFramed w b fs × IsDrained w b fs
 finish_open v u d w b fs e g f t o s =
-    let s' : StandsFor d b fs = rw (g, e) (stands_looks v (looked_through (window_of v) v.tried (asked v.held - v.tried)) (asked v.held) b fs s) in
-    let x : d.has_ended ≡ false = ap (λ (y : Scan). y.has_ended) (g ∙ e) ∙ t in
-    let y : is_open d.held ≡ true = ap (λ (y : Scan). is_open y.held) (g ∙ e) ∙ o in
+    let s' : HasFramed d b fs = rw (g, e) (stands_looks v (looked_through (window_of v) v.tried (asked v.held - v.tried)) (asked v.held) b fs s) in
+    let x : d.has_ended ≡ false = ap (λ (y : FramerValue). y.has_ended) (g ∙ e) ∙ t in
+    let y : is_open d.held ≡ true = ap (λ (y : FramerValue). is_open y.held) (g ∙ e) ∙ o in
     finish d w b fs f s' (drained_waiting d b fs x (λ i. y) s')
 
-pub counts_open : (v u d w : Scan) (b : List ℕ) (fs : List Framed) → u ≡ with_candidate_examined v → d ≡ u → w ≡ record d { is_ready = true } → v.has_ended ≡ false → 0 < length v.held → is_open v.held ≡ true → v.tried ≤ asked v.held
-    → HasExamined v b fs → HasExamined w b fs × IsCounted w b
+pub counts_open : (v u d w : FramerValue) (b : List ℕ) (fs : List Framed) → u ≡ with_candidate_examined v → d ≡ u → w ≡ record d { is_ready = true } → v.has_ended ≡ false → 0 < length v.held → is_open v.held ≡ true → v.tried ≤ asked v.held
+    → HasExamined v b fs → HasExamined w b fs × IsCountedExactly w b
 counts_open v u d w b fs e g f t l o k x =
     let c = with_candidate_examined v in
     let x' : HasExamined c b fs = step_examined v b fs k x in
-    let r : IsCounted c b = counted_open c b fs t l o refl x' in
+    let r : IsCountedExactly c b = counted_open c b fs t l o refl x' in
     let y : d ≡ c = g ∙ e in
     counts_finish d w b fs f (rw y x') (rw y r)

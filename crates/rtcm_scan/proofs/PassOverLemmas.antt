@@ -3,12 +3,12 @@ use Rattle.std.proofs.Common.{ℕ, ◌≡◌, ◌≢◌, ◌+◌, ◌-◌, ◌<�
 use Rattle.std.proofs.lemmas.List.{drop-drop, length-drop, get_or-drop}
 use Rattle.std.proofs.lemmas.Bool.{ne_eqb}
 use Rattle.rtcm_scan.proofs.FrameLemmas.{none_without}
-use Rattle.rtcm_bits.specs.Window.{Held, looked, looked_through, without_front}
+use Rattle.rtcm_bits.specs.Window.{WindowValue, looked, looked_through, without_front}
 use Rattle.rtcm_scan.specs.Frame.{has_preamble}
 use Rattle.rtcm_scan.specs.declared.candidate.Candidate.{Candidate}
 use Rattle.rtcm_scan.specs.Candidate.{HasTaken}
 use Rattle.rtcm_scan.specs.Frames.{Framed}
-use Rattle.rtcm_scan.specs.Scan.{Scan, StandsFor, IsPassed, scan_of, window_of, with_window, with_looks}
+use Rattle.rtcm_scan.specs.Scan.{FramerValue, HasFramed, IsPassed, scan_of, window_of, with_window, with_looks}
 use Rattle.rtcm_scan.specs.Pending.{asked, with_candidate_examined}
 use Rattle.rtcm_scan.specs.Examined.{HasExamined}
 use Rattle.rtcm_scan.proofs.CandidateLemmas.{looked_twice}
@@ -21,63 +21,63 @@ set_behind : (l : List ℕ) (i x : ℕ) → slice_set (drop 1 l) i x ≡ drop 1 
 set_behind [] i x = refl
 set_behind (y ∷ l) i x = let e : i + 1 ≡ suc i = omega arith in rw e refl
 
-looked_behind : (w : Held) (i j : ℕ) → j ≡ i + 1 → looked (without_front w 1) i ≡ without_front (looked w j) 1
+looked_behind : (w : WindowValue) (i j : ℕ) → j ≡ i + 1 → looked (without_front w 1) i ≡ without_front (looked w j) 1
 looked_behind w i j e =
     let a : 1 + i ≡ i + 1 = omega arith in
     let c : slice_index (drop 1 w.looks) i ≡ slice_index w.looks (i + 1) = get_or-drop 1 w.looks i 0 ∙ ap (λ (k : ℕ). get_or w.looks k 0) a in
     rw (e, c, set_behind w.looks i (min (slice_index w.looks (i + 1) + 1) (2 ^ 16 - 1))) refl
 
-through_behind : (w : Held) (start n : ℕ) → looked_through (without_front w 1) start n ≡ without_front (looked_through w (start + 1) n) 1
+through_behind : (w : WindowValue) (start n : ℕ) → looked_through (without_front w 1) start n ≡ without_front (looked_through w (start + 1) n) 1
 through_behind w start zero = refl
-through_behind w start (suc n) = ap (λ (u : Held). looked u (start + n)) (through_behind w start n) ∙ looked_behind (looked_through w (start + 1) n) (start + n) (start + 1 + n) (omega arith)
+through_behind w start (suc n) = ap (λ (u : WindowValue). looked u (start + n)) (through_behind w start n) ∙ looked_behind (looked_through w (start + 1) n) (start + n) (start + 1 + n) (omega arith)
 
 -- the first of them by itself, and then the others
-front_once : (w : Held) (n : ℕ) → without_front (looked_through w 0 (suc n)) (suc n) ≡ without_front (looked_through (without_front (looked_through w 0 1) 1) 0 n) n
+front_once : (w : WindowValue) (n : ℕ) → without_front (looked_through w 0 (suc n)) (suc n) ≡ without_front (looked_through (without_front (looked_through w 0 1) 1) 0 n) n
 front_once w n =
     let a : 1 + n ≡ suc n = omega arith in
-    let u : Held = looked_through (looked_through w 0 1) 1 n in
+    let u : WindowValue = looked_through (looked_through w 0 1) 1 n in
     let d : without_front (without_front u 1) n ≡ without_front u (1 + n) = rw (drop-drop n 1 u.bytes, drop-drop n 1 u.looks) refl in
-    ap (λ (k : ℕ). without_front (looked_through w 0 k) k) (sym a) ∙ ap (λ (v : Held). without_front v (1 + n)) (sym (looked_twice w 0 1 n)) ∙ sym d
-    ∙ ap (λ (v : Held). without_front v n) (sym (through_behind (looked_through w 0 1) 0 n))
+    ap (λ (k : ℕ). without_front (looked_through w 0 k) k) (sym a) ∙ ap (λ (v : WindowValue). without_front v (1 + n)) (sym (looked_twice w 0 1 n)) ∙ sym d
+    ∙ ap (λ (v : WindowValue). without_front v n) (sym (through_behind (looked_through w 0 1) 0 n))
 
 -- a framer whose first n bytes were looked at once and given up
-abbrev with_given_up : Scan → Held → ℕ → Scan
+abbrev with_given_up : FramerValue → WindowValue → ℕ → FramerValue
 with_given_up v w skipped = record (with_window v w 0) { skipped = skipped }
 
-abbrev pub passed_over : Scan → ℕ → Scan
+abbrev pub passed_over : FramerValue → ℕ → FramerValue
 passed_over v n = with_given_up v (without_front (looked_through (window_of v) 0 n) n) (v.skipped + n)
 
-none_over : (v : Scan) → v.tried ≡ 0 → passed_over v 0 ≡ v
-none_over v e = let a : v.skipped + 0 ≡ v.skipped = omega arith in ap (λ (k : ℕ). with_given_up v (window_of v) k) a ∙ ap (λ (k : ℕ). let r : Scan = record v { tried = k } in r) (sym e)
+none_over : (v : FramerValue) → v.tried ≡ 0 → passed_over v 0 ≡ v
+none_over v e = let a : v.skipped + 0 ≡ v.skipped = omega arith in ap (λ (k : ℕ). with_given_up v (window_of v) k) a ∙ ap (λ (k : ℕ). let r : FramerValue = record v { tried = k } in r) (sym e)
 
 one_asked : (s : List ℕ) → has_preamble s ≡ false → 0 < length s → asked s ≡ 1
 one_asked s e h = rw e (omega arith)
 
-one_more : (v : Scan) (n : ℕ) → v.tried ≡ 0 → has_preamble v.held ≡ false → 0 < length v.held → passed_over v (suc n) ≡ passed_over (passed (with_candidate_examined v)) n
+one_more : (v : FramerValue) (n : ℕ) → v.tried ≡ 0 → has_preamble v.held ≡ false → 0 < length v.held → passed_over v (suc n) ≡ passed_over (passed (with_candidate_examined v)) n
 one_more v n e h k =
     let a : asked v.held ≡ 1 = one_asked v.held h k in
     let b : v.skipped + suc n ≡ v.skipped + 1 + n = omega arith in
     let w : looked_through (window_of v) v.tried (asked v.held - v.tried) ≡ looked_through (window_of v) 0 1 = rw (e, a) refl in
     ap (with_given_up v (without_front (looked_through (window_of v) 0 (suc n)) (suc n))) b
-    ∙ ap (λ (x : Held). with_given_up v x (v.skipped + 1 + n)) (front_once (window_of v) n)
-    ∙ ap (λ (x : Held). passed_over (passed (with_looks v x (asked v.held))) n) (sym w)
+    ∙ ap (λ (x : WindowValue). with_given_up v x (v.skipped + 1 + n)) (front_once (window_of v) n)
+    ∙ ap (λ (x : WindowValue). passed_over (passed (with_looks v x (asked v.held))) n) (sym w)
 
 -- what each step keeps
 all_passed : (s : List ℕ) (e : Bool) → has_preamble s ≡ false → IsPassed e s
 all_passed s e h = let n = none_without s h in record { none = n.0; closed = λ r. n.1 }
 
-pub over_stands : (v : Scan) (n : ℕ) (b : List ℕ) (fs : List Framed) → v.tried ≡ 0 → n ≤ length v.held → ((i : ℕ) → i < n → slice_index v.held i ≢ 0xD3) → StandsFor v b fs → StandsFor (passed_over v n) b fs
+pub over_stands : (v : FramerValue) (n : ℕ) (b : List ℕ) (fs : List Framed) → v.tried ≡ 0 → n ≤ length v.held → ((i : ℕ) → i < n → slice_index v.held i ≢ 0xD3) → HasFramed v b fs → HasFramed (passed_over v n) b fs
 over_stands v zero b fs e l o s = rw (none_over v e) s
 over_stands v (suc n) b fs e l o s =
     let h : has_preamble v.held ≡ false = ne_eqb (slice_index v.held 0) 0xD3 (o 0 (omega arith)) in
     let k : 0 < length v.held = omega (arith, l) in
-    let w : Scan = passed (with_candidate_examined v) in
+    let w : FramerValue = passed (with_candidate_examined v) in
     let d : length (drop 1 v.held) ≡ length v.held - 1 = length-drop 1 v.held in
     let o' : (i : ℕ) → i < n → slice_index (drop 1 v.held) i ≢ 0xD3 = (λ i j q. let f : slice_index (drop 1 v.held) i ≡ slice_index v.held (1 + i) = get_or-drop 1 v.held i 0 in o (1 + i) (omega (arith, j)) (sym f ∙ q)) in
     rw (one_more v n e h k) (over_stands (passed (with_candidate_examined v)) n b fs refl (omega (arith, l, d)) o'
     (step_passed v (with_candidate_examined v) (passed (with_candidate_examined v)) b fs refl refl k (all_passed v.held v.has_ended h) s))
 
-pub over_counts : (v : Scan) (n : ℕ) (b : List ℕ) (fs : List Framed) → v.tried ≡ 0 → n ≤ length v.held → ((i : ℕ) → i < n → slice_index v.held i ≢ 0xD3) → HasExamined v b fs → HasExamined (passed_over v n) b fs
+pub over_counts : (v : FramerValue) (n : ℕ) (b : List ℕ) (fs : List Framed) → v.tried ≡ 0 → n ≤ length v.held → ((i : ℕ) → i < n → slice_index v.held i ≢ 0xD3) → HasExamined v b fs → HasExamined (passed_over v n) b fs
 over_counts v zero b fs e l o s = rw (none_over v e) s
 over_counts v (suc n) b fs e l o s =
     let h : has_preamble v.held ≡ false = ne_eqb (slice_index v.held 0) 0xD3 (o 0 (omega arith)) in
@@ -89,18 +89,18 @@ over_counts v (suc n) b fs e l o s =
     (counts_passed v (with_candidate_examined v) (passed (with_candidate_examined v)) b fs refl refl k (all_passed v.held v.has_ended h) t s))
 
 -- the framer's view afterwards
-pub view_passed : (v : Scan) (limit place skipped tried n : ℕ) (w w' : Held) (ended ready : Bool) → scan_of limit place w ended ready skipped tried ≡ v → w' ≡ without_front (looked_through w 0 n) n
+pub view_passed : (v : FramerValue) (limit place skipped tried n : ℕ) (w w' : WindowValue) (ended ready : Bool) → scan_of limit place w ended ready skipped tried ≡ v → w' ≡ without_front (looked_through w 0 n) n
     → n ≤ length w.bytes → v.tried ≡ 0 → scan_of limit (place + n) w' ended ready (skipped + n) tried ≡ passed_over v n
 view_passed v limit place skipped tried n w w' ended ready e f h t =
-    let z : tried ≡ 0 = ap (λ (x : Scan). x.tried) e ∙ t in
-    let k : skipped ≡ v.skipped = ap (λ (x : Scan). x.skipped) e in
+    let z : tried ≡ 0 = ap (λ (x : FramerValue). x.tried) e ∙ t in
+    let k : skipped ≡ v.skipped = ap (λ (x : FramerValue). x.skipped) e in
     let x : w ≡ window_of v = ap window_of e in
     let d = view_dropped v limit place skipped tried n w (looked_through w 0 n) w' ended ready e (looked_bytes w 0 n) f h in
-    ap (λ (q : ℕ). scan_of limit (place + n) w' ended ready (skipped + n) q) z ∙ ap (λ (y : Scan). let r : Scan = record y { skipped = skipped + n } in r) d
-    ∙ ap (λ (q : ℕ). with_given_up v (without_front (looked_through w 0 n) n) (q + n)) k ∙ ap (λ (y : Held). with_given_up v (without_front (looked_through y 0 n) n) (v.skipped + n)) x
+    ap (λ (q : ℕ). scan_of limit (place + n) w' ended ready (skipped + n) q) z ∙ ap (λ (y : FramerValue). let r : FramerValue = record y { skipped = skipped + n } in r) d
+    ∙ ap (λ (q : ℕ). with_given_up v (without_front (looked_through w 0 n) n) (q + n)) k ∙ ap (λ (y : WindowValue). with_given_up v (without_front (looked_through y 0 n) n) (v.skipped + n)) x
 
 -- what stands in the window is what the framer holds
-pub others_held : (v : Scan) (bytes : List ℕ) (n : ℕ) → bytes ≡ v.held → n ≤ length bytes → ((i : ℕ) → i < n → slice_index bytes i ≢ 0xD3) → (n ≤ length v.held) × ((i : ℕ) → i < n → slice_index v.held i ≢ 0xD3)
+pub others_held : (v : FramerValue) (bytes : List ℕ) (n : ℕ) → bytes ≡ v.held → n ≤ length bytes → ((i : ℕ) → i < n → slice_index bytes i ≢ 0xD3) → (n ≤ length v.held) × ((i : ℕ) → i < n → slice_index v.held i ≢ 0xD3)
 others_held v bytes n e l o = rw (← e) (l, o)
 
 -- a candidate that has taken nothing is one of any bytes

@@ -2,7 +2,7 @@
 use Rattle.std.proofs.Common.{ℕ, ◌≡◌, ◌+◌, ◌-◌, ◌*◌, ◌<◌, ◌≤◌, Bool, true, false, List, [], ◌∷◌, ◌++◌, length, drop, refl, sym, ap, ◌∙◌, arith, suc, zero, ⊎_elim, length-append}
 use Rattle.std.proofs.lemmas.Bool.{cases_Bool, cases_lt}
 use Rattle.rtcm_scan.specs.Frame.{begins_frame, is_open}
-use Rattle.rtcm_scan.specs.Frames.{Framed, IsFrameOf, end_of, frames_of, frames_from, framed_at}
+use Rattle.rtcm_scan.specs.Frames.{Framed, IsFrameOf, frame_end, frames_of, frames_from, framed_at}
 use Rattle.rtcm_scan.specs.Decided.{decided, decided_frames, frames_before}
 use Rattle.rtcm_bits.specs.Prefix.{IsPrefix}
 use Rattle.rtcm_scan.specs.Known.{known_frames}
@@ -29,8 +29,8 @@ scan_on (suc d) b from k h = ⊎_elim
     (λ (o : is_open (drop from b) ≡ false). ⊎_elim
     (λ (e : begins_frame (drop from b) ≡ true).
     let v : IsFrameOf b (framed_at b from) = framed_valid b from e in
-    let w : end_of (framed_at b from) ≤ length b = frame_within b (framed_at b from) v in
-    let r : ScannedOn b (end_of (framed_at b from)) = scan_on d b (end_of (framed_at b from)) (omega arith) w in
+    let w : frame_end (framed_at b from) ≤ length b = frame_within b (framed_at b from) v in
+    let r : ScannedOn b (frame_end (framed_at b from)) = scan_on d b (frame_end (framed_at b from)) (omega arith) w in
     let x : ScannedOn b from = record { to = r.to; frames = framed_at b from ∷ r.frames; scanned = (omega arith, (λ q i j. absurd (omega arith)), v, r.scanned); within = r.within; stops = r.stops } in x)
     (λ (e : begins_frame (drop from b) ≡ false).
     let r : ScannedOn b (from + 1) = scan_on d b (from + 1) (omega arith) (omega arith) in
@@ -46,7 +46,7 @@ passed_join e b from mid to p r = λ q i j. ⊎_elim (λ (l : q < mid). p q i l)
 scanned_join : (e : Bool) (b : List ℕ) (from mid to : ℕ) (fs gs : List Framed) → Scanned e b from mid fs → Scanned e b mid to gs → Scanned e b from to (fs ++ gs)
 scanned_join e b from mid to [] [] s r = (omega (arith, s.0, r.0), passed_join e b from mid to s.1 r.1)
 scanned_join e b from mid to [] (g ∷ gs) s r = (omega (arith, s.0, r.0), passed_join e b from mid g.offset s.1 r.1, r.2, r.3)
-scanned_join e b from mid to (f ∷ fs) gs s r = (s.0, s.1, s.2, scanned_join e b (end_of f) mid to fs gs s.3 r)
+scanned_join e b from mid to (f ∷ fs) gs s r = (s.0, s.1, s.2, scanned_join e b (frame_end f) mid to fs gs s.3 r)
 
 -- the decided frames of b begin those of each longer stream, decided or not
 pub stays_decided : (b t : List ℕ) → ((rest : List Framed) × (decided_frames (b ++ t) ≡ decided_frames b ++ rest)) × ((rest : List Framed) × (frames_of (b ++ t) ≡ decided_frames b ++ rest)) × (decided b ≤ decided (b ++ t))
@@ -103,7 +103,7 @@ scanned_six : (e : Bool) (b : List ℕ) (from to : ℕ) (fs : List Framed) → S
 scanned_six e b from to [] s = let h : from ≤ to = s.0 in omega arith
 scanned_six e b from to (f ∷ fs) s =
     let h : from ≤ f.offset = s.0 in
-    let r : end_of f + 6 * length fs ≤ to = scanned_six e b (end_of f) to fs s.3 in
+    let r : frame_end f + 6 * length fs ≤ to = scanned_six e b (frame_end f) to fs s.3 in
     omega arith
 
 pub six_each : (b : List ℕ) → 6 * length (frames_of b) ≤ length b

@@ -1,26 +1,26 @@
 -- What a framer stands for after many bytes.
 use Rattle.std.proofs.Common.{ℕ, ◌≡◌, ◌+◌, ◌<◌, ◌≤◌, Bool, false, List, [], ◌∷◌, ◌++◌, length, replicate, refl, ap, arith, suc, length-append}
 use Rattle.std.proofs.lemmas.List.{append-nil, append_assoc}
-use Rattle.rtcm_bits.specs.Window.{Held, pushed_all}
+use Rattle.rtcm_bits.specs.Window.{WindowValue, pushed_all}
 use Rattle.rtcm_scan.specs.Frames.{Framed}
-use Rattle.rtcm_scan.specs.Scan.{Scan, scan_of, with_bytes, StandsFor}
+use Rattle.rtcm_scan.specs.Scan.{FramerValue, scan_of, with_bytes, HasFramed}
 use Rattle.rtcm_scan.specs.Examined.{HasExamined}
 use Rattle.rtcm_scan.proofs.StandsLemmas.{stands_push, stands_ready}
 use Rattle.rtcm_scan.proofs.StepLemmas.{step_push}
 
 -- one byte, as a push takes it
-abbrev pub with_byte : Scan → ℕ → Scan
+abbrev pub with_byte : FramerValue → ℕ → FramerValue
 with_byte v x = record v { taken = v.taken + 1; held = v.held ++ x ∷ []; looks = v.looks ++ 0 ∷ []; is_ready = false }
 
 -- none, and then one byte more and those behind it
-with_none : (v : Scan) → with_bytes v [] ≡ record v { is_ready = false }
+with_none : (v : FramerValue) → with_bytes v [] ≡ record v { is_ready = false }
 with_none v =
     let z : v.taken + 0 ≡ v.taken = omega arith in
     let h : v.held ++ [] ≡ v.held = append-nil v.held in
     let l : v.looks ++ [] ≡ v.looks = append-nil v.looks in
     rw (z, h, l) refl
 
-with_more : (v : Scan) (x : ℕ) (xs : List ℕ) → with_bytes (with_byte v x) xs ≡ with_bytes v (x ∷ xs)
+with_more : (v : FramerValue) (x : ℕ) (xs : List ℕ) → with_bytes (with_byte v x) xs ≡ with_bytes v (x ∷ xs)
 with_more v x xs =
     let z : v.taken + 1 + length xs ≡ v.taken + suc (length xs) = omega arith in
     let h : v.held ++ x ∷ [] ++ xs ≡ v.held ++ (x ∷ xs) = append_assoc v.held (x ∷ []) xs in
@@ -28,25 +28,25 @@ with_more v x xs =
     rw (z, h, l) refl
 
 -- what holds of a stream after each byte holds of it after them all
-push_each : (P : Scan → List ℕ → Type 0) → ((v : Scan) (b : List ℕ) → P v b → P (record v { is_ready = false }) b)
-    → ((v : Scan) (b : List ℕ) (x : ℕ) → v.has_ended ≡ false → v.taken < v.limit → P v b → P (with_byte v x) (b ++ x ∷ []))
-    → (v : Scan) (b xs : List ℕ) → v.has_ended ≡ false → v.taken + length xs ≤ v.limit → P v b → P (with_bytes v xs) (b ++ xs)
+push_each : (P : FramerValue → List ℕ → Type 0) → ((v : FramerValue) (b : List ℕ) → P v b → P (record v { is_ready = false }) b)
+    → ((v : FramerValue) (b : List ℕ) (x : ℕ) → v.has_ended ≡ false → v.taken < v.limit → P v b → P (with_byte v x) (b ++ x ∷ []))
+    → (v : FramerValue) (b xs : List ℕ) → v.has_ended ≡ false → v.taken + length xs ≤ v.limit → P v b → P (with_bytes v xs) (b ++ xs)
 push_each P none one v b [] n l h = rw (with_none v, append-nil b) (none v b h)
 push_each P none one v b (x ∷ xs) n l h =
     let a : b ++ x ∷ [] ++ xs ≡ b ++ (x ∷ xs) = append_assoc b (x ∷ []) xs in
     rw (← with_more v x xs, ← a) (push_each P none one (with_byte v x) (b ++ x ∷ []) xs n (omega (arith, l)) (one v b x n (omega (arith, l)) h))
 
-pub stands_push_all : (v : Scan) (b xs : List ℕ) (fs : List Framed) → v.has_ended ≡ false → v.taken + length xs ≤ v.limit → StandsFor v b fs → StandsFor (with_bytes v xs) (b ++ xs) fs
-stands_push_all v b xs fs = push_each (λ v b. StandsFor v b fs) (λ v b s. stands_ready v b fs false s) (λ v b x n l s. stands_push v b fs x n s) v b xs
+pub stands_push_all : (v : FramerValue) (b xs : List ℕ) (fs : List Framed) → v.has_ended ≡ false → v.taken + length xs ≤ v.limit → HasFramed v b fs → HasFramed (with_bytes v xs) (b ++ xs) fs
+stands_push_all v b xs fs = push_each (λ v b. HasFramed v b fs) (λ v b s. stands_ready v b fs false s) (λ v b x n l s. stands_push v b fs x n s) v b xs
 
-pub step_push_all : (v : Scan) (b xs : List ℕ) (fs : List Framed) → v.has_ended ≡ false → v.taken + length xs ≤ v.limit → HasExamined v b fs → HasExamined (with_bytes v xs) (b ++ xs) fs
+pub step_push_all : (v : FramerValue) (b xs : List ℕ) (fs : List Framed) → v.has_ended ≡ false → v.taken + length xs ≤ v.limit → HasExamined v b fs → HasExamined (with_bytes v xs) (b ++ xs) fs
 step_push_all v b xs fs = push_each (λ v b. HasExamined v b fs)
     (λ v b h. record { stands = stands_ready v b fs false h.stands; limit = h.limit; within = h.within; each = h.each; tried = h.tried; counts = h.counts })
     (λ v b x n l h. step_push v b fs x n l h) v b xs
 
 -- the framer's view after it
-pub view_pushed_all : (v : Scan) (limit place skipped tried : ℕ) (w w' : Held) (ended ready : Bool) (xs : List ℕ) → scan_of limit place w ended ready skipped tried ≡ v → w' ≡ pushed_all w xs
+pub view_pushed_all : (v : FramerValue) (limit place skipped tried : ℕ) (w w' : WindowValue) (ended ready : Bool) (xs : List ℕ) → scan_of limit place w ended ready skipped tried ≡ v → w' ≡ pushed_all w xs
     → scan_of limit place w' ended false skipped tried ≡ with_bytes v xs
 view_pushed_all v limit place skipped tried w w' ended ready xs e f =
     let t : place + length (w.bytes ++ xs) ≡ place + length w.bytes + length xs = omega (arith, length-append w.bytes xs) in
-    rw (f, ← e) (ap (λ n. let r : Scan = record (scan_of limit place (pushed_all w xs) ended false skipped tried) { taken = n } in r) t)
+    rw (f, ← e) (ap (λ n. let r : FramerValue = record (scan_of limit place (pushed_all w xs) ended false skipped tried) { taken = n } in r) t)

@@ -4,9 +4,9 @@ use Rattle.std.specs.List.{list_any, count_by}
 use Rattle.std.proofs.lemmas.Bool.{lt-ltb, le-ltb, le-leb, lt-leb, and_left, and_right}
 use Rattle.std.proofs.lemmas.List.Sums.{sum_by_push, sum_by-cons}
 use Rattle.std.proofs.lemmas.List.Folds.{list_any-append}
-use Rattle.rtcm_scan.specs.Frame.{begins_frame, frame_length, message_of}
-use Rattle.rtcm_scan.specs.Frames.{Framed, end_of, frames_from, frames_of}
-use Rattle.rtcm_scan.specs.Decided.{places, is_within, given_up}
+use Rattle.rtcm_scan.specs.Frame.{begins_frame, frame_length, framed_message}
+use Rattle.rtcm_scan.specs.Frames.{Framed, frame_end, frames_from, frames_of}
+use Rattle.rtcm_scan.specs.Decided.{places, is_within, skipped_before}
 use Rattle.rtcm_scan.specs.Scan.{Scanned}
 use Rattle.rtcm_scan.proofs.ScanLemmas.{scanned_le}
 use Rattle.rtcm_scan.proofs.DecidedLemmas.{or_none, frames_split}
@@ -37,16 +37,16 @@ none_ahead : (e : Bool) (b : List ℕ) (from to q : ℕ) (fs : List Framed) → 
 none_ahead e b from to q [] s l = refl
 none_ahead e b from to q (f ∷ fs) s l =
     let h : from ≤ f.offset = s.0 in
-    let n : (leb f.offset q && ltb q (end_of f)) ≡ false = and_left _ _ (lt-leb f.offset q (omega arith)) in
-    rw n (none_ahead e b (end_of f) to q fs s.3 (omega arith))
+    let n : (leb f.offset q && ltb q (frame_end f)) ≡ false = and_left _ _ (lt-leb f.offset q (omega arith)) in
+    rw n (none_ahead e b (frame_end f) to q fs s.3 (omega arith))
 
 none_from : (q p k : ℕ) (s : List ℕ) → q < p → list_any (is_within q) (frames_from p k s) ≡ false
 unfolding frames_from
 none_from q p k [] h = refl
 none_from q p (suc k) (x ∷ s) h = none_from q (p + 1) k s (omega arith)
 none_from q p zero (x ∷ s) h =
-    let n : (leb p q && ltb q (p + (length (message_of (x ∷ s)) + 6))) ≡ false = and_left _ _ (lt-leb p q h) in
-    elim (begins_frame (x ∷ s)) as (λ v. list_any (is_within q) (cond v (record { offset = p; message = message_of (x ∷ s) } ∷ frames_from (p + 1) (frame_length (x ∷ s) - 1) s) (frames_from (p + 1) 0 s)) ≡ false) [
+    let n : (leb p q && ltb q (p + (length (framed_message (x ∷ s)) + 6))) ≡ false = and_left _ _ (lt-leb p q h) in
+    elim (begins_frame (x ∷ s)) as (λ v. list_any (is_within q) (cond v (record { offset = p; message = framed_message (x ∷ s) } ∷ frames_from (p + 1) (frame_length (x ∷ s) - 1) s) (frames_from (p + 1) 0 s)) ≡ false) [
       | true ↦ rw n (none_from q (p + 1) (frame_length (x ∷ s) - 1) s (omega arith))
       | false ↦ none_from q (p + 1) 0 s (omega arith)
     ]
@@ -67,26 +67,26 @@ count_left e b from to [] t s h =
     omega arith
 count_left e b from to (f ∷ fs) t s h =
     let i : from ≤ f.offset = s.0 in
-    let l : end_of f ≤ to = scanned_le e b (end_of f) to fs s.3 in
+    let l : frame_end f ≤ to = scanned_le e b (frame_end f) to fs s.3 in
     let z : from + (f.offset - from) ≡ f.offset = omega arith in
     let a : count_by t (places (from + (f.offset - from))) ≡ count_by t (places from) + (f.offset - from) = count_all t from (f.offset - from) (λ q j k.
-    let n : (leb f.offset q && ltb q (end_of f)) ≡ false = and_left _ _ (lt-leb f.offset q (omega arith)) in
-    let m : list_any (is_within q) fs ≡ false = none_ahead e b (end_of f) to q fs s.3 (omega arith) in
+    let n : (leb f.offset q && ltb q (frame_end f)) ≡ false = and_left _ _ (lt-leb f.offset q (omega arith)) in
+    let m : list_any (is_within q) fs ≡ false = none_ahead e b (frame_end f) to q fs s.3 (omega arith) in
     h q j (omega arith) ∙ rw (n, m) refl) in
     let a' : count_by t (places f.offset) ≡ count_by t (places from) + (f.offset - from) = ap (λ n. count_by t (places n)) (sym z) ∙ a in
-    let c : count_by t (places (end_of f)) ≡ count_by t (places f.offset) = count_none t f.offset (length f.message + 6) (λ q j k.
+    let c : count_by t (places (frame_end f)) ≡ count_by t (places f.offset) = count_none t f.offset (length f.message + 6) (λ q j k.
     let x : leb f.offset q ≡ true = le-leb f.offset q j in
-    let y : ltb q (end_of f) ≡ true = lt-ltb q (end_of f) k in
+    let y : ltb q (frame_end f) ≡ true = lt-ltb q (frame_end f) k in
     h q (omega arith) (omega arith) ∙ rw (x, y) refl) in
-    let r : count_by t (places to) + sum_by (λ f. length f.message + 6) fs ≡ count_by t (places (end_of f)) + (to - end_of f) = count_left e b (end_of f) to fs t s.3 (λ q j k.
-    let n : (leb f.offset q && ltb q (end_of f)) ≡ false = and_right (leb f.offset q) _ (le-ltb q (end_of f) j) in
+    let r : count_by t (places to) + sum_by (λ f. length f.message + 6) fs ≡ count_by t (places (frame_end f)) + (to - frame_end f) = count_left e b (frame_end f) to fs t s.3 (λ q j k.
+    let n : (leb f.offset q && ltb q (frame_end f)) ≡ false = and_right (leb f.offset q) _ (le-ltb q (frame_end f) j) in
     h q (omega arith) k ∙ rw n refl) in
-    over_frame (count_by t (places from)) (count_by t (places f.offset)) (count_by t (places (end_of f))) (count_by t (places to)) _ (sum_by (λ f. length f.message + 6) fs)
+    over_frame (count_by t (places from)) (count_by t (places f.offset)) (count_by t (places (frame_end f))) (count_by t (places to)) _ (sum_by (λ f. length f.message + 6) fs)
     from f.offset (length f.message + 6) to a' c r (sum_by-cons (λ f. length f.message + 6) f fs) i l
 
-pub given_up_is : (e : Bool) (b : List ℕ) (p : ℕ) (fs : List Framed) → p ≤ length b → Scanned e b 0 p fs → given_up p (frames_of b) + sum_by (λ f. length f.message + 6) fs ≡ p
+pub given_up_is : (e : Bool) (b : List ℕ) (p : ℕ) (fs : List Framed) → p ≤ length b → Scanned e b 0 p fs → skipped_before p (frames_of b) + sum_by (λ f. length f.message + 6) fs ≡ p
 unfolding places
 given_up_is e b p fs h s =
-    let r : given_up p (frames_of b) + sum_by (λ f. length f.message + 6) fs ≡ 0 + (p - 0) = count_left e b 0 p fs (λ q. not (list_any (is_within q) (frames_of b))) s
+    let r : skipped_before p (frames_of b) + sum_by (λ f. length f.message + 6) fs ≡ 0 + (p - 0) = count_left e b 0 p fs (λ q. not (list_any (is_within q) (frames_of b))) s
     (λ q i j. ap not (ap (list_any (is_within q)) (frames_split e b p fs h s) ∙ list_any-append (is_within q) fs (frames_from p 0 (drop p b)) ∙ or_none _ _ (none_from q p 0 (drop p b) j))) in
     omega arith

@@ -2,10 +2,10 @@
 use Rattle.std.proofs.Common.{ℕ, ◌≡◌, ◌+◌, ◌-◌, ◌<◌, ◌≤◌, Bool, true, false, List, [], ◌∷◌, ◌++◌, length, drop, refl, ap, ◌∙◌, arith, length-append, sum_by}
 use Rattle.std.proofs.lemmas.List.{drop-append-le, length-drop, drop-drop}
 use Rattle.std.proofs.lemmas.List.Sums.{sum_by_push}
-use Rattle.rtcm_scan.specs.Frame.{begins_frame, message_length, frame_length, message_of}
+use Rattle.rtcm_scan.specs.Frame.{begins_frame, message_length, frame_length, framed_message}
 use Rattle.rtcm_scan.specs.Frames.{Framed, IsFrameOf}
-use Rattle.rtcm_bits.specs.Window.{Held, pushed, without_front}
-use Rattle.rtcm_scan.specs.Scan.{Scan, scan_of, with_window, StandsFor, first_held, IsPassed, Scanned}
+use Rattle.rtcm_bits.specs.Window.{WindowValue, pushed, without_front}
+use Rattle.rtcm_scan.specs.Scan.{FramerValue, scan_of, with_window, HasFramed, first_held, IsPassed, Scanned}
 use Rattle.rtcm_scan.proofs.FrameLemmas.{begins_parts, length-message}
 use Rattle.rtcm_scan.proofs.ScanLemmas.{scanned_skip, scanned_frame, scanned_longer, scanned_ended}
 use Rattle.rtcm_scan.proofs.PrefixLemmas.{known_first}
@@ -14,12 +14,12 @@ use Rattle.rtcm_scan.proofs.PrefixLemmas.{known_first}
 abbrev pub size_of : Framed → ℕ
 size_of f = length f.message + 6
 
-pub stands_by : (v : Scan) (b : List ℕ) (fs : List Framed) → v.taken ≡ length b → v.held ≡ drop (first_held v) b → length v.held ≤ v.taken → Scanned v.has_ended b 0 (first_held v) fs
-    → v.skipped + sum_by size_of fs ≡ first_held v → StandsFor v b fs
+pub stands_by : (v : FramerValue) (b : List ℕ) (fs : List Framed) → v.taken ≡ length b → v.held ≡ drop (first_held v) b → length v.held ≤ v.taken → Scanned v.has_ended b 0 (first_held v) fs
+    → v.skipped + sum_by size_of fs ≡ first_held v → HasFramed v b fs
 stands_by v b fs t h f s k = record { taken = t; held = h; fits = f; scanned = s; first = known_first v.has_ended b (first_held v) fs (omega (arith, t)) s; skipped = k }
 
-pub stands_push : (v : Scan) (b : List ℕ) (fs : List Framed) (x : ℕ) → v.has_ended ≡ false → StandsFor v b fs
-    → StandsFor (record v { taken = v.taken + 1; held = v.held ++ x ∷ []; looks = v.looks ++ 0 ∷ []; is_ready = false }) (b ++ x ∷ []) fs
+pub stands_push : (v : FramerValue) (b : List ℕ) (fs : List Framed) (x : ℕ) → v.has_ended ≡ false → HasFramed v b fs
+    → HasFramed (record v { taken = v.taken + 1; held = v.held ++ x ∷ []; looks = v.looks ++ 0 ∷ []; is_ready = false }) (b ++ x ∷ []) fs
 stands_push v b fs x n s =
     let l : length (v.held ++ x ∷ []) ≡ length v.held + 1 = length-append v.held (x ∷ []) in
     let m : length (b ++ x ∷ []) ≡ length b + 1 = length-append b (x ∷ []) in
@@ -35,14 +35,14 @@ stands_push v b fs x n s =
     (rw (n, e) (scanned_longer b (x ∷ []) 0 (first_held v) fs (omega arith) c))
     (rw e s.skipped)
 
-pub stands_end : (v : Scan) (b : List ℕ) (fs : List Framed) → StandsFor v b fs → StandsFor (record v { has_ended = true }) b fs
+pub stands_end : (v : FramerValue) (b : List ℕ) (fs : List Framed) → HasFramed v b fs → HasFramed (record v { has_ended = true }) b fs
 stands_end v b fs s = stands_by (record v { has_ended = true }) b fs s.taken s.held s.fits (scanned_ended v.has_ended b 0 (first_held v) fs s.scanned) s.skipped
 
-pub stands_ready : (v : Scan) (b : List ℕ) (fs : List Framed) (r : Bool) → StandsFor v b fs → StandsFor (record v { is_ready = r }) b fs
+pub stands_ready : (v : FramerValue) (b : List ℕ) (fs : List Framed) (r : Bool) → HasFramed v b fs → HasFramed (record v { is_ready = r }) b fs
 stands_ready v b fs r s = record { taken = s.taken; held = s.held; fits = s.fits; scanned = s.scanned; first = s.first; skipped = s.skipped }
 
-pub stands_give_up : (v : Scan) (b : List ℕ) (fs : List Framed) → 0 < length v.held → IsPassed v.has_ended v.held → StandsFor v b fs
-    → StandsFor (record v { held = drop 1 v.held; skipped = v.skipped + 1 }) b fs
+pub stands_give_up : (v : FramerValue) (b : List ℕ) (fs : List Framed) → 0 < length v.held → IsPassed v.has_ended v.held → HasFramed v b fs
+    → HasFramed (record v { held = drop 1 v.held; skipped = v.skipped + 1 }) b fs
 stands_give_up v b fs h p s =
     let l : length (drop 1 v.held) ≡ length v.held - 1 = length-drop 1 v.held in
     let f : length v.held ≤ v.taken = s.fits in
@@ -56,20 +56,20 @@ stands_give_up v b fs h p s =
     (rw e (scanned_skip v.has_ended b 0 (first_held v) fs s.scanned g))
     (rw e (omega arith))
 
-pub stands_take : (v : Scan) (b : List ℕ) (fs : List Framed) → begins_frame v.held ≡ true → StandsFor v b fs
-    → StandsFor (record v { held = drop (frame_length v.held) v.held }) b (fs ++ record { offset = first_held v; message = message_of v.held } ∷ [])
+pub stands_take : (v : FramerValue) (b : List ℕ) (fs : List Framed) → begins_frame v.held ≡ true → HasFramed v b fs
+    → HasFramed (record v { held = drop (frame_length v.held) v.held }) b (fs ++ record { offset = first_held v; message = framed_message v.held } ∷ [])
 stands_take v b fs h s =
-    let g : Framed = record { offset = first_held v; message = message_of v.held } in
+    let g : Framed = record { offset = first_held v; message = framed_message v.held } in
     let n : ℕ = frame_length v.held in
     let w : frame_length v.held ≤ length v.held = (begins_parts v.held h).1 in
-    let m : length (message_of v.held) ≡ message_length v.held = length-message v.held h in
+    let m : length (framed_message v.held) ≡ message_length v.held = length-message v.held h in
     let l : length (drop (frame_length v.held) v.held) ≡ length v.held - frame_length v.held = length-drop (frame_length v.held) v.held in
     let f : length v.held ≤ v.taken = s.fits in
-    let e : v.taken - length (drop (frame_length v.held) v.held) ≡ first_held v + (length (message_of v.held) + 6) = omega arith in
+    let e : v.taken - length (drop (frame_length v.held) v.held) ≡ first_held v + (length (framed_message v.held) + 6) = omega arith in
     let k : v.skipped + sum_by size_of fs ≡ first_held v = s.skipped in
-    let j : sum_by size_of (fs ++ g ∷ []) ≡ sum_by size_of fs + (length (message_of v.held) + 6) = sum_by_push size_of fs g in
-    let i : IsFrameOf b g = record { begins = (let q = s.held in rw q at h); message = ap message_of s.held } in
-    stands_by (record v { held = drop (frame_length v.held) v.held }) b (fs ++ record { offset = first_held v; message = message_of v.held } ∷ [])
+    let j : sum_by size_of (fs ++ g ∷ []) ≡ sum_by size_of fs + (length (framed_message v.held) + 6) = sum_by_push size_of fs g in
+    let i : IsFrameOf b g = record { begins = (let q = s.held in rw q at h); message = ap framed_message s.held } in
+    stands_by (record v { held = drop (frame_length v.held) v.held }) b (fs ++ record { offset = first_held v; message = framed_message v.held } ∷ [])
     s.taken
     (let x : first_held v + frame_length v.held ≡ v.taken - length (drop (frame_length v.held) v.held) = omega arith in
     ap (drop (frame_length v.held)) s.held ∙ drop-drop (frame_length v.held) (first_held v) b ∙ ap (λ q. drop q b) x)
@@ -78,12 +78,12 @@ stands_take v b fs h s =
     (rw (e, j) (omega arith))
 
 -- the framer's view after each change of its window
-pub view_pushed : (v : Scan) (limit place skipped tried : ℕ) (w w' : Held) (ended ready : Bool) (x : ℕ) → scan_of limit place w ended ready skipped tried ≡ v → w' ≡ pushed w x
+pub view_pushed : (v : FramerValue) (limit place skipped tried : ℕ) (w w' : WindowValue) (ended ready : Bool) (x : ℕ) → scan_of limit place w ended ready skipped tried ≡ v → w' ≡ pushed w x
     → scan_of limit place w' ended false skipped tried ≡ record v { taken = v.taken + 1; held = v.held ++ x ∷ []; looks = v.looks ++ 0 ∷ []; is_ready = false }
 view_pushed v limit place skipped tried w w' ended ready x e f =
     let l : length (w.bytes ++ x ∷ []) ≡ length w.bytes + 1 = length-append w.bytes (x ∷ []) in
     let t : place + length (w.bytes ++ x ∷ []) ≡ place + length w.bytes + 1 = omega arith in
-    rw (f, ← e) (ap (λ n. let r : Scan = record (scan_of limit place (pushed w x) ended false skipped tried) { taken = n } in r) t)
+    rw (f, ← e) (ap (λ n. let r : FramerValue = record (scan_of limit place (pushed w x) ended false skipped tried) { taken = n } in r) t)
 
 pub whole_frame : (held bytes : List ℕ) (size : ℕ) → begins_frame held ≡ true → size ≡ frame_length held → bytes ≡ held → (6 ≤ size) × (size ≤ length bytes)
 whole_frame held bytes size h e f =
@@ -91,9 +91,9 @@ whole_frame held bytes size h e f =
     let l : length bytes ≡ length held = ap length f in
     (omega arith, omega arith)
 
-pub view_dropped : (v : Scan) (limit place skipped tried n : ℕ) (w u w' : Held) (ended ready : Bool) → scan_of limit place w ended ready skipped tried ≡ v → u.bytes ≡ w.bytes
+pub view_dropped : (v : FramerValue) (limit place skipped tried n : ℕ) (w u w' : WindowValue) (ended ready : Bool) → scan_of limit place w ended ready skipped tried ≡ v → u.bytes ≡ w.bytes
     → w' ≡ without_front u n → n ≤ length w.bytes → scan_of limit (place + n) w' ended ready skipped 0 ≡ with_window v (without_front u n) 0
 view_dropped v limit place skipped tried n w u w' ended ready e g f h =
     let l : length (drop n u.bytes) ≡ length w.bytes - n = length-drop n u.bytes ∙ ap (λ b. length b - n) g in
     let t : place + n + length (drop n u.bytes) ≡ place + length w.bytes = omega arith in
-    rw (f, ← e) (ap (λ q. let r : Scan = record (scan_of limit (place + n) (without_front u n) ended ready skipped 0) { taken = q } in r) t)
+    rw (f, ← e) (ap (λ q. let r : FramerValue = record (scan_of limit (place + n) (without_front u n) ended ready skipped 0) { taken = q } in r) t)

@@ -4,13 +4,13 @@ use Rattle.std.specs.List.{filter, list_any, AllByRecursion as ByRecursion}
 use Rattle.std.proofs.lemmas.Bool.{cases_lt, lt-ltb, le-ltb}
 use Rattle.std.proofs.lemmas.List.{get_or-set_same, map-append}
 use Rattle.std.proofs.lemmas.List.Elements.{filter-append}
-use Rattle.rtcm_bits.specs.Window.{Held, looked, looked_through, without_front}
-use Rattle.rtcm_scan.specs.Frame.{begins_frame, message_length, frame_length, has_preamble, message_of}
-use Rattle.rtcm_scan.specs.Frames.{Framed, IsFrameOf, end_of}
+use Rattle.rtcm_bits.specs.Window.{WindowValue, looked, looked_through, without_front}
+use Rattle.rtcm_scan.specs.Frame.{begins_frame, message_length, frame_length, has_preamble, framed_message}
+use Rattle.rtcm_scan.specs.Frames.{Framed, IsFrameOf, frame_end}
 use Rattle.rtcm_scan.specs.Decided.{places, is_inside, cost}
-use Rattle.rtcm_scan.specs.Scan.{Scan, StandsFor, first_held, IsPassed, Scanned, window_of, with_window}
+use Rattle.rtcm_scan.specs.Scan.{FramerValue, HasFramed, first_held, IsPassed, Scanned, window_of, with_window}
 use Rattle.rtcm_scan.specs.Pending.{asked, with_candidate_examined}
-use Rattle.rtcm_scan.specs.Looks.{Span, span, covers, looks_at, all_looks, tried_before, spans_at, Counts}
+use Rattle.rtcm_scan.specs.Looks.{Span, span, covers, looks_at, all_looks, tried_before, spans_at, CountsLooks}
 use Rattle.rtcm_scan.specs.Examined.{HasExamined}
 use Rattle.rtcm_scan.proofs.LooksLemmas.{one_if, looks_push, all_push, counts_look, counts_push, none_cover, greatest_same}
 use Rattle.rtcm_scan.proofs.TriedLemmas.{counts_skip, counts_frame, looks_frame, all_frame, empty_covers}
@@ -62,22 +62,22 @@ fit_less xs q k n h f = record {
     le_sum : (u v x : ℕ) → u ≡ x + k → v ≡ x + n → v ≤ 18446744073709551615 → u ≤ 18446744073709551615
     le_sum u v x a b c = omega arith
 
-abbrev Counted : List Span → ℕ → ℕ → Held → Type 0
-Counted xs p n w = Counts xs p n w.looks w.examined w.most
+abbrev Counted : List Span → ℕ → ℕ → WindowValue → Type 0
+Counted xs p n w = CountsLooks xs p n w.looks w.examined w.most
 
-pub looked_bytes : (w : Held) (start m : ℕ) → (looked_through w start m).bytes ≡ w.bytes
+pub looked_bytes : (w : WindowValue) (start m : ℕ) → (looked_through w start m).bytes ≡ w.bytes
 looked_bytes w start zero = refl
 looked_bytes w start (suc m) = looked_bytes w start m
 
-pub looked_length : (w : Held) (start m : ℕ) → length (looked_through w start m).looks ≡ length w.looks
+pub looked_length : (w : WindowValue) (start m : ℕ) → length (looked_through w start m).looks ≡ length w.looks
 looked_length w start zero = refl
 looked_length w start (suc m) = length-set (looked_through w start m).looks (start + m) _ ∙ looked_length w start m
 
 -- one look, where no count is full
-counts_looked : (xs : List Span) (q k p n j : ℕ) (w : Held) → q + k ≡ p + j → j < length w.looks → p + j < n → Fit (xs ++ span q (k + 1) ∷ [])
+counts_looked : (xs : List Span) (q k p n j : ℕ) (w : WindowValue) → q + k ≡ p + j → j < length w.looks → p + j < n → Fit (xs ++ span q (k + 1) ∷ [])
     → Counted (xs ++ span q k ∷ []) p n w → Counted (xs ++ span q (k + 1) ∷ []) p n (looked w j)
 counts_looked xs q k p n j w e l h f c =
-    let d : Counts (xs ++ span q (k + 1) ∷ []) p n (set w.looks j (get_or w.looks j 0 + 1)) (w.examined + 1) (max w.most (get_or w.looks j 0 + 1)) =
+    let d : CountsLooks (xs ++ span q (k + 1) ∷ []) p n (set w.looks j (get_or w.looks j 0 + 1)) (w.examined + 1) (max w.most (get_or w.looks j 0 + 1)) =
     counts_look xs q k p n j w.looks w.examined w.most e l h c in
     let g : get_or (set w.looks j (get_or w.looks j 0 + 1)) j 0 ≡ get_or w.looks j 0 + 1 = get_or-set_same w.looks j (get_or w.looks j 0 + 1) 0 l in
     let a : get_or (set w.looks j (get_or w.looks j 0 + 1)) j 0 ≡ looks_at (xs ++ span q (k + 1) ∷ []) (p + j) = d.each j (omega (arith, l, length-set w.looks j (get_or w.looks j 0 + 1))) in
@@ -94,7 +94,7 @@ counts_looked xs q k p n j w e l h f c =
     fits_all : (x y : ℕ) → x ≡ y → y ≤ 18446744073709551615 → min x 18446744073709551615 ≡ x
     fits_all x y a b = omega arith
 
-counts_through : (xs : List Span) (q k p n start m : ℕ) (w : Held) → q + k ≡ p + start → start + m ≤ length w.looks → p + (start + m) ≤ n → Fit (xs ++ span q (k + m) ∷ [])
+counts_through : (xs : List Span) (q k p n start m : ℕ) (w : WindowValue) → q + k ≡ p + start → start + m ≤ length w.looks → p + (start + m) ≤ n → Fit (xs ++ span q (k + m) ∷ [])
     → Counted (xs ++ span q k ∷ []) p n w → Counted (xs ++ span q (k + m) ∷ []) p n (looked_through w start m)
 counts_through xs q k p n start zero w e l h f c =
     let z : k ≡ k + 0 = omega arith in subst (λ (t : ℕ). Counted (xs ++ span q t ∷ []) p n w) z c
@@ -127,10 +127,10 @@ pub cost_asked : (b : List ℕ) (p : ℕ) → 0 < length (drop p b) → cost b p
 cost_asked b p h = elim (has_preamble (drop p b)) as (λ v. cond v (min (frame_length (drop p b)) (length (drop p b))) 1 ≡ min (cond v (frame_length (drop p b)) 1) (length (drop p b))) [ true ↦ refl | false ↦ omega arith ]
 
 -- the candidate at the front is examined
-pub step_examined : (v : Scan) (b : List ℕ) (fs : List Framed) → v.tried ≤ asked v.held → HasExamined v b fs → HasExamined (with_candidate_examined v) b fs
+pub step_examined : (v : FramerValue) (b : List ℕ) (fs : List Framed) → v.tried ≤ asked v.held → HasExamined v b fs → HasExamined (with_candidate_examined v) b fs
 step_examined v b fs h x =
     let p = first_held v in
-    let s : StandsFor v b fs = x.stands in
+    let s : HasFramed v b fs = x.stands in
     let sc : Scanned v.has_ended b 0 (first_held v) fs = s.scanned in
     let a = asked_bound v.held in
     let a0 : asked v.held ≤ 1029 = a.0 in
@@ -155,11 +155,11 @@ step_examined v b fs h x =
     }
 
 -- a place is given up
-pub step_give_up : (v : Scan) (b : List ℕ) (fs : List Framed) → 0 < length v.held → v.tried ≡ asked v.held → IsPassed v.has_ended v.held → HasExamined v b fs
+pub step_give_up : (v : FramerValue) (b : List ℕ) (fs : List Framed) → 0 < length v.held → v.tried ≡ asked v.held → IsPassed v.has_ended v.held → HasExamined v b fs
     → HasExamined (record (with_window v (without_front (window_of v) 1) 0) { skipped = v.skipped + 1 }) b fs
 step_give_up v b fs h a p x =
-    let s : StandsFor v b fs = x.stands in
-    let n : StandsFor (record v { held = drop 1 v.held; skipped = v.skipped + 1 }) b fs = stands_give_up v b fs h p s in
+    let s : HasFramed v b fs = x.stands in
+    let n : HasFramed (record v { held = drop 1 v.held; skipped = v.skipped + 1 }) b fs = stands_give_up v b fs h p s in
     let l : length (drop 1 v.held) ≡ length v.held - 1 = length-drop 1 v.held in
     let f : length v.held ≤ v.taken = s.fits in
     let t : v.taken ≡ length b = s.taken in
@@ -167,9 +167,9 @@ step_give_up v b fs h a p x =
     let g : length v.looks ≡ length v.held = x.each in
     let y : v.held ≡ drop (first_held v) b = s.held in
     let k : v.tried ≡ cost b (first_held v) = a ∙ ap asked y ∙ sym (cost_asked b (first_held v) (let q = ap length y in omega arith)) in
-    let c : Counts (spans_at b fs (first_held v) (cost b (first_held v))) (first_held v) (length b) v.looks v.examined v.most =
-    subst (λ (q : ℕ). Counts (spans_at b fs (first_held v) q) (first_held v) (length b) v.looks v.examined v.most) k x.counts in
-    let d : Counts (spans_at b fs (first_held v + 1) 0) (first_held v + 1) (length b) (drop 1 v.looks) v.examined v.most =
+    let c : CountsLooks (spans_at b fs (first_held v) (cost b (first_held v))) (first_held v) (length b) v.looks v.examined v.most =
+    subst (λ (q : ℕ). CountsLooks (spans_at b fs (first_held v) q) (first_held v) (length b) v.looks v.examined v.most) k x.counts in
+    let d : CountsLooks (spans_at b fs (first_held v + 1) 0) (first_held v + 1) (length b) (drop 1 v.looks) v.examined v.most =
     counts_skip v.has_ended b fs (first_held v) (length b) v.looks v.examined v.most s.scanned (omega arith) c in
     record {
       stands = record { taken = n.taken; held = n.held; fits = n.fits; scanned = n.scanned; first = n.first; skipped = n.skipped };
@@ -177,11 +177,11 @@ step_give_up v b fs h a p x =
       within = x.within;
       each = length-drop 1 v.looks ∙ ap (λ q. q - 1) g ∙ sym l;
       tried = omega arith;
-      counts = subst (λ (q : ℕ). Counts (spans_at b fs q 0) q (length b) (drop 1 v.looks) v.examined v.most) e d;
+      counts = subst (λ (q : ℕ). CountsLooks (spans_at b fs q 0) q (length b) (drop 1 v.looks) v.examined v.most) e d;
     }
 
 -- spans that look alike
-pub counts_same : (xs ys : List Span) (p n : ℕ) (looks : List ℕ) (all most : ℕ) → ((i : ℕ) → looks_at xs i ≡ looks_at ys i) → all_looks xs ≡ all_looks ys → Counts xs p n looks all most → Counts ys p n looks all most
+pub counts_same : (xs ys : List Span) (p n : ℕ) (looks : List ℕ) (all most : ℕ) → ((i : ℕ) → looks_at xs i ≡ looks_at ys i) → all_looks xs ≡ all_looks ys → CountsLooks xs p n looks all most → CountsLooks ys p n looks all most
 counts_same xs ys p n looks all most e t c = record {
   each = λ j l. c.each j l ∙ e (p + j);
   total = c.total ∙ t;
@@ -201,20 +201,20 @@ all_empty xs p = let a : all_looks (xs ++ span p 0 ∷ []) ≡ all_looks xs + 0 
     join u x e = omega arith
 
 -- a frame is handed over
-pub step_take : (v : Scan) (b : List ℕ) (fs : List Framed) → begins_frame v.held ≡ true → v.tried ≡ asked v.held → HasExamined v b fs
-    → HasExamined (with_window v (without_front (looked_through (window_of v) 3 (message_length v.held)) (frame_length v.held)) 0) b (fs ++ record { offset = first_held v; message = message_of v.held } ∷ [])
+pub step_take : (v : FramerValue) (b : List ℕ) (fs : List Framed) → begins_frame v.held ≡ true → v.tried ≡ asked v.held → HasExamined v b fs
+    → HasExamined (with_window v (without_front (looked_through (window_of v) 3 (message_length v.held)) (frame_length v.held)) 0) b (fs ++ record { offset = first_held v; message = framed_message v.held } ∷ [])
 step_take v b fs h a x =
     let p = first_held v in
     let m : ℕ = message_length v.held in
-    let g : Framed = record { offset = first_held v; message = message_of v.held } in
-    let s : StandsFor v b fs = x.stands in
-    let n : StandsFor (record v { held = drop (frame_length v.held) v.held }) b (fs ++ g ∷ []) = stands_take v b fs h s in
+    let g : Framed = record { offset = first_held v; message = framed_message v.held } in
+    let s : HasFramed v b fs = x.stands in
+    let n : HasFramed (record v { held = drop (frame_length v.held) v.held }) b (fs ++ g ∷ []) = stands_take v b fs h s in
     let w : frame_length v.held ≤ length v.held = (begins_parts v.held h).1 in
-    let q : length (message_of v.held) ≡ message_length v.held = length-message v.held h in
+    let q : length (framed_message v.held) ≡ message_length v.held = length-message v.held h in
     let l : length (drop (frame_length v.held) v.held) ≡ length v.held - frame_length v.held = length-drop (frame_length v.held) v.held in
     let f : length v.held ≤ v.taken = s.fits in
     let t : v.taken ≡ length b = s.taken in
-    let e : end_of g ≡ v.taken - length (drop (frame_length v.held) v.held) = omega arith in
+    let e : frame_end g ≡ v.taken - length (drop (frame_length v.held) v.held) = omega arith in
     let i : length v.looks ≡ length v.held = x.each in
     let lim : v.limit ≤ 2 ^ 48 = x.limit in
     let wit : v.taken ≤ v.limit = x.within in
@@ -222,44 +222,44 @@ step_take v b fs h a x =
     let sc : Scanned v.has_ended b 0 (first_held v) fs = s.scanned in
     let o : list_any (is_inside (first_held v)) fs ≡ false = none_past v.has_ended b 0 (first_held v) fs s.scanned in
     let k : v.tried ≡ cost b (first_held v) = a ∙ ap asked y ∙ sym (cost_asked b (first_held v) (let z = ap length y in omega arith)) in
-    let c : Counts (spans_at b fs (first_held v) (cost b (first_held v))) (first_held v) (length b) v.looks v.examined v.most =
-    subst (λ (q : ℕ). Counts (spans_at b fs (first_held v) q) (first_held v) (length b) v.looks v.examined v.most) k x.counts in
+    let c : CountsLooks (spans_at b fs (first_held v) (cost b (first_held v))) (first_held v) (length b) v.looks v.examined v.most =
+    subst (λ (q : ℕ). CountsLooks (spans_at b fs (first_held v) q) (first_held v) (length b) v.looks v.examined v.most) k x.counts in
     let xs = spans_at b fs (first_held v) (cost b (first_held v)) in
     let c0 : Counted (spans_at b fs (first_held v) (cost b (first_held v)) ++ span (first_held v + 3) 0 ∷ []) (first_held v) (length b) (window_of v) =
     counts_same xs (xs ++ span (first_held v + 3) 0 ∷ []) (first_held v) (length b) v.looks v.examined v.most (λ j. looks_empty xs (first_held v + 3) j) (all_empty xs (first_held v + 3)) c in
-    let v' : IsFrameOf b g = record { begins = (let r = s.held in rw r at h); message = ap message_of s.held } in
-    let sc' : Scanned v.has_ended b 0 (end_of g) (fs ++ g ∷ []) = scanned_frame v.has_ended b 0 (first_held v) fs g sc refl v' in
-    let k' : Fit (spans_at b (fs ++ g ∷ []) (end_of g) 0) = bound_fits v.has_ended b (fs ++ g ∷ []) (end_of g) 0 sc' (omega arith) (omega arith) (omega arith) in
+    let v' : IsFrameOf b g = record { begins = (let r = s.held in rw r at h); message = ap framed_message s.held } in
+    let sc' : Scanned v.has_ended b 0 (frame_end g) (fs ++ g ∷ []) = scanned_frame v.has_ended b 0 (first_held v) fs g sc refl v' in
+    let k' : Fit (spans_at b (fs ++ g ∷ []) (frame_end g) 0) = bound_fits v.has_ended b (fs ++ g ∷ []) (frame_end g) 0 sc' (omega arith) (omega arith) (omega arith) in
     let fit : Fit (spans_at b fs (first_held v) (cost b (first_held v)) ++ span (first_held v + 3) (length g.message) ∷ []) = record {
-      looks = λ j. (let r : looks_at (spans_at b fs (first_held v) (cost b (first_held v)) ++ span (first_held v + 3) (length g.message) ∷ []) j ≡ looks_at (spans_at b (fs ++ g ∷ []) (end_of g) 0) j = looks_frame b fs g j o in
-          let u : looks_at (spans_at b (fs ++ g ∷ []) (end_of g) 0) j ≤ 65535 = k'.looks j in rw r u);
-      all = (let r : all_looks (spans_at b fs (first_held v) (cost b (first_held v)) ++ span (first_held v + 3) (length g.message) ∷ []) ≡ all_looks (spans_at b (fs ++ g ∷ []) (end_of g) 0) = all_frame b fs g o in
-          let u : all_looks (spans_at b (fs ++ g ∷ []) (end_of g) 0) ≤ 18446744073709551615 = k'.all in rw r u);
+      looks = λ j. (let r : looks_at (spans_at b fs (first_held v) (cost b (first_held v)) ++ span (first_held v + 3) (length g.message) ∷ []) j ≡ looks_at (spans_at b (fs ++ g ∷ []) (frame_end g) 0) j = looks_frame b fs g j o in
+          let u : looks_at (spans_at b (fs ++ g ∷ []) (frame_end g) 0) j ≤ 65535 = k'.looks j in rw r u);
+      all = (let r : all_looks (spans_at b fs (first_held v) (cost b (first_held v)) ++ span (first_held v + 3) (length g.message) ∷ []) ≡ all_looks (spans_at b (fs ++ g ∷ []) (frame_end g) 0) = all_frame b fs g o in
+          let u : all_looks (spans_at b (fs ++ g ∷ []) (frame_end g) 0) ≤ 18446744073709551615 = k'.all in rw r u);
     } in
     let fit' : Fit (spans_at b fs (first_held v) (cost b (first_held v)) ++ span (first_held v + 3) (0 + message_length v.held) ∷ []) =
     (let z : length g.message ≡ 0 + message_length v.held = omega arith in subst (λ (q : ℕ). Fit (spans_at b fs (first_held v) (cost b (first_held v)) ++ span (first_held v + 3) q ∷ [])) z fit) in
     let c1 : Counted (spans_at b fs (first_held v) (cost b (first_held v)) ++ span (first_held v + 3) (0 + message_length v.held) ∷ []) (first_held v) (length b) (looked_through (window_of v) 3 (message_length v.held)) =
     counts_through xs (first_held v + 3) 0 (first_held v) (length b) 3 (message_length v.held) (window_of v) (omega arith) (omega arith) (omega arith) fit' c0 in
     let u = looked_through (window_of v) 3 (message_length v.held) in
-    let c2 : Counts (spans_at b fs g.offset (cost b g.offset) ++ span (g.offset + 3) (length g.message) ∷ []) g.offset (length b) u.looks u.examined u.most =
+    let c2 : CountsLooks (spans_at b fs g.offset (cost b g.offset) ++ span (g.offset + 3) (length g.message) ∷ []) g.offset (length b) u.looks u.examined u.most =
     (let z : 0 + message_length v.held ≡ length g.message = omega arith in
-    subst (λ (q : ℕ). Counts (spans_at b fs (first_held v) (cost b (first_held v)) ++ span (first_held v + 3) q ∷ []) (first_held v) (length b) u.looks u.examined u.most) z c1) in
+    subst (λ (q : ℕ). CountsLooks (spans_at b fs (first_held v) (cost b (first_held v)) ++ span (first_held v + 3) q ∷ []) (first_held v) (length b) u.looks u.examined u.most) z c1) in
     let j : length u.looks ≡ length v.looks = looked_length (window_of v) 3 (message_length v.held) in
-    let c3 : Counts (spans_at b (fs ++ g ∷ []) (end_of g) 0) (end_of g) (length b) (drop (length g.message + 6) u.looks) u.examined u.most =
+    let c3 : CountsLooks (spans_at b (fs ++ g ∷ []) (frame_end g) 0) (frame_end g) (length b) (drop (length g.message + 6) u.looks) u.examined u.most =
     counts_frame v.has_ended b fs g (length b) u.looks u.examined u.most sc (omega arith) c2 in
     let d : drop (length g.message + 6) u.looks ≡ drop (frame_length v.held) u.looks = ap (λ z. drop (z + 6) u.looks) q in
     let bs : drop (frame_length v.held) u.bytes ≡ drop (frame_length v.held) v.held = ap (drop (frame_length v.held)) (looked_bytes (window_of v) 3 (message_length v.held)) in
     let lb : length (drop (frame_length v.held) u.bytes) ≡ length (drop (frame_length v.held) v.held) = ap length bs in
-    let e' : end_of g ≡ v.taken - length (drop (frame_length v.held) u.bytes) = omega arith in
+    let e' : frame_end g ≡ v.taken - length (drop (frame_length v.held) u.bytes) = omega arith in
     record {
-      stands = subst (λ (r : List ℕ). StandsFor (record (with_window v (without_front u (frame_length v.held)) 0) { held = r }) b (fs ++ g ∷ [])) (sym bs)
+      stands = subst (λ (r : List ℕ). HasFramed (record (with_window v (without_front u (frame_length v.held)) 0) { held = r }) b (fs ++ g ∷ [])) (sym bs)
           (record { taken = n.taken; held = n.held; fits = n.fits; scanned = n.scanned; first = n.first; skipped = n.skipped });
       limit = x.limit;
       within = x.within;
       each = length-drop (frame_length v.held) u.looks ∙ ap (λ z. z - frame_length v.held) (j ∙ i) ∙ sym l ∙ sym lb;
       tried = omega arith;
-      counts = subst (λ (q : ℕ). Counts (spans_at b (fs ++ g ∷ []) q 0) q (length b) (drop (frame_length v.held) u.looks) u.examined u.most) e'
-          (subst (λ (r : List ℕ). Counts (spans_at b (fs ++ g ∷ []) (end_of g) 0) (end_of g) (length b) r u.examined u.most) d c3);
+      counts = subst (λ (q : ℕ). CountsLooks (spans_at b (fs ++ g ∷ []) q 0) q (length b) (drop (frame_length v.held) u.looks) u.examined u.most) e'
+          (subst (λ (r : List ℕ). CountsLooks (spans_at b (fs ++ g ∷ []) (frame_end g) 0) (frame_end g) (length b) r u.examined u.most) d c3);
     }
 
 rec_both : (P : Span → Type 0) (xs ys : List Span) → ByRecursion P xs → ByRecursion P ys → ByRecursion P (xs ++ ys)
@@ -281,14 +281,14 @@ spans_end e b fs p s h t (suc n) l =
 
 messages_end : (e : Bool) (b : List ℕ) (from to : ℕ) (fs : List Framed) → Scanned e b from to fs → to ≤ length b → ByRecursion (λ (s : Span). s.start + s.size ≤ length b) (map (λ (f : Framed). span (f.offset + 3) (length f.message)) fs)
 messages_end e b from to [] s h = tt
-messages_end e b from to (f ∷ fs) s h = let l : end_of f ≤ to = scanned_le e b (end_of f) to fs s.3 in (omega arith, messages_end e b (end_of f) to fs s.3 h)
+messages_end e b from to (f ∷ fs) s h = let l : frame_end f ≤ to = scanned_le e b (frame_end f) to fs s.3 in (omega arith, messages_end e b (frame_end f) to fs s.3 h)
 
-pub step_push : (v : Scan) (b : List ℕ) (fs : List Framed) (x : ℕ) → v.has_ended ≡ false → v.taken < v.limit → HasExamined v b fs
+pub step_push : (v : FramerValue) (b : List ℕ) (fs : List Framed) (x : ℕ) → v.has_ended ≡ false → v.taken < v.limit → HasExamined v b fs
     → HasExamined (record v { taken = v.taken + 1; held = v.held ++ x ∷ []; looks = v.looks ++ 0 ∷ []; is_ready = false }) (b ++ x ∷ []) fs
 unfolding tried_before
 step_push v b fs x n lt h =
     let p = first_held v in
-    let s : StandsFor v b fs = h.stands in
+    let s : HasFramed v b fs = h.stands in
     let r = stands_push v b fs x n s in
     let f : length v.held ≤ v.taken = s.fits in
     let t : v.taken ≡ length b = s.taken in
@@ -301,17 +301,17 @@ step_push v b fs x n lt h =
     let e : first_held v ≡ v.taken + 1 - length (v.held ++ x ∷ []) = omega arith in
     let z : looks_at (spans_at b fs (first_held v) v.tried) (length b) ≡ 0 = none_cover (spans_at b fs (first_held v) v.tried) (length b)
     (rec_both _ _ _ (rec_both _ _ _ (spans_end false b fs (first_held v) sc (omega arith) (λ q. not (list_any (is_inside q) fs)) (first_held v) (omega arith)) (messages_end false b 0 (first_held v) fs sc (omega arith))) (omega arith, tt)) in
-    let c : Counts (spans_at b fs (first_held v) v.tried) (first_held v) (length b + 1) (v.looks ++ 0 ∷ []) v.examined v.most =
+    let c : CountsLooks (spans_at b fs (first_held v) v.tried) (first_held v) (length b + 1) (v.looks ++ 0 ∷ []) v.examined v.most =
     counts_push (spans_at b fs (first_held v) v.tried) (first_held v) (length b) v.looks v.examined v.most (omega arith) z h.counts in
     let w : spans_at (b ++ x ∷ []) fs (first_held v) v.tried ≡ spans_at b fs (first_held v) v.tried = spans_longer b (x ∷ []) (first_held v) v.tried fs (omega arith) sc in
-    let d : Counts (spans_at (b ++ x ∷ []) fs (first_held v) v.tried) (first_held v) (length (b ++ x ∷ [])) (v.looks ++ 0 ∷ []) v.examined v.most =
-    subst (λ (q : ℕ). Counts (spans_at (b ++ x ∷ []) fs (first_held v) v.tried) (first_held v) q (v.looks ++ 0 ∷ []) v.examined v.most) (sym m)
-    (subst (λ (q : List Span). Counts q (first_held v) (length b + 1) (v.looks ++ 0 ∷ []) v.examined v.most) (sym w) c) in
+    let d : CountsLooks (spans_at (b ++ x ∷ []) fs (first_held v) v.tried) (first_held v) (length (b ++ x ∷ [])) (v.looks ++ 0 ∷ []) v.examined v.most =
+    subst (λ (q : ℕ). CountsLooks (spans_at (b ++ x ∷ []) fs (first_held v) v.tried) (first_held v) q (v.looks ++ 0 ∷ []) v.examined v.most) (sym m)
+    (subst (λ (q : List Span). CountsLooks q (first_held v) (length b + 1) (v.looks ++ 0 ∷ []) v.examined v.most) (sym w) c) in
     record {
       stands = r;
       limit = h.limit;
       within = omega arith;
       each = ll ∙ ap (λ q. q + 1) g ∙ sym l;
       tried = omega arith;
-      counts = subst (λ (q : ℕ). Counts (spans_at (b ++ x ∷ []) fs q v.tried) q (length (b ++ x ∷ [])) (v.looks ++ 0 ∷ []) v.examined v.most) e d;
+      counts = subst (λ (q : ℕ). CountsLooks (spans_at (b ++ x ∷ []) fs q v.tried) q (length (b ++ x ∷ [])) (v.looks ++ 0 ∷ []) v.examined v.most) e d;
     }

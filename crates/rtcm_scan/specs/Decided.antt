@@ -2,7 +2,7 @@
 use Rattle.std.specs.Prelude.{ℕ, zero, suc, ◌&&◌, min, not, nat_lt, nat_le, Bool, List, [], ◌∷◌, ◌++◌, length, drop, if◌then◌else◌}
 use Rattle.std.specs.List.{filter, list_any, position_or_len, count_by}
 use Rattle.rtcm_scan.specs.Frame.{has_preamble, frame_length, is_open}
-use Rattle.rtcm_scan.specs.Frames.{Framed, end_of, frames_of}
+use Rattle.rtcm_scan.specs.Frames.{Framed, frame_end, frames_of}
 
 -- the places from 0 up to n
 unfoldable pub places : ℕ → List ℕ
@@ -11,7 +11,7 @@ places (suc n) = places n ++ n ∷ []
 
 -- whether a place is behind the first byte of a frame and before its end
 abbrev pub is_inside : ℕ → Framed → Bool
-is_inside p f = nat_lt f.offset p && nat_lt p (end_of f)
+is_inside p f = nat_lt f.offset p && nat_lt p (frame_end f)
 
 -- a place that begins a frame or is in none
 unfoldable pub is_tried : List ℕ → ℕ → Bool
@@ -39,11 +39,11 @@ decided_frames b = frames_before (decided b) (frames_of b)
 
 -- whether a place is one of a frame's
 abbrev pub is_within : ℕ → Framed → Bool
-is_within p f = nat_le f.offset p && nat_lt p (end_of f)
+is_within p f = nat_le f.offset p && nat_lt p (frame_end f)
 
 -- how many of the places before p are in none of these frames
-abbrev pub given_up : ℕ → List Framed → ℕ
-given_up p fs = count_by (λ q. not (list_any (is_within q) fs)) (places p)
+abbrev pub skipped_before : ℕ → List Framed → ℕ
+skipped_before p fs = count_by (λ q. not (list_any (is_within q) fs)) (places p)
 
 -- what trying place p examines: the bytes of the frame that may stand there, as far as they are there, or one byte
 abbrev pub cost : List ℕ → ℕ → ℕ

@@ -2,16 +2,16 @@
 use Rattle.std.specs.Prelude.{◌≡◌, ℕ, ◌+◌, ◌-◌, ◌^◌, ◌<◌, ◌≤◌, Bool, false, List, [], ◌∷◌, ◌++◌, length, drop, replicate}
 use Rattle.std.specs.List.{sum_by}
 use Rattle.rtcm_scan.specs.Frame.{begins_frame, is_open}
-use Rattle.rtcm_scan.specs.Frames.{Framed, IsFrameOf, end_of}
+use Rattle.rtcm_scan.specs.Frames.{Framed, IsFrameOf, frame_end}
 use Rattle.rtcm_bits.specs.Prefix.{IsPrefix}
 use Rattle.rtcm_scan.specs.Known.{known_frames}
-use Rattle.rtcm_bits.specs.Window.{Held}
+use Rattle.rtcm_bits.specs.Window.{WindowValue}
 
 -- limit: the most bytes that it takes; taken: how many it took; held: the held bytes; has_ended: no byte follows;
 -- is_ready: nothing was taken since all was decided; skipped: bytes given up that are in no frame;
 -- tried: how many of the held bytes were examined as a candidate; looks: how often each held byte was looked at;
 -- examined: all looks; most: the greatest count that any byte reached
-pub record Scan : Type 0 where
+pub record FramerValue : Type 0 where
   pub limit : ℕ
   pub taken : ℕ
   pub held : List ℕ
@@ -28,7 +28,7 @@ abbrev pub most_bytes : ℕ
 most_bytes = 2 ^ 48
 
 -- by its parts
-abbrev pub scan_of : ℕ → ℕ → Held → Bool → Bool → ℕ → ℕ → Scan
+abbrev pub scan_of : ℕ → ℕ → WindowValue → Bool → Bool → ℕ → ℕ → FramerValue
 scan_of limit place w has_ended is_ready skipped tried =
     record {
       limit = limit;
@@ -44,27 +44,27 @@ scan_of limit place w has_ended is_ready skipped tried =
     }
 
 -- its window
-abbrev pub window_of : Scan → Held
+abbrev pub window_of : FramerValue → WindowValue
 window_of v = record { bytes = v.held; looks = v.looks; examined = v.examined; most = v.most }
 
 -- with other counts, and a candidate that was examined so far
-abbrev pub with_looks : Scan → Held → ℕ → Scan
+abbrev pub with_looks : FramerValue → WindowValue → ℕ → FramerValue
 with_looks v w tried = record v { looks = w.looks; examined = w.examined; most = w.most; tried = tried }
 
 -- with another window, whose candidate was examined so far
-abbrev pub with_window : Scan → Held → ℕ → Scan
+abbrev pub with_window : FramerValue → WindowValue → ℕ → FramerValue
 with_window v w tried = record v { held = w.bytes; looks = w.looks; examined = w.examined; most = w.most; tried = tried }
 
 -- with this byte more, which nothing has looked at
-abbrev pub with_byte : Scan → ℕ → Scan
+abbrev pub with_byte : FramerValue → ℕ → FramerValue
 with_byte v byte = record v { taken = v.taken + 1; held = v.held ++ byte ∷ []; looks = v.looks ++ 0 ∷ []; is_ready = false }
 
 -- with these bytes more, which nothing has looked at
-abbrev pub with_bytes : Scan → List ℕ → Scan
+abbrev pub with_bytes : FramerValue → List ℕ → FramerValue
 with_bytes v bytes = record v { taken = v.taken + length bytes; held = v.held ++ bytes; looks = v.looks ++ replicate (length bytes) 0; is_ready = false }
 
 -- the place of the first held byte
-abbrev pub first_held : Scan → ℕ
+abbrev pub first_held : FramerValue → ℕ
 first_held v = v.taken - length v.held
 
 -- no frame stands at the front, and before the end none can come to stand there
@@ -78,10 +78,10 @@ AllPassed has_ended b from to = (q : ℕ) → from ≤ q → q < to → IsPassed
 -- from one place up to another, b has these frames and between them places that are passed
 abbrev pub Scanned : Bool → List ℕ → ℕ → ℕ → List Framed → Type 0
 Scanned has_ended b from to [] = (from ≤ to) × AllPassed has_ended b from to
-Scanned has_ended b from to (f ∷ fs) = (from ≤ f.offset) × AllPassed has_ended b from f.offset × IsFrameOf b f × Scanned has_ended b (end_of f) to fs
+Scanned has_ended b from to (f ∷ fs) = (from ≤ f.offset) × AllPassed has_ended b from f.offset × IsFrameOf b f × Scanned has_ended b (frame_end f) to fs
 
 -- the framer has taken b, and handed out these frames of it, the first of those that are known
-pub record StandsFor (v : Scan) (b : List ℕ) (fs : List Framed) : Type 0 where
+pub record HasFramed (v : FramerValue) (b : List ℕ) (fs : List Framed) : Type 0 where
   pub taken : v.taken ≡ length b
   pub held : v.held ≡ drop (first_held v) b
   pub fits : length v.held ≤ v.taken
@@ -90,5 +90,5 @@ pub record StandsFor (v : Scan) (b : List ℕ) (fs : List Framed) : Type 0 where
   pub skipped : v.skipped + sum_by (λ f. length f.message + 6) fs ≡ first_held v
 
 -- whatever the framer stood for, it stands for that with this frame handed out too
-abbrev pub HandsOut : Scan → Scan → Framed → Type 0
-HandsOut old new f = (b : List ℕ) (fs : List Framed) → StandsFor old b fs → StandsFor new b (fs ++ f ∷ [])
+abbrev pub HandsOut : FramerValue → FramerValue → Framed → Type 0
+HandsOut old new f = (b : List ℕ) (fs : List Framed) → HasFramed old b fs → HasFramed new b (fs ++ f ∷ [])

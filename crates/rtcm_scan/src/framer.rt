@@ -5,11 +5,11 @@
 //! further, or bytes are missing, and it waits. So a frame inside a damaged frame is found. Each
 //! byte of a candidate is looked at once, however the stream is cut.
 ghost use Rattle.std.specs.Prelude.{◌≡◌, ◌+◌, ◌-◌, ◌*◌, ◌<◌, ◌≤◌, ◌^◌, ◌⊎◌, ℕ, List, [], ◌∷◌, ◌++◌, min, length, take, true, false, IsTrue, IfOk, OnOk, OnErr, IfErr, IfSome, IfNone, OnSome, ◌↔◌};
-ghost use Rattle.rtcm_scan.specs.Frame.{begins_frame, frame_length, message_of};
+ghost use Rattle.rtcm_scan.specs.Frame.{begins_frame, frame_length, framed_message};
 ghost use Rattle.rtcm_scan.specs.Frames.{Framed};
-ghost use Rattle.rtcm_scan.specs.Scan.{StandsFor, HandsOut, most_bytes, first_held, window_of, with_window, with_byte, with_bytes};
+ghost use Rattle.rtcm_scan.specs.Scan.{HasFramed, HandsOut, most_bytes, first_held, window_of, with_window, with_byte, with_bytes};
 ghost use Rattle.rtcm_scan.specs.Candidate.{HasTaken};
-ghost use Rattle.rtcm_scan.specs.Examined.{HasExamined, IsCounted, CountsFrame, CountsKnown};
+ghost use Rattle.rtcm_scan.specs.Examined.{HasExamined, IsCountedExactly, CountsFrame, CountsKnown};
 ghost use Rattle.rtcm_scan.specs.Pending.{asked, HasFrame, with_candidate_examined};
 ghost use Rattle.rtcm_bits.specs.FrameOf.{longest_frame};
 ghost use Rattle.rtcm_bits.specs.Window.{looked_through, without_front};
@@ -78,10 +78,10 @@ pub struct Framer {
 impl Model for Framer {
     ghost use Rattle.std.specs.Prelude.{◌≡◌, ◌+◌, ◌<◌, ◌≤◌, ◌^◌, length, take, true};
     ghost use Rattle.rtcm_bits.specs.FrameOf.{longest_frame};
-    ghost use Rattle.rtcm_scan.specs.Scan.{Scan, most_bytes, scan_of};
+    ghost use Rattle.rtcm_scan.specs.Scan.{FramerValue, most_bytes, scan_of};
     ghost use Rattle.rtcm_scan.specs.Candidate.{HasTaken};
 
-    ghost Value = { Scan };
+    ghost Value = { FramerValue };
 
     ghost view = { λ f. scan_of f.limit f.place f.window f.ended f.drained f.given_up f.candidate.count };
 
@@ -99,10 +99,10 @@ impl Framer {
     /// window.
     pub fn new(alloc: Global, limit: u64) -> Result<Framer, ScanFault>
         ensures new { IfOk result (λ f. f ≡ new_scan limit) }
-        ensures stands { IfOk result (λ f. StandsFor f [] []) }
+        ensures stands { IfOk result (λ f. HasFramed f [] []) }
         ensures counts { IfOk result (λ f. HasExamined f [] []) }
         ensures drained { IfOk result (λ f. IsDrained f [] []) }
-        ensures counted { IfOk result (λ f. IsCounted f []) }
+        ensures counted { IfOk result (λ f. IsCountedExactly f []) }
         ensures bad_limit { result ≡ Err ScanFault.BadLimit ↔ most_bytes < limit }
         ensures only { IfErr result (λ fault. (fault ≡ ScanFault.BadLimit) ⊎ (fault ≡ ScanFault.Memory)) }
     {
@@ -140,7 +140,7 @@ impl Framer {
     pub fn push(&mut self, byte: u8) -> Result<(), ScanFault>
         requires { IsTrue self.old.is_ready }
         ensures answer { result ≡ push_answer self.old }
-        ensures stands { OnOk result ((b : List ℕ) (fs : List Framed) → StandsFor self.old b fs → StandsFor self.new (b ++ byte ∷ []) fs) }
+        ensures stands { OnOk result ((b : List ℕ) (fs : List Framed) → HasFramed self.old b fs → HasFramed self.new (b ++ byte ∷ []) fs) }
         ensures counts { OnOk result ((b : List ℕ) (fs : List Framed) → HasExamined self.old b fs → HasExamined self.new (b ++ byte ∷ []) fs) }
         ensures ok { OnOk result (self.new ≡ with_byte self.old byte) }
         ensures full { OnErr result (self.old.has_ended ≡ false → self.old.taken ≡ self.old.limit) }
@@ -170,7 +170,7 @@ impl Framer {
         requires ready { IsTrue self.old.is_ready }
         requires room { length self.old.held + length bytes.now ≤ longest_frame }
         ensures answer { result ≡ push_all_answer self.old (length bytes.now) }
-        ensures stands { OnOk result ((b : List ℕ) (fs : List Framed) → StandsFor self.old b fs → StandsFor self.new (b ++ bytes.now) fs) }
+        ensures stands { OnOk result ((b : List ℕ) (fs : List Framed) → HasFramed self.old b fs → HasFramed self.new (b ++ bytes.now) fs) }
         ensures counts { OnOk result ((b : List ℕ) (fs : List Framed) → HasExamined self.old b fs → HasExamined self.new (b ++ bytes.now) fs) }
         ensures ok { OnOk result (self.new ≡ with_bytes self.old bytes.now) }
         ensures long { OnErr result (self.old.has_ended ≡ false → self.old.limit < self.old.taken + length bytes.now) }
@@ -193,7 +193,7 @@ impl Framer {
     /// is left.
     pub fn end(&mut self)
         ensures ended { self.new ≡ record self.old { has_ended = true } }
-        ensures stands { (b : List ℕ) (fs : List Framed) → StandsFor self.old b fs → StandsFor self.new b fs }
+        ensures stands { (b : List ℕ) (fs : List Framed) → HasFramed self.old b fs → HasFramed self.new b fs }
         ensures counts { (b : List ℕ) (fs : List Framed) → HasExamined self.old b fs → HasExamined self.new b fs }
     {
         self.ended = true;
@@ -254,7 +254,7 @@ impl Framer {
     /// The next frame that the bytes so far decide, or None where they decide no further one.
     pub fn next(&mut self) -> Option<Frame>
         ensures some { IfSome result (λ f. HandsOut self.old self.new (framed f)) }
-        ensures none { IfNone result ((b : List ℕ) (fs : List Framed) → StandsFor self.old b fs → StandsFor self.new b fs × IsDrained self.new b fs) }
+        ensures none { IfNone result ((b : List ℕ) (fs : List Framed) → HasFramed self.old b fs → HasFramed self.new b fs × IsDrained self.new b fs) }
         ensures some_counts { IfSome result (λ f. CountsFrame self.old self.new (framed f)) }
         ensures none_counts { IfNone result (CountsKnown self.old self.new) }
         ensures ready { IfNone result (self.new.is_ready ≡ true) }
@@ -278,7 +278,7 @@ impl Framer {
     /// answers None, the buffer keeps what it had.
     pub fn next_into(&mut self, message: &mut ArrayVec<u8, LONGEST_MESSAGE>) -> Option<u64>
         ensures some { IfSome result (λ offset. HandsOut self.old self.new (frame_at offset message.new.items)) }
-        ensures none { IfNone result ((b : List ℕ) (fs : List Framed) → StandsFor self.old b fs → StandsFor self.new b fs × IsDrained self.new b fs) }
+        ensures none { IfNone result ((b : List ℕ) (fs : List Framed) → HasFramed self.old b fs → HasFramed self.new b fs × IsDrained self.new b fs) }
         ensures some_counts { IfSome result (λ offset. CountsFrame self.old self.new (frame_at offset message.new.items)) }
         ensures none_counts { IfNone result (CountsKnown self.old self.new) }
         ensures ready { IfNone result (self.new.is_ready ≡ true) }
@@ -301,10 +301,10 @@ impl Framer {
     /// more are decided.
     fn seek(&mut self) -> Option<usize>
         ensures begins { IfSome result (HasFrame self.new) }
-        ensures stands { (b : List ℕ) (fs : List Framed) → StandsFor self.old b fs → StandsFor self.new b fs }
+        ensures stands { (b : List ℕ) (fs : List Framed) → HasFramed self.old b fs → HasFramed self.new b fs }
         ensures counts { (b : List ℕ) (fs : List Framed) → HasExamined self.old b fs → HasExamined self.new b fs }
-        ensures none { IfNone result ((b : List ℕ) (fs : List Framed) → StandsFor self.old b fs → IsDrained self.new b fs) }
-        ensures none_counts { IfNone result ((b : List ℕ) (fs : List Framed) → HasExamined self.old b fs → IsCounted self.new b) }
+        ensures none { IfNone result ((b : List ℕ) (fs : List Framed) → HasFramed self.old b fs → IsDrained self.new b fs) }
+        ensures none_counts { IfNone result ((b : List ℕ) (fs : List Framed) → HasExamined self.old b fs → IsCountedExactly self.new b) }
         ensures ready { IfNone result (self.new.is_ready ≡ true) }
         ensures room { IfNone result (length self.new.held < longest_frame) }
         ensures waits { OnSome result (self.new.is_ready ≡ self.old.is_ready) }
@@ -353,7 +353,7 @@ impl Framer {
     /// at once.
     fn pass_over(&mut self)
         requires { self.old.tried ≡ 0 }
-        ensures stands { (b : List ℕ) (fs : List Framed) → StandsFor self.old b fs → StandsFor self.new b fs }
+        ensures stands { (b : List ℕ) (fs : List Framed) → HasFramed self.old b fs → HasFramed self.new b fs }
         ensures counts { (b : List ℕ) (fs : List Framed) → HasExamined self.old b fs → HasExamined self.new b fs }
         ensures held { length self.new.held ≤ length self.old.held }
         ensures ready { self.new.is_ready ≡ self.old.is_ready }
@@ -372,7 +372,7 @@ impl Framer {
         requires begins { begins_frame self.old.held ≡ true }
         requires size { size ≡ frame_length self.old.held }
         ensures offset { result ≡ first_held self.old }
-        ensures message { message.new.items ≡ message_of self.old.held }
+        ensures message { message.new.items ≡ framed_message self.old.held }
         ensures taken { self.new ≡ with_window self.old (without_front (looked_through (window_of self.old) 3 (size - 6)) size) 0 }
     {
         self.window.hand_over(3, size - 6, message);

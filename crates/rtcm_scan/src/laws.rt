@@ -3,7 +3,7 @@ ghost use Rattle.std.specs.Prelude.{◌≡◌, ◌+◌, ◌*◌, ◌≤◌, ◌+
 ghost use Rattle.rtcm_scan.specs.Decided.{decided, decided_frames, most_undecided};
 ghost use Rattle.rtcm_bits.specs.Prefix.{IsPrefix};
 ghost use Rattle.rtcm_scan.specs.Known.{known_frames};
-ghost use Rattle.rtcm_scan.specs.Scan.{Scan, StandsFor};
+ghost use Rattle.rtcm_scan.specs.Scan.{FramerValue, HasFramed};
 ghost use Rattle.std.specs.List.{flat_map};
 ghost use Rattle.rtcm_bits.specs.FrameOf.{frame_bytes};
 ghost use Rattle.rtcm_scan.specs.Local.{FitFrames, StaysLocal, placed};
@@ -53,5 +53,5 @@ pub fn undecided()
 
 /// The frames that a framer has handed out are the first of those that are known.
 pub fn handed()
-    ensures { (v : Scan) (b : List ℕ) (fs : List Framed) → StandsFor v b fs → IsPrefix fs (known_frames v.has_ended b) }
+    ensures { (v : FramerValue) (b : List ℕ) (fs : List Framed) → HasFramed v b fs → IsPrefix fs (known_frames v.has_ended b) }
 {}

@@ -7,8 +7,8 @@ use Rattle.rinex_file.specs.declared.header.section.Section.{Section}
 use Rattle.rinex_file.specs.declared.header.section.Section.TheVariants.{Types, StrengthUnit, First, Shift, End}
 use Rattle.rinex_file.specs.Texts.{HeaderLists}
 use Rattle.rinex_file.specs.FileValues.{of_system}
-use Rattle.rinex_file.specs.Header.{lines_from, after}
-use Rattle.rinex_file.specs.Read.Progress.{Known, Shown, IsShown, Says, SaidBefore, SaidWithin, NoneYet, IsHeaderLeft, MayFollow, shown_lines, is_planned, AreTypes, types_line, begun}
+use Rattle.rinex_file.specs.Header.{lines_from, sections_behind}
+use Rattle.rinex_file.specs.Read.Progress.{Known, Shown, IsShown, KnowsSection, KnowsBefore, KnowsWithin, NoneYet, IsHeaderLeft, MayFollow, shown_lines, is_some_planned, AreTypes, types_line, signals_begun}
 
 -- a section of at most one line, with another section behind it
 abbrev pub IsSole : Section → Type 0
@@ -23,47 +23,47 @@ has_lines k (Shift system) = of_system system k.gps k.galileo
 has_lines k other = true
 
 -- no signal was read yet of those that stand behind a section
-abbrev pub Unread : Section → Known → Type 0
-Unread (Types Gps) k = k.shown.plan.galileo ≡ []
-Unread (Types Galileo) k = ⊤
-Unread StrengthUnit k = ⊤
-Unread First k = ⊤
-Unread (Shift system) k = ⊤
-Unread End k = ⊤
-Unread other k = NoneYet k
+abbrev pub IsUnread : Section → Known → Type 0
+IsUnread (Types Gps) k = k.shown.plan.galileo ≡ []
+IsUnread (Types Galileo) k = ⊤
+IsUnread StrengthUnit k = ⊤
+IsUnread First k = ⊤
+IsUnread (Shift system) k = ⊤
+IsUnread End k = ⊤
+IsUnread other k = NoneYet k
 
 -- What a line of a section says is known now, and so is what was known before.
-pub record Learns (section : Section) (line : List ℕ) (old new : Known) : Type 0 where
+pub record LearnsLine (section : Section) (line : List ℕ) (old new : Known) : Type 0 where
   pub plan : new.shown.plan ≡ old.shown.plan
-  pub before : (h : Shown) → SaidBefore section old h ↔ SaidBefore section new h
-  pub says : (h : Shown) → IsShown h → SaidBefore section new h → (shown_lines h section ≡ line ∷ []) ↔ Says section new h
+  pub before : (h : Shown) → KnowsBefore section old h ↔ KnowsBefore section new h
+  pub says : (h : Shown) → IsShown h → KnowsBefore section new h → (shown_lines h section ≡ line ∷ []) ↔ KnowsSection section new h
 
 -- no header has this line in a section
-abbrev pub Refuses : Section → List ℕ → Known → Type 0
-Refuses section line old = (h : Shown) → IsShown h → SaidBefore section old h → shown_lines h section ≡ line ∷ [] → ⊥
+abbrev pub RefusesHeaderLine : Section → List ℕ → Known → Type 0
+RefusesHeaderLine section line old = (h : Shown) → IsShown h → KnowsBefore section old h → shown_lines h section ≡ line ∷ [] → ⊥
 
 -- what was learned of a line, or that it is refused
-abbrev pub Learned : Section → List ℕ → Known → Known → Bool → Type 0
-Learned section line old new taken = MatchBool taken (Learns section line old new) (Refuses section line old)
+abbrev pub LearnsOrRefuses : Section → List ℕ → Known → Known → Bool → Type 0
+LearnsOrRefuses section line old new taken = MatchBool taken (LearnsLine section line old new) (RefusesHeaderLine section line old)
 
 -- The header that is shown has a section behind it: what it says is known, and these lines are left.
 pub record IsPast (k : Known) (section : Section) (h : Shown) (left : List (List ℕ)) : Type 0 where
   pub is : IsShown h
-  pub before : SaidBefore section k h
-  pub says : Says section k h
-  pub unread : Unread section k
-  pub lines : left ≡ flat_map (shown_lines h) (after section)
+  pub before : KnowsBefore section k h
+  pub says : KnowsSection section k h
+  pub unread : IsUnread section k
+  pub lines : left ≡ flat_map (shown_lines h) (sections_behind section)
 
 -- A section is next, which may have no line.
 pub record IsReached (k : Known) (section : Section) (h : Shown) (left : List (List ℕ)) : Type 0 where
   pub is : IsShown h
-  pub before : SaidBefore section k h
-  pub within : SaidWithin section 0 k h
+  pub before : KnowsBefore section k h
+  pub within : KnowsWithin section 0 k h
   pub lines : left ≡ lines_from (shown_lines h) section 0
 
 -- signals were read of exactly the planned systems, and there is one
 abbrev pub IsWhole : Known → Type 0
-IsWhole k = (k.gps ≡ is_planned k.shown.plan.gps) × (k.galileo ≡ is_planned k.shown.plan.galileo) × (0 < length k.shown.plan.gps + length k.shown.plan.galileo)
+IsWhole k = (k.gps ≡ is_some_planned k.shown.plan.gps) × (k.galileo ≡ is_some_planned k.shown.plan.galileo) × (0 < length k.shown.plan.gps + length k.shown.plan.galileo)
 
 -- behind a section the headers go on at this place
 abbrev pub GoesOnBehind : Known → Section → Section × ℕ → Type 0
@@ -130,12 +130,12 @@ with_count k count = record { shown = k.shown; gps = k.gps; galileo = k.galileo;
 
 -- so many signals are all, and these are those that begin in the lines in front of one
 abbrev pub AreBegun : ℕ → ℕ → List ℕ → List ℕ → Type 0
-AreBegun count row signals all = (length all ≡ count) × (signals ≡ take (begun row) all)
+AreBegun count row signals all = (length all ≡ count) × (signals ≡ take (signals_begun row) all)
 
 -- the signals that begin in a line were taken behind those of the lines before
 pub record TakesRow (system : System) (count row : ℕ) (line old new : List ℕ) : Type 0 where
   pub taken : (all : List ℕ) → AreTypes system all → (AreBegun count row old all × (line ≡ types_line system all row)) ↔ AreBegun count (row + 1) new all
-  pub size : length new ≡ min (begun (row + 1)) count
+  pub size : length new ≡ min (signals_begun (row + 1)) count
 
 -- the line is no line of types behind these signals
 abbrev pub RefusesRow : System → ℕ → ℕ → List ℕ → List ℕ → Type 0

@@ -10,10 +10,10 @@ use Rattle.rinex_file.specs.declared.header.section.Section.TheVariants.{Version
 use Rattle.rinex_file.specs.declared.read.due.Due.{Due}
 use Rattle.rinex_file.specs.declared.read.due.Due.TheVariants.{Header, Epoch, EventPosition, EventHeight, EventEpoch, Satellite}
 use Rattle.rinex_file.specs.Texts.{HeaderLists}
-use Rattle.rinex_file.specs.Value.{Seen, Stamped, FileValue}
+use Rattle.rinex_file.specs.Value.{SatelliteRow, Stamped, FileValue}
 use Rattle.rinex_file.specs.FileValues.{AreTexts, IsPlan, AreValues, IsTime, IsFileValue}
-use Rattle.rinex_file.specs.Header.{lines_of, lines_from, section_rows, all_sections, place_of, header_line, type_line, types_of, codes_of}
-use Rattle.rinex_file.specs.Lines.{seen_line, letter_of}
+use Rattle.rinex_file.specs.Header.{section_lines, lines_from, section_rows, all_sections, section_place, header_line, type_line, types_of, codes_of}
+use Rattle.rinex_file.specs.Lines.{satellite_line, letter_of}
 use Rattle.rinex_file.specs.Numbers.{joined, left, right, fixed}
 use Rattle.gnss_obs.specs.Signals.{table}
 use Rattle.std.specs.List.{IsDistinct}
@@ -35,7 +35,7 @@ pub record IsShown (h : Shown) : Type 0 where
   pub first : IsTime h.first
 
 abbrev pub shown_lines : Shown → Section → List (List ℕ)
-shown_lines h = lines_of h.texts h.plan h.values (civil_of h.first)
+shown_lines h = section_lines h.texts h.plan h.values (civil_of h.first)
 
 -- What was read of a header: its parts, each as it was until its line was read; whether a system is planned, which the first
 -- line says; and how many signals are, of the system whose types stand last.
@@ -46,34 +46,34 @@ pub record Known : Type 0 where
   pub signals : ℕ
 
 -- some signal is planned
-abbrev pub is_planned : List ℕ → Bool
-is_planned signals = not (length signals == 0)
+abbrev pub is_some_planned : List ℕ → Bool
+is_some_planned signals = not (length signals == 0)
 
 -- what a section says is known
-abbrev pub Says : Section → Known → Shown → Type 0
-Says Version k h = (k.gps ≡ is_planned h.plan.gps) × (k.galileo ≡ is_planned h.plan.galileo)
-Says Program k h = (k.shown.texts.run_by ≡ h.texts.run_by) × (k.shown.texts.date ≡ h.texts.date)
-Says Marker k h = k.shown.texts.marker ≡ h.texts.marker
-Says MarkerType k h = k.shown.texts.marker_type ≡ h.texts.marker_type
-Says Observer k h = (k.shown.texts.observer ≡ h.texts.observer) × (k.shown.texts.agency ≡ h.texts.agency)
-Says Receiver k h = (k.shown.texts.rec_number ≡ h.texts.rec_number) × (k.shown.texts.rec_type ≡ h.texts.rec_type) × (k.shown.texts.rec_version ≡ h.texts.rec_version)
-Says Antenna k h = (k.shown.texts.ant_number ≡ h.texts.ant_number) × (k.shown.texts.ant_type ≡ h.texts.ant_type)
-Says Position k h = (k.shown.values.x ≡ h.values.x) × (k.shown.values.y ≡ h.values.y) × (k.shown.values.z ≡ h.values.z)
-Says Delta k h = k.shown.values.height ≡ h.values.height
-Says (Types system) k h = planned_of system k.shown.plan ≡ planned_of system h.plan
-Says StrengthUnit k h = ⊤
-Says First k h = k.shown.first ≡ h.first
-Says (Shift system) k h = ⊤
-Says End k h = ⊤
+abbrev pub KnowsSection : Section → Known → Shown → Type 0
+KnowsSection Version k h = (k.gps ≡ is_some_planned h.plan.gps) × (k.galileo ≡ is_some_planned h.plan.galileo)
+KnowsSection Program k h = (k.shown.texts.run_by ≡ h.texts.run_by) × (k.shown.texts.date ≡ h.texts.date)
+KnowsSection Marker k h = k.shown.texts.marker ≡ h.texts.marker
+KnowsSection MarkerType k h = k.shown.texts.marker_type ≡ h.texts.marker_type
+KnowsSection Observer k h = (k.shown.texts.observer ≡ h.texts.observer) × (k.shown.texts.agency ≡ h.texts.agency)
+KnowsSection Receiver k h = (k.shown.texts.rec_number ≡ h.texts.rec_number) × (k.shown.texts.rec_type ≡ h.texts.rec_type) × (k.shown.texts.rec_version ≡ h.texts.rec_version)
+KnowsSection Antenna k h = (k.shown.texts.ant_number ≡ h.texts.ant_number) × (k.shown.texts.ant_type ≡ h.texts.ant_type)
+KnowsSection Position k h = (k.shown.values.x ≡ h.values.x) × (k.shown.values.y ≡ h.values.y) × (k.shown.values.z ≡ h.values.z)
+KnowsSection Delta k h = k.shown.values.height ≡ h.values.height
+KnowsSection (Types system) k h = planned_of system k.shown.plan ≡ planned_of system h.plan
+KnowsSection StrengthUnit k h = ⊤
+KnowsSection First k h = k.shown.first ≡ h.first
+KnowsSection (Shift system) k h = ⊤
+KnowsSection End k h = ⊤
 
 -- what the first sections say is known, so many of them
-abbrev pub SaidOf : ℕ → Known → Shown → Type 0
-SaidOf zero k h = ⊤
-SaidOf (suc n) k h = SaidOf n k h × Says (get_or all_sections n End) k h
+abbrev pub KnowsFirst : ℕ → Known → Shown → Type 0
+KnowsFirst zero k h = ⊤
+KnowsFirst (suc n) k h = KnowsFirst n k h × KnowsSection (get_or all_sections n End) k h
 
 -- what the sections in front of one say is known
-abbrev pub SaidBefore : Section → Known → Shown → Type 0
-SaidBefore section k h = SaidOf (place_of section) k h
+abbrev pub KnowsBefore : Section → Known → Shown → Type 0
+KnowsBefore section k h = KnowsFirst (section_place section) k h
 
 -- ---- signals
 
@@ -94,39 +94,39 @@ abbrev pub types_line : System → List ℕ → ℕ → List ℕ
 types_line system all row = type_line (letter_of system) (types_of (codes_of system all)) row
 
 -- so many signals begin in the lines in front of a line of types
-abbrev pub begun : ℕ → ℕ
-begun row = (13 * row + 3) / 4
+abbrev pub signals_begun : ℕ → ℕ
+signals_begun row = (13 * row + 3) / 4
 
 -- no signal was read yet
 abbrev pub NoneYet : Known → Type 0
 NoneYet k = (k.shown.plan.gps ≡ []) × (k.shown.plan.galileo ≡ [])
 
 -- what the lines of a section in front of one say is known, and no signal whose lines come later is
-abbrev pub SaidWithin : Section → ℕ → Known → Shown → Type 0
-SaidWithin Version row k h = NoneYet k
-SaidWithin Program row k h = NoneYet k
-SaidWithin Marker row k h = NoneYet k
-SaidWithin MarkerType row k h = NoneYet k
-SaidWithin Observer row k h = NoneYet k
-SaidWithin Receiver row k h = NoneYet k
-SaidWithin Antenna row k h = NoneYet k
-SaidWithin Position row k h = NoneYet k
-SaidWithin Delta row k h = NoneYet k
-SaidWithin (Types Gps) zero k h = NoneYet k
-SaidWithin (Types Gps) (suc row) k h =
-    (k.shown.plan.galileo ≡ []) × (k.signals ≡ length h.plan.gps) × (k.shown.plan.gps ≡ take (begun (suc row)) h.plan.gps)
-SaidWithin (Types Galileo) zero k h = k.shown.plan.galileo ≡ []
-SaidWithin (Types Galileo) (suc row) k h = (k.signals ≡ length h.plan.galileo) × (k.shown.plan.galileo ≡ take (begun (suc row)) h.plan.galileo)
-SaidWithin StrengthUnit row k h = ⊤
-SaidWithin First row k h = ⊤
-SaidWithin (Shift system) row k h = ⊤
-SaidWithin End row k h = ⊤
+abbrev pub KnowsWithin : Section → ℕ → Known → Shown → Type 0
+KnowsWithin Version row k h = NoneYet k
+KnowsWithin Program row k h = NoneYet k
+KnowsWithin Marker row k h = NoneYet k
+KnowsWithin MarkerType row k h = NoneYet k
+KnowsWithin Observer row k h = NoneYet k
+KnowsWithin Receiver row k h = NoneYet k
+KnowsWithin Antenna row k h = NoneYet k
+KnowsWithin Position row k h = NoneYet k
+KnowsWithin Delta row k h = NoneYet k
+KnowsWithin (Types Gps) zero k h = NoneYet k
+KnowsWithin (Types Gps) (suc row) k h =
+    (k.shown.plan.galileo ≡ []) × (k.signals ≡ length h.plan.gps) × (k.shown.plan.gps ≡ take (signals_begun (suc row)) h.plan.gps)
+KnowsWithin (Types Galileo) zero k h = k.shown.plan.galileo ≡ []
+KnowsWithin (Types Galileo) (suc row) k h = (k.signals ≡ length h.plan.galileo) × (k.shown.plan.galileo ≡ take (signals_begun (suc row)) h.plan.galileo)
+KnowsWithin StrengthUnit row k h = ⊤
+KnowsWithin First row k h = ⊤
+KnowsWithin (Shift system) row k h = ⊤
+KnowsWithin End row k h = ⊤
 
 -- The header that is shown has this line next, and these lines are left of it. What was read is known.
 pub record IsHeaderLeft (k : Known) (section : Section) (row : ℕ) (h : Shown) (left : List (List ℕ)) : Type 0 where
   pub is : IsShown h
-  pub before : SaidBefore section k h
-  pub within : SaidWithin section row k h
+  pub before : KnowsBefore section k h
+  pub within : KnowsWithin section row k h
   pub due : row < section_rows h.plan section
   pub lines : left ≡ lines_from (shown_lines h) section row
 
@@ -151,7 +151,7 @@ pub record Progress : Type 0 where
   pub epochs : List Stamped
   pub change : Option StationValues
   pub time : ℕ
-  pub rows : List Seen
+  pub rows : List SatelliteRow
 
 -- a file with the header that was read, and these epochs
 abbrev pub file_with : Progress → List Stamped → FileValue
@@ -162,7 +162,7 @@ abbrev pub shown_of : FileValue → ℕ → Shown
 shown_of v first = record { texts = v.texts; plan = v.plan; values = v.values; first = first }
 
 -- an epoch with the change and at the time that were read
-abbrev pub stamped : Progress → List Seen → Stamped
+abbrev pub stamped : Progress → List SatelliteRow → Stamped
 stamped s rows = record { change = s.change; time = s.time; rows = rows }
 
 -- the first epoch, if there is one, is at this time
@@ -198,34 +198,34 @@ pub record IsInEvent (s : Progress) (taken : ℕ) (Show : StationValues → Type
   pub rest : left ≡ drop taken (stamped_lines next) ++ flat_map stamped_lines others
 
 -- station values of this position
-abbrev pub StandAt : ℤ → ℤ → ℤ → StationValues → Type 0
-StandAt x y z v = (v.x ≡ x) × (v.y ≡ y) × (v.z ≡ z)
+abbrev pub HasPosition : ℤ → ℤ → ℤ → StationValues → Type 0
+HasPosition x y z v = (v.x ≡ x) × (v.y ≡ y) × (v.z ≡ z)
 
 -- where so many satellites are due
-pub record IsWithin (s : Progress) (satellites : ℕ) (v : FileValue) (left : List (List ℕ)) : Type 0 where
-  pub more : List Seen
+pub record IsInEpoch (s : Progress) (satellites : ℕ) (v : FileValue) (left : List (List ℕ)) : Type 0 where
+  pub more : List SatelliteRow
   pub others : List Stamped
   pub count : length more ≡ satellites
   pub value : v ≡ file_with s (s.epochs ++ stamped s (s.rows ++ more) ∷ others)
   pub starts : StartsAt s.known.shown.first (s.epochs ++ stamped s (s.rows ++ more) ∷ others)
-  pub rest : left ≡ map seen_line more ++ flat_map stamped_lines others
+  pub rest : left ≡ map satellite_line more ++ flat_map stamped_lines others
 
 abbrev pub IsAt : Progress → Due → FileValue → List (List ℕ) → Type 0
 IsAt s (Header section row) v left = IsInHeader s section row v left
 IsAt s Epoch v left = IsBetween s v left
 IsAt s EventPosition v left = IsInEvent s 1 (λ w. ⊤) v left
-IsAt s (EventHeight x y z) v left = IsInEvent s 2 (StandAt x y z) v left
+IsAt s (EventHeight x y z) v left = IsInEvent s 2 (HasPosition x y z) v left
 IsAt s (EventEpoch values) v left = IsInEvent s 3 (λ w. w ≡ values) v left
-IsAt s (Satellite n) v left = IsWithin s n v left
+IsAt s (Satellite n) v left = IsInEpoch s n v left
 
 -- the file value goes on with these lines where so much was read
-unfoldable pub GoesOn : Progress → FileValue → List (List ℕ) → Type 0
-GoesOn s v left = IsFileValue v × IsAt s s.due v left
+unfoldable pub HasLinesLeft : Progress → FileValue → List (List ℕ) → Type 0
+HasLinesLeft s v left = IsFileValue v × IsAt s s.due v left
 
 -- what was read stands for the lines that were taken: the file values that go on are those that begin with these lines
-pub record StandsFor (s : Progress) (taken : List (List ℕ)) : Type 0 where
-  pub goes : (v : FileValue) (left : List (List ℕ)) → IsFileValue v → file_lines v ≡ taken ++ left → GoesOn s v left
-  pub begins : (v : FileValue) (left : List (List ℕ)) → GoesOn s v left → IsFileValue v × (file_lines v ≡ taken ++ left)
+pub record HasReadLines (s : Progress) (taken : List (List ℕ)) : Type 0 where
+  pub goes : (v : FileValue) (left : List (List ℕ)) → IsFileValue v → file_lines v ≡ taken ++ left → HasLinesLeft s v left
+  pub begins : (v : FileValue) (left : List (List ℕ)) → HasLinesLeft s v left → IsFileValue v × (file_lines v ≡ taken ++ left)
 
 -- the same where another line is due
 abbrev pub due_next : Progress → Due → Progress
@@ -236,7 +236,7 @@ abbrev pub begun_at : Progress → Option StationValues → ℕ → ℕ → Prog
 begun_at s c t n = record { due = Satellite n; known = s.known; epochs = s.epochs; change = c; time = t; rows = s.rows }
 
 -- what was read where the line of a satellite was taken, and so many are left
-abbrev pub with_row : Progress → Seen → ℕ → Progress
+abbrev pub with_row : Progress → SatelliteRow → ℕ → Progress
 with_row s seen n = record { due = Satellite n; known = s.known; epochs = s.epochs; change = s.change; time = s.time; rows = s.rows ++ seen ∷ [] }
 
 -- what was read where the last line of an epoch's satellites was taken

@@ -5,7 +5,7 @@ use Rattle.rinex_file.specs.declared.read.due.Due.{Due}
 use Rattle.rinex_file.specs.declared.read.due.Due.TheVariants.{Header, Epoch, EventPosition, EventHeight, EventEpoch, Satellite}
 use Rattle.obs_epoch.specs.declared.cell.StationValues.{StationValues}
 use Rattle.rinex_file.specs.Value.{Stamped}
-use Rattle.rinex_file.specs.FileValues.{IsCoordinate, IsTime, IsStamped, AreSeen, IsChange, AreChanges, IsFirstSame, values_behind, time_of, most_rows}
+use Rattle.rinex_file.specs.FileValues.{IsCoordinate, IsTime, IsStamped, AreSatelliteRows, IsChange, AreChanges, IsFirstSame, values_behind, time_stamped, most_rows}
 use Rattle.rinex_file.specs.Read.Progress.{Progress, IsShown, StartsAt}
 
 abbrev pub AreStamped : Progress → List Stamped → Type 0
@@ -15,7 +15,7 @@ AreStamped s es = All (IsStamped (length s.known.shown.plan.gps) (length s.known
 pub record AreRead (s : Progress) : Type 0 where
   pub shown : IsShown s.known.shown
   pub epochs : AreStamped s s.epochs
-  pub rising : IsStrictlyIncreasing (map time_of s.epochs)
+  pub rising : IsStrictlyIncreasing (map time_stamped s.epochs)
   pub starts : StartsAt s.known.shown.first s.epochs
   pub first : IsFirstSame s.epochs
   pub changes : AreChanges s.known.shown.values s.epochs
@@ -27,8 +27,8 @@ values_now s = values_behind s.known.shown.values s.epochs
 -- an epoch behind these was begun
 pub record IsBegun (s : Progress) : Type 0 where
   pub time : IsTime s.time
-  pub later : IsStrictlyIncreasing (map time_of s.epochs ++ s.time ∷ [])
-  pub rows : AreSeen (length s.known.shown.plan.gps) (length s.known.shown.plan.galileo) s.rows
+  pub later : IsStrictlyIncreasing (map time_stamped s.epochs ++ s.time ∷ [])
+  pub rows : AreSatelliteRows (length s.known.shown.plan.gps) (length s.known.shown.plan.galileo) s.rows
   pub first : s.epochs ≡ [] → s.known.shown.first ≡ s.time
   pub change : IsChange (values_now s) s.change
   pub same : s.epochs ≡ [] → s.change ≡ None
@@ -51,7 +51,7 @@ IsSound s = IsSoundAt s s.due
 -- an epoch of so many satellites may follow at a time: it is later than those before, or the one that the header names, and the
 -- planned systems have as many satellites
 pub record MayBegin (s : Progress) (t n : ℕ) : Type 0 where
-  pub later : IsStrictlyIncreasing (map time_of s.epochs ++ t ∷ [])
+  pub later : IsStrictlyIncreasing (map time_stamped s.epochs ++ t ∷ [])
   pub first : s.epochs ≡ [] → s.known.shown.first ≡ t
   pub some : 0 < n
   pub room : n ≤ most_rows (length s.known.shown.plan.gps) (length s.known.shown.plan.galileo)

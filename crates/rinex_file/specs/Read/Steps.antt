@@ -9,9 +9,9 @@ use Rattle.rinex_file.specs.Numbers.{joined}
 use Rattle.rinex_file.specs.Value.{FileValue}
 use Rattle.rinex_file.specs.FileValues.{IsFileValue}
 use Rattle.rinex_file.specs.File.{file_text}
-use Rattle.rinex_file.specs.Exact.{IsLine, Explains, most_lines}
-use Rattle.rinex_file.specs.Read.Progress.{Progress, StandsFor, file_with}
-use Rattle.rinex_file.specs.Course.{History, StandsBehind, HasRoom, progress_at, with_line}
+use Rattle.rinex_file.specs.Exact.{IsLine, ExplainsFault, most_lines}
+use Rattle.rinex_file.specs.Read.Progress.{Progress, HasReadLines, file_with}
+use Rattle.rinex_file.specs.Course.{History, FollowsHistory, HasRoom, progress_at, with_line}
 
 -- some lines were taken, so many, and what was read stands for them
 pub record IsTaken (s : Progress) (count : ℕ) (input left : Option (List ℕ)) : Type 0 where
@@ -19,41 +19,41 @@ pub record IsTaken (s : Progress) (count : ℕ) (input left : Option (List ℕ))
   pub are : All IsLine lines
   pub many : length lines ≡ count
   pub taken : Consumes input left (joined lines)
-  pub stands : StandsFor s lines
+  pub stands : HasReadLines s lines
 
 -- what may be counted
-abbrev pub IsWithin : Reading → Type 0
-IsWithin r = HasRoom r.course r.count × (r.count ≤ most_lines)
+abbrev pub MayBeCounted : Reading → Type 0
+MayBeCounted r = HasRoom r.course r.count × (r.count ≤ most_lines)
 
 -- a history was read of the input, and this is left of it behind what was read ahead
 pub record HasRead (r : Reading) (h : History) (input left : Option (List ℕ)) : Type 0 where
   pub taken : IsTaken (progress_at r.course h) r.count input (prepend_known r.block left)
-  pub stands : StandsBehind r.course h
+  pub stands : FollowsHistory r.course h
 
 -- the file of a history
 abbrev pub file_at : Course → History → FileValue
 file_at c h = file_with (progress_at c h) h.epochs
 
 -- the input is the text of a file value, and of no other
-pub record IsTextOf (f : FileValue) (input : List ℕ) : Type 0 where
+pub record IsTextOfOnly (f : FileValue) (input : List ℕ) : Type 0 where
   pub same : input ≡ file_text f
   pub only : (v : FileValue) → IsFileValue v → input ≡ file_text v → v ≡ f
 
 -- the file of a history was read whole
 pub record IsWhole (c : Course) (h : History) (input : Option (List ℕ)) : Type 0 where
   pub is : IsFileValue (file_at c h)
-  pub text : IfSome input (IsTextOf (file_at c h))
-  pub stands : StandsBehind c h
+  pub text : IfSome input (IsTextOfOnly (file_at c h))
+  pub stands : FollowsHistory c h
   pub none : h.rows ≡ []
 
 -- where a reading goes with the next line: to a history with what the line adds, to the end, or to a fault
-abbrev pub Goes : Reading → History → Option (List ℕ) → Option (List ℕ) → Result (Option Added) ReadFault → Type 0
-Goes new h input left (Ok (Some added)) = HasRead new (with_line added new.course h) input left
-Goes new h input left (Ok None) = IsWhole new.course h input
-Goes new h input left (Err fault) = IfSome input (λ bytes. Explains bytes fault)
+abbrev pub ReadsNextLine : Reading → History → Option (List ℕ) → Option (List ℕ) → Result (Option Added) ReadFault → Type 0
+ReadsNextLine new h input left (Ok (Some added)) = HasRead new (with_line added new.course h) input left
+ReadsNextLine new h input left (Ok None) = IsWhole new.course h input
+ReadsNextLine new h input left (Err fault) = IfSome input (λ bytes. ExplainsFault bytes fault)
 
 -- a line more was taken
-abbrev pub IsCounted : Reading → Reading → Result (Option Added) ReadFault → Type 0
-IsCounted old new (Ok (Some added)) = new.count ≡ old.count + 1
-IsCounted old new (Ok None) = new.course ≡ old.course
-IsCounted old new (Err fault) = old.count ≡ old.count
+abbrev pub CountsLine : Reading → Reading → Result (Option Added) ReadFault → Type 0
+CountsLine old new (Ok (Some added)) = new.count ≡ old.count + 1
+CountsLine old new (Ok None) = new.course ≡ old.course
+CountsLine old new (Err fault) = old.count ≡ old.count

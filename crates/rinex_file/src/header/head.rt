@@ -2,7 +2,7 @@
 ghost use Rattle.std.specs.Prelude.{◌≡◌, ◌+◌, ◌<◌, ◌^◌, [], length, get_or, IfNone, IfSome};
 ghost use Rattle.std.specs.Iterator.{YieldsFirstBy, item_count};
 ghost use Rattle.obs_epoch.specs.Dates.{civil_of};
-ghost use Rattle.rinex_file.specs.Header.{section_rows, lines_of, header_lines, lines_from};
+ghost use Rattle.rinex_file.specs.Header.{section_rows, section_lines, header_lines, lines_from};
 
 use crate::header::fault::HeaderField;
 use crate::header::labels;
@@ -44,12 +44,12 @@ fn section_rows(plan: &Plan, section: Section) -> usize
 
 // The place of the next line: this one, or the first of a section behind.
 fn place_from(head: &Head, section: Section, row: usize) -> Option<(Section, usize)>
-    ensures none { IfNone result (lines_from (lines_of head.now.texts.now head.now.plan.now head.now.values (civil_of head.now.first)) section row ≡ []) }
+    ensures none { IfNone result (lines_from (section_lines head.now.texts.now head.now.plan.now head.now.values (civil_of head.now.first)) section row ≡ []) }
     ensures here { IfSome result (λ place. place.1 < section_rows head.now.plan.now place.0) }
     ensures bound { IfSome result (λ place. place.1 + 1 < 2 ^ 64) }
     ensures same { IfSome result (λ place.
-        lines_from (lines_of head.now.texts.now head.now.plan.now head.now.values (civil_of head.now.first)) section row
-        ≡ lines_from (lines_of head.now.texts.now head.now.plan.now head.now.values (civil_of head.now.first)) place.0 place.1) }
+        lines_from (section_lines head.now.texts.now head.now.plan.now head.now.values (civil_of head.now.first)) section row
+        ≡ lines_from (section_lines head.now.texts.now head.now.plan.now head.now.values (civil_of head.now.first)) place.0 place.1) }
 {
     let mut at = section;
     let mut line = row;
@@ -64,10 +64,10 @@ fn place_from(head: &Head, section: Section, row: usize) -> Option<(Section, usi
 }
 
 // A line of a section.
-#[tactic(auto, unfolding(crate::specs::Header::lines_of))]
+#[tactic(auto, unfolding(crate::specs::Header::section_lines))]
 fn line_at(head: &Head, section: Section, row: usize) -> Line
     requires { row < section_rows head.now.plan.now section }
-    ensures { result.items ≡ get_or (lines_of head.now.texts.now head.now.plan.now head.now.values (civil_of head.now.first) section) row [] }
+    ensures { result.items ≡ get_or (section_lines head.now.texts.now head.now.plan.now head.now.values (civil_of head.now.first) section) row [] }
 {
     match section {
         Section::Version => version_line(head.plan),
@@ -104,11 +104,11 @@ pub struct HeaderLines<'a> {
 impl<'a> Model for HeaderLines<'a> {
     ghost use Rattle.std.specs.Prelude.{ℕ, List};
     ghost use Rattle.obs_epoch.specs.Dates.{civil_of};
-    ghost use Rattle.rinex_file.specs.Header.{lines_of, lines_from};
+    ghost use Rattle.rinex_file.specs.Header.{section_lines, lines_from};
 
     ghost Value = { List (List ℕ) };
 
-    ghost view = { λ s. lines_from (lines_of s.texts.now s.plan.now s.values (civil_of s.first)) s.section s.row };
+    ghost view = { λ s. lines_from (section_lines s.texts.now s.plan.now s.values (civil_of s.first)) s.section s.row };
 }
 
 impl<'a> Iterator for HeaderLines<'a> {

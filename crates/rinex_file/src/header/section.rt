@@ -37,11 +37,11 @@ pub enum Section {
 }
 
 impl Section {
-    ghost use Rattle.rinex_file.specs.Header.{after};
+    ghost use Rattle.rinex_file.specs.Header.{sections_behind};
 
     /// The section behind this one.
     pub(crate) fn following(self) -> Option<Section>
-        ensures { MatchOption result (after self ≡ []) (λ next. after self ≡ next ∷ after next) }
+        ensures { MatchOption result (sections_behind self ≡ []) (λ next. sections_behind self ≡ next ∷ sections_behind next) }
     {
         match self {
             Section::Version => Some(Section::Program),

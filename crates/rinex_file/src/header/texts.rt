@@ -3,7 +3,7 @@ ghost use Rattle.std.specs.Prelude.{◌≡◌, ◌≤◌, [], length, None, IfOk
 ghost use Rattle.std.specs.Result.{result_err};
 ghost use Rattle.std.specs.List.{list_all};
 ghost use Rattle.rinex_file.specs.Blanks.{trimmed};
-ghost use Rattle.rinex_file.specs.Texts.{fields, text_of, or_else, fault_of, first_fault, trimmed_texts, is_printable};
+ghost use Rattle.rinex_file.specs.Texts.{fields, text_of, or_later, fault_of, first_fault, trimmed_texts, is_printable};
 ghost use Rattle.rinex_file.specs.TextsOf.{lists_of};
 ghost use Rattle.rinex_file.specs.FileValues.{AreTexts, IsText};
 ghost use Rattle.rinex_file.specs.declared.header.fault.HeaderField.{HeaderField};
@@ -125,7 +125,7 @@ fn cut<const N: usize>(text: &str) -> ArrayVec<u8, N>
 
 // The fault that was found, or else what is wrong with the text of a field.
 fn or_fault(found: Option<HeadFault>, field: HeaderField, text: &str) -> Option<HeadFault>
-    ensures { result ≡ or_else found (fault_of field text.now) }
+    ensures { result ≡ or_later found (fault_of field text.now) }
 {
     match found {
         Some(fault) => Some(fault),

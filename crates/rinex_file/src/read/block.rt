@@ -4,7 +4,7 @@ ghost use Rattle.std.specs.Io.KnownBytes.{Consumes, IsAtEnd, prepend_known};
 ghost use Rattle.arrayvec.specs.ArrayVec.{array_vec_len};
 ghost use Rattle.rtcm_bits.specs.Device.{HasFailed};
 ghost use Rattle.rinex_file.specs.Read.Fields.{has};
-ghost use Rattle.rinex_file.specs.Blocks.{Moves, Leaves};
+ghost use Rattle.rinex_file.specs.Blocks.{MovesBytes, LeavesRest};
 ghost use Rattle.rinex_file.specs.Limits.{most_line};
 
 use crate::write::numbers::{Line, MOST_LINE, put};
@@ -72,7 +72,7 @@ impl Block {
     /// Reads ahead, where no byte is left.
     pub(crate) fn fill<R: Read>(&mut self, reader: &mut Counted<R>) -> Filled
         ensures same { Consumes (prepend_known self.old (R.remaining reader.old.inner)) (prepend_known self.new (R.remaining reader.new.inner)) [] }
-        ensures left { Leaves (R.remaining reader.old.inner) (R.remaining reader.new.inner) }
+        ensures left { LeavesRest (R.remaining reader.old.inner) (R.remaining reader.new.inner) }
         ensures some { result ≡ Filled.Some → 0 < length self.new }
         ensures end { result ≡ Filled.End → (self.new ≡ []) × IsAtEnd (R.remaining reader.new.inner) }
         ensures failed { result ≡ Filled.Failed → HasFailed reader.old.failures reader.new.failures }
@@ -97,7 +97,7 @@ impl Block {
     /// has room for. Answers whether the line feed is among them.
     pub(crate) fn move_to(&mut self, line: &mut Line) -> bool
         requires { array_vec_len line.old ≤ most_line }
-        ensures { Moves result self.old self.new line.old.items line.new.items }
+        ensures { MovesBytes result self.old self.new line.old.items line.new.items }
     {
         let held = &self.bytes[self.at..self.end];
         let room = held.len().min(MOST_LINE - line.len());

@@ -5,12 +5,12 @@ ghost use Rattle.std.specs.List.Sorted.{IsStrictlyIncreasing};
 ghost use Rattle.rinex_file.specs.Value.{FileValue, Stamped};
 ghost use Rattle.obs_epoch.specs.declared.cell.StationValues.{StationValues};
 ghost use Rattle.obs_epoch.specs.Dates.{civil_of};
-ghost use Rattle.rinex_file.specs.FileValues.{IsFileValue, IsTime, rank_of, time_of, most_rows, changed_by};
+ghost use Rattle.rinex_file.specs.FileValues.{IsFileValue, IsTime, rank_of, time_stamped, most_rows, changed_by};
 ghost use Rattle.rinex_file.specs.File.{event_line, file_lines};
 ghost use Rattle.rinex_file.specs.Lines.{epoch_line};
 ghost use Rattle.rinex_file.specs.Read.Fields.{ReadsExactly};
-ghost use Rattle.rinex_file.specs.Read.Progress.{GoesOn};
-ghost use Rattle.rinex_file.specs.Course.{EndsIn, History, HasRoom, StandsBehind, Takes, changes_of, nothing, progress_at};
+ghost use Rattle.rinex_file.specs.Read.Progress.{HasLinesLeft};
+ghost use Rattle.rinex_file.specs.Course.{EndsIn, History, HasRoom, FollowsHistory, TakesLine, changes_of, nothing, progress_at};
 ghost use Rattle.rinex_file.specs.Read.Sound.{AreRead, MayBegin};
 ghost use Rattle.rinex_file.specs.Limits.{most_line};
 
@@ -21,7 +21,7 @@ use crate::read::head_parts::HeadParts;
 use crate::read::head_so_far::HeadSoFar;
 use crate::read::row::read_seen;
 use crate::read::station::{read_delta, read_position};
-use crate::values::kept::KeptSeen;
+use crate::values::kept::KeptSatellite;
 use crate::write::event::is_event_line;
 use crate::write::numbers::Line;
 use arrayvec::ArrayVec;
@@ -42,7 +42,7 @@ pub(crate) struct Course {
     pub(crate) last: Option<u64>,
     pub(crate) values: Option<StationValues>,
     // The satellite that was read last, and its place where it is one of the epoch that was begun.
-    pub(crate) seen: KeptSeen,
+    pub(crate) seen: KeptSatellite,
     pub(crate) rank: Option<u64>,
     pub(crate) epochs: u64,
     pub(crate) satellites: u64,
@@ -50,7 +50,7 @@ pub(crate) struct Course {
 }
 
 // A satellite's place among all: those of GPS come first.
-fn rank_of(seen: &KeptSeen) -> u64
+fn rank_of(seen: &KeptSatellite) -> u64
     ensures { result ≡ rank_of seen.now }
 {
     match seen.system {
@@ -72,8 +72,8 @@ fn is_behind(last: Option<u64>, next: u64) -> bool
 // Whether an epoch may have this time behind others that rise up to the last, in a file that begins
 // at this first time.
 fn may_follow(last: Option<u64>, first: GpsTime, time: GpsTime) -> bool
-    ensures { (es : List Stamped) → EndsIn (map time_of es) last → IsStrictlyIncreasing (map time_of es)
-        → IsTrue result ↔ (IsStrictlyIncreasing (map time_of es ++ time ∷ []) × (es ≡ [] → first ≡ time)) }
+    ensures { (es : List Stamped) → EndsIn (map time_stamped es) last → IsStrictlyIncreasing (map time_stamped es)
+        → IsTrue result ↔ (IsStrictlyIncreasing (map time_stamped es ++ time ∷ []) × (es ≡ [] → first ≡ time)) }
 {
     match last {
         None => first.milliseconds() == time.milliseconds(),
@@ -121,8 +121,8 @@ fn changed_by(before: Option<StationValues>, change: Option<StationValues>) -> O
 impl Course {
     /// Nothing was read.
     pub(crate) fn new(alloc: Global) -> Course
-        ensures stands { StandsBehind result nothing }
-        ensures starts { (v : FileValue) (left : List (List ℕ)) → GoesOn (progress_at result nothing) v left ↔ (IsFileValue v × (left ≡ file_lines v)) }
+        ensures stands { FollowsHistory result nothing }
+        ensures starts { (v : FileValue) (left : List (List ℕ)) → HasLinesLeft (progress_at result nothing) v left ↔ (IsFileValue v × (left ≡ file_lines v)) }
         ensures none { HasRoom result 0 }
     {
         let head = HeadSoFar::new(alloc);
@@ -134,7 +134,7 @@ impl Course {
             time,
             last: None,
             values: None,
-            seen: KeptSeen {
+            seen: KeptSatellite {
                 system: System::Gps,
                 satellite: 0,
                 entries: ArrayVec::new(),
@@ -148,10 +148,10 @@ impl Course {
 
     /// Takes the next line; the buffer is for what the line would be.
     pub(crate) fn take(&mut self, line: &[u8], again: &mut Line) -> Result<Added, Refusal>
-        requires stands { (h : History) × StandsBehind self.old h }
+        requires stands { (h : History) × FollowsHistory self.old h }
         requires room { HasRoom self.old (2 ^ 40) }
         requires short { length line.now ≤ most_line }
-        ensures takes { Takes self.old self.new line.now result }
+        ensures takes { TakesLine self.old self.new line.now result }
         ensures room { (n : ℕ) → HasRoom self.old n → OnOk result (HasRoom self.new (n + 1)) }
     {
         match self.due {
@@ -173,7 +173,7 @@ impl Course {
         again: &mut Line,
     ) -> Result<Added, Refusal>
         requires due { self.old.due ≡ Due.Header section row }
-        ensures takes { Takes self.old self.new line.now result }
+        ensures takes { TakesLine self.old self.new line.now result }
         ensures room { (n : ℕ) → HasRoom self.old n → OnOk result (HasRoom self.new (n + 1)) }
     {
         match self.head.take(section, row, line, again) {
@@ -192,8 +192,8 @@ impl Course {
 
     // Whether an epoch of so many satellites may follow at a time.
     fn may_begin(&self, time: GpsTime, satellites: usize) -> bool
-        requires between { (h : History) → StandsBehind self.now h → AreRead (progress_at self.now h) }
-        ensures { (h : History) → StandsBehind self.now h → IsTrue result ↔ MayBegin (progress_at self.now h) time satellites }
+        requires between { (h : History) → FollowsHistory self.now h → AreRead (progress_at self.now h) }
+        ensures { (h : History) → FollowsHistory self.now h → IsTrue result ↔ MayBegin (progress_at self.now h) time satellites }
     {
         let most = most_rows(
             self.head.planned(System::Gps),
@@ -207,8 +207,8 @@ impl Course {
 
     // The time and the number of satellites of an epoch that may follow, by its line.
     fn read_begun(&self, line: &[u8], again: &mut Line) -> Option<(GpsTime, usize)>
-        requires between { (h : History) → StandsBehind self.now h → AreRead (progress_at self.now h) }
-        ensures { (h : History) → StandsBehind self.now h
+        requires between { (h : History) → FollowsHistory self.now h → AreRead (progress_at self.now h) }
+        ensures { (h : History) → FollowsHistory self.now h
             → ReadsExactly (λ (e : ℕ × ℕ). IsTime e.0 × MayBegin (progress_at self.now h) e.0 e.1)
             (λ (e : ℕ × ℕ). epoch_line (civil_of e.0) e.1) line.now result }
     {
@@ -231,7 +231,7 @@ impl Course {
     // Takes the line of an epoch or of an event.
     fn take_next(&mut self, line: &[u8], again: &mut Line) -> Result<Added, Refusal>
         requires due { self.old.due ≡ Due.Epoch }
-        ensures takes { Takes self.old self.new line.now result }
+        ensures takes { TakesLine self.old self.new line.now result }
         ensures room { (n : ℕ) → HasRoom self.old n → OnOk result (HasRoom self.new (n + 1)) }
     {
         if self.begins_event(line) {
@@ -250,7 +250,7 @@ impl Course {
     // Takes the position in an event.
     fn take_position(&mut self, line: &[u8]) -> Result<Added, Refusal>
         requires due { self.old.due ≡ Due.EventPosition }
-        ensures takes { Takes self.old self.new line.now result }
+        ensures takes { TakesLine self.old self.new line.now result }
         ensures room { (n : ℕ) → HasRoom self.old n → OnOk result (HasRoom self.new (n + 1)) }
     {
         let Some(position) = read_position(line) else {
@@ -274,7 +274,7 @@ impl Course {
     // already.
     fn take_height(&mut self, x: i64, y: i64, z: i64, line: &[u8]) -> Result<Added, Refusal>
         requires due { self.old.due ≡ Due.EventHeight x y z }
-        ensures takes { Takes self.old self.new line.now result }
+        ensures takes { TakesLine self.old self.new line.now result }
         ensures room { (n : ℕ) → HasRoom self.old n → OnOk result (HasRoom self.new (n + 1)) }
     {
         let Some(height) = read_delta(line) else {
@@ -296,7 +296,7 @@ impl Course {
         again: &mut Line,
     ) -> Result<Added, Refusal>
         requires due { self.old.due ≡ Due.EventEpoch values }
-        ensures takes { Takes self.old self.new line.now result }
+        ensures takes { TakesLine self.old self.new line.now result }
         ensures room { (n : ℕ) → HasRoom self.old n → OnOk result (HasRoom self.new (n + 1)) }
     {
         let Some(begun) = self.read_begun(line, again) else {
@@ -315,11 +315,11 @@ impl Course {
         line: &[u8],
         again: &mut Line,
     ) -> Result<Added, Refusal>
-        requires stands { (h : History) × StandsBehind self.old h }
+        requires stands { (h : History) × FollowsHistory self.old h }
         requires room { HasRoom self.old (2 ^ 40) }
         requires due { self.old.due ≡ Due.Satellite left }
         requires short { length line.now ≤ most_line }
-        ensures takes { Takes self.old self.new line.now result }
+        ensures takes { TakesLine self.old self.new line.now result }
         ensures room { (n : ℕ) → HasRoom self.old n → OnOk result (HasRoom self.new (n + 1)) }
     {
         let gps = self.head.planned(System::Gps);

@@ -4,8 +4,8 @@ ghost use Rattle.rtcm_bits.specs.Device.{HasFailed};
 ghost use Rattle.rinex_file.specs.Value.{FileValue};
 ghost use Rattle.rinex_file.specs.FileValues.{IsFileValue};
 ghost use Rattle.rinex_file.specs.File.{file_text, file_lines};
-ghost use Rattle.rinex_file.specs.Exact.{Explains, IsReadOr, most_lines};
-ghost use Rattle.rinex_file.specs.Blocks.{Leaves};
+ghost use Rattle.rinex_file.specs.Exact.{ExplainsFault, IsReadOr, most_lines};
+ghost use Rattle.rinex_file.specs.Blocks.{LeavesRest};
 ghost use Rattle.rinex_file.specs.Counting.{IsTextWith, IsCountedOr};
 
 use crate::read::fault::ReadFault;
@@ -33,13 +33,13 @@ pub fn check_file<R: Read>(alloc: Global, reader: &mut Counted<R>) -> Result<Cou
     // What is counted is the file whose text the whole input is.
     ensures found { IfOk result (λ n. IsTextWith n (R.remaining reader.old.inner)) }
     // Why nothing was counted.
-    ensures fault { IfErr result (λ e. IfSome (R.remaining reader.old.inner) (λ input. Explains input e)) }
+    ensures fault { IfErr result (λ e. IfSome (R.remaining reader.old.inner) (λ input. ExplainsFault input e)) }
     // The text of each file value is accepted.
     ensures only { (v : FileValue) → IsFileValue v → length (file_lines v) ≤ most_lines
         → IfSome (R.remaining reader.old.inner) (λ input. input ≡ file_text v → IsCountedOr v result) }
     ensures failed { result ≡ Err ReadFault.Read → HasFailed reader.old.failures reader.new.failures }
     // Some front of the input was read.
-    ensures left { Leaves (R.remaining reader.old.inner) (R.remaining reader.new.inner) }
+    ensures left { LeavesRest (R.remaining reader.old.inner) (R.remaining reader.new.inner) }
 {
     let mut reading = Reading::new(alloc);
     loop {
@@ -62,13 +62,13 @@ pub fn read_file<R: Read>(alloc: Global, reader: &mut Counted<R>) -> Result<ObsF
     // What is answered is the file whose text the whole input is.
     ensures found { IfOk result (λ f. IsFileValue f × IfSome (R.remaining reader.old.inner) (λ input. input ≡ file_text f)) }
     // Why nothing was read.
-    ensures fault { IfErr result (λ e. IfSome (R.remaining reader.old.inner) (λ input. Explains input e)) }
+    ensures fault { IfErr result (λ e. IfSome (R.remaining reader.old.inner) (λ input. ExplainsFault input e)) }
     // The text of each file value is read.
     ensures only { (v : FileValue) → IsFileValue v → length (file_lines v) ≤ most_lines
         → IfSome (R.remaining reader.old.inner) (λ input. input ≡ file_text v → IsReadOr v result) }
     ensures failed { result ≡ Err ReadFault.Read → HasFailed reader.old.failures reader.new.failures }
     // Some front of the input was read.
-    ensures left { Leaves (R.remaining reader.old.inner) (R.remaining reader.new.inner) }
+    ensures left { LeavesRest (R.remaining reader.old.inner) (R.remaining reader.new.inner) }
 {
     let mut reading = Reading::new(alloc);
     let mut keeper = Keeper::new(alloc);

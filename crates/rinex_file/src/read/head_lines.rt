@@ -1,6 +1,6 @@
 //! The sections of a header that have at most one line: what it shows is taken into what was read.
 ghost use Rattle.std.specs.Prelude.{◌/◌, Some, None};
-ghost use Rattle.rinex_file.specs.Read.HeaderSteps.{IsSole, Learned};
+ghost use Rattle.rinex_file.specs.Read.HeaderSteps.{IsSole, LearnsOrRefuses};
 
 use crate::header::labels;
 use crate::header::section::Section;
@@ -16,7 +16,7 @@ use obs_epoch::StationValues;
 impl HeadSoFar {
     // Version and systems.
     fn take_version(&mut self, line: &[u8]) -> bool
-        ensures { Learned Section.Version line.now self.old self.new result }
+        ensures { LearnsOrRefuses Section.Version line.now self.old self.new result }
     {
         match read_version(line) {
             Some((gps, galileo)) => {
@@ -30,7 +30,7 @@ impl HeadSoFar {
 
     // The program, who ran it, and when.
     fn take_program(&mut self, line: &[u8]) -> bool
-        ensures { Learned Section.Program line.now self.old self.new result }
+        ensures { LearnsOrRefuses Section.Program line.now self.old self.new result }
     {
         let Some((program, run_by, date)) = read_three(line, labels::PROGRAM) else {
             return false;
@@ -44,7 +44,7 @@ impl HeadSoFar {
 
     // The marker's name.
     fn take_marker(&mut self, line: &[u8]) -> bool
-        ensures { Learned Section.Marker line.now self.old self.new result }
+        ensures { LearnsOrRefuses Section.Marker line.now self.old self.new result }
     {
         match read_one(line, labels::MARKER) {
             Some(text) => {
@@ -57,7 +57,7 @@ impl HeadSoFar {
 
     // The marker's type.
     fn take_marker_type(&mut self, line: &[u8]) -> bool
-        ensures { Learned Section.MarkerType line.now self.old self.new result }
+        ensures { LearnsOrRefuses Section.MarkerType line.now self.old self.new result }
     {
         match read_one(line, labels::MARKER_TYPE) {
             Some(text) => {
@@ -70,7 +70,7 @@ impl HeadSoFar {
 
     // Observer and agency.
     fn take_observer(&mut self, line: &[u8]) -> bool
-        ensures { Learned Section.Observer line.now self.old self.new result }
+        ensures { LearnsOrRefuses Section.Observer line.now self.old self.new result }
     {
         match read_two(line, labels::OBSERVER) {
             Some((observer, agency)) => {
@@ -83,7 +83,7 @@ impl HeadSoFar {
 
     // Number, type and version of the receiver.
     fn take_receiver(&mut self, line: &[u8]) -> bool
-        ensures { Learned Section.Receiver line.now self.old self.new result }
+        ensures { LearnsOrRefuses Section.Receiver line.now self.old self.new result }
     {
         match read_three(line, labels::RECEIVER) {
             Some((number, kind, version)) => {
@@ -96,7 +96,7 @@ impl HeadSoFar {
 
     // Number and type of the antenna.
     fn take_antenna(&mut self, line: &[u8]) -> bool
-        ensures { Learned Section.Antenna line.now self.old self.new result }
+        ensures { LearnsOrRefuses Section.Antenna line.now self.old self.new result }
     {
         match read_two(line, labels::ANTENNA) {
             Some((number, kind)) => {
@@ -109,7 +109,7 @@ impl HeadSoFar {
 
     // The position of the antenna.
     fn take_position(&mut self, line: &[u8]) -> bool
-        ensures { Learned Section.Position line.now self.old self.new result }
+        ensures { LearnsOrRefuses Section.Position line.now self.old self.new result }
     {
         match read_position(line) {
             Some((x, y, z)) => {
@@ -123,7 +123,7 @@ impl HeadSoFar {
 
     // The height of the antenna above the marker.
     fn take_delta(&mut self, line: &[u8]) -> bool
-        ensures { Learned Section.Delta line.now self.old self.new result }
+        ensures { LearnsOrRefuses Section.Delta line.now self.old self.new result }
     {
         match read_delta(line) {
             Some(height) => {
@@ -136,14 +136,14 @@ impl HeadSoFar {
 
     // The unit of the strengths.
     fn take_unit(&mut self, line: &[u8]) -> bool
-        ensures { Learned Section.StrengthUnit line.now self.old self.new result }
+        ensures { LearnsOrRefuses Section.StrengthUnit line.now self.old self.new result }
     {
         is_header_line(line, labels::UNIT, labels::STRENGTH_UNIT)
     }
 
     // The time of the first epoch.
     fn take_first(&mut self, line: &[u8]) -> bool
-        ensures { Learned Section.First line.now self.old self.new result }
+        ensures { LearnsOrRefuses Section.First line.now self.old self.new result }
     {
         match read_first(line) {
             Some(time) => {
@@ -156,7 +156,7 @@ impl HeadSoFar {
 
     // That no phase of a system is shifted.
     fn take_shift(&mut self, system: System, line: &[u8]) -> bool
-        ensures { Learned (Section.Shift system) line.now self.old self.new result }
+        ensures { LearnsOrRefuses (Section.Shift system) line.now self.old self.new result }
     {
         if !self.plans(system) {
             return false;
@@ -167,7 +167,7 @@ impl HeadSoFar {
     /// Takes the line of a section, and answers whether it is one.
     pub(crate) fn learn(&mut self, section: Section, line: &[u8]) -> bool
         requires { IsSole section }
-        ensures { Learned section line.now self.old self.new result }
+        ensures { LearnsOrRefuses section line.now self.old self.new result }
     {
         match section {
             Section::Version => self.take_version(line),

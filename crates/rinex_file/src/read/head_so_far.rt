@@ -5,7 +5,7 @@ ghost use Rattle.obs_epoch.specs.Dates.{civil_of};
 ghost use Rattle.obs_epoch.specs.Signals.{indices, IsOf};
 ghost use Rattle.obs_epoch.specs.Values.{planned_of};
 ghost use Rattle.rinex_file.specs.FileValues.{of_system};
-ghost use Rattle.rinex_file.specs.Header.{header_lines, type_rows, after};
+ghost use Rattle.rinex_file.specs.Header.{header_lines, type_rows, sections_behind};
 ghost use Rattle.rinex_file.specs.Read.Progress.{Shown, IsShown, IsHeaderLeft, AreTypes, types_line};
 ghost use Rattle.rinex_file.specs.Read.HeaderSteps.{IsSole, has_lines, IsReached, IsWhole, GoesOnBehind, StepsTo, NoneGoesOn, TakesRow, RefusesRow, with_signals};
 ghost use Rattle.rinex_file.specs.Limits.{most_signals};
@@ -15,7 +15,7 @@ use crate::header::section::Section;
 use crate::header::texts::HeaderTexts;
 use crate::read::due::Refusal;
 use crate::read::station::is_header_line;
-use crate::read::types::{begun, read_count, read_types};
+use crate::read::types::{read_count, read_types, signals_begun};
 use crate::write::numbers::Line;
 use gnss_obs::{Signal, System};
 use obs_epoch::{GpsTime, StationValues};
@@ -77,11 +77,11 @@ fn take_row(
     ensures taken { OnOk result (TakesRow system count row line.now (indices signals.old.items) (indices signals.new.items)) }
     ensures bad { result ≡ Err Refusal.Bad → RefusesRow system count row line.now (indices signals.old.items) }
 {
-    if signals.len() != begun(row) {
+    if signals.len() != signals_begun(row) {
         return Err(Refusal::Bad);
     }
     read_types(signals, system, count, row, line, again)?;
-    if signals.len() != begun(row + 1).min(count) {
+    if signals.len() != signals_begun(row + 1).min(count) {
         return Err(Refusal::Bad);
     }
     Ok(())
@@ -152,7 +152,7 @@ impl HeadSoFar {
     // The place of the first line behind a section, or None behind the last.
     fn place_behind(&self, section: Section) -> Option<(Section, usize)>
         ensures some { IfSome result (λ next. GoesOnBehind self.now section next) }
-        ensures none { IfNone result (after section ≡ []) }
+        ensures none { IfNone result (sections_behind section ≡ []) }
     {
         let next = section.following()?;
         Some((self.section_from(next), 0))

@@ -2,7 +2,7 @@
 ghost use Rattle.std.specs.Prelude.{◌≡◌, ◌++◌, OnOk, IfOk, [], is_some, option_to_list};
 ghost use Rattle.rinex_file.specs.Value.{file_with};
 ghost use Rattle.rinex_file.specs.FileValues.{IsFileValue};
-ghost use Rattle.rinex_file.specs.Course.{nothing, with_epoch, with_line, with_seen};
+ghost use Rattle.rinex_file.specs.Course.{nothing, with_epoch, with_line, with_satellite};
 ghost use Rattle.rinex_file.specs.Read.Steps.{file_at};
 ghost use Rattle.rinex_file.specs.Read.Keeping.{history_of, IsKept};
 ghost use Rattle.rinex_file.specs.Read.Kept.{epochs_of, AreKept};
@@ -10,7 +10,7 @@ ghost use Rattle.rinex_file.specs.Read.Kept.{epochs_of, AreKept};
 use crate::read::course::Course;
 use crate::read::due::Added;
 use crate::read::head_parts::HeadParts;
-use crate::values::kept::{KeptEntry, KeptEpoch, KeptRow, KeptSeen};
+use crate::values::kept::{KeptEpoch, KeptRow, KeptSatellite, KeptValues};
 use crate::values::obs_file::ObsFile;
 use obs_epoch::{GpsTime, StationValues};
 use std::alloc::{AllocError, Global};
@@ -21,7 +21,7 @@ pub(crate) struct Keeper {
     pub(crate) epochs: Vec<KeptEpoch>,
     pub(crate) changes: Vec<StationValues>,
     pub(crate) rows: Vec<KeptRow>,
-    pub(crate) entries: Vec<KeptEntry>,
+    pub(crate) entries: Vec<KeptValues>,
     pub(crate) begun: usize,
 }
 
@@ -74,10 +74,10 @@ impl Keeper {
     }
 
     // Keeps a satellite of the epoch that was begun.
-    fn keep_row(&mut self, seen: &KeptSeen) -> Result<(), AllocError>
+    fn keep_row(&mut self, seen: &KeptSatellite) -> Result<(), AllocError>
         requires kept { IsKept self.old }
         ensures kept { OnOk result (IsKept self.new) }
-        ensures added { OnOk result (history_of self.new ≡ with_seen (history_of self.old) seen.now) }
+        ensures added { OnOk result (history_of self.new ≡ with_satellite (history_of self.old) seen.now) }
     {
         let entries = seen.entries.as_slice();
         self.entries.extend_from_slice(entries)?;
@@ -134,7 +134,7 @@ fn file_of(
     epochs: Vec<KeptEpoch>,
     changes: Vec<StationValues>,
     rows: Vec<KeptRow>,
-    entries: Vec<KeptEntry>,
+    entries: Vec<KeptValues>,
 ) -> ObsFile
     requires value { IsFileValue (file_with parts.texts parts.plan parts.values (epochs_of epochs.items changes.items rows.items entries.items)) }
     requires kept { AreKept epochs.items changes.items rows.items entries.items 0 }

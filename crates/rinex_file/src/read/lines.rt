@@ -3,7 +3,7 @@ ghost use Rattle.std.specs.Prelude.{◌≡◌};
 ghost use Rattle.std.specs.Io.KnownBytes.{Consumes, prepend_known};
 ghost use Rattle.rtcm_bits.specs.Device.{HasFailed};
 ghost use Rattle.rinex_file.specs.Exact.{IsFound};
-ghost use Rattle.rinex_file.specs.Blocks.{Leaves};
+ghost use Rattle.rinex_file.specs.Blocks.{LeavesRest};
 
 use crate::read::block::{Block, Filled};
 use crate::write::numbers::Line;
@@ -33,7 +33,7 @@ pub(crate) fn next_line<R: Read>(
 ) -> Found
     ensures taken { Consumes (prepend_known block.old (R.remaining reader.old.inner)) (prepend_known block.new (R.remaining reader.new.inner)) line.new.items }
     ensures found { IsFound result line.new.items (prepend_known block.new (R.remaining reader.new.inner)) }
-    ensures left { Leaves (R.remaining reader.old.inner) (R.remaining reader.new.inner) }
+    ensures left { LeavesRest (R.remaining reader.old.inner) (R.remaining reader.new.inner) }
     ensures failed { result ≡ Found.Failed → HasFailed reader.old.failures reader.new.failures }
     ensures same { (result ≡ Found.Failed → ⊥) → reader.new.failures ≡ reader.old.failures }
 {

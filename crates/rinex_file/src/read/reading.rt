@@ -4,10 +4,10 @@ ghost use Rattle.rtcm_bits.specs.Device.{HasFailed};
 ghost use Rattle.rinex_file.specs.Value.{FileValue};
 ghost use Rattle.rinex_file.specs.FileValues.{IsFileValue};
 ghost use Rattle.rinex_file.specs.File.{file_lines};
-ghost use Rattle.rinex_file.specs.Exact.{Explains, IsFaulty, IsDueAt, most_lines};
-ghost use Rattle.rinex_file.specs.Blocks.{Leaves};
-ghost use Rattle.rinex_file.specs.Course.{History, StandsBehind, nothing};
-ghost use Rattle.rinex_file.specs.Read.Steps.{Goes, HasRead, IsCounted, IsWithin};
+ghost use Rattle.rinex_file.specs.Exact.{ExplainsFault, IsFaulty, IsDueAt, most_lines};
+ghost use Rattle.rinex_file.specs.Blocks.{LeavesRest};
+ghost use Rattle.rinex_file.specs.Course.{History, FollowsHistory, nothing};
+ghost use Rattle.rinex_file.specs.Read.Steps.{ReadsNextLine, HasRead, CountsLine, MayBeCounted};
 
 use crate::read::block::Block;
 use crate::read::course::Course;
@@ -34,7 +34,7 @@ pub(crate) struct Reading {
 
 // The fault of a line that is another than the one that was due.
 fn fault_at(due: Due, number: u64) -> ReadFault
-    ensures faulty { (input : List ℕ) → IsFaulty input number → IsDueAt due input number → Explains input result }
+    ensures faulty { (input : List ℕ) → IsFaulty input number → IsDueAt due input number → ExplainsFault input result }
     ensures other { result ≡ ReadFault.Read → ⊥ }
 {
     match due {
@@ -62,7 +62,7 @@ impl Reading {
     /// Nothing was read.
     pub(crate) fn new(alloc: Global) -> Reading
         ensures read { (input : Option (List ℕ)) → HasRead result nothing input input }
-        ensures within { IsWithin result }
+        ensures within { MayBeCounted result }
     {
         Reading {
             course: Course::new(alloc),
@@ -78,13 +78,13 @@ impl Reading {
         &mut self,
         reader: &mut Counted<R>,
     ) -> Result<Option<Added>, ReadFault>
-        requires stands { (h : History) × StandsBehind self.old.course h }
-        requires within { IsWithin self.old }
+        requires stands { (h : History) × FollowsHistory self.old.course h }
+        requires within { MayBeCounted self.old }
         ensures goes { (h : History) (input : Option (List ℕ)) → HasRead self.old h input (R.remaining reader.old.inner)
-            → Goes self.new h input (R.remaining reader.new.inner) result }
-        ensures within { OnOk result (IsWithin self.new) }
-        ensures counted { IsCounted self.old self.new result }
-        ensures left { Leaves (R.remaining reader.old.inner) (R.remaining reader.new.inner) }
+            → ReadsNextLine self.new h input (R.remaining reader.new.inner) result }
+        ensures within { OnOk result (MayBeCounted self.new) }
+        ensures counted { CountsLine self.old self.new result }
+        ensures left { LeavesRest (R.remaining reader.old.inner) (R.remaining reader.new.inner) }
         ensures failed { result ≡ Err ReadFault.Read → HasFailed reader.old.failures reader.new.failures }
         ensures same { OnOk result (reader.new.failures ≡ reader.old.failures) }
     {

@@ -3,14 +3,14 @@ ghost use Rattle.std.specs.Prelude.{◌≡◌, ◌↔◌, ℕ, pos, ◌+◌, ◌
 ghost use Rattle.arrayvec.specs.ArrayVec.{array_vec_len};
 ghost use Rattle.gnss_obs.specs.declared.system.System.{System};
 ghost use Rattle.gnss_obs.specs.Satellites.{satellites};
-ghost use Rattle.rinex_file.specs.FileValues.{FitsColumns, IsFrom, IsEntry, IsRow, IsSeen, says, of_system};
-ghost use Rattle.rinex_file.specs.Lines.{seen_line, letter_of};
+ghost use Rattle.rinex_file.specs.FileValues.{FitsColumns, IsFrom, AreSignalValues, IsRow, IsSatelliteRow, has_some_value, of_system};
+ghost use Rattle.rinex_file.specs.Lines.{satellite_line, letter_of};
 ghost use Rattle.rinex_file.specs.Read.Fields.{ReadsExactly, some_if};
-ghost use Rattle.rinex_file.specs.Read.Row.{value_in, entry_in, entries_in, seen_in};
+ghost use Rattle.rinex_file.specs.Read.Row.{value_in, signal_values_in, signals_in, satellite_row_in};
 ghost use Rattle.rinex_file.specs.Limits.{most_line, signal_columns, most_signals};
 
 use crate::read::numbers::{digits_in, is_same, number_text};
-use crate::values::kept::{KeptEntry, KeptSeen};
+use crate::values::kept::{KeptSatellite, KeptValues};
 use crate::write::kept_line::kept_line;
 use crate::write::numbers::{Line, MOST_SIGNALS, SIGNAL_COLUMNS, put, put_times};
 use arrayvec::ArrayVec;
@@ -30,39 +30,39 @@ fn value_in(text: &[u8]) -> Option<i64>
 }
 
 // What the 64 columns of a signal show.
-#[tactic(auto, unfolding(crate::specs::Read::Row::entry_in))]
-fn entry_in(text: &[u8]) -> KeptEntry
+#[tactic(auto, unfolding(crate::specs::Read::Row::signal_values_in))]
+fn signal_values_in(text: &[u8]) -> KeptValues
     requires { signal_columns ≤ length text.now }
-    ensures { result ≡ entry_in text.now }
+    ensures { result ≡ signal_values_in text.now }
 {
-    KeptEntry {
+    KeptValues {
         c: value_in(text),
         l: value_in(&text[16..]),
         d: value_in(&text[32..]),
         s: value_in(&text[48..]),
-        mark: digits_in(&text[30..31]) as u8,
+        lli: digits_in(&text[30..31]) as u8,
     }
 }
 
 // The entries that the columns of so many signals show, in place of those that were there.
-fn put_entries(text: &[u8], signals: usize, entries: &mut ArrayVec<KeptEntry, MOST_SIGNALS>)
+fn put_entries(text: &[u8], signals: usize, entries: &mut ArrayVec<KeptValues, MOST_SIGNALS>)
     requires few { signals ≤ most_signals }
     requires room { 3 + signal_columns * signals ≤ length text.now }
-    ensures { entries.new.items ≡ entries_in signals (drop 3 text.now) }
+    ensures { entries.new.items ≡ signals_in signals (drop 3 text.now) }
 {
     entries.clear();
     for i in 0..signals {
-        entries.push(entry_in(
+        entries.push(signal_values_in(
             &text[3 + SIGNAL_COLUMNS * i..3 + SIGNAL_COLUMNS * i + SIGNAL_COLUMNS],
         ));
     }
 }
 
 // What a line that was filled up with blanks shows of a satellite.
-fn put_seen_in(system: System, text: &[u8], signals: usize, seen: &mut KeptSeen)
+fn put_seen_in(system: System, text: &[u8], signals: usize, seen: &mut KeptSatellite)
     requires few { signals ≤ most_signals }
     requires room { 3 + signal_columns * signals ≤ length text.now }
-    ensures { seen.new ≡ seen_in system signals text.now }
+    ensures { seen.new ≡ satellite_row_in system signals text.now }
 {
     seen.system = system;
     seen.satellite = digits_in(&text[1..3]) as u8;
@@ -90,41 +90,41 @@ fn is_strength(value: Option<i64>) -> bool
 }
 
 // Whether values and mark are those of an entry: a mark stands by a phase alone.
-fn is_entry(entry: &KeptEntry) -> bool
-    ensures { IsTrue result ↔ IsEntry entry.now }
+fn is_entry(entry: &KeptValues) -> bool
+    ensures { IsTrue result ↔ AreSignalValues entry.now }
 {
     let c = is_value(entry.c);
     let l = is_value(entry.l);
     let d = is_value(entry.d);
     let s = is_strength(entry.s);
-    let mark = entry.mark == 0 || (entry.mark < 4 && entry.l.is_some());
-    c && l && d && s && mark
+    let lli = entry.lli == 0 || (entry.lli < 4 && entry.l.is_some());
+    c && l && d && s && lli
 }
 
 // Whether it has a value.
-fn says(entry: &KeptEntry) -> bool
-    ensures { result ≡ says entry.now }
+fn says(entry: &KeptValues) -> bool
+    ensures { result ≡ has_some_value entry.now }
 {
     entry.c.is_some() || entry.l.is_some() || entry.d.is_some() || entry.s.is_some()
 }
 
 // Whether each is an entry of a file value.
-fn are_entries(entries: &[KeptEntry]) -> bool
-    ensures { IsTrue result ↔ All IsEntry entries.now }
+fn are_entries(entries: &[KeptValues]) -> bool
+    ensures { IsTrue result ↔ All AreSignalValues entries.now }
 {
     entries.iter().all(|e| is_entry(e))
 }
 
 // Whether one of them has a value.
-fn say_something(entries: &[KeptEntry]) -> bool
-    ensures { IsTrue result ↔ Any (λ e. IsTrue (says e)) entries.now }
+fn say_something(entries: &[KeptValues]) -> bool
+    ensures { IsTrue result ↔ Any (λ e. IsTrue (has_some_value e)) entries.now }
 {
     entries.iter().any(|e| says(e))
 }
 
 // Whether a system with so many satellites, of which so many signals are planned, can have this
 // row.
-fn is_row(seen: &KeptSeen, most: u8, signals: usize) -> bool
+fn is_row(seen: &KeptSatellite, most: u8, signals: usize) -> bool
     ensures { IsTrue result ↔ IsRow most signals seen.now.row }
 {
     let entries = seen.entries.as_slice();
@@ -175,11 +175,11 @@ fn read_of(
     again: &mut Line,
     system: System,
     signals: usize,
-    seen: &mut KeptSeen,
+    seen: &mut KeptSatellite,
 ) -> bool
     requires short { length line.now ≤ most_line }
     requires few { signals ≤ most_signals }
-    ensures { ReadsExactly (λ s. (s.system ≡ system) × IsRow (satellites system) signals s.row) seen_line line.now (some_if result seen.new) }
+    ensures { ReadsExactly (λ s. (s.system ≡ system) × IsRow (satellites system) signals s.row) satellite_line line.now (some_if result seen.new) }
 {
     fill(line, signals, again);
     put_seen_in(system, again.as_slice(), signals, seen);
@@ -197,11 +197,11 @@ pub(crate) fn read_seen(
     again: &mut Line,
     gps: usize,
     galileo: usize,
-    seen: &mut KeptSeen,
+    seen: &mut KeptSatellite,
 ) -> bool
     requires short { length line.now ≤ most_line }
     requires few { (gps ≤ most_signals) × (galileo ≤ most_signals) }
-    ensures { ReadsExactly (IsSeen gps galileo) seen_line line.now (some_if result seen.new) }
+    ensures { ReadsExactly (IsSatelliteRow gps galileo) satellite_line line.now (some_if result seen.new) }
 {
     let system = match system_of(line) {
         Some(system) => system,

@@ -4,7 +4,7 @@ ghost use Rattle.std.specs.List.{list_any};
 ghost use Rattle.gnss_obs.specs.Signals.{SignalAt, IsSignal, table, code_of};
 ghost use Rattle.obs_epoch.specs.Signals.{indices, IsOf};
 ghost use Rattle.rinex_file.specs.Header.{type_rows};
-ghost use Rattle.rinex_file.specs.Read.Progress.{AreTypes, types_line, begun};
+ghost use Rattle.rinex_file.specs.Read.Progress.{AreTypes, types_line, signals_begun};
 
 use crate::header::labels;
 use crate::header::types::put_row;
@@ -42,9 +42,9 @@ pub(crate) fn read_types(
     requires signals { IsOf system signals.old.items }
     ensures signals { IsOf system signals.new.items }
     ensures grows { OnOk result (take (length signals.old.items) signals.new.items ≡ signals.old.items) }
-    ensures taken { OnOk result ((all : List ℕ) → AreTypes system all → length all ≡ count → indices signals.old.items ≡ take (begun row) all
-        → (line.now ≡ types_line system all row) ↔ (indices signals.new.items ≡ take (begun (row + 1)) all)) }
-    ensures bad { result ≡ Err Refusal.Bad → (all : List ℕ) → AreTypes system all → length all ≡ count → indices signals.old.items ≡ take (begun row) all
+    ensures taken { OnOk result ((all : List ℕ) → AreTypes system all → length all ≡ count → indices signals.old.items ≡ take (signals_begun row) all
+        → (line.now ≡ types_line system all row) ↔ (indices signals.new.items ≡ take (signals_begun (row + 1)) all)) }
+    ensures bad { result ≡ Err Refusal.Bad → (all : List ℕ) → AreTypes system all → length all ≡ count → indices signals.old.items ≡ take (signals_begun row) all
         → line.now ≡ types_line system all row → ⊥ }
 {
     take_signals(signals, system, count, row, line)?;
@@ -71,13 +71,13 @@ fn take_signals(
     requires signals { IsOf system signals.old.items }
     ensures signals { IsOf system signals.new.items }
     ensures grows { OnOk result (take (length signals.old.items) signals.new.items ≡ signals.old.items) }
-    ensures taken { OnOk result ((all : List ℕ) → AreTypes system all → length all ≡ count → indices signals.old.items ≡ take (begun row) all
-        → line.now ≡ types_line system all row → indices signals.new.items ≡ take (begun (row + 1)) all) }
-    ensures bad { result ≡ Err Refusal.Bad → (all : List ℕ) → AreTypes system all → length all ≡ count → indices signals.old.items ≡ take (begun row) all
+    ensures taken { OnOk result ((all : List ℕ) → AreTypes system all → length all ≡ count → indices signals.old.items ≡ take (signals_begun row) all
+        → line.now ≡ types_line system all row → indices signals.new.items ≡ take (signals_begun (row + 1)) all) }
+    ensures bad { result ≡ Err Refusal.Bad → (all : List ℕ) → AreTypes system all → length all ≡ count → indices signals.old.items ≡ take (signals_begun row) all
         → line.now ≡ types_line system all row → ⊥ }
 {
-    let end = begun(row + 1).min(count);
-    for place in begun(row)..end {
+    let end = signals_begun(row + 1).min(count);
+    for place in signals_begun(row)..end {
         let column = 6 + 4 * (4 * place - 13 * row) + 2;
         take_signal(signals, system, line, column)?;
     }
@@ -85,9 +85,9 @@ fn take_signals(
 }
 
 /// So many signals begin in the lines in front of one.
-pub(crate) fn begun(row: usize) -> usize
+pub(crate) fn signals_begun(row: usize) -> usize
     requires { row ≤ 6 }
-    ensures { result ≡ begun row }
+    ensures { result ≡ signals_begun row }
 {
     (13 * row + 3) / 4
 }

@@ -6,40 +6,40 @@ use obs_epoch::GpsTime;
 use std::marker::Model;
 
 /// What a line shows of a signal: pseudorange (0.001 m), phase (0.001 cycles), Doppler (0.001 Hz)
-/// and strength (0.001 dB-Hz), and the loss-of-lock mark of the phase. All are absent where nothing
+/// and strength (0.001 dB-Hz), and the loss-of-lock indicator of the phase. All are absent where nothing
 /// was observed.
 #[derive(Clone, Copy, Debug, Default, PartialEq, Eq)]
-pub(crate) struct KeptEntry {
+pub(crate) struct KeptValues {
     pub(crate) c: Option<i64>,
     pub(crate) l: Option<i64>,
     pub(crate) d: Option<i64>,
     pub(crate) s: Option<i64>,
-    pub(crate) mark: u8,
+    pub(crate) lli: u8,
 }
 
-impl Model for KeptEntry {
-    ghost use Rattle.rinex_file.specs.Value.{Entry};
+impl Model for KeptValues {
+    ghost use Rattle.rinex_file.specs.Value.{SignalValues};
 
-    ghost Value = { Entry };
+    ghost Value = { SignalValues };
 
-    ghost view = { λ e. record { c = e.c; l = e.l; d = e.d; s = e.s; mark = e.mark } };
+    ghost view = { λ e. record { c = e.c; l = e.l; d = e.d; s = e.s; lli = e.lli } };
 
-    ghost inverse = { λ e. record { c = e.c; l = e.l; d = e.d; s = e.s; mark = e.mark } };
+    ghost inverse = { λ e. record { c = e.c; l = e.l; d = e.d; s = e.s; lli = e.lli } };
 }
 
 /// A satellite of a system, with an entry for each planned signal in the plan's order, as a line
 /// shows it.
 #[derive(Drop)]
-pub(crate) struct KeptSeen {
+pub(crate) struct KeptSatellite {
     pub(crate) system: System,
     pub(crate) satellite: u8,
-    pub(crate) entries: ArrayVec<KeptEntry, MOST_SIGNALS>,
+    pub(crate) entries: ArrayVec<KeptValues, MOST_SIGNALS>,
 }
 
-impl Model for KeptSeen {
-    ghost use Rattle.rinex_file.specs.Value.{Seen};
+impl Model for KeptSatellite {
+    ghost use Rattle.rinex_file.specs.Value.{SatelliteRow};
 
-    ghost Value = { Seen };
+    ghost Value = { SatelliteRow };
 
     ghost view = { λ s. record { system = s.system; row = record { satellite = s.satellite; entries = s.entries.items } } };
 }

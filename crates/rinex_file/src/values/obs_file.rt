@@ -4,7 +4,7 @@ ghost use Rattle.std.specs.List.{sum_by};
 ghost use Rattle.rinex_file.specs.Course.{events_in};
 
 use crate::header::texts::HeaderTexts;
-use crate::values::kept::{KeptEntry, KeptEpoch, KeptRow};
+use crate::values::kept::{KeptEpoch, KeptRow, KeptValues};
 use obs_epoch::{Plan, StationValues};
 use std::marker::Model;
 
@@ -17,7 +17,7 @@ pub struct ObsFile {
     pub(crate) epochs: Vec<KeptEpoch>,
     pub(crate) changes: Vec<StationValues>,
     pub(crate) rows: Vec<KeptRow>,
-    pub(crate) entries: Vec<KeptEntry>,
+    pub(crate) entries: Vec<KeptValues>,
 }
 
 impl Model for ObsFile {

@@ -2,13 +2,13 @@
 ghost use Rattle.std.specs.Prelude.{◌≡◌, ◌<◌, ◌≤◌, ◌++◌, All, Err, OnOk, IfOk, length, take, drop, flat_map, ◌+◌, if◌then◌else◌, None};
 ghost use Rattle.rinex_file.specs.Numbers.{joined};
 ghost use Rattle.rinex_file.specs.File.{header_text, change_lines, stamped_lines, file_text};
-ghost use Rattle.rinex_file.specs.Course.{epoch_at};
-ghost use Rattle.rinex_file.specs.Read.Kept.{row_at, rows_of, epoch_from, epochs_of, change_at, entry_count, AreKept, HasRoom};
-ghost use Rattle.rinex_file.specs.Lines.{seen_line};
+ghost use Rattle.rinex_file.specs.Course.{stamped_at};
+ghost use Rattle.rinex_file.specs.Read.Kept.{kept_row, rows_of, epoch_from, epochs_of, change_at, entry_count, AreKept, HasRoom};
+ghost use Rattle.rinex_file.specs.Lines.{satellite_line};
 
 use crate::header::head::{Head, header_lines};
 use crate::header::lines::{delta_line, position_line};
-use crate::values::kept::{KeptEntry, KeptEpoch, KeptRow};
+use crate::values::kept::{KeptEpoch, KeptRow, KeptValues};
 use crate::values::obs_file::ObsFile;
 use crate::write::epoch::epoch_line;
 use crate::write::event::event_line;
@@ -38,13 +38,13 @@ fn add_header(text: &mut Vec<u8>, file: &ObsFile, first: GpsTime) -> Result<(), 
 fn add_row(
     text: &mut Vec<u8>,
     row: &KeptRow,
-    entries: &[KeptEntry],
+    entries: &[KeptValues],
     at: usize,
     line: &mut Line,
 ) -> Result<usize, AllocError>
     requires entries { at + row.now.entries ≤ length entries.now }
-    requires room { HasRoom (row_at row.now (drop at entries.now)) }
-    ensures text { OnOk result (text.new.items ≡ text.old.items ++ seen_line (row_at row.now (drop at entries.now))) }
+    requires room { HasRoom (kept_row row.now (drop at entries.now)) }
+    ensures text { OnOk result (text.new.items ≡ text.old.items ++ satellite_line (kept_row row.now (drop at entries.now))) }
     ensures end { IfOk result (λ end. end ≡ at + row.now.entries) }
 {
     let end = at + row.entries;
@@ -59,12 +59,12 @@ fn add_epoch(
     text: &mut Vec<u8>,
     time: GpsTime,
     rows: &[KeptRow],
-    entries: &[KeptEntry],
+    entries: &[KeptValues],
     line: &mut Line,
 ) -> Result<usize, AllocError>
     requires room { All HasRoom (rows_of rows.now entries.now) }
     requires entries { entry_count rows.now ≤ length entries.now }
-    ensures text { OnOk result (text.new.items ≡ text.old.items ++ joined (stamped_lines (epoch_at None time (rows_of rows.now entries.now)))) }
+    ensures text { OnOk result (text.new.items ≡ text.old.items ++ joined (stamped_lines (stamped_at None time (rows_of rows.now entries.now)))) }
     ensures count { IfOk result (λ n. n ≡ entry_count rows.now) }
 {
     epoch_line(time, rows.len(), line);
@@ -106,7 +106,7 @@ fn add_next(
     epoch: &KeptEpoch,
     changes: &[StationValues],
     rows: &[KeptRow],
-    entries: &[KeptEntry],
+    entries: &[KeptValues],
     at: (usize, usize, usize),
     line: &mut Line,
 ) -> Result<(usize, usize, usize), AllocError>
@@ -132,7 +132,7 @@ fn add_epochs(
     epochs: &[KeptEpoch],
     changes: &[StationValues],
     rows: &[KeptRow],
-    entries: &[KeptEntry],
+    entries: &[KeptValues],
     line: &mut Line,
 ) -> Result<(), AllocError>
     requires kept { AreKept epochs.now changes.now rows.now entries.now 0 }

@@ -1,12 +1,12 @@
 //! Observation lines of what was read: RINEX 3.05, table A3, "OBSERVATION DATA RECORD".
 ghost use Rattle.std.specs.Prelude.{◌≡◌, ℕ, ◌+◌, ◌≤◌, ◌<◌, ◌++◌, [], length, All, IfSome};
 ghost use Rattle.arrayvec.specs.ArrayVec.{array_vec_len};
-ghost use Rattle.rinex_file.specs.FileValues.{FitsColumns, IsEntry};
-ghost use Rattle.rinex_file.specs.Lines.{field, strength_byte, mark_byte, entry_text, seen_line};
-ghost use Rattle.rinex_file.specs.Value.{seen_with};
+ghost use Rattle.rinex_file.specs.FileValues.{FitsColumns, AreSignalValues};
+ghost use Rattle.rinex_file.specs.Lines.{field, strength_byte, lli_byte, signal_text, satellite_line};
+ghost use Rattle.rinex_file.specs.Value.{satellite_row};
 ghost use Rattle.rinex_file.specs.Limits.{most_line, signal_columns, value_columns, most_signals};
 
-use crate::values::kept::KeptEntry;
+use crate::values::kept::KeptValues;
 use crate::write::numbers::{Line, VALUE_COLUMNS, put, put_times};
 use crate::write::satellite::{columns_of, cut_length, letter_of};
 use gnss_obs::{System, Thousandths, strength_digit};
@@ -36,18 +36,18 @@ fn strength_column(s: Option<i64>) -> u8
 }
 
 // Appends the 64 columns of a signal.
-#[tactic(auto, unfolding(crate::specs::Lines::entry_text))]
-fn put_entry(line: &mut Line, entry: &KeptEntry)
-    requires is { IsEntry entry.now }
+#[tactic(auto, unfolding(crate::specs::Lines::signal_text))]
+fn put_entry(line: &mut Line, entry: &KeptValues)
+    requires is { AreSignalValues entry.now }
     requires room { array_vec_len line.old + signal_columns ≤ most_line }
-    ensures text { line.new.items ≡ line.old.items ++ entry_text entry.now }
+    ensures text { line.new.items ≡ line.old.items ++ signal_text entry.now }
     ensures size { array_vec_len line.new ≡ array_vec_len line.old + signal_columns }
 {
     let strength = strength_column(entry.s);
-    let lost = if entry.mark == 0 {
+    let lost = if entry.lli == 0 {
         b' '
     } else {
-        b'0' + entry.mark
+        b'0' + entry.lli
     };
     put_field(line, entry.c, b' ', strength);
     put_field(line, entry.l, lost, strength);
@@ -56,11 +56,11 @@ fn put_entry(line: &mut Line, entry: &KeptEntry)
 }
 
 /// The line of a satellite with these entries, in place of what the buffer holds.
-pub(crate) fn kept_line(system: System, satellite: u8, entries: &[KeptEntry], line: &mut Line)
+pub(crate) fn kept_line(system: System, satellite: u8, entries: &[KeptValues], line: &mut Line)
     requires satellite { satellite < 100 }
-    requires entries { All IsEntry entries.now }
+    requires entries { All AreSignalValues entries.now }
     requires few { length entries.now ≤ most_signals }
-    ensures { line.new.items ≡ seen_line (seen_with system satellite entries.now) }
+    ensures { line.new.items ≡ satellite_line (satellite_row system satellite entries.now) }
 {
     line.clear();
     line.push(letter_of(system));

@@ -2,12 +2,12 @@
 ghost use Rattle.std.specs.Prelude.{◌≡◌, ℕ, ◌+◌, ◌*◌, ◌≤◌, ◌<◌, ◌^◌, ◌++◌, [], ◌∷◌, ◌≢◌, length, take, drop, replicate, find, IfSome, Some};
 ghost use Rattle.std.specs.Option.{option_map};
 ghost use Rattle.arrayvec.specs.ArrayVec.{array_vec_len};
-ghost use Rattle.obs_epoch.specs.Values.{Fits, AreHeld};
+ghost use Rattle.obs_epoch.specs.Values.{HasTwelveDigits, AreHeld};
 ghost use Rattle.rinex_file.specs.FileValues.{FitsColumns};
-ghost use Rattle.rinex_file.specs.Value.{Entry, entry_of, no_entry, entry_at, is_of, seen_among, seen_of};
+ghost use Rattle.rinex_file.specs.Value.{SignalValues, signal_values_of, no_signal_values, signal_values_at, is_of_key, row_among, row_in_epoch};
 ghost use Rattle.rinex_file.specs.Numbers.{padded};
 ghost use Rattle.rinex_file.specs.Blanks.{trimmed};
-ghost use Rattle.rinex_file.specs.Lines.{field, strength_byte, mark_byte, entry_text, letter_of, seen_line};
+ghost use Rattle.rinex_file.specs.Lines.{field, strength_byte, lli_byte, signal_text, letter_of, satellite_line};
 ghost use Rattle.rinex_file.specs.Limits.{most_line, signal_columns, value_columns};
 
 use crate::write::numbers::{Line, SIGNAL_COLUMNS, VALUE_COLUMNS, put, put_times};
@@ -49,7 +49,7 @@ pub(crate) fn columns_of(value: i64, lost: u8, strength: u8) -> [u8; VALUE_COLUM
 // Appends a value in 14 columns with the two columns behind it, or 16 blanks.
 #[tactic(auto, unfolding(crate::specs::Lines::field))]
 fn put_field(line: &mut Line, value: Option<Thousandths>, lost: u8, strength: u8)
-    requires fits { IfSome value Fits }
+    requires fits { IfSome value HasTwelveDigits }
     requires room { array_vec_len line.old + value_columns ≤ most_line }
     ensures text { line.new.items ≡ line.old.items ++ field value lost strength }
     ensures size { array_vec_len line.new ≡ array_vec_len line.old + value_columns }
@@ -71,20 +71,16 @@ fn strength_column(s: Option<Thousandths>) -> u8
 }
 
 // Appends the columns of a signal with this cell.
-#[tactic(auto, unfolding(crate::specs::Lines::entry_text))]
+#[tactic(auto, unfolding(crate::specs::Lines::signal_text))]
 fn put_cell(line: &mut Line, cell: &Cell)
-    requires fits { (IfSome cell.now.c Fits) × (IfSome cell.now.l Fits) × (IfSome cell.now.d Fits) × (IfSome cell.now.s Fits) }
-    requires mark { cell.now.mark < 4 }
+    requires fits { (IfSome cell.now.c HasTwelveDigits) × (IfSome cell.now.l HasTwelveDigits) × (IfSome cell.now.d HasTwelveDigits) × (IfSome cell.now.s HasTwelveDigits) }
+    requires mark { cell.now.lli < 4 }
     requires room { array_vec_len line.old + signal_columns ≤ most_line }
-    ensures text { line.new.items ≡ line.old.items ++ entry_text (entry_of cell.now) }
+    ensures text { line.new.items ≡ line.old.items ++ signal_text (signal_values_of cell.now) }
     ensures size { array_vec_len line.new ≡ array_vec_len line.old + signal_columns }
 {
     let strength = strength_column(cell.s);
-    let lost = if cell.mark == 0 {
-        b' '
-    } else {
-        b'0' + cell.mark
-    };
+    let lost = if cell.lli == 0 { b' ' } else { b'0' + cell.lli };
     put_field(line, cell.c, b' ', strength);
     put_field(line, cell.l, lost, strength);
     put_field(line, cell.d, b' ', b' ');
@@ -93,14 +89,14 @@ fn put_cell(line: &mut Line, cell: &Cell)
 
 // The first cell of a satellite's signal.
 fn cell_of(cells: &[Cell], id: u8, index: usize) -> Option<&Cell>
-    ensures { option_map (λ c. c.now) result ≡ find (is_of id index) cells.now }
+    ensures { option_map (λ c. c.now) result ≡ find (is_of_key id index) cells.now }
 {
     cells.iter().find(|cell| is_of(cell, id, index))
 }
 
 // Whether a cell is of a satellite's signal.
 fn is_of(cell: &Cell, id: u8, index: usize) -> bool
-    ensures { result ≡ is_of id index cell.now }
+    ensures { result ≡ is_of_key id index cell.now }
 {
     cell.satellite.id() == id && cell.signal.index() == index
 }
@@ -109,7 +105,7 @@ fn is_of(cell: &Cell, id: u8, index: usize) -> bool
 fn put_signal(line: &mut Line, system: System, cells: &[Cell], id: u8, index: usize)
     requires held { AreHeld system cells.now }
     requires room { array_vec_len line.old + signal_columns ≤ most_line }
-    ensures text { line.new.items ≡ line.old.items ++ entry_text (entry_at cells.now id index) }
+    ensures text { line.new.items ≡ line.old.items ++ signal_text (signal_values_at cells.now id index) }
     ensures size { array_vec_len line.new ≡ array_vec_len line.old + signal_columns }
 {
     match cell_of(cells, id, index) {
@@ -133,11 +129,11 @@ fn put_next(
     requires held { AreHeld system cells.now }
     requires from { from ≤ length cells.now }
     requires room { array_vec_len line.old + signal_columns ≤ most_line }
-    ensures text { line.new.items ≡ line.old.items ++ entry_text (entry_at (drop from cells.now) id index) }
+    ensures text { line.new.items ≡ line.old.items ++ signal_text (signal_values_at (drop from cells.now) id index) }
     ensures size { array_vec_len line.new ≡ array_vec_len line.old + signal_columns }
     ensures within { result ≤ length cells.now }
     // No cell of another signal was passed.
-    ensures others { (other : ℕ) → other ≢ index → entry_at (drop result cells.now) id other ≡ entry_at (drop from cells.now) id other }
+    ensures others { (other : ℕ) → other ≢ index → signal_values_at (drop result cells.now) id other ≡ signal_values_at (drop from cells.now) id other }
 {
     if from < cells.len() && is_of(&cells[from], id, index) {
         put_cell(line, &cells[from]);
@@ -174,7 +170,7 @@ pub(crate) fn put_seen(line: &mut Line, cells: &[Cell], plan: &Plan, system: Sys
     requires empty { line.old.items ≡ [] }
     requires held { AreHeld system cells.now }
     requires id { id < 100 }
-    ensures { line.new.items ≡ seen_line (seen_among plan.now system cells.now id) }
+    ensures { line.new.items ≡ satellite_line (row_among plan.now system cells.now id) }
 {
     line.push(letter_of(system));
     line.push(b'0' + id / 10);
@@ -195,7 +191,7 @@ pub(crate) fn put_seen(line: &mut Line, cells: &[Cell], plan: &Plan, system: Sys
 /// What wasn't observed is blank. It is written by [`write_epoch`](crate::write_epoch) where it has
 /// a value.
 pub fn satellite_line(epoch: &Epoch, plan: &Plan, satellite: Sat, line: &mut Line)
-    ensures { line.new.items ≡ seen_line (seen_of plan.now epoch.now.epoch satellite.system satellite.id) }
+    ensures { line.new.items ≡ satellite_line (row_in_epoch plan.now epoch.now.epoch satellite.system satellite.id) }
 {
     line.clear();
     let cells = epoch.cells(satellite.system());

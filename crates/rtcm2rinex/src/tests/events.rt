@@ -139,7 +139,7 @@ fn an_event_that_is_wrong_is_told_with_its_line(rt: HostRuntime) -> Result<(), F
     Ok(())
 }
 
-// Where the writer fails within an event, a front of the file went out.
+// Where the writer fails within an event, a prefix of the file went out.
 #[test]
 fn a_writer_that_fails_within_an_event_has_the_front(rt: HostRuntime) -> Result<(), Fail> {
     let stream = framed(rt.alloc(), &[&FINE, &HEIGHT, &later()])?;

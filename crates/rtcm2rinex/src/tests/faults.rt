@@ -80,7 +80,7 @@ fn a_flush_that_fails_is_told(rt: HostRuntime) -> Result<(), Fail> {
     Ok(())
 }
 
-// What a device took before it failed stays, and is a front of the file.
+// What a device took before it failed stays, and is a prefix of the file.
 #[test]
 fn a_writer_may_fail_behind_each_byte(rt: HostRuntime) -> Result<(), Fail> {
     let stream = framed(rt.alloc(), &[&FINE])?;

@@ -1,7 +1,7 @@
 use Rattle.std.proofs.Common.{◌≡◌, ◌≤◌, ◌<◌, ◌^◌, ◌*ℤ◌, ℕ, ℤ, pos, unsigned_abs, arith, ◌∙◌, ap, sym, rules, refl, lit<, lit≤, FitsSigned, w64, to_z, of_z}
 use Rattle.std.specs.Int.{w128}
 use Rattle.std.proofs.lemmas.Int.{ints}
-use Rattle.gnss_obs.specs.Observables.{cycles}
+use Rattle.gnss_obs.specs.Observables.{nearest_phase}
 use Rattle.gnss_obs.specs.Rounding.{nearest}
 use Rattle.gnss_obs.specs.Signals.{hertz_of}
 use Rattle.gnss_obs.proofs.NearestLaws.{product_casts, product_size, product_within, nearest_named}
@@ -41,7 +41,7 @@ returns-in-Some-clause-value c =
     let size = c.requires c.in-Some.p c.in-Some.is in
     let wide = widened c.in-Some.p c.hertz.result fits size (omega (arith, c.hertz.ensures.bound)) ∙ ap (λ h. c.in-Some.p *ℤ pos h) c.hertz.ensures.value in
     let same : to_z w64 (of_z w64 c.nearest_whole.result) ≡ c.nearest_whole.result = omega (arith, ints) in
-    let value : c.new.result ≡ cycles (hertz_of c.args.signal) c.in-Some.p = c.new.ensures ∙ same ∙ c.nearest_whole.ensures.value ∙ ap (λ z. nearest z (2 ^ 31)) wide in
+    let value : c.new.result ≡ nearest_phase (hertz_of c.args.signal) c.in-Some.p = c.new.ensures ∙ same ∙ c.nearest_whole.ensures.value ∙ ap (λ z. nearest z (2 ^ 31)) wide in
     rw (c.in-Some.is, value) refl
 
 pub returns-in-Some-clause-bound : goal.returns-in-Some-clause-bound

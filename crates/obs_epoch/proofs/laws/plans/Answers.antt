@@ -7,8 +7,8 @@ use Rattle.gnss_obs.specs.declared.system.System.{System}
 use Rattle.gnss_obs.specs.Signals.{SignalAt, signal_of_code}
 use Rattle.obs_epoch.specs.declared.fault.PlanFault.{PlanFault}
 use Rattle.obs_epoch.specs.declared.fault.PlanFault.TheVariants.{RepeatedCode}
-use Rattle.obs_epoch.specs.Plans.{signals_after, one_more}
-use Rattle.obs_epoch.specs.Laws.{Spells}
+use Rattle.obs_epoch.specs.Plans.{signals_after, one_signal_more}
+use Rattle.obs_epoch.specs.Laws.{CodesNameSignals}
 use Rattle.obs_epoch.proofs.PlanLemmas.{of_where}
 use Rattle.obs_epoch.proofs.laws.plans.Goals as goal
 
@@ -16,7 +16,7 @@ use Rattle.obs_epoch.proofs.laws.plans.Goals as goal
 record Read (system : System) (earlier : List ℕ) (codes : List (List ℕ)) (all : List ℕ) : Type 0 where
   more : List ℕ
   is : all ≡ earlier ++ more
-  spelled : Spells system codes more
+  spelled : CodesNameSignals system codes more
   apart : IsDistinct nat_eq all
 
 abbrev signals_in : Result (List ℕ) PlanFault → List ℕ
@@ -33,8 +33,8 @@ whole : (system : System) (s : SignalAt) → s.system ≡ system → s ≡ recor
 whole system s e = ap (λ c. record { system = c; index = s.index }) e
 
 unknown_not : {A : Type 0} (system : System) (earlier : List ℕ) (c : List ℕ) (rest : List ℕ → Result (List ℕ) PlanFault) (all : List ℕ) → signal_of_code system c ≡ None
-    → one_more system earlier (signal_of_code system c) rest ≡ Ok all → A
-unknown_not system earlier c rest all e h = absurd (no_fault _ all (ap (λ o. one_more system earlier o rest) (sym e) ∙ h))
+    → one_signal_more system earlier (signal_of_code system c) rest ≡ Ok all → A
+unknown_not system earlier c rest all e h = absurd (no_fault _ all (ap (λ o. one_signal_more system earlier o rest) (sym e) ∙ h))
 
 read : (system : System) (codes : List (List ℕ)) (earlier all : List ℕ) → IsDistinct nat_eq earlier → signals_after system earlier codes ≡ Ok all → Read system earlier codes all
 read system [] earlier all apart h =
@@ -45,8 +45,8 @@ read system (c ∷ codes) earlier all apart h = by (signal_of_code system c) ref
       → ((more : List ℕ) → IsDistinct nat_eq more → signals_after system more codes ≡ Ok all → Read system more codes all) → Read system earlier (c ∷ codes) all
   by None e next = unknown_not system earlier c (λ signals. signals_after system signals codes) all e h
   by (Some s) e next = by_new (list_any (nat_eq s.index) earlier) refl where
-    here : one_more system earlier (Some s) (λ signals. signals_after system signals codes) ≡ Ok all
-    here = ap (λ o. one_more system earlier o (λ signals. signals_after system signals codes)) (sym e) ∙ h
+    here : one_signal_more system earlier (Some s) (λ signals. signals_after system signals codes) ≡ Ok all
+    here = ap (λ o. one_signal_more system earlier o (λ signals. signals_after system signals codes)) (sym e) ∙ h
 
     by_new : (b : Bool) → list_any (nat_eq s.index) earlier ≡ b → Read system earlier (c ∷ codes) all
     by_new true f = absurd (no_fault _ all (ap (λ b. if b then Err (RepeatedCode system (length earlier)) else signals_after system (earlier ++ s.index ∷ []) codes) (sym f) ∙ here))
@@ -67,4 +67,4 @@ none_apart = tt
 pub returns : goal.returns
 returns c = λ system codes signals h.
     let r = read system codes [] signals none_apart h in
-    (subst (Spells system codes) (sym r.is) r.spelled, r.apart)
+    (subst (CodesNameSignals system codes) (sym r.is) r.spelled, r.apart)

@@ -5,7 +5,7 @@ use Rattle.rtcm_bits.specs.Device.{AppendsPrefix}
 use Rattle.gnss_obs.specs.declared.system.System.TheVariants.{Gps, Galileo}
 use Rattle.gnss_obs.specs.Satellites.{satellites as satellites_in}
 use Rattle.obs_epoch.specs.Dates.{civil_of}
-use Rattle.obs_epoch.specs.Values.{satellites}
+use Rattle.obs_epoch.specs.Values.{satellites_written}
 use Rattle.rinex_file.specs.Lines.{epoch_line}
 use Rattle.rinex_file.specs.File.{lines_up_to, epoch_text}
 use Rattle.rinex_file.proofs.Appended.{failed}
@@ -17,7 +17,7 @@ returns-in_err-write_whole-clause-part g c =
     let contents = g.W.Write.contents in
     let p = c.args.plan.now in
     let e = c.args.epoch.now.epoch in
-    let own = epoch_line (civil_of e.time) (satellites e) in
+    let own = epoch_line (civil_of e.time) (satellites_written e) in
     let gps = lines_up_to p e Gps (satellites_in Gps) in
     let galileo = lines_up_to p e Galileo (satellites_in Galileo) in
     let line : c.as_slice.result.now ≡ own =
@@ -31,7 +31,7 @@ returns-in_err-write_system-clause-part g c =
     let contents = g.W.Write.contents in
     let p = c.args.plan.now in
     let e = c.args.epoch.now.epoch in
-    let own = epoch_line (civil_of e.time) (satellites e) in
+    let own = epoch_line (civil_of e.time) (satellites_written e) in
     let gps = lines_up_to p e Gps (satellites_in Gps) in
     let galileo = lines_up_to p e Galileo (satellites_in Galileo) in
     let line : c.as_slice.result.now ≡ own =
@@ -47,7 +47,7 @@ returns-clause-whole g c =
     let contents = g.W.Write.contents in
     let p = c.args.plan.now in
     let e = c.args.epoch.now.epoch in
-    let own = epoch_line (civil_of e.time) (satellites e) in
+    let own = epoch_line (civil_of e.time) (satellites_written e) in
     let gps = lines_up_to p e Gps (satellites_in Gps) in
     let galileo = lines_up_to p e Galileo (satellites_in Galileo) in
     let line : c.as_slice.result.now ≡ own =
@@ -65,7 +65,7 @@ returns-in_err-write_system-2-clause-part g c =
     let contents = g.W.Write.contents in
     let p = c.args.plan.now in
     let e = c.args.epoch.now.epoch in
-    let own = epoch_line (civil_of e.time) (satellites e) in
+    let own = epoch_line (civil_of e.time) (satellites_written e) in
     let gps = lines_up_to p e Gps (satellites_in Gps) in
     let galileo = lines_up_to p e Galileo (satellites_in Galileo) in
     let line : c.as_slice.result.now ≡ own =

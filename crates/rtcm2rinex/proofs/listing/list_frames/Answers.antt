@@ -3,7 +3,7 @@ use Rattle.rtcm2rinex.specs.declared.fault.ToolFault.{ToolFault}
 use Rattle.rtcm2rinex.specs.declared.fault.ToolFault.TheVariants.{Scan}
 use Rattle.rtcm_scan.specs.declared.framer.ScanFault.TheVariants.{TooLong}
 use Rattle.rtcm2rinex.specs.Listing.{ListsToLimit}
-use Rattle.rtcm2rinex.specs.Kinds.{lines_of}
+use Rattle.rtcm2rinex.specs.Kinds.{listing_lines}
 use Rattle.rtcm2rinex.proofs.ListedLemmas.{listed_all, same_fault}
 use Rattle.rtcm2rinex.proofs.listing.list_frames.Goals as goal
 
@@ -26,5 +26,5 @@ returns-in-Err-clause-too_long g c = λ e.
     let remaining = g.R.Read.remaining in
     let r = remaining c.args.reader.now.inner in
     let w = contents c.args.writer.now.inner in
-    subst (λ (limit : ℕ). ListsToLimit limit (lines_of c.args.listing) r (remaining c.list_next.new.reader.inner) w (contents c.list_next.new.writer.inner)) c.loop-fault.invariant.limit
+    subst (λ (limit : ℕ). ListsToLimit limit (listing_lines c.args.listing) r (remaining c.list_next.new.reader.inner) w (contents c.list_next.new.writer.inner)) c.loop-fault.invariant.limit
     (c.in-Err.ensures.too_long (same_fault c.in-Err.fault (Scan TooLong) e) r w c.loop-fault.invariant.listed)

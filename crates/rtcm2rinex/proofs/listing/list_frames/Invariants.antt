@@ -1,6 +1,6 @@
 use Rattle.std.proofs.Common.{◌≡◌, ◌+◌, ◌-◌, ◌≤◌, ◌<◌, false, length}
 use Rattle.rtcm2rinex.specs.Listed.{IsListed}
-use Rattle.rtcm2rinex.specs.Kinds.{lines_of}
+use Rattle.rtcm2rinex.specs.Kinds.{listing_lines}
 use Rattle.rtcm2rinex.proofs.listing.list_frames.Given as goal
 
 abbrev pub invariant-loop-fault : goal.invariant-loop-fault
@@ -8,7 +8,7 @@ invariant-loop-fault g l =
     let contents = g.W.Write.contents in
     let remaining = g.R.Read.remaining in
     record {
-      listed : IsListed (lines_of l.listing) (remaining l.fn.reader.inner) (remaining l.reader.inner) (contents l.fn.writer.inner) (contents l.writer.inner) l.framer;
+      listed : IsListed (listing_lines l.listing) (remaining l.fn.reader.inner) (remaining l.reader.inner) (contents l.fn.writer.inner) (contents l.writer.inner) l.framer;
       going : l.framer.has_ended ≡ false;
       within : l.framer.taken ≤ l.framer.limit;
       limit : l.framer.limit ≡ l.fn.framer.limit;

@@ -2,10 +2,10 @@ use Rattle.std.proofs.Common.{◌≡◌, ◌++◌, [], ◌∙◌, sym, ap, subst
 use Rattle.std.proofs.lemmas.Bool.{cases_lt}
 use Rattle.rtcm_bits.specs.Device.{AppendsPrefix}
 use Rattle.rtcm_scan.specs.Frames.{Framed}
-use Rattle.rtcm_scan.specs.Scan.{Scan}
+use Rattle.rtcm_scan.specs.Scan.{FramerValue}
 use Rattle.rtcm_scan.specs.Known.{known_frames}
 use Rattle.rtcm2rinex.specs.Listed.{ListsKnown}
-use Rattle.rtcm2rinex.specs.Kinds.{lines_of}
+use Rattle.rtcm2rinex.specs.Kinds.{listing_lines}
 use Rattle.rtcm2rinex.proofs.ListedLemmas.{list_pushed, piece_part}
 use Rattle.rtcm2rinex.proofs.listing.take_piece.Goals as goal
 
@@ -13,8 +13,8 @@ pub returns-in-Err-clause-part : goal.returns-in-Err-clause-part
 returns-in-Err-clause-part g c = λ w b fs s.
     let after = g.W.Write.contents c.list_decided.new.writer.inner in
     let e : Bool = c.args.framer.now.has_ended in
-    let part : AppendsPrefix w after (lines_of c.args.listing (known_frames e (b ++ []))) =
-    subst (λ (l : List ℕ). AppendsPrefix w after (lines_of c.args.listing (known_frames e l))) (sym (append-nil b)) (c.in-Err.ensures.part w b fs s) in
+    let part : AppendsPrefix w after (listing_lines c.args.listing (known_frames e (b ++ []))) =
+    subst (λ (l : List ℕ). AppendsPrefix w after (listing_lines c.args.listing (known_frames e l))) (sym (append-nil b)) (c.in-Err.ensures.part w b fs s) in
     piece_part c.args.listing w after e b c.args.piece.now 0 c.prefix.ensures.decided c.requires.going part
 
 pub returns-in-Err-list_decided-clause-part : goal.returns-in-Err-list_decided-clause-part
@@ -29,8 +29,8 @@ returns-in-Err-list_decided-clause-part g c = λ w b fs s.
     let before : List Framed = known_frames c.loop-taken.framer.has_ended (b ++ take n piece) in
     let pushed = list_pushed c.args.listing w (contents c.loop-taken.writer.inner) c.loop-taken.framer c.push_all.new.self b piece n m c.in_default-push_all.ensures.stands
     (kept.listed w b fs s) in
-    let part : AppendsPrefix w after (lines_of c.args.listing (known_frames e (b ++ take (n + m) piece))) =
-    subst (λ (x : Bool). AppendsPrefix w after (lines_of c.args.listing (known_frames x (b ++ take (n + m) piece)))) (c.in_default-push_all.ensures.same.1 ∙ kept.ended)
+    let part : AppendsPrefix w after (listing_lines c.args.listing (known_frames e (b ++ take (n + m) piece))) =
+    subst (λ (x : Bool). AppendsPrefix w after (listing_lines c.args.listing (known_frames x (b ++ take (n + m) piece)))) (c.in_default-push_all.ensures.same.1 ∙ kept.ended)
     (c.in-Err-list_decided.ensures.part w (b ++ take (n + m) piece) before pushed) in
     piece_part c.args.listing w after e b piece (n + m) c.prefix.ensures.decided c.requires.going part
 
@@ -43,7 +43,7 @@ loop-taken-preserved g c =
     let m : ℕ = c.min.result in
     let same = c.in_default-push_all.ensures.same in
     let end = c.in_default-list_decided.ensures in
-    let taken : c.push_all.new.self.taken ≡ c.loop-taken.framer.taken + length (slice_range piece n (n + m)) = ap (λ (v : Scan). v.taken) c.in_default-push_all.ensures.ok in
+    let taken : c.push_all.new.self.taken ≡ c.loop-taken.framer.taken + length (slice_range piece n (n + m)) = ap (λ (v : FramerValue). v.taken) c.in_default-push_all.ensures.ok in
     record {
       listed = λ w b fs s. end.listed w (b ++ take (n + m) piece) (known_frames c.loop-taken.framer.has_ended (b ++ take n piece))
           (list_pushed c.args.listing w (contents c.loop-taken.writer.inner) c.loop-taken.framer c.push_all.new.self b piece n m c.in_default-push_all.ensures.stands (kept.listed w b fs s));
@@ -66,13 +66,13 @@ returns-clause-listed g c = λ w b fs s.
     let end : n ≤ length piece = c.loop-taken.invariant.bound in
     let few : length piece ≤ m = omega (arith, kept.taken, kept.within, all, end) in
     let same : take n piece ≡ take m piece = take_all n piece all ∙ sym (take_all m piece few) in
-    subst (λ (l : List ℕ). ListsKnown (lines_of c.args.listing) w (g.W.Write.contents c.loop-taken.writer.inner) c.loop-taken.framer (b ++ l)) same (kept.listed w b fs s)
+    subst (λ (l : List ℕ). ListsKnown (listing_lines c.args.listing) w (g.W.Write.contents c.loop-taken.writer.inner) c.loop-taken.framer (b ++ l)) same (kept.listed w b fs s)
 
 pub loop-taken-init : goal.loop-taken-init
 loop-taken-init g c =
     let d = c.in_default.ensures in
     record {
-      listed = λ w b fs s. subst (λ (l : List ℕ). ListsKnown (lines_of c.args.listing) w (g.W.Write.contents c.list_decided.new.writer.inner) c.list_decided.new.framer l) (sym (append-nil b)) (d.listed w b fs s);
+      listed = λ w b fs s. subst (λ (l : List ℕ). ListsKnown (listing_lines c.args.listing) w (g.W.Write.contents c.list_decided.new.writer.inner) c.list_decided.new.framer l) (sym (append-nil b)) (d.listed w b fs s);
       ready = d.ready;
       bound = omega arith;
       taken = omega (arith, d.taken);
@@ -96,4 +96,4 @@ returns-then-next-taken-clause-listed g c = λ w b fs s.
     let none : c.room.result ≡ 0 = omega (arith, c.min.ensures, c.if-next-taken.true, c.loop-taken-test.true) in
     let full : c.loop-taken.framer.taken ≡ c.loop-taken.framer.limit = at_limit c.loop-taken.framer.taken c.loop-taken.framer.limit c.room.result (c.room.ensures.some kept.ready) none c.room.ensures.within in
     let all : n ≡ m = omega (arith, kept.taken, full, kept.limit) in
-    subst (λ (k : ℕ). ListsKnown (lines_of c.args.listing) w (g.W.Write.contents c.loop-taken.writer.inner) c.loop-taken.framer (b ++ take k piece)) all (kept.listed w b fs s)
+    subst (λ (k : ℕ). ListsKnown (listing_lines c.args.listing) w (g.W.Write.contents c.loop-taken.writer.inner) c.loop-taken.framer (b ++ take k piece)) all (kept.listed w b fs s)

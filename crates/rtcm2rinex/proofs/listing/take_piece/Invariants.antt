@@ -1,15 +1,15 @@
 use Rattle.std.proofs.Common.{◌≡◌, ◌+◌, ◌-◌, ◌≤◌, ◌++◌, List, ℕ, Option, true, take, length}
 use Rattle.rtcm_scan.specs.Frames.{Framed}
-use Rattle.rtcm2rinex.specs.Listed.{Lists, ListsKnown}
-use Rattle.rtcm2rinex.specs.Kinds.{lines_of}
+use Rattle.rtcm2rinex.specs.Listed.{ListsFrames, ListsKnown}
+use Rattle.rtcm2rinex.specs.Kinds.{listing_lines}
 use Rattle.rtcm2rinex.proofs.listing.take_piece.Given as goal
 
 abbrev pub invariant-loop-taken : goal.invariant-loop-taken
 invariant-loop-taken g l =
     let contents = g.W.Write.contents in
     record {
-      listed : (w : Option (List ℕ)) (b : List ℕ) (fs : List Framed) → Lists (lines_of l.listing) w (contents l.fn.writer.inner) l.fn.framer b fs
-          → ListsKnown (lines_of l.listing) w (contents l.writer.inner) l.framer (b ++ take l.taken l.piece);
+      listed : (w : Option (List ℕ)) (b : List ℕ) (fs : List Framed) → ListsFrames (listing_lines l.listing) w (contents l.fn.writer.inner) l.fn.framer b fs
+          → ListsKnown (listing_lines l.listing) w (contents l.writer.inner) l.framer (b ++ take l.taken l.piece);
       ready : l.framer.is_ready ≡ true;
       bound : l.taken ≤ length l.piece;
       taken : l.framer.taken ≡ l.fn.framer.taken + l.taken;

@@ -1,8 +1,8 @@
 use Rattle.std.proofs.Common.{◌∙◌, [], ◌∷◌, ap, decimal, count_ones}
 use Rattle.rtcm_bits.specs.Bits.{bit}
 use Rattle.rtcm_msg.specs.declared.header.MsmHeader.{MsmHeader}
-use Rattle.rtcm_msg.specs.Msm.{Sets}
-use Rattle.rtcm_msg.specs.Views.{number as number_of}
+use Rattle.rtcm_msg.specs.Msm.{MasksValue}
+use Rattle.rtcm_msg.specs.Views.{message_number as number_of}
 use Rattle.rtcm2rinex.specs.ShowLines.{msm_line}
 use Rattle.rtcm2rinex.proofs.LineLemmas.{add_word, end_line}
 use Rattle.rtcm2rinex.proofs.show.msm_line.Goals as goal
@@ -19,7 +19,7 @@ returns c =
     let time = add_word c.add_number-3.ensures.text station (ap decimal (c.from-3.ensures ∙ ap (λ (x : MsmHeader). x.time) h)) in
     let more = add_word c.add_number-4.ensures.text time (ap decimal (c.from-4.ensures ∙ ap (λ (x : MsmHeader). bit x.more) h)) in
     let satellites = add_word c.add_number-5.ensures.text more (ap decimal c.satellites.ensures.set) in
-    let signals = add_word c.add_number-6.ensures.text satellites (ap decimal (c.from-5.ensures ∙ ap count_ones (c.signals.ensures ∙ ap (λ (x : Sets). x.signals) c.masks.ensures))) in
+    let signals = add_word c.add_number-6.ensures.text satellites (ap decimal (c.from-5.ensures ∙ ap count_ones (c.signals.ensures ∙ ap (λ (x : MasksValue). x.signals) c.masks.ensures))) in
     let cells = add_word c.add_number-7.ensures.text signals (ap decimal c.cells.ensures.set) in
     end_line (decimal c.args.offset) (decimal (number_of form m.is_galileo) ∷ decimal m.header.station ∷ decimal m.header.time ∷ decimal (bit m.header.more)
     ∷ decimal (count_ones m.sets.satellites) ∷ decimal (count_ones m.sets.signals) ∷ decimal (count_ones m.sets.cells) ∷ []) c.finish.ensures cells

@@ -1,7 +1,7 @@
 use Rattle.std.proofs.Common.{◌≡◌, ◌∙◌, sym, ap, subst, arith, ℕ, ◌+◌, ◌<◌, List, take, length, Option, None, Some}
 use Rattle.rtcm_scan.specs.Frames.{Framed}
 use Rattle.rtcm_scan.specs.declared.framer.ScanFault.{ScanFault}
-use Rattle.rtcm_scan.specs.Scan.{Scan, StandsFor}
+use Rattle.rtcm_scan.specs.Scan.{FramerValue, HasFramed}
 use Rattle.rtcm2rinex.specs.Listed.{IsRefusal}
 use Rattle.rtcm2rinex.proofs.ListedLemmas.{refused_more}
 use Rattle.rtcm2rinex.proofs.SurveyLemmas.{counted_more, counted_too_much}
@@ -12,9 +12,9 @@ pub returns-in-None-clause-counted : goal.returns-in-None-clause-counted
 returns-in-None-clause-counted g c = λ r s.
     let remaining = g.R.Read.remaining in
     let piece : List ℕ = take c.in-Ok.n c.read.new.buf in
-    let same : (b : List ℕ) (fs : List Framed) → StandsFor c.args.framer.now b fs → StandsFor c.if-n-eq0.framer b fs = λ b fs h. elim c.if-n-eq0.branch [
-      | then-n-eq0 x ↦ subst (λ (v : Scan). StandsFor v b fs) (sym x.framer-is) (x.end.ensures.stands b fs h)
-      | else-n-eq0 x ↦ subst (λ (v : Scan). StandsFor v b fs) (sym x.framer-is) h
+    let same : (b : List ℕ) (fs : List Framed) → HasFramed c.args.framer.now b fs → HasFramed c.if-n-eq0.framer b fs = λ b fs h. elim c.if-n-eq0.branch [
+      | then-n-eq0 x ↦ subst (λ (v : FramerValue). HasFramed v b fs) (sym x.framer-is) (x.end.ensures.stands b fs h)
+      | else-n-eq0 x ↦ subst (λ (v : FramerValue). HasFramed v b fs) (sym x.framer-is) h
     ] in
     let refusal : IsRefusal c.if-n-eq0.framer (length piece) None = subst (λ (x : Option ScanFault). IsRefusal c.if-n-eq0.framer (length piece) x) c.in-None.is c.count_piece.ensures.refusal in
     counted_more c.args.census.now c.count_piece.new.census c.args.station r (remaining c.args.reader.now.inner) (remaining c.read.new.self.inner) c.args.framer.now c.if-n-eq0.framer
@@ -27,7 +27,7 @@ returns-in-Some-clause-too_long g c = λ e r s.
     let refusal : IsRefusal c.if-n-eq0.framer (length piece) (Some c.in-Some.fault) = subst (λ (x : Option ScanFault). IsRefusal c.if-n-eq0.framer (length piece) x) c.in-Some.is c.count_piece.ensures.refusal in
     let more : c.if-n-eq0.framer.limit < c.if-n-eq0.framer.taken + length piece = refused_more c.if-n-eq0.framer (length piece) c.in-Some.fault refusal in
     let same : c.if-n-eq0.framer ≡ c.args.framer.now = elim c.if-n-eq0.branch [
-      | then-n-eq0 x ↦ (let v = ap (λ (y : Scan). y.limit) (x.framer-is ∙ x.end.ensures.ended) in let t = ap (λ (y : Scan). y.taken) (x.framer-is ∙ x.end.ensures.ended) in
+      | then-n-eq0 x ↦ (let v = ap (λ (y : FramerValue). y.limit) (x.framer-is ∙ x.end.ensures.ended) in let t = ap (λ (y : FramerValue). y.taken) (x.framer-is ∙ x.end.ensures.ended) in
           let few : length piece ≡ 0 = ap (λ (n : ℕ). length (take n c.read.new.buf)) x.if-n-eq0.true in absurd (omega (arith, more, v, t, few, c.requires.within)))
       | else-n-eq0 x ↦ x.framer-is
     ] in

@@ -1,12 +1,12 @@
 use Rattle.std.proofs.Common.{◌≡◌, ◌+◌, ◌-◌, ◌≤◌, ◌++◌, List, ℕ, true, take, length}
 use Rattle.rtcm_scan.specs.Frames.{Framed}
-use Rattle.rtcm2rinex.specs.Census.{Counts, CountsKnown}
+use Rattle.rtcm2rinex.specs.Census.{CountsCells, CountsKnownCells}
 use Rattle.rtcm2rinex.proofs.survey.count_piece.Given as goal
 
 abbrev pub invariant-loop-taken : goal.invariant-loop-taken
 invariant-loop-taken l =
     record {
-      counted : (b : List ℕ) (fs : List Framed) → Counts l.fn.census l.station l.fn.framer b fs → CountsKnown l.census l.station l.framer (b ++ take l.taken l.piece);
+      counted : (b : List ℕ) (fs : List Framed) → CountsCells l.fn.census l.station l.fn.framer b fs → CountsKnownCells l.census l.station l.framer (b ++ take l.taken l.piece);
       ready : l.framer.is_ready ≡ true;
       bound : l.taken ≤ length l.piece;
       taken : l.framer.taken ≡ l.fn.framer.taken + l.taken;

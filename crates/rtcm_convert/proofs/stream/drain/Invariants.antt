@@ -1,6 +1,6 @@
 use Rattle.std.proofs.Common.{◌≡◌, false, length}
 use Rattle.rtcm_convert.proofs.StreamLemmas.{Came}
-use Rattle.rtcm_convert.specs.Stream.{StandsForSome}
+use Rattle.rtcm_convert.specs.Stream.{HasFramedSome}
 use Rattle.rtcm_convert.proofs.stream.drain.Given as goal
 
 abbrev pub invariant-loop-offset : goal.invariant-loop-offset
@@ -13,7 +13,7 @@ invariant-loop-offset g l =
       widest : l.writer.widest ≡ l.fn.writer.widest;
       limit : l.framer.limit ≡ l.fn.framer.limit;
       taken : l.framer.taken ≡ l.fn.framer.taken;
-      examined : StandsForSome l.fn.framer → StandsForSome l.framer;
+      examined : HasFramedSome l.fn.framer → HasFramedSome l.framer;
       ended : l.framer.has_ended ≡ l.fn.framer.has_ended;
     }
 

@@ -1,6 +1,6 @@
 use Rattle.std.proofs.Common.{◌≡◌, ◌+◌, ◌++◌, ◌∙◌, refl, ap, take}
 use Rattle.std.specs.Prelude.{flat_map}
-use Rattle.rtcm_convert.specs.Told.{settings}
+use Rattle.rtcm_convert.specs.SetupValues.{setup_value}
 use Rattle.rtcm_convert.proofs.FaultLemmas.{writer_after, writer_since}
 use Rattle.rtcm_convert.proofs.PartLemmas.{goes_on-refl}
 use Rattle.rtcm_convert.proofs.WholeLemmas.{pieces_whole, pieces_empty, pieces_report, pieces_more, pieces_all, piece_more, pieces_over, pieces_long, pieces_broke, pieces_broke_at_end, same_fault, never_at_end, not_bad_at_end, not_long}
@@ -11,7 +11,7 @@ loop-piece-preserved g c =
     let more : flat_map (λ piece. piece.items) (take c.loop-piece.piece-index c.args.pieces.now) ++ c.deref.result.now ≡ flat_map (λ piece. piece.items) (take (c.loop-piece.piece-index + 1) c.args.pieces.now) =
     ap (λ l. flat_map (λ piece. piece.items) (take c.loop-piece.piece-index c.args.pieces.now) ++ l) (c.deref.ensures.value ∙ ap (λ v. v.items) c.piece-item.is)
     ∙ pieces_more (λ piece. piece.items) c.args.pieces.now c.loop-piece.piece-index c.piece-item.result c.loop-piece-test.true in
-    let p = piece_more c.loop-piece.converter c.feed.new.self (settings c.args.setup) _ _ _ _ _ _ c.loop-piece.invariant.stands c.loop-piece.invariant.out c.in_default.ensures.whole more in
+    let p = piece_more c.loop-piece.converter c.feed.new.self (setup_value c.args.setup) _ _ _ _ _ _ c.loop-piece.invariant.stands c.loop-piece.invariant.out c.in_default.ensures.whole more in
     record { stands = p.0; out = p.1; limit = c.in_default.ensures.same ∙ c.loop-piece.invariant.limit; fine = c.in_default.ensures.device.1 ∙ c.loop-piece.invariant.fine; unread = c.in_default.ensures.device.2 ∙ c.loop-piece.invariant.unread }
 
 pub returns-clause-file : goal.returns-clause-file
@@ -28,7 +28,7 @@ returns-clause-no_epoch g c = λ e.
     c.finish.ensures.same.1 c.loop-piece.invariant.limit (c.finish.ensures.no_epoch e)
 
 pub returns-clause-report : goal.returns-clause-report
-returns-clause-report g c = pieces_report c.loop-piece.converter c.finish.new.self (settings c.args.setup) _ _ _ _ c.finish.result c.loop-piece.invariant.stands
+returns-clause-report g c = pieces_report c.loop-piece.converter c.finish.new.self (setup_value c.args.setup) _ _ _ _ c.finish.result c.loop-piece.invariant.stands
     (pieces_all (λ piece. piece.items) c.args.pieces.now c.loop-piece.piece-index c.loop-piece.auto.piece-index-end c.loop-piece-test.false) c.finish.ensures.whole
 
 pub loop-piece-init : goal.loop-piece-init
@@ -39,7 +39,7 @@ returns-in-Err-feed-clause-too_long g c = λ e.
     let more : flat_map (λ piece. piece.items) (take c.loop-piece.piece-index c.args.pieces.now) ++ c.deref.result.now ≡ flat_map (λ piece. piece.items) (take (c.loop-piece.piece-index + 1) c.args.pieces.now) =
     ap (λ l. flat_map (λ piece. piece.items) (take c.loop-piece.piece-index c.args.pieces.now) ++ l) (c.deref.ensures.value ∙ ap (λ v. v.items) c.piece-item.is)
     ∙ pieces_more (λ piece. piece.items) c.args.pieces.now c.loop-piece.piece-index c.piece-item.result c.loop-piece-test.true in
-    pieces_over c.loop-piece.converter (settings c.args.setup) (λ piece. piece.items) c.args.pieces.now c.loop-piece.piece-index c.args.setup.limit c.deref.result.now
+    pieces_over c.loop-piece.converter (setup_value c.args.setup) (λ piece. piece.items) c.args.pieces.now c.loop-piece.piece-index c.args.setup.limit c.deref.result.now
     c.loop-piece.invariant.stands c.loop-piece.invariant.limit more (c.in-Err-feed.ensures.limit (same_fault c.in-Err-feed.fault _ e))
 
 pub returns-clause-too_long : goal.returns-clause-too_long
@@ -50,7 +50,7 @@ returns-clause-long g c = not_long c.finish.result _ (c.finish.ensures.only c.lo
 
 pub returns-clause-write : goal.returns-clause-write
 returns-clause-write g c = λ e.
-    pieces_broke_at_end c.loop-piece.converter (settings c.args.setup) _ _ _ c.args.pieces.now _ c.prefix.ensures.nothing c.loop-piece.invariant.stands c.loop-piece.invariant.out
+    pieces_broke_at_end c.loop-piece.converter (setup_value c.args.setup) _ _ _ c.args.pieces.now _ c.prefix.ensures.nothing c.loop-piece.invariant.stands c.loop-piece.invariant.out
     (pieces_all (λ piece. piece.items) c.args.pieces.now c.loop-piece.piece-index c.loop-piece.auto.piece-index-end c.loop-piece-test.false) (c.finish.ensures.part e)
 
 pub returns-clause-writer : goal.returns-clause-writer
@@ -67,7 +67,7 @@ returns-in-Err-feed-clause-long g c = λ e.
     let more : flat_map (λ piece. piece.items) (take c.loop-piece.piece-index c.args.pieces.now) ++ c.deref.result.now ≡ flat_map (λ piece. piece.items) (take (c.loop-piece.piece-index + 1) c.args.pieces.now) =
     ap (λ l. flat_map (λ piece. piece.items) (take c.loop-piece.piece-index c.args.pieces.now) ++ l) (c.deref.ensures.value ∙ ap (λ v. v.items) c.piece-item.is)
     ∙ pieces_more (λ piece. piece.items) c.args.pieces.now c.loop-piece.piece-index c.piece-item.result c.loop-piece-test.true in
-    pieces_long c.loop-piece.converter (settings c.args.setup) _ _ _ c.args.pieces.now c.loop-piece.piece-index c.args.setup.limit c.deref.result.now c.prefix.ensures.nothing
+    pieces_long c.loop-piece.converter (setup_value c.args.setup) _ _ _ c.args.pieces.now c.loop-piece.piece-index c.args.setup.limit c.deref.result.now c.prefix.ensures.nothing
     c.loop-piece.invariant.stands c.loop-piece.invariant.out c.loop-piece.invariant.limit more
     (c.in-Err-feed.ensures.limit (same_fault c.in-Err-feed.fault _ e)) (c.in-Err-feed.ensures.long (same_fault c.in-Err-feed.fault _ e))
 
@@ -76,7 +76,7 @@ returns-in-Err-feed-clause-write g c = λ e.
     let more : flat_map (λ piece. piece.items) (take c.loop-piece.piece-index c.args.pieces.now) ++ c.deref.result.now ≡ flat_map (λ piece. piece.items) (take (c.loop-piece.piece-index + 1) c.args.pieces.now) =
     ap (λ l. flat_map (λ piece. piece.items) (take c.loop-piece.piece-index c.args.pieces.now) ++ l) (c.deref.ensures.value ∙ ap (λ v. v.items) c.piece-item.is)
     ∙ pieces_more (λ piece. piece.items) c.args.pieces.now c.loop-piece.piece-index c.piece-item.result c.loop-piece-test.true in
-    pieces_broke c.loop-piece.converter (settings c.args.setup) _ _ _ c.args.pieces.now c.loop-piece.piece-index c.deref.result.now c.prefix.ensures.nothing
+    pieces_broke c.loop-piece.converter (setup_value c.args.setup) _ _ _ c.args.pieces.now c.loop-piece.piece-index c.deref.result.now c.prefix.ensures.nothing
     c.loop-piece.invariant.stands c.loop-piece.invariant.out c.loop-piece-test.true more (c.in-Err-feed.ensures.part (same_fault c.in-Err-feed.fault _ e))
 
 pub returns-in-Err-feed-clause-writer : goal.returns-in-Err-feed-clause-writer

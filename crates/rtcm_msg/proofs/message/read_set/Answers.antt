@@ -1,20 +1,20 @@
 use Rattle.std.proofs.Common.{◌≡◌, ◌<◌, ◌≤◌, ◌==◌, length, arith, drop, ap, ◌∙◌, sym, Some, None}
 use Rattle.std.proofs.lemmas.List.{length-drop}
-use Rattle.rtcm_bits.specs.Reading.{Cursor, after, unsigned_at}
+use Rattle.rtcm_bits.specs.Reading.{Cursor, advanced, unsigned_at}
 use Rattle.rtcm_msg.specs.Reading.{set_at}
 use Rattle.rtcm_msg.proofs.message.read_set.Goals as goal
 
-set_short : (c : Cursor) → length (after (after c 12) 30).rest < 1 → set_at c ≡ None
+set_short : (c : Cursor) → length (advanced (advanced c 12) 30).rest < 1 → set_at c ≡ None
 set_short c h = let few : length c.rest < 43 = omega (arith, length-drop 30 (drop 12 c.rest), length-drop 12 c.rest, h) in grind arith
 
-set_there : (c : Cursor) → 1 ≤ length (after (after c 12) 30).rest → set_at c ≡ Some (unsigned_at 12 c, unsigned_at 1 (after (after c 12) 30) == 1)
+set_there : (c : Cursor) → 1 ≤ length (advanced (advanced c 12) 30).rest → set_at c ≡ Some (unsigned_at 12 c, unsigned_at 1 (advanced (advanced c 12) 30) == 1)
 set_there c h = let many : 43 ≤ length c.rest = omega (arith, length-drop 30 (drop 12 c.rest), length-drop 12 c.rest, h) in grind arith
 
 pub returns-in_err-more : goal.returns-in_err-more
 returns-in_err-more c =
     let one = c.in_ok-station.ensures.some in
     let two = c.in_ok-unsigned.ensures.some in
-    let place : c.unsigned-2.new.self ≡ after (after c.args.reader.now 12) 30 = two.3 ∙ ap (λ x. after x 30) one.3 in
+    let place : c.unsigned-2.new.self ≡ advanced (advanced c.args.reader.now 12) 30 = two.3 ∙ ap (λ x. advanced x 30) one.3 in
     c.from_residual-in_err-more.ensures ∙ sym (set_short c.args.reader.now (rw place at c.in_err-more.ensures.none.0))
 
 pub returns : goal.returns
@@ -22,5 +22,5 @@ returns c =
     let one = c.in_ok-station.ensures.some in
     let two = c.in_ok-unsigned.ensures.some in
     let three = c.in_ok-more.ensures.some in
-    let place : c.unsigned-2.new.self ≡ after (after c.args.reader.now 12) 30 = two.3 ∙ ap (λ x. after x 30) one.3 in
+    let place : c.unsigned-2.new.self ≡ advanced (advanced c.args.reader.now 12) 30 = two.3 ∙ ap (λ x. advanced x 30) one.3 in
     rw (one.1, three.1, place) (sym (set_there c.args.reader.now (rw place at three.0)))

@@ -1,10 +1,10 @@
 use Rattle.std.proofs.Common.{ℕ, ◌≡◌, Bool, List}
 use Rattle.rtcm_msg.specs.declared.header.MsmHeader.{MsmHeader}
-use Rattle.rtcm_msg.specs.Msm.{MsmValue, Sets, IsValue}
+use Rattle.rtcm_msg.specs.Msm.{MsmValue, MasksValue, IsValue}
 use Rattle.rtcm_msg.specs.Views.{satellite_widths, cell_widths}
 use Rattle.rtcm_msg.proofs.msm.msm_of.Goals as goal
 
-same_value : (sw cw vs vc : List ℕ) (g : Bool) (h : MsmHeader) (s : Sets) (xs ys : List ℕ) (v : MsmValue) → sw ≡ vs → cw ≡ vc → g ≡ v.is_galileo → h ≡ v.header → s ≡ v.sets → xs ≡ v.satellites → ys ≡ v.cells
+same_value : (sw cw vs vc : List ℕ) (g : Bool) (h : MsmHeader) (s : MasksValue) (xs ys : List ℕ) (v : MsmValue) → sw ≡ vs → cw ≡ vc → g ≡ v.is_galileo → h ≡ v.header → s ≡ v.sets → xs ≡ v.satellites → ys ≡ v.cells
     → IsValue vs vc v → IsValue sw cw (record { is_galileo = g; header = h; sets = s; satellites = xs; cells = ys })
 same_value sw cw vs vc g h s xs ys v a b c d e f i value = rw (a, b, c, d, e, f, i) value
 

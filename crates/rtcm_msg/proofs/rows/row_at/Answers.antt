@@ -1,5 +1,5 @@
 use Rattle.std.proofs.Common.{ℕ, ◌≡◌, ◌+◌, ◌*◌, ◌-◌, ◌^◌, ◌<◌, ◌≤◌, arith, sym, ◌∙◌, get_or, drop}
-use Rattle.rtcm_msg.specs.Packed.{total}
+use Rattle.rtcm_msg.specs.Packed.{total_width}
 use Rattle.rtcm_bits.specs.BitLaws.{pow_mono}
 use Rattle.rtcm_msg.proofs.ColumnSteps.{column_room, total-drop}
 use Rattle.rtcm_msg.proofs.RowLaws.{row_step, row_over, row_room}
@@ -14,7 +14,7 @@ overflow_mul-number c =
     let w = get_or c.args.widths.now c.loop-width.width-index 0 in
     let split = total-drop c.loop-width.width-index c.args.widths.now c.loop-width-test.true in
     let few : w ≤ 64 = c.requires.narrow c.loop-width.width-index 0 c.loop-width-test.true in
-    let fits = column_room w c.loop-width.number c.number_at-field.result few (room_for w (total (drop (c.loop-width.width-index + 1) c.args.widths.now)) c.loop-width.number _ split c.loop-width.invariant.room) c.number_at-field.ensures.fits in
+    let fits = column_room w c.loop-width.number c.number_at-field.result few (room_for w (total_width (drop (c.loop-width.width-index + 1) c.args.widths.now)) c.loop-width.number _ split c.loop-width.invariant.room) c.number_at-field.ensures.fits in
     omega (arith, fits)
 
 pub overflow_add-number : goal.overflow_add-number
@@ -22,7 +22,7 @@ overflow_add-number c =
     let w = get_or c.args.widths.now c.loop-width.width-index 0 in
     let split = total-drop c.loop-width.width-index c.args.widths.now c.loop-width-test.true in
     let few : w ≤ 64 = c.requires.narrow c.loop-width.width-index 0 c.loop-width-test.true in
-    let fits = column_room w c.loop-width.number c.number_at-field.result few (room_for w (total (drop (c.loop-width.width-index + 1) c.args.widths.now)) c.loop-width.number _ split c.loop-width.invariant.room) c.number_at-field.ensures.fits in
+    let fits = column_room w c.loop-width.number c.number_at-field.result few (room_for w (total_width (drop (c.loop-width.width-index + 1) c.args.widths.now)) c.loop-width.number _ split c.loop-width.invariant.room) c.number_at-field.ensures.fits in
     omega (arith, fits)
 
 within_next : (p n w t s len : ℕ) → s ≡ w + t → p + n * s ≤ len → p + n * w + n * t ≤ len
@@ -34,7 +34,7 @@ within_next p n w t s len e h = rw (step p n w t) (rw e at h)
 pub loop-width-preserved : goal.loop-width-preserved
 loop-width-preserved c =
     let w = get_or c.args.widths.now c.loop-width.width-index 0 in
-    let t = total (drop (c.loop-width.width-index + 1) c.args.widths.now) in
+    let t = total_width (drop (c.loop-width.width-index + 1) c.args.widths.now) in
     let split = total-drop c.loop-width.width-index c.args.widths.now c.loop-width-test.true in
     let few : w ≤ 64 = c.requires.narrow c.loop-width.width-index 0 c.loop-width-test.true in
     let wide : w + t ≤ 128 = rw split at c.loop-width.invariant.wide in

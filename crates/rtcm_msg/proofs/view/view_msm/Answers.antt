@@ -3,19 +3,19 @@ use Rattle.std.proofs.lemmas.Nat.{ones-le}
 use Rattle.std.proofs.lemmas.Result.{err_from_is_err_and}
 use Rattle.rtcm_bits.specs.Bits.{bits_of}
 use Rattle.rtcm_bits.specs.BitLaws.{length-bits_of}
-use Rattle.rtcm_msg.specs.Msm.{Sets, AreSets, pairs}
+use Rattle.rtcm_msg.specs.Msm.{MasksValue, AreMasks, pairs}
 use Rattle.rtcm_msg.specs.Views.{satellite_widths, cell_widths}
 use Rattle.rtcm_msg.proofs.ViewLaws.{stood, moved, first_short, second_short, found, Found, laid}
 use Rattle.rtcm_msg.proofs.view.view_msm.Goals as goal
 
-few_satellites : (n : ℕ) (s : Sets) → AreSets s → n ≡ s.satellites → count_ones n ≤ 64
+few_satellites : (n : ℕ) (s : MasksValue) → AreMasks s → n ≡ s.satellites → count_ones n ≤ 64
 few_satellites n s h e = rw e (ones-le 64 s.satellites h.satellites)
 
-few_cells : (n : ℕ) (s : Sets) → AreSets s → n ≡ s.cells → count_ones n ≤ 64
+few_cells : (n : ℕ) (s : MasksValue) → AreMasks s → n ≡ s.cells → count_ones n ≤ 64
 few_cells n s h e = rw e (let few = ones-le (pairs s.satellites s.signals) s.cells h.cells in omega (arith, few, h.few))
 
-pub end_of-requires-clause-within : goal.end_of-requires-clause-within
-end_of-requires-clause-within c =
+pub end_of_rows-requires-clause-within : goal.end_of_rows-requires-clause-within
+end_of_rows-requires-clause-within c =
     let bits = bits_of c.args.bytes.now in
     let stands = stood c.args.bytes.now c.args.reader.now c.read_header.new.reader c.read_masks.new.reader c.in_ok-header.header c.in_ok-masks.masks c.requires.number c.requires.stands c.in_ok-header.ensures.read c.in_ok-masks.ensures in
     let len : 8 * length c.args.bytes.now ≡ length bits = sym (length-bits_of c.args.bytes.now) in
@@ -30,14 +30,14 @@ returns-in_err-cells_at c =
     let first = moved _ c.satellite_widths.result.now (satellite_widths c.args.form) (count_ones c.satellites.result) _ (length bits) c.place-satellites_at.result c.read_masks.new.reader.place c.in_err-cells_at.ensures.exact c.satellite_widths.ensures.value len c.place-satellites_at.ensures in
     rw (p.1, p.2) (first_short c.args.form c.args.is_galileo bits c.args.reader.now c.read_header.new.reader c.read_masks.new.reader c.in_ok-header.header c.in_ok-masks.masks (count_ones c.satellites.result) _ c.in_ok-header.ensures.read c.in_ok-masks.ensures stands.is stands.there (ap count_ones c.satellites.ensures) first)
 
-pub returns-in_err-end_of : goal.returns-in_err-end_of
-returns-in_err-end_of c =
-    let p = err_from_is_err_and c.from_residual-in_err-end_of.result c.from_residual-in_err-end_of.ensures.1 in
+pub returns-in_err-end_of_rows : goal.returns-in_err-end_of_rows
+returns-in_err-end_of_rows c =
+    let p = err_from_is_err_and c.from_residual-in_err-end_of_rows.result c.from_residual-in_err-end_of_rows.ensures.1 in
     let bits = bits_of c.args.bytes.now in
     let stands = stood c.args.bytes.now c.args.reader.now c.read_header.new.reader c.read_masks.new.reader c.in_ok-header.header c.in_ok-masks.masks c.requires.number c.requires.stands c.in_ok-header.ensures.read c.in_ok-masks.ensures in
     let len : 8 * length c.args.bytes.now ≡ length bits = sym (length-bits_of c.args.bytes.now) in
     let first = moved _ c.satellite_widths.result.now (satellite_widths c.args.form) (count_ones c.satellites.result) _ (length bits) c.place-satellites_at.result c.read_masks.new.reader.place c.in_ok-cells_at.ensures.exact c.satellite_widths.ensures.value len c.place-satellites_at.ensures in
-    let second = moved _ c.cell_widths.result.now (cell_widths c.args.form) (count_ones c.cells.result) _ (length bits) c.in_ok-cells_at.cells_at c.in_ok-cells_at.cells_at c.in_err-end_of.ensures.exact c.cell_widths.ensures.value len refl in
+    let second = moved _ c.cell_widths.result.now (cell_widths c.args.form) (count_ones c.cells.result) _ (length bits) c.in_ok-cells_at.cells_at c.in_ok-cells_at.cells_at c.in_err-end_of_rows.ensures.exact c.cell_widths.ensures.value len refl in
     let room : c.in_ok-cells_at.cells_at ≤ length bits = rw (← len) c.in_ok-cells_at.ensures.within in
     rw (p.1, p.2) (second_short c.args.form c.args.is_galileo bits c.args.reader.now c.read_header.new.reader c.read_masks.new.reader c.in_ok-header.header c.in_ok-masks.masks (count_ones c.satellites.result) (count_ones c.cells.result) c.in_ok-cells_at.cells_at _ c.in_ok-header.ensures.read c.in_ok-masks.ensures stands.is stands.there (ap count_ones c.satellites.ensures) (ap count_ones c.cells.ensures.value) first room second)
 
@@ -47,10 +47,10 @@ invariant_of-result c =
     let stands = stood c.args.bytes.now c.args.reader.now c.read_header.new.reader c.read_masks.new.reader c.in_ok-header.header c.in_ok-masks.masks c.requires.number c.requires.stands c.in_ok-header.ensures.read c.in_ok-masks.ensures in
     let len : 8 * length c.args.bytes.now ≡ length bits = sym (length-bits_of c.args.bytes.now) in
     let first = moved _ c.satellite_widths.result.now (satellite_widths c.args.form) (count_ones c.satellites.result) _ (length bits) c.place-satellites_at.result c.read_masks.new.reader.place c.in_ok-cells_at.ensures.exact c.satellite_widths.ensures.value len c.place-satellites_at.ensures in
-    let second = moved _ c.cell_widths.result.now (cell_widths c.args.form) (count_ones c.cells.result) _ (length bits) c.in_ok-cells_at.cells_at c.in_ok-cells_at.cells_at c.in_ok-end_of.ensures.exact c.cell_widths.ensures.value len refl in
+    let second = moved _ c.cell_widths.result.now (cell_widths c.args.form) (count_ones c.cells.result) _ (length bits) c.in_ok-cells_at.cells_at c.in_ok-cells_at.cells_at c.in_ok-end_of_rows.ensures.exact c.cell_widths.ensures.value len refl in
     let room : c.in_ok-cells_at.cells_at ≤ length bits = rw (← len) c.in_ok-cells_at.ensures.within in
-    let last : c.in_ok-end_of.field-0 ≤ length bits = rw (← len) c.in_ok-end_of.ensures.within in
-    let all = found c.args.form c.args.is_galileo bits c.args.reader.now c.read_header.new.reader c.read_masks.new.reader c.in_ok-header.header c.in_ok-masks.masks (count_ones c.satellites.result) (count_ones c.cells.result) c.in_ok-cells_at.cells_at c.in_ok-end_of.field-0 c.in_ok-header.ensures.read c.in_ok-masks.ensures stands.is stands.there (ap count_ones c.satellites.ensures) (ap count_ones c.cells.ensures.value) first room second last c.in_ok-header.ensures.is_header c.cells.ensures.sets in
+    let last : c.in_ok-end_of_rows.field-0 ≤ length bits = rw (← len) c.in_ok-end_of_rows.ensures.within in
+    let all = found c.args.form c.args.is_galileo bits c.args.reader.now c.read_header.new.reader c.read_masks.new.reader c.in_ok-header.header c.in_ok-masks.masks (count_ones c.satellites.result) (count_ones c.cells.result) c.in_ok-cells_at.cells_at c.in_ok-end_of_rows.field-0 c.in_ok-header.ensures.read c.in_ok-masks.ensures stands.is stands.there (ap count_ones c.satellites.ensures) (ap count_ones c.cells.ensures.value) first room second last c.in_ok-header.ensures.is_header c.cells.ensures.sets in
     let P : ℕ → Type 0 = λ p. Found c.args.form c.args.is_galileo bits c.args.reader.now c.in_ok-header.header c.in_ok-masks.masks (count_ones c.satellites.result) p (count_ones c.cells.result) c.in_ok-cells_at.cells_at in
     let here = subst P (sym c.place-satellites_at.ensures) all in (
       here.value,
@@ -64,10 +64,10 @@ returns c =
     let stands = stood c.args.bytes.now c.args.reader.now c.read_header.new.reader c.read_masks.new.reader c.in_ok-header.header c.in_ok-masks.masks c.requires.number c.requires.stands c.in_ok-header.ensures.read c.in_ok-masks.ensures in
     let len : 8 * length c.args.bytes.now ≡ length bits = sym (length-bits_of c.args.bytes.now) in
     let first = moved _ c.satellite_widths.result.now (satellite_widths c.args.form) (count_ones c.satellites.result) _ (length bits) c.place-satellites_at.result c.read_masks.new.reader.place c.in_ok-cells_at.ensures.exact c.satellite_widths.ensures.value len c.place-satellites_at.ensures in
-    let second = moved _ c.cell_widths.result.now (cell_widths c.args.form) (count_ones c.cells.result) _ (length bits) c.in_ok-cells_at.cells_at c.in_ok-cells_at.cells_at c.in_ok-end_of.ensures.exact c.cell_widths.ensures.value len refl in
+    let second = moved _ c.cell_widths.result.now (cell_widths c.args.form) (count_ones c.cells.result) _ (length bits) c.in_ok-cells_at.cells_at c.in_ok-cells_at.cells_at c.in_ok-end_of_rows.ensures.exact c.cell_widths.ensures.value len refl in
     let room : c.in_ok-cells_at.cells_at ≤ length bits = rw (← len) c.in_ok-cells_at.ensures.within in
-    let last : c.in_ok-end_of.field-0 ≤ length bits = rw (← len) c.in_ok-end_of.ensures.within in
-    let all = found c.args.form c.args.is_galileo bits c.args.reader.now c.read_header.new.reader c.read_masks.new.reader c.in_ok-header.header c.in_ok-masks.masks (count_ones c.satellites.result) (count_ones c.cells.result) c.in_ok-cells_at.cells_at c.in_ok-end_of.field-0 c.in_ok-header.ensures.read c.in_ok-masks.ensures stands.is stands.there (ap count_ones c.satellites.ensures) (ap count_ones c.cells.ensures.value) first room second last c.in_ok-header.ensures.is_header c.cells.ensures.sets in
+    let last : c.in_ok-end_of_rows.field-0 ≤ length bits = rw (← len) c.in_ok-end_of_rows.ensures.within in
+    let all = found c.args.form c.args.is_galileo bits c.args.reader.now c.read_header.new.reader c.read_masks.new.reader c.in_ok-header.header c.in_ok-masks.masks (count_ones c.satellites.result) (count_ones c.cells.result) c.in_ok-cells_at.cells_at c.in_ok-end_of_rows.field-0 c.in_ok-header.ensures.read c.in_ok-masks.ensures stands.is stands.there (ap count_ones c.satellites.ensures) (ap count_ones c.cells.ensures.value) first room second last c.in_ok-header.ensures.is_header c.cells.ensures.sets in
     let P : ℕ → Type 0 = λ p. Found c.args.form c.args.is_galileo bits c.args.reader.now c.in_ok-header.header c.in_ok-masks.masks (count_ones c.satellites.result) p (count_ones c.cells.result) c.in_ok-cells_at.cells_at in
     let here = subst P (sym c.place-satellites_at.ensures) all in
     here.read

@@ -1,6 +1,6 @@
 use Rattle.std.proofs.Common.{◌≡◌, ◌+◌, ◌-◌, length, drop, get_or, arith, sym, ◌∙◌, append-nil}
 use Rattle.std.proofs.Math.Seq.{drop-length}
-use Rattle.rtcm_msg.specs.Packed.{columns, total}
+use Rattle.rtcm_msg.specs.Packed.{columns, total_width}
 use Rattle.rtcm_msg.proofs.ColumnSteps.{total-drop}
 use Rattle.rtcm_msg.proofs.WritingSteps.{columns_next}
 use Rattle.rtcm_msg.proofs.writing.write_columns.Goals as goal
@@ -8,7 +8,7 @@ use Rattle.rtcm_msg.proofs.writing.write_columns.Goals as goal
 pub loop-width-preserved : goal.loop-width-preserved
 loop-width-preserved c =
     let split = total-drop c.loop-width.width-index c.args.widths.now c.loop-width-test.true in
-    let rest : c.loop-width.shift - get_or c.args.widths.now c.loop-width.width-index 0 ≡ total (drop (c.loop-width.width-index + 1) c.args.widths.now) = omega (arith, split, c.loop-width.invariant.shift) in
+    let rest : c.loop-width.shift - get_or c.args.widths.now c.loop-width.width-index 0 ≡ total_width (drop (c.loop-width.width-index + 1) c.args.widths.now) = omega (arith, split, c.loop-width.invariant.shift) in
     let len = rw split at c.loop-width.invariant.len in
     record {
       low = omega arith;

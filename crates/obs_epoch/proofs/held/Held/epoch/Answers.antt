@@ -2,7 +2,7 @@ use Rattle.std.proofs.Common.{sym, ap, ◌∙◌}
 use Rattle.std.proofs.Common.{ap₂}
 use Rattle.obs_epoch.specs.declared.cell.StationValues.{StationValues}
 use Rattle.obs_epoch.specs.Values.{EpochValue, Closed}
-use Rattle.obs_epoch.specs.Marked.{shown}
+use Rattle.obs_epoch.specs.WithLli.{shown}
 use Rattle.obs_epoch.specs.Gather.{Holding}
 use Rattle.obs_epoch.proofs.HeldLemmas.{shown_is}
 use Rattle.obs_epoch.proofs.held.Held.epoch.Goals as goal

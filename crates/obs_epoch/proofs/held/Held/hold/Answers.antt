@@ -2,7 +2,7 @@ use Rattle.std.proofs.Common.{◌≡◌, ◌<◌, ◌≤◌, sym, ap, ap₂, ◌
 use Rattle.gnss_obs.specs.declared.system.System.TheVariants.{Gps, Galileo}
 use Rattle.obs_epoch.specs.declared.cell.StationValues.{StationValues}
 use Rattle.obs_epoch.specs.Values.{Closed, cells_of, most_cells}
-use Rattle.obs_epoch.specs.Marked.{MarkedEpoch, cell_of}
+use Rattle.obs_epoch.specs.WithLli.{EpochWithLli, shown_cell}
 use Rattle.obs_epoch.specs.Order.{AreSorted}
 use Rattle.obs_epoch.specs.Gather.{Holding, cells_in}
 use Rattle.obs_epoch.proofs.HeldLemmas.{length_in, cells_shown, grow_gps, grow_galileo}
@@ -25,9 +25,9 @@ hold-requires-clause-within c =
 pub hold-requires-clause-order : goal.hold-requires-clause-order
 hold-requires-clause-order c =
     let system = c.args.x.satellite.system in
-    let same = ap (λ v. map cell_of (cells_in system v)) (sym (ap (λ (h : Holding). h.epoch) c.self.view_is))
+    let same = ap (λ v. map shown_cell (cells_in system v)) (sym (ap (λ (h : Holding). h.epoch) c.self.view_is))
     ∙ cells_shown system c.self.inside.epoch.epoch c.self.inside.gps.items c.self.inside.galileo.items c.self.invariant.0.0 c.self.invariant.0.1 in
-    subst (λ l. AreSorted (insert l c.args.at (cell_of (record { seen = c.args.x; mark = c.args.mark })))) same c.requires.order
+    subst (λ l. AreSorted (insert l c.args.at (shown_cell (record { seen = c.args.x; lli = c.args.lli })))) same c.requires.order
 
 pub insert_within-requires-clause-room : goal.insert_within-requires-clause-room
 insert_within-requires-clause-room c =
@@ -66,9 +66,9 @@ hold-requires-in-Galileo-clause-within c =
 pub hold-requires-in-Galileo-clause-order : goal.hold-requires-in-Galileo-clause-order
 hold-requires-in-Galileo-clause-order c =
     let system = c.args.x.satellite.system in
-    let same = ap (λ v. map cell_of (cells_in system v)) (sym (ap (λ (h : Holding). h.epoch) c.self.view_is))
+    let same = ap (λ v. map shown_cell (cells_in system v)) (sym (ap (λ (h : Holding). h.epoch) c.self.view_is))
     ∙ cells_shown system c.self.inside.epoch.epoch c.self.inside.gps.items c.self.inside.galileo.items c.self.invariant.0.0 c.self.invariant.0.1 in
-    subst (λ l. AreSorted (insert l c.args.at (cell_of (record { seen = c.args.x; mark = c.args.mark })))) same c.requires.order
+    subst (λ l. AreSorted (insert l c.args.at (shown_cell (record { seen = c.args.x; lli = c.args.lli })))) same c.requires.order
 
 pub insert_within-requires-in-Galileo-clause-room : goal.insert_within-requires-in-Galileo-clause-room
 insert_within-requires-in-Galileo-clause-room c =
@@ -90,19 +90,19 @@ insert_within-requires-in-Galileo-clause-within c =
     subst (λ s. c.args.at ≤ length (cells_of s c.self.inside.epoch.epoch)) is (subst (λ n. c.args.at ≤ n) same c.requires.within) in
     omega (arith, le, c.self.invariant.0.1)
 
-abbrev holding : MarkedEpoch → StationValues → Holding
+abbrev holding : EpochWithLli → StationValues → Holding
 holding e v = record { epoch = e; values = v }
 
 pub returns-in-Gps : goal.returns-in-Gps
 returns-in-Gps c =
     ap₂ holding
-    (grow_gps c.args.at c.self.inside.epoch.epoch _ c.self.inside.gps.items _ c.self.inside.galileo.items c.args.x c.args.mark c.args.self.now.epoch (sym c.system.ensures ∙ c.in-Gps.is)
+    (grow_gps c.args.at c.self.inside.epoch.epoch _ c.self.inside.gps.items _ c.self.inside.galileo.items c.args.x c.args.lli c.args.self.now.epoch (sym c.system.ensures ∙ c.in-Gps.is)
     c.self.invariant.0.0 (ap (λ (e : Closed). e.epoch) c.hold.ensures) (c.insert_within.ensures.items ∙ ap (insert c.self.inside.gps.items c.args.at) c.tracking.ensures) (ap (λ (h : Holding). h.epoch) c.self.view_is))
     (ap (λ (e : Closed). e.values) c.hold.ensures ∙ ap (λ (h : Holding). h.values) c.self.view_is)
 
 pub returns-in-Galileo : goal.returns-in-Galileo
 returns-in-Galileo c =
     ap₂ holding
-    (grow_galileo c.args.at c.self.inside.epoch.epoch _ c.self.inside.gps.items c.self.inside.galileo.items _ c.args.x c.args.mark c.args.self.now.epoch (sym c.system.ensures ∙ c.in-Galileo.is)
+    (grow_galileo c.args.at c.self.inside.epoch.epoch _ c.self.inside.gps.items c.self.inside.galileo.items _ c.args.x c.args.lli c.args.self.now.epoch (sym c.system.ensures ∙ c.in-Galileo.is)
     c.self.invariant.0.1 (ap (λ (e : Closed). e.epoch) c.hold-in-Galileo.ensures) (c.insert_within-in-Galileo.ensures.items ∙ ap (insert c.self.inside.galileo.items c.args.at) c.tracking-in-Galileo.ensures) (ap (λ (h : Holding). h.epoch) c.self.view_is))
     (ap (λ (e : Closed). e.values) c.hold-in-Galileo.ensures ∙ ap (λ (h : Holding). h.values) c.self.view_is)

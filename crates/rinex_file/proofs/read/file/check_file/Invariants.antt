@@ -1,8 +1,8 @@
 use Rattle.std.proofs.Common.{◌≡◌, ◌-◌, ◌+◌}
-use Rattle.rinex_file.specs.Blocks.{Leaves}
+use Rattle.rinex_file.specs.Blocks.{LeavesRest}
 use Rattle.rinex_file.specs.Course.{History}
 use Rattle.rinex_file.specs.Exact.{most_lines}
-use Rattle.rinex_file.specs.Read.Steps.{HasRead, IsWithin}
+use Rattle.rinex_file.specs.Read.Steps.{HasRead, MayBeCounted}
 use Rattle.rinex_file.proofs.read.file.check_file.Given as goal
 
 -- some history was read of the input
@@ -11,8 +11,8 @@ invariant-loop-reading g l =
     let remaining = g.R.Read.remaining in
     record {
       read : (h : History) × HasRead l.reading h (remaining l.fn.reader.inner) (remaining l.reader.inner);
-      within : IsWithin l.reading;
-      left : Leaves (remaining l.fn.reader.inner) (remaining l.reader.inner);
+      within : MayBeCounted l.reading;
+      left : LeavesRest (remaining l.fn.reader.inner) (remaining l.reader.inner);
       same : l.reader.failures ≡ l.fn.reader.failures;
     }
 

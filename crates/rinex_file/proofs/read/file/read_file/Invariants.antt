@@ -1,8 +1,8 @@
 use Rattle.std.proofs.Common.{◌≡◌, ◌-◌, ◌+◌}
-use Rattle.rinex_file.specs.Blocks.{Leaves}
+use Rattle.rinex_file.specs.Blocks.{LeavesRest}
 use Rattle.rinex_file.specs.Exact.{most_lines}
 use Rattle.rinex_file.specs.Read.Keeping.{history_of, IsKept}
-use Rattle.rinex_file.specs.Read.Steps.{HasRead, IsWithin}
+use Rattle.rinex_file.specs.Read.Steps.{HasRead, MayBeCounted}
 use Rattle.rinex_file.proofs.read.file.read_file.Given as goal
 
 -- what is kept was read of the input
@@ -12,8 +12,8 @@ invariant-loop-added g l =
     record {
       read : HasRead l.reading (history_of l.keeper) (remaining l.fn.reader.inner) (remaining l.reader.inner);
       kept : IsKept l.keeper;
-      within : IsWithin l.reading;
-      left : Leaves (remaining l.fn.reader.inner) (remaining l.reader.inner);
+      within : MayBeCounted l.reading;
+      left : LeavesRest (remaining l.fn.reader.inner) (remaining l.reader.inner);
       same : l.reader.failures ≡ l.fn.reader.failures;
     }
 

@@ -1,5 +1,5 @@
 use Rattle.std.proofs.Common.{arith, ◌≡◌, ◌∙◌, subst, ℕ, ◌≤◌, ◌<◌, Bool, false, nat_eq}
-use Rattle.rinex_file.specs.Blocks.{Moves}
+use Rattle.rinex_file.specs.Blocks.{MovesBytes}
 use Rattle.rinex_file.proofs.Ahead.{moved_taken, line_whole, still_endless, leaves_more}
 use Rattle.rinex_file.proofs.read.lines.next_line.Goals as goal
 
@@ -11,7 +11,7 @@ returns-then-move_to-clause-left g c = leaves_more _ _ _ c.loop-block.invariant.
 
 pub returns-then-move_to-clause-found : goal.returns-then-move_to-clause-found
 returns-then-move_to-clause-found g c =
-    line_whole _ _ _ _ c.loop-block.invariant.endless (subst (λ (b : Bool). Moves b c.fill.new.self c.move_to.new.self c.loop-block.line.items c.move_to.new.line.items) c.if-move_to.true c.move_to.ensures)
+    line_whole _ _ _ _ c.loop-block.invariant.endless (subst (λ (b : Bool). MovesBytes b c.fill.new.self c.move_to.new.self c.loop-block.line.items c.move_to.new.line.items) c.if-move_to.true c.move_to.ensures)
 
 not_full : (n m : ℕ) → false ≡ nat_eq n m → n ≤ m → n < m
 not_full n m h most = grind arith
@@ -19,7 +19,7 @@ not_full n m h most = grind arith
 pub loop-block-preserved : goal.loop-block-preserved
 loop-block-preserved g c =
     let inv = c.loop-block.invariant in
-    let moves = subst (λ (b : Bool). Moves b c.fill.new.self c.move_to.new.self c.loop-block.line.items c.move_to.new.line.items) c.if-move_to.false c.move_to.ensures in
+    let moves = subst (λ (b : Bool). MovesBytes b c.fill.new.self c.move_to.new.self c.loop-block.line.items c.move_to.new.line.items) c.if-move_to.false c.move_to.ensures in
     record {
       taken = moved_taken _ _ _ false _ _ _ _ inv.taken c.in-Some.ensures.same moves;
       endless = still_endless _ _ _ _ inv.endless moves;

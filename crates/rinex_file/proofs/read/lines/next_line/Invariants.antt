@@ -1,6 +1,6 @@
 use Rattle.std.proofs.Common.{◌≡◌, ◌-◌, ◌≤◌, false, length}
 use Rattle.std.specs.Io.KnownBytes.{Consumes, prepend_known}
-use Rattle.rinex_file.specs.Blocks.{Leaves}
+use Rattle.rinex_file.specs.Blocks.{LeavesRest}
 use Rattle.rinex_file.specs.Read.Fields.{has}
 use Rattle.rinex_file.proofs.read.lines.next_line.Given as goal
 
@@ -12,7 +12,7 @@ invariant-loop-block g l =
       taken : Consumes (prepend_known l.fn.block (remaining l.fn.reader.inner)) (prepend_known l.block (remaining l.reader.inner)) l.line.items;
       endless : has 10 l.line.items ≡ false;
       within : length l.line.items ≤ 1220;
-      left : Leaves (remaining l.fn.reader.inner) (remaining l.reader.inner);
+      left : LeavesRest (remaining l.fn.reader.inner) (remaining l.reader.inner);
       same : l.reader.failures ≡ l.fn.reader.failures;
     }
 

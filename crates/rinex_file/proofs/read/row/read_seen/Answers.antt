@@ -1,18 +1,18 @@
 use Rattle.std.proofs.Common.{arith, ◌≡◌, ◌∙◌, sym, ap, subst, ℕ, ◌<◌, get_or, List, Option, Some, None}
 use Rattle.gnss_obs.specs.declared.system.System.{System}
 use Rattle.gnss_obs.specs.Satellites.{satellites}
-use Rattle.rinex_file.specs.Value.{Seen}
-use Rattle.rinex_file.specs.FileValues.{IsSeen, IsRow, of_system}
-use Rattle.rinex_file.specs.Lines.{seen_line}
+use Rattle.rinex_file.specs.Value.{SatelliteRow}
+use Rattle.rinex_file.specs.FileValues.{IsSatelliteRow, IsRow, of_system}
+use Rattle.rinex_file.specs.Lines.{satellite_line}
 use Rattle.rinex_file.specs.Read.Fields.{ReadsExactly}
 use Rattle.rinex_file.proofs.RowText.{first_byte}
 use Rattle.rinex_file.proofs.read.row.read_seen.Goals as goal
 use Rattle.rinex_file.proofs.read.row.read_seen.Goals.{After-system_of}
 
-abbrev IsOf : System → ℕ → Seen → Type 0
+abbrev IsOf : System → ℕ → SatelliteRow → Type 0
 IsOf system signals s = (s.system ≡ system) × IsRow (satellites system) signals s.row
 
-is_seen : (gps galileo signals : ℕ) (system : System) (s : Seen) → signals ≡ of_system system gps galileo → 0 < signals → IsOf system signals s → IsSeen gps galileo s
+is_seen : (gps galileo signals : ℕ) (system : System) (s : SatelliteRow) → signals ≡ of_system system gps galileo → 0 < signals → IsOf system signals s → IsSatelliteRow gps galileo s
 is_seen gps galileo signals system s e some (same, is) =
     let count : signals ≡ of_system s.system gps galileo = e ∙ ap (λ x. of_system x gps galileo) (sym same) in
     record {
@@ -20,14 +20,14 @@ is_seen gps galileo signals system s e some (same, is) =
       row = subst (λ n. IsRow (satellites s.system) n s.row) count (subst (λ x. IsRow (satellites x) signals s.row) (sym same) is);
     }
 
-is_of : (gps galileo signals : ℕ) (system : System) (s : Seen) → signals ≡ of_system system gps galileo → s.system ≡ system → IsSeen gps galileo s → IsOf system signals s
+is_of : (gps galileo signals : ℕ) (system : System) (s : SatelliteRow) → signals ≡ of_system system gps galileo → s.system ≡ system → IsSatelliteRow gps galileo s → IsOf system signals s
 is_of gps galileo signals system s e same is =
     let row : IsRow (satellites system) (of_system system gps galileo) s.row = subst (λ x. IsRow (satellites x) (of_system x gps galileo) s.row) same is.row in
     (same, subst (λ n. IsRow (satellites system) n s.row) (sym e) row)
 
 -- where the line's letter is that of the system, each satellite is one of this system
-of_both : (gps galileo signals : ℕ) (system : System) (line : List ℕ) (r : Option Seen) → signals ≡ of_system system gps galileo → 0 < signals
-    → ((v : Seen) → line ≡ seen_line v → v.system ≡ system) → ReadsExactly (IsOf system signals) seen_line line r → ReadsExactly (IsSeen gps galileo) seen_line line r
+of_both : (gps galileo signals : ℕ) (system : System) (line : List ℕ) (r : Option SatelliteRow) → signals ≡ of_system system gps galileo → 0 < signals
+    → ((v : SatelliteRow) → line ≡ satellite_line v → v.system ≡ system) → ReadsExactly (IsOf system signals) satellite_line line r → ReadsExactly (IsSatelliteRow gps galileo) satellite_line line r
 of_both gps galileo signals system line None count some letter read = λ v is e. read v (is_of gps galileo signals system v count (letter v e) is) e
 of_both gps galileo signals system line (Some s) count some letter (is, text, only) =
     (is_seen gps galileo signals system s count some is, text, λ w also e. only w (is_of gps galileo signals system w count (letter w e) also) e)
@@ -39,7 +39,7 @@ none_some : (s : System) → None ≡ Some s → ⊥
 none_some s e = cc
 
 -- the letter at a line's front
-told : (c : After-system_of) (v : Seen) → c.args.line.now ≡ seen_line v → c.system_of.result ≡ Some v.system
+told : (c : After-system_of) (v : SatelliteRow) → c.args.line.now ≡ satellite_line v → c.system_of.result ≡ Some v.system
 told c v e = c.system_of.ensures v.system (rw e (first_byte v).0) (ap (λ l. get_or l 0 0) e ∙ (first_byte v).1)
 
 pub returns-in-None : goal.returns-in-None

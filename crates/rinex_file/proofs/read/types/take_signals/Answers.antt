@@ -1,7 +1,7 @@
 use Rattle.std.proofs.Common.{arith, ◌≡◌, ◌∙◌, sym, ap, ℕ, length, min, ◌+◌, ◌*◌, ◌<◌, ◌≤◌}
 use Rattle.std.specs.Prelude.{Err}
 use Rattle.std.proofs.lemmas.Result.{err_from_is_err_and}
-use Rattle.rinex_file.specs.Read.Progress.{begun}
+use Rattle.rinex_file.specs.Read.Progress.{signals_begun}
 use Rattle.rinex_file.proofs.Entries.{few_signals}
 use Rattle.rinex_file.proofs.TypeRows.{still_grows, taken_more, taken_before}
 use Rattle.rinex_file.proofs.read.types.take_signals.Goals as goal
@@ -17,7 +17,7 @@ returns-in_err-take_signal-clause-bad c = λ refused all are size begins is.
     let p = err_from_is_err_and c.from_residual.result c.from_residual.ensures.1 in
     let inv = c.loop-place.invariant in
     let place = c.loop-place.place in
-    let b = below c.min-end.result c.begun.result (begun (c.args.row + 1)) c.args.count place (length all) c.loop-place-test.true c.min-end.ensures c.begun.ensures size in
+    let b = below c.min-end.result c.signals_begun.result (signals_begun (c.args.row + 1)) c.args.count place (length all) c.loop-place-test.true c.min-end.ensures c.signals_begun.ensures size in
     taken_before c.args.system all c.args.line.now c.args.row place c.loop-place.signals.items are
     (few (length all) c.args.count _ size c.requires.count (few_signals c.args.system)) is inv.from b.0 b.1
     (c.in_err-take_signal.ensures.bad (sym (p.1 ∙ ap Err p.2) ∙ refused)) (inv.read all are size begins is)
@@ -31,7 +31,7 @@ loop-place-preserved c = record {
   read = λ all are size begins is.
       let inv = c.loop-place.invariant in
       let place = c.loop-place.place in
-      let b = below c.min-end.result c.begun.result (begun (c.args.row + 1)) c.args.count place (length all) c.loop-place-test.true c.min-end.ensures c.begun.ensures size in
+      let b = below c.min-end.result c.signals_begun.result (signals_begun (c.args.row + 1)) c.args.count place (length all) c.loop-place-test.true c.min-end.ensures c.signals_begun.ensures size in
       taken_more c.args.system all c.args.line.now c.args.row place c.loop-place.signals.items c.take_signal.new.signals.items are
       (few (length all) c.args.count _ size c.requires.count (few_signals c.args.system)) is inv.from b.0 b.1 c.in_ok-take_signal.ensures.taken (inv.read all are size begins is);
 }

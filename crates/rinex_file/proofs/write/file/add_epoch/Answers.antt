@@ -4,7 +4,7 @@ use Rattle.std.proofs.Math.ListN.{drop_of_length-le}
 use Rattle.obs_epoch.specs.Dates.{civil_of}
 use Rattle.gnss_obs.specs.declared.system.System.TheVariants.{Gps}
 use Rattle.rinex_file.specs.declared.values.kept.KeptRow.{KeptRow}
-use Rattle.rinex_file.specs.Value.{Entry}
+use Rattle.rinex_file.specs.Value.{SignalValues}
 use Rattle.rinex_file.specs.Lines.{epoch_line}
 use Rattle.rinex_file.specs.Read.Kept.{rows_of, entry_count}
 use Rattle.rinex_file.proofs.Appended.{failed}
@@ -34,7 +34,7 @@ loop-row-init c = record {
   few = omega arith;
 }
 
-have_few : (at n all : ℕ) (entries : List Entry) → at + n ≡ all → all ≤ length entries → n ≤ length (drop at entries)
+have_few : (at n all : ℕ) (entries : List SignalValues) → at + n ≡ all → all ≤ length entries → n ≤ length (drop at entries)
 have_few at n all entries sum few = let left = length-drop at entries in omega (arith, sum, few, left)
 
 -- what the next satellite takes
@@ -42,7 +42,7 @@ next : (c : In-loop-row) → NextRow c.args.rows.now c.loop-row.row-index (drop 
 next c = next_row c.args.rows.now c.loop-row.row-index (drop c.loop-row.at c.args.entries.now) no_row c.loop-row-test.true c.loop-row.invariant.room
     (have_few c.loop-row.at _ _ c.args.entries.now c.loop-row.invariant.few c.requires.entries)
 
-row_fits : (at n others all : ℕ) (entries : List Entry) (count : ℕ) → at + count ≡ all → count ≡ n + others → all ≤ length entries → at + n ≤ length entries
+row_fits : (at n others all : ℕ) (entries : List SignalValues) (count : ℕ) → at + count ≡ all → count ≡ n + others → all ≤ length entries → at + n ≤ length entries
 row_fits at n others all entries count sum split few = omega (arith, sum, split, few)
 
 fits : (c : In-loop-row) → c.loop-row.at + (get_or c.args.rows.now c.loop-row.row-index no_row).entries ≤ length c.args.entries.now

@@ -1,13 +1,13 @@
 use Rattle.std.proofs.Common.{sym, ap, ◌∙◌, ◌≡◌, ◌+◌, ◌≤◌, length, arith, false}
-use Rattle.rtcm_scan.specs.Scan.{Scan}
+use Rattle.rtcm_scan.specs.Scan.{FramerValue}
 use Rattle.rtcm_scan.proofs.PushLemmas.{stands_push_all, step_push_all, view_pushed_all}
 use Rattle.rtcm_scan.proofs.framer.Framer.push_all.Goals as goal
 
 pub returns-else-self-taken-clause-stands : goal.returns-else-self-taken-clause-stands
 returns-else-self-taken-clause-stands c = λ b fs s.
-    let n : c.args.self.now.has_ended ≡ false = ap (λ (v : Scan). v.has_ended) (sym c.self.view_is) ∙ c.if-self.false in
-    let t : c.args.self.now.taken ≡ c.self.inside.place + length c.self.inside.window.bytes = ap (λ (v : Scan). v.taken) (sym c.self.view_is) in
-    let l : c.args.self.now.limit ≡ c.self.inside.limit = ap (λ (v : Scan). v.limit) (sym c.self.view_is) in
+    let n : c.args.self.now.has_ended ≡ false = ap (λ (v : FramerValue). v.has_ended) (sym c.self.view_is) ∙ c.if-self.false in
+    let t : c.args.self.now.taken ≡ c.self.inside.place + length c.self.inside.window.bytes = ap (λ (v : FramerValue). v.taken) (sym c.self.view_is) in
+    let l : c.args.self.now.limit ≡ c.self.inside.limit = ap (λ (v : FramerValue). v.limit) (sym c.self.view_is) in
     let i : c.self.inside.place + length c.self.inside.window.bytes ≤ c.self.inside.limit = c.self.invariant.0 in
     let w : c.args.self.now.taken + length c.args.bytes.now ≤ c.args.self.now.limit = omega (arith, t, l, i, c.taken.ensures.value, c.if-self-taken.false) in
     rw (view_pushed_all c.args.self.now c.self.inside.limit c.self.inside.place c.self.inside.given_up c.self.inside.candidate.count c.self.inside.window c.push_all.new.self c.self.inside.ended c.self.inside.drained c.args.bytes.now c.self.view_is c.push_all.ensures)
@@ -15,9 +15,9 @@ returns-else-self-taken-clause-stands c = λ b fs s.
 
 pub returns-else-self-taken-clause-counts : goal.returns-else-self-taken-clause-counts
 returns-else-self-taken-clause-counts c = λ b fs s.
-    let n : c.args.self.now.has_ended ≡ false = ap (λ (v : Scan). v.has_ended) (sym c.self.view_is) ∙ c.if-self.false in
-    let t : c.args.self.now.taken ≡ c.self.inside.place + length c.self.inside.window.bytes = ap (λ (v : Scan). v.taken) (sym c.self.view_is) in
-    let l : c.args.self.now.limit ≡ c.self.inside.limit = ap (λ (v : Scan). v.limit) (sym c.self.view_is) in
+    let n : c.args.self.now.has_ended ≡ false = ap (λ (v : FramerValue). v.has_ended) (sym c.self.view_is) ∙ c.if-self.false in
+    let t : c.args.self.now.taken ≡ c.self.inside.place + length c.self.inside.window.bytes = ap (λ (v : FramerValue). v.taken) (sym c.self.view_is) in
+    let l : c.args.self.now.limit ≡ c.self.inside.limit = ap (λ (v : FramerValue). v.limit) (sym c.self.view_is) in
     let i : c.self.inside.place + length c.self.inside.window.bytes ≤ c.self.inside.limit = c.self.invariant.0 in
     let w : c.args.self.now.taken + length c.args.bytes.now ≤ c.args.self.now.limit = omega (arith, t, l, i, c.taken.ensures.value, c.if-self-taken.false) in
     rw (view_pushed_all c.args.self.now c.self.inside.limit c.self.inside.place c.self.inside.given_up c.self.inside.candidate.count c.self.inside.window c.push_all.new.self c.self.inside.ended c.self.inside.drained c.args.bytes.now c.self.view_is c.push_all.ensures)

@@ -1,12 +1,12 @@
 use Rattle.std.proofs.Common.{◌≡◌, ◌-◌, ◌<◌, ap, ◌∙◌, length, arith, length-drop}
-use Rattle.rtcm_scan.specs.Scan.{Scan}
+use Rattle.rtcm_scan.specs.Scan.{FramerValue}
 use Rattle.rtcm_scan.proofs.DecisionLemmas.{from_found, from_passed, from_open, open_bound}
 use Rattle.rtcm_scan.proofs.NextLemmas.{step_passed, counts_passed, found_begins, found_stands, found_counts, finish_empty, finish_open, counts_empty, counts_open}
 use Rattle.rtcm_scan.proofs.framer.Framer.seek.Goals as goal
 use Rattle.rtcm_scan.proofs.framer.Framer.seek.Goals.{else-loop-self-test, then-loop-self-test+in-Open}
 
 pub pass_over-requires : goal.pass_over-requires
-pass_over-requires c = ap (λ (y : Scan). y.tried) c.give_up.ensures
+pass_over-requires c = ap (λ (y : FramerValue). y.tried) c.give_up.ensures
 
 pub loop-self-preserved : goal.loop-self-preserved
 loop-self-preserved c =
@@ -17,11 +17,11 @@ loop-self-preserved c =
           (from_passed c.loop-self.self.has_ended c.loop-self.self.held c.in-Passed.ensures.decision) (c.loop-self.invariant.stands b fs s));
       counts = λ b fs s. o.counts b fs (counts_passed c.loop-self.self c.decide.new.self c.give_up.new.self b fs c.in-Passed.ensures.examined c.give_up.ensures h
           (from_passed c.loop-self.self.has_ended c.loop-self.self.held c.in-Passed.ensures.decision) c.in-Passed.ensures.tried (c.loop-self.invariant.counts b fs s));
-      limit = o.limit ∙ ap (λ (y : Scan). y.limit) c.give_up.ensures ∙ ap (λ (y : Scan). y.limit) c.in-Passed.ensures.examined ∙ c.loop-self.invariant.limit;
-      taken = o.taken ∙ ap (λ (y : Scan). y.taken) c.give_up.ensures ∙ ap (λ (y : Scan). y.taken) c.in-Passed.ensures.examined ∙ c.loop-self.invariant.taken;
-      ended = o.ended ∙ ap (λ (y : Scan). y.has_ended) c.give_up.ensures ∙ ap (λ (y : Scan). y.has_ended) c.in-Passed.ensures.examined ∙ c.loop-self.invariant.ended;
-      held = (let d : length c.give_up.new.self.held ≡ length c.loop-self.self.held - 1 = ap (λ (y : Scan). length y.held) c.give_up.ensures ∙ length-drop 1 c.decide.new.self.held ∙ ap (λ (y : Scan). length y.held - 1) c.in-Passed.ensures.examined in omega (arith, d, o.held, c.loop-self.invariant.held));
-      ready = o.ready ∙ ap (λ (y : Scan). y.is_ready) c.give_up.ensures ∙ ap (λ (y : Scan). y.is_ready) c.in-Passed.ensures.examined ∙ c.loop-self.invariant.ready;
+      limit = o.limit ∙ ap (λ (y : FramerValue). y.limit) c.give_up.ensures ∙ ap (λ (y : FramerValue). y.limit) c.in-Passed.ensures.examined ∙ c.loop-self.invariant.limit;
+      taken = o.taken ∙ ap (λ (y : FramerValue). y.taken) c.give_up.ensures ∙ ap (λ (y : FramerValue). y.taken) c.in-Passed.ensures.examined ∙ c.loop-self.invariant.taken;
+      ended = o.ended ∙ ap (λ (y : FramerValue). y.has_ended) c.give_up.ensures ∙ ap (λ (y : FramerValue). y.has_ended) c.in-Passed.ensures.examined ∙ c.loop-self.invariant.ended;
+      held = (let d : length c.give_up.new.self.held ≡ length c.loop-self.self.held - 1 = ap (λ (y : FramerValue). length y.held) c.give_up.ensures ∙ length-drop 1 c.decide.new.self.held ∙ ap (λ (y : FramerValue). length y.held - 1) c.in-Passed.ensures.examined in omega (arith, d, o.held, c.loop-self.invariant.held));
+      ready = o.ready ∙ ap (λ (y : FramerValue). y.is_ready) c.give_up.ensures ∙ ap (λ (y : FramerValue). y.is_ready) c.in-Passed.ensures.examined ∙ c.loop-self.invariant.ready;
     }
 
 pub returns-in-Found-clause-begins : goal.returns-in-Found-clause-begins
@@ -36,9 +36,9 @@ returns-in-Found-clause-counts c = λ b fs s. found_counts c.loop-self.self c.de
 
 pub set_drained-requires : goal.set_drained-requires
 set_drained-requires c = elim c.loop-self-test.branch [
-  | else-loop-self-test w ↦ (let e : length c.loop-self-test.self.held ≡ length c.loop-self.self.held = ap (λ (y : Scan). length y.held) w.self-is in
+  | else-loop-self-test w ↦ (let e : length c.loop-self-test.self.held ≡ length c.loop-self.self.held = ap (λ (y : FramerValue). length y.held) w.self-is in
       omega (arith, e, c.held.ensures.value, w.loop-self-test.false))
-  | then-loop-self-test+in-Open w ↦ (let e : length c.loop-self-test.self.held ≡ length c.loop-self.self.held = ap (λ (y : Scan). length y.held) (w.self-is ∙ w.in-Open.ensures.examined) in
+  | then-loop-self-test+in-Open w ↦ (let e : length c.loop-self-test.self.held ≡ length c.loop-self.self.held = ap (λ (y : FramerValue). length y.held) (w.self-is ∙ w.in-Open.ensures.examined) in
       let o = from_open c.loop-self.self.has_ended c.loop-self.self.held w.in-Open.ensures.decision in
       let l : length c.loop-self.self.held < 1029 = open_bound c.loop-self.self.held o.1 in omega (arith, e, l))
 ]

@@ -1,12 +1,12 @@
 use Rattle.std.proofs.Common.{◌≡◌, ◌≤◌, List, ℕ, length}
 use Rattle.rtcm_scan.specs.Frames.{Framed}
-use Rattle.rtcm_scan.specs.Scan.{StandsFor}
+use Rattle.rtcm_scan.specs.Scan.{HasFramed}
 use Rattle.rtcm_scan.specs.Examined.{HasExamined}
 use Rattle.rtcm_scan.proofs.framer.Framer.seek.Given as goal
 
 abbrev pub invariant-loop-self : goal.invariant-loop-self
 invariant-loop-self l = record {
-  stands : (b : List ℕ) (fs : List Framed) → StandsFor l.fn.self b fs → StandsFor l.self b fs;
+  stands : (b : List ℕ) (fs : List Framed) → HasFramed l.fn.self b fs → HasFramed l.self b fs;
   counts : (b : List ℕ) (fs : List Framed) → HasExamined l.fn.self b fs → HasExamined l.self b fs;
   limit : l.self.limit ≡ l.fn.self.limit;
   taken : l.self.taken ≡ l.fn.self.taken;

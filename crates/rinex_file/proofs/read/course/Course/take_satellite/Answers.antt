@@ -4,13 +4,13 @@ use Rattle.std.specs.List.Sorted.{IsStrictlyIncreasing}
 use Rattle.std.proofs.lemmas.List.{map-append}
 use Rattle.std.proofs.lemmas.List.Sums.{sum_by-append}
 use Rattle.rinex_file.specs.declared.read.due.Due.TheVariants.{Satellite}
-use Rattle.rinex_file.specs.Value.{Seen, Stamped}
+use Rattle.rinex_file.specs.Value.{SatelliteRow, Stamped}
 use Rattle.obs_epoch.specs.declared.cell.StationValues.{StationValues}
-use Rattle.rinex_file.specs.FileValues.{IsSeen, changed_by, rank_of, time_of}
-use Rattle.rinex_file.specs.Lines.{seen_line}
+use Rattle.rinex_file.specs.FileValues.{IsSatelliteRow, changed_by, rank_of, time_stamped}
+use Rattle.rinex_file.specs.Lines.{satellite_line}
 use Rattle.rinex_file.specs.Read.Progress.{Progress}
 use Rattle.rinex_file.specs.Read.Fields.{ReadsExactly, some_if}
-use Rattle.rinex_file.specs.Course.{EndsIn, changes_of, epoch_at, events_in, progress_at, rows_in}
+use Rattle.rinex_file.specs.Course.{EndsIn, changes_of, stamped_at, events_in, progress_at, rows_in}
 use Rattle.rinex_file.proofs.Judged.{refused}
 use Rattle.rinex_file.proofs.BodySteps.{values_more, row_taken, no_row, bad_row, last_taken, sound_open, few_at, sound_row, sound_closed}
 use Rattle.rinex_file.proofs.read.course.Course.take_satellite.Goals as goal
@@ -28,10 +28,10 @@ one_due : (left : ℕ) (s : Progress) → s.due ≡ Satellite left → 0 < left 
 one_due left s due some = let n : left ≡ suc (left - 1) = omega (arith, some) in due ∙ ap Satellite n
 
 -- what a line shows, where so many signals are planned
-abbrev Shows : ℕ → ℕ → List ℕ → Bool → Seen → Type 0
-Shows gps galileo line b seen = ReadsExactly (IsSeen gps galileo) seen_line line (some_if b seen)
+abbrev Shows : ℕ → ℕ → List ℕ → Bool → SatelliteRow → Type 0
+Shows gps galileo line b seen = ReadsExactly (IsSatelliteRow gps galileo) satellite_line line (some_if b seen)
 
-shows : (g e gps galileo : ℕ) (line : List ℕ) (r b : Bool) (seen : Seen) → g ≡ gps → e ≡ galileo → r ≡ b → Shows g e line r seen → Shows gps galileo line b seen
+shows : (g e gps galileo : ℕ) (line : List ℕ) (r b : Bool) (seen : SatelliteRow) → g ≡ gps → e ≡ galileo → r ≡ b → Shows g e line r seen → Shows gps galileo line b seen
 shows g e gps galileo line r b seen x y z h =
     subst (λ (t : Bool). Shows gps galileo line t seen) z (subst (λ (n : ℕ). Shows gps n line r seen) y (subst (λ (n : ℕ). Shows n e line r seen) x h))
 
@@ -59,10 +59,10 @@ rises xs n k same rise = subst (λ (m : ℕ). IsStrictlyIncreasing (xs ++ m ∷ 
 ends : {X : Type 0} (f : X → ℕ) (xs : List X) (x : X) (n : ℕ) → n ≡ f x → EndsIn (map f (xs ++ x ∷ [])) (Some n)
 ends f xs x n same = (map f xs, map-append f xs (x ∷ []) ∙ ap (λ m. map f xs ++ m ∷ []) (sym same))
 
-row_counted : (es : List Stamped) (rows : List Seen) (seen : Seen) (n : ℕ) → n ≡ rows_in es + length rows → n + 1 ≡ rows_in es + length (rows ++ seen ∷ [])
+row_counted : (es : List Stamped) (rows : List SatelliteRow) (seen : SatelliteRow) (n : ℕ) → n ≡ rows_in es + length rows → n + 1 ≡ rows_in es + length (rows ++ seen ∷ [])
 row_counted es rows seen n e = let size : length (rows ++ seen ∷ []) ≡ length rows + 1 = length-append rows (seen ∷ []) in omega (arith, e, size)
 
-epoch_counted : (es : List Stamped) (e : Stamped) (rows : List Seen) (seen : Seen) (n : ℕ) → e.rows ≡ rows ++ seen ∷ [] → n ≡ rows_in es + length rows → n + 1 ≡ rows_in (es ++ e ∷ []) + 0
+epoch_counted : (es : List Stamped) (e : Stamped) (rows : List SatelliteRow) (seen : SatelliteRow) (n : ℕ) → e.rows ≡ rows ++ seen ∷ [] → n ≡ rows_in es + length rows → n + 1 ≡ rows_in (es ++ e ∷ []) + 0
 epoch_counted es e rows seen n same all =
     let size : length e.rows ≡ length rows + 1 = ap length same ∙ length-append rows (seen ∷ []) in
     let both : rows_in (es ++ e ∷ []) ≡ rows_in es + (0 + length e.rows) = sum_by-append _ es (e ∷ []) in
@@ -109,11 +109,11 @@ returns-clause-takes c = λ h stands.
     let rise = rises (map rank_of h.rows) c.rank_of-rank.result (rank_of seen) c.rank_of-rank.ensures
     ((c.is_behind.ensures (map rank_of h.rows) stands.rank begun.rows.rise).0 c.if-not-is_behind.false) in
     let last : c.args.left ≡ suc 0 = let n = c.if-left-gt1.false in omega (arith, n, some) in
-    let epoch = epoch_at c.args.self.now.change c.args.self.now.time (h.rows ++ seen ∷ []) in
+    let epoch = stamped_at c.args.self.now.change c.args.self.now.time (h.rows ++ seen ∷ []) in
     record {
       stands = record {
         sound = sound_closed s 0 c.args.left c.requires.due stands.sound seen shown.0 rise;
-        last = ends time_of h.epochs epoch c.milliseconds.result c.milliseconds.ensures.value;
+        last = ends time_stamped h.epochs epoch c.milliseconds.result c.milliseconds.ensures.value;
         rank = refl;
         epochs = one_longer h.epochs epoch c.args.self.now.epochs stands.epochs;
         satellites = epoch_counted h.epochs epoch h.rows seen c.args.self.now.satellites refl stands.satellites;

@@ -3,7 +3,7 @@ use Rattle.rinex_file.specs.declared.read.due.Refusal.{Refusal}
 use Rattle.rinex_file.specs.declared.read.fault.ReadFault.TheVariants.{CutShort}
 use Rattle.rinex_file.specs.Exact.{IsFaulty, IsDueAt}
 use Rattle.rinex_file.proofs.DueLines.{due_at}
-use Rattle.rinex_file.specs.Course.{Follows, Refuses, Takes, progress_at, with_line}
+use Rattle.rinex_file.specs.Course.{GoesOnWithLine, RefusesLine, TakesLine, progress_at, with_line}
 use Rattle.rinex_file.proofs.FileLines.{lines_are_lines}
 use Rattle.rinex_file.proofs.Judged.{refused as judged}
 use Rattle.rinex_file.proofs.HeaderBody.{unfinished, goes_on, only_file, file_read, sound_rows}
@@ -58,7 +58,7 @@ returns-in-Ok-clause-goes g c = λ h input read.
     let line = c.next_line.new.line.items in
     let next = c.in-Ok.ensures.takes h read.stands in
     record {
-      taken = one_more old new c.args.self.now.count input _ _ line read.taken c.in-Line.ensures.found c.in-Line.ensures.taken (subst (Follows old new) c.as_slice.ensures.value next.follows);
+      taken = one_more old new c.args.self.now.count input _ _ line read.taken c.in-Line.ensures.found c.in-Line.ensures.taken (subst (GoesOnWithLine old new) c.as_slice.ensures.value next.follows);
       stands = next.stands;
     }
 
@@ -67,8 +67,8 @@ returns-in-Err-Bad-clause-goes g c = λ h input read.
     let s = progress_at c.args.self.now.course h in
     let n = c.args.self.now.count in
     let line = c.next_line.new.line.items in
-    let takes = subst (λ (r : Refusal). Takes c.args.self.now.course c.take.new.self c.as_slice.result.now (Err r)) c.in-Err-Bad.field-0-is c.in-Err-Bad.ensures.takes in
+    let takes = subst (λ (r : Refusal). TakesLine c.args.self.now.course c.take.new.self c.as_slice.result.now (Err r)) c.in-Err-Bad.field-0-is c.in-Err-Bad.ensures.takes in
     said_of input (λ text. IsFaulty text (n + 1) × IsDueAt c.due-due.result text (n + 1)) _ (λ text both. c.fault_at-in-Err-Bad.ensures.faulty text both.0 both.1)
     (both_said input (λ text. IsFaulty text (n + 1)) (λ text. IsDueAt c.due-due.result text (n + 1))
-    (refused lines_are_lines s n input _ _ line read.taken c.in-Line.ensures.found c.in-Line.ensures.taken (subst (Refuses s) c.as_slice.ensures.value (takes h read.stands)))
+    (refused lines_are_lines s n input _ _ line read.taken c.in-Line.ensures.found c.in-Line.ensures.taken (subst (RefusesLine s) c.as_slice.ensures.value (takes h read.stands)))
     (due_at c.args.self.now.course h c.due-due.result n input _ read.taken c.due-due.ensures read.stands))

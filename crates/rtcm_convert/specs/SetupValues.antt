@@ -3,10 +3,10 @@ use Rattle.std.specs.Prelude.{◌≡◌, ◌^◌, ◌<◌, ◌≤◌, ◌⊎◌,
 use Rattle.obs_epoch.specs.Weeks.{weeks}
 use Rattle.obs_epoch.specs.Kinds.{is_by_bit, is_no_station}
 use Rattle.rtcm_convert.specs.declared.setup.Setup.{Setup}
-use Rattle.rtcm_convert.specs.Converted.{Settings}
+use Rattle.rtcm_convert.specs.Converted.{SetupValue}
 
-abbrev pub settings : Setup → Settings
-settings x = record {
+abbrev pub setup_value : Setup → SetupValue
+setup_value x = record {
   gather = record { plan = x.plan; start_week = x.start_week; station = x.station; by_bit = is_by_bit x.gather };
   texts = x.texts;
 }

@@ -38,21 +38,21 @@ texts_told options = record {
 }
 
 -- a text spells a number of so many bits
-abbrev pub Spells : ℕ → List ℕ → Type 0
-Spells bits text = IsNumeral 10 (without_leading_plus text) × (digits_value 10 (without_leading_plus text) < 2 ^ bits)
+abbrev pub SpellsNumber : ℕ → List ℕ → Type 0
+SpellsNumber bits text = IsNumeral 10 (without_leading_plus text) × (digits_value 10 (without_leading_plus text) < 2 ^ bits)
 
 -- the number of so many bits that a text spells, if there is a text and it spells one
 abbrev pub IsNumberOf : ℕ → Option (List ℕ) → Option ℕ → Type 0
 IsNumberOf bits None n = n ≡ None
-IsNumberOf bits (Some text) None = Spells bits text → ⊥
-IsNumberOf bits (Some text) (Some n) = Spells bits text × (n ≡ digits_value 10 (without_leading_plus text))
+IsNumberOf bits (Some text) None = SpellsNumber bits text → ⊥
+IsNumberOf bits (Some text) (Some n) = SpellsNumber bits text × (n ≡ digits_value 10 (without_leading_plus text))
 
 -- an option's number, or another where it has none
 abbrev pub IsNumberOr : ℕ → ℕ → Option (List ℕ) → ℕ → Type 0
 IsNumberOr bits otherwise text n = (found : Option ℕ) × IsNumberOf bits text found × (n ≡ unwrap_or found otherwise)
 
 -- A conversion is told what the options say, each by its name.
-pub record IsTold (options : List Row) (x : Setup) : Type 0 where
+pub record IsSetupOf (options : List Row) (x : Setup) : Type 0 where
   pub texts : x.texts ≡ trimmed_texts (texts_told options)
   pub plan : plan_of (text_told options (codes "gps")) (text_told options (codes "galileo")) ≡ Ok x.plan
   pub week : IsNumberOr 32 0 (one_of (codes "week") options) x.start_week
@@ -61,8 +61,8 @@ pub record IsTold (options : List Row) (x : Setup) : Type 0 where
   pub limit : IsNumberOr 64 (2 ^ 48) (one_of (codes "limit") options) x.limit
 
 -- Nothing can be converted so: a text of the header has this fault, or all are good and the plan has, or memory ran out for it.
-abbrev pub IsRefused : List Row → ToolFault → Type 0
-IsRefused options (faults.Header e) = first_fault (texts_told options) None fields ≡ Some e
-IsRefused options (faults.Plan e) = (first_fault (texts_told options) None fields ≡ None)
+abbrev pub IsSetupRefused : List Row → ToolFault → Type 0
+IsSetupRefused options (faults.Header e) = first_fault (texts_told options) None fields ≡ Some e
+IsSetupRefused options (faults.Plan e) = (first_fault (texts_told options) None fields ≡ None)
     × ((e ≡ plans.Memory) ⊎ (plan_of (text_told options (codes "gps")) (text_told options (codes "galileo")) ≡ Err e))
-IsRefused options other = ⊥
+IsSetupRefused options other = ⊥

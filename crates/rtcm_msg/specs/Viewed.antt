@@ -5,7 +5,7 @@ use Rattle.rtcm_msg.specs.declared.view.View.{View}
 use Rattle.rtcm_msg.specs.declared.view.View.TheVariants as views
 use Rattle.rtcm_msg.specs.Views.{formed}
 
-abbrev pub seen : View → Message
-seen (views.Station s) = messages.Station s
-seen (views.Msm m) = formed m
-seen (views.Other number set) = messages.Other number set
+abbrev pub viewed_message : View → Message
+viewed_message (views.Station s) = messages.Station s
+viewed_message (views.Msm m) = formed m
+viewed_message (views.Other number set) = messages.Other number set

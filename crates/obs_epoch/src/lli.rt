@@ -1,14 +1,14 @@
-//! Marks of a phase that lost its lock.
+//! Indicators of a phase that lost its lock.
 ghost use Rattle.std.specs.Prelude.{◌≡◌, ◌<◌};
-ghost use Rattle.obs_epoch.specs.Loss.{mark_with, has_lost};
+ghost use Rattle.obs_epoch.specs.Loss.{lli_with, has_lost};
 
 use crate::seen::{KnownLock, Seen};
 use gnss_obs::is_lost;
 
 /// RINEX's loss of lock indicator of a cell: bit 0 where the latest lock of its key before is known
 /// and was lost since, bit 1 where the phase may be off by half a cycle; 0 without a phase.
-pub fn mark(x: &Seen, time: u64, before: Option<KnownLock>) -> u8
-    ensures value { result ≡ mark_with time x.now before }
+pub fn lli(x: &Seen, time: u64, before: Option<KnownLock>) -> u8
+    ensures value { result ≡ lli_with time x.now before }
     ensures bound { result < 4 }
 {
     if x.l.is_none() {
