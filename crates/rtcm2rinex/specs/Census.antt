@@ -2,7 +2,8 @@
 use Rattle.std.specs.Prelude.{◌≡◌, ℕ, ◌+◌, ◌-◌, ◌*◌, ◌<◌, ◌≤◌, ◌^◌, ◌&&◌, ◌||◌, Bool, min, nat_lt, List, [], ◌++◌, length, get_or, set, take, Option, Some, None, is_some, if◌then◌else◌}
 use Rattle.std.specs.Option.{option_map_or}
 use Rattle.std.specs.List.{list_any}
-use Rattle.std.specs.Io.KnownBytes.{Consumes, IsAtEnd}
+use Rattle.std.specs.Io.KnownBytes.{Appends, Consumes, IsAtEnd}
+use Rattle.rtcm_bits.specs.Device.{AppendsPrefix}
 use Rattle.gnss_obs.specs.declared.system.System.{System}
 use Rattle.gnss_obs.specs.declared.system.System.TheVariants.{Gps, Galileo}
 use Rattle.gnss_obs.specs.Satellites.{satellite_of_id}
@@ -13,7 +14,8 @@ use Rattle.rtcm_scan.specs.Known.{known_frames}
 use Rattle.rtcm_scan.specs.Scan.{FramerValue, HasFramed}
 use Rattle.obs_epoch.specs.declared.seen.Seen.{Seen}
 use Rattle.rtcm2rinex.specs.declared.census.Census.{Census}
-use Rattle.rtcm2rinex.specs.Signals.{signal_in, count_of, valued_in}
+use Rattle.rtcm2rinex.specs.declared.census.Form.{Form}
+use Rattle.rtcm2rinex.specs.Signals.{signal_in, signals_text, count_of, valued_in}
 
 -- ---- one cell more
 
@@ -75,3 +77,13 @@ HasCounted c wanted r r' v = (b : List ℕ) × Consumes r r' b × CountsKnownCel
 -- The stream was read to its end, and the cells of its frames were counted.
 abbrev pub HasSurveyed : Census → Option ℕ → (r r' : Option (List ℕ)) → Type 0
 HasSurveyed c wanted r r' = (b : List ℕ) × Consumes r r' b × IsAtEnd r' × SurveysFrames c wanted (frames_of b)
+
+-- ---- what is told of them
+
+-- the text of whichever cells these are the counts of was written
+abbrev pub TellsCensus : Form → Census → (w w' : Option (List ℕ)) → Type 0
+TellsCensus form c w w' = (cells : List Seen) → IsCensus c cells → Appends w w' (signals_text form cells)
+
+-- a prefix of it was
+abbrev pub TellsCensusPart : Form → Census → (w w' : Option (List ℕ)) → Type 0
+TellsCensusPart form c w w' = (cells : List Seen) → IsCensus c cells → AppendsPrefix w w' (signals_text form cells)

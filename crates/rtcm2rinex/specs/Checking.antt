@@ -1,11 +1,12 @@
 -- What the command `check` writes. `r` and `w` are what the reader and the writer held before, and w' what the writer holds after.
-use Rattle.std.specs.Prelude.{◌≡◌, ◌⊎◌, ℕ, List, [], ◌∷◌, length, codes, decimal, Option, Result, Ok, Err, IfSome, ⊤}
+use Rattle.std.specs.Prelude.{◌≡◌, ◌≤◌, ◌⊎◌, ℕ, List, [], ◌∷◌, length, codes, decimal, Option, Result, Ok, Err, IfSome, ⊤}
 use Rattle.std.specs.List.{sum_by}
 use Rattle.std.specs.Io.KnownBytes.{Appends}
 use Rattle.rtcm_bits.specs.Device.{AppendsPrefix}
 use Rattle.rinex_file.specs.Value.{FileValue}
 use Rattle.rinex_file.specs.FileValues.{IsFileValue}
-use Rattle.rinex_file.specs.File.{file_text}
+use Rattle.rinex_file.specs.File.{file_text, file_lines}
+use Rattle.rinex_file.specs.Exact.{most_lines}
 use Rattle.rinex_file.specs.Course.{events_in}
 use Rattle.rinex_file.specs.declared.read.fault.ReadFault.{ReadFault}
 use Rattle.rinex_file.specs.declared.read.fault.ReadFault.TheVariants as reading
@@ -44,3 +45,8 @@ IsCheckedOr v (Err faults.Write) w w' = AppendsPrefix w w' (check_line v)
 IsCheckedOr v (Err (faults.Check reading.Memory)) w w' = ⊤
 IsCheckedOr v (Err (faults.Check reading.Read)) w w' = ⊤
 IsCheckedOr v (Err other) w w' = ⊥
+
+-- the text of each file value is accepted
+abbrev pub AcceptsFiles : Result ⊤ ToolFault → (r r' w w' : Option (List ℕ)) → Type 0
+AcceptsFiles result r r' w w' = (v : FileValue) → IsFileValue v → length (file_lines v) ≤ most_lines
+    → IfSome r (λ input. input ≡ file_text v → IsCheckedOr v result w w')

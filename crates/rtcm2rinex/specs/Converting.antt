@@ -26,3 +26,7 @@ abbrev pub IsConvertFault : ToolFault → Type 0
 IsConvertFault fault =
     (fault ≡ faults.Read) ⊎ (fault ≡ faults.Write) ⊎ (fault ≡ faults.Convert convert.Memory) ⊎ (fault ≡ faults.Convert convert.BadSetup)
     ⊎ (fault ≡ faults.Convert convert.TooLong) ⊎ (fault ≡ faults.Convert convert.NoEpoch)
+
+-- nothing can be converted with what it was told, or without memory
+abbrev pub IsSetupRefusal : ToolFault → Type 0
+IsSetupRefusal fault = (fault ≡ faults.Convert convert.BadSetup) ⊎ (fault ≡ faults.Convert convert.Memory)

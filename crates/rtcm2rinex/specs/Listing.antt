@@ -1,7 +1,7 @@
 -- What a command that lists a stream's frames has read and written.
 use Rattle.std.specs.Prelude.{◌≡◌, ◌⊎◌, ◌<◌, ℕ, List, take, length, Option}
 use Rattle.std.specs.Io.KnownBytes.{Appends, Consumes, IsAtEnd}
-use Rattle.rtcm_bits.specs.Device.{Device, AppendsPrefix}
+use Rattle.rtcm_bits.specs.Device.{AppendsPrefix}
 use Rattle.rtcm_scan.specs.declared.framer.ScanFault.TheVariants as scan
 use Rattle.rtcm2rinex.specs.declared.fault.ToolFault.{ToolFault}
 use Rattle.rtcm2rinex.specs.declared.fault.ToolFault.TheVariants as faults
@@ -27,10 +27,24 @@ abbrev pub ListsPart : (List Framed → List ℕ) → (r r' w w' : Option (List 
 ListsPart lines r r' w w' = (b : List ℕ) × Consumes r r' b
     × (AppendsPrefix w w' (lines (decided_frames b)) ⊎ (IsAtEnd r' × AppendsPrefix w w' (lines (frames_of b))))
 
--- nothing was read or written
-abbrev pub IsUntouched : {R W : Type 0} → (r r' : Device R) → (w w' : Device W) → Type 0
-IsUntouched r r' w w' = (r' ≡ r) × (w' ≡ w)
+-- more bytes came than the limit allows
+abbrev pub too_long : ToolFault
+too_long = faults.Scan scan.TooLong
 
--- the faults of such a command
+-- there is no memory for the bytes that aren't decided
+abbrev pub no_memory : ToolFault
+no_memory = faults.Scan scan.Memory
+
+-- the faults while a stream is read and listed, and those of such a command
+abbrev pub IsListingFault : ToolFault → Type 0
+IsListingFault fault = (fault ≡ faults.Read) ⊎ (fault ≡ faults.Write) ⊎ (fault ≡ too_long)
+
 abbrev pub IsListFault : ToolFault → Type 0
-IsListFault fault = (fault ≡ faults.Read) ⊎ (fault ≡ faults.Write) ⊎ (fault ≡ faults.Scan scan.TooLong) ⊎ (fault ≡ faults.Scan scan.Memory)
+IsListFault fault = (fault ≡ faults.Read) ⊎ (fault ≡ faults.Write) ⊎ (fault ≡ too_long) ⊎ (fault ≡ no_memory)
+
+-- the faults while a stream is surveyed, and those of a survey
+abbrev pub IsSurveyingFault : ToolFault → Type 0
+IsSurveyingFault fault = (fault ≡ faults.Read) ⊎ (fault ≡ too_long)
+
+abbrev pub IsSurveyFault : ToolFault → Type 0
+IsSurveyFault fault = (fault ≡ faults.Read) ⊎ (fault ≡ too_long) ⊎ (fault ≡ no_memory)

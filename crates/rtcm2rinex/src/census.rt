@@ -61,7 +61,8 @@ impl Census {
 
     /// Counts the cells of a message of the station that is wanted; where none is told, of every station.
     pub fn count_message(&mut self, station: Option<u16>, message: &Message)
-        ensures counts { (cells : List Seen) → length cells < 2 ^ 62 → IsCensus self.old cells → IsCensus self.new (cells ++ valued station (heard message.now)) }
+        ensures counts { (cells : List Seen) → length cells < 2 ^ 62 → IsCensus self.old cells
+            → IsCensus self.new (cells ++ valued station (heard message.now)) }
         ensures few { length (valued station (heard message.now)) ≤ 64 }
     {
         match message {

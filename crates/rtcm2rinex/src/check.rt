@@ -9,7 +9,8 @@ ghost use Rattle.rinex_file.specs.File.{file_text, file_lines};
 ghost use Rattle.rinex_file.specs.Exact.{ExplainsFault, most_lines};
 ghost use Rattle.rinex_file.specs.Blocks.{LeavesRest};
 ghost use Rattle.rinex_file.specs.Counting.{AreCounts};
-ghost use Rattle.rtcm2rinex.specs.Checking.{check_line, ChecksFile, ChecksPart, IsCheckFault, IsCheckedOr};
+ghost use Rattle.rtcm2rinex.specs.Moves.{Moves};
+ghost use Rattle.rtcm2rinex.specs.Checking.{check_line, AcceptsFiles, ChecksFile, ChecksPart, IsCheckFault};
 
 use crate::fault::ToolFault;
 use crate::line::Line;
@@ -56,8 +57,7 @@ pub fn run_check<R: Read, W: Write>(
     ensures write_failed { result ≡ Err ToolFault.Write → HasFailed writer.old.failures writer.new.failures }
 
     // The text of each file value is accepted.
-    ensures only { (v : FileValue) → IsFileValue v → length (file_lines v) ≤ most_lines → IfSome (R.remaining reader.old.inner) (λ input. input ≡ file_text v
-        → IsCheckedOr v result (W.contents writer.old.inner) (W.contents writer.new.inner)) }
+    ensures only { Moves R.remaining reader.old reader.new W.contents writer.old writer.new (AcceptsFiles result) }
 {
     let counts = check_file(alloc, reader)?;
     write_line(&check_line(counts), writer)?;

@@ -161,7 +161,8 @@ fn convert<R: Read, W: Write, E: Write>(
     faults: &mut E,
 ) -> u8
     ensures status { result ≤ 1 }
-    ensures good { result ≡ 0 → IsConverted (options_of options.now) (R.remaining reader.old.inner) (W.contents writer.old.inner) (W.contents writer.new.inner) }
+    ensures good { result ≡ 0
+        → IsConverted (options_of options.now) (R.remaining reader.old.inner) (W.contents writer.old.inner) (W.contents writer.new.inner) }
 {
     let setup = match setup_of(alloc, options) {
         Ok(setup) => setup,

@@ -1,15 +1,11 @@
 //! The command `convert`: the observation file of a stream.
-ghost use Rattle.std.specs.Prelude.{◌≡◌, ◌≢◌, ◌<◌, ◌≤◌, ◌⊎◌, ◌↔◌, List, ℕ, Err, OnOk, IfOk, IfErr, IfSome, max, length, take};
-ghost use Rattle.std.specs.Io.KnownBytes.{Appends, Consumes};
-ghost use Rattle.rtcm_bits.specs.Device.{HasFailed};
-ghost use Rattle.rtcm_scan.specs.Decided.{decided_frames};
-ghost use Rattle.rtcm_convert.specs.Converted.{so_far};
-ghost use Rattle.rtcm_convert.specs.Broken.{FailedWriting, FailedWritingAtEnd};
-ghost use Rattle.rtcm_convert.specs.Made.{IsMade, IsMadeEmpty};
-ghost use Rattle.rtcm_convert.specs.Outcomes.{report_of};
+ghost use Rattle.std.specs.Prelude.{◌≡◌, ◌<◌, ◌≤◌, ◌↔◌, Err, OnOk, IfOk, IfErr, IfSome, max, length};
+ghost use Rattle.rtcm_convert.specs.Broken.{WroteSoFar, WroteToLimit, BrokeReading};
+ghost use Rattle.rtcm_convert.specs.Faults.{IsUntouched};
+ghost use Rattle.rtcm_convert.specs.Made.{IsMade, IsMadeEmpty, IsReportOf};
 ghost use Rattle.rtcm_convert.specs.SetupValues.{setup_value, IsBad};
-ghost use Rattle.rtcm2rinex.specs.Converting.{IsConvertFault};
-ghost use Rattle.rtcm2rinex.specs.Listing.{IsUntouched};
+ghost use Rattle.rtcm2rinex.specs.Converting.{IsConvertFault, IsSetupRefusal};
+ghost use Rattle.rtcm2rinex.specs.Devices.{CountsReadFault, CountsWriteFault};
 
 use crate::fault::ToolFault;
 use rtcm_bits::Counted;
@@ -27,28 +23,29 @@ pub fn run_convert<R: Read, W: Write>(
     writer: &mut Counted<W>,
 ) -> Result<Report, ToolFault>
     ensures file { OnOk result (IfSome (R.remaining reader.old.inner) (IsMade setup (W.contents writer.old.inner) (W.contents writer.new.inner))) }
-    ensures report { IfOk result (λ report. IfSome (R.remaining reader.old.inner) (λ b. report ≡ report_of (setup_value setup) b)) }
+    ensures report { IfOk result (λ report. IfSome (R.remaining reader.old.inner) (IsReportOf setup report)) }
 
     // No epoch stands in that file, and it is empty.
-    ensures no_epoch { result ≡ Err (ToolFault.Convert Fault.NoEpoch) → IfSome (R.remaining reader.old.inner) (IsMadeEmpty setup (W.contents writer.old.inner) (W.contents writer.new.inner)) }
+    ensures no_epoch { result ≡ Err (ToolFault.Convert Fault.NoEpoch)
+        → IfSome (R.remaining reader.old.inner) (IsMadeEmpty setup (W.contents writer.old.inner) (W.contents writer.new.inner)) }
 
-    // The bytes up to the limit were taken, and what went out is the file of the epochs that they close.
+    // The bytes up to the limit were taken, and what went out is the file of the epochs that they
+    // close.
     ensures too_long { result ≡ Err (ToolFault.Convert Fault.TooLong) → IfSome (R.remaining reader.old.inner) (λ b. setup.limit < length b) }
-    ensures long { result ≡ Err (ToolFault.Convert Fault.TooLong) → (front : List ℕ) × Consumes (R.remaining reader.old.inner) (R.remaining reader.new.inner) front
-        × Appends (W.contents writer.old.inner) (W.contents writer.new.inner) (so_far (setup_value setup) (decided_frames (take setup.limit front))) }
+    ensures long { result ≡ Err (ToolFault.Convert Fault.TooLong) → WroteToLimit (R.remaining reader.old.inner) (R.remaining reader.new.inner)
+        (W.contents writer.old.inner) (W.contents writer.new.inner) (setup_value setup) setup.limit }
 
     // The reader failed: what went out is the file of the epochs that the bytes before close.
-    ensures read { result ≡ Err ToolFault.Read → (front : List ℕ) × Consumes (R.remaining reader.old.inner) (R.remaining reader.new.inner) front
-        × Appends (W.contents writer.old.inner) (W.contents writer.new.inner) (so_far (setup_value setup) (decided_frames front)) }
-    ensures read_failed { result ≡ Err ToolFault.Read → HasFailed reader.old.failures reader.new.failures }
+    ensures read { result ≡ Err ToolFault.Read → WroteSoFar (R.remaining reader.old.inner) (R.remaining reader.new.inner)
+        (W.contents writer.old.inner) (W.contents writer.new.inner) (setup_value setup) }
 
     // The writer failed: what it took is a prefix of the file.
-    ensures write { result ≡ Err ToolFault.Write →
-        FailedWriting (R.remaining reader.old.inner) (R.remaining reader.new.inner) (W.contents writer.old.inner) (W.contents writer.new.inner) (setup_value setup)
-        ⊎ FailedWritingAtEnd (R.remaining reader.old.inner) (R.remaining reader.new.inner) (W.contents writer.old.inner) (W.contents writer.new.inner) (setup_value setup) }
-    ensures write_failed { result ≡ Err ToolFault.Write → HasFailed writer.old.failures writer.new.failures }
+    ensures write { result ≡ Err ToolFault.Write → BrokeReading (R.remaining reader.old.inner) (R.remaining reader.new.inner)
+        (W.contents writer.old.inner) (W.contents writer.new.inner) (setup_value setup) }
+    ensures reader { CountsReadFault result reader.old reader.new }
+    ensures writer { CountsWriteFault result writer.old writer.new }
     ensures bad_setup { result ≡ Err (ToolFault.Convert Fault.BadSetup) ↔ IsBad setup }
-    ensures untouched { (result ≡ Err (ToolFault.Convert Fault.BadSetup)) ⊎ (result ≡ Err (ToolFault.Convert Fault.Memory)) → IsUntouched reader.old reader.new writer.old writer.new }
+    ensures untouched { IfErr result (λ fault. IsSetupRefusal fault → IsUntouched reader.old reader.new writer.old writer.new) }
     ensures only { IfErr result IsConvertFault }
     ensures widest { reader.new.widest ≤ max reader.old.widest 1029 }
 {

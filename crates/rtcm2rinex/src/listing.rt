@@ -1,20 +1,18 @@
 //! A stream is read to its end, and a line is written for each of its frames as it is decided.
-ghost use Rattle.std.specs.Prelude.{◌≡◌, ◌≢◌, ◌+◌, ◌-◌, ◌≤◌, ◌<◌, ◌^◌, ◌++◌, ◌⊎◌, [], List, ℕ, Option, length, take, true, false, IfSome, None, Ok, Err, IfOk, OnOk, OnErr, IfErr};
+ghost use Rattle.std.specs.Prelude.{◌≡◌, ◌≢◌, ◌+◌, ◌≤◌, ◌<◌, ◌^◌, [], length, true, false, None, Ok, Err, IfOk, OnOk, OnErr, IfErr};
 ghost use Rattle.rtcm_bits.specs.Device.{FailsWith, AppendsPrefix};
-ghost use Rattle.rtcm_scan.specs.Frames.{Framed, frames_of};
-ghost use Rattle.rtcm_scan.specs.Decided.{decided_frames};
 ghost use Rattle.rtcm_scan.specs.Drained.{IsDrained};
-ghost use Rattle.rtcm_scan.specs.Known.{known_frames};
 ghost use Rattle.rtcm_scan.specs.Scan.{FramerValue, HasFramed};
 ghost use Rattle.std.specs.Io.KnownBytes.{Appends, IsAtEnd};
 ghost use Rattle.rtcm_scan.specs.Answers.{framed};
 ghost use Rattle.rtcm2rinex.specs.FrameLines.{frame_lines};
 ghost use Rattle.rtcm2rinex.specs.ShowLines.{show_lines};
-ghost use Rattle.rtcm2rinex.specs.Listing.{ListsAll, ListsDecided, ListsToLimit, ListsPart, IsListFault, IsUntouched};
-ghost use Rattle.rtcm2rinex.specs.Listed.{ListsFrames, ListsKnown, IsListed, IsRefusal, up_to_limit};
+ghost use Rattle.rtcm2rinex.specs.Listing.{ListsAll, ListsDecided, ListsToLimit, ListsPart, IsListFault, IsListingFault, no_memory, too_long};
+ghost use Rattle.rtcm2rinex.specs.Listed.{AfterListing, ListsOn, ListsHeld, ListsHeldPart, ListsNext, ListsNextPart, IsRefusal, up_to_limit};
 ghost use Rattle.rtcm2rinex.specs.Kinds.{listing_line, listing_lines};
+ghost use Rattle.rtcm_convert.specs.Faults.{IsUntouched};
 ghost use Rattle.rtcm2rinex.specs.Devices.{CountsReadFault, CountsWriteFault};
-ghost use Rattle.rtcm2rinex.specs.Moves.{Moves};
+ghost use Rattle.rtcm2rinex.specs.Moves.{Moves, Writes};
 
 use crate::fault::ToolFault;
 use crate::frames::frame_line;
@@ -53,8 +51,8 @@ pub fn run_frames<R: Read, W: Write>(
     ensures writer { CountsWriteFault result writer.old writer.new }
 
     // A stream of more than 2^48 bytes: what the first 2^48 decide was written.
-    ensures too_long { result ≡ Err (ToolFault.Scan ScanFault.TooLong) → Moves R.remaining reader.old reader.new W.contents writer.old writer.new (ListsToLimit (2 ^ 48) frame_lines) }
-    ensures memory { result ≡ Err (ToolFault.Scan ScanFault.Memory) → IsUntouched reader.old reader.new writer.old writer.new }
+    ensures too_long { result ≡ Err too_long → Moves R.remaining reader.old reader.new W.contents writer.old writer.new (ListsToLimit (2 ^ 48) frame_lines) }
+    ensures memory { result ≡ Err no_memory → IsUntouched reader.old reader.new writer.old writer.new }
     ensures only { IfErr result IsListFault }
 {
     list(alloc, Listing::Frames, MOST_BYTES, reader, writer)
@@ -77,8 +75,8 @@ pub fn run_show<R: Read, W: Write>(
     ensures writer { CountsWriteFault result writer.old writer.new }
 
     // A stream of more than 2^48 bytes: what the first 2^48 decide was written.
-    ensures too_long { result ≡ Err (ToolFault.Scan ScanFault.TooLong) → Moves R.remaining reader.old reader.new W.contents writer.old writer.new (ListsToLimit (2 ^ 48) show_lines) }
-    ensures memory { result ≡ Err (ToolFault.Scan ScanFault.Memory) → IsUntouched reader.old reader.new writer.old writer.new }
+    ensures too_long { result ≡ Err too_long → Moves R.remaining reader.old reader.new W.contents writer.old writer.new (ListsToLimit (2 ^ 48) show_lines) }
+    ensures memory { result ≡ Err no_memory → IsUntouched reader.old reader.new writer.old writer.new }
     ensures only { IfErr result IsListFault }
 {
     list(alloc, Listing::Messages, MOST_BYTES, reader, writer)
@@ -94,12 +92,15 @@ pub fn list<R: Read, W: Write>(
 ) -> Result<(), ToolFault>
     requires { limit ≤ 2 ^ 48 }
     ensures whole { OnOk result (Moves R.remaining reader.old reader.new W.contents writer.old writer.new (ListsAll (listing_lines listing))) }
-    ensures read { result ≡ Err ToolFault.Read → Moves R.remaining reader.old reader.new W.contents writer.old writer.new (ListsDecided (listing_lines listing)) }
+    ensures read { result ≡ Err ToolFault.Read
+        → Moves R.remaining reader.old reader.new W.contents writer.old writer.new (ListsDecided (listing_lines listing)) }
     ensures reader { CountsReadFault result reader.old reader.new }
-    ensures write { result ≡ Err ToolFault.Write → Moves R.remaining reader.old reader.new W.contents writer.old writer.new (ListsPart (listing_lines listing)) }
+    ensures write { result ≡ Err ToolFault.Write
+        → Moves R.remaining reader.old reader.new W.contents writer.old writer.new (ListsPart (listing_lines listing)) }
     ensures writer { CountsWriteFault result writer.old writer.new }
-    ensures too_long { result ≡ Err (ToolFault.Scan ScanFault.TooLong) → Moves R.remaining reader.old reader.new W.contents writer.old writer.new (ListsToLimit limit (listing_lines listing)) }
-    ensures memory { result ≡ Err (ToolFault.Scan ScanFault.Memory) → IsUntouched reader.old reader.new writer.old writer.new }
+    ensures too_long { result ≡ Err too_long
+        → Moves R.remaining reader.old reader.new W.contents writer.old writer.new (ListsToLimit limit (listing_lines listing)) }
+    ensures memory { result ≡ Err no_memory → IsUntouched reader.old reader.new writer.old writer.new }
     ensures only { IfErr result IsListFault }
 {
     let mut framer = match Framer::new(alloc, limit) {
@@ -121,12 +122,15 @@ fn list_frames<R: Read, W: Write>(
     requires within { framer.old.taken ≤ framer.old.limit }
     requires new { HasFramed framer.old [] [] × IsDrained framer.old [] [] }
     ensures whole { OnOk result (Moves R.remaining reader.old reader.new W.contents writer.old writer.new (ListsAll (listing_lines listing))) }
-    ensures read { result ≡ Err ToolFault.Read → Moves R.remaining reader.old reader.new W.contents writer.old writer.new (ListsDecided (listing_lines listing)) }
+    ensures read { result ≡ Err ToolFault.Read
+        → Moves R.remaining reader.old reader.new W.contents writer.old writer.new (ListsDecided (listing_lines listing)) }
     ensures reader { CountsReadFault result reader.old reader.new }
-    ensures write { result ≡ Err ToolFault.Write → Moves R.remaining reader.old reader.new W.contents writer.old writer.new (ListsPart (listing_lines listing)) }
+    ensures write { result ≡ Err ToolFault.Write
+        → Moves R.remaining reader.old reader.new W.contents writer.old writer.new (ListsPart (listing_lines listing)) }
     ensures writer { CountsWriteFault result writer.old writer.new }
-    ensures too_long { result ≡ Err (ToolFault.Scan ScanFault.TooLong) → Moves R.remaining reader.old reader.new W.contents writer.old writer.new (ListsToLimit framer.old.limit (listing_lines listing)) }
-    ensures only { IfErr result (λ fault. (fault ≡ ToolFault.Read) ⊎ (fault ≡ ToolFault.Write) ⊎ (fault ≡ ToolFault.Scan ScanFault.TooLong)) }
+    ensures too_long { result ≡ Err too_long
+        → Moves R.remaining reader.old reader.new W.contents writer.old writer.new (ListsToLimit framer.old.limit (listing_lines listing)) }
+    ensures only { IfErr result IsListingFault }
 {
     let mut piece = [0; PIECE_BYTES];
     loop {
@@ -149,20 +153,23 @@ fn list_next<R: Read, W: Write>(
     requires room { 0 < length piece.old }
     requires going { framer.old.has_ended ≡ false }
     requires within { framer.old.taken ≤ framer.old.limit }
-    ensures listed { OnOk result ((r w : Option (List ℕ)) → IsListed (listing_lines listing) r (R.remaining reader.old.inner) w (W.contents writer.old.inner) framer.old
-        → IsListed (listing_lines listing) r (R.remaining reader.new.inner) w (W.contents writer.new.inner) framer.new) }
+    ensures listed { OnOk result (Moves R.remaining reader.old reader.new W.contents writer.old writer.new
+        (ListsOn (listing_lines listing) framer.old framer.new)) }
     ensures end { result ≡ Ok 0 → (framer.new.has_ended ≡ true) × IsAtEnd (R.remaining reader.new.inner) }
     ensures more { IfOk result (λ n. n ≢ 0 → framer.new.has_ended ≡ false) }
     ensures taken { IfOk result (λ n. framer.new.taken ≡ framer.old.taken + n) }
-    ensures read { result ≡ Err ToolFault.Read → (r w : Option (List ℕ)) → IsListed (listing_lines listing) r (R.remaining reader.old.inner) w (W.contents writer.old.inner) framer.old
-        → ListsDecided (listing_lines listing) r (R.remaining reader.new.inner) w (W.contents writer.new.inner) }
+    ensures read { result ≡ Err ToolFault.Read
+        → Moves R.remaining reader.old reader.new W.contents writer.old writer.new
+        (AfterListing (listing_lines listing) framer.old (ListsDecided (listing_lines listing))) }
     ensures reader { CountsReadFault result reader.old reader.new }
-    ensures write { result ≡ Err ToolFault.Write → (r w : Option (List ℕ)) → IsListed (listing_lines listing) r (R.remaining reader.old.inner) w (W.contents writer.old.inner) framer.old
-        → ListsPart (listing_lines listing) r (R.remaining reader.new.inner) w (W.contents writer.new.inner) }
+    ensures write { result ≡ Err ToolFault.Write
+        → Moves R.remaining reader.old reader.new W.contents writer.old writer.new
+        (AfterListing (listing_lines listing) framer.old (ListsPart (listing_lines listing))) }
     ensures writer { CountsWriteFault result writer.old writer.new }
-    ensures too_long { result ≡ Err (ToolFault.Scan ScanFault.TooLong) → (r w : Option (List ℕ)) → IsListed (listing_lines listing) r (R.remaining reader.old.inner) w (W.contents writer.old.inner) framer.old
-        → ListsToLimit framer.old.limit (listing_lines listing) r (R.remaining reader.new.inner) w (W.contents writer.new.inner) }
-    ensures only { IfErr result (λ fault. (fault ≡ ToolFault.Read) ⊎ (fault ≡ ToolFault.Write) ⊎ (fault ≡ ToolFault.Scan ScanFault.TooLong)) }
+    ensures too_long { result ≡ Err too_long
+        → Moves R.remaining reader.old reader.new W.contents writer.old writer.new
+        (AfterListing (listing_lines listing) framer.old (ListsToLimit framer.old.limit (listing_lines listing))) }
+    ensures only { IfErr result IsListingFault }
     ensures limit { framer.new.limit ≡ framer.old.limit }
     ensures within { OnOk result (framer.new.taken ≤ framer.old.limit) }
     ensures size { length piece.new ≡ length piece.old }
@@ -191,10 +198,9 @@ fn list_piece<W: Write>(
 ) -> Result<Option<ScanFault>, DeviceFailed>
     requires going { framer.old.has_ended ≡ true → length piece.now ≡ 0 }
     requires within { framer.old.taken ≤ framer.old.limit }
-    ensures listed { OnOk result ((w : Option (List ℕ)) (b : List ℕ) (fs : List Framed) → ListsFrames (listing_lines listing) w (W.contents writer.old.inner) framer.old b fs
-        → ListsKnown (listing_lines listing) w (W.contents writer.new.inner) framer.new (b ++ up_to_limit framer.old piece.now)) }
-    ensures part { OnErr result ((w : Option (List ℕ)) (b : List ℕ) (fs : List Framed) → ListsFrames (listing_lines listing) w (W.contents writer.old.inner) framer.old b fs
-        → AppendsPrefix w (W.contents writer.new.inner) (listing_lines listing (known_frames framer.old.has_ended (b ++ piece.now)))) }
+    ensures listed { OnOk result (Writes W.contents writer.old writer.new
+        (ListsNext (listing_lines listing) framer.old framer.new (up_to_limit framer.old piece.now))) }
+    ensures part { OnErr result (Writes W.contents writer.old writer.new (ListsNextPart (listing_lines listing) framer.old piece.now)) }
     ensures device { FailsWith result writer.old writer.new }
     ensures refusal { IfOk result (λ refusal. IsRefusal framer.old (length piece.now) refusal) }
     ensures taken { result ≡ Ok None → framer.new.taken ≡ framer.old.taken + length piece.now }
@@ -222,10 +228,9 @@ fn take_piece<W: Write>(
 ) -> Result<Option<ScanFault>, DeviceFailed>
     requires going { framer.old.has_ended ≡ true → length piece.now ≡ 0 }
     requires within { framer.old.taken ≤ framer.old.limit }
-    ensures listed { OnOk result ((w : Option (List ℕ)) (b : List ℕ) (fs : List Framed) → ListsFrames (listing_lines listing) w (W.contents writer.old.inner) framer.old b fs
-        → ListsKnown (listing_lines listing) w (W.contents writer.new.inner) framer.new (b ++ up_to_limit framer.old piece.now)) }
-    ensures part { OnErr result ((w : Option (List ℕ)) (b : List ℕ) (fs : List Framed) → ListsFrames (listing_lines listing) w (W.contents writer.old.inner) framer.old b fs
-        → AppendsPrefix w (W.contents writer.new.inner) (listing_lines listing (known_frames framer.old.has_ended (b ++ piece.now)))) }
+    ensures listed { OnOk result (Writes W.contents writer.old writer.new
+        (ListsNext (listing_lines listing) framer.old framer.new (up_to_limit framer.old piece.now))) }
+    ensures part { OnErr result (Writes W.contents writer.old writer.new (ListsNextPart (listing_lines listing) framer.old piece.now)) }
     ensures device { FailsWith result writer.old writer.new }
     ensures refusal { IfOk result (λ refusal. IsRefusal framer.old (length piece.now) refusal) }
     ensures taken { result ≡ Ok None → framer.new.taken ≡ framer.old.taken + length piece.now }
@@ -259,10 +264,8 @@ fn list_decided<W: Write>(
     framer: &mut Framer,
     writer: &mut Counted<W>,
 ) -> Result<(), DeviceFailed>
-    ensures listed { OnOk result ((w : Option (List ℕ)) (b : List ℕ) (fs : List Framed) → ListsFrames (listing_lines listing) w (W.contents writer.old.inner) framer.old b fs
-        → ListsKnown (listing_lines listing) w (W.contents writer.new.inner) framer.new b) }
-    ensures part { OnErr result ((w : Option (List ℕ)) (b : List ℕ) (fs : List Framed) → ListsFrames (listing_lines listing) w (W.contents writer.old.inner) framer.old b fs
-        → AppendsPrefix w (W.contents writer.new.inner) (listing_lines listing (known_frames framer.old.has_ended b))) }
+    ensures listed { OnOk result (Writes W.contents writer.old writer.new (ListsHeld (listing_lines listing) framer.old framer.new)) }
+    ensures part { OnErr result (Writes W.contents writer.old writer.new (ListsHeldPart (listing_lines listing) framer.old)) }
     ensures device { FailsWith result writer.old writer.new }
     ensures ready { OnOk result (framer.new.is_ready ≡ true) }
     ensures limit { framer.new.limit ≡ framer.old.limit }

@@ -5,11 +5,14 @@ ghost use Rattle.rtcm_bits.specs.Device.{FailsWith, AppendsPrefix};
 ghost use Rattle.gnss_obs.specs.Signals.{table, code_of};
 ghost use Rattle.gnss_obs.specs.declared.system.System.TheVariants.{Gps, Galileo};
 ghost use Rattle.obs_epoch.specs.declared.seen.Seen.{Seen};
-ghost use Rattle.rtcm2rinex.specs.Listing.{IsUntouched};
-ghost use Rattle.rtcm2rinex.specs.Signals.{had, codes_word, options_line, plan_had, count_line, count_lines, letter, signals_text, signal_in, TellsSignals, TellsPart, HasNoSignal, ReadsTooMuch, IsSignalsFault};
+ghost use Rattle.rtcm2rinex.specs.Signals.{had, codes_word, options_line, plan_had, count_line, count_lines, letter};
+ghost use Rattle.rtcm2rinex.specs.Signals.{signals_text, signal_in, TellsSignals, TellsPart, HasNoSignal};
+ghost use Rattle.rtcm2rinex.specs.Signals.{ReadsTooMuch, IsSignalsFault};
+ghost use Rattle.rtcm_convert.specs.Faults.{IsUntouched};
 ghost use Rattle.rtcm2rinex.specs.Devices.{CountsReadFault, CountsWriteFault};
-ghost use Rattle.rtcm2rinex.specs.Census.{IsCensus};
-ghost use Rattle.rtcm2rinex.specs.Moves.{Moves};
+ghost use Rattle.rtcm2rinex.specs.Census.{IsCensus, TellsCensus, TellsCensusPart};
+ghost use Rattle.rtcm2rinex.specs.Listing.{no_memory, too_long};
+ghost use Rattle.rtcm2rinex.specs.Moves.{Moves, Writes};
 
 use crate::census::{Census, SignalsForm};
 use crate::fault::ToolFault;
@@ -18,7 +21,7 @@ use crate::survey::survey;
 use arrayvec::ArrayVec;
 use gnss_obs::{Signal, System};
 use rtcm_bits::{Counted, DeviceFailed};
-use rtcm_scan::{MOST_BYTES, ScanFault};
+use rtcm_scan::MOST_BYTES;
 use std::alloc::Global;
 use std::io::{Read, Write};
 
@@ -41,8 +44,8 @@ pub fn run_signals<R: Read, W: Write>(
     ensures reader { CountsReadFault result reader.old reader.new }
 
     // The stream has more than 2^48 bytes.
-    ensures too_long { result ≡ Err (ToolFault.Scan ScanFault.TooLong) → ReadsTooMuch (2 ^ 48) (R.remaining reader.old.inner) (R.remaining reader.new.inner) }
-    ensures memory { result ≡ Err (ToolFault.Scan ScanFault.Memory) → IsUntouched reader.old reader.new writer.old writer.new }
+    ensures too_long { result ≡ Err too_long → ReadsTooMuch (2 ^ 48) (R.remaining reader.old.inner) (R.remaining reader.new.inner) }
+    ensures memory { result ≡ Err no_memory → IsUntouched reader.old reader.new writer.old writer.new }
 
     // The writer failed: what it took is a prefix of the text. At every other fault nothing was written.
     ensures write { result ≡ Err ToolFault.Write → Moves R.remaining reader.old reader.new W.contents writer.old writer.new (TellsPart form station) }
@@ -69,8 +72,8 @@ fn tell_signals<W: Write>(
     census: &Census,
     writer: &mut Counted<W>,
 ) -> Result<(), DeviceFailed>
-    ensures whole { OnOk result ((cells : List Seen) → IsCensus census.now cells → Appends (W.contents writer.old.inner) (W.contents writer.new.inner) (signals_text form cells)) }
-    ensures part { OnErr result ((cells : List Seen) → IsCensus census.now cells → AppendsPrefix (W.contents writer.old.inner) (W.contents writer.new.inner) (signals_text form cells)) }
+    ensures whole { OnOk result (Writes W.contents writer.old writer.new (TellsCensus form census.now)) }
+    ensures part { OnErr result (Writes W.contents writer.old writer.new (TellsCensusPart form census.now)) }
     ensures device { FailsWith result writer.old writer.new }
 {
     match form {

@@ -1,10 +1,12 @@
 //! A stream is read to its end, and its cells with a value are counted.
-ghost use Rattle.std.specs.Prelude.{◌≡◌, ◌≢◌, ◌+◌, ◌≤◌, ◌<◌, ◌^◌, ◌++◌, ◌∷◌, ◌⊎◌, [], List, ℕ, Option, None, Ok, Err, true, false, length, IfOk, IfErr, OnOk};
+ghost use Rattle.std.specs.Prelude.{◌≡◌, ◌≢◌, ◌+◌, ◌≤◌, ◌<◌, ◌^◌, ◌++◌, ◌∷◌, ◌⊎◌, [], List, ℕ, Option, None, Ok, Err};
+ghost use Rattle.std.specs.Prelude.{true, false, length, IfOk, IfErr, OnOk};
 ghost use Rattle.std.specs.Io.KnownBytes.{IsAtEnd};
 ghost use Rattle.rtcm_scan.specs.Frames.{Framed};
 ghost use Rattle.rtcm_scan.specs.Answers.{framed};
 ghost use Rattle.rtcm_scan.specs.Drained.{IsDrained};
 ghost use Rattle.rtcm_scan.specs.Scan.{HasFramed};
+ghost use Rattle.rtcm2rinex.specs.Listing.{IsSurveyFault, IsSurveyingFault, no_memory, too_long};
 ghost use Rattle.rtcm2rinex.specs.Listed.{IsRefusal, up_to_limit};
 ghost use Rattle.rtcm2rinex.specs.Signals.{ReadsTooMuch};
 ghost use Rattle.rtcm2rinex.specs.Devices.{CountsReadFault};
@@ -32,9 +34,9 @@ pub fn survey<R: Read>(
     requires { limit ≤ 2 ^ 48 }
     ensures whole { IfOk result (λ census. HasSurveyed census station (R.remaining reader.old.inner) (R.remaining reader.new.inner)) }
     ensures reader { CountsReadFault result reader.old reader.new }
-    ensures too_long { result ≡ Err (ToolFault.Scan ScanFault.TooLong) → ReadsTooMuch limit (R.remaining reader.old.inner) (R.remaining reader.new.inner) }
-    ensures memory { result ≡ Err (ToolFault.Scan ScanFault.Memory) → reader.new ≡ reader.old }
-    ensures only { IfErr result (λ fault. (fault ≡ ToolFault.Read) ⊎ (fault ≡ ToolFault.Scan ScanFault.TooLong) ⊎ (fault ≡ ToolFault.Scan ScanFault.Memory)) }
+    ensures too_long { result ≡ Err too_long → ReadsTooMuch limit (R.remaining reader.old.inner) (R.remaining reader.new.inner) }
+    ensures memory { result ≡ Err no_memory → reader.new ≡ reader.old }
+    ensures only { IfErr result IsSurveyFault }
 {
     let mut framer = match Framer::new(alloc, limit) {
         Ok(framer) => framer,
@@ -61,8 +63,8 @@ fn count_stream<R: Read>(
     requires none { IsCensus census.old [] }
     ensures whole { OnOk result (HasSurveyed census.new station (R.remaining reader.old.inner) (R.remaining reader.new.inner)) }
     ensures reader { CountsReadFault result reader.old reader.new }
-    ensures too_long { result ≡ Err (ToolFault.Scan ScanFault.TooLong) → ReadsTooMuch framer.old.limit (R.remaining reader.old.inner) (R.remaining reader.new.inner) }
-    ensures only { IfErr result (λ fault. (fault ≡ ToolFault.Read) ⊎ (fault ≡ ToolFault.Scan ScanFault.TooLong)) }
+    ensures too_long { result ≡ Err too_long → ReadsTooMuch framer.old.limit (R.remaining reader.old.inner) (R.remaining reader.new.inner) }
+    ensures only { IfErr result IsSurveyingFault }
 {
     let mut piece = [0; PIECE_BYTES];
     loop {
@@ -91,9 +93,9 @@ fn count_next<R: Read>(
     ensures more { IfOk result (λ n. n ≢ 0 → framer.new.has_ended ≡ false) }
     ensures taken { IfOk result (λ n. framer.new.taken ≡ framer.old.taken + n) }
     ensures reader { CountsReadFault result reader.old reader.new }
-    ensures too_long { result ≡ Err (ToolFault.Scan ScanFault.TooLong) → (r : Option (List ℕ)) → HasCounted census.old station r (R.remaining reader.old.inner) framer.old
+    ensures too_long { result ≡ Err too_long → (r : Option (List ℕ)) → HasCounted census.old station r (R.remaining reader.old.inner) framer.old
         → ReadsTooMuch framer.old.limit r (R.remaining reader.new.inner) }
-    ensures only { IfErr result (λ fault. (fault ≡ ToolFault.Read) ⊎ (fault ≡ ToolFault.Scan ScanFault.TooLong)) }
+    ensures only { IfErr result IsSurveyingFault }
     ensures limit { framer.new.limit ≡ framer.old.limit }
     ensures within { OnOk result (framer.new.taken ≤ framer.old.limit) }
     ensures size { length piece.new ≡ length piece.old }
