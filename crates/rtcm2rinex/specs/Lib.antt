@@ -8,6 +8,7 @@ pub mod Listed
 pub mod SetupTold
 pub mod CommandLine
 pub mod Moves
+pub mod Devices
 pub mod Converting
 pub mod ReadBack
 pub mod Checking

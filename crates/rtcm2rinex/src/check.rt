@@ -1,7 +1,7 @@
 //! The command `check`: whether the input is a file as `convert` writes it, and how much it holds.
 ghost use Rattle.std.specs.Prelude.{◌≡◌, ◌≤◌, Err, OnOk, OnErr, IfErr, IfSome, length};
 ghost use Rattle.std.specs.Io.KnownBytes.{Appends};
-ghost use Rattle.rtcm_bits.specs.Device.{HasFailed, AppendsPrefix};
+ghost use Rattle.rtcm_bits.specs.Device.{HasFailed, FailsWith, AppendsPrefix};
 ghost use Rattle.rinex_file.specs.declared.read.fault.ReadFault.{ReadFault};
 ghost use Rattle.rinex_file.specs.Value.{FileValue};
 ghost use Rattle.rinex_file.specs.FileValues.{IsFileValue};
@@ -68,7 +68,7 @@ pub fn run_check<R: Read, W: Write>(
 fn write_line<W: Write>(line: &Line, writer: &mut Counted<W>) -> Result<(), DeviceFailed>
     ensures whole { OnOk result (Appends (W.contents writer.old.inner) (W.contents writer.new.inner) line.now) }
     ensures part { OnErr result (AppendsPrefix (W.contents writer.old.inner) (W.contents writer.new.inner) line.now) }
-    ensures failed { OnErr result (HasFailed writer.old.failures writer.new.failures) }
+    ensures device { FailsWith result writer.old writer.new }
 {
     writer.write_whole(line.as_bytes())?;
     writer.flush_whole()

@@ -1,6 +1,6 @@
 //! A stream is read to its end, and a line is written for each of its frames as it is decided.
 ghost use Rattle.std.specs.Prelude.{◌≡◌, ◌≢◌, ◌+◌, ◌-◌, ◌≤◌, ◌<◌, ◌^◌, ◌++◌, ◌⊎◌, [], List, ℕ, Option, length, take, true, false, IfSome, None, Ok, Err, IfOk, OnOk, OnErr, IfErr};
-ghost use Rattle.rtcm_bits.specs.Device.{HasFailed, AppendsPrefix};
+ghost use Rattle.rtcm_bits.specs.Device.{FailsWith, AppendsPrefix};
 ghost use Rattle.rtcm_scan.specs.Frames.{Framed, frames_of};
 ghost use Rattle.rtcm_scan.specs.Decided.{decided_frames};
 ghost use Rattle.rtcm_scan.specs.Drained.{IsDrained};
@@ -13,6 +13,7 @@ ghost use Rattle.rtcm2rinex.specs.ShowLines.{show_lines};
 ghost use Rattle.rtcm2rinex.specs.Listing.{ListsAll, ListsDecided, ListsToLimit, ListsPart, IsListFault, IsUntouched};
 ghost use Rattle.rtcm2rinex.specs.Listed.{ListsFrames, ListsKnown, IsListed, IsRefusal, up_to_limit};
 ghost use Rattle.rtcm2rinex.specs.Kinds.{listing_line, listing_lines};
+ghost use Rattle.rtcm2rinex.specs.Devices.{CountsReadFault, CountsWriteFault};
 ghost use Rattle.rtcm2rinex.specs.Moves.{Moves};
 
 use crate::fault::ToolFault;
@@ -45,11 +46,11 @@ pub fn run_frames<R: Read, W: Write>(
 
     // The reader failed: what the bytes before decide was written.
     ensures read { result ≡ Err ToolFault.Read → Moves R.remaining reader.old reader.new W.contents writer.old writer.new (ListsDecided frame_lines) }
-    ensures read_failed { result ≡ Err ToolFault.Read → HasFailed reader.old.failures reader.new.failures }
+    ensures reader { CountsReadFault result reader.old reader.new }
 
     // The writer failed: what it took is a prefix of the lines.
     ensures write { result ≡ Err ToolFault.Write → Moves R.remaining reader.old reader.new W.contents writer.old writer.new (ListsPart frame_lines) }
-    ensures write_failed { result ≡ Err ToolFault.Write → HasFailed writer.old.failures writer.new.failures }
+    ensures writer { CountsWriteFault result writer.old writer.new }
 
     // A stream of more than 2^48 bytes: what the first 2^48 decide was written.
     ensures too_long { result ≡ Err (ToolFault.Scan ScanFault.TooLong) → Moves R.remaining reader.old reader.new W.contents writer.old writer.new (ListsToLimit (2 ^ 48) frame_lines) }
@@ -69,11 +70,11 @@ pub fn run_show<R: Read, W: Write>(
 
     // The reader failed: what the bytes before decide was written.
     ensures read { result ≡ Err ToolFault.Read → Moves R.remaining reader.old reader.new W.contents writer.old writer.new (ListsDecided show_lines) }
-    ensures read_failed { result ≡ Err ToolFault.Read → HasFailed reader.old.failures reader.new.failures }
+    ensures reader { CountsReadFault result reader.old reader.new }
 
     // The writer failed: what it took is a prefix of the lines.
     ensures write { result ≡ Err ToolFault.Write → Moves R.remaining reader.old reader.new W.contents writer.old writer.new (ListsPart show_lines) }
-    ensures write_failed { result ≡ Err ToolFault.Write → HasFailed writer.old.failures writer.new.failures }
+    ensures writer { CountsWriteFault result writer.old writer.new }
 
     // A stream of more than 2^48 bytes: what the first 2^48 decide was written.
     ensures too_long { result ≡ Err (ToolFault.Scan ScanFault.TooLong) → Moves R.remaining reader.old reader.new W.contents writer.old writer.new (ListsToLimit (2 ^ 48) show_lines) }
@@ -94,9 +95,9 @@ pub fn list<R: Read, W: Write>(
     requires { limit ≤ 2 ^ 48 }
     ensures whole { OnOk result (Moves R.remaining reader.old reader.new W.contents writer.old writer.new (ListsAll (listing_lines listing))) }
     ensures read { result ≡ Err ToolFault.Read → Moves R.remaining reader.old reader.new W.contents writer.old writer.new (ListsDecided (listing_lines listing)) }
-    ensures read_failed { result ≡ Err ToolFault.Read → HasFailed reader.old.failures reader.new.failures }
+    ensures reader { CountsReadFault result reader.old reader.new }
     ensures write { result ≡ Err ToolFault.Write → Moves R.remaining reader.old reader.new W.contents writer.old writer.new (ListsPart (listing_lines listing)) }
-    ensures write_failed { result ≡ Err ToolFault.Write → HasFailed writer.old.failures writer.new.failures }
+    ensures writer { CountsWriteFault result writer.old writer.new }
     ensures too_long { result ≡ Err (ToolFault.Scan ScanFault.TooLong) → Moves R.remaining reader.old reader.new W.contents writer.old writer.new (ListsToLimit limit (listing_lines listing)) }
     ensures memory { result ≡ Err (ToolFault.Scan ScanFault.Memory) → IsUntouched reader.old reader.new writer.old writer.new }
     ensures only { IfErr result IsListFault }
@@ -121,9 +122,9 @@ fn list_frames<R: Read, W: Write>(
     requires new { HasFramed framer.old [] [] × IsDrained framer.old [] [] }
     ensures whole { OnOk result (Moves R.remaining reader.old reader.new W.contents writer.old writer.new (ListsAll (listing_lines listing))) }
     ensures read { result ≡ Err ToolFault.Read → Moves R.remaining reader.old reader.new W.contents writer.old writer.new (ListsDecided (listing_lines listing)) }
-    ensures read_failed { result ≡ Err ToolFault.Read → HasFailed reader.old.failures reader.new.failures }
+    ensures reader { CountsReadFault result reader.old reader.new }
     ensures write { result ≡ Err ToolFault.Write → Moves R.remaining reader.old reader.new W.contents writer.old writer.new (ListsPart (listing_lines listing)) }
-    ensures write_failed { result ≡ Err ToolFault.Write → HasFailed writer.old.failures writer.new.failures }
+    ensures writer { CountsWriteFault result writer.old writer.new }
     ensures too_long { result ≡ Err (ToolFault.Scan ScanFault.TooLong) → Moves R.remaining reader.old reader.new W.contents writer.old writer.new (ListsToLimit framer.old.limit (listing_lines listing)) }
     ensures only { IfErr result (λ fault. (fault ≡ ToolFault.Read) ⊎ (fault ≡ ToolFault.Write) ⊎ (fault ≡ ToolFault.Scan ScanFault.TooLong)) }
 {
@@ -155,16 +156,15 @@ fn list_next<R: Read, W: Write>(
     ensures taken { IfOk result (λ n. framer.new.taken ≡ framer.old.taken + n) }
     ensures read { result ≡ Err ToolFault.Read → (r w : Option (List ℕ)) → IsListed (listing_lines listing) r (R.remaining reader.old.inner) w (W.contents writer.old.inner) framer.old
         → ListsDecided (listing_lines listing) r (R.remaining reader.new.inner) w (W.contents writer.new.inner) }
-    ensures read_failed { result ≡ Err ToolFault.Read → HasFailed reader.old.failures reader.new.failures }
+    ensures reader { CountsReadFault result reader.old reader.new }
     ensures write { result ≡ Err ToolFault.Write → (r w : Option (List ℕ)) → IsListed (listing_lines listing) r (R.remaining reader.old.inner) w (W.contents writer.old.inner) framer.old
         → ListsPart (listing_lines listing) r (R.remaining reader.new.inner) w (W.contents writer.new.inner) }
-    ensures write_failed { result ≡ Err ToolFault.Write → HasFailed writer.old.failures writer.new.failures }
+    ensures writer { CountsWriteFault result writer.old writer.new }
     ensures too_long { result ≡ Err (ToolFault.Scan ScanFault.TooLong) → (r w : Option (List ℕ)) → IsListed (listing_lines listing) r (R.remaining reader.old.inner) w (W.contents writer.old.inner) framer.old
         → ListsToLimit framer.old.limit (listing_lines listing) r (R.remaining reader.new.inner) w (W.contents writer.new.inner) }
     ensures only { IfErr result (λ fault. (fault ≡ ToolFault.Read) ⊎ (fault ≡ ToolFault.Write) ⊎ (fault ≡ ToolFault.Scan ScanFault.TooLong)) }
     ensures limit { framer.new.limit ≡ framer.old.limit }
     ensures within { OnOk result (framer.new.taken ≤ framer.old.limit) }
-    ensures fine { OnOk result ((reader.new.failures ≡ reader.old.failures) × (writer.new.failures ≡ writer.old.failures)) }
     ensures size { length piece.new ≡ length piece.old }
 {
     let n = match reader.read(piece) {
@@ -195,8 +195,7 @@ fn list_piece<W: Write>(
         → ListsKnown (listing_lines listing) w (W.contents writer.new.inner) framer.new (b ++ up_to_limit framer.old piece.now)) }
     ensures part { OnErr result ((w : Option (List ℕ)) (b : List ℕ) (fs : List Framed) → ListsFrames (listing_lines listing) w (W.contents writer.old.inner) framer.old b fs
         → AppendsPrefix w (W.contents writer.new.inner) (listing_lines listing (known_frames framer.old.has_ended (b ++ piece.now)))) }
-    ensures failed { OnErr result (HasFailed writer.old.failures writer.new.failures) }
-    ensures fine { OnOk result (writer.new.failures ≡ writer.old.failures) }
+    ensures device { FailsWith result writer.old writer.new }
     ensures refusal { IfOk result (λ refusal. IsRefusal framer.old (length piece.now) refusal) }
     ensures taken { result ≡ Ok None → framer.new.taken ≡ framer.old.taken + length piece.now }
     ensures limit { framer.new.limit ≡ framer.old.limit }
@@ -227,8 +226,7 @@ fn take_piece<W: Write>(
         → ListsKnown (listing_lines listing) w (W.contents writer.new.inner) framer.new (b ++ up_to_limit framer.old piece.now)) }
     ensures part { OnErr result ((w : Option (List ℕ)) (b : List ℕ) (fs : List Framed) → ListsFrames (listing_lines listing) w (W.contents writer.old.inner) framer.old b fs
         → AppendsPrefix w (W.contents writer.new.inner) (listing_lines listing (known_frames framer.old.has_ended (b ++ piece.now)))) }
-    ensures failed { OnErr result (HasFailed writer.old.failures writer.new.failures) }
-    ensures fine { OnOk result (writer.new.failures ≡ writer.old.failures) }
+    ensures device { FailsWith result writer.old writer.new }
     ensures refusal { IfOk result (λ refusal. IsRefusal framer.old (length piece.now) refusal) }
     ensures taken { result ≡ Ok None → framer.new.taken ≡ framer.old.taken + length piece.now }
     ensures limit { framer.new.limit ≡ framer.old.limit }
@@ -265,8 +263,7 @@ fn list_decided<W: Write>(
         → ListsKnown (listing_lines listing) w (W.contents writer.new.inner) framer.new b) }
     ensures part { OnErr result ((w : Option (List ℕ)) (b : List ℕ) (fs : List Framed) → ListsFrames (listing_lines listing) w (W.contents writer.old.inner) framer.old b fs
         → AppendsPrefix w (W.contents writer.new.inner) (listing_lines listing (known_frames framer.old.has_ended b))) }
-    ensures failed { OnErr result (HasFailed writer.old.failures writer.new.failures) }
-    ensures fine { OnOk result (writer.new.failures ≡ writer.old.failures) }
+    ensures device { FailsWith result writer.old writer.new }
     ensures ready { OnOk result (framer.new.is_ready ≡ true) }
     ensures limit { framer.new.limit ≡ framer.old.limit }
     ensures taken { framer.new.taken ≡ framer.old.taken }
@@ -294,8 +291,7 @@ fn write_line<W: Write>(
 ) -> Result<(), DeviceFailed>
     ensures whole { OnOk result (Appends (W.contents writer.old.inner) (W.contents writer.new.inner) (listing_line listing (framed frame.now))) }
     ensures part { OnErr result (AppendsPrefix (W.contents writer.old.inner) (W.contents writer.new.inner) (listing_line listing (framed frame.now))) }
-    ensures failed { OnErr result (HasFailed writer.old.failures writer.new.failures) }
-    ensures fine { OnOk result (writer.new.failures ≡ writer.old.failures) }
+    ensures device { FailsWith result writer.old writer.new }
 {
     match listing {
         Listing::Frames => writer.write_whole(frame_line(frame).as_bytes()),

@@ -1,12 +1,13 @@
 //! The command `signals`: which signals a stream has.
 ghost use Rattle.std.specs.Prelude.{◌≡◌, ◌+◌, ◌≤◌, ◌<◌, ◌^◌, ◌++◌, ◌⊎◌, List, Err, OnOk, OnErr, IfErr, length, ◌*◌, ◌∷◌};
 ghost use Rattle.std.specs.Io.KnownBytes.{Appends};
-ghost use Rattle.rtcm_bits.specs.Device.{HasFailed, AppendsPrefix};
+ghost use Rattle.rtcm_bits.specs.Device.{FailsWith, AppendsPrefix};
 ghost use Rattle.gnss_obs.specs.Signals.{table, code_of};
 ghost use Rattle.gnss_obs.specs.declared.system.System.TheVariants.{Gps, Galileo};
 ghost use Rattle.obs_epoch.specs.declared.seen.Seen.{Seen};
 ghost use Rattle.rtcm2rinex.specs.Listing.{IsUntouched};
 ghost use Rattle.rtcm2rinex.specs.Signals.{had, codes_word, options_line, plan_had, count_line, count_lines, letter, signals_text, signal_in, TellsSignals, TellsPart, HasNoSignal, ReadsTooMuch, IsSignalsFault};
+ghost use Rattle.rtcm2rinex.specs.Devices.{CountsReadFault, CountsWriteFault};
 ghost use Rattle.rtcm2rinex.specs.Census.{IsCensus};
 ghost use Rattle.rtcm2rinex.specs.Moves.{Moves};
 
@@ -37,7 +38,7 @@ pub fn run_signals<R: Read, W: Write>(
 
     // No cell of the stream has a value.
     ensures none { result ≡ Err ToolFault.NoSignal → HasNoSignal station (R.remaining reader.old.inner) (R.remaining reader.new.inner) }
-    ensures read_failed { result ≡ Err ToolFault.Read → HasFailed reader.old.failures reader.new.failures }
+    ensures reader { CountsReadFault result reader.old reader.new }
 
     // The stream has more than 2^48 bytes.
     ensures too_long { result ≡ Err (ToolFault.Scan ScanFault.TooLong) → ReadsTooMuch (2 ^ 48) (R.remaining reader.old.inner) (R.remaining reader.new.inner) }
@@ -45,7 +46,7 @@ pub fn run_signals<R: Read, W: Write>(
 
     // The writer failed: what it took is a prefix of the text. At every other fault nothing was written.
     ensures write { result ≡ Err ToolFault.Write → Moves R.remaining reader.old reader.new W.contents writer.old writer.new (TellsPart form station) }
-    ensures write_failed { result ≡ Err ToolFault.Write → HasFailed writer.old.failures writer.new.failures }
+    ensures writer { CountsWriteFault result writer.old writer.new }
     ensures unwritten { IfErr result (λ fault. (fault ≡ ToolFault.Write) ⊎ (writer.new ≡ writer.old)) }
     ensures only { IfErr result IsSignalsFault }
 {
@@ -70,7 +71,7 @@ fn tell_signals<W: Write>(
 ) -> Result<(), DeviceFailed>
     ensures whole { OnOk result ((cells : List Seen) → IsCensus census.now cells → Appends (W.contents writer.old.inner) (W.contents writer.new.inner) (signals_text form cells)) }
     ensures part { OnErr result ((cells : List Seen) → IsCensus census.now cells → AppendsPrefix (W.contents writer.old.inner) (W.contents writer.new.inner) (signals_text form cells)) }
-    ensures failed { OnErr result (HasFailed writer.old.failures writer.new.failures) }
+    ensures device { FailsWith result writer.old writer.new }
 {
     match form {
         SignalsForm::Options => send(options_line(census).as_bytes(), writer),
@@ -82,7 +83,7 @@ fn tell_signals<W: Write>(
 pub fn send<W: Write>(text: &[u8], writer: &mut Counted<W>) -> Result<(), DeviceFailed>
     ensures whole { OnOk result (Appends (W.contents writer.old.inner) (W.contents writer.new.inner) text.now) }
     ensures part { OnErr result (AppendsPrefix (W.contents writer.old.inner) (W.contents writer.new.inner) text.now) }
-    ensures failed { OnErr result (HasFailed writer.old.failures writer.new.failures) }
+    ensures device { FailsWith result writer.old writer.new }
 {
     match writer.write_whole(text) {
         Ok(()) => writer.flush_whole(),

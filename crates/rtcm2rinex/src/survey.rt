@@ -1,13 +1,13 @@
 //! A stream is read to its end, and its cells with a value are counted.
 ghost use Rattle.std.specs.Prelude.{◌≡◌, ◌≢◌, ◌+◌, ◌≤◌, ◌<◌, ◌^◌, ◌++◌, ◌∷◌, ◌⊎◌, [], List, ℕ, Option, None, Ok, Err, true, false, length, IfOk, IfErr, OnOk};
 ghost use Rattle.std.specs.Io.KnownBytes.{IsAtEnd};
-ghost use Rattle.rtcm_bits.specs.Device.{HasFailed};
 ghost use Rattle.rtcm_scan.specs.Frames.{Framed};
 ghost use Rattle.rtcm_scan.specs.Answers.{framed};
 ghost use Rattle.rtcm_scan.specs.Drained.{IsDrained};
 ghost use Rattle.rtcm_scan.specs.Scan.{HasFramed};
 ghost use Rattle.rtcm2rinex.specs.Listed.{IsRefusal, up_to_limit};
 ghost use Rattle.rtcm2rinex.specs.Signals.{ReadsTooMuch};
+ghost use Rattle.rtcm2rinex.specs.Devices.{CountsReadFault};
 ghost use Rattle.rtcm2rinex.specs.Census.{IsCensus, SurveysFrames, HasSurveyed, CountsCells, CountsKnownCells, HasCounted};
 
 use crate::census::Census;
@@ -31,7 +31,7 @@ pub fn survey<R: Read>(
 ) -> Result<Census, ToolFault>
     requires { limit ≤ 2 ^ 48 }
     ensures whole { IfOk result (λ census. HasSurveyed census station (R.remaining reader.old.inner) (R.remaining reader.new.inner)) }
-    ensures read_failed { result ≡ Err ToolFault.Read → HasFailed reader.old.failures reader.new.failures }
+    ensures reader { CountsReadFault result reader.old reader.new }
     ensures too_long { result ≡ Err (ToolFault.Scan ScanFault.TooLong) → ReadsTooMuch limit (R.remaining reader.old.inner) (R.remaining reader.new.inner) }
     ensures memory { result ≡ Err (ToolFault.Scan ScanFault.Memory) → reader.new ≡ reader.old }
     ensures only { IfErr result (λ fault. (fault ≡ ToolFault.Read) ⊎ (fault ≡ ToolFault.Scan ScanFault.TooLong) ⊎ (fault ≡ ToolFault.Scan ScanFault.Memory)) }
@@ -60,7 +60,7 @@ fn count_stream<R: Read>(
     requires new { HasFramed framer.old [] [] × IsDrained framer.old [] [] }
     requires none { IsCensus census.old [] }
     ensures whole { OnOk result (HasSurveyed census.new station (R.remaining reader.old.inner) (R.remaining reader.new.inner)) }
-    ensures read_failed { result ≡ Err ToolFault.Read → HasFailed reader.old.failures reader.new.failures }
+    ensures reader { CountsReadFault result reader.old reader.new }
     ensures too_long { result ≡ Err (ToolFault.Scan ScanFault.TooLong) → ReadsTooMuch framer.old.limit (R.remaining reader.old.inner) (R.remaining reader.new.inner) }
     ensures only { IfErr result (λ fault. (fault ≡ ToolFault.Read) ⊎ (fault ≡ ToolFault.Scan ScanFault.TooLong)) }
 {
@@ -90,13 +90,12 @@ fn count_next<R: Read>(
     ensures end { result ≡ Ok 0 → (framer.new.has_ended ≡ true) × IsAtEnd (R.remaining reader.new.inner) }
     ensures more { IfOk result (λ n. n ≢ 0 → framer.new.has_ended ≡ false) }
     ensures taken { IfOk result (λ n. framer.new.taken ≡ framer.old.taken + n) }
-    ensures read_failed { result ≡ Err ToolFault.Read → HasFailed reader.old.failures reader.new.failures }
+    ensures reader { CountsReadFault result reader.old reader.new }
     ensures too_long { result ≡ Err (ToolFault.Scan ScanFault.TooLong) → (r : Option (List ℕ)) → HasCounted census.old station r (R.remaining reader.old.inner) framer.old
         → ReadsTooMuch framer.old.limit r (R.remaining reader.new.inner) }
     ensures only { IfErr result (λ fault. (fault ≡ ToolFault.Read) ⊎ (fault ≡ ToolFault.Scan ScanFault.TooLong)) }
     ensures limit { framer.new.limit ≡ framer.old.limit }
     ensures within { OnOk result (framer.new.taken ≤ framer.old.limit) }
-    ensures fine { OnOk result (reader.new.failures ≡ reader.old.failures) }
     ensures size { length piece.new ≡ length piece.old }
 {
     let n = match reader.read(piece) {

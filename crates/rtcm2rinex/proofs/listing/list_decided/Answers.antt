@@ -16,7 +16,8 @@ loop-offset-preserved g c =
       limit = c.in-Some.ensures.limit ∙ kept.limit;
       taken = c.in-Some.ensures.taken ∙ kept.taken;
       ended = c.in-Some.ensures.ended ∙ kept.ended;
-      fine = c.in-Ok.ensures.fine ∙ kept.fine;
+      fine = c.in-Ok.ensures.device.1 ∙ kept.fine;
+      widest = c.in-Ok.ensures.device.2 ∙ kept.widest;
     }
 
 pub returns-in-Err-clause-part : goal.returns-in-Err-clause-part

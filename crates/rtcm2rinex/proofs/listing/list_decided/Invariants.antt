@@ -14,6 +14,7 @@ invariant-loop-offset g l =
       taken : l.framer.taken ≡ l.fn.framer.taken;
       ended : l.framer.has_ended ≡ l.fn.framer.has_ended;
       fine : l.writer.failures ≡ l.fn.writer.failures;
+      widest : l.writer.widest ≡ l.fn.writer.widest;
     }
 
 abbrev pub decreases-loop-offset : goal.decreases-loop-offset

@@ -53,7 +53,8 @@ loop-taken-preserved g c =
       within = omega (arith, end.taken, c.in_default-push_all.ensures.within, same.0, kept.limit);
       limit = end.limit ∙ same.0 ∙ kept.limit;
       ended = end.ended ∙ same.1 ∙ kept.ended;
-      fine = end.fine ∙ kept.fine;
+      fine = end.device.1 ∙ kept.fine;
+      widest = end.device.2 ∙ kept.widest;
     }
 
 pub returns-clause-listed : goal.returns-clause-listed
@@ -79,7 +80,8 @@ loop-taken-init g c =
       within = omega (arith, d.taken, c.requires.within);
       limit = d.limit;
       ended = d.ended;
-      fine = d.fine;
+      fine = d.device.1;
+      widest = d.device.2;
     }
 
 -- where there is no room, the limit is reached

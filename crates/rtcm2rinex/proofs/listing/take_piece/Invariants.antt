@@ -17,6 +17,7 @@ invariant-loop-taken g l =
       limit : l.framer.limit ≡ l.fn.framer.limit;
       ended : l.framer.has_ended ≡ l.fn.framer.has_ended;
       fine : l.writer.failures ≡ l.fn.writer.failures;
+      widest : l.writer.widest ≡ l.fn.writer.widest;
     }
 
 abbrev pub decreases-loop-taken : goal.decreases-loop-taken
