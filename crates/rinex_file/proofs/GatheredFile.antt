@@ -137,7 +137,7 @@ are_entries system signals (i ∷ ss) id cells h = (found_entry system signals i
 record IsFoundIn (P : Cell → Type 0) (cells : List Cell) (id : ℕ) : Type 0 where
   cell : Cell
   own : (cell.satellite.id == id) ≡ true
-  has_some_value : has_value cell ≡ true
+  says : has_value cell ≡ true
   is : P cell
   found : find (is_of_key id cell.signal.index) cells ≡ Some cell
 
