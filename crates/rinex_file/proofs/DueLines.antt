@@ -10,7 +10,7 @@ use Rattle.rinex_file.specs.Numbers.{joined}
 use Rattle.rinex_file.specs.Value.{SatelliteRow, Stamped, FileValue}
 use Rattle.rinex_file.specs.Lines.{satellite_line}
 use Rattle.rinex_file.specs.File.{file_lines, stamped_lines}
-use Rattle.rinex_file.specs.Exact.{HasHeaderNext, HasEpochLeft, HasSatelliteNext, IsDue, IsDueAt}
+use Rattle.rinex_file.specs.Exact.{HasHeaderNext, HasEpochLeft, HasSatelliteNext, IsDueAt}
 use Rattle.rinex_file.specs.Read.Progress.{Known, Progress, IsHeaderLeft, IsInHeader, IsBetween, IsInEvent, HasPosition, IsInEpoch, IsAt, HasLinesLeft, shown_of, stamped}
 use Rattle.rinex_file.specs.Read.Sound.{AreRead, IsBegun, IsSound, IsSoundAt}
 use Rattle.rinex_file.specs.Course.{History, FollowsHistory, progress_at}

@@ -12,15 +12,15 @@ use Rattle.gnss_obs.specs.declared.system.System.{System}
 use Rattle.gnss_obs.specs.declared.system.System.TheVariants.{Gps, Galileo}
 use Rattle.gnss_obs.specs.Satellites.{satellites as satellites_in}
 use Rattle.obs_epoch.specs.declared.cell.Cell.{Cell}
-use Rattle.obs_epoch.specs.Values.{PlanValue, EpochValue, Closed, HasTwelveDigits, same_values, cells_of, planned_of, satellites_written, has_value, is_written}
+use Rattle.obs_epoch.specs.Values.{PlanValue, EpochValue, Closed, HasTwelveDigits, same_values, cells_of, planned_of, has_value, is_written}
 use Rattle.obs_epoch.specs.Plans.{place_in}
 use Rattle.obs_epoch.specs.Reach.{IsGathered, AreGathered, IsGatheredEpoch, AreGatheredEpochs, TimesRise, AreToldValues, same_place}
 use Rattle.std.specs.Ordering.{int_eq}
 use Rattle.std.proofs.lemmas.Bool.Decides.{Decides-int_eq}
 use Rattle.obs_epoch.specs.declared.cell.StationValues.{StationValues}
 use Rattle.rinex_file.specs.Texts.{HeaderLists}
-use Rattle.rinex_file.specs.Value.{SignalValues, Row, SatelliteRow, Stamped, numbers, written_satellites, no_signal_values, signal_values_of, is_of_key, signal_values_at, row_of, row_among, row_in_epoch, rows_of, change_from, stamped_behind, all_stamped}
-use Rattle.rinex_file.specs.FileValues.{AreTexts, IsPlan, AreValues, IsTime, has_some_value, FitsColumns, AreSignalValues, IsRow, of_system, rank_of, IsSatelliteRow, AreSatelliteRows, IsStamped, IsChange, AreChanges, changed_by, time_stamped, IsFileValue}
+use Rattle.rinex_file.specs.Value.{SatelliteRow, numbers, written_satellites, no_signal_values, signal_values_of, is_of_key, signal_values_at, row_of, row_among, row_in_epoch, rows_of, change_from, stamped_behind, all_stamped}
+use Rattle.rinex_file.specs.FileValues.{AreTexts, AreValues, has_some_value, FitsColumns, AreSignalValues, IsRow, of_system, rank_of, IsSatelliteRow, IsStamped, IsChange, AreChanges, changed_by, time_stamped, IsFileValue}
 use Rattle.rinex_file.specs.File.{gathered}
 use Rattle.rinex_file.specs.Gathered.{AreSignals, HasSatellite}
 use Rattle.rinex_file.proofs.Sent.{length-rows}
@@ -137,7 +137,7 @@ are_entries system signals (i ∷ ss) id cells h = (found_entry system signals i
 record IsFoundIn (P : Cell → Type 0) (cells : List Cell) (id : ℕ) : Type 0 where
   cell : Cell
   own : (cell.satellite.id == id) ≡ true
-  has_some_value : has_value cell ≡ true
+  says : has_value cell ≡ true
   is : P cell
   found : find (is_of_key id cell.signal.index) cells ≡ Some cell
 

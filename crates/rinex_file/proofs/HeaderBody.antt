@@ -12,7 +12,7 @@ use Rattle.rinex_file.specs.declared.read.due.Due.TheVariants.{Header, Epoch, Ev
 use Rattle.rinex_file.specs.Value.{SatelliteRow, Stamped, FileValue}
 use Rattle.rinex_file.specs.FileValues.{IsFileValue, IsStamped, AreChanges, IsFirstSame, time_stamped}
 use Rattle.rinex_file.specs.Header.{header_lines}
-use Rattle.rinex_file.specs.Lines.{epoch_line, satellite_line}
+use Rattle.rinex_file.specs.Lines.{satellite_line}
 use Rattle.rinex_file.specs.File.{stamped_lines, file_lines}
 use Rattle.rinex_file.specs.Read.Progress.{Progress, Known, Shown, IsShown, shown_lines, shown_of, IsHeaderLeft, IsHeaderRead, file_with, StartsAt, IsInHeader, IsAt, IsBetween, IsInEvent, HasPosition, IsInEpoch, HasLinesLeft}
 use Rattle.rinex_file.specs.Read.Sound.{AreRead, IsBegun, IsSoundAt, IsSound}

@@ -1,5 +1,5 @@
 -- A satellite's cells, walked beside the signals of a plan.
-use Rattle.std.proofs.Common.{arith, ◌≡◌, ◌∙◌, sym, ap, ap₂, refl, subst, ℕ, zero, suc, ◌+◌, ◌<◌, List, [], ◌∷◌, ◌++◌, map, take, drop, length, get_or, append_assoc, append-nil, Bool, true, false, ◌==◌, ◌&&◌, Option, Some}
+use Rattle.std.proofs.Common.{arith, ◌≡◌, ◌∙◌, sym, ap, ap₂, refl, subst, ℕ, zero, suc, ◌+◌, ◌<◌, List, [], ◌∷◌, ◌++◌, map, take, drop, length, get_or, append_assoc, append-nil, Bool, true, false, ◌==◌, ◌&&◌, Some}
 use Rattle.std.specs.Prelude.{◌≢◌, nat_eq, find, flat_map, if◌then◌else◌}
 use Rattle.std.specs.Option.{option_map_or}
 use Rattle.std.specs.List.{AllByRecursion, IsDistinct}

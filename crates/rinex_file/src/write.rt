@@ -2,7 +2,7 @@
 ghost use Rattle.std.specs.Prelude.{◌≡◌, ◌+◌, ◌<◌, ◌≤◌, drop, length, OnOk, OnErr, IfErr};
 ghost use Rattle.std.specs.Io.KnownBytes.{Appends};
 ghost use Rattle.rtcm_bits.specs.Device.{AppendsPrefix, FailsWith};
-ghost use Rattle.obs_epoch.specs.Values.{AreHeld, cells_of, has_value, is_written};
+ghost use Rattle.obs_epoch.specs.Values.{AreHeld, cells_of};
 ghost use Rattle.gnss_obs.specs.Satellites.{satellites};
 ghost use Rattle.rinex_file.specs.File.{header_text, event_text, epoch_text, line_among, lines_up_to};
 
@@ -21,7 +21,7 @@ use crate::write::event::event_line;
 use crate::write::numbers::Line;
 use crate::write::satellite::put_seen;
 use gnss_obs::System;
-use obs_epoch::{Cell, Epoch, Plan, StationValues, end_of};
+use obs_epoch::{Cell, Epoch, Plan, StationValues, end_of, is_written};
 use rtcm_bits::{Counted, DeviceFailed};
 use std::io::Write;
 
@@ -60,22 +60,6 @@ pub fn write_event<W: Write>(
     writer.write_whole(position_line(&values).as_slice())?;
     writer.write_whole(delta_line(&values).as_slice())?;
     Ok(())
-}
-
-// Whether a cell has a value.
-fn has_value(cell: &Cell) -> bool
-    ensures { result ≡ has_value cell.now }
-{
-    cell.c.is_some() || cell.l.is_some() || cell.d.is_some() || cell.s.is_some()
-}
-
-// Whether a satellite is written: one of its cells has a value.
-fn is_written(cells: &[Cell], id: u8) -> bool
-    ensures { result ≡ is_written cells.now id }
-{
-    cells
-        .iter()
-        .any(|cell| cell.satellite.id() == id && has_value(cell))
 }
 
 // Writes the line of a satellite where one of its cells has a value.

@@ -362,27 +362,3 @@ fn reads_no_more_than_there_is_room_for(rt: HostRuntime) -> Result<(), Fail> {
     assert_eq!(rt; reader.into_inner().asked(), 29);
     Ok(())
 }
-
-#[test]
-fn damaged_streams_by_any_pieces(rt: HostRuntime) -> Result<(), Fail> {
-    let alloc = rt.alloc();
-    let stream = framed(alloc, &[&FULL])?;
-    for place in 0..stream.len() {
-        let mut damaged = Vec::new(alloc);
-        damaged.extend_from_slice(&stream)?;
-        if let Some(byte) = damaged.get_mut(place) {
-            *byte = !*byte;
-        }
-        for size in [1, 2, 1_000] {
-            let told = setup(alloc).expect(&rt, "a setup");
-            let got = fed(alloc, told, &damaged, size).expect(&rt, "no fault");
-            assert_eq!(rt; got.answer, Err(Fault::NoEpoch), "damaged at {place}");
-            assert!(rt; got.text.is_empty(), "damaged at {place}");
-            assert!(rt;
-                got.most <= 1_030 && got.examined <= 1_030 * 42,
-                "damaged at {place}"
-            );
-        }
-    }
-    Ok(())
-}

@@ -1,4 +1,4 @@
-use Rattle.std.proofs.Common.{◌≡◌, ◌∙◌, ℕ, ap, sym, subst, arith, length}
+use Rattle.std.proofs.Common.{ℕ, subst}
 use Rattle.rinex_file.specs.Course.{progress_at}
 use Rattle.rinex_file.specs.Read.Sound.{MayBegin}
 use Rattle.rinex_file.proofs.BodySteps.{few_satellites}

@@ -1,4 +1,4 @@
-use Rattle.std.proofs.Common.{◌≡◌, ◌<◌, ℕ, subst, sym, refl, length, None}
+use Rattle.std.proofs.Common.{◌<◌, ℕ, subst, sym, refl, None}
 use Rattle.rinex_file.specs.Course.{progress_at}
 use Rattle.rinex_file.proofs.Judged.{refused}
 use Rattle.rinex_file.proofs.BodySteps.{NoEvent, plain_taken, no_plain, sound_begun, sound_between}
