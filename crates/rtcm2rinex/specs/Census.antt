@@ -14,7 +14,7 @@ use Rattle.rtcm_scan.specs.Known.{known_frames}
 use Rattle.rtcm_scan.specs.Scan.{FramerValue, HasFramed}
 use Rattle.obs_epoch.specs.declared.seen.Seen.{Seen}
 use Rattle.rtcm2rinex.specs.declared.census.Census.{Census}
-use Rattle.rtcm2rinex.specs.declared.census.Form.{Form}
+use Rattle.rtcm2rinex.specs.declared.census.SignalsForm.{SignalsForm}
 use Rattle.rtcm2rinex.specs.Signals.{signal_in, signals_text, count_of, valued_in}
 
 -- ---- one cell more
@@ -81,9 +81,9 @@ HasSurveyed c wanted r r' = (b : List ℕ) × Consumes r r' b × IsAtEnd r' × S
 -- ---- what is told of them
 
 -- the text of whichever cells these are the counts of was written
-abbrev pub TellsCensus : Form → Census → (w w' : Option (List ℕ)) → Type 0
+abbrev pub TellsCensus : SignalsForm → Census → (w w' : Option (List ℕ)) → Type 0
 TellsCensus form c w w' = (cells : List Seen) → IsCensus c cells → Appends w w' (signals_text form cells)
 
 -- a prefix of it was
-abbrev pub TellsCensusPart : Form → Census → (w w' : Option (List ℕ)) → Type 0
+abbrev pub TellsCensusPart : SignalsForm → Census → (w w' : Option (List ℕ)) → Type 0
 TellsCensusPart form c w w' = (cells : List Seen) → IsCensus c cells → AppendsPrefix w w' (signals_text form cells)
