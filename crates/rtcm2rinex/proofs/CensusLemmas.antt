@@ -133,7 +133,7 @@ some_same x y e = ap (λ o. option_map_or (λ z. z) o x) e
 pub listed_of : (system : System) (id : ℕ) (g : SignalAt) → signal_of_id system id ≡ Some g → (g.system ≡ system) × IsSignal g
 listed_of system id g h = by (nat_lt (place system id) (length (table system))) refl h where
   place : System → ℕ → ℕ
-  place system id = position_or_len (λ (e : tables.Entry). e.0 == id) (table system)
+  place system id = position_or_len (λ (e : tables.ListedSignal). e.0 == id) (table system)
 
   test_lt : (a b : ℕ) → nat_lt a b ≡ true → a < b
   test_lt a b e = grind (arith, e)

@@ -34,20 +34,20 @@ text_is f id r o is found =
 -- the flag for the counts: what is found of it
 pub counts_told : (f : Found) (r : Bool) → (one_text f (codes "counts") ≡ None → r ≡ false) → (one_text f (codes "counts") ≡ Some (codes "false") → r ≡ false)
     → r ≡ true → IsFormOf (rows_of f) Counts
-counts_told f r none off is =
+counts_told f r none off asked =
     let same = one_text-rows f (codes "counts") in
     record {
       counts = λ e. refl;
       otherwise = λ e. elim e [
-        | inl n ↦ let bad : true ≡ false = sym is ∙ none (same ∙ n) in cc
-        | inr n ↦ let bad : true ≡ false = sym is ∙ off (same ∙ n) in cc
+        | inl n ↦ let bad : true ≡ false = sym asked ∙ none (same ∙ n) in cc
+        | inr n ↦ let bad : true ≡ false = sym asked ∙ off (same ∙ n) in cc
       ];
     }
 
 pub options_told : (f : Found) (r : Bool) → (one_text f (codes "counts") ≡ Some (codes "true") → r ≡ true) → r ≡ false → IsFormOf (rows_of f) Options
-options_told f r on is =
+options_told f r on unasked =
     let same = one_text-rows f (codes "counts") in
     record {
-      counts = λ e. let bad : false ≡ true = sym is ∙ on (same ∙ e) in cc;
+      counts = λ e. let bad : false ≡ true = sym unasked ∙ on (same ∙ e) in cc;
       otherwise = λ e. refl;
     }
