@@ -44,11 +44,11 @@ fn plans_are_read(rt: HostRuntime) -> Result<(), PlanFault> {
     Ok(())
 }
 
-// The signals of these codes of a system.
-fn signals_of(alloc: Global, system: System, codes: &[&str]) -> Result<Vec<Signal>, PlanFault> {
+// The GPS signals of these codes.
+fn signals_of(alloc: Global, codes: &[&str]) -> Result<Vec<Signal>, PlanFault> {
     let mut signals = Vec::new(alloc);
     for code in codes {
-        if let Some(signal) = Signal::from_code(system, code)
+        if let Some(signal) = Signal::from_code(System::Gps, code)
             && signals.push(signal).is_err()
         {
             return Err(PlanFault::Memory);
@@ -57,35 +57,54 @@ fn signals_of(alloc: Global, system: System, codes: &[&str]) -> Result<Vec<Signa
     Ok(signals)
 }
 
-// Behind a call without clauses, as `parse` is.
-fn planned(alloc: Global, gps: &[Signal], galileo: &[Signal]) -> Result<Plan, PlanFault> {
-    Plan::from_signals(alloc, gps, galileo)
+// The plan of these GPS signals, the second list handed in as Galileo's.
+fn made(alloc: Global, gps: &[&str], galileo: &[&str]) -> Result<Plan, PlanFault> {
+    let gps = signals_of(alloc, gps)?;
+    let galileo = signals_of(alloc, galileo)?;
+    Plan::from_signals(alloc, gps.as_slice(), galileo.as_slice())
+}
+
+fn is_made_in_vain(alloc: Global, gps: &[&str], galileo: &[&str], fault: PlanFault) -> bool {
+    matches!(made(alloc, gps, galileo), Err(f) if f == fault)
+}
+
+fn is_planned_at(plan: &Plan, code: &str, at: usize) -> bool {
+    match Signal::from_code(System::Gps, code) {
+        None => false,
+        Some(signal) => plan.place(signal) == Some(at),
+    }
 }
 
 #[test]
 fn plans_are_made_of_signals(rt: HostRuntime) -> Result<(), PlanFault> {
-    let alloc = rt.alloc();
-    let gps = signals_of(alloc, System::Gps, &["2W", "1C"])?;
-    let plan = planned(alloc, gps.as_slice(), &[])?;
-    let [first, second] = plan.of(System::Gps) else {
-        return Err(PlanFault::NothingPlanned);
-    };
-    assert_eq!(rt; (first.code(), second.code()), (*b"2W", *b"1C"));
-    assert!(rt; plan.of(System::Galileo).is_empty());
-    let twice = signals_of(alloc, System::Gps, &["1C", "1C"])?;
-    assert!(rt;
-        matches!(
-            planned(alloc, twice.as_slice(), &[]),
-            Err(PlanFault::RepeatedCode(System::Gps, 1))
-        )
+    let plan = made(rt.alloc(), &["2W", "1C"], &[])?;
+    assert!(rt; is_planned_at(&plan, "2W", 0));
+    assert!(rt; is_planned_at(&plan, "1C", 1));
+    assert_eq!(rt;
+        (plan.signals(System::Gps), plan.signals(System::Galileo)),
+        (2, 0)
     );
-    let other = signals_of(alloc, System::Gps, &["1C"])?;
-    assert!(rt;
-        matches!(
-            planned(alloc, &[], other.as_slice()),
-            Err(PlanFault::UnknownCode(System::Galileo, 0))
-        )
-    );
-    assert!(rt; matches!(planned(alloc, &[], &[]), Err(PlanFault::NothingPlanned)));
     Ok(())
+}
+
+#[test]
+fn signals_are_refused(rt: HostRuntime) {
+    let alloc = rt.alloc();
+    assert!(rt;
+        is_made_in_vain(
+            alloc,
+            &["1C", "1C"],
+            &[],
+            PlanFault::RepeatedCode(System::Gps, 1)
+        )
+    );
+    assert!(rt;
+        is_made_in_vain(
+            alloc,
+            &[],
+            &["1C"],
+            PlanFault::UnknownCode(System::Galileo, 0)
+        )
+    );
+    assert!(rt; is_made_in_vain(alloc, &[], &[], PlanFault::NothingPlanned));
 }
