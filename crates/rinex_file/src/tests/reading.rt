@@ -10,7 +10,7 @@ use std::alloc::{AllocError, Global};
 use std::io::ErrorKind;
 use std::test::Fail;
 
-/// A file of two epochs, of both systems, with a signal on more lines than one, a mark and values
+/// A file of two epochs, of both systems, with a signal on more lines than one, an indicator and values
 /// that aren't observed.
 const TWO_SYSTEMS: [&str; 22] = [
     "     3.05           OBSERVATION DATA    M                   RINEX VERSION / TYPE",
