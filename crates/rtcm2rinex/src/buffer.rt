@@ -12,8 +12,9 @@ use std::marker::Model;
 /// So many bytes wait at most: what a pipe holds.
 const BUFFER_BYTES: usize = 65_536;
 
-/// A writer that keeps bytes back, and hands them on to a device many at a time. Nothing is tried again: once the device has failed,
-/// it is never called again, and each call fails. A drop hands nothing on, only `flush` does.
+/// A writer that keeps bytes back, and hands them on to a device many at a time. Nothing is tried
+/// again: once the device has failed, it is never called again, and each call fails. A drop hands
+/// nothing on, only `flush` does.
 #[derive(Drop)]
 pub struct Buffered<W> {
     device: W,

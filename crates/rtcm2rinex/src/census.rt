@@ -59,7 +59,8 @@ impl Census {
         is_any_positive(self.galileo.as_slice())
     }
 
-    /// Counts the cells of a message of the station that is wanted; where none is told, of every station.
+    /// Counts the cells of a message of the station that is wanted; where none is told, of every
+    /// station.
     pub fn count_message(&mut self, station: Option<u16>, message: &Message)
         ensures counts { (cells : List Seen) → length cells < 2 ^ 62 → IsCensus self.old cells
             → IsCensus self.new (cells ++ valued station (heard message.now)) }

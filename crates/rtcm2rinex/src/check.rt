@@ -34,8 +34,8 @@ fn check_line(counts: Counts) -> Line
     line
 }
 
-/// Reads a file to its end and writes how many epochs, satellites and events it has. It is accepted exactly where it is spelled as
-/// `convert` spells files; else the first line that isn't is told.
+/// Reads a file to its end and writes how many epochs, satellites and events it has. It is accepted
+/// exactly where it is spelled as `convert` spells files; else the first line that isn't is told.
 pub fn run_check<R: Read, W: Write>(
     alloc: Global,
     reader: &mut Counted<R>,

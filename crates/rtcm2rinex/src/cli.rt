@@ -9,7 +9,8 @@ use crate::version::VERSION;
 use clap::{Arg, ArgAction, ArgMatches, Command, Error, value_parser};
 use std::alloc::{AllocError, Global};
 
-/// The texts of the header that may be left out: the option, what stands without it, and what it is.
+/// The texts of the header that may be left out: the option, what stands without it, and what it
+/// is.
 const TEXTS: [(&str, &str, &str); 10] = [
     ("run-by", "", "Who runs the program"),
     ("marker", "", "Name of the antenna marker"),
@@ -131,7 +132,8 @@ fn convert<'a>(alloc: Global) -> Result<Command<'a>, AllocError>
     with_texts(alloc, command, &TEXTS)
 }
 
-/// The command with an option for each of these texts: its name, what stands without it, and what it is.
+/// The command with an option for each of these texts: its name, what stands without it, and what
+/// it is.
 fn with_texts<'a>(
     alloc: Global,
     command: Command<'a>,

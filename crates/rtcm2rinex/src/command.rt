@@ -34,7 +34,8 @@ use std::io;
 use std::io::{Read, Write};
 
 /// Runs the command that the words ask for, the first of which is the program's name, and answers
-/// the exit status: 0 is good, 1 a fault, and 2 a command line that isn't accepted or asks for help.
+/// the exit status: 0 is good, 1 a fault, and 2 a command line that isn't accepted or asks for
+/// help.
 pub fn command<R: Read, W: Write, E: Write>(
     alloc: Global,
     words: &[&str],
@@ -44,8 +45,9 @@ pub fn command<R: Read, W: Write, E: Write>(
 ) -> u8
     ensures status { result ≤ 2 }
 
-    // Good is only that the words ask for a command, by clap's own definitions under the program's options, and that it did what
-    // it is for with these options; or that they ask for the version, and it was written.
+    // Good is only that the words ask for a command, by clap's own definitions under the program's
+    // options, and that it did what it is for with these options; or that they ask for the version,
+    // and it was written.
     ensures good { result ≡ 0 → Moves R.remaining reader.old reader.new W.contents writer.old writer.new (HasDoneAsked (texts words.now))
         ⊎ (IsAnswered (texts words.now) DisplayVersion × (reader.new ≡ reader.old)
         × Appends (W.contents writer.old.inner) (W.contents writer.new.inner) VERSION.now) }
@@ -152,7 +154,8 @@ fn signals<R: Read, W: Write, E: Write>(
     }
 }
 
-/// Converts the stream as the options ask, and tells the counts or the fault. Answers the exit status.
+/// Converts the stream as the options ask, and tells the counts or the fault. Answers the exit
+/// status.
 fn convert<R: Read, W: Write, E: Write>(
     alloc: Global,
     options: &ArgMatches,
@@ -193,7 +196,8 @@ fn check<R: Read, W: Write, E: Write>(
     }
 }
 
-/// Says why the words of the command line can't be had, and answers the exit status: memory ran out, or a word isn't UTF-8.
+/// Says why the words of the command line can't be had, and answers the exit status: memory ran
+/// out, or a word isn't UTF-8.
 pub fn refuse_words<E: Write>(error: &io::Error, faults: &mut E) -> u8
     ensures { (1 ≤ result) × (result ≤ 2) }
 {
@@ -206,7 +210,8 @@ pub fn refuse_words<E: Write>(error: &io::Error, faults: &mut E) -> u8
     }
 }
 
-/// Tells the version where the words ask for it; else says what is wrong with them. Answers the exit status.
+/// Tells the version where the words ask for it; else says what is wrong with them. Answers the
+/// exit status.
 fn answer<W: Write, E: Write>(error: &clap::Error, writer: &mut Counted<W>, faults: &mut E) -> u8
     ensures status { result ≤ 2 }
     ensures asked { result ≡ 0 → kind_of error.now ≡ DisplayVersion }

@@ -13,9 +13,10 @@ use rtcm_convert::{Fault, Report, Setup, convert_stream};
 use std::alloc::Global;
 use std::io::{Read, Write};
 
-/// Makes the observation file of a stream that is read to its end: for every stream, however the reader cuts it, and every
-/// starting week and plan, the file written is exactly the one defined from the stream's valid frames in order. It has an epoch;
-/// where there is none, the answer is `NoEpoch`.
+/// Makes the observation file of a stream that is read to its end: for every stream, however the
+/// reader cuts it, and every starting week and plan, the file written is exactly the one defined
+/// from the stream's valid frames in order. It has an epoch; where there is none, the answer is
+/// `NoEpoch`.
 pub fn run_convert<R: Read, W: Write>(
     alloc: Global,
     setup: Setup,

@@ -11,7 +11,8 @@ use rtcm_convert::Fault;
 use rtcm_scan::ScanFault;
 use std::fmt;
 
-/// Why a command stopped. It is shown as the fault's own name, and behind it each thing that the fault carries.
+/// Why a command stopped. It is shown as the fault's own name, and behind it each thing that the
+/// fault carries.
 #[derive(Clone, Copy, Debug, PartialEq, Eq, Drop)]
 pub enum ToolFault {
     /// The reader failed.

@@ -4,8 +4,8 @@ ghost use Rattle.rtcm_msg.specs.declared.message.Message.{Message};
 ghost use Rattle.rtcm2rinex.specs.ReadBack.{AreKnown, AreEncoded, ReadsBack};
 ghost use Rattle.rtcm2rinex.specs.SignalLaws.{LeavesNoneOut, AreReadAsPlan};
 
-/// For every list of messages of known layouts: they have encodings, and whatever these are, their frames, joined, have
-/// exactly these frames, and are read back as that list.
+/// For every list of messages of known layouts: they have encodings, and whatever these are, their
+/// frames, joined, have exactly these frames, and are read back as that list.
 pub fn read_back()
     ensures encoded { (vs : List Message) → AreKnown vs → (es : List (List ℕ)) × AreEncoded es vs }
     ensures back { (es : List (List ℕ)) (vs : List Message) → AreEncoded es vs → ReadsBack es vs }
@@ -18,8 +18,8 @@ pub fn read_back()
     rtcm_msg::laws::one_value();
 }
 
-/// The line that `signals` prints is read as the plan of the signals that it names, and a conversion with this plan leaves no value of
-/// the stream out for want of a column.
+/// The line that `signals` prints is read as the plan of the signals that it names, and a
+/// conversion with this plan leaves no value of the stream out for want of a column.
 pub fn signals()
     ensures columns { LeavesNoneOut }
     ensures read { AreReadAsPlan }

@@ -80,7 +80,8 @@ impl Line {
         self.put(part);
     }
 
-    /// One more word, a length in units of 0.0001 m, which is written in metres with four digits behind the point.
+    /// One more word, a length in units of 0.0001 m, which is written in metres with four digits
+    /// behind the point.
     pub fn add_metres(&mut self, value: i64)
         requires { length self.old ≤ 229 }
         ensures text { self.new ≡ self.old ++ 0x20 ∷ metres value }

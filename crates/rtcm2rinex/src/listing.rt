@@ -34,7 +34,8 @@ pub enum Listing {
     Messages,
 }
 
-/// Writes a line for each frame of the stream: its place, the length of its message and the message's number.
+/// Writes a line for each frame of the stream: its place, the length of its message and the
+/// message's number.
 pub fn run_frames<R: Read, W: Write>(
     alloc: Global,
     reader: &mut Counted<R>,
@@ -58,7 +59,8 @@ pub fn run_frames<R: Read, W: Write>(
     list(alloc, Listing::Frames, MOST_BYTES, reader, writer)
 }
 
-/// Writes a line for each message of the stream that is read or refused: a station, the head of an MSM, or the fault.
+/// Writes a line for each message of the stream that is read or refused: a station, the head of an
+/// MSM, or the fault.
 pub fn run_show<R: Read, W: Write>(
     alloc: Global,
     reader: &mut Counted<R>,
@@ -142,7 +144,8 @@ fn list_frames<R: Read, W: Write>(
     }
 }
 
-/// Reads the next piece of the stream, and writes the lines of the frames that it decides; a piece of no bytes is the end.
+/// Reads the next piece of the stream, and writes the lines of the frames that it decides; a piece
+/// of no bytes is the end.
 fn list_next<R: Read, W: Write>(
     listing: Listing,
     framer: &mut Framer,
@@ -188,8 +191,9 @@ fn list_next<R: Read, W: Write>(
     }
 }
 
-/// Takes a piece of the stream up to the framer's limit, writes the lines of the frames that it decides, and sends them on, so
-/// that none waits for the next piece. Answers why the framer refused a byte, if it did.
+/// Takes a piece of the stream up to the framer's limit, writes the lines of the frames that it
+/// decides, and sends them on, so that none waits for the next piece. Answers why the framer
+/// refused a byte, if it did.
 fn list_piece<W: Write>(
     listing: Listing,
     framer: &mut Framer,
@@ -218,8 +222,8 @@ fn list_piece<W: Write>(
     }
 }
 
-/// Takes a piece of the stream up to the framer's limit, and writes the lines of the frames that it decides. Answers why
-/// the framer refused a byte, if it did.
+/// Takes a piece of the stream up to the framer's limit, and writes the lines of the frames that it
+/// decides. Answers why the framer refused a byte, if it did.
 fn take_piece<W: Write>(
     listing: Listing,
     framer: &mut Framer,

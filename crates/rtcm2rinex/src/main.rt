@@ -1,5 +1,6 @@
-//! Reads an RTCM 3 stream from standard input, and writes what it says to standard output: its frames, its messages, its signals, or
-//! the RINEX 3.05 observation file of its observations. It reads such a file back, too, and says whether it is one.
+//! Reads an RTCM 3 stream from standard input, and writes what it says to standard output: its
+//! frames, its messages, its signals, or the RINEX 3.05 observation file of its observations. It
+//! reads such a file back, too, and says whether it is one.
 #![tactic(auto)]
 
 mod asked;
@@ -41,7 +42,8 @@ fn main(rt: HostRuntime) -> ExitCode {
     ExitCode::from(status)
 }
 
-/// Runs the command over the standard streams, and answers the exit status, unless the words can't be had.
+/// Runs the command over the standard streams, and answers the exit status, unless the words can't
+/// be had.
 fn run(rt: &HostRuntime) -> io::Result<u8> {
     let alloc: Global = rt.alloc();
     let owned: Vec<String> = std::env::args(rt)?.collect(alloc)?;
@@ -49,7 +51,8 @@ fn run(rt: &HostRuntime) -> io::Result<u8> {
     for word in &owned {
         words.push(word.as_str())?;
     }
-    // A file is read line by line and a stream in small pieces, and lines are written one by one: none should ask the system for each.
+    // A file is read line by line and a stream in small pieces, and lines are written one by one:
+    // none should ask the system for each.
     let input = BufReader::with_capacity(alloc, INPUT_BYTES, rt.stdin())?;
     let mut reader = Counted::new(input);
     // The commands send on what waits before they ask for more.

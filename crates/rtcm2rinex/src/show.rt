@@ -23,7 +23,8 @@ pub fn message_line(frame: &Frame) -> Option<Line>
     }
 }
 
-/// The line of a station message: place, number, station, X, Y and Z in metres, and the height of a 1006.
+/// The line of a station message: place, number, station, X, Y and Z in metres, and the height of a
+/// 1006.
 fn station_line(offset: u64, station: StationParts) -> Line
     requires { InRange station }
     ensures { result ≡ station_line offset station }
@@ -61,7 +62,8 @@ fn station_number(height: Option<u16>) -> u64
     }
 }
 
-/// The line of an MSM: place, number, station, time, DF393, and how many satellites, signals and cells it has.
+/// The line of an MSM: place, number, station, time, DF393, and how many satellites, signals and
+/// cells it has.
 fn msm_line(offset: u64, msm: &MsmView<'_>) -> Line
     ensures { result ≡ msm_line offset (message_number msm.now.form msm.now.msm.is_galileo) msm.now.msm }
 {

@@ -28,8 +28,8 @@ use std::io::{Read, Write};
 /// Room for a line of each signal: 34 of at most 26 bytes.
 const TEXT_BYTES: usize = 1_024;
 
-/// Writes which signals the stream has: those of the cells that have a value, of every station or of the one that is told.
-/// A stream without any is `NoSignal`.
+/// Writes which signals the stream has: those of the cells that have a value, of every station or
+/// of the one that is told. A stream without any is `NoSignal`.
 pub fn run_signals<R: Read, W: Write>(
     alloc: Global,
     station: Option<u16>,
@@ -47,7 +47,8 @@ pub fn run_signals<R: Read, W: Write>(
     ensures too_long { result ≡ Err too_long → ReadsTooMuch (2 ^ 48) (R.remaining reader.old.inner) (R.remaining reader.new.inner) }
     ensures memory { result ≡ Err no_memory → IsUntouched reader.old reader.new writer.old writer.new }
 
-    // The writer failed: what it took is a prefix of the text. At every other fault nothing was written.
+    // The writer failed: what it took is a prefix of the text. At every other fault nothing was
+    // written.
     ensures write { result ≡ Err ToolFault.Write → Moves R.remaining reader.old reader.new W.contents writer.old writer.new (TellsPart form station) }
     ensures writer { CountsWriteFault result writer.old writer.new }
     ensures unwritten { IfErr result (λ fault. (fault ≡ ToolFault.Write) ⊎ (writer.new ≡ writer.old)) }
@@ -106,7 +107,8 @@ fn options_line(census: &Census) -> Line
     line
 }
 
-/// One more word, the codes of the signals of a system of which there are cells, with commas between them, or `none`.
+/// One more word, the codes of the signals of a system of which there are cells, with commas
+/// between them, or `none`.
 fn add_codes(line: &mut Line, census: &Census, system: System)
     requires { length line.old ≤ 150 }
     ensures text { (cells : List Seen) → IsCensus census.now cells → line.new ≡ line.old ++ 0x20 ∷ codes_word system (had cells system) }

@@ -24,7 +24,8 @@ use std::io::Read;
 /// So many bytes are asked for at a time.
 const PIECE_BYTES: usize = 65_536;
 
-/// Reads at most so many bytes, and counts the cells of the station that is wanted; where none is told, of every station.
+/// Reads at most so many bytes, and counts the cells of the station that is wanted; where none is
+/// told, of every station.
 pub fn survey<R: Read>(
     alloc: Global,
     station: Option<u16>,
@@ -76,7 +77,8 @@ fn count_stream<R: Read>(
     }
 }
 
-/// Reads the next piece of the stream, and counts the cells of the frames that it decides; a piece of no bytes is the end.
+/// Reads the next piece of the stream, and counts the cells of the frames that it decides; a piece
+/// of no bytes is the end.
 fn count_next<R: Read>(
     station: Option<u16>,
     framer: &mut Framer,
@@ -113,8 +115,8 @@ fn count_next<R: Read>(
     }
 }
 
-/// Takes a piece of the stream up to the framer's limit, and counts the cells of the frames that it decides. Answers why the
-/// framer refused a byte, if it did.
+/// Takes a piece of the stream up to the framer's limit, and counts the cells of the frames that it
+/// decides. Answers why the framer refused a byte, if it did.
 fn count_piece(
     station: Option<u16>,
     framer: &mut Framer,

@@ -1,7 +1,7 @@
 //! The program by its words, over readers and writers that cut and fail.
 //!
-//! A test states what comes of a command as one truth, and each call of the program stands behind a function without
-//! clauses: so a proof of a test is small.
+//! A test states what comes of a command as one truth, and each call of the program stands behind a
+//! function without clauses: so a proof of a test is small.
 mod buffer;
 mod check;
 mod convert;
@@ -77,7 +77,8 @@ fn read_with(
     }
 }
 
-/// Runs the command over a writer that takes so many bytes a write, and fails so behind so many in all.
+/// Runs the command over a writer that takes so many bytes a write, and fails so behind so many in
+/// all.
 fn written(
     alloc: Global,
     words: &[&str],

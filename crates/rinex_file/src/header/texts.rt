@@ -277,7 +277,8 @@ impl HeaderTexts {
     pub(crate) fn are_texts(&self)
         ensures { AreTexts self.now }
     {
-        // For the prover alone: what holds of every value of a type is known where a field is looked at.
+        // For the prover alone: what holds of every value of a type is known where a field is
+        // looked at.
         let _ = &self.run_by;
     }
 

@@ -89,7 +89,8 @@ fn is_strength(value: Option<i64>) -> bool
     }
 }
 
-// Whether values and indicator are those of a signal: a loss-of-lock indicator stands by a phase alone.
+// Whether values and indicator are those of a signal: a loss-of-lock indicator stands by a phase
+// alone.
 fn is_entry(entry: &KeptValues) -> bool
     ensures { IsTrue result ↔ AreSignalValues entry.now }
 {

@@ -10,8 +10,8 @@ use std::alloc::{AllocError, Global};
 use std::io::ErrorKind;
 use std::test::Fail;
 
-/// A file of two epochs, of both systems, with a signal on more lines than one, an indicator and values
-/// that aren't observed.
+/// A file of two epochs, of both systems, with a signal on more lines than one, an indicator and
+/// values that aren't observed.
 const TWO_SYSTEMS: [&str; 22] = [
     "     3.05           OBSERVATION DATA    M                   RINEX VERSION / TYPE",
     "rtcm2rinex          us                  20240204 000001 UTC PGM / RUN BY / DATE ",

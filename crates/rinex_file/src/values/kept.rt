@@ -6,8 +6,8 @@ use obs_epoch::GpsTime;
 use std::marker::Model;
 
 /// What a line shows of a signal: pseudorange (0.001 m), phase (0.001 cycles), Doppler (0.001 Hz)
-/// and strength (0.001 dB-Hz), and the loss-of-lock indicator of the phase. All are absent where nothing
-/// was observed.
+/// and strength (0.001 dB-Hz), and the loss-of-lock indicator of the phase. All are absent where
+/// nothing was observed.
 #[derive(Clone, Copy, Debug, Default, PartialEq, Eq)]
 pub(crate) struct KeptValues {
     pub(crate) c: Option<i64>,

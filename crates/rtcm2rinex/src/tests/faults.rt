@@ -56,7 +56,8 @@ fn a_writer_that_fails_is_told(rt: HostRuntime) -> Result<(), Fail> {
     Ok(())
 }
 
-/// What comes of a command that writes to a buffer, whose device takes two bytes and then fails once.
+/// What comes of a command that writes to a buffer, whose device takes two bytes and then fails
+/// once.
 fn buffered(alloc: Global, words: &[&str], input: &[u8]) -> Result<Outcome, AllocError> {
     let end = WriteEnd::FailsOnce(ErrorKind::Other);
     let device = ShortWriter::new(Vec::new(alloc), 1, 2, end);

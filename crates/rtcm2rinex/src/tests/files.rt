@@ -82,7 +82,8 @@ pub fn converted<'a>(
     Ok(run(alloc, words.as_slice(), stream, &[]))
 }
 
-/// Whether a conversion was good, made the file of these lines and told this report, and nothing else.
+/// Whether a conversion was good, made the file of these lines and told this report, and nothing
+/// else.
 pub fn makes(
     alloc: Global,
     outcome: &Outcome,

@@ -30,7 +30,8 @@ fn frames_are_listed_in_any_pieces(rt: HostRuntime) -> Result<(), Fail> {
     Ok(())
 }
 
-/// Lists the frames of at most so many bytes. Answers whether more was refused, or else was good, and what was written.
+/// Lists the frames of at most so many bytes. Answers whether more was refused, or else was good,
+/// and what was written.
 fn listed(alloc: Global, stream: &[u8], limit: u16) -> (Option<bool>, Vec<u8>) {
     let mut reader = Counted::new(stream);
     let mut writer = Counted::new(Vec::new(alloc));
