@@ -60,8 +60,8 @@ abbrev pub signal_of_code : System → List ℕ → Option SignalAt
 signal_of_code system code = signal_where system (λ e. bytes_eq e.1 code)
 
 -- the signal mask, DF395, has a bit for each ID
-abbrev pub signal_mask_bits : ℕ
-signal_mask_bits = 32
+abbrev pub greatest_signal_id : ℕ
+greatest_signal_id = 32
 
 -- the ID of a signal
 abbrev pub id_of : SignalAt → ℕ

@@ -5,7 +5,7 @@ use Rattle.std.specs.Option.{option_map_or}
 use Rattle.obs_epoch.specs.declared.clock.Answer.TheVariants.{CloseFirst}
 use Rattle.obs_epoch.specs.Heard.{GatherSetup, Heard, ends_epoch, is_own}
 use Rattle.obs_epoch.specs.Times.{Timed, is_at, max_known, greatest_time, is_closed, taken_at, ahead, is_late, is_past, time_of}
-use Rattle.obs_epoch.specs.Weeks.{week}
+use Rattle.rtcm_msg.specs.Msm.{week}
 use Rattle.obs_epoch.specs.Clock.{State, is_pending, closes_first, answer_of}
 use Rattle.obs_epoch.specs.Step.{answer_by, step_by, is_late_at, is_first_at, ended_where}
 use Rattle.obs_epoch.proofs.TimesLemmas.{next, greatest-push, greatest-present, greater-absent, none-absent, closed-push, closed-new}
@@ -73,10 +73,10 @@ not_own : (s : GatherSetup) (xs : List Timed) (m : Heard) (shut : Bool) → is_o
 not_own s xs m shut own closes =
     let untaken : taken_at s xs m ≡ None = grind (arith, own) in
     let same = same_time s xs (next s xs m) untaken in
-    let unmarked : ends_epoch s m ≡ false = grind (arith, own) in
+    let not_last : ends_epoch s m ≡ false = grind (arith, own) in
     let open_still : shut ≡ false = grind (arith, own) in
     let kept : step_by (standing s xs shut) m ≡ standing s xs shut = grind (arith, own) in
-    let pending : (is_pending s xs && not shut) ≡ (is_pending s (xs ++ next s xs m ∷ []) && not false) = grind (arith, same.1, unmarked, open_still) in
+    let pending : (is_pending s xs && not shut) ≡ (is_pending s (xs ++ next s xs m ∷ []) && not false) = grind (arith, same.1, not_last, open_still) in
     (grind (arith, own), kept ∙ same_state (standing s xs shut) s _ _ refl (sym same.0) pending)
 
 pub and_true : (a : Bool) → a ≡ (a && true)
@@ -88,10 +88,10 @@ and_false true = refl
 and_false false = refl
 
 -- a message that ends its epoch closes what is pending
-marked-is : (b : Bool) (s : GatherSetup) (latest : Option ℕ) (pending : Bool)
+ended-is : (b : Bool) (s : GatherSetup) (latest : Option ℕ) (pending : Bool)
     → ended_where b (record { setup = s; latest = latest; pending = pending }) ≡ record { setup = s; latest = latest; pending = pending && not b }
-marked-is true s latest pending = ap (λ x. record { setup = s; latest = latest; pending = x }) (and_false pending)
-marked-is false s latest pending = ap (λ x. record { setup = s; latest = latest; pending = x }) (and_true pending)
+ended-is true s latest pending = ap (λ x. record { setup = s; latest = latest; pending = x }) (and_false pending)
+ended-is false s latest pending = ap (λ x. record { setup = s; latest = latest; pending = x }) (and_true pending)
 
 abbrev pub tells_end : GatherSetup → Heard → Bool
 tells_end s m = s.by_bit && option_map_or not m.more false
@@ -106,12 +106,12 @@ same_fields : (s : GatherSetup) (a b : Option ℕ) (p q : Bool) → a ≡ b → 
 same_fields s a b p q e f = ap₂ (state s) e f
 
 -- from the state that the message's time gives to that after a message that ends its epoch
-marked_to : (s : GatherSetup) (xs : List Timed) (m : Heard) (latest : Option ℕ) (pending : Bool) → is_own s m ≡ true
+ended_to : (s : GatherSetup) (xs : List Timed) (m : Heard) (latest : Option ℕ) (pending : Bool) → is_own s m ≡ true
     → greatest_time (xs ++ next s xs m ∷ []) ≡ latest
     → is_pending s (xs ++ next s xs m ∷ []) ≡ (pending && not (ends_epoch s m))
     → ended_where (tells_end s m) (record { setup = s; latest = latest; pending = pending }) ≡ standing s (xs ++ next s xs m ∷ []) false
-marked_to s xs m latest pending own at is =
-    marked-is (tells_end s m) s latest pending
+ended_to s xs m latest pending own at is =
+    ended-is (tells_end s m) s latest pending
     ∙ same_fields s _ _ _ _ (sym at) (ap (λ b. pending && not b) (sym (own_mark s m own)) ∙ sym is ∙ and_true _)
 
 -- an own message of no time
@@ -124,7 +124,7 @@ no_time s xs m shut own none closes =
     let open_still : shut ≡ false = grind (arith, own, none) in
     let step : step_by (standing s xs shut) m ≡ ended_where (tells_end s m) (record { setup = s; latest = greatest_time xs; pending = is_pending s xs }) =
     grind (arith, own, none, open_still, and_true) in
-    (grind (arith, own, none), step ∙ marked_to s xs m (greatest_time xs) (is_pending s xs) own same.0 same.1)
+    (grind (arith, own, none), step ∙ ended_to s xs m (greatest_time xs) (is_pending s xs) own same.0 same.1)
 
 not_later : (s : GatherSetup) (xs : List Timed) (m : Heard) (tow t : ℕ) (shut : Bool) → m.tow ≡ Some tow → greatest_time xs ≡ Some t
     → closes_first s xs m ≡ shut → ahead t tow ≡ 0 → shut ≡ false
@@ -154,7 +154,7 @@ not_taken s xs m tow shut own some closes bad =
     let late = late_same s xs m tow shut some closes in
     let step : step_by (standing s xs shut) m ≡ ended_where (tells_end s m) (record { setup = s; latest = greatest_time xs; pending = is_pending s xs }) =
     grind (arith, own, some, open_still, and_true, late, bad) in
-    (grind (arith, own, some, late, bad), step ∙ marked_to s xs m (greatest_time xs) (is_pending s xs) own same.0 same.1)
+    (grind (arith, own, some, late, bad), step ∙ ended_to s xs m (greatest_time xs) (is_pending s xs) own same.0 same.1)
 
 pub follows : (s : GatherSetup) (xs : List Timed) (tow : ℕ) → is_late s xs tow ≡ false → Follows s xs (time_of s xs tow)
 follows s xs tow early = by (greatest_time xs) refl early where
@@ -187,7 +187,7 @@ is_taken s xs m tow shut own some closes early within =
     let none_first = no_first s xs m tow shut own some closes early within in
     let step : step_by (standing s xs shut) m ≡ ended_where (tells_end s m) (record { setup = s; latest = Some u; pending = true }) =
     grind (arith, own, some, late, early, within, none_first) in
-    (grind (arith, own, some, late, early, within, none_first), step ∙ marked_to s xs m (Some u) true own new.0 new.1)
+    (grind (arith, own, some, late, early, within, none_first), step ∙ ended_to s xs m (Some u) true own new.0 new.1)
 
 -- a message is one more of the list
 pub takes : (s : GatherSetup) (xs : List Timed) (m : Heard) (shut : Bool) → closes_first s xs m ≡ shut
@@ -224,7 +224,7 @@ closes s xs m h = by_tow m.tow refl where
       let step : step_by (standing s xs false) m ≡ ended_where (tells_end s m) (state s (greatest_time xs) false) =
       grind (arith, own, some, at, late_now, within, pending, ahead_of) in (
         grind (arith, own, some, at, early, within, pending, ahead_of),
-        step ∙ marked-is (tells_end s m) s (greatest_time xs) false ∙ same_fields s _ _ _ _ refl (and_false (is_pending s xs)),
+        step ∙ ended-is (tells_end s m) s (greatest_time xs) false ∙ same_fields s _ _ _ _ refl (and_false (is_pending s xs)),
       )
 
   by_tow : (tow : Option ℕ) → m.tow ≡ tow → (answer_by (standing s xs false) m ≡ CloseFirst) × (step_by (standing s xs false) m ≡ standing s xs true)

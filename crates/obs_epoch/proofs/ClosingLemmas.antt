@@ -123,8 +123,8 @@ closing_none s xs m shut none h =
       other : is_own s m ≡ false → (if ends_epoch s m && is_pending s xs then greatest_time xs else None) ≡ closed_in s xs m shut
       other own =
           let kind : answer_of s xs m ≡ OtherStation = grind (arith, own) in
-          let unmarked : ends_epoch s m ≡ false = grind (arith, own) in
-          ap (λ b. if b && is_pending s xs then greatest_time xs else None) unmarked
+          let not_last : ends_epoch s m ≡ false = grind (arith, own) in
+          ap (λ b. if b && is_pending s xs then greatest_time xs else None) not_last
           ∙ ap (λ k. closed_of k (tells_end s m) (is_pending s xs && not shut) (greatest_time xs) (greatest_time (xs ++ next s xs m ∷ []))) (sym kind)
 
       closed : (own : Bool) → is_own s m ≡ own → (if ends_epoch s m && is_pending s xs then greatest_time xs else None) ≡ closed_in s xs m shut

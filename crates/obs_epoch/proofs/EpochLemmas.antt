@@ -65,24 +65,24 @@ previous-push s xs x t key h same =
     ap (λ us. last_of (filter_map (locked_at s (xs ++ x ∷ []) key) us)) same
     ∙ ap last_of (locked_all s xs x key t (filter (λ u. nat_lt u t) (times xs)) h (below_filter t (times xs)))
 
-mark_of-push : (s : GatherSetup) (xs : List Timed) (x : Timed) (t : ℕ) (c : Seen) → IsLater t x.time
+lli_of-push : (s : GatherSetup) (xs : List Timed) (x : Timed) (t : ℕ) (c : Seen) → IsLater t x.time
     → filter (λ u. nat_lt u t) (times (xs ++ x ∷ [])) ≡ filter (λ u. nat_lt u t) (times xs) → lli_of s (xs ++ x ∷ []) t c ≡ lli_of s xs t c
-mark_of-push s xs x t c h same =
+lli_of-push s xs x t c h same =
     ap (λ o. lli_with t c o) (previous-push s xs x t c h same)
 
-marked-push : (s : GatherSetup) (xs : List Timed) (x : Timed) (t : ℕ) (cs : List Seen) → IsLater t x.time
+with_lli-push : (s : GatherSetup) (xs : List Timed) (x : Timed) (t : ℕ) (cs : List Seen) → IsLater t x.time
     → filter (λ u. nat_lt u t) (times (xs ++ x ∷ [])) ≡ filter (λ u. nat_lt u t) (times xs) → cells_with_lli s (xs ++ x ∷ []) t cs ≡ cells_with_lli s xs t cs
-marked-push s xs x t [] h same = refl
-marked-push s xs x t (c ∷ cs) h same =
-    ap₂ (λ m l. record { seen = c; lli = m } ∷ l) (mark_of-push s xs x t c h same) (marked-push s xs x t cs h same)
+with_lli-push s xs x t [] h same = refl
+with_lli-push s xs x t (c ∷ cs) h same =
+    ap₂ (λ m l. record { seen = c; lli = m } ∷ l) (lli_of-push s xs x t c h same) (with_lli-push s xs x t cs h same)
 
 -- the epoch of time t stays as it is
 pub epoch_at-push : (s : GatherSetup) (xs : List Timed) (x : Timed) (t : ℕ) → IsLater t x.time
     → filter (λ u. nat_lt u t) (times (xs ++ x ∷ [])) ≡ filter (λ u. nat_lt u t) (times xs) → epoch_at s (xs ++ x ∷ []) t ≡ epoch_at s xs t
 epoch_at-push s xs x t h same =
     ap₂ (λ a b. record { time = t; gps = a; galileo = b })
-    (ap (cells_with_lli s (xs ++ x ∷ []) t) (kept_at-push s t xs x Gps h) ∙ marked-push s xs x t (kept_at s t xs Gps) h same)
-    (ap (cells_with_lli s (xs ++ x ∷ []) t) (kept_at-push s t xs x Galileo h) ∙ marked-push s xs x t (kept_at s t xs Galileo) h same)
+    (ap (cells_with_lli s (xs ++ x ∷ []) t) (kept_at-push s t xs x Gps h) ∙ with_lli-push s xs x t (kept_at s t xs Gps) h same)
+    (ap (cells_with_lli s (xs ++ x ∷ []) t) (kept_at-push s t xs x Galileo h) ∙ with_lli-push s xs x t (kept_at s t xs Galileo) h same)
 
 -- ---- all closed epochs
 

@@ -21,42 +21,42 @@ use Rattle.obs_epoch.proofs.CellsLemmas.{kept-add}
 use Rattle.obs_epoch.proofs.OrderLemmas.{sorted-push, among-sorted, length-sorted}
 
 -- cells with their loss-of-lock indicators, where the locks of their keys before are known
-abbrev pub marked_by : (Seen → Option KnownLock) → ℕ → List Seen → List CellWithLli
-marked_by f t [] = []
-marked_by f t (x ∷ xs) = record { seen = x; lli = lli_with t x (f x) } ∷ marked_by f t xs
+abbrev pub with_lli_by : (Seen → Option KnownLock) → ℕ → List Seen → List CellWithLli
+with_lli_by f t [] = []
+with_lli_by f t (x ∷ xs) = record { seen = x; lli = lli_with t x (f x) } ∷ with_lli_by f t xs
 
-marked_by-insert : (planned : List ℕ) (f : Seen → Option KnownLock) (t : ℕ) (xs : List Seen) (x : Seen)
-    → marked_by f t (insert_by (seat_of planned) x xs) ≡ insert_by (seat_with_lli planned) (record { seen = x; lli = lli_with t x (f x) }) (marked_by f t xs)
-marked_by-insert planned f t [] x = refl
-marked_by-insert planned f t (y ∷ xs) x = by (is_before (seat_of planned x) (seat_of planned y)) (marked_by-insert planned f t xs x) where
+with_lli_by-insert : (planned : List ℕ) (f : Seen → Option KnownLock) (t : ℕ) (xs : List Seen) (x : Seen)
+    → with_lli_by f t (insert_by (seat_of planned) x xs) ≡ insert_by (seat_with_lli planned) (record { seen = x; lli = lli_with t x (f x) }) (with_lli_by f t xs)
+with_lli_by-insert planned f t [] x = refl
+with_lli_by-insert planned f t (y ∷ xs) x = by (is_before (seat_of planned x) (seat_of planned y)) (with_lli_by-insert planned f t xs x) where
   one : Seen → CellWithLli
   one z = record { seen = z; lli = lli_with t z (f z) }
 
-  by : (b : Bool) → marked_by f t (insert_by (seat_of planned) x xs) ≡ insert_by (seat_with_lli planned) (one x) (marked_by f t xs)
-      → marked_by f t (if b then x ∷ y ∷ xs else y ∷ insert_by (seat_of planned) x xs) ≡ (if b then one x ∷ one y ∷ marked_by f t xs else one y ∷ insert_by (seat_with_lli planned) (one x) (marked_by f t xs))
+  by : (b : Bool) → with_lli_by f t (insert_by (seat_of planned) x xs) ≡ insert_by (seat_with_lli planned) (one x) (with_lli_by f t xs)
+      → with_lli_by f t (if b then x ∷ y ∷ xs else y ∷ insert_by (seat_of planned) x xs) ≡ (if b then one x ∷ one y ∷ with_lli_by f t xs else one y ∷ insert_by (seat_with_lli planned) (one x) (with_lli_by f t xs))
   by true e = refl
   by false e = ap (λ l. one y ∷ l) e
 
 -- a kept cell comes to its place in the order
-marked_by-push : (planned : List ℕ) (f : Seen → Option KnownLock) (t : ℕ) (xs : List Seen) (x : Seen)
-    → marked_by f t (sorted planned (xs ++ x ∷ [])) ≡ insert_by (seat_with_lli planned) (record { seen = x; lli = lli_with t x (f x) }) (marked_by f t (sorted planned xs))
-marked_by-push planned f t xs x = ap (marked_by f t) (sorted-push planned xs x) ∙ marked_by-insert planned f t (sorted planned xs) x
+with_lli_by-push : (planned : List ℕ) (f : Seen → Option KnownLock) (t : ℕ) (xs : List Seen) (x : Seen)
+    → with_lli_by f t (sorted planned (xs ++ x ∷ [])) ≡ insert_by (seat_with_lli planned) (record { seen = x; lli = lli_with t x (f x) }) (with_lli_by f t (sorted planned xs))
+with_lli_by-push planned f t xs x = ap (with_lli_by f t) (sorted-push planned xs x) ∙ with_lli_by-insert planned f t (sorted planned xs) x
 
-pub marked_by-same : (f g : Seen → Option KnownLock) (t : ℕ) (xs : List Seen) → ((key : Seen) → f key ≡ g key) → marked_by f t xs ≡ marked_by g t xs
-marked_by-same f g t [] h = refl
-marked_by-same f g t (x ∷ xs) h = ap₂ (λ o l. record { seen = x; lli = lli_with t x o } ∷ l) (h x) (marked_by-same f g t xs h)
+pub with_lli_by-same : (f g : Seen → Option KnownLock) (t : ℕ) (xs : List Seen) → ((key : Seen) → f key ≡ g key) → with_lli_by f t xs ≡ with_lli_by g t xs
+with_lli_by-same f g t [] h = refl
+with_lli_by-same f g t (x ∷ xs) h = ap₂ (λ o l. record { seen = x; lli = lli_with t x o } ∷ l) (h x) (with_lli_by-same f g t xs h)
 
-marked_by-length : (f : Seen → Option KnownLock) (t : ℕ) (xs : List Seen) → length (marked_by f t xs) ≡ length xs
-marked_by-length f t [] = refl
-marked_by-length f t (x ∷ xs) = ap suc (marked_by-length f t xs)
+with_lli_by-length : (f : Seen → Option KnownLock) (t : ℕ) (xs : List Seen) → length (with_lli_by f t xs) ≡ length xs
+with_lli_by-length f t [] = refl
+with_lli_by-length f t (x ∷ xs) = ap suc (with_lli_by-length f t xs)
 
-marked_by-held : (f : Seen → Option KnownLock) (t : ℕ) (xs : List Seen) (y : Seen) → is_held (marked_by f t xs) y ≡ is_among xs y
-marked_by-held f t [] y = refl
-marked_by-held f t (x ∷ xs) y = ap (λ b. has_same_key y x || b) (marked_by-held f t xs y)
+with_lli_by-held : (f : Seen → Option KnownLock) (t : ℕ) (xs : List Seen) (y : Seen) → is_held (with_lli_by f t xs) y ≡ is_among xs y
+with_lli_by-held f t [] y = refl
+with_lli_by-held f t (x ∷ xs) y = ap (λ b. has_same_key y x || b) (with_lli_by-held f t xs y)
 
 -- the epoch of time t in which these cells were offered
 abbrev pub epoch_of : PlanValue → (Seen → Option KnownLock) → ℕ → List Seen → EpochWithLli
-epoch_of p f t xs = record { time = t; gps = marked_by f t (sorted p.gps (kept Gps xs)); galileo = marked_by f t (sorted p.galileo (kept Galileo xs)) }
+epoch_of p f t xs = record { time = t; gps = with_lli_by f t (sorted p.gps (kept Gps xs)); galileo = with_lli_by f t (sorted p.galileo (kept Galileo xs)) }
 
 -- what becomes of a cell after these
 abbrev pub fate_after : GatherSetup → List Seen → Seen → Fate
@@ -66,7 +66,7 @@ fate_after s xs x =
 abbrev pub planned_one : GatherSetup → Seen → List Seen
 planned_one s x = if is_planned s x then x ∷ [] else []
 
-cells_in_of : (system : System) (p : PlanValue) (f : Seen → Option KnownLock) (t : ℕ) (xs : List Seen) → cells_in system (epoch_of p f t xs) ≡ marked_by f t (sorted (planned_of system p) (kept system xs))
+cells_in_of : (system : System) (p : PlanValue) (f : Seen → Option KnownLock) (t : ℕ) (xs : List Seen) → cells_in system (epoch_of p f t xs) ≡ with_lli_by f t (sorted (planned_of system p) (kept system xs))
 cells_in_of Gps p f t xs = refl
 cells_in_of Galileo p f t xs = refl
 
@@ -74,8 +74,8 @@ pub fate_is : (s : GatherSetup) (f : Seen → Option KnownLock) (t : ℕ) (xs : 
 fate_is s f t xs x =
     ap (λ ms. fate_of s ms x) (cells_in_of x.satellite.system s.plan f t xs)
     ∙ ap₂ (λ b n. if is_planned s x then (if b then Repeated else (if nat_le most_cells n then Crowded else Kept)) else Skipped)
-    (marked_by-held f t (sorted planned (kept x.satellite.system xs)) x ∙ among-sorted planned (kept x.satellite.system xs) x)
-    (marked_by-length f t (sorted planned (kept x.satellite.system xs)) ∙ length-sorted planned (kept x.satellite.system xs)) where
+    (with_lli_by-held f t (sorted planned (kept x.satellite.system xs)) x ∙ among-sorted planned (kept x.satellite.system xs) x)
+    (with_lli_by-length f t (sorted planned (kept x.satellite.system xs)) ∙ length-sorted planned (kept x.satellite.system xs)) where
       planned : List ℕ
       planned = planned_of x.satellite.system s.plan
 
@@ -107,13 +107,13 @@ one_gps s f t xs x true a n g e h k = by a n h k where
   own = kept-add Gps xs x ∙ add_own Gps (kept Gps xs) x (grind (arith, g))
 
   same : kept Gps (xs ++ x ∷ []) ≡ kept Gps xs → epoch_of s.plan f t xs ≡ epoch_of s.plan f t (xs ++ x ∷ [])
-  same e = sym (ap₂ (λ u v. record { time = t; gps = marked_by f t (sorted s.plan.gps u); galileo = marked_by f t (sorted s.plan.galileo v) }) e other)
+  same e = sym (ap₂ (λ u v. record { time = t; gps = with_lli_by f t (sorted s.plan.gps u); galileo = with_lli_by f t (sorted s.plan.galileo v) }) e other)
 
   more : kept Gps (xs ++ x ∷ []) ≡ kept Gps xs ++ x ∷ [] → with_more s.plan (epoch_of s.plan f t xs) (record { seen = x; lli = lli_with t x (f x) }) ≡ epoch_of s.plan f t (xs ++ x ∷ [])
   more e =
       ap (λ c. with_more_in c s.plan (epoch_of s.plan f t xs) (record { seen = x; lli = lli_with t x (f x) })) g
-      ∙ ap (λ l. record { time = t; gps = l; galileo = marked_by f t (sorted s.plan.galileo (kept Galileo xs)) }) (sym (marked_by-push s.plan.gps f t (kept Gps xs) x))
-      ∙ sym (ap₂ (λ u v. record { time = t; gps = marked_by f t (sorted s.plan.gps u); galileo = marked_by f t (sorted s.plan.galileo v) }) e other)
+      ∙ ap (λ l. record { time = t; gps = l; galileo = with_lli_by f t (sorted s.plan.galileo (kept Galileo xs)) }) (sym (with_lli_by-push s.plan.gps f t (kept Gps xs) x))
+      ∙ sym (ap₂ (λ u v. record { time = t; gps = with_lli_by f t (sorted s.plan.gps u); galileo = with_lli_by f t (sorted s.plan.galileo v) }) e other)
 
   by : (a n : Bool) → is_among (kept Gps xs) x ≡ a → nat_le most_cells (length (kept Gps xs)) ≡ n
       → epoch_by s.plan (if a then Repeated else (if n then Crowded else Kept)) f (epoch_of s.plan f t xs) x ≡ epoch_of s.plan f t (xs ++ x ∷ [])
@@ -134,13 +134,13 @@ one_galileo s f t xs x true a n g e h k = by a n h k where
   own = kept-add Galileo xs x ∙ add_own Galileo (kept Galileo xs) x (grind (arith, g))
 
   same : kept Galileo (xs ++ x ∷ []) ≡ kept Galileo xs → epoch_of s.plan f t xs ≡ epoch_of s.plan f t (xs ++ x ∷ [])
-  same e = sym (ap₂ (λ u v. record { time = t; gps = marked_by f t (sorted s.plan.gps u); galileo = marked_by f t (sorted s.plan.galileo v) }) other e)
+  same e = sym (ap₂ (λ u v. record { time = t; gps = with_lli_by f t (sorted s.plan.gps u); galileo = with_lli_by f t (sorted s.plan.galileo v) }) other e)
 
   more : kept Galileo (xs ++ x ∷ []) ≡ kept Galileo xs ++ x ∷ [] → with_more s.plan (epoch_of s.plan f t xs) (record { seen = x; lli = lli_with t x (f x) }) ≡ epoch_of s.plan f t (xs ++ x ∷ [])
   more e =
       ap (λ c. with_more_in c s.plan (epoch_of s.plan f t xs) (record { seen = x; lli = lli_with t x (f x) })) g
-      ∙ ap (λ l. record { time = t; gps = marked_by f t (sorted s.plan.gps (kept Gps xs)); galileo = l }) (sym (marked_by-push s.plan.galileo f t (kept Galileo xs) x))
-      ∙ sym (ap₂ (λ u v. record { time = t; gps = marked_by f t (sorted s.plan.gps u); galileo = marked_by f t (sorted s.plan.galileo v) }) other e)
+      ∙ ap (λ l. record { time = t; gps = with_lli_by f t (sorted s.plan.gps (kept Gps xs)); galileo = l }) (sym (with_lli_by-push s.plan.galileo f t (kept Galileo xs) x))
+      ∙ sym (ap₂ (λ u v. record { time = t; gps = with_lli_by f t (sorted s.plan.gps u); galileo = with_lli_by f t (sorted s.plan.galileo v) }) other e)
 
   by : (a n : Bool) → is_among (kept Galileo xs) x ≡ a → nat_le most_cells (length (kept Galileo xs)) ≡ n
       → epoch_by s.plan (if a then Repeated else (if n then Crowded else Kept)) f (epoch_of s.plan f t xs) x ≡ epoch_of s.plan f t (xs ++ x ∷ [])

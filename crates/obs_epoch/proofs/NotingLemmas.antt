@@ -126,19 +126,19 @@ pub latest_in-push : (s : GatherSetup) (xs : List Timed) (ts : List ℕ) (t : �
     → latest_in s xs (ts ++ t ∷ []) key ≡ option_or (locked_at s xs key t) (latest_in s xs ts key)
 latest_in-push s xs ts t key = ap last_of (filter_map_push (locked_at s xs key) ts t) ∙ last_push (filter_map (locked_at s xs key) ts) (locked_at s xs key t)
 
-seens_marked : (s : GatherSetup) (xs : List Timed) (t : ℕ) (ks : List Seen) → seens (cells_with_lli s xs t ks) ≡ ks
-seens_marked s xs t [] = refl
-seens_marked s xs t (k ∷ ks) = ap (λ l. k ∷ l) (seens_marked s xs t ks)
+seens_with_lli : (s : GatherSetup) (xs : List Timed) (t : ℕ) (ks : List Seen) → seens (cells_with_lli s xs t ks) ≡ ks
+seens_with_lli s xs t [] = refl
+seens_with_lli s xs t (k ∷ ks) = ap (λ l. k ∷ l) (seens_with_lli s xs t ks)
 
 -- what is found after an epoch is noted
 noted_found : (s : GatherSetup) (xs : List Timed) (ts : List ℕ) (t : ℕ) (rs : List (Option KnownLock)) (key : Seen) → length rs ≡ most_locks → lookup rs key ≡ latest_in s xs ts key
     → lookup (note_all t (note_all t rs (cells_with_lli s xs t (kept_at s t xs Gps))) (cells_with_lli s xs t (kept_at s t xs Galileo))) key ≡ latest_in s xs (ts ++ t ∷ []) key
 noted_found s xs ts t rs key size h =
-    lookup-note_all t (note_all t rs gps) galileo key (subst (IsDistinct has_same_key) (sym (seens_marked s xs t (kept_at s t xs Galileo))) (at_distinct s t xs Galileo))
+    lookup-note_all t (note_all t rs gps) galileo key (subst (IsDistinct has_same_key) (sym (seens_with_lli s xs t (kept_at s t xs Galileo))) (at_distinct s t xs Galileo))
     (are_listed Galileo) (note_all_size t rs gps ∙ size)
-    ∙ ap₂ (λ l o. option_or (option_and_then (lock_of t) (find (has_same_key key) l)) o) (seens_marked s xs t (kept_at s t xs Galileo))
-    (lookup-note_all t rs gps key (subst (IsDistinct has_same_key) (sym (seens_marked s xs t (kept_at s t xs Gps))) (at_distinct s t xs Gps)) (are_listed Gps) size
-    ∙ ap₂ (λ l o. option_or (option_and_then (lock_of t) (find (has_same_key key) l)) o) (seens_marked s xs t (kept_at s t xs Gps)) h)
+    ∙ ap₂ (λ l o. option_or (option_and_then (lock_of t) (find (has_same_key key) l)) o) (seens_with_lli s xs t (kept_at s t xs Galileo))
+    (lookup-note_all t rs gps key (subst (IsDistinct has_same_key) (sym (seens_with_lli s xs t (kept_at s t xs Gps))) (at_distinct s t xs Gps)) (are_listed Gps) size
+    ∙ ap₂ (λ l o. option_or (option_and_then (lock_of t) (find (has_same_key key) l)) o) (seens_with_lli s xs t (kept_at s t xs Gps)) h)
     ∙ by key.satellite.system refl ∙ sym (latest_in-push s xs ts t key) where
       gps : List CellWithLli
       gps = cells_with_lli s xs t (kept_at s t xs Gps)
@@ -147,7 +147,7 @@ noted_found s xs ts t rs key size h =
       galileo = cells_with_lli s xs t (kept_at s t xs Galileo)
 
       are_listed : (system : System) → AllListed (seens (cells_with_lli s xs t (kept_at s t xs system)))
-      are_listed system = subst AllListed (sym (seens_marked s xs t (kept_at s t xs system))) (kept_listed s t xs system)
+      are_listed system = subst AllListed (sym (seens_with_lli s xs t (kept_at s t xs system))) (kept_listed s t xs system)
 
       by : (system : System) → key.satellite.system ≡ system
           → option_or (option_and_then (lock_of t) (find (has_same_key key) (kept_at s t xs Galileo))) (option_or (option_and_then (lock_of t) (find (has_same_key key) (kept_at s t xs Gps))) (latest_in s xs ts key))
@@ -166,10 +166,10 @@ noted_tracks : (s : GatherSetup) (xs : List Timed) (ts : List ℕ) (t : ℕ) (rs
 noted_tracks s xs ts t rs h =
     let gps = kept_at s t xs Gps in
     let galileo = kept_at s t xs Galileo in
-    let first = tracks_all t rs (locked_in s xs ts) (cells_with_lli s xs t gps) (subst AllListed (sym (seens_marked s xs t gps)) (kept_listed s t xs Gps)) h in
-    let second = tracks_all t _ _ (cells_with_lli s xs t galileo) (subst AllListed (sym (seens_marked s xs t galileo)) (kept_listed s t xs Galileo)) first in
+    let first = tracks_all t rs (locked_in s xs ts) (cells_with_lli s xs t gps) (subst AllListed (sym (seens_with_lli s xs t gps)) (kept_listed s t xs Gps)) h in
+    let second = tracks_all t _ _ (cells_with_lli s xs t galileo) (subst AllListed (sym (seens_with_lli s xs t galileo)) (kept_listed s t xs Galileo)) first in
     let is : (locked_in s xs ts ++ locked (seens (cells_with_lli s xs t gps))) ++ locked (seens (cells_with_lli s xs t galileo)) ≡ locked_in s xs (ts ++ t ∷ []) =
-    ap₂ (λ a b. (locked_in s xs ts ++ locked a) ++ locked b) (seens_marked s xs t gps) (seens_marked s xs t galileo)
+    ap₂ (λ a b. (locked_in s xs ts ++ locked a) ++ locked b) (seens_with_lli s xs t gps) (seens_with_lli s xs t galileo)
     ∙ append_assoc (locked_in s xs ts) (locked gps) (locked galileo) ∙ ap (λ l. locked_in s xs ts ++ l) (sym (filter-append is_locked gps galileo) ∙ sym (append-nil _))
     ∙ sym (flat_map-append (λ u. filter is_locked (kept_at s u xs Gps ++ kept_at s u xs Galileo)) ts (t ∷ [])) in
     subst (TracksLocks (note_all t (note_all t rs (cells_with_lli s xs t gps)) (cells_with_lli s xs t galileo))) is second

@@ -20,7 +20,8 @@ use Rattle.rtcm_msg.specs.Entries.{entries}
 use Rattle.obs_epoch.specs.declared.cell.StationValues.{StationValues}
 use Rattle.obs_epoch.specs.declared.seen.Seen.{Seen}
 use Rattle.obs_epoch.specs.declared.seen.KnownLock.{KnownLock}
-use Rattle.obs_epoch.specs.Weeks.{week, weeks}
+use Rattle.rtcm_msg.specs.Msm.{week}
+use Rattle.obs_epoch.specs.Weeks.{weeks}
 use Rattle.obs_epoch.specs.Values.{Closed, HasTwelveDigits, cells_of, planned_of, most_cells}
 use Rattle.obs_epoch.specs.Plans.{place_in}
 use Rattle.obs_epoch.specs.Heard.{GatherSetup, Heard, heard, observed, seen_in, lock_by, is_own}
@@ -209,8 +210,8 @@ second_of : (a b : Bool) → (a && b) ≡ true → b ≡ true
 second_of true b h = h
 second_of false b h = absurd (grind (arith, h))
 
-marks : (t : ℕ) (x : Seen) (before : Option KnownLock) → lli_with t x before < 4
-marks t x before = by (is_some x.l) (has_lost t x before) x.half_cycle where
+small_lli : (t : ℕ) (x : Seen) (before : Option KnownLock) → lli_with t x before < 4
+small_lli t x before = by (is_some x.l) (has_lost t x before) x.half_cycle where
   by : (l a b : Bool) → (if l then (if a then 1 else 0) + (if b then 2 else 0) else 0) < 4
   by false a b = lit< tt
   by true false false = lit< tt
@@ -218,8 +219,8 @@ marks t x before = by (is_some x.l) (has_lost t x before) x.half_cycle where
   by true true false = lit< tt
   by true true true = lit< tt
 
-unmarked : (t : ℕ) (x : Seen) (before : Option KnownLock) → x.l ≡ None → lli_with t x before ≡ 0
-unmarked t x before e = ap (λ (o : Option ℤ). if is_some o then (if has_lost t x before then 1 else 0) + (if x.half_cycle then 2 else 0) else 0) e
+no_lli : (t : ℕ) (x : Seen) (before : Option KnownLock) → x.l ≡ None → lli_with t x before ≡ 0
+no_lli t x before e = ap (λ (o : Option ℤ). if is_some o then (if has_lost t x before then 1 else 0) + (if x.half_cycle then 2 else 0) else 0) e
 
 number_is : (n most : ℕ) (rest : Bool) → (nat_lt 0 n && nat_le n most && rest) ≡ true → (1 ≤ n) × (n ≤ most)
 number_is n most rest h = (grind (arith, h), grind (arith, h))
@@ -247,7 +248,7 @@ each_gathered : (s : GatherSetup) (xs : List Timed) (t : ℕ) (system : System) 
 each_gathered s xs t system [] h = tt
 each_gathered s xs t system (c ∷ cs) h =
     let before = previous s xs t c in
-    (gathered s system c (lli_of s xs t c) h.0 (marks t c before) (unmarked t c before), each_gathered s xs t system cs h.1)
+    (gathered s system c (lli_of s xs t c) h.0 (small_lli t c before) (no_lli t c before), each_gathered s xs t system cs h.1)
 
 same_system : (a b c : System) → is_system a b ≡ true → is_system a c ≡ true → is_system b c ≡ true
 same_system Gps Gps c h k = k

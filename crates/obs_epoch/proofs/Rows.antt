@@ -5,7 +5,7 @@ use Rattle.gnss_obs.specs.declared.system.System.TheVariants.{Gps}
 use Rattle.obs_epoch.specs.Heard.{GatherSetup, Heard}
 use Rattle.obs_epoch.specs.declared.seen.Seen.{Seen}
 use Rattle.obs_epoch.specs.Times.{timed}
-use Rattle.obs_epoch.specs.Weeks.{week}
+use Rattle.rtcm_msg.specs.Msm.{week}
 use Rattle.obs_epoch.specs.Cells.{counts_of}
 use Rattle.obs_epoch.specs.WithLli.{EpochWithLli}
 use Rattle.obs_epoch.specs.Epochs.{epochs, closed_epochs}
@@ -51,8 +51,8 @@ cell l least = record {
   half_cycle = false;
 }
 
-abbrev marks : List EpochWithLli → List (List ℕ)
-marks es = map (λ (e : EpochWithLli). map (λ (m : CellWithLli). m.lli) e.gps) es
+abbrev small_lli : List EpochWithLli → List (List ℕ)
+small_lli es = map (λ (e : EpochWithLli). map (λ (m : CellWithLli). m.lli) e.gps) es
 
 -- a lock of 4,096 ms, then an invalid phase, then a lock of 2,048 ms
 abbrev three : List Heard
@@ -60,10 +60,10 @@ three =
     observed 1000 false (cell (Some (pos 1)) (Some 4096) ∷ []) ∷ observed 2000 false (cell None (Some 0) ∷ [])
     ∷ observed 3000 true (cell (Some (pos 1)) (Some 2048) ∷ cell None None ∷ []) ∷ []
 
-pub three_marks : marks (epochs setup (timed setup three)) ≡ (0 ∷ []) ∷ (0 ∷ []) ∷ (1 ∷ []) ∷ []
-three_marks = refl
+pub three_llis : small_lli (epochs setup (timed setup three)) ≡ (0 ∷ []) ∷ (0 ∷ []) ∷ (1 ∷ []) ∷ []
+three_llis = refl
 
-pub two_closed : marks (closed_epochs setup (timed setup three)) ≡ (0 ∷ []) ∷ (0 ∷ []) ∷ []
+pub two_closed : small_lli (closed_epochs setup (timed setup three)) ≡ (0 ∷ []) ∷ (0 ∷ []) ∷ []
 two_closed = refl
 
 pub one_repeated : counts_of setup [] (cell None None ∷ cell None (Some 1) ∷ [])

@@ -24,7 +24,7 @@ use Rattle.obs_epoch.proofs.ClosedLemmas.{Below, when, ends, closed_is, passes_a
 use Rattle.obs_epoch.proofs.ClosingLemmas.{taken_by}
 use Rattle.obs_epoch.proofs.EpochLemmas.{IsLater, AllLater, all_none, all_below, kept_at-push, times_before, epoch_at-push}
 use Rattle.obs_epoch.proofs.LockLemmas.{none_found, none_recorded}
-use Rattle.obs_epoch.proofs.LoadLemmas.{marked_by, epoch_of, load_is, counts_after}
+use Rattle.obs_epoch.proofs.LoadLemmas.{with_lli_by, epoch_of, load_is, counts_after}
 
 -- ---- what was closed stays, whatever comes
 
@@ -96,12 +96,12 @@ closed_later s xs m shut h = by (taken_at s xs m) refl where
 
 -- ---- indicators by the lock records
 
-marked_is : (s : GatherSetup) (xs : List Timed) (f : Seen → Option KnownLock) (t : ℕ) (ks : List Seen) → ((key : Seen) → f key ≡ previous s xs t key) → marked_by f t ks ≡ cells_with_lli s xs t ks
-marked_is s xs f t [] h = refl
-marked_is s xs f t (k ∷ ks) h = ap₂ (λ o l. record { seen = k; lli = lli_with t k o } ∷ l) (h k) (marked_is s xs f t ks h)
+with_lli_is : (s : GatherSetup) (xs : List Timed) (f : Seen → Option KnownLock) (t : ℕ) (ks : List Seen) → ((key : Seen) → f key ≡ previous s xs t key) → with_lli_by f t ks ≡ cells_with_lli s xs t ks
+with_lli_is s xs f t [] h = refl
+with_lli_is s xs f t (k ∷ ks) h = ap₂ (λ o l. record { seen = k; lli = lli_with t k o } ∷ l) (h k) (with_lli_is s xs f t ks h)
 
 epoch_is : (s : GatherSetup) (xs : List Timed) (f : Seen → Option KnownLock) (t : ℕ) → ((key : Seen) → f key ≡ previous s xs t key) → epoch_of s.plan f t (offered s t xs) ≡ epoch_at s xs t
-epoch_is s xs f t h = ap₂ (λ a b. record { time = t; gps = a; galileo = b }) (marked_is s xs f t (kept_at s t xs Gps) h) (marked_is s xs f t (kept_at s t xs Galileo) h)
+epoch_is s xs f t h = ap₂ (λ a b. record { time = t; gps = a; galileo = b }) (with_lli_is s xs f t (kept_at s t xs Gps) h) (with_lli_is s xs f t (kept_at s t xs Galileo) h)
 
 offered-more : (s : GatherSetup) (xs : List Timed) (m : Heard) (u : ℕ) → taken_at s xs m ≡ Some u → offered s u (xs ++ next s xs m ∷ []) ≡ offered s u xs ++ filter (is_planned s) m.cells
 offered-more s xs m u some =

@@ -6,7 +6,8 @@ use Rattle.jiff_core.proofs.SignedLemmas.{signed_arith}
 use Rattle.jiff_core.proofs.DateLemmas.{epoch_day_injective}
 use Rattle.jiff_core.proofs.CalendarLemmas.{days_from_civil-day_count, day_count-next_year, day_count-next_month, day_count-day, day_count-last_of_year}
 use Rattle.obs_epoch.specs.declared.civil.Civil.{Civil}
-use Rattle.obs_epoch.specs.Weeks.{week, weeks}
+use Rattle.rtcm_msg.specs.Msm.{week}
+use Rattle.obs_epoch.specs.Weeks.{weeks}
 use Rattle.obs_epoch.specs.Dates.{YearMonthDay, month_on, year_on, month_length, year_length, date_of, civil_of, IsCivil, IsCivilOf, clock_of}
 
 -- a date that the calendar has, so many days after 1 January of the year -10000

@@ -5,7 +5,8 @@ use Rattle.obs_epoch.specs.declared.clock.HeardByClock.{HeardByClock}
 use Rattle.obs_epoch.specs.declared.clock.Answer.{Answer}
 use Rattle.obs_epoch.specs.declared.clock.Answer.TheVariants.{OtherStation, Ignored, Late, PastWeeks, Kept}
 use Rattle.obs_epoch.specs.Heard.{GatherSetup, Heard, is_own}
-use Rattle.obs_epoch.specs.Weeks.{week, weeks}
+use Rattle.rtcm_msg.specs.Msm.{week}
+use Rattle.obs_epoch.specs.Weeks.{weeks}
 use Rattle.obs_epoch.specs.Times.{Timed, greatest_time, is_closed, is_late, is_past, time_of, timed}
 
 -- the message, as far as a clock is told of it

@@ -9,7 +9,8 @@ use Rattle.rtcm_msg.specs.Reach.{IsCoordinate, IsPoint}
 use Rattle.obs_epoch.specs.declared.cell.Cell.{Cell}
 use Rattle.obs_epoch.specs.declared.cell.StationValues.{StationValues}
 use Rattle.obs_epoch.specs.declared.seen.Seen.{Seen}
-use Rattle.obs_epoch.specs.Weeks.{week, weeks}
+use Rattle.rtcm_msg.specs.Msm.{week}
+use Rattle.obs_epoch.specs.Weeks.{weeks}
 use Rattle.obs_epoch.specs.Values.{PlanValue, Closed, HasTwelveDigits, cells_of, planned_of}
 use Rattle.obs_epoch.specs.Plans.{place_in}
 use Rattle.obs_epoch.specs.Heard.{GatherSetup, Heard, heard}

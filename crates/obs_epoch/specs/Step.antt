@@ -4,7 +4,7 @@ use Rattle.std.specs.Option.{option_map_or}
 use Rattle.obs_epoch.specs.declared.clock.Answer.{Answer}
 use Rattle.obs_epoch.specs.declared.clock.Answer.TheVariants.{OtherStation, Ignored, Late, PastWeeks, Kept, CloseFirst}
 use Rattle.obs_epoch.specs.Heard.{Heard, ends_epoch}
-use Rattle.obs_epoch.specs.Weeks.{week}
+use Rattle.rtcm_msg.specs.Msm.{week}
 use Rattle.obs_epoch.specs.Times.{ahead, is_past}
 use Rattle.obs_epoch.specs.Clock.{State}
 

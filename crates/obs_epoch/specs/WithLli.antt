@@ -56,8 +56,8 @@ shown_cell m = record {
   lli = m.lli;
 }
 
-abbrev pub marked_cell : Seen → ℕ → Cell
-marked_cell x lli = shown_cell (record { seen = x; lli = lli })
+abbrev pub cell_with_lli : Seen → ℕ → Cell
+cell_with_lli x lli = shown_cell (record { seen = x; lli = lli })
 
 abbrev pub tracking_of : Seen → Tracking
 tracking_of x = record { lock = x.lock; half_cycle = x.half_cycle }

@@ -4,7 +4,8 @@ ghost use Rattle.std.specs.Option.{ForSome};
 ghost use Rattle.std.specs.List.{list_any};
 ghost use Rattle.obs_epoch.specs.Cells.{is_planned as is_planned_lem};
 ghost use Rattle.obs_epoch.specs.Heard.{GatherSetup, Heard};
-ghost use Rattle.obs_epoch.specs.Weeks.{week, weeks};
+ghost use Rattle.rtcm_msg.specs.Msm.{week};
+ghost use Rattle.obs_epoch.specs.Weeks.{weeks};
 ghost use Rattle.obs_epoch.specs.WithLli.{IsKey};
 ghost use Rattle.obs_epoch.specs.Times.{timed};
 

@@ -3,7 +3,7 @@ ghost use Rattle.std.specs.Prelude.{◌≡◌, ◌+◌, ◌<◌, ◌≤◌, [], 
 ghost use Rattle.std.specs.Vec.{vec_len, vec_capacity};
 ghost use Rattle.obs_epoch.specs.Values.{AreHeld, cells_of, satellites_written, is_written, written_among, most_cells, most_written, run};
 ghost use Rattle.obs_epoch.specs.Epochs.{no_values};
-ghost use Rattle.obs_epoch.specs.WithLli.{with_cell_of, marked_cell, IsObserved};
+ghost use Rattle.obs_epoch.specs.WithLli.{with_cell_of, cell_with_lli, IsObserved};
 ghost use Rattle.obs_epoch.specs.Order.{AreSorted};
 ghost use Rattle.gnss_obs.specs.Satellites.{satellites as satellites_in};
 
@@ -85,11 +85,11 @@ impl Epoch {
     // One cell more, with its loss-of-lock indicator, behind so many of its system.
     pub(crate) fn hold(&mut self, at: usize, x: &Seen, lli: u8)
         requires observed { IsObserved x.now }
-        requires mark { lli < 4 }
+        requires indicator { lli < 4 }
         requires room { length (cells_of x.now.satellite.system self.old.epoch) < most_cells }
         requires within { at ≤ length (cells_of x.now.satellite.system self.old.epoch) }
-        requires order { AreSorted (insert (cells_of x.now.satellite.system self.old.epoch) at (marked_cell x.now lli)) }
-        ensures { self.new ≡ record { epoch = with_cell_of x.now.satellite.system at self.old.epoch (marked_cell x.now lli); values = self.old.values } }
+        requires order { AreSorted (insert (cells_of x.now.satellite.system self.old.epoch) at (cell_with_lli x.now lli)) }
+        ensures { self.new ≡ record { epoch = with_cell_of x.now.satellite.system at self.old.epoch (cell_with_lli x.now lli); values = self.old.values } }
     {
         self.counted = None;
         match x.satellite.system() {
@@ -200,7 +200,7 @@ fn written(cells: &[Cell], system: System) -> usize
 fn insert_cell(cells: &mut Vec<Cell>, at: usize, x: &Seen, lli: u8)
     requires room { vec_len cells.old < vec_capacity cells.old }
     requires within { at ≤ vec_len cells.old }
-    ensures items { cells.new.items ≡ insert cells.old.items at (marked_cell x.now lli) }
+    ensures items { cells.new.items ≡ insert cells.old.items at (cell_with_lli x.now lli) }
     ensures len { vec_len cells.new ≡ vec_len cells.old + 1 }
     ensures room { vec_capacity cells.old ≤ vec_capacity cells.new }
 {

@@ -2,7 +2,8 @@
 ghost use Rattle.std.specs.Prelude.{◌≡◌, ◌↔◌, ◌⊎◌, ◌+◌, ◌<◌, ◌≤◌, [], true, false, length, None, Some, is_some, IfOk, IfErr, IfSome, IsOk, Err, option_map, option_to_list, ◌&&◌, ◌||◌, not, List, Bool, Option, ◌++◌, ◌∷◌, All};
 ghost use Rattle.std.specs.Option.{ForSome, option_map_or};
 ghost use Rattle.rtcm_msg.specs.Entries.{IsEntry};
-ghost use Rattle.obs_epoch.specs.Weeks.{week, weeks};
+ghost use Rattle.rtcm_msg.specs.Msm.{week};
+ghost use Rattle.obs_epoch.specs.Weeks.{weeks};
 ghost use Rattle.obs_epoch.specs.Heard.{GatherSetup, Heard, heard, seen_in, system_of};
 ghost use Rattle.obs_epoch.specs.Times.{timed};
 ghost use Rattle.obs_epoch.specs.Cells.{firsts};
@@ -138,11 +139,11 @@ impl Gatherer {
         ensures again { (s : GatherSetup) (ms : List Heard) (es : List Closed) → HasGatheredEpochs self.old s ms es (Some (heard m.now))
             → is_close_first result.kind ≡ false }
         // Every other message is taken, and hands out the epoch that it closes.
-        ensures taken { (s : GatherSetup) (ms : List Heard) (es : List Closed) (again : Option Heard) → HasGatheredEpochs self.old s ms es again → IsAwaited again (heard m.now)
-            → is_close_first result.kind ≡ false
+        ensures taken { (s : GatherSetup) (ms : List Heard) (es : List Closed) (again : Option Heard) → HasGatheredEpochs self.old s ms es again
+            → IsAwaited again (heard m.now) → is_close_first result.kind ≡ false
             → HasGatheredEpochs self.new s (ms ++ heard m.now ∷ []) (es ++ closed_by (closed_in self.new) self.new.values) None }
-        ensures kind { (s : GatherSetup) (ms : List Heard) (es : List Closed) (again : Option Heard) → HasGatheredEpochs self.old s ms es again → IsAwaited again (heard m.now)
-            → is_close_first result.kind ≡ false → result.kind ≡ kind_of s ms (heard m.now) }
+        ensures kind { (s : GatherSetup) (ms : List Heard) (es : List Closed) (again : Option Heard) → HasGatheredEpochs self.old s ms es again
+            → IsAwaited again (heard m.now) → is_close_first result.kind ≡ false → result.kind ≡ kind_of s ms (heard m.now) }
         ensures closed { result.closed ≡ is_some (closed_in self.new) }
         ensures going { self.new.has_ended ≡ false }
     {

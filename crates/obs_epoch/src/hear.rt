@@ -1,7 +1,7 @@
 //! What a gatherer hears of a message.
 ghost use Rattle.std.specs.Prelude.{◌≡◌, ◌<◌, Some};
 ghost use Rattle.std.specs.Option.{ForSome};
-ghost use Rattle.obs_epoch.specs.Weeks.{week};
+ghost use Rattle.rtcm_msg.specs.Msm.{week};
 ghost use Rattle.obs_epoch.specs.Heard.{heard, system_of};
 ghost use Rattle.obs_epoch.specs.Epochs.{values_by};
 

@@ -1,9 +1,10 @@
 //! The epoch that is held: its cells and how each is tracked, and the station values so far.
 ghost use Rattle.std.specs.Prelude.{◌≡◌, ◌<◌, ◌≤◌, [], length, IfOk, ◌-◌, false, map, insert, slice_index_or};
-ghost use Rattle.obs_epoch.specs.Weeks.{week, weeks};
+ghost use Rattle.rtcm_msg.specs.Msm.{week};
+ghost use Rattle.obs_epoch.specs.Weeks.{weeks};
 ghost use Rattle.obs_epoch.specs.Values.{AreHeld, cells_of, most_cells};
 ghost use Rattle.obs_epoch.specs.Epochs.{no_values};
-ghost use Rattle.obs_epoch.specs.WithLli.{IsKey, IsObserved, MayBeHeld, shown_cell, marked_cell, shown, paired};
+ghost use Rattle.obs_epoch.specs.WithLli.{IsKey, IsObserved, MayBeHeld, shown_cell, cell_with_lli, shown, paired};
 ghost use Rattle.obs_epoch.specs.Held.{is_held as is_held_lem, is_cell_of, note_all};
 ghost use Rattle.obs_epoch.specs.Gather.{no_epoch, cells_in, more_at, spot_in, AreInOrder};
 ghost use Rattle.obs_epoch.specs.Order.{AreSorted};
@@ -143,10 +144,10 @@ impl Held {
     /// One cell more, behind so many of its system.
     pub fn hold(&mut self, at: usize, x: Seen, lli: u8)
         requires observed { IsObserved x }
-        requires mark { lli < 4 }
+        requires indicator { lli < 4 }
         requires room { length (cells_in x.satellite.system self.old.epoch) < most_cells }
         requires within { at ≤ length (cells_in x.satellite.system self.old.epoch) }
-        requires order { AreSorted (insert (map shown_cell (cells_in x.satellite.system self.old.epoch)) at (marked_cell x lli)) }
+        requires order { AreSorted (insert (map shown_cell (cells_in x.satellite.system self.old.epoch)) at (cell_with_lli x lli)) }
         ensures { self.new ≡ record { epoch = more_at x.satellite.system at self.old.epoch (record { seen = x; lli = lli }); values = self.old.values } }
     {
         match x.satellite.system() {

@@ -1,6 +1,7 @@
 //! Laws of the definitions that the contracts cite.
 ghost use Rattle.std.specs.Prelude.{ℕ, ◌<◌, ◌≤◌, ◌*◌};
-ghost use Rattle.obs_epoch.specs.Weeks.{week, weeks};
+ghost use Rattle.rtcm_msg.specs.Msm.{week};
+ghost use Rattle.obs_epoch.specs.Weeks.{weeks};
 ghost use Rattle.obs_epoch.specs.Dates.{IsCivilOf, civil_of};
 ghost use Rattle.obs_epoch.specs.Laws.{ClosedStay, ClosedComeFirst, NoneClosed, NeverFirst, CodesAreSpelled};
 ghost use Rattle.obs_epoch.specs.Reach.{MessagesAreHeard, EpochsAreGathered};

@@ -7,16 +7,17 @@ ghost use Rattle.obs_epoch.specs.WithLli.{IsKey};
 ghost use Rattle.obs_epoch.specs.Loss.{lock_of};
 
 use crate::seen::{KnownLock, Seen};
-use crate::signals::{GALILEO_SIGNALS, GPS_SIGNALS};
-use gnss_obs::{Sat, Signal, System};
+use gnss_obs::{
+    GALILEO_SATELLITES, GALILEO_SIGNAL_COUNT, GPS_SATELLITES, GPS_SIGNAL_COUNT, Sat, Signal, System,
+};
 use std::alloc::{AllocError, Global};
 use std::marker::Model;
 
-/// So many keys GPS has: each of its 32 satellites with each signal of its table.
-const GPS_KEYS: usize = 32 * GPS_SIGNALS;
+/// So many keys GPS has: each of its satellites with each signal of its table.
+const GPS_KEYS: usize = GPS_SATELLITES as usize * GPS_SIGNAL_COUNT;
 
-/// So many keys Galileo has, with 36 satellites.
-const GALILEO_KEYS: usize = 36 * GALILEO_SIGNALS;
+/// So many keys Galileo has.
+const GALILEO_KEYS: usize = GALILEO_SATELLITES as usize * GALILEO_SIGNAL_COUNT;
 
 /// So many keys there are.
 pub const MOST_LOCKS: usize = GPS_KEYS + GALILEO_KEYS;
@@ -117,8 +118,8 @@ fn lock_place(x: &Seen) -> usize
     let id = x.satellite.id() as usize;
     let index = x.signal.index();
     match x.satellite.system() {
-        System::Gps => GPS_SIGNALS * (id - 1) + index,
-        System::Galileo => GPS_KEYS + GALILEO_SIGNALS * (id - 1) + index,
+        System::Gps => GPS_SIGNAL_COUNT * (id - 1) + index,
+        System::Galileo => GPS_KEYS + GALILEO_SIGNAL_COUNT * (id - 1) + index,
     }
 }
 

@@ -5,23 +5,18 @@ ghost use Rattle.gnss_obs.specs.Signals.{SignalAt, table};
 ghost use Rattle.obs_epoch.specs.Plans.{place_in};
 ghost use Rattle.obs_epoch.specs.Signals.{indices, IsAdded, IsOf};
 
-use gnss_obs::Signal;
+use gnss_obs::{GALILEO_SIGNAL_COUNT, Signal};
 use indexmap::IndexSet;
 use std::alloc::{AllocError, Global};
 use std::marker::Model;
-
-/// So many signals the table of GPS has.
-pub const GPS_SIGNALS: usize = 15;
-
-/// So many signals the table of Galileo has, which is the longest.
-pub const GALILEO_SIGNALS: usize = 19;
 
 /// Signals of a system, each once, in the order in which they were added.
 #[derive(Drop)]
 pub struct Signals {
     order: IndexSet<Signal>,
-    // For each signal of the table, by its place there: its place in the order.
-    places: [Option<usize>; GALILEO_SIGNALS],
+    // For each signal of the table, by its place there: its place in the order. Galileo has the
+    // longest table.
+    places: [Option<usize>; GALILEO_SIGNAL_COUNT],
 }
 
 impl Model for Signals {
@@ -43,7 +38,7 @@ impl Signals {
     {
         Signals {
             order: IndexSet::new(alloc),
-            places: [None; GALILEO_SIGNALS],
+            places: [None; GALILEO_SIGNAL_COUNT],
         }
     }
 

@@ -1,6 +1,7 @@
 //! GPS time.
 ghost use Rattle.std.specs.Prelude.{◌≡◌, ◌<◌, ◌*◌, ◌↔◌, IsSome, IfSome};
-ghost use Rattle.obs_epoch.specs.Weeks.{week, weeks};
+ghost use Rattle.rtcm_msg.specs.Msm.{week};
+ghost use Rattle.obs_epoch.specs.Weeks.{weeks};
 
 use std::marker::Model;
 
@@ -19,7 +20,8 @@ pub struct GpsTime {
 
 impl Model for GpsTime {
     ghost use Rattle.std.specs.Prelude.{ℕ, ◌<◌, ◌*◌};
-    ghost use Rattle.obs_epoch.specs.Weeks.{week, weeks};
+    ghost use Rattle.rtcm_msg.specs.Msm.{week};
+    ghost use Rattle.obs_epoch.specs.Weeks.{weeks};
 
     ghost Value = { ℕ };
 

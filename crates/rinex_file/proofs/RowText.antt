@@ -101,12 +101,12 @@ first_of_rest x a t rest m n is l k =
     let shape : x ≡ (a ++ t) ++ (m ∷ n ∷ rest) = is ∙ ap (λ y. a ++ y) (append_assoc t (m ∷ n ∷ []) rest) ∙ sym (append_assoc a t (m ∷ n ∷ rest)) in
     ap (take 1) (ap (drop 30) shape ∙ drop_at (a ++ t) (m ∷ n ∷ rest) 30 (simp length-append (omega (arith, l, k))))
 
-mark_read : (m : ℕ) → m < 4 → digits_in (lli_byte m ∷ []) ≡ m
-mark_read m h = grind arith
+lli_read : (m : ℕ) → m < 4 → digits_in (lli_byte m ∷ []) ≡ m
+lli_read m h = grind arith
 
-mark_shown : (v : Option ℤ) (m : ℕ) → m < 4 → (v ≡ None → m ≡ 0) → digits_in (shown v (lli_byte m) ∷ []) ≡ m
-mark_shown None m h none = sym (none refl)
-mark_shown (Some v) m h none = mark_read m h
+lli_shown : (v : Option ℤ) (m : ℕ) → m < 4 → (v ≡ None → m ≡ 0) → digits_in (shown v (lli_byte m) ∷ []) ≡ m
+lli_shown None m h none = sym (none refl)
+lli_shown (Some v) m h none = lli_read m h
 
 pub strength_fits : (s : Option ℤ) → IfSome s (IsFrom (pos 1) (pos 99_999)) → IfSome s FitsColumns
 strength_fits None h = tt
@@ -148,14 +148,14 @@ entry_in-text e rest h =
     let x = (c ++ (l ++ (d ++ s))) ++ rest in
     let (t, lt, parts) = in_parts e.l (lli_byte e.lli) (strength_byte e.s) h.l in
     let front : x ≡ c ++ ((l ++ (d ++ s)) ++ rest) = append_assoc c (l ++ (d ++ s)) rest in
-    let marked : x ≡ c ++ ((t ++ shown e.l (lli_byte e.lli) ∷ shown e.l (strength_byte e.s) ∷ []) ++ ((d ++ s) ++ rest)) =
+    let with_lli : x ≡ c ++ ((t ++ shown e.l (lli_byte e.lli) ∷ shown e.l (strength_byte e.s) ∷ []) ++ ((d ++ s) ++ rest)) =
     front ∙ ap (λ y. c ++ y) (append_assoc l (d ++ s) rest) ∙ ap (λ y. c ++ (y ++ ((d ++ s) ++ rest))) parts in
     same_entry (signal_values_in x) e
     (ap value_in front ∙ value_in-field e.c 32 (strength_byte e.s) ((l ++ (d ++ s)) ++ rest) h.c)
     (ap value_in (second x c l d s rest refl lc) ∙ value_in-field e.l (lli_byte e.lli) (strength_byte e.s) (d ++ (s ++ rest)) h.l)
     (ap value_in (third x c l d s rest refl lc ll) ∙ value_in-field e.d 32 32 (s ++ rest) h.d)
     (ap value_in (fourth x c l d s rest refl lc ll ld) ∙ value_in-field e.s 32 32 rest (strength_fits e.s h.s))
-    (ap digits_in (first_of_rest x c t ((d ++ s) ++ rest) (shown e.l (lli_byte e.lli)) (shown e.l (strength_byte e.s)) marked lc lt) ∙ mark_shown e.l e.lli h.lli h.without_phase)
+    (ap digits_in (first_of_rest x c t ((d ++ s) ++ rest) (shown e.l (lli_byte e.lli)) (shown e.l (strength_byte e.s)) with_lli lc lt) ∙ lli_shown e.l e.lli h.lli h.without_phase)
 
 entry_alone : (e : SignalValues) → AreSignalValues e → signal_values_in (signal_text e) ≡ e
 entry_alone e h = ap signal_values_in (sym (append-nil (signal_text e))) ∙ entry_in-text e [] h

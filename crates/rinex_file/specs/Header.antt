@@ -10,12 +10,13 @@ use Rattle.obs_epoch.specs.Values.{PlanValue, planned_of}
 use Rattle.rinex_file.specs.declared.header.section.Section.{Section}
 use Rattle.rinex_file.specs.declared.header.section.Section.TheVariants.{Version, Program, Marker, MarkerType, Observer, Receiver, Antenna, Position, Delta, Types, StrengthUnit, First, Shift, End}
 use Rattle.rinex_file.specs.Numbers.{joined, left, right, fixed}
+use Rattle.rinex_file.specs.Limits.{content_columns, label_columns, types_in_line}
 use Rattle.rinex_file.specs.Texts.{HeaderLists}
 use Rattle.rinex_file.specs.Lines.{letter_of}
 
 -- content, label and a line feed
 unfoldable pub header_line : List ℕ → List ℕ → List ℕ
-header_line content label = joined (left 60 content ∷ left 20 label ∷ (10 ∷ []) ∷ [])
+header_line content label = joined (left content_columns content ∷ left label_columns label ∷ (10 ∷ []) ∷ [])
 
 -- two texts, and three, of 20 columns each but the last
 abbrev pub two : List ℕ → List ℕ → List ℕ
@@ -81,16 +82,16 @@ abbrev pub type_front : ℕ → ℕ → ℕ → List ℕ
 type_front letter types zero = letter ∷ 32 ∷ 32 ∷ right 3 (decimal types)
 type_front letter types (suc line) = replicate 6 32
 
--- the 13 types, or less, that stand from `13 * line` on, with a blank in front of each
+-- the types that stand in a line, with a blank in front of each: a full line has the most, and the last what is left
 abbrev pub type_columns : List (List ℕ) → ℕ → List ℕ
-type_columns types line = flat_map (λ t. 32 ∷ t) (take 13 (drop (13 * line) types))
+type_columns types line = flat_map (λ t. 32 ∷ t) (take types_in_line (drop (types_in_line * line) types))
 
 abbrev pub type_line : ℕ → List (List ℕ) → ℕ → List ℕ
 type_line letter types line = header_line (type_front letter (length types) line ++ type_columns types line) (codes "SYS / # / OBS TYPES")
 
--- so many lines are needed for the types of so many signals
+-- so many lines are needed for the types of so many signals, the last of which may not be full
 abbrev pub type_rows : ℕ → ℕ
-type_rows signals = (4 * signals + 12) / 13
+type_rows signals = (4 * signals + 12) / types_in_line
 
 abbrev pub codes_of : System → List ℕ → List (List ℕ)
 codes_of system signals = map (λ index. code_of (record { system = system; index = index })) signals

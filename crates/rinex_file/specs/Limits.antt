@@ -13,6 +13,17 @@ signal_columns = 64
 abbrev pub most_signals : ℕ
 most_signals = 19
 
+-- a header line: its content, and its label behind it
+abbrev pub content_columns : ℕ
+content_columns = 60
+
+abbrev pub label_columns : ℕ
+label_columns = 20
+
+-- the observation types that stand in a header line
+abbrev pub types_in_line : ℕ
+types_in_line = 13
+
 -- a line with its line feed: three columns for a satellite, and those of its signals
 abbrev pub most_line : ℕ
 most_line = 1220

@@ -6,7 +6,7 @@ use Rattle.rtcm_scan.specs.Frames.{Framed, AreFrames, frames_of}
 use Rattle.rtcm_scan.specs.Local.{placed}
 use Rattle.rtcm_msg.specs.declared.message.Message.{Message}
 use Rattle.rtcm_msg.specs.Spelling.{IsMessage, ReadsMessage, is_other, message_bits}
-use Rattle.rtcm2rinex.specs.ReadBack.{EncodesMessage, AreEncoded, AreReadAs, ReadsBack, AreKnown}
+use Rattle.rtcm2rinex.specs.ReadBack.{AreEncoded, AreReadAs, ReadsBack, AreKnown}
 
 -- laws of the layers below
 abbrev pub EightBits : Type 0
@@ -32,7 +32,7 @@ length-filled bits = length-append bits (replicate (missing (length bits)) false
     length-zeros (suc n) = ap suc (length-zeros n)
 
 -- an encoding fits a frame
-encoding_short : EightBits → FewBits → (bytes : List ℕ) (v : Message) → IsMessage v → EncodesMessage bytes v → length bytes ≤ 1023
+encoding_short : EightBits → FewBits → (bytes : List ℕ) (v : Message) → IsMessage v → IsEncoding bytes v → length bytes ≤ 1023
 encoding_short eight few bytes v is e =
     let bits : 8 * length bytes ≡ length (message_bits v 0) + missing (length (message_bits v 0)) = sym (eight bytes) ∙ ap length e ∙ length-filled (message_bits v 0) in
     whole_bytes (length bytes) (length (message_bits v 0)) bits (few v is)

@@ -1,27 +1,23 @@
 -- Messages, their encodings in frames, and what is read back.
 use Rattle.std.specs.Prelude.{◌≡◌, ℕ, false, List, [], ◌∷◌, map, ⊤}
 use Rattle.std.specs.List.{flat_map}
-use Rattle.rtcm_bits.specs.Bits.{bits_of, filled}
+use Rattle.rtcm_bits.specs.Bits.{bits_of}
 use Rattle.rtcm_bits.specs.FrameOf.{frame_bytes}
 use Rattle.rtcm_scan.specs.Frames.{Framed, AreFrames}
 use Rattle.rtcm_scan.specs.Local.{placed}
 use Rattle.rtcm_msg.specs.declared.message.Message.{Message}
-use Rattle.rtcm_msg.specs.Spelling.{IsMessage, ReadsMessage, is_other, message_bits}
+use Rattle.rtcm_msg.specs.Spelling.{IsEncoding, IsMessage, ReadsMessage, is_other}
 
 -- a message whose layout is known
 abbrev pub IsKnown : Message → Type 0
 IsKnown v = IsMessage v × (is_other v ≡ false)
-
--- the bytes encode the message: they are its bits with 0 for what is reserved, filled up with zero bits to a byte
-abbrev pub EncodesMessage : List ℕ → Message → Type 0
-EncodesMessage bytes v = bits_of bytes ≡ filled (message_bits v 0)
 
 -- each encoding in its turn
 abbrev pub AreEncoded : List (List ℕ) → List Message → Type 0
 AreEncoded [] [] = ⊤
 AreEncoded [] (v ∷ vs) = ⊥
 AreEncoded (bytes ∷ es) [] = ⊥
-AreEncoded (bytes ∷ es) (v ∷ vs) = IsKnown v × EncodesMessage bytes v × AreEncoded es vs
+AreEncoded (bytes ∷ es) (v ∷ vs) = IsKnown v × IsEncoding bytes v × AreEncoded es vs
 
 -- the bytes are read as this message, and as no other
 pub record IsReadAs (bytes : List ℕ) (v : Message) : Type 0 where

@@ -1,5 +1,6 @@
 //! The command `convert`: the observation file of a stream.
 ghost use Rattle.std.specs.Prelude.{◌≡◌, ◌<◌, ◌≤◌, ◌↔◌, Err, OnOk, IfOk, IfErr, IfSome, max, length};
+ghost use Rattle.rtcm_bits.specs.FrameOf.{longest_frame};
 ghost use Rattle.rtcm_convert.specs.Broken.{WroteSoFar, WroteToLimit, BrokeReading};
 ghost use Rattle.rtcm_convert.specs.Faults.{IsUntouched};
 ghost use Rattle.rtcm_convert.specs.Made.{IsMade, IsMadeEmpty, IsReportOf};
@@ -48,7 +49,7 @@ pub fn run_convert<R: Read, W: Write>(
     ensures bad_setup { result ≡ Err (ToolFault.Convert Fault.BadSetup) ↔ IsBad setup }
     ensures untouched { IfErr result (λ fault. IsSetupRefusal fault → IsUntouched reader.old reader.new writer.old writer.new) }
     ensures only { IfErr result IsConvertFault }
-    ensures widest { reader.new.widest ≤ max reader.old.widest 1029 }
+    ensures widest { reader.new.widest ≤ max reader.old.widest longest_frame }
 {
     Ok(convert_stream(alloc, setup, reader, writer)?)
 }
@@ -57,7 +58,8 @@ pub fn run_convert<R: Read, W: Write>(
 pub fn tell<E: Write>(report: &Report, faults: &mut E) {
     let _ = writeln!(
         faults,
-        "bytes {} skipped_bytes {} frames {} faulty {} station {} other {} ignored {} late {} past {} taken {} skipped {} repeated {} crowded {} epochs {}",
+        "bytes {} skipped_bytes {} frames {} faulty {} station {} other {} ignored {} late {} \
+         past {} taken {} skipped {} repeated {} crowded {} epochs {}",
         report.bytes,
         report.skipped_bytes,
         report.frames,

@@ -1,6 +1,7 @@
 //! The command `frames`: where each frame lies, and its message number.
 ghost use Rattle.std.specs.Prelude.{◌≡◌, ◌+◌, ◌≤◌, ◌^◌, length, IfSome, OnOk, ◌++◌, ◌∷◌};
 ghost use Rattle.rtcm_bits.specs.Device.{HasFailed, AppendsPrefix};
+ghost use Rattle.rtcm_bits.specs.FrameOf.{longest_message};
 ghost use Rattle.rtcm_scan.specs.Frames.{frames_of};
 ghost use Rattle.rtcm_scan.specs.Answers.{framed};
 ghost use Rattle.rtcm2rinex.specs.FrameLines.{frame_line, frame_lines, number_word};
@@ -24,7 +25,7 @@ pub fn frame_line(frame: &Frame) -> Line
 /// Adds the number of a message, or a dash where it has fewer than 12 bits.
 pub fn add_message_number(line: &mut Line, message: &[u8])
     requires room { length line.old ≤ 235 }
-    requires short { length message.now ≤ 1023 }
+    requires short { length message.now ≤ longest_message }
     ensures text { line.new ≡ line.old ++ 0x20 ∷ number_word message.now }
     ensures short { length line.new ≤ length line.old + 21 }
 {

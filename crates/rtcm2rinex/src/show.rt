@@ -1,5 +1,6 @@
 //! The command `show`: what each message says.
 ghost use Rattle.std.specs.Prelude.{◌≡◌, ◌+◌, ◌<◌, ◌≤◌, ◌^◌, if◌then◌else◌, is_some, [], length, MatchOption};
+ghost use Rattle.rtcm_bits.specs.FrameOf.{longest_message};
 ghost use Rattle.rtcm_scan.specs.Answers.{framed};
 ghost use Rattle.rtcm_msg.specs.Station.{InRange};
 ghost use Rattle.rtcm_msg.specs.Views.{message_number};
@@ -82,7 +83,7 @@ fn msm_line(offset: u64, msm: &MsmView<'_>) -> Line
 
 /// The line of a refused message: place, number and fault.
 fn fault_line(offset: u64, message: &[u8], fault: MsgFault) -> Line
-    requires { length message.now ≤ 1023 }
+    requires { length message.now ≤ longest_message }
     ensures { result ≡ fault_line offset message.now fault }
 {
     let mut line = Line::starting_with(offset);

@@ -2,6 +2,7 @@
 use Rattle.std.specs.Prelude.{ℕ, List, length, take, ◌+◌, ◌-◌, ◌<◌, ◌≤◌, ◌⊎◌, ◌++◌, flat_map, Option, Vec}
 use Rattle.std.specs.Io.KnownBytes.{Appends, Consumes, IsAtEnd}
 use Rattle.rtcm_bits.specs.Device.{AppendsPrefix}
+use Rattle.rtcm_bits.specs.FrameOf.{longest_frame}
 use Rattle.rtcm_scan.specs.Frames.{frames_of}
 use Rattle.rtcm_scan.specs.Decided.{decided, decided_frames}
 use Rattle.rtcm_bits.specs.Prefix.{IsPrefix}
@@ -28,7 +29,7 @@ WroteToLimit r r' a b s limit = (front : List ℕ) × Consumes r r' front × App
 -- fits behind the bytes that were not decided.
 pub record IsBroken (a b : Option (List ℕ)) (s : SetupValue) (front piece : List ℕ) : Type 0 where
   pub between : IsBetween a b (so_far s (decided_frames front)) (so_far s (decided_frames (front ++ piece)))
-  pub near : (length front - decided front) + length piece ≤ 1029
+  pub near : (length front - decided front) + length piece ≤ longest_frame
 
 -- the bytes that were read split into some that were taken and a last piece at which the writer failed
 abbrev pub FailedWriting : Option (List ℕ) → Option (List ℕ) → Option (List ℕ) → Option (List ℕ) → SetupValue → Type 0

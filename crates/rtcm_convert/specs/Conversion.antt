@@ -2,6 +2,7 @@
 use Rattle.std.specs.Prelude.{◌≡◌, ◌⊎◌, ℕ, ◌+◌, ◌-◌, ◌<◌, ◌≤◌, List, ◌++◌, take, length}
 use Rattle.std.specs.Prelude.{Bool, true, false, Option, Some, None, if◌then◌else◌}
 use Rattle.std.specs.Io.KnownBytes.{Consumes, IsAtEnd}
+use Rattle.rtcm_bits.specs.FrameOf.{longest_frame}
 use Rattle.rtcm_scan.specs.Frames.{frames_of}
 use Rattle.rtcm_scan.specs.Decided.{decided}
 use Rattle.rtcm_scan.specs.Scan.{FramerValue}
@@ -104,7 +105,7 @@ pub record FailsAtPiece (a b : Option (List ℕ)) (s : SetupValue) (bytes piece 
   pub mid : Option (List ℕ)
   pub before : AppendsDecided a mid s bytes all
   pub last : AppendsPrefixOfDecided mid b s all (all ++ piece)
-  pub near : (length all - decided all) + length piece ≤ 1029
+  pub near : (length all - decided all) + length piece ≤ longest_frame
 
 -- at least n bytes more were taken, and at most m
 pub record IsTakenFrom (v w : Conversion) (n m : ℕ) : Type 0 where
@@ -113,7 +114,7 @@ pub record IsTakenFrom (v w : Conversion) (n m : ℕ) : Type 0 where
 
 -- a piece was read at which the writer failed; it fits behind the bytes held
 abbrev pub StopsAtPiece : Conversion → Conversion → Option (List ℕ) → Option (List ℕ) → Option (List ℕ) → Option (List ℕ) → Type 0
-StopsAtPiece v w r r' a b = (piece : List ℕ) × Consumes r r' piece × (length v.scan.held + length piece ≤ 1029)
+StopsAtPiece v w r r' a b = (piece : List ℕ) × Consumes r r' piece × (length v.scan.held + length piece ≤ longest_frame)
     × IsTakenFrom v w 0 (length piece) × WritesPrefixOfAdded v a b piece
 
 -- the bytes that were read split into some that were taken and a last piece at which the writer failed

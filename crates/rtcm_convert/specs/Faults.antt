@@ -1,6 +1,7 @@
 -- What an answer says of the devices that a call reads and writes.
 use Rattle.std.specs.Prelude.{◌≡◌, ◌≤◌, ◌⊎◌, ℕ, max, Result, OnOk, IfErr}
 use Rattle.rtcm_bits.specs.Device.{Device, HasFailed, FailsWith}
+use Rattle.rtcm_bits.specs.FrameOf.{longest_frame}
 use Rattle.rtcm_convert.specs.declared.fault.Fault.{Fault}
 use Rattle.rtcm_convert.specs.declared.fault.Fault.TheVariants.{BadSetup, Memory, Read, TooLong, NoEpoch, Write}
 
@@ -29,7 +30,7 @@ FailsWithWriter result old new =
 abbrev pub FailsWithReader : {T A : Type 0} → Result A Fault → Device T → Device T → Type 0
 FailsWithReader result old new =
     IfErr result (λ fault. ReaderFailures fault old.failures new.failures) × OnOk result (new.failures ≡ old.failures)
-    × (new.widest ≤ max old.widest 1029)
+    × (new.widest ≤ max old.widest longest_frame)
 
 -- both devices are as before
 abbrev pub IsUntouched : {R W : Type 0} → (r r' : Device R) → (w w' : Device W) → Type 0

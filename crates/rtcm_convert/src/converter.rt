@@ -3,8 +3,9 @@ ghost use Rattle.std.specs.Prelude.{◌≡◌, ◌<◌, ◌≤◌, ◌+◌, ◌*
 ghost use Rattle.std.specs.Prelude.{Err, OnOk, IfOk, IfErr, IfSome, IsErrOf};
 ghost use Rattle.std.specs.Io.KnownBytes.{Keeps, IsAtEnd};
 ghost use Rattle.rtcm_scan.specs.Frames.{frames_of};
-ghost use Rattle.rtcm_scan.specs.Decided.{decided, decided_frames};
-ghost use Rattle.rtcm_scan.specs.Looks.{examined, examined_now, most, most_now};
+ghost use Rattle.rtcm_scan.specs.Decided.{decided, decided_frames, most_undecided};
+ghost use Rattle.rtcm_bits.specs.FrameOf.{longest_frame};
+ghost use Rattle.rtcm_scan.specs.Looks.{examined, examined_now, most, most_looks, most_now};
 ghost use Rattle.obs_epoch.specs.Values.{most_cells};
 ghost use Rattle.rtcm_convert.specs.Kept.{cells_kept, locks_kept, locks_in_all};
 ghost use Rattle.rtcm_convert.specs.Faults.{FailsWithReader, FailsWithWriter, IsUntouched, IsSetupFault, IsFeedFault, IsPullFault, IsFinishFault, IsRunFault};
@@ -23,7 +24,7 @@ use crate::stream::{end_stream, feed_bytes};
 use crate::tally::Tally;
 use gnss_obs::System;
 use obs_epoch::{Gatherer, PlanFault};
-use rtcm_bits::Counted;
+use rtcm_bits::{Counted, LONGEST_FRAME};
 use rtcm_scan::{Framer, MOST_BYTES};
 use std::alloc::Global;
 use std::io::{Read, Write};
@@ -205,8 +206,8 @@ impl Converter {
         ensures only { IfErr result IsPullFault }
         ensures err { IfErr result (λ fault. LeftBy fault self.new) }
     {
-        let room = 1029 - self.held();
-        let mut buffer = [0u8; 1029];
+        let room = LONGEST_FRAME - self.held();
+        let mut buffer = [0u8; LONGEST_FRAME];
         let piece = &mut buffer[..room];
         match reader.read(piece) {
             Ok(n) => match self.feed(&piece[..n], writer) {
@@ -268,8 +269,8 @@ impl Converter {
     /// How many bytes are held: those that are not decided, at most 1,029.
     pub fn held(&self) -> usize
         ensures value { result ≡ length self.now.scan.held }
-        ensures bound { result ≤ 1029 }
-        ensures room { IsGoing self.now → result ≤ 1028 }
+        ensures bound { result ≤ longest_frame }
+        ensures room { IsGoing self.now → result ≤ most_undecided }
         // The held bytes are those from the first undecided place on; when the stream was ended,
         // none.
         ensures undecided { (s : SetupValue) (b : List ℕ) → HasConverted self.now s b → self.now.scan.held ≡ drop (decided b) b }
@@ -302,7 +303,7 @@ impl Converter {
     pub fn examined(&self) -> u64
         ensures value { result ≡ self.now.scan.examined }
         // Not more than 1,030 times the bytes taken, at every moment.
-        ensures bound { result ≤ 1030 * self.now.scan.taken }
+        ensures bound { result ≤ most_looks * self.now.scan.taken }
         ensures now { (s : SetupValue) (b : List ℕ) → HasConverted self.now s b → result ≡ examined_now b }
         ensures all { (s : SetupValue) (b : List ℕ) → HasFinished self.now s b → result ≡ examined b }
     {
@@ -312,7 +313,7 @@ impl Converter {
     /// How often that byte was looked at which was looked at most.
     pub fn most(&self) -> u16
         ensures value { result ≡ self.now.scan.most }
-        ensures bound { result ≤ 1030 }
+        ensures bound { result ≤ most_looks }
         ensures now { (s : SetupValue) (b : List ℕ) → HasConverted self.now s b → result ≡ most_now b }
         ensures all { (s : SetupValue) (b : List ℕ) → HasFinished self.now s b → result ≡ most b }
     {

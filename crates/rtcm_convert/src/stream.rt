@@ -1,6 +1,7 @@
 //! From bytes to the bytes of a file.
 ghost use Rattle.std.specs.Prelude.{◌≡◌, ◌<◌, ◌≤◌, ◌+◌, false, true, OnOk, OnErr, IfErr, IsErrOf, length};
 ghost use Rattle.std.specs.Io.KnownBytes.{Keeps};
+ghost use Rattle.rtcm_bits.specs.FrameOf.{longest_frame};
 ghost use Rattle.rtcm_convert.specs.Faults.{FailsToWrite, FailsWithWriter, IsFeedFault};
 ghost use Rattle.rtcm_convert.specs.Steps.{WritesRest, BreaksInRest, CountsEpochs, GathersAll};
 ghost use Rattle.rtcm_convert.specs.Stream.{HasFramedSome, HandsOnAll, BreaksHandingOn, TakesBytes, BreaksInBytes, TakesUpTo, EndsBytes, BreaksAtEndOf};
@@ -51,7 +52,7 @@ fn feed_block<W: Write>(
     requires ready { framer.old.is_ready ≡ true }
     requires going { filer.old.gatherer.has_ended ≡ false }
     requires listening { framer.old.has_ended ≡ false }
-    requires room { length framer.old.held + length block.now ≤ 1029 }
+    requires room { length framer.old.held + length block.now ≤ longest_frame }
     requires within { framer.old.taken + length block.now ≤ framer.old.limit }
     ensures whole { OnOk result (TakesBytes framer.old filer.old framer.new filer.new (W.contents writer.old.inner) (W.contents writer.new.inner) block.now) }
     ensures part { OnErr result (BreaksInBytes framer.old filer.old (W.contents writer.old.inner) (W.contents writer.new.inner) block.now) }

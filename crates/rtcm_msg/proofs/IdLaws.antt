@@ -43,35 +43,35 @@ ids_one w m n a b e =
     sym (number_of-uint w m a) ∙ (ap number bits ∙ number_of-uint w n b)
 
 -- the bits of a list
-mark : ℕ → ℕ → List ℕ → List Bool
-mark zero i xs = []
-mark (suc w) i [] = false ∷ mark w (i + 1) []
-mark (suc w) i (x ∷ xs) = if x == i then true ∷ mark w (i + 1) xs else false ∷ mark w (i + 1) (x ∷ xs)
+id_bits : ℕ → ℕ → List ℕ → List Bool
+id_bits zero i xs = []
+id_bits (suc w) i [] = false ∷ id_bits w (i + 1) []
+id_bits (suc w) i (x ∷ xs) = if x == i then true ∷ id_bits w (i + 1) xs else false ∷ id_bits w (i + 1) (x ∷ xs)
 
-mark_here : (w i : ℕ) (xs : List ℕ) → mark (suc w) i (i ∷ xs) ≡ true ∷ mark w (i + 1) xs
-unfolding mark
-mark_here w i xs = let e : (i == i) ≡ true = grind arith in rw e refl
+id_bits_here : (w i : ℕ) (xs : List ℕ) → id_bits (suc w) i (i ∷ xs) ≡ true ∷ id_bits w (i + 1) xs
+unfolding id_bits
+id_bits_here w i xs = let e : (i == i) ≡ true = grind arith in rw e refl
 
-mark_later : (w i x : ℕ) (xs : List ℕ) → (x ≡ i → ⊥) → mark (suc w) i (x ∷ xs) ≡ false ∷ mark w (i + 1) (x ∷ xs)
-unfolding mark
-mark_later w i x xs h = let e : (x == i) ≡ false = grind arith in rw e refl
+id_bits_later : (w i x : ℕ) (xs : List ℕ) → (x ≡ i → ⊥) → id_bits (suc w) i (x ∷ xs) ≡ false ∷ id_bits w (i + 1) (x ∷ xs)
+unfolding id_bits
+id_bits_later w i x xs h = let e : (x == i) ≡ false = grind arith in rw e refl
 
-record Marked (w i : ℕ) (xs : List ℕ) : Type 0 where
-  back : up_from i (mark w i xs) ≡ xs
-  len : length (mark w i xs) ≡ w
+record AreIdBits (w i : ℕ) (xs : List ℕ) : Type 0 where
+  back : up_from i (id_bits w i xs) ≡ xs
+  len : length (id_bits w i xs) ≡ w
 
-marked : (w i high : ℕ) (xs : List ℕ) → high + 1 ≡ i + w → Rising i high xs → Marked w i xs
-unfolding up_from mark
-marked zero i high [] h r = record { back = refl; len = refl }
-marked zero i high (x ∷ xs) h r = absurd (omega (arith, h, r.0, r.1))
-marked (suc w) i high [] h r = let m = marked w (i + 1) high [] (omega (arith, h)) tt in record { back = m.back; len = ap suc m.len }
-marked (suc w) i high (x ∷ xs) h r = elim (cases_eq x i) [
+id_bits_are : (w i high : ℕ) (xs : List ℕ) → high + 1 ≡ i + w → Rising i high xs → AreIdBits w i xs
+unfolding up_from id_bits
+id_bits_are zero i high [] h r = record { back = refl; len = refl }
+id_bits_are zero i high (x ∷ xs) h r = absurd (omega (arith, h, r.0, r.1))
+id_bits_are (suc w) i high [] h r = let m = id_bits_are w (i + 1) high [] (omega (arith, h)) tt in record { back = m.back; len = ap suc m.len }
+id_bits_are (suc w) i high (x ∷ xs) h r = elim (cases_eq x i) [
   | inl e ↦
-      let m = marked w (i + 1) high xs (omega (arith, h)) (rw e at r.2) in
-      rw e (record { back = rw (mark_here w i xs) (ap (λ t. i ∷ t) m.back); len = rw (mark_here w i xs) (ap suc m.len) })
+      let m = id_bits_are w (i + 1) high xs (omega (arith, h)) (rw e at r.2) in
+      rw e (record { back = rw (id_bits_here w i xs) (ap (λ t. i ∷ t) m.back); len = rw (id_bits_here w i xs) (ap suc m.len) })
   | inr later ↦
-      let m = marked w (i + 1) high (x ∷ xs) (omega (arith, h)) (up_next x i r.0 later, r.1, r.2) in
-      record { back = rw (mark_later w i x xs later) m.back; len = rw (mark_later w i x xs later) (ap suc m.len) }
+      let m = id_bits_are w (i + 1) high (x ∷ xs) (omega (arith, h)) (up_next x i r.0 later, r.1, r.2) in
+      record { back = rw (id_bits_later w i x xs later) m.back; len = rw (id_bits_later w i x xs later) (ap suc m.len) }
 ]
   where
     up_next : (x i : ℕ) → i ≤ x → (x ≡ i → ⊥) → i + 1 ≤ x
@@ -79,8 +79,8 @@ marked (suc w) i high (x ∷ xs) h r = elim (cases_eq x i) [
 
 pub ids_all : (w : ℕ) (xs : List ℕ) → Rising 1 w xs → (m : ℕ) × (m < 2 ^ w) × (ids w m ≡ xs)
 ids_all w xs r =
-    let m = marked w 1 w xs (omega arith) r in
-    let bits = mark w 1 xs in
+    let m = id_bits_are w 1 w xs (omega arith) r in
+    let bits = id_bits w 1 xs in
     let P : ℕ → Type 0 = λ n. number bits < 2 ^ n in
     let Q : ℕ → Type 0 = λ n. uint n (number bits) ≡ bits in
     (number bits, subst P m.len (number-fits bits), ap (up_from 1) (subst Q m.len (uint-number bits 0)) ∙ m.back)

@@ -59,8 +59,8 @@ impl<G: Grid> Msm<G> {
 
 /// What all cells say, in the order of the cell mask.
 pub fn entries<G: Grid>(msm: &Msm<G>) -> ArrayVec<Entry, MOST_PAIRS>
-    ensures cells { result.items ≡ map (entry_by G.satellite_at G.cell_at G.range_of G.phase_of G.rate_of G.strength_of G.lock_code_of G.half_cycle_of msm.now.satellites)
-        (zip (seats msm.now.sets) msm.now.cells) }
+    ensures cells { result.items ≡ map (entry_by G.satellite_at G.cell_at G.range_of G.phase_of G.rate_of G.strength_of G.lock_code_of G.half_cycle_of
+        msm.now.satellites) (zip (seats msm.now.sets) msm.now.cells) }
     ensures bounds { All (IsEntry G.lock_codes) result.items }
 {
     let mut walk = Seats::new(msm.masks());

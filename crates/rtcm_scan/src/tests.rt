@@ -1,10 +1,12 @@
 //! What no clause says: worked streams, and that each call can succeed.
+mod by_definition;
+mod limits;
 
 ghost use Rattle.std.specs.Prelude.{◌<◌};
 
-use crate::{Framer, Frames, MOST_BYTES, ScanFault};
+use crate::{Frame, Framer, Frames, MOST_BYTES, ScanFault};
 use arrayvec::ArrayVec;
-use rtcm_bits::crc24q;
+use rtcm_bits::LONGEST_FRAME;
 use std::alloc::{AllocError, Global};
 use std::test::Fail;
 
@@ -100,6 +102,34 @@ impl Found {
     }
 }
 
+// Each call with large clauses stands behind a function without one, so that no test carries them.
+
+fn framer(alloc: Global, limit: u64) -> Result<Framer, ScanFault> {
+    Framer::new(alloc, limit)
+}
+
+/// None where the framer isn't ready for a byte.
+fn push(framer: &mut Framer, byte: u8) -> Option<Result<(), ScanFault>> {
+    if framer.ready() {
+        Some(framer.push(byte))
+    } else {
+        None
+    }
+}
+
+/// None where the framer isn't ready, or a frame has no room for so many bytes more.
+fn push_all(framer: &mut Framer, block: &[u8]) -> Option<Result<(), ScanFault>> {
+    if framer.ready() && block.len() <= LONGEST_FRAME - framer.held() {
+        Some(framer.push_all(block))
+    } else {
+        None
+    }
+}
+
+fn next(framer: &mut Framer) -> Option<Frame> {
+    framer.next()
+}
+
 /// Takes the frames that are decided.
 fn drain(framer: &mut Framer, found: &mut Found) -> Result<(), AllocError> {
     for _ in 0..2_000 {
@@ -115,10 +145,7 @@ fn drain(framer: &mut Framer, found: &mut Found) -> Result<(), AllocError> {
 /// refused.
 fn feed(framer: &mut Framer, piece: &[u8], found: &mut Found) -> Result<bool, AllocError> {
     for byte in piece {
-        if !framer.ready() {
-            return Ok(false);
-        }
-        if framer.push(*byte).is_err() {
+        if push(framer, *byte) != Some(Ok(())) {
             return Ok(false);
         }
         drain(framer, found)?;
@@ -137,13 +164,7 @@ fn feed_blocks(
     requires { 0 < size }
 {
     for block in piece.chunks(size) {
-        if !framer.ready() {
-            return Ok(false);
-        }
-        if framer.room() < block.len() {
-            return Ok(false);
-        }
-        if framer.push_all(block).is_err() {
+        if framer.room() < block.len() || push_all(framer, block) != Some(Ok(())) {
             return Ok(false);
         }
         drain_into(framer, found)?;
@@ -201,25 +222,99 @@ fn worked_streams(rt: HostRuntime) -> Result<(), Fail> {
     ];
     for (bytes, frames, want) in cases {
         let frames = Found::of(rt.alloc(), bytes, frames)?;
-        for cut in 0..=bytes.len() {
-            let mut framer = Framer::new(rt.alloc(), MOST_BYTES).expect(&rt, "room");
-            let mut found = Found::new(rt.alloc());
-            assert!(rt; feed(&mut framer, &bytes[..cut], &mut found)?);
-            assert!(rt; feed(&mut framer, &bytes[cut..], &mut found)?);
-            assert_eq!(rt; framer.taken(), bytes.len() as u64);
-            assert_eq!(rt; finish(&mut framer, &mut found)?, want);
-            assert!(rt; found.is(&frames), "cut at {cut}");
-        }
-        for size in 1..=bytes.len() {
-            let mut framer = Framer::new(rt.alloc(), MOST_BYTES).expect(&rt, "room");
-            let mut found = Found::new(rt.alloc());
-            assert!(rt; feed_blocks(&mut framer, bytes, size, &mut found)?);
-            assert_eq!(rt; finish(&mut framer, &mut found)?, want);
-            assert!(rt; found.is(&frames), "blocks of {size}");
-        }
+        assert_eq!(rt; first_wrong_cut(rt.alloc(), bytes, &frames, want)?, None);
+        assert_eq!(rt; first_wrong_size(rt.alloc(), bytes, &frames, want)?, None);
         assert!(rt; viewed(rt.alloc(), bytes)?.is(&frames));
     }
     Ok(())
+}
+
+/// The first place at which the stream, cut in two there, doesn't give these frames and counts.
+fn first_wrong_cut(
+    alloc: Global,
+    bytes: &[u8],
+    frames: &Found,
+    want: Counts,
+) -> Result<Option<usize>, AllocError> {
+    for cut in 0..=bytes.len() {
+        if counts_cut(alloc, bytes, cut, frames)? != Some(want) {
+            return Ok(Some(cut));
+        }
+    }
+    Ok(None)
+}
+
+/// The first size of blocks in which the stream doesn't give these frames and counts.
+fn first_wrong_size(
+    alloc: Global,
+    bytes: &[u8],
+    frames: &Found,
+    want: Counts,
+) -> Result<Option<usize>, AllocError> {
+    for size in 1..=bytes.len() {
+        if counts_in_blocks(alloc, bytes, size, frames)? != Some(want) {
+            return Ok(Some(size));
+        }
+    }
+    Ok(None)
+}
+
+/// The counts of a stream in two pieces, fed byte by byte, where it gives these frames.
+fn counts_cut(
+    alloc: Global,
+    bytes: &[u8],
+    cut: usize,
+    frames: &Found,
+) -> Result<Option<Counts>, AllocError> {
+    let Ok(mut framer) = framer(alloc, MOST_BYTES) else {
+        return Ok(None);
+    };
+    let mut found = Found::new(alloc);
+    let (front, back) = bytes.split_at(cut.min(bytes.len()));
+    if !feed_both(&mut framer, front, back, &mut found)? {
+        return Ok(None);
+    }
+    counts_of(&mut framer, &mut found, frames)
+}
+
+/// Feeds two pieces. False where a byte is refused, or the framer didn't take all.
+fn feed_both(
+    framer: &mut Framer,
+    front: &[u8],
+    back: &[u8],
+    found: &mut Found,
+) -> Result<bool, AllocError> {
+    let is_fed = feed(framer, front, found)? && feed(framer, back, found)?;
+    Ok(is_fed && framer.taken() == front.len() as u64 + back.len() as u64)
+}
+
+/// The counts of a stream in blocks of a size, where it gives these frames.
+fn counts_in_blocks(
+    alloc: Global,
+    bytes: &[u8],
+    size: usize,
+    frames: &Found,
+) -> Result<Option<Counts>, AllocError>
+    requires { 0 < size }
+{
+    let Ok(mut framer) = framer(alloc, MOST_BYTES) else {
+        return Ok(None);
+    };
+    let mut found = Found::new(alloc);
+    if !feed_blocks(&mut framer, bytes, size, &mut found)? {
+        return Ok(None);
+    }
+    counts_of(&mut framer, &mut found, frames)
+}
+
+/// Ends the stream, and counts where it gave these frames.
+fn counts_of(
+    framer: &mut Framer,
+    found: &mut Found,
+    frames: &Found,
+) -> Result<Option<Counts>, AllocError> {
+    let counts = finish(framer, found)?;
+    Ok(if found.is(frames) { Some(counts) } else { None })
 }
 
 /// The frames of a slice.
@@ -250,55 +345,57 @@ fn counted(
 }
 
 #[test]
-fn messages_of_four_frames(rt: HostRuntime) {
+fn messages_of_four_frames(rt: HostRuntime) -> Result<(), Fail> {
     let want: [(usize, &[u8]); 4] = [
         (0, &FOUR_FRAMES[3..22]),
         (25, &FOUR_FRAMES[28..49]),
         (52, &FOUR_FRAMES[55..91]),
         (94, &FOUR_FRAMES[97..127]),
     ];
-    let mut framer = Framer::new(rt.alloc(), MOST_BYTES).expect(&rt, "room");
-    let mut frames = Frames::new(&FOUR_FRAMES);
-    let mut wanted = want.iter();
-    for byte in &FOUR_FRAMES {
-        assert!(rt; framer.ready());
-        framer.push(*byte).expect(&rt, "a byte");
-        if let Some(frame) = framer.next() {
-            let (offset, message) = *wanted.next().expect(&rt, "no more frames");
-            assert_eq!(rt;
-                (frame.offset, frame.message.as_slice()),
-                (offset as u64, message)
-            );
-            let view = frames.next().expect(&rt, "a frame");
-            assert_eq!(rt; (view.offset, view.message), (offset, message));
-            assert!(rt; framer.next().is_none());
-        }
+    let mut framer = framer(rt.alloc(), MOST_BYTES)?;
+    let mut place = 0;
+    for (offset, message) in want {
+        let end = offset.saturating_add(message.len()).saturating_add(6);
+        assert_eq!(rt; frames_until(&mut framer, place, end, offset, message), 1);
+        place = end;
     }
-    assert!(rt; wanted.next().is_none());
+    let mut frames = Frames::new(&FOUR_FRAMES);
+    for (offset, message) in want {
+        let view = frames.next().expect(&rt, "a frame");
+        assert_eq!(rt; (view.offset, view.message), (offset, message));
+    }
     assert!(rt; frames.next().is_none());
+    Ok(())
 }
 
-#[test]
-fn limits(rt: HostRuntime) -> Result<(), Fail> {
-    let bad = Framer::new(rt.alloc(), MOST_BYTES + 1);
-    assert!(rt; matches!(bad, Err(ScanFault::BadLimit)));
-    for limit in [0, 10] {
-        let mut framer = Framer::new(rt.alloc(), limit).expect(&rt, "room");
-        let mut found = Found::new(rt.alloc());
-        let preambles = [0xD3; 10];
-        assert!(rt; feed(&mut framer, &preambles[..limit as usize], &mut found)?);
-        assert!(rt; framer.ready());
-        assert_eq!(rt; framer.room(), 0);
-        assert_eq!(rt; framer.push(0xD3), Err(ScanFault::TooLong));
-        assert!(rt; framer.ready());
-        assert!(rt; framer.held() <= 10);
-        assert_eq!(rt; framer.push_all(&[0xD3]), Err(ScanFault::TooLong));
-        assert_eq!(rt; framer.held() as u64, limit);
-        framer.end();
-        assert!(rt; framer.ready());
-        assert_eq!(rt; framer.push(0xD3), Err(ScanFault::Ended));
+/// Feeds the bytes of four frames from one place to another. How many frames with this message
+/// they bring, each with its last byte and no other with it; none where one is of another.
+fn frames_until(
+    framer: &mut Framer,
+    from: usize,
+    to: usize,
+    offset: usize,
+    message: &[u8],
+) -> usize {
+    let mut frames = 0usize;
+    for place in from..to.min(FOUR_FRAMES.len()) {
+        if push(framer, FOUR_FRAMES[place]) != Some(Ok(())) {
+            return 0;
+        }
+        match next(framer) {
+            None => {}
+            Some(frame) if is_last(framer, &frame, offset, message) => {
+                frames = frames.saturating_add(1)
+            }
+            Some(_) => return 0,
+        }
     }
-    Ok(())
+    frames
+}
+
+/// Whether the frame is this one, and no other is due.
+fn is_last(framer: &mut Framer, frame: &Frame, offset: usize, message: &[u8]) -> bool {
+    frame.offset == offset as u64 && frame.message.as_slice() == message && next(framer).is_none()
 }
 
 #[test]
@@ -325,119 +422,6 @@ fn preambles_alone(rt: HostRuntime) -> Result<(), Fail> {
         (got.frames, got.skipped, got.examined, got.most),
         (0, 2_000, 1_485_380, 985)
     );
-    Ok(())
-}
-
-/// Frames, all looks and the most looks at one byte, place by place.
-#[derive(Drop)]
-struct Slow {
-    found: Found,
-    examined: u64,
-    most: u16,
-}
-
-/// How many bytes a place claims: those of the frame that its first three bytes begin, or one.
-fn claimed(rest: &[u8]) -> usize {
-    if rest.first() != Some(&0xD3) {
-        return 1;
-    }
-    match (rest.get(1), rest.get(2)) {
-        (Some(high), Some(low)) => usize::from(*high % 4) * 256 + usize::from(*low) + 6,
-        _ => usize::MAX,
-    }
-}
-
-/// Whether a whole frame of so many bytes begins there.
-fn is_frame(rest: &[u8], size: usize) -> bool {
-    if size < 6 || rest.len() < size {
-        return false;
-    }
-    let check = crc24q(&rest[..size - 3]).to_be_bytes();
-    rest[size - 3..size] == check[1..]
-}
-
-/// One more look at each of these bytes.
-fn look_at(looks: &mut [u16], from: usize, size: usize) {
-    for look in looks.iter_mut().skip(from).take(size) {
-        *look = look.saturating_add(1);
-    }
-}
-
-/// The whole stream by the definitions, as slow as they are.
-fn slowly(alloc: Global, bytes: &[u8]) -> Result<Slow, AllocError> {
-    let mut looks: Vec<u16> = vec![in alloc; 0; bytes.len()]?;
-    let mut frames = Vec::new(alloc);
-    let mut next = 0;
-    for place in 0..bytes.len() {
-        if place < next {
-            continue;
-        }
-        let rest = &bytes[place..];
-        let claim = claimed(rest);
-        look_at(&mut looks, place, claim);
-        if is_frame(rest, claim) {
-            let message = claim.saturating_sub(6);
-            look_at(&mut looks, place.saturating_add(3), message);
-            frames.push((place as u64, message))?;
-            next = place.saturating_add(claim);
-        }
-    }
-    let examined = looks
-        .iter()
-        .fold(0u64, |all, look| all.saturating_add(u64::from(*look)));
-    let most = looks.iter().fold(0u16, |most, look| most.max(*look));
-    Ok(Slow {
-        found: Found::of(alloc, bytes, frames.as_slice())?,
-        examined,
-        most,
-    })
-}
-
-/// Whether framer and iterator give what the definitions give, the framer by one byte at a time and
-/// by two.
-fn agrees(alloc: Global, bytes: &[u8]) -> Result<bool, AllocError> {
-    let want = slowly(alloc, bytes)?;
-    Ok(
-        viewed(alloc, bytes)?.is(&want.found)
-            && is_framed_by(alloc, bytes, 1, &want)?
-            && is_framed_by(alloc, bytes, 2, &want)?,
-    )
-}
-
-/// Whether a framer that takes so many bytes at a time gives these frames and counts.
-fn is_framed_by(alloc: Global, bytes: &[u8], size: usize, want: &Slow) -> Result<bool, AllocError>
-    requires { 0 < size }
-{
-    let Ok(mut framer) = Framer::new(alloc, MOST_BYTES) else {
-        return Ok(false);
-    };
-    let mut found = Found::new(alloc);
-    if !feed_blocks(&mut framer, bytes, size, &mut found)? {
-        return Ok(false);
-    }
-    let got = finish(&mut framer, &mut found)?;
-    Ok(found.is(&want.found) && (got.examined, got.most) == (want.examined, want.most))
-}
-
-#[test]
-fn cut_and_damaged_streams(rt: HostRuntime) -> Result<(), Fail> {
-    for from in [0, 25, 52, 94] {
-        for to in from..=FOUR_FRAMES.len() {
-            assert!(rt;
-                agrees(rt.alloc(), &FOUR_FRAMES[from..to])?,
-                "from {from} to {to}"
-            );
-        }
-    }
-    for place in 0..FOUR_FRAMES.len() {
-        let mut damaged = FOUR_FRAMES;
-        damaged[place] = !damaged[place];
-        assert!(rt; agrees(rt.alloc(), &damaged)?, "damaged at {place}");
-        assert!(rt;
-            agrees(rt.alloc(), &damaged[52..94])?,
-            "third frame, damaged at {place}"
-        );
-    }
     Ok(())
 }
 

@@ -13,6 +13,7 @@ use Rattle.rinex_file.specs.Texts.{HeaderLists}
 use Rattle.rinex_file.specs.Value.{SatelliteRow, Stamped, FileValue}
 use Rattle.rinex_file.specs.FileValues.{AreTexts, IsPlan, AreValues, IsTime, IsFileValue}
 use Rattle.rinex_file.specs.Header.{section_lines, lines_from, section_rows, all_sections, section_place, header_line, type_line, types_of, codes_of}
+use Rattle.rinex_file.specs.Limits.{types_in_line}
 use Rattle.rinex_file.specs.Lines.{satellite_line, letter_of}
 use Rattle.rinex_file.specs.Numbers.{joined, left, right, fixed}
 use Rattle.gnss_obs.specs.Signals.{table}
@@ -95,7 +96,7 @@ types_line system all row = type_line (letter_of system) (types_of (codes_of sys
 
 -- so many signals begin in the lines in front of a line of types
 abbrev pub signals_begun : ℕ → ℕ
-signals_begun row = (13 * row + 3) / 4
+signals_begun row = (types_in_line * row + 3) / 4
 
 -- no signal was read yet
 abbrev pub NoneYet : Known → Type 0

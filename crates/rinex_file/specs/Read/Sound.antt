@@ -5,7 +5,8 @@ use Rattle.rinex_file.specs.declared.read.due.Due.{Due}
 use Rattle.rinex_file.specs.declared.read.due.Due.TheVariants.{Header, Epoch, EventPosition, EventHeight, EventEpoch, Satellite}
 use Rattle.obs_epoch.specs.declared.cell.StationValues.{StationValues}
 use Rattle.rinex_file.specs.Value.{Stamped}
-use Rattle.rinex_file.specs.FileValues.{IsCoordinate, IsTime, IsStamped, AreSatelliteRows, IsChange, AreChanges, IsFirstSame, values_behind, time_stamped, most_rows}
+use Rattle.rtcm_msg.specs.Reach.{IsCoordinate}
+use Rattle.rinex_file.specs.FileValues.{IsTime, IsStamped, AreSatelliteRows, IsChange, AreChanges, IsFirstSame, values_behind, time_stamped, most_rows}
 use Rattle.rinex_file.specs.Read.Progress.{Progress, IsShown, StartsAt}
 
 abbrev pub AreStamped : Progress → List Stamped → Type 0

@@ -16,13 +16,13 @@ use gnss_obs::{Signal, System};
 use obs_epoch::Plan;
 
 /// So many types stand in a line.
-const TYPES: usize = 13;
+pub(crate) const TYPES_IN_LINE: usize = 13;
 
 /// So many lines are needed for the types of a system.
 pub(crate) fn type_rows(plan: &Plan, system: System) -> usize
     ensures { result ≡ type_rows (length (planned_of system plan.now)) }
 {
-    (4 * plan.signals(system) + TYPES - 1) / TYPES
+    (4 * plan.signals(system) + TYPES_IN_LINE - 1) / TYPES_IN_LINE
 }
 
 // What a line of types begins with.
@@ -69,8 +69,8 @@ fn put_types(content: &mut Line, system: System, signals: &[Signal], row: usize)
     ensures size { array_vec_len content.new ≤ array_vec_len content.old + 52 }
 {
     let types = 4 * signals.len();
-    let first = TYPES * row;
-    let end = types.min(first + TYPES);
+    let first = TYPES_IN_LINE * row;
+    let end = types.min(first + TYPES_IN_LINE);
     for i in first..end {
         put_type(content, signals[i / 4], i % 4);
     }

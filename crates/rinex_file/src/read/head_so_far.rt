@@ -13,6 +13,7 @@ ghost use Rattle.rinex_file.specs.Limits.{most_signals};
 use crate::header::labels;
 use crate::header::section::Section;
 use crate::header::texts::HeaderTexts;
+use crate::header::types::TYPES_IN_LINE;
 use crate::read::due::Refusal;
 use crate::read::station::is_header_line;
 use crate::read::types::{read_count, read_types, signals_begun};
@@ -58,7 +59,7 @@ fn rows_of(signals: usize) -> usize
     requires { signals ≤ most_signals }
     ensures { result ≡ type_rows signals }
 {
-    (4 * signals + 12) / 13
+    (4 * signals + TYPES_IN_LINE - 1) / TYPES_IN_LINE
 }
 
 // Takes the signals whose types begin in a line, behind as many as begin in the lines before.

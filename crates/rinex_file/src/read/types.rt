@@ -7,7 +7,7 @@ ghost use Rattle.rinex_file.specs.Header.{type_rows};
 ghost use Rattle.rinex_file.specs.Read.Progress.{AreTypes, types_line, signals_begun};
 
 use crate::header::labels;
-use crate::header::types::put_row;
+use crate::header::types::{TYPES_IN_LINE, put_row};
 use crate::read::due::Refusal;
 use crate::read::numbers::digits_in;
 use crate::read::station::is_header_line;
@@ -44,8 +44,8 @@ pub(crate) fn read_types(
     ensures grows { OnOk result (take (length signals.old.items) signals.new.items ≡ signals.old.items) }
     ensures taken { OnOk result ((all : List ℕ) → AreTypes system all → length all ≡ count → indices signals.old.items ≡ take (signals_begun row) all
         → (line.now ≡ types_line system all row) ↔ (indices signals.new.items ≡ take (signals_begun (row + 1)) all)) }
-    ensures bad { result ≡ Err Refusal.Bad → (all : List ℕ) → AreTypes system all → length all ≡ count → indices signals.old.items ≡ take (signals_begun row) all
-        → line.now ≡ types_line system all row → ⊥ }
+    ensures bad { result ≡ Err Refusal.Bad → (all : List ℕ) → AreTypes system all → length all ≡ count 
+        → indices signals.old.items ≡ take (signals_begun row) all → line.now ≡ types_line system all row → ⊥ }
 {
     take_signals(signals, system, count, row, line)?;
     again.clear();
@@ -73,12 +73,12 @@ fn take_signals(
     ensures grows { OnOk result (take (length signals.old.items) signals.new.items ≡ signals.old.items) }
     ensures taken { OnOk result ((all : List ℕ) → AreTypes system all → length all ≡ count → indices signals.old.items ≡ take (signals_begun row) all
         → line.now ≡ types_line system all row → indices signals.new.items ≡ take (signals_begun (row + 1)) all) }
-    ensures bad { result ≡ Err Refusal.Bad → (all : List ℕ) → AreTypes system all → length all ≡ count → indices signals.old.items ≡ take (signals_begun row) all
-        → line.now ≡ types_line system all row → ⊥ }
+    ensures bad { result ≡ Err Refusal.Bad → (all : List ℕ) → AreTypes system all → length all ≡ count 
+        → indices signals.old.items ≡ take (signals_begun row) all → line.now ≡ types_line system all row → ⊥ }
 {
     let end = signals_begun(row + 1).min(count);
     for place in signals_begun(row)..end {
-        let column = 6 + 4 * (4 * place - 13 * row) + 2;
+        let column = 6 + 4 * (4 * place - TYPES_IN_LINE * row) + 2;
         take_signal(signals, system, line, column)?;
     }
     Ok(())
@@ -89,7 +89,7 @@ pub(crate) fn signals_begun(row: usize) -> usize
     requires { row ≤ 6 }
     ensures { result ≡ signals_begun row }
 {
-    (13 * row + 3) / 4
+    (TYPES_IN_LINE * row + 3) / 4
 }
 
 // Takes the signal whose code stands at a column, counted from 0.

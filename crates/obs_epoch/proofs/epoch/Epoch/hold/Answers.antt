@@ -17,7 +17,7 @@ invariant_of-self c =
     let within = subst (λ l. c.args.at ≤ length l) cells c.requires.within in
     let few = subst (λ l. length l < most_cells) cells c.requires.room in
     let held = subst (AreHeld Gps) (sym c.insert_cell.ensures.items)
-    (held_more Gps c.self.inside.gps.items c.args.at c.args.x.now c.args.lli c.self.invariant.0.0 within few is c.requires.observed c.requires.mark) in
+    (held_more Gps c.self.inside.gps.items c.args.at c.args.x.now c.args.lli c.self.invariant.0.0 within few is c.requires.observed c.requires.indicator) in
     let room : most_cells ≤ vec_capacity c.insert_cell.new.cells = omega (arith, c.self.invariant.0.2, c.insert_cell.ensures.room) in
     ((held, sorted, room), c.self.invariant.1, tt)
 
@@ -31,6 +31,6 @@ invariant_of-self-in-Galileo c =
     let within = subst (λ l. c.args.at ≤ length l) cells c.requires.within in
     let few = subst (λ l. length l < most_cells) cells c.requires.room in
     let held = subst (AreHeld Galileo) (sym c.insert_cell-in-Galileo.ensures.items)
-    (held_more Galileo c.self.inside.galileo.items c.args.at c.args.x.now c.args.lli c.self.invariant.1.0 within few is c.requires.observed c.requires.mark) in
+    (held_more Galileo c.self.inside.galileo.items c.args.at c.args.x.now c.args.lli c.self.invariant.1.0 within few is c.requires.observed c.requires.indicator) in
     let room : most_cells ≤ vec_capacity c.insert_cell-in-Galileo.new.cells = omega (arith, c.self.invariant.1.2, c.insert_cell-in-Galileo.ensures.room) in
     (c.self.invariant.0, (held, sorted, room), tt)

@@ -4,7 +4,8 @@ use Rattle.std.proofs.lemmas.Option.{IfSome_then}
 use Rattle.jiff_core.specs.Calendar.{days_from_civil}
 use Rattle.jiff_core.specs.DateTime.{civil_nanos}
 use Rattle.jiff_core.proofs.SignedLemmas.{signed_arith}
-use Rattle.obs_epoch.specs.Weeks.{week, weeks}
+use Rattle.rtcm_msg.specs.Msm.{week}
+use Rattle.obs_epoch.specs.Weeks.{weeks}
 use Rattle.obs_epoch.specs.Dates.{civil_of, clock_of, IsCivilOf}
 use Rattle.obs_epoch.specs.declared.civil.Civil.{Civil}
 use Rattle.obs_epoch.proofs.WalkLemmas.{walk_is}
