@@ -1,10 +1,9 @@
 -- What was gathered of messages is a file value.
 use Rattle.std.proofs.Common.{◌≡◌, ℕ, zero, suc, ℤ, ◌+◌, ◌<◌, ◌≤◌, ◌==◌, Bool, true, false, ◌||◌, ◌&&◌, List, [], ◌∷◌, ◌++◌, filter, map, length, get_or, refl, sym, ap, ap₂, ◌∙◌, subst, arith, Option, Some, None, is_some}
-use Rattle.std.specs.Prelude.{if◌then◌else◌, cond, find, IfSome, IsTrue, Any, slice_index}
+use Rattle.std.specs.Prelude.{if◌then◌else◌, cond, find, IsTrue, Any, slice_index}
 use Rattle.std.specs.Option.{option_map_or}
 use Rattle.std.specs.List.{AllByRecursion, IsDistinct}
 use Rattle.std.specs.List.Sorted.{IsStrictlyIncreasing}
-use Rattle.std.proofs.lemmas.Int.{ints}
 use Rattle.std.proofs.lemmas.List.{map-append, get_or-map, length-map}
 use Rattle.std.proofs.lemmas.List.Elements.{All-from_recursion}
 use Rattle.std.proofs.lemmas.List.Quantifiers.{position-Some}
@@ -12,7 +11,7 @@ use Rattle.gnss_obs.specs.declared.system.System.{System}
 use Rattle.gnss_obs.specs.declared.system.System.TheVariants.{Gps, Galileo}
 use Rattle.gnss_obs.specs.Satellites.{satellites as satellites_in}
 use Rattle.obs_epoch.specs.declared.cell.Cell.{Cell}
-use Rattle.obs_epoch.specs.Values.{PlanValue, EpochValue, Closed, HasTwelveDigits, same_values, cells_of, planned_of, has_value, is_written}
+use Rattle.obs_epoch.specs.Values.{PlanValue, EpochValue, Closed, same_values, cells_of, planned_of, has_value, is_written}
 use Rattle.obs_epoch.specs.Plans.{place_in}
 use Rattle.obs_epoch.specs.Reach.{IsGathered, AreGathered, IsGatheredEpoch, AreGatheredEpochs, TimesRise, AreToldValues, same_place}
 use Rattle.std.specs.Ordering.{int_eq}
@@ -20,9 +19,10 @@ use Rattle.std.proofs.lemmas.Bool.Decides.{Decides-int_eq}
 use Rattle.obs_epoch.specs.declared.cell.StationValues.{StationValues}
 use Rattle.rinex_file.specs.Texts.{HeaderLists}
 use Rattle.rinex_file.specs.Value.{SatelliteRow, numbers, written_satellites, no_signal_values, signal_values_of, is_of_key, signal_values_at, row_of, row_among, row_in_epoch, rows_of, change_from, stamped_behind, all_stamped}
-use Rattle.rinex_file.specs.FileValues.{AreTexts, AreValues, has_some_value, FitsColumns, AreSignalValues, IsRow, of_system, rank_of, IsSatelliteRow, IsStamped, IsChange, AreChanges, changed_by, time_stamped, IsFileValue}
+use Rattle.rinex_file.specs.FileValues.{AreTexts, AreValues, has_some_value, AreSignalValues, IsRow, of_system, rank_of, IsSatelliteRow, IsStamped, IsChange, AreChanges, changed_by, time_stamped, IsFileValue}
 use Rattle.rinex_file.specs.File.{gathered}
 use Rattle.rinex_file.specs.Gathered.{AreSignals, HasSatellite}
+use Rattle.rinex_file.proofs.RowText.{if_fits}
 use Rattle.rinex_file.proofs.Sent.{length-rows}
 
 -- ---- what holds of each
@@ -100,13 +100,6 @@ numbers_rise zero = tt
 numbers_rise (suc n) = below_all (suc n) (numbers n) (suc n ∷ []) (all_below n (numbers n) (numbers_within n)) (omega arith, tt) (numbers_rise n) (tt, tt)
 
 -- ---- entries
-
-fits : (v : ℤ) → HasTwelveDigits v → FitsColumns v
-fits v h = (omega (arith, ints, h), omega (arith, ints, h))
-
-if_fits : (o : Option ℤ) → IfSome o HasTwelveDigits → IfSome o FitsColumns
-if_fits None h = tt
-if_fits (Some v) h = fits v h
 
 cell_entry : (system : System) (signals : List ℕ) (c : Cell) → IsGathered system signals c → AreSignalValues (signal_values_of c)
 cell_entry system signals c h = record {

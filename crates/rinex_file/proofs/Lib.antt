@@ -2,7 +2,6 @@ mod Digits
 mod Cuts
 mod Grown
 mod Columns
-mod Found
 mod Entries
 mod SignalTypes
 mod TypeCodes
@@ -40,4 +39,4 @@ mod HeaderTypes
 mod Groups
 mod DueLines
 mod GatheredFile
-mod PlanWalk
+mod CellPlaces

@@ -12,6 +12,7 @@ use Rattle.rinex_file.proofs.Digits.{number_in-fixed, has_point-fixed, length-fi
 use Rattle.gnss_obs.specs.Satellites.{satellites}
 use Rattle.gnss_obs.specs.declared.system.System.{System}
 use Rattle.gnss_obs.specs.declared.system.System.TheVariants.{Gps, Galileo}
+use Rattle.obs_epoch.specs.Values.{HasTwelveDigits}
 use Rattle.rinex_file.specs.Value.{SignalValues, Row, SatelliteRow}
 use Rattle.rinex_file.specs.FileValues.{FitsColumns, AreSignalValues, IsFrom, IsRow}
 use Rattle.rinex_file.specs.Blanks.{trimmed}
@@ -25,6 +26,11 @@ most n h = let high = h.1 in omega (arith, ints)
 
 least : (n : ℕ) → FitsColumns (negsuc n) → suc n ≤ 999_999_999_999
 least n h = let low = h.0 in omega (arith, ints)
+
+-- what a kept cell has
+pub if_fits : (o : Option ℤ) → IfSome o HasTwelveDigits → IfSome o FitsColumns
+if_fits None h = tt
+if_fits (Some v) h = (omega (arith, ints, h), omega (arith, ints, h))
 
 pub length-value : (v : ℤ) → FitsColumns v → length (fixed 3 v) ≤ 14
 length-value (pos n) h =
@@ -126,14 +132,14 @@ same_entry x y c l d s m = same_parts x.c y.c x.l y.l x.d y.d x.s y.s x.lli y.ll
 four_lengths : (a b c d : List ℕ) → length a ≡ 16 → length b ≡ 16 → length c ≡ 16 → length d ≡ 16 → length (a ++ (b ++ (c ++ d))) ≡ 64
 four_lengths a b c d k l m n = simp length-append (omega (arith, k, l, m, n))
 
-pub length-entry : (e : SignalValues) → AreSignalValues e → length (signal_text e) ≡ 64
+pub length-columns : (e : SignalValues) → IfSome e.c FitsColumns → IfSome e.l FitsColumns → IfSome e.d FitsColumns → IfSome e.s FitsColumns → length (signal_text e) ≡ 64
 unfolding signal_text
-length-entry e h =
-    let c = length-field e.c 32 (strength_byte e.s) h.c in
-    let l = length-field e.l (lli_byte e.lli) (strength_byte e.s) h.l in
-    let d = length-field e.d 32 32 h.d in
-    let s = length-field e.s 32 32 (strength_fits e.s h.s) in
-    four_lengths (field e.c 32 (strength_byte e.s)) (field e.l (lli_byte e.lli) (strength_byte e.s)) (field e.d 32 32) (field e.s 32 32) c l d s
+length-columns e c l d s =
+    four_lengths (field e.c 32 (strength_byte e.s)) (field e.l (lli_byte e.lli) (strength_byte e.s)) (field e.d 32 32) (field e.s 32 32)
+    (length-field e.c 32 (strength_byte e.s) c) (length-field e.l (lli_byte e.lli) (strength_byte e.s) l) (length-field e.d 32 32 d) (length-field e.s 32 32 s)
+
+pub length-entry : (e : SignalValues) → AreSignalValues e → length (signal_text e) ≡ 64
+length-entry e h = length-columns e h.c h.l h.d (strength_fits e.s h.s)
 
 pub entry_in-text : (e : SignalValues) (rest : List ℕ) → AreSignalValues e → signal_values_in (signal_text e ++ rest) ≡ e
 unfolding signal_values_in signal_text

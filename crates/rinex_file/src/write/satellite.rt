@@ -1,19 +1,23 @@
 //! Observation lines: RINEX 3.05, table A3, "OBSERVATION DATA RECORD".
-ghost use Rattle.std.specs.Prelude.{◌≡◌, ℕ, ◌+◌, ◌*◌, ◌≤◌, ◌<◌, ◌^◌, ◌++◌, [], ◌∷◌, ◌≢◌, length, take, drop, replicate, find, IfSome, Some};
-ghost use Rattle.std.specs.Option.{option_map};
+ghost use Rattle.std.specs.Prelude.{◌≡◌, ◌+◌, ◌*◌, ◌≤◌, ◌<◌, ◌++◌, [], ◌∷◌, List, All, length, take, drop, replicate, IfSome, Some, nat_eq};
+ghost use Rattle.std.specs.List.{IsDistinct};
 ghost use Rattle.arrayvec.specs.ArrayVec.{array_vec_len};
-ghost use Rattle.obs_epoch.specs.Values.{HasTwelveDigits, AreHeld};
+ghost use Rattle.obs_epoch.specs.declared.cell.Cell.{Cell};
+ghost use Rattle.obs_epoch.specs.Values.{HasTwelveDigits, IsHeld, AreHeld, planned_of};
 ghost use Rattle.rinex_file.specs.FileValues.{FitsColumns};
-ghost use Rattle.rinex_file.specs.Value.{SignalValues, signal_values_of, no_signal_values, signal_values_at, is_of_key, row_among, row_in_epoch};
+ghost use Rattle.rinex_file.specs.Value.{signal_values_of, row_of, row_among, row_in_epoch};
 ghost use Rattle.rinex_file.specs.Numbers.{padded};
 ghost use Rattle.rinex_file.specs.Blanks.{trimmed};
-ghost use Rattle.rinex_file.specs.Lines.{field, strength_byte, lli_byte, signal_text, letter_of, satellite_line};
+ghost use Rattle.rinex_file.specs.Lines.{field, strength_byte, lli_byte, signal_text, letter_of, row_text, satellite_line};
 ghost use Rattle.rinex_file.specs.Limits.{most_line, signal_columns, value_columns};
 
-use crate::write::numbers::{Line, SIGNAL_COLUMNS, VALUE_COLUMNS, put, put_times};
+use crate::write::numbers::{Line, SIGNAL_COLUMNS, VALUE_COLUMNS, put};
 use gnss_obs::{Sat, System, Thousandths, strength_digit};
 use itoa::write_digits;
 use obs_epoch::{Cell, Epoch, Plan};
+
+// So many columns has a satellite: its letter and its number.
+const SATELLITE_COLUMNS: usize = 3;
 
 // What stands behind the whole part of a value, in its columns: a point, thousandths, and two
 // columns more.
@@ -46,17 +50,17 @@ pub(crate) fn columns_of(value: i64, lost: u8, strength: u8) -> [u8; VALUE_COLUM
     columns
 }
 
-// Appends a value in 14 columns with the two columns behind it, or 16 blanks.
+// Writes a value in 14 columns with the two columns behind it, or 16 blanks.
 #[tactic(auto, unfolding(crate::specs::Lines::field))]
-fn put_field(line: &mut Line, value: Option<Thousandths>, lost: u8, strength: u8)
+fn put_field(columns: &mut [u8], value: Option<Thousandths>, lost: u8, strength: u8)
     requires fits { IfSome value HasTwelveDigits }
-    requires room { array_vec_len line.old + value_columns ≤ most_line }
-    ensures text { line.new.items ≡ line.old.items ++ field value lost strength }
-    ensures size { array_vec_len line.new ≡ array_vec_len line.old + value_columns }
+    requires room { length columns.old ≡ value_columns }
+    ensures text { columns.new ≡ field value lost strength }
+    ensures size { length columns.new ≡ value_columns }
 {
     match value {
-        None => put_times(line, b' ', VALUE_COLUMNS),
-        Some(value) => put(line, &columns_of(value.value(), lost, strength)),
+        None => columns.fill(b' '),
+        Some(value) => columns.copy_from_slice(&columns_of(value.value(), lost, strength)),
     }
 }
 
@@ -70,77 +74,77 @@ fn strength_column(s: Option<Thousandths>) -> u8
     }
 }
 
-// Appends the columns of a signal with this cell.
+// Appends the columns of so many signals without a value.
+fn put_blanks(line: &mut Line, signals: usize)
+    requires { array_vec_len line.old + signal_columns * signals ≤ most_line }
+    ensures text { line.new.items ≡ line.old.items ++ replicate (signal_columns * signals) 32 }
+    ensures size { array_vec_len line.new ≡ array_vec_len line.old + signal_columns * signals }
+{
+    let blanks = [b' '; SIGNAL_COLUMNS];
+    for _ in 0..signals {
+        put(line, &blanks);
+    }
+}
+
+// Writes the columns of a signal with this cell.
 #[tactic(auto, unfolding(crate::specs::Lines::signal_text))]
-fn put_cell(line: &mut Line, cell: &Cell)
-    requires fits { (IfSome cell.now.c HasTwelveDigits) × (IfSome cell.now.l HasTwelveDigits) × (IfSome cell.now.d HasTwelveDigits) × (IfSome cell.now.s HasTwelveDigits) }
-    requires mark { cell.now.lli < 4 }
-    requires room { array_vec_len line.old + signal_columns ≤ most_line }
-    ensures text { line.new.items ≡ line.old.items ++ signal_text (signal_values_of cell.now) }
-    ensures size { array_vec_len line.new ≡ array_vec_len line.old + signal_columns }
+fn put_cell(columns: &mut [u8], cell: &Cell)
+    requires held { IsHeld cell.now.signal.system cell.now }
+    requires room { length columns.old ≡ signal_columns }
+    ensures text { columns.new ≡ signal_text (signal_values_of cell.now) }
+    ensures size { length columns.new ≡ signal_columns }
 {
     let strength = strength_column(cell.s);
     let lost = if cell.lli == 0 { b' ' } else { b'0' + cell.lli };
-    put_field(line, cell.c, b' ', strength);
-    put_field(line, cell.l, lost, strength);
-    put_field(line, cell.d, b' ', b' ');
-    put_field(line, cell.s, b' ', b' ');
+    put_field(&mut columns[..VALUE_COLUMNS], cell.c, b' ', strength);
+    put_field(
+        &mut columns[VALUE_COLUMNS..2 * VALUE_COLUMNS],
+        cell.l,
+        lost,
+        strength,
+    );
+    put_field(
+        &mut columns[2 * VALUE_COLUMNS..3 * VALUE_COLUMNS],
+        cell.d,
+        b' ',
+        b' ',
+    );
+    put_field(&mut columns[3 * VALUE_COLUMNS..], cell.s, b' ', b' ');
 }
 
-// The first cell of a satellite's signal.
-fn cell_of(cells: &[Cell], id: u8, index: usize) -> Option<&Cell>
-    ensures { option_map (λ c. c.now) result ≡ find (is_of_key id index) cells.now }
+// Writes the columns of the planned signal at this place.
+fn put_at(line: &mut Line, place: usize, cell: &Cell)
+    requires held { IsHeld cell.now.signal.system cell.now }
+    requires room { 3 + signal_columns * place + signal_columns ≤ array_vec_len line.old }
+    ensures text { line.new.items ≡ take (3 + signal_columns * place) line.old.items
+        ++ (signal_text (signal_values_of cell.now) ++ drop signal_columns (drop (3 + signal_columns * place) line.old.items)) }
+    ensures size { array_vec_len line.new ≡ array_vec_len line.old }
 {
-    cells.iter().find(|cell| is_of(cell, id, index))
+    let text = line.as_mut_slice();
+    let from = SATELLITE_COLUMNS + SIGNAL_COLUMNS * place;
+    put_cell(&mut text[from..from + SIGNAL_COLUMNS], cell);
 }
 
-// Whether a cell is of a satellite's signal.
-fn is_of(cell: &Cell, id: u8, index: usize) -> bool
-    ensures { result ≡ is_of_key id index cell.now }
+// Writes the columns of a cell of this satellite whose signal is planned; any other is passed over.
+// A line that shows some cells shows this one in front of them then: it takes the place of one of
+// the same signal.
+fn put_planned(line: &mut Line, plan: &Plan, system: System, id: u8, cell: &Cell)
+    requires held { IsHeld system cell.now }
+    requires id { id < 100 }
+    requires apart { IsDistinct nat_eq (planned_of system plan.now) }
+    requires room { array_vec_len line.old ≡ 3 + signal_columns * length (planned_of system plan.now) }
+    ensures text { (rest : List Cell) → All (IsHeld system) rest
+        → line.old.items ≡ row_text (letter_of system) (row_of (planned_of system plan.now) rest id)
+        → line.new.items ≡ row_text (letter_of system) (row_of (planned_of system plan.now) (cell.now ∷ rest) id) }
+    ensures size { array_vec_len line.new ≡ array_vec_len line.old }
 {
-    cell.satellite.id() == id && cell.signal.index() == index
-}
-
-// Appends the columns of a satellite's signal, blank where it has no cell.
-fn put_signal(line: &mut Line, system: System, cells: &[Cell], id: u8, index: usize)
-    requires held { AreHeld system cells.now }
-    requires room { array_vec_len line.old + signal_columns ≤ most_line }
-    ensures text { line.new.items ≡ line.old.items ++ signal_text (signal_values_at cells.now id index) }
-    ensures size { array_vec_len line.new ≡ array_vec_len line.old + signal_columns }
-{
-    match cell_of(cells, id, index) {
-        Some(cell) => put_cell(line, cell),
-        None => put_times(line, b' ', SIGNAL_COLUMNS),
+    if cell.satellite.id() != id {
+        return;
     }
-}
-
-// Appends the columns of a satellite's signal from the cells that stand from this place on, and
-// answers the place from which the next signal's are to be looked for. A satellite's cells stand in
-// the order of the plan by which they were gathered: under that plan the first of them is the
-// signal's, or it has none. Only there, and under another plan, are the others looked at.
-fn put_next(
-    line: &mut Line,
-    system: System,
-    cells: &[Cell],
-    from: usize,
-    id: u8,
-    index: usize,
-) -> usize
-    requires held { AreHeld system cells.now }
-    requires from { from ≤ length cells.now }
-    requires room { array_vec_len line.old + signal_columns ≤ most_line }
-    ensures text { line.new.items ≡ line.old.items ++ signal_text (signal_values_at (drop from cells.now) id index) }
-    ensures size { array_vec_len line.new ≡ array_vec_len line.old + signal_columns }
-    ensures within { result ≤ length cells.now }
-    // No cell of another signal was passed.
-    ensures others { (other : ℕ) → other ≢ index → signal_values_at (drop result cells.now) id other ≡ signal_values_at (drop from cells.now) id other }
-{
-    if from < cells.len() && is_of(&cells[from], id, index) {
-        put_cell(line, &cells[from]);
-        return from + 1;
+    match plan.place(cell.signal) {
+        None => {}
+        Some(place) => put_at(line, place, cell),
     }
-    put_signal(line, system, &cells[from..], id, index);
-    from
 }
 
 // How much of the text is left without the blanks at its end.
@@ -175,10 +179,14 @@ pub(crate) fn put_seen(line: &mut Line, cells: &[Cell], plan: &Plan, system: Sys
     line.push(letter_of(system));
     line.push(b'0' + id / 10);
     line.push(b'0' + id % 10);
-    let signals = plan.of(system);
-    let mut from = 0;
-    for i in 0..plan.signals(system) {
-        from = put_next(line, system, cells, from, id, signals[i].index());
+    put_blanks(line, plan.signals(system));
+    // No signal is planned twice, as the contract of `of` says: so each has one place.
+    let _ = plan.of(system);
+    // The first cell of a signal is the one that is shown: it is written last.
+    let mut at = cells.len();
+    while at > 0 {
+        at -= 1;
+        put_planned(line, plan, system, id, &cells[at]);
     }
     let end = cut_length(line.as_slice());
     line.truncate(end);
