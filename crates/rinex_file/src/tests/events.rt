@@ -1,8 +1,11 @@
 //! Events: written, read back, and refused where they stand or say otherwise.
-use super::reading::{NO_VALUES, Told, check, fault, told_of};
-use super::{ALL, EPOCH, HEADER, Outcome, Takes, VALUES, joined, writer, written_otherwise};
+use super::reading::{NO_VALUES, Told, check, read, told_of};
+use super::{
+    ALL, EPOCH, HEADER, Outcome, Takes, Text, VALUES, joined, put_lines, writer, written_otherwise,
+};
 use crate::{Counts, HeadFault, ReadFault, write_event};
 use rtcm_bits::devices::WriteEnd;
+use std::alloc::Global;
 use std::io::ErrorKind;
 use std::test::*;
 
@@ -39,33 +42,78 @@ fn a_file_with_an_event_is_read_and_written_back(rt: HostRuntime) {
     assert_eq!(rt; check(rt.alloc(), &lines), Ok(counts));
 }
 
+/// A part of a file.
+#[derive(Clone, Copy)]
+enum Part {
+    Head,
+    Epoch,
+    Second,
+    Event,
+    /// The event with its position in other columns.
+    Spaced,
+    /// An event that tells the header's values.
+    Same,
+    /// An event that tells the header's height and another position.
+    Moved,
+    /// The first line of the event.
+    EventLine,
+    /// The first line of the epoch.
+    EpochLine,
+}
+
+const SPACED: &str =
+    "  1114104.5999 -4850729.7108  3975521.4643                 APPROX POSITION XYZ ";
+
+fn put_part(text: &mut Text, part: Part) {
+    match part {
+        Part::Head => put_lines(text, &HEADER),
+        Part::Epoch => put_lines(text, &EPOCH),
+        Part::Second => put_lines(text, &SECOND),
+        Part::Event => put_lines(text, &EVENT),
+        Part::Spaced => put_lines(text, &[EVENT[0], SPACED, EVENT[2]]),
+        Part::Same => put_lines(text, &[EVENT[0], HEADER[7], HEADER[8]]),
+        Part::Moved => put_lines(text, &[EVENT[0], EVENT[1], HEADER[8]]),
+        Part::EventLine => put_lines(text, &EVENT[..1]),
+        Part::EpochLine => put_lines(text, &EPOCH[..1]),
+    }
+}
+
+/// The fault of a file of these parts.
+fn fault_of(alloc: Global, parts: &[Part]) -> Option<ReadFault> {
+    let mut text = Text::new();
+    for part in parts {
+        put_part(&mut text, *part);
+    }
+    read(alloc, text.as_slice()).err()
+}
+
 #[test]
 fn an_event_in_the_wrong_place_or_of_the_same_values_is_refused(rt: HostRuntime) {
-    let spaced = [
-        EVENT[0],
-        "  1114104.5999 -4850729.7108  3975521.4643                 APPROX POSITION XYZ ",
-        EVENT[2],
+    use Part::{Epoch, EpochLine, Event, EventLine, Head, Moved, Same, Second, Spaced};
+    let table: [(&[Part], Option<ReadFault>); 9] = [
+        (&[Head, Event, Epoch, Second], Some(ReadFault::BadEpoch(15))),
+        (
+            &[Head, Epoch, Spaced, Second],
+            Some(ReadFault::BadEvent(18)),
+        ),
+        (&[Head, Epoch, Same, Second], Some(ReadFault::BadEvent(19))),
+        (&[Head, Epoch, Moved, Second], None),
+        (&[Head, Epoch, Event], Some(ReadFault::CutShort(20))),
+        (
+            &[Head, Epoch, Event, Event, Second],
+            Some(ReadFault::BadEpoch(20)),
+        ),
+        (&[Head, Epoch, Event, Epoch], Some(ReadFault::BadEpoch(20))),
+        (
+            &[Head, Epoch, EventLine, Second],
+            Some(ReadFault::BadEvent(18)),
+        ),
+        (&[Head, EpochLine, Event], Some(ReadFault::BadSatellite(16))),
     ];
-    let same = [EVENT[0], HEADER[7], HEADER[8]];
-    let moved = [EVENT[0], EVENT[1], HEADER[8]];
-    let here = fault(rt.alloc(), &[&HEADER, &EVENT, &EPOCH, &SECOND], b"");
-    assert_eq!(rt; here, Some(ReadFault::BadEpoch(15)));
-    let here = fault(rt.alloc(), &[&HEADER, &EPOCH, &spaced, &SECOND], b"");
-    assert_eq!(rt; here, Some(ReadFault::BadEvent(18)));
-    let here = fault(rt.alloc(), &[&HEADER, &EPOCH, &same, &SECOND], b"");
-    assert_eq!(rt; here, Some(ReadFault::BadEvent(19)));
-    let here = fault(rt.alloc(), &[&HEADER, &EPOCH, &moved, &SECOND], b"");
-    assert_eq!(rt; here, None);
-    let here = fault(rt.alloc(), &[&HEADER, &EPOCH, &EVENT], b"");
-    assert_eq!(rt; here, Some(ReadFault::CutShort(20)));
-    let here = fault(rt.alloc(), &[&HEADER, &EPOCH, &EVENT, &EVENT, &SECOND], b"");
-    assert_eq!(rt; here, Some(ReadFault::BadEpoch(20)));
-    let here = fault(rt.alloc(), &[&HEADER, &EPOCH, &EVENT, &EPOCH], b"");
-    assert_eq!(rt; here, Some(ReadFault::BadEpoch(20)));
-    let here = fault(rt.alloc(), &[&HEADER, &EPOCH, &EVENT[..1], &SECOND], b"");
-    assert_eq!(rt; here, Some(ReadFault::BadEvent(18)));
-    let here = fault(rt.alloc(), &[&HEADER, &EPOCH[..1], &EVENT], b"");
-    assert_eq!(rt; here, Some(ReadFault::BadSatellite(16)));
+    for place in 0..table.len() {
+        let (parts, wanted) = table[place];
+        assert_eq!(rt; fault_of(rt.alloc(), parts), wanted, "case {place}");
+    }
 }
 
 /// What comes of writing the event.

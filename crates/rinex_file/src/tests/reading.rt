@@ -59,7 +59,7 @@ pub struct Told {
 }
 
 /// Reads bytes that come three at a time.
-fn read(alloc: Global, text: &[u8]) -> Result<ObsFile, ReadFault> {
+pub fn read(alloc: Global, text: &[u8]) -> Result<ObsFile, ReadFault> {
     let mut reader = Counted::new(PieceReader::new(text, &[3], ReadEnd::Ends));
     read_file(alloc, &mut reader)
 }
@@ -106,7 +106,7 @@ pub fn told_of(alloc: Global, lines: &[&[&str]]) -> Result<Told, ReadFault> {
 }
 
 /// The fault of a file with these lines, and then these bytes.
-pub fn fault(alloc: Global, lines: &[&[&str]], rest: &[u8]) -> Option<ReadFault> {
+fn fault(alloc: Global, lines: &[&[&str]], rest: &[u8]) -> Option<ReadFault> {
     let mut text = joined(lines);
     let _ = text.try_extend_from_slice(rest);
     read(alloc, text.as_slice()).err()
