@@ -5,8 +5,22 @@ use gnss_obs::{Signal, System};
 use std::alloc::Global;
 use std::test::*;
 
-fn is_refused(alloc: Global, gps: &str, galileo: &str, fault: PlanFault) -> bool {
-    matches!(parse(alloc, gps, galileo), Err(f) if f == fault)
+/// How many signals of GPS and of Galileo are planned.
+type Sizes = Result<(usize, usize), PlanFault>;
+
+fn sizes(plan: Result<Plan, PlanFault>) -> Sizes {
+    match plan {
+        Ok(plan) => Ok((plan.signals(System::Gps), plan.signals(System::Galileo))),
+        Err(fault) => Err(fault),
+    }
+}
+
+/// The place of a GPS signal by its code.
+fn place(plan: Result<Plan, PlanFault>, code: &str) -> Option<usize> {
+    match (plan, Signal::from_code(System::Gps, code)) {
+        (Ok(plan), Some(signal)) => plan.place(signal),
+        _ => None,
+    }
 }
 
 #[test]
@@ -22,26 +36,20 @@ fn texts_are_refused(rt: HostRuntime) {
         ("1C,", "none", PlanFault::UnknownCode(System::Gps, 1)),
     ];
     for (gps, galileo, fault) in table {
-        assert!(rt; is_refused(alloc, gps, galileo, fault), "{gps} {galileo}");
+        assert_eq!(rt;
+            sizes(parse(alloc, gps, galileo)),
+            Err(fault),
+            "{gps} {galileo}"
+        );
     }
 }
 
 #[test]
-fn plans_are_read(rt: HostRuntime) -> Result<(), PlanFault> {
+fn plans_are_read(rt: HostRuntime) {
     let alloc = rt.alloc();
-    let all = parse(alloc, "all", "all")?;
-    assert_eq!(rt;
-        (all.signals(System::Gps), all.signals(System::Galileo)),
-        (15, 19)
-    );
-    let some = parse(alloc, "2W,1C", "none")?;
-    assert_eq!(rt; some.signals(System::Gps), 2);
-    let place = match Signal::from_code(System::Gps, "1C") {
-        None => None,
-        Some(signal) => some.place(signal),
-    };
-    assert_eq!(rt; place, Some(1));
-    Ok(())
+    assert_eq!(rt; sizes(parse(alloc, "all", "all")), Ok((15, 19)));
+    assert_eq!(rt; sizes(parse(alloc, "2W,1C", "none")), Ok((2, 0)));
+    assert_eq!(rt; place(parse(alloc, "2W,1C", "none"), "1C"), Some(1));
 }
 
 // The GPS signals of these codes.
@@ -64,47 +72,24 @@ fn made(alloc: Global, gps: &[&str], galileo: &[&str]) -> Result<Plan, PlanFault
     Plan::from_signals(alloc, gps.as_slice(), galileo.as_slice())
 }
 
-fn is_made_in_vain(alloc: Global, gps: &[&str], galileo: &[&str], fault: PlanFault) -> bool {
-    matches!(made(alloc, gps, galileo), Err(f) if f == fault)
-}
-
-fn is_planned_at(plan: &Plan, code: &str, at: usize) -> bool {
-    match Signal::from_code(System::Gps, code) {
-        None => false,
-        Some(signal) => plan.place(signal) == Some(at),
-    }
-}
-
 #[test]
-fn plans_are_made_of_signals(rt: HostRuntime) -> Result<(), PlanFault> {
-    let plan = made(rt.alloc(), &["2W", "1C"], &[])?;
-    assert!(rt; is_planned_at(&plan, "2W", 0));
-    assert!(rt; is_planned_at(&plan, "1C", 1));
-    assert_eq!(rt;
-        (plan.signals(System::Gps), plan.signals(System::Galileo)),
-        (2, 0)
-    );
-    Ok(())
+fn plans_are_made_of_signals(rt: HostRuntime) {
+    let alloc = rt.alloc();
+    let codes = ["2W", "1C"];
+    assert_eq!(rt; place(made(alloc, &codes, &[]), "2W"), Some(0));
+    assert_eq!(rt; place(made(alloc, &codes, &[]), "1C"), Some(1));
+    assert_eq!(rt; sizes(made(alloc, &codes, &[])), Ok((2, 0)));
 }
 
 #[test]
 fn signals_are_refused(rt: HostRuntime) {
     let alloc = rt.alloc();
-    assert!(rt;
-        is_made_in_vain(
-            alloc,
-            &["1C", "1C"],
-            &[],
-            PlanFault::RepeatedCode(System::Gps, 1)
-        )
+    let fault = Err(PlanFault::RepeatedCode(System::Gps, 1));
+    assert_eq!(rt; sizes(made(alloc, &["1C", "1C"], &[])), fault);
+    let fault = Err(PlanFault::UnknownCode(System::Galileo, 0));
+    assert_eq!(rt; sizes(made(alloc, &[], &["1C"])), fault);
+    assert_eq!(rt;
+        sizes(made(alloc, &[], &[])),
+        Err(PlanFault::NothingPlanned)
     );
-    assert!(rt;
-        is_made_in_vain(
-            alloc,
-            &[],
-            &["1C"],
-            PlanFault::UnknownCode(System::Galileo, 0)
-        )
-    );
-    assert!(rt; is_made_in_vain(alloc, &[], &[], PlanFault::NothingPlanned));
 }

@@ -1,13 +1,13 @@
 //! Events: written, read back, and refused where they stand or say otherwise.
-use super::reading::{check, fault, read, write_back};
-use super::{EPOCH, HEADER, joined};
+use super::reading::{NO_VALUES, Told, check, read, told_of};
+use super::{
+    ALL, EPOCH, HEADER, Outcome, Takes, Text, VALUES, joined, put_lines, writer, written_otherwise,
+};
 use crate::{Counts, HeadFault, ReadFault, write_event};
-use arrayvec::ArrayVec;
-use obs_epoch::StationValues;
-use rtcm_bits::Counted;
-use rtcm_bits::devices::{ShortWriter, WriteEnd};
-use std::io::{ErrorKind, Write};
-use std::test::Fail;
+use rtcm_bits::devices::WriteEnd;
+use std::alloc::Global;
+use std::io::ErrorKind;
+use std::test::*;
 
 /// The event of a station, and the epoch behind it.
 const EVENT: [&str; 3] = [
@@ -22,101 +22,116 @@ const SECOND: [&str; 2] = [
     "G05  20985472.060 7 110279400.00017      -525.504          45.063",
 ];
 
-/// The lines of these parts of a file, one behind the other.
-fn lines(parts: &[&[&'static str]]) -> ArrayVec<&'static str, 32> {
-    let mut all = ArrayVec::new();
-    for part in parts {
-        for line in part.iter() {
-            let _ = all.try_push(*line);
-        }
-    }
-    all
-}
-
-fn values() -> StationValues {
-    StationValues {
-        x: 11_141_045_999,
-        y: -48_507_297_108,
-        z: 39_755_214_643,
-        height: 15_000,
-    }
-}
-
-fn send_event<W: Write>(writer: &mut Counted<W>) -> Result<(), HeadFault> {
-    write_event(values(), writer)
-}
-
 #[test]
-fn a_file_with_an_event_is_read_and_written_back(rt: HostRuntime) -> Result<(), Fail> {
-    let text = joined(lines(&[&HEADER, &EPOCH, &EVENT, &SECOND]).as_slice());
-    assert_eq!(rt; text.len(), 1536);
-    let file = read(rt.alloc(), text.as_slice())?;
-    assert_eq!(rt;
-        (file.epochs(), file.satellites(), file.events()),
-        (2, 2, 1)
-    );
-    assert!(rt;
-        file.station_values().is_same(StationValues {
-            x: 0,
-            y: 0,
-            z: 0,
-            height: 0
-        })
-    );
-    assert_eq!(rt; write_back(rt.alloc(), &file)?.as_slice(), text.as_slice());
+fn a_file_with_an_event_is_read_and_written_back(rt: HostRuntime) {
+    let lines: [&[&str]; 4] = [&HEADER, &EPOCH, &EVENT, &SECOND];
+    assert_eq!(rt; joined(&lines).len(), 1536);
     let counts = Counts {
         epochs: 2,
         satellites: 2,
         events: 1,
     };
-    assert!(rt; check(rt.alloc(), text.as_slice()) == Ok(counts));
-    Ok(())
+    let wanted = Told {
+        counts,
+        values: NO_VALUES,
+        signals: (1, 0),
+        is_roof: false,
+        difference: None,
+    };
+    assert_eq!(rt; told_of(rt.alloc(), &lines), Ok(wanted));
+    assert_eq!(rt; check(rt.alloc(), &lines), Ok(counts));
+}
+
+/// A part of a file.
+#[derive(Clone, Copy)]
+enum Part {
+    Head,
+    Epoch,
+    Second,
+    Event,
+    /// The event with its position in other columns.
+    Spaced,
+    /// An event that tells the header's values.
+    Same,
+    /// An event that tells the header's height and another position.
+    Moved,
+    /// The first line of the event.
+    EventLine,
+    /// The first line of the epoch.
+    EpochLine,
+}
+
+const SPACED: &str =
+    "  1114104.5999 -4850729.7108  3975521.4643                 APPROX POSITION XYZ ";
+
+fn put_part(text: &mut Text, part: Part) {
+    match part {
+        Part::Head => put_lines(text, &HEADER),
+        Part::Epoch => put_lines(text, &EPOCH),
+        Part::Second => put_lines(text, &SECOND),
+        Part::Event => put_lines(text, &EVENT),
+        Part::Spaced => put_lines(text, &[EVENT[0], SPACED, EVENT[2]]),
+        Part::Same => put_lines(text, &[EVENT[0], HEADER[7], HEADER[8]]),
+        Part::Moved => put_lines(text, &[EVENT[0], EVENT[1], HEADER[8]]),
+        Part::EventLine => put_lines(text, &EVENT[..1]),
+        Part::EpochLine => put_lines(text, &EPOCH[..1]),
+    }
+}
+
+/// The fault of a file of these parts.
+fn fault_of(alloc: Global, parts: &[Part]) -> Option<ReadFault> {
+    let mut text = Text::new();
+    for part in parts {
+        put_part(&mut text, *part);
+    }
+    read(alloc, text.as_slice()).err()
 }
 
 #[test]
 fn an_event_in_the_wrong_place_or_of_the_same_values_is_refused(rt: HostRuntime) {
-    let spaced = [
-        EVENT[0],
-        "  1114104.5999 -4850729.7108  3975521.4643                 APPROX POSITION XYZ ",
-        EVENT[2],
+    use Part::{Epoch, EpochLine, Event, EventLine, Head, Moved, Same, Second, Spaced};
+    let table: [(&[Part], Option<ReadFault>); 9] = [
+        (&[Head, Event, Epoch, Second], Some(ReadFault::BadEpoch(15))),
+        (
+            &[Head, Epoch, Spaced, Second],
+            Some(ReadFault::BadEvent(18)),
+        ),
+        (&[Head, Epoch, Same, Second], Some(ReadFault::BadEvent(19))),
+        (&[Head, Epoch, Moved, Second], None),
+        (&[Head, Epoch, Event], Some(ReadFault::CutShort(20))),
+        (
+            &[Head, Epoch, Event, Event, Second],
+            Some(ReadFault::BadEpoch(20)),
+        ),
+        (&[Head, Epoch, Event, Epoch], Some(ReadFault::BadEpoch(20))),
+        (
+            &[Head, Epoch, EventLine, Second],
+            Some(ReadFault::BadEvent(18)),
+        ),
+        (&[Head, EpochLine, Event], Some(ReadFault::BadSatellite(16))),
     ];
-    let same = [EVENT[0], HEADER[7], HEADER[8]];
-    let moved = [EVENT[0], EVENT[1], HEADER[8]];
-    let text = lines(&[&HEADER, &EVENT, &EPOCH, &SECOND]);
-    assert!(rt; fault(rt.alloc(), text.as_slice(), b"") == Some(ReadFault::BadEpoch(15)));
-    let text = lines(&[&HEADER, &EPOCH, &spaced, &SECOND]);
-    assert!(rt; fault(rt.alloc(), text.as_slice(), b"") == Some(ReadFault::BadEvent(18)));
-    let text = lines(&[&HEADER, &EPOCH, &same, &SECOND]);
-    assert!(rt; fault(rt.alloc(), text.as_slice(), b"") == Some(ReadFault::BadEvent(19)));
-    let text = lines(&[&HEADER, &EPOCH, &moved, &SECOND]);
-    assert!(rt; fault(rt.alloc(), text.as_slice(), b"") == None);
-    let text = lines(&[&HEADER, &EPOCH, &EVENT]);
-    assert!(rt; fault(rt.alloc(), text.as_slice(), b"") == Some(ReadFault::CutShort(20)));
-    let text = lines(&[&HEADER, &EPOCH, &EVENT, &EVENT, &SECOND]);
-    assert!(rt; fault(rt.alloc(), text.as_slice(), b"") == Some(ReadFault::BadEpoch(20)));
-    let text = lines(&[&HEADER, &EPOCH, &EVENT, &EPOCH]);
-    assert!(rt; fault(rt.alloc(), text.as_slice(), b"") == Some(ReadFault::BadEpoch(20)));
-    let text = lines(&[&HEADER, &EPOCH, &EVENT[..1], &SECOND]);
-    assert!(rt; fault(rt.alloc(), text.as_slice(), b"") == Some(ReadFault::BadEvent(18)));
-    let text = lines(&[&HEADER, &EPOCH[..1], &EVENT]);
-    assert!(rt; fault(rt.alloc(), text.as_slice(), b"") == Some(ReadFault::BadSatellite(16)));
+    for place in 0..table.len() {
+        let (parts, wanted) = table[place];
+        assert_eq!(rt; fault_of(rt.alloc(), parts), wanted, "case {place}");
+    }
+}
+
+/// What comes of writing the event.
+fn sent(takes: Takes) -> Outcome {
+    let mut writer = writer(takes);
+    let answer = write_event(VALUES, &mut writer);
+    (answer, written_otherwise(writer, takes, &[&EVENT]))
 }
 
 #[test]
 fn an_event_is_written(rt: HostRuntime) {
-    let text = joined(&EVENT);
-    let mut writer = Counted::new(ArrayVec::<u8, 4096>::new());
-    assert!(rt; send_event(&mut writer) == Ok(()));
-    assert_eq!(rt; writer.into_inner().as_slice(), text.as_slice());
-    for (end, taken) in [
+    assert_eq!(rt; sent(ALL), (Ok(()), None));
+    for (end, all) in [
         (WriteEnd::Fails(ErrorKind::Other), 100),
         (WriteEnd::TakesNone, 36),
         (WriteEnd::TakesNone, 0),
     ] {
-        let out = ArrayVec::<u8, 4096>::new();
-        let mut writer = Counted::new(ShortWriter::new(out, 81, taken, end));
-        assert!(rt; send_event(&mut writer) == Err(HeadFault::Write));
-        let out = writer.into_inner().into_inner();
-        assert_eq!(rt; Some(out.as_slice()), text.as_slice().get(..taken));
+        let takes = Takes { each: 81, all, end };
+        assert_eq!(rt; sent(takes), (Err(HeadFault::Write), None), "{all}");
     }
 }

@@ -1,14 +1,14 @@
 //! Files that are read back, and files that are refused.
-use super::{EPOCH, HEADER, joined};
+use super::{EPOCH, HEADER, Text, VALUES, joined, place_of_difference, put_lines};
 use crate::{Counts, HeaderField, ObsFile, ReadFault, check_file, file_bytes, read_file};
 use arrayvec::ArrayVec;
 use gnss_obs::System;
 use obs_epoch::StationValues;
 use rtcm_bits::Counted;
 use rtcm_bits::devices::{PieceReader, ReadEnd};
-use std::alloc::{AllocError, Global};
+use std::alloc::Global;
 use std::io::ErrorKind;
-use std::test::Fail;
+use std::test::*;
 
 /// A file of two epochs, of both systems, with a signal on more lines than one, an indicator and
 /// values that aren't observed.
@@ -37,25 +37,76 @@ const TWO_SYSTEMS: [&str; 22] = [
     "G329999999999.999  -999999999.999",
 ];
 
+/// Where no station was told.
+pub const NO_VALUES: StationValues = StationValues {
+    x: 0,
+    y: 0,
+    z: 0,
+    height: 0,
+};
+
+/// What a file tells that was read.
+#[derive(Clone, Copy, Debug, PartialEq)]
+pub struct Told {
+    pub counts: Counts,
+    pub values: StationValues,
+    /// How many signals of GPS and of Galileo are planned.
+    pub signals: (usize, usize),
+    /// Whether the marker's name is that of `TWO_SYSTEMS`.
+    pub is_roof: bool,
+    /// The first place at which the bytes of the file are others than those that were read.
+    pub difference: Option<usize>,
+}
+
 /// Reads bytes that come three at a time.
 pub fn read(alloc: Global, text: &[u8]) -> Result<ObsFile, ReadFault> {
     let mut reader = Counted::new(PieceReader::new(text, &[3], ReadEnd::Ends));
     read_file(alloc, &mut reader)
 }
 
-/// Counts what bytes hold that come three at a time.
-pub fn check(alloc: Global, text: &[u8]) -> Result<Counts, ReadFault> {
-    let mut reader = Counted::new(PieceReader::new(text, &[3], ReadEnd::Ends));
+/// Counts what lines hold whose bytes come three at a time.
+pub fn check(alloc: Global, lines: &[&[&str]]) -> Result<Counts, ReadFault> {
+    let text = joined(lines);
+    let mut reader = Counted::new(PieceReader::new(text.as_slice(), &[3], ReadEnd::Ends));
     check_file(alloc, &mut reader)
 }
 
-/// The bytes of a file that was read.
-pub fn write_back(alloc: Global, file: &ObsFile) -> Result<Vec<u8>, AllocError> {
-    file_bytes(alloc, file)
+/// The first place at which the bytes of a file are others than these.
+fn written_otherwise(alloc: Global, file: &ObsFile, text: &[u8]) -> Option<usize> {
+    match file_bytes(alloc, file) {
+        Ok(bytes) => place_of_difference(bytes.as_slice(), text),
+        Err(_) => Some(0),
+    }
+}
+
+fn told_by(alloc: Global, file: &ObsFile, text: &[u8]) -> Told {
+    Told {
+        counts: Counts {
+            epochs: file.epochs() as u64,
+            satellites: file.satellites() as u64,
+            events: file.events() as u64,
+        },
+        values: file.station_values(),
+        signals: (
+            file.plan().signals(System::Gps),
+            file.plan().signals(System::Galileo),
+        ),
+        is_roof: file.texts().text(HeaderField::Marker) == b"ROOF".as_slice(),
+        difference: written_otherwise(alloc, file, text),
+    }
+}
+
+/// What a file of these lines tells.
+pub fn told_of(alloc: Global, lines: &[&[&str]]) -> Result<Told, ReadFault> {
+    let text = joined(lines);
+    match read(alloc, text.as_slice()) {
+        Ok(file) => Ok(told_by(alloc, &file, text.as_slice())),
+        Err(fault) => Err(fault),
+    }
 }
 
 /// The fault of a file with these lines, and then these bytes.
-pub fn fault(alloc: Global, lines: &[&str], rest: &[u8]) -> Option<ReadFault> {
+fn fault(alloc: Global, lines: &[&[&str]], rest: &[u8]) -> Option<ReadFault> {
     let mut text = joined(lines);
     let _ = text.try_extend_from_slice(rest);
     read(alloc, text.as_slice()).err()
@@ -77,6 +128,48 @@ fn check_failing(alloc: Global, text: &[u8]) -> Result<Counts, ReadFault> {
     check_file(alloc, &mut reader)
 }
 
+/// The small file, of one epoch.
+const SMALL: Told = Told {
+    counts: Counts {
+        epochs: 1,
+        satellites: 1,
+        events: 0,
+    },
+    values: NO_VALUES,
+    signals: (1, 0),
+    is_roof: false,
+    difference: None,
+};
+
+/// The file of two epochs.
+const LARGE: Told = Told {
+    counts: Counts {
+        epochs: 2,
+        satellites: 3,
+        events: 0,
+    },
+    values: VALUES,
+    signals: (4, 1),
+    is_roof: true,
+    difference: None,
+};
+
+#[test]
+fn a_file_is_read_and_written_back(rt: HostRuntime) {
+    assert_eq!(rt; told_of(rt.alloc(), &[&HEADER, &EPOCH]), Ok(SMALL));
+}
+
+#[test]
+fn a_file_is_counted(rt: HostRuntime) {
+    assert_eq!(rt; check(rt.alloc(), &[&HEADER, &EPOCH]), Ok(SMALL.counts));
+    assert_eq!(rt; check(rt.alloc(), &[&TWO_SYSTEMS]), Ok(LARGE.counts));
+}
+
+#[test]
+fn a_file_tells_its_parts(rt: HostRuntime) {
+    assert_eq!(rt; told_of(rt.alloc(), &[&TWO_SYSTEMS]), Ok(LARGE));
+}
+
 /// The lines of the small file, with another in place of one.
 fn with_line(place: usize, line: &'static str) -> ArrayVec<&'static str, 16> {
     let mut lines = ArrayVec::new();
@@ -87,50 +180,11 @@ fn with_line(place: usize, line: &'static str) -> ArrayVec<&'static str, 16> {
     lines
 }
 
-#[test]
-fn a_file_is_read_and_written_back(rt: HostRuntime) -> Result<(), Fail> {
-    let alloc = rt.alloc();
-    let small = with_line(99, "");
-    for (lines, epochs, satellites) in [(small.as_slice(), 1, 1), (TWO_SYSTEMS.as_slice(), 2, 3)] {
-        let text = joined(lines);
-        let file = read(alloc, text.as_slice())?;
-        assert_eq!(rt; (file.epochs(), file.satellites()), (epochs, satellites));
-        assert_eq!(rt; write_back(alloc, &file)?.as_slice(), text.as_slice());
-    }
-    Ok(())
-}
-
-#[test]
-fn a_file_is_counted(rt: HostRuntime) {
-    let small = with_line(99, "");
-    for (lines, epochs, satellites) in [(small.as_slice(), 1, 1), (TWO_SYSTEMS.as_slice(), 2, 3)] {
-        let text = joined(lines);
-        let counts = check(rt.alloc(), text.as_slice());
-        assert!(rt;
-            counts
-                == Ok(Counts {
-                    epochs,
-                    satellites,
-                    events: 0
-                })
-        );
-    }
-}
-
-#[test]
-fn a_file_tells_its_parts(rt: HostRuntime) -> Result<(), Fail> {
-    let file = read(rt.alloc(), joined(&TWO_SYSTEMS).as_slice())?;
-    assert_eq!(rt; file.texts().text(HeaderField::Marker), b"ROOF".as_slice());
-    assert_eq!(rt; file.plan().signals(System::Gps), 4);
-    assert_eq!(rt; file.plan().signals(System::Galileo), 1);
-    let values = StationValues {
-        x: 11_141_045_999,
-        y: -48_507_297_108,
-        z: 39_755_214_643,
-        height: 15_000,
-    };
-    assert!(rt; file.station_values() == values);
-    Ok(())
+/// The fault of that file.
+fn fault_with(alloc: Global, place: usize, line: &'static str) -> Option<ReadFault> {
+    let mut text = Text::new();
+    put_lines(&mut text, with_line(place, line).as_slice());
+    read(alloc, text.as_slice()).err()
 }
 
 #[test]
@@ -189,9 +243,9 @@ fn a_line_spelled_otherwise_is_refused(rt: HostRuntime) {
         (15, "G05", ReadFault::BadSatellite(16)),
     ];
     for (place, line, wanted) in cases {
-        let lines = with_line(place, line);
-        assert!(rt;
-            fault(rt.alloc(), lines.as_slice(), b"") == Some(wanted),
+        assert_eq!(rt;
+            fault_with(rt.alloc(), place, line),
+            Some(wanted),
             "{}",
             line
         );
@@ -200,33 +254,46 @@ fn a_line_spelled_otherwise_is_refused(rt: HostRuntime) {
 
 #[test]
 fn an_epoch_in_the_wrong_place_is_refused(rt: HostRuntime) {
-    let twice = [EPOCH[0], EPOCH[0], EPOCH[1]];
-    let mut text = joined(&HEADER);
-    let _ = text.try_extend_from_slice(joined(&twice).as_slice());
-    assert!(rt; read(rt.alloc(), text.as_slice()).err() == Some(ReadFault::BadSatellite(16)));
-    let again = [EPOCH[0], EPOCH[1], EPOCH[0], EPOCH[1]];
-    let mut text = joined(&HEADER);
-    let _ = text.try_extend_from_slice(joined(&again).as_slice());
-    assert!(rt; read(rt.alloc(), text.as_slice()).err() == Some(ReadFault::BadEpoch(17)));
+    let twice = fault(rt.alloc(), &[&HEADER, &EPOCH[..1], &EPOCH], b"");
+    assert_eq!(rt; twice, Some(ReadFault::BadSatellite(16)));
+    let again = fault(rt.alloc(), &[&HEADER, &EPOCH, &EPOCH], b"");
+    assert_eq!(rt; again, Some(ReadFault::BadEpoch(17)));
+}
+
+/// The fault of the small file without its last byte.
+fn fault_of_cut(alloc: Global) -> Option<ReadFault> {
+    let whole = joined(&[&HEADER, &EPOCH]);
+    fault(
+        alloc,
+        &[],
+        &whole.as_slice()[..whole.len().saturating_sub(1)],
+    )
 }
 
 #[test]
 fn a_file_that_ends_too_soon_is_refused(rt: HostRuntime) {
-    let whole = joined(with_line(99, "").as_slice());
-    let cut = whole.len().saturating_sub(1);
-    assert!(rt; fault(rt.alloc(), &[], &whole.as_slice()[..cut]) == Some(ReadFault::CutShort(16)));
-    let two = with_line(14, "> 2024 02 04 00 00  1.0000000  0  2");
-    assert!(rt; fault(rt.alloc(), two.as_slice(), b"") == Some(ReadFault::CutShort(17)));
-    assert!(rt; fault(rt.alloc(), &HEADER, b"") == Some(ReadFault::CutShort(15)));
-    assert!(rt; fault(rt.alloc(), &[], b"") == Some(ReadFault::CutShort(1)));
+    assert_eq!(rt; fault_of_cut(rt.alloc()), Some(ReadFault::CutShort(16)));
+    let two = fault_with(rt.alloc(), 14, "> 2024 02 04 00 00  1.0000000  0  2");
+    assert_eq!(rt; two, Some(ReadFault::CutShort(17)));
+    assert_eq!(rt;
+        fault(rt.alloc(), &[&HEADER], b""),
+        Some(ReadFault::CutShort(15))
+    );
+    assert_eq!(rt; fault(rt.alloc(), &[], b""), Some(ReadFault::CutShort(1)));
     let long = [b'a'; 1220];
-    assert!(rt; fault(rt.alloc(), &[], &long) == Some(ReadFault::BadHeader(1)));
-    assert!(rt; fault(rt.alloc(), &[], &long[..1219]) == Some(ReadFault::CutShort(1)));
+    assert_eq!(rt;
+        fault(rt.alloc(), &[], &long),
+        Some(ReadFault::BadHeader(1))
+    );
+    assert_eq!(rt;
+        fault(rt.alloc(), &[], &long[..1219]),
+        Some(ReadFault::CutShort(1))
+    );
 }
 
 #[test]
 fn a_reader_that_fails_is_told(rt: HostRuntime) {
-    let text = joined(&HEADER);
+    let text = joined(&[&HEADER]);
     assert!(rt; read_failing(rt.alloc(), text.as_slice()) == (Some(ReadFault::Read), 1));
     assert!(rt; check_failing(rt.alloc(), text.as_slice()) == Err(ReadFault::Read));
 }

@@ -1,0 +1,138 @@
+//! The messages that a gatherer of the tests hears.
+use rtcm_msg::{
+    Cell4, Cell7, Masks, Message, Msm, MsmHeader, Satellite4, Satellite7, Station, StationParts,
+};
+
+/// A message of station 7, with its time in milliseconds of the week and its multiple message bit.
+#[derive(Clone, Copy, Debug, PartialEq)]
+pub enum Heard {
+    /// The long form of GPS 5 with the signal 1C, and the lock's code.
+    Long(u32, bool, u16),
+    /// The same of a Galileo satellite.
+    Galileo(u32, bool, u16),
+    /// The short form of GPS 5, with or without a phase, and the lock's code.
+    Short(u32, bool, bool, u8),
+    /// The long form of several GPS satellites and signals, by their masks, at 1,000.
+    Wide(bool, u64, u32),
+    /// Of a number that isn't read, whose station (here any) and bit are.
+    Unread(u16, bool),
+    /// Where the station stands.
+    Station,
+}
+
+pub fn message(heard: Heard) -> Message {
+    match heard {
+        Heard::Long(time, more, lock) => long(false, header(time, more), 1 << 59, 1 << 30, lock),
+        Heard::Galileo(time, more, lock) => long(true, header(time, more), 1 << 59, 1 << 30, lock),
+        Heard::Short(time, more, has_phase, lock) => short(header(time, more), has_phase, lock),
+        Heard::Wide(more, satellites, signals) => {
+            long(false, header(1_000, more), satellites, signals, 64)
+        }
+        Heard::Unread(station, more) => Message::Other {
+            number: 1127,
+            set: Some((station, more)),
+        },
+        Heard::Station => station(),
+    }
+}
+
+fn nothing() -> Message {
+    Message::Other {
+        number: 0,
+        set: None,
+    }
+}
+
+fn header(time: u32, more: bool) -> MsmHeader {
+    MsmHeader {
+        station: 7,
+        time,
+        more,
+        iods: 0,
+        steering: 0,
+        clock: 0,
+        smoothing: false,
+        interval: 0,
+    }
+}
+
+/// A message of the long form: each of the satellites with each of the signals, by their masks.
+fn long(is_galileo: bool, header: MsmHeader, satellites: u64, signals: u32, lock: u16) -> Message {
+    let count = satellites.count_ones() as usize;
+    let cells = count * signals.count_ones() as usize;
+    if count > 32 || cells > 64 || cells == 0 {
+        return nothing();
+    }
+    let masks = match Masks::new(satellites, signals, u64::MAX >> (64 - cells)) {
+        Ok(masks) => masks,
+        Err(_) => return nothing(),
+    };
+    let satellite = Satellite7 {
+        whole: 70,
+        extended: 0,
+        fraction: 0,
+        rate: 100,
+    };
+    let cell = Cell7 {
+        range: 0,
+        phase: 0,
+        lock,
+        half_cycle: false,
+        strength: 721,
+        rate: 0,
+    };
+    match Msm::new(
+        is_galileo,
+        header,
+        masks,
+        &[satellite; 32][..count],
+        &[cell; 64][..cells],
+    ) {
+        Ok(msm) => Message::Msm7(msm),
+        Err(_) => nothing(),
+    }
+}
+
+/// A message of the short form: GPS 5 with the signal 1C.
+fn short(header: MsmHeader, has_phase: bool, lock: u8) -> Message {
+    let masks = match Masks::new(1 << 59, 1 << 30, 1) {
+        Ok(masks) => masks,
+        Err(_) => return nothing(),
+    };
+    let satellite = Satellite4 {
+        whole: 70,
+        fraction: 0,
+    };
+    let cell = Cell4 {
+        range: 0,
+        phase: if has_phase { 0 } else { -2_097_152 },
+        lock,
+        half_cycle: false,
+        strength: 45,
+    };
+    match Msm::new(false, header, masks, &[satellite], &[cell]) {
+        Ok(msm) => Message::Msm4(msm),
+        Err(_) => nothing(),
+    }
+}
+
+fn station() -> Message {
+    let parts = StationParts {
+        station: 7,
+        realization: 0,
+        gps: true,
+        glonass: false,
+        galileo: true,
+        reference: false,
+        x: 1,
+        oscillator: false,
+        y: -2,
+        quarter: 0,
+        z: 3,
+        height: Some(15_000),
+    };
+    match Station::new(parts) {
+        Ok(station) => Message::Station(station),
+        Err(_) => nothing(),
+    }
+}

@@ -1,0 +1,261 @@
+//! What is written of a gathered message, and where writing stops.
+use super::{
+    ALL, EPOCH, HEADER, Outcome, Takes, Writer, difference, joined, texts, writer,
+    written_otherwise,
+};
+use crate::{
+    Head, HeadFault, HeaderTexts, Line, epoch_line, satellite_line, write_epoch, write_header,
+};
+use gnss_obs::{Sat, System};
+use obs_epoch::{Epoch, Gather, Gatherer, GpsTime, Plan};
+use rtcm_bits::devices::WriteEnd;
+use rtcm_msg::decode;
+use std::alloc::Global;
+use std::io::ErrorKind;
+use std::test::Fail;
+
+/// A message 1077 of GPS 5, 1C: 70 ms, 100 m/s, 45.0625 dB-Hz.
+const OBSERVED: Row = Row {
+    what: "observed",
+    message: &[
+        0x43, 0x57, 0xD3, 0x00, 0x00, 0x0F, 0xA0, 0x00, 0x00, 0x04, 0x00, 0x00, 0x00, 0x00, 0x00,
+        0x00, 0x00, 0x20, 0x00, 0x00, 0x00, 0x51, 0x80, 0x00, 0x01, 0x90, 0x00, 0x00, 0x00, 0x00,
+        0x00, 0x00, 0x05, 0xA2, 0x00, 0x00,
+    ],
+    gps: "1C",
+    galileo: "none",
+    line: "G05  20985472.060 7 110279400.000 7      -525.504          45.063",
+};
+
+/// What a message shows, with the line of its satellite.
+struct Row {
+    what: &'static str,
+    message: &'static [u8],
+    gps: &'static str,
+    galileo: &'static str,
+    line: &'static str,
+}
+
+const ROWS: [Row; 8] = [
+    Row {
+        what: "finer range",
+        message: &[
+            0x43, 0x57, 0xD3, 0x00, 0x00, 0x0F, 0xA0, 0x00, 0x00, 0x04, 0x00, 0x00, 0x00, 0x00,
+            0x00, 0x00, 0x00, 0x20, 0x00, 0x00, 0x00, 0x51, 0x80, 0x00, 0x01, 0x90, 0x00, 0x00,
+            0x40, 0x00, 0x00, 0x00, 0x05, 0xA2, 0x00, 0x00,
+        ],
+        gps: "1C",
+        galileo: "none",
+        line: "G05  20985472.061 7 110279400.000 7      -525.504          45.063",
+    },
+    Row {
+        what: "finer range below",
+        message: &[
+            0x43, 0x57, 0xD3, 0x00, 0x00, 0x0F, 0xA0, 0x00, 0x00, 0x04, 0x00, 0x00, 0x00, 0x00,
+            0x00, 0x00, 0x00, 0x20, 0x00, 0x00, 0x00, 0x51, 0x80, 0x00, 0x01, 0x93, 0xFF, 0xFF,
+            0xC0, 0x00, 0x00, 0x00, 0x05, 0xA2, 0x00, 0x00,
+        ],
+        gps: "1C",
+        galileo: "none",
+        line: "G05  20985472.059 7 110279400.000 7      -525.504          45.063",
+    },
+    Row {
+        what: "no range",
+        message: &[
+            0x43, 0x57, 0xD3, 0x00, 0x00, 0x0F, 0xA0, 0x00, 0x00, 0x04, 0x00, 0x00, 0x00, 0x00,
+            0x00, 0x00, 0x00, 0x20, 0x00, 0x00, 0x00, 0x51, 0x80, 0x00, 0x01, 0x92, 0x00, 0x00,
+            0x00, 0x00, 0x00, 0x00, 0x05, 0xA2, 0x00, 0x00,
+        ],
+        gps: "1C",
+        galileo: "none",
+        line: "G05                 110279400.000 7      -525.504          45.063",
+    },
+    Row {
+        what: "finer phase",
+        message: &[
+            0x43, 0x57, 0xD3, 0x00, 0x00, 0x0F, 0xA0, 0x00, 0x00, 0x04, 0x00, 0x00, 0x00, 0x00,
+            0x00, 0x00, 0x00, 0x20, 0x00, 0x00, 0x00, 0x51, 0x80, 0x00, 0x01, 0x90, 0x00, 0x00,
+            0x00, 0x00, 0x00, 0x40, 0x05, 0xA2, 0x00, 0x00,
+        ],
+        gps: "1C",
+        galileo: "none",
+        line: "G05  20985472.060 7 110279400.001 7      -525.504          45.063",
+    },
+    Row {
+        what: "slow",
+        message: &[
+            0x43, 0x57, 0xD3, 0x00, 0x00, 0x0F, 0xA0, 0x00, 0x00, 0x04, 0x00, 0x00, 0x00, 0x00,
+            0x00, 0x00, 0x00, 0x20, 0x00, 0x00, 0x00, 0x51, 0x80, 0x00, 0x00, 0x00, 0x00, 0x00,
+            0x00, 0x00, 0x00, 0x00, 0x05, 0xA2, 0x00, 0x04,
+        ],
+        gps: "1C",
+        galileo: "none",
+        line: "G05  20985472.060 7 110279400.000 7        -0.001          45.063",
+    },
+    Row {
+        what: "slow on 5X",
+        message: &[
+            0x43, 0x57, 0xD3, 0x00, 0x00, 0x0F, 0xA0, 0x00, 0x00, 0x04, 0x00, 0x00, 0x00, 0x00,
+            0x00, 0x00, 0x00, 0x00, 0x00, 0x00, 0x80, 0x51, 0x80, 0x00, 0x00, 0x00, 0x00, 0x00,
+            0x00, 0x00, 0x00, 0x00, 0x05, 0xA2, 0x00, 0x04,
+        ],
+        gps: "1C,5X",
+        galileo: "none",
+        line: "G05                                                                  20985472.060 7  82351500.000 7         0.000          45.063",
+    },
+    Row {
+        what: "short form",
+        message: &[
+            0x43, 0x27, 0xD3, 0x00, 0x00, 0x0F, 0xA0, 0x00, 0x00, 0x04, 0x00, 0x00, 0x00, 0x00,
+            0x00, 0x00, 0x00, 0x20, 0x00, 0x00, 0x00, 0x51, 0x80, 0x0F, 0xFF, 0xE0, 0x00, 0x00,
+            0xFE, 0xD0,
+        ],
+        gps: "1C",
+        galileo: "none",
+        line: "G05  20985472.042 7 110279400.00327                        45.000",
+    },
+    Row {
+        what: "Galileo",
+        message: &[
+            0x44, 0x97, 0xD3, 0x00, 0x00, 0x0F, 0xA0, 0x00, 0x00, 0x00, 0x00, 0x00, 0x00, 0x08,
+            0x00, 0x00, 0x00, 0x20, 0x00, 0x00, 0x00, 0x51, 0x80, 0x00, 0x01, 0x90, 0x00, 0x00,
+            0x00, 0x00, 0x00, 0x00, 0x05, 0xA2, 0x00, 0x00,
+        ],
+        gps: "none",
+        galileo: "1C",
+        line: "E36  20985472.060 7 110279400.000 7      -525.504          45.063",
+    },
+];
+
+/// What is written of a file.
+#[derive(Clone, Copy)]
+enum Part {
+    Header,
+    Epoch,
+    Both,
+}
+
+fn send_header(gatherer: &Gatherer, first: GpsTime, writer: &mut Writer) -> Result<(), HeadFault> {
+    let texts = HeaderTexts::new(&texts())?;
+    let head = Head {
+        texts: &texts,
+        plan: gatherer.plan(),
+        values: gatherer.station_values(),
+        first,
+    };
+    write_header(&head, writer)
+}
+
+fn send_epoch(gatherer: &Gatherer, epoch: &Epoch, writer: &mut Writer) -> Result<(), HeadFault> {
+    write_epoch(epoch, gatherer.plan(), writer)
+}
+
+fn send(gatherer: &Gatherer, part: Part, writer: &mut Writer) -> Result<(), HeadFault> {
+    let Some(epoch) = gatherer.closed() else {
+        return Ok(());
+    };
+    match part {
+        Part::Header => send_header(gatherer, epoch.time(), writer),
+        Part::Epoch => send_epoch(gatherer, epoch, writer),
+        Part::Both => {
+            send_header(gatherer, epoch.time(), writer)?;
+            send_epoch(gatherer, epoch, writer)
+        }
+    }
+}
+
+fn sent(gatherer: &Gatherer, part: Part, takes: Takes, wanted: &[&[&str]]) -> Outcome {
+    let mut writer = writer(takes);
+    let answer = send(gatherer, part, &mut writer);
+    (answer, written_otherwise(writer, takes, wanted))
+}
+
+/// What gathered the message of a row, of week 2300, that is the last of its epoch.
+fn gathered(alloc: Global, row: &Row) -> Result<Gatherer, Fail> {
+    let plan = Plan::parse(alloc, row.gps, row.galileo)?;
+    let mut gatherer = Gatherer::new(alloc, plan, 2300, None, Gather::Bit)?;
+    gatherer.take(&decode(row.message)?);
+    Ok(gatherer)
+}
+
+/// What comes of writing a part of the file of a row's message.
+fn outcome(
+    alloc: Global,
+    row: &Row,
+    part: Part,
+    takes: Takes,
+    wanted: &[&[&str]],
+) -> Result<Outcome, Fail> {
+    let gatherer = gathered(alloc, row)?;
+    Ok(sent(&gatherer, part, takes, wanted))
+}
+
+#[test]
+fn a_file_is_written(rt: HostRuntime) -> Result<(), Fail> {
+    assert_eq!(rt; joined(&[&HEADER, &EPOCH]).len(), 1236);
+    assert_eq!(rt;
+        outcome(rt.alloc(), &OBSERVED, Part::Both, ALL, &[&HEADER, &EPOCH])?,
+        (Ok(()), None)
+    );
+    Ok(())
+}
+
+#[test]
+fn satellites_have_lines(rt: HostRuntime) -> Result<(), Fail> {
+    for row in ROWS.iter() {
+        assert_eq!(rt;
+            outcome(rt.alloc(), row, Part::Epoch, ALL, &[&[EPOCH[0], row.line]])?,
+            (Ok(()), None),
+            "{}",
+            row.what
+        );
+    }
+    Ok(())
+}
+
+/// Where the line of an epoch, and then that of its satellite, are others than wanted.
+fn lines_otherwise(
+    gatherer: &Gatherer,
+    epoch: &Epoch,
+    satellite: Sat,
+    line: &mut Line,
+) -> [Option<usize>; 2] {
+    epoch_line(epoch.time(), 1, line);
+    let first = difference(line.as_slice(), &[&EPOCH[..1]], 4096);
+    satellite_line(epoch, gatherer.plan(), satellite, line);
+    [first, difference(line.as_slice(), &[&EPOCH[1..]], 4096)]
+}
+
+/// The same, with the lines twice in one place.
+fn lines_twice(gatherer: &Gatherer) -> Option<[[Option<usize>; 2]; 2]> {
+    let epoch = gatherer.closed()?;
+    let satellite = Sat::new(System::Gps, 5)?;
+    let mut line = Line::new();
+    let once = lines_otherwise(gatherer, epoch, satellite, &mut line);
+    Some([once, lines_otherwise(gatherer, epoch, satellite, &mut line)])
+}
+
+#[test]
+fn lines_take_the_place_of_others(rt: HostRuntime) -> Result<(), Fail> {
+    let gatherer = gathered(rt.alloc(), &OBSERVED)?;
+    assert_eq!(rt; lines_twice(&gatherer), Some([[None, None], [None, None]]));
+    Ok(())
+}
+
+#[test]
+fn writing_stops_at_a_failure(rt: HostRuntime) -> Result<(), Fail> {
+    let fails = WriteEnd::Fails(ErrorKind::Other);
+    for (part, each, all, end, wanted) in [
+        (Part::Header, 81, 100, fails, HEADER.as_slice()),
+        (Part::Header, 81, 0, WriteEnd::TakesNone, HEADER.as_slice()),
+        (Part::Epoch, 7, 50, fails, EPOCH.as_slice()),
+    ] {
+        let takes = Takes { each, all, end };
+        assert_eq!(rt;
+            outcome(rt.alloc(), &OBSERVED, part, takes, &[wanted])?,
+            (Err(HeadFault::Write), None),
+            "{all}"
+        );
+    }
+    Ok(())
+}
