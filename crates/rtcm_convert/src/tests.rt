@@ -1,19 +1,21 @@
 //! What no clause says: worked streams and their files, that each call can succeed, and what goes
 //! out where a device fails.
-mod calls;
 mod faults;
 mod hostile;
+mod script;
 
-use crate::{Fault, Report, Setup};
+use crate::{Fault, Report, convert_pieces, convert_stream};
 use arrayvec::ArrayVec;
-use calls::{feed, finish, kept, looks, new, pieces_made, run_over, stream_made};
-use obs_epoch::{Gather, Plan};
-use rinex_file::{HeaderTexts, Texts};
 use rtcm_bits::devices::{PieceReader, ReadEnd};
 use rtcm_bits::{Counted, frame_of};
-use rtcm_scan::MOST_BYTES;
+use script::{Broken, Step, TOLD, Told, follow, makes, sends, setup};
 use std::alloc::{AllocError, Global};
-use std::test::Fail;
+use std::io::{Read, Write};
+
+/// Room for every stream of the tests, and for the text of every file.
+type Stream = ArrayVec<u8, 128>;
+
+type Text = ArrayVec<u8, 1_400>;
 
 /// Message 1005 of station 2003.
 const POINT: [u8; 19] = [
@@ -110,33 +112,6 @@ const ONE_TAKEN: Report = Report {
     ..NOTHING
 };
 
-/// Signal 1C of GPS from week 2300 on.
-fn setup(alloc: Global) -> Option<Setup> {
-    let plan = Plan::parse(alloc, "1C", "none").ok()?;
-    let texts = HeaderTexts::new(&Texts {
-        run_by: "",
-        date: "20240204 000001 UTC",
-        marker: "",
-        marker_type: "GEODETIC",
-        observer: "",
-        agency: "",
-        rec_number: "",
-        rec_type: "",
-        rec_version: "",
-        ant_number: "",
-        ant_type: "",
-    })
-    .ok()?;
-    Some(Setup {
-        plan,
-        texts,
-        start_week: 2300,
-        station: None,
-        gather: Gather::Bit,
-        limit: MOST_BYTES,
-    })
-}
-
 /// A full message of another time of week, in ms.
 fn full_at(time: u32) -> [u8; 36] {
     let mut message = FULL;
@@ -149,78 +124,74 @@ fn full_at(time: u32) -> [u8; 36] {
 }
 
 /// The frames of these messages, joined.
-fn framed(alloc: Global, messages: &[&[u8]]) -> Result<Vec<u8>, AllocError> {
-    let mut stream = Vec::new(alloc);
-    let mut frame = ArrayVec::<u8, 1029>::new();
+fn framed(messages: &[&[u8]]) -> Stream {
+    let mut stream = Stream::new();
     for message in messages {
-        frame_of(&message[..message.len().min(1023)], &mut frame);
-        stream.extend_from_slice(frame.as_slice())?;
+        add_frame(message, &mut stream);
     }
-    Ok(stream)
+    stream
+}
+
+fn add_frame(message: &[u8], stream: &mut Stream) {
+    let mut frame = ArrayVec::<u8, 1029>::new();
+    frame_of(&message[..message.len().min(1023)], &mut frame);
+    let _fits = stream.try_extend_from_slice(frame.as_slice());
 }
 
 /// The lines, each with its line feed; those of a header have 80 columns.
-fn text_of(alloc: Global, header: &[&str], lines: &[&str]) -> Result<Vec<u8>, AllocError> {
-    let mut text = Vec::new(alloc);
+fn text_of(header: &[&str], lines: &[&str]) -> Text {
+    let mut text = Text::new();
     for line in header {
-        text.extend_from_slice(line.as_bytes())?;
-        for _ in line.len()..80 {
-            text.push(b' ')?;
-        }
-        text.push(b'\n')?;
+        add_line(line, 80, &mut text);
     }
     for line in lines {
-        text.extend_from_slice(line.as_bytes())?;
-        text.push(b'\n')?;
+        add_line(line, 0, &mut text);
     }
-    Ok(text)
+    text
 }
 
-/// What came of a stream.
-#[derive(Drop)]
-struct Outcome {
-    text: Vec<u8>,
-    answer: Result<Report, Fault>,
-    examined: u64,
-    most: u16,
+fn add_line(line: &str, columns: usize, text: &mut Text) {
+    let blanks = [b' '; 80];
+    let _fits = text.try_extend_from_slice(line.as_bytes());
+    let missing = columns.saturating_sub(line.len()).min(80);
+    let _fits = text.try_extend_from_slice(&blanks[..missing]);
+    let _fits = text.try_extend_from_slice(b"\n");
 }
 
-/// Feeds a stream in pieces of a size, and finishes it.
-fn fed(alloc: Global, setup: Setup, stream: &[u8], size: usize) -> Result<Outcome, Fault> {
-    let mut converter = new(alloc, setup)?;
-    let mut writer = Counted::new(Vec::new(alloc));
-    for piece in stream.chunks(size.max(1)) {
-        feed(&mut converter, piece, &mut writer)?;
-    }
-    let answer = finish(&mut converter, &mut writer);
-    let (_, examined, most) = looks(&converter);
-    Ok(Outcome {
-        text: writer.into_inner(),
-        answer,
-        examined,
-        most,
-    })
+/// A reader that gives a stream in pieces of these sizes.
+fn reader<'a>(stream: &'a [u8], sizes: &'a [usize]) -> Counted<PieceReader<'a>> {
+    Counted::new(PieceReader::new(stream, sizes, ReadEnd::Ends))
 }
 
-/// Runs over a reader that gives a stream in pieces of a size.
-fn run(alloc: Global, setup: Setup, stream: &[u8], size: usize) -> Result<Outcome, Fault> {
-    let mut converter = new(alloc, setup)?;
-    let mut writer = Counted::new(Vec::new(alloc));
-    let sizes = [size];
-    let mut reader = Counted::new(PieceReader::new(stream, &sizes, ReadEnd::Ends));
-    let answer = run_over(&mut converter, &mut reader, &mut writer);
-    let (_, examined, most) = looks(&converter);
-    Ok(Outcome {
-        text: writer.into_inner(),
-        answer,
-        examined,
-        most,
-    })
+/// Whether a converter that takes these steps, and reads nothing, makes the text.
+fn makes_of_steps<'a>(
+    alloc: Global,
+    told: Told,
+    steps: &[Step<'a>],
+    text: &[u8],
+) -> Result<(), Broken<'a>> {
+    makes(alloc, told, steps, &mut reader(&[], &[]), text)
+}
+
+/// Whether a stream in pieces of a size makes the text, this report and these looks, by `feed` as by
+/// `run`.
+fn makes_both_ways<'a>(
+    alloc: Global,
+    stream: &'a [u8],
+    size: usize,
+    report: Report,
+    looks: Step<'a>,
+    text: &[u8],
+) -> Result<(), Broken<'a>> {
+    let fed = Step::Feed(stream, size, Ok(()));
+    let by_feed = [fed, Step::Finish(Ok(report)), looks];
+    makes_of_steps(alloc, TOLD, &by_feed, text)?;
+    let by_run = [Step::Run(Ok(report)), looks];
+    makes(alloc, TOLD, &by_run, &mut reader(stream, &[size]), text)
 }
 
 #[test]
-fn streams_and_their_files(rt: HostRuntime) -> Result<(), Fail> {
-    let alloc = rt.alloc();
+fn streams_and_their_files(rt: HostRuntime) {
     let next = full_at(2_000);
     let mut placed = HEADER;
     placed[7] = PLACED[0];
@@ -257,108 +228,116 @@ fn streams_and_their_files(rt: HostRuntime) -> Result<(), Fail> {
         (&[&COMPACT], &HEADER, &COMPACT_EPOCH, compact, 66, 2),
     ];
     for (messages, header, lines, report, examined, most) in &cases {
-        let stream = framed(alloc, messages)?;
-        let want = text_of(alloc, header, lines)?;
+        let stream = framed(messages);
+        let want = text_of(header, lines);
+        let looks = Step::Looks(0, *examined, *most);
         for size in [1, 2, 1_000] {
-            let by_feed = fed(alloc, setup(alloc).expect(&rt, "a setup"), &stream, size);
-            let by_run = run(alloc, setup(alloc).expect(&rt, "a setup"), &stream, size);
-            for got in [by_feed, by_run] {
-                let got = got.expect(&rt, "no fault");
-                assert_eq!(rt; got.answer, Ok(*report), "in pieces of {size}");
-                assert_eq!(rt; got.text.as_slice(), want.as_slice(), "in pieces of {size}");
-                assert_eq!(rt;
-                    (got.examined, got.most),
-                    (*examined, *most),
-                    "in pieces of {size}"
-                );
-            }
+            let got = makes_both_ways(rt.alloc(), &stream, size, *report, looks, &want);
+            assert_eq!(rt; got, Ok(()), "in pieces of {size}");
         }
     }
-    Ok(())
 }
 
 #[test]
-fn whole_streams(rt: HostRuntime) -> Result<(), Fail> {
-    let alloc = rt.alloc();
-    let stream = framed(alloc, &[&FULL])?;
-    let want = text_of(alloc, &HEADER, &EPOCH)?;
+fn whole_streams(rt: HostRuntime) {
+    let stream = framed(&[&FULL]);
+    let want = text_of(&HEADER, &EPOCH);
     assert_eq!(rt; want.len(), 1_236);
-    let mut writer = Counted::new(Vec::new(alloc));
-    let mut reader = Counted::new(PieceReader::new(&stream, &[], ReadEnd::Ends));
-    let told = setup(alloc).expect(&rt, "a setup");
-    let answer = stream_made(alloc, told, &mut reader, &mut writer);
+    let mut writer = Counted::new(Text::new());
+    let answer = convert(rt.alloc(), &mut reader(&stream, &[]), &mut writer);
     assert_eq!(rt; answer, Ok(ONE_TAKEN));
-    assert_eq!(rt; writer.into_inner().as_slice(), want.as_slice());
+    assert_eq!(rt; sends(&writer.into_inner(), &want), Ok(()));
+    let mut writer = Counted::new(Text::new());
+    let answer = convert_fives(rt.alloc(), &stream, &mut writer);
+    assert_eq!(rt; answer, Ok(ONE_TAKEN));
+    assert_eq!(rt; sends(&writer.into_inner(), &want), Ok(()));
+}
+
+fn convert<R: Read, W: Write>(
+    alloc: Global,
+    reader: &mut Counted<R>,
+    writer: &mut Counted<W>,
+) -> Result<Report, Fault> {
+    convert_stream(alloc, setup(alloc, TOLD)?, reader, writer)
+}
+
+fn convert_all<W: Write>(
+    alloc: Global,
+    pieces: &[Vec<u8>],
+    writer: &mut Counted<W>,
+) -> Result<Report, Fault> {
+    convert_pieces(alloc, setup(alloc, TOLD)?, pieces, writer)
+}
+
+/// Converts the stream in pieces of five bytes.
+fn convert_fives<W: Write>(
+    alloc: Global,
+    stream: &[u8],
+    writer: &mut Counted<W>,
+) -> Result<Report, Fault> {
+    match fives(alloc, stream) {
+        Ok(pieces) => convert_all(alloc, &pieces, writer),
+        Err(_) => Err(Fault::Memory),
+    }
+}
+
+fn fives(alloc: Global, stream: &[u8]) -> Result<Vec<Vec<u8>>, AllocError> {
     let mut pieces = Vec::new(alloc);
     for piece in stream.chunks(5) {
-        let mut bytes = Vec::new(alloc);
-        bytes.extend_from_slice(piece)?;
-        pieces.push(bytes)?;
+        add_piece(alloc, piece, &mut pieces)?;
     }
-    let mut writer = Counted::new(Vec::new(alloc));
-    let told = setup(alloc).expect(&rt, "a setup");
-    let answer = pieces_made(alloc, told, &pieces, &mut writer);
-    assert_eq!(rt; answer, Ok(ONE_TAKEN));
-    assert_eq!(rt; writer.into_inner().as_slice(), want.as_slice());
+    Ok(pieces)
+}
+
+fn add_piece(alloc: Global, piece: &[u8], pieces: &mut Vec<Vec<u8>>) -> Result<(), AllocError> {
+    pieces.push(piece.to_vec(alloc)?)?;
     Ok(())
 }
 
 #[test]
-fn an_epoch_goes_out_as_it_is_closed(rt: HostRuntime) -> Result<(), Fail> {
-    let alloc = rt.alloc();
-    let stream = framed(alloc, &[&FULL])?;
-    let want = text_of(alloc, &HEADER, &EPOCH)?;
-    let told = setup(alloc).expect(&rt, "a setup");
-    let mut converter = new(alloc, told).expect(&rt, "room");
-    let mut writer = Counted::new(Vec::new(alloc));
+fn an_epoch_goes_out_as_it_is_closed(rt: HostRuntime) {
+    let stream = framed(&[&FULL]);
     let (front, last) = stream.split_at(stream.len().saturating_sub(1));
-    assert_eq!(rt; feed(&mut converter, front, &mut writer), Ok(()));
-    assert_eq!(rt; looks(&converter), (41, 41, 1));
-    assert_eq!(rt; kept(&converter), (0, 0, 0));
-    assert_eq!(rt; feed(&mut converter, last, &mut writer), Ok(()));
-    assert_eq!(rt; looks(&converter), (0, 78, 2));
-    assert_eq!(rt; kept(&converter), (1, 0, 1));
-    assert_eq!(rt; writer.into_inner().as_slice(), want.as_slice());
-    Ok(())
+    let steps = [
+        Step::Feed(front, 1_000, Ok(())),
+        Step::Looks(41, 41, 1),
+        Step::Kept(0, 0, 0),
+        Step::Feed(last, 1_000, Ok(())),
+        Step::Looks(0, 78, 2),
+        Step::Kept(1, 0, 1),
+    ];
+    let want = text_of(&HEADER, &EPOCH);
+    assert_eq!(rt; makes_of_steps(rt.alloc(), TOLD, &steps, &want), Ok(()));
 }
 
 #[test]
-fn times_past_the_weeks(rt: HostRuntime) -> Result<(), Fail> {
-    let alloc = rt.alloc();
-    let last = full_at(604_799_000);
-    let first = full_at(0);
-    let stream = framed(alloc, &[&last, &first])?;
-    let mut told = setup(alloc).expect(&rt, "a setup");
-    told.start_week = 99_999;
-    let got = fed(alloc, told, &stream, 1_000).expect(&rt, "no fault");
-    assert_eq!(rt;
-        got.answer,
-        Ok(Report {
-            bytes: 84,
-            frames: 2,
-            past: 1,
-            ..ONE_TAKEN
-        })
-    );
-    Ok(())
+fn times_past_the_weeks(rt: HostRuntime) {
+    let stream = framed(&[&full_at(604_799_000), &full_at(0)]);
+    let report = Report {
+        bytes: 84,
+        frames: 2,
+        past: 1,
+        ..ONE_TAKEN
+    };
+    let told = Told {
+        week: 99_999,
+        ..TOLD
+    };
+    let steps = [Step::Feed(&stream, 1_000, Ok(())), Step::Finish(Ok(report))];
+    let mut writer = Counted::new(Text::new());
+    let got = follow(rt.alloc(), told, &steps, &mut reader(&[], &[]), &mut writer);
+    assert_eq!(rt; got, Ok(()));
 }
 
 #[test]
-fn reads_no_more_than_there_is_room_for(rt: HostRuntime) -> Result<(), Fail> {
-    let alloc = rt.alloc();
+fn reads_no_more_than_there_is_room_for(rt: HostRuntime) {
     let mut incomplete = [0; 1_000];
     incomplete[0] = 0xD3;
     incomplete[1] = 0x03;
     incomplete[2] = 0xFF;
-    let told = setup(alloc).expect(&rt, "a setup");
-    let mut converter = new(alloc, told).expect(&rt, "room");
-    let mut writer = Counted::new(Vec::new(alloc));
-    let mut reader = Counted::new(PieceReader::new(&incomplete, &[], ReadEnd::Ends));
-    assert_eq!(rt;
-        run_over(&mut converter, &mut reader, &mut writer),
-        Err(Fault::NoEpoch)
-    );
+    let mut reader = reader(&incomplete, &[]);
+    let steps = [Step::Run(Err(Fault::NoEpoch))];
+    assert_eq!(rt; makes(rt.alloc(), TOLD, &steps, &mut reader, &[]), Ok(()));
     assert_eq!(rt; reader.widest(), 1_029);
     assert_eq!(rt; reader.into_inner().asked(), 29);
-    Ok(())
 }

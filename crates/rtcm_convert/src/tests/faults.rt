@@ -1,5 +1,5 @@
-use super::calls::{feed, finish, new, run_over};
-use super::{EPOCH, FULL, HEADER, POINT, framed, setup, text_of};
+use super::script::{Broken, Step, TOLD, Told, follow, makes, sends};
+use super::{EPOCH, FULL, HEADER, POINT, Text, framed, makes_of_steps, reader, text_of};
 use crate::Fault;
 use rtcm_bits::Counted;
 use rtcm_bits::devices::{PieceReader, ReadEnd, ShortWriter, WriteEnd};
@@ -8,142 +8,102 @@ use std::io::ErrorKind;
 use std::test::Fail;
 
 #[test]
-fn streams_without_an_epoch(rt: HostRuntime) -> Result<(), Fail> {
-    let alloc = rt.alloc();
-    let stream = framed(alloc, &[&POINT])?;
+fn streams_without_an_epoch(rt: HostRuntime) {
+    let stream = framed(&[&POINT]);
     for bytes in [&stream[..0], stream.as_slice()] {
-        let told = setup(alloc).expect(&rt, "a setup");
-        let mut converter = new(alloc, told).expect(&rt, "room");
-        let mut writer = Counted::new(Vec::new(alloc));
-        assert_eq!(rt; feed(&mut converter, bytes, &mut writer), Ok(()));
-        assert_eq!(rt; finish(&mut converter, &mut writer), Err(Fault::NoEpoch));
-        assert_eq!(rt; finish(&mut converter, &mut writer), Err(Fault::Finished));
-        assert_eq!(rt;
-            feed(&mut converter, bytes, &mut writer),
-            Err(Fault::Finished)
-        );
-        assert!(rt; writer.into_inner().is_empty());
+        let steps = [
+            Step::Feed(bytes, 1_000, Ok(())),
+            Step::Finish(Err(Fault::NoEpoch)),
+            Step::Finish(Err(Fault::Finished)),
+            Step::Feed(bytes, 1_000, Err(Fault::Finished)),
+        ];
+        assert_eq!(rt; makes_of_steps(rt.alloc(), TOLD, &steps, &[]), Ok(()));
     }
-    Ok(())
 }
 
 #[test]
 fn bad_setups(rt: HostRuntime) {
-    let alloc = rt.alloc();
     for (limit, week, station) in [
         (MOST_BYTES + 1, 2_300, None),
         (MOST_BYTES, 100_000, None),
         (MOST_BYTES, 2_300, Some(4_096)),
     ] {
-        let mut told = setup(alloc).expect(&rt, "a setup");
-        told.limit = limit;
-        told.start_week = week;
-        told.station = station;
-        assert!(rt;
-            matches!(new(alloc, told), Err(Fault::BadSetup)),
+        let told = Told {
+            limit,
+            week,
+            station,
+        };
+        assert_eq!(rt;
+            makes_of_steps(rt.alloc(), told, &[], &[]),
+            Err(Broken::New(Fault::BadSetup)),
             "{limit} {week}"
         );
     }
 }
 
 #[test]
-fn limits(rt: HostRuntime) -> Result<(), Fail> {
-    let alloc = rt.alloc();
-    let mut longer = framed(alloc, &[&FULL])?;
-    longer.push(0)?;
-    let file = text_of(alloc, &HEADER, &EPOCH)?;
+fn limits(rt: HostRuntime) {
+    let mut longer = framed(&[&FULL]);
+    let _fits = longer.try_push(0);
+    let file = text_of(&HEADER, &EPOCH);
     let cases: [(&[u8], u64, &[u8]); 3] = [
         (&[0; 11], 10, &[]),
         (&longer, 41, &[]),
         (&longer, 42, &file),
     ];
     for (stream, limit, want) in &cases {
-        let mut told = setup(alloc).expect(&rt, "a setup");
-        told.limit = *limit;
-        let mut converter = new(alloc, told).expect(&rt, "room");
-        let mut writer = Counted::new(Vec::new(alloc));
+        let told = Told {
+            limit: *limit,
+            ..TOLD
+        };
+        let steps = [
+            Step::Feed(stream, 1_000, Err(Fault::TooLong)),
+            Step::Feed(&[], 1_000, Err(Fault::Failed)),
+            Step::Finish(Err(Fault::Failed)),
+        ];
         assert_eq!(rt;
-            feed(&mut converter, stream, &mut writer),
-            Err(Fault::TooLong),
+            makes_of_steps(rt.alloc(), told, &steps, want),
+            Ok(()),
             "{limit}"
         );
-        assert_eq!(rt;
-            feed(&mut converter, &[], &mut writer),
-            Err(Fault::Failed),
-            "{limit}"
-        );
-        assert_eq!(rt;
-            finish(&mut converter, &mut writer),
-            Err(Fault::Failed),
-            "{limit}"
-        );
-        assert_eq!(rt; writer.into_inner().as_slice(), *want, "{limit}");
     }
-    Ok(())
 }
 
 #[test]
-fn writers_that_fail(rt: HostRuntime) -> Result<(), Fail> {
-    let alloc = rt.alloc();
-    let stream = framed(alloc, &[&FULL])?;
-    let file = text_of(alloc, &HEADER, &EPOCH)?;
+fn writers_that_fail(rt: HostRuntime) {
+    let stream = framed(&[&FULL]);
+    let file = text_of(&HEADER, &EPOCH);
+    let steps = [
+        Step::Feed(&stream, 1_000, Err(Fault::Write)),
+        Step::Feed(&stream, 1_000, Err(Fault::Failed)),
+    ];
     for total in [0, 100, 1_235] {
         for end in [WriteEnd::Fails(ErrorKind::Interrupted), WriteEnd::TakesNone] {
-            let told = setup(alloc).expect(&rt, "a setup");
-            let mut converter = new(alloc, told).expect(&rt, "room");
-            let mut writer = Counted::new(ShortWriter::new(Vec::new(alloc), 7, total, end));
-            assert_eq!(rt;
-                feed(&mut converter, &stream, &mut writer),
-                Err(Fault::Write),
-                "{total}"
-            );
-            assert_eq!(rt;
-                feed(&mut converter, &stream, &mut writer),
-                Err(Fault::Failed),
-                "{total}"
-            );
+            let mut writer = Counted::new(ShortWriter::new(Text::new(), 7, total, end));
+            let got = follow(rt.alloc(), TOLD, &steps, &mut reader(&[], &[]), &mut writer);
+            assert_eq!(rt; got, Ok(()), "{total}");
             assert_eq!(rt; writer.failures(), 1, "{total}");
             let went = writer.into_inner().into_inner();
-            assert_eq!(rt;
-                went.as_slice(),
-                file.get(..total).unwrap_or(&[]),
-                "{total}"
-            );
+            let want = file.get(..total).unwrap_or(&[]);
+            assert_eq!(rt; sends(&went, want), Ok(()), "{total}");
         }
     }
-    Ok(())
 }
 
 #[test]
-fn readers_that_fail(rt: HostRuntime) -> Result<(), Fail> {
-    let alloc = rt.alloc();
-    let stream = framed(alloc, &[&FULL])?;
-    let file = text_of(alloc, &HEADER, &EPOCH)?;
+fn readers_that_fail(rt: HostRuntime) {
+    let stream = framed(&[&FULL]);
+    let file = text_of(&HEADER, &EPOCH);
+    let steps = [Step::Run(Err(Fault::Read)), Step::Run(Err(Fault::Failed))];
     for given in [0, 20, 41, 42] {
-        let told = setup(alloc).expect(&rt, "a setup");
-        let mut converter = new(alloc, told).expect(&rt, "room");
-        let mut writer = Counted::new(Vec::new(alloc));
         let bytes = stream.get(..given).unwrap_or(&[]);
-        let mut reader = Counted::new(PieceReader::new(
-            bytes,
-            &[8],
-            ReadEnd::Fails(ErrorKind::Other),
-        ));
-        assert_eq!(rt;
-            run_over(&mut converter, &mut reader, &mut writer),
-            Err(Fault::Read),
-            "{given}"
-        );
-        assert_eq!(rt;
-            run_over(&mut converter, &mut reader, &mut writer),
-            Err(Fault::Failed),
-            "{given}"
-        );
-        assert_eq!(rt; reader.failures(), 1, "{given}");
+        let end = ReadEnd::Fails(ErrorKind::Other);
+        let mut reader = Counted::new(PieceReader::new(bytes, &[8], end));
         let want = if given < 42 { &[] } else { file.as_slice() };
-        assert_eq!(rt; writer.into_inner().as_slice(), want, "{given}");
+        let got = makes(rt.alloc(), TOLD, &steps, &mut reader, want);
+        assert_eq!(rt; got, Ok(()), "{given}");
+        assert_eq!(rt; reader.failures(), 1, "{given}");
     }
-    Ok(())
 }
 
 #[test]

@@ -1,13 +1,13 @@
 //! Cut and damaged streams behind one that makes a file, against functions as slow as the
 //! definitions.
+use super::script::{Step, TOLD};
 use super::{
-    COMPACT, EPOCH, FULL, HEADER, ONE_TAKEN, Outcome, POINT, POINT_AND_HEIGHT, fed, framed, setup,
+    COMPACT, EPOCH, FULL, HEADER, ONE_TAKEN, POINT, POINT_AND_HEIGHT, framed, makes_of_steps,
     text_of,
 };
 use crate::Report;
 use rtcm_bits::crc24q;
-use std::alloc::{AllocError, Global};
-use std::test::Fail;
+use std::alloc::Global;
 
 /// What the definitions say of a stream: its frames, the bytes in none of them, all looks and the
 /// most at one byte.
@@ -44,8 +44,8 @@ fn look_at(looks: &mut [u16], from: usize, size: usize) {
 }
 
 /// The whole stream, place by place.
-fn slowly(alloc: Global, bytes: &[u8]) -> Result<Slow, AllocError> {
-    let mut looks: Vec<u16> = vec![in alloc; 0; bytes.len()]?;
+fn slowly(bytes: &[u8]) -> Slow {
+    let mut looks = [0u16; 128];
     let mut frames: u64 = 0;
     let mut skipped: u64 = 0;
     let mut next = 0;
@@ -54,7 +54,8 @@ fn slowly(alloc: Global, bytes: &[u8]) -> Result<Slow, AllocError> {
             continue;
         }
         let claim = claimed(&bytes[place..]);
-        look_at(&mut looks, place, claim);
+        // A claim may reach behind the stream, where there is nothing to look at.
+        look_at(&mut looks, place, claim.min(bytes.len() - place));
         if is_frame(&bytes[place..], claim) {
             look_at(&mut looks, place.saturating_add(3), claim.saturating_sub(6));
             frames = frames.saturating_add(1);
@@ -63,86 +64,67 @@ fn slowly(alloc: Global, bytes: &[u8]) -> Result<Slow, AllocError> {
             skipped = skipped.saturating_add(1);
         }
     }
-    Ok(Slow {
+    Slow {
         frames,
         skipped,
         examined: looks
             .iter()
             .fold(0u64, |all, look| all.saturating_add(u64::from(*look))),
         most: looks.iter().fold(0u16, |most, look| most.max(*look)),
-    })
+    }
 }
 
-/// Whether the file is the one of the first message, and all counts are those of the definitions.
-/// Behind the first frame the stream has nothing that is read.
-fn agrees(alloc: Global, stream: &[u8], file: &[u8], got: &Outcome) -> Result<bool, AllocError> {
-    let slow = slowly(alloc, stream)?;
+/// Whether a stream of the full message's frame and these bytes gives the file of that message and
+/// the counts of the definitions, in pieces of one byte and of two. Behind the first frame the
+/// stream has nothing that is read.
+fn is_told_behind(alloc: Global, file: &[u8], bad: &[u8]) -> bool {
+    let mut stream = framed(&[&FULL]);
+    let _fits = stream.try_extend_from_slice(bad);
+    let slow = slowly(&stream);
     let report = Report {
         bytes: stream.len() as u64,
         skipped_bytes: slow.skipped,
         frames: slow.frames,
         ..ONE_TAKEN
     };
-    Ok(
-        got.answer == Ok(report)
-            && got.text.as_slice() == file
-            && (got.examined, got.most) == (slow.examined, slow.most)
-            && slow.most <= 1_030,
-    )
-}
-
-/// Whether a stream of a good frame and these bytes gives what the definitions give, in pieces of
-/// one byte and of two.
-fn is_told_behind(alloc: Global, good: &[u8], file: &[u8], bad: &[u8]) -> Result<bool, AllocError> {
-    let mut stream = Vec::new(alloc);
-    stream.extend_from_slice(good)?;
-    stream.extend_from_slice(bad)?;
-    for size in [1, 2, 1_000] {
-        let Some(told) = setup(alloc) else {
-            return Ok(false);
-        };
-        let Ok(got) = fed(alloc, told, &stream, size) else {
-            return Ok(false);
-        };
-        if !agrees(alloc, &stream, file, &got)? {
-            return Ok(false);
-        }
-    }
-    Ok(true)
+    slow.most <= 1_030
+        && [1, 2, 1_000].iter().all(|size| {
+            let steps = [
+                Step::Feed(&stream, *size, Ok(())),
+                Step::Finish(Ok(report)),
+                Step::Looks(0, slow.examined, slow.most),
+            ];
+            makes_of_steps(alloc, TOLD, &steps, file).is_ok()
+        })
 }
 
 #[test]
-fn cut_frames_behind_a_good_one(rt: HostRuntime) -> Result<(), Fail> {
-    let alloc = rt.alloc();
-    let good = framed(alloc, &[&FULL])?;
-    let file = text_of(alloc, &HEADER, &EPOCH)?;
+fn cut_frames_behind_a_good_one(rt: HostRuntime) {
+    let file = text_of(&HEADER, &EPOCH);
     let messages: [&[u8]; 4] = [&POINT, &POINT_AND_HEIGHT, &FULL, &COMPACT];
     for message in messages {
-        let frame = framed(alloc, &[message])?;
+        let frame = framed(&[message]);
         for cut in 0..frame.len() {
             assert!(rt;
-                is_told_behind(alloc, &good, &file, &frame[..cut])?,
+                is_told_behind(rt.alloc(), &file, &frame[..cut]),
                 "cut at {cut}"
             );
         }
     }
-    Ok(())
 }
 
 #[test]
-fn damaged_frames_behind_a_good_one(rt: HostRuntime) -> Result<(), Fail> {
-    let alloc = rt.alloc();
-    let good = framed(alloc, &[&FULL])?;
-    let file = text_of(alloc, &HEADER, &EPOCH)?;
+fn damaged_frames_behind_a_good_one(rt: HostRuntime) {
+    let file = text_of(&HEADER, &EPOCH);
+    let good = framed(&[&FULL]);
     for place in 0..good.len() {
-        let mut damaged = framed(alloc, &[&FULL])?;
+        let mut damaged = framed(&[&FULL]);
         if let Some(byte) = damaged.get_mut(place) {
             *byte = !*byte;
         }
         assert!(rt;
-            is_told_behind(alloc, &good, &file, &damaged)?,
+            is_told_behind(rt.alloc(), &file, &damaged),
             "damaged at {place}"
         );
     }
-    Ok(())
 }
