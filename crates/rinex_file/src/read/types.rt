@@ -44,7 +44,7 @@ pub(crate) fn read_types(
     ensures grows { OnOk result (take (length signals.old.items) signals.new.items ≡ signals.old.items) }
     ensures taken { OnOk result ((all : List ℕ) → AreTypes system all → length all ≡ count → indices signals.old.items ≡ take (signals_begun row) all
         → (line.now ≡ types_line system all row) ↔ (indices signals.new.items ≡ take (signals_begun (row + 1)) all)) }
-    ensures bad { result ≡ Err Refusal.Bad → (all : List ℕ) → AreTypes system all → length all ≡ count 
+    ensures bad { result ≡ Err Refusal.Bad → (all : List ℕ) → AreTypes system all → length all ≡ count
         → indices signals.old.items ≡ take (signals_begun row) all → line.now ≡ types_line system all row → ⊥ }
 {
     take_signals(signals, system, count, row, line)?;
@@ -73,7 +73,7 @@ fn take_signals(
     ensures grows { OnOk result (take (length signals.old.items) signals.new.items ≡ signals.old.items) }
     ensures taken { OnOk result ((all : List ℕ) → AreTypes system all → length all ≡ count → indices signals.old.items ≡ take (signals_begun row) all
         → line.now ≡ types_line system all row → indices signals.new.items ≡ take (signals_begun (row + 1)) all) }
-    ensures bad { result ≡ Err Refusal.Bad → (all : List ℕ) → AreTypes system all → length all ≡ count 
+    ensures bad { result ≡ Err Refusal.Bad → (all : List ℕ) → AreTypes system all → length all ≡ count
         → indices signals.old.items ≡ take (signals_begun row) all → line.now ≡ types_line system all row → ⊥ }
 {
     let end = signals_begun(row + 1).min(count);
