@@ -1,8 +1,8 @@
 //! What no clause says: published lines, that a call can succeed, and what fails on the way to a
 //! writer.
 //!
-//! A test hands on what to do, and is told in a few numbers what came of it: one function alone owns
-//! a gatherer, one a writer, one a file, since each owner is dear to prove.
+//! A test hands on what to do, and is told in a few numbers what came of it: one function alone
+//! owns a gatherer, one a writer, one a file, since each owner is dear to prove.
 mod events;
 mod faults;
 mod reading;

@@ -173,8 +173,8 @@ fn makes_of_steps<'a>(
     makes(alloc, told, steps, &mut reader(&[], &[]), text)
 }
 
-/// Whether a stream in pieces of a size makes the text, this report and these looks, by `feed` as by
-/// `run`.
+/// Whether a stream in pieces of a size makes the text, this report and these looks, by `feed` as
+/// by `run`.
 fn makes_both_ways<'a>(
     alloc: Global,
     stream: &'a [u8],

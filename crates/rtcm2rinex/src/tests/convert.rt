@@ -66,7 +66,8 @@ fn coarse_values_become_a_file(rt: HostRuntime) -> Result<(), Fail> {
     let line = "G05  20985472.042 7 110279400.00327                        45.000";
     let outcome = run(rt.alloc(), OPTIONS.as_slice(), stream.as_slice(), &[]);
     let report =
-        "bytes 36 skipped_bytes 0 frames 1 faulty 0 station 0 other 0 ignored 0 late 0 past 0 taken 1 skipped 0 repeated 0 crowded 0 epochs 1\n";
+        "bytes 36 skipped_bytes 0 frames 1 faulty 0 station 0 other 0 ignored 0 late 0 past 0 \
+         taken 1 skipped 0 repeated 0 crowded 0 epochs 1\n";
     assert!(rt; makes(rt.alloc(), &outcome, &HEADER, &[EPOCH[0], line], report)?);
     Ok(())
 }
@@ -81,7 +82,8 @@ fn station_values_stand_in_the_header(rt: HostRuntime) -> Result<(), Fail> {
     let header = with_line(with_line(HEADER, 7, position), 8, height);
     let outcome = run(rt.alloc(), OPTIONS.as_slice(), stream.as_slice(), &[]);
     let report =
-        "bytes 69 skipped_bytes 0 frames 2 faulty 0 station 1 other 0 ignored 0 late 0 past 0 taken 1 skipped 0 repeated 0 crowded 0 epochs 1\n";
+        "bytes 69 skipped_bytes 0 frames 2 faulty 0 station 1 other 0 ignored 0 late 0 past 0 \
+         taken 1 skipped 0 repeated 0 crowded 0 epochs 1\n";
     assert!(rt; makes(rt.alloc(), &outcome, &header, &EPOCH, report)?);
     Ok(())
 }
@@ -105,7 +107,8 @@ fn a_time_past_the_weeks_is_left_out(rt: HostRuntime) -> Result<(), Fail> {
     let time = "  3896     7    18    23    59   59.0000000     GPS         TIME OF FIRST OBS";
     let outcome = converted(rt.alloc(), &options, &[], &stream)?;
     let report =
-        "bytes 84 skipped_bytes 0 frames 2 faulty 0 station 0 other 0 ignored 0 late 0 past 1 taken 1 skipped 0 repeated 0 crowded 0 epochs 1\n";
+        "bytes 84 skipped_bytes 0 frames 2 faulty 0 station 0 other 0 ignored 0 late 0 past 1 \
+         taken 1 skipped 0 repeated 0 crowded 0 epochs 1\n";
     let header = with_line(HEADER, 11, time);
     let lines = ["> 3896 07 18 23 59 59.0000000  0  1", EPOCH[1]];
     assert!(rt; makes(rt.alloc(), &outcome, &header, &lines, report)?);

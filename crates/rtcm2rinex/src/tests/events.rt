@@ -34,11 +34,12 @@ const LEVEL: &[u8] =
     b"        0.0000        0.0000        0.0000                  ANTENNA: DELTA H/E/N\n";
 
 /// The second epoch: the phase was lost in between.
-const SECOND: &[u8] =
-    b"> 2024 02 04 00 00  2.0000000  0  1\nG05  20985472.060 7 110279400.00017      -525.504          45.063\n";
+const SECOND: &[u8] = b"> 2024 02 04 00 00  2.0000000  0  1\n\
+      G05  20985472.060 7 110279400.00017      -525.504          45.063\n";
 
 const REPORT: &[u8] =
-    b"bytes 111 skipped_bytes 0 frames 3 faulty 0 station 1 other 0 ignored 0 late 0 past 0 taken 2 skipped 0 repeated 0 crowded 0 epochs 2\n";
+    b"bytes 111 skipped_bytes 0 frames 3 faulty 0 station 1 other 0 ignored 0 late 0 past 0 \
+      taken 2 skipped 0 repeated 0 crowded 0 epochs 2\n";
 
 /// What comes of the conversion of these messages.
 fn converted(alloc: Global, messages: &[&[u8]], sizes: &[usize]) -> Result<Outcome, AllocError> {

@@ -170,7 +170,8 @@ fn a_cut_message_is_no_mark(rt: HostRuntime) -> Result<(), Fail> {
     let stream = framed(rt.alloc(), &[&more, &FINE[..35], &COARSE])?;
     let outcome = run(rt.alloc(), &OPTIONS, &stream, &[]);
     let report =
-        "bytes 119 skipped_bytes 0 frames 3 faulty 1 station 0 other 0 ignored 0 late 0 past 0 taken 2 skipped 0 repeated 1 crowded 0 epochs 1\n";
+        "bytes 119 skipped_bytes 0 frames 3 faulty 1 station 0 other 0 ignored 0 late 0 past 0 \
+         taken 2 skipped 0 repeated 1 crowded 0 epochs 1\n";
     assert!(rt; makes(rt.alloc(), &outcome, &HEADER, &EPOCH, report)?);
     Ok(())
 }
@@ -199,7 +200,8 @@ fn a_stream_past_its_limit_is_told(rt: HostRuntime) -> Result<(), Fail> {
     }
     let outcome = converted(rt.alloc(), &TOLD, &["--limit", "43"], &stream)?;
     let report =
-        "bytes 43 skipped_bytes 1 frames 1 faulty 0 station 0 other 0 ignored 0 late 0 past 0 taken 1 skipped 0 repeated 0 crowded 0 epochs 1\n";
+        "bytes 43 skipped_bytes 1 frames 1 faulty 0 station 0 other 0 ignored 0 late 0 past 0 \
+         taken 1 skipped 0 repeated 0 crowded 0 epochs 1\n";
     assert!(rt; makes(rt.alloc(), &outcome, &HEADER, &EPOCH, report)?);
     Ok(())
 }

@@ -28,7 +28,8 @@ pub const EPOCH: [&str; 2] = [
 
 /// The report of `FINE` alone in its frame.
 pub const REPORT: &str =
-    "bytes 42 skipped_bytes 0 frames 1 faulty 0 station 0 other 0 ignored 0 late 0 past 0 taken 1 skipped 0 repeated 0 crowded 0 epochs 1\n";
+    "bytes 42 skipped_bytes 0 frames 1 faulty 0 station 0 other 0 ignored 0 late 0 past 0 taken 1 \
+     skipped 0 repeated 0 crowded 0 epochs 1\n";
 
 /// What a conversion is told that has no other options.
 pub const TOLD: [&str; 8] = [

@@ -69,9 +69,11 @@ fn a_station_is_chosen(rt: HostRuntime) -> Result<(), Fail> {
     let both = [EPOCH[0], EPOCH[1], LATER_EPOCH[0], LATER_LINE];
     let later = with_line(HEADER, 11, LATER_FIRST);
     let one =
-        "bytes 84 skipped_bytes 0 frames 2 faulty 0 station 0 other 1 ignored 0 late 0 past 0 taken 1 skipped 0 repeated 0 crowded 0 epochs 1\n";
+        "bytes 84 skipped_bytes 0 frames 2 faulty 0 station 0 other 1 ignored 0 late 0 past 0 \
+         taken 1 skipped 0 repeated 0 crowded 0 epochs 1\n";
     let two =
-        "bytes 84 skipped_bytes 0 frames 2 faulty 0 station 0 other 0 ignored 0 late 0 past 0 taken 2 skipped 0 repeated 0 crowded 0 epochs 2\n";
+        "bytes 84 skipped_bytes 0 frames 2 faulty 0 station 0 other 0 ignored 0 late 0 past 0 \
+         taken 2 skipped 0 repeated 0 crowded 0 epochs 2\n";
     let rows: [(&[&str], &[&str], &[&str], &str); 3] = [
         (&[], &HEADER, &both, two),
         (&["--station", "2003"], &HEADER, &EPOCH, one),
@@ -97,9 +99,11 @@ fn a_rule_of_gathering_is_chosen(rt: HostRuntime) -> Result<(), Fail> {
         "G07  20985472.060 7 110279400.000 7      -525.504          45.063",
     ];
     let by_bit =
-        "bytes 84 skipped_bytes 0 frames 2 faulty 0 station 0 other 0 ignored 0 late 1 past 0 taken 1 skipped 0 repeated 0 crowded 0 epochs 1\n";
+        "bytes 84 skipped_bytes 0 frames 2 faulty 0 station 0 other 0 ignored 0 late 1 past 0 \
+         taken 1 skipped 0 repeated 0 crowded 0 epochs 1\n";
     let by_time =
-        "bytes 84 skipped_bytes 0 frames 2 faulty 0 station 0 other 0 ignored 0 late 0 past 0 taken 2 skipped 0 repeated 0 crowded 0 epochs 1\n";
+        "bytes 84 skipped_bytes 0 frames 2 faulty 0 station 0 other 0 ignored 0 late 0 past 0 \
+         taken 2 skipped 0 repeated 0 crowded 0 epochs 1\n";
     let rows: [(&[&str], &[&str], &str); 3] = [
         (&[], &EPOCH, by_bit),
         (&["--gather", "bit"], &EPOCH, by_bit),

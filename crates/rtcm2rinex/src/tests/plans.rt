@@ -78,13 +78,17 @@ fn plans_are_chosen(rt: HostRuntime) -> Result<(), Fail> {
     let gps = "G05  20985472.060 7 110279400.000 7      -525.504          45.063";
     let e05 = "E05  20985472.060 7 110279400.000 7      -525.504          45.063";
     let gps_last =
-        "G05                                                                  20985472.060 7 110279400.000 7      -525.504          45.063";
+        "G05                                                                  20985472.060 7 \
+         110279400.000 7      -525.504          45.063";
     let e05_last =
-        "E05                                                                  20985472.060 7 110279400.000 7      -525.504          45.063";
+        "E05                                                                  20985472.060 7 \
+         110279400.000 7      -525.504          45.063";
     let all =
-        "bytes 84 skipped_bytes 0 frames 2 faulty 0 station 0 other 0 ignored 0 late 0 past 0 taken 2 skipped 0 repeated 0 crowded 0 epochs 1\n";
+        "bytes 84 skipped_bytes 0 frames 2 faulty 0 station 0 other 0 ignored 0 late 0 past 0 \
+         taken 2 skipped 0 repeated 0 crowded 0 epochs 1\n";
     let half =
-        "bytes 84 skipped_bytes 0 frames 2 faulty 0 station 0 other 0 ignored 0 late 0 past 0 taken 2 skipped 1 repeated 0 crowded 0 epochs 1\n";
+        "bytes 84 skipped_bytes 0 frames 2 faulty 0 station 0 other 0 ignored 0 late 0 past 0 \
+         taken 2 skipped 1 repeated 0 crowded 0 epochs 1\n";
     let shifts = [GPS_SHIFT, GALILEO_SHIFT];
     let every = header_of(rt.alloc(), BOTH, &ALL_TYPES, &shifts)?;
     let four = header_of(rt.alloc(), BOTH, &FOUR_TYPES, &shifts)?;
