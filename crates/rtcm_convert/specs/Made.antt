@@ -2,6 +2,7 @@
 use Rattle.std.specs.Prelude.{◌≡◌, ℕ, ◌<◌, ◌≤◌, List, length, Option}
 use Rattle.std.specs.Io.KnownBytes.{Appends}
 use Rattle.rtcm_scan.specs.Frames.{frames_of}
+use Rattle.rtcm_convert.specs.Broken.{WroteSoFar, WroteToLimit, BrokeReading}
 use Rattle.rtcm_convert.specs.Converted.{file, epochs_in}
 use Rattle.rtcm_convert.specs.Outcomes.{report_of}
 use Rattle.rtcm_convert.specs.Readable.{HasValue}
@@ -21,6 +22,18 @@ pub record IsMadeEmpty (x : Setup) (a b : Option (List ℕ)) (bytes : List ℕ) 
   pub within : length bytes ≤ x.limit
   pub none : epochs_in (setup_value x) (frames_of bytes) ≡ 0
   pub out : Appends a b (file (setup_value x) (frames_of bytes))
+
+-- what went out is the file of the epochs that the bytes read up to the limit close
+abbrev pub IsMadeToLimit : Setup → Option (List ℕ) → Option (List ℕ) → Option (List ℕ) → Option (List ℕ) → Type 0
+IsMadeToLimit x r r' a b = WroteToLimit r r' a b (setup_value x) x.limit
+
+-- what went out is the file of the epochs that the bytes read close
+abbrev pub IsMadeSoFar : Setup → Option (List ℕ) → Option (List ℕ) → Option (List ℕ) → Option (List ℕ) → Type 0
+IsMadeSoFar x r r' a b = WroteSoFar r r' a b (setup_value x)
+
+-- the writer failed at one of the pieces read or when all was read, and a part of the file went out
+abbrev pub IsMadeInPart : Setup → Option (List ℕ) → Option (List ℕ) → Option (List ℕ) → Option (List ℕ) → Type 0
+IsMadeInPart x r r' a b = BrokeReading r r' a b (setup_value x)
 
 -- that is the report of these bytes
 abbrev pub IsReportOf : Setup → Report → List ℕ → Type 0

@@ -1,8 +1,8 @@
 //! Whole streams.
 ghost use Rattle.std.specs.Prelude.{◌≡◌, ◌≢◌, ◌<◌, ◌↔◌, Err, IsErrOf, IfOk, IfErr, OnOk, IfSome, length};
-ghost use Rattle.rtcm_convert.specs.Faults.{FailsWithReader, FailsWithWriter, IsSetupFault, IsUntouched};
-ghost use Rattle.rtcm_convert.specs.Broken.{WroteSoFar, WroteToLimit, BrokeReading, WrotePieces, BrokeInPieces, joined_pieces};
-ghost use Rattle.rtcm_convert.specs.Made.{IsMade, IsMadeEmpty, IsReportOf};
+ghost use Rattle.rtcm_convert.specs.Faults.{OnDevices, FailsWithReader, FailsWithWriter, IsSetupFault, IsUntouched};
+ghost use Rattle.rtcm_convert.specs.Broken.{WrotePieces, BrokeInPieces, joined_pieces};
+ghost use Rattle.rtcm_convert.specs.Made.{IsMade, IsMadeEmpty, IsMadeToLimit, IsMadeSoFar, IsMadeInPart, IsReportOf};
 ghost use Rattle.rtcm_convert.specs.SetupValues.{setup_value, IsBad};
 
 use crate::converter::Converter;
@@ -31,14 +31,14 @@ pub fn convert_stream<R: Read, W: Write>(
     ensures too_long { IsErrOf result Fault.TooLong → IfSome (R.remaining reader.old.inner) (λ b. setup.limit < length b) }
     // The bytes up to the limit were taken, and what went out is the file of the epochs that they
     // close.
-    ensures long { IsErrOf result Fault.TooLong → WroteToLimit (R.remaining reader.old.inner) (R.remaining reader.new.inner)
-        (W.contents writer.old.inner) (W.contents writer.new.inner) (setup_value setup) setup.limit }
+    ensures long { IsErrOf result Fault.TooLong → OnDevices R.remaining W.contents reader.old reader.new writer.old writer.new
+        (IsMadeToLimit setup) }
     // What went out is the file of the epochs that the bytes read close.
-    ensures read { IsErrOf result Fault.Read → WroteSoFar (R.remaining reader.old.inner) (R.remaining reader.new.inner)
-        (W.contents writer.old.inner) (W.contents writer.new.inner) (setup_value setup) }
+    ensures read { IsErrOf result Fault.Read → OnDevices R.remaining W.contents reader.old reader.new writer.old writer.new
+        (IsMadeSoFar setup) }
     // The writer failed at one of the pieces read, or when all was read.
-    ensures write { IsErrOf result Fault.Write → BrokeReading (R.remaining reader.old.inner) (R.remaining reader.new.inner)
-        (W.contents writer.old.inner) (W.contents writer.new.inner) (setup_value setup) }
+    ensures write { IsErrOf result Fault.Write → OnDevices R.remaining W.contents reader.old reader.new writer.old writer.new
+        (IsMadeInPart setup) }
     ensures reader { FailsWithReader result reader.old reader.new }
     ensures writer { FailsWithWriter result writer.old writer.new }
     ensures bad_setup { result ≡ Err Fault.BadSetup ↔ IsBad setup }
