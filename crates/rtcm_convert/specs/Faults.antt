@@ -45,7 +45,8 @@ IsUntouched r r' w w' = (r' ≡ r) × (w' ≡ w)
 abbrev pub IsSetupFault : Fault → Type 0
 IsSetupFault fault = (fault ≡ BadSetup) ⊎ (fault ≡ Memory)
 
--- the faults of bytes that are handed in, of a piece that is read, of the end, and of a whole run, where no call failed before
+-- the faults of bytes that are handed in, of a piece that is read, of the end, of pieces up to the end, and of a whole run, where
+-- no call failed before
 abbrev pub IsFeedFault : Fault → Type 0
 IsFeedFault fault = (fault ≡ TooLong) ⊎ (fault ≡ Write)
 
@@ -55,5 +56,8 @@ IsPullFault fault = (fault ≡ Read) ⊎ IsFeedFault fault
 abbrev pub IsFinishFault : Fault → Type 0
 IsFinishFault fault = (fault ≡ NoEpoch) ⊎ (fault ≡ Write)
 
+abbrev pub IsPiecesFault : Fault → Type 0
+IsPiecesFault fault = (fault ≡ TooLong) ⊎ IsFinishFault fault
+
 abbrev pub IsRunFault : Fault → Type 0
-IsRunFault fault = (fault ≡ Read) ⊎ ((fault ≡ TooLong) ⊎ IsFinishFault fault)
+IsRunFault fault = (fault ≡ Read) ⊎ IsPiecesFault fault

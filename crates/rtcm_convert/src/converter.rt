@@ -21,9 +21,7 @@ use crate::filer::Filer;
 use crate::report::Report;
 use crate::setup::Setup;
 use crate::stream::{end_stream, feed_bytes};
-use crate::tally::Tally;
 use gnss_obs::System;
-use obs_epoch::{Gatherer, PlanFault};
 use rtcm_bits::{Counted, LONGEST_FRAME};
 use rtcm_scan::{Framer, MOST_BYTES};
 use std::alloc::Global;
@@ -62,34 +60,19 @@ impl Converter {
         if setup.limit > MOST_BYTES {
             return Err(Fault::BadSetup);
         }
-        let gatherer = match Gatherer::new(
-            alloc,
-            setup.plan,
-            setup.start_week,
-            setup.station,
-            setup.gather,
-        ) {
-            Ok(gatherer) => gatherer,
-            Err(PlanFault::BadWeek) => return Err(Fault::BadSetup),
-            Err(PlanFault::BadStation) => return Err(Fault::BadSetup),
-            Err(_) => return Err(Fault::Memory),
-        };
-        let framer = match Framer::new(alloc, setup.limit) {
-            Ok(framer) => framer,
-            Err(_) => return Err(Fault::Memory),
-        };
-        Ok(Converter {
-            framer,
-            filer: Filer {
-                gatherer,
-                texts: setup.texts,
-                values: None,
-                epochs: 0,
-                tally: Tally::new(),
+        let limit = setup.limit;
+        match Filer::new(alloc, setup) {
+            Ok(filer) => match Framer::new(alloc, limit) {
+                Ok(framer) => Ok(Converter {
+                    framer,
+                    filer,
+                    failed: false,
+                    finished: false,
+                }),
+                Err(_) => Err(Fault::Memory),
             },
-            failed: false,
-            finished: false,
-        })
+            Err(fault) => Err(fault),
+        }
     }
 
     /// Takes a piece of the stream, and writes every epoch that it closes.

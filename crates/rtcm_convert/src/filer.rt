@@ -1,22 +1,25 @@
 //! From frames to the bytes of a file.
-ghost use Rattle.std.specs.Prelude.{◌≡◌, ◌++◌, ◌∷◌, [], false, true, OnOk, OnErr, IfOk};
+ghost use Rattle.std.specs.Prelude.{◌≡◌, ◌↔◌, [], false, true, Err, OnOk, OnErr, IfOk, IfErr};
 ghost use Rattle.std.specs.Io.KnownBytes.{Appends};
 ghost use Rattle.rtcm_bits.specs.Device.{AppendsPrefix};
 ghost use Rattle.rtcm_scan.specs.Answers.{framed};
 ghost use Rattle.rinex_file.specs.File.{change_text};
 ghost use Rattle.obs_epoch.specs.Heard.{heard};
-ghost use Rattle.rtcm_convert.specs.Faults.{FailsToWrite};
-ghost use Rattle.rtcm_convert.specs.Filed.{opening_of, added_by, StandsBehindClosed};
+ghost use Rattle.rtcm_convert.specs.Faults.{FailsToWrite, IsSetupFault};
+ghost use Rattle.rtcm_convert.specs.SetupValues.{setup_value, IsBadStart};
+ghost use Rattle.rtcm_convert.specs.Filed.{HasFiledFrames, opening_of, added_by, StandsBehindClosed};
 ghost use Rattle.rtcm_convert.specs.Steps.{IsCloseFirst, IsFinalKind, WritesFirst, TakesMessage, IsTakenAgain, IsKindOf, BreaksInMessage, TakesNext, IsKindOfNext, BreaksInNext};
 ghost use Rattle.rtcm_convert.specs.Steps.{TakesFrame, BreaksInFrame, WritesRest, BreaksInRest, CountsEpochs, GathersAll};
 
 use crate::fault::Fault;
+use crate::setup::Setup;
 use crate::tally::Tally;
-use obs_epoch::{Epoch, Gatherer, Kind, StationValues};
+use obs_epoch::{Epoch, Gatherer, Kind, PlanFault, StationValues};
 use rinex_file::{Head, HeaderTexts, write_epoch, write_event, write_header};
 use rtcm_bits::Counted;
 use rtcm_msg::{Message, decode};
 use rtcm_scan::Frame;
+use std::alloc::Global;
 use std::io::Write;
 
 /// Takes frames in order, and writes the epochs that they close.
@@ -48,6 +51,34 @@ fn write_change<W: Write>(
 }
 
 impl Filer {
+    /// A filer that has taken no frame. A week or a station out of range is `BadSetup`; want of
+    /// memory is `Memory`.
+    pub(crate) fn new(alloc: Global, setup: Setup) -> Result<Filer, Fault>
+        ensures stands { IfOk result (λ filer. HasFiledFrames filer (setup_value setup) []) }
+        ensures going { IfOk result (λ filer. filer.gatherer.has_ended ≡ false) }
+        ensures bad { result ≡ Err Fault.BadSetup ↔ IsBadStart setup }
+        ensures only { IfErr result IsSetupFault }
+    {
+        match Gatherer::new(
+            alloc,
+            setup.plan,
+            setup.start_week,
+            setup.station,
+            setup.gather,
+        ) {
+            Ok(gatherer) => Ok(Filer {
+                gatherer,
+                texts: setup.texts,
+                values: None,
+                epochs: 0,
+                tally: Tally::new(),
+            }),
+            Err(PlanFault::BadWeek) => Err(Fault::BadSetup),
+            Err(PlanFault::BadStation) => Err(Fault::BadSetup),
+            Err(_) => Err(Fault::Memory),
+        }
+    }
+
     /// Writes the header where no epoch stands in the file, and else an event where the epoch's
     /// station values are no longer those that were written last.
     fn open<W: Write>(&self, epoch: &Epoch, writer: &mut Counted<W>) -> Result<(), Fault>
