@@ -18,7 +18,7 @@ use Rattle.rtcm_convert.specs.SetupValues.{setup_value}
 use Rattle.rtcm_convert.specs.Readable.{HasValue}
 use Rattle.rtcm_convert.specs.Made.{IsMade, IsMadeEmpty}
 use Rattle.rtcm_convert.specs.declared.setup.Setup.{Setup}
-use Rattle.rtcm_convert.specs.Broken.{IsBetween, IsBroken, FailedWriting, FailedWritingAtEnd, BrokeAtPiece, BrokeInPieces, WrotePieces, joined_pieces, of_first}
+use Rattle.rtcm_convert.specs.Broken.{IsBetween, IsBroken, FailedWriting, FailedWritingAtEnd, BrokeInPieces, WrotePieces, joined_pieces, of_first}
 use Rattle.rtcm_convert.specs.Conversion.{Conversion, HasConverted, TakesPiece, TakesToLimit, WritesAdded, WritesPrefixOfAdded, StopsAtEnd, Completed, CompletedEmpty, FinishesNow, FinishesEmptyNow, CompletesFile, CompletesEmptyFile, FailsAtPiece, FailsFeeding, FailsFinishing}
 use Rattle.rtcm_convert.specs.declared.report.Report.{Report}
 use Rattle.rtcm_convert.specs.Faults.{IsRunFault, IsPiecesFault, IsFinishFault}
