@@ -141,32 +141,38 @@ counts_few_at s xs m (Some u) h = counts_few s (offered s u xs) m h
 
 -- ---- what a frame adds to each count
 
+none_few : 0 ≤ 128
+none_few = omega arith
+
+one_few : 1 ≤ 128
+one_few = omega arith
+
 plain_few : (t : Tally) → t.frames ≤ 128 → t.faulty ≤ 128 → t.station ≤ 128 → t.other ≤ 128 → t.ignored ≤ 128 → t.late ≤ 128 → t.past ≤ 128 → t.taken ≤ 128 → t.skipped ≤ 128 → t.repeated ≤ 128 → t.crowded ≤ 128 → IsFew t
 plain_few t a b c d e f g h i j k = record { frames = a; faulty = b; station = c; other = d; ignored = e; late = f; past = g; taken = h; skipped = i; repeated = j; crowded = k }
 
 pub refused_few : IsFew (tally_of_one None)
-refused_few = plain_few (tally_of_one None) (omega arith) (omega arith) (omega arith) (omega arith) (omega arith) (omega arith) (omega arith) (omega arith) (omega arith) (omega arith) (omega arith)
+refused_few = plain_few (tally_of_one None) one_few one_few none_few none_few none_few none_few none_few none_few none_few none_few none_few
 
 kind_few : (a : Answer) (n : CellCounts) → CountsFew n → IsFew (tally_of_one (Some (kind_at a n)))
-kind_few answers.OtherStation n h = plain_few (tally_of_one (Some kind.OtherStation)) (omega arith) (omega arith) (omega arith) (omega arith) (omega arith) (omega arith) (omega arith) (omega arith) (omega arith) (omega arith) (omega arith)
-kind_few answers.Ignored n h = plain_few (tally_of_one (Some kind.Ignored)) (omega arith) (omega arith) (omega arith) (omega arith) (omega arith) (omega arith) (omega arith) (omega arith) (omega arith) (omega arith) (omega arith)
-kind_few answers.Late n h = plain_few (tally_of_one (Some kind.Late)) (omega arith) (omega arith) (omega arith) (omega arith) (omega arith) (omega arith) (omega arith) (omega arith) (omega arith) (omega arith) (omega arith)
-kind_few answers.PastWeeks n h = plain_few (tally_of_one (Some kind.PastWeeks)) (omega arith) (omega arith) (omega arith) (omega arith) (omega arith) (omega arith) (omega arith) (omega arith) (omega arith) (omega arith) (omega arith)
-kind_few answers.CloseFirst n h = plain_few (tally_of_one (Some kind.CloseFirst)) (omega arith) (omega arith) (omega arith) (omega arith) (omega arith) (omega arith) (omega arith) (omega arith) (omega arith) (omega arith) (omega arith)
-kind_few answers.Kept n h = plain_few (tally_of_one (Some (kind.Kept n.kept n.skipped n.repeated n.crowded))) (omega arith) (omega arith) (omega arith) (omega arith) (omega arith) (omega arith) (omega arith) (omega arith) h.skipped h.repeated h.crowded
+kind_few answers.OtherStation n h = plain_few (tally_of_one (Some kind.OtherStation)) one_few none_few none_few one_few none_few none_few none_few none_few none_few none_few none_few
+kind_few answers.Ignored n h = plain_few (tally_of_one (Some kind.Ignored)) one_few none_few none_few none_few one_few none_few none_few none_few none_few none_few none_few
+kind_few answers.Late n h = plain_few (tally_of_one (Some kind.Late)) one_few none_few none_few none_few none_few one_few none_few none_few none_few none_few none_few
+kind_few answers.PastWeeks n h = plain_few (tally_of_one (Some kind.PastWeeks)) one_few none_few none_few none_few none_few none_few one_few none_few none_few none_few none_few
+kind_few answers.CloseFirst n h = plain_few (tally_of_one (Some kind.CloseFirst)) one_few none_few none_few none_few none_few none_few none_few none_few none_few none_few none_few
+kind_few answers.Kept n h = plain_few (tally_of_one (Some (kind.Kept n.kept n.skipped n.repeated n.crowded))) one_few none_few none_few none_few none_few none_few none_few one_few h.skipped h.repeated h.crowded
 
 station_few : (a : Answer) → IsFew (tally_of_one (Some (station_kind a)))
-station_few answers.OtherStation = plain_few (tally_of_one (Some kind.OtherStation)) (omega arith) (omega arith) (omega arith) (omega arith) (omega arith) (omega arith) (omega arith) (omega arith) (omega arith) (omega arith) (omega arith)
-station_few answers.Ignored = plain_few (tally_of_one (Some kind.Station)) (omega arith) (omega arith) (omega arith) (omega arith) (omega arith) (omega arith) (omega arith) (omega arith) (omega arith) (omega arith) (omega arith)
-station_few answers.Late = plain_few (tally_of_one (Some kind.Station)) (omega arith) (omega arith) (omega arith) (omega arith) (omega arith) (omega arith) (omega arith) (omega arith) (omega arith) (omega arith) (omega arith)
-station_few answers.PastWeeks = plain_few (tally_of_one (Some kind.Station)) (omega arith) (omega arith) (omega arith) (omega arith) (omega arith) (omega arith) (omega arith) (omega arith) (omega arith) (omega arith) (omega arith)
-station_few answers.CloseFirst = plain_few (tally_of_one (Some kind.Station)) (omega arith) (omega arith) (omega arith) (omega arith) (omega arith) (omega arith) (omega arith) (omega arith) (omega arith) (omega arith) (omega arith)
-station_few answers.Kept = plain_few (tally_of_one (Some kind.Station)) (omega arith) (omega arith) (omega arith) (omega arith) (omega arith) (omega arith) (omega arith) (omega arith) (omega arith) (omega arith) (omega arith)
+station_few answers.OtherStation = plain_few (tally_of_one (Some kind.OtherStation)) one_few none_few none_few one_few none_few none_few none_few none_few none_few none_few none_few
+station_few answers.Ignored = plain_few (tally_of_one (Some kind.Station)) one_few none_few one_few none_few none_few none_few none_few none_few none_few none_few none_few
+station_few answers.Late = plain_few (tally_of_one (Some kind.Station)) one_few none_few one_few none_few none_few none_few none_few none_few none_few none_few none_few
+station_few answers.PastWeeks = plain_few (tally_of_one (Some kind.Station)) one_few none_few one_few none_few none_few none_few none_few none_few none_few none_few none_few
+station_few answers.CloseFirst = plain_few (tally_of_one (Some kind.Station)) one_few none_few one_few none_few none_few none_few none_few none_few none_few none_few none_few
+station_few answers.Kept = plain_few (tally_of_one (Some kind.Station)) one_few none_few one_few none_few none_few none_few none_few none_few none_few none_few none_few
 
 kind_by_few : (p q : Bool) (a : Answer) (n : CellCounts) → CountsFew n → IsFew (tally_of_one (Some (if p then kind_at a n else (if q then station_kind a else kind.Ignored))))
 kind_by_few true q a n h = kind_few a n h
 kind_by_few false true a n h = station_few a
-kind_by_few false false a n h = plain_few (tally_of_one (Some kind.Ignored)) (omega arith) (omega arith) (omega arith) (omega arith) (omega arith) (omega arith) (omega arith) (omega arith) (omega arith) (omega arith) (omega arith)
+kind_by_few false false a n h = plain_few (tally_of_one (Some kind.Ignored)) one_few none_few none_few none_few one_few none_few none_few none_few none_few none_few none_few
 
 heard_kind_few : (s : GatherSetup) (ms : List Heard) (m : Heard) → HasFew m → IsFew (tally_of_one (Some (kind_of s ms m)))
 heard_kind_few s ms m h =

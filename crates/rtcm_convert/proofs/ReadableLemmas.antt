@@ -1,5 +1,5 @@
 -- What is written is the text of a file value.
-use Rattle.std.proofs.Common.{◌≡◌, ℕ, ◌<◌, inl, inr, Bool, true, false, List, [], ◌∷◌, ◌++◌, length, filter, map, refl, sym, subst, arith, Option, Some, None, Result, Ok, Err, nat_lt, append-nil}
+use Rattle.std.proofs.Common.{◌≡◌, ℕ, ◌<◌, inl, inr, Bool, true, false, List, [], ◌∷◌, ◌++◌, length, filter, refl, sym, subst, arith, Option, Some, None, Result, Ok, Err, nat_lt, append-nil}
 use Rattle.std.specs.Prelude.{cond, IfSome}
 use Rattle.std.specs.List.{AllByRecursion, cons_option}
 use Rattle.rtcm_scan.specs.Frames.{Framed}
@@ -8,7 +8,7 @@ use Rattle.rtcm_msg.specs.declared.fault.MsgFault.{MsgFault}
 use Rattle.rtcm_msg.specs.Spelling.{IsMessage}
 use Rattle.rtcm_msg.specs.Reading.{message_at}
 use Rattle.obs_epoch.specs.Values.{PlanValue, Closed, satellites_written}
-use Rattle.obs_epoch.specs.Heard.{Heard, heard}
+use Rattle.obs_epoch.specs.Heard.{Heard}
 use Rattle.rtcm_bits.specs.Prefix.{IsPrefix}
 use Rattle.obs_epoch.specs.Gathering.{all_epochs, closed_epochs}
 use Rattle.obs_epoch.specs.Laws.{ClosedComeFirst}

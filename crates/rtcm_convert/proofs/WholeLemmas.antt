@@ -18,10 +18,10 @@ use Rattle.rtcm_convert.specs.SetupValues.{setup_value}
 use Rattle.rtcm_convert.specs.Readable.{HasValue}
 use Rattle.rtcm_convert.specs.Made.{IsMade, IsMadeEmpty}
 use Rattle.rtcm_convert.specs.declared.setup.Setup.{Setup}
-use Rattle.rtcm_convert.specs.Broken.{IsBetween, IsBroken, FailedWriting, FailedWritingAtEnd, BrokeAtPiece, BrokeInPieces, WrotePieces, joined_pieces, of_first}
+use Rattle.rtcm_convert.specs.Broken.{IsBetween, IsBroken, FailedWriting, FailedWritingAtEnd, BrokeInPieces, WrotePieces, joined_pieces, of_first}
 use Rattle.rtcm_convert.specs.Conversion.{Conversion, HasConverted, TakesPiece, TakesToLimit, WritesAdded, WritesPrefixOfAdded, StopsAtEnd, Completed, CompletedEmpty, FinishesNow, FinishesEmptyNow, CompletesFile, CompletesEmptyFile, FailsAtPiece, FailsFeeding, FailsFinishing}
 use Rattle.rtcm_convert.specs.declared.report.Report.{Report}
-use Rattle.rtcm_convert.specs.Faults.{IsRunFault, IsFinishFault}
+use Rattle.rtcm_convert.specs.Faults.{IsRunFault, IsPiecesFault, IsFinishFault}
 use Rattle.rtcm_convert.specs.declared.fault.Fault.{Fault}
 use Rattle.rtcm_convert.specs.declared.fault.Fault.TheVariants.{BadSetup, Failed, Finished, NoEpoch, Read, TooLong, Write}
 use Rattle.rtcm_convert.proofs.PartLemmas.{goes_on-trans, breaks_off-after}
@@ -268,12 +268,43 @@ pub not_ending : (r : Result Report Fault) (fault : Fault) → IfErr r IsFinishF
 not_ending (Ok report) fault only hard e = true≢false (ap end_of e ∙ hard)
 not_ending (Err other) fault only hard e = true≢false (sym (ending other only) ∙ ap end_of e ∙ hard)
 
-pub never_at_end : (r : Result Report Fault) → IfErr r IsFinishFault → (r ≡ Err Failed → ⊥) × (r ≡ Err Finished → ⊥) × (r ≡ Err Read → ⊥)
-never_at_end r only = (not_ending r Failed only refl, not_ending r Finished only refl, not_ending r Read only refl)
-
 pub not_long : (r : Result Report Fault) (P : Type 0) → IfErr r IsFinishFault → r ≡ Err TooLong → P
 not_long r P only e = absurd (not_ending r TooLong only refl e)
 
-pub not_bad_at_end : (made : Result Conversion Fault) (converter : Conversion) (bad : Type 0) (r : Result Report Fault) → made ≡ Ok converter → made ≡ Err BadSetup ↔ bad → IfErr r IsFinishFault
+-- what an answer says for each setup, it says of each setup
+pub on_ok_each : {T E : Type 0} (r : Result T E) (fits : Setup → Type 0) (holds : Setup → Type 0) → ((x : Setup) → fits x → OnOk r (holds x)) → OnOk r ((x : Setup) → fits x → holds x)
+on_ok_each (Ok v) fits holds h = h
+on_ok_each (Err e) fits holds h = tt
+
+-- the faults of the end are among those of pieces up to the end
+pub ended_pieces : (r : Result Report Fault) → IfErr r IsFinishFault → IfErr r IsPiecesFault
+ended_pieces (Ok report) only = tt
+ended_pieces (Err fault) only = inr only
+
+-- ---- faults that pieces up to the end don't answer
+
+abbrev pub is_in_pieces : Fault → Bool
+is_in_pieces TooLong = true
+is_in_pieces NoEpoch = true
+is_in_pieces Write = true
+is_in_pieces _ = false
+
+in_pieces : (fault : Fault) → IsPiecesFault fault → is_in_pieces fault ≡ true
+in_pieces fault (inl e) = ap is_in_pieces e
+in_pieces fault (inr (inl e)) = ap is_in_pieces e
+in_pieces fault (inr (inr e)) = ap is_in_pieces e
+
+abbrev pieces_of : Result Report Fault → Bool
+pieces_of (Ok report) = true
+pieces_of (Err fault) = is_in_pieces fault
+
+not_in_pieces : (r : Result Report Fault) (fault : Fault) → IfErr r IsPiecesFault → is_in_pieces fault ≡ false → r ≡ Err fault → ⊥
+not_in_pieces (Ok report) fault only hard e = true≢false (ap pieces_of e ∙ hard)
+not_in_pieces (Err other) fault only hard e = true≢false (sym (in_pieces other only) ∙ ap pieces_of e ∙ hard)
+
+pub never_in_pieces : (r : Result Report Fault) → IfErr r IsPiecesFault → (r ≡ Err Failed → ⊥) × (r ≡ Err Finished → ⊥) × (r ≡ Err Read → ⊥)
+never_in_pieces r only = (not_in_pieces r Failed only refl, not_in_pieces r Finished only refl, not_in_pieces r Read only refl)
+
+pub not_bad_in_pieces : (made : Result Conversion Fault) (converter : Conversion) (bad : Type 0) (r : Result Report Fault) → made ≡ Ok converter → made ≡ Err BadSetup ↔ bad → IfErr r IsPiecesFault
     → r ≡ Err BadSetup ↔ bad
-not_bad_at_end made converter bad r is iff only = (λ e. absurd (not_ending r BadSetup only refl e), λ b. absurd (made_or_not made converter BadSetup is (iff.1 b)))
+not_bad_in_pieces made converter bad r is iff only = (λ e. absurd (not_in_pieces r BadSetup only refl e), λ b. absurd (made_or_not made converter BadSetup is (iff.1 b)))

@@ -1,6 +1,6 @@
 -- What a contract sees of a converter, and the bytes that it stands for.
 use Rattle.std.specs.Prelude.{◌≡◌, ◌⊎◌, ℕ, ◌+◌, ◌-◌, ◌<◌, ◌≤◌, List, ◌++◌, take, length}
-use Rattle.std.specs.Prelude.{Bool, true, false, Option, Some, None, if◌then◌else◌}
+use Rattle.std.specs.Prelude.{Bool, true, false, Option, Some, None, IfSome, if◌then◌else◌}
 use Rattle.std.specs.Io.KnownBytes.{Consumes, IsAtEnd}
 use Rattle.rtcm_bits.specs.FrameOf.{longest_frame}
 use Rattle.rtcm_scan.specs.Frames.{frames_of}
@@ -160,6 +160,14 @@ CompletesFile v w a b report rest = (s : SetupValue) (bytes : List ℕ) → HasC
 -- with these bytes more, it was completed and is empty
 abbrev pub CompletesEmptyFile : Conversion → Conversion → Option (List ℕ) → Option (List ℕ) → List ℕ → Type 0
 CompletesEmptyFile v w a b rest = (s : SetupValue) (bytes : List ℕ) → HasConverted v s bytes → CompletedEmpty w a b s bytes (bytes ++ rest)
+
+-- with all that was left to read, the file was completed
+abbrev pub CompletesFileOfAll : Conversion → Conversion → Report → Option (List ℕ) → Option (List ℕ) → Option (List ℕ) → Option (List ℕ) → Type 0
+CompletesFileOfAll v w report r r' a b = IfSome r (CompletesFile v w a b report)
+
+-- with all that was left to read, it was completed and is empty
+abbrev pub CompletesEmptyFileOfAll : Conversion → Conversion → Option (List ℕ) → Option (List ℕ) → Option (List ℕ) → Option (List ℕ) → Type 0
+CompletesEmptyFileOfAll v w r r' a b = IfSome r (CompletesEmptyFile v w a b)
 
 -- what a refused call leaves of a converter that went on: one that is finished, or one that has failed
 abbrev pub LeftBy : Fault → Conversion → Type 0

@@ -1,5 +1,5 @@
 -- What an answer says of the devices that a call reads and writes.
-use Rattle.std.specs.Prelude.{◌≡◌, ◌≤◌, ◌⊎◌, ℕ, max, Result, OnOk, IfErr}
+use Rattle.std.specs.Prelude.{◌≡◌, ◌≤◌, ◌⊎◌, ℕ, List, max, Option, Result, OnOk, IfErr}
 use Rattle.rtcm_bits.specs.Device.{Device, HasFailed, FailsWith}
 use Rattle.rtcm_bits.specs.FrameOf.{longest_frame}
 use Rattle.rtcm_convert.specs.declared.fault.Fault.{Fault}
@@ -32,6 +32,11 @@ FailsWithReader result old new =
     IfErr result (λ fault. ReaderFailures fault old.failures new.failures) × OnOk result (new.failures ≡ old.failures)
     × (new.widest ≤ max old.widest longest_frame)
 
+-- the relation holds of what is left to read before a call and after it, and of what was written before it and after it
+abbrev pub OnDevices : {R W : Type 0} → (R → Option (List ℕ)) → (W → Option (List ℕ)) → Device R → Device R → Device W → Device W
+    → (Option (List ℕ) → Option (List ℕ) → Option (List ℕ) → Option (List ℕ) → Type 0) → Type 0
+OnDevices remaining contents r r' w w' relation = relation (remaining r.inner) (remaining r'.inner) (contents w.inner) (contents w'.inner)
+
 -- both devices are as before
 abbrev pub IsUntouched : {R W : Type 0} → (r r' : Device R) → (w w' : Device W) → Type 0
 IsUntouched r r' w w' = (r' ≡ r) × (w' ≡ w)
@@ -40,7 +45,8 @@ IsUntouched r r' w w' = (r' ≡ r) × (w' ≡ w)
 abbrev pub IsSetupFault : Fault → Type 0
 IsSetupFault fault = (fault ≡ BadSetup) ⊎ (fault ≡ Memory)
 
--- the faults of bytes that are handed in, of a piece that is read, of the end, and of a whole run, where no call failed before
+-- the faults of bytes that are handed in, of a piece that is read, of the end, of pieces up to the end, and of a whole run, where
+-- no call failed before
 abbrev pub IsFeedFault : Fault → Type 0
 IsFeedFault fault = (fault ≡ TooLong) ⊎ (fault ≡ Write)
 
@@ -50,5 +56,8 @@ IsPullFault fault = (fault ≡ Read) ⊎ IsFeedFault fault
 abbrev pub IsFinishFault : Fault → Type 0
 IsFinishFault fault = (fault ≡ NoEpoch) ⊎ (fault ≡ Write)
 
+abbrev pub IsPiecesFault : Fault → Type 0
+IsPiecesFault fault = (fault ≡ TooLong) ⊎ IsFinishFault fault
+
 abbrev pub IsRunFault : Fault → Type 0
-IsRunFault fault = (fault ≡ Read) ⊎ ((fault ≡ TooLong) ⊎ IsFinishFault fault)
+IsRunFault fault = (fault ≡ Read) ⊎ IsPiecesFault fault

@@ -4,7 +4,7 @@ use Rattle.rtcm_scan.specs.Frames.{Framed}
 use Rattle.obs_epoch.specs.Values.{PlanValue, EpochValue, Closed, satellites_written}
 use Rattle.obs_epoch.specs.declared.cell.StationValues.{StationValues}
 use Rattle.obs_epoch.specs.Heard.{Heard}
-use Rattle.obs_epoch.specs.Gathering.{HasGatheredEpochs, closed_epochs}
+use Rattle.obs_epoch.specs.Gathering.{HasGatheredEpochs, closed_epochs, closed_in, plan_in}
 use Rattle.rinex_file.specs.Texts.{HeaderLists}
 use Rattle.rinex_file.specs.File.{header_text, epoch_text, change_text}
 use Rattle.rtcm_convert.specs.Converted.{SetupValue, messages_of, written_epochs}
@@ -27,6 +27,23 @@ abbrev pub values_after : Option StationValues → Option EpochValue → Station
 values_after before None values = before
 values_after before (Some e) values = (if nat_lt 0 (satellites_written e) then Some values else before)
 
+-- how many epochs the file has then
+abbrev pub epochs_after : ℕ → Option EpochValue → ℕ
+epochs_after n None = n
+epochs_after n (Some e) = (if nat_lt 0 (satellites_written e) then capped (n + 1) else n)
+
+-- what the filer writes before an epoch
+abbrev pub opening_of : Filer → Closed → List ℕ
+opening_of v c = opening v.texts (plan_in v.gatherer) v.values c.epoch c.values
+
+-- what the filer adds to its file for the epoch that its gatherer closed last
+abbrev pub added_by : Filer → List ℕ
+added_by v = added v.texts (plan_in v.gatherer) v.values (closed_in v.gatherer) v.gatherer.values
+
+-- the filer has counted the epoch that its gatherer closed last, and remembers the station values that were written last
+abbrev pub StandsBehindClosed : Filer → Filer → Type 0
+StandsBehindClosed v w = (w.epochs ≡ epochs_after v.epochs (closed_in v.gatherer)) × (w.values ≡ values_after v.values (closed_in v.gatherer) v.gatherer.values)
+
 -- the station values behind these epochs, where these stand before them
 abbrev pub values_behind_closed : StationValues → List Closed → StationValues
 values_behind_closed v [] = v
@@ -36,11 +53,6 @@ values_behind_closed v (c ∷ cs) = values_behind_closed c.values cs
 abbrev pub last_values : List Closed → Option StationValues
 last_values [] = None
 last_values (c ∷ cs) = Some (values_behind_closed c.values cs)
-
--- how many epochs the file has then
-abbrev pub epochs_after : ℕ → Option EpochValue → ℕ
-epochs_after n None = n
-epochs_after n (Some e) = (if nat_lt 0 (satellites_written e) then capped (n + 1) else n)
 
 -- the filer took these messages and wrote these epochs; where `again` is a message, it is to be handed in again
 pub record HasFiledEpochs (v : Filer) (s : SetupValue) (ms : List Heard) (es : List Closed) (again : Option Heard) : Type 0 where

@@ -11,6 +11,10 @@ setup_value x = record {
   texts = x.texts;
 }
 
+-- a week that there is not, or a station that there is not
+abbrev pub IsBadStart : Setup → Type 0
+IsBadStart x = (weeks ≤ x.start_week) ⊎ (is_no_station x.station ≡ true)
+
 -- a limit of more than 2^48 bytes, a week that there is not, or a station that there is not
 abbrev pub IsBad : Setup → Type 0
-IsBad x = (2 ^ 48 < x.limit) ⊎ ((weeks ≤ x.start_week) ⊎ (is_no_station x.station ≡ true))
+IsBad x = (2 ^ 48 < x.limit) ⊎ IsBadStart x

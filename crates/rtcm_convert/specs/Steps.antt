@@ -1,5 +1,5 @@
 -- What the calls of the filer do, whatever messages and frames it took before.
-use Rattle.std.specs.Prelude.{◌≡◌, ℕ, false, List, [], ◌∷◌, ◌++◌, Option, Some, None}
+use Rattle.std.specs.Prelude.{◌≡◌, ℕ, true, false, List, [], ◌∷◌, ◌++◌, Option, Some, None}
 use Rattle.rtcm_scan.specs.Frames.{Framed}
 use Rattle.obs_epoch.specs.Values.{Closed}
 use Rattle.obs_epoch.specs.Heard.{Heard}
@@ -14,6 +14,14 @@ use Rattle.rtcm_convert.specs.declared.filer.Filer.{Filer}
 
 -- ---- a message that is handed in, for the first time or again
 
+-- the message was not taken: an epoch is closed first, and then it is to be handed in again
+abbrev pub IsCloseFirst : Kind → Type 0
+IsCloseFirst kind = is_close_first kind ≡ true
+
+-- that is what became of the message, which was taken
+abbrev pub IsFinalKind : Kind → Type 0
+IsFinalKind kind = is_close_first kind ≡ false
+
 -- the epoch that was closed first was written, and the message is to be handed in again
 abbrev pub WritesFirst : Filer → Filer → Heard → Option (List ℕ) → Option (List ℕ) → Type 0
 WritesFirst v w m a b = (s : SetupValue) (ms : List Heard) (es : List Closed) → HasFiledEpochs v s ms es None
@@ -26,7 +34,7 @@ TakesMessage v w m a b = (s : SetupValue) (ms : List Heard) (es : List Closed) (
 
 -- where it was handed in again it was taken
 abbrev pub IsTakenAgain : Filer → Heard → Kind → Type 0
-IsTakenAgain v m kind = (s : SetupValue) (ms : List Heard) (es : List Closed) → HasFiledEpochs v s ms es (Some m) → is_close_first kind ≡ false
+IsTakenAgain v m kind = (s : SetupValue) (ms : List Heard) (es : List Closed) → HasFiledEpochs v s ms es (Some m) → IsFinalKind kind
 
 -- that is what becomes of it
 abbrev pub IsKindOf : Filer → Heard → Kind → Type 0

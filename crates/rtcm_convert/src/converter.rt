@@ -8,12 +8,12 @@ ghost use Rattle.rtcm_bits.specs.FrameOf.{longest_frame};
 ghost use Rattle.rtcm_scan.specs.Looks.{examined, examined_now, most, most_looks, most_now};
 ghost use Rattle.obs_epoch.specs.Values.{most_cells};
 ghost use Rattle.rtcm_convert.specs.Kept.{cells_kept, locks_kept, locks_in_all};
-ghost use Rattle.rtcm_convert.specs.Faults.{FailsWithReader, FailsWithWriter, IsUntouched, IsSetupFault, IsFeedFault, IsPullFault, IsFinishFault, IsRunFault};
+ghost use Rattle.rtcm_convert.specs.Faults.{OnDevices, FailsWithReader, FailsWithWriter, IsUntouched, IsSetupFault, IsFeedFault, IsPullFault, IsFinishFault, IsRunFault};
 ghost use Rattle.rtcm_convert.specs.SetupValues.{setup_value, IsBad};
 ghost use Rattle.rtcm_convert.specs.Converted.{SetupValue};
 ghost use Rattle.rtcm_convert.specs.Outcomes.{report_with};
 ghost use Rattle.rtcm_convert.specs.Conversion.{HasConverted, HasFinished, IsGoing, GoesOnBy, TakesPiece, TakesToLimit, WritesPrefixOfAdded, StopsAtEnd, LeftBy, refusal};
-ghost use Rattle.rtcm_convert.specs.Conversion.{FinishesNow, FinishesEmptyNow, CompletesFile, CompletesEmptyFile, IsPastLimit};
+ghost use Rattle.rtcm_convert.specs.Conversion.{FinishesNow, FinishesEmptyNow, CompletesFileOfAll, CompletesEmptyFileOfAll, IsPastLimit};
 ghost use Rattle.rtcm_convert.specs.Conversion.{TakesFromReader, RanToFault, RanToLimit, ReadOverLimit, StopsAtPiece, StopsRunning};
 
 use crate::fault::Fault;
@@ -21,9 +21,7 @@ use crate::filer::Filer;
 use crate::report::Report;
 use crate::setup::Setup;
 use crate::stream::{end_stream, feed_bytes};
-use crate::tally::Tally;
 use gnss_obs::System;
-use obs_epoch::{Gatherer, PlanFault};
 use rtcm_bits::{Counted, LONGEST_FRAME};
 use rtcm_scan::{Framer, MOST_BYTES};
 use std::alloc::Global;
@@ -62,34 +60,19 @@ impl Converter {
         if setup.limit > MOST_BYTES {
             return Err(Fault::BadSetup);
         }
-        let gatherer = match Gatherer::new(
-            alloc,
-            setup.plan,
-            setup.start_week,
-            setup.station,
-            setup.gather,
-        ) {
-            Ok(gatherer) => gatherer,
-            Err(PlanFault::BadWeek) => return Err(Fault::BadSetup),
-            Err(PlanFault::BadStation) => return Err(Fault::BadSetup),
-            Err(_) => return Err(Fault::Memory),
-        };
-        let framer = match Framer::new(alloc, setup.limit) {
-            Ok(framer) => framer,
-            Err(_) => return Err(Fault::Memory),
-        };
-        Ok(Converter {
-            framer,
-            filer: Filer {
-                gatherer,
-                texts: setup.texts,
-                values: None,
-                epochs: 0,
-                tally: Tally::new(),
+        let limit = setup.limit;
+        match Filer::new(alloc, setup) {
+            Ok(filer) => match Framer::new(alloc, limit) {
+                Ok(framer) => Ok(Converter {
+                    framer,
+                    filer,
+                    failed: false,
+                    finished: false,
+                }),
+                Err(_) => Err(Fault::Memory),
             },
-            failed: false,
-            finished: false,
-        })
+            Err(fault) => Err(fault),
+        }
     }
 
     /// Takes a piece of the stream, and writes every epoch that it closes.
@@ -187,8 +170,8 @@ impl Converter {
         writer: &mut Counted<W>,
     ) -> Result<usize, Fault>
         requires { IsGoing self.old }
-        ensures whole { OnOk result (TakesFromReader self.old self.new (R.remaining reader.old.inner) (R.remaining reader.new.inner)
-            (W.contents writer.old.inner) (W.contents writer.new.inner)) }
+        ensures whole { OnOk result (OnDevices R.remaining W.contents reader.old reader.new writer.old writer.new
+            (TakesFromReader self.old self.new)) }
         ensures end { IfOk result (λ n. n ≡ 0 → IsAtEnd (R.remaining reader.new.inner)) }
         ensures going { IfOk result (GoesOnBy self.old self.new) }
         // Nothing was read.
@@ -196,10 +179,10 @@ impl Converter {
         ensures unwritten { IsErrOf result Fault.Read → (writer.new ≡ writer.old) × (self.new.scan.taken ≡ self.old.scan.taken) }
         ensures full { IsErrOf result Fault.TooLong → self.new.scan.taken ≡ self.old.scan.limit }
         ensures same { self.new.scan.limit ≡ self.old.scan.limit }
-        ensures long { IsErrOf result Fault.TooLong → ReadOverLimit self.old (R.remaining reader.old.inner) (R.remaining reader.new.inner)
-            (W.contents writer.old.inner) (W.contents writer.new.inner) }
-        ensures part { IsErrOf result Fault.Write → StopsAtPiece self.old self.new (R.remaining reader.old.inner) (R.remaining reader.new.inner)
-            (W.contents writer.old.inner) (W.contents writer.new.inner) }
+        ensures long { IsErrOf result Fault.TooLong → OnDevices R.remaining W.contents reader.old reader.new writer.old writer.new
+            (ReadOverLimit self.old) }
+        ensures part { IsErrOf result Fault.Write → OnDevices R.remaining W.contents reader.old reader.new writer.old writer.new
+            (StopsAtPiece self.old self.new) }
         ensures listening { self.old.scan.has_ended ≡ false }
         ensures reader { FailsWithReader result reader.old reader.new }
         ensures writer { FailsWithWriter result writer.old writer.new }
@@ -230,24 +213,24 @@ impl Converter {
         ensures refused { IfSome (refusal self.old) (λ fault.
             (result ≡ Err fault) × (self.new ≡ self.old) × IsUntouched reader.old reader.new writer.old writer.new) }
         // The rest of the file of all the bytes went out, and that is the report.
-        ensures whole { IfOk result (λ report. IfSome (R.remaining reader.old.inner)
-            (CompletesFile self.old self.new (W.contents writer.old.inner) (W.contents writer.new.inner) report)) }
+        ensures whole { IfOk result (λ report. OnDevices R.remaining W.contents reader.old reader.new writer.old writer.new
+            (CompletesFileOfAll self.old self.new report)) }
         // No epoch of the whole stream was written, so nothing was.
-        ensures no_epoch { IsErrOf result Fault.NoEpoch → IfSome (R.remaining reader.old.inner)
-            (CompletesEmptyFile self.old self.new (W.contents writer.old.inner) (W.contents writer.new.inner)) }
+        ensures no_epoch { IsErrOf result Fault.NoEpoch → OnDevices R.remaining W.contents reader.old reader.new writer.old writer.new
+            (CompletesEmptyFileOfAll self.old self.new) }
         // The stream is longer than the limit.
         ensures too_long { IsErrOf result Fault.TooLong → IfSome (R.remaining reader.old.inner) (IsPastLimit self.old) }
         // The bytes up to the limit were taken, and what they add went out.
-        ensures long { IsErrOf result Fault.TooLong → RanToLimit self.old (R.remaining reader.old.inner) (R.remaining reader.new.inner)
-            (W.contents writer.old.inner) (W.contents writer.new.inner) }
+        ensures long { IsErrOf result Fault.TooLong → OnDevices R.remaining W.contents reader.old reader.new writer.old writer.new
+            (RanToLimit self.old) }
         ensures full { IsErrOf result Fault.TooLong → self.new.scan.taken ≡ self.old.scan.limit }
         ensures same { self.new.scan.limit ≡ self.old.scan.limit }
         // The reader failed: what the bytes that were read add went out.
-        ensures read { IsErrOf result Fault.Read → RanToFault self.old self.new (R.remaining reader.old.inner) (R.remaining reader.new.inner)
-            (W.contents writer.old.inner) (W.contents writer.new.inner) }
+        ensures read { IsErrOf result Fault.Read → OnDevices R.remaining W.contents reader.old reader.new writer.old writer.new
+            (RanToFault self.old self.new) }
         // The writer failed, at one of the pieces or at the end.
-        ensures write { IsErrOf result Fault.Write → StopsRunning self.old self.new (R.remaining reader.old.inner) (R.remaining reader.new.inner)
-            (W.contents writer.old.inner) (W.contents writer.new.inner) }
+        ensures write { IsErrOf result Fault.Write → OnDevices R.remaining W.contents reader.old reader.new writer.old writer.new
+            (StopsRunning self.old self.new) }
         ensures reader { FailsWithReader result reader.old reader.new }
         ensures writer { FailsWithWriter result writer.old writer.new }
         ensures only { IsGoing self.old → IfErr result IsRunFault }

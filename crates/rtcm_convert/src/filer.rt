@@ -1,24 +1,25 @@
 //! From frames to the bytes of a file.
-ghost use Rattle.std.specs.Prelude.{◌≡◌, ◌++◌, ◌∷◌, [], false, true, OnOk, OnErr, IfOk};
+ghost use Rattle.std.specs.Prelude.{◌≡◌, ◌↔◌, [], false, true, Err, OnOk, OnErr, IfOk, IfErr};
 ghost use Rattle.std.specs.Io.KnownBytes.{Appends};
 ghost use Rattle.rtcm_bits.specs.Device.{AppendsPrefix};
 ghost use Rattle.rtcm_scan.specs.Answers.{framed};
 ghost use Rattle.rinex_file.specs.File.{change_text};
 ghost use Rattle.obs_epoch.specs.Heard.{heard};
-ghost use Rattle.obs_epoch.specs.Kinds.{is_close_first};
-ghost use Rattle.obs_epoch.specs.Gathering.{closed_in, plan_in};
-ghost use Rattle.rtcm_convert.specs.Faults.{FailsToWrite};
-ghost use Rattle.rtcm_convert.specs.Filed.{opening, added, epochs_after, values_after};
-ghost use Rattle.rtcm_convert.specs.Steps.{WritesFirst, TakesMessage, IsTakenAgain, IsKindOf, BreaksInMessage, TakesNext, IsKindOfNext, BreaksInNext};
+ghost use Rattle.rtcm_convert.specs.Faults.{FailsToWrite, IsSetupFault};
+ghost use Rattle.rtcm_convert.specs.SetupValues.{setup_value, IsBadStart};
+ghost use Rattle.rtcm_convert.specs.Filed.{HasFiledFrames, opening_of, added_by, StandsBehindClosed};
+ghost use Rattle.rtcm_convert.specs.Steps.{IsCloseFirst, IsFinalKind, WritesFirst, TakesMessage, IsTakenAgain, IsKindOf, BreaksInMessage, TakesNext, IsKindOfNext, BreaksInNext};
 ghost use Rattle.rtcm_convert.specs.Steps.{TakesFrame, BreaksInFrame, WritesRest, BreaksInRest, CountsEpochs, GathersAll};
 
 use crate::fault::Fault;
+use crate::setup::Setup;
 use crate::tally::Tally;
-use obs_epoch::{Epoch, Gatherer, Kind, StationValues};
+use obs_epoch::{Epoch, Gatherer, Kind, PlanFault, StationValues};
 use rinex_file::{Head, HeaderTexts, write_epoch, write_event, write_header};
 use rtcm_bits::Counted;
 use rtcm_msg::{Message, decode};
 use rtcm_scan::Frame;
+use std::alloc::Global;
 use std::io::Write;
 
 /// Takes frames in order, and writes the epochs that they close.
@@ -50,13 +51,39 @@ fn write_change<W: Write>(
 }
 
 impl Filer {
+    /// A filer that has taken no frame. A week or a station out of range is `BadSetup`; want of
+    /// memory is `Memory`.
+    pub(crate) fn new(alloc: Global, setup: Setup) -> Result<Filer, Fault>
+        ensures stands { IfOk result (λ filer. HasFiledFrames filer (setup_value setup) []) }
+        ensures going { IfOk result (λ filer. filer.gatherer.has_ended ≡ false) }
+        ensures bad { result ≡ Err Fault.BadSetup ↔ IsBadStart setup }
+        ensures only { IfErr result IsSetupFault }
+    {
+        match Gatherer::new(
+            alloc,
+            setup.plan,
+            setup.start_week,
+            setup.station,
+            setup.gather,
+        ) {
+            Ok(gatherer) => Ok(Filer {
+                gatherer,
+                texts: setup.texts,
+                values: None,
+                epochs: 0,
+                tally: Tally::new(),
+            }),
+            Err(PlanFault::BadWeek) => Err(Fault::BadSetup),
+            Err(PlanFault::BadStation) => Err(Fault::BadSetup),
+            Err(_) => Err(Fault::Memory),
+        }
+    }
+
     /// Writes the header where no epoch stands in the file, and else an event where the epoch's
     /// station values are no longer those that were written last.
     fn open<W: Write>(&self, epoch: &Epoch, writer: &mut Counted<W>) -> Result<(), Fault>
-        ensures whole { OnOk result (Appends (W.contents writer.old.inner) (W.contents writer.new.inner)
-            (opening self.now.texts (plan_in self.now.gatherer) self.now.values epoch.now.epoch epoch.now.values)) }
-        ensures part { OnErr result (AppendsPrefix (W.contents writer.old.inner) (W.contents writer.new.inner)
-            (opening self.now.texts (plan_in self.now.gatherer) self.now.values epoch.now.epoch epoch.now.values)) }
+        ensures whole { OnOk result (Appends (W.contents writer.old.inner) (W.contents writer.new.inner) (opening_of self.now epoch.now)) }
+        ensures part { OnErr result (AppendsPrefix (W.contents writer.old.inner) (W.contents writer.new.inner) (opening_of self.now epoch.now)) }
         ensures device { FailsToWrite result writer.old writer.new }
     {
         if let Some(before) = self.values {
@@ -75,13 +102,10 @@ impl Filer {
     /// header before the first, or an event before one whose station values are no longer those
     /// that were written last.
     fn write_closed<W: Write>(&mut self, writer: &mut Counted<W>) -> Result<(), Fault>
-        ensures whole { OnOk result (Appends (W.contents writer.old.inner) (W.contents writer.new.inner)
-            (added self.old.texts (plan_in self.old.gatherer) self.old.values (closed_in self.old.gatherer) self.old.gatherer.values)) }
-        ensures part { OnErr result (AppendsPrefix (W.contents writer.old.inner) (W.contents writer.new.inner)
-            (added self.old.texts (plan_in self.old.gatherer) self.old.values (closed_in self.old.gatherer) self.old.gatherer.values)) }
+        ensures whole { OnOk result (Appends (W.contents writer.old.inner) (W.contents writer.new.inner) (added_by self.old)) }
+        ensures part { OnErr result (AppendsPrefix (W.contents writer.old.inner) (W.contents writer.new.inner) (added_by self.old)) }
         ensures device { FailsToWrite result writer.old writer.new }
-        ensures now { OnOk result ((self.new.epochs ≡ epochs_after self.old.epochs (closed_in self.old.gatherer))
-            × (self.new.values ≡ values_after self.old.values (closed_in self.old.gatherer) self.old.gatherer.values)) }
+        ensures now { OnOk result (StandsBehindClosed self.old self.new) }
         ensures same { (self.new.gatherer ≡ self.old.gatherer) × (self.new.texts ≡ self.old.texts) × (self.new.tally ≡ self.old.tally) }
     {
         let Some(epoch) = self.gatherer.closed() else {
@@ -102,13 +126,13 @@ impl Filer {
     fn step<W: Write>(&mut self, message: &Message, writer: &mut Counted<W>) -> Result<Kind, Fault>
         requires { self.old.gatherer.has_ended ≡ false }
         // The message is to be handed in again.
-        ensures first { IfOk result (λ kind. is_close_first kind ≡ true → WritesFirst self.old self.new (heard message.now)
+        ensures first { IfOk result (λ kind. IsCloseFirst kind → WritesFirst self.old self.new (heard message.now)
             (W.contents writer.old.inner) (W.contents writer.new.inner)) }
         // It was taken.
-        ensures taken { IfOk result (λ kind. is_close_first kind ≡ false → TakesMessage self.old self.new (heard message.now)
+        ensures taken { IfOk result (λ kind. IsFinalKind kind → TakesMessage self.old self.new (heard message.now)
             (W.contents writer.old.inner) (W.contents writer.new.inner)) }
         ensures again { IfOk result (λ kind. IsTakenAgain self.old (heard message.now) kind) }
-        ensures kind { IfOk result (λ kind. is_close_first kind ≡ false → IsKindOf self.old (heard message.now) kind) }
+        ensures kind { IfOk result (λ kind. IsFinalKind kind → IsKindOf self.old (heard message.now) kind) }
         ensures same { self.new.tally ≡ self.old.tally }
         ensures part { OnErr result (BreaksInMessage self.old (heard message.now) (W.contents writer.old.inner) (W.contents writer.new.inner)) }
         ensures device { FailsToWrite result writer.old writer.new }

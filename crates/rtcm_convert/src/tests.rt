@@ -43,6 +43,13 @@ const COMPACT: [u8; 30] = [
     0x00, 0x20, 0x00, 0x00, 0x00, 0x51, 0x80, 0x0F, 0xFF, 0xE0, 0x00, 0x00, 0xFE, 0xD0,
 ];
 
+/// The full message one second later.
+const NEXT: [u8; 36] = [
+    0x43, 0x57, 0xD3, 0x00, 0x00, 0x1F, 0x40, 0x00, 0x00, 0x04, 0x00, 0x00, 0x00, 0x00, 0x00, 0x00,
+    0x00, 0x20, 0x00, 0x00, 0x00, 0x51, 0x80, 0x00, 0x01, 0x90, 0x00, 0x00, 0x00, 0x00, 0x00, 0x00,
+    0x05, 0xA2, 0x00, 0x00,
+];
+
 /// The header lines of a file of one signal, without the blanks behind them.
 const HEADER: [&str; 14] = [
     "     3.05           OBSERVATION DATA    G                   RINEX VERSION / TYPE",
@@ -61,10 +68,22 @@ const HEADER: [&str; 14] = [
     "                                                            END OF HEADER",
 ];
 
-/// The position and the height of the station.
-const PLACED: [&str; 2] = [
+/// The same with the position and the height of the station.
+const PLACED_HEADER: [&str; 14] = [
+    "     3.05           OBSERVATION DATA    G                   RINEX VERSION / TYPE",
+    "rtcm2rinex                              20240204 000001 UTC PGM / RUN BY / DATE",
+    "                                                            MARKER NAME",
+    "GEODETIC                                                    MARKER TYPE",
+    "                                                            OBSERVER / AGENCY",
+    "                                                            REC # / TYPE / VERS",
+    "                                                            ANT # / TYPE",
     "  1114104.5999 -4850729.7108  3975521.4643                  APPROX POSITION XYZ",
     "        1.5000        0.0000        0.0000                  ANTENNA: DELTA H/E/N",
+    "G    4 C1C L1C D1C S1C                                      SYS / # / OBS TYPES",
+    "DBHZ                                                        SIGNAL STRENGTH UNIT",
+    "  2024     2     4     0     0    1.0000000     GPS         TIME OF FIRST OBS",
+    "G                                                           SYS / PHASE SHIFT",
+    "                                                            END OF HEADER",
 ];
 
 /// The epoch of the full message.
@@ -73,8 +92,10 @@ const EPOCH: [&str; 2] = [
     "G05  20985472.060 7 110279400.000 7      -525.504          45.063",
 ];
 
-/// The epoch of a full message one second later.
-const NEXT_EPOCH: [&str; 2] = [
+/// That epoch, and the one of a full message one second later.
+const TWO_EPOCHS: [&str; 4] = [
+    "> 2024 02 04 00 00  1.0000000  0  1",
+    "G05  20985472.060 7 110279400.000 7      -525.504          45.063",
     "> 2024 02 04 00 00  2.0000000  0  1",
     "G05  20985472.060 7 110279400.00017      -525.504          45.063",
 ];
@@ -110,6 +131,29 @@ const ONE_TAKEN: Report = Report {
     taken: 1,
     epochs: 1,
     ..NOTHING
+};
+
+/// The report of two of them.
+const TWO_TAKEN: Report = Report {
+    bytes: 84,
+    frames: 2,
+    taken: 2,
+    epochs: 2,
+    ..NOTHING
+};
+
+/// The report of a full message behind a station message with a height.
+const ONE_PLACED: Report = Report {
+    bytes: 69,
+    frames: 2,
+    station: 1,
+    ..ONE_TAKEN
+};
+
+/// The report of a compact message.
+const ONE_COMPACT: Report = Report {
+    bytes: 36,
+    ..ONE_TAKEN
 };
 
 /// A full message of another time of week, in ms.
@@ -173,6 +217,23 @@ fn makes_of_steps<'a>(
     makes(alloc, told, steps, &mut reader(&[], &[]), text)
 }
 
+/// Whether a stream makes the text, this report and these looks, in pieces of one byte, of two, and
+/// whole; else the size of the pieces in which it doesn't.
+fn makes_in_each_size<'a>(
+    alloc: Global,
+    stream: &'a [u8],
+    report: Report,
+    looks: Step<'a>,
+    text: &[u8],
+) -> Result<(), (usize, Broken<'a>)> {
+    for size in [1, 2, 1_000] {
+        if let Err(broken) = makes_both_ways(alloc, stream, size, report, looks, text) {
+            return Err((size, broken));
+        }
+    }
+    Ok(())
+}
+
 /// Whether a stream in pieces of a size makes the text, this report and these looks, by `feed` as
 /// by `run`.
 fn makes_both_ways<'a>(
@@ -190,51 +251,39 @@ fn makes_both_ways<'a>(
     makes(alloc, TOLD, &by_run, &mut reader(stream, &[size]), text)
 }
 
+/// The messages, the header and the lines behind it, the report, and the looks in all and at one
+/// byte.
+type Case<'a> = (
+    &'a [&'a [u8]],
+    &'a [&'a str],
+    &'a [&'a str],
+    Report,
+    u64,
+    u16,
+);
+
+const CASES: [Case<'static>; 4] = [
+    (&[&FULL], &HEADER, &EPOCH, ONE_TAKEN, 78, 2),
+    (&[&FULL, &NEXT], &HEADER, &TWO_EPOCHS, TWO_TAKEN, 156, 2),
+    (
+        &[&POINT_AND_HEIGHT, &FULL],
+        &PLACED_HEADER,
+        &EPOCH,
+        ONE_PLACED,
+        126,
+        2,
+    ),
+    (&[&COMPACT], &HEADER, &COMPACT_EPOCH, ONE_COMPACT, 66, 2),
+];
+
 #[test]
 fn streams_and_their_files(rt: HostRuntime) {
-    let next = full_at(2_000);
-    let mut placed = HEADER;
-    placed[7] = PLACED[0];
-    placed[8] = PLACED[1];
-    let two_epochs = [EPOCH[0], EPOCH[1], NEXT_EPOCH[0], NEXT_EPOCH[1]];
-    let two = Report {
-        bytes: 84,
-        frames: 2,
-        taken: 2,
-        epochs: 2,
-        ..NOTHING
-    };
-    let with_point = Report {
-        bytes: 69,
-        frames: 2,
-        station: 1,
-        ..ONE_TAKEN
-    };
-    let compact = Report {
-        bytes: 36,
-        ..ONE_TAKEN
-    };
-    let cases: [(&[&[u8]], &[&str], &[&str], Report, u64, u16); 4] = [
-        (&[&FULL], &HEADER, &EPOCH, ONE_TAKEN, 78, 2),
-        (&[&FULL, &next], &HEADER, &two_epochs, two, 156, 2),
-        (
-            &[&POINT_AND_HEIGHT, &FULL],
-            &placed,
-            &EPOCH,
-            with_point,
-            126,
-            2,
-        ),
-        (&[&COMPACT], &HEADER, &COMPACT_EPOCH, compact, 66, 2),
-    ];
-    for (messages, header, lines, report, examined, most) in &cases {
+    for (messages, header, lines, report, examined, most) in &CASES {
         let stream = framed(messages);
         let want = text_of(header, lines);
         let looks = Step::Looks(0, *examined, *most);
-        for size in [1, 2, 1_000] {
-            let got = makes_both_ways(rt.alloc(), &stream, size, *report, looks, &want);
-            assert_eq!(rt; got, Ok(()), "in pieces of {size}");
-        }
+        let got = makes_in_each_size(rt.alloc(), &stream, *report, looks, &want);
+        assert_eq!(rt; got, Ok(()));
     }
 }
 
@@ -242,15 +291,28 @@ fn streams_and_their_files(rt: HostRuntime) {
 fn whole_streams(rt: HostRuntime) {
     let stream = framed(&[&FULL]);
     let want = text_of(&HEADER, &EPOCH);
-    assert_eq!(rt; want.len(), 1_236);
+    let got = (
+        want.len(),
+        reads_whole(rt.alloc(), &stream, &want),
+        takes_fives(rt.alloc(), &stream, &want),
+    );
+    let made = (Ok(ONE_TAKEN), Ok(()));
+    assert_eq!(rt; got, (1_236, made, made));
+}
+
+/// What an answer is, and whether just the text went out.
+type Made<'a> = (Result<Report, Fault>, Result<(), Broken<'a>>);
+
+fn reads_whole<'a>(alloc: Global, stream: &[u8], text: &[u8]) -> Made<'a> {
     let mut writer = Counted::new(Text::new());
-    let answer = convert(rt.alloc(), &mut reader(&stream, &[]), &mut writer);
-    assert_eq!(rt; answer, Ok(ONE_TAKEN));
-    assert_eq!(rt; sends(&writer.into_inner(), &want), Ok(()));
+    let answer = convert(alloc, &mut reader(stream, &[]), &mut writer);
+    (answer, sends(&writer.into_inner(), text))
+}
+
+fn takes_fives<'a>(alloc: Global, stream: &[u8], text: &[u8]) -> Made<'a> {
     let mut writer = Counted::new(Text::new());
-    let answer = convert_fives(rt.alloc(), &stream, &mut writer);
-    assert_eq!(rt; answer, Ok(ONE_TAKEN));
-    assert_eq!(rt; sends(&writer.into_inner(), &want), Ok(()));
+    let answer = convert_fives(alloc, stream, &mut writer);
+    (answer, sends(&writer.into_inner(), text))
 }
 
 fn convert<R: Read, W: Write>(
@@ -324,9 +386,13 @@ fn times_past_the_weeks(rt: HostRuntime) {
         ..TOLD
     };
     let steps = [Step::Feed(&stream, 1_000, Ok(())), Step::Finish(Ok(report))];
+    assert_eq!(rt; follows(rt.alloc(), told, &steps), Ok(()));
+}
+
+/// Whether a converter that reads nothing takes these steps.
+fn follows<'a>(alloc: Global, told: Told, steps: &[Step<'a>]) -> Result<(), Broken<'a>> {
     let mut writer = Counted::new(Text::new());
-    let got = follow(rt.alloc(), told, &steps, &mut reader(&[], &[]), &mut writer);
-    assert_eq!(rt; got, Ok(()));
+    follow(alloc, told, steps, &mut reader(&[], &[]), &mut writer)
 }
 
 #[test]

@@ -1,8 +1,9 @@
 //! Whole streams.
 ghost use Rattle.std.specs.Prelude.{◌≡◌, ◌≢◌, ◌<◌, ◌↔◌, Err, IsErrOf, IfOk, IfErr, OnOk, IfSome, length};
-ghost use Rattle.rtcm_convert.specs.Faults.{FailsWithReader, FailsWithWriter, IsSetupFault, IsUntouched};
-ghost use Rattle.rtcm_convert.specs.Broken.{WroteSoFar, WroteToLimit, BrokeReading, WrotePieces, BrokeInPieces, joined_pieces};
-ghost use Rattle.rtcm_convert.specs.Made.{IsMade, IsMadeEmpty, IsReportOf};
+ghost use Rattle.rtcm_convert.specs.Faults.{OnDevices, FailsWithReader, FailsWithWriter, IsPiecesFault, IsSetupFault, IsUntouched};
+ghost use Rattle.rtcm_convert.specs.Conversion.{IsGoing};
+ghost use Rattle.rtcm_convert.specs.Broken.{WrotePieces, BrokeInPieces, joined_pieces};
+ghost use Rattle.rtcm_convert.specs.Made.{OfItsSetup, PiecesMakeFile, PiecesMakeEmptyFile, PiecesMakeFileToLimit, PiecesMakePartOfFile, IsMade, IsMadeEmpty, IsMadeToLimit, IsMadeSoFar, IsMadeInPart, IsReportOf};
 ghost use Rattle.rtcm_convert.specs.SetupValues.{setup_value, IsBad};
 
 use crate::converter::Converter;
@@ -31,14 +32,14 @@ pub fn convert_stream<R: Read, W: Write>(
     ensures too_long { IsErrOf result Fault.TooLong → IfSome (R.remaining reader.old.inner) (λ b. setup.limit < length b) }
     // The bytes up to the limit were taken, and what went out is the file of the epochs that they
     // close.
-    ensures long { IsErrOf result Fault.TooLong → WroteToLimit (R.remaining reader.old.inner) (R.remaining reader.new.inner)
-        (W.contents writer.old.inner) (W.contents writer.new.inner) (setup_value setup) setup.limit }
+    ensures long { IsErrOf result Fault.TooLong → OnDevices R.remaining W.contents reader.old reader.new writer.old writer.new
+        (IsMadeToLimit setup) }
     // What went out is the file of the epochs that the bytes read close.
-    ensures read { IsErrOf result Fault.Read → WroteSoFar (R.remaining reader.old.inner) (R.remaining reader.new.inner)
-        (W.contents writer.old.inner) (W.contents writer.new.inner) (setup_value setup) }
+    ensures read { IsErrOf result Fault.Read → OnDevices R.remaining W.contents reader.old reader.new writer.old writer.new
+        (IsMadeSoFar setup) }
     // The writer failed at one of the pieces read, or when all was read.
-    ensures write { IsErrOf result Fault.Write → BrokeReading (R.remaining reader.old.inner) (R.remaining reader.new.inner)
-        (W.contents writer.old.inner) (W.contents writer.new.inner) (setup_value setup) }
+    ensures write { IsErrOf result Fault.Write → OnDevices R.remaining W.contents reader.old reader.new writer.old writer.new
+        (IsMadeInPart setup) }
     ensures reader { FailsWithReader result reader.old reader.new }
     ensures writer { FailsWithWriter result writer.old writer.new }
     ensures bad_setup { result ≡ Err Fault.BadSetup ↔ IsBad setup }
@@ -47,11 +48,10 @@ pub fn convert_stream<R: Read, W: Write>(
 {
     laws::prefix();
     laws::read_back(&setup);
-    let mut converter = match Converter::new(alloc, setup) {
-        Ok(converter) => converter,
-        Err(fault) => return Err(fault),
-    };
-    converter.run(reader, writer)
+    match Converter::new(alloc, setup) {
+        Ok(mut converter) => converter.run(reader, writer),
+        Err(fault) => Err(fault),
+    }
 }
 
 /// Makes the observation file of a stream that comes in these pieces.
@@ -78,12 +78,30 @@ pub fn convert_pieces<W: Write>(
     ensures untouched { IfErr result (λ fault. IsSetupFault fault → writer.new ≡ writer.old) }
     ensures only { (result ≢ Err Fault.Failed) × (result ≢ Err Fault.Finished) × (result ≢ Err Fault.Read) }
 {
-    laws::prefix();
     laws::read_back(&setup);
-    let mut converter = match Converter::new(alloc, setup) {
-        Ok(converter) => converter,
-        Err(fault) => return Err(fault),
-    };
+    match Converter::new(alloc, setup) {
+        Ok(mut converter) => take_pieces(&mut converter, pieces, writer),
+        Err(fault) => Err(fault),
+    }
+}
+
+/// Feeds a new converter these pieces, and ends the stream.
+fn take_pieces<W: Write>(
+    converter: &mut Converter,
+    pieces: &[Vec<u8>],
+    writer: &mut Counted<W>,
+) -> Result<Report, Fault>
+    requires { IsGoing converter.old }
+    ensures file { OnOk result (PiecesMakeFile converter.old (W.contents writer.old.inner) (W.contents writer.new.inner) pieces.now) }
+    ensures report { OfItsSetup converter.old (λ x. IfOk result (λ report. IsReportOf x report (joined_pieces pieces.now))) }
+    ensures no_epoch { IsErrOf result Fault.NoEpoch → PiecesMakeEmptyFile converter.old (W.contents writer.old.inner) (W.contents writer.new.inner) pieces.now }
+    ensures too_long { IsErrOf result Fault.TooLong → OfItsSetup converter.old (λ x. x.limit < length (joined_pieces pieces.now)) }
+    ensures long { IsErrOf result Fault.TooLong → PiecesMakeFileToLimit converter.old (W.contents writer.old.inner) (W.contents writer.new.inner) pieces.now }
+    ensures write { IsErrOf result Fault.Write → PiecesMakePartOfFile converter.old (W.contents writer.old.inner) (W.contents writer.new.inner) pieces.now }
+    ensures writer { FailsWithWriter result writer.old writer.new }
+    ensures only { IfErr result IsPiecesFault }
+{
+    laws::prefix();
     for piece in pieces {
         if let Err(fault) = converter.feed(piece, writer) {
             return Err(fault);

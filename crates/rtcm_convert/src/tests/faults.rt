@@ -4,6 +4,7 @@ use crate::Fault;
 use rtcm_bits::Counted;
 use rtcm_bits::devices::{PieceReader, ReadEnd, ShortWriter, WriteEnd};
 use rtcm_scan::MOST_BYTES;
+use std::alloc::Global;
 use std::io::ErrorKind;
 use std::test::Fail;
 
@@ -78,16 +79,28 @@ fn writers_that_fail(rt: HostRuntime) {
         Step::Feed(&stream, 1_000, Err(Fault::Failed)),
     ];
     for total in [0, 100, 1_235] {
+        let want = file.get(..total).unwrap_or(&[]);
         for end in [WriteEnd::Fails(ErrorKind::Interrupted), WriteEnd::TakesNone] {
-            let mut writer = Counted::new(ShortWriter::new(Text::new(), 7, total, end));
-            let got = follow(rt.alloc(), TOLD, &steps, &mut reader(&[], &[]), &mut writer);
-            assert_eq!(rt; got, Ok(()), "{total}");
-            assert_eq!(rt; writer.failures(), 1, "{total}");
-            let went = writer.into_inner().into_inner();
-            let want = file.get(..total).unwrap_or(&[]);
-            assert_eq!(rt; sends(&went, want), Ok(()), "{total}");
+            let got = sends_before(rt.alloc(), &steps, total, end, want);
+            assert_eq!(rt; got, (Ok(()), 1, Ok(())), "{total}");
         }
     }
+}
+
+/// Takes the steps over a writer that takes so many bytes, seven at a time, and then fails: whether
+/// they are followed, how many failures were counted, and whether just the text went out.
+fn sends_before<'a>(
+    alloc: Global,
+    steps: &[Step<'a>],
+    total: usize,
+    end: WriteEnd,
+    text: &[u8],
+) -> (Result<(), Broken<'a>>, u64, Result<(), Broken<'a>>) {
+    let mut writer = Counted::new(ShortWriter::new(Text::new(), 7, total, end));
+    let got = follow(alloc, TOLD, steps, &mut reader(&[], &[]), &mut writer);
+    let failures = writer.failures();
+    let went = writer.into_inner().into_inner();
+    (got, failures, sends(&went, text))
 }
 
 #[test]
@@ -97,13 +110,24 @@ fn readers_that_fail(rt: HostRuntime) {
     let steps = [Step::Run(Err(Fault::Read)), Step::Run(Err(Fault::Failed))];
     for given in [0, 20, 41, 42] {
         let bytes = stream.get(..given).unwrap_or(&[]);
-        let end = ReadEnd::Fails(ErrorKind::Other);
-        let mut reader = Counted::new(PieceReader::new(bytes, &[8], end));
         let want = if given < 42 { &[] } else { file.as_slice() };
-        let got = makes(rt.alloc(), TOLD, &steps, &mut reader, want);
-        assert_eq!(rt; got, Ok(()), "{given}");
-        assert_eq!(rt; reader.failures(), 1, "{given}");
+        let got = makes_before(rt.alloc(), &steps, bytes, want);
+        assert_eq!(rt; got, (Ok(()), 1), "{given}");
     }
+}
+
+/// Takes the steps over a reader that gives these bytes and then fails: whether they make the text,
+/// and how many failures were counted.
+fn makes_before<'a>(
+    alloc: Global,
+    steps: &[Step<'a>],
+    bytes: &[u8],
+    text: &[u8],
+) -> (Result<(), Broken<'a>>, u64) {
+    let end = ReadEnd::Fails(ErrorKind::Other);
+    let mut reader = Counted::new(PieceReader::new(bytes, &[8], end));
+    let got = makes(alloc, TOLD, steps, &mut reader, text);
+    (got, reader.failures())
 }
 
 #[test]

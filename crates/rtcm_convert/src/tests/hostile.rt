@@ -11,7 +11,7 @@ use std::alloc::Global;
 
 /// What the definitions say of a stream: its frames, the bytes in none of them, all looks and the
 /// most at one byte.
-#[derive(Clone, Copy, Debug, PartialEq, Eq)]
+#[derive(Clone, Copy)]
 struct Slow {
     frames: u64,
     skipped: u64,

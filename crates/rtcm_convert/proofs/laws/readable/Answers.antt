@@ -1,4 +1,4 @@
-use Rattle.rtcm_convert.proofs.ReadableLemmas.{Known, file_readable, file_valued, so_far_readable}
+use Rattle.rtcm_convert.proofs.ReadableLemmas.{file_readable, file_valued, so_far_readable}
 use Rattle.rtcm_convert.proofs.laws.readable.Goals as goal
 
 pub returns-clause-file : goal.returns-clause-file

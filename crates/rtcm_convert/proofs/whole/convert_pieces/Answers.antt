@@ -1,86 +1,28 @@
-use Rattle.std.proofs.Common.{◌≡◌, ◌+◌, ◌++◌, ◌∙◌, refl, ap, take}
-use Rattle.std.specs.Prelude.{flat_map}
-use Rattle.rtcm_convert.specs.SetupValues.{setup_value}
-use Rattle.rtcm_convert.proofs.FaultLemmas.{writer_after, writer_since}
-use Rattle.rtcm_convert.proofs.PartLemmas.{goes_on-refl}
-use Rattle.rtcm_convert.proofs.WholeLemmas.{pieces_whole, pieces_empty, pieces_report, pieces_more, pieces_all, piece_more, pieces_over, pieces_long, pieces_broke, pieces_broke_at_end, same_fault, never_at_end, not_bad_at_end, not_long}
+use Rattle.std.proofs.lemmas.Result.{on_ok_weaker}
+use Rattle.rtcm_convert.proofs.WholeLemmas.{never_in_pieces, not_bad_in_pieces}
 use Rattle.rtcm_convert.proofs.whole.convert_pieces.Goals as goal
 
-pub loop-piece-preserved : goal.loop-piece-preserved
-loop-piece-preserved g c =
-    let more : flat_map (λ piece. piece.items) (take c.loop-piece.piece-index c.args.pieces.now) ++ c.deref.result.now ≡ flat_map (λ piece. piece.items) (take (c.loop-piece.piece-index + 1) c.args.pieces.now) =
-    ap (λ l. flat_map (λ piece. piece.items) (take c.loop-piece.piece-index c.args.pieces.now) ++ l) (c.deref.ensures.value ∙ ap (λ v. v.items) c.piece-item.is)
-    ∙ pieces_more (λ piece. piece.items) c.args.pieces.now c.loop-piece.piece-index c.piece-item.result c.loop-piece-test.true in
-    let p = piece_more c.loop-piece.converter c.feed.new.self (setup_value c.args.setup) _ _ _ _ _ _ c.loop-piece.invariant.stands c.loop-piece.invariant.out c.in_default.ensures.whole more in
-    record { stands = p.0; out = p.1; limit = c.in_default.ensures.same ∙ c.loop-piece.invariant.limit; fine = c.in_default.ensures.device.1 ∙ c.loop-piece.invariant.fine; unread = c.in_default.ensures.device.2 ∙ c.loop-piece.invariant.unread }
+pub returns-in-Ok-clause-file : goal.returns-in-Ok-clause-file
+returns-in-Ok-clause-file g c =
+    on_ok_weaker c.take_pieces.result (λ h. h c.args.setup (record { stands = c.in-Ok.ensures.stands; limit = c.in-Ok.ensures.fresh.0; valued = c.read_back.ensures.some })) c.take_pieces.ensures.file
 
-pub returns-clause-file : goal.returns-clause-file
-returns-clause-file g c = pieces_whole c.loop-piece.converter c.finish.new.self c.args.setup _ _ _ _ _ c.finish.result c.prefix.ensures.nothing c.read_back.ensures.some
-    c.loop-piece.invariant.stands c.loop-piece.invariant.out
-    (pieces_all (λ piece. piece.items) c.args.pieces.now c.loop-piece.piece-index c.loop-piece.auto.piece-index-end c.loop-piece-test.false)
-    c.finish.ensures.same.1 c.loop-piece.invariant.limit c.finish.ensures.whole
+pub returns-in-Ok-clause-report : goal.returns-in-Ok-clause-report
+returns-in-Ok-clause-report g c = c.take_pieces.ensures.report c.args.setup (record { stands = c.in-Ok.ensures.stands; limit = c.in-Ok.ensures.fresh.0; valued = c.read_back.ensures.some })
 
-pub returns-clause-no_epoch : goal.returns-clause-no_epoch
-returns-clause-no_epoch g c = λ e.
-    pieces_empty c.loop-piece.converter c.finish.new.self c.args.setup _ _ _ _ _ c.prefix.ensures.nothing
-    c.loop-piece.invariant.stands c.loop-piece.invariant.out
-    (pieces_all (λ piece. piece.items) c.args.pieces.now c.loop-piece.piece-index c.loop-piece.auto.piece-index-end c.loop-piece-test.false)
-    c.finish.ensures.same.1 c.loop-piece.invariant.limit (c.finish.ensures.no_epoch e)
+pub returns-in-Ok-clause-no_epoch : goal.returns-in-Ok-clause-no_epoch
+returns-in-Ok-clause-no_epoch g c = λ e. c.take_pieces.ensures.no_epoch e c.args.setup (record { stands = c.in-Ok.ensures.stands; limit = c.in-Ok.ensures.fresh.0; valued = c.read_back.ensures.some })
 
-pub returns-clause-report : goal.returns-clause-report
-returns-clause-report g c = pieces_report c.loop-piece.converter c.finish.new.self (setup_value c.args.setup) _ _ _ _ c.finish.result c.loop-piece.invariant.stands
-    (pieces_all (λ piece. piece.items) c.args.pieces.now c.loop-piece.piece-index c.loop-piece.auto.piece-index-end c.loop-piece-test.false) c.finish.ensures.whole
+pub returns-in-Ok-clause-too_long : goal.returns-in-Ok-clause-too_long
+returns-in-Ok-clause-too_long g c = λ e. c.take_pieces.ensures.too_long e c.args.setup (record { stands = c.in-Ok.ensures.stands; limit = c.in-Ok.ensures.fresh.0; valued = c.read_back.ensures.some })
 
-pub loop-piece-init : goal.loop-piece-init
-loop-piece-init g c = record { stands = c.in-Ok.ensures.stands; out = goes_on-refl _ _; limit = c.in-Ok.ensures.fresh.0; fine = refl; unread = refl }
+pub returns-in-Ok-clause-long : goal.returns-in-Ok-clause-long
+returns-in-Ok-clause-long g c = λ e. c.take_pieces.ensures.long e c.args.setup (record { stands = c.in-Ok.ensures.stands; limit = c.in-Ok.ensures.fresh.0; valued = c.read_back.ensures.some })
 
-pub returns-in-Err-feed-clause-too_long : goal.returns-in-Err-feed-clause-too_long
-returns-in-Err-feed-clause-too_long g c = λ e.
-    let more : flat_map (λ piece. piece.items) (take c.loop-piece.piece-index c.args.pieces.now) ++ c.deref.result.now ≡ flat_map (λ piece. piece.items) (take (c.loop-piece.piece-index + 1) c.args.pieces.now) =
-    ap (λ l. flat_map (λ piece. piece.items) (take c.loop-piece.piece-index c.args.pieces.now) ++ l) (c.deref.ensures.value ∙ ap (λ v. v.items) c.piece-item.is)
-    ∙ pieces_more (λ piece. piece.items) c.args.pieces.now c.loop-piece.piece-index c.piece-item.result c.loop-piece-test.true in
-    pieces_over c.loop-piece.converter (setup_value c.args.setup) (λ piece. piece.items) c.args.pieces.now c.loop-piece.piece-index c.args.setup.limit c.deref.result.now
-    c.loop-piece.invariant.stands c.loop-piece.invariant.limit more (c.in-Err-feed.ensures.limit (same_fault c.in-Err-feed.fault _ e))
+pub returns-in-Ok-clause-write : goal.returns-in-Ok-clause-write
+returns-in-Ok-clause-write g c = λ e. c.take_pieces.ensures.write e c.args.setup (record { stands = c.in-Ok.ensures.stands; limit = c.in-Ok.ensures.fresh.0; valued = c.read_back.ensures.some })
 
-pub returns-clause-too_long : goal.returns-clause-too_long
-returns-clause-too_long g c = not_long c.finish.result _ (c.finish.ensures.only c.loop-piece.invariant.stands.going)
+pub returns-in-Ok-clause-bad_setup : goal.returns-in-Ok-clause-bad_setup
+returns-in-Ok-clause-bad_setup g c = not_bad_in_pieces c.new.result _ _ c.take_pieces.result c.in-Ok.is c.new.ensures.bad c.take_pieces.ensures.only
 
-pub returns-clause-long : goal.returns-clause-long
-returns-clause-long g c = not_long c.finish.result _ (c.finish.ensures.only c.loop-piece.invariant.stands.going)
-
-pub returns-clause-write : goal.returns-clause-write
-returns-clause-write g c = λ e.
-    pieces_broke_at_end c.loop-piece.converter (setup_value c.args.setup) _ _ _ c.args.pieces.now _ c.prefix.ensures.nothing c.loop-piece.invariant.stands c.loop-piece.invariant.out
-    (pieces_all (λ piece. piece.items) c.args.pieces.now c.loop-piece.piece-index c.loop-piece.auto.piece-index-end c.loop-piece-test.false) (c.finish.ensures.part e)
-
-pub returns-clause-writer : goal.returns-clause-writer
-returns-clause-writer g c = writer_since c.finish.result c.args.writer.now c.loop-piece.writer c.finish.new.writer c.loop-piece.invariant.fine c.loop-piece.invariant.unread c.finish.ensures.device
-
-pub returns-clause-bad_setup : goal.returns-clause-bad_setup
-returns-clause-bad_setup g c = not_bad_at_end c.new.result _ _ c.finish.result c.in-Ok.is c.new.ensures.bad (c.finish.ensures.only c.loop-piece.invariant.stands.going)
-
-pub returns-clause-only : goal.returns-clause-only
-returns-clause-only g c = never_at_end c.finish.result (c.finish.ensures.only c.loop-piece.invariant.stands.going)
-
-pub returns-in-Err-feed-clause-long : goal.returns-in-Err-feed-clause-long
-returns-in-Err-feed-clause-long g c = λ e.
-    let more : flat_map (λ piece. piece.items) (take c.loop-piece.piece-index c.args.pieces.now) ++ c.deref.result.now ≡ flat_map (λ piece. piece.items) (take (c.loop-piece.piece-index + 1) c.args.pieces.now) =
-    ap (λ l. flat_map (λ piece. piece.items) (take c.loop-piece.piece-index c.args.pieces.now) ++ l) (c.deref.ensures.value ∙ ap (λ v. v.items) c.piece-item.is)
-    ∙ pieces_more (λ piece. piece.items) c.args.pieces.now c.loop-piece.piece-index c.piece-item.result c.loop-piece-test.true in
-    pieces_long c.loop-piece.converter (setup_value c.args.setup) _ _ _ c.args.pieces.now c.loop-piece.piece-index c.args.setup.limit c.deref.result.now c.prefix.ensures.nothing
-    c.loop-piece.invariant.stands c.loop-piece.invariant.out c.loop-piece.invariant.limit more
-    (c.in-Err-feed.ensures.limit (same_fault c.in-Err-feed.fault _ e)) (c.in-Err-feed.ensures.long (same_fault c.in-Err-feed.fault _ e))
-
-pub returns-in-Err-feed-clause-write : goal.returns-in-Err-feed-clause-write
-returns-in-Err-feed-clause-write g c = λ e.
-    let more : flat_map (λ piece. piece.items) (take c.loop-piece.piece-index c.args.pieces.now) ++ c.deref.result.now ≡ flat_map (λ piece. piece.items) (take (c.loop-piece.piece-index + 1) c.args.pieces.now) =
-    ap (λ l. flat_map (λ piece. piece.items) (take c.loop-piece.piece-index c.args.pieces.now) ++ l) (c.deref.ensures.value ∙ ap (λ v. v.items) c.piece-item.is)
-    ∙ pieces_more (λ piece. piece.items) c.args.pieces.now c.loop-piece.piece-index c.piece-item.result c.loop-piece-test.true in
-    pieces_broke c.loop-piece.converter (setup_value c.args.setup) _ _ _ c.args.pieces.now c.loop-piece.piece-index c.deref.result.now c.prefix.ensures.nothing
-    c.loop-piece.invariant.stands c.loop-piece.invariant.out c.loop-piece-test.true more (c.in-Err-feed.ensures.part (same_fault c.in-Err-feed.fault _ e))
-
-pub returns-in-Err-feed-clause-writer : goal.returns-in-Err-feed-clause-writer
-returns-in-Err-feed-clause-writer g c =
-    let d = c.in-Err-feed.ensures.device in
-    let i = c.loop-piece.invariant in
-    (writer_after c.in-Err-feed.fault _ _ _ i.fine d.0, tt, d.2 ∙ i.unread)
+pub returns-in-Ok-clause-only : goal.returns-in-Ok-clause-only
+returns-in-Ok-clause-only g c = never_in_pieces c.take_pieces.result c.take_pieces.ensures.only
