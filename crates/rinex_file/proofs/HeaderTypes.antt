@@ -1,7 +1,7 @@
 -- The lines of types of a header, as they are read one after the other.
 use Rattle.std.proofs.Common.{arith, ◌≡◌, ◌∙◌, sym, ap, refl, subst, ℕ, zero, suc, ◌+◌, ◌<◌, ◌≤◌, true, false, List, [], ◌∷◌, ◌++◌, length, take, min, Option, Some, None, ◌↔◌}
 use Rattle.std.specs.Prelude.{flat_map, IfSome, IfNone, Result, Err}
-use Rattle.std.proofs.lemmas.List.{drop_all, take_all, take-take, take-map}
+use Rattle.std.proofs.lemmas.List.{drop_all, take_all, take-take, take-map, length-take}
 use Rattle.gnss_obs.specs.Signals.{SignalAt, table}
 use Rattle.gnss_obs.specs.declared.system.System.{System}
 use Rattle.gnss_obs.specs.declared.system.System.TheVariants.{Gps, Galileo}
@@ -50,6 +50,22 @@ row_taken system count row line old new grows before size taken = record { taken
         let begins = begun_in_front (indices old) (indices new) all row (grows_indices old new grows) (length_indices old ∙ before) b.1 in
         ((b.0, begins), (taken all are (b.0, begins)).1 b.1),
   )
+
+-- so many signals were taken in front of a line that is due
+begun_within : (row count : ℕ) → row < type_rows count → signals_begun row ≤ count
+begun_within row count due = omega (arith, due)
+
+least_of : (a b n : ℕ) → a ≤ b → n ≡ min a b → n ≡ a
+least_of a b n less is = omega (arith, less, is)
+
+pub begun_size : (old all : List ℕ) (row count : ℕ) → row < type_rows count → AreBegun count row old all → length old ≡ signals_begun row
+begun_size old all row count due begun =
+    least_of (signals_begun row) count (length old) (begun_within row count due)
+    (ap length begun.1 ∙ length-take (signals_begun row) all ∙ ap (min (signals_begun row)) begun.0)
+
+-- and behind it
+pub begun_next_size : (new all : List ℕ) (row count : ℕ) → length all ≡ count → new ≡ take (signals_begun (row + 1)) all → length new ≡ min (signals_begun (row + 1)) count
+begun_next_size new all row count size is = ap length is ∙ length-take (signals_begun (row + 1)) all ∙ ap (min (signals_begun (row + 1))) size
 
 -- ---- the line that is due
 

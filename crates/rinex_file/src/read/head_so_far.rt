@@ -77,11 +77,11 @@ fn take_row(
     ensures taken { OnOk result (TakesRow system count row line.now (indices signals.old.items) (indices signals.new.items)) }
     ensures bad { result ≡ Err Refusal.Bad → RefusesRow system count row line.now (indices signals.old.items) }
 {
-    if signals.len() != signals_begun(row) {
+    if signals.as_slice().len() != signals_begun(row) {
         return Err(Refusal::Bad);
     }
     read_types(signals, system, count, row, line, again)?;
-    if signals.len() != signals_begun(row + 1).min(count) {
+    if signals.as_slice().len() != signals_begun(row + 1).min(count) {
         return Err(Refusal::Bad);
     }
     Ok(())

@@ -1,6 +1,7 @@
-use Rattle.std.proofs.Common.{arith, ◌≡◌, ◌∙◌, sym, ap, ℕ, length, min, ◌+◌, ◌*◌, ◌<◌, ◌≤◌}
+use Rattle.std.proofs.Common.{arith, ◌≡◌, ◌∙◌, sym, ap, ℕ, List, length, take, min, ◌+◌, ◌*◌, ◌<◌, ◌≤◌}
 use Rattle.std.specs.Prelude.{Err}
 use Rattle.std.proofs.lemmas.Result.{err_from_is_err_and}
+use Rattle.std.proofs.lemmas.List.{take_min}
 use Rattle.rinex_file.specs.Read.Progress.{signals_begun}
 use Rattle.rinex_file.proofs.Entries.{few_signals}
 use Rattle.rinex_file.proofs.TypeRows.{still_grows, taken_more, taken_before}
@@ -35,3 +36,14 @@ loop-place-preserved c = record {
       taken_more c.args.system all c.args.line.now c.args.row place c.loop-place.signals.items c.take_signal.new.signals.items are
       (few (length all) c.args.count _ begun.0 c.requires.count (few_signals c.args.system)) is inv.from b.0 b.1 c.in_ok-take_signal.ensures.taken (inv.read all are begun is);
 }
+
+whole : (all : List ℕ) (place end a next count : ℕ) → place ≤ end → end ≤ place → end ≡ min a count → a ≡ next → length all ≡ count → take place all ≡ take next all
+whole all place end a next count low high is same size =
+    let least : place ≡ min next (length all) = omega (arith, low, high, is, same, size) in
+    ap (λ n. take n all) least ∙ take_min next all
+
+pub returns-clause-taken : goal.returns-clause-taken
+returns-clause-taken c = λ all are begun is.
+    let inv = c.loop-place.invariant in
+    inv.read all are begun is
+    ∙ whole all c.loop-place.place c.min-end.result c.signals_begun.result (signals_begun (c.args.row + 1)) c.args.count inv.to c.loop-place-test.false c.min-end.ensures c.signals_begun.ensures begun.0
