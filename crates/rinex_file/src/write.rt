@@ -1,8 +1,8 @@
 //! Writing a file, one line at a time.
-ghost use Rattle.std.specs.Prelude.{◌≡◌, ◌+◌, ◌<◌, ◌≤◌, drop, length, OnOk, OnErr, IfErr};
+ghost use Rattle.std.specs.Prelude.{◌≡◌, ◌<◌, OnOk, OnErr, IfErr};
 ghost use Rattle.std.specs.Io.KnownBytes.{Appends};
 ghost use Rattle.rtcm_bits.specs.Device.{AppendsPrefix, FailsWith};
-ghost use Rattle.obs_epoch.specs.Values.{AreHeld, cells_of};
+ghost use Rattle.obs_epoch.specs.Values.{AreHeld};
 ghost use Rattle.gnss_obs.specs.Satellites.{satellites};
 ghost use Rattle.rinex_file.specs.File.{event_text, epoch_text, line_among, lines_up_to};
 ghost use Rattle.rinex_file.specs.Heads.{head_text};

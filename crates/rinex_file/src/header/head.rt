@@ -1,5 +1,5 @@
 //! A header, line after line.
-ghost use Rattle.std.specs.Prelude.{◌≡◌, ◌+◌, ◌<◌, ◌^◌, [], length, get_or, IfNone, IfSome};
+ghost use Rattle.std.specs.Prelude.{◌≡◌, ◌+◌, ◌<◌, ◌^◌, [], get_or, IfNone, IfSome};
 ghost use Rattle.std.specs.Iterator.{YieldsFirstBy, item_count};
 ghost use Rattle.obs_epoch.specs.Dates.{civil_of};
 ghost use Rattle.rinex_file.specs.Header.{section_rows, header_lines, lines_from};

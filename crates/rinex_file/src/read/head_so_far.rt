@@ -1,5 +1,5 @@
 //! What was read of a header.
-ghost use Rattle.std.specs.Prelude.{◌≡◌, ◌+◌, ◌*◌, ◌/◌, ◌<◌, ◌≤◌, [], ◌↔◌, ℕ, List, length, Err, Some, None, IfOk, IfSome, IfNone, OnOk, IsTrue};
+ghost use Rattle.std.specs.Prelude.{◌≡◌, ◌<◌, ◌≤◌, [], ◌↔◌, ℕ, List, length, Err, None, IfOk, IfSome, IfNone, OnOk, IsTrue};
 ghost use Rattle.gnss_obs.specs.Signals.{table};
 ghost use Rattle.obs_epoch.specs.Signals.{indices, IsOf};
 ghost use Rattle.obs_epoch.specs.Values.{planned_of};

@@ -1,9 +1,6 @@
 //! The reading of a file, line by line.
-ghost use Rattle.std.specs.Prelude.{◌≡◌, ◌<◌, ◌≤◌, ◌==◌, ◌↔◌, ℕ, List, Option, Some, None, Ok, Err, OnOk, if◌then◌else◌};
+ghost use Rattle.std.specs.Prelude.{◌≡◌, ◌==◌, ℕ, List, Option, Err, OnOk, if◌then◌else◌};
 ghost use Rattle.rtcm_bits.specs.Device.{HasFailed};
-ghost use Rattle.rinex_file.specs.Value.{FileValue};
-ghost use Rattle.rinex_file.specs.FileValues.{IsFileValue};
-ghost use Rattle.rinex_file.specs.File.{file_lines};
 ghost use Rattle.rinex_file.specs.Exact.{ExplainsFault, IsFaulty, IsDueAt, most_lines};
 ghost use Rattle.rinex_file.specs.Blocks.{LeavesRest};
 ghost use Rattle.rinex_file.specs.Course.{History, FollowsHistory, nothing};

@@ -1,5 +1,5 @@
 //! Writing a file that was read back.
-ghost use Rattle.std.specs.Prelude.{◌≡◌, ◌<◌, ◌≤◌, ◌++◌, All, Err, OnOk, IfOk, length, take, drop, flat_map, ◌+◌, if◌then◌else◌, None};
+ghost use Rattle.std.specs.Prelude.{◌≡◌, ◌≤◌, ◌++◌, All, OnOk, IfOk, length, take, drop, flat_map, ◌+◌, if◌then◌else◌, None};
 ghost use Rattle.rinex_file.specs.Numbers.{joined};
 ghost use Rattle.rinex_file.specs.File.{header_text, change_lines, stamped_lines, file_text};
 ghost use Rattle.rinex_file.specs.Course.{stamped_at};

@@ -7,7 +7,7 @@ ghost use Rattle.rinex_file.specs.FileValues.{FitsColumns};
 ghost use Rattle.rinex_file.specs.Value.{signal_values_of, row_among, row_in_epoch};
 ghost use Rattle.rinex_file.specs.Numbers.{padded};
 ghost use Rattle.rinex_file.specs.Blanks.{trimmed};
-ghost use Rattle.rinex_file.specs.Lines.{field, strength_byte, lli_byte, signal_text, letter_of, satellite_line};
+ghost use Rattle.rinex_file.specs.Lines.{field, strength_byte, signal_text, letter_of, satellite_line};
 ghost use Rattle.rinex_file.specs.SignalColumns.{with_columns, ShowsCellFirst};
 ghost use Rattle.rinex_file.specs.Limits.{most_line, signal_columns, value_columns};
 
