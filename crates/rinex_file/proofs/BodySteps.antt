@@ -1,5 +1,5 @@
 -- Where a reading goes on from one line of an epoch to the next.
-use Rattle.std.proofs.Common.{arith, ◌≡◌, ◌↔◌, ℕ, suc, ◌+◌, ◌<◌, ◌≤◌, List, [], ◌∷◌, ◌++◌, refl, sym, ap, subst, ◌∙◌, length, append_assoc, append-nil, length-append, drop, Option, Some, None, Bool, true, false}
+use Rattle.std.proofs.Common.{arith, ◌≡◌, ◌↔◌, ℕ, suc, ◌+◌, ◌<◌, ◌≤◌, List, [], ◌∷◌, ◌++◌, refl, sym, ap, subst, ◌∙◌, length, append_assoc, append-nil, length-append, drop, get_or, Option, Some, None, Bool, true, false}
 use Rattle.std.specs.Prelude.{All, map, flat_map, if◌then◌else◌, nat_lt}
 use Rattle.std.specs.List.Sorted.{IsStrictlyIncreasing}
 use Rattle.std.proofs.lemmas.List.{map-append}
@@ -17,6 +17,19 @@ use Rattle.rinex_file.proofs.FewRows.{few_rows, few_planned}
 use Rattle.rinex_file.proofs.Entries.{few_signals}
 use Rattle.gnss_obs.specs.declared.system.System.TheVariants.{Gps, Galileo}
 use Rattle.rinex_file.proofs.Rises.{rise_front}
+
+-- the first line and the rest of what is left are those of the same lines
+cons_parts : (x y : List ℕ) (xs ys : List (List ℕ)) → x ∷ xs ≡ y ∷ ys → (x ≡ y) × (xs ≡ ys)
+cons_parts x y xs ys e = (ap (λ l. get_or l 0 []) e, ap (drop 1) e)
+
+no_cons : (x : List ℕ) (xs : List (List ℕ)) → x ∷ xs ≡ [] → ⊥
+no_cons x xs e = cc
+
+one_less : (a b : ℕ) → suc a ≡ suc b → a ≡ b
+one_less a b e = omega (arith, e)
+
+one_at_least : (a b : ℕ) → a ≡ b + 1 → 0 < a
+one_at_least a b e = omega (arith, e)
 
 pub All-midst : {X : Type 0} (P : X → Type 0) (xs ys : List X) (y : X) → All P (xs ++ y ∷ ys) → P y
 All-midst P [] ys y h = All-head P y ys h
@@ -97,8 +110,8 @@ next_with s c v line left e es is value starts change text =
       is = All-midst (IsStamped (length s.known.shown.plan.gps) (length s.known.shown.plan.galileo)) s.epochs es e valid.epochs;
       rising = subst IsStrictlyIncreasing (map-append time_stamped s.epochs (e ∷ es)) valid.rising;
       change = change;
-      shown = cc;
-      rest = cc;
+      shown = (cons_parts _ _ _ _ text).0;
+      rest = (cons_parts _ _ _ _ text).1;
     }
 
 some_epochs : (es others : List Stamped) (e : Stamped) (w : StationValues) → IsFirstSame (es ++ e ∷ others) → e.change ≡ Some w → 0 < length es
@@ -111,14 +124,14 @@ NoEvent s line = (0 < length s.epochs) × (line ≡ event_line) → ⊥
 
 from_others : (s : Progress) (v : FileValue) (line : List ℕ) (left : List (List ℕ)) (others : List Stamped) → NoEvent s line → IsFileValue v → v ≡ file_with s (s.epochs ++ others)
     → StartsAt s.known.shown.first (s.epochs ++ others) → line ∷ left ≡ flat_map stamped_lines others → EpochNext s None v line left
-from_others s v line left [] never is value starts rest = cc
+from_others s v line left [] never is value starts rest = absurd (no_cons line left rest)
 from_others s v line left (e ∷ es) never is value starts rest = by e.change refl where
   by : (c : Option StationValues) → e.change ≡ c → EpochNext s None v line left
   by None h = next_with s None v line left e es is value starts h (rest ∙ ap (λ l. l ++ flat_map stamped_lines es) (lines_are e None h))
   by (Some w) h =
       let valid : IsFileValue (file_with s (s.epochs ++ e ∷ es)) = subst IsFileValue value is in
       let text : line ∷ left ≡ lines_with (Some w) e ++ flat_map stamped_lines es = rest ∙ ap (λ l. l ++ flat_map stamped_lines es) (lines_are e (Some w) h) in
-      absurd (never (some_epochs s.epochs es e w valid.first h, cc))
+      absurd (never (some_epochs s.epochs es e w valid.first h, (cons_parts _ _ _ _ text).0))
 
 pub plain_next : (s : Progress) (v : FileValue) (line : List ℕ) (left : List (List ℕ)) → s.due ≡ Epoch → NoEvent s line → HasLinesLeft s v (line ∷ left) → EpochNext s None v line left
 unfolding HasLinesLeft
@@ -294,13 +307,13 @@ from_more s n v line left (m ∷ ms) others is count value starts rest =
       seen = m;
       more = ms;
       others = others;
-      count = omega (arith, count);
+      count = one_less (length ms) n count;
       value = value;
       starts = starts;
       is = All-midst (IsSatelliteRow (length s.known.shown.plan.gps) (length s.known.shown.plan.galileo)) s.rows ms m one.rows.each;
       rising = subst IsStrictlyIncreasing (map-append rank_of s.rows (m ∷ ms)) one.rows.rise;
-      shown = cc;
-      rest = cc;
+      shown = (cons_parts _ _ _ _ rest).0;
+      rest = (cons_parts _ _ _ _ rest).1;
     }
 
 pub row_next : (s : Progress) (n : ℕ) (v : FileValue) (line : List ℕ) (left : List (List ℕ)) → s.due ≡ Satellite (suc n) → HasLinesLeft s v (line ∷ left) → RowNext s n v line left
@@ -349,7 +362,7 @@ module _ (s : Progress) (n : ℕ) (line : List ℕ) (due : s.due ≡ Satellite (
         let within : IsInEpoch s (suc n) v (line ∷ left) = record {
           more = seen ∷ here.more;
           others = here.others;
-          count = omega (arith, here.count);
+          count = ap suc here.count;
           value = here.value ∙ ap (λ r. file_with s (s.epochs ++ stamped s r ∷ here.others)) rows;
           starts = subst (λ r. StartsAt s.known.shown.first (s.epochs ++ stamped s r ∷ here.others)) rows here.starts;
           rest = ap (λ l. l ∷ left) shown ∙ ap (λ l. satellite_line seen ∷ l) here.rest;
@@ -442,7 +455,7 @@ module _ (s : Progress) (n left : ℕ) (due : s.due ≡ Satellite left) (sound :
           epochs = All-push (IsStamped (length s.known.shown.plan.gps) (length s.known.shown.plan.galileo)) s.epochs (stamped s (s.rows ++ seen ∷ [])) read.epochs (record {
             time = begun.time;
             rows = rows_more;
-            some = omega (arith, size);
+            some = one_at_least _ _ size;
           });
           rising = subst IsStrictlyIncreasing (sym (map-append time_stamped s.epochs (stamped s (s.rows ++ seen ∷ []) ∷ []))) begun.later;
           starts = starts_more s.known.shown.first s.epochs (stamped s (s.rows ++ seen ∷ [])) read.starts begun.first;

@@ -1,7 +1,7 @@
 -- The lines of types of a header, as they are read one after the other.
 use Rattle.std.proofs.Common.{arith, ◌≡◌, ◌∙◌, sym, ap, refl, subst, ℕ, zero, suc, ◌+◌, ◌<◌, ◌≤◌, true, false, List, [], ◌∷◌, ◌++◌, length, take, min, Option, Some, None, ◌↔◌}
 use Rattle.std.specs.Prelude.{flat_map, IfSome, IfNone, Result, Err}
-use Rattle.std.proofs.lemmas.List.{drop_all, take_all, take-take, take-map}
+use Rattle.std.proofs.lemmas.List.{drop_all, take_all, take-take, take-map, length-take}
 use Rattle.gnss_obs.specs.Signals.{SignalAt, table}
 use Rattle.gnss_obs.specs.declared.system.System.{System}
 use Rattle.gnss_obs.specs.declared.system.System.TheVariants.{Gps, Galileo}
@@ -15,7 +15,7 @@ use Rattle.rinex_file.specs.FileValues.{of_system}
 use Rattle.rinex_file.specs.Lines.{letter_of}
 use Rattle.rinex_file.specs.Header.{section_lines, lines_from, sections_behind, type_line, type_rows, types_of, codes_of}
 use Rattle.rinex_file.specs.Read.Progress.{Known, Shown, IsShown, KnowsSection, KnowsBefore, KnowsWithin, IsHeaderLeft, shown_lines, AreTypes, types_line, signals_begun}
-use Rattle.rinex_file.specs.Read.HeaderSteps.{IsUnread, IsPast, StepsTo, NoneGoesOn, AreBegun, TakesRow, RefusesRow, with_signals, with_count}
+use Rattle.rinex_file.specs.Read.HeaderSteps.{IsUnread, IsPast, StepsTo, NoneGoesOn, AreBegun, CountsDue, ComparesRow, TakesRow, RefusesRow, with_signals, with_count}
 use Rattle.rinex_file.proofs.TypeRows.{few_types}
 use Rattle.rinex_file.proofs.Sections.{emit, at_row}
 use Rattle.rinex_file.proofs.HeaderSteps.{both_ways, said_version, none_planned, some_planned, shown_rows}
@@ -40,16 +40,32 @@ grows_indices old new e =
 
 pub row_taken : (system : System) (count row : ℕ) (line : List ℕ) (old new : List SignalAt)
     → take (length old) new ≡ old → length old ≡ signals_begun row → length new ≡ min (signals_begun (row + 1)) count
-    → ((all : List ℕ) → AreTypes system all → length all ≡ count → indices old ≡ take (signals_begun row) all → (line ≡ types_line system all row) ↔ (indices new ≡ take (signals_begun (row + 1)) all))
+    → ComparesRow system count row line (indices old) (indices new)
     → TakesRow system count row line (indices old) (indices new)
 row_taken system count row line old new grows before size taken = record { taken = steps; size = length_indices new ∙ size } where
   steps : (all : List ℕ) → AreTypes system all → (AreBegun count row (indices old) all × (line ≡ types_line system all row)) ↔ AreBegun count (row + 1) (indices new) all
   steps all are = (
-    λ b. (b.0.0, (taken all are b.0.0 b.0.1).0 b.1),
+    λ b. (b.0.0, (taken all are b.0).0 b.1),
     λ b.
         let begins = begun_in_front (indices old) (indices new) all row (grows_indices old new grows) (length_indices old ∙ before) b.1 in
-        ((b.0, begins), (taken all are b.0 begins).1 b.1),
+        ((b.0, begins), (taken all are (b.0, begins)).1 b.1),
   )
+
+-- so many signals were taken in front of a line that is due
+begun_within : (row count : ℕ) → row < type_rows count → signals_begun row ≤ count
+begun_within row count due = omega (arith, due)
+
+least_of : (a b n : ℕ) → a ≤ b → n ≡ min a b → n ≡ a
+least_of a b n less is = omega (arith, less, is)
+
+pub begun_size : (old all : List ℕ) (row count : ℕ) → row < type_rows count → AreBegun count row old all → length old ≡ signals_begun row
+begun_size old all row count due begun =
+    least_of (signals_begun row) count (length old) (begun_within row count due)
+    (ap length begun.1 ∙ length-take (signals_begun row) all ∙ ap (min (signals_begun row)) begun.0)
+
+-- and behind it
+pub begun_next_size : (new all : List ℕ) (row count : ℕ) → length all ≡ count → new ≡ take (signals_begun (row + 1)) all → length new ≡ min (signals_begun (row + 1)) count
+begun_next_size new all row count size is = ap length is ∙ length-take (signals_begun (row + 1)) all ∙ ap (min (signals_begun (row + 1))) size
 
 -- ---- the line that is due
 
@@ -129,11 +145,7 @@ none_planned_there k Gps row line unplanned h left i =
 none_planned_there k Galileo row line unplanned h left i =
     no_such_row row h.plan.galileo (none_planned k.galileo h.plan.galileo (said_version 9 k h i.before).1 unplanned) i.due
 
--- so many signals are due, where some are
-abbrev IsDue : Known → System → ℕ → List ℕ → Option ℕ → Type 0
-IsDue k system row line r = (all : List ℕ) → AreTypes system all → (0 < row → k.signals ≡ length all) → row < type_rows (length all) → line ≡ types_line system all row → r ≡ Some (length all)
-
-pub none_due : (k : Known) (system : System) (row : ℕ) (line : List ℕ) (r : Option ℕ) → of_system system k.gps k.galileo ≡ true → IsDue k system row line r → r ≡ None
+pub none_due : (k : Known) (system : System) (row : ℕ) (line : List ℕ) (r : Option ℕ) → of_system system k.gps k.galileo ≡ true → CountsDue k system row line r → r ≡ None
     → NoneGoesOn k (Types system) row line
 none_due k system row line r planned due none h left i =
     let a = (row_left k system row line h left).0 i in
@@ -145,11 +157,11 @@ same_some : (a b : ℕ) → Some a ≡ Some b → a ≡ b
 same_some a b e = cc
 
 count_is : (k : Known) (system : System) (row : ℕ) (line : List ℕ) (r : Option ℕ) (count : ℕ) (h : Shown) (left : List (List ℕ)) → of_system system k.gps k.galileo ≡ true
-    → IsDue k system row line r → r ≡ Some count → IsAtRow k system row line h left → length (planned_of system h.plan) ≡ count
+    → CountsDue k system row line r → r ≡ Some count → IsAtRow k system row line h left → length (planned_of system h.plan) ≡ count
 count_is k system row line r count h left planned due found a =
     same_some _ count (sym (due (planned_of system h.plan) (types_shown system k h a.is a.before planned) a.count a.due a.here) ∙ found)
 
-pub none_taken : (k : Known) (system : System) (row : ℕ) (line : List ℕ) (r : Option ℕ) (count : ℕ) → of_system system k.gps k.galileo ≡ true → IsDue k system row line r → r ≡ Some count
+pub none_taken : (k : Known) (system : System) (row : ℕ) (line : List ℕ) (r : Option ℕ) (count : ℕ) → of_system system k.gps k.galileo ≡ true → CountsDue k system row line r → r ≡ Some count
     → RefusesRow system count row line (planned_of system k.shown.plan) → NoneGoesOn k (Types system) row line
 none_taken k system row line r count planned due found refuses h left i =
     let a = (row_left k system row line h left).0 i in
@@ -200,7 +212,7 @@ says_by system k h e = e
 said_by : (system : System) (k : Known) (h : Shown) → KnowsSection (Types system) k h → planned_of system k.shown.plan ≡ planned_of system h.plan
 said_by system k h e = e
 
-module _ (k : Known) (system : System) (row : ℕ) (line : List ℕ) (r : Option ℕ) (count : ℕ) (signals : List ℕ) (planned : of_system system k.gps k.galileo ≡ true) (due : IsDue k system row line r)
+module _ (k : Known) (system : System) (row : ℕ) (line : List ℕ) (r : Option ℕ) (count : ℕ) (signals : List ℕ) (planned : of_system system k.gps k.galileo ≡ true) (due : CountsDue k system row line r)
     (found : r ≡ Some count) (later : 0 < row → k.signals ≡ count) (less : row < type_rows count) (takes : TakesRow system count row line (planned_of system k.shown.plan) signals) where
   row_taken_left : (h : Shown) (left : List (List ℕ)) → IsHeaderLeft k (Types system) row h (line ∷ left) ↔ IsTaken k system row count signals h left
   row_taken_left h left = both_ways (row_left k system row line h left) (on, back) where

@@ -8,7 +8,7 @@ use Rattle.std.proofs.lemmas.Map.Keys.{apart_from_distinct, IsDistinct-tail}
 use Rattle.std.proofs.lemmas.Map.Steps.{length-le_from_distinct_below}
 use Rattle.std.proofs.lemmas.Fmt.{length-decimal-le}
 use Rattle.gnss_obs.specs.declared.system.System.{System}
-use Rattle.gnss_obs.specs.Signals.{SignalAt, IsSignal, table, code_of}
+use Rattle.gnss_obs.specs.Signals.{SignalAt, table, code_of}
 use Rattle.obs_epoch.specs.Signals.{indices}
 use Rattle.obs_epoch.proofs.PlanLemmas.{any_index, indices-push}
 use Rattle.rinex_file.specs.Numbers.{joined, left, right}
@@ -16,6 +16,7 @@ use Rattle.rinex_file.specs.Lines.{letter_of}
 use Rattle.rinex_file.specs.Header.{header_line, type_of, types_of, codes_of, type_front, type_columns}
 use Rattle.rinex_file.specs.Read.Fields.{digits_in}
 use Rattle.rinex_file.specs.Read.Progress.{AreTypes, types_line, signals_begun}
+use Rattle.rinex_file.specs.Read.HeaderSteps.{HasSignalAt}
 use Rattle.rinex_file.proofs.Digits.{length-right, digits_in-whole}
 use Rattle.rinex_file.proofs.SignalTypes.{columns, signal_type, length-system_types}
 use Rattle.rinex_file.proofs.TypeCodes.{length-code}
@@ -161,21 +162,22 @@ same_place row place low = omega (arith, low)
 in_row : (row place : ℕ) → place < (13 * (row + 1) + 3) / 4 → 4 * place - 13 * row < 13
 in_row row place high = omega (arith, high)
 
-abbrev CodeOf : System → List ℕ → ℕ → ℕ → SignalAt → Type 0
-CodeOf system line row place s = take 2 (drop (6 + 4 * (4 * place - 13 * row) + 2) line) ≡ code_of s
+-- the column of the code of the signal at a place, in a line of types
+abbrev column_of : ℕ → ℕ → ℕ
+column_of row place = 6 + 4 * (4 * place - 13 * row) + 2
 
 code_here : (system : System) (all line : List ℕ) (row place : ℕ) → AreTypes system all → 4 * length all < 1000 → line ≡ types_line system all row
-    → signals_begun row ≤ place → place < signals_begun (row + 1) → place < length all → CodeOf system line row place (signal_at system all place)
+    → signals_begun row ≤ place → place < signals_begun (row + 1) → place < length all → take 2 (drop (column_of row place) line) ≡ code_of (signal_at system all place)
 code_here system all line row place are few is low high less =
     code_in_line system all line row (4 * place - 13 * row) place are few is (in_row row place high) (same_place row place low) less
 
 pub taken_more : (system : System) (all line : List ℕ) (row place : ℕ) (old new : List SignalAt) → AreTypes system all → 4 * length all < 1000 → line ≡ types_line system all row
     → signals_begun row ≤ place → place < signals_begun (row + 1) → place < length all
-    → ((s : SignalAt) → IsSignal s → s.system ≡ system → CodeOf system line row place s → new ≡ old ++ s ∷ [])
+    → ((s : SignalAt) → HasSignalAt system line (column_of row place) s → new ≡ old ++ s ∷ [])
     → indices old ≡ take place all → indices new ≡ take (place + 1) all
 taken_more system all line row place old new are few is low high less more before =
     let s = signal_at system all place in
-    let grown = more s (listed_at system all place are less) refl (code_here system all line row place are few is low high less) in
+    let grown = more s (listed_at system all place are less, refl, code_here system all line row place are few is low high less) in
     ap indices grown ∙ indices-push old s ∙ ap (λ l. l ++ slice_index all place ∷ []) before ∙ sym (take_more all place 0 less)
 
 not_both : (b : Bool) → b ≡ true → b ≡ false → ⊥
@@ -183,11 +185,11 @@ not_both b h k = grind (arith, h, k)
 
 pub taken_before : (system : System) (all line : List ℕ) (row place : ℕ) (old : List SignalAt) → AreTypes system all → 4 * length all < 1000 → line ≡ types_line system all row
     → signals_begun row ≤ place → place < signals_begun (row + 1) → place < length all
-    → ((s : SignalAt) → IsSignal s → s.system ≡ system → CodeOf system line row place s → list_any (λ (r : SignalAt). s.index == r.index) old ≡ true)
+    → ((s : SignalAt) → HasSignalAt system line (column_of row place) s → list_any (λ (r : SignalAt). s.index == r.index) old ≡ true)
     → indices old ≡ take place all → ⊥
 taken_before system all line row place old are few is low high less bad before =
     let s = signal_at system all place in
-    let found = bad s (listed_at system all place are less) refl (code_here system all line row place are few is low high less) in
+    let found = bad s (listed_at system all place are less, refl, code_here system all line row place are few is low high less) in
     not_both _ found (any_index (slice_index all place) old ∙ ap (list_any (nat_eq (slice_index all place))) before ∙ not_before all place are.apart less)
 
 -- ---- the whole line

@@ -1,5 +1,5 @@
 -- What is read from bytes that come line by line.
-use Rattle.std.specs.Prelude.{◌≡◌, ℕ, ◌+◌, ◌^◌, ◌<◌, ◌⊎◌, ◌==◌, true, false, List, [], ◌∷◌, ◌++◌, length, drop, map, flat_map, is_some, All, count_by, Option, Result, Ok, Err, ⊤}
+use Rattle.std.specs.Prelude.{◌≡◌, ℕ, ◌+◌, ◌^◌, ◌<◌, ◌≤◌, ◌⊎◌, ◌==◌, true, false, List, [], ◌∷◌, ◌++◌, length, drop, map, flat_map, is_some, All, count_by, Option, Result, Ok, Err, ⊤, IfSome}
 use Rattle.std.specs.Io.KnownBytes.{IsAtEnd}
 use Rattle.rinex_file.specs.declared.read.lines.Found.{Found}
 use Rattle.rinex_file.specs.declared.read.lines.Found.TheVariants.{Line, End, Cut, Long, Failed}
@@ -141,6 +141,11 @@ abbrev pub IsNoFault : ReadFault → Type 0
 IsNoFault Memory = ⊤
 IsNoFault Read = ⊤
 IsNoFault _ = ⊥
+
+-- where the input is known to be the text of a file value whose lines all have a number, this holds of the value
+abbrev pub IfTextOfFile : Option (List ℕ) → (FileValue → Type 0) → Type 0
+IfTextOfFile input Holds =
+    (v : FileValue) → IsFileValue v → length (file_lines v) ≤ most_lines → IfSome input (λ bytes. bytes ≡ file_text v → Holds v)
 
 -- this value, or want of memory, or a failed reader
 abbrev pub IsReadOr : FileValue → Result FileValue ReadFault → Type 0

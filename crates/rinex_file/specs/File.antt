@@ -1,5 +1,5 @@
 -- The text of a file.
-use Rattle.std.specs.Prelude.{ℕ, List, [], ◌∷◌, ◌++◌, length, map, flat_map, replicate, codes, Option, Some, None, if◌then◌else◌}
+use Rattle.std.specs.Prelude.{◌≡◌, ℕ, List, [], ◌∷◌, ◌++◌, length, map, flat_map, replicate, codes, Option, Some, None, if◌then◌else◌}
 use Rattle.gnss_obs.specs.declared.system.System.{System}
 use Rattle.obs_epoch.specs.declared.cell.StationValues.{StationValues}
 use Rattle.obs_epoch.specs.Values.{EpochValue, PlanValue, Closed, same_values, cells_of, is_written}
@@ -77,3 +77,8 @@ closed_text plan before (c ∷ cs) = change_text before c.values ++ (epoch_text 
 -- the value of a file of epochs that were closed, the header of which has these station values
 abbrev pub gathered : HeaderLists → PlanValue → StationValues → List Closed → FileValue
 gathered texts plan values epochs = record { texts = texts; plan = plan; values = values; epochs = all_stamped plan values epochs }
+
+-- The header of the first epoch, and what is written of each epoch behind it, are the text of the file of these epochs.
+abbrev pub IsTextInParts : HeaderLists → PlanValue → StationValues → Closed → List Closed → Type 0
+IsTextInParts texts plan values c cs =
+    header_text texts plan values c.epoch.time ++ closed_text plan values (c ∷ cs) ≡ file_text (gathered texts plan values (c ∷ cs))

@@ -4,8 +4,10 @@ pub mod Blanks
 pub mod Texts
 pub mod Value
 pub mod Lines
+pub mod SignalColumns
 pub mod Header
 pub mod File
+pub mod Heads
 pub mod TextsOf
 pub mod FileValues
 pub mod Exact

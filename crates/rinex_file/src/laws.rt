@@ -1,11 +1,11 @@
 //! Laws of the text of a file.
-ghost use Rattle.std.specs.Prelude.{◌≡◌, ◌≢◌, ℕ, List, [], ◌∷◌, ◌++◌};
+ghost use Rattle.std.specs.Prelude.{◌≡◌, ◌≢◌, ℕ, List, []};
 ghost use Rattle.obs_epoch.specs.declared.cell.StationValues.{StationValues};
 ghost use Rattle.obs_epoch.specs.Values.{PlanValue, Closed};
 ghost use Rattle.rinex_file.specs.Texts.{HeaderLists};
 ghost use Rattle.rinex_file.specs.FileValues.{AreTexts};
 ghost use Rattle.rinex_file.specs.Gathered.{AreSignals, IsGatheredFile};
-ghost use Rattle.rinex_file.specs.File.{header_text, closed_text, file_text, gathered};
+ghost use Rattle.rinex_file.specs.File.{header_text, file_text, gathered, IsTextInParts};
 
 use crate::header::texts::HeaderTexts;
 use gnss_obs::System;
@@ -16,7 +16,7 @@ use obs_epoch::Plan;
 pub fn file()
     // The file of epochs that were gathered under a plan is that of the value that they make.
     ensures text { (texts : HeaderLists) (plan : PlanValue) (values : StationValues) (c : Closed) (cs : List Closed)
-        → header_text texts plan values c.epoch.time ++ closed_text plan values (c ∷ cs) ≡ file_text (gathered texts plan values (c ∷ cs)) }
+        → IsTextInParts texts plan values c cs }
     // Where there is no epoch the file is empty.
     ensures none { (texts : HeaderLists) (plan : PlanValue) (values : StationValues) → file_text (gathered texts plan values []) ≡ [] }
     // A header isn't empty.

@@ -170,20 +170,28 @@ fn header_otherwise(head: &Head, wanted: &[(usize, &str)]) -> Option<(usize, Opt
     }
 }
 
-/// The same of the header of every signal, at a station that was told.
-fn full_header(alloc: Global, wanted: &[(usize, &str)]) -> Option<(usize, Option<usize>)> {
+/// The same of the header of this plan, at a station that was told.
+fn header_under(plan: &Plan, wanted: &[(usize, &str)]) -> Option<(usize, Option<usize>)> {
     let first = GpsTime::new(2303 * 604_800_000 + 345_600_000)?;
-    match (Plan::parse(alloc, "all", "all"), HeaderTexts::new(&texts())) {
-        (Ok(plan), Ok(texts)) => {
+    match HeaderTexts::new(&texts()) {
+        Ok(texts) => {
             let head = Head {
                 texts: &texts,
-                plan: &plan,
+                plan,
                 values: VALUES,
                 first,
             };
             header_otherwise(&head, wanted)
         }
-        _ => None,
+        Err(_) => None,
+    }
+}
+
+/// The same of the header of every signal.
+fn full_header(alloc: Global, wanted: &[(usize, &str)]) -> Option<(usize, Option<usize>)> {
+    match Plan::parse(alloc, "all", "all") {
+        Ok(plan) => header_under(&plan, wanted),
+        Err(_) => None,
     }
 }
 
@@ -226,8 +234,14 @@ fn a_header_shows_plan_and_station(rt: HostRuntime) {
     assert_eq!(rt; full_header(rt.alloc(), &wanted), Some((25 * 81, None)));
 }
 
-fn refused(texts: &Texts) -> Option<HeadFault> {
-    HeaderTexts::new(texts).err()
+/// The fault of the texts with this date and this name of the marker.
+fn refused(date: &str, marker: &str) -> Option<HeadFault> {
+    let texts = Texts {
+        date,
+        marker,
+        ..texts()
+    };
+    HeaderTexts::new(&texts).err()
 }
 
 #[test]
@@ -238,25 +252,21 @@ fn texts_are_judged(rt: HostRuntime) {
     let odd = "aaaaaaaaaaaaaaaaaaaaaaaaaaaaaa\x7Faaaaaaaaaaaaaaaaaaaaaaaaaaaaaa";
     let marker = HeaderField::Marker;
     assert_eq!(rt; marker.width(), 60);
-    for (text, fault) in [
-        (sixty, None),
-        (blanks, None),
-        (long, Some(HeadFault::TooLong(marker))),
-        (odd, Some(HeadFault::NotPrintable(marker))),
-    ] {
-        let texts = Texts {
-            marker: text,
-            ..texts()
-        };
-        assert_eq!(rt; refused(&texts), fault, "{text}");
-    }
-    let texts = Texts {
-        date: "\n",
-        marker: long,
-        ..texts()
-    };
+    let date = texts().date;
     assert_eq!(rt;
-        refused(&texts),
-        Some(HeadFault::NotPrintable(HeaderField::Date))
+        [
+            refused(date, sixty),
+            refused(date, blanks),
+            refused(date, long),
+            refused(date, odd),
+            refused("\n", long),
+        ],
+        [
+            None,
+            None,
+            Some(HeadFault::TooLong(marker)),
+            Some(HeadFault::NotPrintable(marker)),
+            Some(HeadFault::NotPrintable(HeaderField::Date)),
+        ]
     );
 }

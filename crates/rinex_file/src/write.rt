@@ -1,10 +1,11 @@
 //! Writing a file, one line at a time.
-ghost use Rattle.std.specs.Prelude.{◌≡◌, ◌+◌, ◌<◌, ◌≤◌, drop, length, OnOk, OnErr, IfErr};
+ghost use Rattle.std.specs.Prelude.{◌≡◌, ◌<◌, OnOk, OnErr, IfErr};
 ghost use Rattle.std.specs.Io.KnownBytes.{Appends};
 ghost use Rattle.rtcm_bits.specs.Device.{AppendsPrefix, FailsWith};
-ghost use Rattle.obs_epoch.specs.Values.{AreHeld, cells_of};
+ghost use Rattle.obs_epoch.specs.Values.{AreHeld};
 ghost use Rattle.gnss_obs.specs.Satellites.{satellites};
-ghost use Rattle.rinex_file.specs.File.{header_text, event_text, epoch_text, line_among, lines_up_to};
+ghost use Rattle.rinex_file.specs.File.{event_text, epoch_text, line_among, lines_up_to};
+ghost use Rattle.rinex_file.specs.Heads.{head_text};
 
 pub(crate) mod epoch;
 pub(crate) mod event;
@@ -30,10 +31,8 @@ use std::io::Write;
 /// Where the writer fails, what went out is a prefix of the header.
 #[tactic(auto, unfolding(crate::specs::File::header_text))]
 pub fn write_header<W: Write>(head: &Head, writer: &mut Counted<W>) -> Result<(), HeadFault>
-    ensures whole { OnOk result (Appends (W.contents writer.old.inner) (W.contents writer.new.inner)
-        (header_text head.now.texts.now head.now.plan.now head.now.values head.now.first)) }
-    ensures part { OnErr result (AppendsPrefix (W.contents writer.old.inner) (W.contents writer.new.inner)
-        (header_text head.now.texts.now head.now.plan.now head.now.values head.now.first)) }
+    ensures whole { OnOk result (Appends (W.contents writer.old.inner) (W.contents writer.new.inner) (head_text head.now)) }
+    ensures part { OnErr result (AppendsPrefix (W.contents writer.old.inner) (W.contents writer.new.inner) (head_text head.now)) }
     ensures only { IfErr result (λ fault. fault ≡ HeadFault.Write) }
     ensures device { FailsWith result writer.old writer.new }
 {

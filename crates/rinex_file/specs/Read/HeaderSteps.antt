@@ -1,13 +1,14 @@
 -- From one line of a header to the next, as its lines are read.
-use Rattle.std.specs.Prelude.{◌≡◌, ℕ, ◌+◌, ◌<◌, Bool, true, List, [], ◌∷◌, length, flat_map, take, min, Option, ⊤, ◌↔◌, MatchBool}
+use Rattle.std.specs.Prelude.{◌≡◌, ℕ, ◌+◌, ◌<◌, Bool, true, List, [], ◌∷◌, length, flat_map, take, drop, min, Option, Some, ⊤, ◌↔◌, MatchBool}
 use Rattle.obs_epoch.specs.declared.cell.StationValues.{StationValues}
+use Rattle.gnss_obs.specs.Signals.{SignalAt, IsSignal, code_of}
 use Rattle.gnss_obs.specs.declared.system.System.{System}
 use Rattle.gnss_obs.specs.declared.system.System.TheVariants.{Gps, Galileo}
 use Rattle.rinex_file.specs.declared.header.section.Section.{Section}
 use Rattle.rinex_file.specs.declared.header.section.Section.TheVariants.{Types, StrengthUnit, First, Shift, End}
 use Rattle.rinex_file.specs.Texts.{HeaderLists}
 use Rattle.rinex_file.specs.FileValues.{of_system}
-use Rattle.rinex_file.specs.Header.{lines_from, sections_behind}
+use Rattle.rinex_file.specs.Header.{lines_from, sections_behind, type_rows}
 use Rattle.rinex_file.specs.Read.Progress.{Known, Shown, IsShown, KnowsSection, KnowsBefore, KnowsWithin, NoneYet, IsHeaderLeft, MayFollow, shown_lines, is_some_planned, AreTypes, types_line, signals_begun}
 
 -- a section of at most one line, with another section behind it
@@ -136,6 +137,26 @@ AreBegun count row signals all = (length all ≡ count) × (signals ≡ take (si
 pub record TakesRow (system : System) (count row : ℕ) (line old new : List ℕ) : Type 0 where
   pub taken : (all : List ℕ) → AreTypes system all → (AreBegun count row old all × (line ≡ types_line system all row)) ↔ AreBegun count (row + 1) new all
   pub size : length new ≡ min (signals_begun (row + 1)) count
+
+-- the types of so many signals are those that a line shows, where it is due
+abbrev pub CountsDue : Known → System → ℕ → List ℕ → Option ℕ → Type 0
+CountsDue k system row line count =
+    (all : List ℕ) → AreTypes system all → (0 < row → k.signals ≡ length all) → row < type_rows (length all)
+    → line ≡ types_line system all row → count ≡ Some (length all)
+
+-- where the line is that of these types, the signals that begin in it were taken behind those of the lines before
+abbrev pub ReadsRow : System → ℕ → ℕ → List ℕ → List ℕ → List ℕ → Type 0
+ReadsRow system count row line old new =
+    (all : List ℕ) → AreTypes system all → AreBegun count row old all → line ≡ types_line system all row → new ≡ take (signals_begun (row + 1)) all
+
+-- the line is that of these types exactly where the signals that begin in it were taken
+abbrev pub ComparesRow : System → ℕ → ℕ → List ℕ → List ℕ → List ℕ → Type 0
+ComparesRow system count row line old new =
+    (all : List ℕ) → AreTypes system all → AreBegun count row old all → (line ≡ types_line system all row) ↔ (new ≡ take (signals_begun (row + 1)) all)
+
+-- the code of this signal of a system stands at a column of a line, counted from 0
+abbrev pub HasSignalAt : System → List ℕ → ℕ → SignalAt → Type 0
+HasSignalAt system line column s = IsSignal s × (s.system ≡ system) × (take 2 (drop column line) ≡ code_of s)
 
 -- the line is no line of types behind these signals
 abbrev pub RefusesRow : System → ℕ → ℕ → List ℕ → List ℕ → Type 0

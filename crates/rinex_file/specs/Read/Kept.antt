@@ -43,9 +43,18 @@ epochs_of epochs changes rows entries = epochs_with epochs changes (rows_of rows
 abbrev pub epoch_from : KeptEpoch → List StationValues → List KeptRow → List SignalValues → Stamped
 epoch_from e changes rows entries = stamped_at (change_at e.changed changes) e.time (rows_of (take e.rows rows) entries)
 
+-- an epoch whose satellites, entries and change of station values begin at these places
+abbrev pub kept_epoch : KeptEpoch → ℕ × ℕ × ℕ → List StationValues → List KeptRow → List SignalValues → Stamped
+kept_epoch e at changes rows entries = epoch_from e (drop at.2 changes) (drop at.0 rows) (drop at.1 entries)
+
 -- so many entries have the satellites
 abbrev pub entry_count : List KeptRow → ℕ
 entry_count rows = sum_by (λ r. r.entries) rows
+
+-- the places of satellites, entries and changes behind an epoch that begins at the first of these
+abbrev pub ArePlacesBehind : KeptEpoch → List KeptRow → ℕ × ℕ × ℕ → ℕ × ℕ × ℕ → Type 0
+ArePlacesBehind e rows at end =
+    (end.0 ≡ at.0 + e.rows) × (end.1 ≡ at.1 + entry_count (take e.rows (drop at.0 rows))) × (end.2 ≡ at.2 + (if e.changed then 1 else 0))
 
 -- a line has room for a satellite
 abbrev pub HasRoom : SatelliteRow → Type 0

@@ -12,7 +12,7 @@ use Rattle.rinex_file.specs.declared.read.due.Due.TheVariants.{Header, Epoch, Ev
 use Rattle.rinex_file.specs.Texts.{HeaderLists}
 use Rattle.rinex_file.specs.Value.{SatelliteRow, Stamped, FileValue}
 use Rattle.rinex_file.specs.FileValues.{AreTexts, IsPlan, AreValues, IsTime, IsFileValue}
-use Rattle.rinex_file.specs.Header.{section_lines, lines_from, section_rows, all_sections, section_place, header_line, type_line, types_of, codes_of}
+use Rattle.rinex_file.specs.Header.{section_lines, header_lines, lines_from, section_rows, all_sections, section_place, header_line, type_line, types_of, codes_of}
 use Rattle.rinex_file.specs.Limits.{types_in_line}
 use Rattle.rinex_file.specs.Lines.{satellite_line, letter_of}
 use Rattle.rinex_file.specs.Numbers.{joined, left, right, fixed}
@@ -37,6 +37,10 @@ pub record IsShown (h : Shown) : Type 0 where
 
 abbrev pub shown_lines : Shown → Section → List (List ℕ)
 shown_lines h = section_lines h.texts h.plan h.values (civil_of h.first)
+
+-- these are all lines of the header that is shown
+abbrev pub AreHeaderLines : Shown → List (List ℕ) → Type 0
+AreHeaderLines h lines = IsShown h × (lines ≡ header_lines h.texts h.plan h.values (civil_of h.first))
 
 -- What was read of a header: its parts, each as it was until its line was read; whether a system is planned, which the first
 -- line says; and how many signals are, of the system whose types stand last.

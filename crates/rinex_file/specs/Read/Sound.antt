@@ -1,11 +1,14 @@
 -- What holds of all that was read of a file, wherever its reading stands.
-use Rattle.std.specs.Prelude.{◌≡◌, ◌≢◌, Some, None, ℕ, ◌<◌, ◌≤◌, List, [], ◌∷◌, ◌++◌, length, map, All}
+use Rattle.std.specs.Prelude.{◌≡◌, ◌≢◌, Option, Some, None, ℕ, ◌<◌, ◌≤◌, List, [], ◌∷◌, ◌++◌, length, map, All}
 use Rattle.std.specs.List.Sorted.{IsStrictlyIncreasing}
 use Rattle.rinex_file.specs.declared.read.due.Due.{Due}
 use Rattle.rinex_file.specs.declared.read.due.Due.TheVariants.{Header, Epoch, EventPosition, EventHeight, EventEpoch, Satellite}
 use Rattle.obs_epoch.specs.declared.cell.StationValues.{StationValues}
 use Rattle.rinex_file.specs.Value.{Stamped}
 use Rattle.rtcm_msg.specs.Reach.{IsCoordinate}
+use Rattle.obs_epoch.specs.Dates.{civil_of}
+use Rattle.rinex_file.specs.Lines.{epoch_line}
+use Rattle.rinex_file.specs.Read.Fields.{ReadsExactly}
 use Rattle.rinex_file.specs.FileValues.{IsTime, IsStamped, AreSatelliteRows, IsChange, AreChanges, IsFirstSame, values_behind, time_stamped, most_rows}
 use Rattle.rinex_file.specs.Read.Progress.{Progress, IsShown, StartsAt}
 
@@ -48,6 +51,14 @@ IsSoundAt s (Satellite n) = AreRead s × IsBegun s × (0 < n)
 
 abbrev pub IsSound : Progress → Type 0
 IsSound s = IsSoundAt s s.due
+
+-- an epoch at this time stands behind these epochs, in a file that begins at this first time
+abbrev pub IsTimeBehind : List Stamped → ℕ → ℕ → Type 0
+IsTimeBehind es first t = IsStrictlyIncreasing (map time_stamped es ++ t ∷ []) × (es ≡ [] → first ≡ t)
+
+-- the line of an epoch is read exactly, where time and number of satellites are such
+abbrev pub ReadsEpochLine : (ℕ → ℕ → Type 0) → List ℕ → Option (ℕ × ℕ) → Type 0
+ReadsEpochLine MayBe line read = ReadsExactly (λ (e : ℕ × ℕ). IsTime e.0 × MayBe e.0 e.1) (λ (e : ℕ × ℕ). epoch_line (civil_of e.0) e.1) line read
 
 -- an epoch of so many satellites may follow at a time: it is later than those before, or the one that the header names, and the
 -- planned systems have as many satellites

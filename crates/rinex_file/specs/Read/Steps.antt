@@ -52,6 +52,10 @@ ReadsNextLine new h input left (Ok (Some added)) = HasRead new (with_line added 
 ReadsNextLine new h input left (Ok None) = IsWhole new.course h input
 ReadsNextLine new h input left (Err fault) = IfSome input (λ bytes. ExplainsFault bytes fault)
 
+-- wherever a reading stands, it goes on with the next line
+abbrev pub GoesOnReading : Reading → Option (List ℕ) → Reading → Option (List ℕ) → Result (Option Added) ReadFault → Type 0
+GoesOnReading old before new after result = (h : History) (input : Option (List ℕ)) → HasRead old h input before → ReadsNextLine new h input after result
+
 -- a line more was taken
 abbrev pub CountsLine : Reading → Reading → Result (Option Added) ReadFault → Type 0
 CountsLine old new (Ok (Some added)) = new.count ≡ old.count + 1

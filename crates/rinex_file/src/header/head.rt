@@ -1,8 +1,9 @@
 //! A header, line after line.
-ghost use Rattle.std.specs.Prelude.{◌≡◌, ◌+◌, ◌<◌, ◌^◌, [], length, get_or, IfNone, IfSome};
+ghost use Rattle.std.specs.Prelude.{◌≡◌, ◌+◌, ◌<◌, ◌^◌, [], get_or, IfNone, IfSome};
 ghost use Rattle.std.specs.Iterator.{YieldsFirstBy, item_count};
 ghost use Rattle.obs_epoch.specs.Dates.{civil_of};
-ghost use Rattle.rinex_file.specs.Header.{section_rows, section_lines, header_lines, lines_from};
+ghost use Rattle.rinex_file.specs.Header.{section_rows, header_lines, lines_from};
+ghost use Rattle.rinex_file.specs.Heads.{head_lines};
 
 use crate::header::fault::HeaderField;
 use crate::header::labels;
@@ -44,12 +45,10 @@ fn section_rows(plan: &Plan, section: Section) -> usize
 
 // The place of the next line: this one, or the first of a section behind.
 fn place_from(head: &Head, section: Section, row: usize) -> Option<(Section, usize)>
-    ensures none { IfNone result (lines_from (section_lines head.now.texts.now head.now.plan.now head.now.values (civil_of head.now.first)) section row ≡ []) }
+    ensures none { IfNone result (lines_from (head_lines head.now) section row ≡ []) }
     ensures here { IfSome result (λ place. place.1 < section_rows head.now.plan.now place.0) }
     ensures bound { IfSome result (λ place. place.1 + 1 < 2 ^ 64) }
-    ensures same { IfSome result (λ place.
-        lines_from (section_lines head.now.texts.now head.now.plan.now head.now.values (civil_of head.now.first)) section row
-        ≡ lines_from (section_lines head.now.texts.now head.now.plan.now head.now.values (civil_of head.now.first)) place.0 place.1) }
+    ensures same { IfSome result (λ place. lines_from (head_lines head.now) section row ≡ lines_from (head_lines head.now) place.0 place.1) }
 {
     let mut at = section;
     let mut line = row;
@@ -67,7 +66,7 @@ fn place_from(head: &Head, section: Section, row: usize) -> Option<(Section, usi
 #[tactic(auto, unfolding(crate::specs::Header::section_lines))]
 fn line_at(head: &Head, section: Section, row: usize) -> Line
     requires { row < section_rows head.now.plan.now section }
-    ensures { result.items ≡ get_or (section_lines head.now.texts.now head.now.plan.now head.now.values (civil_of head.now.first) section) row [] }
+    ensures { result.items ≡ get_or (head_lines head.now section) row [] }
 {
     match section {
         Section::Version => version_line(head.plan),

@@ -1,6 +1,5 @@
 //! The lines of a header: RINEX 3.05, table A2.
-ghost use Rattle.std.specs.Prelude.{◌≡◌, ℕ, pos, ◌+◌, ◌*◌, ◌≤◌, [], ◌∷◌, length, if◌then◌else◌};
-ghost use Rattle.arrayvec.specs.ArrayVec.{array_vec_len};
+ghost use Rattle.std.specs.Prelude.{◌≡◌, ◌+◌, ◌≤◌, length, if◌then◌else◌};
 ghost use Rattle.obs_epoch.specs.Dates.{civil_of};
 ghost use Rattle.rinex_file.specs.Header.{header_line, version_line, two, three, lengths, program_line, observer_line, receiver_line, antenna_line, position_line, delta_line, first_line};
 ghost use Rattle.rinex_file.specs.Read.Progress.{version_with};

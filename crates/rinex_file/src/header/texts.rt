@@ -14,7 +14,7 @@ use arrayvec::ArrayVec;
 use std::marker::Model;
 
 /// The texts that stand in a header, as they are handed in. Blanks at the end don't count.
-#[derive(Clone, Copy, Debug, PartialEq, Eq)]
+#[derive(Clone, Copy)]
 pub struct Texts<'a> {
     /// Who ran the program, at most 20 bytes.
     pub run_by: &'a str,

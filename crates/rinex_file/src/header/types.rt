@@ -1,5 +1,5 @@
 //! The observation types of a header: RINEX 3.05, table A2, "SYS / # / OBS TYPES".
-ghost use Rattle.std.specs.Prelude.{◌≡◌, ℕ, ◌+◌, ◌*◌, ◌/◌, ◌≤◌, ◌<◌, ◌++◌, [], ◌∷◌, length};
+ghost use Rattle.std.specs.Prelude.{◌≡◌, ◌+◌, ◌*◌, ◌≤◌, ◌<◌, ◌++◌, ◌∷◌, length};
 ghost use Rattle.arrayvec.specs.ArrayVec.{array_vec_len};
 ghost use Rattle.gnss_obs.specs.Signals.{table, code_of};
 ghost use Rattle.obs_epoch.specs.Signals.{indices, IsOf};

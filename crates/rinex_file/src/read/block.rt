@@ -34,7 +34,7 @@ impl Model for Block {
 }
 
 /// What a block has after it was filled.
-#[derive(Clone, Copy, Debug, PartialEq, Eq)]
+#[derive(Clone, Copy)]
 pub(crate) enum Filled {
     /// A byte at least.
     Some,

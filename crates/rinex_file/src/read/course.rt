@@ -1,17 +1,14 @@
 //! How far the reading of a file is: what the next line has to fit, and two counts. It doesn't grow
 //! with the file.
-ghost use Rattle.std.specs.Prelude.{◌≡◌, ◌<◌, ◌≤◌, ◌+◌, ◌^◌, ◌∷◌, ◌++◌, ◌↔◌, ℕ, [], List, OnOk, IsTrue, map, length, if◌then◌else◌};
+ghost use Rattle.std.specs.Prelude.{◌≡◌, ◌<◌, ◌≤◌, ◌+◌, ◌^◌, ◌∷◌, ◌++◌, ◌↔◌, ℕ, [], List, OnOk, IsTrue, map, length};
 ghost use Rattle.std.specs.List.Sorted.{IsStrictlyIncreasing};
 ghost use Rattle.rinex_file.specs.Value.{FileValue, Stamped};
 ghost use Rattle.obs_epoch.specs.declared.cell.StationValues.{StationValues};
-ghost use Rattle.obs_epoch.specs.Dates.{civil_of};
-ghost use Rattle.rinex_file.specs.FileValues.{IsFileValue, IsTime, rank_of, time_stamped, most_rows, changed_by};
+ghost use Rattle.rinex_file.specs.FileValues.{IsFileValue, rank_of, time_stamped, most_rows, changed_by};
 ghost use Rattle.rinex_file.specs.File.{event_line, file_lines};
-ghost use Rattle.rinex_file.specs.Lines.{epoch_line};
-ghost use Rattle.rinex_file.specs.Read.Fields.{ReadsExactly};
 ghost use Rattle.rinex_file.specs.Read.Progress.{HasLinesLeft};
 ghost use Rattle.rinex_file.specs.Course.{EndsIn, History, HasRoom, FollowsHistory, TakesLine, changes_of, nothing, progress_at};
-ghost use Rattle.rinex_file.specs.Read.Sound.{AreRead, MayBegin};
+ghost use Rattle.rinex_file.specs.Read.Sound.{AreRead, IsTimeBehind, MayBegin, ReadsEpochLine};
 ghost use Rattle.rinex_file.specs.Limits.{most_line};
 
 use crate::header::section::Section;
@@ -73,7 +70,7 @@ fn is_behind(last: Option<u64>, next: u64) -> bool
 // at this first time.
 fn may_follow(last: Option<u64>, first: GpsTime, time: GpsTime) -> bool
     ensures { (es : List Stamped) → EndsIn (map time_stamped es) last → IsStrictlyIncreasing (map time_stamped es)
-        → IsTrue result ↔ (IsStrictlyIncreasing (map time_stamped es ++ time ∷ []) × (es ≡ [] → first ≡ time)) }
+        → IsTrue result ↔ IsTimeBehind es first time }
 {
     match last {
         None => first.milliseconds() == time.milliseconds(),
@@ -208,9 +205,7 @@ impl Course {
     // The time and the number of satellites of an epoch that may follow, by its line.
     fn read_begun(&self, line: &[u8], again: &mut Line) -> Option<(GpsTime, usize)>
         requires between { (h : History) → FollowsHistory self.now h → AreRead (progress_at self.now h) }
-        ensures { (h : History) → FollowsHistory self.now h
-            → ReadsExactly (λ (e : ℕ × ℕ). IsTime e.0 × MayBegin (progress_at self.now h) e.0 e.1)
-            (λ (e : ℕ × ℕ). epoch_line (civil_of e.0) e.1) line.now result }
+        ensures { (h : History) → FollowsHistory self.now h → ReadsEpochLine (MayBegin (progress_at self.now h)) line.now result }
     {
         let Some(read) = read_epoch_line(line, again) else {
             return None;

@@ -3,7 +3,7 @@ use crate::header::section::Section;
 use obs_epoch::StationValues;
 
 /// What the next line is to be.
-#[derive(Clone, Copy, Debug, PartialEq, Eq)]
+#[derive(Clone, Copy)]
 pub(crate) enum Due {
     /// A line of the header: its section, and its place within it from 0.
     Header(Section, usize),
@@ -20,7 +20,7 @@ pub(crate) enum Due {
 }
 
 /// Why a line isn't taken.
-#[derive(Clone, Copy, Debug, PartialEq, Eq)]
+#[derive(Clone, Copy)]
 pub(crate) enum Refusal {
     /// Memory ran out.
     Memory,
@@ -29,7 +29,7 @@ pub(crate) enum Refusal {
 }
 
 /// What a line that was taken adds to the epochs of a file.
-#[derive(Clone, Copy, Debug, PartialEq, Eq)]
+#[derive(Clone, Copy)]
 pub(crate) enum Added {
     /// Nothing: it is a line of the header or of an event, or begins an epoch.
     NoRow,

@@ -1,10 +1,9 @@
 //! Reading a file whole.
-ghost use Rattle.std.specs.Prelude.{◌≡◌, ◌<◌, ◌≤◌, Err, IfOk, IfErr, IfSome, length, None};
+ghost use Rattle.std.specs.Prelude.{◌≡◌, Err, IfOk, IfErr, IfSome};
 ghost use Rattle.rtcm_bits.specs.Device.{HasFailed};
-ghost use Rattle.rinex_file.specs.Value.{FileValue};
 ghost use Rattle.rinex_file.specs.FileValues.{IsFileValue};
-ghost use Rattle.rinex_file.specs.File.{file_text, file_lines};
-ghost use Rattle.rinex_file.specs.Exact.{ExplainsFault, IsReadOr, most_lines};
+ghost use Rattle.rinex_file.specs.File.{file_text};
+ghost use Rattle.rinex_file.specs.Exact.{ExplainsFault, IfTextOfFile, IsReadOr};
 ghost use Rattle.rinex_file.specs.Blocks.{LeavesRest};
 ghost use Rattle.rinex_file.specs.Counting.{IsTextWith, IsCountedOr};
 
@@ -35,8 +34,7 @@ pub fn check_file<R: Read>(alloc: Global, reader: &mut Counted<R>) -> Result<Cou
     // Why nothing was counted.
     ensures fault { IfErr result (λ e. IfSome (R.remaining reader.old.inner) (λ input. ExplainsFault input e)) }
     // The text of each file value is accepted.
-    ensures only { (v : FileValue) → IsFileValue v → length (file_lines v) ≤ most_lines
-        → IfSome (R.remaining reader.old.inner) (λ input. input ≡ file_text v → IsCountedOr v result) }
+    ensures only { IfTextOfFile (R.remaining reader.old.inner) (λ v. IsCountedOr v result) }
     ensures failed { result ≡ Err ReadFault.Read → HasFailed reader.old.failures reader.new.failures }
     // Some front of the input was read.
     ensures left { LeavesRest (R.remaining reader.old.inner) (R.remaining reader.new.inner) }
@@ -64,8 +62,7 @@ pub fn read_file<R: Read>(alloc: Global, reader: &mut Counted<R>) -> Result<ObsF
     // Why nothing was read.
     ensures fault { IfErr result (λ e. IfSome (R.remaining reader.old.inner) (λ input. ExplainsFault input e)) }
     // The text of each file value is read.
-    ensures only { (v : FileValue) → IsFileValue v → length (file_lines v) ≤ most_lines
-        → IfSome (R.remaining reader.old.inner) (λ input. input ≡ file_text v → IsReadOr v result) }
+    ensures only { IfTextOfFile (R.remaining reader.old.inner) (λ v. IsReadOr v result) }
     ensures failed { result ≡ Err ReadFault.Read → HasFailed reader.old.failures reader.new.failures }
     // Some front of the input was read.
     ensures left { LeavesRest (R.remaining reader.old.inner) (R.remaining reader.new.inner) }

@@ -1,5 +1,4 @@
 //! The sections of a header that have at most one line: what it shows is taken into what was read.
-ghost use Rattle.std.specs.Prelude.{◌/◌, Some, None};
 ghost use Rattle.rinex_file.specs.Read.HeaderSteps.{IsSole, LearnsOrRefuses};
 
 use crate::header::labels;

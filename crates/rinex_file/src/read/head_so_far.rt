@@ -1,13 +1,12 @@
 //! What was read of a header.
-ghost use Rattle.std.specs.Prelude.{◌≡◌, ◌+◌, ◌*◌, ◌/◌, ◌<◌, ◌≤◌, [], ◌↔◌, ℕ, List, length, Err, Some, None, IfOk, IfSome, IfNone, OnOk, IsTrue};
+ghost use Rattle.std.specs.Prelude.{◌≡◌, ◌<◌, ◌≤◌, [], ◌↔◌, ℕ, List, length, Err, None, IfOk, IfSome, IfNone, OnOk, IsTrue};
 ghost use Rattle.gnss_obs.specs.Signals.{table};
-ghost use Rattle.obs_epoch.specs.Dates.{civil_of};
 ghost use Rattle.obs_epoch.specs.Signals.{indices, IsOf};
 ghost use Rattle.obs_epoch.specs.Values.{planned_of};
 ghost use Rattle.rinex_file.specs.FileValues.{of_system};
-ghost use Rattle.rinex_file.specs.Header.{header_lines, type_rows, sections_behind};
-ghost use Rattle.rinex_file.specs.Read.Progress.{Shown, IsShown, IsHeaderLeft, AreTypes, types_line};
-ghost use Rattle.rinex_file.specs.Read.HeaderSteps.{IsSole, has_lines, IsReached, IsWhole, GoesOnBehind, StepsTo, NoneGoesOn, TakesRow, RefusesRow, with_signals};
+ghost use Rattle.rinex_file.specs.Header.{type_rows, sections_behind};
+ghost use Rattle.rinex_file.specs.Read.Progress.{Shown, IsShown, IsHeaderLeft, AreHeaderLines};
+ghost use Rattle.rinex_file.specs.Read.HeaderSteps.{IsSole, has_lines, IsReached, IsWhole, GoesOnBehind, StepsTo, NoneGoesOn, CountsDue, TakesRow, RefusesRow, with_signals};
 ghost use Rattle.rinex_file.specs.Limits.{most_signals};
 
 use crate::header::labels;
@@ -78,11 +77,11 @@ fn take_row(
     ensures taken { OnOk result (TakesRow system count row line.now (indices signals.old.items) (indices signals.new.items)) }
     ensures bad { result ≡ Err Refusal.Bad → RefusesRow system count row line.now (indices signals.old.items) }
 {
-    if signals.len() != signals_begun(row) {
+    if signals.as_slice().len() != signals_begun(row) {
         return Err(Refusal::Bad);
     }
     read_types(signals, system, count, row, line, again)?;
-    if signals.len() != signals_begun(row + 1).min(count) {
+    if signals.as_slice().len() != signals_begun(row + 1).min(count) {
         return Err(Refusal::Bad);
     }
     Ok(())
@@ -91,8 +90,7 @@ fn take_row(
 impl HeadSoFar {
     /// Nothing was read.
     pub(crate) fn new(alloc: Global) -> HeadSoFar
-        ensures { (h : Shown) (left : List (List ℕ))
-            → IsHeaderLeft result Section.Version 0 h left ↔ (IsShown h × (left ≡ header_lines h.texts h.plan h.values (civil_of h.first))) }
+        ensures { (h : Shown) (left : List (List ℕ)) → IsHeaderLeft result Section.Version 0 h left ↔ AreHeaderLines h left }
     {
         let zero = match GpsTime::new(0) {
             Some(time) => time,
@@ -217,8 +215,7 @@ impl HeadSoFar {
         ensures bound { IfSome result (λ n. n ≤ length (table system)) }
         ensures rows { IfSome result (λ n. row < type_rows n) }
         ensures later { IfSome result (λ n. 0 < row → self.now.signals ≡ n) }
-        ensures due { (all : List ℕ) → AreTypes system all → (0 < row → self.now.signals ≡ length all) → row < type_rows (length all)
-            → line.now ≡ types_line system all row → result ≡ Some (length all) }
+        ensures due { CountsDue self.now system row line.now result }
     {
         if row == 0 {
             return read_count(line, system);

@@ -11,7 +11,7 @@ use rtcm_bits::Counted;
 use std::io::Read;
 
 /// What was found where a line is due.
-#[derive(Clone, Copy, Debug, PartialEq, Eq)]
+#[derive(Clone, Copy)]
 pub(crate) enum Found {
     /// A line with its line feed.
     Line,

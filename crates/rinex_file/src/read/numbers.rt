@@ -37,7 +37,7 @@ pub(crate) fn number_in(text: &[u8]) -> i64
 }
 
 /// What the columns of a number show.
-#[derive(Clone, Copy, Debug, PartialEq, Eq)]
+#[derive(Clone, Copy)]
 pub(crate) struct NumberText {
     /// Its digits as one number; other bytes are passed over.
     pub(crate) digits: u64,

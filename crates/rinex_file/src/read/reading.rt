@@ -1,13 +1,10 @@
 //! The reading of a file, line by line.
-ghost use Rattle.std.specs.Prelude.{◌≡◌, ◌<◌, ◌≤◌, ◌==◌, ◌↔◌, ℕ, List, Option, Some, None, Ok, Err, OnOk, if◌then◌else◌};
+ghost use Rattle.std.specs.Prelude.{◌≡◌, ◌==◌, ℕ, List, Option, Err, OnOk, if◌then◌else◌};
 ghost use Rattle.rtcm_bits.specs.Device.{HasFailed};
-ghost use Rattle.rinex_file.specs.Value.{FileValue};
-ghost use Rattle.rinex_file.specs.FileValues.{IsFileValue};
-ghost use Rattle.rinex_file.specs.File.{file_lines};
 ghost use Rattle.rinex_file.specs.Exact.{ExplainsFault, IsFaulty, IsDueAt, most_lines};
 ghost use Rattle.rinex_file.specs.Blocks.{LeavesRest};
 ghost use Rattle.rinex_file.specs.Course.{History, FollowsHistory, nothing};
-ghost use Rattle.rinex_file.specs.Read.Steps.{ReadsNextLine, HasRead, CountsLine, MayBeCounted};
+ghost use Rattle.rinex_file.specs.Read.Steps.{GoesOnReading, HasRead, CountsLine, MayBeCounted};
 
 use crate::read::block::Block;
 use crate::read::course::Course;
@@ -80,8 +77,7 @@ impl Reading {
     ) -> Result<Option<Added>, ReadFault>
         requires stands { (h : History) × FollowsHistory self.old.course h }
         requires within { MayBeCounted self.old }
-        ensures goes { (h : History) (input : Option (List ℕ)) → HasRead self.old h input (R.remaining reader.old.inner)
-            → ReadsNextLine self.new h input (R.remaining reader.new.inner) result }
+        ensures goes { GoesOnReading self.old (R.remaining reader.old.inner) self.new (R.remaining reader.new.inner) result }
         ensures within { OnOk result (MayBeCounted self.new) }
         ensures counted { CountsLine self.old self.new result }
         ensures left { LeavesRest (R.remaining reader.old.inner) (R.remaining reader.new.inner) }

@@ -1,9 +1,10 @@
 //! Version, position and height in a header, read back; and lines that are always the same.
-ghost use Rattle.std.specs.Prelude.{◌≡◌, ◌↔◌, ◌+◌, ◌≤◌, ◌<◌, ◌^◌, ◌||◌, IsTrue, ℕ, ℤ, pos, Bool, true, IfSome, IfNone, length, take, drop, codes};
+ghost use Rattle.std.specs.Prelude.{◌≡◌, ◌↔◌, ◌+◌, ◌≤◌, ◌<◌, ◌^◌, ◌||◌, IsTrue, pos, Bool, true, IfSome, IfNone, length, take, drop, codes};
 ghost use Rattle.rtcm_msg.specs.Reach.{IsCoordinate};
 ghost use Rattle.rinex_file.specs.Header.{header_line, lengths};
 ghost use Rattle.rinex_file.specs.Read.Fields.{number_in, ReadsExactly};
 ghost use Rattle.rinex_file.specs.Read.Progress.{version_with};
+ghost use Rattle.rinex_file.specs.Read.Texts.{ReadsPosition};
 
 use crate::header::labels;
 use crate::header::lines::{labelled, three_lengths, version_with};
@@ -48,8 +49,7 @@ fn coordinate_in(line: &[u8], from: usize) -> Option<i64>
 
 /// The position of the antenna, in 0.0001 m.
 pub(crate) fn read_position(line: &[u8]) -> Option<(i64, i64, i64)>
-    ensures { ReadsExactly (λ (p : ℤ × ℤ × ℤ). IsCoordinate p.0 × IsCoordinate p.1 × IsCoordinate p.2)
-        (λ (p : ℤ × ℤ × ℤ). header_line (lengths p.0 p.1 p.2) (codes "APPROX POSITION XYZ")) line.now result }
+    ensures { ReadsPosition line.now result }
 {
     let x = coordinate_in(line, 0)?;
     let y = coordinate_in(line, 14)?;

@@ -3,8 +3,9 @@ ghost use Rattle.std.specs.Prelude.{◌≡◌, ◌≤◌, ℕ, List, length, tak
 ghost use Rattle.std.specs.Option.{option_map};
 ghost use Rattle.rinex_file.specs.Blanks.{trimmed};
 ghost use Rattle.rinex_file.specs.FileValues.{IsText};
-ghost use Rattle.rinex_file.specs.Header.{header_line, two, three};
+ghost use Rattle.rinex_file.specs.Header.{header_line};
 ghost use Rattle.rinex_file.specs.Read.Fields.{ReadsExactly};
+ghost use Rattle.rinex_file.specs.Read.Texts.{ReadsTwoTexts, ReadsThreeTexts};
 
 use crate::header::lines::{labelled, three_texts, two_texts};
 use crate::header::texts::is_printable;
@@ -59,8 +60,7 @@ pub(crate) fn read_two<const N: usize>(
 ) -> Option<(ArrayVec<u8, 20>, ArrayVec<u8, N>)>
     requires width { N ≤ 40 }
     requires label { length label.now ≤ 20 }
-    ensures { ReadsExactly (λ (t : List ℕ × List ℕ). IsText 20 t.0 × IsText N t.1) (λ (t : List ℕ × List ℕ). header_line (two t.0 t.1) label.now) line.now
-        (option_map (λ t. (t.0.items, t.1.items)) result) }
+    ensures { ReadsTwoTexts N label.now line.now (option_map (λ t. (t.0.items, t.1.items)) result) }
 {
     let first = text_in(line, 0)?;
     let second = text_in(line, 20)?;
@@ -77,8 +77,7 @@ pub(crate) fn read_three(
     label: &[u8],
 ) -> Option<(ArrayVec<u8, 20>, ArrayVec<u8, 20>, ArrayVec<u8, 20>)>
     requires label { length label.now ≤ 20 }
-    ensures { ReadsExactly (λ (t : List ℕ × List ℕ × List ℕ). IsText 20 t.0 × IsText 20 t.1 × IsText 20 t.2)
-        (λ (t : List ℕ × List ℕ × List ℕ). header_line (three t.0 t.1 t.2) label.now) line.now (option_map (λ t. (t.0.items, t.1.items, t.2.items)) result) }
+    ensures { ReadsThreeTexts label.now line.now (option_map (λ t. (t.0.items, t.1.items, t.2.items)) result) }
 {
     let first = text_in(line, 0)?;
     let second = text_in(line, 20)?;

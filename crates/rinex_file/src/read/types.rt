@@ -1,10 +1,11 @@
 //! The observation types in a header, read back.
-ghost use Rattle.std.specs.Prelude.{◌≡◌, ◌≤◌, ◌<◌, ◌+◌, ◌↔◌, ◌++◌, ◌∷◌, [], ◌==◌, ℕ, List, take, drop, length, nat_eq, true, IfSome, IfNone, OnOk, Err, Some};
+ghost use Rattle.std.specs.Prelude.{◌≡◌, ◌≤◌, ◌<◌, ◌+◌, ◌++◌, ◌∷◌, [], ◌==◌, ℕ, List, take, length, true, IfSome, OnOk, Err, Some};
 ghost use Rattle.std.specs.List.{list_any};
-ghost use Rattle.gnss_obs.specs.Signals.{SignalAt, IsSignal, table, code_of};
+ghost use Rattle.gnss_obs.specs.Signals.{SignalAt, IsSignal, table};
 ghost use Rattle.obs_epoch.specs.Signals.{indices, IsOf};
 ghost use Rattle.rinex_file.specs.Header.{type_rows};
 ghost use Rattle.rinex_file.specs.Read.Progress.{AreTypes, types_line, signals_begun};
+ghost use Rattle.rinex_file.specs.Read.HeaderSteps.{ReadsRow, ComparesRow, RefusesRow, HasSignalAt};
 
 use crate::header::labels;
 use crate::header::types::{TYPES_IN_LINE, put_row};
@@ -42,10 +43,8 @@ pub(crate) fn read_types(
     requires signals { IsOf system signals.old.items }
     ensures signals { IsOf system signals.new.items }
     ensures grows { OnOk result (take (length signals.old.items) signals.new.items ≡ signals.old.items) }
-    ensures taken { OnOk result ((all : List ℕ) → AreTypes system all → length all ≡ count → indices signals.old.items ≡ take (signals_begun row) all
-        → (line.now ≡ types_line system all row) ↔ (indices signals.new.items ≡ take (signals_begun (row + 1)) all)) }
-    ensures bad { result ≡ Err Refusal.Bad → (all : List ℕ) → AreTypes system all → length all ≡ count
-        → indices signals.old.items ≡ take (signals_begun row) all → line.now ≡ types_line system all row → ⊥ }
+    ensures taken { OnOk result (ComparesRow system count row line.now (indices signals.old.items) (indices signals.new.items)) }
+    ensures bad { result ≡ Err Refusal.Bad → RefusesRow system count row line.now (indices signals.old.items) }
 {
     take_signals(signals, system, count, row, line)?;
     again.clear();
@@ -71,10 +70,8 @@ fn take_signals(
     requires signals { IsOf system signals.old.items }
     ensures signals { IsOf system signals.new.items }
     ensures grows { OnOk result (take (length signals.old.items) signals.new.items ≡ signals.old.items) }
-    ensures taken { OnOk result ((all : List ℕ) → AreTypes system all → length all ≡ count → indices signals.old.items ≡ take (signals_begun row) all
-        → line.now ≡ types_line system all row → indices signals.new.items ≡ take (signals_begun (row + 1)) all) }
-    ensures bad { result ≡ Err Refusal.Bad → (all : List ℕ) → AreTypes system all → length all ≡ count
-        → indices signals.old.items ≡ take (signals_begun row) all → line.now ≡ types_line system all row → ⊥ }
+    ensures taken { OnOk result (ReadsRow system count row line.now (indices signals.old.items) (indices signals.new.items)) }
+    ensures bad { result ≡ Err Refusal.Bad → RefusesRow system count row line.now (indices signals.old.items) }
 {
     let end = signals_begun(row + 1).min(count);
     for place in signals_begun(row)..end {
@@ -103,9 +100,8 @@ fn take_signal(
     requires signals { IsOf system signals.old.items }
     ensures signals { IsOf system signals.new.items }
     ensures grows { OnOk result (take (length signals.old.items) signals.new.items ≡ signals.old.items) }
-    ensures taken { OnOk result ((s : SignalAt) → IsSignal s → s.system ≡ system → take 2 (drop column line.now) ≡ code_of s
-        → signals.new.items ≡ signals.old.items ++ s ∷ []) }
-    ensures bad { result ≡ Err Refusal.Bad → (s : SignalAt) → IsSignal s → s.system ≡ system → take 2 (drop column line.now) ≡ code_of s
+    ensures taken { OnOk result ((s : SignalAt) → HasSignalAt system line.now column s → signals.new.items ≡ signals.old.items ++ s ∷ []) }
+    ensures bad { result ≡ Err Refusal.Bad → (s : SignalAt) → HasSignalAt system line.now column s
         → list_any (λ r. s.index == r.index) signals.old.items ≡ true }
 {
     let Some(signal) = signal_in(line, system, column) else {
@@ -131,7 +127,7 @@ fn has_signal(signals: &[Signal], index: usize) -> bool
 fn signal_in(line: &[u8], system: System, column: usize) -> Option<Signal>
     requires { column ≤ 100 }
     ensures system { IfSome result (λ s. (s.system ≡ system) × IsSignal s) }
-    ensures read { (s : SignalAt) → IsSignal s → s.system ≡ system → take 2 (drop column line.now) ≡ code_of s → result ≡ Some s }
+    ensures read { (s : SignalAt) → HasSignalAt system line.now column s → result ≡ Some s }
 {
     let code = line.get(column..column + 2)?;
     match str::from_utf8(code) {

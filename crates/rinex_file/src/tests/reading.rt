@@ -161,8 +161,13 @@ fn a_file_is_read_and_written_back(rt: HostRuntime) {
 
 #[test]
 fn a_file_is_counted(rt: HostRuntime) {
-    assert_eq!(rt; check(rt.alloc(), &[&HEADER, &EPOCH]), Ok(SMALL.counts));
-    assert_eq!(rt; check(rt.alloc(), &[&TWO_SYSTEMS]), Ok(LARGE.counts));
+    assert_eq!(rt;
+        [
+            check(rt.alloc(), &[&HEADER, &EPOCH]),
+            check(rt.alloc(), &[&TWO_SYSTEMS]),
+        ],
+        [Ok(SMALL.counts), Ok(LARGE.counts)]
+    );
 }
 
 #[test]
@@ -185,6 +190,20 @@ fn fault_with(alloc: Global, place: usize, line: &'static str) -> Option<ReadFau
     let mut text = Text::new();
     put_lines(&mut text, with_line(place, line).as_slice());
     read(alloc, text.as_slice()).err()
+}
+
+/// The first of these lines that has another fault in its place, and that fault.
+fn refused_otherwise(
+    alloc: Global,
+    cases: &[(usize, &'static str, ReadFault)],
+) -> Option<(&'static str, Option<ReadFault>)> {
+    for (place, line, wanted) in cases {
+        let fault = fault_with(alloc, *place, *line);
+        if fault != Some(*wanted) {
+            return Some((*line, fault));
+        }
+    }
+    None
 }
 
 #[test]
@@ -242,22 +261,21 @@ fn a_line_spelled_otherwise_is_refused(rt: HostRuntime) {
         ),
         (15, "G05", ReadFault::BadSatellite(16)),
     ];
-    for (place, line, wanted) in cases {
-        assert_eq!(rt;
-            fault_with(rt.alloc(), place, line),
-            Some(wanted),
-            "{}",
-            line
-        );
-    }
+    assert_eq!(rt; refused_otherwise(rt.alloc(), &cases), None);
 }
 
 #[test]
 fn an_epoch_in_the_wrong_place_is_refused(rt: HostRuntime) {
-    let twice = fault(rt.alloc(), &[&HEADER, &EPOCH[..1], &EPOCH], b"");
-    assert_eq!(rt; twice, Some(ReadFault::BadSatellite(16)));
-    let again = fault(rt.alloc(), &[&HEADER, &EPOCH, &EPOCH], b"");
-    assert_eq!(rt; again, Some(ReadFault::BadEpoch(17)));
+    assert_eq!(rt;
+        [
+            fault(rt.alloc(), &[&HEADER, &EPOCH[..1], &EPOCH], b""),
+            fault(rt.alloc(), &[&HEADER, &EPOCH, &EPOCH], b""),
+        ],
+        [
+            Some(ReadFault::BadSatellite(16)),
+            Some(ReadFault::BadEpoch(17)),
+        ]
+    );
 }
 
 /// The fault of the small file without its last byte.
@@ -272,22 +290,24 @@ fn fault_of_cut(alloc: Global) -> Option<ReadFault> {
 
 #[test]
 fn a_file_that_ends_too_soon_is_refused(rt: HostRuntime) {
-    assert_eq!(rt; fault_of_cut(rt.alloc()), Some(ReadFault::CutShort(16)));
-    let two = fault_with(rt.alloc(), 14, "> 2024 02 04 00 00  1.0000000  0  2");
-    assert_eq!(rt; two, Some(ReadFault::CutShort(17)));
-    assert_eq!(rt;
-        fault(rt.alloc(), &[&HEADER], b""),
-        Some(ReadFault::CutShort(15))
-    );
-    assert_eq!(rt; fault(rt.alloc(), &[], b""), Some(ReadFault::CutShort(1)));
     let long = [b'a'; 1220];
     assert_eq!(rt;
-        fault(rt.alloc(), &[], &long),
-        Some(ReadFault::BadHeader(1))
-    );
-    assert_eq!(rt;
-        fault(rt.alloc(), &[], &long[..1219]),
-        Some(ReadFault::CutShort(1))
+        [
+            fault_of_cut(rt.alloc()),
+            fault_with(rt.alloc(), 14, "> 2024 02 04 00 00  1.0000000  0  2"),
+            fault(rt.alloc(), &[&HEADER], b""),
+            fault(rt.alloc(), &[], b""),
+            fault(rt.alloc(), &[], &long),
+            fault(rt.alloc(), &[], &long[..1219]),
+        ],
+        [
+            Some(ReadFault::CutShort(16)),
+            Some(ReadFault::CutShort(17)),
+            Some(ReadFault::CutShort(15)),
+            Some(ReadFault::CutShort(1)),
+            Some(ReadFault::BadHeader(1)),
+            Some(ReadFault::CutShort(1)),
+        ]
     );
 }
 

@@ -9,10 +9,9 @@ use crate::{
 use gnss_obs::{Sat, System};
 use obs_epoch::{Epoch, Gather, Gatherer, GpsTime, Plan};
 use rtcm_bits::devices::WriteEnd;
-use rtcm_msg::decode;
+use rtcm_msg::{Message, decode};
 use std::alloc::Global;
 use std::io::ErrorKind;
-use std::test::Fail;
 
 /// A message 1077 of GPS 5, 1C: 70 ms, 100 m/s, 45.0625 dB-Hz.
 const OBSERVED: Row = Row {
@@ -171,12 +170,24 @@ fn sent(gatherer: &Gatherer, part: Part, takes: Takes, wanted: &[&[&str]]) -> Ou
     (answer, written_otherwise(writer, takes, wanted))
 }
 
-/// What gathered the message of a row, of week 2300, that is the last of its epoch.
-fn gathered(alloc: Global, row: &Row) -> Result<Gatherer, Fail> {
-    let plan = Plan::parse(alloc, row.gps, row.galileo)?;
-    let mut gatherer = Gatherer::new(alloc, plan, 2300, None, Gather::Bit)?;
-    gatherer.take(&decode(row.message)?);
-    Ok(gatherer)
+/// What gathered a message of week 2300, that is the last of its epoch.
+fn gathered_under(alloc: Global, plan: Plan, message: &Message) -> Option<Gatherer> {
+    match Gatherer::new(alloc, plan, 2300, None, Gather::Bit) {
+        Ok(mut gatherer) => {
+            gatherer.take(message);
+            Some(gatherer)
+        }
+        Err(_) => None,
+    }
+}
+
+/// What gathered the message of a row.
+fn gathered(alloc: Global, row: &Row) -> Option<Gatherer> {
+    let plan = Plan::parse(alloc, row.gps, row.galileo).ok()?;
+    match decode(row.message) {
+        Ok(message) => gathered_under(alloc, plan, &message),
+        Err(_) => None,
+    }
 }
 
 /// What comes of writing a part of the file of a row's message.
@@ -186,32 +197,36 @@ fn outcome(
     part: Part,
     takes: Takes,
     wanted: &[&[&str]],
-) -> Result<Outcome, Fail> {
+) -> Option<Outcome> {
     let gatherer = gathered(alloc, row)?;
-    Ok(sent(&gatherer, part, takes, wanted))
+    Some(sent(&gatherer, part, takes, wanted))
 }
 
 #[test]
-fn a_file_is_written(rt: HostRuntime) -> Result<(), Fail> {
-    assert_eq!(rt; joined(&[&HEADER, &EPOCH]).len(), 1236);
+fn a_file_is_written(rt: HostRuntime) {
     assert_eq!(rt;
-        outcome(rt.alloc(), &OBSERVED, Part::Both, ALL, &[&HEADER, &EPOCH])?,
-        (Ok(()), None)
+        (
+            joined(&[&HEADER, &EPOCH]).len(),
+            outcome(rt.alloc(), &OBSERVED, Part::Both, ALL, &[&HEADER, &EPOCH])
+        ),
+        (1236, Some((Ok(()), None)))
     );
-    Ok(())
+}
+
+/// The first row whose satellite has another line.
+fn row_otherwise(alloc: Global) -> Option<&'static str> {
+    for row in ROWS.iter() {
+        let came = outcome(alloc, row, Part::Epoch, ALL, &[&[EPOCH[0], row.line]]);
+        if came != Some((Ok(()), None)) {
+            return Some(row.what);
+        }
+    }
+    None
 }
 
 #[test]
-fn satellites_have_lines(rt: HostRuntime) -> Result<(), Fail> {
-    for row in ROWS.iter() {
-        assert_eq!(rt;
-            outcome(rt.alloc(), row, Part::Epoch, ALL, &[&[EPOCH[0], row.line]])?,
-            (Ok(()), None),
-            "{}",
-            row.what
-        );
-    }
-    Ok(())
+fn satellites_have_lines(rt: HostRuntime) {
+    assert_eq!(rt; row_otherwise(rt.alloc()), None);
 }
 
 /// Where the line of an epoch, and then that of its satellite, are others than wanted.
@@ -236,27 +251,43 @@ fn lines_twice(gatherer: &Gatherer) -> Option<[[Option<usize>; 2]; 2]> {
     Some([once, lines_otherwise(gatherer, epoch, satellite, &mut line)])
 }
 
-#[test]
-fn lines_take_the_place_of_others(rt: HostRuntime) -> Result<(), Fail> {
-    let gatherer = gathered(rt.alloc(), &OBSERVED)?;
-    assert_eq!(rt; lines_twice(&gatherer), Some([[None, None], [None, None]]));
-    Ok(())
+/// The same of the lines of the message that was observed.
+fn observed_twice(alloc: Global) -> Option<[[Option<usize>; 2]; 2]> {
+    let gatherer = gathered(alloc, &OBSERVED)?;
+    lines_twice(&gatherer)
 }
 
 #[test]
-fn writing_stops_at_a_failure(rt: HostRuntime) -> Result<(), Fail> {
+fn lines_take_the_place_of_others(rt: HostRuntime) {
+    assert_eq!(rt;
+        observed_twice(rt.alloc()),
+        Some([[None, None], [None, None]])
+    );
+}
+
+/// What comes of writing to a writer that takes so many bytes in a write and in all.
+fn stopped(
+    alloc: Global,
+    part: Part,
+    each: usize,
+    all: usize,
+    end: WriteEnd,
+    wanted: &[&[&str]],
+) -> Option<Outcome> {
+    outcome(alloc, &OBSERVED, part, Takes { each, all, end }, wanted)
+}
+
+#[test]
+fn writing_stops_at_a_failure(rt: HostRuntime) {
     let fails = WriteEnd::Fails(ErrorKind::Other);
-    for (part, each, all, end, wanted) in [
-        (Part::Header, 81, 100, fails, HEADER.as_slice()),
-        (Part::Header, 81, 0, WriteEnd::TakesNone, HEADER.as_slice()),
-        (Part::Epoch, 7, 50, fails, EPOCH.as_slice()),
-    ] {
-        let takes = Takes { each, all, end };
-        assert_eq!(rt;
-            outcome(rt.alloc(), &OBSERVED, part, takes, &[wanted])?,
-            (Err(HeadFault::Write), None),
-            "{all}"
-        );
-    }
-    Ok(())
+    let none = WriteEnd::TakesNone;
+    let failed: Option<Outcome> = Some((Err(HeadFault::Write), None));
+    assert_eq!(rt;
+        [
+            stopped(rt.alloc(), Part::Header, 81, 100, fails, &[&HEADER]),
+            stopped(rt.alloc(), Part::Header, 81, 0, none, &[&HEADER]),
+            stopped(rt.alloc(), Part::Epoch, 7, 50, fails, &[&EPOCH]),
+        ],
+        [failed, failed, failed]
+    );
 }

@@ -8,7 +8,7 @@ use std::marker::Model;
 /// What a line shows of a signal: pseudorange (0.001 m), phase (0.001 cycles), Doppler (0.001 Hz)
 /// and strength (0.001 dB-Hz), and the loss-of-lock indicator of the phase. All are absent where
 /// nothing was observed.
-#[derive(Clone, Copy, Debug, Default, PartialEq, Eq)]
+#[derive(Clone, Copy, Default)]
 pub(crate) struct KeptValues {
     pub(crate) c: Option<i64>,
     pub(crate) l: Option<i64>,
@@ -45,7 +45,7 @@ impl Model for KeptSatellite {
 }
 
 /// A satellite of a system, with so many of the entries that are kept of all.
-#[derive(Clone, Copy, Debug, Drop)]
+#[derive(Clone, Copy, Drop)]
 pub(crate) struct KeptRow {
     pub(crate) system: System,
     pub(crate) satellite: u8,
@@ -54,7 +54,7 @@ pub(crate) struct KeptRow {
 
 /// An epoch, with so many of the satellites that are kept of all, and whether it has the next of
 /// the changes of station values.
-#[derive(Clone, Copy, Debug, Drop)]
+#[derive(Clone, Copy, Drop)]
 pub(crate) struct KeptEpoch {
     pub(crate) time: GpsTime,
     pub(crate) rows: usize,

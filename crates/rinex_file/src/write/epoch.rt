@@ -1,6 +1,5 @@
 //! Epoch lines: RINEX 3.05, table A3, "EPOCH record".
-ghost use Rattle.std.specs.Prelude.{◌≡◌, ℕ, [], length};
-ghost use Rattle.arrayvec.specs.ArrayVec.{array_vec_len};
+ghost use Rattle.std.specs.Prelude.{◌≡◌, []};
 ghost use Rattle.obs_epoch.specs.Dates.{civil_of};
 ghost use Rattle.rinex_file.specs.Lines.{epoch_line};
 

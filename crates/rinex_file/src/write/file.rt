@@ -1,9 +1,9 @@
 //! Writing a file that was read back.
-ghost use Rattle.std.specs.Prelude.{◌≡◌, ◌<◌, ◌≤◌, ◌++◌, All, Err, OnOk, IfOk, length, take, drop, flat_map, ◌+◌, if◌then◌else◌, None};
+ghost use Rattle.std.specs.Prelude.{◌≡◌, ◌≤◌, ◌++◌, All, OnOk, IfOk, length, take, drop, flat_map, ◌+◌, if◌then◌else◌, None};
 ghost use Rattle.rinex_file.specs.Numbers.{joined};
 ghost use Rattle.rinex_file.specs.File.{header_text, change_lines, stamped_lines, file_text};
 ghost use Rattle.rinex_file.specs.Course.{stamped_at};
-ghost use Rattle.rinex_file.specs.Read.Kept.{kept_row, rows_of, epoch_from, epochs_of, change_at, entry_count, AreKept, HasRoom};
+ghost use Rattle.rinex_file.specs.Read.Kept.{kept_row, kept_epoch, rows_of, epochs_of, change_at, entry_count, AreKept, ArePlacesBehind, HasRoom};
 ghost use Rattle.rinex_file.specs.Lines.{satellite_line};
 
 use crate::header::head::{Head, header_lines};
@@ -114,10 +114,8 @@ fn add_next(
     requires rows { at.0 + epoch.now.rows ≤ length rows.now }
     requires entries { at.1 + entry_count (take epoch.now.rows (drop at.0 rows.now)) ≤ length entries.now }
     requires room { All HasRoom (rows_of (take epoch.now.rows (drop at.0 rows.now)) (drop at.1 entries.now)) }
-    ensures text { OnOk result (text.new.items ≡ text.old.items
-        ++ joined (stamped_lines (epoch_from epoch.now (drop at.2 changes.now) (drop at.0 rows.now) (drop at.1 entries.now)))) }
-    ensures end { IfOk result (λ end. (end.0 ≡ at.0 + epoch.now.rows) × (end.1 ≡ at.1 + entry_count (take epoch.now.rows (drop at.0 rows.now)))
-        × (end.2 ≡ at.2 + (if epoch.now.changed then 1 else 0))) }
+    ensures text { OnOk result (text.new.items ≡ text.old.items ++ joined (stamped_lines (kept_epoch epoch.now at changes.now rows.now entries.now))) }
+    ensures end { IfOk result (λ end. ArePlacesBehind epoch.now rows.now at end) }
 {
     let (row, entry, change) = at;
     let behind = add_change(text, epoch.changed, changes, change)?;

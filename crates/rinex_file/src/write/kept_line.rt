@@ -1,8 +1,8 @@
 //! Observation lines of what was read: RINEX 3.05, table A3, "OBSERVATION DATA RECORD".
-ghost use Rattle.std.specs.Prelude.{◌≡◌, ℕ, ◌+◌, ◌≤◌, ◌<◌, ◌++◌, [], length, All, IfSome};
+ghost use Rattle.std.specs.Prelude.{◌≡◌, ◌+◌, ◌≤◌, ◌<◌, ◌++◌, length, All, IfSome};
 ghost use Rattle.arrayvec.specs.ArrayVec.{array_vec_len};
 ghost use Rattle.rinex_file.specs.FileValues.{FitsColumns, AreSignalValues};
-ghost use Rattle.rinex_file.specs.Lines.{field, strength_byte, lli_byte, signal_text, satellite_line};
+ghost use Rattle.rinex_file.specs.Lines.{field, strength_byte, signal_text, satellite_line};
 ghost use Rattle.rinex_file.specs.Value.{satellite_row};
 ghost use Rattle.rinex_file.specs.Limits.{most_line, signal_columns, value_columns, most_signals};
 

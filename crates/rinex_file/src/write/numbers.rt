@@ -1,5 +1,5 @@
 //! Numbers of stated width, as they stand in the columns of a line.
-ghost use Rattle.std.specs.Prelude.{◌≡◌, ◌+◌, ◌^◌, ◌≤◌, ◌*◌, ◌++◌, ℕ, pos, replicate, decimal, length};
+ghost use Rattle.std.specs.Prelude.{◌≡◌, ◌+◌, ◌^◌, ◌≤◌, ◌*◌, ◌++◌, pos, replicate, decimal, length};
 ghost use Rattle.rinex_file.specs.Numbers.{fixed, padded, left, right};
 ghost use Rattle.arrayvec.specs.ArrayVec.{array_vec_len};
 ghost use Rattle.rinex_file.specs.Limits.{most_line};

@@ -1,14 +1,14 @@
 //! Observation lines: RINEX 3.05, table A3, "OBSERVATION DATA RECORD".
-ghost use Rattle.std.specs.Prelude.{◌≡◌, ◌+◌, ◌*◌, ◌≤◌, ◌<◌, ◌++◌, [], ◌∷◌, List, All, length, take, drop, replicate, IfSome, Some, nat_eq};
+ghost use Rattle.std.specs.Prelude.{◌≡◌, ◌+◌, ◌*◌, ◌≤◌, ◌<◌, ◌++◌, [], ◌∷◌, length, take, replicate, IfSome, Some, nat_eq};
 ghost use Rattle.std.specs.List.{IsDistinct};
 ghost use Rattle.arrayvec.specs.ArrayVec.{array_vec_len};
-ghost use Rattle.obs_epoch.specs.declared.cell.Cell.{Cell};
 ghost use Rattle.obs_epoch.specs.Values.{HasTwelveDigits, IsHeld, AreHeld, planned_of};
 ghost use Rattle.rinex_file.specs.FileValues.{FitsColumns};
-ghost use Rattle.rinex_file.specs.Value.{signal_values_of, row_of, row_among, row_in_epoch};
+ghost use Rattle.rinex_file.specs.Value.{signal_values_of, row_among, row_in_epoch};
 ghost use Rattle.rinex_file.specs.Numbers.{padded};
 ghost use Rattle.rinex_file.specs.Blanks.{trimmed};
-ghost use Rattle.rinex_file.specs.Lines.{field, strength_byte, lli_byte, signal_text, letter_of, row_text, satellite_line};
+ghost use Rattle.rinex_file.specs.Lines.{field, strength_byte, signal_text, letter_of, satellite_line};
+ghost use Rattle.rinex_file.specs.SignalColumns.{with_columns, ShowsCellFirst};
 ghost use Rattle.rinex_file.specs.Limits.{most_line, signal_columns, value_columns};
 
 use crate::write::numbers::{Line, SIGNAL_COLUMNS, VALUE_COLUMNS, put};
@@ -116,8 +116,7 @@ fn put_cell(columns: &mut [u8], cell: &Cell)
 fn put_at(line: &mut Line, place: usize, cell: &Cell)
     requires held { IsHeld cell.now.signal.system cell.now }
     requires room { 3 + signal_columns * place + signal_columns ≤ array_vec_len line.old }
-    ensures text { line.new.items ≡ take (3 + signal_columns * place) line.old.items
-        ++ (signal_text (signal_values_of cell.now) ++ drop signal_columns (drop (3 + signal_columns * place) line.old.items)) }
+    ensures text { line.new.items ≡ with_columns place (signal_text (signal_values_of cell.now)) line.old.items }
     ensures size { array_vec_len line.new ≡ array_vec_len line.old }
 {
     let text = line.as_mut_slice();
@@ -133,9 +132,7 @@ fn put_planned(line: &mut Line, plan: &Plan, system: System, id: u8, cell: &Cell
     requires id { id < 100 }
     requires apart { IsDistinct nat_eq (planned_of system plan.now) }
     requires room { array_vec_len line.old ≡ 3 + signal_columns * length (planned_of system plan.now) }
-    ensures text { (rest : List Cell) → All (IsHeld system) rest
-        → line.old.items ≡ row_text (letter_of system) (row_of (planned_of system plan.now) rest id)
-        → line.new.items ≡ row_text (letter_of system) (row_of (planned_of system plan.now) (cell.now ∷ rest) id) }
+    ensures text { ShowsCellFirst plan.now system id cell.now line.old.items line.new.items }
     ensures size { array_vec_len line.new ≡ array_vec_len line.old }
 {
     if cell.satellite.id() != id {

@@ -6,7 +6,7 @@ use Rattle.rinex_file.specs.Lines.{epoch_line}
 use Rattle.rinex_file.proofs.Judged.{refused}
 use Rattle.rinex_file.proofs.EpochText.{one_time, same_some, none_some}
 use Rattle.rinex_file.proofs.read.epoch.read_epoch_line.Goals as goal
-use Rattle.rinex_file.proofs.read.epoch.read_epoch_line.Goals.{In-Some, After-count_in-count}
+use Rattle.rinex_file.proofs.read.epoch.read_epoch_line.Goals.{In-Some}
 
 -- the date and time of day of a time whose line this is
 read : (c : In-Some) (v n : ℕ) → IsTime v → n ≤ 999 → c.args.line.now ≡ epoch_line (civil_of v) n → c.in-Some.civil ≡ civil_of v

@@ -1,10 +1,53 @@
-use Rattle.std.proofs.Common.{arith, ◌≡◌, ◌∙◌, subst, ℕ, ◌≤◌, ◌<◌, Bool, false, nat_eq}
+use Rattle.std.proofs.Common.{arith, lit≤, ◌≡◌, ◌∙◌, sym, ap, refl, subst, ℕ, ◌-◌, ◌≤◌, ◌<◌, Bool, false, nat_eq, List, length}
+use Rattle.std.specs.Io.KnownBytes.{Consumes, prepend_known}
+use Rattle.std.proofs.KnownBytes.{Consumes-nil}
+use Rattle.rinex_file.specs.Read.Fields.{has}
 use Rattle.rinex_file.specs.Blocks.{MovesBytes}
-use Rattle.rinex_file.proofs.Ahead.{moved_taken, line_whole, still_endless, leaves_more}
+use Rattle.rinex_file.proofs.Ahead.{consumed_none, moved_taken, line_whole, still_endless, longer, leaves_all, leaves_more}
 use Rattle.rinex_file.proofs.read.lines.next_line.Goals as goal
+
+pub loop-block-init : goal.loop-block-init
+loop-block-init g c =
+    let empty = c.clear.ensures in
+    let ahead = prepend_known c.args.block.now (g.R.Read.remaining c.args.reader.now.inner) in
+    record {
+      taken = subst (Consumes ahead ahead) (sym empty) (Consumes-nil ahead);
+      endless = ap (has 10) empty;
+      within = subst (λ (l : List ℕ). length l ≤ 1220) (sym empty) (lit≤ tt);
+      left = leaves_all _;
+      same = refl;
+    }
+
+pub returns-then-is_empty-clause-taken : goal.returns-then-is_empty-clause-taken
+returns-then-is_empty-clause-taken g c = consumed_none _ _ _ _ c.loop-block.invariant.taken c.in-End.ensures.same
+
+pub returns-then-is_empty-clause-left : goal.returns-then-is_empty-clause-left
+returns-then-is_empty-clause-left g c = leaves_more _ _ _ c.loop-block.invariant.left c.in-End.ensures.left
+
+pub returns-then-is_empty-clause-same : goal.returns-then-is_empty-clause-same
+returns-then-is_empty-clause-same g c = λ _. c.in-End.ensures.fine (λ e. cc) ∙ c.loop-block.invariant.same
+
+pub returns-else-is_empty-clause-taken : goal.returns-else-is_empty-clause-taken
+returns-else-is_empty-clause-taken g c = consumed_none _ _ _ _ c.loop-block.invariant.taken c.in-End.ensures.same
+
+pub returns-else-is_empty-clause-left : goal.returns-else-is_empty-clause-left
+returns-else-is_empty-clause-left g c = leaves_more _ _ _ c.loop-block.invariant.left c.in-End.ensures.left
+
+pub returns-else-is_empty-clause-same : goal.returns-else-is_empty-clause-same
+returns-else-is_empty-clause-same g c = λ _. c.in-End.ensures.fine (λ e. cc) ∙ c.loop-block.invariant.same
+
+pub returns-in-Failed-clause-taken : goal.returns-in-Failed-clause-taken
+returns-in-Failed-clause-taken g c = consumed_none _ _ _ _ c.loop-block.invariant.taken c.in-Failed.ensures.same
 
 pub returns-in-Failed-clause-left : goal.returns-in-Failed-clause-left
 returns-in-Failed-clause-left g c = leaves_more _ _ _ c.loop-block.invariant.left c.in-Failed.ensures.left
+
+pub returns-then-move_to-clause-taken : goal.returns-then-move_to-clause-taken
+returns-then-move_to-clause-taken g c =
+    moved_taken _ _ _ _ _ _ _ _ c.loop-block.invariant.taken c.in-Some.ensures.same c.move_to.ensures
+
+pub returns-then-move_to-clause-same : goal.returns-then-move_to-clause-same
+returns-then-move_to-clause-same g c = λ _. c.in-Some.ensures.fine (λ e. cc) ∙ c.loop-block.invariant.same
 
 pub returns-then-move_to-clause-left : goal.returns-then-move_to-clause-left
 returns-then-move_to-clause-left g c = leaves_more _ _ _ c.loop-block.invariant.left c.in-Some.ensures.left
@@ -27,3 +70,13 @@ loop-block-preserved g c =
       left = leaves_more _ _ _ inv.left c.in-Some.ensures.left;
       same = c.in-Some.ensures.fine (λ e. cc) ∙ inv.same;
     }
+
+shorter : (old new : List ℕ) → length old < length new → length old < 1220 → 1220 - length new < 1220 - length old
+shorter old new more less = omega (arith, more, less)
+
+pub loop-block-smaller : goal.loop-block-smaller
+loop-block-smaller g c =
+    let inv = c.loop-block.invariant in
+    let moves = subst (λ (b : Bool). MovesBytes b c.fill.new.self c.move_to.new.self c.loop-block.line.items c.move_to.new.line.items) c.if-move_to.false c.move_to.ensures in
+    let less : length c.loop-block.line.items < 1220 = not_full _ _ (sym c.loop-block-test.true ∙ c.is_full.ensures.value) inv.within in
+    shorter c.loop-block.line.items c.move_to.new.line.items (longer _ _ _ _ moves (c.in-Some.ensures.some refl) less) less

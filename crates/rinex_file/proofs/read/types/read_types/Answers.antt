@@ -18,15 +18,15 @@ no_line true line again whole says same e is = grind (arith, e)
 no_line false line again whole says same e is = let t = says.1 (is ∙ sym same) in grind (arith, t)
 
 pub returns-then-is_header_line-clause-taken : goal.returns-then-is_header_line-clause-taken
-returns-then-is_header_line-clause-taken c = λ all are size begins. (
-  λ is. c.in_ok-take_signals.ensures.taken all are size begins is,
+returns-then-is_header_line-clause-taken c = λ all are begun. (
+  λ is. c.in_ok-take_signals.ensures.taken all are begun is,
   λ is. is_line c.is_header_line.result c.args.line.now _ _ c.is_header_line.ensures
       (ap (λ t. header_line t (codes "SYS / # / OBS TYPES")) (printed _ _ _ _ c.as_slice-2.ensures.value c.put_row.ensures.text c.clear.ensures)
-      ∙ shown_line c.args.system all _ c.args.row c.args.count size (ap indices c.as_slice.ensures.value ∙ is)) c.if-is_header_line.true,
+      ∙ shown_line c.args.system all _ c.args.row c.args.count begun.0 (ap indices c.as_slice.ensures.value ∙ is)) c.if-is_header_line.true,
 )
 
 pub returns-else-is_header_line-clause-bad : goal.returns-else-is_header_line-clause-bad
-returns-else-is_header_line-clause-bad c = λ _ all are size begins is.
+returns-else-is_header_line-clause-bad c = λ _ all are begun is.
     no_line c.is_header_line.result c.args.line.now _ _ c.is_header_line.ensures
     (ap (λ t. header_line t (codes "SYS / # / OBS TYPES")) (printed _ _ _ _ c.as_slice-2.ensures.value c.put_row.ensures.text c.clear.ensures)
-    ∙ shown_line c.args.system all _ c.args.row c.args.count size (ap indices c.as_slice.ensures.value ∙ c.in_ok-take_signals.ensures.taken all are size begins is)) c.if-is_header_line.false is
+    ∙ shown_line c.args.system all _ c.args.row c.args.count begun.0 (ap indices c.as_slice.ensures.value ∙ c.in_ok-take_signals.ensures.taken all are begun is)) c.if-is_header_line.false is

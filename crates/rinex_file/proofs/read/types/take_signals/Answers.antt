@@ -1,6 +1,7 @@
-use Rattle.std.proofs.Common.{arith, ◌≡◌, ◌∙◌, sym, ap, ℕ, length, min, ◌+◌, ◌*◌, ◌<◌, ◌≤◌}
+use Rattle.std.proofs.Common.{arith, ◌≡◌, ◌∙◌, sym, ap, ℕ, List, length, take, min, ◌+◌, ◌*◌, ◌<◌, ◌≤◌}
 use Rattle.std.specs.Prelude.{Err}
 use Rattle.std.proofs.lemmas.Result.{err_from_is_err_and}
+use Rattle.std.proofs.lemmas.List.{take_min}
 use Rattle.rinex_file.specs.Read.Progress.{signals_begun}
 use Rattle.rinex_file.proofs.Entries.{few_signals}
 use Rattle.rinex_file.proofs.TypeRows.{still_grows, taken_more, taken_before}
@@ -13,14 +14,14 @@ below : (end a begun_next count place n : ℕ) → place < end → end ≡ min a
 below end a begun_next count place n less least next is = (omega (arith, less, least, next), omega (arith, less, least, is))
 
 pub returns-in_err-take_signal-clause-bad : goal.returns-in_err-take_signal-clause-bad
-returns-in_err-take_signal-clause-bad c = λ refused all are size begins is.
+returns-in_err-take_signal-clause-bad c = λ refused all are begun is.
     let p = err_from_is_err_and c.from_residual.result c.from_residual.ensures.1 in
     let inv = c.loop-place.invariant in
     let place = c.loop-place.place in
-    let b = below c.min-end.result c.signals_begun.result (signals_begun (c.args.row + 1)) c.args.count place (length all) c.loop-place-test.true c.min-end.ensures c.signals_begun.ensures size in
+    let b = below c.min-end.result c.signals_begun.result (signals_begun (c.args.row + 1)) c.args.count place (length all) c.loop-place-test.true c.min-end.ensures c.signals_begun.ensures begun.0 in
     taken_before c.args.system all c.args.line.now c.args.row place c.loop-place.signals.items are
-    (few (length all) c.args.count _ size c.requires.count (few_signals c.args.system)) is inv.from b.0 b.1
-    (c.in_err-take_signal.ensures.bad (sym (p.1 ∙ ap Err p.2) ∙ refused)) (inv.read all are size begins is)
+    (few (length all) c.args.count _ begun.0 c.requires.count (few_signals c.args.system)) is inv.from b.0 b.1
+    (c.in_err-take_signal.ensures.bad (sym (p.1 ∙ ap Err p.2) ∙ refused)) (inv.read all are begun is)
 
 pub loop-place-preserved : goal.loop-place-preserved
 loop-place-preserved c = record {
@@ -28,10 +29,21 @@ loop-place-preserved c = record {
   grows = still_grows c.args.signals.now.items c.loop-place.signals.items c.take_signal.new.signals.items c.loop-place.invariant.grows c.in_ok-take_signal.ensures.grows;
   from = omega (arith, c.loop-place.invariant.from);
   to = omega arith;
-  read = λ all are size begins is.
+  read = λ all are begun is.
       let inv = c.loop-place.invariant in
       let place = c.loop-place.place in
-      let b = below c.min-end.result c.signals_begun.result (signals_begun (c.args.row + 1)) c.args.count place (length all) c.loop-place-test.true c.min-end.ensures c.signals_begun.ensures size in
+      let b = below c.min-end.result c.signals_begun.result (signals_begun (c.args.row + 1)) c.args.count place (length all) c.loop-place-test.true c.min-end.ensures c.signals_begun.ensures begun.0 in
       taken_more c.args.system all c.args.line.now c.args.row place c.loop-place.signals.items c.take_signal.new.signals.items are
-      (few (length all) c.args.count _ size c.requires.count (few_signals c.args.system)) is inv.from b.0 b.1 c.in_ok-take_signal.ensures.taken (inv.read all are size begins is);
+      (few (length all) c.args.count _ begun.0 c.requires.count (few_signals c.args.system)) is inv.from b.0 b.1 c.in_ok-take_signal.ensures.taken (inv.read all are begun is);
 }
+
+whole : (all : List ℕ) (place end a next count : ℕ) → place ≤ end → end ≤ place → end ≡ min a count → a ≡ next → length all ≡ count → take place all ≡ take next all
+whole all place end a next count low high is same size =
+    let least : place ≡ min next (length all) = omega (arith, low, high, is, same, size) in
+    ap (λ n. take n all) least ∙ take_min next all
+
+pub returns-clause-taken : goal.returns-clause-taken
+returns-clause-taken c = λ all are begun is.
+    let inv = c.loop-place.invariant in
+    inv.read all are begun is
+    ∙ whole all c.loop-place.place c.min-end.result c.signals_begun.result (signals_begun (c.args.row + 1)) c.args.count inv.to c.loop-place-test.false c.min-end.ensures c.signals_begun.ensures begun.0

@@ -1,6 +1,7 @@
 use Rattle.std.proofs.Common.{ℕ, List, ◌≡◌, ◌≤◌, length, take}
 use Rattle.obs_epoch.specs.Signals.{indices, IsOf}
 use Rattle.rinex_file.specs.Read.Progress.{AreTypes, types_line, signals_begun}
+use Rattle.rinex_file.specs.Read.HeaderSteps.{AreBegun}
 use Rattle.rinex_file.proofs.read.types.take_signals.Given as goal
 
 -- where the line is that of these signals, those so far were taken
@@ -10,6 +11,6 @@ invariant-loop-place l = record {
   grows : take (length l.fn.signals.items) l.signals.items ≡ l.fn.signals.items;
   from : signals_begun l.row ≤ l.place;
   to : l.place ≤ l.end;
-  read : (all : List ℕ) → AreTypes l.fn.system all → length all ≡ l.fn.count → indices l.fn.signals.items ≡ take (signals_begun l.row) all → l.line ≡ types_line l.fn.system all l.row
+  read : (all : List ℕ) → AreTypes l.fn.system all → AreBegun l.fn.count l.row (indices l.fn.signals.items) all → l.line ≡ types_line l.fn.system all l.row
       → indices l.signals.items ≡ take l.place all;
 }

@@ -1,4 +1,4 @@
-use Rattle.std.proofs.Common.{None, sym, subst}
+use Rattle.std.proofs.Common.{None, refl, sym, subst}
 use Rattle.rinex_file.specs.declared.header.fault.HeaderField.TheVariants.{RunBy, Date, Marker, MarkerType, Observer, Agency, RecNumber, RecType, RecVersion, AntNumber, AntType}
 use Rattle.rinex_file.specs.Texts.{fields}
 use Rattle.rinex_file.specs.FileValues.{AreTexts}
@@ -21,7 +21,19 @@ returns c =
     let rec_version-is = c.cut-rec_version.ensures (short RecVersion t.rec_version all.1.1.1.1.1.1.1.1.0) in
     let ant_number-is = c.cut-ant_number.ensures (short AntNumber t.ant_number all.1.1.1.1.1.1.1.1.1.0) in
     let ant_type-is = c.cut-ant_type.ensures (short AntType t.ant_type all.1.1.1.1.1.1.1.1.1.1.0) in
-    cc
+    rw (
+      run_by-is,
+      date-is,
+      marker-is,
+      marker_type-is,
+      observer-is,
+      agency-is,
+      rec_number-is,
+      rec_type-is,
+      rec_version-is,
+      ant_number-is,
+      ant_type-is,
+    ) refl
 
 pub invariant_of-result : goal.invariant_of-result
 invariant_of-result c = subst AreTexts (sym (returns c)) (are_fine (lists_of c.args.texts.now) c.requires)

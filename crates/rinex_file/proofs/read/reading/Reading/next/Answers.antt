@@ -1,9 +1,11 @@
-use Rattle.std.proofs.Common.{subst, ℕ, ◌+◌, ◌<◌, length, Err}
+use Rattle.std.proofs.Common.{arith, ◌≡◌, subst, ℕ, ◌+◌, ◌^◌, ◌<◌, ◌≤◌, length, Err}
+use Rattle.std.proofs.Math.Nat.{le_trans}
+use Rattle.rinex_file.specs.declared.read.course.Course.{Course}
 use Rattle.rinex_file.specs.declared.read.due.Refusal.{Refusal}
 use Rattle.rinex_file.specs.declared.read.fault.ReadFault.TheVariants.{CutShort}
 use Rattle.rinex_file.specs.Exact.{IsFaulty, IsDueAt}
 use Rattle.rinex_file.proofs.DueLines.{due_at}
-use Rattle.rinex_file.specs.Course.{GoesOnWithLine, RefusesLine, TakesLine, progress_at, with_line}
+use Rattle.rinex_file.specs.Course.{HasRoom, GoesOnWithLine, RefusesLine, TakesLine, progress_at, with_line}
 use Rattle.rinex_file.proofs.FileLines.{lines_are_lines}
 use Rattle.rinex_file.proofs.Judged.{refused as judged}
 use Rattle.rinex_file.proofs.HeaderBody.{unfinished, goes_on, only_file, file_read, sound_rows}
@@ -72,3 +74,51 @@ returns-in-Err-Bad-clause-goes g c = λ h input read.
     (both_said input (λ text. IsFaulty text (n + 1)) (λ text. IsDueAt c.due-due.result text (n + 1))
     (refused lines_are_lines s n input _ _ line read.taken c.in-Line.ensures.found c.in-Line.ensures.taken (subst (RefusesLine s) c.as_slice.ensures.value (takes h read.stands)))
     (due_at c.args.self.now.course h c.due-due.result n input _ read.taken c.due-due.ensures read.stands))
+
+room_more : (c : Course) (n m : ℕ) → HasRoom c n → n ≤ m → HasRoom c m
+room_more c n m (epochs, satellites, events) more = (le_trans epochs more, le_trans satellites more, le_trans events more)
+
+wide : (n : ℕ) → n ≤ 2 ^ 32 → n ≤ 2 ^ 40
+wide n few = omega (arith, few)
+
+one_below : (n : ℕ) → n ≤ 2 ^ 32 → (n ≡ 2 ^ 32 → ⊥) → n + 1 ≤ 2 ^ 32
+one_below n few other = omega (arith, few, other)
+
+pub take-requires-clause-stands : goal.take-requires-clause-stands
+take-requires-clause-stands g c = c.requires.stands
+
+pub take-requires-clause-room : goal.take-requires-clause-room
+take-requires-clause-room g c = room_more c.args.self.now.course _ _ c.requires.within.0 (wide _ c.requires.within.1)
+
+pub returns-in-Ok-clause-within : goal.returns-in-Ok-clause-within
+returns-in-Ok-clause-within g c = (c.in-Ok.ensures.room _ c.requires.within.0, one_below _ c.requires.within.1 c.if-self-eq-MOST_LINES.false)
+
+pub returns-then-may_end-clause-within : goal.returns-then-may_end-clause-within
+returns-then-may_end-clause-within g c = c.requires.within
+
+pub returns-then-may_end-clause-left : goal.returns-then-may_end-clause-left
+returns-then-may_end-clause-left g c = c.next_line.ensures.left
+
+pub returns-else-may_end-clause-left : goal.returns-else-may_end-clause-left
+returns-else-may_end-clause-left g c = c.next_line.ensures.left
+
+pub returns-in-Cut-clause-left : goal.returns-in-Cut-clause-left
+returns-in-Cut-clause-left g c = c.next_line.ensures.left
+
+pub returns-in-Long-clause-left : goal.returns-in-Long-clause-left
+returns-in-Long-clause-left g c = c.next_line.ensures.left
+
+pub returns-in-Failed-clause-left : goal.returns-in-Failed-clause-left
+returns-in-Failed-clause-left g c = c.next_line.ensures.left
+
+pub returns-then-self-eq-MOST_LINES-clause-left : goal.returns-then-self-eq-MOST_LINES-clause-left
+returns-then-self-eq-MOST_LINES-clause-left g c = c.next_line.ensures.left
+
+pub returns-in-Ok-clause-left : goal.returns-in-Ok-clause-left
+returns-in-Ok-clause-left g c = c.next_line.ensures.left
+
+pub returns-in-Err-Memory-clause-left : goal.returns-in-Err-Memory-clause-left
+returns-in-Err-Memory-clause-left g c = c.next_line.ensures.left
+
+pub returns-in-Err-Bad-clause-left : goal.returns-in-Err-Bad-clause-left
+returns-in-Err-Bad-clause-left g c = c.next_line.ensures.left
