@@ -361,8 +361,8 @@ impl Write for Clogged {
     }
 }
 
-/// Whether two bytes are written, whether they are flushed, how often the device has failed by then,
-/// and how many flushes it was asked for.
+/// Whether two bytes are written, whether they are flushed, how often the device has failed by
+/// then, and how many flushes it was asked for.
 fn write_and_flush(clogged: Clogged) -> (bool, bool, u64, u32) {
     let mut writer = Counted::new(ShortWriter::new(clogged, 9, 9, WriteEnd::TakesNone));
     let is_written = writer.write_whole(&[1, 2]).is_ok();
