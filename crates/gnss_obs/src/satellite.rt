@@ -6,7 +6,7 @@ use std::marker::Model;
 
 /// A satellite: GPS 1 to 32, Galileo 1 to 36. GPS comes first, and within a system the lower
 /// number.
-#[derive(Clone, Copy, Debug, PartialEq, Eq, Hash, PartialOrd, Ord)]
+#[derive(Clone, Copy, Debug, PartialEq, Eq, PartialOrd, Ord)]
 pub struct Sat {
     system: System,
     id: u8,

@@ -4,7 +4,7 @@
 /// A line of a table: the signal ID, which is the bit of the signal mask DF395 that stands for the
 /// signal, counted from 1; and the RINEX code in ASCII, the digit of the band and the letter of the
 /// attribute.
-#[derive(Clone, Copy, Debug, PartialEq, Eq)]
+#[derive(Clone, Copy)]
 pub struct ListedSignal(pub u8, pub [u8; 2]);
 
 /// How many signals the table of GPS has.

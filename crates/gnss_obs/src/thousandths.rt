@@ -4,7 +4,7 @@ use std::marker::Model;
 
 /// A whole number of thousandths, of the unit of the value that it stands for: metres, cycles,
 /// hertz or dB-Hz.
-#[derive(Clone, Copy, Debug, PartialEq, Eq, Hash, PartialOrd, Ord)]
+#[derive(Clone, Copy, Debug, PartialEq, Eq, PartialOrd, Ord)]
 pub struct Thousandths {
     value: i64,
 }

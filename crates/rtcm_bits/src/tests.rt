@@ -2,7 +2,10 @@
 //! device.
 
 use crate::devices::{PieceReader, ReadEnd, ShortWriter, WriteEnd};
-use crate::{BitReader, BitWriter, CheckRegister, Counted, Window, crc24q, frame_of};
+use crate::{
+    BitReader, BitWriter, CheckRegister, Counted, LONGEST_FRAME, LONGEST_MESSAGE, Window, crc24q,
+    frame_of,
+};
 use arrayvec::ArrayVec;
 use std::io;
 use std::io::{ErrorKind, Read, Write};
@@ -14,28 +17,100 @@ const STATION_FRAME: [u8; 25] = [
     0xAC, 0x09, 0x41, 0x98, 0x6F, 0x33, 0x36, 0x0B, 0x98,
 ];
 
+// Each call with clauses stands behind a function without one, so that no test carries them. It
+// answers None or false where the call may not be made.
+
+fn push_all(window: &mut Window, bytes: &[u8]) -> bool {
+    let has_room = bytes.len() <= LONGEST_FRAME - window.held();
+    if has_room {
+        window.push_all(bytes);
+    }
+    has_room
+}
+
+fn push_each(window: &mut Window, bytes: &[u8]) -> bool {
+    for byte in bytes {
+        if window.held() == LONGEST_FRAME {
+            return false;
+        }
+        window.push(*byte);
+    }
+    true
+}
+
+fn look(window: &mut Window, place: usize) -> Option<u8> {
+    if place < window.held() {
+        Some(window.look(place))
+    } else {
+        None
+    }
+}
+
+fn looks(window: &Window, place: usize) -> Option<u16> {
+    if place < window.held() {
+        Some(window.looks(place))
+    } else {
+        None
+    }
+}
+
+fn check_range(window: &mut Window, start: usize, size: usize) -> Option<u32> {
+    if start > LONGEST_FRAME || size > LONGEST_FRAME || start + size > window.held() {
+        return None;
+    }
+    let mut register = CheckRegister::new();
+    window.check_range(start, size, &mut register);
+    Some(register.value())
+}
+
+/// Whether the bytes that are handed over are these.
+fn hands_over(window: &mut Window, start: usize, want: &[u8]) -> bool {
+    let size = want.len();
+    if start > LONGEST_FRAME || size > LONGEST_MESSAGE || start + size > window.held() {
+        return false;
+    }
+    let mut bytes = ArrayVec::new();
+    window.hand_over(start, size, &mut bytes);
+    bytes.as_slice() == want
+}
+
+fn drop_front(window: &mut Window, size: usize) -> bool {
+    let is_held = size <= window.held();
+    if is_held {
+        window.drop_front(size);
+    }
+    is_held
+}
+
+fn drop_others(window: &mut Window, byte: u8) -> usize {
+    window.drop_others(byte)
+}
+
+/// How many bytes the window holds, how many looks there were, and the most of one byte.
+fn counts(window: &Window) -> (usize, u64, u16) {
+    (window.held(), window.examined(), window.most())
+}
+
 #[test]
 fn window_counts_looks(rt: HostRuntime) -> Result<(), Fail> {
     let mut window = Window::new(rt.alloc())?;
-    for byte in [10, 11, 12, 13, 14] {
-        assert!(rt; window.held() < 1029);
-        window.push(byte);
-    }
-    assert_eq!(rt; window.held(), 5);
-    assert_eq!(rt; window.look(0), 10);
-    assert_eq!(rt; window.held(), 5);
-    assert_eq!(rt; window.look(0), 10);
-    let mut bytes = ArrayVec::<u8, 1023>::new();
-    assert_eq!(rt; window.held(), 5);
-    window.hand_over(1, 2, &mut bytes);
-    assert_eq!(rt; bytes.as_slice(), [11, 12].as_slice());
-    assert_eq!(rt; window.held(), 5);
-    window.drop_front(1);
-    assert_eq!(rt; window.examined(), 4);
-    assert_eq!(rt; window.most(), 2);
-    assert_eq!(rt; window.held(), 4);
-    assert_eq!(rt; window.looks(0), 1);
+    assert!(rt; push_each(&mut window, &[10, 11, 12, 13, 14]));
+    assert_eq!(rt; counts(&window), (5, 0, 0));
+    let looked = [look(&mut window, 0), look(&mut window, 0)];
+    assert_eq!(rt; (looked, counts(&window)), ([Some(10); 2], (5, 2, 2)));
+    assert!(rt; hands_over(&mut window, 1, &[11, 12]) && drop_front(&mut window, 1));
+    assert_eq!(rt; (looks(&window, 0), counts(&window)), (Some(1), (4, 4, 2)));
     Ok(())
+}
+
+/// Whether a frame is taken, checked, handed over and dropped, each byte with its looks.
+fn passes_on(window: &mut Window) -> bool {
+    window.held() == 0
+        && push_all(window, &STATION_FRAME)
+        && check_range(window, 0, 22) == Some(0x36_0B98)
+        && (looks(window, 21), looks(window, 22)) == (Some(1), Some(0))
+        && hands_over(window, 3, &STATION_FRAME[3..22])
+        && drop_front(window, 25)
 }
 
 #[test]
@@ -43,41 +118,23 @@ fn ranges_of_a_window(rt: HostRuntime) -> Result<(), Fail> {
     let mut window = Window::new(rt.alloc())?;
     // The bytes wrap round in their room now and then.
     for round in 0..100 {
-        assert_eq!(rt; window.held(), 0, "{round}");
-        window.push_all(&STATION_FRAME);
-        assert_eq!(rt; window.held(), 25, "{round}");
-        let mut register = CheckRegister::new();
-        window.check_range(0, 22, &mut register);
-        assert_eq!(rt; register.value(), 0x36_0B98, "{round}");
-        assert_eq!(rt; window.held(), 25, "{round}");
-        assert_eq!(rt; window.looks(21), 1, "{round}");
-        assert_eq!(rt; window.held(), 25, "{round}");
-        assert_eq!(rt; window.looks(22), 0, "{round}");
-        let mut bytes = ArrayVec::<u8, 1023>::new();
-        assert_eq!(rt; window.held(), 25, "{round}");
-        window.hand_over(3, 19, &mut bytes);
-        assert_eq!(rt; bytes.as_slice(), &STATION_FRAME[3..22], "{round}");
-        assert_eq!(rt; window.held(), 25, "{round}");
-        window.drop_front(25);
+        assert!(rt; passes_on(&mut window), "{round}");
     }
-    assert_eq!(rt; window.examined(), 4_100);
-    assert_eq!(rt; window.most(), 2);
+    assert_eq!(rt; counts(&window), (0, 4_100, 2));
     Ok(())
 }
 
 #[test]
 fn others_are_dropped(rt: HostRuntime) -> Result<(), Fail> {
     let mut window = Window::new(rt.alloc())?;
-    assert_eq!(rt; window.held(), 0);
-    window.push_all(&[7, 8, 0xD3, 9, 0xD3]);
-    assert_eq!(rt; window.drop_others(0xD3), 2);
-    assert_eq!(rt; window.held(), 3);
-    assert_eq!(rt; window.looks(0), 0);
-    assert_eq!(rt; window.drop_others(0xD3), 0);
-    assert_eq!(rt; window.drop_others(0xD4), 3);
-    assert_eq!(rt; window.held(), 0);
-    assert_eq!(rt; window.drop_others(0xD4), 0);
-    assert_eq!(rt; (window.examined(), window.most()), (5, 1));
+    assert!(rt; window.held() == 0 && push_all(&mut window, &[7, 8, 0xD3, 9, 0xD3]));
+    assert_eq!(rt;
+        (drop_others(&mut window, 0xD3), counts(&window)),
+        (2, (3, 2, 1))
+    );
+    assert_eq!(rt; looks(&window, 0), Some(0));
+    let dropped = [0xD3, 0xD4, 0xD4].map(|byte| drop_others(&mut window, byte));
+    assert_eq!(rt; (dropped, counts(&window)), ([0, 3, 0], (0, 5, 1)));
     Ok(())
 }
 
@@ -91,131 +148,199 @@ fn check_of_a_frame(rt: HostRuntime) {
     }
     assert_eq!(rt; register.value(), 0x47_EA4B);
     for cut in 0..=22 {
-        let mut register = CheckRegister::new();
-        register.take_all(&STATION_FRAME[..cut]);
-        register.take_all(&STATION_FRAME[cut..22]);
-        assert_eq!(rt; register.value(), 0x36_0B98, "cut at {cut}");
+        assert_eq!(rt;
+            check_of_two(&STATION_FRAME[..cut], &STATION_FRAME[cut..22]),
+            0x36_0B98
+        );
     }
+}
+
+/// The check of bytes that come in two pieces.
+fn check_of_two(front: &[u8], back: &[u8]) -> u32 {
+    let mut register = CheckRegister::new();
+    register.take_all(front);
+    register.take_all(back);
+    register.value()
+}
+
+/// Whether the frame of the message is this one, in a buffer that had another byte.
+fn is_framed_as(message: &[u8], want: &[u8]) -> bool {
+    if message.len() > LONGEST_MESSAGE {
+        return false;
+    }
+    let mut frame = ArrayVec::new();
+    frame.push(0x55);
+    frame_of(message, &mut frame);
+    frame.as_slice() == want
+}
+
+/// The size of a message's frame, and the check of all its bytes.
+fn size_and_check(message: &[u8; LONGEST_MESSAGE]) -> (usize, u32) {
+    let mut frame = ArrayVec::new();
+    frame_of(message, &mut frame);
+    (frame.len(), crc24q(frame.as_slice()))
 }
 
 #[test]
 fn frames_of_messages(rt: HostRuntime) {
-    let mut frame = ArrayVec::<u8, 1029>::new();
-    frame_of(&STATION_FRAME[3..22], &mut frame);
-    assert_eq!(rt; frame.as_slice(), STATION_FRAME.as_slice());
-    frame_of(&[], &mut frame);
-    assert_eq!(rt;
-        frame.as_slice(),
-        [0xD3, 0x00, 0x00, 0x47, 0xEA, 0x4B].as_slice()
-    );
-    frame_of(&[0x55; 1023], &mut frame);
-    assert_eq!(rt; frame.len(), 1029);
-    assert_eq!(rt; crc24q(frame.as_slice()), 0);
+    assert!(rt; is_framed_as(&STATION_FRAME[3..22], &STATION_FRAME));
+    assert!(rt; is_framed_as(&[], &[0xD3, 0x00, 0x00, 0x47, 0xEA, 0x4B]));
+    assert_eq!(rt; size_and_check(&[0x55; 1023]), (1029, 0));
+}
+
+fn unsigned(reader: &mut BitReader, width: u32) -> Option<u64> {
+    if width > 64 {
+        return None;
+    }
+    reader.unsigned(width)
+}
+
+fn signed(reader: &mut BitReader, width: u32) -> Option<i64> {
+    if width == 0 || width > 64 {
+        return None;
+    }
+    reader.signed(width)
+}
+
+/// Writes 5 in three bits and -11 in five. The room before and behind them, in bits.
+fn put_eight_bits(bytes: &mut ArrayVec<u8, 1023>) -> (usize, usize) {
+    let mut writer = BitWriter::new();
+    let before = writer.bits_left();
+    writer.put(5, 3);
+    writer.put_signed(-11, 5);
+    let behind = writer.bits_left();
+    writer.finish(bytes);
+    (before, behind)
 }
 
 #[test]
 fn bits_of_a_byte(rt: HostRuntime) {
     let mut reader = BitReader::new(&[0xB5]);
-    assert_eq!(rt; reader.unsigned(3), Some(5));
-    assert_eq!(rt; reader.signed(5), Some(-11));
-    assert_eq!(rt; reader.unsigned(1), None);
-    assert_eq!(rt; reader.place(), 8);
-    let mut writer = BitWriter::new();
-    assert_eq!(rt; writer.bits_left(), 8184);
-    writer.put(5, 3);
-    writer.put_signed(-11, 5);
-    assert_eq!(rt; writer.bits_left(), 8176);
-    let mut bytes = ArrayVec::<u8, 1023>::new();
-    writer.finish(&mut bytes);
+    let fields = (
+        unsigned(&mut reader, 3),
+        signed(&mut reader, 5),
+        unsigned(&mut reader, 1),
+    );
+    assert_eq!(rt; (fields, reader.place()), ((Some(5), Some(-11), None), 8));
+    let mut bytes = ArrayVec::new();
+    assert_eq!(rt; put_eight_bits(&mut bytes), (8184, 8176));
     assert_eq!(rt; bytes.as_slice(), [0xB5].as_slice());
+}
+
+/// Writes 1 in four bits, the least number in 64, and 3 in two.
+fn put_seventy_bits(bytes: &mut ArrayVec<u8, 1023>) {
+    let mut writer = BitWriter::new();
+    writer.put(0x1, 4);
+    writer.put_signed(i64::MIN, 64);
+    writer.put(3, 2);
+    writer.finish(bytes);
 }
 
 #[test]
 fn bits_across_bytes(rt: HostRuntime) {
     let bytes = [0x12, 0x34, 0x56, 0x78, 0x9A, 0xBC, 0xDE, 0xF0, 0x0F];
     let mut reader = BitReader::new(&bytes);
-    assert_eq!(rt; reader.unsigned(4), Some(0x1));
-    assert_eq!(rt; reader.unsigned(64), Some(0x2345_6789_ABCD_EF00));
-    assert_eq!(rt; reader.signed(5), None);
-    assert_eq!(rt; reader.place(), 68);
-    assert_eq!(rt; reader.signed(4), Some(-1));
-    let mut writer = BitWriter::new();
-    writer.put(0x1, 4);
-    writer.put_signed(i64::MIN, 64);
-    writer.put(3, 2);
-    let mut written = ArrayVec::<u8, 1023>::new();
-    writer.finish(&mut written);
+    let fields = [unsigned(&mut reader, 4), unsigned(&mut reader, 64)];
+    assert_eq!(rt; fields, [Some(0x1), Some(0x2345_6789_ABCD_EF00)]);
+    let fields = (
+        signed(&mut reader, 5),
+        reader.place(),
+        signed(&mut reader, 4),
+    );
+    assert_eq!(rt; fields, (None, 68, Some(-1)));
+    let mut written = ArrayVec::new();
+    put_seventy_bits(&mut written);
     assert_eq!(rt;
         written.as_slice(),
         [0x18, 0, 0, 0, 0, 0, 0, 0, 0x0C].as_slice()
     );
 }
 
+/// What one call answers, with how often the device has failed by then.
+type Answer = (Result<usize, ErrorKind>, u64);
+
+fn answer(outcome: io::Result<usize>, failures: u64) -> Answer {
+    match outcome {
+        Ok(n) => (Ok(n), failures),
+        Err(error) => (Err(error.kind()), failures),
+    }
+}
+
+fn read(reader: &mut Counted<PieceReader>, buf: &mut [u8]) -> Answer {
+    let outcome = reader.read(buf);
+    answer(outcome, reader.failures())
+}
+
 #[test]
 fn reads_are_counted(rt: HostRuntime) {
-    let pieces = PieceReader::new(
-        &STATION_FRAME,
-        &[4, 0, 25],
-        ReadEnd::Fails(ErrorKind::Interrupted),
-    );
+    let interrupted = ErrorKind::Interrupted;
+    let pieces = PieceReader::new(&STATION_FRAME, &[4, 0, 25], ReadEnd::Fails(interrupted));
     let mut reader = Counted::new(pieces);
     assert_eq!(rt; reader.widest(), 0);
     let mut buf = [0u8; 10];
-    for (want, room) in [(4, 10), (1, 10), (8, 8), (10, 10), (2, 3)] {
+    for (room, want) in [
+        (10, (Ok(4), 0)),
+        (10, (Ok(1), 0)),
+        (8, (Ok(8), 0)),
+        (10, (Ok(10), 0)),
+        (3, (Ok(2), 0)),
+        (7, (Err(interrupted), 1)),
+        (7, (Err(interrupted), 2)),
+    ] {
         assert!(rt; room <= 10);
-        assert!(rt;
-            matches!(reader.read(&mut buf[..room]), Ok(n) if n == want),
-            "{want} of {room}"
-        );
+        assert_eq!(rt; read(&mut reader, &mut buf[..room]), want);
     }
     assert_eq!(rt; buf[..2], STATION_FRAME[23..]);
-    assert_eq!(rt; reader.failures(), 0);
-    for failures in [1, 2] {
-        let interrupted = ErrorKind::Interrupted;
-        assert!(rt; matches!(reader.read(&mut buf[..7]), Err(e) if e.kind() == interrupted));
-        assert_eq!(rt; reader.failures(), failures);
-    }
     assert_eq!(rt; reader.widest(), 10);
     assert_eq!(rt; reader.into_inner().asked(), 7);
+}
+
+/// A writer of eight bytes at most that takes two of them at a time.
+type Pairs = Counted<ShortWriter<ArrayVec<u8, 8>>>;
+
+/// A writer that takes so many bytes, and then ends so.
+fn pairs(total: usize, end: WriteEnd) -> Pairs {
+    Counted::new(ShortWriter::new(ArrayVec::new(), 2, total, end))
+}
+
+fn write(writer: &mut Pairs, bytes: &[u8]) -> Answer {
+    let outcome = writer.write(bytes);
+    answer(outcome, writer.failures())
+}
+
+/// Whether all bytes are written, with how often the device has failed by then.
+fn write_whole(writer: &mut Pairs, bytes: &[u8]) -> (bool, u64) {
+    let is_whole = writer.write_whole(bytes).is_ok();
+    (is_whole, writer.failures())
+}
+
+/// Whether the writer has taken these bytes.
+fn has_taken(writer: Pairs, want: &[u8]) -> bool {
+    writer.into_inner().into_inner().as_slice() == want
 }
 
 #[test]
 fn writes_are_counted(rt: HostRuntime) {
     let other = ErrorKind::Other;
-    let mut writer = Counted::new(ShortWriter::new(
-        ArrayVec::<u8, 8>::new(),
-        2,
-        3,
-        WriteEnd::FailsOnce(other),
-    ));
-    assert!(rt; writer.write_whole(&[1, 2, 3]).is_ok());
-    assert_eq!(rt; writer.failures(), 0);
-    assert!(rt; matches!(writer.write(&[4, 5, 6]), Err(e) if e.kind() == other));
-    assert!(rt; matches!(writer.write(&[4, 5, 6]), Ok(0)));
-    assert_eq!(rt; writer.failures(), 2);
-    assert!(rt; matches!(writer.write(&[]), Ok(0)));
-    assert_eq!(rt; writer.failures(), 2);
-    assert!(rt; writer.write_whole(&[4, 5]).is_err());
-    assert_eq!(rt; writer.failures(), 3);
-    assert_eq!(rt;
-        writer.into_inner().into_inner().as_slice(),
-        [1, 2, 3].as_slice()
-    );
+    let mut writer = pairs(3, WriteEnd::FailsOnce(other));
+    assert_eq!(rt; write_whole(&mut writer, &[1, 2, 3]), (true, 0));
+    assert_eq!(rt; write(&mut writer, &[4, 5, 6]), (Err(other), 1));
+    assert_eq!(rt; write(&mut writer, &[4, 5, 6]), (Ok(0), 2));
+    assert_eq!(rt; write(&mut writer, &[]), (Ok(0), 2));
+    assert_eq!(rt; write_whole(&mut writer, &[4, 5]), (false, 3));
+    assert!(rt; has_taken(writer, &[1, 2, 3]));
 }
 
 #[test]
 fn whole_writes_stop_at_a_failure(rt: HostRuntime) {
     for end in [WriteEnd::TakesNone, WriteEnd::Fails(ErrorKind::Interrupted)] {
-        let mut writer = Counted::new(ShortWriter::new(ArrayVec::<u8, 8>::new(), 2, 5, end));
-        assert!(rt;
-            writer.write_whole(&[1, 2, 3, 4, 5, 6, 7]).is_err(),
+        let mut writer = pairs(5, end);
+        assert_eq!(rt;
+            write_whole(&mut writer, &[1, 2, 3, 4, 5, 6, 7]),
+            (false, 1),
             "{end:?}"
         );
-        assert_eq!(rt; writer.failures(), 1, "{end:?}");
-        assert_eq!(rt;
-            writer.into_inner().into_inner().as_slice(),
-            [1, 2, 3, 4, 5].as_slice()
-        );
+        assert!(rt; has_taken(writer, &[1, 2, 3, 4, 5]), "{end:?}");
     }
 }
 
@@ -236,12 +361,25 @@ impl Write for Clogged {
     }
 }
 
+/// Whether two bytes are written, whether they are flushed, how often the device has failed by
+/// then, and how many flushes it was asked for.
+fn write_and_flush(clogged: Clogged) -> (bool, bool, u64, u32) {
+    let mut writer = Counted::new(ShortWriter::new(clogged, 9, 9, WriteEnd::TakesNone));
+    let is_written = writer.write_whole(&[1, 2]).is_ok();
+    let is_flushed = writer.flush().is_ok();
+    let failures = writer.failures();
+    (
+        is_written,
+        is_flushed,
+        failures,
+        writer.into_inner().into_inner().flushes,
+    )
+}
+
 #[test]
 fn flushes_are_handed_on(rt: HostRuntime) {
-    let clogged = Clogged { flushes: 0 };
-    let mut writer = Counted::new(ShortWriter::new(clogged, 9, 9, WriteEnd::TakesNone));
-    assert!(rt; writer.write_whole(&[1, 2]).is_ok());
-    assert!(rt; writer.flush().is_err());
-    assert_eq!(rt; writer.failures(), 1);
-    assert_eq!(rt; writer.into_inner().into_inner().flushes, 1);
+    assert_eq!(rt;
+        write_and_flush(Clogged { flushes: 0 }),
+        (true, false, 1, 1)
+    );
 }

@@ -200,33 +200,60 @@ fn finish(framer: &mut Framer, found: &mut Found) -> Result<Counts, AllocError> 
     })
 }
 
+/// In which cut and in which size of blocks the stream first doesn't give these frames and counts,
+/// and whether its slice gives the frames.
+fn framed(
+    alloc: Global,
+    bytes: &[u8],
+    frames: &[(u64, usize)],
+    want: Counts,
+) -> Result<(Option<usize>, Option<usize>, bool), AllocError> {
+    let frames = Found::of(alloc, bytes, frames)?;
+    let wrong_cut = first_wrong_cut(alloc, bytes, &frames, want)?;
+    let wrong_size = first_wrong_size(alloc, bytes, &frames, want)?;
+    Ok((wrong_cut, wrong_size, viewed(alloc, bytes)?.is(&frames)))
+}
+
+fn is_framed(alloc: Global, bytes: &[u8], frames: &[(u64, usize)], want: Counts) -> bool {
+    framed(alloc, bytes, frames, want) == Ok((None, None, true))
+}
+
 #[test]
-fn worked_streams(rt: HostRuntime) -> Result<(), Fail> {
-    let preambles = [0xD3; 10];
-    let cases: [(&[u8], &[(u64, usize)], Counts); 11] = [
-        (&FOUR_FRAMES[..25], &[(0, 19)], counted(1, 0, 1, 0, 44, 2)),
-        (&[], &[], counted(0, 0, 0, 0, 0, 0)),
-        (&EMPTY_MESSAGE, &[(0, 0)], counted(1, 0, 1, 0, 6, 1)),
-        (&LATE_FRAME, &[(1, 0)], counted(0, 7, 1, 1, 13, 2)),
-        (&preambles, &[], counted(0, 10, 0, 10, 55, 10)),
-        (&FOUR_FRAMES[..24], &[], counted(0, 24, 0, 24, 65, 3)),
-        (&INNER_FRAME, &[(3, 0)], counted(1, 0, 1, 6, 23, 2)),
-        (&BEHIND_A_CLAIM, &[(3, 19)], counted(0, 28, 1, 3, 74, 3)),
-        (&FOUR_FRAMES[52..91], &[], counted(0, 39, 0, 39, 82, 3)),
-        (&RESERVED_SET, &[(0, 19)], counted(1, 0, 1, 0, 44, 2)),
-        (
-            &FOUR_FRAMES,
-            &[(0, 19), (25, 21), (52, 36), (94, 30)],
-            counted(4, 0, 4, 0, 236, 2),
-        ),
-    ];
-    for (bytes, frames, want) in cases {
-        let frames = Found::of(rt.alloc(), bytes, frames)?;
-        assert_eq!(rt; first_wrong_cut(rt.alloc(), bytes, &frames, want)?, None);
-        assert_eq!(rt; first_wrong_size(rt.alloc(), bytes, &frames, want)?, None);
-        assert!(rt; viewed(rt.alloc(), bytes)?.is(&frames));
-    }
-    Ok(())
+fn worked_streams(rt: HostRuntime) {
+    let alloc = rt.alloc();
+    let four = [(0, 19), (25, 21), (52, 36), (94, 30)];
+    assert!(rt;
+        is_framed(
+            alloc,
+            &FOUR_FRAMES[..25],
+            &[(0, 19)],
+            counted(1, 0, 1, 0, 44, 2)
+        )
+    );
+    assert!(rt; is_framed(alloc, &[], &[], counted(0, 0, 0, 0, 0, 0)));
+    assert!(rt; is_framed(alloc, &EMPTY_MESSAGE, &[(0, 0)], counted(1, 0, 1, 0, 6, 1)));
+    assert!(rt; is_framed(alloc, &LATE_FRAME, &[(1, 0)], counted(0, 7, 1, 1, 13, 2)));
+    assert!(rt; is_framed(alloc, &[0xD3; 10], &[], counted(0, 10, 0, 10, 55, 10)));
+    assert!(rt; is_framed(alloc, &FOUR_FRAMES[..24], &[], counted(0, 24, 0, 24, 65, 3)));
+    assert!(rt; is_framed(alloc, &INNER_FRAME, &[(3, 0)], counted(1, 0, 1, 6, 23, 2)));
+    assert!(rt;
+        is_framed(
+            alloc,
+            &BEHIND_A_CLAIM,
+            &[(3, 19)],
+            counted(0, 28, 1, 3, 74, 3)
+        )
+    );
+    assert!(rt;
+        is_framed(
+            alloc,
+            &FOUR_FRAMES[52..91],
+            &[],
+            counted(0, 39, 0, 39, 82, 3)
+        )
+    );
+    assert!(rt; is_framed(alloc, &RESERVED_SET, &[(0, 19)], counted(1, 0, 1, 0, 44, 2)));
+    assert!(rt; is_framed(alloc, &FOUR_FRAMES, &four, counted(4, 0, 4, 0, 236, 2)));
 }
 
 /// The first place at which the stream, cut in two there, doesn't give these frames and counts.
@@ -353,19 +380,37 @@ fn messages_of_four_frames(rt: HostRuntime) -> Result<(), Fail> {
         (94, &FOUR_FRAMES[97..127]),
     ];
     let mut framer = framer(rt.alloc(), MOST_BYTES)?;
+    assert!(rt; brings_each(&mut framer, &want));
+    assert!(rt; lists_each(&want));
+    Ok(())
+}
+
+/// Whether the bytes of four frames bring each of these frames in turn, alone and with its last
+/// byte.
+fn brings_each(framer: &mut Framer, want: &[(usize, &[u8])]) -> bool {
     let mut place = 0;
     for (offset, message) in want {
         let end = offset.saturating_add(message.len()).saturating_add(6);
-        assert_eq!(rt; frames_until(&mut framer, place, end, offset, message), 1);
+        if frames_until(framer, place, end, *offset, message) != 1 {
+            return false;
+        }
         place = end;
     }
-    let mut frames = Frames::new(&FOUR_FRAMES);
-    for (offset, message) in want {
-        let view = frames.next().expect(&rt, "a frame");
-        assert_eq!(rt; (view.offset, view.message), (offset, message));
+    true
+}
+
+/// Whether the slice of four frames has each of these frames in turn, and no other.
+fn lists_each(want: &[(usize, &[u8])]) -> bool {
+    let mut listed = 0usize;
+    for view in Frames::new(&FOUR_FRAMES) {
+        match want.get(listed) {
+            Some((offset, message)) if view.offset == *offset && view.message == *message => {
+                listed = listed.saturating_add(1)
+            }
+            _ => return false,
+        }
     }
-    assert!(rt; frames.next().is_none());
-    Ok(())
+    listed == want.len()
 }
 
 /// Feeds the bytes of four frames from one place to another. How many frames with this message
@@ -398,26 +443,36 @@ fn is_last(framer: &mut Framer, frame: &Frame, offset: usize, message: &[u8]) ->
     frame.offset == offset as u64 && frame.message.as_slice() == message && next(framer).is_none()
 }
 
+/// The counts of a framer that took a piece so many times: all looks, the most at one byte and the
+/// skipped bytes before the end; and all of them at the end.
+fn repeated(
+    alloc: Global,
+    piece: &[u8],
+    times: usize,
+) -> Result<Option<((u64, u16, u64), Counts)>, AllocError> {
+    let Ok(mut framer) = framer(alloc, MOST_BYTES) else {
+        return Ok(None);
+    };
+    let mut found = Found::new(alloc);
+    for _ in 0..times {
+        if !feed(&mut framer, piece, &mut found)? {
+            return Ok(None);
+        }
+    }
+    let before = (framer.examined(), framer.most(), framer.skipped());
+    Ok(Some((before, finish(&mut framer, &mut found)?)))
+}
+
 #[test]
 fn counts_while_bytes_are_missing(rt: HostRuntime) -> Result<(), Fail> {
-    let mut framer = Framer::new(rt.alloc(), MOST_BYTES).expect(&rt, "room");
-    let mut found = Found::new(rt.alloc());
-    assert!(rt; feed(&mut framer, &LATE_FRAME, &mut found)?);
-    assert_eq!(rt;
-        (framer.examined(), framer.most(), framer.skipped()),
-        (7, 1, 0)
-    );
+    let (before, _) = repeated(rt.alloc(), &LATE_FRAME, 1)?.expect(&rt, "room");
+    assert_eq!(rt; before, (7, 1, 0));
     Ok(())
 }
 
 #[test]
 fn preambles_alone(rt: HostRuntime) -> Result<(), Fail> {
-    let mut framer = Framer::new(rt.alloc(), MOST_BYTES).expect(&rt, "room");
-    let mut found = Found::new(rt.alloc());
-    for _ in 0..200 {
-        assert!(rt; feed(&mut framer, &[0xD3; 10], &mut found)?);
-    }
-    let got = finish(&mut framer, &mut found)?;
+    let (_, got) = repeated(rt.alloc(), &[0xD3; 10], 200)?.expect(&rt, "room");
     assert_eq!(rt;
         (got.frames, got.skipped, got.examined, got.most),
         (0, 2_000, 1_485_380, 985)
