@@ -1,13 +1,10 @@
 //! The time of each message.
-ghost use Rattle.std.specs.Prelude.{option_to_list, ◌==◌, ◌≡◌, ◌<◌, ◌≤◌, ◌*◌, ◌^◌, ◌++◌, ◌∷◌, [], ℕ, Bool, true, false, List};
+ghost use Rattle.std.specs.Prelude.{◌==◌, ◌≡◌, ◌<◌, ◌*◌, [], true, false};
 ghost use Rattle.std.specs.Option.{ForSome};
-ghost use Rattle.std.specs.List.{list_any};
 ghost use Rattle.obs_epoch.specs.Cells.{is_planned as is_planned_lem};
-ghost use Rattle.obs_epoch.specs.Heard.{GatherSetup, Heard};
 ghost use Rattle.rtcm_msg.specs.Msm.{week};
 ghost use Rattle.obs_epoch.specs.Weeks.{weeks};
 ghost use Rattle.obs_epoch.specs.WithLli.{IsKey};
-ghost use Rattle.obs_epoch.specs.Times.{timed};
 
 use crate::plan::Plan;
 use crate::seen::Seen;

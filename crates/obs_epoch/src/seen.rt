@@ -2,7 +2,7 @@
 ghost use Rattle.std.specs.Prelude.{◌≡◌, ◌+◌, ◌<◌};
 ghost use Rattle.obs_epoch.specs.Held.{count_in};
 ghost use Rattle.obs_epoch.specs.Gather.{no_counts};
-ghost use Rattle.obs_epoch.specs.WithLli.{shown_cell, seen_of, tracking_of};
+ghost use Rattle.obs_epoch.specs.WithLli.{seen_of, tracking_of};
 
 use crate::cell::Cell;
 use gnss_obs::{Lock, Sat, Signal, Thousandths};
