@@ -142,5 +142,6 @@ further n from to id cells is at within climb h =
 -- one satellite more is counted where it is written
 pub count_more : (cells : List Cell) (n m count new : ℕ) (b : Bool) → m ≡ suc n → is_written cells m ≡ b → count ≡ written_among cells n → new ≡ count + (if b then 1 else 0)
     → new ≡ written_among cells m
+unfolding written_among
 count_more cells n m count new b is here before now =
     now ∙ ap₂ (λ k v. k + (if v then 1 else 0)) before (sym here ∙ ap (is_written cells) is) ∙ ap (written_among cells) (sym is)

@@ -12,7 +12,7 @@ use crate::time::{WEEK, WEEKS};
 use std::marker::Model;
 
 /// What becomes of a message by its station and time.
-#[derive(Clone, Copy, Debug, PartialEq, Eq)]
+#[derive(Clone, Copy, PartialEq, Eq)]
 pub enum Answer {
     OtherStation,
     Ignored,
@@ -23,7 +23,7 @@ pub enum Answer {
 }
 
 /// What a message tells of station and time.
-#[derive(Clone, Copy, Debug, PartialEq, Eq)]
+#[derive(Clone, Copy)]
 pub struct HeardByClock {
     pub station: Option<u16>,
     pub tow: Option<u32>,

@@ -30,7 +30,7 @@ pub struct Held {
 
 /// Where a cell stands or is to stand: so many cells of its system don't stand behind it. And
 /// whether its key is held.
-#[derive(Clone, Copy, Debug, PartialEq, Eq)]
+#[derive(Clone, Copy)]
 pub struct Spot {
     pub at: usize,
     pub is_held: bool,
