@@ -222,7 +222,10 @@ impl Grid for Grid7 {
     }
 
     fn rate(satellite: &Satellite7, cell: &Cell7) -> Option<i32> {
-        if satellite.rate == -8192 || cell.rate == -16384 {
+        if satellite.rate == -8192 {
+            return None;
+        }
+        if cell.rate == -16384 {
             return None;
         }
         Some(satellite.rate as i32 * 10000 + cell.rate as i32)
