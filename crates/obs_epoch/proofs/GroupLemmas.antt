@@ -1,9 +1,9 @@
 -- The cells of one satellite, among cells that stand by satellite.
-use Rattle.std.proofs.Common.{◌≡◌, ℕ, zero, suc, ◌+◌, ◌-◌, ◌<◌, ◌≤◌, ◌==◌, Bool, true, false, ◌||◌, ◌&&◌, List, [], ◌∷◌, map, filter, take, drop, refl, sym, ap, ap₂, ◌∙◌, subst, arith, length, nat_lt, All, min}
+use Rattle.std.proofs.Common.{◌≡◌, ℕ, zero, suc, ◌+◌, ◌-◌, ◌<◌, ◌≤◌, ◌==◌, Bool, true, false, ◌||◌, ◌&&◌, List, [], ◌∷◌, map, filter, take, drop, refl, sym, ap, ap₂, ◌∙◌, subst, arith, length, nat_lt, All}
 use Rattle.std.specs.Prelude.{if◌then◌else◌, cond}
 use Rattle.std.specs.List.{AllByRecursion}
-use Rattle.std.proofs.lemmas.List.Elements.{All-take, All-drop, All-head, All-tail}
-use Rattle.std.proofs.lemmas.List.{length-take, length-drop, drop-drop}
+use Rattle.std.proofs.lemmas.List.Elements.{All-head, All-tail}
+use Rattle.std.proofs.lemmas.List.{drop-drop}
 use Rattle.gnss_obs.specs.declared.system.System.{System}
 use Rattle.obs_epoch.specs.declared.cell.Cell.{Cell}
 use Rattle.obs_epoch.specs.Values.{IsHeld, AreHeld, has_value, is_written, written_among, is_of_satellite, run}
