@@ -1,12 +1,12 @@
 -- Dates and times of day, as the calendar's library has them.
-use Rattle.std.proofs.Common.{true≢false, ◌≡◌, ◌<◌, ◌≤◌, ◌+◌, ◌*◌, ◌/◌, ◌%◌, ◌∙◌, ℕ, ℤ, pos, negsuc, ◌+ℤ◌, ◌-ℤ◌, ◌*ℤ◌, neg_ℤ, ◌≤ℤ◌, rules, refl, sym, subst, arith, nat_abs, to_z, of_z, to_z-of_z, FitsSigned, w8, w16, w32, w64, ap, ap₂, T, Fits, Bool, true, false, Result, Ok, Err, IsOk, ◌↔◌}
+use Rattle.std.proofs.Common.{true≢false, ◌≡◌, ◌<◌, ◌≤◌, ◌+◌, ◌*◌, ◌/◌, ◌%◌, ◌∙◌, ℕ, ℤ, pos, negsuc, ◌+ℤ◌, ◌-ℤ◌, ◌*ℤ◌, neg_ℤ, ◌≤ℤ◌, rules, refl, sym, subst, arith, nat_abs, to_z, of_z, to_z-of_z, FitsSigned, w8, w16, w32, w64, ap, ap₂, T, Fits, true, false, Result, Err, IsOk}
 use lib.Signed.{non_neg}
 use Rattle.std.specs.Int.{w128}
 use Rattle.std.specs.Prelude.{int_div, int_lt}
 use Rattle.jiff_core.specs.declared.civil.date.Date.{Date}
 use Rattle.jiff_core.specs.declared.civil.time.Time.{Time}
 use Rattle.jiff_core.specs.declared.civil.datetime.DateTime.{DateTime}
-use Rattle.jiff_core.specs.Calendar.{days_from_civil, IsCivilDate, IsDate, IsYear}
+use Rattle.jiff_core.specs.Calendar.{days_from_civil, IsCivilDate, IsDate}
 use Rattle.jiff_core.specs.Date.{epoch_day, IsYmd}
 use Rattle.jiff_core.specs.DateTime.{civil_nanos}
 use Rattle.jiff_core.specs.Time.{time_nanos, IsHms, IsTime}

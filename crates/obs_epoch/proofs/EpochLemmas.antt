@@ -3,10 +3,9 @@ use Rattle.std.proofs.Common.{◌≡◌, ℕ, ◌<◌, Bool, true, false, List, 
 use Rattle.std.specs.Prelude.{◌==◌, cond, flat_map, filter_map, find, option_and_then}
 use Rattle.std.specs.Option.{option_map_or}
 use Rattle.std.proofs.lemmas.List.Elements.{filter-append}
-use Rattle.std.proofs.lemmas.List.{map-append}
 use Rattle.gnss_obs.specs.declared.system.System.{System}
 use Rattle.gnss_obs.specs.declared.system.System.TheVariants.{Gps, Galileo}
-use Rattle.obs_epoch.specs.Heard.{GatherSetup, Heard}
+use Rattle.obs_epoch.specs.Heard.{GatherSetup}
 use Rattle.obs_epoch.specs.declared.seen.Seen.{Seen}
 use Rattle.obs_epoch.specs.Times.{Timed, is_at, greatest_time}
 use Rattle.obs_epoch.specs.Cells.{offered, kept, kept_at, is_planned, has_same_key}
@@ -14,13 +13,11 @@ use Rattle.obs_epoch.specs.Order.{sorted}
 use Rattle.obs_epoch.specs.Values.{planned_of}
 use Rattle.obs_epoch.specs.Loss.{times, lock_of, locked_at, previous, last_of, lli_of, lli_with}
 use Rattle.std.specs.List.{cons_option}
-use Rattle.obs_epoch.specs.WithLli.{EpochWithLli}
-use Rattle.obs_epoch.specs.Epochs.{cells_with_lli, epoch_at, closed_times, closed_epochs}
-use Rattle.obs_epoch.specs.Times.{is_closed, timed}
+use Rattle.obs_epoch.specs.Epochs.{cells_with_lli, epoch_at, closed_times}
+use Rattle.obs_epoch.specs.Times.{is_closed}
 use Rattle.obs_epoch.specs.Epochs.{is_shut}
-use Rattle.obs_epoch.proofs.TimesLemmas.{next, timed-push}
 use Rattle.obs_epoch.proofs.ClockLemmas.{Follows, first, greater, equal}
-use Rattle.obs_epoch.proofs.ClosedLemmas.{Below, IsLess, when, one_fails, less_false, times-push_new, times-push_same, times-push_none, no_times, ends, closed_is, taken_follows, grows}
+use Rattle.obs_epoch.proofs.ClosedLemmas.{Below, IsLess, when, one_fails, less_false, times-push_new, times-push_same, times-push_none, no_times, ends, closed_is}
 
 -- the message isn't taken, or has a later time
 abbrev pub IsLater : ℕ → Option ℕ → Type 0

@@ -1,9 +1,9 @@
 -- The cells of one satellite, among cells that stand by satellite.
-use Rattle.std.proofs.Common.{◌≡◌, ℕ, zero, suc, ◌+◌, ◌-◌, ◌<◌, ◌≤◌, ◌==◌, Bool, true, false, ◌||◌, ◌&&◌, List, [], ◌∷◌, map, filter, take, drop, refl, sym, ap, ap₂, ◌∙◌, subst, arith, length, nat_lt, All, min}
+use Rattle.std.proofs.Common.{◌≡◌, ℕ, zero, suc, ◌+◌, ◌-◌, ◌<◌, ◌≤◌, ◌==◌, Bool, true, false, ◌||◌, ◌&&◌, List, [], ◌∷◌, map, filter, take, drop, refl, sym, ap, ap₂, ◌∙◌, subst, arith, length, nat_lt, All}
 use Rattle.std.specs.Prelude.{if◌then◌else◌, cond}
 use Rattle.std.specs.List.{AllByRecursion}
-use Rattle.std.proofs.lemmas.List.Elements.{All-take, All-drop, All-head, All-tail}
-use Rattle.std.proofs.lemmas.List.{length-take, length-drop, drop-drop}
+use Rattle.std.proofs.lemmas.List.Elements.{All-head, All-tail}
+use Rattle.std.proofs.lemmas.List.{drop-drop}
 use Rattle.gnss_obs.specs.declared.system.System.{System}
 use Rattle.obs_epoch.specs.declared.cell.Cell.{Cell}
 use Rattle.obs_epoch.specs.Values.{IsHeld, AreHeld, has_value, is_written, written_among, is_of_satellite, run}
@@ -142,5 +142,6 @@ further n from to id cells is at within climb h =
 -- one satellite more is counted where it is written
 pub count_more : (cells : List Cell) (n m count new : ℕ) (b : Bool) → m ≡ suc n → is_written cells m ≡ b → count ≡ written_among cells n → new ≡ count + (if b then 1 else 0)
     → new ≡ written_among cells m
+unfolding written_among
 count_more cells n m count new b is here before now =
     now ∙ ap₂ (λ k v. k + (if v then 1 else 0)) before (sym here ∙ ap (is_written cells) is) ∙ ap (written_among cells) (sym is)

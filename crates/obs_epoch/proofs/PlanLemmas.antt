@@ -1,6 +1,6 @@
 -- Codes between commas, and the signals of a plan.
 use Rattle.std.proofs.Common.{◌≡◌, ℕ, suc, zero, ◌+◌, ◌<◌, ◌≤◌, ◌==◌, ◌||◌, Bool, true, false, not, List, [], ◌∷◌, ◌++◌, length, take, drop, All, nat_eq, nat_lt, refl, sym, ap, ap₂, ◌∙◌, subst, arith, Option, Some, None, Result, Ok, Err, rules}
-use Rattle.std.specs.Prelude.{cond, position, if◌then◌else◌, option_map, unwrap_or, codes}
+use Rattle.std.specs.Prelude.{cond, if◌then◌else◌, option_map, unwrap_or, codes}
 use Rattle.std.specs.Str.{bytes_eq}
 use Rattle.std.proofs.Common.{Bor}
 use Rattle.std.proofs.lemmas.Cmp.{nat_eq_equiv}

@@ -10,7 +10,7 @@ use Rattle.gnss_obs.specs.declared.system.System.TheVariants.{Gps, Galileo}
 use Rattle.obs_epoch.specs.declared.seen.Seen.{Seen}
 use Rattle.obs_epoch.specs.declared.seen.KnownLock.{KnownLock}
 use Rattle.obs_epoch.specs.Heard.{GatherSetup, Heard, is_own, ends_epoch}
-use Rattle.obs_epoch.specs.Times.{Timed, is_at, greatest_time, is_closed, taken_at, timed}
+use Rattle.obs_epoch.specs.Times.{Timed, is_at, greatest_time, is_closed, taken_at}
 use Rattle.obs_epoch.specs.Cells.{kept_at, offered, is_planned, has_same_key}
 use Rattle.obs_epoch.specs.Loss.{lock_of, locked_at, latest_in, previous, times, last_of, is_locked, lli_with}
 use Rattle.obs_epoch.specs.Epochs.{cells_with_lli, epoch_at, closed_so_far}

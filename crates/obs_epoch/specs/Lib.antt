@@ -17,5 +17,6 @@ pub mod Gather
 pub mod Standing
 pub mod Kinds
 pub mod Gathering
+pub mod Calls
 pub mod Laws
 pub mod Reach

@@ -45,6 +45,10 @@ signals_after system earlier [] = Ok earlier
 signals_after system earlier (code ∷ rest) =
     one_signal_more system earlier (signal_of_code system code) (λ signals. signals_after system signals rest)
 
+-- the signals of codes with commas between them
+abbrev pub signals_coded : System → List ℕ → Result (List ℕ) PlanFault
+signals_coded system text = signals_after system [] (between_commas text)
+
 -- the numbers below n, rising
 abbrev pub below : ℕ → List ℕ
 below zero = []
@@ -55,7 +59,7 @@ abbrev pub signals_of : System → List ℕ → Result (List ℕ) PlanFault
 signals_of system text =
     if bytes_eq text (codes "all") then Ok (below (length (table system)))
     else (if bytes_eq text (codes "none") then Ok []
-    else signals_after system [] (between_commas text))
+    else signals_coded system text)
 
 abbrev some_planned : List ℕ → List ℕ → Result PlanValue PlanFault
 some_planned [] [] = Err NothingPlanned

@@ -1,13 +1,13 @@
 -- Signals as a plan holds them.
-use Rattle.std.specs.Prelude.{◌≡◌, ℕ, ◌+◌, ◌<◌, List, [], ◌∷◌, ◌++◌, map, length, All, Option, Some, None, true, false, ◌==◌, get_or, position}
+use Rattle.std.specs.Prelude.{◌≡◌, ℕ, ◌+◌, ◌<◌, List, [], ◌∷◌, ◌++◌, map, length, All, Option, Some, None, true, false, ◌==◌, ◌⊎◌, get_or, position, Result, Ok}
 use Rattle.gnss_obs.specs.declared.system.System.{System}
-use Rattle.gnss_obs.specs.Signals.{SignalAt, IsSignal, table}
+use Rattle.gnss_obs.specs.Signals.{SignalAt, IsSignal, table, signal_of_code}
 use Rattle.gnss_obs.specs.declared.system.System.TheVariants.{Gps, Galileo}
 use Rattle.std.specs.List.{IsDistinct, list_any}
 use Rattle.std.specs.Prelude.{nat_eq}
-use Rattle.obs_epoch.specs.Plans.{between_commas}
+use Rattle.obs_epoch.specs.Plans.{between_commas, IsTaken, IsRefused}
 use Rattle.obs_epoch.specs.declared.fault.PlanFault.{PlanFault}
-use Rattle.obs_epoch.specs.declared.fault.PlanFault.TheVariants.{UnknownCode, RepeatedCode, NothingPlanned}
+use Rattle.obs_epoch.specs.declared.fault.PlanFault.TheVariants.{UnknownCode, RepeatedCode, NothingPlanned, Memory}
 use Rattle.obs_epoch.specs.Values.{PlanValue}
 
 -- their places in the table of their system
@@ -31,6 +31,22 @@ pub record AreFound (places : List (Option ℕ)) (planned : List ℕ) : Type 0 w
 abbrev pub codes_in : Option (List ℕ) → List (List ℕ)
 codes_in None = []
 codes_in (Some text) = between_commas text
+
+-- the signals of a system are those that a text plans
+abbrev pub ArePlanned : System → Result (List ℕ) PlanFault → List SignalAt → Type 0
+ArePlanned system planned ss = (planned ≡ Ok (indices ss)) × IsOf system ss
+
+-- a code's signal is taken behind signals of its system
+abbrev pub TakesCode : System → List ℕ → List SignalAt → List SignalAt → Type 0
+TakesCode system code before after = IsTaken system (indices before) (signal_of_code system code) (indices after) × IsOf system after
+
+-- a code's signal is refused behind signals of its system
+abbrev pub RefusesCode : System → List ℕ → List SignalAt → PlanFault → Type 0
+RefusesCode system code before fault = IsRefused system (indices before) (signal_of_code system code) fault
+
+-- the fault is want of memory, or such a one
+abbrev pub IsMemoryFaultOr : (PlanFault → Type 0) → PlanFault → Type 0
+IsMemoryFaultOr P fault = (fault ≡ Memory) ⊎ P fault
 
 -- a signal of another system, or one that came before, behind signals of a system
 abbrev pub IsUnfitBehind : System → List SignalAt → SignalAt → PlanFault → Type 0

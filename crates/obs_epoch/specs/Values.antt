@@ -72,7 +72,7 @@ run id [] = 0
 run id (c ∷ cells) = if is_of_satellite id c then suc (run id cells) else 0
 
 -- of the first n satellites so many are to be written
-abbrev pub written_among : List Cell → ℕ → ℕ
+unfoldable pub written_among : List Cell → ℕ → ℕ
 written_among cells zero = 0
 written_among cells (suc n) = written_among cells n + (if is_written cells (suc n) then 1 else 0)
 

@@ -1,5 +1,5 @@
 -- Kept cells with their loss-of-lock indicators, and the two parts in which they are held.
-use Rattle.std.specs.Prelude.{Bool, if◌then◌else◌, ◌≡◌, ℕ, List, [], ◌∷◌, length, map, insert, IfSome, All}
+use Rattle.std.specs.Prelude.{◌≡◌, ℕ, List, [], ◌∷◌, length, map, insert, IfSome, All}
 use Rattle.gnss_obs.specs.declared.system.System.{System}
 use Rattle.gnss_obs.specs.declared.system.System.TheVariants.{Gps, Galileo}
 use Rattle.gnss_obs.specs.Satellites.{IsSatellite}
@@ -86,7 +86,3 @@ AreTracked e gps galileo = (length e.gps ≡ length gps) × (length e.galileo �
 -- the epoch that others see
 abbrev pub shown : EpochWithLli → EpochValue
 shown e = record { time = e.time; gps = map shown_cell e.gps; galileo = map shown_cell e.galileo }
-
--- so many lock codes there are: DF407 of the long form, DF402 of the short one
-abbrev pub lock_codes : Bool → ℕ
-lock_codes is_msm7 = if is_msm7 then 1024 else 16

@@ -1,5 +1,5 @@
 //! GPS time as a date and a time of day.
-ghost use Rattle.std.specs.Prelude.{◌≡◌, ◌≤◌, ◌<◌, ◌*◌, ◌+◌, ◌↔◌, ℕ, IsSome, IfSome, IfNone, pos, ◌*ℤ◌};
+ghost use Rattle.std.specs.Prelude.{◌≡◌, ◌<◌, ◌*◌, ◌+◌, ℕ, IfSome, IfNone, pos, ◌*ℤ◌};
 ghost use Rattle.rtcm_msg.specs.Msm.{week};
 ghost use Rattle.obs_epoch.specs.Weeks.{weeks};
 ghost use Rattle.obs_epoch.specs.Dates.{IsCivil, IsCivilOf, civil_of, nanoseconds_of};

@@ -1,13 +1,10 @@
 //! The time of each message.
-ghost use Rattle.std.specs.Prelude.{option_to_list, ◌==◌, ◌≡◌, ◌<◌, ◌≤◌, ◌*◌, ◌^◌, ◌++◌, ◌∷◌, [], ℕ, Bool, true, false, List};
+ghost use Rattle.std.specs.Prelude.{◌==◌, ◌≡◌, ◌<◌, ◌*◌, [], true, false};
 ghost use Rattle.std.specs.Option.{ForSome};
-ghost use Rattle.std.specs.List.{list_any};
 ghost use Rattle.obs_epoch.specs.Cells.{is_planned as is_planned_lem};
-ghost use Rattle.obs_epoch.specs.Heard.{GatherSetup, Heard};
 ghost use Rattle.rtcm_msg.specs.Msm.{week};
 ghost use Rattle.obs_epoch.specs.Weeks.{weeks};
 ghost use Rattle.obs_epoch.specs.WithLli.{IsKey};
-ghost use Rattle.obs_epoch.specs.Times.{timed};
 
 use crate::plan::Plan;
 use crate::seen::Seen;
@@ -15,7 +12,7 @@ use crate::time::{WEEK, WEEKS};
 use std::marker::Model;
 
 /// What becomes of a message by its station and time.
-#[derive(Clone, Copy, Debug, PartialEq, Eq)]
+#[derive(Clone, Copy, PartialEq, Eq)]
 pub enum Answer {
     OtherStation,
     Ignored,
@@ -26,7 +23,7 @@ pub enum Answer {
 }
 
 /// What a message tells of station and time.
-#[derive(Clone, Copy, Debug, PartialEq, Eq)]
+#[derive(Clone, Copy)]
 pub struct HeardByClock {
     pub station: Option<u16>,
     pub tow: Option<u32>,

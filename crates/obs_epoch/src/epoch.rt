@@ -179,6 +179,7 @@ pub fn is_written(cells: &[Cell], id: u8) -> bool
 }
 
 // Of a system's satellites, how many have a cell that says something.
+#[tactic(auto, unfolding(crate::specs::Values::written_among))]
 fn written(cells: &[Cell], system: System) -> usize
     requires held { AreHeld system cells.now }
     requires order { AreSorted cells.now }

@@ -1,24 +1,21 @@
 //! Messages into epochs, with the indicators of lost lock.
-ghost use Rattle.std.specs.Prelude.{◌≡◌, ◌↔◌, ◌⊎◌, ◌+◌, ◌<◌, ◌≤◌, [], true, false, length, None, Some, is_some, IfOk, IfErr, IfSome, IsOk, Err, option_map, option_to_list, ◌&&◌, ◌||◌, not, List, Bool, Option, ◌++◌, ◌∷◌, All};
-ghost use Rattle.std.specs.Option.{ForSome, option_map_or};
+ghost use Rattle.std.specs.Prelude.{◌≡◌, ◌↔◌, ◌⊎◌, ◌<◌, ◌≤◌, [], true, false, length, None, Some, is_some, IfOk, IfErr, IfSome, IsOk, Err, option_map, option_to_list, not, List, Option, All};
 ghost use Rattle.rtcm_msg.specs.Entries.{IsEntry};
-ghost use Rattle.rtcm_msg.specs.Msm.{week};
+ghost use Rattle.rtcm_msg.specs.Msm.{lock_codes, week};
 ghost use Rattle.obs_epoch.specs.Weeks.{weeks};
-ghost use Rattle.obs_epoch.specs.Heard.{GatherSetup, Heard, heard, seen_in, system_of};
-ghost use Rattle.obs_epoch.specs.Times.{timed};
-ghost use Rattle.obs_epoch.specs.Cells.{firsts};
+ghost use Rattle.obs_epoch.specs.Heard.{GatherSetup, Heard, heard, system_of};
 ghost use Rattle.obs_epoch.specs.Order.{StandByPlan};
-ghost use Rattle.obs_epoch.specs.WithLli.{IsObserved, lock_codes, shown};
-ghost use Rattle.obs_epoch.specs.Epochs.{values_told, no_values, values_of, closed_so_far};
+ghost use Rattle.obs_epoch.specs.WithLli.{IsObserved};
+ghost use Rattle.obs_epoch.specs.Epochs.{values_told, values_of};
 ghost use Rattle.obs_epoch.specs.Held.{count_in, most_locks, recorded};
 ghost use Rattle.obs_epoch.specs.Step.{answer_by, closed_by as closes};
-ghost use Rattle.obs_epoch.specs.Clock.{closes_first, answer_of, is_pending};
-ghost use Rattle.obs_epoch.specs.Standing.{HasTakenMessages, held_at, locked_in};
+ghost use Rattle.obs_epoch.specs.Standing.{HasTakenMessages};
 ghost use Rattle.obs_epoch.specs.Values.{Closed, most_cells};
-ghost use Rattle.obs_epoch.specs.Kinds.{is_close_first, kind_by, kind_of, is_no_station, setup_of};
-ghost use Rattle.obs_epoch.specs.Gathering.{HasGatheredEpochs, IsAwaited, closed_by, closed_in, is_done, plan_in};
+ghost use Rattle.obs_epoch.specs.Kinds.{is_close_first, kind_by, is_no_station, setup_of};
+ghost use Rattle.obs_epoch.specs.Gathering.{HasGatheredEpochs, closed_by, closed_in, plan_in};
+ghost use Rattle.obs_epoch.specs.Calls.{TellsClosingFirst, AwaitsMessage, GathersMessage, TellsKindOfTaken, EndsPendingEpoch, StaysEnded, HoldsCells, HoldsLockedKeys};
 ghost use Rattle.obs_epoch.specs.declared.fault.PlanFault.{PlanFault};
-ghost use Rattle.obs_epoch.specs.Gather.{take_step, end_step, loaded_by, load_heard, load_entry, load_entries, epoch_begun, is_same as is_same_lem, no_epoch, no_counts, cells_in, load, noted, rested, fate_in, hold};
+ghost use Rattle.obs_epoch.specs.Gather.{take_step, end_step, loaded_by, load_heard, load_entry, load_entries, epoch_begun, is_same as is_same_lem, no_counts, cells_in, load, noted, rested, fate_in, hold};
 ghost use Rattle.obs_epoch.specs.declared.seen.CellCounts.{CellCounts};
 
 use crate::cell::StationValues;
@@ -131,19 +128,14 @@ impl Gatherer {
         requires { self.old.has_ended ≡ false }
         // The pending epoch is closed first exactly where this message's time is greater and within
         // the weeks.
-        ensures exactly { (s : GatherSetup) (ms : List Heard) (es : List Closed) → HasGatheredEpochs self.old s ms es None
-            → is_close_first result.kind ≡ closes_first s (timed s ms) (heard m.now) }
-        ensures first { (s : GatherSetup) (ms : List Heard) (es : List Closed) → HasGatheredEpochs self.old s ms es None → is_close_first result.kind ≡ true
-            → HasGatheredEpochs self.new s ms (es ++ closed_by (closed_in self.new) self.new.values) (Some (heard m.now)) }
+        ensures exactly { TellsClosingFirst self.old (heard m.now) result.kind }
+        ensures first { AwaitsMessage self.old self.new (heard m.now) result.kind }
         // A message that comes again is taken.
         ensures again { (s : GatherSetup) (ms : List Heard) (es : List Closed) → HasGatheredEpochs self.old s ms es (Some (heard m.now))
             → is_close_first result.kind ≡ false }
         // Every other message is taken, and hands out the epoch that it closes.
-        ensures taken { (s : GatherSetup) (ms : List Heard) (es : List Closed) (again : Option Heard) → HasGatheredEpochs self.old s ms es again
-            → IsAwaited again (heard m.now) → is_close_first result.kind ≡ false
-            → HasGatheredEpochs self.new s (ms ++ heard m.now ∷ []) (es ++ closed_by (closed_in self.new) self.new.values) None }
-        ensures kind { (s : GatherSetup) (ms : List Heard) (es : List Closed) (again : Option Heard) → HasGatheredEpochs self.old s ms es again
-            → IsAwaited again (heard m.now) → is_close_first result.kind ≡ false → result.kind ≡ kind_of s ms (heard m.now) }
+        ensures taken { GathersMessage self.old self.new (heard m.now) result.kind }
+        ensures kind { TellsKindOfTaken self.old (heard m.now) result.kind }
         ensures closed { result.closed ≡ is_some (closed_in self.new) }
         ensures going { self.new.has_ended ≡ false }
     {
@@ -153,13 +145,11 @@ impl Gatherer {
     /// No message follows: closes the pending epoch, and says whether there was one. After the
     /// first `end` there is none.
     pub fn end(&mut self) -> bool
-        ensures closes { (s : GatherSetup) (ms : List Heard) (es : List Closed) → HasGatheredEpochs self.old s ms es None → self.old.has_ended ≡ false
-            → (result ≡ is_pending s (timed s ms)) × HasGatheredEpochs self.new s ms (es ++ closed_by (closed_in self.new) self.new.values) None }
+        ensures closes { EndsPendingEpoch self.old self.new result }
         ensures closed { result ≡ is_some (closed_in self.new) }
         ensures ended { self.new.has_ended ≡ true }
         ensures twice { self.old.has_ended ≡ true → (result ≡ false) × (self.new ≡ rested self.old) }
-        ensures stays { (s : GatherSetup) (ms : List Heard) (es : List Closed) (again : Option Heard) → HasGatheredEpochs self.old s ms es again
-            → self.old.has_ended ≡ true → HasGatheredEpochs self.new s ms es again }
+        ensures stays { StaysEnded self.old self.new }
     {
         if self.has_ended {
             self.handed = false;
@@ -194,8 +184,7 @@ impl Gatherer {
     /// of the one last closed.
     pub fn cells(&self, system: System) -> usize
         ensures count { result ≡ length (cells_in system self.now.epoch) }
-        ensures held { (s : GatherSetup) (ms : List Heard) (es : List Closed) (again : Option Heard) → HasGatheredEpochs self.now s ms es again
-            → result ≡ length (cells_in system (held_at s (timed s ms))) }
+        ensures held { HoldsCells self.now system result }
         ensures bound { result ≤ most_cells }
     {
         self.held.len(system)
@@ -205,8 +194,7 @@ impl Gatherer {
     /// has a kept cell with a valid phase and a known lock.
     pub fn locks(&self) -> usize
         ensures count { result ≡ recorded self.now.locks }
-        ensures keys { (s : GatherSetup) (ms : List Heard) (es : List Closed) (again : Option Heard) → HasGatheredEpochs self.now s ms es again
-            → result ≡ length (firsts (locked_in s (timed s ms) (closed_so_far s (timed s ms) (is_done self.now s ms again)))) }
+        ensures keys { HoldsLockedKeys self.now result }
         ensures bound { result ≤ most_locks }
     {
         self.locks.len()

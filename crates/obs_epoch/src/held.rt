@@ -1,8 +1,6 @@
 //! The epoch that is held: its cells and how each is tracked, and the station values so far.
 ghost use Rattle.std.specs.Prelude.{◌≡◌, ◌<◌, ◌≤◌, [], length, IfOk, ◌-◌, false, map, insert, slice_index_or};
-ghost use Rattle.rtcm_msg.specs.Msm.{week};
-ghost use Rattle.obs_epoch.specs.Weeks.{weeks};
-ghost use Rattle.obs_epoch.specs.Values.{AreHeld, cells_of, most_cells};
+ghost use Rattle.obs_epoch.specs.Values.{most_cells};
 ghost use Rattle.obs_epoch.specs.Epochs.{no_values};
 ghost use Rattle.obs_epoch.specs.WithLli.{IsKey, IsObserved, MayBeHeld, shown_cell, cell_with_lli, shown, paired};
 ghost use Rattle.obs_epoch.specs.Held.{is_held as is_held_lem, is_cell_of, note_all};
@@ -32,7 +30,7 @@ pub struct Held {
 
 /// Where a cell stands or is to stand: so many cells of its system don't stand behind it. And
 /// whether its key is held.
-#[derive(Clone, Copy, Debug, PartialEq, Eq)]
+#[derive(Clone, Copy)]
 pub struct Spot {
     pub at: usize,
     pub is_held: bool,

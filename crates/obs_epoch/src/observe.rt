@@ -1,9 +1,9 @@
 //! The cells of a message in thousandths, where their satellite and signal are listed.
 ghost use Rattle.std.specs.Prelude.{◌≡◌, ◌<◌, IfSome};
-ghost use Rattle.gnss_obs.specs.Satellites.{IsSatellite};
 ghost use Rattle.rtcm_msg.specs.Entries.{IsEntry};
+ghost use Rattle.rtcm_msg.specs.Msm.{lock_codes};
 ghost use Rattle.obs_epoch.specs.Heard.{seen_in, observed, lock_by};
-ghost use Rattle.obs_epoch.specs.WithLli.{IsObserved, lock_codes};
+ghost use Rattle.obs_epoch.specs.WithLli.{IsObserved};
 
 use crate::seen::Seen;
 use gnss_obs::{Lock, Sat, Signal, System, doppler, phase, pseudorange, strength};

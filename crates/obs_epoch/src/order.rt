@@ -9,7 +9,7 @@ use crate::plan::Plan;
 use gnss_obs::{Sat, Signal, System};
 
 /// The seat of a key: its satellite's number, and its signal's place in the plan.
-#[derive(Clone, Copy, Debug, PartialEq, Eq)]
+#[derive(Clone, Copy)]
 pub struct Seat {
     pub satellite: u8,
     pub place: usize,

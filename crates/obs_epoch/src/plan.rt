@@ -1,10 +1,10 @@
 //! Plans: the signals that are wanted.
-ghost use Rattle.std.specs.Prelude.{◌≡◌, ◌<◌, ◌≤◌, ◌+◌, ◌⊎◌, ◌++◌, ◌∷◌, [], ◌==◌, ℕ, length, slice_index, map, MatchOption, MatchResult, IfOk, IfErr, IfSome, IsOk, IsTrue, ◌↔◌, false, Ok, Err, All, option_map, position, Result, List};
+ghost use Rattle.std.specs.Prelude.{◌≡◌, ◌<◌, ◌≤◌, ◌+◌, ◌++◌, ◌∷◌, [], ◌==◌, length, slice_index, MatchResult, IfErr, IfSome, IsTrue, ◌↔◌, false, Ok, Err, option_map, Result};
 ghost use Rattle.gnss_obs.specs.declared.system.System.TheVariants.{Gps, Galileo};
-ghost use Rattle.gnss_obs.specs.Signals.{IsSignal, table, signal_of_code};
+ghost use Rattle.gnss_obs.specs.Signals.{table};
 ghost use Rattle.obs_epoch.specs.Values.{planned_of};
-ghost use Rattle.obs_epoch.specs.Plans.{plan_of, signals_of, signals_after, IsTaken, IsRefused, between_commas, below, place_in};
-ghost use Rattle.obs_epoch.specs.Signals.{indices, IsOf, codes_in, IsUnfitBehind, IsUnfit, IsUnplanned, IsPlanOf};
+ghost use Rattle.obs_epoch.specs.Plans.{plan_of, signals_of, signals_coded, between_commas, below, place_in};
+ghost use Rattle.obs_epoch.specs.Signals.{indices, IsOf, codes_in, ArePlanned, TakesCode, RefusesCode, IsMemoryFaultOr, IsUnfitBehind, IsUnfit, IsUnplanned, IsPlanOf};
 
 use crate::fault::PlanFault;
 use crate::signals::Signals;
@@ -39,7 +39,7 @@ impl Plan {
     pub fn parse(alloc: Global, gps: &str, galileo: &str) -> Result<Plan, PlanFault>
         ensures { MatchResult result
             (λ p. plan_of gps.now galileo.now ≡ Ok p)
-            (λ e. (e ≡ PlanFault.Memory) ⊎ (plan_of gps.now galileo.now ≡ Err e)) }
+            (IsMemoryFaultOr (λ e. plan_of gps.now galileo.now ≡ Err e)) }
     {
         let gps = read_signals(alloc, System::Gps, gps)?;
         let galileo = read_signals(alloc, System::Galileo, galileo)?;
@@ -59,7 +59,7 @@ impl Plan {
     ) -> Result<Plan, PlanFault>
         ensures cases { MatchResult result
             (λ p. IsPlanOf gps.now galileo.now p)
-            (λ e. (e ≡ PlanFault.Memory) ⊎ IsUnplanned gps.now galileo.now e) }
+            (IsMemoryFaultOr (IsUnplanned gps.now galileo.now)) }
         ensures planned { IsOf Gps gps.now → IsOf Galileo galileo.now → 0 < length gps.now + length galileo.now
             → IfErr result (λ e. e ≡ PlanFault.Memory) }
     {
@@ -118,7 +118,7 @@ impl Plan {
 fn collected(alloc: Global, system: System, signals: &[Signal]) -> Result<Signals, PlanFault>
     ensures { MatchResult result
         (λ s. (s ≡ signals.now) × IsOf system signals.now)
-        (λ e. (e ≡ PlanFault.Memory) ⊎ IsUnfit system signals.now e) }
+        (IsMemoryFaultOr (IsUnfit system signals.now)) }
 {
     let mut collected = Signals::new(alloc);
     for i in 0..signals.len() {
@@ -132,7 +132,7 @@ fn add_signal(signals: &mut Signals, system: System, signal: Signal) -> Result<(
     requires { IsOf system signals.old }
     ensures { MatchResult result
         (λ _. (signals.new ≡ signals.old ++ signal ∷ []) × IsOf system signals.new)
-        (λ e. (e ≡ PlanFault.Memory) ⊎ IsUnfitBehind system signals.old signal e) }
+        (IsMemoryFaultOr (IsUnfitBehind system signals.old signal)) }
 {
     let place = signals.len();
     if !is_of(signal, system) {
@@ -158,8 +158,8 @@ fn is_of(signal: Signal, system: System) -> bool
 // The signals of a system that a text wants.
 fn read_signals(alloc: Global, system: System, text: &str) -> Result<Signals, PlanFault>
     ensures { MatchResult result
-        (λ s. (signals_of system text.now ≡ Ok (indices s)) × IsOf system s)
-        (λ e. (e ≡ PlanFault.Memory) ⊎ (signals_of system text.now ≡ Err e)) }
+        (λ s. ArePlanned system (signals_of system text.now) s)
+        (IsMemoryFaultOr (λ e. signals_of system text.now ≡ Err e)) }
 {
     if text == "all" {
         return every_signal(alloc, system);
@@ -193,8 +193,8 @@ fn every_signal(alloc: Global, system: System) -> Result<Signals, PlanFault>
 // The signals of codes with commas between them.
 fn read_codes(alloc: Global, system: System, text: &str) -> Result<Signals, PlanFault>
     ensures { MatchResult result
-        (λ s. (signals_after system [] (between_commas text.now) ≡ Ok (indices s)) × IsOf system s)
-        (λ e. (e ≡ PlanFault.Memory) ⊎ (signals_after system [] (between_commas text.now) ≡ Err e)) }
+        (λ s. ArePlanned system (signals_coded system text.now) s)
+        (IsMemoryFaultOr (λ e. signals_coded system text.now ≡ Err e)) }
 {
     let mut signals = Signals::new(alloc);
     let mut rest = Some(text);
@@ -221,8 +221,8 @@ fn first_code(codes: &str) -> (&str, Option<&str>)
 fn add_code(signals: &mut Signals, system: System, code: &str) -> Result<(), PlanFault>
     requires { IsOf system signals.old }
     ensures { MatchResult result
-        (λ _. IsTaken system (indices signals.old) (signal_of_code system code.now) (indices signals.new) × IsOf system signals.new)
-        (λ e. (e ≡ PlanFault.Memory) ⊎ IsRefused system (indices signals.old) (signal_of_code system code.now) e) }
+        (λ _. TakesCode system code.now signals.old signals.new)
+        (IsMemoryFaultOr (RefusesCode system code.now signals.old)) }
 {
     let place = signals.len();
     let signal = match Signal::from_code(system, code) {

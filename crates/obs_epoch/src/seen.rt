@@ -2,13 +2,13 @@
 ghost use Rattle.std.specs.Prelude.{◌≡◌, ◌+◌, ◌<◌};
 ghost use Rattle.obs_epoch.specs.Held.{count_in};
 ghost use Rattle.obs_epoch.specs.Gather.{no_counts};
-ghost use Rattle.obs_epoch.specs.WithLli.{shown_cell, seen_of, tracking_of};
+ghost use Rattle.obs_epoch.specs.WithLli.{seen_of, tracking_of};
 
 use crate::cell::Cell;
 use gnss_obs::{Lock, Sat, Signal, Thousandths};
 
 /// A cell of a message, of a listed satellite and signal.
-#[derive(Clone, Copy, Debug, PartialEq, Eq)]
+#[derive(Clone, Copy)]
 pub struct Seen {
     pub satellite: Sat,
     pub signal: Signal,
@@ -22,21 +22,21 @@ pub struct Seen {
 
 /// How the receiver tracks a signal: its lock, and whether the phase may be off by half a cycle
 /// (DF420).
-#[derive(Clone, Copy, Debug, PartialEq, Eq)]
+#[derive(Clone, Copy)]
 pub struct Tracking {
     pub lock: Lock,
     pub half_cycle: bool,
 }
 
 /// A lock that was known, and at which time.
-#[derive(Clone, Copy, Debug, PartialEq, Eq)]
+#[derive(Clone, Copy)]
 pub struct KnownLock {
     pub time: u64,
     pub lock: Lock,
 }
 
 /// What became of the cells of a message.
-#[derive(Clone, Copy, Debug, PartialEq, Eq)]
+#[derive(Clone, Copy)]
 pub struct CellCounts {
     pub kept: usize,
     pub skipped: usize,
@@ -45,7 +45,7 @@ pub struct CellCounts {
 }
 
 /// What became of a cell.
-#[derive(Clone, Copy, Debug, PartialEq, Eq)]
+#[derive(Clone, Copy)]
 pub enum Fate {
     Skipped,
     Repeated,

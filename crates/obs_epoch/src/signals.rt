@@ -1,5 +1,5 @@
 //! Signals of a system, each once, in order.
-ghost use Rattle.std.specs.Prelude.{◌≡◌, ◌↔◌, ◌==◌, ◌++◌, ◌∷◌, [], IsTrue, length, true, false, Ok};
+ghost use Rattle.std.specs.Prelude.{◌≡◌, ◌↔◌, ◌==◌, [], IsTrue, length, true, false, Ok};
 ghost use Rattle.std.specs.List.{list_any};
 ghost use Rattle.gnss_obs.specs.Signals.{SignalAt, table};
 ghost use Rattle.obs_epoch.specs.Plans.{place_in};

@@ -13,6 +13,7 @@ use gnss_obs::System;
 use messages::{Heard, message};
 use rtcm_msg::Message;
 use std::alloc::Global;
+use std::process::Abort;
 use std::test::*;
 
 const WEEK: u64 = 604_800_000;
@@ -165,9 +166,22 @@ fn run(
     }
 }
 
+/// A gatherer of station 7 goes through the steps as told. What went otherwise is printed here
+/// alone, since each place that prints is dear to prove.
+fn goes_as_told(
+    rt: &impl Abort,
+    alloc: Global,
+    plan: (&str, &str),
+    week: u32,
+    gather: Gather,
+    steps: &[Step],
+) {
+    assert_eq!(rt; run(alloc, plan, week, gather, steps), AS_TOLD);
+}
+
 /// The same with every signal planned, from week 2,300 on and by the bit.
-fn run_by_bit(alloc: Global, steps: &[Step]) -> Result<Otherwise, PlanFault> {
-    run(alloc, ALL, 2_300, Gather::Bit, steps)
+fn goes_by_bit(rt: &impl Abort, alloc: Global, steps: &[Step]) {
+    goes_as_told(rt, alloc, ALL, 2_300, Gather::Bit, steps);
 }
 
 fn counts(kept: usize, repeated: usize, crowded: usize) -> Kind {
@@ -198,7 +212,7 @@ fn times_pass_the_week_and_half_a_week(rt: HostRuntime) {
         Takes(Heard::Long(1, false, 64), Kind::Late, false),
         Takes(Heard::Long(302_401_000, false, 64), KEPT, true),
     ];
-    assert_eq!(rt; run_by_bit(rt.alloc(), &steps), AS_TOLD);
+    goes_by_bit(&rt, rt.alloc(), &steps);
 }
 
 #[test]
@@ -209,7 +223,7 @@ fn a_late_message_closes_by_its_bit(rt: HostRuntime) {
         Takes(Heard::Long(5_000, true, 64), Kind::Late, false),
         Holds(1),
     ];
-    assert_eq!(rt; run_by_bit(rt.alloc(), &steps), AS_TOLD);
+    goes_by_bit(&rt, rt.alloc(), &steps);
 }
 
 #[test]
@@ -223,7 +237,7 @@ fn a_later_time_closes_first(rt: HostRuntime) {
         Ends(true),
         HasEnded(true),
     ];
-    assert_eq!(rt; run_by_bit(rt.alloc(), &steps), AS_TOLD);
+    goes_by_bit(&rt, rt.alloc(), &steps);
 }
 
 #[test]
@@ -235,7 +249,7 @@ fn an_unread_message_of_the_station_closes(rt: HostRuntime) {
         Takes(Heard::Unread(7, false), Kind::Ignored, true),
         Takes(Heard::Galileo(1_000, true, 64), Kind::Late, false),
     ];
-    assert_eq!(rt; run_by_bit(rt.alloc(), &steps), AS_TOLD);
+    goes_by_bit(&rt, rt.alloc(), &steps);
 }
 
 #[test]
@@ -246,7 +260,7 @@ fn by_time_alone_no_bit_closes(rt: HostRuntime) {
         Takes(Heard::Galileo(1_000, false, 64), KEPT, false),
         Ends(true),
     ];
-    assert_eq!(rt; run(rt.alloc(), ALL, 2_300, Gather::Time, &steps), AS_TOLD);
+    goes_as_told(&rt, rt.alloc(), ALL, 2_300, Gather::Time, &steps);
 }
 
 #[test]
@@ -257,7 +271,7 @@ fn a_shorter_lock_was_lost(rt: HostRuntime) {
         Takes(Heard::Short(2_000, false, true, 14), KEPT, true),
         Lli(Some(1)),
     ];
-    assert_eq!(rt; run_by_bit(rt.alloc(), &steps), AS_TOLD);
+    goes_by_bit(&rt, rt.alloc(), &steps);
 }
 
 #[test]
@@ -270,7 +284,7 @@ fn a_lock_below_the_elapsed_time_was_lost(rt: HostRuntime) {
         Takes(Heard::Long(18_003_000, false, 704), KEPT, true),
         Lli(Some(0)),
     ];
-    assert_eq!(rt; run_by_bit(rt.alloc(), &steps), AS_TOLD);
+    goes_by_bit(&rt, rt.alloc(), &steps);
 }
 
 #[test]
@@ -286,7 +300,7 @@ fn a_lock_without_a_phase_is_passed_over(rt: HostRuntime) {
         Locks(1),
         Ends(false),
     ];
-    assert_eq!(rt; run_by_bit(rt.alloc(), &steps), AS_TOLD);
+    goes_by_bit(&rt, rt.alloc(), &steps);
 }
 
 #[test]
@@ -305,7 +319,7 @@ fn a_message_past_the_weeks_closes_nothing(rt: HostRuntime) {
         Values(told),
         ClosedValues(Some(told)),
     ];
-    assert_eq!(rt; run(rt.alloc(), ALL, 99_999, Gather::Bit, &steps), AS_TOLD);
+    goes_as_told(&rt, rt.alloc(), ALL, 99_999, Gather::Bit, &steps);
 }
 
 /// How many GPS signals a gatherer of this setup plans.

@@ -139,6 +139,7 @@ one_more n true = refl
 one_more n false = refl
 
 length-written : (cells : List Cell) (n : ℕ) → length (written_satellites cells n) ≡ written_among cells n
+unfolding written_among
 length-written cells zero = refl
 length-written cells (suc n) =
     ap length (filter-append (is_written cells) (numbers n) (suc n ∷ []))

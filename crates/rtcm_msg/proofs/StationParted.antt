@@ -1,14 +1,13 @@
 -- A station message is read in three parts as it is read in one.
-use Rattle.std.proofs.Common.{ℕ, ◌≡◌, Bool, List, [], ◌∷◌, ◌++◌, take, drop, Option, Result, Ok, Err, refl, sym, ◌∙◌}
+use Rattle.std.proofs.Common.{◌≡◌, Bool, [], ◌∷◌, ◌++◌, take, drop, Result, Ok, Err, refl, sym, ◌∙◌}
 use Rattle.rtcm_bits.specs.Reading.{Cursor}
 use Rattle.rtcm_msg.specs.declared.fault.MsgFault.{MsgFault}
 use Rattle.rtcm_msg.specs.declared.station.StationParts.{StationParts}
 use Rattle.rtcm_msg.specs.declared.station.Heading.{Heading}
-use Rattle.rtcm_msg.specs.declared.station.Position.{Position}
 use Rattle.rtcm_msg.specs.Layout.{Table, width, Contents, content}
 use Rattle.rtcm_msg.specs.Fields.{number_at, ◌>>=◌, reading}
 use Rattle.rtcm_msg.proofs.Combine.{bind_bind}
-use Rattle.rtcm_msg.specs.Station.{station_at, parts_at, heading_at, position_at, heading_of, position_of, height_at, joined, station_parts, station_table}
+use Rattle.rtcm_msg.specs.Station.{station_at, parts_at, position_at, heading_of, position_of, height_at, joined, station_parts, station_table}
 
 bind_each : {A B : Type 0} (n : Result A MsgFault) (f g : A → Result B MsgFault) → ((x : A) → f x ≡ g x) → (n >>= f) ≡ (n >>= g)
 bind_each (Ok x) f g each = each x

@@ -9,6 +9,7 @@ use Rattle.rtcm_msg.specs.declared.entry.Entry.{Entry}
 use Rattle.rtcm_msg.specs.Msm.{MsmValue, MasksValue, pairs, satellite_mask_bits, signal_mask_bits}
 use Rattle.rtcm_msg.specs.Grid4 as grid4
 use Rattle.rtcm_msg.specs.Grid7 as grid7
+use Rattle.rtcm_msg.specs.declared.grid.Grid.{Ghosts}
 
 -- those of the items whose bit is set
 unfoldable pub chosen : {X : Type 0} → List Bool → List X → List X
@@ -61,6 +62,10 @@ entry_by satellite_at cell_at range_of phase_of rate_of strength_of lock_of half
     let s = satellite_at (slice_index satellites x.0.place) in
     let c = cell_at x.1 in
     record { satellite = x.0.satellite; signal = x.0.signal; range = range_of s c; phase = phase_of s c; rate = rate_of s c; strength = strength_of c; lock = lock_of c; half_cycle = half_cycle_of c }
+
+-- what a cell says, by the meaning that a grid gives to its data and to those of its satellite
+abbrev pub entry_by_grid : {G Satellite Cell : Type 0} → Ghosts G Satellite Cell → List ℕ → Seat × ℕ → Entry
+entry_by_grid grid = entry_by grid.satellite_at grid.cell_at grid.range_of grid.phase_of grid.rate_of grid.strength_of grid.lock_code_of grid.half_cycle_of
 
 abbrev pub entry4 : MsmValue → Seat × ℕ → Entry
 entry4 v = entry_by grid4.satellite_data grid4.cell_data grid4.range_of grid4.phase_of grid4.rate_of grid4.strength_of (λ c. c.lock) (λ c. c.half_cycle) v.satellites

@@ -25,6 +25,10 @@ signal_mask_bits = 32
 abbrev pub most_pairs : ℕ
 most_pairs = 64
 
+-- how many lock time indicators there are: DF407 of MSM7, DF402 of MSM4
+abbrev pub lock_codes : Bool → ℕ
+lock_codes is_msm7 = if is_msm7 then 1024 else 16
+
 -- The satellites, the signals, and the pairs of one of each that have a cell. The highest bit of the
 -- first two is ID 1, and the highest of the last is the first pair.
 pub record MasksValue : Type 0 where
@@ -57,6 +61,11 @@ pub record AreMasks (s : MasksValue) : Type 0 where
   pub signals : s.signals < 2 ^ signal_mask_bits
   pub few : pairs s.satellites s.signals ≤ most_pairs
   pub cells : s.cells < 2 ^ pairs s.satellites s.signals
+
+-- a message of these parts
+abbrev pub msm_of_parts : Bool → MsmHeader → MasksValue → List ℕ → List ℕ → MsmValue
+msm_of_parts is_galileo header sets satellites cells =
+    record { is_galileo = is_galileo; header = header; sets = sets; satellites = satellites; cells = cells }
 
 -- a value whose fields have these widths
 pub record IsValue (satellite_widths cell_widths : List ℕ) (v : MsmValue) : Type 0 where

@@ -1,5 +1,5 @@
 -- Which parts are a value, and else the first refusal.
-use Rattle.std.specs.Prelude.{ℕ, ◌^◌, ◌==◌, ◌&&◌, nat_lt, nat_le, if◌then◌else◌, not, Option, Some, None, Result, Ok, Err, count_ones}
+use Rattle.std.specs.Prelude.{ℕ, List, length, ◌^◌, ◌==◌, ◌&&◌, nat_lt, nat_le, if◌then◌else◌, not, Option, Some, None, Result, Ok, Err, count_ones}
 use Rattle.rtcm_msg.specs.declared.fault.Field.{Field}
 use Rattle.rtcm_msg.specs.declared.header.MsmHeader.{MsmHeader}
 use Rattle.rtcm_msg.specs.declared.station.StationParts.{StationParts}
@@ -56,3 +56,8 @@ msm_refusal h s satellites cells satellite_fault cell_fault =
     else (if (satellites == count_ones s.satellites) && (cells == count_ones s.cells)
     then out_of_range (first_field (header_fault h) (first_field satellite_fault cell_fault))
     else Some faults.CellCount)
+
+-- why these data of satellites and cells make no message, where the faults are the first bad part of each kind of data
+abbrev pub data_refusal : {S C : Type 0} → MsmHeader → MasksValue → (List S → Option Field) → List S → (List C → Option Field) → List C → Option ValueFault
+data_refusal h s satellite_fault satellites cell_fault cells =
+    msm_refusal h s (length satellites) (length cells) (satellite_fault satellites) (cell_fault cells)

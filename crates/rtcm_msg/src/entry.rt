@@ -1,6 +1,6 @@
 ghost use Rattle.std.specs.Prelude.{◌≡◌, ◌<◌, ◌≤◌, ◌^◌, length, slice_index, IfSome, unsigned_abs, map, All};
 ghost use Rattle.std.specs.List.{zip};
-ghost use Rattle.rtcm_msg.specs.Entries.{entry_by, seats, IsEntry};
+ghost use Rattle.rtcm_msg.specs.Entries.{entry_by_grid, seats, IsEntry};
 
 use crate::grid::Grid;
 use crate::masks::MOST_PAIRS;
@@ -34,8 +34,7 @@ impl<G: Grid> Msm<G> {
     pub fn entry(&self, seat: Seat, i: usize) -> Entry
         requires place { seat.place < length self.now.satellites }
         requires cell { i < length self.now.cells }
-        ensures value { result ≡ entry_by G.satellite_at G.cell_at G.range_of G.phase_of G.rate_of G.strength_of G.lock_code_of G.half_cycle_of
-            self.now.satellites (seat, slice_index self.now.cells i) }
+        ensures value { result ≡ entry_by_grid G.Grid self.now.satellites (seat, slice_index self.now.cells i) }
         ensures range { IfSome result.range (λ r. unsigned_abs r ≤ 2 ^ 40) }
         ensures phase { IfSome result.phase (λ r. unsigned_abs r ≤ 2 ^ 40) }
         ensures rate { IfSome result.rate (λ r. unsigned_abs r ≤ 10 ^ 8) }
@@ -59,8 +58,7 @@ impl<G: Grid> Msm<G> {
 
 /// What all cells say, in the order of the cell mask.
 pub fn entries<G: Grid>(msm: &Msm<G>) -> ArrayVec<Entry, MOST_PAIRS>
-    ensures cells { result.items ≡ map (entry_by G.satellite_at G.cell_at G.range_of G.phase_of G.rate_of G.strength_of G.lock_code_of G.half_cycle_of
-        msm.now.satellites) (zip (seats msm.now.sets) msm.now.cells) }
+    ensures cells { result.items ≡ map (entry_by_grid G.Grid msm.now.satellites) (zip (seats msm.now.sets) msm.now.cells) }
     ensures bounds { All (IsEntry G.lock_codes) result.items }
 {
     let mut walk = Seats::new(msm.masks());

@@ -1,4 +1,4 @@
-ghost use Rattle.std.specs.Prelude.{◌≡◌, ◌^◌, nat_le, not, IfSome, negsuc, unsigned_abs, ◌≤◌};
+ghost use Rattle.std.specs.Prelude.{◌≡◌, true, ◌^◌, nat_le, not, IfSome, negsuc, unsigned_abs, ◌≤◌};
 ghost use Rattle.rtcm_msg.specs.Fractions.{scaled};
 ghost use Rattle.std.specs.List.{list_any};
 ghost use Rattle.rtcm_msg.specs.Ranges.{fits_int};
@@ -132,6 +132,7 @@ fn fine_phase(cell: &Cell7) -> Option<i64>
 
 impl Grid for Grid7 {
     ghost use Rattle.rtcm_msg.specs.Grid7 as grid7;
+    ghost use Rattle.rtcm_msg.specs.Msm as msm;
 
     type Satellite = Satellite7;
 
@@ -210,7 +211,7 @@ impl Grid for Grid7 {
 
     ghost half_cycle_of = { λ c. c.half_cycle };
 
-    ghost lock_codes = { 2 ^ 10 };
+    ghost lock_codes = { msm.lock_codes true };
 
     fn range(satellite: &Satellite7, cell: &Cell7) -> Option<i64> {
         range_joined(satellite.whole, satellite.fraction, fine_range(cell))
@@ -221,7 +222,10 @@ impl Grid for Grid7 {
     }
 
     fn rate(satellite: &Satellite7, cell: &Cell7) -> Option<i32> {
-        if satellite.rate == -8192 || cell.rate == -16384 {
+        if satellite.rate == -8192 {
+            return None;
+        }
+        if cell.rate == -16384 {
             return None;
         }
         Some(satellite.rate as i32 * 10000 + cell.rate as i32)

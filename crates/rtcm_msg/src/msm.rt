@@ -1,7 +1,7 @@
 ghost use Rattle.std.specs.Prelude.{◌≡◌, ◌<◌, ◌^◌, All, map, IfErr, Some, None, ◌++◌, ◌≤◌, IfOk, length, slice_index, count_ones};
-ghost use Rattle.rtcm_msg.specs.Msm.{IsHeader, msm_bits, IsValue, satellite_mask_bits, most_pairs};
+ghost use Rattle.rtcm_msg.specs.Msm.{IsHeader, msm_bits, msm_of_parts, IsValue, satellite_mask_bits, most_pairs};
 ghost use Rattle.rtcm_msg.specs.Packed.{total_width};
-ghost use Rattle.rtcm_msg.specs.Refusals.{msm_refusal};
+ghost use Rattle.rtcm_msg.specs.Refusals.{data_refusal};
 ghost use Rattle.rtcm_msg.specs.Columns.{EachBelow};
 ghost use Rattle.rtcm_msg.specs.Views as views;
 
@@ -57,16 +57,11 @@ impl<G: Grid> Msm<G> {
         cells: &[G::Cell],
     ) -> Result<Msm<G>, ValueFault>
         ensures refused { IfErr result (λ e.
-            msm_refusal header masks (length satellites.now) (length cells.now) (G.satellite_fault_of satellites.now) (G.cell_fault_of cells.now) ≡ Some e) }
+            data_refusal header masks G.satellite_fault_of satellites.now G.cell_fault_of cells.now ≡ Some e) }
         ensures accepted { IfOk result (λ _.
-            msm_refusal header masks (length satellites.now) (length cells.now) (G.satellite_fault_of satellites.now) (G.cell_fault_of cells.now) ≡ None) }
-        ensures made { IfOk result (λ m. m ≡ record {
-          is_galileo = is_galileo;
-          header = header;
-          sets = masks;
-          satellites = map G.satellite_packed satellites.now;
-          cells = map G.cell_packed cells.now;
-        }) }
+            data_refusal header masks G.satellite_fault_of satellites.now G.cell_fault_of cells.now ≡ None) }
+        ensures made { IfOk result (λ m. m ≡ msm_of_parts is_galileo header masks
+            (map G.satellite_packed satellites.now) (map G.cell_packed cells.now)) }
     {
         if header.time >= WEEK {
             return Err(ValueFault::BadTime);

@@ -107,7 +107,7 @@ fn fits_coordinate(z: i64) -> bool
 }
 
 // The fields in front of the coordinates.
-#[derive(Clone, Copy, Debug, PartialEq, Eq)]
+#[derive(Clone, Copy)]
 pub(crate) struct Heading {
     station: u16,
     realization: u8,
@@ -118,7 +118,7 @@ pub(crate) struct Heading {
 }
 
 // The antenna reference point, with the indicators that stand between its coordinates.
-#[derive(Clone, Copy, Debug, PartialEq, Eq)]
+#[derive(Clone, Copy)]
 pub(crate) struct Position {
     x: i64,
     oscillator: bool,

@@ -1,9 +1,9 @@
 use crate::{
-    Cell7, Entry, Field, Form, Message, MsgFault, MsmHeader, Satellite7, StationParts, ValueFault,
-    View, decode, encode, entries, look,
+    Cell7, Entry, Field, Form, Grid, Message, MsgFault, Msm, MsmHeader, Satellite7, StationParts,
+    ValueFault, View, decode, encode, entries, look,
 };
 use arrayvec::ArrayVec;
-use std::alloc::AllocError;
+use std::alloc::{AllocError, Global};
 use std::test::*;
 
 /// Message 1005 of station 2003, from a public example of the standard's frames.
@@ -150,88 +150,132 @@ fn other_of(bytes: &[u8]) -> Option<(u16, Option<(u16, bool)>)> {
     }
 }
 
+/// What the head of a multiple signal message says: its number, whether it is of Galileo, its
+/// header, the three masks, and how many satellites and cells it has.
+type Head = (u16, bool, MsmHeader, (u64, u32, u64), (usize, usize));
+
+fn head_of<G: Grid>(msm: &Msm<G>) -> Head {
+    let masks = msm.masks();
+    (
+        msm.number(),
+        msm.is_galileo(),
+        msm.header(),
+        (masks.satellites(), masks.signals(), masks.cells()),
+        (msm.satellites(), msm.cells()),
+    )
+}
+
+/// The form and the head of a multiple signal message that is read.
+fn head_read(bytes: &[u8]) -> Option<(Form, Head)> {
+    match decode(bytes) {
+        Ok(Message::Msm4(msm)) => Some((Form::Msm4, head_of(&msm))),
+        Ok(Message::Msm7(msm)) => Some((Form::Msm7, head_of(&msm))),
+        _ => None,
+    }
+}
+
+/// The same of one that is looked at.
+fn head_viewed(bytes: &[u8]) -> Option<(Form, Head)> {
+    match look(bytes) {
+        Ok(View::Msm(msm)) => {
+            let masks = msm.masks();
+            let head = (
+                msm.number(),
+                msm.is_galileo(),
+                msm.header(),
+                (masks.satellites(), masks.signals(), masks.cells()),
+                (msm.satellites(), msm.cells()),
+            );
+            Some((msm.form(), head))
+        }
+        _ => None,
+    }
+}
+
+/// The antenna height of a station message that is looked at.
+fn height_viewed(bytes: &[u8]) -> Option<u16> {
+    match look(bytes) {
+        Ok(View::Station(station)) => station.parts().height,
+        _ => None,
+    }
+}
+
+fn fault_viewed(bytes: &[u8]) -> Option<MsgFault> {
+    match look(bytes) {
+        Ok(_) => None,
+        Err(fault) => Some(fault),
+    }
+}
+
+/// The data of the first satellite and of the first cell of message 1077.
+fn first_data(bytes: &[u8]) -> Option<(Satellite7, Cell7)> {
+    match decode(bytes) {
+        Ok(Message::Msm7(msm)) => {
+            if msm.satellites() == 0 || msm.cells() == 0 {
+                return None;
+            }
+            Some((msm.satellite(0), msm.cell(0)))
+        }
+        _ => None,
+    }
+}
+
+/// The form of a message with one cell, of satellite 5 and signal 2, and its head.
+fn one_cell(form: Form, number: u16, is_galileo: bool) -> Option<(Form, Head)> {
+    let head = (number, is_galileo, header(), (1 << 59, 1 << 30, 1), (1, 1));
+    Some((form, head))
+}
+
 #[test]
 fn messages_are_written_back(rt: HostRuntime) {
-    assert!(rt; is_written_back(&STATION));
-    assert!(rt; is_written_back(&HEIGHT));
-    assert!(rt; is_written_back(&FINE));
-    assert!(rt; is_written_back(&COARSE));
-    assert!(rt; is_written_back(&GALILEO));
-    assert!(rt; is_written_back(&EMPTY));
+    let messages: [&[u8]; 6] = [&STATION, &HEIGHT, &FINE, &COARSE, &GALILEO, &EMPTY];
+    for message in messages {
+        assert!(rt; is_written_back(message));
+    }
 }
 
 #[test]
 fn stations_are_read(rt: HostRuntime) {
     let parts = station_parts();
-    assert!(rt; parts_of(&STATION) == Some(parts));
     let tall = StationParts {
         height: Some(15_000),
         ..parts
     };
-    assert!(rt; parts_of(&HEIGHT) == Some(tall));
     let mut reserved = STATION;
     reserved[9] = 0x74;
-    assert!(rt; parts_of(&reserved) == Some(parts));
+    let stations: [(&[u8], StationParts); 3] = [
+        (&STATION, parts),
+        (&HEIGHT, tall),
+        (&reserved, parts),
+    ];
+    for (message, parts) in stations {
+        assert!(rt; parts_of(message) == Some(parts));
+    }
     assert!(rt; is_written_as(&reserved, &STATION));
 }
 
 #[test]
 fn heads_are_read(rt: HostRuntime) {
-    match decode(&FINE) {
-        Ok(Message::Msm7(msm)) => {
-            assert!(rt; msm.number() == 1077 && !msm.is_galileo());
-            assert!(rt; msm.header() == header());
-            let masks = msm.masks();
-            assert!(rt;
-                masks.satellites() == 1 << 59 && masks.signals() == 1 << 30 && masks.cells() == 1
-            );
-            assert!(rt; msm.satellites() == 1 && msm.cells() == 1);
-            if msm.satellites() == 1 && msm.cells() == 1 {
-                assert!(rt; msm.satellite(0) == SATELLITE);
-                assert!(rt; msm.cell(0) == CELL);
-            }
-        }
-        _ => assert!(rt; false),
-    }
     let mut galileo = FINE;
     galileo[0] = 0x44;
     galileo[1] = 0x97;
-    match decode(&galileo) {
-        Ok(Message::Msm7(msm)) => assert!(rt; msm.number() == 1097 && msm.is_galileo()),
-        _ => assert!(rt; false),
+    let heads: [(&[u8], Option<(Form, Head)>); 3] = [
+        (&FINE, one_cell(Form::Msm7, 1077, false)),
+        (&galileo, one_cell(Form::Msm7, 1097, true)),
+        (&GALILEO, one_cell(Form::Msm4, 1094, true)),
+    ];
+    for (message, head) in heads {
+        assert!(rt; head_read(message) == head);
     }
-    match decode(&GALILEO) {
-        Ok(Message::Msm4(msm)) => {
-            assert!(rt; msm.number() == 1094 && msm.is_galileo() && msm.header() == header());
-        }
-        _ => assert!(rt; false),
-    }
+    assert!(rt; first_data(&FINE) == Some((SATELLITE, CELL)));
 }
 
 #[test]
 fn messages_are_looked_at(rt: HostRuntime) {
-    match look(&FINE) {
-        Ok(View::Msm(msm)) => {
-            assert!(rt; msm.form() == Form::Msm7 && msm.number() == 1077 && !msm.is_galileo());
-            assert!(rt; msm.header() == header() && msm.masks().signals() == 1 << 30);
-            assert!(rt; msm.satellites() == 1 && msm.cells() == 1);
-        }
-        _ => assert!(rt; false),
-    }
-    match look(&GALILEO) {
-        Ok(View::Msm(msm)) => {
-            assert!(rt; msm.form() == Form::Msm4 && msm.number() == 1094 && msm.is_galileo());
-        }
-        _ => assert!(rt; false),
-    }
-    match look(&HEIGHT) {
-        Ok(View::Station(station)) => assert!(rt; station.parts().height == Some(15_000)),
-        _ => assert!(rt; false),
-    }
-    match look(&FINE[..35]) {
-        Ok(_) => assert!(rt; false),
-        Err(fault) => assert!(rt; fault == MsgFault::Short(271)),
-    }
+    assert!(rt; head_viewed(&FINE) == one_cell(Form::Msm7, 1077, false));
+    assert!(rt; head_viewed(&GALILEO) == one_cell(Form::Msm4, 1094, true));
+    assert!(rt; height_viewed(&HEIGHT) == Some(15_000));
+    assert!(rt; fault_viewed(&FINE[..35]) == Some(MsgFault::Short(271)));
 }
 
 #[test]
@@ -246,7 +290,6 @@ fn cells_are_read(rt: HostRuntime) {
         lock: 0,
         half_cycle: false,
     };
-    assert!(rt; first_entry(&FINE) == Some(fine));
     let coarse = Entry {
         range: Some(150_323_855_232),
         phase: Some(150_323_855_364),
@@ -256,38 +299,44 @@ fn cells_are_read(rt: HostRuntime) {
         half_cycle: true,
         ..fine
     };
-    assert!(rt; first_entry(&COARSE) == Some(coarse));
-    assert!(rt; first_entry(&GALILEO) == Some(coarse));
     // DF405 = 1, DF406 = 1, DF397 = 255
     let mut range = FINE;
     range[28] = 0x40;
-    assert!(rt;
-        first_entry(&range)
-            == Some(Entry {
-                range: Some(150_323_855_364),
-                ..fine
-            })
-    );
     let mut phase = FINE;
     phase[31] = 0x40;
-    assert!(rt;
-        first_entry(&phase)
-            == Some(Entry {
-                phase: Some(150_323_855_361),
-                ..fine
-            })
-    );
     let mut none = FINE;
     none[21] = 0x7F;
     none[22] = 0xC0;
-    assert!(rt;
-        first_entry(&none)
-            == Some(Entry {
+    let cells: [(&[u8], Entry); 6] = [
+        (&FINE, fine),
+        (&COARSE, coarse),
+        (&GALILEO, coarse),
+        (
+            &range,
+            Entry {
+                range: Some(150_323_855_364),
+                ..fine
+            },
+        ),
+        (
+            &phase,
+            Entry {
+                phase: Some(150_323_855_361),
+                ..fine
+            },
+        ),
+        (
+            &none,
+            Entry {
                 range: None,
                 phase: None,
                 ..fine
-            })
-    );
+            },
+        ),
+    ];
+    for (message, entry) in cells {
+        assert!(rt; first_entry(message) == Some(entry));
+    }
 }
 
 /// The bits before the first field that does not end within so many bits.
@@ -335,90 +384,109 @@ fn each_proper_prefix_is_short(rt: HostRuntime) {
 
 #[test]
 fn the_first_fault_counts(rt: HostRuntime) {
-    assert!(rt; fault_of(&STATION[..18]) == Some(MsgFault::Short(114)));
-    assert!(rt; fault_of(&FINE[..35]) == Some(MsgFault::Short(271)));
-    assert!(rt; fault_of(&STATION[..1]) == Some(MsgFault::Short(0)));
-    // The time is judged when it was read, and not before.
-    assert!(rt; fault_of(&LATE) == Some(MsgFault::BadTime));
-    assert!(rt; fault_of(&LATE[..6]) == Some(MsgFault::Short(24)));
-    // The message 1077 with a time of 604,800,000 ms, and with the last one of the week.
+    // Message 1077 with a time of 604,800,000 ms, and with the last one of the week.
     let mut week = FINE;
     week[3] = 0x90;
     week[4] = 0x32;
     week[5] = 0x10;
     week[6] = 0x00;
-    assert!(rt; fault_of(&week) == Some(MsgFault::BadTime));
-    week[5] = 0x0F;
-    week[6] = 0xFC;
-    assert!(rt; fault_of(&week).is_none());
-    // So are the pairs.
-    assert!(rt; fault_of(&MANY) == Some(MsgFault::TooManyCells));
-    assert!(rt; fault_of(&MANY[..21]) == Some(MsgFault::Short(137)));
+    let mut end = week;
+    end[5] = 0x0F;
+    end[6] = 0xFC;
+    // The same of a message with too many pairs, the second with 8 satellites and 8 signals, whose
+    // cell mask is cut.
     let mut late = MANY;
     late[3] = 0x90;
     late[4] = 0x32;
     late[5] = 0x10;
     late[6] = 0x00;
-    assert!(rt; fault_of(&late) == Some(MsgFault::BadTime));
-    // 604,799,999 ms, and 8 satellites with 8 signals, whose cell mask is cut.
-    let mut last = MANY;
-    last[3] = 0x90;
-    last[4] = 0x32;
+    let mut last = late;
     last[5] = 0x0F;
     last[6] = 0xFC;
     last[10] = 0x80;
-    assert!(rt; fault_of(&last) == Some(MsgFault::Short(169)));
+    let faults: [(&[u8], Option<MsgFault>); 11] = [
+        (&STATION[..18], Some(MsgFault::Short(114))),
+        (&FINE[..35], Some(MsgFault::Short(271))),
+        (&STATION[..1], Some(MsgFault::Short(0))),
+        // The time is judged when it was read, and not before.
+        (&LATE, Some(MsgFault::BadTime)),
+        (&LATE[..6], Some(MsgFault::Short(24))),
+        (&week, Some(MsgFault::BadTime)),
+        (&end, None),
+        // So are the pairs.
+        (&MANY, Some(MsgFault::TooManyCells)),
+        (&MANY[..21], Some(MsgFault::Short(137))),
+        (&late, Some(MsgFault::BadTime)),
+        (&last, Some(MsgFault::Short(169))),
+    ];
+    for (message, fault) in faults {
+        assert!(rt; fault_of(message) == fault);
+    }
 }
 
 #[test]
 fn other_messages_are_told(rt: HostRuntime) {
-    // 1127 of station 2003 with DF393 = 0, whole up to bit 55, and one byte less
     let other = [0x46, 0x77, 0xD3, 0x00, 0x00, 0x0F, 0xA0];
-    assert!(rt; other_of(&other) == Some((1127, Some((2003, false)))));
-    assert!(rt; other_of(&other[..6]) == Some((1127, None)));
-    // 1075 with DF393 = 1; 1070 and 1230 are no MSMs
-    assert!(rt;
-        other_of(&[0x43, 0x37, 0xD3, 0x00, 0x00, 0x0F, 0xA2]) == Some((1075, Some((2003, true))))
-    );
-    assert!(rt; other_of(&[0x42, 0xE7, 0xD3, 0x00, 0x00, 0x0F, 0xA0]) == Some((1070, None)));
-    assert!(rt; other_of(&[0x4C, 0xE7, 0xD3, 0x00, 0x00, 0x0F, 0xA0]) == Some((1230, None)));
+    let others: [(&[u8], u16, Option<(u16, bool)>); 5] = [
+        // 1127 of station 2003 with DF393 = 0, whole up to bit 55, and one byte less
+        (&other, 1127, Some((2003, false))),
+        (&other[..6], 1127, None),
+        // 1075 with DF393 = 1; 1070 and 1230 are no MSMs
+        (
+            &[0x43, 0x37, 0xD3, 0x00, 0x00, 0x0F, 0xA2],
+            1075,
+            Some((2003, true)),
+        ),
+        (&[0x42, 0xE7, 0xD3, 0x00, 0x00, 0x0F, 0xA0], 1070, None),
+        (&[0x4C, 0xE7, 0xD3, 0x00, 0x00, 0x0F, 0xA0], 1230, None),
+    ];
+    for (message, number, set) in others {
+        assert!(rt; other_of(message) == Some((number, set)));
+    }
+}
+
+fn message_fault_says(alloc: Global, fault: MsgFault, text: &str) -> Result<bool, AllocError> {
+    Ok(fault.to_string(alloc)?.as_str() == text)
+}
+
+fn value_fault_says(alloc: Global, fault: ValueFault, text: &str) -> Result<bool, AllocError> {
+    Ok(fault.to_string(alloc)?.as_str() == text)
 }
 
 #[test]
 fn faults_have_texts(rt: HostRuntime) -> Result<(), AllocError> {
     let alloc = rt.alloc();
-    let texts = [
+    let messages = [
         (
-            MsgFault::Short(114).to_string(alloc)?,
+            MsgFault::Short(114),
             "the field at bit 114 does not end within the message",
         ),
         (
-            MsgFault::TooManyCells.to_string(alloc)?,
+            MsgFault::TooManyCells,
             "more than 64 pairs of a satellite and a signal",
         ),
+        (MsgFault::BadTime, "an epoch time of a week or more"),
+    ];
+    for (fault, text) in messages {
+        assert!(rt; message_fault_says(alloc, fault, text)?);
+    }
+    let values = [
         (
-            MsgFault::BadTime.to_string(alloc)?,
-            "an epoch time of a week or more",
-        ),
-        (
-            ValueFault::OutOfRange(Field::FineRange).to_string(alloc)?,
+            ValueFault::OutOfRange(Field::FineRange),
             "the field FineRange is out of range",
         ),
         (
-            ValueFault::TooManyCells.to_string(alloc)?,
+            ValueFault::TooManyCells,
             "more than 64 pairs of a satellite and a signal",
         ),
         (
-            ValueFault::CellCount.to_string(alloc)?,
+            ValueFault::CellCount,
             "another number of satellites or cells than in the masks",
         ),
-        (
-            ValueFault::BadTime.to_string(alloc)?,
-            "an epoch time of a week or more",
-        ),
+        (ValueFault::BadTime, "an epoch time of a week or more"),
     ];
-    for (text, want) in texts {
-        assert_eq!(rt; text.as_str(), want);
+    for (fault, text) in values {
+        assert!(rt; value_fault_says(alloc, fault, text)?);
     }
     Ok(())
 }

@@ -1,6 +1,6 @@
 //! Which cells of an epoch are kept, and how they stand.
 use super::messages::Heard;
-use super::{AS_TOLD, Ends, Has, Holds, KEPT, Locks, Of, Sizes, Takes, counts, run, run_by_bit};
+use super::{Ends, Has, Holds, KEPT, Locks, Of, Sizes, Takes, counts, goes_as_told, goes_by_bit};
 use crate::Gather;
 use std::test::*;
 
@@ -13,7 +13,7 @@ fn the_first_cell_of_a_key_is_kept(rt: HostRuntime) {
         Sizes(Some((1, 1))),
         Has(Some((true, false))),
     ];
-    assert_eq!(rt; run_by_bit(rt.alloc(), &steps), AS_TOLD);
+    goes_by_bit(&rt, rt.alloc(), &steps);
 }
 
 const ALL_GPS: u64 = 0xFFFF_FFFF << 32;
@@ -30,7 +30,7 @@ fn a_set_split_over_messages_is_kept(rt: HostRuntime) {
         Sizes(Some((32, 65))),
         Locks(65),
     ];
-    assert_eq!(rt; run_by_bit(rt.alloc(), &steps), AS_TOLD);
+    goes_by_bit(&rt, rt.alloc(), &steps);
 }
 
 #[test]
@@ -47,7 +47,7 @@ fn cells_past_the_bound_are_crowded(rt: HostRuntime) {
         Sizes(Some((32, 256))),
         Locks(256),
     ];
-    assert_eq!(rt; run_by_bit(rt.alloc(), &steps), AS_TOLD);
+    goes_by_bit(&rt, rt.alloc(), &steps);
 }
 
 #[test]
@@ -71,9 +71,13 @@ fn cells_stand_by_satellite_and_plan(rt: HostRuntime) {
         Of(4, Some((3, *b"2W"))),
         Of(5, Some((3, *b"1C"))),
     ];
-    assert_eq!(rt;
-        run(rt.alloc(), ("5X,2W,1C", "none"), 2_300, Gather::Bit, &steps),
-        AS_TOLD
+    goes_as_told(
+        &rt,
+        rt.alloc(),
+        ("5X,2W,1C", "none"),
+        2_300,
+        Gather::Bit,
+        &steps,
     );
 }
 
@@ -86,5 +90,5 @@ fn a_second_satellite_comes_first_in_order(rt: HostRuntime) {
         Of(0, Some((3, *b"1C"))),
         Of(1, Some((5, *b"1C"))),
     ];
-    assert_eq!(rt; run_by_bit(rt.alloc(), &steps), AS_TOLD);
+    goes_by_bit(&rt, rt.alloc(), &steps);
 }

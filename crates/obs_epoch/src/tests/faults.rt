@@ -1,10 +1,15 @@
 //! The texts of faults.
 use crate::PlanFault;
 use gnss_obs::System;
-use std::test::Fail;
+use std::alloc::{AllocError, Global};
+use std::test::*;
+
+fn says(alloc: Global, fault: PlanFault, text: &str) -> Result<bool, AllocError> {
+    Ok(fault.to_string(alloc)?.as_str() == text)
+}
 
 #[test]
-fn texts_of_faults(rt: HostRuntime) -> Result<(), Fail> {
+fn texts_of_faults(rt: HostRuntime) -> Result<(), AllocError> {
     let cases = [
         (
             PlanFault::UnknownCode(System::Gps, 3),
@@ -20,7 +25,7 @@ fn texts_of_faults(rt: HostRuntime) -> Result<(), Fail> {
         (PlanFault::Memory, "no memory"),
     ];
     for (fault, want) in cases {
-        assert_eq!(rt; format!(in rt.alloc(); "{fault}")?.as_str(), want);
+        assert!(rt; says(rt.alloc(), fault, want)?);
     }
     Ok(())
 }

@@ -1,4 +1,3 @@
-use Rattle.std.proofs.Common.{◌≤◌, arith}
 use Rattle.obs_epoch.proofs.CivilLemmas.{IsSmall, is_at, is_taken, no_ok}
 use Rattle.obs_epoch.proofs.civil.at_of.Goals as goal
 

@@ -1,4 +1,4 @@
-use Rattle.obs_epoch.proofs.CivilLemmas.{begins, parts_of}
+use Rattle.obs_epoch.proofs.CivilLemmas.{begins}
 use Rattle.obs_epoch.proofs.civil.beginning.Goals as goal
 
 pub returns : goal.returns

@@ -1,6 +1,6 @@
-use Rattle.std.proofs.Common.{◌≡◌, ◌≤◌, ◌+◌, ◌∙◌, sym, ap, arith, suc, true, false}
-use Rattle.obs_epoch.specs.Values.{is_written, written_among}
-use Rattle.obs_epoch.proofs.GroupLemmas.{Left, further, sorted_climbs, any_from, count_more}
+use Rattle.std.proofs.Common.{◌≡◌, ◌+◌, ◌∙◌, sym, ap, arith, suc, true, false}
+use Rattle.obs_epoch.specs.Values.{is_written}
+use Rattle.obs_epoch.proofs.GroupLemmas.{further, sorted_climbs, any_from, count_more}
 use Rattle.obs_epoch.proofs.epoch.written.Goals as goal
 use Rattle.obs_epoch.proofs.epoch.written.Goals.{then-is_written, else-is_written}
 

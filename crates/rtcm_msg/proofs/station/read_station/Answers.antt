@@ -1,4 +1,4 @@
-use Rattle.std.proofs.Common.{◌≡◌, ◌∙◌}
+use Rattle.std.proofs.Common.{◌∙◌}
 use Rattle.rtcm_msg.proofs.StationParted.{station_parted}
 use Rattle.rtcm_msg.proofs.station.read_station.Goals as goal
 

@@ -1,6 +1,6 @@
 use Rattle.std.proofs.Common.{◌≡◌, ◌+◌, drop, All}
 use Rattle.rtcm_msg.specs.Entries.{IsEntry}
-use Rattle.obs_epoch.specs.WithLli.{lock_codes}
+use Rattle.rtcm_msg.specs.Msm.{lock_codes}
 use Rattle.obs_epoch.specs.Gather.{no_counts, load_entries}
 use Rattle.obs_epoch.proofs.gather.Gatherer.take_entries.Given as goal
 

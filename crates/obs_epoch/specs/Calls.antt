@@ -1,0 +1,62 @@
+-- What a call of a gatherer comes to, whatever the gatherer was told, took and handed out before.
+use Rattle.std.specs.Prelude.{ℕ, ◌≡◌, Bool, true, false, List, [], ◌∷◌, ◌++◌, length, Option, Some, None}
+use Rattle.gnss_obs.specs.declared.system.System.{System}
+use Rattle.obs_epoch.specs.declared.taken.Kind.{Kind}
+use Rattle.obs_epoch.specs.Heard.{GatherSetup, Heard}
+use Rattle.obs_epoch.specs.Values.{Closed}
+use Rattle.obs_epoch.specs.Times.{timed}
+use Rattle.obs_epoch.specs.Cells.{firsts}
+use Rattle.obs_epoch.specs.Epochs.{closed_so_far}
+use Rattle.obs_epoch.specs.Clock.{is_pending, closes_first}
+use Rattle.obs_epoch.specs.Gather.{Gathered, cells_in}
+use Rattle.obs_epoch.specs.Standing.{held_at, locked_in}
+use Rattle.obs_epoch.specs.Kinds.{is_close_first, kind_of}
+use Rattle.obs_epoch.specs.Gathering.{HasGatheredEpochs, IsAwaited, handed_over, is_done}
+
+-- the kind tells whether the pending epoch is closed first: exactly where the message's time is greater and within the weeks
+abbrev pub TellsClosingFirst : Gathered → Heard → Kind → Type 0
+TellsClosingFirst old m kind =
+    (s : GatherSetup) (ms : List Heard) (es : List Closed) → HasGatheredEpochs old s ms es None
+    → is_close_first kind ≡ closes_first s (timed s ms) m
+
+-- where the pending epoch is closed first, it is handed out, and the message is to come again
+abbrev pub AwaitsMessage : Gathered → Gathered → Heard → Kind → Type 0
+AwaitsMessage old new m kind =
+    (s : GatherSetup) (ms : List Heard) (es : List Closed) → HasGatheredEpochs old s ms es None
+    → is_close_first kind ≡ true → HasGatheredEpochs new s ms (es ++ handed_over new) (Some m)
+
+-- where the message is taken, it comes behind the others, and the epoch that it closes is handed out behind the others
+abbrev pub GathersMessage : Gathered → Gathered → Heard → Kind → Type 0
+GathersMessage old new m kind =
+    (s : GatherSetup) (ms : List Heard) (es : List Closed) (again : Option Heard) → HasGatheredEpochs old s ms es again
+    → IsAwaited again m → is_close_first kind ≡ false → HasGatheredEpochs new s (ms ++ m ∷ []) (es ++ handed_over new) None
+
+-- where the message is taken, the kind is what becomes of it behind the others
+abbrev pub TellsKindOfTaken : Gathered → Heard → Kind → Type 0
+TellsKindOfTaken old m kind =
+    (s : GatherSetup) (ms : List Heard) (es : List Closed) (again : Option Heard) → HasGatheredEpochs old s ms es again
+    → IsAwaited again m → is_close_first kind ≡ false → kind ≡ kind_of s ms m
+
+-- the end hands out the pending epoch, and tells whether there was one
+abbrev pub EndsPendingEpoch : Gathered → Gathered → Bool → Type 0
+EndsPendingEpoch old new was =
+    (s : GatherSetup) (ms : List Heard) (es : List Closed) → HasGatheredEpochs old s ms es None → old.has_ended ≡ false
+    → (was ≡ is_pending s (timed s ms)) × HasGatheredEpochs new s ms (es ++ handed_over new) None
+
+-- a gatherer that has ended stands for the same messages and epochs as before
+abbrev pub StaysEnded : Gathered → Gathered → Type 0
+StaysEnded old new =
+    (s : GatherSetup) (ms : List Heard) (es : List Closed) (again : Option Heard) → HasGatheredEpochs old s ms es again
+    → old.has_ended ≡ true → HasGatheredEpochs new s ms es again
+
+-- so many cells of the system has the epoch of the greatest time
+abbrev pub HoldsCells : Gathered → System → ℕ → Type 0
+HoldsCells now system count =
+    (s : GatherSetup) (ms : List Heard) (es : List Closed) (again : Option Heard) → HasGatheredEpochs now s ms es again
+    → count ≡ length (cells_in system (held_at s (timed s ms)))
+
+-- so many keys have the locked cells of the closed epochs
+abbrev pub HoldsLockedKeys : Gathered → ℕ → Type 0
+HoldsLockedKeys now count =
+    (s : GatherSetup) (ms : List Heard) (es : List Closed) (again : Option Heard) → HasGatheredEpochs now s ms es again
+    → count ≡ length (firsts (locked_in s (timed s ms) (closed_so_far s (timed s ms) (is_done now s ms again))))
