@@ -15,7 +15,7 @@ use Rattle.rtcm_scan.specs.Scan.{FramerValue, HasFramed}
 use Rattle.obs_epoch.specs.declared.seen.Seen.{Seen}
 use Rattle.rtcm2rinex.specs.declared.census.Census.{Census}
 use Rattle.rtcm2rinex.specs.declared.census.SignalsForm.{SignalsForm}
-use Rattle.rtcm2rinex.specs.Signals.{signal_in, signals_text, count_of, valued_in}
+use Rattle.rtcm2rinex.specs.Signals.{signal_in, signals_text, count_of, valued_in, ReadsTooMuch}
 
 -- ---- one cell more
 
@@ -77,6 +77,20 @@ HasCounted c wanted r r' v = (b : List ℕ) × Consumes r r' b × CountsKnownCel
 -- The stream was read to its end, and the cells of its frames were counted.
 abbrev pub HasSurveyed : Census → Option ℕ → (r r' : Option (List ℕ)) → Type 0
 HasSurveyed c wanted r r' = (b : List ℕ) × Consumes r r' b × IsAtEnd r' × SurveysFrames c wanted (frames_of b)
+
+-- ---- what a call does, whatever was counted before it
+
+-- Next bytes were taken: from c to c' the cells of all that is known of them were counted, too.
+abbrev pub CountsNext : (c c' : Census) → Option ℕ → (v v' : FramerValue) → List ℕ → Type 0
+CountsNext c c' wanted v v' next = (b : List ℕ) (fs : List Framed) → CountsCells c wanted v b fs → CountsKnownCells c' wanted v' (b ++ next)
+
+-- The reader went from r0 to r1, and the same holds of the bytes that it gave.
+abbrev pub CountsOn : (c c' : Census) → Option ℕ → (v v' : FramerValue) → (r0 r1 : Option (List ℕ)) → Type 0
+CountsOn c c' wanted v v' r0 r1 = (r : Option (List ℕ)) → HasCounted c wanted r r0 v → HasCounted c' wanted r r1 v'
+
+-- With the bytes that it gave before, they are more than the framer's limit.
+abbrev pub CountsTooMuch : Census → Option ℕ → FramerValue → (r0 r1 : Option (List ℕ)) → Type 0
+CountsTooMuch c wanted v r0 r1 = (r : Option (List ℕ)) → HasCounted c wanted r r0 v → ReadsTooMuch v.limit r r1
 
 -- ---- what is told of them
 

@@ -1,11 +1,11 @@
 //! The command `convert`: the observation file of a stream.
 ghost use Rattle.std.specs.Prelude.{◌≡◌, ◌<◌, ◌≤◌, ◌↔◌, Err, OnOk, IfOk, IfErr, IfSome, max, length};
 ghost use Rattle.rtcm_bits.specs.FrameOf.{longest_frame};
-ghost use Rattle.rtcm_convert.specs.Broken.{WroteSoFar, WroteToLimit, BrokeReading};
 ghost use Rattle.rtcm_convert.specs.Faults.{IsUntouched};
-ghost use Rattle.rtcm_convert.specs.Made.{IsMade, IsMadeEmpty, IsReportOf};
-ghost use Rattle.rtcm_convert.specs.SetupValues.{setup_value, IsBad};
-ghost use Rattle.rtcm2rinex.specs.Converting.{IsConvertFault, IsSetupRefusal};
+ghost use Rattle.rtcm_convert.specs.Made.{IsMade, IsReportOf};
+ghost use Rattle.rtcm_convert.specs.SetupValues.{IsBad};
+ghost use Rattle.rtcm2rinex.specs.Converting.{ConvertsSoFar, ConvertsToLimit, ConvertsPart, MakesNoEpoch, IsConvertFault, IsSetupRefusal};
+ghost use Rattle.rtcm2rinex.specs.Moves.{Moves};
 ghost use Rattle.rtcm2rinex.specs.Devices.{CountsReadFault, CountsWriteFault};
 
 use crate::fault::ToolFault;
@@ -29,21 +29,18 @@ pub fn run_convert<R: Read, W: Write>(
 
     // No epoch stands in that file, and it is empty.
     ensures no_epoch { result ≡ Err (ToolFault.Convert Fault.NoEpoch)
-        → IfSome (R.remaining reader.old.inner) (IsMadeEmpty setup (W.contents writer.old.inner) (W.contents writer.new.inner)) }
+        → Moves R.remaining reader.old reader.new W.contents writer.old writer.new (MakesNoEpoch setup) }
 
     // The bytes up to the limit were taken, and what went out is the file of the epochs that they
     // close.
     ensures too_long { result ≡ Err (ToolFault.Convert Fault.TooLong) → IfSome (R.remaining reader.old.inner) (λ b. setup.limit < length b) }
-    ensures long { result ≡ Err (ToolFault.Convert Fault.TooLong) → WroteToLimit (R.remaining reader.old.inner) (R.remaining reader.new.inner)
-        (W.contents writer.old.inner) (W.contents writer.new.inner) (setup_value setup) setup.limit }
+    ensures long { result ≡ Err (ToolFault.Convert Fault.TooLong) → Moves R.remaining reader.old reader.new W.contents writer.old writer.new (ConvertsToLimit setup) }
 
     // The reader failed: what went out is the file of the epochs that the bytes before close.
-    ensures read { result ≡ Err ToolFault.Read → WroteSoFar (R.remaining reader.old.inner) (R.remaining reader.new.inner)
-        (W.contents writer.old.inner) (W.contents writer.new.inner) (setup_value setup) }
+    ensures read { result ≡ Err ToolFault.Read → Moves R.remaining reader.old reader.new W.contents writer.old writer.new (ConvertsSoFar setup) }
 
     // The writer failed: what it took is a prefix of the file.
-    ensures write { result ≡ Err ToolFault.Write → BrokeReading (R.remaining reader.old.inner) (R.remaining reader.new.inner)
-        (W.contents writer.old.inner) (W.contents writer.new.inner) (setup_value setup) }
+    ensures write { result ≡ Err ToolFault.Write → Moves R.remaining reader.old reader.new W.contents writer.old writer.new (ConvertsPart setup) }
     ensures reader { CountsReadFault result reader.old reader.new }
     ensures writer { CountsWriteFault result writer.old writer.new }
     ensures bad_setup { result ≡ Err (ToolFault.Convert Fault.BadSetup) ↔ IsBad setup }

@@ -8,8 +8,8 @@ ghost use Rattle.rtcm_scan.specs.Answers.{framed};
 ghost use Rattle.rtcm2rinex.specs.FrameLines.{frame_lines};
 ghost use Rattle.rtcm2rinex.specs.ShowLines.{show_lines};
 ghost use Rattle.rtcm2rinex.specs.Listing.{ListsAll, ListsDecided, ListsToLimit, ListsPart, IsListFault, IsListingFault, no_memory, too_long};
-ghost use Rattle.rtcm2rinex.specs.Listed.{AfterListing, ListsOn, ListsHeld, ListsHeldPart, ListsNext, ListsNextPart, IsRefusal, up_to_limit};
-ghost use Rattle.rtcm2rinex.specs.Kinds.{listing_line, listing_lines};
+ghost use Rattle.rtcm2rinex.specs.Listed.{ListsOn, ListsHeld, ListsHeldPart, ListsNext, ListsNextPart, IsRefusal, up_to_limit};
+ghost use Rattle.rtcm2rinex.specs.Kinds.{listing_line, listing_lines, ListsLast};
 ghost use Rattle.rtcm_convert.specs.Faults.{IsUntouched};
 ghost use Rattle.rtcm2rinex.specs.Devices.{CountsReadFault, CountsWriteFault};
 ghost use Rattle.rtcm2rinex.specs.Moves.{Moves, Writes};
@@ -163,15 +163,15 @@ fn list_next<R: Read, W: Write>(
     ensures taken { IfOk result (λ n. framer.new.taken ≡ framer.old.taken + n) }
     ensures read { result ≡ Err ToolFault.Read
         → Moves R.remaining reader.old reader.new W.contents writer.old writer.new
-        (AfterListing (listing_lines listing) framer.old (ListsDecided (listing_lines listing))) }
+        (ListsLast ListsDecided listing framer.old) }
     ensures reader { CountsReadFault result reader.old reader.new }
     ensures write { result ≡ Err ToolFault.Write
         → Moves R.remaining reader.old reader.new W.contents writer.old writer.new
-        (AfterListing (listing_lines listing) framer.old (ListsPart (listing_lines listing))) }
+        (ListsLast ListsPart listing framer.old) }
     ensures writer { CountsWriteFault result writer.old writer.new }
     ensures too_long { result ≡ Err too_long
         → Moves R.remaining reader.old reader.new W.contents writer.old writer.new
-        (AfterListing (listing_lines listing) framer.old (ListsToLimit framer.old.limit (listing_lines listing))) }
+        (ListsLast (ListsToLimit framer.old.limit) listing framer.old) }
     ensures only { IfErr result IsListingFault }
     ensures limit { framer.new.limit ≡ framer.old.limit }
     ensures within { OnOk result (framer.new.taken ≤ framer.old.limit) }

@@ -1,5 +1,5 @@
 //! A stream is read to its end, and its cells with a value are counted.
-ghost use Rattle.std.specs.Prelude.{◌≡◌, ◌≢◌, ◌+◌, ◌≤◌, ◌<◌, ◌^◌, ◌++◌, ◌∷◌, ◌⊎◌, [], List, ℕ, Option, None, Ok, Err};
+ghost use Rattle.std.specs.Prelude.{◌≡◌, ◌≢◌, ◌+◌, ◌≤◌, ◌<◌, ◌^◌, ◌++◌, ◌∷◌, ◌⊎◌, [], List, ℕ, None, Ok, Err};
 ghost use Rattle.std.specs.Prelude.{true, false, length, IfOk, IfErr, OnOk};
 ghost use Rattle.std.specs.Io.KnownBytes.{IsAtEnd};
 ghost use Rattle.rtcm_scan.specs.Frames.{Framed};
@@ -10,7 +10,9 @@ ghost use Rattle.rtcm2rinex.specs.Listing.{IsSurveyFault, IsSurveyingFault, no_m
 ghost use Rattle.rtcm2rinex.specs.Listed.{IsRefusal, up_to_limit};
 ghost use Rattle.rtcm2rinex.specs.Signals.{ReadsTooMuch};
 ghost use Rattle.rtcm2rinex.specs.Devices.{CountsReadFault};
-ghost use Rattle.rtcm2rinex.specs.Census.{IsCensus, SurveysFrames, HasSurveyed, CountsCells, CountsKnownCells, HasCounted};
+ghost use Rattle.rtcm2rinex.specs.Census.{IsCensus, SurveysFrames, HasSurveyed, CountsCells, CountsKnownCells};
+ghost use Rattle.rtcm2rinex.specs.Census.{CountsNext, CountsOn, CountsTooMuch};
+ghost use Rattle.rtcm2rinex.specs.Moves.{Reads};
 
 use crate::census::Census;
 use crate::fault::ToolFault;
@@ -89,14 +91,12 @@ fn count_next<R: Read>(
     requires room { 0 < length piece.old }
     requires going { framer.old.has_ended ≡ false }
     requires within { framer.old.taken ≤ framer.old.limit }
-    ensures counted { OnOk result ((r : Option (List ℕ)) → HasCounted census.old station r (R.remaining reader.old.inner) framer.old
-        → HasCounted census.new station r (R.remaining reader.new.inner) framer.new) }
+    ensures counted { OnOk result (Reads R.remaining reader.old reader.new (CountsOn census.old census.new station framer.old framer.new)) }
     ensures end { result ≡ Ok 0 → (framer.new.has_ended ≡ true) × IsAtEnd (R.remaining reader.new.inner) }
     ensures more { IfOk result (λ n. n ≢ 0 → framer.new.has_ended ≡ false) }
     ensures taken { IfOk result (λ n. framer.new.taken ≡ framer.old.taken + n) }
     ensures reader { CountsReadFault result reader.old reader.new }
-    ensures too_long { result ≡ Err too_long → (r : Option (List ℕ)) → HasCounted census.old station r (R.remaining reader.old.inner) framer.old
-        → ReadsTooMuch framer.old.limit r (R.remaining reader.new.inner) }
+    ensures too_long { result ≡ Err too_long → Reads R.remaining reader.old reader.new (CountsTooMuch census.old station framer.old) }
     ensures only { IfErr result IsSurveyingFault }
     ensures limit { framer.new.limit ≡ framer.old.limit }
     ensures within { OnOk result (framer.new.taken ≤ framer.old.limit) }
@@ -125,8 +125,7 @@ fn count_piece(
 ) -> Option<ScanFault>
     requires going { framer.old.has_ended ≡ true → length piece.now ≡ 0 }
     requires within { framer.old.taken ≤ framer.old.limit }
-    ensures counted { (b : List ℕ) (fs : List Framed) → CountsCells census.old station framer.old b fs
-        → CountsKnownCells census.new station framer.new (b ++ up_to_limit framer.old piece.now) }
+    ensures counted { CountsNext census.old census.new station framer.old framer.new (up_to_limit framer.old piece.now) }
     ensures refusal { IsRefusal framer.old (length piece.now) result }
     ensures taken { result ≡ None → framer.new.taken ≡ framer.old.taken + length piece.now }
     ensures limit { framer.new.limit ≡ framer.old.limit }

@@ -1,8 +1,8 @@
-use super::faults::FRAMES;
-use super::run;
-use super::streams::{
-    FRAMED_NOTHING, FRAMED_STATION, INNER_FRAME, LATE_FRAME, PREAMBLES, framed, station,
-};
+use super::messages::{FRAMED_NOTHING, FRAMED_STATION, INNER_FRAME, LATE_FRAME, STATION};
+use super::scenario::Comes::Good;
+use super::scenario::{Case, FAULTLESS, Setting, assert_come};
+use super::texts::Piece::{Framed, Front, Repeated};
+use super::texts::Text::{Bytes, Lines, Stream};
 use crate::fault::ToolFault;
 use crate::listing::{Listing, list};
 use rtcm_bits::Counted;
@@ -10,29 +10,64 @@ use rtcm_scan::ScanFault;
 use std::alloc::Global;
 use std::test::Fail;
 
+pub const FRAMES: [&str; 2] = ["rtcm2rinex", "frames"];
+
+const LISTED: [Case; 7] = [
+    (&[], Bytes(&FRAMED_STATION), Good(Lines("0 19 1005\n"), "")),
+    (&[], Bytes(&[]), Good(Lines(""), "")),
+    (&[], Bytes(&FRAMED_NOTHING), Good(Lines("0 0 -\n"), "")),
+    (&[], Bytes(&LATE_FRAME), Good(Lines("1 0 -\n"), "")),
+    (&[], Stream(&[Repeated(0xD3, 10)]), Good(Lines(""), "")),
+    (
+        &[],
+        Stream(&[Front(&FRAMED_STATION, 24)]),
+        Good(Lines(""), ""),
+    ),
+    (&[], Bytes(&INNER_FRAME), Good(Lines("3 0 -\n"), "")),
+];
+
 #[test]
-fn frames_are_listed_in_any_pieces(rt: HostRuntime) -> Result<(), Fail> {
-    let rows: [(&[u8], &[u8]); 7] = [
-        (&FRAMED_STATION, b"0 19 1005\n"),
-        (&[], b""),
-        (&FRAMED_NOTHING, b"0 0 -\n"),
-        (&LATE_FRAME, b"1 0 -\n"),
-        (&PREAMBLES, b""),
-        (&FRAMED_STATION[..24], b""),
-        (&INNER_FRAME, b"3 0 -\n"),
-    ];
-    for (input, output) in rows {
-        for first in 1..26 {
-            assert!(rt; run(rt.alloc(), &FRAMES, input, &[first, 1_000]).is(0, output, &[]));
-        }
-        assert!(rt; run(rt.alloc(), &FRAMES, input, &[1]).is(0, output, &[]));
+fn frames_are_listed_in_any_pieces(rt: HostRuntime) {
+    for first in 1..26 {
+        let setting = Setting {
+            words: &FRAMES,
+            sizes: &[&[first, 1_000], &[1]],
+            ..FAULTLESS
+        };
+        assert_come(&rt, rt.alloc(), &setting, &LISTED);
     }
-    Ok(())
 }
 
-/// Lists the frames of at most so many bytes. Answers whether more was refused, or else was good,
-/// and what was written.
-fn listed(alloc: Global, stream: &[u8], limit: u16) -> (Option<bool>, Vec<u8>) {
+/// The frame of the message 1005 with the six reserved bits of the header set.
+const RESERVED_SET: [u8; 25] = [
+    0xD3, 0xFC, 0x13, 0x3E, 0xD7, 0xD3, 0x02, 0x02, 0x98, 0x0E, 0xDE, 0xEF, 0x34, 0xB4, 0xBD, 0x62,
+    0xAC, 0x09, 0x41, 0x98, 0x6F, 0x33, 0xB4, 0x38, 0xF2,
+];
+
+/// A claim of 1,023 bytes, and the frame of the message 1005 behind it.
+const HIDDEN: [u8; 28] = [
+    0xD3, 0xFF, 0xFF, 0xD3, 0x00, 0x13, 0x3E, 0xD7, 0xD3, 0x02, 0x02, 0x98, 0x0E, 0xDE, 0xEF, 0x34,
+    0xB4, 0xBD, 0x62, 0xAC, 0x09, 0x41, 0x98, 0x6F, 0x33, 0x36, 0x0B, 0x98,
+];
+
+/// A claim of many bytes hides no frame, and reserved bits are of no account.
+const CLAIMS: [Case; 3] = [
+    (&[], Bytes(&HIDDEN), Good(Lines("3 19 1005\n"), "")),
+    (&[], Bytes(&RESERVED_SET), Good(Lines("0 19 1005\n"), "")),
+    (&[], Stream(&[Repeated(0xD3, 2_000)]), Good(Lines(""), "")),
+];
+
+#[test]
+fn frames_are_found_in_spite_of_claims(rt: HostRuntime) {
+    let setting = Setting {
+        words: &FRAMES,
+        ..FAULTLESS
+    };
+    assert_come(&rt, rt.alloc(), &setting, &CLAIMS);
+}
+
+/// Whether of at most so many bytes these lines are listed, and more are refused, or none.
+fn lists(alloc: Global, stream: &[u8], limit: u16, is_refused: bool, lines: &[u8]) -> bool {
     let mut reader = Counted::new(stream);
     let mut writer = Counted::new(Vec::new(alloc));
     let answer = list(
@@ -42,27 +77,26 @@ fn listed(alloc: Global, stream: &[u8], limit: u16) -> (Option<bool>, Vec<u8>) {
         &mut reader,
         &mut writer,
     );
-    let refused = match answer {
+    let found = match answer {
         Ok(()) => Some(false),
         Err(ToolFault::Scan(ScanFault::TooLong)) => Some(true),
         Err(_) => None,
     };
-    (refused, writer.into_inner())
+    found == Some(is_refused) && writer.into_inner().as_slice() == lines
 }
 
 // What the bytes up to the limit decide is written, and no more.
 #[test]
 fn a_long_stream_is_told(rt: HostRuntime) -> Result<(), Fail> {
-    let stream = framed(rt.alloc(), &[station(), station()])?;
+    let stream = Stream(&[Framed(&STATION), Framed(&STATION)]).bytes(rt.alloc())?;
     let rows: [(u16, bool, &[u8]); 4] = [
         (24, true, b""),
         (25, true, b"0 19 1005\n"),
         (49, true, b"0 19 1005\n"),
         (50, false, b"0 19 1005\n25 19 1005\n"),
     ];
-    for (limit, refused, output) in rows {
-        let (found, lines) = listed(rt.alloc(), stream.as_slice(), limit);
-        assert!(rt; found == Some(refused) && lines.as_slice() == output);
+    for (limit, is_refused, lines) in rows {
+        assert!(rt; lists(rt.alloc(), stream.as_slice(), limit, is_refused, lines));
     }
     Ok(())
 }

@@ -1,77 +1,80 @@
 //! The signals of streams.
-use super::streams::{COARSE, FINE, FRAMED_STATION, NO_CELLS, changed, framed};
-use super::{cut_off, run, written};
-use rtcm_bits::devices::WriteEnd;
-use std::io::ErrorKind;
-use std::test::Fail;
+use super::messages::{COARSE, FRAMED_STATION, NO_CELLS};
+use super::scenario::Comes::{Fault, Good};
+use super::scenario::{Case, FAULTLESS, Setting, assert_come};
+use super::texts::Piece::{Fine, Framed};
+use super::texts::Text;
+use super::texts::Text::{Bytes, Lines, Stream};
 
-const SIGNALS: [&str; 2] = ["rtcm2rinex", "signals"];
+pub const SIGNALS: [&str; 2] = ["rtcm2rinex", "signals"];
 
-const OF_2003: [&str; 4] = ["rtcm2rinex", "signals", "--station", "2003"];
+/// Satellite 5 has signal 2, which is 1C, twice; in the third message once more as signal 10, which
+/// is 2W.
+const OF_THREE: Text = Stream(&[Fine(&[]), Framed(&COARSE), Fine(&[(17, 0x00), (18, 0x20)])]);
 
-const OF_2004: [&str; 4] = ["rtcm2rinex", "signals", "--station", "2004"];
+const TOLD: [Case; 3] = [
+    (
+        &[],
+        OF_THREE,
+        Good(Lines("--gps 1C,2W --galileo none\n"), ""),
+    ),
+    (
+        &["--station", "2003"],
+        OF_THREE,
+        Good(Lines("--gps 1C,2W --galileo none\n"), ""),
+    ),
+    (&["--counts"], OF_THREE, Good(Lines("G 1C 2\nG 2W 1\n"), "")),
+];
 
-const COUNTED: [&str; 3] = ["rtcm2rinex", "signals", "--counts"];
-
-// Satellite 5 has signal 2, which is 1C, twice; in the third message once more as signal 10, which
-// is 2W.
 #[test]
-fn signals_are_told_as_options_and_counted(rt: HostRuntime) -> Result<(), Fail> {
-    let other = changed(&FINE, &[(17, 0x00), (18, 0x20)]);
-    let stream = framed(rt.alloc(), &[&FINE, &COARSE, &other])?;
-    let rows: [(&[&str], &[u8]); 3] = [
-        (&SIGNALS, b"--gps 1C,2W --galileo none\n"),
-        (&OF_2003, b"--gps 1C,2W --galileo none\n"),
-        (&COUNTED, b"G 1C 2\nG 2W 1\n"),
-    ];
-    for (words, text) in rows {
-        for sizes in [[1].as_slice(), [7].as_slice(), [].as_slice()] {
-            assert!(rt; run(rt.alloc(), words, stream.as_slice(), sizes).is(0, text, &[]));
-        }
-    }
-    Ok(())
+fn signals_are_told_as_options_and_counted(rt: HostRuntime) {
+    let setting = Setting {
+        words: &SIGNALS,
+        sizes: &[&[1], &[7], &[]],
+        ..FAULTLESS
+    };
+    assert_come(&rt, rt.alloc(), &setting, &TOLD);
 }
 
-// A station's messages alone count where it is told; a cell without any value doesn't.
-#[test]
-fn a_stream_without_signals_is_told(rt: HostRuntime) -> Result<(), Fail> {
-    let blank = [
-        (21, 0x7F),
-        (22, 0xC0),
-        (24, 0x80),
-        (25, 0x00),
-        (32, 0x00),
-        (33, 0x00),
-    ];
-    let fine = framed(rt.alloc(), &[&FINE])?;
-    let empty = framed(rt.alloc(), &[&changed(&FINE, &blank)])?;
-    let no_cells = framed(rt.alloc(), &[&NO_CELLS])?;
-    let rows: [(&[&str], &[u8]); 4] = [
-        (&OF_2004, &fine),
-        (&SIGNALS, &empty),
-        (&SIGNALS, &no_cells),
-        (&SIGNALS, &FRAMED_STATION),
-    ];
-    for (words, stream) in rows {
-        let outcome = run(rt.alloc(), words, stream, &[]);
-        assert!(rt; outcome.is_fault(&[], b"rtcm2rinex: NoSignal\n"));
-    }
-    Ok(())
-}
+/// Nothing in the place of every value of the cell.
+const NO_VALUES: [(usize, u8); 6] = [
+    (21, 0x7F),
+    (22, 0xC0),
+    (24, 0x80),
+    (25, 0x00),
+    (32, 0x00),
+    (33, 0x00),
+];
+
+/// A station's messages alone count where it is told; a cell without any value doesn't.
+const NONE: [Case; 4] = [
+    (
+        &["--station", "2004"],
+        Stream(&[Fine(&[])]),
+        Fault(Lines(""), "rtcm2rinex: NoSignal\n"),
+    ),
+    (
+        &[],
+        Stream(&[Fine(&NO_VALUES)]),
+        Fault(Lines(""), "rtcm2rinex: NoSignal\n"),
+    ),
+    (
+        &[],
+        Stream(&[Framed(&NO_CELLS)]),
+        Fault(Lines(""), "rtcm2rinex: NoSignal\n"),
+    ),
+    (
+        &[],
+        Bytes(&FRAMED_STATION),
+        Fault(Lines(""), "rtcm2rinex: NoSignal\n"),
+    ),
+];
 
 #[test]
-fn devices_that_fail_are_told(rt: HostRuntime) -> Result<(), Fail> {
-    let stream = framed(rt.alloc(), &[&FINE])?;
-    let outcome = cut_off(rt.alloc(), &SIGNALS, stream.as_slice());
-    assert!(rt; outcome.is_fault(&[], b"rtcm2rinex: Read\n"));
-    let line = b"--gps 1C --galileo none\n";
-    for room in 0..line.len() {
-        let end = WriteEnd::Fails(ErrorKind::Other);
-        let outcome = written(rt.alloc(), &SIGNALS, stream.as_slice(), 3, room, end);
-        assert!(rt; outcome.is_fault(&line[..room], b"rtcm2rinex: Write\n"));
-    }
-    let end = WriteEnd::Fails(ErrorKind::Other);
-    let outcome = written(rt.alloc(), &SIGNALS, stream.as_slice(), 3, line.len(), end);
-    assert!(rt; outcome.is(0, line, &[]));
-    Ok(())
+fn a_stream_without_signals_is_told(rt: HostRuntime) {
+    let setting = Setting {
+        words: &SIGNALS,
+        ..FAULTLESS
+    };
+    assert_come(&rt, rt.alloc(), &setting, &NONE);
 }

@@ -1,48 +1,62 @@
-use super::run;
-use super::streams::FRAMED_STATION;
-use crate::command::{command, refuse_words};
+use super::messages::FRAMED_STATION;
+use super::scenario::Comes::{Good, Refused};
+use super::scenario::{Case, FAULTLESS, assert_come};
+use super::texts::Text::{Bytes, Lines};
+use crate::command::refuse_words;
 use crate::version::VERSION;
-use rtcm_bits::Counted;
 use std::alloc::Global;
 use std::io;
 use std::io::ErrorKind;
-use std::test::Fail;
 
-/// Whether words are refused with some text, no byte is read, and none written.
-fn is_untouched(alloc: Global, words: &[&str]) -> bool {
-    let mut reader = Counted::new(FRAMED_STATION.as_slice());
-    let mut writer = Counted::new(Vec::new(alloc));
-    let mut faults = Vec::new(alloc);
-    let status = command(alloc, words, &mut reader, &mut writer, &mut faults);
-    status == 2 && !faults.is_empty() && reader.widest() == 0 && writer.into_inner().is_empty()
-}
-
-#[test]
-fn words_that_are_not_accepted_do_nothing(rt: HostRuntime) -> Result<(), Fail> {
-    let rows: [&[&str]; 9] = [
-        &["rtcm2rinex"],
-        &["rtcm2rinex", "--help"],
+const NOT_ACCEPTED: [Case; 9] = [
+    (&["rtcm2rinex"], Bytes(&FRAMED_STATION), Refused),
+    (&["rtcm2rinex", "--help"], Bytes(&FRAMED_STATION), Refused),
+    (
         &["rtcm2rinex", "frames", "--help"],
+        Bytes(&FRAMED_STATION),
+        Refused,
+    ),
+    (
         &["rtcm2rinex", "show", "-h"],
-        &["rtcm2rinex", "help"],
-        &["rtcm2rinex", "fames"],
+        Bytes(&FRAMED_STATION),
+        Refused,
+    ),
+    (&["rtcm2rinex", "help"], Bytes(&FRAMED_STATION), Refused),
+    (&["rtcm2rinex", "fames"], Bytes(&FRAMED_STATION), Refused),
+    (
         &["rtcm2rinex", "frames", "more"],
+        Bytes(&FRAMED_STATION),
+        Refused,
+    ),
+    (
         &["rtcm2rinex", "show", "--more"],
-        &[],
-    ];
-    for words in rows {
-        assert!(rt; is_untouched(rt.alloc(), words));
-    }
-    Ok(())
-}
+        Bytes(&FRAMED_STATION),
+        Refused,
+    ),
+    (&[], Bytes(&FRAMED_STATION), Refused),
+];
 
 #[test]
-fn the_version_is_told(rt: HostRuntime) -> Result<(), Fail> {
-    for word in ["--version", "-V"] {
-        let outcome = run(rt.alloc(), &["rtcm2rinex", word], b"ab", &[]);
-        assert!(rt; outcome.is(0, VERSION.as_bytes(), &[]));
-    }
-    Ok(())
+fn words_that_are_not_accepted_do_nothing(rt: HostRuntime) {
+    assert_come(&rt, rt.alloc(), &FAULTLESS, &NOT_ACCEPTED);
+}
+
+const ASKED_FOR_THE_VERSION: [Case; 2] = [
+    (
+        &["rtcm2rinex", "--version"],
+        Bytes(b"ab"),
+        Good(Lines(VERSION), ""),
+    ),
+    (
+        &["rtcm2rinex", "-V"],
+        Bytes(b"ab"),
+        Good(Lines(VERSION), ""),
+    ),
+];
+
+#[test]
+fn the_version_is_told(rt: HostRuntime) {
+    assert_come(&rt, rt.alloc(), &FAULTLESS, &ASKED_FOR_THE_VERSION);
 }
 
 /// Whether words that can't be had for this reason are answered by this status and text.
@@ -53,16 +67,13 @@ fn are_refused(alloc: Global, kind: ErrorKind, status: u8, text: &[u8]) -> bool 
 }
 
 #[test]
-fn words_that_cannot_be_had_are_told(rt: HostRuntime) -> Result<(), Fail> {
-    let text = b"error: a word of the command line isn't UTF-8\n";
-    assert!(rt;
-        are_refused(
-            rt.alloc(),
-            ErrorKind::OutOfMemory,
-            1,
-            b"rtcm2rinex: Memory\n"
-        )
-    );
-    assert!(rt; are_refused(rt.alloc(), ErrorKind::InvalidData, 2, text));
-    Ok(())
+fn words_that_cannot_be_had_are_told(rt: HostRuntime) {
+    let unspelled = b"error: a word of the command line isn't UTF-8\n";
+    let rows: [(ErrorKind, u8, &[u8]); 2] = [
+        (ErrorKind::OutOfMemory, 1, b"rtcm2rinex: Memory\n"),
+        (ErrorKind::InvalidData, 2, unspelled),
+    ];
+    for (kind, status, text) in rows {
+        assert!(rt; are_refused(rt.alloc(), kind, status, text));
+    }
 }

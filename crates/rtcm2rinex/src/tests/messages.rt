@@ -1,13 +1,16 @@
-//! Streams and messages for the tests.
-use arrayvec::ArrayVec;
-use rtcm_bits::frame_of;
-use std::alloc::{AllocError, Global};
+//! Frames and messages for the tests.
 
 /// Message 1005 of station 2003, from a public example of the standard's frames, in its frame. Its
 /// sixth byte is a preamble.
 pub const FRAMED_STATION: [u8; 25] = [
     0xD3, 0x00, 0x13, 0x3E, 0xD7, 0xD3, 0x02, 0x02, 0x98, 0x0E, 0xDE, 0xEF, 0x34, 0xB4, 0xBD, 0x62,
     0xAC, 0x09, 0x41, 0x98, 0x6F, 0x33, 0x36, 0x0B, 0x98,
+];
+
+/// The message 1005 without its frame.
+pub const STATION: [u8; 19] = [
+    0x3E, 0xD7, 0xD3, 0x02, 0x02, 0x98, 0x0E, 0xDE, 0xEF, 0x34, 0xB4, 0xBD, 0x62, 0xAC, 0x09, 0x41,
+    0x98, 0x6F, 0x33,
 ];
 
 /// The frame of a message of no bytes.
@@ -20,8 +23,6 @@ pub const LATE_FRAME: [u8; 7] = [0xD3, 0xD3, 0x00, 0x00, 0x47, 0xEA, 0x4B];
 pub const INNER_FRAME: [u8; 12] = [
     0xD3, 0x00, 0x06, 0xD3, 0x00, 0x00, 0x47, 0xEA, 0x4B, 0x00, 0x00, 0x00,
 ];
-
-pub const PREAMBLES: [u8; 10] = [0xD3; 10];
 
 /// Message 1006 with the station's values and an antenna height of 1.5 m.
 pub const HEIGHT: [u8; 21] = [
@@ -62,32 +63,3 @@ pub const MANY: [u8; 22] = [
 
 /// The head of message 1077 with an epoch time of 604,800,000 ms.
 pub const PAST_WEEK: [u8; 7] = [0x43, 0x57, 0xD3, 0x90, 0x32, 0x10, 0x00];
-
-/// The message 1005 without its frame.
-pub fn station() -> &'static [u8] {
-    &FRAMED_STATION[3..22]
-}
-
-/// The message with other bytes at these places.
-pub fn changed(message: &[u8; 36], bytes: &[(usize, u8)]) -> [u8; 36] {
-    let mut message = *message;
-    for (place, byte) in bytes {
-        if let Some(old) = message.get_mut(*place) {
-            *old = *byte;
-        }
-    }
-    message
-}
-
-/// The frames of these messages, one behind the other.
-pub fn framed(alloc: Global, messages: &[&[u8]]) -> Result<Vec<u8>, AllocError> {
-    let mut stream = Vec::new(alloc);
-    let mut frame = ArrayVec::new();
-    for message in messages {
-        if message.len() <= 1023 {
-            frame_of(message, &mut frame);
-            stream.extend_from_slice(frame.as_slice())?;
-        }
-    }
-    Ok(stream)
-}

@@ -1,0 +1,157 @@
+//! Devices that fail at each place.
+use super::scenario::{FAULTLESS, READ, Room, Setting, WRITE, run};
+use super::texts::{Text, front};
+use crate::buffer::Buffered;
+use crate::command::command;
+use rtcm_bits::Counted;
+use rtcm_bits::devices::{PieceReader, ReadEnd, ShortWriter, WriteEnd};
+use std::alloc::{AllocError, Global};
+use std::io::ErrorKind;
+use std::process::Abort;
+
+/// Behind each byte of the output, a writer that fails there is told, and took the bytes before.
+pub fn assert_write_faults(
+    rt: &impl Abort,
+    alloc: Global,
+    words: &[&str],
+    input: Text<'_>,
+    most: usize,
+    output: Text<'_>,
+) {
+    assert_eq!(*rt;
+        untold_write_fault(alloc, words, input, most, output),
+        Ok(None)
+    );
+}
+
+/// Behind each byte of the input, a reader that fails there is told. Nothing is written before, and
+/// this behind the last.
+pub fn assert_read_faults(
+    rt: &impl Abort,
+    alloc: Global,
+    words: &[&str],
+    input: Text<'_>,
+    output: Text<'_>,
+) {
+    assert_eq!(*rt; untold_read_fault(alloc, words, input, output), Ok(None));
+}
+
+/// The number of bytes behind which a writer fails and something else comes of it.
+fn untold_write_fault(
+    alloc: Global,
+    words: &[&str],
+    input: Text<'_>,
+    most: usize,
+    output: Text<'_>,
+) -> Result<Option<usize>, AllocError> {
+    let input = input.bytes(alloc)?;
+    let output = output.bytes(alloc)?;
+    Ok(untold_write(alloc, words, input.as_slice(), most, output.as_slice()))
+}
+
+fn untold_write(
+    alloc: Global,
+    words: &[&str],
+    input: &[u8],
+    most: usize,
+    output: &[u8],
+) -> Option<usize> {
+    for total in 0..output.len() {
+        let end = WriteEnd::Fails(ErrorKind::Other);
+        let room = Room { most, total, end };
+        if !is_write_told(alloc, words, input, room, front(output, total)) {
+            return Some(total);
+        }
+    }
+    None
+}
+
+/// Whether a writer with this room is told as one that fails, and took these bytes.
+fn is_write_told(alloc: Global, words: &[&str], input: &[u8], room: Room, taken: &[u8]) -> bool {
+    let setting = Setting {
+        words,
+        room,
+        ..FAULTLESS
+    };
+    run(alloc, &setting, input, &[]).is(1, taken, WRITE.as_bytes())
+}
+
+/// The number of bytes behind which a reader fails and something else comes of it.
+fn untold_read_fault(
+    alloc: Global,
+    words: &[&str],
+    input: Text<'_>,
+    output: Text<'_>,
+) -> Result<Option<usize>, AllocError> {
+    let input = input.bytes(alloc)?;
+    let output = output.bytes(alloc)?;
+    Ok(untold_read(alloc, words, input.as_slice(), output.as_slice()))
+}
+
+fn untold_read(alloc: Global, words: &[&str], input: &[u8], output: &[u8]) -> Option<usize> {
+    for given in 0..=input.len() {
+        let written = if given == input.len() { output } else { &[] };
+        if !is_read_told(alloc, words, front(input, given), written) {
+            return Some(given);
+        }
+    }
+    None
+}
+
+/// Whether a reader that fails behind these bytes is told, and this was written.
+fn is_read_told(alloc: Global, words: &[&str], given: &[u8], written: &[u8]) -> bool {
+    let setting = Setting {
+        words,
+        end: ReadEnd::Fails(ErrorKind::Other),
+        ..FAULTLESS
+    };
+    run(alloc, &setting, given, &[5]).is(1, written, READ.as_bytes())
+}
+
+/// Whether a buffer whose device takes two bytes, which are these, and then fails once is told as a
+/// writer that fails.
+pub fn is_told_behind_buffer(
+    alloc: Global,
+    words: &[&str],
+    input: Text<'_>,
+    output: Text<'_>,
+) -> Result<bool, AllocError> {
+    let input = input.bytes(alloc)?;
+    let output = output.bytes(alloc)?;
+    is_told_behind(alloc, words, input.as_slice(), output.as_slice())
+}
+
+fn is_told_behind(
+    alloc: Global,
+    words: &[&str],
+    input: &[u8],
+    output: &[u8],
+) -> Result<bool, AllocError> {
+    let device = ShortWriter::new(Vec::new(alloc), 1, 2, WriteEnd::FailsOnce(ErrorKind::Other));
+    let mut reader = Counted::new(input);
+    let mut writer = Counted::new(Buffered::new(alloc, device)?);
+    let mut faults = Vec::new(alloc);
+    let status = command(alloc, words, &mut reader, &mut writer, &mut faults);
+    let taken = writer.into_inner().into_inner().into_inner();
+    Ok(status == 1 && taken.as_slice() == output && faults.as_slice() == WRITE.as_bytes())
+}
+
+/// The status of a command whose writer for faults fails, and whether that took nothing.
+pub fn untold(
+    alloc: Global,
+    words: &[&str],
+    input: Text<'_>,
+    end: ReadEnd,
+) -> Result<(u8, bool), AllocError> {
+    let input = input.bytes(alloc)?;
+    Ok(status_untold(alloc, words, input.as_slice(), end))
+}
+
+fn status_untold(alloc: Global, words: &[&str], input: &[u8], end: ReadEnd) -> (u8, bool) {
+    let mut reader = Counted::new(PieceReader::new(input, &[], end));
+    let mut writer = Counted::new(Vec::new(alloc));
+    let end = WriteEnd::Fails(ErrorKind::Other);
+    let mut faults = ShortWriter::new(Vec::new(alloc), 1, 0, end);
+    let status = command(alloc, words, &mut reader, &mut writer, &mut faults);
+    (status, faults.into_inner().is_empty())
+}

@@ -1,0 +1,190 @@
+//! What a command is given, and what has to come of it.
+//!
+//! A proof over a value that has to be dropped is dear, and devices are such values. So one
+//! function makes them and lets them go, and a test is a setting and a list of cases.
+use super::texts::Text;
+use crate::command::command;
+use rtcm_bits::Counted;
+use rtcm_bits::devices::{PieceReader, ReadEnd, ShortWriter, WriteEnd};
+use std::alloc::{AllocError, Global};
+use std::process::Abort;
+
+/// How much a writer takes: so many bytes a write, and so many in all before it ends so.
+#[derive(Clone, Copy)]
+pub struct Room {
+    pub most: usize,
+    pub total: usize,
+    pub end: WriteEnd,
+}
+
+/// The fault of a reader, and that of a writer.
+pub const READ: &str = "rtcm2rinex: Read\n";
+
+pub const WRITE: &str = "rtcm2rinex: Write\n";
+
+/// Room for every output.
+pub const ROOM: Room = Room {
+    most: usize::MAX,
+    total: usize::MAX,
+    end: WriteEnd::TakesNone,
+};
+
+/// The first words of the cases, the pieces in which each of their streams comes, how a stream
+/// ends, and the room for the output.
+#[derive(Clone, Copy)]
+pub struct Setting<'a> {
+    pub words: &'a [&'a str],
+    pub sizes: &'a [&'a [usize]],
+    pub end: ReadEnd,
+    pub room: Room,
+}
+
+/// Streams that come whole, and devices that don't fail.
+pub const FAULTLESS: Setting<'static> = Setting {
+    words: &[],
+    sizes: &[&[]],
+    end: ReadEnd::Ends,
+    room: ROOM,
+};
+
+/// The words behind those of the setting, the stream, and what has to come of them.
+pub type Case<'a> = (&'a [&'a str], Text<'a>, Comes<'a>);
+
+/// What comes of a command.
+#[derive(Clone, Copy)]
+pub enum Comes<'a> {
+    /// All is well: this is written, and this told beside it.
+    Good(Text<'a>, &'a str),
+    /// This is written, and then a fault is told.
+    Fault(Text<'a>, &'a str),
+    /// The words are refused with some text: nothing is read, and nothing written.
+    Refused,
+}
+
+/// What came of a command.
+#[derive(Drop)]
+pub struct Outcome {
+    pub status: u8,
+    pub output: Vec<u8>,
+    pub faults: Vec<u8>,
+    /// Whether the reader was called.
+    pub has_read: bool,
+}
+
+impl Outcome {
+    /// Whether just this came of it.
+    pub fn is(&self, status: u8, output: &[u8], faults: &[u8]) -> bool {
+        self.status == status
+            && self.output.as_slice() == output
+            && self.faults.as_slice() == faults
+    }
+
+    fn is_refused(&self) -> bool {
+        self.status == 2 && !self.has_read && self.output.is_empty() && !self.faults.is_empty()
+    }
+}
+
+impl<'a> Comes<'a> {
+    /// What has to be written.
+    fn output(&self) -> Text<'a> {
+        match self {
+            Comes::Good(output, _) | Comes::Fault(output, _) => *output,
+            Comes::Refused => Text::Lines(""),
+        }
+    }
+
+    /// Whether it is this outcome, where this is the output.
+    fn is(&self, outcome: &Outcome, output: &[u8]) -> bool {
+        match self {
+            Comes::Good(_, told) => outcome.is(0, output, told.as_bytes()),
+            Comes::Fault(_, told) => outcome.is(1, output, told.as_bytes()),
+            Comes::Refused => outcome.is_refused(),
+        }
+    }
+}
+
+/// Where in the list the first case stands of which something else comes.
+pub fn first_wrong(
+    alloc: Global,
+    setting: &Setting<'_>,
+    cases: &[Case<'_>],
+) -> Result<Option<usize>, AllocError> {
+    for (place, case) in cases.iter().enumerate() {
+        if !is_right(alloc, setting, case)? {
+            return Ok(Some(place));
+        }
+    }
+    Ok(None)
+}
+
+/// Whether that comes of a case which has to, however the stream is cut.
+fn is_right(alloc: Global, setting: &Setting<'_>, case: &Case<'_>) -> Result<bool, AllocError> {
+    let words = joined(alloc, setting.words, case.0)?;
+    let input = case.1.bytes(alloc)?;
+    let output = case.2.output().bytes(alloc)?;
+    let setting = Setting {
+        words: words.as_slice(),
+        ..*setting
+    };
+    Ok(is_right_in_pieces(
+        alloc,
+        &setting,
+        input.as_slice(),
+        &case.2,
+        output.as_slice(),
+    ))
+}
+
+/// The words, one list behind the other.
+fn joined<'a>(
+    alloc: Global,
+    words: &[&'a str],
+    more: &[&'a str],
+) -> Result<Vec<&'a str>, AllocError> {
+    let mut all = Vec::new(alloc);
+    all.extend_from_slice(words)?;
+    all.extend_from_slice(more)?;
+    Ok(all)
+}
+
+/// Whether that comes of a command which has to, in pieces of each of the sizes.
+fn is_right_in_pieces(
+    alloc: Global,
+    setting: &Setting<'_>,
+    input: &[u8],
+    wanted: &Comes<'_>,
+    output: &[u8],
+) -> bool {
+    for sizes in setting.sizes {
+        if !wanted.is(&run(alloc, setting, input, *sizes), output) {
+            return false;
+        }
+    }
+    true
+}
+
+/// Runs the words of a setting over a stream that comes in pieces of these sizes.
+pub fn run(alloc: Global, setting: &Setting<'_>, input: &[u8], sizes: &[usize]) -> Outcome {
+    let room = setting.room;
+    let mut reader = Counted::new(PieceReader::new(input, sizes, setting.end));
+    let mut writer = Counted::new(ShortWriter::new(
+        Vec::new(alloc),
+        room.most,
+        room.total,
+        room.end,
+    ));
+    let mut faults = Vec::new(alloc);
+    let status = command(alloc, setting.words, &mut reader, &mut writer, &mut faults);
+    Outcome {
+        status,
+        output: writer.into_inner().into_inner(),
+        faults,
+        has_read: reader.widest() > 0,
+    }
+}
+
+/// In this setting just that comes of each of the cases which has to. A failure tells the place of
+/// the first case of which something else comes.
+pub fn assert_come(rt: &impl Abort, alloc: Global, setting: &Setting<'_>, cases: &[Case<'_>]) {
+    assert_eq!(*rt; first_wrong(alloc, setting, cases), Ok(None));
+}

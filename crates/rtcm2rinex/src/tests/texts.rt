@@ -1,0 +1,192 @@
+//! Streams, files and lines, as tests name them.
+use super::messages::FINE;
+use arrayvec::ArrayVec;
+use rtcm_bits::frame_of;
+use std::alloc::{AllocError, Global};
+
+/// Bytes of a stream, or of what was written.
+#[derive(Clone, Copy)]
+pub enum Text<'a> {
+    Bytes(&'a [u8]),
+    Lines(&'a str),
+    /// These pieces, one behind the other.
+    Stream(&'a [Piece<'a>]),
+    /// A file: what stands in the place of lines of `HEADER`, and the lines behind it.
+    File(&'a [Replaced<'a>], &'a [Line<'a>]),
+}
+
+/// A part of a stream.
+#[derive(Clone, Copy)]
+pub enum Piece<'a> {
+    /// The frame of a message.
+    Framed(&'a [u8]),
+    /// The frame of so many bytes at the front of a message.
+    Cut(&'a [u8], usize),
+    /// The frame of `FINE` with other bytes at these places.
+    Fine(&'a [(usize, u8)]),
+    /// A byte so many times.
+    Repeated(u8, usize),
+    /// So many bytes at the front of these, and no frame.
+    Front(&'a [u8], usize),
+}
+
+/// The place of a line of `HEADER`, and the lines that stand there.
+pub type Replaced<'a> = (usize, &'a [Line<'a>]);
+
+/// A line of a file. Those of many files have names, so that a proof spells each once.
+#[derive(Clone, Copy)]
+pub enum Line<'a> {
+    Spelled(&'a str),
+    /// The two lines of the epoch of `FINE`.
+    Time,
+    Values,
+    /// The two of `FINE` a second later, behind its epoch: the phase may have been lost.
+    NextTime,
+    NextValues,
+    /// The two lines of the station's values.
+    Position,
+    Above,
+    /// The line in front of an event that tells these values.
+    TwoLines,
+}
+
+/// The header lines of a file of the GPS signal 1C, without the blanks behind them.
+pub const HEADER: [&str; 14] = [
+    "     3.05           OBSERVATION DATA    G                   RINEX VERSION / TYPE",
+    "rtcm2rinex                              20240204 000001 UTC PGM / RUN BY / DATE",
+    "                                                            MARKER NAME",
+    "GEODETIC                                                    MARKER TYPE",
+    "                                                            OBSERVER / AGENCY",
+    "                                                            REC # / TYPE / VERS",
+    "                                                            ANT # / TYPE",
+    "        0.0000        0.0000        0.0000                  APPROX POSITION XYZ",
+    "        0.0000        0.0000        0.0000                  ANTENNA: DELTA H/E/N",
+    "G    4 C1C L1C D1C S1C                                      SYS / # / OBS TYPES",
+    "DBHZ                                                        SIGNAL STRENGTH UNIT",
+    "  2024     2     4     0     0    1.0000000     GPS         TIME OF FIRST OBS",
+    "G                                                           SYS / PHASE SHIFT",
+    "                                                            END OF HEADER",
+];
+
+/// The file of `FINE` alone.
+pub const FINE_FILE: Text<'static> = Text::File(&[], &[Line::Time, Line::Values]);
+
+/// The report of `FINE` alone in its frame.
+pub const REPORT: &str =
+    "bytes 42 skipped_bytes 0 frames 1 faulty 0 station 0 other 0 ignored 0 late 0 past 0 taken 1 \
+     skipped 0 repeated 0 crowded 0 epochs 1\n";
+
+impl<'a> Line<'a> {
+    fn text(&self) -> &'a str {
+        match self {
+            Line::Spelled(text) => text,
+            Line::Time => "> 2024 02 04 00 00  1.0000000  0  1",
+            Line::Values => "G05  20985472.060 7 110279400.000 7      -525.504          45.063",
+            Line::NextTime => "> 2024 02 04 00 00  2.0000000  0  1",
+            Line::NextValues => {
+                "G05  20985472.060 7 110279400.00017      -525.504          45.063"
+            }
+            Line::TwoLines => ">                              4  2",
+            Line::Above => {
+                "        1.5000        0.0000        0.0000                  ANTENNA: DELTA H/E/N"
+            }
+            Line::Position => {
+                "  1114104.5999 -4850729.7108  3975521.4643                  APPROX POSITION XYZ "
+            }
+        }
+    }
+}
+
+impl<'a> Text<'a> {
+    pub fn bytes(&self, alloc: Global) -> Result<Vec<u8>, AllocError> {
+        let mut bytes = Vec::new(alloc);
+        match self {
+            Text::Bytes(these) => bytes.extend_from_slice(these)?,
+            Text::Lines(lines) => bytes.extend_from_slice(lines.as_bytes())?,
+            Text::Stream(pieces) => add_pieces(&mut bytes, pieces)?,
+            Text::File(replaced, lines) => add_file(&mut bytes, replaced, lines)?,
+        }
+        Ok(bytes)
+    }
+}
+
+fn add_pieces(stream: &mut Vec<u8>, pieces: &[Piece<'_>]) -> Result<(), AllocError> {
+    for piece in pieces {
+        match piece {
+            Piece::Framed(message) => add_frame(stream, message)?,
+            Piece::Cut(message, length) => add_frame(stream, front(message, *length))?,
+            Piece::Fine(changes) => add_frame(stream, &fine(changes))?,
+            Piece::Repeated(byte, count) => add_repeated(stream, *byte, *count)?,
+            Piece::Front(bytes, length) => stream.extend_from_slice(front(bytes, *length))?,
+        }
+    }
+    Ok(())
+}
+
+/// The first so many bytes, or all.
+pub fn front(bytes: &[u8], length: usize) -> &[u8] {
+    &bytes[..length.min(bytes.len())]
+}
+
+/// `FINE` with other bytes at these places.
+fn fine(changes: &[(usize, u8)]) -> [u8; 36] {
+    let mut message = FINE;
+    for (place, byte) in changes {
+        if let Some(old) = message.get_mut(*place) {
+            *old = *byte;
+        }
+    }
+    message
+}
+
+/// The frame of a message that isn't too long for one.
+fn add_frame(stream: &mut Vec<u8>, message: &[u8]) -> Result<(), AllocError> {
+    let mut frame = ArrayVec::new();
+    if message.len() <= 1023 {
+        frame_of(message, &mut frame);
+    }
+    stream.extend_from_slice(frame.as_slice())
+}
+
+/// The header with these lines in the place of some of its own, and the other lines behind it.
+fn add_file(
+    text: &mut Vec<u8>,
+    replaced: &[Replaced<'_>],
+    lines: &[Line<'_>],
+) -> Result<(), AllocError> {
+    for (place, line) in HEADER.iter().enumerate() {
+        match replacement(replaced, place) {
+            Some(others) => add_lines(text, others, 80)?,
+            None => add_lines(text, &[Line::Spelled(*line)], 80)?,
+        }
+    }
+    add_lines(text, lines, 0)
+}
+
+/// The lines that stand in the place of one of the header.
+fn replacement<'a>(replaced: &[Replaced<'a>], place: usize) -> Option<&'a [Line<'a>]> {
+    for (other, lines) in replaced {
+        if *other == place {
+            return Some(*lines);
+        }
+    }
+    None
+}
+
+/// Lines that are filled up to so many columns, each with its line feed.
+fn add_lines(text: &mut Vec<u8>, lines: &[Line<'_>], columns: usize) -> Result<(), AllocError> {
+    for line in lines {
+        let line = line.text();
+        text.extend_from_slice(line.as_bytes())?;
+        add_repeated(text, b' ', columns.saturating_sub(line.len()))?;
+        text.push(b'\n')?;
+    }
+    Ok(())
+}
+
+fn add_repeated(bytes: &mut Vec<u8>, byte: u8, count: usize) -> Result<(), AllocError> {
+    for _ in 0..count {
+        bytes.push(byte)?;
+    }
+    Ok(())
+}
