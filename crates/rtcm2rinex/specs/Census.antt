@@ -1,5 +1,5 @@
 -- The counts of a stream's cells, signal by signal, while the stream is read.
-use Rattle.std.specs.Prelude.{◌≡◌, ℕ, ◌+◌, ◌-◌, ◌*◌, ◌<◌, ◌≤◌, ◌^◌, ◌&&◌, ◌||◌, Bool, min, nat_lt, List, [], ◌++◌, length, get_or, set, take, Option, Some, None, is_some, if◌then◌else◌}
+use Rattle.std.specs.Prelude.{◌≡◌, ℕ, ◌+◌, ◌-◌, ◌*◌, ◌<◌, ◌≤◌, ◌^◌, ◌&&◌, ◌||◌, Bool, min, nat_lt, List, [], ◌++◌, length, get_or, set, take, filter, filter_map, Option, Some, None, is_some, if◌then◌else◌}
 use Rattle.std.specs.Option.{option_map_or}
 use Rattle.std.specs.List.{list_any}
 use Rattle.std.specs.Io.KnownBytes.{Appends, Consumes, IsAtEnd}
@@ -13,9 +13,10 @@ use Rattle.rtcm_scan.specs.Frames.{Framed, frames_of}
 use Rattle.rtcm_scan.specs.Known.{known_frames}
 use Rattle.rtcm_scan.specs.Scan.{FramerValue, HasFramed}
 use Rattle.obs_epoch.specs.declared.seen.Seen.{Seen}
+use Rattle.obs_epoch.specs.Heard.{seen_in}
 use Rattle.rtcm2rinex.specs.declared.census.Census.{Census}
 use Rattle.rtcm2rinex.specs.declared.census.SignalsForm.{SignalsForm}
-use Rattle.rtcm2rinex.specs.Signals.{signal_in, signals_text, count_of, valued_in, ReadsTooMuch}
+use Rattle.rtcm2rinex.specs.Signals.{signal_in, signals_text, count_of, valued_in, brings_value, ReadsTooMuch}
 
 -- ---- one cell more
 
@@ -79,6 +80,11 @@ abbrev pub HasSurveyed : Census → Option ℕ → (r r' : Option (List ℕ)) �
 HasSurveyed c wanted r r' = (b : List ℕ) × Consumes r r' b × IsAtEnd r' × SurveysFrames c wanted (frames_of b)
 
 -- ---- what a call does, whatever was counted before it
+
+-- From c to c' the cells of these entries that have a value were counted, whichever grid their message has.
+abbrev pub CountsEntries : (c c' : Census) → System → List Entry → Type 0
+CountsEntries c c' system entries = (is_msm7 : Bool) (cells : List Seen) → length cells + length entries < 2 ^ 63 → IsCensus c cells
+    → IsCensus c' (cells ++ filter brings_value (filter_map (seen_in is_msm7 system) entries))
 
 -- Next bytes were taken: from c to c' the cells of all that is known of them were counted, too.
 abbrev pub CountsNext : (c c' : Census) → Option ℕ → (v v' : FramerValue) → List ℕ → Type 0

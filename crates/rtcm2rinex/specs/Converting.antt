@@ -1,8 +1,7 @@
 -- What the command `convert` has read and written.
 use Rattle.std.specs.Prelude.{◌≡◌, ◌⊎◌, ℕ, List, Option, IfSome}
-use Rattle.rtcm_convert.specs.SetupValues.{setup_value, IsBad}
+use Rattle.rtcm_convert.specs.SetupValues.{IsBad}
 use Rattle.rtcm_convert.specs.Made.{IsMade, IsMadeEmpty}
-use Rattle.rtcm_convert.specs.Broken.{WroteSoFar, WroteToLimit, BrokeReading}
 use Rattle.rtcm_convert.specs.declared.setup.Setup.{Setup}
 use Rattle.rtcm_convert.specs.declared.fault.Fault.{Fault}
 use Rattle.rtcm_convert.specs.declared.fault.Fault.TheVariants as convert
@@ -19,18 +18,6 @@ IsConverted options r w w' = (x : Setup) × IsSetupOf options x × (IsBad x → 
 -- No epoch stands in the file of what the reader had left, and that file was written: it is empty.
 abbrev pub MakesNoEpoch : Setup → (r r' w w' : Option (List ℕ)) → Type 0
 MakesNoEpoch x r r' w w' = IfSome r (IsMadeEmpty x w w')
-
--- The file of the epochs that the bytes read close was written.
-abbrev pub ConvertsSoFar : Setup → (r r' w w' : Option (List ℕ)) → Type 0
-ConvertsSoFar x r r' w w' = WroteSoFar r r' w w' (setup_value x)
-
--- It is that of the bytes read up to the limit.
-abbrev pub ConvertsToLimit : Setup → (r r' w w' : Option (List ℕ)) → Type 0
-ConvertsToLimit x r r' w w' = WroteToLimit r r' w w' (setup_value x) x.limit
-
--- A prefix of the file was written, of the bytes read or of all of them.
-abbrev pub ConvertsPart : Setup → (r r' w w' : Option (List ℕ)) → Type 0
-ConvertsPart x r r' w w' = BrokeReading r r' w w' (setup_value x)
 
 -- how a fault of a conversion is told: one of a device as that of any command
 abbrev pub fault_told : Fault → ToolFault

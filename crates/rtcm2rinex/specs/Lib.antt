@@ -7,7 +7,6 @@ pub mod Listing
 pub mod Listed
 pub mod SetupTold
 pub mod CommandLine
-pub mod Moves
 pub mod Devices
 pub mod Converting
 pub mod ReadBack

@@ -6,7 +6,7 @@ ghost use Rattle.gnss_obs.specs.Signals.{table};
 ghost use Rattle.obs_epoch.specs.declared.seen.Seen.{Seen};
 ghost use Rattle.obs_epoch.specs.Heard.{heard, seen_in, system_of};
 ghost use Rattle.rtcm2rinex.specs.Signals.{brings_value, valued};
-ghost use Rattle.rtcm2rinex.specs.Census.{counted, has_any, counted_of, entry_value, entry_signal, IsCensus};
+ghost use Rattle.rtcm2rinex.specs.Census.{counted, has_any, counted_of, entry_value, entry_signal, CountsEntries, IsCensus};
 
 use gnss_obs::{Sat, Signal, System};
 use rtcm_msg::{Entry, Message, entries};
@@ -83,8 +83,7 @@ impl Census {
 
     /// Counts the cells of listed satellites and signals that have a value.
     fn count_entries(&mut self, system: System, entries: &[Entry])
-        ensures { (is_msm7 : Bool) (cells : List Seen) → length cells + length entries.now < 2 ^ 63 → IsCensus self.old cells
-            → IsCensus self.new (cells ++ filter brings_value (filter_map (seen_in is_msm7 system) entries.now)) }
+        ensures { CountsEntries self.old self.new system entries.now }
     {
         for i in 0..entries.len() {
             if let Some(signal) = signal_of(system, &entries[i]) {

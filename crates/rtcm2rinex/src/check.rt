@@ -9,7 +9,7 @@ ghost use Rattle.rinex_file.specs.File.{file_text, file_lines};
 ghost use Rattle.rinex_file.specs.Exact.{ExplainsFault, most_lines};
 ghost use Rattle.rinex_file.specs.Blocks.{LeavesRest};
 ghost use Rattle.rinex_file.specs.Counting.{AreCounts};
-ghost use Rattle.rtcm2rinex.specs.Moves.{Moves};
+ghost use Rattle.rtcm_convert.specs.Moves.{Moves};
 ghost use Rattle.rtcm2rinex.specs.Checking.{check_line, AcceptsFiles, ChecksFile, ChecksPart, IsCheckFault};
 
 use crate::fault::ToolFault;

@@ -1,5 +1,5 @@
 //! The whole program, over a reader, a writer and a fault writer.
-ghost use Rattle.std.specs.Prelude.{◌≡◌, ◌⊎◌, ◌≤◌};
+ghost use Rattle.std.specs.Prelude.{◌≡◌, ◌≤◌};
 ghost use Rattle.std.specs.Io.KnownBytes.{Appends};
 ghost use Rattle.clap.specs.Walk.{texts};
 ghost use Rattle.clap.specs.Simple.{subcommand_rows_of};
@@ -11,10 +11,9 @@ ghost use Rattle.rtcm2rinex.specs.Listing.{ListsAll};
 ghost use Rattle.rtcm2rinex.specs.Converting.{IsConverted};
 ghost use Rattle.rtcm2rinex.specs.Checking.{ChecksFile};
 ghost use Rattle.rtcm2rinex.specs.Telling.{HasToldSignals};
-ghost use Rattle.rtcm2rinex.specs.CommandLine.{IsAnswered};
 ghost use Rattle.rtcm2rinex.specs.SetupTold.{options_of};
-ghost use Rattle.rtcm2rinex.specs.Commands.{HasDone, HasDoneAsked, HasDoneOf};
-ghost use Rattle.rtcm2rinex.specs.Moves.{Moves};
+ghost use Rattle.rtcm2rinex.specs.Commands.{HasDone, HasDoneOf, HasServed};
+ghost use Rattle.rtcm_convert.specs.Moves.{Moves};
 ghost use Rattle.rtcm2rinex.specs.declared.version.TheConstants.{VERSION};
 
 use crate::asked::{form_of, station_of};
@@ -48,9 +47,7 @@ pub fn command<R: Read, W: Write, E: Write>(
     // Good is only that the words ask for a command, by clap's own definitions under the program's
     // options, and that it did what it is for with these options; or that they ask for the version,
     // and it was written.
-    ensures good { result ≡ 0 → Moves R.remaining reader.old reader.new W.contents writer.old writer.new (HasDoneAsked (texts words.now))
-        ⊎ (IsAnswered (texts words.now) DisplayVersion × (reader.new ≡ reader.old)
-        × Appends (W.contents writer.old.inner) (W.contents writer.new.inner) VERSION.now) }
+    ensures good { result ≡ 0 → HasServed R.remaining reader.old reader.new W.contents writer.old writer.new (texts words.now) }
 
     // Of a command line that isn't accepted nothing comes but its text.
     ensures unread { result ≡ 2 → reader.new ≡ reader.old }

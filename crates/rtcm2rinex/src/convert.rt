@@ -2,10 +2,10 @@
 ghost use Rattle.std.specs.Prelude.{◌≡◌, ◌<◌, ◌≤◌, ◌↔◌, Err, OnOk, IfOk, IfErr, IfSome, max, length};
 ghost use Rattle.rtcm_bits.specs.FrameOf.{longest_frame};
 ghost use Rattle.rtcm_convert.specs.Faults.{IsUntouched};
-ghost use Rattle.rtcm_convert.specs.Made.{IsMade, IsReportOf};
+ghost use Rattle.rtcm_convert.specs.Made.{IsMade, IsMadeToLimit, IsMadeSoFar, IsMadeInPart, IsReportOf};
 ghost use Rattle.rtcm_convert.specs.SetupValues.{IsBad};
-ghost use Rattle.rtcm2rinex.specs.Converting.{ConvertsSoFar, ConvertsToLimit, ConvertsPart, MakesNoEpoch, IsConvertFault, IsSetupRefusal};
-ghost use Rattle.rtcm2rinex.specs.Moves.{Moves};
+ghost use Rattle.rtcm2rinex.specs.Converting.{MakesNoEpoch, IsConvertFault, IsSetupRefusal};
+ghost use Rattle.rtcm_convert.specs.Moves.{Moves};
 ghost use Rattle.rtcm2rinex.specs.Devices.{CountsReadFault, CountsWriteFault};
 
 use crate::fault::ToolFault;
@@ -34,13 +34,13 @@ pub fn run_convert<R: Read, W: Write>(
     // The bytes up to the limit were taken, and what went out is the file of the epochs that they
     // close.
     ensures too_long { result ≡ Err (ToolFault.Convert Fault.TooLong) → IfSome (R.remaining reader.old.inner) (λ b. setup.limit < length b) }
-    ensures long { result ≡ Err (ToolFault.Convert Fault.TooLong) → Moves R.remaining reader.old reader.new W.contents writer.old writer.new (ConvertsToLimit setup) }
+    ensures long { result ≡ Err (ToolFault.Convert Fault.TooLong) → Moves R.remaining reader.old reader.new W.contents writer.old writer.new (IsMadeToLimit setup) }
 
     // The reader failed: what went out is the file of the epochs that the bytes before close.
-    ensures read { result ≡ Err ToolFault.Read → Moves R.remaining reader.old reader.new W.contents writer.old writer.new (ConvertsSoFar setup) }
+    ensures read { result ≡ Err ToolFault.Read → Moves R.remaining reader.old reader.new W.contents writer.old writer.new (IsMadeSoFar setup) }
 
     // The writer failed: what it took is a prefix of the file.
-    ensures write { result ≡ Err ToolFault.Write → Moves R.remaining reader.old reader.new W.contents writer.old writer.new (ConvertsPart setup) }
+    ensures write { result ≡ Err ToolFault.Write → Moves R.remaining reader.old reader.new W.contents writer.old writer.new (IsMadeInPart setup) }
     ensures reader { CountsReadFault result reader.old reader.new }
     ensures writer { CountsWriteFault result writer.old writer.new }
     ensures bad_setup { result ≡ Err (ToolFault.Convert Fault.BadSetup) ↔ IsBad setup }

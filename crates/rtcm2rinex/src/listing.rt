@@ -12,7 +12,7 @@ ghost use Rattle.rtcm2rinex.specs.Listed.{ListsOn, ListsHeld, ListsHeldPart, Lis
 ghost use Rattle.rtcm2rinex.specs.Kinds.{listing_line, listing_lines, ListsLast};
 ghost use Rattle.rtcm_convert.specs.Faults.{IsUntouched};
 ghost use Rattle.rtcm2rinex.specs.Devices.{CountsReadFault, CountsWriteFault};
-ghost use Rattle.rtcm2rinex.specs.Moves.{Moves, Writes};
+ghost use Rattle.rtcm_convert.specs.Moves.{Moves, Writes};
 
 use crate::fault::ToolFault;
 use crate::frames::frame_line;

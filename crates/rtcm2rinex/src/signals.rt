@@ -12,7 +12,7 @@ ghost use Rattle.rtcm_convert.specs.Faults.{IsUntouched};
 ghost use Rattle.rtcm2rinex.specs.Devices.{CountsReadFault, CountsWriteFault};
 ghost use Rattle.rtcm2rinex.specs.Census.{IsCensus, TellsCensus, TellsCensusPart};
 ghost use Rattle.rtcm2rinex.specs.Listing.{no_memory, too_long};
-ghost use Rattle.rtcm2rinex.specs.Moves.{Moves, Writes};
+ghost use Rattle.rtcm_convert.specs.Moves.{Moves, Writes};
 
 use crate::census::{Census, SignalsForm};
 use crate::fault::ToolFault;

@@ -12,7 +12,7 @@ ghost use Rattle.rtcm2rinex.specs.Signals.{ReadsTooMuch};
 ghost use Rattle.rtcm2rinex.specs.Devices.{CountsReadFault};
 ghost use Rattle.rtcm2rinex.specs.Census.{IsCensus, SurveysFrames, HasSurveyed, CountsCells, CountsKnownCells};
 ghost use Rattle.rtcm2rinex.specs.Census.{CountsNext, CountsOn, CountsTooMuch};
-ghost use Rattle.rtcm2rinex.specs.Moves.{Reads};
+ghost use Rattle.rtcm_convert.specs.Moves.{Reads};
 
 use crate::census::Census;
 use crate::fault::ToolFault;

@@ -1,5 +1,5 @@
 -- What an answer says of the devices that a call reads and writes.
-use Rattle.std.specs.Prelude.{◌≡◌, ◌≤◌, ◌⊎◌, ℕ, List, max, Option, Result, OnOk, IfErr}
+use Rattle.std.specs.Prelude.{◌≡◌, ◌≤◌, ◌⊎◌, ℕ, max, Result, OnOk, IfErr}
 use Rattle.rtcm_bits.specs.Device.{Device, HasFailed, FailsWith}
 use Rattle.rtcm_bits.specs.FrameOf.{longest_frame}
 use Rattle.rtcm_convert.specs.declared.fault.Fault.{Fault}
@@ -31,11 +31,6 @@ abbrev pub FailsWithReader : {T A : Type 0} → Result A Fault → Device T → 
 FailsWithReader result old new =
     IfErr result (λ fault. ReaderFailures fault old.failures new.failures) × OnOk result (new.failures ≡ old.failures)
     × (new.widest ≤ max old.widest longest_frame)
-
--- the relation holds of what is left to read before a call and after it, and of what was written before it and after it
-abbrev pub OnDevices : {R W : Type 0} → (R → Option (List ℕ)) → (W → Option (List ℕ)) → Device R → Device R → Device W → Device W
-    → (Option (List ℕ) → Option (List ℕ) → Option (List ℕ) → Option (List ℕ) → Type 0) → Type 0
-OnDevices remaining contents r r' w w' relation = relation (remaining r.inner) (remaining r'.inner) (contents w.inner) (contents w'.inner)
 
 -- both devices are as before
 abbrev pub IsUntouched : {R W : Type 0} → (r r' : Device R) → (w w' : Device W) → Type 0

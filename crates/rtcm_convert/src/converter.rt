@@ -8,7 +8,8 @@ ghost use Rattle.rtcm_bits.specs.FrameOf.{longest_frame};
 ghost use Rattle.rtcm_scan.specs.Looks.{examined, examined_now, most, most_looks, most_now};
 ghost use Rattle.obs_epoch.specs.Values.{most_cells};
 ghost use Rattle.rtcm_convert.specs.Kept.{cells_kept, locks_kept, locks_in_all};
-ghost use Rattle.rtcm_convert.specs.Faults.{OnDevices, FailsWithReader, FailsWithWriter, IsUntouched, IsSetupFault, IsFeedFault, IsPullFault, IsFinishFault, IsRunFault};
+ghost use Rattle.rtcm_convert.specs.Moves.{Moves};
+ghost use Rattle.rtcm_convert.specs.Faults.{FailsWithReader, FailsWithWriter, IsUntouched, IsSetupFault, IsFeedFault, IsPullFault, IsFinishFault, IsRunFault};
 ghost use Rattle.rtcm_convert.specs.SetupValues.{setup_value, IsBad};
 ghost use Rattle.rtcm_convert.specs.Converted.{SetupValue};
 ghost use Rattle.rtcm_convert.specs.Outcomes.{report_with};
@@ -170,7 +171,7 @@ impl Converter {
         writer: &mut Counted<W>,
     ) -> Result<usize, Fault>
         requires { IsGoing self.old }
-        ensures whole { OnOk result (OnDevices R.remaining W.contents reader.old reader.new writer.old writer.new
+        ensures whole { OnOk result (Moves R.remaining reader.old reader.new W.contents writer.old writer.new
             (TakesFromReader self.old self.new)) }
         ensures end { IfOk result (λ n. n ≡ 0 → IsAtEnd (R.remaining reader.new.inner)) }
         ensures going { IfOk result (GoesOnBy self.old self.new) }
@@ -179,9 +180,9 @@ impl Converter {
         ensures unwritten { IsErrOf result Fault.Read → (writer.new ≡ writer.old) × (self.new.scan.taken ≡ self.old.scan.taken) }
         ensures full { IsErrOf result Fault.TooLong → self.new.scan.taken ≡ self.old.scan.limit }
         ensures same { self.new.scan.limit ≡ self.old.scan.limit }
-        ensures long { IsErrOf result Fault.TooLong → OnDevices R.remaining W.contents reader.old reader.new writer.old writer.new
+        ensures long { IsErrOf result Fault.TooLong → Moves R.remaining reader.old reader.new W.contents writer.old writer.new
             (ReadOverLimit self.old) }
-        ensures part { IsErrOf result Fault.Write → OnDevices R.remaining W.contents reader.old reader.new writer.old writer.new
+        ensures part { IsErrOf result Fault.Write → Moves R.remaining reader.old reader.new W.contents writer.old writer.new
             (StopsAtPiece self.old self.new) }
         ensures listening { self.old.scan.has_ended ≡ false }
         ensures reader { FailsWithReader result reader.old reader.new }
@@ -213,23 +214,23 @@ impl Converter {
         ensures refused { IfSome (refusal self.old) (λ fault.
             (result ≡ Err fault) × (self.new ≡ self.old) × IsUntouched reader.old reader.new writer.old writer.new) }
         // The rest of the file of all the bytes went out, and that is the report.
-        ensures whole { IfOk result (λ report. OnDevices R.remaining W.contents reader.old reader.new writer.old writer.new
+        ensures whole { IfOk result (λ report. Moves R.remaining reader.old reader.new W.contents writer.old writer.new
             (CompletesFileOfAll self.old self.new report)) }
         // No epoch of the whole stream was written, so nothing was.
-        ensures no_epoch { IsErrOf result Fault.NoEpoch → OnDevices R.remaining W.contents reader.old reader.new writer.old writer.new
+        ensures no_epoch { IsErrOf result Fault.NoEpoch → Moves R.remaining reader.old reader.new W.contents writer.old writer.new
             (CompletesEmptyFileOfAll self.old self.new) }
         // The stream is longer than the limit.
         ensures too_long { IsErrOf result Fault.TooLong → IfSome (R.remaining reader.old.inner) (IsPastLimit self.old) }
         // The bytes up to the limit were taken, and what they add went out.
-        ensures long { IsErrOf result Fault.TooLong → OnDevices R.remaining W.contents reader.old reader.new writer.old writer.new
+        ensures long { IsErrOf result Fault.TooLong → Moves R.remaining reader.old reader.new W.contents writer.old writer.new
             (RanToLimit self.old) }
         ensures full { IsErrOf result Fault.TooLong → self.new.scan.taken ≡ self.old.scan.limit }
         ensures same { self.new.scan.limit ≡ self.old.scan.limit }
         // The reader failed: what the bytes that were read add went out.
-        ensures read { IsErrOf result Fault.Read → OnDevices R.remaining W.contents reader.old reader.new writer.old writer.new
+        ensures read { IsErrOf result Fault.Read → Moves R.remaining reader.old reader.new W.contents writer.old writer.new
             (RanToFault self.old self.new) }
         // The writer failed, at one of the pieces or at the end.
-        ensures write { IsErrOf result Fault.Write → OnDevices R.remaining W.contents reader.old reader.new writer.old writer.new
+        ensures write { IsErrOf result Fault.Write → Moves R.remaining reader.old reader.new W.contents writer.old writer.new
             (StopsRunning self.old self.new) }
         ensures reader { FailsWithReader result reader.old reader.new }
         ensures writer { FailsWithWriter result writer.old writer.new }

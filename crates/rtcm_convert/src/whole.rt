@@ -1,6 +1,7 @@
 //! Whole streams.
 ghost use Rattle.std.specs.Prelude.{◌≡◌, ◌≢◌, ◌<◌, ◌↔◌, Err, IsErrOf, IfOk, IfErr, OnOk, IfSome, length};
-ghost use Rattle.rtcm_convert.specs.Faults.{OnDevices, FailsWithReader, FailsWithWriter, IsPiecesFault, IsSetupFault, IsUntouched};
+ghost use Rattle.rtcm_convert.specs.Moves.{Moves};
+ghost use Rattle.rtcm_convert.specs.Faults.{FailsWithReader, FailsWithWriter, IsPiecesFault, IsSetupFault, IsUntouched};
 ghost use Rattle.rtcm_convert.specs.Conversion.{IsGoing};
 ghost use Rattle.rtcm_convert.specs.Broken.{WrotePieces, BrokeInPieces, joined_pieces};
 ghost use Rattle.rtcm_convert.specs.Made.{OfItsSetup, PiecesMakeFile, PiecesMakeEmptyFile, PiecesMakeFileToLimit, PiecesMakePartOfFile, IsMade, IsMadeEmpty, IsMadeToLimit, IsMadeSoFar, IsMadeInPart, IsReportOf};
@@ -32,13 +33,13 @@ pub fn convert_stream<R: Read, W: Write>(
     ensures too_long { IsErrOf result Fault.TooLong → IfSome (R.remaining reader.old.inner) (λ b. setup.limit < length b) }
     // The bytes up to the limit were taken, and what went out is the file of the epochs that they
     // close.
-    ensures long { IsErrOf result Fault.TooLong → OnDevices R.remaining W.contents reader.old reader.new writer.old writer.new
+    ensures long { IsErrOf result Fault.TooLong → Moves R.remaining reader.old reader.new W.contents writer.old writer.new
         (IsMadeToLimit setup) }
     // What went out is the file of the epochs that the bytes read close.
-    ensures read { IsErrOf result Fault.Read → OnDevices R.remaining W.contents reader.old reader.new writer.old writer.new
+    ensures read { IsErrOf result Fault.Read → Moves R.remaining reader.old reader.new W.contents writer.old writer.new
         (IsMadeSoFar setup) }
     // The writer failed at one of the pieces read, or when all was read.
-    ensures write { IsErrOf result Fault.Write → OnDevices R.remaining W.contents reader.old reader.new writer.old writer.new
+    ensures write { IsErrOf result Fault.Write → Moves R.remaining reader.old reader.new W.contents writer.old writer.new
         (IsMadeInPart setup) }
     ensures reader { FailsWithReader result reader.old reader.new }
     ensures writer { FailsWithWriter result writer.old writer.new }
