@@ -262,7 +262,7 @@ type Case<'a> = (
     u16,
 );
 
-const CASES: [Case<'static>; 4] = [
+static CASES: [Case<'static>; 4] = [
     (&[&FULL], &HEADER, &EPOCH, ONE_TAKEN, 78, 2),
     (&[&FULL, &NEXT], &HEADER, &TWO_EPOCHS, TWO_TAKEN, 156, 2),
     (

@@ -35,7 +35,7 @@ struct Row {
     line: &'static str,
 }
 
-const ROWS: [Row; 8] = [
+static ROWS: [Row; 8] = [
     Row {
         what: "finer range",
         message: &[

@@ -10,7 +10,7 @@ pub const CHECK: [&str; 2] = ["rtcm2rinex", "check"];
 /// The counts of a file with one epoch of one satellite.
 const COUNTS: &str = "epochs 1 satellites 1 events 0\n";
 
-const GOOD: [Case; 3] = [
+static GOOD: [Case; 3] = [
     (&[], FINE_FILE, Good(Lines(COUNTS), "")),
     (
         &[],
@@ -54,7 +54,7 @@ const LEVEL: Line = Spelled(
 );
 
 /// Files whose event is wrong.
-const WRONG: [Case; 8] = [
+static WRONG: [Case; 8] = [
     (
         &[],
         File(

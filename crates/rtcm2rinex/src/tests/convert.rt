@@ -21,7 +21,7 @@ pub const OPTIONS: [&str; 10] = [
 ];
 
 /// One message, and one with station values that change behind it, in any pieces.
-const IN_PIECES: [Case; 2] = [
+static IN_PIECES: [Case; 2] = [
     (&[], Stream(&[Fine(&[])]), Good(FINE_FILE, REPORT)),
     (
         &[],
@@ -51,7 +51,7 @@ fn a_stream_becomes_a_file(rt: HostRuntime) {
 
 /// One unit of a fine value is a thousandth, rounded; a fine range of the least number is none. A
 /// message without a rate leaves its columns blank.
-const VALUES_SHOWN: [Case; 5] = [
+static VALUES_SHOWN: [Case; 5] = [
     (
         &[],
         Stream(&[Fine(&[(28, 0x40)])]),
@@ -136,7 +136,7 @@ fn values_stand_in_their_columns(rt: HostRuntime) {
 
 /// The station's values as they were known when the first epoch was closed stand in the header.
 /// Values that are told again, or behind the last epoch, are no event.
-const STATION_VALUES: [Case; 3] = [
+static STATION_VALUES: [Case; 3] = [
     (
         &[],
         Stream(&[Framed(&HEIGHT), Fine(&[])]),
@@ -185,7 +185,7 @@ fn station_values_stand_once(rt: HostRuntime) {
 
 /// A message that is cut counts as faulty, and closes no epoch: the next of that time isn't late.
 /// Streams without an epoch are told.
-const CUT_OR_EMPTY: [Case; 4] = [
+static CUT_OR_EMPTY: [Case; 4] = [
     (
         &[],
         Stream(&[Fine(&[(6, 0xA2)]), Cut(&FINE, 35), Framed(&COARSE)]),

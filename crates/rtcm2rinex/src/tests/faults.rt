@@ -20,7 +20,7 @@ use std::test::Fail;
 const ONE_FRAME: Text = Stream(&[Fine(&[])]);
 
 /// The first preamble may still begin a frame, so that nothing is decided.
-const CUT_OFF: [Case; 2] = [
+static CUT_OFF: [Case; 2] = [
     (
         &FRAMES,
         Stream(&[Front(&LATE_FRAME, 3)]),
@@ -43,7 +43,7 @@ fn a_reader_that_fails_is_told(rt: HostRuntime) {
     assert_come(&rt, rt.alloc(), &setting, &CUT_OFF);
 }
 
-const TWO_BYTES_WRITTEN: [Case; 2] = [
+static TWO_BYTES_WRITTEN: [Case; 2] = [
     (&FRAMES, Bytes(&FRAMED_STATION), Fault(Lines("0 "), WRITE)),
     (&SHOW, Bytes(&FRAMED_STATION), Fault(Lines("0 "), WRITE)),
 ];
@@ -80,7 +80,7 @@ const EVENT_FILE: Text = File(
 /// The words, the stream, the most bytes a write, and all that is written of it.
 type Written<'a> = (&'a [&'a str], Text<'a>, usize, Text<'a>);
 
-const WRITTEN: [Written; 4] = [
+static WRITTEN: [Written; 4] = [
     (&OPTIONS, ONE_FRAME, 50, FINE_FILE),
     (&OPTIONS, WITH_EVENT, 1000, EVENT_FILE),
     (&SIGNALS, ONE_FRAME, 3, Lines("--gps 1C --galileo none\n")),
@@ -101,7 +101,7 @@ fn a_writer_may_fail_behind_each_byte(rt: HostRuntime) {
 }
 
 /// The most bytes a write and in all, and what just fills that room.
-const FILLED: [(usize, usize, Case); 2] = [
+static FILLED: [(usize, usize, Case); 2] = [
     (1, 1236, (&OPTIONS, ONE_FRAME, Good(FINE_FILE, REPORT))),
     (
         3,
@@ -133,7 +133,7 @@ fn a_writer_may_take_few_bytes(rt: HostRuntime) {
 /// The words, the stream, and all that is written of it.
 type Read<'a> = (&'a [&'a str], Text<'a>, Text<'a>);
 
-const READS: [Read; 3] = [
+static READS: [Read; 3] = [
     (&OPTIONS, ONE_FRAME, FINE_FILE),
     (&SIGNALS, ONE_FRAME, Lines("")),
     (&CHECK, FINE_FILE, Lines("")),
@@ -147,7 +147,7 @@ fn a_reader_may_fail_behind_each_byte(rt: HostRuntime) {
     }
 }
 
-const FLUSHED: [Read; 3] = [
+static FLUSHED: [Read; 3] = [
     (&FRAMES, ONE_FRAME, Lines("0 ")),
     (&SHOW, ONE_FRAME, Lines("0 ")),
     (&OPTIONS, ONE_FRAME, Lines("  ")),
@@ -162,7 +162,7 @@ fn a_flush_that_fails_is_told(rt: HostRuntime) -> Result<(), Fail> {
     Ok(())
 }
 
-const UNTOLD: [(&[&str], Text, ReadEnd, u8); 3] = [
+static UNTOLD: [(&[&str], Text, ReadEnd, u8); 3] = [
     (&FRAMES, Bytes(&[]), ReadEnd::Fails(ErrorKind::Other), 1),
     (&["rtcm2rinex", "fames"], Bytes(&[]), ReadEnd::Ends, 2),
     (&OPTIONS, ONE_FRAME, ReadEnd::Ends, 0),

@@ -1,3 +1,4 @@
+//! What `frames` lists.
 use super::messages::{FRAMED_NOTHING, FRAMED_STATION, INNER_FRAME, LATE_FRAME, STATION};
 use super::scenario::Comes::Good;
 use super::scenario::{Case, FAULTLESS, Setting, assert_come};
@@ -12,7 +13,7 @@ use std::test::Fail;
 
 pub const FRAMES: [&str; 2] = ["rtcm2rinex", "frames"];
 
-const LISTED: [Case; 7] = [
+static LISTED: [Case; 7] = [
     (&[], Bytes(&FRAMED_STATION), Good(Lines("0 19 1005\n"), "")),
     (&[], Bytes(&[]), Good(Lines(""), "")),
     (&[], Bytes(&FRAMED_NOTHING), Good(Lines("0 0 -\n"), "")),
@@ -51,7 +52,7 @@ const HIDDEN: [u8; 28] = [
 ];
 
 /// A claim of many bytes hides no frame, and reserved bits are of no account.
-const CLAIMS: [Case; 3] = [
+static CLAIMS: [Case; 3] = [
     (&[], Bytes(&HIDDEN), Good(Lines("3 19 1005\n"), "")),
     (&[], Bytes(&RESERVED_SET), Good(Lines("0 19 1005\n"), "")),
     (&[], Stream(&[Repeated(0xD3, 2_000)]), Good(Lines(""), "")),

@@ -55,7 +55,7 @@ const SECOND_MESSAGE: Line = Spelled(
 );
 
 /// All texts; another week; the last second of week 99,999, and the first of the week behind it.
-const TEXTS_AND_WEEKS: [Case; 3] = [
+static TEXTS_AND_WEEKS: [Case; 3] = [
     (
         &[
             "--ant-type=type of antenna",
@@ -134,7 +134,7 @@ const ONE: &str =
     "bytes 84 skipped_bytes 0 frames 2 faulty 0 station 0 other 1 ignored 0 late 0 past 0 taken 1 \
      skipped 0 repeated 0 crowded 0 epochs 1\n";
 
-const STATIONS: [Case; 4] = [
+static STATIONS: [Case; 4] = [
     (
         &[],
         TWO_STATIONS,
@@ -173,7 +173,7 @@ const BY_BIT: &str =
     "bytes 84 skipped_bytes 0 frames 2 faulty 0 station 0 other 0 ignored 0 late 1 past 0 taken 1 \
      skipped 0 repeated 0 crowded 0 epochs 1\n";
 
-const RULES: [Case; 3] = [
+static RULES: [Case; 3] = [
     (&[], TWO_OF_A_TIME, Good(FINE_FILE, BY_BIT)),
     (&["--gather", "bit"], TWO_OF_A_TIME, Good(FINE_FILE, BY_BIT)),
     (
@@ -207,7 +207,7 @@ fn a_rule_of_gathering_is_chosen(rt: HostRuntime) {
 const FORTY_THREE: Text = Stream(&[Fine(&[]), Front(&[0], 1)]);
 
 /// What the bytes up to the limit close is written.
-const LIMITS: [Case; 4] = [
+static LIMITS: [Case; 4] = [
     (
         &["--limit", "42"],
         FORTY_THREE,

@@ -90,7 +90,7 @@ const EVERY: Text = File(
     &[TWO, OF_GPS, OF_GALILEO],
 );
 
-const PLANS: [Case; 5] = [
+static PLANS: [Case; 5] = [
     (&[], BOTH_SYSTEMS, Good(EVERY, ALL)),
     (
         &["--gps", "all", "--galileo", "all"],

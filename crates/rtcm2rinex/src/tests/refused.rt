@@ -5,7 +5,7 @@ use super::scenario::{Case, FAULTLESS, Setting, assert_come};
 use super::texts::Text::{Bytes, Lines};
 
 /// Options are judged in the order: the command line, the header's texts, the plan.
-const TOLD: [Case; 8] = [
+static TOLD: [Case; 8] = [
     (
         &["--gps", "1c"],
         Bytes(b"ab"),
@@ -62,7 +62,7 @@ fn options_that_are_refused_are_told(rt: HostRuntime) {
     assert_come(&rt, rt.alloc(), &setting, &TOLD);
 }
 
-const NOT_ACCEPTED: [Case; 8] = [
+static NOT_ACCEPTED: [Case; 8] = [
     (&[], Bytes(&FRAMED_STATION), Refused),
     (&["--date="], Bytes(&FRAMED_STATION), Refused),
     (

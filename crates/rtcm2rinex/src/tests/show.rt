@@ -1,3 +1,4 @@
+//! What `show` says of each message.
 use super::messages::{COARSE, FINE, HEIGHT, MANY, NO_CELLS, PAST_WEEK, SMALL, STATION};
 use super::scenario::Comes::Good;
 use super::scenario::{Case, FAULTLESS, Setting, assert_come};
@@ -7,7 +8,7 @@ use super::texts::Text::{Lines, Stream};
 pub const SHOW: [&str; 2] = ["rtcm2rinex", "show"];
 
 /// A minus stands only where a length is negative. Message 1087 isn't read.
-const SHOWN: [Case; 13] = [
+static SHOWN: [Case; 13] = [
     (
         &[],
         Stream(&[Framed(&STATION)]),

@@ -12,7 +12,7 @@ pub const SIGNALS: [&str; 2] = ["rtcm2rinex", "signals"];
 /// is 2W.
 const OF_THREE: Text = Stream(&[Fine(&[]), Framed(&COARSE), Fine(&[(17, 0x00), (18, 0x20)])]);
 
-const TOLD: [Case; 3] = [
+static TOLD: [Case; 3] = [
     (
         &[],
         OF_THREE,
@@ -47,7 +47,7 @@ const NO_VALUES: [(usize, u8); 6] = [
 ];
 
 /// A station's messages alone count where it is told; a cell without any value doesn't.
-const NONE: [Case; 4] = [
+static NONE: [Case; 4] = [
     (
         &["--station", "2004"],
         Stream(&[Fine(&[])]),

@@ -1,3 +1,4 @@
+//! What the words of a command line come to.
 use super::messages::FRAMED_STATION;
 use super::scenario::Comes::{Good, Refused};
 use super::scenario::{Case, FAULTLESS, assert_come};
@@ -8,7 +9,7 @@ use std::alloc::Global;
 use std::io;
 use std::io::ErrorKind;
 
-const NOT_ACCEPTED: [Case; 9] = [
+static NOT_ACCEPTED: [Case; 9] = [
     (&["rtcm2rinex"], Bytes(&FRAMED_STATION), Refused),
     (&["rtcm2rinex", "--help"], Bytes(&FRAMED_STATION), Refused),
     (
@@ -41,7 +42,7 @@ fn words_that_are_not_accepted_do_nothing(rt: HostRuntime) {
     assert_come(&rt, rt.alloc(), &FAULTLESS, &NOT_ACCEPTED);
 }
 
-const ASKED_FOR_THE_VERSION: [Case; 2] = [
+static ASKED_FOR_THE_VERSION: [Case; 2] = [
     (
         &["rtcm2rinex", "--version"],
         Bytes(b"ab"),
