@@ -1,5 +1,5 @@
 -- What a command is once an option or a command is added.
-use Rattle.std.proofs.Common.{◌≡◌, ◌+◌, ◌<◌, ◌&&◌, ◌∷◌, [], ℕ, Bool, Result, Ok, Err, IfErr, List, Option, Some, true, false, not, is_some, length, map, take, get_or, inl, inr, refl, sym, subst, ap, ap₂, ◌∙◌}
+use Rattle.std.proofs.Common.{◌≡◌, ◌+◌, ◌<◌, ◌&&◌, ◌∷◌, [], ℕ, Bool, Result, Ok, Err, IfOk, IfErr, List, Option, Some, true, false, not, is_some, length, map, take, get_or, inl, inr, refl, sym, subst, ap, ap₂, ◌∙◌}
 use Rattle.std.proofs.lemmas.List.{map_more}
 use Rattle.std.proofs.lemmas.List.Sums.{fold-append}
 use Rattle.clap.specs.Walk.{Rule, Text, is_empty, rule_of}
@@ -9,13 +9,17 @@ use Rattle.clap.proofs.OnLiterals.{clap_on_literals}
 use Rattle.clap.specs.Kinds.{FailsBy, HasKind, Kinds}
 use Rattle.clap.specs.declared.error.Error.{Error}
 use Rattle.std.specs.Borrow.{Bor}
-use Rattle.rtcm2rinex.specs.CommandLine.{IsAnswered, RefusesWords, program, text_of, with_options}
+use Rattle.rtcm2rinex.specs.CommandLine.{AddsCommand, AddsOption, IsAnswered, RefusesWords, program, text_of, with_options}
 use Rattle.clap.specs.Values.{kind_of}
 use Rattle.clap.specs.declared.error.kind.ErrorKind.TheVariants as kind
 use Rattle.clap.specs.Built.{AddsArg, AddsSubcommand}
 use Rattle.clap.specs.declared.builder.arg.Arg.{Arg}
 use Rattle.clap.specs.declared.builder.command.Command.{Command}
 use Rattle.clap.specs.declared.builder.command.Command.TheViews.{out-Command}
+
+-- where it was made, a command is read so
+abbrev pub Reads : {E : Type 0} → Result Command E → App → Type 0
+Reads command app = IfOk command (λ c. app_of c ≡ app)
 
 second : (a b : Bool) → (a && b) ≡ true → b ≡ true
 second true b e = e
@@ -59,15 +63,28 @@ versioned c d e a t version wants was =
     ∙ ap (on_top (λ s. record s { subcommand_required = true; has_version = true })) was
 
 -- one option more
-pub with_option : (old new : Command) (a : Arg) (app : App) (r : Rule) → AddsArg old a new → app_of old ≡ app → rule_of a ≡ r → r.is_simple ≡ true
-    → app_of new ≡ with_rule app r
-with_option old new a app r added was is simple = added.shape (local a r is simple) ∙ ap₂ with_rule was is
+pub with_option : {E : Type 0} (old new : Result Command E) (a : Arg) (app : App) (r : Rule) → AddsOption old a new → Reads old app → rule_of a ≡ r
+    → r.is_simple ≡ true → Reads new (with_rule app r)
+with_option old (Err e) a app r added was is simple = tt
+with_option old (Ok new) a app r (command, same, added) was is simple =
+    added.shape (local a r is simple) ∙ ap₂ with_rule (subst (λ c. Reads c app) same was) is
 
--- one command more
-pub with_command : (old sub new : Command) (app below : App) → AddsSubcommand old sub new → app_of old ≡ app → app_of sub ≡ below
-    → below.top.is_plain ≡ true → app_of new ≡ with_subcommand app below.top
-with_command old sub new app below added was is plain =
-    added.shape (has_local sub below is plain) ∙ ap₂ with_subcommand was (ap (λ (a : App). a.top) is)
+-- one command more, of which this much is known
+pub with_command : {E : Type 0} (old sub new : Result Command E) (P Q R : App → Type 0) → AddsCommand old sub new → IfOk old (λ c. P (app_of c)) → IfOk sub (λ c. Q (app_of c))
+    → ((a below : App) → P a → Q below → (below.top.is_plain ≡ true) × R (with_subcommand a below.top)) → IfOk new (λ c. R (app_of c))
+with_command old sub (Err e) P Q R added was is so = tt
+with_command old sub (Ok new) P Q R (command, below, same, so_below, added) was is so =
+    let p : P (app_of command) = subst (λ c. IfOk c (λ c. P (app_of c))) same was in
+    let q : Q (app_of below) = subst (λ c. IfOk c (λ c. Q (app_of c))) so_below is in
+    let both = so (app_of command) (app_of below) p q in
+    subst R (sym (added.shape (has_local below (app_of below) refl both.0))) both.1
+
+-- one command more, that is known whole
+pub with_known : {E : Type 0} (old sub new : Result Command E) (app below : App) → AddsCommand old sub new → Reads old app → Reads sub below → below.top.is_plain ≡ true
+    → Reads new (with_subcommand app below.top)
+with_known old sub new app below added was is plain =
+    with_command old sub new (λ a. a ≡ app) (λ b. b ≡ below) (λ c. c ≡ with_subcommand app below.top) added was is
+    (λ a b p q. (ap (λ (x : App). x.top.is_plain) q ∙ plain, ap₂ with_subcommand p (ap (λ (x : App). x.top) q)))
 
 -- clap's definitions read the words by these commands and options
 pub is_read : (names : Bor (List (Bor Text))) → is_simple_and_free (program names) ≡ true

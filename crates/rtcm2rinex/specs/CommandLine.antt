@@ -1,8 +1,9 @@
 -- The program's command line: its commands and their options, as clap's definitions read words by them. The manual page says the same.
-use Rattle.std.specs.Prelude.{◌≡◌, ◌⊎◌, ℕ, pos, true, List, [], ◌∷◌, map, fold, codes, Option, Some}
+use Rattle.std.specs.Prelude.{◌≡◌, ◌⊎◌, ℕ, pos, true, List, [], ◌∷◌, map, fold, codes, Option, Some, Result, Ok, IfOk}
 use Rattle.std.specs.Borrow.{Bor}
 use Rattle.clap.specs.Walk.{Row, Rule, Text}
 use Rattle.clap.specs.Simple.{App, new_app, new_rule, on_top, subcommand_of, subcommand_rows_of, with_rule, with_subcommand}
+use Rattle.clap.specs.Built.{AddsArg, AddsSubcommand}
 use Rattle.clap.specs.Faults.{fault_of}
 use Rattle.clap.specs.Kinds.{IsAmong}
 use Rattle.clap.specs.Values.{kind_of}
@@ -10,6 +11,8 @@ use Rattle.clap.specs.declared.error.Error.{Error}
 use Rattle.clap.specs.declared.error.kind.ErrorKind.{ErrorKind}
 use Rattle.clap.specs.declared.error.kind.ErrorKind.TheVariants as kind
 use Rattle.clap.specs.declared.parser.matches.ArgMatches.{ArgMatches}
+use Rattle.clap.specs.declared.builder.arg.Arg.{Arg}
+use Rattle.clap.specs.declared.builder.command.Command.{Command}
 use Rattle.clap.specs.declared.builder.action.ArgAction.TheVariants.{Set, SetTrue}
 use Rattle.clap.specs.declared.builder.value_parser.ValueParser.{ValueParser}
 use Rattle.clap.specs.declared.builder.value_parser.ValueParser.TheVariants as value
@@ -94,15 +97,26 @@ abbrev pub IsConvert : App → Type 0
 IsConvert a = (names : Bor (List (Bor Text))) × AreRules names × (a ≡ convert names)
 
 -- a command is wanted, and `--version` is known
+abbrev pub start : App
+start = on_top (λ s. record s { subcommand_required = true; has_version = true }) (new_app (codes "rtcm2rinex"))
+
+abbrev pub listings : App
+listings = with_subcommand (with_subcommand (with_subcommand start (new_app (codes "frames")).top) (new_app (codes "show")).top) signals.top
+
 abbrev pub program : Bor (List (Bor Text)) → App
-program names =
-    with_subcommand (with_subcommand (with_subcommand (with_subcommand (with_subcommand
-    (on_top (λ s. record s { subcommand_required = true; has_version = true }) (new_app (codes "rtcm2rinex")))
-    (new_app (codes "frames")).top) (new_app (codes "show")).top) signals.top) (convert names).top) (new_app (codes "check")).top
+program names = with_subcommand (with_subcommand listings (convert names).top) (new_app (codes "check")).top
 
 -- these are the commands and options of the program
 abbrev pub IsProgram : App → Type 0
 IsProgram a = (names : Bor (List (Bor Text))) × AreRules names × (a ≡ program names)
+
+-- What was made is a command that was there and one option or one command more; want of memory makes none.
+abbrev pub AddsOption : {E : Type 0} → Result Command E → Arg → Result Command E → Type 0
+AddsOption old option new = IfOk new (λ made. (command : Command) × (old ≡ Ok command) × AddsArg command option made)
+
+abbrev pub AddsCommand : {E : Type 0} → (old below new : Result Command E) → Type 0
+AddsCommand old below new =
+    IfOk new (λ made. (command sub : Command) × (old ≡ Ok command) × (below ≡ Ok sub) × AddsSubcommand command sub made)
 
 -- ---- what words ask for, by clap's own definitions
 

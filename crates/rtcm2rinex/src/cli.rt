@@ -1,10 +1,12 @@
 //! The command line.
 ghost use Rattle.std.specs.Prelude.{◌≡◌, IfOk, IfErr, codes, map};
 ghost use Rattle.clap.specs.Walk.{rule_of, texts};
-ghost use Rattle.clap.specs.Simple.{app_of, new_app};
+ghost use Rattle.clap.specs.Simple.{App, app_of, new_app};
 ghost use Rattle.rtcm2rinex.specs.CommandLine.{IsFoundIn, IsProgram, RefusesWords, text_of};
 ghost use Rattle.rtcm2rinex.specs.CommandLine as line;
 
+use crate::help;
+use crate::help::Help;
 use crate::version::VERSION;
 use clap::{Arg, ArgAction, ArgMatches, Command, Error, value_parser};
 use std::alloc::{AllocError, Global};
@@ -37,135 +39,104 @@ pub fn parse<'a>(alloc: Global, words: &'a [&'a str]) -> Result<ArgMatches<'a>, 
 fn program<'a>(alloc: Global) -> Result<Command<'a>, AllocError>
     ensures { IfOk result (λ c. IsProgram (app_of c)) }
 {
-    let program = Command::new(alloc, "rtcm2rinex")
-        .about(
-            "Reads an RTCM 3 stream from standard input and writes what it says to standard output",
-        )
-        .after_help(
-            "Example: rtcm2rinex convert --week 2300 --date \"20240204 000001 UTC\" < stream.rtcm3 \
-             > station.obs",
-        )
+    let program = described(alloc, "rtcm2rinex", &help::PROGRAM)
         .version(VERSION)
-        .subcommand_required(true)
-        .subcommand(frames(alloc))?
-        .subcommand(show(alloc))?
-        .subcommand(signals(alloc)?)?
-        .subcommand(convert(alloc)?)?
-        .subcommand(check(alloc))?;
-    Ok(program)
-}
-
-/// The command that lists frames.
-fn frames<'a>(alloc: Global) -> Command<'a>
-    ensures { app_of result ≡ new_app (codes "frames") }
-{
-    Command::new(alloc, "frames")
-        .about(
-            "Lists the frames: the place of each, the length of its message and the message's \
-             number",
-        )
-        .after_help(
-            "Example: rtcm2rinex frames < stream.rtcm3\n\
-             A line as '0 19 1005' is a frame at byte 0 with a message of 19 bytes, which is \
-             message 1005.",
-        )
-}
-
-/// The command that shows messages.
-fn show<'a>(alloc: Global) -> Command<'a>
-    ensures { app_of result ≡ new_app (codes "show") }
-{
-    Command::new(alloc, "show")
-        .about(
-            "Shows the messages: stations and their coordinates, heads of MSMs, and why a message \
-             is refused",
-        )
-        .after_help(
-            "Example: rtcm2rinex show < stream.rtcm3\n\
-             A line as '0 1005 2003 1114104.5999 -4850729.7108 3975521.4643' is a station: the \
-             place of its frame, the message's number, the station, and X, Y and Z in metres.\n\
-             A line as '52 1077 2003 1000 0 1 1 1' is an MSM: place, number, station, time in \
-             milliseconds of the week, DF393, and how many satellites, signals and cells it has.",
-        )
+        .subcommand_required(true);
+    let frames = described(alloc, "frames", &help::FRAMES);
+    let show = described(alloc, "show", &help::SHOW);
+    let check = described(alloc, "check", &help::CHECK);
+    let program = with_command(Ok(program), Ok(frames));
+    let program = with_command(program, Ok(show));
+    let program = with_command(program, signals(alloc));
+    let program = with_command(program, convert(alloc));
+    with_command(program, Ok(check))
 }
 
 /// The command that says which signals a stream has.
 fn signals<'a>(alloc: Global) -> Result<Command<'a>, AllocError>
     ensures { IfOk result (λ c. app_of c ≡ line.signals) }
 {
-    let command = Command::new(alloc, "signals")
-        .about("Names the signals that the stream has, as the options of convert that plan them")
-        .after_help(
-            "Example: rtcm2rinex convert --week 2300 --date \"20240204 000001 UTC\" $(rtcm2rinex \
-             signals < stream.rtcm3) < stream.rtcm3 > station.obs\n\
-             A line as '--gps 1C,2W --galileo 1C,5Q' has every signal with a pseudorange, a phase, \
-             a Doppler shift or a strength.\n\
-             With --counts a line as 'G 1C 3042' is a signal: its system, its code, and how many \
-             cells have such a value.",
-        )
-        .arg(station(alloc))?
-        .arg(counts(alloc))?;
-    Ok(command)
-}
-
-/// The command that reads an observation file back.
-fn check<'a>(alloc: Global) -> Command<'a>
-    ensures { app_of result ≡ new_app (codes "check") }
-{
-    Command::new(alloc, "check")
-        .about("Checks that standard input is an observation file just as convert writes it")
-        .after_help(
-            "Example: rtcm2rinex check < station.obs\n\
-             A line as 'epochs 2 satellites 17 events 0' counts the epochs, the lines of \
-             satellites, and the events that tell other station values. Of any other file the \
-             first line that is wrong is told on standard error, as 'rtcm2rinex: BadHeader 2'.",
-        )
+    let command = described(alloc, "signals", &help::SIGNALS);
+    let command = with_option(Ok(command), station(alloc));
+    with_option(command, counts(alloc))
 }
 
 /// The command that makes an observation file.
 fn convert<'a>(alloc: Global) -> Result<Command<'a>, AllocError>
     ensures { IfOk result (λ c. line.IsConvert (app_of c)) }
 {
-    let command = Command::new(alloc, "convert")
-        .about("Converts the observations to a RINEX 3.05 observation file")
-        .after_help(
-            "Example: rtcm2rinex convert --week 2300 --date \"20240204 000001 UTC\" --gps 1C,2W \
-             --galileo none < stream.rtcm3 > station.obs\n\
-             At the end one line on standard error counts the bytes, frames, messages, cells and \
-             epochs.",
-        )
-        .arg(week(alloc))?
-        .arg(date(alloc))?
-        .arg(planned(
+    let command = described(alloc, "convert", &help::CONVERT);
+    let command = with_option(Ok(command), week(alloc));
+    let command = with_option(command, date(alloc));
+    let command = with_option(
+        command,
+        planned(
             alloc,
             "gps",
             "GPS signals in the file's order: all, none, or codes as 1C,2W",
-        ))?
-        .arg(planned(
+        ),
+    );
+    let command = with_option(
+        command,
+        planned(
             alloc,
             "galileo",
             "Galileo signals in the file's order: all, none, or codes as 1C,5Q",
-        ))?
-        .arg(station(alloc))?
-        .arg(gather(alloc))?
-        .arg(limit(alloc))?;
+        ),
+    );
+    let command = with_option(command, station(alloc));
+    let command = with_option(command, gather(alloc));
+    let command = with_option(command, limit(alloc));
     with_texts(alloc, command, &TEXTS)
+}
+
+/// A command of this name with its help.
+fn described<'a>(alloc: Global, name: &'a str, help: &Help) -> Command<'a>
+    ensures { app_of result ≡ new_app name.entry.now }
+{
+    Command::new(alloc, name)
+        .about(help.about)
+        .after_help(help.examples)
+}
+
+// The two that follow take a command that may be wanting memory, and answer one: a `?` after each
+// option would drop what was made so far in as many places.
+
+/// The program with one command more.
+fn with_command<'a>(
+    program: Result<Command<'a>, AllocError>,
+    command: Result<Command<'a>, AllocError>,
+) -> Result<Command<'a>, AllocError>
+    ensures { line.AddsCommand program.entry command.entry result }
+{
+    program?.subcommand(command?)
+}
+
+/// A command with one option more.
+fn with_option<'a>(
+    command: Result<Command<'a>, AllocError>,
+    option: Arg<'a>,
+) -> Result<Command<'a>, AllocError>
+    ensures { line.AddsOption command.entry option.entry result }
+{
+    command?.arg(option)
 }
 
 /// The command with an option for each of these texts: its name, what stands without it, and what
 /// it is.
 fn with_texts<'a>(
     alloc: Global,
-    command: Command<'a>,
+    command: Result<Command<'a>, AllocError>,
     texts: &[(&'a str, &'a str, &'a str)],
 ) -> Result<Command<'a>, AllocError>
-    ensures { IfOk result (λ c. app_of c ≡ line.with_options (app_of command.entry) (map text_of texts.now)) }
+    ensures { (app : App) → IfOk command.entry (λ c. app_of c ≡ app) → IfOk result (λ c. app_of c ≡ line.with_options app (map text_of texts.now)) }
 {
     let mut command = command;
     for (name, without, help) in texts {
-        command = command.arg(option(alloc, *name, "TEXT", *help).default_value(*without))?;
+        let text = option(alloc, *name, "TEXT", *help).default_value(*without);
+        command = with_option(command, text);
     }
-    Ok(command)
+    command
 }
 
 /// An option that takes a value.

@@ -12,6 +12,7 @@ mod command;
 mod convert;
 mod fault;
 mod frames;
+mod help;
 pub mod laws;
 mod line;
 mod listing;
