@@ -17,6 +17,21 @@ use Rattle.rtcm2rinex.specs.Kinds.{listing_line, listing_lines}
 use Rattle.rtcm2rinex.specs.Listed.{ListsFrames, ListsKnown, IsListed, IsRefusal, up_to_limit}
 use Rattle.rtcm2rinex.specs.Listing.{ListsAll, ListsPart, ListsToLimit}
 
+-- a framer that was told that the stream is at its end, and nothing else
+pub record OnlyEnded (after before : FramerValue) : Type 0 where
+  pub limit : after.limit ≡ before.limit
+  pub taken : after.taken ≡ before.taken
+  pub ended : after.has_ended ≡ true
+
+pub only_ended : (after then before : FramerValue) → after ≡ then → then ≡ record before { has_ended = true } → OnlyEnded after before
+only_ended after then before is made =
+    let same : after ≡ record before { has_ended = true } = is ∙ made in
+    record {
+      limit = ap (λ (v : FramerValue). v.limit) same;
+      taken = ap (λ (v : FramerValue). v.taken) same;
+      ended = ap (λ (v : FramerValue). v.has_ended) same;
+    }
+
 -- the lines of one frame more
 pub lines_more : (k : Listing) (fs : List Framed) (f : Framed) → listing_lines k (fs ++ f ∷ []) ≡ listing_lines k fs ++ listing_line k f
 lines_more k [] f = append-nil (listing_line k f)

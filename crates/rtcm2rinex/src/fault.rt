@@ -13,7 +13,7 @@ use std::fmt;
 
 /// Why a command stopped. It is shown as the fault's own name, and behind it each thing that the
 /// fault carries.
-#[derive(Clone, Copy, Debug, PartialEq, Eq, Drop)]
+#[derive(Clone, Copy, Drop)]
 pub enum ToolFault {
     /// The reader failed.
     Read,
@@ -79,34 +79,52 @@ impl From<ReadFault> for ToolFault {
 
 impl fmt::Display for ToolFault {
     fn fmt<W: fmt::Write>(&self, f: &mut fmt::Formatter<W>) -> fmt::Result {
-        match self {
+        match *self {
             ToolFault::Read => f.write_str("Read"),
             ToolFault::Write => f.write_str("Write"),
             ToolFault::Scan(fault) => write!(f, "{fault:?}"),
-            ToolFault::Header(HeadFault::TooLong(field)) => {
-                write!(f, "TooLong {}", field_name(*field))
-            }
-            ToolFault::Header(HeadFault::NotPrintable(field)) => {
-                write!(f, "NotPrintable {}", field_name(*field))
-            }
-            ToolFault::Header(fault) => write!(f, "{fault:?}"),
-            ToolFault::Plan(PlanFault::UnknownCode(system, place)) => {
-                write!(f, "UnknownCode {} {place}", letter_of(*system))
-            }
-            ToolFault::Plan(PlanFault::RepeatedCode(system, place)) => {
-                write!(f, "RepeatedCode {} {place}", letter_of(*system))
-            }
-            ToolFault::Plan(fault) => write!(f, "{fault:?}"),
+            ToolFault::Header(fault) => show_head_fault(fault, f),
+            ToolFault::Plan(fault) => show_plan_fault(fault, f),
             ToolFault::Convert(fault) => write!(f, "{fault:?}"),
-            ToolFault::Check(ReadFault::BadHeader(line)) => write!(f, "BadHeader {line}"),
-            ToolFault::Check(ReadFault::BadEpoch(line)) => write!(f, "BadEpoch {line}"),
-            ToolFault::Check(ReadFault::BadEvent(line)) => write!(f, "BadEvent {line}"),
-            ToolFault::Check(ReadFault::BadSatellite(line)) => write!(f, "BadSatellite {line}"),
-            ToolFault::Check(ReadFault::CutShort(line)) => write!(f, "CutShort {line}"),
-            ToolFault::Check(fault) => write!(f, "{fault:?}"),
+            ToolFault::Check(fault) => show_read_fault(fault, f),
             ToolFault::NoSignal => f.write_str("NoSignal"),
         }
     }
+}
+
+/// Why a text of the header was refused, and the text's name.
+fn show_head_fault<W: fmt::Write>(fault: HeadFault, f: &mut fmt::Formatter<W>) -> fmt::Result {
+    match fault {
+        HeadFault::TooLong(field) => write!(f, "TooLong {}", field_name(field)),
+        HeadFault::NotPrintable(field) => write!(f, "NotPrintable {}", field_name(field)),
+        fault => write!(f, "{fault:?}"),
+    }
+}
+
+/// Why the plan was refused, and the system and the place of the code.
+fn show_plan_fault<W: fmt::Write>(fault: PlanFault, f: &mut fmt::Formatter<W>) -> fmt::Result {
+    match fault {
+        PlanFault::UnknownCode(system, place) => {
+            write!(f, "UnknownCode {} {place}", letter_of(system))
+        }
+        PlanFault::RepeatedCode(system, place) => {
+            write!(f, "RepeatedCode {} {place}", letter_of(system))
+        }
+        fault => write!(f, "{fault:?}"),
+    }
+}
+
+/// Why a file was refused, and the line.
+fn show_read_fault<W: fmt::Write>(fault: ReadFault, f: &mut fmt::Formatter<W>) -> fmt::Result {
+    let (name, line) = match fault {
+        ReadFault::BadHeader(line) => ("BadHeader", line),
+        ReadFault::BadEpoch(line) => ("BadEpoch", line),
+        ReadFault::BadEvent(line) => ("BadEvent", line),
+        ReadFault::BadSatellite(line) => ("BadSatellite", line),
+        ReadFault::CutShort(line) => ("CutShort", line),
+        fault => return write!(f, "{fault:?}"),
+    };
+    write!(f, "{name} {line}")
 }
 
 /// The letter of a system in RINEX.

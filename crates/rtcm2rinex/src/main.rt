@@ -43,8 +43,8 @@ fn main(rt: HostRuntime) -> ExitCode {
     ExitCode::from(status)
 }
 
-/// Runs the command over the standard streams, and answers the exit status, unless the words can't
-/// be had.
+/// Runs the command that the program's words ask for, and answers the exit status, unless the words
+/// can't be had.
 fn run(rt: &HostRuntime) -> io::Result<u8> {
     let alloc: Global = rt.alloc();
     let owned: Vec<String> = std::env::args(rt)?.collect(alloc)?;
@@ -52,17 +52,16 @@ fn run(rt: &HostRuntime) -> io::Result<u8> {
     for word in &owned {
         words.push(word.as_str())?;
     }
+    run_over_streams(rt, alloc, words.as_slice())
+}
+
+/// Runs the command over the standard streams, and answers the exit status.
+fn run_over_streams(rt: &HostRuntime, alloc: Global, words: &[&str]) -> io::Result<u8> {
     // A file is read line by line and a stream in small pieces, and lines are written one by one:
     // none should ask the system for each.
     let input = BufReader::with_capacity(alloc, INPUT_BYTES, rt.stdin())?;
     let mut reader = Counted::new(input);
     // The commands send on what waits before they ask for more.
     let mut writer = Counted::new(Buffered::new(alloc, rt.stdout())?);
-    Ok(command(
-        alloc,
-        words.as_slice(),
-        &mut reader,
-        &mut writer,
-        &mut rt.stderr(),
-    ))
+    Ok(command(alloc, words, &mut reader, &mut writer, &mut rt.stderr()))
 }

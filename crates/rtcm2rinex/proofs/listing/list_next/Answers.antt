@@ -4,7 +4,7 @@ use Rattle.rtcm_scan.specs.Frames.{Framed}
 use Rattle.rtcm_scan.specs.declared.framer.ScanFault.{ScanFault}
 use Rattle.rtcm_scan.specs.Scan.{FramerValue, HasFramed}
 use Rattle.rtcm2rinex.specs.Listed.{IsRefusal}
-use Rattle.rtcm2rinex.proofs.ListedLemmas.{listed_more, listed_to_limit, listed_part, refused_more}
+use Rattle.rtcm2rinex.proofs.ListedLemmas.{listed_more, listed_to_limit, listed_part, only_ended, refused_more}
 use Rattle.rtcm2rinex.proofs.listing.list_next.Goals as goal
 use Rattle.rtcm2rinex.proofs.listing.list_next.Goals.{then-n-eq0, else-n-eq0}
 
@@ -29,8 +29,8 @@ returns-in-Ok-Some-clause-too_long g c = λ e r w s.
     let refusal : IsRefusal c.if-n-eq0.framer (length piece) (Some c.in-Ok-Some.fault) = subst (λ (x : Option ScanFault). IsRefusal c.if-n-eq0.framer (length piece) x) c.in-Ok-Some.field-0-is c.in-Ok-Some.ensures.refusal in
     let more : c.if-n-eq0.framer.limit < c.if-n-eq0.framer.taken + length piece = refused_more c.if-n-eq0.framer (length piece) c.in-Ok-Some.fault refusal in
     let same : c.if-n-eq0.framer ≡ c.args.framer.now = elim c.if-n-eq0.branch [
-      | then-n-eq0 x ↦ (let v = ap (λ (y : FramerValue). y.limit) (x.framer-is ∙ x.end.ensures.ended) in let t = ap (λ (y : FramerValue). y.taken) (x.framer-is ∙ x.end.ensures.ended) in
-          let few : length piece ≡ 0 = ap (λ (n : ℕ). length (take n c.read.new.buf)) x.if-n-eq0.true in absurd (omega (arith, more, v, t, few, c.requires.within)))
+      | then-n-eq0 x ↦ (let is = only_ended c.if-n-eq0.framer _ c.args.framer.now x.framer-is x.end.ensures.ended in
+          let few : length piece ≡ 0 = ap (λ (n : ℕ). length (take n c.read.new.buf)) x.if-n-eq0.true in absurd (omega (arith, more, is.limit, is.taken, few, c.requires.within)))
       | else-n-eq0 x ↦ x.framer-is
     ] in
     let going = c.in-Ok-Some.ensures.ended ∙ ap (λ (y : FramerValue). y.has_ended) same ∙ c.requires.going in
@@ -47,7 +47,7 @@ returns-in-Err-list_piece-clause-write g c = λ e r w s.
       | else-n-eq0 x ↦ subst (λ (v : FramerValue). HasFramed v b fs) (sym x.framer-is) h
     ] in
     let ended : (c.if-n-eq0.framer.has_ended ≡ false) ⊎ ((c.if-n-eq0.framer.has_ended ≡ true) × IsAtEnd (remaining c.read.new.self.inner)) = elim c.if-n-eq0.branch [
-      | then-n-eq0 x ↦ inr (ap (λ (y : FramerValue). y.has_ended) (x.framer-is ∙ x.end.ensures.ended), c.in-Ok.ensures.bytes.1 x.if-n-eq0.true (omega (arith, c.requires.room, c.in-Ok.ensures.bound)))
+      | then-n-eq0 x ↦ inr ((only_ended c.if-n-eq0.framer _ c.args.framer.now x.framer-is x.end.ensures.ended).ended, c.in-Ok.ensures.bytes.1 x.if-n-eq0.true (omega (arith, c.requires.room, c.in-Ok.ensures.bound)))
       | else-n-eq0 x ↦ inl (ap (λ (y : FramerValue). y.has_ended) x.framer-is ∙ c.requires.going)
     ] in
     listed_part c.args.listing r (remaining c.args.reader.now.inner) (remaining c.read.new.self.inner) w (contents c.args.writer.now.inner) (contents c.list_piece.new.writer.inner)
