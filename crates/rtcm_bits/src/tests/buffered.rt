@@ -3,7 +3,6 @@ use crate::Buffered;
 use std::alloc::{AllocError, Global};
 use std::io;
 use std::io::{ErrorKind, Write};
-use std::test::Fail;
 
 /// A device that fails in one of its calls, counted from 1, and is good in each other. It counts
 /// the bytes that it took.
@@ -48,72 +47,83 @@ impl Write for Stumbles {
     }
 }
 
+static LINE: [u8; 1_000] = [b'x'; 1_000];
+
 /// Writes a line a hundred times, and flushes.
-fn write_lines(buffer: &mut Buffered<Stumbles>, line: &[u8]) -> io::Result<()> {
+fn write_lines(buffer: &mut Buffered<Stumbles>) -> io::Result<()> {
     for _ in 0..100 {
-        buffer.write_all(line)?;
+        buffer.write_all(&LINE)?;
     }
     buffer.flush()
 }
 
-/// Whether a line is written a hundred times and flushed, and of the device behind the buffer the
-/// calls and the bytes.
-fn behind_lines(mut buffer: Buffered<Stumbles>, line: &[u8]) -> (bool, usize, usize) {
-    let is_written = write_lines(&mut buffer, line).is_ok();
+/// Whether the lines are written and flushed, and of the device behind the buffer the calls and
+/// the bytes.
+fn behind_lines(alloc: Global) -> Result<(bool, usize, usize), AllocError> {
+    let mut buffer = Buffered::new(alloc, Stumbles::new(0))?;
+    let are_written = write_lines(&mut buffer).is_ok();
     let device = buffer.into_inner();
-    (is_written, device.calls, device.taken)
+    Ok((are_written, device.calls, device.taken))
 }
 
 // Bytes go out when the buffer is full, or at a flush.
 #[test]
-fn bytes_go_out_many_at_a_time(rt: HostRuntime) -> Result<(), Fail> {
-    let buffer = Buffered::new(rt.alloc(), Stumbles::new(0))?;
+fn bytes_go_out_many_at_a_time(rt: HostRuntime) {
     // One write of 65,536 bytes, one of the rest, and a flush.
-    assert_eq!(rt; behind_lines(buffer, &[b'x'; 1_000]), (true, 3, 100_000));
-    Ok(())
+    assert_eq!(rt; behind_lines(rt.alloc()), Ok((true, 3, 100_000)));
+}
+
+static BLOCK: [u8; 65_536] = [b'x'; 65_536];
+
+fn write(buffer: &mut Buffered<&mut Stumbles>, bytes: &[u8]) -> bool {
+    buffer.write(bytes).is_ok()
+}
+
+fn flush(buffer: &mut Buffered<&mut Stumbles>) -> bool {
+    buffer.flush().is_ok()
 }
 
 /// Whether each call is good: a write that fills the buffer, one behind it, a flush, and both once
 /// more.
-fn calls(buffer: &mut Buffered<&mut Stumbles>, block: &[u8]) -> [bool; 5] {
+fn are_good(buffer: &mut Buffered<&mut Stumbles>) -> [bool; 5] {
     [
-        buffer.write(block).is_ok(),
-        buffer.write(b"y").is_ok(),
-        buffer.flush().is_ok(),
-        buffer.write(b"z").is_ok(),
-        buffer.flush().is_ok(),
+        write(buffer, &BLOCK),
+        write(buffer, b"y"),
+        flush(buffer),
+        write(buffer, b"z"),
+        flush(buffer),
     ]
 }
 
-/// The same of a buffer that is dropped then.
-fn calls_then_drop(
-    alloc: Global,
-    device: &mut Stumbles,
-    block: &[u8],
-) -> Result<[bool; 5], AllocError> {
-    let mut buffer = Buffered::new(alloc, device)?;
-    Ok(calls(&mut buffer, block))
+/// Which calls of a buffer are good, and behind its drop the calls of the device and the bytes.
+type Outcome = ([bool; 5], usize, usize);
+
+/// What comes of a buffer whose device fails in this call.
+fn behind_failure(alloc: Global, fails_at: usize) -> Result<Outcome, AllocError> {
+    let mut device = Stumbles::new(fails_at);
+    let good = {
+        let mut buffer = Buffered::new(alloc, &mut device)?;
+        are_good(&mut buffer)
+    };
+    Ok((good, device.calls, device.taken))
 }
 
-/// In which call the device fails, how many of the five calls of the buffer are good before, and
-/// the bytes that the device takes.
-static STUMBLES: [(usize, [bool; 5], usize); 3] = [
-    (1, [true, false, false, false, false], 0),
-    (2, [true, true, false, false, false], 65_536),
-    (3, [true, true, false, false, false], 65_537),
+fn behind_each_failure(alloc: Global) -> Result<[Outcome; 3], AllocError> {
+    Ok([
+        behind_failure(alloc, 1)?,
+        behind_failure(alloc, 2)?,
+        behind_failure(alloc, 3)?,
+    ])
+}
+
+static OUTCOMES: [Outcome; 3] = [
+    ([true, false, false, false, false], 1, 0),
+    ([true, true, false, false, false], 2, 65_536),
+    ([true, true, false, false, false], 3, 65_537),
 ];
 
 // After a failure nothing more goes out: not by a write, not by a flush, and not by the drop.
 #[test]
-fn nothing_is_tried_again(rt: HostRuntime) -> Result<(), Fail> {
-    let block = [b'x'; 65_536];
-    for (fails_at, are_good, taken) in STUMBLES {
-        let mut device = Stumbles::new(fails_at);
-        let good = calls_then_drop(rt.alloc(), &mut device, &block)?;
-        assert_eq!(rt;
-            (good, device.calls, device.taken),
-            (are_good, fails_at, taken)
-        );
-    }
-    Ok(())
+fn nothing_is_tried_again(rt: HostRuntime) {
+    assert_eq!(rt; behind_each_failure(rt.alloc()), Ok(OUTCOMES));
 }
