@@ -1,4 +1,3 @@
-mod BufferLemmas
 mod FrameLemmas
 mod LineLemmas
 mod ListedLemmas

@@ -11,7 +11,6 @@ pub mod Devices
 pub mod Converting
 pub mod ReadBack
 pub mod Checking
-pub mod Buffering
 pub mod Signals
 pub mod Census
 pub mod Telling

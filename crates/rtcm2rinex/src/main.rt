@@ -4,7 +4,6 @@
 #![tactic(auto)]
 
 mod asked;
-mod buffer;
 mod census;
 mod check;
 mod cli;
@@ -24,9 +23,8 @@ mod survey;
 mod tests;
 mod version;
 
-use crate::buffer::Buffered;
 use crate::command::{command, refuse_words};
-use rtcm_bits::Counted;
+use rtcm_bits::{Buffered, Counted};
 use std::alloc::Global;
 use std::io;
 use std::io::BufReader;

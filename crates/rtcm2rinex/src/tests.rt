@@ -2,7 +2,6 @@
 //!
 //! A test is a setting and a list of cases; `scenario` runs them.
 mod broken;
-mod buffer;
 mod check;
 mod convert;
 mod faults;

@@ -12,4 +12,5 @@ pub mod EightLemmas
 pub mod WordLemmas
 pub mod WindowLemmas
 pub mod DeviceLemmas
+pub mod BufferLemmas
 pub mod Examples

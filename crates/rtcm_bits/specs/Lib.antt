@@ -7,3 +7,4 @@ pub mod Register
 pub mod FrameOf
 pub mod Window
 pub mod Device
+pub mod Buffering

@@ -1,6 +1,7 @@
-//! The check, the bits, the window and the counted devices of RTCM 3 frames.
+//! The check, the bits and the window of RTCM 3 frames, and devices that are counted or buffered.
 #![tactic(auto)]
 
+mod buffered;
 mod check;
 mod complement;
 mod counted;
@@ -15,6 +16,7 @@ mod tests;
 mod window;
 mod writer;
 
+pub use buffered::Buffered;
 pub use check::{CheckRegister, crc24q};
 pub use complement::{raw_of, signed_of};
 pub use counted::{Counted, DeviceFailed};

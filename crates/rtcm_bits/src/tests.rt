@@ -1,6 +1,8 @@
 //! What no clause says: published vectors, that a call can succeed, and what fails on the way to a
 //! device.
 
+mod buffered;
+
 use crate::devices::{PieceReader, ReadEnd, ShortWriter, WriteEnd};
 use crate::{
     BitReader, BitWriter, CheckRegister, Counted, LONGEST_FRAME, LONGEST_MESSAGE, Window, crc24q,

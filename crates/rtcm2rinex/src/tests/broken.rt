@@ -1,10 +1,9 @@
 //! Devices that fail at each place.
 use super::scenario::{FAULTLESS, READ, Room, Setting, WRITE, run};
 use super::texts::{Text, front};
-use crate::buffer::Buffered;
 use crate::command::command;
-use rtcm_bits::Counted;
 use rtcm_bits::devices::{PieceReader, ReadEnd, ShortWriter, WriteEnd};
+use rtcm_bits::{Buffered, Counted};
 use std::alloc::{AllocError, Global};
 use std::io::ErrorKind;
 use std::process::Abort;

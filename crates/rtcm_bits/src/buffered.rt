@@ -1,8 +1,8 @@
-//! A buffer in front of standard output.
+//! A buffer in front of a writer, so that many small writes make few calls of a device.
 ghost use Rattle.std.specs.Prelude.{◌≡◌, ◌+◌, ◌<◌, ◌≤◌, [], ◌++◌, true, false, length, take, OnOk, OnErr, IfOk, IsErr, vec_len, vec_capacity};
 ghost use Rattle.std.specs.Io.{WritesAtMost};
 ghost use Rattle.std.specs.Io.KnownBytes.{Keeps, Appends, WriteAppends};
-ghost use Rattle.rtcm2rinex.specs.Buffering.{contents_of};
+ghost use Rattle.rtcm_bits.specs.Buffering.{contents_of};
 
 use std::alloc::{AllocError, Global};
 use std::io;
@@ -12,9 +12,9 @@ use std::marker::Model;
 /// So many bytes wait at most: what a pipe holds.
 const BUFFER_BYTES: usize = 65_536;
 
-/// A writer that keeps bytes back, and hands them on to a device many at a time. Nothing is tried
-/// again: once the device has failed, it is never called again, and each call fails. A drop hands
-/// nothing on, only `flush` does.
+/// A writer that keeps up to 65,536 bytes back, and hands them on to a device many at a time.
+/// Nothing is tried again: once the device has failed, it is never called again, and each call
+/// fails. A drop hands nothing on, only `flush` does.
 #[derive(Drop)]
 pub struct Buffered<W> {
     device: W,
@@ -26,7 +26,7 @@ pub struct Buffered<W> {
 
 impl<W> Model for Buffered<W> {
     ghost use Rattle.std.specs.Prelude.{◌≡◌, ◌≤◌, false, drop, length, vec_capacity};
-    ghost use Rattle.rtcm2rinex.specs.Buffering.{Buffering};
+    ghost use Rattle.rtcm_bits.specs.Buffering.{Buffering};
 
     ghost Value = { Buffering W };
 

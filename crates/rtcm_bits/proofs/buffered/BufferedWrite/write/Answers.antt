@@ -1,8 +1,8 @@
 use Rattle.std.proofs.Common.{◌≡◌, false, sym, ap, ◌∙◌, rules}
 use Rattle.std.proofs.KnownBytes.{append_known-grown, Keeps-refl}
-use Rattle.rtcm2rinex.proofs.BufferLemmas.{one_more}
-use Rattle.rtcm2rinex.proofs.buffer.BufferedWrite.write.Goals as goal
-use Rattle.rtcm2rinex.proofs.buffer.BufferedWrite.write.Goals.{then-as_slice-eq-BUFFER_BYTES+in_ok-send, else-as_slice-eq-BUFFER_BYTES}
+use Rattle.rtcm_bits.proofs.BufferLemmas.{one_more}
+use Rattle.rtcm_bits.proofs.buffered.BufferedWrite.write.Goals as goal
+use Rattle.rtcm_bits.proofs.buffered.BufferedWrite.write.Goals.{then-as_slice-eq-BUFFER_BYTES+in_ok-send, else-as_slice-eq-BUFFER_BYTES}
 
 pub returns-clause-bytes : goal.returns-clause-bytes
 returns-clause-bytes g c =

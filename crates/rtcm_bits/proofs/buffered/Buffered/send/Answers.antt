@@ -1,7 +1,7 @@
 use Rattle.std.proofs.Common.{◌≡◌, length, rules}
 use Rattle.std.proofs.KnownBytes.{append_known-moved}
-use Rattle.rtcm2rinex.proofs.BufferLemmas.{all_out, some_out}
-use Rattle.rtcm2rinex.proofs.buffer.Buffered.send.Goals as goal
+use Rattle.rtcm_bits.proofs.BufferLemmas.{all_out, some_out}
+use Rattle.rtcm_bits.proofs.buffered.Buffered.send.Goals as goal
 
 pub returns-in-Ok-clause-bytes : goal.returns-in-Ok-clause-bytes
 returns-in-Ok-clause-bytes g c =
