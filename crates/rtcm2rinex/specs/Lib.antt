@@ -13,7 +13,7 @@ pub mod ReadBack
 pub mod Checking
 pub mod Buffering
 pub mod Signals
-pub mod Census
+pub mod Survey
 pub mod Telling
 pub mod Commands
 pub mod SignalLaws

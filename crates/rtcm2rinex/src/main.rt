@@ -5,12 +5,12 @@
 
 mod asked;
 mod buffer;
-mod census;
 mod check;
 mod cli;
 mod command;
 mod convert;
 mod fault;
+mod form;
 mod frames;
 pub mod laws;
 mod line;
