@@ -26,3 +26,4 @@ mod OrderLemmas
 mod StandLemmas
 pub mod GroupLemmas
 mod ReachLemmas
+mod CensusLemmas

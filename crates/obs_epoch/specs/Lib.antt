@@ -20,3 +20,4 @@ pub mod Gathering
 pub mod Calls
 pub mod Laws
 pub mod Reach
+pub mod Census

@@ -2,10 +2,11 @@
 //!
 //! A [`Plan`] says which signals are wanted. A [`GpsTime`] counts milliseconds and has a date. A
 //! [`Gatherer`] takes the messages of a station one by one and hands out each [`Epoch`] as soon as
-//! it is closed.
+//! it is closed. A [`Census`] counts the cells of messages, signal by signal.
 #![tactic(auto)]
 
 mod cell;
+mod census;
 mod civil;
 mod clock;
 mod epoch;
@@ -25,6 +26,7 @@ mod taken;
 mod time;
 
 pub use cell::{Cell, StationValues};
+pub use census::Census;
 pub use civil::Civil;
 pub use epoch::{Epoch, end_of, is_written};
 pub use fault::PlanFault;

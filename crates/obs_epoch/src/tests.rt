@@ -3,6 +3,7 @@
 //! A test of a gatherer is a list of steps: what is done with it, and what is to come of that. One
 //! function alone owns a gatherer and goes through them, since each owner is dear to prove.
 mod cells;
+mod census;
 mod dates;
 mod faults;
 mod messages;

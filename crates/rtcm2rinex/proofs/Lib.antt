@@ -6,7 +6,6 @@ mod ToldLemmas
 mod CommandLineLemmas
 mod ReadBackLemmas
 pub mod CheckLemmas
-mod CensusLemmas
 mod SurveyLemmas
 mod SignalLemmas
 mod ValuedLemmas

@@ -1,8 +1,9 @@
 -- The signals that a stream has make a plan that has a column for each of its values, and their line is read as that plan.
-use Rattle.std.proofs.Common.{◌≡◌, ℕ, zero, suc, ◌+◌, ◌<◌, ◌≤◌, ◌==◌, ◌&&◌, ◌||◌, Bool, true, false, not, List, [], ◌∷◌, ◌++◌, length, refl, sym, ap, ap₂, ◌∙◌, subst, arith, filter, map, All, Option, Some, None, Result, Ok, Err, nat_eq, get_or, append-nil, append_assoc, is_some}
-use Rattle.std.specs.Prelude.{cond, nat_lt, nat_le, position, codes}
+use Rattle.std.proofs.Common.{◌≡◌, ℕ, zero, suc, ◌+◌, ◌<◌, ◌≤◌, ◌==◌, ◌&&◌, ◌||◌, Bool, true, false, not, List, [], ◌∷◌, ◌++◌, length, refl, sym, ap, ap₂, ◌∙◌, subst, arith, filter, map, All, Some, None, Result, Ok, Err, nat_eq, get_or, append-nil, append_assoc, is_some}
+use Rattle.std.specs.Prelude.{cond, nat_lt, nat_le, position}
 use Rattle.std.specs.List.{list_any, position_or_len}
 use Rattle.std.specs.Str.{bytes_eq}
+use Rattle.std.proofs.lemmas.List.Elements.{filter-append}
 use Rattle.gnss_obs.specs.declared.system.System.{System}
 use Rattle.gnss_obs.specs.declared.system.System.TheVariants.{Gps, Galileo}
 use Rattle.gnss_obs.specs.Satellites.{satellites}
@@ -14,9 +15,9 @@ use Rattle.obs_epoch.specs.Cells.{is_planned, has_listed_key}
 use Rattle.obs_epoch.specs.Heard.{GatherSetup}
 use Rattle.obs_epoch.specs.WithLli.{IsKey}
 use Rattle.obs_epoch.specs.Plans.{below, place_in, between_commas, onto_first, one_signal_more, signals_after, signals_of, plan_of}
-use Rattle.obs_epoch.specs.Values.{PlanValue, planned_of}
-use Rattle.rtcm2rinex.specs.Signals.{is_of_signal, count_of, signal_in, had, plan_had, code_list, codes_word}
-use Rattle.rtcm2rinex.proofs.CensusLemmas.{filter-append}
+use Rattle.obs_epoch.specs.Values.{planned_of}
+use Rattle.obs_epoch.specs.Census.{is_of_signal, count_of, signal_in}
+use Rattle.rtcm2rinex.specs.Signals.{had, plan_had, code_list, codes_word}
 use Rattle.rtcm2rinex.proofs.SignalLemmas.{own_signal}
 
 -- ---- rising places

@@ -1,12 +1,13 @@
 -- The cells with a value are of listed satellites and signals.
-use Rattle.std.proofs.Common.{◌≡◌, ℕ, ◌<◌, ◌≤◌, ◌==◌, ◌&&◌, ◌||◌, Bool, true, false, List, [], ◌∷◌, ◌++◌, length, refl, sym, ap, ap₂, ◌∙◌, subst, arith, filter, All, Option, Some, None, Result, Ok, Err}
+use Rattle.std.proofs.Common.{◌≡◌, ℕ, ◌<◌, ◌≤◌, ◌==◌, ◌&&◌, Bool, true, false, List, [], ◌∷◌, length, refl, sym, ap, ◌∙◌, subst, arith, filter, All, Option, Some, None, Result, Ok, Err}
 use Rattle.std.specs.Prelude.{filter_map, cond, nat_lt, nat_le}
 use Rattle.std.specs.Option.{option_map, option_and_then, option_map_or}
-use Rattle.std.specs.List.{cons_option, flat_map}
+use Rattle.std.specs.List.{cons_option, position_or_len}
 use Rattle.std.proofs.lemmas.List.Elements.{All-nil, All-cons, All-head, All-tail, All-append}
 use Rattle.gnss_obs.specs.declared.system.System.{System}
 use Rattle.gnss_obs.specs.Satellites.{Satellite, IsSatellite, satellites, satellite_of_id}
-use Rattle.gnss_obs.specs.Signals.{SignalAt, IsSignal, signal_of_id}
+use Rattle.gnss_obs.specs.declared.tables.ListedSignal as tables
+use Rattle.gnss_obs.specs.Signals.{SignalAt, IsSignal, table, signal_of_id}
 use Rattle.rtcm_msg.specs.declared.entry.Entry.{Entry}
 use Rattle.rtcm_msg.specs.declared.message.Message.{Message}
 use Rattle.rtcm_msg.specs.declared.message.Message.TheVariants.{Station, Msm4, Msm7, Other}
@@ -17,9 +18,26 @@ use Rattle.rtcm_scan.specs.Frames.{Framed}
 use Rattle.obs_epoch.specs.declared.seen.Seen.{Seen}
 use Rattle.obs_epoch.specs.Heard.{Heard, heard, seen_in, lock_by, observed, system_of}
 use Rattle.obs_epoch.specs.WithLli.{IsKey}
-use Rattle.rtcm_convert.specs.Converted.{heard_in, heard_of}
-use Rattle.rtcm2rinex.specs.Signals.{brings_value, is_of_station, valued, valued_of, valued_in}
-use Rattle.rtcm2rinex.proofs.CensusLemmas.{listed_of, some_same}
+use Rattle.rtcm_convert.specs.Converted.{heard_of}
+use Rattle.obs_epoch.specs.Census.{brings_value, is_of_station, valued, signal_in}
+use Rattle.rtcm2rinex.specs.Signals.{valued_of, valued_in}
+
+some_same : {X : Type 0} (x y : X) → Some x ≡ Some y → x ≡ y
+some_same x y e = ap (λ o. option_map_or (λ z. z) o x) e
+
+listed_of : (system : System) (id : ℕ) (g : SignalAt) → signal_of_id system id ≡ Some g → (g.system ≡ system) × IsSignal g
+listed_of system id g h = by (nat_lt (place system id) (length (table system))) refl h where
+  place : System → ℕ → ℕ
+  place system id = position_or_len (λ (e : tables.ListedSignal). e.0 == id) (table system)
+
+  test_lt : (a b : ℕ) → nat_lt a b ≡ true → a < b
+  test_lt a b e = grind (arith, e)
+
+  by : (b : Bool) → nat_lt (place system id) (length (table system)) ≡ b → option_map (λ i. signal_in system i) (cond b (Some (place system id)) None) ≡ Some g → (g.system ≡ system) × IsSignal g
+  by true lt e =
+      let is : signal_in system (place system id) ≡ g = some_same (signal_in system (place system id)) g e in
+      (subst (λ (v : SignalAt). v.system ≡ system) is refl, subst IsSignal is (test_lt (place system id) (length (table system)) lt))
+  by false lt e = absurd (grind (arith, e))
 
 satellite_listed : (system : System) (id : ℕ) (s : Satellite) → satellite_of_id system id ≡ Some s → (s.system ≡ system) × IsSatellite s
 satellite_listed system id s h = by (nat_le 1 id && nat_le id (satellites system)) refl h where

@@ -12,7 +12,7 @@ pub mod Converting
 pub mod ReadBack
 pub mod Checking
 pub mod Signals
-pub mod Census
+pub mod Survey
 pub mod Telling
 pub mod Commands
 pub mod SignalLaws

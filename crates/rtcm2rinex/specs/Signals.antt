@@ -1,5 +1,5 @@
 -- Which signals a stream has, and how they are told.
-use Rattle.std.specs.Prelude.{◌≡◌, ◌⊎◌, ℕ, ◌<◌, ◌==◌, ◌&&◌, ◌||◌, Bool, true, false, nat_lt, List, [], ◌∷◌, ◌++◌, map, filter, flat_map, length, codes, decimal, Option, is_some, if◌then◌else◌}
+use Rattle.std.specs.Prelude.{◌≡◌, ◌⊎◌, ℕ, ◌<◌, nat_lt, List, [], ◌∷◌, ◌++◌, map, filter, flat_map, length, codes, decimal, Option}
 use Rattle.std.specs.Option.{option_map_or}
 use Rattle.std.specs.List.{join_with_byte}
 use Rattle.std.specs.Io.KnownBytes.{Appends, Consumes, IsAtEnd}
@@ -9,13 +9,12 @@ use Rattle.gnss_obs.specs.declared.system.System.{System}
 use Rattle.gnss_obs.specs.declared.system.System.TheVariants.{Gps, Galileo}
 use Rattle.gnss_obs.specs.Signals.{SignalAt, table, code_of}
 use Rattle.obs_epoch.specs.declared.seen.Seen.{Seen}
-use Rattle.obs_epoch.specs.Heard.{Heard}
-use Rattle.obs_epoch.specs.Cells.{is_system}
+use Rattle.obs_epoch.specs.Census.{valued, count_of, signal_in}
 use Rattle.obs_epoch.specs.Plans.{below}
 use Rattle.obs_epoch.specs.Values.{PlanValue}
 use Rattle.rtcm_convert.specs.Converted.{heard_in}
-use Rattle.rtcm2rinex.specs.declared.census.SignalsForm.{SignalsForm}
-use Rattle.rtcm2rinex.specs.declared.census.SignalsForm.TheVariants.{Options, Counts}
+use Rattle.rtcm2rinex.specs.declared.form.SignalsForm.{SignalsForm}
+use Rattle.rtcm2rinex.specs.declared.form.SignalsForm.TheVariants.{Options, Counts}
 use Rattle.rtcm2rinex.specs.declared.fault.ToolFault.{ToolFault}
 use Rattle.rtcm2rinex.specs.declared.fault.ToolFault.TheVariants.{NoSignal}
 use Rattle.rtcm2rinex.specs.Lines.{line}
@@ -23,19 +22,7 @@ use Rattle.rtcm2rinex.specs.Listing.{IsListFault}
 
 -- ---- the cells that count
 
--- a pseudorange, a phase, a Doppler shift or a strength
-abbrev pub brings_value : Seen → Bool
-brings_value x = is_some x.c || is_some x.l || is_some x.d || is_some x.s
-
--- a message of the station that is wanted; where none is told, of whatever station
-abbrev pub is_of_station : Option ℕ → Heard → Bool
-is_of_station wanted m = option_map_or (λ n. option_map_or (λ from. from == n) m.station false) wanted true
-
--- a message's cells of listed satellites and signals that have a value
-abbrev pub valued : Option ℕ → Heard → List Seen
-valued wanted m = if is_of_station wanted m then filter brings_value m.cells else []
-
--- those of a frame, whose message may be refused
+-- a frame's cells of listed satellites and signals that have a value; its message may be refused
 abbrev pub valued_of : Option ℕ → Framed → List Seen
 valued_of wanted f = option_map_or (valued wanted) (heard_in f) []
 
@@ -44,16 +31,6 @@ abbrev pub valued_in : Option ℕ → List Framed → List Seen
 valued_in wanted fs = flat_map (valued_of wanted) fs
 
 -- ---- the signals that they are of
-
-abbrev pub is_of_signal : SignalAt → Seen → Bool
-is_of_signal g x = is_system g.system x.signal.system && (x.signal.index == g.index)
-
--- how many of these cells are of a signal
-abbrev pub count_of : SignalAt → List Seen → ℕ
-count_of g cells = length (filter (is_of_signal g) cells)
-
-abbrev pub signal_in : System → ℕ → SignalAt
-signal_in system i = record { system = system; index = i }
 
 -- the signals of a system of which there are some, among the first n of its table, by their places
 abbrev pub had_below : List Seen → System → ℕ → List ℕ

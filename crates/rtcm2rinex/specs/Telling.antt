@@ -1,8 +1,8 @@
 -- What the command `signals` is asked for, and what it told.
 use Rattle.std.specs.Prelude.{◌≡◌, ◌⊎◌, ℕ, List, Option, Some, None, codes}
 use Rattle.clap.specs.Walk.{Row, one_of}
-use Rattle.rtcm2rinex.specs.declared.census.SignalsForm.{SignalsForm}
-use Rattle.rtcm2rinex.specs.declared.census.SignalsForm.TheVariants.{Options, Counts}
+use Rattle.rtcm2rinex.specs.declared.form.SignalsForm.{SignalsForm}
+use Rattle.rtcm2rinex.specs.declared.form.SignalsForm.TheVariants.{Options, Counts}
 use Rattle.rtcm2rinex.specs.Signals.{TellsSignals}
 use Rattle.rtcm2rinex.specs.SetupTold.{IsNumberOf}
 

@@ -4,7 +4,7 @@ ghost use Rattle.clap.specs.Walk.{one_of};
 ghost use Rattle.rtcm2rinex.specs.SetupTold.{IsNumberOf, options_of};
 ghost use Rattle.rtcm2rinex.specs.Telling.{IsFormOf};
 
-use crate::census::SignalsForm;
+use crate::form::SignalsForm;
 use clap::ArgMatches;
 
 /// The station whose messages count, where one is told.

@@ -4,12 +4,12 @@
 #![tactic(auto)]
 
 mod asked;
-mod census;
 mod check;
 mod cli;
 mod command;
 mod convert;
 mod fault;
+mod form;
 mod frames;
 mod help;
 pub mod laws;

@@ -1,9 +1,7 @@
-use Rattle.std.proofs.Common.{◌≡◌, ◌∙◌, ◌+◌, ◌*◌, ◌≤◌, ◌<◌, ap, sym, subst, arith, ℕ, List, length}
-use Rattle.obs_epoch.specs.declared.seen.Seen.{Seen}
+use Rattle.std.proofs.Common.{◌≡◌, ◌∙◌, ◌+◌, ◌*◌, ◌≤◌, ◌<◌, ap, sym, arith, ℕ, List, length}
 use Rattle.gnss_obs.specs.Signals.{table}
-use Rattle.rtcm2rinex.specs.Signals.{had_below, signal_in}
-use Rattle.rtcm2rinex.specs.Census.{IsCensus}
-use Rattle.rtcm2rinex.proofs.SignalLemmas.{IsPartly, partly_more, had_one, had_none, word_some, word_none, at_end}
+use Rattle.rtcm2rinex.specs.Signals.{had_below}
+use Rattle.rtcm2rinex.proofs.SignalLemmas.{partly_more, had_one, had_none, word_some, word_none, at_end}
 use Rattle.rtcm2rinex.proofs.signals.add_codes.Goals as goal
 use Rattle.rtcm2rinex.proofs.signals.add_codes.Goals.{then-count-gt0, else-count-gt0}
 

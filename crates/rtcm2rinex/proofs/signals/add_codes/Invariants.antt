@@ -1,7 +1,7 @@
-use Rattle.std.proofs.Common.{◌≡◌, ◌+◌, ◌*◌, ◌≤◌, List, length}
+use Rattle.std.proofs.Common.{◌+◌, ◌*◌, ◌≤◌, List, length}
 use Rattle.obs_epoch.specs.declared.seen.Seen.{Seen}
 use Rattle.rtcm2rinex.specs.Signals.{had_below}
-use Rattle.rtcm2rinex.specs.Census.{IsCensus}
+use Rattle.obs_epoch.specs.Census.{IsCensus}
 use Rattle.rtcm2rinex.proofs.SignalLemmas.{IsPartly}
 use Rattle.rtcm2rinex.proofs.signals.add_codes.Given as goal
 

@@ -1,4 +1,4 @@
-use Rattle.std.proofs.Common.{◌≡◌, ◌∙◌, ◌+◌, ◌*◌, ◌≤◌, ◌<◌, ap, sym, subst, arith, ℕ, List, length}
+use Rattle.std.proofs.Common.{◌≡◌, ◌∙◌, ◌+◌, ◌*◌, ◌≤◌, ◌<◌, ap, arith, ℕ, List, length}
 use Rattle.gnss_obs.specs.Signals.{table}
 use Rattle.rtcm2rinex.proofs.SignalLemmas.{lines_one, lines_none, of_ok}
 use Rattle.rtcm2rinex.proofs.signals.add_lines.Goals as goal

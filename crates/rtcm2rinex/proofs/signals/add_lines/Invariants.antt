@@ -1,7 +1,7 @@
 use Rattle.std.proofs.Common.{◌≡◌, ◌+◌, ◌*◌, ◌≤◌, ◌++◌, List, length}
 use Rattle.obs_epoch.specs.declared.seen.Seen.{Seen}
 use Rattle.rtcm2rinex.specs.Signals.{lines_below}
-use Rattle.rtcm2rinex.specs.Census.{IsCensus}
+use Rattle.obs_epoch.specs.Census.{IsCensus}
 use Rattle.rtcm2rinex.proofs.signals.add_lines.Given as goal
 
 abbrev pub invariant-loop-index : goal.invariant-loop-index

@@ -1,4 +1,4 @@
-use Rattle.std.proofs.Common.{◌≡◌, ◌∙◌, sym}
+use Rattle.std.proofs.Common.{◌∙◌, sym}
 use Rattle.rtcm_scan.specs.Frames.{frames_of}
 use Rattle.rtcm2rinex.specs.Signals.{valued_in}
 use Rattle.rtcm2rinex.proofs.SignalLemmas.{some_cells, no_cells}

@@ -1,6 +1,6 @@
 use Rattle.std.proofs.Common.{◌≡◌, ◌≤◌, ◌^◌, List, ℕ, length}
 use Rattle.rtcm_scan.specs.Frames.{Framed}
-use Rattle.rtcm2rinex.specs.Census.{CountsCells}
+use Rattle.rtcm2rinex.specs.Survey.{CountsCells}
 use Rattle.rtcm2rinex.proofs.survey.count_decided.Given as goal
 
 abbrev pub invariant-loop-offset : goal.invariant-loop-offset

@@ -1,4 +1,4 @@
-use Rattle.std.proofs.Common.{◌≡◌, ◌++◌, ◌∙◌, ap, ◌+◌, ◌≤◌, arith, ℕ, List, length, take, slice_range}
+use Rattle.std.proofs.Common.{◌≡◌, ◌++◌, ◌∙◌, ap, ◌+◌, arith, ℕ, List, length, take, slice_range}
 use Rattle.rtcm_scan.specs.Scan.{FramerValue}
 use Rattle.rtcm_scan.specs.Known.{known_frames}
 use Rattle.rtcm2rinex.proofs.SurveyLemmas.{count_pushed}

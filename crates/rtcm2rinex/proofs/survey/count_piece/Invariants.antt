@@ -1,6 +1,6 @@
 use Rattle.std.proofs.Common.{◌≡◌, ◌+◌, ◌-◌, ◌≤◌, ◌++◌, List, ℕ, true, take, length}
 use Rattle.rtcm_scan.specs.Frames.{Framed}
-use Rattle.rtcm2rinex.specs.Census.{CountsCells, CountsKnownCells}
+use Rattle.rtcm2rinex.specs.Survey.{CountsCells, CountsKnownCells}
 use Rattle.rtcm2rinex.proofs.survey.count_piece.Given as goal
 
 abbrev pub invariant-loop-taken : goal.invariant-loop-taken

@@ -1,5 +1,5 @@
 use Rattle.std.proofs.Common.{◌≡◌, ◌+◌, ◌-◌, ◌≤◌, ◌<◌, false, length}
-use Rattle.rtcm2rinex.specs.Census.{HasCounted}
+use Rattle.rtcm2rinex.specs.Survey.{HasCounted}
 use Rattle.rtcm2rinex.proofs.survey.count_stream.Given as goal
 
 abbrev pub invariant-loop-fault : goal.invariant-loop-fault

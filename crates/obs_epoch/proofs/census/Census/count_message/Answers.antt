@@ -1,4 +1,4 @@
-use Rattle.std.proofs.Common.{◌∙◌, ◌≡◌, ◌≤◌, ◌<◌, ◌+◌, ◌^◌, ◌==◌, ap, ap₂, sym, subst, refl, ℕ, List, Bool, false, true, Option, Some, length, arith, ◌++◌, filter}
+use Rattle.std.proofs.Common.{◌∙◌, ◌≡◌, ◌≤◌, ◌<◌, ◌+◌, ◌^◌, ◌==◌, ap, ap₂, sym, refl, ℕ, List, Bool, false, true, Option, Some, length, arith, filter}
 use Rattle.std.specs.Prelude.{filter_map}
 use Rattle.std.specs.Option.{option_map_or}
 use Rattle.gnss_obs.specs.declared.system.System.{System}
@@ -9,9 +9,9 @@ use Rattle.rtcm_msg.specs.declared.message.Message.TheVariants.{Msm4, Msm7}
 use Rattle.rtcm_msg.specs.Entries.{entries}
 use Rattle.rtcm_msg.specs.Msm.{MsmValue}
 use Rattle.obs_epoch.specs.Heard.{heard, seen_in, system_of}
-use Rattle.rtcm2rinex.specs.Signals.{brings_value, valued}
-use Rattle.rtcm2rinex.proofs.CensusLemmas.{wanted_cells, message_counted, few_valued}
-use Rattle.rtcm2rinex.proofs.census.Census.count_message.Goals as goal
+use Rattle.obs_epoch.specs.Census.{brings_value, valued}
+use Rattle.obs_epoch.proofs.CensusLemmas.{wanted_cells, message_counted, few_valued}
+use Rattle.obs_epoch.proofs.census.Census.count_message.Goals as goal
 
 -- the cells of a message with observations
 cells_of : (m : Message) (msm : MsmValue) (is_msm7 : Bool) (of : MsmValue → Message) (wanted : Option ℕ) (h : MsmHeader) (w : Bool) (system : System) (es : List Entry) → m ≡ of msm

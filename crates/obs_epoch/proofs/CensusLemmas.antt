@@ -1,9 +1,11 @@
 -- Cells are counted one by one.
-use Rattle.std.proofs.Common.{◌≡◌, ℕ, ◌+◌, ◌-◌, ◌*◌, ◌<◌, ◌≤◌, ◌^◌, ◌==◌, ◌&&◌, ◌||◌, Bool, true, false, List, [], ◌∷◌, ◌++◌, length, get_or, set, take, refl, sym, ap, ap₂, ◌∙◌, subst, arith, Option, Some, None, min, filter, append-nil, append_assoc, length-append, is_some}
-use Rattle.std.specs.Prelude.{filter_map, cond, nat_lt, nat_le, if◌then◌else◌}
+use Rattle.std.proofs.Common.{◌≡◌, ℕ, ◌+◌, ◌-◌, ◌<◌, ◌≤◌, ◌^◌, ◌==◌, ◌&&◌, ◌||◌, Bool, true, false, List, [], ◌∷◌, ◌++◌, length, get_or, take, refl, sym, ap, ap₂, ◌∙◌, subst, arith, Option, Some, None, min, filter, append-nil, append_assoc, length-append, is_some}
+use Rattle.std.specs.Prelude.{filter_map, cond, nat_lt, if◌then◌else◌}
 use Rattle.std.specs.List.{cons_option, position_or_len}
 use Rattle.gnss_obs.specs.declared.tables.ListedSignal as tables
 use Rattle.std.specs.Option.{option_map, option_and_then, option_map_or}
+use Rattle.std.proofs.lemmas.List.Elements.{filter-append, filter_map-append}
+use Rattle.std.proofs.lemmas.List.Sums.{length-filter, count_by-le-length}
 use Rattle.std.proofs.lemmas.List.{get_or-set_same, get_or-set_other, take_more, length-set, length-take}
 use Rattle.gnss_obs.specs.declared.system.System.{System}
 use Rattle.gnss_obs.specs.declared.system.System.TheVariants.{Gps, Galileo}
@@ -15,34 +17,14 @@ use Rattle.rtcm_msg.specs.declared.entry.Entry.{Entry}
 use Rattle.obs_epoch.specs.declared.seen.Seen.{Seen}
 use Rattle.obs_epoch.specs.Heard.{Heard, seen_in, lock_by, observed}
 use Rattle.obs_epoch.specs.Cells.{is_system}
-use Rattle.rtcm2rinex.specs.declared.census.Census.{Census}
-use Rattle.rtcm2rinex.specs.Signals.{brings_value, is_of_station, valued, is_of_signal, count_of, signal_in}
-use Rattle.rtcm2rinex.specs.Census.{IsCensus, counted, counted_of, counted_in, one_up, entry_signal, entry_value}
+use Rattle.obs_epoch.specs.Census.{CensusValue, brings_value, is_of_station, valued, is_of_signal, count_of, signal_in, IsCensus, counted, counted_of, counted_in, one_up, entry_signal, entry_value}
 
--- ---- filters over joined lists
+-- ---- what filters leave is no more
 
-pub filter-append : {X : Type 0} (p : X → Bool) (xs ys : List X) → filter p (xs ++ ys) ≡ filter p xs ++ filter p ys
-filter-append p [] ys = refl
-filter-append p (x ∷ xs) ys = by (p x) (filter-append p xs ys) where
-  by : (b : Bool) → filter p (xs ++ ys) ≡ filter p xs ++ filter p ys → cond b (x ∷ filter p (xs ++ ys)) (filter p (xs ++ ys)) ≡ cond b (x ∷ filter p xs) (filter p xs) ++ filter p ys
-  by true e = ap (λ l. x ∷ l) e
-  by false e = e
+few_passed : {X : Type 0} (p : X → Bool) (xs : List X) → length (filter p xs) ≤ length xs
+few_passed p xs = omega (arith, length-filter p xs, count_by-le-length p xs)
 
-pub filter_map-push : {X Y : Type 0} (f : X → Option Y) (xs : List X) (x : X) → filter_map f (xs ++ x ∷ []) ≡ filter_map f xs ++ cons_option (f x) []
-filter_map-push f [] x = refl
-filter_map-push f (y ∷ xs) x = by (f y) (filter_map-push f xs x) where
-  by : (o : Option _) → filter_map f (xs ++ x ∷ []) ≡ filter_map f xs ++ cons_option (f x) [] → cons_option o (filter_map f (xs ++ x ∷ [])) ≡ cons_option o (filter_map f xs) ++ cons_option (f x) []
-  by None e = e
-  by (Some z) e = ap (λ l. z ∷ l) e
-
-pub length-filter : {X : Type 0} (p : X → Bool) (xs : List X) → length (filter p xs) ≤ length xs
-length-filter p [] = omega arith
-length-filter p (x ∷ xs) = by (p x) (length-filter p xs) where
-  by : (b : Bool) → length (filter p xs) ≤ length xs → length (cond b (x ∷ filter p xs) (filter p xs)) ≤ length (x ∷ xs)
-  by true h = omega (arith, h)
-  by false h = omega (arith, h)
-
-pub length-filter_map : {X Y : Type 0} (f : X → Option Y) (xs : List X) → length (filter_map f xs) ≤ length xs
+length-filter_map : {X Y : Type 0} (f : X → Option Y) (xs : List X) → length (filter_map f xs) ≤ length xs
 length-filter_map f [] = omega arith
 length-filter_map f (x ∷ xs) = by (f x) (length-filter_map f xs) where
   by : (o : Option _) → length (filter_map f xs) ≤ length xs → length (cons_option o (filter_map f xs)) ≤ length (x ∷ xs)
@@ -66,7 +48,7 @@ count_more g cells x =
     one false = refl
 
 few_of : (g : SignalAt) (cells : List Seen) → count_of g cells ≤ length cells
-few_of g cells = length-filter (is_of_signal g) cells
+few_of g cells = few_passed (is_of_signal g) cells
 
 most : ℕ
 most = 2 ^ 64 - 1
@@ -92,18 +74,18 @@ one_up_at xs g i within few = by (g == i) refl where
   by false h = get_or-set_other xs g i (min (get_or xs g 0 + 1) (2 ^ 64 - 1)) 0 (other g i h) ∙ none (get_or xs i 0)
 
 -- a cell more of a signal of the tables
-census_more : (c : Census) (cells : List Seen) (x : Seen) → IsCensus c cells → length cells < 2 ^ 64 - 1 → IsSignal x.signal → IsCensus (counted_of c x.signal) (cells ++ x ∷ [])
+census_more : (c : CensusValue) (cells : List Seen) (x : Seen) → IsCensus c cells → length cells < 2 ^ 64 - 1 → IsSignal x.signal → IsCensus (counted_of c x.signal) (cells ++ x ∷ [])
 census_more c cells x h few listed = record {
   gps = long_gps x.signal.system;
   galileo = long_galileo x.signal.system;
   each = λ system i within. each system i within ∙ sym (count_more (signal_in system i) cells x);
 }
   where
-    long_gps : (s : System) → length (counted_in s x.signal.index c).gps ≡ 15
+    long_gps : (s : System) → length (counted_in s x.signal.index c).gps ≡ length (table Gps)
     long_gps Gps = length-set c.gps x.signal.index (min (get_or c.gps x.signal.index 0 + 1) (2 ^ 64 - 1)) ∙ h.gps
     long_gps Galileo = h.gps
 
-    long_galileo : (s : System) → length (counted_in s x.signal.index c).galileo ≡ 19
+    long_galileo : (s : System) → length (counted_in s x.signal.index c).galileo ≡ length (table Galileo)
     long_galileo Gps = h.galileo
     long_galileo Galileo = length-set c.galileo x.signal.index (min (get_or c.galileo x.signal.index 0 + 1) (2 ^ 64 - 1)) ∙ h.galileo
 
@@ -127,10 +109,10 @@ census_more c cells x h few listed = record {
 
 -- ---- the cell of an entry
 
-pub some_same : {X : Type 0} (x y : X) → Some x ≡ Some y → x ≡ y
+some_same : {X : Type 0} (x y : X) → Some x ≡ Some y → x ≡ y
 some_same x y e = ap (λ o. option_map_or (λ z. z) o x) e
 
-pub listed_of : (system : System) (id : ℕ) (g : SignalAt) → signal_of_id system id ≡ Some g → (g.system ≡ system) × IsSignal g
+listed_of : (system : System) (id : ℕ) (g : SignalAt) → signal_of_id system id ≡ Some g → (g.system ≡ system) × IsSignal g
 listed_of system id g h = by (nat_lt (place system id) (length (table system))) refl h where
   place : System → ℕ → ℕ
   place system id = position_or_len (λ (e : tables.ListedSignal). e.0 == id) (table system)
@@ -153,10 +135,10 @@ value_same lock e s g =
     ap₂ (λ a b. a || b) (ap₂ (λ a b. a || b) (ap₂ (λ a b. a || b) (is_some-map nearest_pseudorange e.range) (is_some-map (nearest_phase (hertz_of g)) e.phase)) (is_some-map (nearest_doppler (hertz_of g)) e.rate)) (is_some-map nearest_strength e.strength)
 
 -- an entry is counted where its cell is one that counts
-pub entry_counted : (is_msm7 : Bool) (system : System) (e : Entry) (o : Option SignalAt) (c after : Census) (cells : List Seen) → o ≡ entry_signal system e → after ≡ option_map_or (counted_of c) o c
+entry_counted : (is_msm7 : Bool) (system : System) (e : Entry) (o : Option SignalAt) (c after : CensusValue) (cells : List Seen) → o ≡ entry_signal system e → after ≡ option_map_or (counted_of c) o c
     → length cells < 2 ^ 64 - 1 → IsCensus c cells → IsCensus after (cells ++ filter brings_value (cons_option (seen_in is_msm7 system e) []))
 entry_counted is_msm7 system e o c after cells is made few h =
-    subst (λ (a : Census). IsCensus a (cells ++ filter brings_value (cons_option (seen_in is_msm7 system e) []))) (sym made)
+    subst (λ (a : CensusValue). IsCensus a (cells ++ filter brings_value (cons_option (seen_in is_msm7 system e) []))) (sym made)
     (subst (λ (p : Option SignalAt). IsCensus (option_map_or (counted_of c) p c) (cells ++ filter brings_value (cons_option (seen_in is_msm7 system e) []))) (sym is)
     (by (satellite_of_id system e.satellite) (signal_of_id system e.signal) (λ g same. (listed_of system e.signal g same).1)))
   where
@@ -187,7 +169,7 @@ entry_counted is_msm7 system e o c after cells is made few h =
     by (Some s) (Some g) listed = both s g (listed g refl)
 
 -- what is counted of one entry more
-pub entries_more : (is_msm7 : Bool) (system : System) (es : List Entry) (i : ℕ) (d : Entry) (o : Option SignalAt) (c after : Census) (cells : List Seen) → i < length es
+pub entries_more : (is_msm7 : Bool) (system : System) (es : List Entry) (i : ℕ) (d : Entry) (o : Option SignalAt) (c after : CensusValue) (cells : List Seen) → i < length es
     → o ≡ entry_signal system (get_or es i d) → after ≡ option_map_or (counted_of c) o c → length cells + length es < 2 ^ 63
     → IsCensus c (cells ++ filter brings_value (filter_map (seen_in is_msm7 system) (take i es)))
     → IsCensus after (cells ++ filter brings_value (filter_map (seen_in is_msm7 system) (take (i + 1) es)))
@@ -196,11 +178,11 @@ entries_more is_msm7 system es i d o c after cells within is made few h =
     let e : Entry = get_or es i d in
     let front : List Seen = filter brings_value (filter_map seen (take i es)) in
     let last : List Seen = filter brings_value (cons_option (seen e) []) in
-    let small : length front ≤ i = short (length front) (length (filter_map seen (take i es))) (length (take i es)) i (length-filter brings_value (filter_map seen (take i es))) (length-filter_map seen (take i es)) (length-take i es) in
+    let small : length front ≤ i = short (length front) (length (filter_map seen (take i es))) (length (take i es)) i (few_passed brings_value (filter_map seen (take i es))) (length-filter_map seen (take i es)) (length-take i es) in
     let fewer : length (cells ++ front) < 2 ^ 64 - 1 = room (length (cells ++ front)) (length cells) (length front) i (length es) (length-append cells front) small within few in
     let counted : IsCensus after ((cells ++ front) ++ last) = entry_counted is_msm7 system e o c after (cells ++ front) is made fewer h in
     let joined : filter brings_value (filter_map seen (take (i + 1) es)) ≡ front ++ last =
-    ap (λ (l : List Entry). filter brings_value (filter_map seen l)) (take_more es i d within) ∙ ap (filter brings_value) (filter_map-push seen (take i es) e)
+    ap (λ (l : List Entry). filter brings_value (filter_map seen l)) (take_more es i d within) ∙ ap (filter brings_value) (filter_map-append seen (take i es) (e ∷ []))
     ∙ filter-append brings_value (filter_map seen (take i es)) (cons_option (seen e) []) in
     subst (IsCensus after) (append_assoc cells front last ∙ ap (λ (l : List Seen). cells ++ l) (sym joined)) counted
   where
@@ -222,12 +204,12 @@ wanted_cells wanted station m w at is holds =
     same None = refl
     same (Some n) = ap (λ (o : Option ℕ). option_map_or (λ from. from == n) o false) at
 
-pub message_counted : (after : Census) (cells front : List Seen) (wanted : Option ℕ) (m : Heard) → valued wanted m ≡ front → IsCensus after (cells ++ front) → IsCensus after (cells ++ valued wanted m)
+pub message_counted : (after : CensusValue) (cells front : List Seen) (wanted : Option ℕ) (m : Heard) → valued wanted m ≡ front → IsCensus after (cells ++ front) → IsCensus after (cells ++ valued wanted m)
 message_counted after cells front wanted m same h = subst (λ (l : List Seen). IsCensus after (cells ++ l)) (sym same) h
 
 pub few_valued : (is_msm7 : Bool) (system : System) (es : List Entry) (cells : List Seen) → cells ≡ filter brings_value (filter_map (seen_in is_msm7 system) es) → length es ≤ 64 → length cells ≤ 64
 few_valued is_msm7 system es cells is few =
-    let a = length-filter brings_value (filter_map (seen_in is_msm7 system) es) in
+    let a = few_passed brings_value (filter_map (seen_in is_msm7 system) es) in
     let b = length-filter_map (seen_in is_msm7 system) es in
     join (length cells) (length (filter brings_value (filter_map (seen_in is_msm7 system) es))) (length (filter_map (seen_in is_msm7 system) es)) (length es) (ap length is) a b few
   where

@@ -1,10 +1,9 @@
-use Rattle.std.proofs.Common.{◌≡◌, ◌+◌, ◌<◌, ◌^◌, ◌++◌, Bool, List, length, filter, take}
+use Rattle.std.proofs.Common.{◌+◌, ◌<◌, ◌^◌, ◌++◌, Bool, List, length, filter, take}
 use Rattle.std.specs.Prelude.{filter_map}
 use Rattle.obs_epoch.specs.declared.seen.Seen.{Seen}
 use Rattle.obs_epoch.specs.Heard.{seen_in}
-use Rattle.rtcm2rinex.specs.Signals.{brings_value}
-use Rattle.rtcm2rinex.specs.Census.{IsCensus}
-use Rattle.rtcm2rinex.proofs.census.Census.count_entries.Given as goal
+use Rattle.obs_epoch.specs.Census.{brings_value, IsCensus}
+use Rattle.obs_epoch.proofs.census.Census.count_entries.Given as goal
 
 -- the cells of the first i entries were counted
 abbrev pub invariant-loop-i : goal.invariant-loop-i

@@ -1,30 +1,30 @@
-//! How many cells with a value a stream has of each signal.
+//! How many cells with a value messages have of each signal.
 ghost use Rattle.std.specs.Prelude.{◌≡◌, ◌==◌, ◌+◌, ◌<◌, ◌≤◌, ◌^◌, ◌++◌, [], true, Bool, List, length, nat_lt, filter, filter_map};
 ghost use Rattle.std.specs.List.{list_any};
 ghost use Rattle.std.specs.Option.{option_map_or};
 ghost use Rattle.gnss_obs.specs.Signals.{table};
 ghost use Rattle.obs_epoch.specs.declared.seen.Seen.{Seen};
-ghost use Rattle.obs_epoch.specs.Heard.{heard, seen_in, system_of};
-ghost use Rattle.rtcm2rinex.specs.Signals.{brings_value, valued};
-ghost use Rattle.rtcm2rinex.specs.Census.{counted, has_any, counted_of, entry_value, entry_signal, CountsEntries, IsCensus};
+ghost use Rattle.obs_epoch.specs.Heard.{heard, seen_in};
+ghost use Rattle.obs_epoch.specs.Census.{brings_value, valued, counted, has_any, counted_of, entry_value, entry_signal, CountsEntries, IsCensus};
 
-use gnss_obs::{Sat, Signal, System};
+use crate::hear::system_of;
+use gnss_obs::{GALILEO_SIGNAL_COUNT, GPS_SIGNAL_COUNT, Sat, Signal, System};
 use rtcm_msg::{Entry, Message, entries};
-
-/// What is printed of the signals of a stream.
-#[derive(Clone, Copy)]
-pub enum SignalsForm {
-    /// One line, the options of `convert` that plan them.
-    Options,
-    /// For each a line with its number of cells.
-    Counts,
-}
+use std::marker::Model;
 
 /// For each signal of the tables, how many cells with a value there are.
 #[derive(Drop)]
 pub struct Census {
-    gps: [u64; 15],
-    galileo: [u64; 19],
+    gps: [u64; GPS_SIGNAL_COUNT],
+    galileo: [u64; GALILEO_SIGNAL_COUNT],
+}
+
+impl Model for Census {
+    ghost use Rattle.obs_epoch.specs.Census.{CensusValue};
+
+    ghost Value = { CensusValue };
+
+    ghost view = { λ c. record { gps = c.gps; galileo = c.galileo } };
 }
 
 impl Census {
@@ -33,8 +33,8 @@ impl Census {
         ensures { IsCensus result [] }
     {
         Census {
-            gps: [0; 15],
-            galileo: [0; 19],
+            gps: [0; GPS_SIGNAL_COUNT],
+            galileo: [0; GALILEO_SIGNAL_COUNT],
         }
     }
 
@@ -117,17 +117,6 @@ fn is_wanted(wanted: Option<u16>, station: u16) -> bool
     match wanted {
         None => true,
         Some(wanted) => station == wanted,
-    }
-}
-
-/// The system of a message with observations.
-fn system_of(is_galileo: bool) -> System
-    ensures { result ≡ system_of is_galileo }
-{
-    if is_galileo {
-        System::Galileo
-    } else {
-        System::Gps
     }
 }
 

@@ -1,13 +1,12 @@
-use Rattle.std.proofs.Common.{◌∙◌, ◌≡◌, ap, sym, subst, ℕ, List, Bool, length, take_all, arith, ◌++◌}
+use Rattle.std.proofs.Common.{◌∙◌, ◌≡◌, ap, sym, subst, List, take_all, arith, ◌++◌}
 use Rattle.std.specs.Option.{option_map_or}
 use Rattle.std.specs.Prelude.{filter, filter_map}
 use Rattle.rtcm_msg.specs.declared.entry.Entry.{Entry}
 use Rattle.obs_epoch.specs.Heard.{seen_in}
-use Rattle.rtcm2rinex.specs.Signals.{brings_value}
-use Rattle.rtcm2rinex.specs.Census.{entry_signal, counted_of, IsCensus}
-use Rattle.rtcm2rinex.proofs.CensusLemmas.{entries_more}
-use Rattle.rtcm2rinex.proofs.census.Census.count_entries.Goals as goal
-use Rattle.rtcm2rinex.proofs.census.Census.count_entries.Goals.{in-Some, in_default}
+use Rattle.obs_epoch.specs.Census.{brings_value, counted_of, IsCensus}
+use Rattle.obs_epoch.proofs.CensusLemmas.{entries_more}
+use Rattle.obs_epoch.proofs.census.Census.count_entries.Goals as goal
+use Rattle.obs_epoch.proofs.census.Census.count_entries.Goals.{in-Some, in_default}
 
 pub loop-i-preserved : goal.loop-i-preserved
 loop-i-preserved c = λ is_msm7 cells few h.

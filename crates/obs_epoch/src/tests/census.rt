@@ -1,0 +1,20 @@
+//! How many cells of a signal are counted.
+use super::messages::{Heard, message};
+use crate::Census;
+use gnss_obs::System;
+use std::test::*;
+
+/// How many GPS cells of 1C a message of station 7 with one of them adds, and whether there is a
+/// cell of any signal, where this station is wanted.
+fn counted(wanted: Option<u16>) -> (u64, bool) {
+    let mut census = Census::new();
+    census.count_message(wanted, &message(Heard::Long(1_000, false, 64)));
+    (census.count(System::Gps, 0), census.has_any())
+}
+
+#[test]
+fn cells_of_the_wanted_station_are_counted(rt: HostRuntime) {
+    assert_eq!(rt; counted(Some(7)), (1, true));
+    assert_eq!(rt; counted(Some(8)), (0, false));
+    assert_eq!(rt; counted(None), (1, true));
+}
