@@ -3,7 +3,7 @@ use Rattle.std.proofs.Common.{◌≡◌, ℕ, ◌+◌, ◌-◌, ◌<◌, ◌≤�
 use Rattle.std.proofs.Math.Seq.{take-add}
 use Rattle.std.specs.Io.KnownBytes.{Appends, Keeps, Consumes, IsAtEnd}
 use Rattle.std.proofs.KnownBytes.{Appends-trans, Appends-kept, Consumes-trans}
-use Rattle.rtcm_bits.specs.Device.{AppendsPrefix}
+use Rattle.rtcm_bits.specs.Device.{AppendsPrefix, HasFailed, one_more}
 use Rattle.rtcm_scan.specs.Frames.{Framed, frames_of}
 use Rattle.rtcm_scan.specs.Decided.{decided_frames}
 use Rattle.rtcm_scan.specs.declared.framer.ScanFault.{ScanFault}
@@ -16,6 +16,10 @@ use Rattle.rtcm2rinex.specs.declared.listing.Listing.{Listing}
 use Rattle.rtcm2rinex.specs.Kinds.{listing_line, listing_lines}
 use Rattle.rtcm2rinex.specs.Listed.{ListsFrames, ListsKnown, IsListed, IsRefusal, up_to_limit}
 use Rattle.rtcm2rinex.specs.Listing.{ListsAll, ListsPart, ListsToLimit}
+
+-- a failure was counted
+pub failed_once : (before after : ℕ) → after ≡ one_more before → HasFailed before after
+failed_once before after counted = grind (arith, counted)
 
 -- a framer that was told that the stream is at its end, and nothing else
 pub record OnlyEnded (after before : FramerValue) : Type 0 where

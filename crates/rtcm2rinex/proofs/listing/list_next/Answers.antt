@@ -4,7 +4,7 @@ use Rattle.rtcm_scan.specs.Frames.{Framed}
 use Rattle.rtcm_scan.specs.declared.framer.ScanFault.{ScanFault}
 use Rattle.rtcm_scan.specs.Scan.{FramerValue, HasFramed}
 use Rattle.rtcm2rinex.specs.Listed.{IsRefusal}
-use Rattle.rtcm2rinex.proofs.ListedLemmas.{listed_more, listed_to_limit, listed_part, only_ended, refused_more}
+use Rattle.rtcm2rinex.proofs.ListedLemmas.{failed_once, listed_more, listed_to_limit, listed_part, only_ended, refused_more}
 use Rattle.rtcm2rinex.proofs.listing.list_next.Goals as goal
 use Rattle.rtcm2rinex.proofs.listing.list_next.Goals.{then-n-eq0, else-n-eq0}
 
@@ -52,3 +52,9 @@ returns-in-Err-list_piece-clause-write g c = λ e r w s.
     ] in
     listed_part c.args.listing r (remaining c.args.reader.now.inner) (remaining c.read.new.self.inner) w (contents c.args.writer.now.inner) (contents c.list_piece.new.writer.inner)
     c.args.framer.now c.if-n-eq0.framer piece same c.in-Err-list_piece.ensures.part ended c.in-Ok.ensures.bytes.0 s
+
+pub returns-in-Err-clause-end : goal.returns-in-Err-clause-end
+returns-in-Err-clause-end g c = λ e. cc
+
+pub returns-in-Err-clause-reader : goal.returns-in-Err-clause-reader
+returns-in-Err-clause-reader g c = (failed_once c.args.reader.now.failures c.read.new.self.failures c.in-Err.ensures.failures, tt)

@@ -22,3 +22,6 @@ returns-in-Err-tell_signals-clause-write g c = λ e.
     let s = c.in-Ok.ensures.whole in
     let cells = valued_in c.args.station (frames_of s.0) in
     (s.0, s.1, s.2, some_cells c.in-Ok.census cells s.3.census (sym c.has_any.ensures ∙ c.if-not-has_any.false), c.in-Err-tell_signals.ensures.part cells s.3.census)
+
+pub returns-then-not-has_any-clause-whole : goal.returns-then-not-has_any-clause-whole
+returns-then-not-has_any-clause-whole g c = tt
