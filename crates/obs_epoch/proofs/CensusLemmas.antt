@@ -33,9 +33,6 @@ length-filter_map f (x ∷ xs) = by (f x) (length-filter_map f xs) where
 
 -- ---- one cell more
 
-one_if : Bool → ℕ
-one_if b = cond b 1 0
-
 abbrev here : SignalAt → SignalAt → Bool
 here g s = is_system g.system s.system && (s.index == g.index)
 
@@ -49,9 +46,6 @@ count_more g cells x =
 
 few_of : (g : SignalAt) (cells : List Seen) → count_of g cells ≤ length cells
 few_of g cells = few_passed (is_of_signal g) cells
-
-most : ℕ
-most = 2 ^ 64 - 1
 
 one_up_at : (xs : List ℕ) (g i : ℕ) → g < length xs → get_or xs g 0 < 2 ^ 64 - 1 → get_or (one_up xs g) i 0 ≡ get_or xs i 0 + (if g == i then 1 else 0)
 one_up_at xs g i within few = by (g == i) refl where
