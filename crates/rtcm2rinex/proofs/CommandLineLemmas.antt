@@ -69,12 +69,22 @@ with_option old (Err e) a app r added was is simple = tt
 with_option old (Ok new) a app r (command, same, added) was is simple =
     added.shape (local a r is simple) ∙ ap₂ with_rule (subst (λ c. Reads c app) same was) is
 
--- one command more
-pub with_command : {E : Type 0} (old : Result Command E) (sub : Command) (new : Result Command E) (app below : App) → AddsCommand old sub new → Reads old app
-    → app_of sub ≡ below → below.top.is_plain ≡ true → Reads new (with_subcommand app below.top)
-with_command old sub (Err e) app below added was is plain = tt
-with_command old sub (Ok new) app below (command, same, added) was is plain =
-    added.shape (has_local sub below is plain) ∙ ap₂ with_subcommand (subst (λ c. Reads c app) same was) (ap (λ (a : App). a.top) is)
+-- one command more, of which this much is known
+pub with_command : {E : Type 0} (old sub new : Result Command E) (P Q R : App → Type 0) → AddsCommand old sub new → IfOk old (λ c. P (app_of c)) → IfOk sub (λ c. Q (app_of c))
+    → ((a below : App) → P a → Q below → (below.top.is_plain ≡ true) × R (with_subcommand a below.top)) → IfOk new (λ c. R (app_of c))
+with_command old sub (Err e) P Q R added was is so = tt
+with_command old sub (Ok new) P Q R (command, below, same, so_below, added) was is so =
+    let p : P (app_of command) = subst (λ c. IfOk c (λ c. P (app_of c))) same was in
+    let q : Q (app_of below) = subst (λ c. IfOk c (λ c. Q (app_of c))) so_below is in
+    let both = so (app_of command) (app_of below) p q in
+    subst R (sym (added.shape (has_local below (app_of below) refl both.0))) both.1
+
+-- one command more, that is known whole
+pub with_known : {E : Type 0} (old sub new : Result Command E) (app below : App) → AddsCommand old sub new → Reads old app → Reads sub below → below.top.is_plain ≡ true
+    → Reads new (with_subcommand app below.top)
+with_known old sub new app below added was is plain =
+    with_command old sub new (λ a. a ≡ app) (λ b. b ≡ below) (λ c. c ≡ with_subcommand app below.top) added was is
+    (λ a b p q. (ap (λ (x : App). x.top.is_plain) q ∙ plain, ap₂ with_subcommand p (ap (λ (x : App). x.top) q)))
 
 -- clap's definitions read the words by these commands and options
 pub is_read : (names : Bor (List (Bor Text))) → is_simple_and_free (program names) ≡ true

@@ -114,8 +114,9 @@ IsProgram a = (names : Bor (List (Bor Text))) × AreRules names × (a ≡ progra
 abbrev pub AddsOption : {E : Type 0} → Result Command E → Arg → Result Command E → Type 0
 AddsOption old option new = IfOk new (λ made. (command : Command) × (old ≡ Ok command) × AddsArg command option made)
 
-abbrev pub AddsCommand : {E : Type 0} → Result Command E → Command → Result Command E → Type 0
-AddsCommand old sub new = IfOk new (λ made. (command : Command) × (old ≡ Ok command) × AddsSubcommand command sub made)
+abbrev pub AddsCommand : {E : Type 0} → (old below new : Result Command E) → Type 0
+AddsCommand old below new =
+    IfOk new (λ made. (command sub : Command) × (old ≡ Ok command) × (below ≡ Ok sub) × AddsSubcommand command sub made)
 
 -- ---- what words ask for, by clap's own definitions
 

@@ -39,16 +39,17 @@ pub fn parse<'a>(alloc: Global, words: &'a [&'a str]) -> Result<ArgMatches<'a>, 
 fn program<'a>(alloc: Global) -> Result<Command<'a>, AllocError>
     ensures { IfOk result (λ c. IsProgram (app_of c)) }
 {
-    let signals = signals(alloc)?;
-    let convert = convert(alloc)?;
     let program = described(alloc, "rtcm2rinex", &help::PROGRAM)
         .version(VERSION)
         .subcommand_required(true);
-    let program = with_command(Ok(program), described(alloc, "frames", &help::FRAMES));
-    let program = with_command(program, described(alloc, "show", &help::SHOW));
-    let program = with_command(program, signals);
-    let program = with_command(program, convert);
-    with_command(program, described(alloc, "check", &help::CHECK))
+    let frames = described(alloc, "frames", &help::FRAMES);
+    let show = described(alloc, "show", &help::SHOW);
+    let check = described(alloc, "check", &help::CHECK);
+    let program = with_command(Ok(program), Ok(frames));
+    let program = with_command(program, Ok(show));
+    let program = with_command(program, signals(alloc));
+    let program = with_command(program, convert(alloc));
+    with_command(program, Ok(check))
 }
 
 /// The command that says which signals a stream has.
@@ -98,17 +99,17 @@ fn described<'a>(alloc: Global, name: &'a str, help: &Help) -> Command<'a>
         .after_help(help.examples)
 }
 
-// The two that follow take a command for which memory may have been wanting, and answer one: a `?`
-// behind each option would have to drop all that was made before it, in as many places.
+// The two that follow take a command that may be wanting memory, and answer one: a `?` after each
+// option would drop what was made so far in as many places.
 
 /// The program with one command more.
 fn with_command<'a>(
     program: Result<Command<'a>, AllocError>,
-    command: Command<'a>,
+    command: Result<Command<'a>, AllocError>,
 ) -> Result<Command<'a>, AllocError>
     ensures { line.AddsCommand program.entry command.entry result }
 {
-    program?.subcommand(command)
+    program?.subcommand(command?)
 }
 
 /// A command with one option more.
