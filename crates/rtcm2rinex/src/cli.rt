@@ -42,14 +42,11 @@ fn program<'a>(alloc: Global) -> Result<Command<'a>, AllocError>
     let program = described(alloc, "rtcm2rinex", &help::PROGRAM)
         .version(VERSION)
         .subcommand_required(true);
-    let frames = described(alloc, "frames", &help::FRAMES);
-    let show = described(alloc, "show", &help::SHOW);
-    let check = described(alloc, "check", &help::CHECK);
-    let program = with_command(Ok(program), Ok(frames));
-    let program = with_command(program, Ok(show));
+    let program = with_command(Ok(program), Ok(described(alloc, "frames", &help::FRAMES)));
+    let program = with_command(program, Ok(described(alloc, "show", &help::SHOW)));
     let program = with_command(program, signals(alloc));
     let program = with_command(program, convert(alloc));
-    with_command(program, Ok(check))
+    with_command(program, Ok(described(alloc, "check", &help::CHECK)))
 }
 
 /// The command that says which signals a stream has.
@@ -99,8 +96,8 @@ fn described<'a>(alloc: Global, name: &'a str, help: &Help) -> Command<'a>
         .after_help(help.examples)
 }
 
-// The two that follow take a command that may be wanting memory, and answer one: a `?` after each
-// option would drop what was made so far in as many places.
+// The two that follow take a command for which memory may have been wanting, and answer one: a `?`
+// behind each option would have to drop all that was made before it, in as many places.
 
 /// The program with one command more.
 fn with_command<'a>(
