@@ -12,7 +12,6 @@ use Rattle.std.specs.Borrow.{Bor}
 use Rattle.rtcm2rinex.specs.CommandLine.{AddsCommand, AddsOption, IsAnswered, RefusesWords, program, text_of, with_options}
 use Rattle.clap.specs.Values.{kind_of}
 use Rattle.clap.specs.declared.error.kind.ErrorKind.TheVariants as kind
-use Rattle.clap.specs.Built.{AddsArg, AddsSubcommand}
 use Rattle.clap.specs.declared.builder.arg.Arg.{Arg}
 use Rattle.clap.specs.declared.builder.command.Command.{Command}
 use Rattle.clap.specs.declared.builder.command.Command.TheViews.{out-Command}

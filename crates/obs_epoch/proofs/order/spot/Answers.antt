@@ -1,6 +1,6 @@
 use Rattle.std.proofs.Common.{◌≡◌, ◌-◌, ◌<◌, refl, sym, subst, arith, length, false}
 use Rattle.obs_epoch.specs.declared.cell.Cell.{Cell}
-use Rattle.obs_epoch.specs.Order.{cell_seat, spot}
+use Rattle.obs_epoch.specs.Order.{cell_seat}
 use Rattle.obs_epoch.specs.Values.{planned_of}
 use Rattle.obs_epoch.proofs.OrderLemmas.{own_seat, spot_behind, spot_within}
 use Rattle.obs_epoch.proofs.order.spot.Goals as goal

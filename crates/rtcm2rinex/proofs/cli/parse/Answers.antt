@@ -1,6 +1,6 @@
-use Rattle.std.proofs.Common.{◌≡◌, ◌∙◌, true, inl, inr, ap, subst}
+use Rattle.std.proofs.Common.{◌≡◌, ◌∙◌, true, inl, inr, ap}
 use Rattle.std.proofs.lemmas.Result.{IfOk-weaker, IfErr-weaker}
-use Rattle.clap.specs.Simple.{App, app_of, is_simple}
+use Rattle.clap.specs.Simple.{app_of}
 use Rattle.clap.specs.Faults.{is_simple_and_free}
 use Rattle.rtcm2rinex.proofs.CommandLineLemmas.{is_read, is_simple_read, why}
 use Rattle.rtcm2rinex.proofs.cli.parse.Goals as goal

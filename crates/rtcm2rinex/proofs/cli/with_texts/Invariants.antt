@@ -1,5 +1,5 @@
-use Rattle.std.proofs.Common.{◌≡◌, IfOk, map, take}
-use Rattle.clap.specs.Simple.{App, app_of}
+use Rattle.std.proofs.Common.{map, take}
+use Rattle.clap.specs.Simple.{App}
 use Rattle.rtcm2rinex.specs.CommandLine.{text_of, with_options}
 use Rattle.rtcm2rinex.proofs.CommandLineLemmas.{Reads}
 use Rattle.rtcm2rinex.proofs.cli.with_texts.Given as goal

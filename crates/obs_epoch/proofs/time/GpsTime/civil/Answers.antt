@@ -1,4 +1,4 @@
-use Rattle.std.proofs.Common.{◌≤ℤ◌, ◌<◌, ◌≤◌, ℤ, pos, arith, ◌∙◌, sym, subst}
+use Rattle.std.proofs.Common.{◌≤ℤ◌, ◌<◌, pos, arith, ◌∙◌, sym, subst}
 use Rattle.jiff_core.proofs.SignedLemmas.{signed_arith}
 use Rattle.jiff_core.specs.Date.{epoch_day}
 use Rattle.jiff_core.specs.DateTime.{civil_nanos}
