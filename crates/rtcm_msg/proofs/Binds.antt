@@ -24,6 +24,13 @@ number_short w c h = grind arith
 pub ok_inj : {A : Type 0} (x y : A) (r : Result A MsgFault) → r ≡ Ok x → r ≡ Ok y → x ≡ y
 ok_inj x y r e f = cc
 
+abbrev done : {A : Type 0} → A → Result A MsgFault
+done x = Ok x
+
+-- what holds of what was read holds of what it is said to be
+pub of_read : {A : Type 0} (P : A → Type 0) (x y : A) → done x ≡ done y → P x → P y
+of_read P x y e p = subst P (ok_inj x y (done x) refl e) p
+
 -- what a field that was read is
 pub record Took (w : ℕ) (c : Cursor) (x : ℕ × Cursor) : Type 0 where
   pub fits : x.0 < 2 ^ w

@@ -15,7 +15,7 @@ use Rattle.rtcm_msg.specs.Station.{station_at, station_table, station_parts}
 use Rattle.rtcm_msg.specs.Msm.{msm_at, MsmValue, week, mask_fields}
 use Rattle.rtcm_msg.specs.Reading.{message_of, body_at, start, other_at, set_at}
 use Rattle.rtcm_msg.specs.Spelling.{ReadsMessage, IsMessage, IsFault, message_bits, reserved_width, is_other, is_read, is_read_msm, number_of, set_of, layout, layout_of, has_bad_time, has_too_many}
-use Rattle.rtcm_msg.proofs.Binds.{bind_ok, ok_inj, number_took, number_short}
+use Rattle.rtcm_msg.proofs.Binds.{bind_ok, ok_inj, of_read, number_took, number_short}
 use Rattle.rtcm_msg.proofs.Combine.{cursor, number_again, ok_err, past_here, past_next}
 use Rattle.rtcm_msg.proofs.StationLaws.{station_again, station_took, station_tail, station_widths, height_widths, station_chain, IsRead}
 use Rattle.rtcm_msg.proofs.MsmLaws.{msm_took, msm_again, msm_tail, header_tail, IsMsmRead}
@@ -206,13 +206,16 @@ found_msm7 bits g m d front r =
 body_found : (bits : List Bool) (n : ℕ) (v : Message) → 12 ≤ length bits → number_of bits ≡ n → Kind n → body_at n (standing bits 12) ≡ Ok v → Found bits v
 body_found bits n v h is (station has e) read =
     let body = bind_ok (station_at has (standing bits 12)) _ v (sym (body_station has (standing bits 12)) ∙ (rw e at read)) in
-    subst (Found bits) (ok_inj _ v _ refl body.2) (found_station bits has body.0.0 body.0.1 (in_front bits h ∙ ap (λ (k : ℕ). uint 12 k ++ drop 12 bits) (is ∙ e)) (station_took has (standing bits 12) body.0 body.1))
+    let x : Message = messages.Station body.0.0 in
+    of_read (Found bits) x v body.2 (found_station bits has body.0.0 body.0.1 (in_front bits h ∙ ap (λ (k : ℕ). uint 12 k ++ drop 12 bits) (is ∙ e)) (station_took has (standing bits 12) body.0 body.1))
 body_found bits n v h is (msm4 g e) read =
     let body = bind_ok (msm_at grid4.satellite_widths grid4.cell_widths g (standing bits 12)) _ v (sym (body_msm4 g (standing bits 12)) ∙ (rw e at read)) in
-    subst (Found bits) (ok_inj _ v _ refl body.2) (found_msm4 bits g body.0.0 body.0.1 (in_front bits h ∙ ap (λ (k : ℕ). uint 12 k ++ drop 12 bits) (is ∙ e)) (msm_took grid4.satellite_widths grid4.cell_widths g (standing bits 12) body.0 body.1))
+    let x : Message = messages.Msm4 body.0.0 in
+    of_read (Found bits) x v body.2 (found_msm4 bits g body.0.0 body.0.1 (in_front bits h ∙ ap (λ (k : ℕ). uint 12 k ++ drop 12 bits) (is ∙ e)) (msm_took grid4.satellite_widths grid4.cell_widths g (standing bits 12) body.0 body.1))
 body_found bits n v h is (msm7 g e) read =
     let body = bind_ok (msm_at grid7.satellite_widths grid7.cell_widths g (standing bits 12)) _ v (sym (body_msm7 g (standing bits 12)) ∙ (rw e at read)) in
-    subst (Found bits) (ok_inj _ v _ refl body.2) (found_msm7 bits g body.0.0 body.0.1 (in_front bits h ∙ ap (λ (k : ℕ). uint 12 k ++ drop 12 bits) (is ∙ e)) (msm_took grid7.satellite_widths grid7.cell_widths g (standing bits 12) body.0 body.1))
+    let x : Message = messages.Msm7 body.0.0 in
+    of_read (Found bits) x v body.2 (found_msm7 bits g body.0.0 body.0.1 (in_front bits h ∙ ap (λ (k : ℕ). uint 12 k ++ drop 12 bits) (is ∙ e)) (msm_took grid7.satellite_widths grid7.cell_widths g (standing bits 12) body.0 body.1))
 body_found bits n v h is (other unread no_msm empty body) read =
     let value : v ≡ messages.Other (number_of bits) (set_of bits) = ok_inj v (other_at n (standing bits 12)) _ read (body (standing bits 12)) ∙ (ap (λ (k : ℕ). other_at k (standing bits 12)) (sym is) ∙ other_is bits h) in
     let unread' : is_read (number_of bits) ≡ false = ap is_read is ∙ unread in

@@ -1,5 +1,5 @@
 -- What is read as a multiple signal message, what is read again, and which fault stands.
-use Rattle.std.proofs.Common.{ℕ, ◌≡◌, ◌+◌, ◌*◌, ◌^◌, ◌<◌, ◌≤◌, Bool, List, [], ◌∷◌, ◌++◌, length, Result, Ok, Err, refl, sym, ap, subst, ◌∙◌, arith, inl, inr, append_assoc, replicate, count_ones, ◌/◌}
+use Rattle.std.proofs.Common.{ℕ, ◌≡◌, ◌+◌, ◌*◌, ◌^◌, ◌<◌, ◌≤◌, Bool, List, [], ◌∷◌, ◌++◌, length, Result, Ok, Err, refl, sym, ap, ◌∙◌, arith, inl, inr, append_assoc, replicate, count_ones, ◌/◌}
 use Rattle.std.proofs.lemmas.Bool.{cases_lt}
 use Rattle.std.proofs.lemmas.List.{length-map, length-replicate}
 use Rattle.rtcm_bits.specs.Bits.{uint}
@@ -11,7 +11,7 @@ use Rattle.rtcm_msg.specs.Fields.{number_at, reading, ◌>>=◌, spelled}
 use Rattle.rtcm_msg.specs.Packed.{total_width, columns}
 use Rattle.rtcm_msg.specs.Columns.{columns_at, EachBelow}
 use Rattle.rtcm_msg.specs.Msm.{masks_behind, header_at, masks_at, msm_at, timely, week, IsHeader, AreMasks, IsValue, MasksValue, MsmValue, pairs, mask_fields, time_table, header_table, mask_table, time_contents, header_contents, header_of}
-use Rattle.rtcm_msg.proofs.Binds.{ok_inj, bind_ok, number_took}
+use Rattle.rtcm_msg.proofs.Binds.{of_read, bind_ok, number_took}
 use Rattle.rtcm_msg.proofs.Combine.{ok_err, cursor, number_again}
 use Rattle.rtcm_msg.proofs.WritingSteps.{spelled-append}
 use Rattle.rtcm_msg.proofs.FieldLaws.{fields_at, reading_is, fields_ok, fields_again, FieldsTook}
@@ -80,7 +80,8 @@ header_took c v e =
     elim (cases_lt head.0.0.1.0 week) [
       | inl early ↦
           let tail = bind_ok (fields_at header_table head.0.1) _ v (sym (header_rest_is head.0.0.0 head.0.0.1.0 head.0.1) ∙ (rw (in_time head.0.0.1.0 head.0.1 early) at head.2)) in
-          subst (λ (w : MsmHeader × Cursor). IsHeaderRead w.0 c w.1) (ok_inj _ v _ refl tail.2) (header_done c head.0 tail.0 took early (fields_ok header_table head.0.1 tail.0 refl tail.1))
+          let x : MsmHeader × Cursor = (header_of head.0.0.0 head.0.0.1.0 tail.0.0, tail.0.1) in
+          of_read (λ (w : MsmHeader × Cursor). IsHeaderRead w.0 c w.1) x v tail.2 (header_done c head.0 tail.0 took early (fields_ok header_table head.0.1 tail.0 refl tail.1))
       | inr late ↦ absurd (ok_err v BadTime _ head.2 (rw (too_late head.0.0.1.0 head.0.1 late) refl))
     ]
 
@@ -113,6 +114,10 @@ pub record AreSetsRead (v : MasksValue) (c d : Cursor) : Type 0 where
   pub are_sets : AreMasks v
   pub bits : c.rest ≡ spelled (mask_fields v) ++ d.rest
 
+-- one field is a list of one
+alone : (bits all rest : List Bool) → all ≡ bits ++ rest → all ≡ (bits ++ []) ++ rest
+alone bits all rest e = e ∙ sym (append_assoc bits [] rest)
+
 pub sets_took : (c : Cursor) (v : MasksValue × Cursor) → masks_at c ≡ Ok v → AreSetsRead v.0 c v.1
 unfolding spelled
 sets_took c v e =
@@ -125,9 +130,10 @@ sets_took c v e =
       | inr few ↦
           let cells = bind_ok (number_at (pairs a b) masks.0.1) _ v (sym (few_rest a b masks.0.1 few) ∙ masks.2) in
           let read = number_took (pairs a b) masks.0.1 cells.0 cells.1 in
-          subst (λ (w : MasksValue × Cursor). AreSetsRead w.0 c w.1) (ok_inj _ v _ refl cells.2) (record {
+          let x : MasksValue × Cursor = (record { satellites = a; signals = b; cells = cells.0.0 }, cells.0.1) in
+          of_read (λ (w : MasksValue × Cursor). AreSetsRead w.0 c w.1) x v cells.2 (record {
             are_sets = record { satellites = took.fit.0; signals = took.fit.1.0; few = few; cells = read.fits };
-            bits = both (fields_of mask_table masks.0.0) ((pairs a b, cells.0.0) ∷ []) _ _ _ took.bits (read.bits ∙ sym (append_assoc (uint (pairs a b) cells.0.0) [] cells.0.1.rest));
+            bits = both (fields_of mask_table masks.0.0) ((pairs a b, cells.0.0) ∷ []) _ _ _ took.bits (alone (uint (pairs a b) cells.0.0) masks.0.1.rest cells.0.1.rest read.bits);
           })
     ]
 
@@ -194,7 +200,8 @@ msm_took sw cw g c v e =
     let sets = bind_ok (masks_at header.0.1) _ v header.2 in
     let satellites = bind_ok (columns_at sw (replicate (count_ones sets.0.0.satellites) 0) sets.0.1) _ v sets.2 in
     let cells = bind_ok (columns_at cw (replicate (count_ones sets.0.0.cells) 0) satellites.0.1) _ v satellites.2 in
-    subst (λ (w : MsmValue × Cursor). IsMsmRead sw cw g w.0 c w.1) (ok_inj _ v _ refl cells.2)
+    let x : MsmValue × Cursor = (record { is_galileo = g; header = header.0.0; sets = sets.0.0; satellites = satellites.0.0; cells = cells.0.0 }, cells.0.1) in
+    of_read (λ (w : MsmValue × Cursor). IsMsmRead sw cw g w.0 c w.1) x v cells.2
     (msm_done sw cw g c header.0 sets.0 satellites.0 cells.0 (header_took c header.0 header.1) (sets_took header.0.1 sets.0 sets.1) satellites.1 cells.1)
 
 pub msm_again : (sw cw : List ℕ) (v : MsmValue) (reserved place : ℕ) (rest : List Bool) → IsValue sw cw v → reserved < 128 → (d : Cursor) × (msm_at sw cw v.is_galileo (cursor place (msm_tail sw cw v reserved ++ rest)) ≡ Ok (v, d))
