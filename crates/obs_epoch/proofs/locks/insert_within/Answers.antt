@@ -1,6 +1,5 @@
-use Rattle.std.proofs.Common.{◌≡◌, ◌∙◌, ◌+◌, ℕ, List, length, sym, ap, insert}
+use Rattle.std.proofs.Common.{◌∙◌, sym, ap, insert}
 use Rattle.std.specs.Prelude.{if◌then◌else◌}
-use Rattle.std.specs.Vec.{vec_len}
 use Rattle.std.proofs.lemmas.List.Edits.{insert_end}
 use Rattle.obs_epoch.proofs.locks.insert_within.Goals as goal
 
