@@ -87,6 +87,12 @@ not_galileo y e = grind (arith, e)
 not_gps : (y : Seen) → y.satellite.system ≡ Galileo → is_of_system Gps y ≡ false
 not_gps y e = grind (arith, e)
 
+sum_first : (a b c d k : ℕ) → a ≡ b + k → c ≡ d + 0 → a + c ≡ (b + d) + k
+sum_first a b c d k g h = omega (arith, g, h)
+
+sum_second : (a b c d k : ℕ) → c ≡ d + k → a ≡ b + 0 → a + c ≡ (b + d) + k
+sum_second a b c d k g h = omega (arith, g, h)
+
 -- how many are kept after one cell more
 both-length : (xs : List Seen) (y : Seen) (a n : Bool) → is_among (kept y.satellite.system xs) y ≡ a → nat_le most_cells (length (kept y.satellite.system xs)) ≡ n
     → length (kept_of_both (xs ++ y ∷ [])) ≡ length (kept_of_both xs) + (if not (a || n) then 1 else 0)
@@ -98,12 +104,12 @@ both-length xs y a n e f =
           let mine_is = length-add Gps xs y (not (a || n)) (ap (λ b. b && not (is_among (kept Gps xs) y || nat_le most_cells (length (kept Gps xs)))) (own Gps y g)
           ∙ ap (λ c. not (is_among (kept c xs) y || nat_le most_cells (length (kept c xs)))) (sym g) ∙ ap₂ (λ b c. not (b || c)) e f) in
           let other = length-add Galileo xs y false (not_own Gps Galileo y g (not_galileo y g) (is_among (kept Galileo xs) y) (nat_le most_cells (length (kept Galileo xs)))) in
-          omega (arith, mine_is, other)
+          sum_first _ _ _ _ _ mine_is other
       by Galileo g =
           let mine_is = length-add Galileo xs y (not (a || n)) (ap (λ b. b && not (is_among (kept Galileo xs) y || nat_le most_cells (length (kept Galileo xs)))) (own Galileo y g)
           ∙ ap (λ c. not (is_among (kept c xs) y || nat_le most_cells (length (kept c xs)))) (sym g) ∙ ap₂ (λ b c. not (b || c)) e f) in
           let other = length-add Gps xs y false (not_own Galileo Gps y g (not_gps y g) (is_among (kept Gps xs) y) (nat_le most_cells (length (kept Gps xs)))) in
-          omega (arith, mine_is, other)
+          sum_second _ _ _ _ _ mine_is other
 
 self_system : (y : Seen) → is_of_system y.satellite.system y ≡ true
 self_system y = by y.satellite.system refl where
@@ -137,35 +143,44 @@ record Sums (N n : CellCounts) (b a skipped known crowded : ℕ) : Type 0 where
   pub knows : N.repeated + N.kept ≡ (n.repeated + n.kept) + known
   pub crowds : N.crowded ≡ n.crowded + crowded
 
+-- numbers that grow by d, of which h has already counted the rest
+more_by : (n m d u N : ℕ) → m ≡ n + d → N ≡ m + u → N ≡ n + (d + u)
+more_by n m d u N g h = omega (arith, g, h)
+
+kept_by : (k m d b b' e K : ℕ) → m ≡ k + d → b' ≡ b + d → K + b' ≡ m + e → K + b ≡ k + e
+kept_by k m d b b' e K g f h = omega (arith, g, f, h)
+
+same_as : (n : ℕ) → n ≡ n + 0
+same_as n = omega arith
+
+one_repeated : (r k : ℕ) → (r + 1) + k ≡ (r + k) + 1
+one_repeated r k = omega arith
+
+one_kept : (r k : ℕ) → r + (k + 1) ≡ (r + k) + 1
+one_kept r k = omega arith
+
+sum_by_one : (N n m : CellCounts) (b b' e k s r c skipped known crowded : ℕ) → Sums N m b' e skipped known crowded → b' ≡ b + k → m.kept ≡ n.kept + k → m.skipped ≡ n.skipped + s
+    → m.repeated + m.kept ≡ (n.repeated + n.kept) + r → m.crowded ≡ n.crowded + c → Sums N n b e (s + skipped) (r + known) (c + crowded)
+sum_by_one N n m b b' e k s r c skipped known crowded h g one two three four = record {
+  kept = kept_by n.kept m.kept k b b' e N.kept one g h.kept;
+  skips = more_by n.skipped m.skipped s skipped N.skipped two h.skips;
+  knows = more_by (n.repeated + n.kept) (m.repeated + m.kept) r known (N.repeated + N.kept) three h.knows;
+  crowds = more_by n.crowded m.crowded c crowded N.crowded four h.crowds;
+}
+
 -- one cell more in front
 one_sum : (N n : CellCounts) (p a f : Bool) (b b' e skipped known crowded : ℕ)
     → Sums N (count_in (if p then (if a then Repeated else (if f then Crowded else Kept)) else Skipped) n) b' e skipped known crowded
     → b' ≡ b + (if p then (if not (a || f) then 1 else 0) else 0)
     → Sums N n b e ((if not p then 1 else 0) + skipped) ((if p then (if (a || not f) then 1 else 0) else 0) + known) ((if p then (if not (a || not f) then 1 else 0) else 0) + crowded)
-one_sum N n false a f b b' e skipped known crowded h g = record {
-  kept = omega (arith, h.kept, g);
-  skips = omega (arith, h.skips);
-  knows = omega (arith, h.knows);
-  crowds = omega (arith, h.crowds);
-}
-one_sum N n true true f b b' e skipped known crowded h g = record {
-  kept = omega (arith, h.kept, g);
-  skips = omega (arith, h.skips);
-  knows = omega (arith, h.knows);
-  crowds = omega (arith, h.crowds);
-}
-one_sum N n true false true b b' e skipped known crowded h g = record {
-  kept = omega (arith, h.kept, g);
-  skips = omega (arith, h.skips);
-  knows = omega (arith, h.knows);
-  crowds = omega (arith, h.crowds);
-}
-one_sum N n true false false b b' e skipped known crowded h g = record {
-  kept = omega (arith, h.kept, g);
-  skips = omega (arith, h.skips);
-  knows = omega (arith, h.knows);
-  crowds = omega (arith, h.crowds);
-}
+one_sum N n false a f b b' e skipped known crowded h g =
+    sum_by_one N n (count_in Skipped n) b b' e 0 1 0 0 skipped known crowded h g (same_as n.kept) refl (same_as (n.repeated + n.kept)) (same_as n.crowded)
+one_sum N n true true f b b' e skipped known crowded h g =
+    sum_by_one N n (count_in Repeated n) b b' e 0 0 1 0 skipped known crowded h g (same_as n.kept) (same_as n.skipped) (one_repeated n.repeated n.kept) (same_as n.crowded)
+one_sum N n true false true b b' e skipped known crowded h g =
+    sum_by_one N n (count_in Crowded n) b b' e 0 0 0 1 skipped known crowded h g (same_as n.kept) (same_as n.skipped) (same_as (n.repeated + n.kept)) refl
+one_sum N n true false false b b' e skipped known crowded h g =
+    sum_by_one N n (count_in Kept n) b b' e 1 0 1 0 skipped known crowded h g refl (same_as n.skipped) (one_kept n.repeated n.kept) (same_as n.crowded)
 
 change : (N n : CellCounts) (b e u v w u' v' w' : ℕ) → u ≡ u' → v ≡ v' → w ≡ w' → Sums N n b e u v w → Sums N n b e u' v' w'
 change N n b e u v w u' v' w' p q r h = record { kept = h.kept; skips = h.skips ∙ ap (λ k. n.skipped + k) p; knows = h.knows ∙ ap (λ k. (n.repeated + n.kept) + k) q; crowds = h.crowds ∙ ap (λ k. n.crowded + k) r }
