@@ -1,12 +1,14 @@
 -- Bytes that were read ahead: the lines among them, and what is left.
 use Rattle.std.proofs.Common.{arith, ◌≡◌, ◌∙◌, sym, ap, subst, refl, ℕ, zero, suc, ◌+◌, ◌-◌, ◌<◌, ◌≤◌, Bool, true, false, List, [], ◌∷◌, ◌++◌, length, take, drop, get_or, length-append, take-add, append_assoc, append-nil, Option, Some, None}
-use Rattle.std.specs.Prelude.{◌||◌, nat_lt, min}
+use Rattle.std.specs.Prelude.{◌||◌, nat_eq, nat_lt, min}
 use Rattle.std.proofs.Math.Nat.{min-eq_left, min-eq_right, min-le_left, min-le_right, le-min}
 use Rattle.std.proofs.lemmas.List.{take_more, length-take-le, take-append-drop, drop-take, drop-drop, take-take}
 use Rattle.std.specs.Io.KnownBytes.{Consumes, IsAtEnd, prepend_known}
 use Rattle.std.proofs.KnownBytes.{Consumes-nil, Consumes-trans}
 use Rattle.rinex_file.specs.Read.Fields.{has}
 use Rattle.rinex_file.specs.Blocks.{LeavesRest, AreMoved, MovesBytes}
+use Rattle.rinex_file.specs.declared.read.lines.Found.{Found}
+use Rattle.rinex_file.specs.declared.read.lines.Found.TheVariants.{Line, End, Cut, Long, Failed}
 use Rattle.rinex_file.specs.Exact.{IsLine}
 use Rattle.rinex_file.proofs.Digits.{has-append}
 
@@ -110,3 +112,29 @@ leaves_all a = ([], Consumes-nil a)
 pub at_end : (ahead : List ℕ) (r : Option (List ℕ)) → ahead ≡ [] → IsAtEnd r → IsAtEnd (prepend_known ahead r)
 at_end ahead None none end = tt
 at_end ahead (Some x) none end = ap (λ l. l ++ x) none ∙ end
+
+abbrev pub is_failed : Found → Bool
+is_failed Line = false
+is_failed End = false
+is_failed Cut = false
+is_failed Long = false
+is_failed Failed = true
+
+differ : false ≡ true → ⊥
+differ e = cc
+
+-- what was found tells that the reader didn't fail
+pub not_failed : (found : Found) (P : Type 0) → is_failed found ≡ false → found ≡ Failed → P
+not_failed found P isnt e = absurd (differ (sym isnt ∙ ap is_failed e))
+
+-- ---- what a line holds where no more is read
+
+pub is_full : (n most : ℕ) → true ≡ nat_eq n most → n ≡ most
+is_full n most same = grind arith
+
+pub is_empty : (xs : List ℕ) → true ≡ nat_eq (length xs) 0 → xs ≡ []
+is_empty [] same = refl
+is_empty (x ∷ xs) same = let none : suc (length xs) ≡ 0 = is_full _ _ same in absurd (omega (arith, none))
+
+pub not_empty : (n : ℕ) → false ≡ nat_eq n 0 → 0 < n
+not_empty n other = grind arith

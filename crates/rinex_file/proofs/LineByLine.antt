@@ -1,6 +1,6 @@
 -- A file that is read line by line: what was read stands for the lines that were taken.
 use Rattle.std.proofs.Common.{arith, ◌≡◌, ◌∙◌, sym, ap, subst, refl, ℕ, suc, ◌+◌, ◌<◌, ◌≤◌, List, [], ◌∷◌, ◌++◌, length, length-append, append_assoc, append-nil, true, false, Option, Some, None, IfSome, inl, inr}
-use Rattle.std.specs.Prelude.{◌==◌, All, ◌↔◌, if◌then◌else◌, ⊤}
+use Rattle.std.specs.Prelude.{◌==◌, All, ◌↔◌, if◌then◌else◌, ⊤, Bool, Result, Ok, Err}
 use Rattle.std.specs.Io.KnownBytes.{Consumes, IsAtEnd}
 use Rattle.std.proofs.KnownBytes.{Consumes-nil, Consumes-trans}
 use Rattle.std.proofs.lemmas.List.Elements.{All-head, All-tail, All-cons, All-append}
@@ -320,3 +320,49 @@ long_some bytes size = omega (arith, size)
 pub no_reason : (a : Option (List ℕ)) (v : FileValue) → IfSome a (λ input. input ≡ file_text v → ⊤)
 no_reason None v = tt
 no_reason (Some x) v = λ e. tt
+
+-- a line has its line feed
+pub line_some : (bytes : List ℕ) → IsLine bytes → 0 < length bytes
+line_some bytes ([], is, endless) = subst (λ (l : List ℕ). 0 < length l) (sym is) (omega arith)
+line_some bytes (b ∷ body, is, endless) = subst (λ (l : List ℕ). 0 < length l) (sym is) (omega arith)
+
+-- where nothing is to be explained
+pub said_nothing : (a : Option (List ℕ)) → IfSome a (λ input. ⊤)
+said_nothing None = tt
+said_nothing (Some x) = tt
+
+-- ---- where the reader didn't fail
+
+abbrev pub is_read : {A : Type 0} → Result A ReadFault → Bool
+is_read (Ok a) = false
+is_read (Err Memory) = false
+is_read (Err Read) = true
+is_read (Err (BadHeader k)) = false
+is_read (Err (BadEpoch k)) = false
+is_read (Err (BadEvent k)) = false
+is_read (Err (BadSatellite k)) = false
+is_read (Err (CutShort k)) = false
+is_read (Err TooLong) = false
+
+abbrev pub fault_in : {A : Type 0} → Result A ReadFault → ReadFault
+fault_in (Ok a) = Memory
+fault_in (Err fault) = fault
+
+abbrev pub result_of : (A : Type 0) → ReadFault → Result A ReadFault
+result_of A fault = Err fault
+
+differ : false ≡ true → ⊥
+differ e = cc
+
+pub not_read : {A : Type 0} (r : Result A ReadFault) (P : Type 0) → is_read r ≡ false → r ≡ Err Read → P
+not_read r P isnt e = absurd (differ (sym isnt ∙ ap is_read e))
+
+pub other_fault : {A : Type 0} (fault : ReadFault) (P : Type 0) → (fault ≡ Read → ⊥) → result_of A fault ≡ Err Read → P
+other_fault fault P other e = absurd (other (ap fault_in e))
+
+pub other_behind : {A : Type 0} (most : Bool) (fault result : ReadFault) (P : Type 0) → result ≡ (if most then TooLong else fault) → (fault ≡ Read → ⊥) → result_of A result ≡ Err Read → P
+other_behind true fault result P is other e = not_read (Err TooLong) P refl (sym (ap Err is) ∙ e)
+other_behind false fault result P is other e = other_fault fault P other (sym (ap Err is) ∙ e)
+
+pub not_cut : (n : ℕ) → CutShort n ≡ Read → ⊥
+not_cut n e = cc

@@ -1,9 +1,10 @@
 use Rattle.std.proofs.Common.{arith, lit≤, ◌≡◌, ◌∙◌, sym, ap, refl, subst, ℕ, ◌-◌, ◌≤◌, ◌<◌, Bool, false, nat_eq, List, length}
 use Rattle.std.specs.Io.KnownBytes.{Consumes, prepend_known}
 use Rattle.std.proofs.KnownBytes.{Consumes-nil}
+use Rattle.rtcm_bits.specs.Device.{HasFailed}
 use Rattle.rinex_file.specs.Read.Fields.{has}
 use Rattle.rinex_file.specs.Blocks.{MovesBytes}
-use Rattle.rinex_file.proofs.Ahead.{consumed_none, moved_taken, line_whole, still_endless, longer, leaves_all, leaves_more}
+use Rattle.rinex_file.proofs.Ahead.{not_failed, is_full, is_empty, not_empty, at_end, consumed_none, moved_taken, line_whole, still_endless, longer, leaves_all, leaves_more}
 use Rattle.rinex_file.proofs.read.lines.next_line.Goals as goal
 
 pub loop-block-init : goal.loop-block-init
@@ -80,3 +81,47 @@ loop-block-smaller g c =
     let moves = subst (λ (b : Bool). MovesBytes b c.fill.new.self c.move_to.new.self c.loop-block.line.items c.move_to.new.line.items) c.if-move_to.false c.move_to.ensures in
     let less : length c.loop-block.line.items < 1220 = not_full _ _ (sym c.loop-block-test.true ∙ c.is_full.ensures.value) inv.within in
     shorter c.loop-block.line.items c.move_to.new.line.items (longer _ _ _ _ moves (c.in-Some.ensures.some refl) less) less
+
+pub returns-then-is_empty-clause-failed : goal.returns-then-is_empty-clause-failed
+returns-then-is_empty-clause-failed g c = not_failed _ _ refl
+
+pub returns-else-is_empty-clause-failed : goal.returns-else-is_empty-clause-failed
+returns-else-is_empty-clause-failed g c = not_failed _ _ refl
+
+pub returns-then-move_to-clause-failed : goal.returns-then-move_to-clause-failed
+returns-then-move_to-clause-failed g c = not_failed _ _ refl
+
+pub returns-clause-failed : goal.returns-clause-failed
+returns-clause-failed g c = not_failed _ _ refl
+
+pub returns-in-Failed-clause-failed : goal.returns-in-Failed-clause-failed
+returns-in-Failed-clause-failed g c = λ e. subst (λ (n : ℕ). HasFailed n c.fill.new.reader.failures) c.loop-block.invariant.same (c.in-Failed.ensures.failed refl)
+
+pub returns-in-Failed-clause-same : goal.returns-in-Failed-clause-same
+returns-in-Failed-clause-same g c = λ other. absurd (other refl)
+
+pub returns-in-Failed-clause-found : goal.returns-in-Failed-clause-found
+returns-in-Failed-clause-found g c = tt
+
+pub returns-clause-same : goal.returns-clause-same
+returns-clause-same g c = λ other. c.loop-block.invariant.same
+
+pub returns-clause-taken : goal.returns-clause-taken
+returns-clause-taken g c = c.loop-block.invariant.taken
+
+pub returns-clause-left : goal.returns-clause-left
+returns-clause-left g c = c.loop-block.invariant.left
+
+pub returns-clause-found : goal.returns-clause-found
+returns-clause-found g c = (is_full _ _ (sym c.loop-block-test.false ∙ c.is_full.ensures.value), c.loop-block.invariant.endless)
+
+pub returns-then-is_empty-clause-found : goal.returns-then-is_empty-clause-found
+returns-then-is_empty-clause-found g c = (is_empty _ (sym c.if-is_empty.true ∙ c.is_empty.ensures), at_end _ _ (c.in-End.ensures.end refl).0 (c.in-End.ensures.end refl).1)
+
+pub returns-else-is_empty-clause-found : goal.returns-else-is_empty-clause-found
+returns-else-is_empty-clause-found g c = (
+  not_empty _ (sym c.if-is_empty.false ∙ c.is_empty.ensures),
+  not_full _ _ (sym c.loop-block-test.true ∙ c.is_full.ensures.value) c.loop-block.invariant.within,
+  c.loop-block.invariant.endless,
+  at_end _ _ (c.in-End.ensures.end refl).0 (c.in-End.ensures.end refl).1,
+)

@@ -1,4 +1,4 @@
-use Rattle.std.proofs.Common.{arith, ◌≡◌, subst, ℕ, ◌+◌, ◌^◌, ◌<◌, ◌≤◌, length, Err}
+use Rattle.std.proofs.Common.{arith, ◌≡◌, refl, subst, ℕ, ◌+◌, ◌^◌, ◌<◌, ◌≤◌, length, Err}
 use Rattle.std.proofs.Math.Nat.{le_trans}
 use Rattle.rinex_file.specs.declared.read.course.Course.{Course}
 use Rattle.rinex_file.specs.declared.read.due.Refusal.{Refusal}
@@ -9,7 +9,7 @@ use Rattle.rinex_file.specs.Course.{HasRoom, GoesOnWithLine, RefusesLine, TakesL
 use Rattle.rinex_file.proofs.FileLines.{lines_are_lines}
 use Rattle.rinex_file.proofs.Judged.{refused as judged}
 use Rattle.rinex_file.proofs.HeaderBody.{unfinished, goes_on, only_file, file_read, sound_rows}
-use Rattle.rinex_file.proofs.LineByLine.{one_more, refused, over_long, cut_within, cut_behind, whole, behind_fault, both_said, said_of, long_some}
+use Rattle.rinex_file.proofs.LineByLine.{one_more, refused, over_long, cut_within, cut_behind, whole, behind_fault, both_said, said_of, long_some, too_long, line_some, said_nothing, not_read, other_fault, other_behind, not_cut}
 use Rattle.rinex_file.proofs.read.reading.Reading.next.Goals as goal
 
 pub returns-then-may_end-clause-goes : goal.returns-then-may_end-clause-goes
@@ -122,3 +122,116 @@ returns-in-Err-Memory-clause-left g c = c.next_line.ensures.left
 
 pub returns-in-Err-Bad-clause-left : goal.returns-in-Err-Bad-clause-left
 returns-in-Err-Bad-clause-left g c = c.next_line.ensures.left
+
+pub returns-in-Failed-clause-goes : goal.returns-in-Failed-clause-goes
+returns-in-Failed-clause-goes g c = λ h input read. said_nothing input
+
+pub returns-in-Err-Memory-clause-goes : goal.returns-in-Err-Memory-clause-goes
+returns-in-Err-Memory-clause-goes g c = λ h input read. said_nothing input
+
+pub returns-then-self-eq-MOST_LINES-clause-goes : goal.returns-then-self-eq-MOST_LINES-clause-goes
+returns-then-self-eq-MOST_LINES-clause-goes g c = λ h input read.
+    too_long (progress_at c.args.self.now.course h) c.args.self.now.count input _ _ c.next_line.new.line.items read.taken c.if-self-eq-MOST_LINES.true
+    (line_some c.next_line.new.line.items c.in-Line.ensures.found) c.in-Line.ensures.taken
+
+pub returns-then-may_end-clause-counted : goal.returns-then-may_end-clause-counted
+returns-then-may_end-clause-counted g c = refl
+
+pub returns-else-may_end-clause-counted : goal.returns-else-may_end-clause-counted
+returns-else-may_end-clause-counted g c = refl
+
+pub returns-in-Cut-clause-counted : goal.returns-in-Cut-clause-counted
+returns-in-Cut-clause-counted g c = refl
+
+pub returns-in-Long-clause-counted : goal.returns-in-Long-clause-counted
+returns-in-Long-clause-counted g c = refl
+
+pub returns-in-Failed-clause-counted : goal.returns-in-Failed-clause-counted
+returns-in-Failed-clause-counted g c = refl
+
+pub returns-then-self-eq-MOST_LINES-clause-counted : goal.returns-then-self-eq-MOST_LINES-clause-counted
+returns-then-self-eq-MOST_LINES-clause-counted g c = refl
+
+pub returns-in-Ok-clause-counted : goal.returns-in-Ok-clause-counted
+returns-in-Ok-clause-counted g c = refl
+
+pub returns-in-Err-Memory-clause-counted : goal.returns-in-Err-Memory-clause-counted
+returns-in-Err-Memory-clause-counted g c = refl
+
+pub returns-in-Err-Bad-clause-counted : goal.returns-in-Err-Bad-clause-counted
+returns-in-Err-Bad-clause-counted g c = refl
+
+pub returns-then-may_end-clause-failed : goal.returns-then-may_end-clause-failed
+returns-then-may_end-clause-failed g c = not_read _ _ refl
+
+pub returns-else-may_end-clause-failed : goal.returns-else-may_end-clause-failed
+returns-else-may_end-clause-failed g c = not_read _ _ refl
+
+pub returns-then-self-eq-MOST_LINES-clause-failed : goal.returns-then-self-eq-MOST_LINES-clause-failed
+returns-then-self-eq-MOST_LINES-clause-failed g c = not_read _ _ refl
+
+pub returns-in-Ok-clause-failed : goal.returns-in-Ok-clause-failed
+returns-in-Ok-clause-failed g c = not_read _ _ refl
+
+pub returns-in-Err-Memory-clause-failed : goal.returns-in-Err-Memory-clause-failed
+returns-in-Err-Memory-clause-failed g c = not_read _ _ refl
+
+pub returns-in-Failed-clause-failed : goal.returns-in-Failed-clause-failed
+returns-in-Failed-clause-failed g c = λ e. c.in-Failed.ensures.failed refl
+
+pub returns-then-may_end-clause-same : goal.returns-then-may_end-clause-same
+returns-then-may_end-clause-same g c = c.in-End.ensures.same (λ e. cc)
+
+pub returns-in-Ok-clause-same : goal.returns-in-Ok-clause-same
+returns-in-Ok-clause-same g c = c.in-Line.ensures.same (λ e. cc)
+
+pub returns-else-may_end-clause-same : goal.returns-else-may_end-clause-same
+returns-else-may_end-clause-same g c = tt
+
+pub returns-else-may_end-clause-within : goal.returns-else-may_end-clause-within
+returns-else-may_end-clause-within g c = tt
+
+pub returns-in-Cut-clause-same : goal.returns-in-Cut-clause-same
+returns-in-Cut-clause-same g c = tt
+
+pub returns-in-Cut-clause-within : goal.returns-in-Cut-clause-within
+returns-in-Cut-clause-within g c = tt
+
+pub returns-in-Long-clause-same : goal.returns-in-Long-clause-same
+returns-in-Long-clause-same g c = tt
+
+pub returns-in-Long-clause-within : goal.returns-in-Long-clause-within
+returns-in-Long-clause-within g c = tt
+
+pub returns-in-Failed-clause-same : goal.returns-in-Failed-clause-same
+returns-in-Failed-clause-same g c = tt
+
+pub returns-in-Failed-clause-within : goal.returns-in-Failed-clause-within
+returns-in-Failed-clause-within g c = tt
+
+pub returns-then-self-eq-MOST_LINES-clause-same : goal.returns-then-self-eq-MOST_LINES-clause-same
+returns-then-self-eq-MOST_LINES-clause-same g c = tt
+
+pub returns-then-self-eq-MOST_LINES-clause-within : goal.returns-then-self-eq-MOST_LINES-clause-within
+returns-then-self-eq-MOST_LINES-clause-within g c = tt
+
+pub returns-in-Err-Memory-clause-same : goal.returns-in-Err-Memory-clause-same
+returns-in-Err-Memory-clause-same g c = tt
+
+pub returns-in-Err-Memory-clause-within : goal.returns-in-Err-Memory-clause-within
+returns-in-Err-Memory-clause-within g c = tt
+
+pub returns-in-Err-Bad-clause-same : goal.returns-in-Err-Bad-clause-same
+returns-in-Err-Bad-clause-same g c = tt
+
+pub returns-in-Err-Bad-clause-within : goal.returns-in-Err-Bad-clause-within
+returns-in-Err-Bad-clause-within g c = tt
+
+pub returns-in-Cut-clause-failed : goal.returns-in-Cut-clause-failed
+returns-in-Cut-clause-failed g c = other_behind _ _ c.fault_behind.result _ c.fault_behind.ensures (not_cut _)
+
+pub returns-in-Long-clause-failed : goal.returns-in-Long-clause-failed
+returns-in-Long-clause-failed g c = other_behind _ c.fault_at.result c.fault_behind-in-Long.result _ c.fault_behind-in-Long.ensures c.fault_at.ensures.other
+
+pub returns-in-Err-Bad-clause-failed : goal.returns-in-Err-Bad-clause-failed
+returns-in-Err-Bad-clause-failed g c = other_fault c.fault_at-in-Err-Bad.result _ c.fault_at-in-Err-Bad.ensures.other
