@@ -79,3 +79,7 @@ pub record IsPlanOf (gps galileo : List SignalAt) (p : PlanValue) : Type 0 where
   pub second : IsOf Galileo galileo
   pub some : 0 < length gps + length galileo
   pub value : p ≡ record { gps = indices gps; galileo = indices galileo }
+
+-- these are the signals that a plan of those has
+abbrev pub ArePlanOf : List SignalAt → List SignalAt → List SignalAt → List SignalAt → Type 0
+ArePlanOf gps galileo ss ts = IsPlanOf gps galileo (record { gps = indices ss; galileo = indices ts }) × IsOf Gps ss × IsOf Galileo ts

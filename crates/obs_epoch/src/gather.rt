@@ -1,21 +1,22 @@
 //! Messages into epochs, with the indicators of lost lock.
-ghost use Rattle.std.specs.Prelude.{◌≡◌, ◌↔◌, ◌⊎◌, ◌<◌, ◌≤◌, [], true, false, length, None, Some, is_some, IfOk, IfErr, IfSome, IsOk, Err, option_map, option_to_list, not, List, Option, All};
+ghost use Rattle.std.specs.Prelude.{◌≡◌, ◌↔◌, ◌⊎◌, ◌<◌, ◌≤◌, [], true, false, length, None, Some, is_some, IfOk, IfErr, IfSome, MatchResult, IsOk, Err, option_map, option_to_list, not, List, Option, All};
 ghost use Rattle.rtcm_msg.specs.Entries.{IsEntry};
 ghost use Rattle.rtcm_msg.specs.Msm.{lock_codes, week};
 ghost use Rattle.obs_epoch.specs.Weeks.{weeks};
+ghost use Rattle.obs_epoch.specs.Clock.{HasHeardMessages};
 ghost use Rattle.obs_epoch.specs.Heard.{GatherSetup, Heard, heard, system_of};
 ghost use Rattle.obs_epoch.specs.Order.{StandByPlan};
 ghost use Rattle.obs_epoch.specs.WithLli.{IsObserved};
-ghost use Rattle.obs_epoch.specs.Epochs.{values_told, values_of};
-ghost use Rattle.obs_epoch.specs.Held.{count_in, most_locks, recorded};
+ghost use Rattle.obs_epoch.specs.Epochs.{values_told, values_of, no_values};
+ghost use Rattle.obs_epoch.specs.Held.{count_in, most_locks, no_locks, recorded};
 ghost use Rattle.obs_epoch.specs.Step.{answer_by, closed_by as closes};
 ghost use Rattle.obs_epoch.specs.Standing.{HasTakenMessages};
 ghost use Rattle.obs_epoch.specs.Values.{Closed, most_cells};
-ghost use Rattle.obs_epoch.specs.Kinds.{is_close_first, kind_by, is_no_station, setup_of};
+ghost use Rattle.obs_epoch.specs.Kinds.{is_close_first, kind_by, is_no_station, setup_of, IsUnfitSetup};
 ghost use Rattle.obs_epoch.specs.Gathering.{HasGatheredEpochs, closed_by, closed_in, plan_in};
 ghost use Rattle.obs_epoch.specs.Calls.{TellsClosingFirst, AwaitsMessage, GathersMessage, TellsKindOfTaken, EndsPendingEpoch, StaysEnded, HoldsCells, HoldsLockedKeys};
 ghost use Rattle.obs_epoch.specs.declared.fault.PlanFault.{PlanFault};
-ghost use Rattle.obs_epoch.specs.Gather.{take_step, end_step, loaded_by, load_heard, load_entry, load_entries, epoch_begun, is_same as is_same_lem, no_counts, cells_in, load, noted, rested, fate_in, hold};
+ghost use Rattle.obs_epoch.specs.Gather.{take_step, end_step, loaded_by, load_heard, load_entry, load_entries, epoch_begun, is_same as is_same_lem, no_counts, cells_in, load, noted, rested, fate_in, hold, no_epoch};
 ghost use Rattle.obs_epoch.specs.declared.seen.CellCounts.{CellCounts};
 
 use crate::cell::StationValues;
@@ -85,40 +86,31 @@ impl Gatherer {
         ensures station { (result ≡ Err PlanFault.BadStation) ↔ ((start_week < weeks) × (is_no_station station ≡ true)) }
         ensures only { IfErr result (λ e. (e ≡ PlanFault.BadWeek) ⊎ ((e ≡ PlanFault.BadStation) ⊎ (e ≡ PlanFault.Memory))) }
     {
-        if start_week as u64 >= WEEKS {
-            return Err(PlanFault::BadWeek);
-        }
-        if is_no_station(station) {
-            return Err(PlanFault::BadStation);
-        }
-        match Gatherer::made(alloc, plan, start_week, station, is_by_bit(gather)) {
-            Ok(g) => Ok(g),
-            Err(_) => Err(PlanFault::Memory),
+        match reserved(alloc, start_week, station) {
+            Ok((held, locks)) => {
+                let clock = Clock::new(plan, start_week, station, is_by_bit(gather));
+                Ok(Gatherer::made(clock, held, locks))
+            }
+            Err(fault) => Err(fault),
         }
     }
 
     // No message was taken.
-    fn made(
-        alloc: Global,
-        plan: Plan,
-        start_week: u32,
-        station: Option<u16>,
-        by_bit: bool,
-    ) -> Result<Gatherer, AllocError>
-        requires { start_week < weeks }
-        ensures stands { IfOk result (λ g. HasTakenMessages g (record { plan = plan; start_week = start_week; station = station; by_bit = by_bit }) [] false) }
-        ensures going { IfOk result (λ g. g.has_ended ≡ false) }
-        ensures none { IfOk result (λ g. closed_in g ≡ None) }
+    fn made(clock: Clock, held: Held, locks: Locks) -> Gatherer
+        requires stands { HasHeardMessages clock clock.setup [] false }
+        requires held { held ≡ record { epoch = no_epoch; values = no_values } }
+        requires locks { locks ≡ no_locks }
+        ensures stands { HasTakenMessages result clock.setup [] false }
+        ensures going { result.has_ended ≡ false }
+        ensures none { closed_in result ≡ None }
     {
-        let held = Held::new(alloc)?;
-        let locks = Locks::new(alloc)?;
-        Ok(Gatherer {
-            clock: Clock::new(plan, start_week, station, by_bit),
+        Gatherer {
+            clock,
             held,
             locks,
             handed: false,
             has_ended: false,
-        })
+        }
     }
 
     /// Takes a message, whatever it is; `end` must not have been called. Where the answer is
@@ -365,6 +357,37 @@ impl Gatherer {
     {
         self.held.close(&mut self.locks);
     }
+}
+
+// Room for the cells of an epoch, and for the lock records. Week and station are looked at first.
+fn reserved(
+    alloc: Global,
+    start_week: u32,
+    station: Option<u16>,
+) -> Result<(Held, Locks), PlanFault>
+    ensures { MatchResult result
+        (λ r. (r.0 ≡ record { epoch = no_epoch; values = no_values }) × (r.1 ≡ no_locks) × (start_week < weeks) × (is_no_station station ≡ false))
+        (IsUnfitSetup start_week station) }
+{
+    if start_week as u64 >= WEEKS {
+        return Err(PlanFault::BadWeek);
+    }
+    if is_no_station(station) {
+        return Err(PlanFault::BadStation);
+    }
+    match empty(alloc) {
+        Ok(room) => Ok(room),
+        Err(_) => Err(PlanFault::Memory),
+    }
+}
+
+// No cell and no lock record.
+fn empty(alloc: Global) -> Result<(Held, Locks), AllocError>
+    ensures { IfOk result (λ r. (r.0 ≡ record { epoch = no_epoch; values = no_values }) × (r.1 ≡ no_locks)) }
+{
+    let locks = Locks::new(alloc)?;
+    let held = Held::new(alloc)?;
+    Ok((held, locks))
 }
 
 fn is_same(a: Option<u64>, b: Option<u64>) -> bool

@@ -4,7 +4,7 @@ ghost use Rattle.gnss_obs.specs.declared.system.System.TheVariants.{Gps, Galileo
 ghost use Rattle.gnss_obs.specs.Signals.{table};
 ghost use Rattle.obs_epoch.specs.Values.{planned_of};
 ghost use Rattle.obs_epoch.specs.Plans.{plan_of, signals_of, signals_coded, between_commas, below, place_in};
-ghost use Rattle.obs_epoch.specs.Signals.{indices, IsOf, codes_in, ArePlanned, TakesCode, RefusesCode, IsMemoryFaultOr, IsUnfitBehind, IsUnfit, IsUnplanned, IsPlanOf};
+ghost use Rattle.obs_epoch.specs.Signals.{indices, IsOf, codes_in, ArePlanned, TakesCode, RefusesCode, IsMemoryFaultOr, IsUnfitBehind, IsUnfit, IsUnplanned, IsPlanOf, ArePlanOf};
 
 use crate::fault::PlanFault;
 use crate::signals::Signals;
@@ -41,12 +41,15 @@ impl Plan {
             (λ p. plan_of gps.now galileo.now ≡ Ok p)
             (IsMemoryFaultOr (λ e. plan_of gps.now galileo.now ≡ Err e)) }
     {
-        let gps = read_signals(alloc, System::Gps, gps)?;
-        let galileo = read_signals(alloc, System::Galileo, galileo)?;
-        if gps.is_empty() && galileo.is_empty() {
-            return Err(PlanFault::NothingPlanned);
+        let mut first = Signals::new(alloc);
+        let mut second = Signals::new(alloc);
+        match read_both(&mut first, &mut second, gps, galileo) {
+            Ok(()) => Ok(Plan {
+                gps: first,
+                galileo: second,
+            }),
+            Err(fault) => Err(fault),
         }
-        Ok(Plan { gps, galileo })
     }
 
     /// The plan of these signals in this order. A signal of another system and one that came before
@@ -63,15 +66,15 @@ impl Plan {
         ensures planned { IsOf Gps gps.now → IsOf Galileo galileo.now → 0 < length gps.now + length galileo.now
             → IfErr result (λ e. e ≡ PlanFault.Memory) }
     {
-        let first = collected(alloc, System::Gps, gps)?;
-        let second = collected(alloc, System::Galileo, galileo)?;
-        if first.is_empty() && second.is_empty() {
-            return Err(PlanFault::NothingPlanned);
+        let mut first = Signals::new(alloc);
+        let mut second = Signals::new(alloc);
+        match add_both(&mut first, &mut second, gps, galileo) {
+            Ok(()) => Ok(Plan {
+                gps: first,
+                galileo: second,
+            }),
+            Err(fault) => Err(fault),
         }
-        Ok(Plan {
-            gps: first,
-            galileo: second,
-        })
     }
 
     /// How many signals of a system are wanted.
@@ -114,17 +117,41 @@ impl Plan {
     }
 }
 
+// Nothing that has to be let go is held where a fault can come: what is read goes into lists that
+// the caller owns.
+
+// The signals of both systems, at least one in all.
+fn add_both(
+    gps: &mut Signals,
+    galileo: &mut Signals,
+    gps_signals: &[Signal],
+    galileo_signals: &[Signal],
+) -> Result<(), PlanFault>
+    requires { (gps.old ≡ []) × (galileo.old ≡ []) }
+    ensures cases { MatchResult result
+        (λ _. ArePlanOf gps_signals.now galileo_signals.now gps.new galileo.new)
+        (IsMemoryFaultOr (IsUnplanned gps_signals.now galileo_signals.now)) }
+    ensures planned { IsOf Gps gps_signals.now → IsOf Galileo galileo_signals.now → 0 < length gps_signals.now + length galileo_signals.now
+        → IfErr result (λ e. e ≡ PlanFault.Memory) }
+{
+    if gps_signals.is_empty() && galileo_signals.is_empty() {
+        return Err(PlanFault::NothingPlanned);
+    }
+    add_signals(gps, System::Gps, gps_signals)?;
+    add_signals(galileo, System::Galileo, galileo_signals)
+}
+
 // These signals of a system, where none of them is of another and none stands twice.
-fn collected(alloc: Global, system: System, signals: &[Signal]) -> Result<Signals, PlanFault>
+fn add_signals(added: &mut Signals, system: System, signals: &[Signal]) -> Result<(), PlanFault>
+    requires { added.old ≡ [] }
     ensures { MatchResult result
-        (λ s. (s ≡ signals.now) × IsOf system signals.now)
+        (λ _. (added.new ≡ signals.now) × IsOf system signals.now)
         (IsMemoryFaultOr (IsUnfit system signals.now)) }
 {
-    let mut collected = Signals::new(alloc);
     for i in 0..signals.len() {
-        add_signal(&mut collected, system, signals[i])?;
+        add_signal(added, system, signals[i])?;
     }
-    Ok(collected)
+    Ok(())
 }
 
 // One signal more.
@@ -155,28 +182,49 @@ fn is_of(signal: Signal, system: System) -> bool
     }
 }
 
-// The signals of a system that a text wants.
-fn read_signals(alloc: Global, system: System, text: &str) -> Result<Signals, PlanFault>
+// The signals of both systems that two texts want, at least one in all.
+fn read_both(
+    gps: &mut Signals,
+    galileo: &mut Signals,
+    gps_text: &str,
+    galileo_text: &str,
+) -> Result<(), PlanFault>
+    requires { (gps.old ≡ []) × (galileo.old ≡ []) }
     ensures { MatchResult result
-        (λ s. ArePlanned system (signals_of system text.now) s)
+        (λ _. (plan_of gps_text.now galileo_text.now ≡ Ok (record { gps = indices gps.new; galileo = indices galileo.new })) × IsOf Gps gps.new × IsOf Galileo galileo.new)
+        (IsMemoryFaultOr (λ e. plan_of gps_text.now galileo_text.now ≡ Err e)) }
+{
+    read_signals(gps, System::Gps, gps_text)?;
+    read_signals(galileo, System::Galileo, galileo_text)?;
+    if gps.is_empty() && galileo.is_empty() {
+        return Err(PlanFault::NothingPlanned);
+    }
+    Ok(())
+}
+
+// The signals of a system that a text wants.
+fn read_signals(signals: &mut Signals, system: System, text: &str) -> Result<(), PlanFault>
+    requires { signals.old ≡ [] }
+    ensures { MatchResult result
+        (λ _. ArePlanned system (signals_of system text.now) signals.new)
         (IsMemoryFaultOr (λ e. signals_of system text.now ≡ Err e)) }
 {
     if text == "all" {
-        return every_signal(alloc, system);
+        return add_every(signals, system);
     }
     if text == "none" {
-        return Ok(Signals::new(alloc));
+        return Ok(());
     }
-    read_codes(alloc, system, text)
+    read_codes(signals, system, text)
 }
 
 // The signals of a table in its order.
-fn every_signal(alloc: Global, system: System) -> Result<Signals, PlanFault>
+fn add_every(signals: &mut Signals, system: System) -> Result<(), PlanFault>
+    requires { signals.old ≡ [] }
     ensures { MatchResult result
-        (λ s. (below (length (table system)) ≡ indices s) × IsOf system s)
+        (λ _. (below (length (table system)) ≡ indices signals.new) × IsOf system signals.new)
         (λ e. e ≡ PlanFault.Memory) }
 {
-    let mut signals = Signals::new(alloc);
     for index in 0..system.signals() {
         let signal = match Signal::from_index(system, index) {
             Some(signal) => signal,
@@ -187,23 +235,23 @@ fn every_signal(alloc: Global, system: System) -> Result<Signals, PlanFault>
             Err(_) => return Err(PlanFault::Memory),
         }
     }
-    Ok(signals)
+    Ok(())
 }
 
 // The signals of codes with commas between them.
-fn read_codes(alloc: Global, system: System, text: &str) -> Result<Signals, PlanFault>
+fn read_codes(signals: &mut Signals, system: System, text: &str) -> Result<(), PlanFault>
+    requires { signals.old ≡ [] }
     ensures { MatchResult result
-        (λ s. ArePlanned system (signals_coded system text.now) s)
+        (λ _. ArePlanned system (signals_coded system text.now) signals.new)
         (IsMemoryFaultOr (λ e. signals_coded system text.now ≡ Err e)) }
 {
-    let mut signals = Signals::new(alloc);
     let mut rest = Some(text);
     while let Some(codes) = rest {
         let (code, behind) = first_code(codes);
-        add_code(&mut signals, system, code)?;
+        add_code(signals, system, code)?;
         rest = behind;
     }
-    Ok(signals)
+    Ok(())
 }
 
 // The first code of some, and those behind its comma.

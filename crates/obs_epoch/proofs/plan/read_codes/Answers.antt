@@ -6,6 +6,6 @@ use Rattle.obs_epoch.proofs.plan.read_codes.Goals as goal
 
 pub loop-rest-init : goal.loop-rest-init
 loop-rest-init c = (
-  ap (λ l. signals_after c.args.system (indices l) (between_commas c.args.text.now)) c.new-signals.ensures,
-  subst (IsOf c.args.system) (sym c.new-signals.ensures) (none_of c.args.system),
+  ap (λ l. signals_after c.args.system (indices l) (between_commas c.args.text.now)) c.requires,
+  subst (IsOf c.args.system) (sym c.requires) (none_of c.args.system),
 )

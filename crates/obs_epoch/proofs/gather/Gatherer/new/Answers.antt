@@ -1,7 +1,9 @@
-use Rattle.std.proofs.Common.{◌≡◌, ◌<◌, ◌≤◌, ℕ, Bool, true, false, inl, inr, refl, sym, arith, Result, Ok, Err}
+use Rattle.std.proofs.Common.{◌≡◌, ◌<◌, ◌≤◌, ◌⊎◌, ◌↔◌, ℕ, Bool, true, false, Option, inl, inr, refl, arith, Result, Ok, Err}
+use Rattle.obs_epoch.specs.Weeks.{weeks}
 use Rattle.obs_epoch.specs.declared.fault.PlanFault.{PlanFault}
-use Rattle.obs_epoch.specs.declared.fault.PlanFault.TheVariants.{BadWeek, BadStation, Memory}
+use Rattle.obs_epoch.specs.declared.fault.PlanFault.TheVariants.{UnknownCode, RepeatedCode, NothingPlanned, BadWeek, BadStation, Memory}
 use Rattle.obs_epoch.specs.Gather.{Gathered}
+use Rattle.obs_epoch.specs.Kinds.{IsUnfitSetup, is_no_station}
 use Rattle.obs_epoch.proofs.gather.Gatherer.new.Goals as goal
 
 made_not : (g : Gathered) (e : PlanFault) → ◌≡◌ {A = Result Gathered PlanFault} (Ok g) (Err e) → ⊥
@@ -25,42 +27,37 @@ not_both b h k = cc
 over : (n most : ℕ) → n < most → most ≤ n → ⊥
 over n most h k = omega (arith, h, k)
 
--- made
-pub returns-in-Ok-clause-accepted : goal.returns-in-Ok-clause-accepted
-returns-in-Ok-clause-accepted c = λ made. (c.if-start_week-ge-WEEKS.false, sym c.if-is_no_station.ensures)
+-- what the fault says of week and station
+by_week : (week : ℕ) (station : Option ℕ) (e : PlanFault) → IsUnfitSetup week station e → ◌≡◌ {A = Result Gathered PlanFault} (Err e) (Err BadWeek) ↔ (weeks ≤ week)
+by_week week station BadWeek h = (λ e. h, λ most. refl)
+by_week week station BadStation h = (λ e. absurd (station_week e), λ most. absurd (over _ _ h.0 most))
+by_week week station Memory h = (λ e. absurd (memory_week e), λ most. absurd (over _ _ h.0 most))
+by_week week station NothingPlanned h = absurd h
+by_week week station (UnknownCode system place) h = absurd h
+by_week week station (RepeatedCode system place) h = absurd h
 
-pub returns-in-Ok-clause-week : goal.returns-in-Ok-clause-week
-returns-in-Ok-clause-week c = (λ e. absurd (made_not _ _ e), λ most. absurd (over _ _ c.if-start_week-ge-WEEKS.false most))
+by_station : (week : ℕ) (station : Option ℕ) (e : PlanFault) → IsUnfitSetup week station e
+    → ◌≡◌ {A = Result Gathered PlanFault} (Err e) (Err BadStation) ↔ ((week < weeks) × (is_no_station station ≡ true))
+by_station week station BadWeek h = (λ e. absurd (week_station e), λ bad. absurd (over _ _ bad.0 h))
+by_station week station BadStation h = (λ e. h, λ bad. refl)
+by_station week station Memory h = (λ e. absurd (memory_station e), λ bad. absurd (not_both _ bad.1 h.1))
+by_station week station NothingPlanned h = absurd h
+by_station week station (UnknownCode system place) h = absurd h
+by_station week station (RepeatedCode system place) h = absurd h
 
-pub returns-in-Ok-clause-station : goal.returns-in-Ok-clause-station
-returns-in-Ok-clause-station c = (λ e. absurd (made_not _ _ e), λ bad. absurd (not_both _ bad.1 (sym c.if-is_no_station.ensures)))
+alone : (week : ℕ) (station : Option ℕ) (e : PlanFault) → IsUnfitSetup week station e → (e ≡ BadWeek) ⊎ ((e ≡ BadStation) ⊎ (e ≡ Memory))
+alone week station BadWeek h = inl refl
+alone week station BadStation h = inr (inl refl)
+alone week station Memory h = inr (inr refl)
+alone week station NothingPlanned h = absurd h
+alone week station (UnknownCode system place) h = absurd h
+alone week station (RepeatedCode system place) h = absurd h
 
--- no memory
 pub returns-in-Err-clause-week : goal.returns-in-Err-clause-week
-returns-in-Err-clause-week c = (λ e. absurd (memory_week e), λ most. absurd (over _ _ c.if-start_week-ge-WEEKS.false most))
+returns-in-Err-clause-week c = by_week c.args.start_week c.args.station _ c.in-Err.ensures
 
 pub returns-in-Err-clause-station : goal.returns-in-Err-clause-station
-returns-in-Err-clause-station c = (λ e. absurd (memory_station e), λ bad. absurd (not_both _ bad.1 (sym c.if-is_no_station.ensures)))
+returns-in-Err-clause-station c = by_station c.args.start_week c.args.station _ c.in-Err.ensures
 
 pub returns-in-Err-clause-only : goal.returns-in-Err-clause-only
-returns-in-Err-clause-only c = inr (inr refl)
-
--- no such station
-pub returns-then-is_no_station-clause-week : goal.returns-then-is_no_station-clause-week
-returns-then-is_no_station-clause-week c = (λ e. absurd (station_week e), λ most. absurd (over _ _ c.if-start_week-ge-WEEKS.false most))
-
-pub returns-then-is_no_station-clause-station : goal.returns-then-is_no_station-clause-station
-returns-then-is_no_station-clause-station c = (λ e. (c.if-start_week-ge-WEEKS.false, sym c.if-is_no_station.ensures), λ bad. refl)
-
-pub returns-then-is_no_station-clause-only : goal.returns-then-is_no_station-clause-only
-returns-then-is_no_station-clause-only c = inr (inl refl)
-
--- no such week
-pub returns-then-start_week-ge-WEEKS-clause-week : goal.returns-then-start_week-ge-WEEKS-clause-week
-returns-then-start_week-ge-WEEKS-clause-week c = (λ e. c.if-start_week-ge-WEEKS.true, λ most. refl)
-
-pub returns-then-start_week-ge-WEEKS-clause-station : goal.returns-then-start_week-ge-WEEKS-clause-station
-returns-then-start_week-ge-WEEKS-clause-station c = (λ e. absurd (week_station e), λ bad. absurd (over _ _ bad.0 c.if-start_week-ge-WEEKS.true))
-
-pub returns-then-start_week-ge-WEEKS-clause-only : goal.returns-then-start_week-ge-WEEKS-clause-only
-returns-then-start_week-ge-WEEKS-clause-only c = inl refl
+returns-in-Err-clause-only c = alone c.args.start_week c.args.station _ c.in-Err.ensures

@@ -1,10 +1,10 @@
 use Rattle.std.proofs.Common.{sym, ap, ◌∙◌, subst}
 use Rattle.obs_epoch.specs.Signals.{indices, IsOf}
 use Rattle.obs_epoch.proofs.PlanLemmas.{none_of, at_index, index_added}
-use Rattle.obs_epoch.proofs.plan.every_signal.Goals as goal
+use Rattle.obs_epoch.proofs.plan.add_every.Goals as goal
 
 pub loop-index-init : goal.loop-index-init
-loop-index-init c = (ap indices (sym c.new-signals.ensures), subst (IsOf c.args.system) (sym c.new-signals.ensures) (none_of c.args.system))
+loop-index-init c = (ap indices (sym c.requires), subst (IsOf c.args.system) (sym c.requires) (none_of c.args.system))
 
 pub add-requires : goal.add-requires
 add-requires c =

@@ -7,8 +7,8 @@ use Rattle.obs_epoch.specs.declared.fault.PlanFault.{PlanFault}
 use Rattle.obs_epoch.specs.declared.fault.PlanFault.TheVariants.{NothingPlanned}
 use Rattle.obs_epoch.specs.Plans.{plan_of, signals_of}
 use Rattle.obs_epoch.specs.Signals.{indices, IsMemoryFaultOr}
-use Rattle.obs_epoch.proofs.plan.Plan.parse.Goals.{else-is_empty-via-then-is_empty+else-is_empty-2, else-is_empty-via-else-is_empty}
-use Rattle.obs_epoch.proofs.plan.Plan.parse.Goals as goal
+use Rattle.obs_epoch.proofs.plan.read_both.Goals.{else-is_empty-via-then-is_empty+else-is_empty-2, else-is_empty-via-else-is_empty}
+use Rattle.obs_epoch.proofs.plan.read_both.Goals as goal
 
 not_true : (b : Bool) → b ≡ false → IsTrue b → ⊥
 not_true b e h = cc
@@ -44,25 +44,28 @@ second_fault : (gps galileo ss : List ℕ) (e : PlanFault) → signals_of Gps gp
 second_fault gps galileo ss e p (inl m) = inl m
 second_fault gps galileo ss e p (inr q) = inr (rw (p, q) refl)
 
-pub returns-in_err-gps : goal.returns-in_err-gps
-returns-in_err-gps c =
+pub returns-in_err-read_signals : goal.returns-in_err-read_signals
+returns-in_err-read_signals c =
     let p = err_from_is_err_and c.from_residual.result c.from_residual.ensures.1 in
-    rw (p.1, p.2) (first_fault c.args.gps.now c.args.galileo.now _ c.in_err-gps.ensures)
+    rw (p.1, p.2) (first_fault c.args.gps_text.now c.args.galileo_text.now _ c.in_err-read_signals.ensures)
 
-pub returns-in_err-galileo : goal.returns-in_err-galileo
-returns-in_err-galileo c =
-    let p = err_from_is_err_and c.from_residual-in_err-galileo.result c.from_residual-in_err-galileo.ensures.1 in
-    rw (p.1, p.2) (second_fault c.args.gps.now c.args.galileo.now _ _ c.in_ok-gps.ensures.0 c.in_err-galileo.ensures)
+pub returns-in_err-read_signals-2 : goal.returns-in_err-read_signals-2
+returns-in_err-read_signals-2 c =
+    let p = err_from_is_err_and c.from_residual-in_err-read_signals-2.result c.from_residual-in_err-read_signals-2.ensures.1 in
+    rw (p.1, p.2) (second_fault c.args.gps_text.now c.args.galileo_text.now _ _ c.in_ok-read_signals.ensures.0 c.in_err-read_signals-2.ensures)
 
 pub returns-then-is_empty-2 : goal.returns-then-is_empty-2
-returns-then-is_empty-2 c = inr (neither c.args.gps.now c.args.galileo.now c.in_ok-gps.gps c.in_ok-galileo.galileo c.in_ok-gps.ensures.0 c.in_ok-galileo.ensures.0
-    (c.is_empty.ensures.0 c.if-is_empty.true) (c.is_empty-then-is_empty.ensures.0 c.if-is_empty-2.true))
+returns-then-is_empty-2 c = inr (neither c.args.gps_text.now c.args.galileo_text.now c.read_signals.new.signals c.read_signals-2.new.signals
+    c.in_ok-read_signals.ensures.0 c.in_ok-read_signals-2.ensures.0 (c.is_empty.ensures.0 c.if-is_empty.true) (c.is_empty-then-is_empty.ensures.0 c.if-is_empty-2.true))
 
 pub returns : goal.returns
 returns c =
-    let some : indices c.in_ok-gps.gps ≡ [] → indices c.in_ok-galileo.galileo ≡ [] → ⊥ =
+    let some : indices c.read_signals.new.signals ≡ [] → indices c.read_signals-2.new.signals ≡ [] → ⊥ =
     elim c.else-is_empty.branch [
       | else-is_empty-via-then-is_empty+else-is_empty-2 w ↦ λ a b. not_true _ w.if-is_empty-2.false (w.is_empty-then-is_empty.ensures.1 (none_of _ b))
       | else-is_empty-via-else-is_empty w ↦ λ a b. not_true _ w.if-is_empty.false (c.is_empty.ensures.1 (none_of _ a))
-    ] in
-    both c.args.gps.now c.args.galileo.now (indices c.in_ok-gps.gps) (indices c.in_ok-galileo.galileo) c.in_ok-gps.ensures.0 c.in_ok-galileo.ensures.0 some
+    ] in (
+      both c.args.gps_text.now c.args.galileo_text.now _ _ c.in_ok-read_signals.ensures.0 c.in_ok-read_signals-2.ensures.0 some,
+      c.in_ok-read_signals.ensures.1,
+      c.in_ok-read_signals-2.ensures.1,
+    )

@@ -1,7 +1,7 @@
 use Rattle.std.proofs.Common.{◌≡◌, take}
 use Rattle.obs_epoch.specs.Signals.{IsOf}
-use Rattle.obs_epoch.proofs.plan.collected.Given as goal
+use Rattle.obs_epoch.proofs.plan.add_signals.Given as goal
 
 -- those so far fit
 abbrev pub invariant-loop-i : goal.invariant-loop-i
-invariant-loop-i l = (l.collected ≡ take l.i l.signals) × IsOf l.system (take l.i l.signals)
+invariant-loop-i l = (l.added ≡ take l.i l.signals) × IsOf l.system (take l.i l.signals)
