@@ -19,47 +19,40 @@ use std::test::*;
 
 const WEEK: u64 = 604_800_000;
 
+/// The time of the messages at 1,000, where week 2,300 is the first.
+const FIRST: u64 = 2_300 * WEEK + 1_000;
+
 /// Every signal of either system.
 const ALL: (&str, &str) = ("all", "all");
 
-/// What is done with a gatherer or looked up there, and what comes of it.
-#[derive(Clone, Copy, Debug, PartialEq)]
+/// What is done with a gatherer or looked up there, and what is to come of it.
+#[derive(Clone, Copy)]
 enum Step {
     /// A message is taken: what becomes of it, and whether an epoch is closed.
     Takes(Heard, Kind, bool),
     /// It ends: whether an epoch is closed.
     Ends(bool),
-    /// Whether it has ended.
-    HasEnded(bool),
+    /// It has ended.
+    HasEnded,
+    /// How many GPS signals are planned.
+    Plans(usize),
     /// How many GPS cells are held.
     Holds(usize),
     /// How many lock records are held.
     Locks(usize),
-    /// The station values.
+    /// The station values, and those of the epoch that was closed.
     Values(StationValues),
-    /// The time of the epoch that was closed, in milliseconds.
-    ClosedAt(Option<u64>),
-    /// How many satellites and how many GPS cells that epoch has.
-    Sizes(Option<(usize, usize)>),
-    /// Its station values.
-    ClosedValues(Option<StationValues>),
+    /// The time of the epoch that was closed, in milliseconds, its satellites and its GPS cells.
+    Closed(Option<(u64, usize, usize)>),
     /// Of its GPS cell at this place the satellite's number and the signal's code.
-    Of(usize, Option<(u8, [u8; 2])>),
-    /// Of its first GPS cell whether it has a pseudorange, and a Doppler shift.
-    Has(Option<(bool, bool)>),
+    Of(usize, u8, [u8; 2]),
+    /// Its first GPS cell has a pseudorange and no Doppler shift.
+    HasNoDoppler,
     /// The indicator of its first GPS cell.
-    Lli(Option<u8>),
+    Lli(u8),
 }
 
-use Step::{
-    ClosedAt, ClosedValues, Ends, Has, HasEnded, Holds, Lli, Locks, Of, Sizes, Takes, Values,
-};
-
-/// The first step that went otherwise: its place, and how it went.
-type Otherwise = Option<(usize, Step)>;
-
-/// As told, from the first step to the last.
-const AS_TOLD: Result<Otherwise, PlanFault> = Ok(None);
+use Step::{Closed, Ends, HasEnded, HasNoDoppler, Holds, Lli, Locks, Of, Plans, Takes, Values};
 
 // Each call with large clauses stands behind a function without one, so that no test carries them.
 
@@ -88,87 +81,96 @@ fn take(g: &mut Gatherer, message: &Message) -> Taken {
     g.take(message)
 }
 
-fn taken(g: &mut Gatherer, heard: Heard) -> Step {
-    let taken = take(g, &message(heard));
-    Takes(heard, taken.kind, taken.closed)
-}
-
-/// The GPS cells of the epoch that was closed, or none where none was.
-fn closed_cells(g: &Gatherer) -> &[Cell] {
+fn closed(g: &Gatherer) -> Option<(u64, usize, usize)> {
     match g.closed() {
-        None => &[],
-        Some(epoch) => epoch.cells(System::Gps),
-    }
-}
-
-fn key_at(cells: &[Cell], place: usize) -> Option<(u8, [u8; 2])> {
-    match cells.get(place) {
         None => None,
-        Some(cell) => Some((cell.satellite.id(), cell.signal.code())),
-    }
-}
-
-fn has_values(cells: &[Cell]) -> Option<(bool, bool)> {
-    match cells.first() {
-        None => None,
-        Some(cell) => Some((cell.c.is_some(), cell.d.is_some())),
-    }
-}
-
-fn lli(cells: &[Cell]) -> Option<u8> {
-    match cells.first() {
-        None => None,
-        Some(cell) => Some(cell.lli),
-    }
-}
-
-/// How a step goes.
-fn go(g: &mut Gatherer, step: Step) -> Step {
-    match step {
-        Takes(heard, _, _) => taken(g, heard),
-        Ends(_) => Ends(g.end()),
-        HasEnded(_) => HasEnded(g.ended()),
-        Holds(_) => Holds(g.cells(System::Gps)),
-        Locks(_) => Locks(g.locks()),
-        Values(_) => Values(g.station_values()),
-        ClosedAt(_) => ClosedAt(g.closed().map(|epoch| epoch.time().milliseconds())),
-        Sizes(_) => Sizes(
-            g.closed()
-                .map(|e| (e.satellites(), e.cells(System::Gps).len())),
-        ),
-        ClosedValues(_) => ClosedValues(g.closed().map(|epoch| epoch.station_values())),
-        Of(at, _) => Of(at, key_at(closed_cells(g), at)),
-        Has(_) => Has(has_values(closed_cells(g))),
-        Lli(_) => Lli(lli(closed_cells(g))),
-    }
-}
-
-fn go_through(g: &mut Gatherer, steps: &[Step]) -> Otherwise {
-    for place in 0..steps.len() {
-        let went = go(g, steps[place]);
-        if went != steps[place] {
-            return Some((place, went));
+        Some(e) => {
+            let cells = e.cells(System::Gps).len();
+            Some((e.time().milliseconds(), e.satellites(), cells))
         }
     }
-    None
 }
 
-/// How a gatherer of station 7 goes through steps.
+fn are_values(g: &Gatherer, values: StationValues) -> bool {
+    match g.closed() {
+        None => false,
+        Some(epoch) => g.station_values() == values && epoch.station_values() == values,
+    }
+}
+
+/// A GPS cell of the epoch that was closed.
+fn cell_at(g: &Gatherer, place: usize) -> Option<&Cell> {
+    match g.closed() {
+        None => None,
+        Some(epoch) => epoch.cells(System::Gps).get(place),
+    }
+}
+
+fn is_of(cell: Option<&Cell>, id: u8, code: [u8; 2]) -> bool {
+    match cell {
+        None => false,
+        Some(cell) => cell.satellite.id() == id && cell.signal.code() == code,
+    }
+}
+
+fn has_no_doppler(cell: Option<&Cell>) -> bool {
+    match cell {
+        None => false,
+        Some(cell) => cell.c.is_some() && cell.d.is_none(),
+    }
+}
+
+fn has_lli(cell: Option<&Cell>, lli: u8) -> bool {
+    match cell {
+        None => false,
+        Some(cell) => cell.lli == lli,
+    }
+}
+
+/// Whether a step goes as told.
+fn goes(g: &mut Gatherer, step: Step) -> bool {
+    match step {
+        Takes(heard, kind, closed) => take(g, &message(heard)) == Taken { kind, closed },
+        Ends(closed) => g.end() == closed,
+        HasEnded => g.ended(),
+        Plans(signals) => g.plan().signals(System::Gps) == signals,
+        Holds(cells) => g.cells(System::Gps) == cells,
+        Locks(locks) => g.locks() == locks,
+        Values(values) => are_values(g, values),
+        Closed(epoch) => closed(g) == epoch,
+        Of(place, id, code) => is_of(cell_at(g, place), id, code),
+        HasNoDoppler => has_no_doppler(cell_at(g, 0)),
+        Lli(lli) => has_lli(cell_at(g, 0), lli),
+    }
+}
+
+/// How many steps go as told, up to the first that doesn't.
+fn go_through(g: &mut Gatherer, steps: &[Step]) -> usize {
+    for place in 0..steps.len() {
+        if !goes(g, steps[place]) {
+            return place;
+        }
+    }
+    steps.len()
+}
+
+/// How many steps of a gatherer go as told.
 fn run(
     alloc: Global,
     plan: (&str, &str),
     week: u32,
+    station: Option<u16>,
     gather: Gather,
     steps: &[Step],
-) -> Result<Otherwise, PlanFault> {
-    match gatherer(alloc, plan, week, Some(7), gather) {
+) -> Result<usize, PlanFault> {
+    match gatherer(alloc, plan, week, station, gather) {
         Ok(mut g) => Ok(go_through(&mut g, steps)),
         Err(fault) => Err(fault),
     }
 }
 
-/// A gatherer of station 7 goes through the steps as told. What went otherwise is printed here
-/// alone, since each place that prints is dear to prove.
+/// A gatherer of station 7 goes through all the steps as told. How many do is printed here alone,
+/// since each place that prints is dear to prove.
 fn goes_as_told(
     rt: &impl Abort,
     alloc: Global,
@@ -177,7 +179,10 @@ fn goes_as_told(
     gather: Gather,
     steps: &[Step],
 ) {
-    assert_eq!(rt; run(alloc, plan, week, gather, steps), AS_TOLD);
+    assert_eq!(rt;
+        run(alloc, plan, week, Some(7), gather, steps),
+        Ok(steps.len())
+    );
 }
 
 /// The same with every signal planned, from week 2,300 on and by the bit.
@@ -206,9 +211,9 @@ const KEPT: Kind = Kind::Kept {
 fn times_pass_the_week_and_half_a_week(rt: HostRuntime) {
     let steps = [
         Takes(Heard::Long(604_799_000, false, 64), KEPT, true),
-        ClosedAt(Some(2_300 * WEEK + 604_799_000)),
+        Closed(Some((2_300 * WEEK + 604_799_000, 1, 1))),
         Takes(Heard::Long(0, false, 64), KEPT, true),
-        ClosedAt(Some(2_301 * WEEK)),
+        Closed(Some((2_301 * WEEK, 1, 1))),
         Takes(Heard::Long(302_400_000, false, 64), KEPT, true),
         Takes(Heard::Long(1, false, 64), Kind::Late, false),
         Takes(Heard::Long(302_401_000, false, 64), KEPT, true),
@@ -232,11 +237,11 @@ fn a_later_time_closes_first(rt: HostRuntime) {
     let steps = [
         Takes(Heard::Long(1_000, true, 64), KEPT, false),
         Takes(Heard::Long(2_000, true, 64), Kind::CloseFirst, true),
-        Sizes(Some((1, 1))),
+        Closed(Some((FIRST, 1, 1))),
         Takes(Heard::Long(2_000, true, 64), KEPT, false),
-        Sizes(None),
+        Closed(None),
         Ends(true),
-        HasEnded(true),
+        HasEnded,
     ];
     goes_by_bit(&rt, rt.alloc(), &steps);
 }
@@ -268,9 +273,9 @@ fn by_time_alone_no_bit_closes(rt: HostRuntime) {
 fn a_shorter_lock_was_lost(rt: HostRuntime) {
     let steps = [
         Takes(Heard::Short(1_000, false, true, 15), KEPT, true),
-        Lli(Some(0)),
+        Lli(0),
         Takes(Heard::Short(2_000, false, true, 14), KEPT, true),
-        Lli(Some(1)),
+        Lli(1),
     ];
     goes_by_bit(&rt, rt.alloc(), &steps);
 }
@@ -280,10 +285,10 @@ fn a_lock_below_the_elapsed_time_was_lost(rt: HostRuntime) {
     let steps = [
         Takes(Heard::Long(1_000, false, 0), KEPT, true),
         Takes(Heard::Long(2_000, false, 0), KEPT, true),
-        Lli(Some(1)),
+        Lli(1),
         Takes(Heard::Long(3_000, false, 704), KEPT, true),
         Takes(Heard::Long(18_003_000, false, 704), KEPT, true),
-        Lli(Some(0)),
+        Lli(0),
     ];
     goes_by_bit(&rt, rt.alloc(), &steps);
 }
@@ -294,10 +299,10 @@ fn a_lock_without_a_phase_is_passed_over(rt: HostRuntime) {
         Locks(0),
         Takes(Heard::Short(1_000, false, true, 8), KEPT, true),
         Takes(Heard::Short(2_000, false, false, 0), KEPT, true),
-        Lli(Some(0)),
+        Lli(0),
         Takes(Heard::Short(3_000, true, true, 7), KEPT, false),
         Ends(true),
-        Lli(Some(1)),
+        Lli(1),
         Locks(1),
         Ends(false),
     ];
@@ -318,31 +323,23 @@ fn a_message_past_the_weeks_closes_nothing(rt: HostRuntime) {
         Takes(Heard::Station, Kind::Station, false),
         Ends(true),
         Values(told),
-        ClosedValues(Some(told)),
     ];
     goes_as_told(&rt, rt.alloc(), ALL, 99_999, Gather::Bit, &steps);
 }
 
-/// How many GPS signals a gatherer of this setup plans.
-fn planned(
-    alloc: Global,
-    week: u32,
-    station: Option<u16>,
-    gather: Gather,
-) -> Result<usize, PlanFault> {
-    match gatherer(alloc, ("1C", "none"), week, station, gather) {
-        Ok(g) => Ok(g.plan().signals(System::Gps)),
-        Err(fault) => Err(fault),
+/// How a gatherer of 1C alone is set up.
+fn set_up(alloc: Global, week: u32, station: Option<u16>, gather: Gather) -> Option<PlanFault> {
+    match run(alloc, ("1C", "none"), week, station, gather, &[Plans(1)]) {
+        Ok(1) => None,
+        Ok(_) => Some(PlanFault::NothingPlanned),
+        Err(fault) => Some(fault),
     }
 }
 
 #[test]
 fn setups_are_refused_in_order(rt: HostRuntime) {
-    for (week, station, gather, wanted) in [
-        (2_300, Some(4_096), Gather::Bit, Err(PlanFault::BadStation)),
-        (100_000, Some(4_096), Gather::Bit, Err(PlanFault::BadWeek)),
-        (99_999, None, Gather::Time, Ok(1)),
-    ] {
-        assert_eq!(rt; planned(rt.alloc(), week, station, gather), wanted);
-    }
+    let alloc = rt.alloc();
+    assert!(rt; set_up(alloc, 2_300, Some(4_096), Gather::Bit) == Some(PlanFault::BadStation));
+    assert!(rt; set_up(alloc, 100_000, Some(4_096), Gather::Bit) == Some(PlanFault::BadWeek));
+    assert!(rt; set_up(alloc, 99_999, None, Gather::Time).is_none());
 }

@@ -1,6 +1,9 @@
 //! Which cells of an epoch are kept, and how they stand.
 use super::messages::Heard;
-use super::{Ends, Has, Holds, KEPT, Locks, Of, Sizes, Takes, counts, goes_as_told, goes_by_bit};
+use super::{
+    Closed, Ends, FIRST, HasNoDoppler, Holds, KEPT, Locks, Of, Takes, counts, goes_as_told,
+    goes_by_bit,
+};
 use crate::Gather;
 use std::test::*;
 
@@ -10,8 +13,8 @@ fn the_first_cell_of_a_key_is_kept(rt: HostRuntime) {
         Takes(Heard::Short(1_000, true, true, 15), KEPT, false),
         Takes(Heard::Long(1_000, true, 64), counts(0, 1, 0), false),
         Ends(true),
-        Sizes(Some((1, 1))),
-        Has(Some((true, false))),
+        Closed(Some((FIRST, 1, 1))),
+        HasNoDoppler,
     ];
     goes_by_bit(&rt, rt.alloc(), &steps);
 }
@@ -27,7 +30,7 @@ fn a_set_split_over_messages_is_kept(rt: HostRuntime) {
             false,
         ),
         Takes(Heard::Wide(false, 1 << 63, 1 << 8), KEPT, true),
-        Sizes(Some((32, 65))),
+        Closed(Some((FIRST, 32, 65))),
         Locks(65),
     ];
     goes_by_bit(&rt, rt.alloc(), &steps);
@@ -44,7 +47,7 @@ fn cells_past_the_bound_are_crowded(rt: HostRuntime) {
         Takes(Heard::Wide(true, ALL_GPS, 1 << 17 | 1 << 16), all, false),
         Takes(Heard::Wide(false, 1 << 63, 1 << 15), counts(0, 0, 1), true),
         Holds(256),
-        Sizes(Some((32, 256))),
+        Closed(Some((FIRST, 32, 256))),
         Locks(256),
     ];
     goes_by_bit(&rt, rt.alloc(), &steps);
@@ -63,13 +66,13 @@ fn cells_stand_by_satellite_and_plan(rt: HostRuntime) {
             counts(2, 0, 0),
             true,
         ),
-        Sizes(Some((3, 6))),
-        Of(0, Some((1, *b"5X"))),
-        Of(1, Some((1, *b"2W"))),
-        Of(2, Some((1, *b"1C"))),
-        Of(3, Some((2, *b"5X"))),
-        Of(4, Some((3, *b"2W"))),
-        Of(5, Some((3, *b"1C"))),
+        Closed(Some((FIRST, 3, 6))),
+        Of(0, 1, *b"5X"),
+        Of(1, 1, *b"2W"),
+        Of(2, 1, *b"1C"),
+        Of(3, 2, *b"5X"),
+        Of(4, 3, *b"2W"),
+        Of(5, 3, *b"1C"),
     ];
     goes_as_told(
         &rt,
@@ -86,9 +89,9 @@ fn a_second_satellite_comes_first_in_order(rt: HostRuntime) {
     let steps = [
         Takes(Heard::Wide(true, 1 << 59, 1 << 30), KEPT, false),
         Takes(Heard::Wide(false, 1 << 61, 1 << 30), KEPT, true),
-        Sizes(Some((2, 2))),
-        Of(0, Some((3, *b"1C"))),
-        Of(1, Some((5, *b"1C"))),
+        Closed(Some((FIRST, 2, 2))),
+        Of(0, 3, *b"1C"),
+        Of(1, 5, *b"1C"),
     ];
     goes_by_bit(&rt, rt.alloc(), &steps);
 }

@@ -4,7 +4,7 @@ use rtcm_msg::{
 };
 
 /// A message of station 7, with its time in milliseconds of the week and its multiple message bit.
-#[derive(Clone, Copy, Debug, PartialEq)]
+#[derive(Clone, Copy)]
 pub enum Heard {
     /// The long form of GPS 5 with the signal 1C, and the lock's code.
     Long(u32, bool, u16),

@@ -5,91 +5,98 @@ use gnss_obs::{Signal, System};
 use std::alloc::Global;
 use std::test::*;
 
-/// How many signals of GPS and of Galileo are planned.
-type Sizes = Result<(usize, usize), PlanFault>;
+/// How many signals of GPS and of Galileo are planned, and at which place the GPS signal 1C.
+type Planned = Result<(usize, usize, Option<usize>), PlanFault>;
 
-fn sizes(plan: Result<Plan, PlanFault>) -> Sizes {
+fn look(plan: &Plan) -> (usize, usize, Option<usize>) {
+    let place = match Signal::from_code(System::Gps, "1C") {
+        Some(signal) => plan.place(signal),
+        None => None,
+    };
+    (
+        plan.signals(System::Gps),
+        plan.signals(System::Galileo),
+        place,
+    )
+}
+
+fn planned(plan: Result<Plan, PlanFault>) -> Planned {
     match plan {
-        Ok(plan) => Ok((plan.signals(System::Gps), plan.signals(System::Galileo))),
+        Ok(plan) => Ok(look(&plan)),
         Err(fault) => Err(fault),
     }
 }
 
-/// The place of a GPS signal by its code.
-fn place(plan: Result<Plan, PlanFault>, code: &str) -> Option<usize> {
-    match (plan, Signal::from_code(System::Gps, code)) {
-        (Ok(plan), Some(signal)) => plan.place(signal),
-        _ => None,
-    }
-}
+/// The texts for GPS and for Galileo, and what they plan.
+static TEXTS: [(&str, &str, Planned); 10] = [
+    ("all", "all", Ok((15, 19, Some(0)))),
+    ("2W,1C", "none", Ok((2, 0, Some(1)))),
+    ("2W", "5Q", Ok((1, 1, None))),
+    (
+        "1C,1C",
+        "none",
+        Err(PlanFault::RepeatedCode(System::Gps, 1)),
+    ),
+    ("1c", "all", Err(PlanFault::UnknownCode(System::Gps, 0))),
+    ("none", "none", Err(PlanFault::NothingPlanned)),
+    (
+        "1C",
+        "5Q,5",
+        Err(PlanFault::UnknownCode(System::Galileo, 1)),
+    ),
+    ("", "all", Err(PlanFault::UnknownCode(System::Gps, 0))),
+    (
+        "all,1C",
+        "none",
+        Err(PlanFault::UnknownCode(System::Gps, 0)),
+    ),
+    ("1C,", "none", Err(PlanFault::UnknownCode(System::Gps, 1))),
+];
 
-#[test]
-fn texts_are_refused(rt: HostRuntime) {
-    let alloc = rt.alloc();
-    let table = [
-        ("1C,1C", "none", PlanFault::RepeatedCode(System::Gps, 1)),
-        ("1c", "all", PlanFault::UnknownCode(System::Gps, 0)),
-        ("none", "none", PlanFault::NothingPlanned),
-        ("1C", "5Q,5", PlanFault::UnknownCode(System::Galileo, 1)),
-        ("", "all", PlanFault::UnknownCode(System::Gps, 0)),
-        ("all,1C", "none", PlanFault::UnknownCode(System::Gps, 0)),
-        ("1C,", "none", PlanFault::UnknownCode(System::Gps, 1)),
-    ];
-    for (gps, galileo, fault) in table {
-        assert_eq!(rt;
-            sizes(parse(alloc, gps, galileo)),
-            Err(fault),
-            "{gps} {galileo}"
-        );
-    }
-}
-
-#[test]
-fn plans_are_read(rt: HostRuntime) {
-    let alloc = rt.alloc();
-    assert_eq!(rt; sizes(parse(alloc, "all", "all")), Ok((15, 19)));
-    assert_eq!(rt; sizes(parse(alloc, "2W,1C", "none")), Ok((2, 0)));
-    assert_eq!(rt; place(parse(alloc, "2W,1C", "none"), "1C"), Some(1));
-}
-
-// The GPS signals of these codes.
-fn signals_of(alloc: Global, codes: &[&str]) -> Result<Vec<Signal>, PlanFault> {
-    let mut signals = Vec::new(alloc);
-    for code in codes {
-        if let Some(signal) = Signal::from_code(System::Gps, code)
-            && signals.push(signal).is_err()
-        {
-            return Err(PlanFault::Memory);
+/// How many texts plan what they are to, up to the first that doesn't.
+fn read(alloc: Global) -> usize {
+    for i in 0..TEXTS.len() {
+        if planned(parse(alloc, TEXTS[i].0, TEXTS[i].1)) != TEXTS[i].2 {
+            return i;
         }
     }
-    Ok(signals)
+    TEXTS.len()
 }
 
-// The plan of these GPS signals, the second list handed in as Galileo's.
-fn made(alloc: Global, gps: &[&str], galileo: &[&str]) -> Result<Plan, PlanFault> {
-    let gps = signals_of(alloc, gps)?;
-    let galileo = signals_of(alloc, galileo)?;
-    Plan::from_signals(alloc, gps.as_slice(), galileo.as_slice())
+#[test]
+fn texts_are_read(rt: HostRuntime) {
+    assert_eq!(rt; read(rt.alloc()), TEXTS.len());
+}
+
+fn from_signals(alloc: Global, gps: &[Signal], galileo: &[Signal]) -> Result<Plan, PlanFault> {
+    Plan::from_signals(alloc, gps, galileo)
+}
+
+/// What the two GPS signals of these codes plan: so many of the first handed in as those of GPS,
+/// and so many as Galileo's.
+fn made(alloc: Global, codes: (&str, &str), gps: usize, galileo: usize) -> Planned {
+    if gps > 2 || galileo > 2 {
+        return Err(PlanFault::Memory);
+    }
+    let first = Signal::from_code(System::Gps, codes.0);
+    match (first, Signal::from_code(System::Gps, codes.1)) {
+        (Some(a), Some(b)) => {
+            let signals = [a, b];
+            planned(from_signals(alloc, &signals[..gps], &signals[..galileo]))
+        }
+        _ => Err(PlanFault::Memory),
+    }
 }
 
 #[test]
 fn plans_are_made_of_signals(rt: HostRuntime) {
     let alloc = rt.alloc();
-    let codes = ["2W", "1C"];
-    assert_eq!(rt; place(made(alloc, &codes, &[]), "2W"), Some(0));
-    assert_eq!(rt; place(made(alloc, &codes, &[]), "1C"), Some(1));
-    assert_eq!(rt; sizes(made(alloc, &codes, &[])), Ok((2, 0)));
-}
-
-#[test]
-fn signals_are_refused(rt: HostRuntime) {
-    let alloc = rt.alloc();
-    let fault = Err(PlanFault::RepeatedCode(System::Gps, 1));
-    assert_eq!(rt; sizes(made(alloc, &["1C", "1C"], &[])), fault);
-    let fault = Err(PlanFault::UnknownCode(System::Galileo, 0));
-    assert_eq!(rt; sizes(made(alloc, &[], &["1C"])), fault);
-    assert_eq!(rt;
-        sizes(made(alloc, &[], &[])),
-        Err(PlanFault::NothingPlanned)
-    );
+    let codes = ("2W", "1C");
+    let other = Err(PlanFault::UnknownCode(System::Galileo, 0));
+    let again = Err(PlanFault::RepeatedCode(System::Gps, 1));
+    let nothing = Err(PlanFault::NothingPlanned);
+    assert!(rt; made(alloc, codes, 2, 0) == Ok((2, 0, Some(1))));
+    assert!(rt; made(alloc, codes, 0, 1) == other);
+    assert!(rt; made(alloc, codes, 0, 0) == nothing);
+    assert!(rt; made(alloc, ("1C", "1C"), 2, 0) == again);
 }
