@@ -30,6 +30,9 @@ const ALL: (&str, &str) = ("all", "all");
 enum Step {
     /// A message is taken: what becomes of it, and whether an epoch is closed.
     Takes(Heard, Kind, bool),
+    /// A message is taken: how many of its cells are kept, repeated and crowded, and whether an epoch
+    /// is closed.
+    Keeps(Heard, (usize, usize, usize), bool),
     /// It ends: whether an epoch is closed.
     Ends(bool),
     /// It has ended.
@@ -52,7 +55,9 @@ enum Step {
     Lli(u8),
 }
 
-use Step::{Closed, Ends, HasEnded, HasNoDoppler, Holds, Lli, Locks, Of, Plans, Takes, Values};
+use Step::{
+    Closed, Ends, HasEnded, HasNoDoppler, Holds, Keeps, Lli, Locks, Of, Plans, Takes, Values,
+};
 
 // Each call with large clauses stands behind a function without one, so that no test carries them.
 
@@ -131,6 +136,10 @@ fn has_lli(cell: Option<&Cell>, lli: u8) -> bool {
 fn goes(g: &mut Gatherer, step: Step) -> bool {
     match step {
         Takes(heard, kind, closed) => take(g, &message(heard)) == Taken { kind, closed },
+        Keeps(heard, (kept, repeated, crowded), closed) => {
+            let kind = counts(kept, repeated, crowded);
+            take(g, &message(heard)) == Taken { kind, closed }
+        }
         Ends(closed) => g.end() == closed,
         HasEnded => g.ended(),
         Plans(signals) => g.plan().signals(System::Gps) == signals,
@@ -209,7 +218,7 @@ const KEPT: Kind = Kind::Kept {
 
 #[test]
 fn times_pass_the_week_and_half_a_week(rt: HostRuntime) {
-    let steps = [
+    static STEPS: [Step; 7] = [
         Takes(Heard::Long(604_799_000, false, 64), KEPT, true),
         Closed(Some((2_300 * WEEK + 604_799_000, 1, 1))),
         Takes(Heard::Long(0, false, 64), KEPT, true),
@@ -218,23 +227,23 @@ fn times_pass_the_week_and_half_a_week(rt: HostRuntime) {
         Takes(Heard::Long(1, false, 64), Kind::Late, false),
         Takes(Heard::Long(302_401_000, false, 64), KEPT, true),
     ];
-    goes_by_bit(&rt, rt.alloc(), &steps);
+    goes_by_bit(&rt, rt.alloc(), &STEPS);
 }
 
 #[test]
 fn a_late_message_closes_by_its_bit(rt: HostRuntime) {
-    let steps = [
+    static STEPS: [Step; 4] = [
         Takes(Heard::Long(5_000, true, 64), KEPT, false),
         Takes(Heard::Long(4_000, false, 64), Kind::Late, true),
         Takes(Heard::Long(5_000, true, 64), Kind::Late, false),
         Holds(1),
     ];
-    goes_by_bit(&rt, rt.alloc(), &steps);
+    goes_by_bit(&rt, rt.alloc(), &STEPS);
 }
 
 #[test]
 fn a_later_time_closes_first(rt: HostRuntime) {
-    let steps = [
+    static STEPS: [Step; 7] = [
         Takes(Heard::Long(1_000, true, 64), KEPT, false),
         Takes(Heard::Long(2_000, true, 64), Kind::CloseFirst, true),
         Closed(Some((FIRST, 1, 1))),
@@ -243,46 +252,46 @@ fn a_later_time_closes_first(rt: HostRuntime) {
         Ends(true),
         HasEnded,
     ];
-    goes_by_bit(&rt, rt.alloc(), &steps);
+    goes_by_bit(&rt, rt.alloc(), &STEPS);
 }
 
 #[test]
 fn an_unread_message_of_the_station_closes(rt: HostRuntime) {
-    let steps = [
+    static STEPS: [Step; 5] = [
         Takes(Heard::Long(1_000, true, 64), KEPT, false),
         Takes(Heard::Unread(8, false), Kind::Ignored, false),
         Takes(Heard::Galileo(1_000, true, 64), KEPT, false),
         Takes(Heard::Unread(7, false), Kind::Ignored, true),
         Takes(Heard::Galileo(1_000, true, 64), Kind::Late, false),
     ];
-    goes_by_bit(&rt, rt.alloc(), &steps);
+    goes_by_bit(&rt, rt.alloc(), &STEPS);
 }
 
 #[test]
 fn by_time_alone_no_bit_closes(rt: HostRuntime) {
-    let steps = [
+    static STEPS: [Step; 4] = [
         Takes(Heard::Long(1_000, true, 64), KEPT, false),
         Takes(Heard::Unread(7, false), Kind::Ignored, false),
         Takes(Heard::Galileo(1_000, false, 64), KEPT, false),
         Ends(true),
     ];
-    goes_as_told(&rt, rt.alloc(), ALL, 2_300, Gather::Time, &steps);
+    goes_as_told(&rt, rt.alloc(), ALL, 2_300, Gather::Time, &STEPS);
 }
 
 #[test]
 fn a_shorter_lock_was_lost(rt: HostRuntime) {
-    let steps = [
+    static STEPS: [Step; 4] = [
         Takes(Heard::Short(1_000, false, true, 15), KEPT, true),
         Lli(0),
         Takes(Heard::Short(2_000, false, true, 14), KEPT, true),
         Lli(1),
     ];
-    goes_by_bit(&rt, rt.alloc(), &steps);
+    goes_by_bit(&rt, rt.alloc(), &STEPS);
 }
 
 #[test]
 fn a_lock_below_the_elapsed_time_was_lost(rt: HostRuntime) {
-    let steps = [
+    static STEPS: [Step; 6] = [
         Takes(Heard::Long(1_000, false, 0), KEPT, true),
         Takes(Heard::Long(2_000, false, 0), KEPT, true),
         Lli(1),
@@ -290,12 +299,12 @@ fn a_lock_below_the_elapsed_time_was_lost(rt: HostRuntime) {
         Takes(Heard::Long(18_003_000, false, 704), KEPT, true),
         Lli(0),
     ];
-    goes_by_bit(&rt, rt.alloc(), &steps);
+    goes_by_bit(&rt, rt.alloc(), &STEPS);
 }
 
 #[test]
 fn a_lock_without_a_phase_is_passed_over(rt: HostRuntime) {
-    let steps = [
+    static STEPS: [Step; 9] = [
         Locks(0),
         Takes(Heard::Short(1_000, false, true, 8), KEPT, true),
         Takes(Heard::Short(2_000, false, false, 0), KEPT, true),
@@ -306,25 +315,27 @@ fn a_lock_without_a_phase_is_passed_over(rt: HostRuntime) {
         Locks(1),
         Ends(false),
     ];
-    goes_by_bit(&rt, rt.alloc(), &steps);
+    goes_by_bit(&rt, rt.alloc(), &STEPS);
 }
+
+/// What the station's message tells.
+const TOLD: StationValues = StationValues {
+    x: 1,
+    y: -2,
+    z: 3,
+    height: 15_000,
+};
 
 #[test]
 fn a_message_past_the_weeks_closes_nothing(rt: HostRuntime) {
-    let told = StationValues {
-        x: 1,
-        y: -2,
-        z: 3,
-        height: 15_000,
-    };
-    let steps = [
+    static STEPS: [Step; 5] = [
         Takes(Heard::Long(604_799_000, true, 64), KEPT, false),
         Takes(Heard::Long(0, true, 64), Kind::PastWeeks, false),
         Takes(Heard::Station, Kind::Station, false),
         Ends(true),
-        Values(told),
+        Values(TOLD),
     ];
-    goes_as_told(&rt, rt.alloc(), ALL, 99_999, Gather::Bit, &steps);
+    goes_as_told(&rt, rt.alloc(), ALL, 99_999, Gather::Bit, &STEPS);
 }
 
 /// How a gatherer of 1C alone is set up.

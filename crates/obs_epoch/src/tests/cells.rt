@@ -1,7 +1,7 @@
 //! Which cells of an epoch are kept, and how they stand.
 use super::messages::Heard;
 use super::{
-    Closed, Ends, FIRST, HasNoDoppler, Holds, KEPT, Locks, Of, Takes, counts, goes_as_told,
+    Closed, Ends, FIRST, HasNoDoppler, Holds, KEPT, Keeps, Locks, Of, Step, Takes, goes_as_told,
     goes_by_bit,
 };
 use crate::Gather;
@@ -9,61 +9,76 @@ use std::test::*;
 
 #[test]
 fn the_first_cell_of_a_key_is_kept(rt: HostRuntime) {
-    let steps = [
+    static STEPS: [Step; 5] = [
         Takes(Heard::Short(1_000, true, true, 15), KEPT, false),
-        Takes(Heard::Long(1_000, true, 64), counts(0, 1, 0), false),
+        Keeps(Heard::Long(1_000, true, 64), (0, 1, 0), false),
         Ends(true),
         Closed(Some((FIRST, 1, 1))),
         HasNoDoppler,
     ];
-    goes_by_bit(&rt, rt.alloc(), &steps);
+    goes_by_bit(&rt, rt.alloc(), &STEPS);
 }
 
 const ALL_GPS: u64 = 0xFFFF_FFFF << 32;
 
 #[test]
 fn a_set_split_over_messages_is_kept(rt: HostRuntime) {
-    let steps = [
-        Takes(
+    static STEPS: [Step; 4] = [
+        Keeps(
             Heard::Wide(true, ALL_GPS, 1 << 30 | 1 << 22),
-            counts(64, 0, 0),
+            (64, 0, 0),
             false,
         ),
         Takes(Heard::Wide(false, 1 << 63, 1 << 8), KEPT, true),
         Closed(Some((FIRST, 32, 65))),
         Locks(65),
     ];
-    goes_by_bit(&rt, rt.alloc(), &steps);
+    goes_by_bit(&rt, rt.alloc(), &STEPS);
 }
 
 #[test]
 fn cells_past_the_bound_are_crowded(rt: HostRuntime) {
-    let all = counts(64, 0, 0);
-    let steps = [
+    static STEPS: [Step; 8] = [
         // 1C and 1P, 1W and 2C, 2P and 2W, 2S and 2L
-        Takes(Heard::Wide(true, ALL_GPS, 1 << 30 | 1 << 29), all, false),
-        Takes(Heard::Wide(true, ALL_GPS, 1 << 28 | 1 << 24), all, false),
-        Takes(Heard::Wide(true, ALL_GPS, 1 << 23 | 1 << 22), all, false),
-        Takes(Heard::Wide(true, ALL_GPS, 1 << 17 | 1 << 16), all, false),
-        Takes(Heard::Wide(false, 1 << 63, 1 << 15), counts(0, 0, 1), true),
+        Keeps(
+            Heard::Wide(true, ALL_GPS, 1 << 30 | 1 << 29),
+            (64, 0, 0),
+            false,
+        ),
+        Keeps(
+            Heard::Wide(true, ALL_GPS, 1 << 28 | 1 << 24),
+            (64, 0, 0),
+            false,
+        ),
+        Keeps(
+            Heard::Wide(true, ALL_GPS, 1 << 23 | 1 << 22),
+            (64, 0, 0),
+            false,
+        ),
+        Keeps(
+            Heard::Wide(true, ALL_GPS, 1 << 17 | 1 << 16),
+            (64, 0, 0),
+            false,
+        ),
+        Keeps(Heard::Wide(false, 1 << 63, 1 << 15), (0, 0, 1), true),
         Holds(256),
         Closed(Some((FIRST, 32, 256))),
         Locks(256),
     ];
-    goes_by_bit(&rt, rt.alloc(), &steps);
+    goes_by_bit(&rt, rt.alloc(), &STEPS);
 }
 
 #[test]
 fn cells_stand_by_satellite_and_plan(rt: HostRuntime) {
-    let steps = [
-        Takes(
+    static STEPS: [Step; 9] = [
+        Keeps(
             Heard::Wide(true, 1 << 63 | 1 << 61, 1 << 30 | 1 << 22),
-            counts(4, 0, 0),
+            (4, 0, 0),
             false,
         ),
-        Takes(
+        Keeps(
             Heard::Wide(false, 1 << 63 | 1 << 62, 1 << 8),
-            counts(2, 0, 0),
+            (2, 0, 0),
             true,
         ),
         Closed(Some((FIRST, 3, 6))),
@@ -80,18 +95,18 @@ fn cells_stand_by_satellite_and_plan(rt: HostRuntime) {
         ("5X,2W,1C", "none"),
         2_300,
         Gather::Bit,
-        &steps,
+        &STEPS,
     );
 }
 
 #[test]
 fn a_second_satellite_comes_first_in_order(rt: HostRuntime) {
-    let steps = [
+    static STEPS: [Step; 5] = [
         Takes(Heard::Wide(true, 1 << 59, 1 << 30), KEPT, false),
         Takes(Heard::Wide(false, 1 << 61, 1 << 30), KEPT, true),
         Closed(Some((FIRST, 2, 2))),
         Of(0, 3, *b"1C"),
         Of(1, 5, *b"1C"),
     ];
-    goes_by_bit(&rt, rt.alloc(), &steps);
+    goes_by_bit(&rt, rt.alloc(), &STEPS);
 }
