@@ -6,9 +6,6 @@ use Rattle.obs_epoch.specs.Gather.{Gathered}
 use Rattle.obs_epoch.specs.Kinds.{IsUnfitSetup, is_no_station}
 use Rattle.obs_epoch.proofs.gather.Gatherer.new.Goals as goal
 
-made_not : (g : Gathered) (e : PlanFault) → ◌≡◌ {A = Result Gathered PlanFault} (Ok g) (Err e) → ⊥
-made_not g e h = cc
-
 memory_week : ◌≡◌ {A = Result Gathered PlanFault} (Err Memory) (Err BadWeek) → ⊥
 memory_week h = cc
 
