@@ -1,7 +1,10 @@
 -- Numbers that rise, and one more behind them.
-use Rattle.std.proofs.Common.{arith, ◌≡◌, ℕ, ◌+◌, List, ◌++◌, length, get_or, length-append}
+use Rattle.std.proofs.Common.{arith, ◌≡◌, refl, ℕ, ◌+◌, ◌<◌, List, [], ◌∷◌, ◌++◌, length, get_or, map, length-append}
 use Rattle.std.specs.List.Sorted.{IsStrictlyIncreasing}
 use Rattle.std.proofs.lemmas.List.{get_or_append_left}
+use Rattle.std.proofs.lemmas.Grind.{common_steps}
+use Rattle.rinex_file.specs.Value.{Stamped}
+use Rattle.rinex_file.specs.FileValues.{time_stamped}
 
 -- the first of rising numbers rise
 pub rise_front : (xs ys : List ℕ) → IsStrictlyIncreasing (xs ++ ys) → IsStrictlyIncreasing xs
@@ -11,3 +14,24 @@ rise_front xs ys rise k h =
     let next : get_or (xs ++ ys) (k + 1) 0 ≡ get_or xs (k + 1) 0 = get_or_append_left xs ys 0 (k + 1) h in
     let less = rise k (omega (arith, h, size)) in
     omega (arith, here, next, less)
+
+-- a number alone rises
+pub rise_alone : (xs : List ℕ) (next : ℕ) → xs ≡ [] → IsStrictlyIncreasing (xs ++ next ∷ [])
+rise_alone xs next none = grind (arith, common_steps)
+
+-- a number above the last of rising numbers rises behind them
+pub rise_behind : (xs front : List ℕ) (x next : ℕ) → xs ≡ front ++ x ∷ [] → IsStrictlyIncreasing xs → x < next → IsStrictlyIncreasing (xs ++ next ∷ [])
+rise_behind xs front x next ends rise less = grind (arith, common_steps)
+
+-- a number that rises behind others is above the last of them
+pub rise_last : (xs front : List ℕ) (x next : ℕ) → xs ≡ front ++ x ∷ [] → IsStrictlyIncreasing (xs ++ next ∷ []) → x < next
+rise_last xs front x next ends rise = let k = rise (length front) in grind (arith, common_steps)
+
+-- no epoch has no time
+pub none_stamped : (es : List Stamped) → map time_stamped es ≡ [] → es ≡ []
+none_stamped [] none = refl
+none_stamped (e ∷ es) none = cc
+
+-- where a time is the last there is an epoch
+pub not_none : (es : List Stamped) (front : List ℕ) (x : ℕ) → map time_stamped es ≡ front ++ x ∷ [] → es ≡ [] → ⊥
+not_none es front x last none = grind (arith, common_steps)

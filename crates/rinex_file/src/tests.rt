@@ -17,7 +17,7 @@ use std::alloc::Global;
 use std::test::*;
 
 /// The header of a file of GPS 1C alone.
-const HEADER: [&str; 14] = [
+static HEADER: [&str; 14] = [
     "     3.05           OBSERVATION DATA    G                   RINEX VERSION / TYPE",
     "rtcm2rinex                              20240204 000001 UTC PGM / RUN BY / DATE ",
     "                                                            MARKER NAME         ",
@@ -35,7 +35,7 @@ const HEADER: [&str; 14] = [
 ];
 
 /// The epoch of that file.
-const EPOCH: [&str; 2] = [
+static EPOCH: [&str; 2] = [
     "> 2024 02 04 00 00  1.0000000  0  1",
     "G05  20985472.060 7 110279400.000 7      -525.504          45.063",
 ];
@@ -195,43 +195,48 @@ fn full_header(alloc: Global, wanted: &[(usize, &str)]) -> Option<(usize, Option
     }
 }
 
+/// Lines of the header of every signal, each with its number from 0.
+static FULL_HEADER: [(usize, &str); 8] = [
+    (
+        0,
+        "     3.05           OBSERVATION DATA    M                   RINEX VERSION / TYPE",
+    ),
+    (
+        7,
+        "  1114104.5999 -4850729.7108  3975521.4643                  APPROX POSITION XYZ ",
+    ),
+    (
+        8,
+        "        1.5000        0.0000        0.0000                  ANTENNA: DELTA H/E/N",
+    ),
+    (
+        9,
+        "G   60 C1C L1C D1C S1C C1P L1P D1P S1P C1W L1W D1W S1W C2C  SYS / # / OBS TYPES ",
+    ),
+    (
+        13,
+        "       C1L L1L D1L S1L C1X L1X D1X S1X                      SYS / # / OBS TYPES ",
+    ),
+    (
+        14,
+        "E   76 C1C L1C D1C S1C C1A L1A D1A S1A C1B L1B D1B S1B C1X  SYS / # / OBS TYPES ",
+    ),
+    (
+        21,
+        "  2024     2    29     0     0    0.0000000     GPS         TIME OF FIRST OBS   ",
+    ),
+    (
+        23,
+        "E                                                           SYS / PHASE SHIFT   ",
+    ),
+];
+
 #[test]
 fn a_header_shows_plan_and_station(rt: HostRuntime) {
-    let wanted = [
-        (
-            0,
-            "     3.05           OBSERVATION DATA    M                   RINEX VERSION / TYPE",
-        ),
-        (
-            7,
-            "  1114104.5999 -4850729.7108  3975521.4643                  APPROX POSITION XYZ ",
-        ),
-        (
-            8,
-            "        1.5000        0.0000        0.0000                  ANTENNA: DELTA H/E/N",
-        ),
-        (
-            9,
-            "G   60 C1C L1C D1C S1C C1P L1P D1P S1P C1W L1W D1W S1W C2C  SYS / # / OBS TYPES ",
-        ),
-        (
-            13,
-            "       C1L L1L D1L S1L C1X L1X D1X S1X                      SYS / # / OBS TYPES ",
-        ),
-        (
-            14,
-            "E   76 C1C L1C D1C S1C C1A L1A D1A S1A C1B L1B D1B S1B C1X  SYS / # / OBS TYPES ",
-        ),
-        (
-            21,
-            "  2024     2    29     0     0    0.0000000     GPS         TIME OF FIRST OBS   ",
-        ),
-        (
-            23,
-            "E                                                           SYS / PHASE SHIFT   ",
-        ),
-    ];
-    assert_eq!(rt; full_header(rt.alloc(), &wanted), Some((25 * 81, None)));
+    assert_eq!(rt;
+        full_header(rt.alloc(), &FULL_HEADER),
+        Some((25 * 81, None))
+    );
 }
 
 /// The fault of the texts with this date and this name of the marker.

@@ -10,14 +10,14 @@ use std::io::ErrorKind;
 use std::test::*;
 
 /// The event of a station, and the epoch behind it.
-const EVENT: [&str; 3] = [
+static EVENT: [&str; 3] = [
     ">                              4  2",
     "  1114104.5999 -4850729.7108  3975521.4643                  APPROX POSITION XYZ ",
     "        1.5000        0.0000        0.0000                  ANTENNA: DELTA H/E/N",
 ];
 
 /// A second later.
-const SECOND: [&str; 2] = [
+static SECOND: [&str; 2] = [
     "> 2024 02 04 00 00  2.0000000  0  1",
     "G05  20985472.060 7 110279400.00017      -525.504          45.063",
 ];
@@ -47,6 +47,33 @@ fn a_file_with_an_event_is_read_and_written_back(rt: HostRuntime) {
     );
 }
 
+/// The event with its position in other columns.
+static SPACED: [&str; 3] = [
+    ">                              4  2",
+    "  1114104.5999 -4850729.7108  3975521.4643                 APPROX POSITION XYZ ",
+    "        1.5000        0.0000        0.0000                  ANTENNA: DELTA H/E/N",
+];
+
+/// An event that tells the header's values.
+static SAME: [&str; 3] = [
+    ">                              4  2",
+    "        0.0000        0.0000        0.0000                  APPROX POSITION XYZ ",
+    "        0.0000        0.0000        0.0000                  ANTENNA: DELTA H/E/N",
+];
+
+/// An event that tells the header's height and another position.
+static MOVED: [&str; 3] = [
+    ">                              4  2",
+    "  1114104.5999 -4850729.7108  3975521.4643                  APPROX POSITION XYZ ",
+    "        0.0000        0.0000        0.0000                  ANTENNA: DELTA H/E/N",
+];
+
+/// The first line of an event.
+static EVENT_LINE: [&str; 1] = [">                              4  2"];
+
+/// The first line of the epoch.
+static EPOCH_LINE: [&str; 1] = ["> 2024 02 04 00 00  1.0000000  0  1"];
+
 /// A part of a file.
 #[derive(Clone, Copy)]
 enum Part {
@@ -54,40 +81,75 @@ enum Part {
     Epoch,
     Second,
     Event,
-    /// The event with its position in other columns.
     Spaced,
-    /// An event that tells the header's values.
     Same,
-    /// An event that tells the header's height and another position.
     Moved,
-    /// The first line of the event.
     EventLine,
-    /// The first line of the epoch.
     EpochLine,
 }
 
-const SPACED: &str =
-    "  1114104.5999 -4850729.7108  3975521.4643                 APPROX POSITION XYZ ";
-
-fn put_part(text: &mut Text, part: Part) {
+fn lines_of(part: Part) -> &'static [&'static str] {
     match part {
-        Part::Head => put_lines(text, &HEADER),
-        Part::Epoch => put_lines(text, &EPOCH),
-        Part::Second => put_lines(text, &SECOND),
-        Part::Event => put_lines(text, &EVENT),
-        Part::Spaced => put_lines(text, &[EVENT[0], SPACED, EVENT[2]]),
-        Part::Same => put_lines(text, &[EVENT[0], HEADER[7], HEADER[8]]),
-        Part::Moved => put_lines(text, &[EVENT[0], EVENT[1], HEADER[8]]),
-        Part::EventLine => put_lines(text, &EVENT[..1]),
-        Part::EpochLine => put_lines(text, &EPOCH[..1]),
+        Part::Head => &HEADER,
+        Part::Epoch => &EPOCH,
+        Part::Second => &SECOND,
+        Part::Event => &EVENT,
+        Part::Spaced => &SPACED,
+        Part::Same => &SAME,
+        Part::Moved => &MOVED,
+        Part::EventLine => &EVENT_LINE,
+        Part::EpochLine => &EPOCH_LINE,
     }
 }
+
+/// The parts of files, and the fault of each file.
+static CASES: [(&[Part], Option<ReadFault>); 9] = [
+    (
+        &[Part::Head, Part::Event, Part::Epoch, Part::Second],
+        Some(ReadFault::BadEpoch(15)),
+    ),
+    (
+        &[Part::Head, Part::Epoch, Part::Spaced, Part::Second],
+        Some(ReadFault::BadEvent(18)),
+    ),
+    (
+        &[Part::Head, Part::Epoch, Part::Same, Part::Second],
+        Some(ReadFault::BadEvent(19)),
+    ),
+    (&[Part::Head, Part::Epoch, Part::Moved, Part::Second], None),
+    (
+        &[Part::Head, Part::Epoch, Part::Event],
+        Some(ReadFault::CutShort(20)),
+    ),
+    (
+        &[
+            Part::Head,
+            Part::Epoch,
+            Part::Event,
+            Part::Event,
+            Part::Second,
+        ],
+        Some(ReadFault::BadEpoch(20)),
+    ),
+    (
+        &[Part::Head, Part::Epoch, Part::Event, Part::Epoch],
+        Some(ReadFault::BadEpoch(20)),
+    ),
+    (
+        &[Part::Head, Part::Epoch, Part::EventLine, Part::Second],
+        Some(ReadFault::BadEvent(18)),
+    ),
+    (
+        &[Part::Head, Part::EpochLine, Part::Event],
+        Some(ReadFault::BadSatellite(16)),
+    ),
+];
 
 /// The fault of a file of these parts.
 fn fault_of(alloc: Global, parts: &[Part]) -> Option<ReadFault> {
     let mut text = Text::new();
     for part in parts {
-        put_part(&mut text, *part);
+        put_lines(&mut text, lines_of(*part));
     }
     read(alloc, text.as_slice()).err()
 }
@@ -109,28 +171,7 @@ fn fault_otherwise(
 
 #[test]
 fn an_event_in_the_wrong_place_or_of_the_same_values_is_refused(rt: HostRuntime) {
-    use Part::{Epoch, EpochLine, Event, EventLine, Head, Moved, Same, Second, Spaced};
-    let table: [(&[Part], Option<ReadFault>); 9] = [
-        (&[Head, Event, Epoch, Second], Some(ReadFault::BadEpoch(15))),
-        (
-            &[Head, Epoch, Spaced, Second],
-            Some(ReadFault::BadEvent(18)),
-        ),
-        (&[Head, Epoch, Same, Second], Some(ReadFault::BadEvent(19))),
-        (&[Head, Epoch, Moved, Second], None),
-        (&[Head, Epoch, Event], Some(ReadFault::CutShort(20))),
-        (
-            &[Head, Epoch, Event, Event, Second],
-            Some(ReadFault::BadEpoch(20)),
-        ),
-        (&[Head, Epoch, Event, Epoch], Some(ReadFault::BadEpoch(20))),
-        (
-            &[Head, Epoch, EventLine, Second],
-            Some(ReadFault::BadEvent(18)),
-        ),
-        (&[Head, EpochLine, Event], Some(ReadFault::BadSatellite(16))),
-    ];
-    assert_eq!(rt; fault_otherwise(rt.alloc(), &table), None);
+    assert_eq!(rt; fault_otherwise(rt.alloc(), &CASES), None);
 }
 
 /// What comes of writing the event.

@@ -1,7 +1,6 @@
 //! Files that are read back, and files that are refused.
 use super::{EPOCH, HEADER, Text, VALUES, joined, place_of_difference, put_lines};
 use crate::{Counts, HeaderField, ObsFile, ReadFault, check_file, file_bytes, read_file};
-use arrayvec::ArrayVec;
 use gnss_obs::System;
 use obs_epoch::StationValues;
 use rtcm_bits::Counted;
@@ -12,7 +11,7 @@ use std::test::*;
 
 /// A file of two epochs, of both systems, with a signal on more lines than one, an indicator and
 /// values that aren't observed.
-const TWO_SYSTEMS: [&str; 22] = [
+static TWO_SYSTEMS: [&str; 22] = [
     "     3.05           OBSERVATION DATA    M                   RINEX VERSION / TYPE",
     "rtcm2rinex          us                  20240204 000001 UTC PGM / RUN BY / DATE ",
     "ROOF                                                        MARKER NAME         ",
@@ -176,20 +175,18 @@ fn a_file_tells_its_parts(rt: HostRuntime) {
 }
 
 /// The lines of the small file, with another in place of one.
-fn with_line(place: usize, line: &'static str) -> ArrayVec<&'static str, 16> {
-    let mut lines = ArrayVec::new();
-    for known in HEADER.iter().chain(EPOCH.iter()) {
-        let next = if lines.len() == place { line } else { *known };
-        let _ = lines.try_push(next);
+fn with_line(place: usize, line: &str) -> Text {
+    let mut text = Text::new();
+    for at in 0..16usize {
+        let known = if at < 14 { HEADER[at] } else { EPOCH[at - 14] };
+        put_lines(&mut text, &[if at == place { line } else { known }]);
     }
-    lines
+    text
 }
 
 /// The fault of that file.
-fn fault_with(alloc: Global, place: usize, line: &'static str) -> Option<ReadFault> {
-    let mut text = Text::new();
-    put_lines(&mut text, with_line(place, line).as_slice());
-    read(alloc, text.as_slice()).err()
+fn fault_with(alloc: Global, place: usize, line: &str) -> Option<ReadFault> {
+    read(alloc, with_line(place, line).as_slice()).err()
 }
 
 /// The first of these lines that has another fault in its place, and that fault.
@@ -206,69 +203,71 @@ fn refused_otherwise(
     None
 }
 
+/// Lines in their places of the small file, each spelled otherwise there.
+static SPELLED_OTHERWISE: [(usize, &str, ReadFault); 11] = [
+    (
+        1,
+        "rtcm2rinex                              20240204 000001 UTC PGM / RUN BY / DATE",
+        ReadFault::BadHeader(2),
+    ),
+    (
+        0,
+        "     3.04           OBSERVATION DATA    G                   RINEX VERSION / TYPE",
+        ReadFault::BadHeader(1),
+    ),
+    (
+        9,
+        "G    4 C1C L1C D1C S2C                                      SYS / # / OBS TYPES ",
+        ReadFault::BadHeader(10),
+    ),
+    (
+        14,
+        "> 2024 02 04 00 00  1.0000000  0  0",
+        ReadFault::BadEpoch(15),
+    ),
+    (
+        14,
+        "> 2024 02 04 00 00  1.0000000  0 33",
+        ReadFault::BadEpoch(15),
+    ),
+    (
+        14,
+        "> 2024 02 04 00 00  2.0000000  0  1",
+        ReadFault::BadEpoch(15),
+    ),
+    (
+        14,
+        "> 2024 02 30 00 00  1.0000000  0  1",
+        ReadFault::BadEpoch(15),
+    ),
+    (
+        15,
+        "G05  20985472.060 8 110279400.000 7      -525.504          45.063",
+        ReadFault::BadSatellite(16),
+    ),
+    (
+        15,
+        "G33  20985472.060 7 110279400.000 7      -525.504          45.063",
+        ReadFault::BadSatellite(16),
+    ),
+    (
+        15,
+        "E05  20985472.060 7 110279400.000 7      -525.504          45.063",
+        ReadFault::BadSatellite(16),
+    ),
+    (15, "G05", ReadFault::BadSatellite(16)),
+];
+
 #[test]
 fn a_line_spelled_otherwise_is_refused(rt: HostRuntime) {
-    let cases = [
-        (
-            1,
-            "rtcm2rinex                              20240204 000001 UTC PGM / RUN BY / DATE",
-            ReadFault::BadHeader(2),
-        ),
-        (
-            0,
-            "     3.04           OBSERVATION DATA    G                   RINEX VERSION / TYPE",
-            ReadFault::BadHeader(1),
-        ),
-        (
-            9,
-            "G    4 C1C L1C D1C S2C                                      SYS / # / OBS TYPES ",
-            ReadFault::BadHeader(10),
-        ),
-        (
-            14,
-            "> 2024 02 04 00 00  1.0000000  0  0",
-            ReadFault::BadEpoch(15),
-        ),
-        (
-            14,
-            "> 2024 02 04 00 00  1.0000000  0 33",
-            ReadFault::BadEpoch(15),
-        ),
-        (
-            14,
-            "> 2024 02 04 00 00  2.0000000  0  1",
-            ReadFault::BadEpoch(15),
-        ),
-        (
-            14,
-            "> 2024 02 30 00 00  1.0000000  0  1",
-            ReadFault::BadEpoch(15),
-        ),
-        (
-            15,
-            "G05  20985472.060 8 110279400.000 7      -525.504          45.063",
-            ReadFault::BadSatellite(16),
-        ),
-        (
-            15,
-            "G33  20985472.060 7 110279400.000 7      -525.504          45.063",
-            ReadFault::BadSatellite(16),
-        ),
-        (
-            15,
-            "E05  20985472.060 7 110279400.000 7      -525.504          45.063",
-            ReadFault::BadSatellite(16),
-        ),
-        (15, "G05", ReadFault::BadSatellite(16)),
-    ];
-    assert_eq!(rt; refused_otherwise(rt.alloc(), &cases), None);
+    assert_eq!(rt; refused_otherwise(rt.alloc(), &SPELLED_OTHERWISE), None);
 }
 
 #[test]
 fn an_epoch_in_the_wrong_place_is_refused(rt: HostRuntime) {
     assert_eq!(rt;
         [
-            fault(rt.alloc(), &[&HEADER, &EPOCH[..1], &EPOCH], b""),
+            fault(rt.alloc(), &[&HEADER, &[EPOCH[0]], &EPOCH], b""),
             fault(rt.alloc(), &[&HEADER, &EPOCH, &EPOCH], b""),
         ],
         [

@@ -1,8 +1,5 @@
 //! What is written of a gathered message, and where writing stops.
-use super::{
-    ALL, EPOCH, HEADER, Outcome, Takes, Writer, difference, joined, texts, writer,
-    written_otherwise,
-};
+use super::{ALL, EPOCH, HEADER, Outcome, Takes, Writer, joined, texts, writer, written_otherwise};
 use crate::{
     Head, HeadFault, HeaderTexts, Line, epoch_line, satellite_line, write_epoch, write_header,
 };
@@ -14,7 +11,7 @@ use std::alloc::Global;
 use std::io::ErrorKind;
 
 /// A message 1077 of GPS 5, 1C: 70 ms, 100 m/s, 45.0625 dB-Hz.
-const OBSERVED: Row = Row {
+static OBSERVED: Row = Row {
     what: "observed",
     message: &[
         0x43, 0x57, 0xD3, 0x00, 0x00, 0x0F, 0xA0, 0x00, 0x00, 0x04, 0x00, 0x00, 0x00, 0x00, 0x00,
@@ -133,6 +130,8 @@ enum Part {
     Header,
     Epoch,
     Both,
+    /// The line of the epoch and that of GPS 5, twice, each made in place of the one before.
+    Lines,
 }
 
 fn send_header(gatherer: &Gatherer, first: GpsTime, writer: &mut Writer) -> Result<(), HeadFault> {
@@ -150,6 +149,20 @@ fn send_epoch(gatherer: &Gatherer, epoch: &Epoch, writer: &mut Writer) -> Result
     write_epoch(epoch, gatherer.plan(), writer)
 }
 
+fn send_lines(gatherer: &Gatherer, epoch: &Epoch, writer: &mut Writer) -> Result<(), HeadFault> {
+    let Some(satellite) = Sat::new(System::Gps, 5) else {
+        return Ok(());
+    };
+    let mut line = Line::new();
+    for _ in 0..2u8 {
+        epoch_line(epoch.time(), 1, &mut line);
+        writer.write_whole(line.as_slice())?;
+        satellite_line(epoch, gatherer.plan(), satellite, &mut line);
+        writer.write_whole(line.as_slice())?;
+    }
+    Ok(())
+}
+
 fn send(gatherer: &Gatherer, part: Part, writer: &mut Writer) -> Result<(), HeadFault> {
     let Some(epoch) = gatherer.closed() else {
         return Ok(());
@@ -161,31 +174,36 @@ fn send(gatherer: &Gatherer, part: Part, writer: &mut Writer) -> Result<(), Head
             send_header(gatherer, epoch.time(), writer)?;
             send_epoch(gatherer, epoch, writer)
         }
+        Part::Lines => send_lines(gatherer, epoch, writer),
     }
 }
 
+/// What comes of writing a part of the file of what was gathered.
 fn sent(gatherer: &Gatherer, part: Part, takes: Takes, wanted: &[&[&str]]) -> Outcome {
     let mut writer = writer(takes);
     let answer = send(gatherer, part, &mut writer);
     (answer, written_otherwise(writer, takes, wanted))
 }
 
-/// What gathered a message of week 2300, that is the last of its epoch.
-fn gathered_under(alloc: Global, plan: Plan, message: &Message) -> Option<Gatherer> {
+/// The same of what was gathered, which is let go.
+fn sent_of(gatherer: Gatherer, part: Part, takes: Takes, wanted: &[&[&str]]) -> Outcome {
+    sent(&gatherer, part, takes, wanted)
+}
+
+/// What comes of writing a part of the file of a message of week 2300, the last of its epoch.
+fn outcome_under(
+    alloc: Global,
+    plan: Plan,
+    message: &Message,
+    part: Part,
+    takes: Takes,
+    wanted: &[&[&str]],
+) -> Option<Outcome> {
     match Gatherer::new(alloc, plan, 2300, None, Gather::Bit) {
         Ok(mut gatherer) => {
             gatherer.take(message);
-            Some(gatherer)
+            Some(sent_of(gatherer, part, takes, wanted))
         }
-        Err(_) => None,
-    }
-}
-
-/// What gathered the message of a row.
-fn gathered(alloc: Global, row: &Row) -> Option<Gatherer> {
-    let plan = Plan::parse(alloc, row.gps, row.galileo).ok()?;
-    match decode(row.message) {
-        Ok(message) => gathered_under(alloc, plan, &message),
         Err(_) => None,
     }
 }
@@ -198,8 +216,11 @@ fn outcome(
     takes: Takes,
     wanted: &[&[&str]],
 ) -> Option<Outcome> {
-    let gatherer = gathered(alloc, row)?;
-    Some(sent(&gatherer, part, takes, wanted))
+    let message = decode(row.message).ok()?;
+    match Plan::parse(alloc, row.gps, row.galileo) {
+        Ok(plan) => outcome_under(alloc, plan, &message, part, takes, wanted),
+        Err(_) => None,
+    }
 }
 
 #[test]
@@ -229,39 +250,11 @@ fn satellites_have_lines(rt: HostRuntime) {
     assert_eq!(rt; row_otherwise(rt.alloc()), None);
 }
 
-/// Where the line of an epoch, and then that of its satellite, are others than wanted.
-fn lines_otherwise(
-    gatherer: &Gatherer,
-    epoch: &Epoch,
-    satellite: Sat,
-    line: &mut Line,
-) -> [Option<usize>; 2] {
-    epoch_line(epoch.time(), 1, line);
-    let first = difference(line.as_slice(), &[&EPOCH[..1]], 4096);
-    satellite_line(epoch, gatherer.plan(), satellite, line);
-    [first, difference(line.as_slice(), &[&EPOCH[1..]], 4096)]
-}
-
-/// The same, with the lines twice in one place.
-fn lines_twice(gatherer: &Gatherer) -> Option<[[Option<usize>; 2]; 2]> {
-    let epoch = gatherer.closed()?;
-    let satellite = Sat::new(System::Gps, 5)?;
-    let mut line = Line::new();
-    let once = lines_otherwise(gatherer, epoch, satellite, &mut line);
-    Some([once, lines_otherwise(gatherer, epoch, satellite, &mut line)])
-}
-
-/// The same of the lines of the message that was observed.
-fn observed_twice(alloc: Global) -> Option<[[Option<usize>; 2]; 2]> {
-    let gatherer = gathered(alloc, &OBSERVED)?;
-    lines_twice(&gatherer)
-}
-
 #[test]
 fn lines_take_the_place_of_others(rt: HostRuntime) {
     assert_eq!(rt;
-        observed_twice(rt.alloc()),
-        Some([[None, None], [None, None]])
+        outcome(rt.alloc(), &OBSERVED, Part::Lines, ALL, &[&EPOCH, &EPOCH]),
+        Some((Ok(()), None))
     );
 }
 

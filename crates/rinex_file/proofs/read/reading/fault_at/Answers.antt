@@ -14,3 +14,9 @@ returns-in-EventHeight-clause-faulty c = λ input faulty due. (faulty, inr (subs
 
 pub returns-in-EventEpoch-clause-faulty : goal.returns-in-EventEpoch-clause-faulty
 returns-in-EventEpoch-clause-faulty c = λ input faulty due. (faulty, inr (subst (λ (d : Due). IsDueAt d input c.args.number) c.in-EventEpoch.is due))
+
+pub returns-in-Header-clause-faulty : goal.returns-in-Header-clause-faulty
+returns-in-Header-clause-faulty c = λ input faulty due. (faulty, subst (λ (d : Due). IsDueAt d input c.args.number) c.in-Header.is due)
+
+pub returns-in-Satellite-clause-faulty : goal.returns-in-Satellite-clause-faulty
+returns-in-Satellite-clause-faulty c = λ input faulty due. (faulty, subst (λ (d : Due). IsDueAt d input c.args.number) c.in-Satellite.is due)
