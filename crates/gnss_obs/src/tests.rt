@@ -114,16 +114,33 @@ fn fills_the_signal_masks(rt: HostRuntime) {
     assert_eq!(rt; (gps, galileo), (32, 32));
 }
 
-static OTHER_IDS: [u8; 5] = [0, 1, 5, 33, 255];
+static OTHER_IDS: [(System, u8); 6] = [
+    (System::Gps, 0),
+    (System::Gps, 1),
+    (System::Gps, 5),
+    (System::Gps, 33),
+    (System::Gps, 255),
+    (System::Galileo, 7),
+];
 
-static OTHER_CODES: [&str; 8] = ["1A", "1c", "", "1", "C", "1C ", "9C", "7I"];
+static OTHER_CODES: [(System, &str); 9] = [
+    (System::Gps, "1A"),
+    (System::Gps, "1c"),
+    (System::Gps, ""),
+    (System::Gps, "1"),
+    (System::Gps, "C"),
+    (System::Gps, "1C "),
+    (System::Gps, "9C"),
+    (System::Gps, "7I"),
+    (System::Galileo, "2W"),
+];
 
-fn has_id(id: u8) -> bool {
-    Signal::from_id(System::Gps, id).is_some()
+fn has_id(system: System, id: u8) -> bool {
+    Signal::from_id(system, id).is_some()
 }
 
-fn has_code(code: &str) -> bool {
-    Signal::from_code(System::Gps, code).is_some()
+fn has_code(system: System, code: &str) -> bool {
+    Signal::from_code(system, code).is_some()
 }
 
 fn has_place(system: System, index: usize) -> bool {
@@ -132,11 +149,11 @@ fn has_place(system: System, index: usize) -> bool {
 
 #[test]
 fn knows_no_other_signal(rt: HostRuntime) {
-    for id in &OTHER_IDS {
-        assert!(rt; !has_id(*id), "{id}");
+    for (system, id) in &OTHER_IDS {
+        assert!(rt; !has_id(*system, *id), "{id}");
     }
-    for code in &OTHER_CODES {
-        assert!(rt; !has_code(code), "{code}");
+    for (system, code) in &OTHER_CODES {
+        assert!(rt; !has_code(*system, code), "{code}");
     }
     assert!(rt; !has_place(System::Gps, 15) && !has_place(System::Galileo, 19));
 }
@@ -226,6 +243,23 @@ fn rounds_rates_and_strengths(rt: HostRuntime) {
         assert!(rt; digit(*strength) == *want, "{strength}");
     }
     assert!(rt; Thousandths::new(-1) < Thousandths::new(0));
+    assert!(rt; Thousandths::new(-1).value() == -1);
+}
+
+/// Whether what is absent stays so: a range, its phase, a rate and a strength.
+fn are_absent(signal: Signal) -> [bool; 4] {
+    [
+        pseudorange(None).is_none(),
+        phase(None, signal).is_none(),
+        doppler(None, signal).is_none(),
+        strength(None).is_none(),
+    ]
+}
+
+#[test]
+fn keeps_absent_observables(rt: HostRuntime) {
+    let absent = Signal::from_code(System::Gps, "1C").map(are_absent);
+    assert!(rt; absent == Some([true; 4]));
 }
 
 enum Indicator {
