@@ -1,4 +1,6 @@
 //! What no clause says: worked streams, and that each call can succeed.
+mod by_definition;
+
 ghost use Rattle.std.specs.Prelude.{◌<◌};
 
 use crate::{Framer, Frames, MOST_BYTES, ScanFault};
@@ -45,109 +47,126 @@ const INNER_FRAME: [u8; 12] = [
 /// The longest claim, at each place anew.
 const PREAMBLES: [u8; 2_000] = [0xD3; 2_000];
 
+/// The bytes in no frame, all looks, and the most at one byte.
+type Counts = (u64, u64, u16);
+
 /// The first bytes of a stream, and what they give.
-struct Stream {
-    bytes: &'static [u8],
+#[derive(Drop)]
+struct Stream<'a> {
+    bytes: &'a [u8],
     size: usize,
     /// The place of each frame, and the bytes of its message.
-    frames: &'static [(usize, usize)],
-    /// Before the end: frames, held bytes and looks.
-    before: (usize, usize, u64),
-    /// Behind it: the bytes in no frame, looks, and the most at one byte.
-    behind: (u64, u64, u16),
+    frames: &'a [(usize, usize)],
+    /// Before the end: frames and held bytes.
+    before: (usize, usize, Counts),
+    behind: Counts,
 }
 
-static STREAMS: [Stream; 11] = [
+static STREAMS: [Stream<'static>; 13] = [
     Stream {
         bytes: &FOUR_FRAMES,
         size: 25,
         frames: &[(0, 19)],
-        before: (1, 0, 44),
+        before: (1, 0, (0, 44, 2)),
         behind: (0, 44, 2),
     },
     Stream {
         bytes: &FOUR_FRAMES,
         size: 0,
         frames: &[],
-        before: (0, 0, 0),
+        before: (0, 0, (0, 0, 0)),
         behind: (0, 0, 0),
     },
     Stream {
         bytes: &EMPTY_MESSAGE,
         size: 6,
         frames: &[(0, 0)],
-        before: (1, 0, 6),
+        before: (1, 0, (0, 6, 1)),
         behind: (0, 6, 1),
     },
     Stream {
         bytes: &LATE_FRAME,
         size: 7,
         frames: &[(1, 0)],
-        before: (0, 7, 7),
+        before: (0, 7, (0, 7, 1)),
         behind: (1, 13, 2),
     },
     Stream {
         bytes: &PREAMBLES,
         size: 10,
         frames: &[],
-        before: (0, 10, 10),
+        before: (0, 10, (0, 10, 1)),
         behind: (10, 55, 10),
     },
     Stream {
         bytes: &FOUR_FRAMES,
         size: 24,
         frames: &[],
-        before: (0, 24, 24),
+        before: (0, 24, (0, 24, 1)),
         behind: (24, 65, 3),
     },
     Stream {
         bytes: &INNER_FRAME,
         size: 12,
         frames: &[(3, 0)],
-        before: (1, 0, 23),
+        before: (1, 0, (6, 23, 2)),
         behind: (6, 23, 2),
     },
     Stream {
         bytes: &BEHIND_A_CLAIM,
         size: 28,
         frames: &[(3, 19)],
-        before: (0, 28, 28),
+        before: (0, 28, (0, 28, 1)),
         behind: (3, 74, 3),
     },
     Stream {
         bytes: &FOUR_FRAMES,
         size: 91,
         frames: &[(0, 19), (25, 21)],
-        before: (2, 39, 131),
+        before: (2, 39, (0, 131, 2)),
         behind: (39, 174, 3),
     },
     Stream {
         bytes: &RESERVED_SET,
         size: 25,
         frames: &[(0, 19)],
-        before: (1, 0, 44),
+        before: (1, 0, (0, 44, 2)),
         behind: (0, 44, 2),
+    },
+    Stream {
+        bytes: &FOUR_FRAMES,
+        size: 52,
+        frames: &[(0, 19), (25, 21)],
+        before: (2, 0, (0, 92, 2)),
+        behind: (0, 92, 2),
+    },
+    Stream {
+        bytes: &FOUR_FRAMES,
+        size: 94,
+        frames: &[(0, 19), (25, 21), (52, 36)],
+        before: (3, 0, (0, 170, 2)),
+        behind: (0, 170, 2),
     },
     Stream {
         bytes: &FOUR_FRAMES,
         size: 130,
         frames: &[(0, 19), (25, 21), (52, 36), (94, 30)],
-        before: (4, 0, 236),
+        before: (4, 0, (0, 236, 2)),
         behind: (0, 236, 2),
     },
 ];
 
 /// Each place before 1,016 is looked through to the end of its claim, and each other to the end of
 /// the stream.
-static CLAIMS: Stream = Stream {
+static CLAIMS: Stream<'static> = Stream {
     bytes: &PREAMBLES,
     size: 2_000,
     frames: &[],
-    before: (0, 984, 1_001_744),
+    before: (0, 984, (1_016, 1_001_744, 985)),
     behind: (2_000, 1_485_380, 985),
 };
 
-impl Stream {
+impl<'a> Stream<'a> {
     fn taken(&self) -> &[u8] {
         &self.bytes[..self.size.min(self.bytes.len())]
     }
@@ -225,13 +244,16 @@ fn drain(framer: &mut Framer, stream: &Stream, before: usize) -> Option<usize> {
     None
 }
 
-/// What the framer tells before the end and behind it, where the stream comes in blocks of a size;
+/// What a framer tells before the end of a stream, and behind it.
+type Told = ((usize, usize, Counts), Counts);
+
+fn counts(framer: &Framer) -> Counts {
+    (framer.skipped(), framer.examined(), framer.most())
+}
+
+/// What the framer tells, where the stream comes in blocks of a size;
 /// None where it refuses one, or gives other frames.
-fn told(
-    framer: &mut Framer,
-    stream: &Stream,
-    size: usize,
-) -> Option<((usize, usize, u64), (u64, u64, u16))>
+fn told(framer: &mut Framer, stream: &Stream, size: usize) -> Option<Told>
     requires { 0 < size }
 {
     let mut frames = 0;
@@ -241,21 +263,33 @@ fn told(
         }
         frames = drain(framer, stream, frames)?;
     }
-    let before = (frames, framer.held(), framer.examined());
+    let before = (frames, framer.held(), counts(framer));
     framer.end();
-    if drain(framer, stream, frames)? < stream.frames.len() {
+    let frames = drain(framer, stream, frames)?;
+    if frames < stream.frames.len() || framer.taken() != stream.taken().len() as u64 {
         return None;
     }
-    Some((before, (framer.skipped(), framer.examined(), framer.most())))
+    Some((before, counts(framer)))
+}
+
+/// What a framer tells of the stream in blocks of a size.
+fn told_by(alloc: Global, stream: &Stream, size: usize) -> Option<Told>
+    requires { 0 < size }
+{
+    match Framer::new(alloc, MOST_BYTES) {
+        Ok(mut framer) => {
+            let told = told(&mut framer, stream, size);
+            drop(framer);
+            told
+        }
+        Err(_) => None,
+    }
 }
 
 fn is_told(alloc: Global, stream: &Stream, size: usize) -> bool
     requires { 0 < size }
 {
-    match Framer::new(alloc, MOST_BYTES) {
-        Ok(mut framer) => told(&mut framer, stream, size) == Some((stream.before, stream.behind)),
-        Err(_) => false,
-    }
+    told_by(alloc, stream, size) == Some((stream.before, stream.behind))
 }
 
 /// The first size of blocks in which the stream doesn't give its frames and counts.

@@ -1,0 +1,151 @@
+//! Streams cut and damaged at each place, framed by the definitions, as slow as they are.
+use super::{Counts, FOUR_FRAMES, Stream, is_listed, told_by};
+use rtcm_bits::crc24q;
+use std::alloc::Global;
+
+const SIZE: usize = FOUR_FRAMES.len();
+
+/// More frames than fit in so many bytes.
+const MOST_FRAMES: usize = 24;
+
+/// The frames of a stream, and how often each of its bytes is looked at.
+#[derive(Drop)]
+struct Slow {
+    frames: [(usize, usize); MOST_FRAMES],
+    count: usize,
+    looks: [u16; SIZE],
+}
+
+/// How many bytes a place claims: those of the frame that its first three bytes begin, or one.
+fn claimed(rest: &[u8]) -> usize {
+    if rest.first() != Some(&0xD3) {
+        return 1;
+    }
+    match (rest.get(1), rest.get(2)) {
+        (Some(high), Some(low)) => usize::from(*high % 4) * 256 + usize::from(*low) + 6,
+        _ => SIZE,
+    }
+}
+
+/// Whether a whole frame of so many bytes begins there.
+fn is_frame(rest: &[u8], size: usize) -> bool {
+    if size < 6 || rest.len() < size {
+        return false;
+    }
+    let check = crc24q(&rest[..size - 3]).to_be_bytes();
+    rest[size - 3..size] == check[1..]
+}
+
+impl Slow {
+    /// One more look at each of these bytes.
+    fn look_at(&mut self, from: usize, to: usize) {
+        for place in from..to.min(SIZE) {
+            self.looks[place] = self.looks[place].saturating_add(1);
+        }
+    }
+
+    fn add(&mut self, place: usize, message: usize) {
+        if self.count < MOST_FRAMES {
+            self.frames[self.count] = (place, message);
+            self.count += 1;
+        }
+    }
+
+    /// Tries the candidate at a place. Where the next one stands.
+    fn try_at(&mut self, bytes: &[u8], place: usize) -> usize {
+        let rest = &bytes[place.min(bytes.len())..];
+        let claim = claimed(rest);
+        let end = place.saturating_add(claim);
+        self.look_at(place, end.min(bytes.len()));
+        if !is_frame(rest, claim) {
+            return place.saturating_add(1);
+        }
+        let message = claim.saturating_sub(6);
+        let start = place.saturating_add(3);
+        self.look_at(start, start.saturating_add(message));
+        self.add(place, message);
+        end
+    }
+
+    /// The counts of a stream of so many bytes.
+    fn counts(&self, size: usize) -> Counts {
+        let mut skipped = size as u64;
+        for (_, message) in self.frames.iter().take(self.count) {
+            skipped = skipped.saturating_sub((*message as u64).saturating_add(6));
+        }
+        let mut examined = 0u64;
+        let mut most = 0;
+        for looks in &self.looks {
+            examined = examined.saturating_add(u64::from(*looks));
+            most = most.max(*looks);
+        }
+        (skipped, examined, most)
+    }
+}
+
+/// The whole stream by the definitions.
+fn slowly(bytes: &[u8]) -> Slow {
+    let mut slow = Slow {
+        frames: [(0, 0); MOST_FRAMES],
+        count: 0,
+        looks: [0; SIZE],
+    };
+    let mut next = 0;
+    for place in 0..bytes.len() {
+        if place == next {
+            next = slow.try_at(bytes, place);
+        }
+    }
+    slow
+}
+
+/// Whether a framer and the slice give what the definitions give, the framer by one byte at a time
+/// and by two.
+fn agrees(alloc: Global, bytes: &[u8]) -> bool {
+    let slow = slowly(bytes);
+    let stream = Stream {
+        bytes,
+        size: bytes.len(),
+        frames: &slow.frames[..slow.count.min(MOST_FRAMES)],
+        before: (0, 0, (0, 0, 0)),
+        behind: slow.counts(bytes.len()),
+    };
+    is_listed(&stream) && is_counted(alloc, &stream, 1) && is_counted(alloc, &stream, 2)
+}
+
+/// Whether a framer that takes so many bytes at a time gives these frames and counts.
+fn is_counted(alloc: Global, stream: &Stream, size: usize) -> bool {
+    match told_by(alloc, stream, size.max(1)) {
+        Some((_, behind)) => behind == stream.behind,
+        None => false,
+    }
+}
+
+/// The end of the first stream from a place that is cut and doesn't agree.
+fn first_wrong_end(alloc: Global, from: usize) -> Option<usize> {
+    for end in from..=SIZE {
+        if !agrees(alloc, &FOUR_FRAMES[from..end]) {
+            return Some(end);
+        }
+    }
+    None
+}
+
+/// Whether the streams agree in which this byte is damaged, and that of the third frame.
+fn agrees_damaged(alloc: Global, place: usize) -> bool {
+    let mut damaged = FOUR_FRAMES;
+    if place < SIZE {
+        damaged[place] = !damaged[place];
+    }
+    agrees(alloc, &damaged) && agrees(alloc, &damaged[52..94])
+}
+
+#[test]
+fn cut_and_damaged_streams(rt: HostRuntime) {
+    for from in [0, 25, 52, 94] {
+        assert_eq!(rt; first_wrong_end(rt.alloc(), from), None, "from {from}");
+    }
+    for place in 0..SIZE {
+        assert!(rt; agrees_damaged(rt.alloc(), place), "damaged at {place}");
+    }
+}
