@@ -93,15 +93,22 @@ fn counts(window: &Window) -> (usize, u64, u16) {
     (window.held(), window.examined(), window.most())
 }
 
+/// Whether five bytes are taken, some of them looked at, and the first dropped, each with its looks.
+fn counts_looks(window: &mut Window) -> bool {
+    push_each(window, &[10, 11, 12, 13, 14])
+        && counts(window) == (5, 0, 0)
+        && look(window, 0) == Some(10)
+        && look(window, 0) == Some(10)
+        && counts(window) == (5, 2, 2)
+        && hands_over(window, 1, &[11, 12])
+        && drop_front(window, 1)
+        && (looks(window, 0), counts(window)) == (Some(1), (4, 4, 2))
+}
+
 #[test]
 fn window_counts_looks(rt: HostRuntime) -> Result<(), Fail> {
     let mut window = Window::new(rt.alloc())?;
-    assert!(rt; push_each(&mut window, &[10, 11, 12, 13, 14]));
-    assert_eq!(rt; counts(&window), (5, 0, 0));
-    let looked = [look(&mut window, 0), look(&mut window, 0)];
-    assert_eq!(rt; (looked, counts(&window)), ([Some(10); 2], (5, 2, 2)));
-    assert!(rt; hands_over(&mut window, 1, &[11, 12]) && drop_front(&mut window, 1));
-    assert_eq!(rt; (looks(&window, 0), counts(&window)), (Some(1), (4, 4, 2)));
+    assert!(rt; counts_looks(&mut window));
     Ok(())
 }
 
@@ -115,46 +122,50 @@ fn passes_on(window: &mut Window) -> bool {
         && drop_front(window, 25)
 }
 
+/// How many of a hundred frames are passed on. Their bytes wrap round in their room now and then.
+fn passed_on(window: &mut Window) -> usize {
+    for round in 0..100 {
+        if !passes_on(window) {
+            return round;
+        }
+    }
+    100
+}
+
 #[test]
 fn ranges_of_a_window(rt: HostRuntime) -> Result<(), Fail> {
     let mut window = Window::new(rt.alloc())?;
-    // The bytes wrap round in their room now and then.
-    for round in 0..100 {
-        assert!(rt; passes_on(&mut window), "{round}");
-    }
-    assert_eq!(rt; counts(&window), (0, 4_100, 2));
+    let told = (passed_on(&mut window), counts(&window));
+    assert_eq!(rt; told, (100, (0, 4_100, 2)));
     Ok(())
+}
+
+/// Whether bytes other than one are dropped, each with a look, up to it and up to the end.
+fn drops_others(window: &mut Window) -> bool {
+    window.held() == 0
+        && push_all(window, &[7, 8, 0xD3, 9, 0xD3])
+        && (drop_others(window, 0xD3), counts(window)) == (2, (3, 2, 1))
+        && looks(window, 0) == Some(0)
+        && drop_others(window, 0xD3) == 0
+        && drop_others(window, 0xD4) == 3
+        && drop_others(window, 0xD4) == 0
+        && counts(window) == (0, 5, 1)
 }
 
 #[test]
 fn others_are_dropped(rt: HostRuntime) -> Result<(), Fail> {
     let mut window = Window::new(rt.alloc())?;
-    assert!(rt; window.held() == 0 && push_all(&mut window, &[7, 8, 0xD3, 9, 0xD3]));
-    assert_eq!(rt;
-        (drop_others(&mut window, 0xD3), counts(&window)),
-        (2, (3, 2, 1))
-    );
-    assert_eq!(rt; looks(&window, 0), Some(0));
-    let dropped = [0xD3, 0xD4, 0xD4].map(|byte| drop_others(&mut window, byte));
-    assert_eq!(rt; (dropped, counts(&window)), ([0, 3, 0], (0, 5, 1)));
+    assert!(rt; drops_others(&mut window));
     Ok(())
 }
 
-#[test]
-fn check_of_a_frame(rt: HostRuntime) {
-    assert_eq!(rt; crc24q(&STATION_FRAME[..22]), 0x36_0B98);
-    assert_eq!(rt; crc24q(&STATION_FRAME), 0);
+/// The check of bytes that come one by one.
+fn check_of_each(bytes: &[u8]) -> u32 {
     let mut register = CheckRegister::new();
-    for byte in [0xD3, 0, 0] {
-        register.take(byte);
+    for byte in bytes {
+        register.take(*byte);
     }
-    assert_eq!(rt; register.value(), 0x47_EA4B);
-    for cut in 0..=22 {
-        assert_eq!(rt;
-            check_of_two(&STATION_FRAME[..cut], &STATION_FRAME[cut..22]),
-            0x36_0B98
-        );
-    }
+    register.value()
 }
 
 /// The check of bytes that come in two pieces.
@@ -163,6 +174,20 @@ fn check_of_two(front: &[u8], back: &[u8]) -> u32 {
     register.take_all(front);
     register.take_all(back);
     register.value()
+}
+
+#[test]
+fn check_of_a_frame(rt: HostRuntime) {
+    let checks = (
+        crc24q(&STATION_FRAME[..22]),
+        crc24q(&STATION_FRAME),
+        check_of_each(&[0xD3, 0, 0]),
+    );
+    assert_eq!(rt; checks, (0x36_0B98, 0, 0x47_EA4B));
+    for cut in 0..=22 {
+        let check = check_of_two(&STATION_FRAME[..cut], &STATION_FRAME[cut..22]);
+        assert!(rt; check == 0x36_0B98, "{cut}");
+    }
 }
 
 /// Whether the frame of the message is this one, in a buffer that had another byte.
@@ -215,18 +240,24 @@ fn put_eight_bits(bytes: &mut ArrayVec<u8, 1023>) -> (usize, usize) {
     (before, behind)
 }
 
-#[test]
-fn bits_of_a_byte(rt: HostRuntime) {
+/// The fields of a byte of three bits, five with a sign, and one more, and where the reader stands.
+fn eight_bits() -> (Option<u64>, Option<i64>, Option<u64>, usize) {
     let mut reader = BitReader::new(&[0xB5]);
-    let fields = (
+    (
         unsigned(&mut reader, 3),
         signed(&mut reader, 5),
         unsigned(&mut reader, 1),
-    );
-    assert_eq!(rt; (fields, reader.place()), ((Some(5), Some(-11), None), 8));
+        reader.place(),
+    )
+}
+
+#[test]
+fn bits_of_a_byte(rt: HostRuntime) {
+    assert!(rt; eight_bits() == (Some(5), Some(-11), None, 8));
     let mut bytes = ArrayVec::new();
-    assert_eq!(rt; put_eight_bits(&mut bytes), (8184, 8176));
-    assert_eq!(rt; bytes.as_slice(), [0xB5].as_slice());
+    assert!(rt;
+        put_eight_bits(&mut bytes) == (8184, 8176) && bytes.as_slice() == [0xB5].as_slice()
+    );
 }
 
 /// Writes 1 in four bits, the least number in 64, and 3 in two.
@@ -238,24 +269,27 @@ fn put_seventy_bits(bytes: &mut ArrayVec<u8, 1023>) {
     writer.finish(bytes);
 }
 
-#[test]
-fn bits_across_bytes(rt: HostRuntime) {
-    let bytes = [0x12, 0x34, 0x56, 0x78, 0x9A, 0xBC, 0xDE, 0xF0, 0x0F];
-    let mut reader = BitReader::new(&bytes);
-    let fields = [unsigned(&mut reader, 4), unsigned(&mut reader, 64)];
-    assert_eq!(rt; fields, [Some(0x1), Some(0x2345_6789_ABCD_EF00)]);
-    let fields = (
+static SEVENTY_TWO_BITS: [u8; 9] = [0x12, 0x34, 0x56, 0x78, 0x9A, 0xBC, 0xDE, 0xF0, 0x0F];
+
+/// Its fields of 4 and 64 bits, one of 5 for which bits are missing, where the reader stands then,
+/// and one of 4.
+fn seventy_two_bits() -> ([Option<u64>; 2], Option<i64>, usize, Option<i64>) {
+    let mut reader = BitReader::new(&SEVENTY_TWO_BITS);
+    (
+        [unsigned(&mut reader, 4), unsigned(&mut reader, 64)],
         signed(&mut reader, 5),
         reader.place(),
         signed(&mut reader, 4),
-    );
-    assert_eq!(rt; fields, (None, 68, Some(-1)));
+    )
+}
+
+#[test]
+fn bits_across_bytes(rt: HostRuntime) {
+    let fields = [Some(0x1), Some(0x2345_6789_ABCD_EF00)];
+    assert!(rt; seventy_two_bits() == (fields, None, 68, Some(-1)));
     let mut written = ArrayVec::new();
     put_seventy_bits(&mut written);
-    assert_eq!(rt;
-        written.as_slice(),
-        [0x18, 0, 0, 0, 0, 0, 0, 0, 0x0C].as_slice()
-    );
+    assert!(rt; written.as_slice() == [0x18, 0, 0, 0, 0, 0, 0, 0, 0x0C].as_slice());
 }
 
 /// What one call answers, with how often the device has failed by then.
@@ -273,28 +307,45 @@ fn read(reader: &mut Counted<PieceReader>, buf: &mut [u8]) -> Answer {
     answer(outcome, reader.failures())
 }
 
+/// Room for a read, and its answer.
+static READS: [(usize, Answer); 7] = [
+    (10, (Ok(4), 0)),
+    (10, (Ok(1), 0)),
+    (8, (Ok(8), 0)),
+    (10, (Ok(10), 0)),
+    (3, (Ok(2), 0)),
+    (7, (Err(ErrorKind::Interrupted), 1)),
+    (7, (Err(ErrorKind::Interrupted), 2)),
+];
+
+/// How many of these reads are answered so, and the front of the last bytes.
+fn answered(reader: &mut Counted<PieceReader>) -> (usize, [u8; 2]) {
+    let mut buf = [0u8; 10];
+    let mut right = 0usize;
+    for (room, want) in &READS {
+        let read = read(reader, &mut buf[..(*room).min(10)]);
+        if read != *want {
+            break;
+        }
+        right = right.saturating_add(1);
+    }
+    (right, [buf[0], buf[1]])
+}
+
+/// How many reads of the frame in pieces are answered so with its last bytes, how wide the widest
+/// was at first and behind them, and how many the device was asked for.
+fn counted_reads() -> ((usize, [u8; 2]), [usize; 2], usize) {
+    let end = ReadEnd::Fails(ErrorKind::Interrupted);
+    let mut reader = Counted::new(PieceReader::new(&STATION_FRAME, &[4, 0, 25], end));
+    let before = reader.widest();
+    let right = answered(&mut reader);
+    let widest = [before, reader.widest()];
+    (right, widest, reader.into_inner().asked())
+}
+
 #[test]
 fn reads_are_counted(rt: HostRuntime) {
-    let interrupted = ErrorKind::Interrupted;
-    let pieces = PieceReader::new(&STATION_FRAME, &[4, 0, 25], ReadEnd::Fails(interrupted));
-    let mut reader = Counted::new(pieces);
-    assert_eq!(rt; reader.widest(), 0);
-    let mut buf = [0u8; 10];
-    for (room, want) in [
-        (10, (Ok(4), 0)),
-        (10, (Ok(1), 0)),
-        (8, (Ok(8), 0)),
-        (10, (Ok(10), 0)),
-        (3, (Ok(2), 0)),
-        (7, (Err(interrupted), 1)),
-        (7, (Err(interrupted), 2)),
-    ] {
-        assert!(rt; room <= 10);
-        assert_eq!(rt; read(&mut reader, &mut buf[..room]), want);
-    }
-    assert_eq!(rt; buf[..2], STATION_FRAME[23..]);
-    assert_eq!(rt; reader.widest(), 10);
-    assert_eq!(rt; reader.into_inner().asked(), 7);
+    assert!(rt; counted_reads() == ((7, [0x0B, 0x98]), [0, 10], 7));
 }
 
 /// A writer of eight bytes at most that takes two of them at a time.
@@ -321,29 +372,36 @@ fn has_taken(writer: Pairs, want: &[u8]) -> bool {
     writer.into_inner().into_inner().as_slice() == want
 }
 
+/// Whether a device that fails once behind three bytes is told as failed from then on.
+fn fails_on(writer: &mut Pairs) -> bool {
+    write_whole(writer, &[1, 2, 3]) == (true, 0)
+        && write(writer, &[4, 5, 6]) == (Err(ErrorKind::Other), 1)
+        && write(writer, &[4, 5, 6]) == (Ok(0), 2)
+        && write(writer, &[]) == (Ok(0), 2)
+        && write_whole(writer, &[4, 5]) == (false, 3)
+}
+
+fn three_are_taken() -> bool {
+    let mut writer = pairs(3, WriteEnd::FailsOnce(ErrorKind::Other));
+    fails_on(&mut writer) && has_taken(writer, &[1, 2, 3])
+}
+
 #[test]
 fn writes_are_counted(rt: HostRuntime) {
-    let other = ErrorKind::Other;
-    let mut writer = pairs(3, WriteEnd::FailsOnce(other));
-    assert_eq!(rt; write_whole(&mut writer, &[1, 2, 3]), (true, 0));
-    assert_eq!(rt; write(&mut writer, &[4, 5, 6]), (Err(other), 1));
-    assert_eq!(rt; write(&mut writer, &[4, 5, 6]), (Ok(0), 2));
-    assert_eq!(rt; write(&mut writer, &[]), (Ok(0), 2));
-    assert_eq!(rt; write_whole(&mut writer, &[4, 5]), (false, 3));
-    assert!(rt; has_taken(writer, &[1, 2, 3]));
+    assert!(rt; three_are_taken());
+}
+
+/// Whether five bytes of seven are taken, and one failure is counted.
+fn five_are_taken(end: WriteEnd) -> bool {
+    let mut writer = pairs(5, end);
+    write_whole(&mut writer, &[1, 2, 3, 4, 5, 6, 7]) == (false, 1)
+        && has_taken(writer, &[1, 2, 3, 4, 5])
 }
 
 #[test]
 fn whole_writes_stop_at_a_failure(rt: HostRuntime) {
-    for end in [WriteEnd::TakesNone, WriteEnd::Fails(ErrorKind::Interrupted)] {
-        let mut writer = pairs(5, end);
-        assert_eq!(rt;
-            write_whole(&mut writer, &[1, 2, 3, 4, 5, 6, 7]),
-            (false, 1),
-            "{end:?}"
-        );
-        assert!(rt; has_taken(writer, &[1, 2, 3, 4, 5]), "{end:?}");
-    }
+    assert!(rt; five_are_taken(WriteEnd::TakesNone));
+    assert!(rt; five_are_taken(WriteEnd::Fails(ErrorKind::Interrupted)));
 }
 
 /// Fails each flush, and counts them.
@@ -380,8 +438,5 @@ fn write_and_flush(clogged: Clogged) -> (bool, bool, u64, u32) {
 
 #[test]
 fn flushes_are_handed_on(rt: HostRuntime) {
-    assert_eq!(rt;
-        write_and_flush(Clogged { flushes: 0 }),
-        (true, false, 1, 1)
-    );
+    assert!(rt; write_and_flush(Clogged { flushes: 0 }) == (true, false, 1, 1));
 }

@@ -1,6 +1,8 @@
+ghost use Rattle.std.specs.Prelude.{◌≤◌};
+
 use crate::{
-    Cell7, Entry, Field, Form, Grid, Message, MsgFault, Msm, MsmHeader, Satellite7, StationParts,
-    ValueFault, View, decode, encode, entries, look,
+    Cell7, Entry, Field, Form, Message, MsgFault, MsmHeader, Satellite7, StationParts, ValueFault,
+    View, decode, encode, entries, look,
 };
 use arrayvec::ArrayVec;
 use std::alloc::{AllocError, Global};
@@ -19,7 +21,7 @@ const HEIGHT: [u8; 21] = [
 ];
 
 /// Message 1077 with one cell, of satellite 5 and signal 2.
-const FINE: [u8; 36] = [
+pub(crate) const FINE: [u8; 36] = [
     0x43, 0x57, 0xD3, 0x00, 0x00, 0x0F, 0xA0, 0x00, 0x00, 0x04, 0x00, 0x00, 0x00, 0x00, 0x00, 0x00,
     0x00, 0x20, 0x00, 0x00, 0x00, 0x51, 0x80, 0x00, 0x01, 0x90, 0x00, 0x00, 0x00, 0x00, 0x00, 0x00,
     0x05, 0xA2, 0x00, 0x00,
@@ -53,36 +55,32 @@ const MANY: [u8; 22] = [
 const LATE: [u8; 7] = [0x43, 0x57, 0xD3, 0x90, 0x32, 0x10, 0x00];
 
 /// The values of the message 1005.
-pub(crate) fn station_parts() -> StationParts {
-    StationParts {
-        station: 2003,
-        realization: 0,
-        gps: true,
-        glonass: false,
-        galileo: false,
-        reference: false,
-        x: 11_141_045_999,
-        oscillator: false,
-        y: -48_507_297_108,
-        quarter: 0,
-        z: 39_755_214_643,
-        height: None,
-    }
-}
+pub(crate) const STATION_PARTS: StationParts = StationParts {
+    station: 2003,
+    realization: 0,
+    gps: true,
+    glonass: false,
+    galileo: false,
+    reference: false,
+    x: 11_141_045_999,
+    oscillator: false,
+    y: -48_507_297_108,
+    quarter: 0,
+    z: 39_755_214_643,
+    height: None,
+};
 
 /// The head of the messages 1074 and 1077.
-pub(crate) fn header() -> MsmHeader {
-    MsmHeader {
-        station: 2003,
-        time: 1000,
-        more: false,
-        iods: 0,
-        steering: 0,
-        clock: 0,
-        smoothing: false,
-        interval: 0,
-    }
-}
+pub(crate) const HEADER: MsmHeader = MsmHeader {
+    station: 2003,
+    time: 1000,
+    more: false,
+    iods: 0,
+    steering: 0,
+    clock: 0,
+    smoothing: false,
+    interval: 0,
+};
 
 pub(crate) const SATELLITE: Satellite7 = Satellite7 {
     whole: 70,
@@ -100,83 +98,98 @@ pub(crate) const CELL: Cell7 = Cell7 {
     rate: 0,
 };
 
-fn fault_of(bytes: &[u8]) -> Option<MsgFault> {
-    match decode(bytes) {
-        Ok(_) => None,
-        Err(fault) => Some(fault),
+/// The first bytes of a message, as many as are said, with other bytes at some places.
+struct Sent(&'static [u8], usize, &'static [(usize, u8)]);
+
+const ALL: usize = 36;
+
+impl Sent {
+    fn bytes(&self) -> [u8; ALL] {
+        let mut bytes = [0; ALL];
+        for (i, byte) in self.0.iter().enumerate() {
+            if i < ALL {
+                bytes[i] = *byte;
+            }
+        }
+        for (place, byte) in self.2 {
+            if *place < ALL {
+                bytes[*place] = *byte;
+            }
+        }
+        bytes
+    }
+
+    fn size(&self) -> usize
+        ensures { result ≤ 36 }
+    {
+        self.1.min(ALL)
     }
 }
 
 /// Whether the message that is read is written as these bytes.
 fn is_written_as(bytes: &[u8], want: &[u8]) -> bool {
     match decode(bytes) {
-        Ok(message) => {
-            let mut out = ArrayVec::new();
-            if message.is_other() {
-                return false;
-            }
-            encode(&message, &mut out);
-            out.as_slice() == want
-        }
+        Ok(message) => writes(&message, want),
         Err(_) => false,
     }
+}
+
+/// Whether the message is written as these bytes; not where it is of a number that is not read.
+fn writes(message: &Message, want: &[u8]) -> bool {
+    let mut out = ArrayVec::new();
+    if !message.is_other() {
+        encode(message, &mut out);
+    }
+    out.as_slice() == want
 }
 
 pub(crate) fn is_written_back(bytes: &[u8]) -> bool {
     is_written_as(bytes, bytes)
 }
 
-/// What the first cell of a message says.
-fn first_entry(bytes: &[u8]) -> Option<Entry> {
-    match decode(bytes) {
-        Ok(Message::Msm4(msm)) => entries(&msm).as_slice().first().copied(),
-        Ok(Message::Msm7(msm)) => entries(&msm).as_slice().first().copied(),
+static MESSAGES: [&[u8]; 6] = [&STATION, &HEIGHT, &FINE, &COARSE, &GALILEO, &EMPTY];
+
+#[test]
+fn messages_are_written_back(rt: HostRuntime) {
+    for message in &MESSAGES {
+        assert!(rt; is_written_back(message));
+    }
+}
+
+/// The parts of a station message that is looked at.
+fn parts_of(sent: &Sent) -> Option<StationParts> {
+    match look(&sent.bytes()[..sent.size()]) {
+        Ok(View::Station(station)) => Some(station.parts()),
         _ => None,
     }
 }
 
-fn parts_of(bytes: &[u8]) -> Option<StationParts> {
-    match decode(bytes) {
-        Ok(Message::Station(station)) => Some(station.parts()),
-        _ => None,
-    }
-}
+static STATIONS: [(Sent, Option<u16>); 3] = [
+    (Sent(&STATION, 19, &[]), None),
+    (Sent(&HEIGHT, 21, &[]), Some(15_000)),
+    // the reserved bit set
+    (Sent(&STATION, 19, &[(9, 0x74)]), None),
+];
 
-/// The number, the station and DF393 of a message that is not read.
-fn other_of(bytes: &[u8]) -> Option<(u16, Option<(u16, bool)>)> {
-    match decode(bytes) {
-        Ok(Message::Other { number, set }) => Some((number, set)),
-        _ => None,
+#[test]
+fn stations_are_read(rt: HostRuntime) {
+    for (sent, height) in &STATIONS {
+        let parts = StationParts {
+            height: *height,
+            ..STATION_PARTS
+        };
+        assert!(rt; parts_of(sent) == Some(parts));
     }
+    assert!(rt; is_written_as(&STATIONS[2].0.bytes()[..19], &STATION));
 }
 
 /// What the head of a multiple signal message says: its number, whether it is of Galileo, its
 /// header, the three masks, and how many satellites and cells it has.
 type Head = (u16, bool, MsmHeader, (u64, u32, u64), (usize, usize));
 
-fn head_of<G: Grid>(msm: &Msm<G>) -> Head {
-    let masks = msm.masks();
-    (
-        msm.number(),
-        msm.is_galileo(),
-        msm.header(),
-        (masks.satellites(), masks.signals(), masks.cells()),
-        (msm.satellites(), msm.cells()),
-    )
-}
-
-/// The form and the head of a multiple signal message that is read.
-fn head_read(bytes: &[u8]) -> Option<(Form, Head)> {
-    match decode(bytes) {
-        Ok(Message::Msm4(msm)) => Some((Form::Msm4, head_of(&msm))),
-        Ok(Message::Msm7(msm)) => Some((Form::Msm7, head_of(&msm))),
-        _ => None,
-    }
-}
-
-/// The same of one that is looked at.
-fn head_viewed(bytes: &[u8]) -> Option<(Form, Head)> {
-    match look(bytes) {
+/// The form and the head of a multiple signal message that is looked at.
+fn head_of(sent: &Sent) -> Option<(Form, Head)> {
+    match look(&sent.bytes()[..sent.size()]) {
         Ok(View::Msm(msm)) => {
             let masks = msm.masks();
             let head = (
@@ -192,256 +205,175 @@ fn head_viewed(bytes: &[u8]) -> Option<(Form, Head)> {
     }
 }
 
-/// The antenna height of a station message that is looked at.
-fn height_viewed(bytes: &[u8]) -> Option<u16> {
-    match look(bytes) {
-        Ok(View::Station(station)) => station.parts().height,
-        _ => None,
-    }
-}
-
-fn fault_viewed(bytes: &[u8]) -> Option<MsgFault> {
-    match look(bytes) {
-        Ok(_) => None,
-        Err(fault) => Some(fault),
-    }
-}
-
-/// The data of the first satellite and of the first cell of message 1077.
-fn first_data(bytes: &[u8]) -> Option<(Satellite7, Cell7)> {
-    match decode(bytes) {
-        Ok(Message::Msm7(msm)) => {
-            if msm.satellites() == 0 || msm.cells() == 0 {
-                return None;
-            }
-            Some((msm.satellite(0), msm.cell(0)))
-        }
-        _ => None,
-    }
-}
-
-/// The form of a message with one cell, of satellite 5 and signal 2, and its head.
-fn one_cell(form: Form, number: u16, is_galileo: bool) -> Option<(Form, Head)> {
-    let head = (number, is_galileo, header(), (1 << 59, 1 << 30, 1), (1, 1));
-    Some((form, head))
-}
-
-#[test]
-fn messages_are_written_back(rt: HostRuntime) {
-    let messages: [&[u8]; 6] = [&STATION, &HEIGHT, &FINE, &COARSE, &GALILEO, &EMPTY];
-    for message in messages {
-        assert!(rt; is_written_back(message));
-    }
-}
-
-#[test]
-fn stations_are_read(rt: HostRuntime) {
-    let parts = station_parts();
-    let tall = StationParts {
-        height: Some(15_000),
-        ..parts
-    };
-    let mut reserved = STATION;
-    reserved[9] = 0x74;
-    let stations: [(&[u8], StationParts); 3] = [
-        (&STATION, parts),
-        (&HEIGHT, tall),
-        (&reserved, parts),
-    ];
-    for (message, parts) in stations {
-        assert!(rt; parts_of(message) == Some(parts));
-    }
-    assert!(rt; is_written_as(&reserved, &STATION));
-}
+static HEADS: [(Sent, Form, u16, bool); 3] = [
+    (Sent(&FINE, 36, &[]), Form::Msm7, 1077, false),
+    (
+        Sent(&FINE, 36, &[(0, 0x44), (1, 0x97)]),
+        Form::Msm7,
+        1097,
+        true,
+    ),
+    (Sent(&GALILEO, 30, &[]), Form::Msm4, 1094, true),
+];
 
 #[test]
 fn heads_are_read(rt: HostRuntime) {
-    let mut galileo = FINE;
-    galileo[0] = 0x44;
-    galileo[1] = 0x97;
-    let heads: [(&[u8], Option<(Form, Head)>); 3] = [
-        (&FINE, one_cell(Form::Msm7, 1077, false)),
-        (&galileo, one_cell(Form::Msm7, 1097, true)),
-        (&GALILEO, one_cell(Form::Msm4, 1094, true)),
-    ];
-    for (message, head) in heads {
-        assert!(rt; head_read(message) == head);
+    for (sent, form, number, is_galileo) in &HEADS {
+        // satellite 5 and signal 2
+        let head = (*number, *is_galileo, HEADER, (1 << 59, 1 << 30, 1), (1, 1));
+        assert!(rt; head_of(sent) == Some((*form, head)));
     }
-    assert!(rt; first_data(&FINE) == Some((SATELLITE, CELL)));
 }
 
-#[test]
-fn messages_are_looked_at(rt: HostRuntime) {
-    assert!(rt; head_viewed(&FINE) == one_cell(Form::Msm7, 1077, false));
-    assert!(rt; head_viewed(&GALILEO) == one_cell(Form::Msm4, 1094, true));
-    assert!(rt; height_viewed(&HEIGHT) == Some(15_000));
-    assert!(rt; fault_viewed(&FINE[..35]) == Some(MsgFault::Short(271)));
+/// The number of a multiple signal message that is read, and what its first cell says.
+fn first_entry(sent: &Sent) -> Option<(u16, Entry)> {
+    match decode(&sent.bytes()[..sent.size()]) {
+        Ok(Message::Msm4(msm)) => told(msm.number(), entries(&msm).as_slice()),
+        Ok(Message::Msm7(msm)) => told(msm.number(), entries(&msm).as_slice()),
+        _ => None,
+    }
 }
+
+fn told(number: u16, entries: &[Entry]) -> Option<(u16, Entry)> {
+    match entries.first() {
+        Some(entry) => Some((number, *entry)),
+        None => None,
+    }
+}
+
+const FINE_ENTRY: Entry = Entry {
+    satellite: 5,
+    signal: 2,
+    range: Some(150_323_855_360),
+    phase: Some(150_323_855_360),
+    rate: Some(1_000_000),
+    strength: Some(721),
+    lock: 0,
+    half_cycle: false,
+};
+
+const COARSE_ENTRY: Entry = Entry {
+    satellite: 5,
+    signal: 2,
+    range: Some(150_323_855_232),
+    phase: Some(150_323_855_364),
+    rate: None,
+    strength: Some(720),
+    lock: 15,
+    half_cycle: true,
+};
+
+static COARSE_CELLS: [(Sent, u16); 2] = [
+    (Sent(&COARSE, 30, &[]), 1074),
+    (Sent(&GALILEO, 30, &[]), 1094),
+];
+
+/// Ranges and phases of message 1077.
+static FINE_CELLS: [(Sent, Option<i64>, Option<i64>); 4] = [
+    (
+        Sent(&FINE, 36, &[]),
+        Some(150_323_855_360),
+        Some(150_323_855_360),
+    ),
+    // DF405 = 1
+    (
+        Sent(&FINE, 36, &[(28, 0x40)]),
+        Some(150_323_855_364),
+        Some(150_323_855_360),
+    ),
+    // DF406 = 1
+    (
+        Sent(&FINE, 36, &[(31, 0x40)]),
+        Some(150_323_855_360),
+        Some(150_323_855_361),
+    ),
+    // DF397 = 255
+    (Sent(&FINE, 36, &[(21, 0x7F), (22, 0xC0)]), None, None),
+];
 
 #[test]
 fn cells_are_read(rt: HostRuntime) {
-    let fine = Entry {
-        satellite: 5,
-        signal: 2,
-        range: Some(150_323_855_360),
-        phase: Some(150_323_855_360),
-        rate: Some(1_000_000),
-        strength: Some(721),
-        lock: 0,
-        half_cycle: false,
-    };
-    let coarse = Entry {
-        range: Some(150_323_855_232),
-        phase: Some(150_323_855_364),
-        rate: None,
-        strength: Some(720),
-        lock: 15,
-        half_cycle: true,
-        ..fine
-    };
-    // DF405 = 1, DF406 = 1, DF397 = 255
-    let mut range = FINE;
-    range[28] = 0x40;
-    let mut phase = FINE;
-    phase[31] = 0x40;
-    let mut none = FINE;
-    none[21] = 0x7F;
-    none[22] = 0xC0;
-    let cells: [(&[u8], Entry); 6] = [
-        (&FINE, fine),
-        (&COARSE, coarse),
-        (&GALILEO, coarse),
-        (
-            &range,
-            Entry {
-                range: Some(150_323_855_364),
-                ..fine
-            },
-        ),
-        (
-            &phase,
-            Entry {
-                phase: Some(150_323_855_361),
-                ..fine
-            },
-        ),
-        (
-            &none,
-            Entry {
-                range: None,
-                phase: None,
-                ..fine
-            },
-        ),
-    ];
-    for (message, entry) in cells {
-        assert!(rt; first_entry(message) == Some(entry));
+    for (sent, number) in &COARSE_CELLS {
+        assert!(rt; first_entry(sent) == Some((*number, COARSE_ENTRY)));
+    }
+    for (sent, range, phase) in &FINE_CELLS {
+        let entry = Entry {
+            range: *range,
+            phase: *phase,
+            ..FINE_ENTRY
+        };
+        assert!(rt; first_entry(sent) == Some((1077, entry)));
     }
 }
 
-/// The bits before the first field that does not end within so many bits.
-fn first_unended(widths: &[usize], bits: usize) -> Option<usize> {
-    let mut place = 0usize;
-    for width in widths {
-        let end = place.saturating_add(*width);
-        if bits < end {
-            return Some(place);
-        }
-        place = end;
-    }
-    None
+fn fault_of(sent: &Sent) -> Option<MsgFault> {
+    decode(&sent.bytes()[..sent.size()]).err()
 }
 
-#[test]
-fn each_proper_prefix_is_short(rt: HostRuntime) {
-    let station = [12, 12, 6, 1, 1, 1, 1, 38, 1, 1, 38, 2, 38];
-    let height = [12, 12, 6, 1, 1, 1, 1, 38, 1, 1, 38, 2, 38, 16];
-    let fine = [
-        12, 12, 30, 1, 3, 7, 2, 2, 1, 3, 64, 32, 1, 8, 4, 10, 14, 20, 24, 10, 1, 10, 15,
-    ];
-    let coarse = [
-        12, 12, 30, 1, 3, 7, 2, 2, 1, 3, 64, 32, 1, 8, 10, 15, 22, 4, 1, 6,
-    ];
-    let messages: [(&[u8], &[usize]); 4] = [
-        (&STATION, &station),
-        (&HEIGHT, &height),
-        (&FINE, &fine),
-        (&COARSE, &coarse),
-    ];
-    for (message, widths) in messages {
-        assert!(rt; fault_of(message).is_none());
-        for n in 0..message.len() {
-            match first_unended(widths, n.saturating_mul(8)) {
-                Some(place) => assert!(rt;
-                    fault_of(&message[..n]) == Some(MsgFault::Short(place)),
-                    "at {n}"
-                ),
-                None => assert!(rt; false, "at {n}"),
-            }
-        }
-    }
-}
+static FAULTS: [(Sent, Option<MsgFault>); 11] = [
+    (Sent(&STATION, 18, &[]), Some(MsgFault::Short(114))),
+    (Sent(&FINE, 35, &[]), Some(MsgFault::Short(271))),
+    (Sent(&STATION, 1, &[]), Some(MsgFault::Short(0))),
+    // The time is judged when it was read, and not before.
+    (Sent(&LATE, 7, &[]), Some(MsgFault::BadTime)),
+    (Sent(&LATE, 6, &[]), Some(MsgFault::Short(24))),
+    // 604,800,000 ms, and the last millisecond of the week
+    (
+        Sent(&FINE, 36, &[(3, 0x90), (4, 0x32), (5, 0x10), (6, 0x00)]),
+        Some(MsgFault::BadTime),
+    ),
+    (
+        Sent(&FINE, 36, &[(3, 0x90), (4, 0x32), (5, 0x0F), (6, 0xFC)]),
+        None,
+    ),
+    // So are the pairs.
+    (Sent(&MANY, 22, &[]), Some(MsgFault::TooManyCells)),
+    (Sent(&MANY, 21, &[]), Some(MsgFault::Short(137))),
+    (
+        Sent(&MANY, 22, &[(3, 0x90), (4, 0x32), (5, 0x10), (6, 0x00)]),
+        Some(MsgFault::BadTime),
+    ),
+    // 8 satellites and 8 signals, whose cell mask is cut
+    (Sent(&MANY, 22, &[(10, 0x80)]), Some(MsgFault::Short(169))),
+];
 
 #[test]
 fn the_first_fault_counts(rt: HostRuntime) {
-    // Message 1077 with a time of 604,800,000 ms, and with the last one of the week.
-    let mut week = FINE;
-    week[3] = 0x90;
-    week[4] = 0x32;
-    week[5] = 0x10;
-    week[6] = 0x00;
-    let mut end = week;
-    end[5] = 0x0F;
-    end[6] = 0xFC;
-    // The same of a message with too many pairs, the second with 8 satellites and 8 signals, whose
-    // cell mask is cut.
-    let mut late = MANY;
-    late[3] = 0x90;
-    late[4] = 0x32;
-    late[5] = 0x10;
-    late[6] = 0x00;
-    let mut last = late;
-    last[5] = 0x0F;
-    last[6] = 0xFC;
-    last[10] = 0x80;
-    let faults: [(&[u8], Option<MsgFault>); 11] = [
-        (&STATION[..18], Some(MsgFault::Short(114))),
-        (&FINE[..35], Some(MsgFault::Short(271))),
-        (&STATION[..1], Some(MsgFault::Short(0))),
-        // The time is judged when it was read, and not before.
-        (&LATE, Some(MsgFault::BadTime)),
-        (&LATE[..6], Some(MsgFault::Short(24))),
-        (&week, Some(MsgFault::BadTime)),
-        (&end, None),
-        // So are the pairs.
-        (&MANY, Some(MsgFault::TooManyCells)),
-        (&MANY[..21], Some(MsgFault::Short(137))),
-        (&late, Some(MsgFault::BadTime)),
-        (&last, Some(MsgFault::Short(169))),
-    ];
-    for (message, fault) in faults {
-        assert!(rt; fault_of(message) == fault);
+    for (sent, fault) in &FAULTS {
+        assert!(rt; fault_of(sent) == *fault);
     }
 }
 
+/// The number, the station and DF393 of a message that is not read.
+fn other_of(bytes: &[u8]) -> Option<(u16, Option<(u16, bool)>)> {
+    match decode(bytes) {
+        Ok(Message::Other { number, set }) => Some((number, set)),
+        _ => None,
+    }
+}
+
+static OTHERS: [(&[u8], u16, Option<(u16, bool)>); 5] = [
+    // 1127 of station 2003 with DF393 = 0, whole up to bit 55, and one byte less
+    (
+        &[0x46, 0x77, 0xD3, 0x00, 0x00, 0x0F, 0xA0],
+        1127,
+        Some((2003, false)),
+    ),
+    (&[0x46, 0x77, 0xD3, 0x00, 0x00, 0x0F], 1127, None),
+    // 1075 with DF393 = 1; 1070 and 1230 are no MSMs
+    (
+        &[0x43, 0x37, 0xD3, 0x00, 0x00, 0x0F, 0xA2],
+        1075,
+        Some((2003, true)),
+    ),
+    (&[0x42, 0xE7, 0xD3, 0x00, 0x00, 0x0F, 0xA0], 1070, None),
+    (&[0x4C, 0xE7, 0xD3, 0x00, 0x00, 0x0F, 0xA0], 1230, None),
+];
+
 #[test]
 fn other_messages_are_told(rt: HostRuntime) {
-    let other = [0x46, 0x77, 0xD3, 0x00, 0x00, 0x0F, 0xA0];
-    let others: [(&[u8], u16, Option<(u16, bool)>); 5] = [
-        // 1127 of station 2003 with DF393 = 0, whole up to bit 55, and one byte less
-        (&other, 1127, Some((2003, false))),
-        (&other[..6], 1127, None),
-        // 1075 with DF393 = 1; 1070 and 1230 are no MSMs
-        (
-            &[0x43, 0x37, 0xD3, 0x00, 0x00, 0x0F, 0xA2],
-            1075,
-            Some((2003, true)),
-        ),
-        (&[0x42, 0xE7, 0xD3, 0x00, 0x00, 0x0F, 0xA0], 1070, None),
-        (&[0x4C, 0xE7, 0xD3, 0x00, 0x00, 0x0F, 0xA0], 1230, None),
-    ];
-    for (message, number, set) in others {
-        assert!(rt; other_of(message) == Some((number, set)));
+    for (message, number, set) in &OTHERS {
+        assert!(rt; other_of(message) == Some((*number, *set)));
     }
 }
 
@@ -453,40 +385,40 @@ fn value_fault_says(alloc: Global, fault: ValueFault, text: &str) -> Result<bool
     Ok(fault.to_string(alloc)?.as_str() == text)
 }
 
+static MESSAGE_TEXTS: [(MsgFault, &str); 3] = [
+    (
+        MsgFault::Short(114),
+        "the field at bit 114 does not end within the message",
+    ),
+    (
+        MsgFault::TooManyCells,
+        "more than 64 pairs of a satellite and a signal",
+    ),
+    (MsgFault::BadTime, "an epoch time of a week or more"),
+];
+
+static VALUE_TEXTS: [(ValueFault, &str); 4] = [
+    (
+        ValueFault::OutOfRange(Field::FineRange),
+        "the field FineRange is out of range",
+    ),
+    (
+        ValueFault::TooManyCells,
+        "more than 64 pairs of a satellite and a signal",
+    ),
+    (
+        ValueFault::CellCount,
+        "another number of satellites or cells than in the masks",
+    ),
+    (ValueFault::BadTime, "an epoch time of a week or more"),
+];
+
 #[test]
-fn faults_have_texts(rt: HostRuntime) -> Result<(), AllocError> {
-    let alloc = rt.alloc();
-    let messages = [
-        (
-            MsgFault::Short(114),
-            "the field at bit 114 does not end within the message",
-        ),
-        (
-            MsgFault::TooManyCells,
-            "more than 64 pairs of a satellite and a signal",
-        ),
-        (MsgFault::BadTime, "an epoch time of a week or more"),
-    ];
-    for (fault, text) in messages {
-        assert!(rt; message_fault_says(alloc, fault, text)?);
+fn faults_have_texts(rt: HostRuntime) {
+    for (fault, text) in &MESSAGE_TEXTS {
+        assert!(rt; message_fault_says(rt.alloc(), *fault, text) == Ok(true));
     }
-    let values = [
-        (
-            ValueFault::OutOfRange(Field::FineRange),
-            "the field FineRange is out of range",
-        ),
-        (
-            ValueFault::TooManyCells,
-            "more than 64 pairs of a satellite and a signal",
-        ),
-        (
-            ValueFault::CellCount,
-            "another number of satellites or cells than in the masks",
-        ),
-        (ValueFault::BadTime, "an epoch time of a week or more"),
-    ];
-    for (fault, text) in values {
-        assert!(rt; value_fault_says(alloc, fault, text)?);
+    for (fault, text) in &VALUE_TEXTS {
+        assert!(rt; value_fault_says(rt.alloc(), *fault, text) == Ok(true));
     }
-    Ok(())
 }

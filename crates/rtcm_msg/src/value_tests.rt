@@ -1,6 +1,6 @@
-use crate::tests::{CELL, SATELLITE, header, is_written_back, station_parts};
+use crate::tests::{CELL, FINE, HEADER, SATELLITE, STATION_PARTS, is_written_back};
 use crate::{
-    Cell4, Cell7, Field, Grid, Grid4, Grid7, Masks, Message, Msm, MsmHeader, Satellite4,
+    Cell4, Cell7, Entry, Field, Grid, Grid4, Grid7, Masks, Message, Msm, MsmHeader, Satellite4,
     Satellite7, Seat, Station, StationParts, ValueFault, all_seats, decode, encode, entries,
 };
 use arrayvec::ArrayVec;
@@ -8,20 +8,62 @@ use std::test::*;
 
 // Each call with large clauses stands behind a function without one, so that no test carries them.
 
-fn station_fault(parts: StationParts) -> Option<ValueFault> {
-    Station::new(parts).err()
+/// Why the parts with this number and this X are no station.
+fn station_fault(station: u16, x: i64) -> Option<ValueFault> {
+    Station::new(StationParts {
+        station,
+        x,
+        ..STATION_PARTS
+    })
+    .err()
+}
+
+#[test]
+fn stations_are_judged(rt: HostRuntime) {
+    let faults = [
+        station_fault(2003, STATION_PARTS.x),
+        station_fault(4096, 1 << 37),
+        station_fault(2003, 1 << 37),
+        station_fault(2003, -(1 << 37)),
+    ];
+    let want = [
+        None,
+        Some(ValueFault::OutOfRange(Field::Station)),
+        Some(ValueFault::OutOfRange(Field::X)),
+        None,
+    ];
+    assert!(rt; faults == want);
 }
 
 fn masks_fault(satellites: u64, signals: u32, cells: u64) -> Option<ValueFault> {
     Masks::new(satellites, signals, cells).err()
 }
 
+#[test]
+fn masks_are_judged(rt: HostRuntime) {
+    let faults = [
+        // satellite 5 and signal 2
+        masks_fault(1 << 59, 1 << 30, 2),
+        masks_fault(0x1FF, 0xFF, 0),
+        masks_fault(0xFF, 0xFF, u64::MAX),
+        masks_fault(1 << 59, 1 << 30, 1),
+    ];
+    let want = [
+        Some(ValueFault::OutOfRange(Field::Cells)),
+        Some(ValueFault::TooManyCells),
+        None,
+        None,
+    ];
+    assert!(rt; faults == want);
+}
+
 /// Why these parts are no message with one satellite and one cell, whose masks have both.
 fn msm_fault<G: Grid>(
-    header: MsmHeader,
+    time: u32,
     satellites: &[G::Satellite],
     cells: &[G::Cell],
 ) -> Option<ValueFault> {
+    let header = MsmHeader { time, ..HEADER };
     // satellite 5 and signal 2
     match Masks::new(1 << 59, 1 << 30, 1) {
         Ok(masks) => Msm::<G>::new(false, header, masks, satellites, cells).err(),
@@ -29,135 +71,133 @@ fn msm_fault<G: Grid>(
     }
 }
 
-#[test]
-fn stations_are_judged(rt: HostRuntime) {
-    let parts = station_parts();
-    let far = StationParts {
-        x: 1 << 37,
-        ..parts
-    };
-    let far_below = StationParts {
-        x: -(1 << 37),
-        ..parts
-    };
-    let unnumbered = StationParts {
-        station: 4096,
-        ..far
-    };
-    let stations = [
-        (parts, None),
-        (unnumbered, Some(ValueFault::OutOfRange(Field::Station))),
-        (far, Some(ValueFault::OutOfRange(Field::X))),
-        (far_below, None),
-    ];
-    for (parts, fault) in stations {
-        assert!(rt; station_fault(parts) == fault);
-    }
-}
+static WIDE: Cell7 = Cell7 {
+    range: 0,
+    phase: 1 << 23,
+    lock: 0,
+    half_cycle: false,
+    strength: 721,
+    rate: 0,
+};
 
-#[test]
-fn masks_are_judged(rt: HostRuntime) {
-    // satellite 5 and signal 2
-    assert!(rt; masks_fault(1 << 59, 1 << 30, 2) == Some(ValueFault::OutOfRange(Field::Cells)));
-    assert!(rt; masks_fault(0x1FF, 0xFF, 0) == Some(ValueFault::TooManyCells));
-    assert!(rt; masks_fault(0xFF, 0xFF, u64::MAX).is_none());
-    assert!(rt; masks_fault(1 << 59, 1 << 30, 1).is_none());
-}
+static COARSE_SATELLITE: Satellite4 = Satellite4 {
+    whole: 70,
+    fraction: 1024,
+};
+
+static COARSE_CELL: Cell4 = Cell4 {
+    range: -1,
+    phase: 1,
+    lock: 16,
+    half_cycle: true,
+    strength: 45,
+};
 
 #[test]
 fn parts_are_judged(rt: HostRuntime) {
-    let late = MsmHeader {
-        time: 604_800_000,
-        ..header()
-    };
-    let wide = Cell7 {
-        phase: 1 << 23,
-        ..CELL
-    };
-    assert!(rt; msm_fault::<Grid7>(late, &[SATELLITE], &[]) == Some(ValueFault::BadTime));
-    assert!(rt; msm_fault::<Grid7>(header(), &[SATELLITE], &[]) == Some(ValueFault::CellCount));
-    assert!(rt;
-        msm_fault::<Grid7>(header(), &[SATELLITE], &[wide])
-            == Some(ValueFault::OutOfRange(Field::FinePhase))
-    );
-    let satellite = Satellite4 {
-        whole: 70,
-        fraction: 1024,
-    };
-    let cell = Cell4 {
-        range: -1,
-        phase: 1,
-        lock: 16,
-        half_cycle: true,
-        strength: 45,
-    };
-    assert!(rt;
-        msm_fault::<Grid4>(header(), &[satellite], &[cell])
-            == Some(ValueFault::OutOfRange(Field::RangeFraction))
-    );
+    let faults = [
+        msm_fault::<Grid7>(604_800_000, &[SATELLITE], &[]),
+        msm_fault::<Grid7>(1000, &[SATELLITE], &[]),
+        msm_fault::<Grid7>(1000, &[SATELLITE], &[WIDE]),
+        msm_fault::<Grid4>(1000, &[COARSE_SATELLITE], &[COARSE_CELL]),
+    ];
+    let want = [
+        Some(ValueFault::BadTime),
+        Some(ValueFault::CellCount),
+        Some(ValueFault::OutOfRange(Field::FinePhase)),
+        Some(ValueFault::OutOfRange(Field::RangeFraction)),
+    ];
+    assert!(rt; faults == want);
 }
 
-/// The message 1077 of these masks and data, written.
-fn written(masks: Masks, satellites: &[Satellite7], cells: &[Cell7]) -> ArrayVec<u8, 1023> {
-    let mut bytes = ArrayVec::new();
-    if let Ok(msm) = Msm::<Grid7>::new(false, header(), masks, satellites, cells) {
-        encode(&Message::Msm7(msm), &mut bytes);
-    }
-    bytes
-}
-
-/// The satellite and the signal of each cell of a message 1077 that is read.
-fn keys_of(bytes: &[u8]) -> ArrayVec<(u8, u8), 64> {
-    let mut keys = ArrayVec::new();
-    if let Ok(Message::Msm7(msm)) = decode(bytes) {
-        for entry in entries(&msm).as_slice() {
-            if keys.len() < 64 {
-                keys.push((entry.satellite, entry.signal));
-            }
+/// Writes the message 1077 of these masks and data.
+fn write(
+    masks: (u64, u32, u64),
+    satellites: &[Satellite7],
+    cells: &[Cell7],
+    bytes: &mut ArrayVec<u8, 1023>,
+) {
+    if let Ok(masks) = Masks::new(masks.0, masks.1, masks.2) {
+        if let Ok(msm) = Msm::<Grid7>::new(false, HEADER, masks, satellites, cells) {
+            encode(&Message::Msm7(msm), bytes);
         }
     }
-    keys
+}
+
+/// How many bytes the message of 64 satellites with one signal has, and whether it is written back.
+fn largest() -> (usize, bool) {
+    let mut bytes = ArrayVec::new();
+    write(
+        (u64::MAX, 1 << 30, u64::MAX),
+        &[SATELLITE; 64],
+        &[CELL; 64],
+        &mut bytes,
+    );
+    (bytes.len(), is_written_back(bytes.as_slice()))
+}
+
+/// Whether the message of satellite 5 and signal 2 is written as known.
+fn is_known() -> bool {
+    let mut bytes = ArrayVec::new();
+    write((1 << 59, 1 << 30, 1), &[SATELLITE], &[CELL], &mut bytes);
+    bytes.as_slice() == FINE.as_slice()
 }
 
 #[test]
-fn the_largest_message_is_written(rt: HostRuntime) {
-    match Masks::new(u64::MAX, 1 << 30, u64::MAX) {
-        Ok(masks) => {
-            let bytes = written(masks, &[SATELLITE; 64], &[CELL; 64]);
-            assert!(rt; bytes.len() == 958);
-            assert!(rt; is_written_back(bytes.as_slice()));
+fn values_are_written(rt: HostRuntime) {
+    assert!(rt; is_known() && largest() == (958, true));
+}
+
+/// Whether the cells of a message 1077 that is read are of these seats.
+fn has_seats(bytes: &[u8], seats: &[Seat]) -> bool {
+    match decode(bytes) {
+        Ok(Message::Msm7(msm)) => {
+            all_seats(msm.masks()).as_slice() == seats && are_of(entries(&msm).as_slice(), seats)
         }
-        Err(_) => assert!(rt; false),
+        _ => false,
     }
+}
+
+fn are_of(entries: &[Entry], seats: &[Seat]) -> bool {
+    for (entry, seat) in entries.iter().zip(seats) {
+        if (entry.satellite, entry.signal) != (seat.satellite, seat.signal) {
+            return false;
+        }
+    }
+    entries.len() == seats.len()
+}
+
+/// Satellites 1 and 64, signals 2 and 32: the first with 32, the second with both.
+static SEATS: [Seat; 3] = [
+    Seat {
+        place: 0,
+        satellite: 1,
+        signal: 32,
+    },
+    Seat {
+        place: 1,
+        satellite: 64,
+        signal: 2,
+    },
+    Seat {
+        place: 1,
+        satellite: 64,
+        signal: 32,
+    },
+];
+
+fn stand_in_order() -> bool {
+    let mut bytes = ArrayVec::new();
+    write(
+        (1 << 63 | 1, 1 << 30 | 1, 0b0111),
+        &[SATELLITE; 2],
+        &[CELL; 3],
+        &mut bytes,
+    );
+    has_seats(bytes.as_slice(), &SEATS)
 }
 
 #[test]
 fn cells_stand_in_order(rt: HostRuntime) {
-    // satellites 1 and 64, signals 2 and 32; the first with 32, the second with both
-    match Masks::new(1 << 63 | 1, 1 << 30 | 1, 0b0111) {
-        Ok(masks) => {
-            let seats = [
-                Seat {
-                    place: 0,
-                    satellite: 1,
-                    signal: 32,
-                },
-                Seat {
-                    place: 1,
-                    satellite: 64,
-                    signal: 2,
-                },
-                Seat {
-                    place: 1,
-                    satellite: 64,
-                    signal: 32,
-                },
-            ];
-            assert!(rt; all_seats(masks).as_slice() == seats.as_slice());
-            let bytes = written(masks, &[SATELLITE; 2], &[CELL; 3]);
-            let keys = [(1, 32), (64, 2), (64, 32)];
-            assert!(rt; keys_of(bytes.as_slice()).as_slice() == keys.as_slice());
-        }
-        Err(_) => assert!(rt; false),
-    }
+    assert!(rt; stand_in_order());
 }

@@ -245,11 +245,11 @@ fn view_msm<'a>(
     reader: &mut BitReader,
     form: Form,
     is_galileo: bool,
-) -> Result<MsmView<'a>, MsgFault>
+) -> Result<View<'a>, MsgFault>
     requires small { length bytes.now ≤ longest_message }
     requires number { 12 ≤ 8 * length bytes.now }
     requires stands { reader.old ≡ standing (bits_of bytes.now) 12 }
-    ensures { GivesViewed views.formed result (views.formed_at form is_galileo reader.old) }
+    ensures { GivesViewed viewed_message result (views.formed_at form is_galileo reader.old) }
 {
     let header = read_header(reader)?;
     let masks = read_masks(reader)?;
@@ -259,7 +259,7 @@ fn view_msm<'a>(
     let bits = 8 * bytes.len();
     let cells_at = end_of_rows(bits, form.satellite_widths(), satellites, satellites_at)?;
     end_of_rows(bits, form.cell_widths(), cells, cells_at)?;
-    Ok(MsmView {
+    Ok(View::Msm(MsmView {
         form,
         is_galileo,
         header,
@@ -269,7 +269,7 @@ fn view_msm<'a>(
         satellites_at,
         cells,
         cells_at,
-    })
+    }))
 }
 
 /// Looks at what stands behind the message number.
@@ -283,10 +283,10 @@ fn view_body<'a>(number: u16, bytes: &'a [u8], reader: &mut BitReader) -> Result
     match number {
         1005 => Ok(View::Station(read_station(reader, false)?)),
         1006 => Ok(View::Station(read_station(reader, true)?)),
-        1074 => Ok(View::Msm(view_msm(bytes, reader, Form::Msm4, false)?)),
-        1077 => Ok(View::Msm(view_msm(bytes, reader, Form::Msm7, false)?)),
-        1094 => Ok(View::Msm(view_msm(bytes, reader, Form::Msm4, true)?)),
-        1097 => Ok(View::Msm(view_msm(bytes, reader, Form::Msm7, true)?)),
+        1074 => view_msm(bytes, reader, Form::Msm4, false),
+        1077 => view_msm(bytes, reader, Form::Msm7, false),
+        1094 => view_msm(bytes, reader, Form::Msm4, true),
+        1097 => view_msm(bytes, reader, Form::Msm7, true),
         _ => Ok(View::Other {
             number,
             set: if is_any_msm(number) {

@@ -1,18 +1,19 @@
 //! Streams cut and damaged at each place, framed by the definitions, as slow as they are.
-ghost use Rattle.std.specs.Prelude.{◌<◌};
-
-use super::{FOUR_FRAMES, Found, feed_blocks, finish, framer, viewed};
-use crate::MOST_BYTES;
+use super::{Counts, FOUR_FRAMES, Stream, is_listed, told_by};
 use rtcm_bits::crc24q;
-use std::alloc::{AllocError, Global};
-use std::test::Fail;
+use std::alloc::Global;
 
-/// Frames, all looks and the most looks at one byte, place by place.
+const SIZE: usize = FOUR_FRAMES.len();
+
+/// More frames than fit in so many bytes.
+const MOST_FRAMES: usize = 24;
+
+/// The frames of a stream, and how often each of its bytes is looked at.
 #[derive(Drop)]
 struct Slow {
-    found: Found,
-    examined: u64,
-    most: u16,
+    frames: [(usize, usize); MOST_FRAMES],
+    count: usize,
+    looks: [u16; SIZE],
 }
 
 /// How many bytes a place claims: those of the frame that its first three bytes begin, or one.
@@ -22,7 +23,7 @@ fn claimed(rest: &[u8]) -> usize {
     }
     match (rest.get(1), rest.get(2)) {
         (Some(high), Some(low)) => usize::from(*high % 4) * 256 + usize::from(*low) + 6,
-        _ => usize::MAX,
+        _ => SIZE,
     }
 }
 
@@ -35,87 +36,116 @@ fn is_frame(rest: &[u8], size: usize) -> bool {
     rest[size - 3..size] == check[1..]
 }
 
-/// One more look at each of these bytes.
-fn look_at(looks: &mut [u16], from: usize, size: usize) {
-    for look in looks.iter_mut().skip(from).take(size) {
-        *look = look.saturating_add(1);
+impl Slow {
+    /// One more look at each of these bytes.
+    fn look_at(&mut self, from: usize, to: usize) {
+        for place in from..to.min(SIZE) {
+            self.looks[place] = self.looks[place].saturating_add(1);
+        }
+    }
+
+    fn add(&mut self, place: usize, message: usize) {
+        if self.count < MOST_FRAMES {
+            self.frames[self.count] = (place, message);
+            self.count += 1;
+        }
+    }
+
+    /// Tries the candidate at a place. Where the next one stands.
+    fn try_at(&mut self, bytes: &[u8], place: usize) -> usize {
+        let rest = &bytes[place.min(bytes.len())..];
+        let claim = claimed(rest);
+        let end = place.saturating_add(claim);
+        self.look_at(place, end.min(bytes.len()));
+        if !is_frame(rest, claim) {
+            return place.saturating_add(1);
+        }
+        let message = claim.saturating_sub(6);
+        let start = place.saturating_add(3);
+        self.look_at(start, start.saturating_add(message));
+        self.add(place, message);
+        end
+    }
+
+    /// The counts of a stream of so many bytes.
+    fn counts(&self, size: usize) -> Counts {
+        let mut skipped = size as u64;
+        for (_, message) in self.frames.iter().take(self.count) {
+            skipped = skipped.saturating_sub((*message as u64).saturating_add(6));
+        }
+        let mut examined = 0u64;
+        let mut most = 0;
+        for looks in &self.looks {
+            examined = examined.saturating_add(u64::from(*looks));
+            most = most.max(*looks);
+        }
+        (skipped, examined, most)
     }
 }
 
-/// The whole stream by the definitions, as slow as they are.
-fn slowly(alloc: Global, bytes: &[u8]) -> Result<Slow, AllocError> {
-    let mut looks: Vec<u16> = vec![in alloc; 0; bytes.len()]?;
-    let mut frames = Vec::new(alloc);
+/// The whole stream by the definitions.
+fn slowly(bytes: &[u8]) -> Slow {
+    let mut slow = Slow {
+        frames: [(0, 0); MOST_FRAMES],
+        count: 0,
+        looks: [0; SIZE],
+    };
     let mut next = 0;
     for place in 0..bytes.len() {
-        if place < next {
-            continue;
-        }
-        let rest = &bytes[place..];
-        let claim = claimed(rest);
-        look_at(&mut looks, place, claim);
-        if is_frame(rest, claim) {
-            let message = claim.saturating_sub(6);
-            look_at(&mut looks, place.saturating_add(3), message);
-            frames.push((place as u64, message))?;
-            next = place.saturating_add(claim);
+        if place == next {
+            next = slow.try_at(bytes, place);
         }
     }
-    let examined = looks
-        .iter()
-        .fold(0u64, |all, look| all.saturating_add(u64::from(*look)));
-    let most = looks.iter().fold(0u16, |most, look| most.max(*look));
-    Ok(Slow {
-        found: Found::of(alloc, bytes, frames.as_slice())?,
-        examined,
-        most,
-    })
+    slow
 }
 
-/// Whether framer and iterator give what the definitions give, the framer by one byte at a time and
-/// by two.
-fn agrees(alloc: Global, bytes: &[u8]) -> Result<bool, AllocError> {
-    let want = slowly(alloc, bytes)?;
-    Ok(
-        viewed(alloc, bytes)?.is(&want.found)
-            && is_framed_by(alloc, bytes, 1, &want)?
-            && is_framed_by(alloc, bytes, 2, &want)?,
-    )
+/// Whether a framer and the slice give what the definitions give, the framer by one byte at a time
+/// and by two.
+fn agrees(alloc: Global, bytes: &[u8]) -> bool {
+    let slow = slowly(bytes);
+    let stream = Stream {
+        bytes,
+        size: bytes.len(),
+        frames: &slow.frames[..slow.count.min(MOST_FRAMES)],
+        before: (0, 0, (0, 0, 0)),
+        behind: slow.counts(bytes.len()),
+    };
+    is_listed(&stream) && is_counted(alloc, &stream, 1) && is_counted(alloc, &stream, 2)
 }
 
 /// Whether a framer that takes so many bytes at a time gives these frames and counts.
-fn is_framed_by(alloc: Global, bytes: &[u8], size: usize, want: &Slow) -> Result<bool, AllocError>
-    requires { 0 < size }
-{
-    let Ok(mut framer) = framer(alloc, MOST_BYTES) else {
-        return Ok(false);
-    };
-    let mut found = Found::new(alloc);
-    if !feed_blocks(&mut framer, bytes, size, &mut found)? {
-        return Ok(false);
+fn is_counted(alloc: Global, stream: &Stream, size: usize) -> bool {
+    match told_by(alloc, stream, size.max(1)) {
+        Some((_, behind)) => behind == stream.behind,
+        None => false,
     }
-    let got = finish(&mut framer, &mut found)?;
-    Ok(found.is(&want.found) && (got.examined, got.most) == (want.examined, want.most))
+}
+
+/// The end of the first stream from a place that is cut and doesn't agree.
+fn first_wrong_end(alloc: Global, from: usize) -> Option<usize> {
+    for end in from..=SIZE {
+        if !agrees(alloc, &FOUR_FRAMES[from..end]) {
+            return Some(end);
+        }
+    }
+    None
+}
+
+/// Whether the streams agree in which this byte is damaged, and that of the third frame.
+fn agrees_damaged(alloc: Global, place: usize) -> bool {
+    let mut damaged = FOUR_FRAMES;
+    if place < SIZE {
+        damaged[place] = !damaged[place];
+    }
+    agrees(alloc, &damaged) && agrees(alloc, &damaged[52..94])
 }
 
 #[test]
-fn cut_and_damaged_streams(rt: HostRuntime) -> Result<(), Fail> {
+fn cut_and_damaged_streams(rt: HostRuntime) {
     for from in [0, 25, 52, 94] {
-        for to in from..=FOUR_FRAMES.len() {
-            assert!(rt;
-                agrees(rt.alloc(), &FOUR_FRAMES[from..to])?,
-                "from {from} to {to}"
-            );
-        }
+        assert_eq!(rt; first_wrong_end(rt.alloc(), from), None, "from {from}");
     }
-    for place in 0..FOUR_FRAMES.len() {
-        let mut damaged = FOUR_FRAMES;
-        damaged[place] = !damaged[place];
-        assert!(rt; agrees(rt.alloc(), &damaged)?, "damaged at {place}");
-        assert!(rt;
-            agrees(rt.alloc(), &damaged[52..94])?,
-            "third frame, damaged at {place}"
-        );
+    for place in 0..SIZE {
+        assert!(rt; agrees_damaged(rt.alloc(), place), "damaged at {place}");
     }
-    Ok(())
 }
