@@ -1,4 +1,7 @@
 use Rattle.std.proofs.lemmas.Result.{on_ok_weaker}
+use Rattle.rtcm_convert.specs.declared.fault.Fault.TheVariants.{Failed, Finished, NoEpoch, Read, TooLong, Write}
+use Rattle.std.proofs.Common.{refl}
+use Rattle.rtcm_convert.proofs.FaultLemmas.{not_of_setup}
 use Rattle.rtcm_convert.proofs.WholeLemmas.{never_in_pieces, not_bad_in_pieces}
 use Rattle.rtcm_convert.proofs.whole.convert_pieces.Goals as goal
 
@@ -26,3 +29,18 @@ returns-in-Ok-clause-bad_setup g c = not_bad_in_pieces c.new.result _ _ c.take_p
 
 pub returns-in-Ok-clause-only : goal.returns-in-Ok-clause-only
 returns-in-Ok-clause-only g c = never_in_pieces c.take_pieces-answer.result c.take_pieces-answer.ensures.only
+
+pub returns-in-Err-clause-no_epoch : goal.returns-in-Err-clause-no_epoch
+returns-in-Err-clause-no_epoch g c = λ e. absurd (not_of_setup c.in-Err.fault NoEpoch c.in-Err.ensures.only refl e)
+
+pub returns-in-Err-clause-too_long : goal.returns-in-Err-clause-too_long
+returns-in-Err-clause-too_long g c = λ e. absurd (not_of_setup c.in-Err.fault TooLong c.in-Err.ensures.only refl e)
+
+pub returns-in-Err-clause-long : goal.returns-in-Err-clause-long
+returns-in-Err-clause-long g c = λ e. absurd (not_of_setup c.in-Err.fault TooLong c.in-Err.ensures.only refl e)
+
+pub returns-in-Err-clause-write : goal.returns-in-Err-clause-write
+returns-in-Err-clause-write g c = λ e. absurd (not_of_setup c.in-Err.fault Write c.in-Err.ensures.only refl e)
+
+pub returns-in-Err-clause-only : goal.returns-in-Err-clause-only
+returns-in-Err-clause-only g c = (λ e. not_of_setup c.in-Err.fault Failed c.in-Err.ensures.only refl e, λ e. not_of_setup c.in-Err.fault Finished c.in-Err.ensures.only refl e, λ e. not_of_setup c.in-Err.fault Read c.in-Err.ensures.only refl e)

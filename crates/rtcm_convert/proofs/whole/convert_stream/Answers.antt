@@ -1,4 +1,7 @@
 use Rattle.rtcm_convert.specs.SetupValues.{setup_value}
+use Rattle.rtcm_convert.specs.declared.fault.Fault.TheVariants.{Failed, Finished, NoEpoch, Read, TooLong, Write}
+use Rattle.std.proofs.Common.{refl}
+use Rattle.rtcm_convert.proofs.FaultLemmas.{not_of_setup}
 use Rattle.rtcm_convert.proofs.WholeLemmas.{run_whole, run_report, run_empty, run_over, run_read, run_long, run_write, never, not_bad}
 use Rattle.rtcm_convert.proofs.whole.convert_stream.Goals as goal
 
@@ -28,3 +31,21 @@ returns-in-Ok-clause-bad_setup g c = not_bad c.new.result _ _ c.run-answer.resul
 
 pub returns-in-Ok-clause-only : goal.returns-in-Ok-clause-only
 returns-in-Ok-clause-only g c = never c.run-answer.result (c.run-answer.ensures.only c.in-Ok.ensures.stands.going)
+
+pub returns-in-Err-clause-no_epoch : goal.returns-in-Err-clause-no_epoch
+returns-in-Err-clause-no_epoch g c = λ e. absurd (not_of_setup c.in-Err.fault NoEpoch c.in-Err.ensures.only refl e)
+
+pub returns-in-Err-clause-too_long : goal.returns-in-Err-clause-too_long
+returns-in-Err-clause-too_long g c = λ e. absurd (not_of_setup c.in-Err.fault TooLong c.in-Err.ensures.only refl e)
+
+pub returns-in-Err-clause-long : goal.returns-in-Err-clause-long
+returns-in-Err-clause-long g c = λ e. absurd (not_of_setup c.in-Err.fault TooLong c.in-Err.ensures.only refl e)
+
+pub returns-in-Err-clause-read : goal.returns-in-Err-clause-read
+returns-in-Err-clause-read g c = λ e. absurd (not_of_setup c.in-Err.fault Read c.in-Err.ensures.only refl e)
+
+pub returns-in-Err-clause-write : goal.returns-in-Err-clause-write
+returns-in-Err-clause-write g c = λ e. absurd (not_of_setup c.in-Err.fault Write c.in-Err.ensures.only refl e)
+
+pub returns-in-Err-clause-only : goal.returns-in-Err-clause-only
+returns-in-Err-clause-only g c = (λ e. not_of_setup c.in-Err.fault Failed c.in-Err.ensures.only refl e, λ e. not_of_setup c.in-Err.fault Finished c.in-Err.ensures.only refl e)
