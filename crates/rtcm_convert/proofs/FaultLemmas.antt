@@ -3,9 +3,9 @@ use Rattle.std.proofs.Common.{◌≡◌, ◌≤◌, ℕ, max, refl, sym, ap, sub
 use Rattle.std.specs.Prelude.{if◌then◌else◌, IsErrOf}
 use Rattle.rtcm_bits.specs.Device.{Device}
 use Rattle.rtcm_convert.specs.Conversion.{Conversion, IsGoing, refusal}
-use Rattle.rtcm_convert.specs.Faults.{FailsWithReader, FailsWithWriter, ReaderFailures, WriterFailures, IsFinishFault, IsSetupFault}
+use Rattle.rtcm_convert.specs.Faults.{FailsWithReader, FailsWithWriter, ReaderFailures, WriterFailures, IsFeedFault, IsFinishFault, IsSetupFault}
 use Rattle.rtcm_convert.specs.declared.fault.Fault.{Fault}
-use Rattle.rtcm_convert.specs.declared.fault.Fault.TheVariants.{BadSetup, Failed, Finished, Memory}
+use Rattle.rtcm_convert.specs.declared.fault.Fault.TheVariants.{BadSetup, Failed, Finished, Memory, TooLong, Write}
 
 -- ---- the writer, since a call before which it was as well as now
 
@@ -57,7 +57,7 @@ refused false false fault e = absurd cc
 pub of_refusal : (v : Conversion) (fault : Fault) → Some fault ≡ refusal v → IsOfNone fault
 of_refusal v fault e = refused v.has_ended v.has_failed fault e
 
--- ---- which faults a refusal, and a setup, have
+-- ---- which faults a refusal, a setup, and bytes that are handed in, have
 
 abbrev pub is_refusal : Fault → Bool
 is_refusal Failed = true
@@ -69,6 +69,11 @@ is_of_setup BadSetup = true
 is_of_setup Memory = true
 is_of_setup _ = false
 
+abbrev pub is_of_feed : Fault → Bool
+is_of_feed TooLong = true
+is_of_feed Write = true
+is_of_feed _ = false
+
 refusing : (ended failed : Bool) (fault : Fault) → Some fault ≡ (if ended then Some Finished else if failed then Some Failed else None) → is_refusal fault ≡ true
 refusing true failed fault e = ap (λ o. is_refusal (given Finished o)) e
 refusing false true fault e = ap (λ o. is_refusal (given Failed o)) e
@@ -78,6 +83,10 @@ setting_up : (fault : Fault) → IsSetupFault fault → is_of_setup fault ≡ tr
 setting_up fault (inl e) = ap is_of_setup e
 setting_up fault (inr e) = ap is_of_setup e
 
+feeding : (fault : Fault) → IsFeedFault fault → is_of_feed fault ≡ true
+feeding fault (inl e) = ap is_of_feed e
+feeding fault (inr e) = ap is_of_feed e
+
 other : {A : Type 0} (is : Fault → Bool) (fault x : Fault) → is fault ≡ true → is x ≡ false → IsErrOf {T = A} {E = Fault} (Err fault) x → ⊥
 other is fault x h hard e = let same : fault ≡ x = cc in true≢false (sym h ∙ ap is same ∙ hard)
 
@@ -86,6 +95,9 @@ not_refusal v fault x e = other is_refusal fault x (refusing v.has_ended v.has_f
 
 pub not_of_setup : {A : Type 0} (fault x : Fault) → IsSetupFault fault → is_of_setup x ≡ false → IsErrOf {T = A} {E = Fault} (Err fault) x → ⊥
 not_of_setup fault x s = other is_of_setup fault x (setting_up fault s)
+
+pub not_of_feed : {A : Type 0} (fault x : Fault) → IsFeedFault fault → is_of_feed x ≡ false → IsErrOf {T = A} {E = Fault} (Err fault) x → ⊥
+not_of_feed fault x f = other is_of_feed fault x (feeding fault f)
 
 stopped : (ended failed : Bool) (fault : Fault) → Some fault ≡ (if ended then Some Finished else if failed then Some Failed else None) → ended ≡ false → failed ≡ false → ⊥
 stopped true failed fault e h k = cc
