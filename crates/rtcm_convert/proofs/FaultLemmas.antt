@@ -1,11 +1,11 @@
 -- What an answer says of the devices, handed on from call to call.
-use Rattle.std.proofs.Common.{◌≡◌, ◌≤◌, ℕ, max, refl, sym, ap, subst, ◌∙◌, arith, inl, inr, Bool, true, false, Option, Some, None, Result, Ok, Err, IfErr}
-use Rattle.std.specs.Prelude.{if◌then◌else◌}
+use Rattle.std.proofs.Common.{◌≡◌, ◌≤◌, ℕ, max, refl, sym, ap, subst, ◌∙◌, arith, inl, inr, Bool, true, false, Option, Some, None, Result, Ok, Err, IfErr, true≢false}
+use Rattle.std.specs.Prelude.{if◌then◌else◌, IsErrOf}
 use Rattle.rtcm_bits.specs.Device.{Device}
-use Rattle.rtcm_convert.specs.Conversion.{Conversion, refusal}
-use Rattle.rtcm_convert.specs.Faults.{FailsWithReader, FailsWithWriter, ReaderFailures, WriterFailures, IsFinishFault}
+use Rattle.rtcm_convert.specs.Conversion.{Conversion, IsGoing, refusal}
+use Rattle.rtcm_convert.specs.Faults.{FailsWithReader, FailsWithWriter, ReaderFailures, WriterFailures, IsFeedFault, IsFinishFault, IsSetupFault}
 use Rattle.rtcm_convert.specs.declared.fault.Fault.{Fault}
-use Rattle.rtcm_convert.specs.declared.fault.Fault.TheVariants.{Failed, Finished}
+use Rattle.rtcm_convert.specs.declared.fault.Fault.TheVariants.{BadSetup, Failed, Finished, Memory, TooLong, Write}
 
 -- ---- the writer, since a call before which it was as well as now
 
@@ -56,3 +56,53 @@ refused false false fault e = absurd cc
 
 pub of_refusal : (v : Conversion) (fault : Fault) → Some fault ≡ refusal v → IsOfNone fault
 of_refusal v fault e = refused v.has_ended v.has_failed fault e
+
+-- ---- which faults a refusal, a setup, and bytes that are handed in, have
+
+abbrev pub is_refusal : Fault → Bool
+is_refusal Failed = true
+is_refusal Finished = true
+is_refusal _ = false
+
+abbrev pub is_of_setup : Fault → Bool
+is_of_setup BadSetup = true
+is_of_setup Memory = true
+is_of_setup _ = false
+
+abbrev pub is_of_feed : Fault → Bool
+is_of_feed TooLong = true
+is_of_feed Write = true
+is_of_feed _ = false
+
+refusing : (ended failed : Bool) (fault : Fault) → Some fault ≡ (if ended then Some Finished else if failed then Some Failed else None) → is_refusal fault ≡ true
+refusing true failed fault e = ap (λ o. is_refusal (given Finished o)) e
+refusing false true fault e = ap (λ o. is_refusal (given Failed o)) e
+refusing false false fault e = absurd cc
+
+setting_up : (fault : Fault) → IsSetupFault fault → is_of_setup fault ≡ true
+setting_up fault (inl e) = ap is_of_setup e
+setting_up fault (inr e) = ap is_of_setup e
+
+feeding : (fault : Fault) → IsFeedFault fault → is_of_feed fault ≡ true
+feeding fault (inl e) = ap is_of_feed e
+feeding fault (inr e) = ap is_of_feed e
+
+other : {A : Type 0} (is : Fault → Bool) (fault x : Fault) → is fault ≡ true → is x ≡ false → IsErrOf {T = A} {E = Fault} (Err fault) x → ⊥
+other is fault x h hard e = let same : fault ≡ x = cc in true≢false (sym h ∙ ap is same ∙ hard)
+
+pub not_refusal : {A : Type 0} (v : Conversion) (fault x : Fault) → Some fault ≡ refusal v → is_refusal x ≡ false → IsErrOf {T = A} {E = Fault} (Err fault) x → ⊥
+not_refusal v fault x e = other is_refusal fault x (refusing v.has_ended v.has_failed fault e)
+
+pub not_of_setup : {A : Type 0} (fault x : Fault) → IsSetupFault fault → is_of_setup x ≡ false → IsErrOf {T = A} {E = Fault} (Err fault) x → ⊥
+not_of_setup fault x s = other is_of_setup fault x (setting_up fault s)
+
+pub not_of_feed : {A : Type 0} (fault x : Fault) → IsFeedFault fault → is_of_feed x ≡ false → IsErrOf {T = A} {E = Fault} (Err fault) x → ⊥
+not_of_feed fault x f = other is_of_feed fault x (feeding fault f)
+
+stopped : (ended failed : Bool) (fault : Fault) → Some fault ≡ (if ended then Some Finished else if failed then Some Failed else None) → ended ≡ false → failed ≡ false → ⊥
+stopped true failed fault e h k = cc
+stopped false true fault e h k = cc
+stopped false false fault e h k = cc
+
+pub not_going : (v : Conversion) (fault : Fault) → Some fault ≡ refusal v → IsGoing v → ⊥
+not_going v fault e going = stopped v.has_ended v.has_failed fault e going.more going.fine

@@ -59,6 +59,7 @@ impl Converter {
         ensures only { IfErr result IsSetupFault }
     {
         if setup.limit > MOST_BYTES {
+            drop(setup);
             return Err(Fault::BadSetup);
         }
         let limit = setup.limit;
@@ -70,7 +71,10 @@ impl Converter {
                     failed: false,
                     finished: false,
                 }),
-                Err(_) => Err(Fault::Memory),
+                Err(_) => {
+                    drop(filer);
+                    Err(Fault::Memory)
+                }
             },
             Err(fault) => Err(fault),
         }

@@ -50,7 +50,11 @@ pub fn convert_stream<R: Read, W: Write>(
     laws::prefix();
     laws::read_back(&setup);
     match Converter::new(alloc, setup) {
-        Ok(mut converter) => converter.run(reader, writer),
+        Ok(mut converter) => {
+            let answer = converter.run(reader, writer);
+            drop(converter);
+            answer
+        }
         Err(fault) => Err(fault),
     }
 }
@@ -81,7 +85,11 @@ pub fn convert_pieces<W: Write>(
 {
     laws::read_back(&setup);
     match Converter::new(alloc, setup) {
-        Ok(mut converter) => take_pieces(&mut converter, pieces, writer),
+        Ok(mut converter) => {
+            let answer = take_pieces(&mut converter, pieces, writer);
+            drop(converter);
+            answer
+        }
         Err(fault) => Err(fault),
     }
 }

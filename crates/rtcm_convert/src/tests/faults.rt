@@ -1,152 +1,201 @@
-use super::script::{Broken, Step, TOLD, Told, follow, makes, sends};
-use super::{EPOCH, FULL, HEADER, POINT, Text, framed, makes_of_steps, reader, text_of};
+use super::FED;
+use super::script::{Call, IDLE, Script, TOLD, Told, Way, first_broken};
 use crate::Fault;
-use rtcm_bits::Counted;
-use rtcm_bits::devices::{PieceReader, ReadEnd, ShortWriter, WriteEnd};
+use rtcm_bits::devices::{ReadEnd, WriteEnd};
 use rtcm_scan::MOST_BYTES;
 use std::alloc::Global;
 use std::io::ErrorKind;
-use std::test::Fail;
 
-#[test]
-fn streams_without_an_epoch(rt: HostRuntime) {
-    let stream = framed(&[&POINT]);
-    for bytes in [&stream[..0], stream.as_slice()] {
-        let steps = [
-            Step::Feed(bytes, 1_000, Ok(())),
-            Step::Finish(Err(Fault::NoEpoch)),
-            Step::Finish(Err(Fault::Finished)),
-            Step::Feed(bytes, 1_000, Err(Fault::Finished)),
-        ];
-        assert_eq!(rt; makes_of_steps(rt.alloc(), TOLD, &steps, &[]), Ok(()));
-    }
-}
+/// A stream without an epoch, of no byte and of a cut frame.
+const EMPTY: Script = Script {
+    way: Way::Calls(&[
+        (Call::Feed(0, 0), FED),
+        (Call::Finish, Err(Fault::NoEpoch)),
+        (Call::Finish, Err(Fault::Finished)),
+        (Call::Feed(0, 0), Err(Fault::Finished)),
+    ]),
+    ..IDLE
+};
 
-#[test]
-fn bad_setups(rt: HostRuntime) {
-    for (limit, week, station) in [
-        (MOST_BYTES + 1, 2_300, None),
-        (MOST_BYTES, 100_000, None),
-        (MOST_BYTES, 2_300, Some(4_096)),
-    ] {
-        let told = Told {
-            limit,
-            week,
-            station,
-        };
-        assert_eq!(rt;
-            makes_of_steps(rt.alloc(), told, &[], &[]),
-            Err(Broken::New(Fault::BadSetup)),
-            "{limit} {week}"
-        );
-    }
-}
+/// A limit within the first frame or at its end, and one byte more than that frame.
+const LIMITED: Script = Script {
+    way: Way::Calls(&[
+        (Call::Feed(0, 43), Err(Fault::TooLong)),
+        (Call::Feed(0, 0), Err(Fault::Failed)),
+        (Call::Finish, Err(Fault::Failed)),
+    ]),
+    ..IDLE
+};
 
-#[test]
-fn limits(rt: HostRuntime) {
-    let mut longer = framed(&[&FULL]);
-    let _fits = longer.try_push(0);
-    let file = text_of(&HEADER, &EPOCH);
-    let cases: [(&[u8], u64, &[u8]); 3] = [
-        (&[0; 11], 10, &[]),
-        (&longer, 41, &[]),
-        (&longer, 42, &file),
-    ];
-    for (stream, limit, want) in &cases {
-        let told = Told {
-            limit: *limit,
+/// A setup that is out of range.
+const BAD: Script = Script {
+    told: Told {
+        limit: MOST_BYTES + 1,
+        ..TOLD
+    },
+    fault: Some(Fault::BadSetup),
+    ..IDLE
+};
+
+static STREAMS: [Script; 10] = [
+    EMPTY,
+    Script {
+        way: Way::Calls(&[
+            (Call::Feed(0, 41), FED),
+            (Call::Finish, Err(Fault::NoEpoch)),
+            (Call::Finish, Err(Fault::Finished)),
+            (Call::Run, Err(Fault::Finished)),
+        ]),
+        ..IDLE
+    },
+    Script {
+        told: Told { limit: 10, ..TOLD },
+        ..LIMITED
+    },
+    Script {
+        told: Told { limit: 41, ..TOLD },
+        ..LIMITED
+    },
+    Script {
+        told: Told { limit: 42, ..TOLD },
+        sent: 1_236,
+        ..LIMITED
+    },
+    BAD,
+    Script {
+        told: Told {
+            week: 100_000,
             ..TOLD
-        };
-        let steps = [
-            Step::Feed(stream, 1_000, Err(Fault::TooLong)),
-            Step::Feed(&[], 1_000, Err(Fault::Failed)),
-            Step::Finish(Err(Fault::Failed)),
-        ];
-        assert_eq!(rt;
-            makes_of_steps(rt.alloc(), told, &steps, want),
-            Ok(()),
-            "{limit}"
-        );
+        },
+        ..BAD
+    },
+    Script {
+        told: Told {
+            station: Some(4_096),
+            ..TOLD
+        },
+        ..BAD
+    },
+    Script {
+        way: Way::Stream(Err(Fault::BadSetup)),
+        fault: None,
+        ..BAD
+    },
+    Script {
+        way: Way::Pieces(Err(Fault::BadSetup)),
+        fault: None,
+        ..BAD
+    },
+];
+
+#[test]
+fn streams_and_setups_that_are_refused(rt: HostRuntime) {
+    assert_eq!(rt; first_broken(rt.alloc(), &STREAMS), None);
+}
+
+/// A writer that fails within the file of the first message.
+const WRITER: Script = Script {
+    full: WriteEnd::Fails(ErrorKind::Interrupted),
+    way: Way::Calls(&[
+        (Call::Feed(0, 42), Err(Fault::Write)),
+        (Call::Feed(0, 42), Err(Fault::Failed)),
+    ]),
+    failures: (0, 1),
+    room: 0,
+    ..IDLE
+};
+
+/// A reader that fails within the first message or behind it.
+const READER: Script = Script {
+    then: ReadEnd::Fails(ErrorKind::Other),
+    way: Way::Calls(&[
+        (Call::Run, Err(Fault::Read)),
+        (Call::Run, Err(Fault::Failed)),
+    ]),
+    failures: (1, 0),
+    asked: 1_029,
+    ..IDLE
+};
+
+static DEVICES: [Script; 10] = [
+    WRITER,
+    Script {
+        room: 100,
+        sent: 100,
+        ..WRITER
+    },
+    Script {
+        room: 1_235,
+        sent: 1_235,
+        ..WRITER
+    },
+    Script {
+        full: WriteEnd::TakesNone,
+        ..WRITER
+    },
+    Script {
+        room: 100,
+        full: WriteEnd::TakesNone,
+        sent: 100,
+        ..WRITER
+    },
+    Script {
+        room: 1_235,
+        full: WriteEnd::TakesNone,
+        sent: 1_235,
+        ..WRITER
+    },
+    READER,
+    Script {
+        given: 20,
+        asked: 1_009,
+        ..READER
+    },
+    Script {
+        given: 41,
+        asked: 988,
+        ..READER
+    },
+    Script {
+        given: 42,
+        sent: 1_236,
+        ..READER
+    },
+];
+
+#[test]
+fn devices_that_fail(rt: HostRuntime) {
+    assert_eq!(rt; first_broken(rt.alloc(), &DEVICES), None);
+}
+
+static TEXTS: [(Fault, &str); 8] = [
+    (Fault::Memory, "no memory"),
+    (
+        Fault::BadSetup,
+        "the limit, the week or the station is out of range",
+    ),
+    (Fault::TooLong, "the stream is longer than its limit"),
+    (Fault::Read, "the reader failed"),
+    (Fault::Write, "the writer failed"),
+    (Fault::Failed, "an earlier call failed"),
+    (Fault::Finished, "the stream was ended"),
+    (Fault::NoEpoch, "no epoch was written"),
+];
+
+#[test]
+fn texts_of_faults(rt: HostRuntime) {
+    for (fault, want) in &TEXTS {
+        assert!(rt; prints(rt.alloc(), *fault, want), "{want}");
     }
 }
 
-#[test]
-fn writers_that_fail(rt: HostRuntime) {
-    let stream = framed(&[&FULL]);
-    let file = text_of(&HEADER, &EPOCH);
-    let steps = [
-        Step::Feed(&stream, 1_000, Err(Fault::Write)),
-        Step::Feed(&stream, 1_000, Err(Fault::Failed)),
-    ];
-    for total in [0, 100, 1_235] {
-        let want = file.get(..total).unwrap_or(&[]);
-        for end in [WriteEnd::Fails(ErrorKind::Interrupted), WriteEnd::TakesNone] {
-            let got = sends_before(rt.alloc(), &steps, total, end, want);
-            assert_eq!(rt; got, (Ok(()), 1, Ok(())), "{total}");
+fn prints(alloc: Global, fault: Fault, want: &str) -> bool {
+    match format!(in alloc; "{fault}") {
+        Ok(text) => {
+            let is = text.as_str() == want;
+            drop(text);
+            is
         }
+        Err(_) => false,
     }
-}
-
-/// Takes the steps over a writer that takes so many bytes, seven at a time, and then fails: whether
-/// they are followed, how many failures were counted, and whether just the text went out.
-fn sends_before<'a>(
-    alloc: Global,
-    steps: &[Step<'a>],
-    total: usize,
-    end: WriteEnd,
-    text: &[u8],
-) -> (Result<(), Broken<'a>>, u64, Result<(), Broken<'a>>) {
-    let mut writer = Counted::new(ShortWriter::new(Text::new(), 7, total, end));
-    let got = follow(alloc, TOLD, steps, &mut reader(&[], &[]), &mut writer);
-    let failures = writer.failures();
-    let went = writer.into_inner().into_inner();
-    (got, failures, sends(&went, text))
-}
-
-#[test]
-fn readers_that_fail(rt: HostRuntime) {
-    let stream = framed(&[&FULL]);
-    let file = text_of(&HEADER, &EPOCH);
-    let steps = [Step::Run(Err(Fault::Read)), Step::Run(Err(Fault::Failed))];
-    for given in [0, 20, 41, 42] {
-        let bytes = stream.get(..given).unwrap_or(&[]);
-        let want = if given < 42 { &[] } else { file.as_slice() };
-        let got = makes_before(rt.alloc(), &steps, bytes, want);
-        assert_eq!(rt; got, (Ok(()), 1), "{given}");
-    }
-}
-
-/// Takes the steps over a reader that gives these bytes and then fails: whether they make the text,
-/// and how many failures were counted.
-fn makes_before<'a>(
-    alloc: Global,
-    steps: &[Step<'a>],
-    bytes: &[u8],
-    text: &[u8],
-) -> (Result<(), Broken<'a>>, u64) {
-    let end = ReadEnd::Fails(ErrorKind::Other);
-    let mut reader = Counted::new(PieceReader::new(bytes, &[8], end));
-    let got = makes(alloc, TOLD, steps, &mut reader, text);
-    (got, reader.failures())
-}
-
-#[test]
-fn texts_of_faults(rt: HostRuntime) -> Result<(), Fail> {
-    let cases = [
-        (Fault::Memory, "no memory"),
-        (
-            Fault::BadSetup,
-            "the limit, the week or the station is out of range",
-        ),
-        (Fault::TooLong, "the stream is longer than its limit"),
-        (Fault::Read, "the reader failed"),
-        (Fault::Write, "the writer failed"),
-        (Fault::Failed, "an earlier call failed"),
-        (Fault::Finished, "the stream was ended"),
-        (Fault::NoEpoch, "no epoch was written"),
-    ];
-    for (fault, want) in cases {
-        assert_eq!(rt; format!(in rt.alloc(); "{fault}")?.as_str(), want);
-    }
-    Ok(())
 }

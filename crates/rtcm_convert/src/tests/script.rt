@@ -1,15 +1,17 @@
-//! Scripts: the calls of a converter, each with what it answers.
+//! Scripts: the calls of a converter over devices that may fail, and what has to come of them.
 //!
-//! A proof over a value that has to be dropped is dear, and a converter is one. So one function
-//! makes it and lets it go, and a test is a table of steps.
-use super::Text;
-use crate::{Converter, Fault, Report, Setup};
+//! A proof over a value that has to be dropped is dear, and a converter is one, as is a device. So
+//! one function makes each and lets it go, and a test is a table of scripts.
+use super::{FILE, STREAM};
+use crate::{Converter, Fault, Report, Setup, convert_pieces, convert_stream};
+use arrayvec::ArrayVec;
 use gnss_obs::System;
 use obs_epoch::{Gather, Plan};
 use rinex_file::{HeaderTexts, Texts};
 use rtcm_bits::Counted;
+use rtcm_bits::devices::{PieceReader, ReadEnd, ShortWriter, WriteEnd};
 use rtcm_scan::MOST_BYTES;
-use std::alloc::Global;
+use std::alloc::{AllocError, Global};
 use std::io::{Read, Write};
 
 /// What differs between the setups of the tests.
@@ -41,102 +43,209 @@ const TEXTS: Texts<'static> = Texts {
     ant_type: "",
 };
 
-/// A call, and what it answers.
-#[derive(Clone, Copy, Debug, PartialEq, Eq)]
-pub enum Step<'a> {
-    /// Takes these bytes in pieces of a size.
-    Feed(&'a [u8], usize, Result<(), Fault>),
+/// A call of a converter.
+#[derive(Clone, Copy)]
+pub enum Call {
+    /// Takes the bytes of the stream from one place to another.
+    Feed(usize, usize),
     /// Reads to the end.
-    Run(Result<Report, Fault>),
-    Finish(Result<Report, Fault>),
+    Run,
+    Finish,
     /// The bytes held, and the looks in all and at one byte.
-    Looks(usize, u64, u16),
+    Looks,
     /// The cells of GPS and of Galileo that are held, and the lock records.
-    Kept(usize, usize, usize),
+    Kept,
 }
 
-/// Where a script isn't followed.
+/// What a call answers where all is well.
 #[derive(Clone, Copy, Debug, PartialEq, Eq)]
-pub enum Broken<'a> {
-    /// There is no converter.
-    New(Fault),
-    /// The place of the first step that is answered otherwise, with the answer it has.
-    Step(usize, Step<'a>),
-    /// How many bytes went out, and the place of the first that is another.
-    Sent(usize, usize),
+pub enum Good {
+    Fed,
+    Made(Report),
+    Counts(u64, u64, u64),
 }
 
-/// Makes a converter, and takes the steps over a writer with room for every file. Just the text has
-/// to go out.
-pub fn makes<'a, R: Read>(
-    alloc: Global,
-    told: Told,
-    steps: &[Step<'a>],
-    reader: &mut Counted<R>,
-    text: &[u8],
-) -> Result<(), Broken<'a>> {
-    let mut writer = Counted::new(Text::new());
-    follow(alloc, told, steps, reader, &mut writer)?;
-    sends(writer.into_inner().as_slice(), text)
+pub type Answer = Result<Good, Fault>;
+
+/// What makes a file.
+#[derive(Clone, Copy)]
+pub enum Way {
+    /// A converter, by these calls with these answers.
+    Calls(&'static [(Call, Answer)]),
+    Stream(Answer),
+    /// In pieces, of as many bytes of the stream as the reader gives.
+    Pieces(Answer),
 }
 
-/// Whether just the text went out.
-pub fn sends<'a>(sent: &[u8], text: &[u8]) -> Result<(), Broken<'a>> {
-    if sent == text {
-        return Ok(());
+/// What is called, over which devices, and what has to come.
+#[derive(Clone, Copy)]
+pub struct Script {
+    pub told: Told,
+    /// How many bytes of the stream the reader gives, and what it does then.
+    pub given: usize,
+    pub then: ReadEnd,
+    /// How many bytes the writer takes, seven at a time, and what it does then.
+    pub room: usize,
+    pub full: WriteEnd,
+    pub way: Way,
+    /// Where there is no converter: why.
+    pub fault: Option<Fault>,
+    /// The failures of reader and writer.
+    pub failures: (u64, u64),
+    /// The size of the last read.
+    pub asked: usize,
+    /// How many bytes of the file go out.
+    pub sent: usize,
+}
+
+/// Nothing is called, and no device fails.
+pub const IDLE: Script = Script {
+    told: TOLD,
+    given: 0,
+    then: ReadEnd::Ends,
+    room: 1_500,
+    full: WriteEnd::TakesNone,
+    way: Way::Calls(&[]),
+    fault: None,
+    failures: (0, 0),
+    asked: 0,
+    sent: 0,
+};
+
+/// The place of the first call that is answered otherwise, with its answer.
+type Broken = Option<(usize, Answer)>;
+
+/// The failures of reader and writer, the size of the last read, how many bytes went out, and
+/// whether they begin the file.
+type Left = ((u64, u64), usize, usize, bool);
+
+/// Of the scripts, in pieces of one byte, of two, and whole: the place of the first of which another
+/// thing comes, with the size of the pieces and what comes.
+pub fn first_broken(alloc: Global, scripts: &[Script]) -> Option<(usize, usize, (Broken, Left))> {
+    for (place, script) in scripts.iter().enumerate() {
+        for size in [1, 2, 1_000] {
+            let comes = comes_of(alloc, script, size);
+            if comes != wanted(script) {
+                return Some((place, size, comes));
+            }
+        }
     }
-    let alike = sent
-        .iter()
-        .zip(text)
-        .take_while(|(byte, want)| byte == want);
-    Err(Broken::Sent(sent.len(), alike.count()))
+    None
 }
 
-/// Makes a converter, and takes the steps.
-pub fn follow<'a, R: Read, W: Write>(
+fn wanted(script: &Script) -> (Broken, Left) {
+    let broken = match script.fault {
+        Some(fault) => Some((0, Err(fault))),
+        None => None,
+    };
+    (broken, (script.failures, script.asked, script.sent, true))
+}
+
+/// Makes the devices, takes the script over them, and lets them go.
+fn comes_of(alloc: Global, script: &Script, size: usize) -> (Broken, Left) {
+    let bytes = STREAM.get(..script.given).unwrap_or(&[]);
+    let sizes = [size];
+    let mut reader = Counted::new(PieceReader::new(bytes, &sizes, script.then));
+    let text = ArrayVec::<u8, 1_500>::new();
+    let mut writer = Counted::new(ShortWriter::new(text, 7, script.room, script.full));
+    let broken = take(alloc, script, size, &mut reader, &mut writer);
+    let failures = (reader.failures(), writer.failures());
+    let asked = asked_last(reader);
+    let sent = writer.into_inner().into_inner();
+    let length = sent.as_slice().len();
+    let begins = FILE.as_bytes().starts_with(sent.as_slice());
+    drop(sent);
+    (broken, (failures, asked, length, begins))
+}
+
+fn asked_last(reader: Counted<PieceReader>) -> usize {
+    let device = reader.into_inner();
+    let asked = device.asked();
+    drop(device);
+    asked
+}
+
+fn take<R: Read, W: Write>(
     alloc: Global,
-    told: Told,
-    steps: &[Step<'a>],
+    script: &Script,
+    size: usize,
     reader: &mut Counted<R>,
     writer: &mut Counted<W>,
-) -> Result<(), Broken<'a>> {
+) -> Broken {
+    match script.way {
+        Way::Calls(calls) => follow(alloc, script.told, calls, size, reader, writer),
+        Way::Stream(want) => differs(stream(alloc, script.told, reader, writer), want),
+        Way::Pieces(want) => {
+            let bytes = STREAM.get(..script.given).unwrap_or(&[]);
+            differs(pieces(alloc, script.told, bytes, size, writer), want)
+        }
+    }
+}
+
+fn differs(made: Result<Report, Fault>, want: Answer) -> Broken {
+    let got = answered(made);
+    if got == want {
+        return None;
+    }
+    Some((0, got))
+}
+
+/// Makes a converter, and takes the calls.
+fn follow<R: Read, W: Write>(
+    alloc: Global,
+    told: Told,
+    calls: &[(Call, Answer)],
+    size: usize,
+    reader: &mut Counted<R>,
+    writer: &mut Counted<W>,
+) -> Broken {
     match converter(alloc, told) {
-        Ok(mut converter) => take_all(&mut converter, steps, reader, writer),
-        Err(fault) => Err(Broken::New(fault)),
+        Ok(mut converter) => {
+            let broken = take_all(&mut converter, calls, size, reader, writer);
+            drop(converter);
+            broken
+        }
+        Err(fault) => Some((0, Err(fault))),
     }
 }
 
-fn take_all<'a, R: Read, W: Write>(
+fn take_all<R: Read, W: Write>(
     converter: &mut Converter,
-    steps: &[Step<'a>],
+    calls: &[(Call, Answer)],
+    size: usize,
     reader: &mut Counted<R>,
     writer: &mut Counted<W>,
-) -> Result<(), Broken<'a>> {
-    for (place, step) in steps.iter().enumerate() {
-        let taken = take(converter, *step, reader, writer);
-        if taken != *step {
-            return Err(Broken::Step(place, taken));
+) -> Broken {
+    for (place, (call, want)) in calls.iter().enumerate() {
+        let got = answer(converter, *call, size, reader, writer);
+        if got != *want {
+            return Some((place, got));
         }
     }
-    Ok(())
+    None
 }
 
-/// Takes a step: the same with the answer it has.
-fn take<'a, R: Read, W: Write>(
+fn answer<R: Read, W: Write>(
     converter: &mut Converter,
-    step: Step<'a>,
+    call: Call,
+    size: usize,
     reader: &mut Counted<R>,
     writer: &mut Counted<W>,
-) -> Step<'a> {
-    match step {
-        Step::Feed(bytes, size, _) => {
-            Step::Feed(bytes, size, feed(converter, bytes, size, writer))
+) -> Answer {
+    match call {
+        Call::Feed(from, to) => {
+            let bytes = STREAM.get(from..to).unwrap_or(&[]);
+            feed(converter, bytes, size, writer)
         }
-        Step::Run(_) => Step::Run(run(converter, reader, writer)),
-        Step::Finish(_) => Step::Finish(finish(converter, writer)),
-        Step::Looks(..) => looks(converter),
-        Step::Kept(..) => kept(converter),
+        Call::Run => answered(run(converter, reader, writer)),
+        Call::Finish => answered(finish(converter, writer)),
+        Call::Looks => Ok(looks(converter)),
+        Call::Kept => Ok(kept(converter)),
     }
+}
+
+fn answered(made: Result<Report, Fault>) -> Answer {
+    Ok(Good::Made(made?))
 }
 
 /// Feeds at least one piece.
@@ -145,14 +254,14 @@ fn feed<W: Write>(
     bytes: &[u8],
     size: usize,
     writer: &mut Counted<W>,
-) -> Result<(), Fault> {
+) -> Answer {
     if bytes.is_empty() {
-        return converter.feed(bytes, writer);
+        converter.feed(bytes, writer)?;
     }
     for piece in bytes.chunks(size.max(1)) {
         converter.feed(piece, writer)?;
     }
-    Ok(())
+    Ok(Good::Fed)
 }
 
 fn run<R: Read, W: Write>(
@@ -167,15 +276,19 @@ fn finish<W: Write>(converter: &mut Converter, writer: &mut Counted<W>) -> Resul
     converter.finish(writer)
 }
 
-fn looks<'a>(converter: &Converter) -> Step<'a> {
-    Step::Looks(converter.held(), converter.examined(), converter.most())
+fn looks(converter: &Converter) -> Good {
+    Good::Counts(
+        converter.held() as u64,
+        converter.examined(),
+        u64::from(converter.most()),
+    )
 }
 
-fn kept<'a>(converter: &Converter) -> Step<'a> {
-    Step::Kept(
-        converter.cells(System::Gps),
-        converter.cells(System::Galileo),
-        converter.locks(),
+fn kept(converter: &Converter) -> Good {
+    Good::Counts(
+        converter.cells(System::Gps) as u64,
+        converter.cells(System::Galileo) as u64,
+        converter.locks() as u64,
     )
 }
 
@@ -183,8 +296,59 @@ fn converter(alloc: Global, told: Told) -> Result<Converter, Fault> {
     Converter::new(alloc, setup(alloc, told)?)
 }
 
+fn stream<R: Read, W: Write>(
+    alloc: Global,
+    told: Told,
+    reader: &mut Counted<R>,
+    writer: &mut Counted<W>,
+) -> Result<Report, Fault> {
+    convert_stream(alloc, setup(alloc, told)?, reader, writer)
+}
+
+fn pieces<W: Write>(
+    alloc: Global,
+    told: Told,
+    bytes: &[u8],
+    size: usize,
+    writer: &mut Counted<W>,
+) -> Result<Report, Fault> {
+    match cut(alloc, bytes, size) {
+        Ok(pieces) => {
+            let made = join(alloc, told, &pieces, writer);
+            drop(pieces);
+            made
+        }
+        Err(_) => Err(Fault::Memory),
+    }
+}
+
+fn join<W: Write>(
+    alloc: Global,
+    told: Told,
+    pieces: &[Vec<u8>],
+    writer: &mut Counted<W>,
+) -> Result<Report, Fault> {
+    convert_pieces(alloc, setup(alloc, told)?, pieces, writer)
+}
+
+fn cut(alloc: Global, bytes: &[u8], size: usize) -> Result<Vec<Vec<u8>>, AllocError> {
+    let mut pieces = Vec::new(alloc);
+    for piece in bytes.chunks(size.max(1)) {
+        if add_piece(alloc, piece, &mut pieces).is_err() {
+            drop(pieces);
+            return Err(AllocError);
+        }
+    }
+    Ok(pieces)
+}
+
+fn add_piece(alloc: Global, piece: &[u8], pieces: &mut Vec<Vec<u8>>) -> Result<(), AllocError> {
+    pieces.push(piece.to_vec(alloc)?)?;
+    Ok(())
+}
+
 /// Signal 1C of GPS. Where that can't be had, the fault is `Memory`.
-pub fn setup(alloc: Global, told: Told) -> Result<Setup, Fault> {
+fn setup(alloc: Global, told: Told) -> Result<Setup, Fault> {
     match Plan::parse(alloc, "1C", "none") {
         Ok(plan) => setup_of(plan, told),
         Err(_) => Err(Fault::Memory),
@@ -201,6 +365,9 @@ fn setup_of(plan: Plan, told: Told) -> Result<Setup, Fault> {
             gather: Gather::Bit,
             limit: told.limit,
         }),
-        Err(_) => Err(Fault::Memory),
+        Err(_) => {
+            drop(plan);
+            Err(Fault::Memory)
+        }
     }
 }

@@ -1,5 +1,6 @@
 use Rattle.std.proofs.Common.{ap, arith, ◌∙◌, inl, inr, refl}
-use Rattle.rtcm_convert.proofs.FaultLemmas.{at_most, wider, reader_after, reader_ended, writer_after, writer_since, of_refusal}
+use Rattle.rtcm_convert.specs.declared.fault.Fault.TheVariants.{NoEpoch, Read, TooLong, Write}
+use Rattle.rtcm_convert.proofs.FaultLemmas.{at_most, wider, reader_after, reader_ended, writer_after, writer_since, of_refusal, not_going, not_refusal}
 use Rattle.rtcm_convert.proofs.PartLemmas.{same_fault}
 use Rattle.rtcm_convert.proofs.RunLemmas.{going_on, ran_start, ran-trans, ran_whole, ran_empty, ran_long, run_read, run_long, run_feeding, run_finishing}
 use Rattle.rtcm_convert.proofs.converter.Converter.run.Goals as goal
@@ -98,3 +99,27 @@ returns-in-Some-clause-reader g c = ((of_refusal c.args.self.now c.in-Some.fault
 
 pub returns-in-Some-clause-writer : goal.returns-in-Some-clause-writer
 returns-in-Some-clause-writer g c = ((of_refusal c.args.self.now c.in-Some.fault c.in-Some.ensures c.args.writer.now.failures).0, tt, refl)
+
+pub returns-in-Some-clause-no_epoch : goal.returns-in-Some-clause-no_epoch
+returns-in-Some-clause-no_epoch g c = λ e. absurd (not_refusal c.args.self.now c.in-Some.fault NoEpoch c.in-Some.ensures refl e)
+
+pub returns-in-Some-clause-too_long : goal.returns-in-Some-clause-too_long
+returns-in-Some-clause-too_long g c = λ e. absurd (not_refusal c.args.self.now c.in-Some.fault TooLong c.in-Some.ensures refl e)
+
+pub returns-in-Some-clause-long : goal.returns-in-Some-clause-long
+returns-in-Some-clause-long g c = λ e. absurd (not_refusal c.args.self.now c.in-Some.fault TooLong c.in-Some.ensures refl e)
+
+pub returns-in-Some-clause-full : goal.returns-in-Some-clause-full
+returns-in-Some-clause-full g c = λ e. absurd (not_refusal c.args.self.now c.in-Some.fault TooLong c.in-Some.ensures refl e)
+
+pub returns-in-Some-clause-read : goal.returns-in-Some-clause-read
+returns-in-Some-clause-read g c = λ e. absurd (not_refusal c.args.self.now c.in-Some.fault Read c.in-Some.ensures refl e)
+
+pub returns-in-Some-clause-write : goal.returns-in-Some-clause-write
+returns-in-Some-clause-write g c = λ e. absurd (not_refusal c.args.self.now c.in-Some.fault Write c.in-Some.ensures refl e)
+
+pub returns-in-Some-clause-only : goal.returns-in-Some-clause-only
+returns-in-Some-clause-only g c = λ going. absurd (not_going c.args.self.now c.in-Some.fault c.in-Some.ensures going)
+
+pub returns-in-Some-clause-err : goal.returns-in-Some-clause-err
+returns-in-Some-clause-err g c = λ going. absurd (not_going c.args.self.now c.in-Some.fault c.in-Some.ensures going)
