@@ -3,13 +3,17 @@ use Rattle.std.proofs.Common.{◌≡◌, ◌+◌, ◌<◌, ◌&&◌, ◌∷◌, 
 use Rattle.std.proofs.lemmas.List.{map_more}
 use Rattle.std.proofs.lemmas.List.Sums.{fold-append}
 use Rattle.clap.specs.Walk.{Rule, Text, is_empty, rule_of}
-use Rattle.clap.specs.Simple.{App, app_of, built, app_of_fields, is_simple, on_top, with_rule, with_subcommand}
+use Rattle.clap.specs.Simple.{App, app_of, built, app_of_fields, is_simple, new_app, on_top, with_rule, with_subcommand}
 use Rattle.clap.specs.Faults.{is_free_app, is_simple_and_free}
 use Rattle.clap.proofs.OnLiterals.{clap_on_literals}
 use Rattle.clap.specs.Kinds.{FailsBy, HasKind, Kinds}
 use Rattle.clap.specs.declared.error.Error.{Error}
 use Rattle.std.specs.Borrow.{Bor}
-use Rattle.rtcm2rinex.specs.CommandLine.{AddsCommand, AddsOption, IsAnswered, RefusesWords, program, text_of, with_options}
+use Rattle.rtcm2rinex.specs.declared.commands.CommandRow.{CommandRow}
+use Rattle.rtcm2rinex.specs.declared.commands.OptionRow.{OptionRow}
+use Rattle.rtcm2rinex.specs.declared.commands.Reading.{Reading}
+use Rattle.rtcm2rinex.specs.declared.commands.Reading.TheVariants.{Flag, Told, Or, Among, Week, Station, Bytes}
+use Rattle.rtcm2rinex.specs.CommandLine.{AddsCommand, AddsOption, IsAnswered, RefusesWords, command_told, flag, option, option_told, program, read_so, told, with_commands, with_options}
 use Rattle.clap.specs.Values.{kind_of}
 use Rattle.clap.specs.declared.error.kind.ErrorKind.TheVariants as kind
 use Rattle.clap.specs.declared.builder.arg.Arg.{Arg}
@@ -62,11 +66,58 @@ versioned c d e a t version wants was =
     ∙ ap (on_top (λ s. record s { subcommand_required = true; has_version = true })) was
 
 -- one option more
-pub with_option : {E : Type 0} (old new : Result Command E) (a : Arg) (app : App) (r : Rule) → AddsOption old a new → Reads old app → rule_of a ≡ r
-    → r.is_simple ≡ true → Reads new (with_rule app r)
-with_option old (Err e) a app r added was is simple = tt
-with_option old (Ok new) a app r (command, same, added) was is simple =
+pub with_option : {E : Type 0} (old new : Result Command E) (app : App) (r : Rule) → AddsOption old r new → Reads old app → r.is_simple ≡ true
+    → Reads new (with_rule app r)
+with_option old (Err e) app r added was simple = tt
+with_option old (Ok new) app r (command, a, same, is, added) was simple =
     added.shape (local a r is simple) ∙ ap₂ with_rule (subst (λ c. Reads c app) same was) is
+
+simple : (name : Text) (reading : Reading) → (told name reading).is_simple ≡ true
+unfolding told read_so
+simple name Flag = refl
+simple name Told = refl
+simple name (Or default) = refl
+simple name (Among words default) = refl
+simple name Week = refl
+simple name Station = refl
+simple name Bytes = refl
+
+-- a reading that is known
+pub read_as_told : (reading known : Reading) (a b : Rule) → reading ≡ known → b ≡ read_so known a → b ≡ read_so reading a
+read_as_told reading known a b is so = so ∙ ap (λ (r : Reading). read_so r a) (sym is)
+
+-- but for a flag, an option of a row is one with a value that is read so
+pub valued : (name : Text) (reading : Reading) → (reading ≡ Flag → ⊥) → read_so reading (option name) ≡ told name reading
+unfolding told
+valued name Flag not = absurd (not refl)
+valued name Told not = refl
+valued name (Or default) not = refl
+valued name (Among words default) not = refl
+valued name Week not = refl
+valued name Station not = refl
+valued name Bytes not = refl
+
+-- an option of a row is read by clap's definitions
+pub simple_told : (row : OptionRow) → (option_told row).is_simple ≡ true
+simple_told row = simple row.name.now row.reading
+
+-- the options of a command say nothing of the command itself
+pub plain : (a : App) (rs : List Rule) → (with_options a rs).top.is_plain ≡ a.top.is_plain
+plain a [] = refl
+plain a (r ∷ rs) = plain (with_rule a r) rs
+
+-- nor does the command of a row say more of itself than its name
+pub plain_told : (row : CommandRow) → (command_told row).top.is_plain ≡ true
+plain_told row = plain (new_app row.name.now) (map option_told row.options.now)
+
+-- the option of a row whose value is read so, once it is known to have one
+pub told_valued : (a b : Arg) (name : Text) (reading : Reading) → (reading ≡ Flag → ⊥) → rule_of a ≡ option name → rule_of b ≡ read_so reading (rule_of a)
+    → rule_of b ≡ told name reading
+told_valued a b name reading not is so = so ∙ ap (read_so reading) is ∙ valued name reading not
+
+pub told_flag : (a : Arg) (name : Text) (reading : Reading) → reading ≡ Flag → rule_of a ≡ flag name → rule_of a ≡ told name reading
+unfolding told
+told_flag a name reading is so = so ∙ ap (told name) (sym is)
 
 -- one command more, of which this much is known
 pub with_command : {E : Type 0} (old sub new : Result Command E) (P Q R : App → Type 0) → AddsCommand old sub new → IfOk old (λ c. P (app_of c)) → IfOk sub (λ c. Q (app_of c))
@@ -98,11 +149,31 @@ pub why : {T : Type 0} (kinds : Kinds) (r : Result T Error) → FailsBy kinds r 
 why kinds (Ok x) h = tt
 why kinds (Err e) h = h
 
--- one text of the table more
-pub one_text_more : (a : App) (ts : List (Bor Text × Bor Text × Bor Text)) (n : ℕ) (d : Bor Text × Bor Text × Bor Text) → n < length ts
-    → with_rule (with_options a (map text_of (take n ts))) (text_of (get_or ts n d)) ≡ with_options a (map text_of (take (n + 1) ts))
-one_text_more a ts n d lt =
-    sym (ap (with_options a) (map_more text_of ts n d lt) ∙ fold-append with_rule a (map text_of (take n ts)) (text_of (get_or ts n d) ∷ []))
+abbrev nothing : Bor (List ℕ)
+nothing = record { ref_ptr = (0, 0); now = [] }
+
+-- what stands behind the last row
+abbrev pub no_option : OptionRow
+no_option = record { name = nothing; value = nothing; help = nothing; reading = Flag }
+
+abbrev pub no_command : CommandRow
+no_command = record { name = nothing; help = record { about = nothing; examples = nothing }; options = record { ref_ptr = (0, 0); now = [] } }
+
+-- one option of the rows more
+pub one_option_more : (a : App) (rows : List OptionRow) (n : ℕ) (d : OptionRow) → n < length rows
+    → with_rule (with_options a (map option_told (take n rows))) (option_told (get_or rows n d)) ≡ with_options a (map option_told (take (n + 1) rows))
+one_option_more a rows n d lt =
+    sym (ap (with_options a) (map_more option_told rows n d lt) ∙ fold-append with_rule a (map option_told (take n rows)) (option_told (get_or rows n d) ∷ []))
+
+with_sub : App → App → App
+with_sub a b = with_subcommand a b.top
+
+-- one command of the rows more
+pub one_command_more : (a : App) (rows : List CommandRow) (n : ℕ) (d : CommandRow) → n < length rows
+    → with_subcommand (with_commands a (map command_told (take n rows))) (command_told (get_or rows n d)).top
+    ≡ with_commands a (map command_told (take (n + 1) rows))
+one_command_more a rows n d lt =
+    sym (ap (with_commands a) (map_more command_told rows n d lt) ∙ fold-append _ a (map command_told (take n rows)) (command_told (get_or rows n d) ∷ []))
 
 -- an answer to the words by the version's text is what they ask for
 pub is_version : (words : List Text) (e : Error) → RefusesWords words e → kind_of e ≡ kind.DisplayVersion → IsAnswered words kind.DisplayVersion

@@ -1,7 +1,7 @@
 -- The program's command line: its commands and their options, as clap's definitions read words by them. The manual page says the same.
 use Rattle.std.specs.Prelude.{◌≡◌, ◌⊎◌, pos, true, List, [], ◌∷◌, map, fold, codes, Some, Result, Ok, IfOk}
 use Rattle.std.specs.Borrow.{Bor}
-use Rattle.clap.specs.Walk.{Row, Rule, Text}
+use Rattle.clap.specs.Walk.{Row, Rule, Text, rule_of}
 use Rattle.clap.specs.Simple.{App, new_app, new_rule, on_top, subcommand_of, subcommand_rows_of, with_rule, with_subcommand}
 use Rattle.clap.specs.Built.{AddsArg, AddsSubcommand}
 use Rattle.clap.specs.Faults.{fault_of}
@@ -16,6 +16,10 @@ use Rattle.clap.specs.declared.builder.command.Command.{Command}
 use Rattle.clap.specs.declared.builder.action.ArgAction.TheVariants.{Set, SetTrue}
 use Rattle.clap.specs.declared.builder.value_parser.ValueParser.{ValueParser}
 use Rattle.clap.specs.declared.builder.value_parser.ValueParser.TheVariants as value
+use Rattle.rtcm2rinex.specs.declared.commands.CommandRow.{CommandRow}
+use Rattle.rtcm2rinex.specs.declared.commands.OptionRow.{OptionRow}
+use Rattle.rtcm2rinex.specs.declared.commands.Reading.{Reading}
+use Rattle.rtcm2rinex.specs.declared.commands.Reading.TheVariants.{Flag, Told, Or, Among, Week, Station, Bytes}
 
 -- ---- options
 
@@ -59,19 +63,12 @@ AreRules names = map (λ s. s.now) names.now ≡ codes "bit" ∷ codes "time" �
 abbrev pub gather : Bor (List (Bor Text)) → Rule
 gather names = read_by (value.Names names) (or_else (codes "bit") (option (codes "gather")))
 
-abbrev pub IsGather : Rule → Type 0
-IsGather a = (names : Bor (List (Bor Text))) × AreRules names × (a ≡ gather names)
-
 -- at most 2^48 bytes
 abbrev pub limit : Rule
 limit = read_by (value.Unsigned 0 281474976710656) (or_else (codes "281474976710656") (option (codes "limit")))
 
 abbrev pub text : Text → Rule
 text name = or_else [] (option name)
-
--- the option of a name, of what stands without it, and of its help
-abbrev pub text_of : Bor Text × Bor Text × Bor Text → Rule
-text_of t = or_else t.1.now (option t.0.now)
 
 -- the texts of the header that may be left out
 abbrev pub texts : List Rule
@@ -80,10 +77,40 @@ texts =
     ∷ text (codes "observer") ∷ text (codes "agency") ∷ text (codes "rec-number") ∷ text (codes "rec-type")
     ∷ text (codes "rec-version") ∷ text (codes "ant-number") ∷ text (codes "ant-type") ∷ []
 
+-- an option whose value is read so
+unfoldable pub read_so : Reading → Rule → Rule
+read_so Flag a = a
+read_so Told a = required a
+read_so (Or default) a = or_else default.now a
+read_so (Among words default) a = read_by (value.Names words) (or_else default.now a)
+read_so Week a = read_by (value.Signed (pos 0) (pos 99999)) (required a)
+read_so Station a = read_by (value.Signed (pos 0) (pos 4095)) a
+read_so Bytes a = read_by (value.Unsigned 0 281474976710656) (or_else (codes "281474976710656") a)
+
+unfoldable pub told : Text → Reading → Rule
+told name Flag = flag name
+told name Told = read_so Told (option name)
+told name (Or default) = read_so (Or default) (option name)
+told name (Among words default) = read_so (Among words default) (option name)
+told name Week = read_so Week (option name)
+told name Station = read_so Station (option name)
+told name Bytes = read_so Bytes (option name)
+
+-- the option of a row
+abbrev pub option_told : OptionRow → Rule
+option_told row = told row.name.now row.reading
+
 -- ---- commands
 
 abbrev pub with_options : App → List Rule → App
 with_options a rules = fold with_rule a rules
+
+-- the command of a row
+abbrev pub command_told : CommandRow → App
+command_told row = with_options (new_app row.name.now) (map option_told row.options.now)
+
+abbrev pub with_commands : App → List App → App
+with_commands a commands = fold (λ (program : App) (command : App). with_subcommand program command.top) a commands
 
 abbrev pub signals : App
 signals = with_options (new_app (codes "signals")) (station ∷ counts ∷ [])
@@ -92,9 +119,6 @@ abbrev pub convert : Bor (List (Bor Text)) → App
 convert names = with_options (with_options (new_app (codes "convert"))
     (week ∷ date ∷ planned (codes "gps") ∷ planned (codes "galileo") ∷ station ∷ gather names ∷ limit ∷ []))
     texts
-
-abbrev pub IsConvert : App → Type 0
-IsConvert a = (names : Bor (List (Bor Text))) × AreRules names × (a ≡ convert names)
 
 -- a command is wanted, and `--version` is known
 abbrev pub start : App
@@ -110,9 +134,14 @@ program names = with_subcommand (with_subcommand listings (convert names).top) (
 abbrev pub IsProgram : App → Type 0
 IsProgram a = (names : Bor (List (Bor Text))) × AreRules names × (a ≡ program names)
 
+-- the rows of the program's commands
+abbrev pub AreCommands : List CommandRow → Type 0
+AreCommands rows = IsProgram (with_commands start (map command_told rows))
+
 -- What was made is a command that was there and one option or one command more; want of memory makes none.
-abbrev pub AddsOption : {E : Type 0} → Result Command E → Arg → Result Command E → Type 0
-AddsOption old option new = IfOk new (λ made. (command : Command) × (old ≡ Ok command) × AddsArg command option made)
+abbrev pub AddsOption : {E : Type 0} → Result Command E → Rule → Result Command E → Type 0
+AddsOption old rule new =
+    IfOk new (λ made. (command : Command) × (option : Arg) × (old ≡ Ok command) × (rule_of option ≡ rule) × AddsArg command option made)
 
 abbrev pub AddsCommand : {E : Type 0} → (old below new : Result Command E) → Type 0
 AddsCommand old below new =

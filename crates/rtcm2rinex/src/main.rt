@@ -7,6 +7,7 @@ mod asked;
 mod check;
 mod cli;
 mod command;
+mod commands;
 mod convert;
 mod fault;
 mod form;

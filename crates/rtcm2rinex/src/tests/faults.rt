@@ -6,7 +6,6 @@ use super::frames::FRAMES;
 use super::messages::{FINE, FRAMED_STATION, HEIGHT, LATE_FRAME};
 use super::scenario::Comes::{Fault, Good};
 use super::scenario::{Case, FAULTLESS, READ, Room, Setting, WRITE, assert_come};
-use super::show::SHOW;
 use super::signals::SIGNALS;
 use super::texts::Line::{Above, NextTime, NextValues, Position, Time, TwoLines, Values};
 use super::texts::Piece::{Fine, Framed, Front};
@@ -15,6 +14,8 @@ use super::texts::{FINE_FILE, REPORT, Text};
 use rtcm_bits::devices::{ReadEnd, WriteEnd};
 use std::io::ErrorKind;
 use std::test::Fail;
+
+const SHOW: [&str; 2] = ["rtcm2rinex", "show"];
 
 /// The frame of `FINE`.
 const ONE_FRAME: Text = Stream(&[Fine(&[])]);

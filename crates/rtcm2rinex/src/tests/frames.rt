@@ -39,34 +39,6 @@ fn frames_are_listed_in_any_pieces(rt: HostRuntime) {
     }
 }
 
-/// The frame of the message 1005 with the six reserved bits of the header set.
-const RESERVED_SET: [u8; 25] = [
-    0xD3, 0xFC, 0x13, 0x3E, 0xD7, 0xD3, 0x02, 0x02, 0x98, 0x0E, 0xDE, 0xEF, 0x34, 0xB4, 0xBD, 0x62,
-    0xAC, 0x09, 0x41, 0x98, 0x6F, 0x33, 0xB4, 0x38, 0xF2,
-];
-
-/// A claim of 1,023 bytes, and the frame of the message 1005 behind it.
-const HIDDEN: [u8; 28] = [
-    0xD3, 0xFF, 0xFF, 0xD3, 0x00, 0x13, 0x3E, 0xD7, 0xD3, 0x02, 0x02, 0x98, 0x0E, 0xDE, 0xEF, 0x34,
-    0xB4, 0xBD, 0x62, 0xAC, 0x09, 0x41, 0x98, 0x6F, 0x33, 0x36, 0x0B, 0x98,
-];
-
-/// A claim of many bytes hides no frame, and reserved bits are of no account.
-static CLAIMS: [Case; 3] = [
-    (&[], Bytes(&HIDDEN), Good(Lines("3 19 1005\n"), "")),
-    (&[], Bytes(&RESERVED_SET), Good(Lines("0 19 1005\n"), "")),
-    (&[], Stream(&[Repeated(0xD3, 2_000)]), Good(Lines(""), "")),
-];
-
-#[test]
-fn frames_are_found_in_spite_of_claims(rt: HostRuntime) {
-    let setting = Setting {
-        words: &FRAMES,
-        ..FAULTLESS
-    };
-    assert_come(&rt, rt.alloc(), &setting, &CLAIMS);
-}
-
 /// Whether of at most so many bytes these lines are listed, and more are refused, or none.
 fn lists(alloc: Global, stream: &[u8], limit: u16, is_refused: bool, lines: &[u8]) -> bool {
     let mut reader = Counted::new(stream);

@@ -1,10 +1,10 @@
 //! The signals of streams.
-use super::messages::{COARSE, FRAMED_STATION, NO_CELLS};
-use super::scenario::Comes::{Fault, Good};
+use super::messages::COARSE;
+use super::scenario::Comes::Good;
 use super::scenario::{Case, FAULTLESS, Setting, assert_come};
 use super::texts::Piece::{Fine, Framed};
 use super::texts::Text;
-use super::texts::Text::{Bytes, Lines, Stream};
+use super::texts::Text::{Lines, Stream};
 
 pub const SIGNALS: [&str; 2] = ["rtcm2rinex", "signals"];
 
@@ -34,47 +34,4 @@ fn signals_are_told_as_options_and_counted(rt: HostRuntime) {
         ..FAULTLESS
     };
     assert_come(&rt, rt.alloc(), &setting, &TOLD);
-}
-
-/// Nothing in the place of every value of the cell.
-const NO_VALUES: [(usize, u8); 6] = [
-    (21, 0x7F),
-    (22, 0xC0),
-    (24, 0x80),
-    (25, 0x00),
-    (32, 0x00),
-    (33, 0x00),
-];
-
-/// A station's messages alone count where it is told; a cell without any value doesn't.
-static NONE: [Case; 4] = [
-    (
-        &["--station", "2004"],
-        Stream(&[Fine(&[])]),
-        Fault(Lines(""), "rtcm2rinex: NoSignal\n"),
-    ),
-    (
-        &[],
-        Stream(&[Fine(&NO_VALUES)]),
-        Fault(Lines(""), "rtcm2rinex: NoSignal\n"),
-    ),
-    (
-        &[],
-        Stream(&[Framed(&NO_CELLS)]),
-        Fault(Lines(""), "rtcm2rinex: NoSignal\n"),
-    ),
-    (
-        &[],
-        Bytes(&FRAMED_STATION),
-        Fault(Lines(""), "rtcm2rinex: NoSignal\n"),
-    ),
-];
-
-#[test]
-fn a_stream_without_signals_is_told(rt: HostRuntime) {
-    let setting = Setting {
-        words: &SIGNALS,
-        ..FAULTLESS
-    };
-    assert_come(&rt, rt.alloc(), &setting, &NONE);
 }

@@ -20,8 +20,6 @@ pub enum Text<'a> {
 pub enum Piece<'a> {
     /// The frame of a message.
     Framed(&'a [u8]),
-    /// The frame of so many bytes at the front of a message.
-    Cut(&'a [u8], usize),
     /// The frame of `FINE` with other bytes at these places.
     Fine(&'a [(usize, u8)]),
     /// A byte so many times.
@@ -114,7 +112,6 @@ fn add_pieces(stream: &mut Vec<u8>, pieces: &[Piece<'_>]) -> Result<(), AllocErr
     for piece in pieces {
         match piece {
             Piece::Framed(message) => add_frame(stream, message)?,
-            Piece::Cut(message, length) => add_frame(stream, front(message, *length))?,
             Piece::Fine(changes) => add_frame(stream, &fine(changes))?,
             Piece::Repeated(byte, count) => add_repeated(stream, *byte, *count)?,
             Piece::Front(bytes, length) => stream.extend_from_slice(front(bytes, *length))?,

@@ -1,63 +1,28 @@
 //! What the words of a command line come to.
 use super::messages::FRAMED_STATION;
-use super::scenario::Comes::{Good, Refused};
+use super::scenario::Comes::Refused;
 use super::scenario::{Case, FAULTLESS, assert_come};
-use super::texts::Text::{Bytes, Lines};
+use super::texts::Text::Bytes;
 use crate::command::refuse_words;
-use crate::version::VERSION;
 use std::alloc::Global;
 use std::io;
 use std::io::ErrorKind;
 
-static NOT_ACCEPTED: [Case; 9] = [
+/// No word at all, no command, an unknown one, and an option whose value isn't taken.
+static NOT_ACCEPTED: [Case; 4] = [
+    (&[], Bytes(&FRAMED_STATION), Refused),
     (&["rtcm2rinex"], Bytes(&FRAMED_STATION), Refused),
-    (&["rtcm2rinex", "--help"], Bytes(&FRAMED_STATION), Refused),
-    (
-        &["rtcm2rinex", "frames", "--help"],
-        Bytes(&FRAMED_STATION),
-        Refused,
-    ),
-    (
-        &["rtcm2rinex", "show", "-h"],
-        Bytes(&FRAMED_STATION),
-        Refused,
-    ),
-    (&["rtcm2rinex", "help"], Bytes(&FRAMED_STATION), Refused),
     (&["rtcm2rinex", "fames"], Bytes(&FRAMED_STATION), Refused),
     (
-        &["rtcm2rinex", "frames", "more"],
+        &["rtcm2rinex", "convert", "--date=", "--week", "100000"],
         Bytes(&FRAMED_STATION),
         Refused,
     ),
-    (
-        &["rtcm2rinex", "show", "--more"],
-        Bytes(&FRAMED_STATION),
-        Refused,
-    ),
-    (&[], Bytes(&FRAMED_STATION), Refused),
 ];
 
 #[test]
 fn words_that_are_not_accepted_do_nothing(rt: HostRuntime) {
     assert_come(&rt, rt.alloc(), &FAULTLESS, &NOT_ACCEPTED);
-}
-
-static ASKED_FOR_THE_VERSION: [Case; 2] = [
-    (
-        &["rtcm2rinex", "--version"],
-        Bytes(b"ab"),
-        Good(Lines(VERSION), ""),
-    ),
-    (
-        &["rtcm2rinex", "-V"],
-        Bytes(b"ab"),
-        Good(Lines(VERSION), ""),
-    ),
-];
-
-#[test]
-fn the_version_is_told(rt: HostRuntime) {
-    assert_come(&rt, rt.alloc(), &FAULTLESS, &ASKED_FOR_THE_VERSION);
 }
 
 /// Whether words that can't be had for this reason are answered by this status and text.

@@ -1,9 +1,14 @@
-use Rattle.std.proofs.Common.{◌≡◌, ◌∙◌, true, inl, inr, ap}
+use Rattle.std.proofs.Common.{◌≡◌, ◌∙◌, true, inl, inr, ap, refl}
 use Rattle.std.proofs.lemmas.Result.{IfOk-weaker, IfErr-weaker}
 use Rattle.clap.specs.Simple.{app_of}
 use Rattle.clap.specs.Faults.{is_simple_and_free}
+use Rattle.rtcm2rinex.specs.CommandLine as line
 use Rattle.rtcm2rinex.proofs.CommandLineLemmas.{is_read, is_simple_read, why}
 use Rattle.rtcm2rinex.proofs.cli.parse.Goals as goal
+
+pub program-requires : goal.program-requires
+unfolding line.told line.read_so
+program-requires c = (_, refl, refl)
 
 pub returns : goal.returns
 returns c =

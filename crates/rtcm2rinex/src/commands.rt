@@ -1,0 +1,188 @@
+//! The commands and their options, a row each, as the manual page lists them.
+use crate::help;
+use crate::help::Help;
+
+/// A command.
+#[derive(Clone, Copy)]
+pub struct CommandRow<'a> {
+    pub name: &'a str,
+    pub help: Help,
+    pub options: &'a [OptionRow<'a>],
+}
+
+/// An option of a command.
+#[derive(Clone, Copy)]
+pub struct OptionRow<'a> {
+    pub name: &'a str,
+    /// What help calls its value; of a flag nothing.
+    pub value: &'a str,
+    pub help: &'a str,
+    pub reading: Reading<'a>,
+}
+
+/// How the value of an option is read, and what stands where none is told.
+#[derive(Clone, Copy)]
+pub enum Reading<'a> {
+    /// It has no value, and is told or not.
+    Flag,
+    /// A text, which has to be told.
+    Told,
+    /// A text, or this.
+    Or(&'a str),
+    /// One of these words, or this.
+    Among(&'a [&'a str], &'a str),
+    /// A GPS week, which has to be told.
+    Week,
+    /// A reference station (DF003), or none.
+    Station,
+    /// A number of bytes, or the greatest.
+    Bytes,
+}
+
+pub const COMMANDS: [CommandRow<'static>; 5] = [
+    CommandRow {
+        name: "frames",
+        help: help::FRAMES,
+        options: &[],
+    },
+    CommandRow {
+        name: "show",
+        help: help::SHOW,
+        options: &[],
+    },
+    CommandRow {
+        name: "signals",
+        help: help::SIGNALS,
+        options: &SIGNALS,
+    },
+    CommandRow {
+        name: "convert",
+        help: help::CONVERT,
+        options: &CONVERT,
+    },
+    CommandRow {
+        name: "check",
+        help: help::CHECK,
+        options: &[],
+    },
+];
+
+const SIGNALS: [OptionRow<'static>; 2] = [
+    OptionRow {
+        name: "station",
+        value: "NUMBER",
+        help: "Reference station (DF003) whose messages count; without it those of every station",
+        reading: Reading::Station,
+    },
+    OptionRow {
+        name: "counts",
+        value: "",
+        help: "Print a line for each signal with its number of cells, in place of the options",
+        reading: Reading::Flag,
+    },
+];
+
+const CONVERT: [OptionRow<'static>; 17] = [
+    OptionRow {
+        name: "week",
+        value: "WEEK",
+        help: "GPS week of the first observations, counted on from 1980 without wrapping",
+        reading: Reading::Week,
+    },
+    OptionRow {
+        name: "date",
+        value: "TEXT",
+        help: "Date of the run, in RINEX's form 'yyyymmdd hhmmss UTC'",
+        reading: Reading::Told,
+    },
+    OptionRow {
+        name: "gps",
+        value: "SIGNALS",
+        help: "GPS signals in the file's order: all, none, or codes as 1C,2W",
+        reading: Reading::Or("all"),
+    },
+    OptionRow {
+        name: "galileo",
+        value: "SIGNALS",
+        help: "Galileo signals in the file's order: all, none, or codes as 1C,5Q",
+        reading: Reading::Or("all"),
+    },
+    OptionRow {
+        name: "station",
+        value: "NUMBER",
+        help: "Reference station (DF003) whose messages count; without it those of every station",
+        reading: Reading::Station,
+    },
+    OptionRow {
+        name: "gather",
+        value: "RULE",
+        help: "What closes an epoch: the multiple message bit (DF393) or a later time alone",
+        reading: Reading::Among(&["bit", "time"], "bit"),
+    },
+    OptionRow {
+        name: "limit",
+        value: "BYTES",
+        help: "Most bytes of the stream",
+        reading: Reading::Bytes,
+    },
+    OptionRow {
+        name: "run-by",
+        value: "TEXT",
+        help: "Who runs the program",
+        reading: Reading::Or(""),
+    },
+    OptionRow {
+        name: "marker",
+        value: "TEXT",
+        help: "Name of the antenna marker",
+        reading: Reading::Or(""),
+    },
+    OptionRow {
+        name: "marker-type",
+        value: "TEXT",
+        help: "Type of the marker",
+        reading: Reading::Or("GEODETIC"),
+    },
+    OptionRow {
+        name: "observer",
+        value: "TEXT",
+        help: "Name of the observer",
+        reading: Reading::Or(""),
+    },
+    OptionRow {
+        name: "agency",
+        value: "TEXT",
+        help: "Name of the observer's agency",
+        reading: Reading::Or(""),
+    },
+    OptionRow {
+        name: "rec-number",
+        value: "TEXT",
+        help: "Serial number of the receiver",
+        reading: Reading::Or(""),
+    },
+    OptionRow {
+        name: "rec-type",
+        value: "TEXT",
+        help: "Type of the receiver",
+        reading: Reading::Or(""),
+    },
+    OptionRow {
+        name: "rec-version",
+        value: "TEXT",
+        help: "Version of the receiver's firmware",
+        reading: Reading::Or(""),
+    },
+    OptionRow {
+        name: "ant-number",
+        value: "TEXT",
+        help: "Serial number of the antenna",
+        reading: Reading::Or(""),
+    },
+    OptionRow {
+        name: "ant-type",
+        value: "TEXT",
+        help: "Type of the antenna",
+        reading: Reading::Or(""),
+    },
+];
