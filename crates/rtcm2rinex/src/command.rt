@@ -54,7 +54,11 @@ pub fn command<R: Read, W: Write, E: Write>(
     ensures unwritten { result ≡ 2 → writer.new ≡ writer.old }
 {
     match parse(alloc, words) {
-        Ok(matches) => run_asked(alloc, &matches, reader, writer, faults),
+        Ok(matches) => {
+            let status = run_asked(alloc, &matches, reader, writer, faults);
+            drop(matches);
+            status
+        }
         Err(error) => answer(&error, writer, faults),
     }
 }

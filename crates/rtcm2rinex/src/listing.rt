@@ -110,7 +110,9 @@ pub fn list<R: Read, W: Write>(
         // The limit is good, so that memory is all that can be wanting.
         Err(_) => return Err(ToolFault::Scan(ScanFault::Memory)),
     };
-    list_frames(listing, &mut framer, reader, writer)
+    let listed = list_frames(listing, &mut framer, reader, writer);
+    drop(framer);
+    listed
 }
 
 /// Reads what is left of the stream, and writes the lines of its frames.

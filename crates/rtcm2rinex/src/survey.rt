@@ -48,7 +48,9 @@ pub fn survey<R: Read>(
         Err(_) => return Err(ToolFault::Scan(ScanFault::Memory)),
     };
     let mut census = Census::new();
-    match count_stream(station, &mut framer, &mut census, reader) {
+    let counted = count_stream(station, &mut framer, &mut census, reader);
+    drop(framer);
+    match counted {
         Ok(()) => Ok(census),
         Err(fault) => Err(fault),
     }

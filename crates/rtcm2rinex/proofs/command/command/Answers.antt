@@ -5,7 +5,7 @@ use Rattle.rtcm2rinex.proofs.command.command.Goals as goal
 
 pub returns-in-Ok-clause-good : goal.returns-in-Ok-clause-good
 returns-in-Ok-clause-good g c = λ e.
-    let done = c.run_asked.ensures.good e in
+    let done = c.run_asked-status.ensures.good e in
     let asked = c.in-Ok.ensures.asked in
     inl (done.0, done.1, (asked.0, asked.1, sym asked.2 ∙ done.2), done.3)
 
