@@ -1,8 +1,8 @@
 ghost use Rattle.std.specs.Prelude.{◌≤◌};
 
 use crate::{
-    Cell7, Entry, Field, Form, Message, MsgFault, MsmHeader, Satellite7, StationParts, ValueFault,
-    View, decode, encode, entries, look,
+    Cell7, Entry, Field, Form, Grid7, Message, MsgFault, Msm, MsmHeader, Satellite7, StationParts,
+    ValueFault, View, decode, encode, entries, look,
 };
 use arrayvec::ArrayVec;
 use std::alloc::{AllocError, Global};
@@ -216,6 +216,38 @@ static HEADS: [(Sent, Form, u16, bool); 3] = [
     (Sent(&GALILEO, 30, &[]), Form::Msm4, 1094, true),
 ];
 
+/// What a message of a fine grid that is read says: its number, whether it is of Galileo, its
+/// header, and the data of its first satellite and cell.
+type Data = (u16, bool, MsmHeader, Satellite7, Cell7);
+
+fn data_of(msm: &Msm<Grid7>) -> Option<Data> {
+    if msm.satellites() == 0 || msm.cells() == 0 {
+        return None;
+    }
+    Some((
+        msm.number(),
+        msm.is_galileo(),
+        msm.header(),
+        msm.satellite(0),
+        msm.cell(0),
+    ))
+}
+
+fn data_read(sent: &Sent) -> Option<Data> {
+    match decode(&sent.bytes()[..sent.size()]) {
+        Ok(Message::Msm7(msm)) => data_of(&msm),
+        _ => None,
+    }
+}
+
+#[test]
+fn data_are_read(rt: HostRuntime) {
+    for (sent, _, number, is_galileo) in &HEADS[..2] {
+        let data = (*number, *is_galileo, HEADER, SATELLITE, CELL);
+        assert!(rt; data_read(sent) == Some(data));
+    }
+}
+
 #[test]
 fn heads_are_read(rt: HostRuntime) {
     for (sent, form, number, is_galileo) in &HEADS {
@@ -223,6 +255,7 @@ fn heads_are_read(rt: HostRuntime) {
         let head = (*number, *is_galileo, HEADER, (1 << 59, 1 << 30, 1), (1, 1));
         assert!(rt; head_of(sent) == Some((*form, head)));
     }
+    assert!(rt; matches!(look(&FINE[..35]), Err(MsgFault::Short(271))));
 }
 
 /// The number of a multiple signal message that is read, and what its first cell says.
@@ -303,6 +336,62 @@ fn cells_are_read(rt: HostRuntime) {
             ..FINE_ENTRY
         };
         assert!(rt; first_entry(sent) == Some((1077, entry)));
+    }
+}
+
+/// A message, and the widths of its fields.
+static FIELDS: [(&[u8], &[usize]); 4] = [
+    (&STATION, &[12, 12, 6, 1, 1, 1, 1, 38, 1, 1, 38, 2, 38]),
+    (&HEIGHT, &[12, 12, 6, 1, 1, 1, 1, 38, 1, 1, 38, 2, 38, 16]),
+    (
+        &FINE,
+        &[
+            12, 12, 30, 1, 3, 7, 2, 2, 1, 3, 64, 32, 1, 8, 4, 10, 14, 20, 24, 10, 1, 10, 15,
+        ],
+    ),
+    (
+        &COARSE,
+        &[
+            12, 12, 30, 1, 3, 7, 2, 2, 1, 3, 64, 32, 1, 8, 10, 15, 22, 4, 1, 6,
+        ],
+    ),
+];
+
+/// The bits before the first field that does not end within so many bits.
+fn first_unended(widths: &[usize], bits: usize) -> Option<usize> {
+    let mut place = 0usize;
+    for width in widths {
+        let end = place.saturating_add(*width);
+        if bits < end {
+            return Some(place);
+        }
+        place = end;
+    }
+    None
+}
+
+fn missing_bit(bytes: &[u8]) -> Option<usize> {
+    match decode(bytes) {
+        Err(MsgFault::Short(place)) => Some(place),
+        _ => None,
+    }
+}
+
+/// The size of the first prefix that is not refused at the first field that does not end within it.
+fn first_wrong_prefix(message: &[u8], widths: &[usize]) -> Option<usize> {
+    for size in 0..message.len() {
+        let place = first_unended(widths, size.saturating_mul(8));
+        if place.is_none() || missing_bit(&message[..size]) != place {
+            return Some(size);
+        }
+    }
+    None
+}
+
+#[test]
+fn each_proper_prefix_is_short(rt: HostRuntime) {
+    for (message, widths) in &FIELDS {
+        assert_eq!(rt; first_wrong_prefix(message, widths), None);
     }
 }
 
