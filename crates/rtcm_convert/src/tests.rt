@@ -6,18 +6,22 @@ mod script;
 use crate::{Fault, Report};
 use script::{Answer, Call, Good, IDLE, Script, Way, first_broken};
 
-/// The frames of two messages 1077 of station 2003, one second into the week and two, each the last
-/// of its time: satellite 5, signal 1C.
-static STREAM: [u8; 84] = [
+/// The frame of message 1077 of station 2003, one second into the week, the last of its time:
+/// satellite 5, signal 1C.
+const FULL: [u8; 42] = [
     0xD3, 0x00, 0x24, 0x43, 0x57, 0xD3, 0x00, 0x00, 0x0F, 0xA0, 0x00, 0x00, 0x04, 0x00, 0x00, 0x00,
     0x00, 0x00, 0x00, 0x00, 0x20, 0x00, 0x00, 0x00, 0x51, 0x80, 0x00, 0x01, 0x90, 0x00, 0x00, 0x00,
-    0x00, 0x00, 0x00, 0x05, 0xA2, 0x00, 0x00, 0x04, 0x96, 0xD0, 0xD3, 0x00, 0x24, 0x43, 0x57, 0xD3,
-    0x00, 0x00, 0x1F, 0x40, 0x00, 0x00, 0x04, 0x00, 0x00, 0x00, 0x00, 0x00, 0x00, 0x00, 0x20, 0x00,
-    0x00, 0x00, 0x51, 0x80, 0x00, 0x01, 0x90, 0x00, 0x00, 0x00, 0x00, 0x00, 0x00, 0x05, 0xA2, 0x00,
-    0x00, 0x8A, 0xA9, 0x07,
+    0x00, 0x00, 0x00, 0x05, 0xA2, 0x00, 0x00, 0x04, 0x96, 0xD0,
 ];
 
-/// The file of the two, of signal 1C alone.
+/// The same one second later.
+const NEXT: [u8; 42] = [
+    0xD3, 0x00, 0x24, 0x43, 0x57, 0xD3, 0x00, 0x00, 0x1F, 0x40, 0x00, 0x00, 0x04, 0x00, 0x00, 0x00,
+    0x00, 0x00, 0x00, 0x00, 0x20, 0x00, 0x00, 0x00, 0x51, 0x80, 0x00, 0x01, 0x90, 0x00, 0x00, 0x00,
+    0x00, 0x00, 0x00, 0x05, 0xA2, 0x00, 0x00, 0x8A, 0xA9, 0x07,
+];
+
+/// The file of the two full messages, of signal 1C alone.
 static FILE: &str =
     "\x20    3.05           OBSERVATION DATA    G                   RINEX VERSION / TYPE\n\
 rtcm2rinex                              20240204 000001 UTC PGM / RUN BY / DATE \n\
@@ -69,6 +73,7 @@ const TWO: Report = Report {
 
 static FILES: [Script; 6] = [
     Script {
+        frames: &[&FULL, &NEXT],
         way: Way::Calls(&[
             (Call::Feed(0, 84), FED),
             (Call::Finish, Ok(Good::Made(TWO))),
@@ -78,19 +83,20 @@ static FILES: [Script; 6] = [
         ..IDLE
     },
     Script {
+        frames: &[&FULL, &NEXT],
         given: 84,
         way: Way::Calls(&[
             (Call::Run, Ok(Good::Made(TWO))),
             (Call::Looks, Ok(Good::Counts(0, 156, 2))),
         ]),
-        asked: 1_029,
+        asked: (1_029, 1_029),
         sent: 1_338,
         ..IDLE
     },
     Script {
         given: 42,
         way: Way::Stream(Ok(Good::Made(ONE))),
-        asked: 1_029,
+        asked: (1_029, 1_029),
         sent: 1_236,
         ..IDLE
     },
@@ -113,11 +119,12 @@ static FILES: [Script; 6] = [
         sent: 1_236,
         ..IDLE
     },
-    // No more is read than there is room for.
+    // Of a frame that is claimed to be of 1,029 bytes no more is read than there is room for.
     Script {
-        given: 41,
+        frames: &[&[0xD3, 0x03, 0xFF]],
+        given: 1_000,
         way: Way::Calls(&[(Call::Run, Err(Fault::NoEpoch))]),
-        asked: 988,
+        asked: (29, 1_029),
         ..IDLE
     },
 ];

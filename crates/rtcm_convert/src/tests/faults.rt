@@ -113,7 +113,7 @@ const READER: Script = Script {
         (Call::Run, Err(Fault::Failed)),
     ]),
     failures: (1, 0),
-    asked: 1_029,
+    asked: (1_029, 1_029),
     ..IDLE
 };
 
@@ -148,12 +148,12 @@ static DEVICES: [Script; 10] = [
     READER,
     Script {
         given: 20,
-        asked: 1_009,
+        asked: (1_009, 1_029),
         ..READER
     },
     Script {
         given: 41,
-        asked: 988,
+        asked: (988, 1_029),
         ..READER
     },
     Script {
