@@ -21,6 +21,12 @@ const NEXT: [u8; 42] = [
     0x00, 0x00, 0x00, 0x05, 0xA2, 0x00, 0x00, 0x8A, 0xA9, 0x07,
 ];
 
+/// The frame of message 1005 of that station.
+const POINT: [u8; 25] = [
+    0xD3, 0x00, 0x13, 0x3E, 0xD7, 0xD3, 0x02, 0x02, 0x98, 0x0E, 0xDE, 0xEF, 0x34, 0xB4, 0xBD, 0x62,
+    0xAC, 0x09, 0x41, 0x98, 0x6F, 0x33, 0x36, 0x0B, 0x98,
+];
+
 /// The file of the two full messages, of signal 1C alone.
 static FILE: &str =
     "\x20    3.05           OBSERVATION DATA    G                   RINEX VERSION / TYPE\n\
@@ -71,7 +77,14 @@ const TWO: Report = Report {
     ..ONE
 };
 
-static FILES: [Script; 6] = [
+/// The report of the first message and of 24 bytes in no frame.
+const BEHIND_24: Report = Report {
+    bytes: 66,
+    skipped_bytes: 24,
+    ..ONE
+};
+
+static FILES: [Script; 7] = [
     Script {
         frames: &[&FULL, &NEXT],
         way: Way::Calls(&[
@@ -115,6 +128,17 @@ static FILES: [Script; 6] = [
             (Call::Feed(41, 42), FED),
             (Call::Looks, Ok(Good::Counts(0, 78, 2))),
             (Call::Kept, Ok(Good::Counts(1, 0, 1))),
+        ]),
+        sent: 1_236,
+        ..IDLE
+    },
+    // A cut frame behind the first changes nothing of the file.
+    Script {
+        frames: &[&FULL, &POINT],
+        way: Way::Calls(&[
+            (Call::Feed(0, 66), FED),
+            (Call::Finish, Ok(Good::Made(BEHIND_24))),
+            (Call::Looks, Ok(Good::Counts(0, 143, 3))),
         ]),
         sent: 1_236,
         ..IDLE
