@@ -6,18 +6,28 @@ mod script;
 use crate::{Fault, Report};
 use script::{Answer, Call, Good, IDLE, Script, Way, first_broken};
 
-/// The frames of two messages 1077 of station 2003, one second into the week and two, each the last
-/// of its time: satellite 5, signal 1C.
-static STREAM: [u8; 84] = [
+/// The frame of message 1077 of station 2003, one second into the week, the last of its time:
+/// satellite 5, signal 1C.
+const FULL: [u8; 42] = [
     0xD3, 0x00, 0x24, 0x43, 0x57, 0xD3, 0x00, 0x00, 0x0F, 0xA0, 0x00, 0x00, 0x04, 0x00, 0x00, 0x00,
     0x00, 0x00, 0x00, 0x00, 0x20, 0x00, 0x00, 0x00, 0x51, 0x80, 0x00, 0x01, 0x90, 0x00, 0x00, 0x00,
-    0x00, 0x00, 0x00, 0x05, 0xA2, 0x00, 0x00, 0x04, 0x96, 0xD0, 0xD3, 0x00, 0x24, 0x43, 0x57, 0xD3,
-    0x00, 0x00, 0x1F, 0x40, 0x00, 0x00, 0x04, 0x00, 0x00, 0x00, 0x00, 0x00, 0x00, 0x00, 0x20, 0x00,
-    0x00, 0x00, 0x51, 0x80, 0x00, 0x01, 0x90, 0x00, 0x00, 0x00, 0x00, 0x00, 0x00, 0x05, 0xA2, 0x00,
-    0x00, 0x8A, 0xA9, 0x07,
+    0x00, 0x00, 0x00, 0x05, 0xA2, 0x00, 0x00, 0x04, 0x96, 0xD0,
 ];
 
-/// The file of the two, of signal 1C alone.
+/// The same one second later.
+const NEXT: [u8; 42] = [
+    0xD3, 0x00, 0x24, 0x43, 0x57, 0xD3, 0x00, 0x00, 0x1F, 0x40, 0x00, 0x00, 0x04, 0x00, 0x00, 0x00,
+    0x00, 0x00, 0x00, 0x00, 0x20, 0x00, 0x00, 0x00, 0x51, 0x80, 0x00, 0x01, 0x90, 0x00, 0x00, 0x00,
+    0x00, 0x00, 0x00, 0x05, 0xA2, 0x00, 0x00, 0x8A, 0xA9, 0x07,
+];
+
+/// The frame of message 1005 of that station.
+const POINT: [u8; 25] = [
+    0xD3, 0x00, 0x13, 0x3E, 0xD7, 0xD3, 0x02, 0x02, 0x98, 0x0E, 0xDE, 0xEF, 0x34, 0xB4, 0xBD, 0x62,
+    0xAC, 0x09, 0x41, 0x98, 0x6F, 0x33, 0x36, 0x0B, 0x98,
+];
+
+/// The file of the two full messages, of signal 1C alone.
 static FILE: &str =
     "\x20    3.05           OBSERVATION DATA    G                   RINEX VERSION / TYPE\n\
 rtcm2rinex                              20240204 000001 UTC PGM / RUN BY / DATE \n\
@@ -67,8 +77,16 @@ const TWO: Report = Report {
     ..ONE
 };
 
-static FILES: [Script; 6] = [
+/// The report of the first message and of 24 bytes in no frame.
+const BEHIND_24: Report = Report {
+    bytes: 66,
+    skipped_bytes: 24,
+    ..ONE
+};
+
+static FILES: [Script; 7] = [
     Script {
+        frames: &[&FULL, &NEXT],
         way: Way::Calls(&[
             (Call::Feed(0, 84), FED),
             (Call::Finish, Ok(Good::Made(TWO))),
@@ -78,19 +96,20 @@ static FILES: [Script; 6] = [
         ..IDLE
     },
     Script {
+        frames: &[&FULL, &NEXT],
         given: 84,
         way: Way::Calls(&[
             (Call::Run, Ok(Good::Made(TWO))),
             (Call::Looks, Ok(Good::Counts(0, 156, 2))),
         ]),
-        asked: 1_029,
+        asked: (1_029, 1_029),
         sent: 1_338,
         ..IDLE
     },
     Script {
         given: 42,
         way: Way::Stream(Ok(Good::Made(ONE))),
-        asked: 1_029,
+        asked: (1_029, 1_029),
         sent: 1_236,
         ..IDLE
     },
@@ -113,11 +132,23 @@ static FILES: [Script; 6] = [
         sent: 1_236,
         ..IDLE
     },
-    // No more is read than there is room for.
+    // A cut frame behind the first changes nothing of the file.
     Script {
-        given: 41,
+        frames: &[&FULL, &POINT],
+        way: Way::Calls(&[
+            (Call::Feed(0, 66), FED),
+            (Call::Finish, Ok(Good::Made(BEHIND_24))),
+            (Call::Looks, Ok(Good::Counts(0, 143, 3))),
+        ]),
+        sent: 1_236,
+        ..IDLE
+    },
+    // Of a frame that is claimed to be of 1,029 bytes no more is read than there is room for.
+    Script {
+        frames: &[&[0xD3, 0x03, 0xFF]],
+        given: 1_000,
         way: Way::Calls(&[(Call::Run, Err(Fault::NoEpoch))]),
-        asked: 988,
+        asked: (29, 1_029),
         ..IDLE
     },
 ];

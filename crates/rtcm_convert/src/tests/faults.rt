@@ -1,12 +1,12 @@
-use super::FED;
-use super::script::{Call, IDLE, Script, TOLD, Told, Way, first_broken};
+use super::script::{Call, Good, IDLE, Script, TOLD, Told, Way, first_broken};
+use super::{FED, POINT};
 use crate::Fault;
 use rtcm_bits::devices::{ReadEnd, WriteEnd};
 use rtcm_scan::MOST_BYTES;
 use std::alloc::Global;
 use std::io::ErrorKind;
 
-/// A stream without an epoch, of no byte and of a cut frame.
+/// A stream without an epoch, here of no byte.
 const EMPTY: Script = Script {
     way: Way::Calls(&[
         (Call::Feed(0, 0), FED),
@@ -17,7 +17,7 @@ const EMPTY: Script = Script {
     ..IDLE
 };
 
-/// A limit within the first frame or at its end, and one byte more than that frame.
+/// A limit, and at least one byte more.
 const LIMITED: Script = Script {
     way: Way::Calls(&[
         (Call::Feed(0, 43), Err(Fault::TooLong)),
@@ -37,8 +37,29 @@ const BAD: Script = Script {
     ..IDLE
 };
 
-static STREAMS: [Script; 10] = [
+static STREAMS: [Script; 12] = [
     EMPTY,
+    // Of a station message alone.
+    Script {
+        frames: &[&POINT],
+        way: Way::Calls(&[
+            (Call::Feed(0, 25), FED),
+            (Call::Finish, Err(Fault::NoEpoch)),
+            (Call::Looks, Ok(Good::Counts(0, 44, 2))),
+            (Call::Finish, Err(Fault::Finished)),
+            (Call::Feed(0, 25), Err(Fault::Finished)),
+        ]),
+        ..EMPTY
+    },
+    // Of a frame that is cut.
+    Script {
+        way: Way::Calls(&[
+            (Call::Feed(0, 39), FED),
+            (Call::Finish, Err(Fault::NoEpoch)),
+            (Call::Looks, Ok(Good::Counts(0, 82, 3))),
+        ]),
+        ..EMPTY
+    },
     Script {
         way: Way::Calls(&[
             (Call::Feed(0, 41), FED),
@@ -50,6 +71,12 @@ static STREAMS: [Script; 10] = [
     },
     Script {
         told: Told { limit: 10, ..TOLD },
+        frames: &[],
+        way: Way::Calls(&[
+            (Call::Feed(0, 11), Err(Fault::TooLong)),
+            (Call::Feed(0, 0), Err(Fault::Failed)),
+            (Call::Finish, Err(Fault::Failed)),
+        ]),
         ..LIMITED
     },
     Script {
@@ -111,9 +138,10 @@ const READER: Script = Script {
     way: Way::Calls(&[
         (Call::Run, Err(Fault::Read)),
         (Call::Run, Err(Fault::Failed)),
+        (Call::Feed(0, 42), Err(Fault::Failed)),
     ]),
     failures: (1, 0),
-    asked: 1_029,
+    asked: (1_029, 1_029),
     ..IDLE
 };
 
@@ -148,12 +176,12 @@ static DEVICES: [Script; 10] = [
     READER,
     Script {
         given: 20,
-        asked: 1_009,
+        asked: (1_009, 1_029),
         ..READER
     },
     Script {
         given: 41,
-        asked: 988,
+        asked: (988, 1_029),
         ..READER
     },
     Script {

@@ -2,7 +2,7 @@
 //!
 //! A proof over a value that has to be dropped is dear, and a converter is one, as is a device. So
 //! one function makes each and lets it go, and a test is a table of scripts.
-use super::{FILE, STREAM};
+use super::{FILE, FULL};
 use crate::{Converter, Fault, Report, Setup, convert_pieces, convert_stream};
 use arrayvec::ArrayVec;
 use gnss_obs::System;
@@ -81,6 +81,8 @@ pub enum Way {
 #[derive(Clone, Copy)]
 pub struct Script {
     pub told: Told,
+    /// What the stream begins with; zeros stand behind.
+    pub frames: &'static [&'static [u8]],
     /// How many bytes of the stream the reader gives, and what it does then.
     pub given: usize,
     pub then: ReadEnd,
@@ -92,8 +94,8 @@ pub struct Script {
     pub fault: Option<Fault>,
     /// The failures of reader and writer.
     pub failures: (u64, u64),
-    /// The size of the last read.
-    pub asked: usize,
+    /// The size of the last read, and of the widest.
+    pub asked: (usize, usize),
     /// How many bytes of the file go out.
     pub sent: usize,
 }
@@ -101,6 +103,7 @@ pub struct Script {
 /// Nothing is called, and no device fails.
 pub const IDLE: Script = Script {
     told: TOLD,
+    frames: &[&FULL],
     given: 0,
     then: ReadEnd::Ends,
     room: 1_500,
@@ -108,16 +111,16 @@ pub const IDLE: Script = Script {
     way: Way::Calls(&[]),
     fault: None,
     failures: (0, 0),
-    asked: 0,
+    asked: (0, 0),
     sent: 0,
 };
 
 /// The place of the first call that is answered otherwise, with its answer.
 type Broken = Option<(usize, Answer)>;
 
-/// The failures of reader and writer, the size of the last read, how many bytes went out, and
-/// whether they begin the file.
-type Left = ((u64, u64), usize, usize, bool);
+/// The failures of reader and writer, the sizes of the last read and of the widest, how many bytes
+/// went out, and whether they begin the file.
+type Left = ((u64, u64), (usize, usize), usize, bool);
 
 /// Of the scripts, in pieces of one byte, of two, and whole: the place of the first of which another
 /// thing comes, with the size of the pieces and what comes.
@@ -143,19 +146,34 @@ fn wanted(script: &Script) -> (Broken, Left) {
 
 /// Makes the devices, takes the script over them, and lets them go.
 fn comes_of(alloc: Global, script: &Script, size: usize) -> (Broken, Left) {
-    let bytes = STREAM.get(..script.given).unwrap_or(&[]);
+    let stream = stream_of(script.frames);
+    let bytes = stream.get(..script.given).unwrap_or(&[]);
     let sizes = [size];
     let mut reader = Counted::new(PieceReader::new(bytes, &sizes, script.then));
     let text = ArrayVec::<u8, 1_500>::new();
     let mut writer = Counted::new(ShortWriter::new(text, 7, script.room, script.full));
-    let broken = take(alloc, script, size, &mut reader, &mut writer);
+    let broken = take(alloc, script, &stream, size, &mut reader, &mut writer);
     let failures = (reader.failures(), writer.failures());
-    let asked = asked_last(reader);
+    let widest = reader.widest();
+    let asked = (asked_last(reader), widest);
     let sent = writer.into_inner().into_inner();
     let length = sent.as_slice().len();
     let begins = FILE.as_bytes().starts_with(sent.as_slice());
     drop(sent);
     (broken, (failures, asked, length, begins))
+}
+
+/// These bytes, one behind the other, and zeros behind them.
+fn stream_of(frames: &[&[u8]]) -> [u8; 1_000] {
+    let mut stream = [0; 1_000];
+    let mut from: usize = 0;
+    for frame in frames {
+        for (place, byte) in stream.iter_mut().skip(from).zip(frame.iter()) {
+            *place = *byte;
+        }
+        from = from.saturating_add(frame.len());
+    }
+    stream
 }
 
 fn asked_last(reader: Counted<PieceReader>) -> usize {
@@ -168,15 +186,16 @@ fn asked_last(reader: Counted<PieceReader>) -> usize {
 fn take<R: Read, W: Write>(
     alloc: Global,
     script: &Script,
+    stream: &[u8],
     size: usize,
     reader: &mut Counted<R>,
     writer: &mut Counted<W>,
 ) -> Broken {
     match script.way {
-        Way::Calls(calls) => follow(alloc, script.told, calls, size, reader, writer),
-        Way::Stream(want) => differs(stream(alloc, script.told, reader, writer), want),
+        Way::Calls(calls) => follow(alloc, script.told, calls, stream, size, reader, writer),
+        Way::Stream(want) => differs(convert(alloc, script.told, reader, writer), want),
         Way::Pieces(want) => {
-            let bytes = STREAM.get(..script.given).unwrap_or(&[]);
+            let bytes = stream.get(..script.given).unwrap_or(&[]);
             differs(pieces(alloc, script.told, bytes, size, writer), want)
         }
     }
@@ -195,13 +214,14 @@ fn follow<R: Read, W: Write>(
     alloc: Global,
     told: Told,
     calls: &[(Call, Answer)],
+    stream: &[u8],
     size: usize,
     reader: &mut Counted<R>,
     writer: &mut Counted<W>,
 ) -> Broken {
     match converter(alloc, told) {
         Ok(mut converter) => {
-            let broken = take_all(&mut converter, calls, size, reader, writer);
+            let broken = take_all(&mut converter, calls, stream, size, reader, writer);
             drop(converter);
             broken
         }
@@ -212,12 +232,13 @@ fn follow<R: Read, W: Write>(
 fn take_all<R: Read, W: Write>(
     converter: &mut Converter,
     calls: &[(Call, Answer)],
+    stream: &[u8],
     size: usize,
     reader: &mut Counted<R>,
     writer: &mut Counted<W>,
 ) -> Broken {
     for (place, (call, want)) in calls.iter().enumerate() {
-        let got = answer(converter, *call, size, reader, writer);
+        let got = answer(converter, *call, stream, size, reader, writer);
         if got != *want {
             return Some((place, got));
         }
@@ -228,13 +249,14 @@ fn take_all<R: Read, W: Write>(
 fn answer<R: Read, W: Write>(
     converter: &mut Converter,
     call: Call,
+    stream: &[u8],
     size: usize,
     reader: &mut Counted<R>,
     writer: &mut Counted<W>,
 ) -> Answer {
     match call {
         Call::Feed(from, to) => {
-            let bytes = STREAM.get(from..to).unwrap_or(&[]);
+            let bytes = stream.get(from..to).unwrap_or(&[]);
             feed(converter, bytes, size, writer)
         }
         Call::Run => answered(run(converter, reader, writer)),
@@ -296,7 +318,7 @@ fn converter(alloc: Global, told: Told) -> Result<Converter, Fault> {
     Converter::new(alloc, setup(alloc, told)?)
 }
 
-fn stream<R: Read, W: Write>(
+fn convert<R: Read, W: Write>(
     alloc: Global,
     told: Told,
     reader: &mut Counted<R>,
