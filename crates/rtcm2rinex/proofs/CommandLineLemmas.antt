@@ -165,9 +165,6 @@ pub one_option_more : (a : App) (rows : List OptionRow) (n : ℕ) (d : OptionRow
 one_option_more a rows n d lt =
     sym (ap (with_options a) (map_more option_told rows n d lt) ∙ fold-append with_rule a (map option_told (take n rows)) (option_told (get_or rows n d) ∷ []))
 
-with_sub : App → App → App
-with_sub a b = with_subcommand a b.top
-
 -- one command of the rows more
 pub one_command_more : (a : App) (rows : List CommandRow) (n : ℕ) (d : CommandRow) → n < length rows
     → with_subcommand (with_commands a (map command_told (take n rows))) (command_told (get_or rows n d)).top
