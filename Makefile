@@ -11,6 +11,10 @@ OPTIONS := --week 2075 --date "20240204 000001 UTC" --gps 1C,2W,2X,2L,5X --galil
 
 PREFIX ?= /usr/local
 
+# The prover's allocator gives memory back that it soon takes again, a page fault each time. Where it keeps it, a check
+# takes a twentieth less time.
+export MIMALLOC_PURGE_DELAY ?= -1
+
 .PHONY: build run install read-back test plants
 
 build:
