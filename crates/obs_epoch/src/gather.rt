@@ -91,7 +91,10 @@ impl Gatherer {
                 let clock = Clock::new(plan, start_week, station, is_by_bit(gather));
                 Ok(Gatherer::made(clock, held, locks))
             }
-            Err(fault) => Err(fault),
+            Err(fault) => {
+                drop(plan);
+                Err(fault)
+            }
         }
     }
 

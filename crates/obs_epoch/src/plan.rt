@@ -48,7 +48,11 @@ impl Plan {
                 gps: first,
                 galileo: second,
             }),
-            Err(fault) => Err(fault),
+            Err(fault) => {
+                drop(first);
+                drop(second);
+                Err(fault)
+            }
         }
     }
 
@@ -73,7 +77,11 @@ impl Plan {
                 gps: first,
                 galileo: second,
             }),
-            Err(fault) => Err(fault),
+            Err(fault) => {
+                drop(first);
+                drop(second);
+                Err(fault)
+            }
         }
     }
 

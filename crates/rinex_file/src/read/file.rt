@@ -43,12 +43,19 @@ pub fn check_file<R: Read>(alloc: Global, reader: &mut Counted<R>) -> Result<Cou
     loop {
         match reading.next(reader) {
             Ok(Some(_)) => {}
-            Ok(None) => return Ok(Counts {
-                epochs: reading.course.epochs,
-                satellites: reading.course.satellites,
-                events: reading.course.events,
-            }),
-            Err(fault) => return Err(fault),
+            Ok(None) => {
+                let counts = Counts {
+                    epochs: reading.course.epochs,
+                    satellites: reading.course.satellites,
+                    events: reading.course.events,
+                };
+                drop(reading);
+                return Ok(counts);
+            }
+            Err(fault) => {
+                drop(reading);
+                return Err(fault);
+            }
         }
     }
 }
@@ -73,7 +80,11 @@ pub fn read_file<R: Read>(alloc: Global, reader: &mut Counted<R>) -> Result<ObsF
         match reading.next(reader) {
             Ok(Some(added)) => match keeper.keep(added, &reading.course) {
                 Ok(()) => {}
-                Err(_) => return Err(ReadFault::Memory),
+                Err(_) => {
+                    drop(keeper);
+                    drop(reading);
+                    return Err(ReadFault::Memory);
+                }
             },
             Ok(None) => {
                 return match keeper.finish(alloc, reading.course) {
@@ -81,7 +92,11 @@ pub fn read_file<R: Read>(alloc: Global, reader: &mut Counted<R>) -> Result<ObsF
                     Err(_) => Err(ReadFault::Memory),
                 };
             }
-            Err(fault) => return Err(fault),
+            Err(fault) => {
+                drop(keeper);
+                drop(reading);
+                return Err(fault);
+            }
         }
     }
 }
