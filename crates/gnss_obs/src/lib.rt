@@ -10,8 +10,6 @@ mod satellite;
 mod signal;
 mod system;
 mod tables;
-#[cfg(test)]
-mod tests;
 mod thousandths;
 
 pub use lock::{Lock, is_lost};

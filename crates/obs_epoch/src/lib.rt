@@ -34,6 +34,3 @@ pub use gather::Gatherer;
 pub use plan::Plan;
 pub use taken::{Gather, Kind, Taken};
 pub use time::GpsTime;
-
-#[cfg(test)]
-mod tests;

@@ -22,6 +22,3 @@ pub use write::file::file_bytes;
 pub use write::numbers::Line;
 pub use write::satellite::satellite_line;
 pub use write::{write_epoch, write_event, write_header};
-
-#[cfg(test)]
-mod tests;

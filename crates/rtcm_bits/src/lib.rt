@@ -11,8 +11,6 @@ pub mod laws;
 mod looking;
 mod reader;
 mod tables;
-#[cfg(test)]
-mod tests;
 mod window;
 mod writer;
 

@@ -17,6 +17,3 @@ pub use fault::Fault;
 pub use report::Report;
 pub use setup::Setup;
 pub use whole::{convert_pieces, convert_stream};
-
-#[cfg(test)]
-mod tests;

@@ -32,8 +32,3 @@ pub use msm::Msm;
 pub use seats::{Seat, Seats, all_seats};
 pub use station::{Station, StationParts};
 pub use view::{Form, MsmView, View, look};
-
-#[cfg(test)]
-mod tests;
-#[cfg(test)]
-mod value_tests;

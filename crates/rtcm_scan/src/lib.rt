@@ -10,6 +10,3 @@ pub mod laws;
 
 pub use framer::{Frame, Framer, MOST_BYTES, ScanFault};
 pub use frames::{FrameView, Frames};
-
-#[cfg(test)]
-mod tests;

@@ -282,8 +282,8 @@ impl HeaderTexts {
         let _ = &self.run_by;
     }
 
-    /// The bytes of a text.
-    pub(crate) fn text(&self, field: HeaderField) -> &[u8]
+    /// The bytes of a text, at most 60, without the blanks at its end.
+    pub fn text(&self, field: HeaderField) -> &[u8]
         ensures value { result.now ≡ text_of self.now field }
         ensures bound { length result.now ≤ 60 }
     {

@@ -4,7 +4,7 @@ use super::{
     Closed, Ends, FIRST, HasNoDoppler, Holds, KEPT, Keeps, Locks, Of, Step, Takes, goes_as_told,
     goes_by_bit,
 };
-use crate::Gather;
+use obs_epoch::Gather;
 use std::test::*;
 
 #[test]

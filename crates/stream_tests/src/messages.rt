@@ -1,10 +1,12 @@
+mod values;
+
 ghost use Rattle.std.specs.Prelude.{◌≤◌};
 
-use crate::{
+use arrayvec::ArrayVec;
+use rtcm_msg::{
     Cell7, Entry, Field, Form, Grid7, Message, MsgFault, Msm, MsmHeader, Satellite7, StationParts,
     ValueFault, View, decode, encode, entries, look,
 };
-use arrayvec::ArrayVec;
 use std::alloc::{AllocError, Global};
 use std::test::*;
 
@@ -21,7 +23,7 @@ const HEIGHT: [u8; 21] = [
 ];
 
 /// Message 1077 with one cell, of satellite 5 and signal 2.
-pub(crate) const FINE: [u8; 36] = [
+pub const FINE: [u8; 36] = [
     0x43, 0x57, 0xD3, 0x00, 0x00, 0x0F, 0xA0, 0x00, 0x00, 0x04, 0x00, 0x00, 0x00, 0x00, 0x00, 0x00,
     0x00, 0x20, 0x00, 0x00, 0x00, 0x51, 0x80, 0x00, 0x01, 0x90, 0x00, 0x00, 0x00, 0x00, 0x00, 0x00,
     0x05, 0xA2, 0x00, 0x00,
@@ -55,7 +57,7 @@ const MANY: [u8; 22] = [
 const LATE: [u8; 7] = [0x43, 0x57, 0xD3, 0x90, 0x32, 0x10, 0x00];
 
 /// The values of the message 1005.
-pub(crate) const STATION_PARTS: StationParts = StationParts {
+pub const STATION_PARTS: StationParts = StationParts {
     station: 2003,
     realization: 0,
     gps: true,
@@ -71,7 +73,7 @@ pub(crate) const STATION_PARTS: StationParts = StationParts {
 };
 
 /// The head of the messages 1074 and 1077.
-pub(crate) const HEADER: MsmHeader = MsmHeader {
+pub const HEADER: MsmHeader = MsmHeader {
     station: 2003,
     time: 1000,
     more: false,
@@ -82,14 +84,14 @@ pub(crate) const HEADER: MsmHeader = MsmHeader {
     interval: 0,
 };
 
-pub(crate) const SATELLITE: Satellite7 = Satellite7 {
+pub const SATELLITE: Satellite7 = Satellite7 {
     whole: 70,
     extended: 0,
     fraction: 0,
     rate: 100,
 };
 
-pub(crate) const CELL: Cell7 = Cell7 {
+pub const CELL: Cell7 = Cell7 {
     range: 0,
     phase: 0,
     lock: 0,
@@ -143,7 +145,7 @@ fn writes(message: &Message, want: &[u8]) -> bool {
     out.as_slice() == want
 }
 
-pub(crate) fn is_written_back(bytes: &[u8]) -> bool {
+pub fn is_written_back(bytes: &[u8]) -> bool {
     is_written_as(bytes, bytes)
 }
 

@@ -3,8 +3,8 @@ mod by_definition;
 
 ghost use Rattle.std.specs.Prelude.{◌<◌};
 
-use crate::{Framer, Frames, MOST_BYTES, ScanFault};
 use rtcm_bits::LONGEST_FRAME;
+use rtcm_scan::{Framer, Frames, MOST_BYTES, ScanFault};
 use std::alloc::{AllocError, Global};
 use std::test::Fail;
 

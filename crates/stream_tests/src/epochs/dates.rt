@@ -1,6 +1,6 @@
 //! Dates and times of day.
 use super::WEEK;
-use crate::{Civil, GpsTime};
+use obs_epoch::{Civil, GpsTime};
 use std::test::*;
 
 /// The date of a time.

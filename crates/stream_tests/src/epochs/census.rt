@@ -1,7 +1,7 @@
 //! How many cells of a signal are counted.
 use super::messages::{Heard, message};
-use crate::Census;
 use gnss_obs::System;
+use obs_epoch::Census;
 use std::test::*;
 
 /// How many GPS cells of 1C a message of station 7 with one of them adds, and whether there is a

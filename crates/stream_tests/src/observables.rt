@@ -1,5 +1,5 @@
 //! Values from outside: the tables' lines, and fractions worked out by hand.
-use crate::{
+use gnss_obs::{
     Lock, Sat, Signal, System, Thousandths, doppler, is_lost, phase, pseudorange, strength,
     strength_digit,
 };

@@ -1,7 +1,7 @@
 //! Plans of texts and of signals.
 use super::parse;
-use crate::{Plan, PlanFault};
 use gnss_obs::{Signal, System};
+use obs_epoch::{Plan, PlanFault};
 use std::alloc::Global;
 use std::test::*;
 

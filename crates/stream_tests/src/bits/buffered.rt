@@ -1,5 +1,5 @@
 //! What a buffer asks of its device.
-use crate::Buffered;
+use rtcm_bits::Buffered;
 use std::alloc::{AllocError, Global};
 use std::io;
 use std::io::{ErrorKind, Write};

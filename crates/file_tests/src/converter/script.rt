@@ -3,13 +3,13 @@
 //! A proof over a value that has to be dropped is dear, and a converter is one, as is a device. So
 //! one function makes each and lets it go, and a test is a table of scripts.
 use super::{FILE, FULL};
-use crate::{Converter, Fault, Report, Setup, convert_pieces, convert_stream};
 use arrayvec::ArrayVec;
 use gnss_obs::System;
 use obs_epoch::{Gather, Plan};
 use rinex_file::{HeaderTexts, Texts};
 use rtcm_bits::Counted;
 use rtcm_bits::devices::{PieceReader, ReadEnd, ShortWriter, WriteEnd};
+use rtcm_convert::{Converter, Fault, Report, Setup, convert_pieces, convert_stream};
 use rtcm_scan::MOST_BYTES;
 use std::alloc::{AllocError, Global};
 use std::io::{Read, Write};

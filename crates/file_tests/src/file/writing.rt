@@ -1,10 +1,10 @@
 //! What is written of a gathered message, and where writing stops.
 use super::{ALL, EPOCH, HEADER, Outcome, Takes, Writer, joined, texts, writer, written_otherwise};
-use crate::{
-    Head, HeadFault, HeaderTexts, Line, epoch_line, satellite_line, write_epoch, write_header,
-};
 use gnss_obs::{Sat, System};
 use obs_epoch::{Epoch, Gather, Gatherer, GpsTime, Plan};
+use rinex_file::{
+    Head, HeadFault, HeaderTexts, Line, epoch_line, satellite_line, write_epoch, write_header,
+};
 use rtcm_bits::devices::WriteEnd;
 use rtcm_msg::{Message, decode};
 use std::alloc::Global;

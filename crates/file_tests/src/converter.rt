@@ -3,7 +3,7 @@
 mod faults;
 mod script;
 
-use crate::{Fault, Report};
+use rtcm_convert::{Fault, Report};
 use script::{Answer, Call, Good, IDLE, Script, Way, first_broken};
 
 /// The frame of message 1077 of station 2003, one second into the week, the last of its time:

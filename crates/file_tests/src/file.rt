@@ -8,9 +8,9 @@ mod faults;
 mod reading;
 mod writing;
 
-use crate::{Head, HeadFault, HeaderField, HeaderTexts, Texts, header_lines};
 use arrayvec::ArrayVec;
 use obs_epoch::{GpsTime, Plan, StationValues};
+use rinex_file::{Head, HeadFault, HeaderField, HeaderTexts, Texts, header_lines};
 use rtcm_bits::Counted;
 use rtcm_bits::devices::{ShortWriter, WriteEnd};
 use std::alloc::Global;

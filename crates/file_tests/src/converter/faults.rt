@@ -1,7 +1,7 @@
 use super::script::{Call, Good, IDLE, Script, TOLD, Told, Way, first_broken};
 use super::{FED, POINT};
-use crate::Fault;
 use rtcm_bits::devices::{ReadEnd, WriteEnd};
+use rtcm_convert::Fault;
 use rtcm_scan::MOST_BYTES;
 use std::alloc::Global;
 use std::io::ErrorKind;

@@ -1,9 +1,9 @@
-use crate::tests::{CELL, FINE, HEADER, SATELLITE, STATION_PARTS, is_written_back};
-use crate::{
+use super::{CELL, FINE, HEADER, SATELLITE, STATION_PARTS, is_written_back};
+use arrayvec::ArrayVec;
+use rtcm_msg::{
     Cell4, Cell7, Entry, Field, Grid, Grid4, Grid7, Masks, Message, Msm, MsmHeader, Satellite4,
     Satellite7, Seat, Station, StationParts, ValueFault, all_seats, decode, encode, entries,
 };
-use arrayvec::ArrayVec;
 use std::test::*;
 
 // Each call with large clauses stands behind a function without one, so that no test carries them.

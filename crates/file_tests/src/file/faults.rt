@@ -1,5 +1,5 @@
 //! The texts of faults.
-use crate::{HeadFault, HeaderField, ReadFault};
+use rinex_file::{HeadFault, HeaderField, ReadFault};
 use std::alloc::Global;
 
 static HEAD_FAULTS: [(HeadFault, &str); 3] = [

@@ -9,9 +9,9 @@ mod faults;
 mod messages;
 mod plans;
 
-use crate::{Cell, Gather, Gatherer, Kind, Plan, PlanFault, StationValues, Taken};
 use gnss_obs::System;
 use messages::{Heard, message};
+use obs_epoch::{Cell, Gather, Gatherer, Kind, Plan, PlanFault, StationValues, Taken};
 use rtcm_msg::Message;
 use std::alloc::Global;
 use std::process::Abort;

@@ -1,8 +1,8 @@
 //! Files that are read back, and files that are refused.
 use super::{EPOCH, HEADER, Text, VALUES, joined, place_of_difference, put_lines};
-use crate::{Counts, HeaderField, ObsFile, ReadFault, check_file, file_bytes, read_file};
 use gnss_obs::System;
 use obs_epoch::StationValues;
+use rinex_file::{Counts, HeaderField, ObsFile, ReadFault, check_file, file_bytes, read_file};
 use rtcm_bits::Counted;
 use rtcm_bits::devices::{PieceReader, ReadEnd};
 use std::alloc::Global;

@@ -1,6 +1,6 @@
 //! The texts of faults.
-use crate::PlanFault;
 use gnss_obs::System;
+use obs_epoch::PlanFault;
 use std::alloc::Global;
 use std::test::*;
 

@@ -3,12 +3,12 @@
 
 mod buffered;
 
-use crate::devices::{PieceReader, ReadEnd, ShortWriter, WriteEnd};
-use crate::{
+use arrayvec::ArrayVec;
+use rtcm_bits::devices::{PieceReader, ReadEnd, ShortWriter, WriteEnd};
+use rtcm_bits::{
     BitReader, BitWriter, CheckRegister, Counted, LONGEST_FRAME, LONGEST_MESSAGE, Window, crc24q,
     frame_of,
 };
-use arrayvec::ArrayVec;
 use std::io;
 use std::io::{ErrorKind, Read, Write};
 use std::test::Fail;

@@ -3,7 +3,7 @@ use super::reading::{NO_VALUES, Told, check, read, told_of};
 use super::{
     ALL, EPOCH, HEADER, Outcome, Takes, Text, VALUES, joined, put_lines, writer, written_otherwise,
 };
-use crate::{Counts, HeadFault, ReadFault, write_event};
+use rinex_file::{Counts, HeadFault, ReadFault, write_event};
 use rtcm_bits::devices::WriteEnd;
 use std::alloc::Global;
 use std::io::ErrorKind;
