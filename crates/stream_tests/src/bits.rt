@@ -4,6 +4,7 @@
 mod buffered;
 
 use arrayvec::ArrayVec;
+use buffered::Stumbles;
 use rtcm_bits::devices::{PieceReader, ReadEnd, ShortWriter, WriteEnd};
 use rtcm_bits::{
     BitReader, BitWriter, CheckRegister, Counted, LONGEST_FRAME, LONGEST_MESSAGE, Window, crc24q,
@@ -404,27 +405,10 @@ fn whole_writes_stop_at_a_failure(rt: HostRuntime) {
     assert!(rt; five_are_taken(WriteEnd::Fails(ErrorKind::Interrupted)));
 }
 
-/// Fails each flush, and counts them.
-#[derive(Drop)]
-struct Clogged {
-    flushes: u32,
-}
-
-impl Write for Clogged {
-    fn write(&mut self, buf: &[u8]) -> io::Result<usize> {
-        Ok(buf.len())
-    }
-
-    fn flush(&mut self) -> io::Result<()> {
-        self.flushes = self.flushes.saturating_add(1);
-        Err(io::Error::from(ErrorKind::StorageFull))
-    }
-}
-
 /// Whether two bytes are written, whether they are flushed, how often the device has failed by
-/// then, and how many flushes it was asked for.
-fn write_and_flush(clogged: Clogged) -> (bool, bool, u64, u32) {
-    let mut writer = Counted::new(ShortWriter::new(clogged, 9, 9, WriteEnd::TakesNone));
+/// then, and how many calls it had.
+fn write_and_flush(device: Stumbles) -> (bool, bool, u64, usize) {
+    let mut writer = Counted::new(ShortWriter::new(device, 9, 9, WriteEnd::TakesNone));
     let is_written = writer.write_whole(&[1, 2]).is_ok();
     let is_flushed = writer.flush().is_ok();
     let failures = writer.failures();
@@ -432,11 +416,11 @@ fn write_and_flush(clogged: Clogged) -> (bool, bool, u64, u32) {
         is_written,
         is_flushed,
         failures,
-        writer.into_inner().into_inner().flushes,
+        writer.into_inner().into_inner().calls,
     )
 }
 
 #[test]
 fn flushes_are_handed_on(rt: HostRuntime) {
-    assert!(rt; write_and_flush(Clogged { flushes: 0 }) == (true, false, 1, 1));
+    assert!(rt; write_and_flush(Stumbles::new(2)) == (true, false, 1, 2));
 }

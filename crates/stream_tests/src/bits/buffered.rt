@@ -7,14 +7,14 @@ use std::io::{ErrorKind, Write};
 /// A device that fails in one of its calls, counted from 1, and is good in each other. It counts
 /// the bytes that it took.
 #[derive(Drop)]
-struct Stumbles {
+pub struct Stumbles {
     fails_at: usize,
-    calls: usize,
+    pub calls: usize,
     taken: usize,
 }
 
 impl Stumbles {
-    fn new(fails_at: usize) -> Stumbles {
+    pub fn new(fails_at: usize) -> Stumbles {
         Stumbles {
             fails_at,
             calls: 0,
