@@ -82,8 +82,23 @@ pub(crate) fn part_of<'a>(
     (&front[from..to], &back[start - from..start + n - to])
 }
 
+/// How many bytes of two slices that stand one behind the other stand before the first that is this
+/// one.
+pub(crate) fn others_in(front: &[u8], back: &[u8], byte: u8) -> usize
+    ensures within { result ≤ length front.now + length back.now }
+    ensures others { (i : ℕ) → i < result → slice_index (front.now ++ back.now) i ≢ byte }
+    ensures stops { result < length front.now + length back.now → slice_index (front.now ++ back.now) result ≡ byte }
+{
+    let n = others_before(front, byte);
+    if n < front.len() {
+        n
+    } else {
+        n + others_before(back, byte)
+    }
+}
+
 /// How many bytes stand before the first that is this one.
-pub(crate) fn others_before(bytes: &[u8], byte: u8) -> usize
+fn others_before(bytes: &[u8], byte: u8) -> usize
     ensures within { result ≤ length bytes.now }
     ensures others { (i : ℕ) → i < result → slice_index bytes.now i ≢ byte }
     ensures stops { result < length bytes.now → slice_index bytes.now result ≡ byte }

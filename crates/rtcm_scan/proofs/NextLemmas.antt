@@ -19,7 +19,7 @@ use Rattle.rtcm_scan.proofs.StandsLemmas.{stands_give_up, stands_take, stands_re
 use Rattle.rtcm_scan.proofs.DrainedLemmas.{drained_ended, drained_waiting}
 
 -- other counts change nothing of what a framer stands for
-stands_looks : (v : FramerValue) (w : WindowValue) (t : ℕ) (b : List ℕ) (fs : List Framed) → HasFramed v b fs → HasFramed (with_looks v w t) b fs
+pub stands_looks : (v : FramerValue) (w : WindowValue) (t : ℕ) (b : List ℕ) (fs : List Framed) → HasFramed v b fs → HasFramed (with_looks v w t) b fs
 stands_looks v w t b fs s = record { taken = s.taken; held = s.held; fits = s.fits; scanned = s.scanned; first = s.first; skipped = s.skipped }
 
 -- what give_up and take_frame make of a framer

@@ -1,5 +1,5 @@
 -- Bytes that begin no frame are given up together, as if one by one.
-use Rattle.std.proofs.Common.{ℕ, ◌≡◌, ◌≢◌, ◌+◌, ◌-◌, ◌<◌, ◌≤◌, ◌^◌, min, Bool, false, List, [], ◌∷◌, length, take, drop, get_or, refl, sym, ap, ◌∙◌, arith, suc, zero, slice_index, slice_set}
+use Rattle.std.proofs.Common.{ℕ, ◌≡◌, ◌≢◌, ◌+◌, ◌-◌, ◌<◌, ◌≤◌, ◌^◌, min, Bool, false, List, [], ◌∷◌, length, take, drop, get_or, refl, sym, ap, ◌∙◌, arith, suc, zero, slice_index, slice_set, subst}
 use Rattle.std.proofs.lemmas.List.{drop-drop, length-drop, get_or-drop}
 use Rattle.std.proofs.lemmas.Bool.{ne_eqb}
 use Rattle.rtcm_scan.proofs.FrameLemmas.{none_without}
@@ -11,10 +11,10 @@ use Rattle.rtcm_scan.specs.Frames.{Framed}
 use Rattle.rtcm_scan.specs.Scan.{FramerValue, HasFramed, IsPassed, scan_of, window_of, with_window, with_looks}
 use Rattle.rtcm_scan.specs.Pending.{asked, with_candidate_examined}
 use Rattle.rtcm_scan.specs.Examined.{HasExamined}
-use Rattle.rtcm_scan.proofs.CandidateLemmas.{looked_twice}
-use Rattle.rtcm_scan.proofs.NextLemmas.{passed, step_passed, counts_passed}
+use Rattle.rtcm_scan.proofs.CandidateLemmas.{looked_twice, taken_more}
+use Rattle.rtcm_scan.proofs.NextLemmas.{passed, step_passed, counts_passed, stands_looks}
 use Rattle.rtcm_scan.proofs.StandsLemmas.{view_dropped}
-use Rattle.rtcm_scan.proofs.StepLemmas.{looked_bytes}
+use Rattle.rtcm_scan.proofs.StepLemmas.{looked_bytes, step_examined_to}
 
 -- looks behind the first byte, where that is dropped
 set_behind : (l : List ℕ) (i x : ℕ) → slice_set (drop 1 l) i x ≡ drop 1 (slice_set l (i + 1) x)
@@ -88,21 +88,75 @@ over_counts v (suc n) b fs e l o s =
     rw (one_more v n e h k) (over_counts (passed (with_candidate_examined v)) n b fs refl (omega (arith, l, d)) o'
     (counts_passed v (with_candidate_examined v) (passed (with_candidate_examined v)) b fs refl refl k (all_passed v.held v.has_ended h) t s))
 
+-- looks at bytes behind others that are dropped
+behind_others : (w : WindowValue) (n start k : ℕ) → looked_through (without_front w n) start k ≡ without_front (looked_through w (n + start) k) n
+behind_others w zero start k = let z : start ≡ 0 + start = omega arith in ap (λ (q : ℕ). without_front (looked_through w q k) 0) z
+behind_others w (suc n) start k =
+    let d : (u : WindowValue) → without_front u (suc n) ≡ without_front (without_front u n) 1 = (λ u. let a : n + 1 ≡ suc n = omega arith in rw (drop-drop 1 n u.bytes, drop-drop 1 n u.looks, a) refl) in
+    let e : n + (start + 1) ≡ suc n + start = omega arith in
+    ap (λ (u : WindowValue). looked_through u start k) (d w) ∙ through_behind (without_front w n) start k ∙ ap (λ (u : WindowValue). without_front u 1) (behind_others w n (start + 1) k)
+    ∙ sym (d (looked_through w (n + (start + 1)) k)) ∙ ap (λ (q : ℕ). without_front (looked_through w q k) (suc n)) e
+
+through_others : (w : WindowValue) (n k : ℕ) → looked_through (without_front (looked_through w 0 n) n) 0 k ≡ without_front (looked_through w 0 (n + k)) n
+through_others w n k =
+    let a : n + 0 ≡ 0 + n = omega arith in
+    behind_others (looked_through w 0 n) n 0 k ∙ ap (λ (q : ℕ). without_front (looked_through (looked_through w 0 n) q k) n) a ∙ ap (λ (u : WindowValue). without_front u n) (looked_twice w 0 n k)
+
+-- a framer that went on over n bytes, and whose next candidate was examined up to k bytes
+abbrev pub passed_to : FramerValue → ℕ → ℕ → FramerValue
+passed_to v n k = with_looks (passed_over v n) (looked_through (window_of (passed_over v n)) 0 k) k
+
+left_held : (v : FramerValue) (n : ℕ) → length (passed_over v n).held ≡ length v.held - n
+left_held v n = length-drop n _ ∙ ap (λ b. length b - n) (looked_bytes (window_of v) 0 n)
+
+pub to_stands : (v : FramerValue) (n k : ℕ) (b : List ℕ) (fs : List Framed) → v.tried ≡ 0 → n ≤ length v.held → ((i : ℕ) → i < n → slice_index v.held i ≢ 0xD3) → HasFramed v b fs → HasFramed (passed_to v n k) b fs
+to_stands v n k b fs e l o s = stands_looks (passed_over v n) (looked_through (window_of (passed_over v n)) 0 k) k b fs (over_stands v n b fs e l o s)
+
+pub to_counts : (v : FramerValue) (n k : ℕ) (b : List ℕ) (fs : List Framed) → v.tried ≡ 0 → n ≤ length v.held → ((i : ℕ) → i < n → slice_index v.held i ≢ 0xD3) → k ≡ min 1 (length v.held - n)
+    → HasExamined v b fs → HasExamined (passed_to v n k) b fs
+to_counts v n k b fs e l o m x =
+    let d : length (passed_over v n).held ≡ length v.held - n = left_held v n in
+    let z : k - 0 ≡ k = omega arith in
+    subst (λ (q : ℕ). HasExamined (with_looks (passed_over v n) (looked_through (window_of (passed_over v n)) 0 q) k) b fs) z (step_examined_to (passed_over v n) k b fs (omega arith) (omega (arith, m)) (omega (arith, m, d)) (over_counts v n b fs e l o x))
+
 -- the framer's view afterwards
-pub view_passed : (v : FramerValue) (limit place skipped tried n : ℕ) (w w' : WindowValue) (ended ready : Bool) → scan_of limit place w ended ready skipped tried ≡ v → w' ≡ without_front (looked_through w 0 n) n
-    → n ≤ length w.bytes → v.tried ≡ 0 → scan_of limit (place + n) w' ended ready (skipped + n) tried ≡ passed_over v n
-view_passed v limit place skipped tried n w w' ended ready e f h t =
-    let z : tried ≡ 0 = ap (λ (x : FramerValue). x.tried) e ∙ t in
+view_over : (v : FramerValue) (limit place skipped tried n : ℕ) (w : WindowValue) (ended ready : Bool) → scan_of limit place w ended ready skipped tried ≡ v → n ≤ length w.bytes
+    → scan_of limit (place + n) (without_front (looked_through w 0 n) n) ended ready (skipped + n) 0 ≡ passed_over v n
+view_over v limit place skipped tried n w ended ready e h =
     let k : skipped ≡ v.skipped = ap (λ (x : FramerValue). x.skipped) e in
     let x : w ≡ window_of v = ap window_of e in
-    let d = view_dropped v limit place skipped tried n w (looked_through w 0 n) w' ended ready e (looked_bytes w 0 n) f h in
-    ap (λ (q : ℕ). scan_of limit (place + n) w' ended ready (skipped + n) q) z ∙ ap (λ (y : FramerValue). let r : FramerValue = record y { skipped = skipped + n } in r) d
+    let d = view_dropped v limit place skipped tried n w (looked_through w 0 n) (without_front (looked_through w 0 n) n) ended ready e (looked_bytes w 0 n) refl h in
+    ap (λ (y : FramerValue). let r : FramerValue = record y { skipped = skipped + n } in r) d
     ∙ ap (λ (q : ℕ). with_given_up v (without_front (looked_through w 0 n) n) (q + n)) k ∙ ap (λ (y : WindowValue). with_given_up v (without_front (looked_through y 0 n) n) (v.skipped + n)) x
+
+pub view_passed : (v : FramerValue) (limit place skipped tried n k : ℕ) (w w' : WindowValue) (ended ready : Bool) → scan_of limit place w ended ready skipped tried ≡ v → w' ≡ without_front (looked_through w 0 (n + k)) n
+    → n ≤ length w.bytes → scan_of limit (place + n) w' ended ready (skipped + n) k ≡ passed_to v n k
+view_passed v limit place skipped tried n k w w' ended ready e f h =
+    let u : WindowValue = without_front (looked_through w 0 n) n in
+    ap (λ (y : WindowValue). scan_of limit (place + n) y ended ready (skipped + n) k) (f ∙ sym (through_others w n k))
+    ∙ ap (λ (bs : List ℕ). let r : FramerValue = record (scan_of limit (place + n) (looked_through u 0 k) ended ready (skipped + n) k) { taken = place + n + length bs; held = bs } in r) (looked_bytes u 0 k)
+    ∙ ap (λ (y : FramerValue). with_looks y (looked_through (window_of y) 0 k) k) (view_over v limit place skipped tried n w ended ready e h)
 
 -- what stands in the window is what the framer holds
 pub others_held : (v : FramerValue) (bytes : List ℕ) (n : ℕ) → bytes ≡ v.held → n ≤ length bytes → ((i : ℕ) → i < n → slice_index bytes i ≢ 0xD3) → (n ≤ length v.held) × ((i : ℕ) → i < n → slice_index v.held i ≢ 0xD3)
 others_held v bytes n e l o = rw (← e) (l, o)
 
--- a candidate that has taken nothing is one of any bytes
-pub taken_fresh : (c : Candidate) (s t : List ℕ) → c.count ≡ 0 → HasTaken c (take c.count s) → HasTaken c (take c.count t)
-taken_fresh c s t e h = let a : take c.count s ≡ take c.count t = ap (λ (k : ℕ). take k s) e ∙ sym (ap (λ (k : ℕ). take k t) e) in rw (← a) h
+-- a candidate that has taken nothing
+pub taken_nothing : (c : Candidate) (s : List ℕ) → c.count ≡ 0 → HasTaken c (take c.count s) → HasTaken c []
+taken_nothing c s e h = let a : take c.count s ≡ [] = ap (λ (k : ℕ). take k s) e in rw a at h
+
+-- what is left behind the bytes that are dropped
+behind_bytes : (w w' : WindowValue) (n m : ℕ) → w' ≡ without_front (looked_through w 0 m) n → w'.bytes ≡ drop n w.bytes
+behind_bytes w w' n m f = ap (λ (y : WindowValue). y.bytes) f ∙ ap (drop n) (looked_bytes w 0 m)
+
+pub behind_length : (w w' : WindowValue) (n m : ℕ) → w' ≡ without_front (looked_through w 0 m) n → length w'.bytes ≡ length w.bytes - n
+behind_length w w' n m f = ap length (behind_bytes w w' n m f) ∙ length-drop n w.bytes
+
+-- a candidate that has taken the preamble behind them
+pub taken_preamble : (c : Candidate) (w w' : WindowValue) (n m : ℕ) → w' ≡ without_front (looked_through w 0 m) n → n < length w.bytes → slice_index w.bytes n ≡ 0xD3 → c.count ≡ 1
+    → HasTaken c (0xD3 ∷ []) → HasTaken c (take c.count w'.bytes)
+taken_preamble c w w' n m f l e k t =
+    let d : length w'.bytes ≡ length w.bytes - n = behind_length w w' n m f in
+    let z : n + 0 ≡ n = omega arith in
+    let x : 0xD3 ≡ get_or w'.bytes 0 0 = sym (ap (λ (s : List ℕ). get_or s 0 0) (behind_bytes w w' n m f) ∙ get_or-drop n w.bytes 0 0 ∙ ap (λ (i : ℕ). get_or w.bytes i 0) z ∙ e) in
+    taken_more c w'.bytes 0 0xD3 t k (omega (arith, d, l)) x

@@ -8,7 +8,7 @@ use Rattle.rtcm_bits.specs.Window.{WindowValue, looked, looked_through, without_
 use Rattle.rtcm_scan.specs.Frame.{begins_frame, message_length, frame_length, has_preamble, framed_message}
 use Rattle.rtcm_scan.specs.Frames.{Framed, IsFrameOf, frame_end}
 use Rattle.rtcm_scan.specs.Decided.{places, is_inside, cost}
-use Rattle.rtcm_scan.specs.Scan.{FramerValue, HasFramed, first_held, IsPassed, Scanned, window_of, with_window}
+use Rattle.rtcm_scan.specs.Scan.{FramerValue, HasFramed, first_held, IsPassed, Scanned, window_of, with_window, with_looks}
 use Rattle.rtcm_scan.specs.Pending.{asked, with_candidate_examined}
 use Rattle.rtcm_scan.specs.Looks.{Span, span, covers, looks_at, all_looks, tried_before, spans_at, CountsLooks}
 use Rattle.rtcm_scan.specs.Examined.{HasExamined}
@@ -126,33 +126,34 @@ asked_bound s = let h = (wanted_bound s).1 in (omega arith, omega arith)
 pub cost_asked : (b : List ℕ) (p : ℕ) → 0 < length (drop p b) → cost b p ≡ asked (drop p b)
 cost_asked b p h = elim (has_preamble (drop p b)) as (λ v. cond v (min (frame_length (drop p b)) (length (drop p b))) 1 ≡ min (cond v (frame_length (drop p b)) 1) (length (drop p b))) [ true ↦ refl | false ↦ omega arith ]
 
--- the candidate at the front is examined
-pub step_examined : (v : FramerValue) (b : List ℕ) (fs : List Framed) → v.tried ≤ asked v.held → HasExamined v b fs → HasExamined (with_candidate_examined v) b fs
-step_examined v b fs h x =
-    let p = first_held v in
+-- the candidate at the front is examined up to n of its bytes
+pub step_examined_to : (v : FramerValue) (n : ℕ) (b : List ℕ) (fs : List Framed) → v.tried ≤ n → n ≤ 1029 → n ≤ length v.held → HasExamined v b fs
+    → HasExamined (with_looks v (looked_through (window_of v) v.tried (n - v.tried)) n) b fs
+step_examined_to v n b fs h a0 a1 x =
     let s : HasFramed v b fs = x.stands in
     let sc : Scanned v.has_ended b 0 (first_held v) fs = s.scanned in
-    let a = asked_bound v.held in
-    let a0 : asked v.held ≤ 1029 = a.0 in
-    let a1 : asked v.held ≤ length v.held = a.1 in
     let t : v.taken ≡ length b = s.taken in
     let f : length v.held ≤ v.taken = s.fits in
     let e : length v.looks ≡ length v.held = x.each in
-    let n : v.tried + (asked v.held - v.tried) ≡ asked v.held = omega arith in
+    let z : v.tried + (n - v.tried) ≡ n = omega arith in
     let lim : v.limit ≤ 2 ^ 48 = x.limit in
     let wit : v.taken ≤ v.limit = x.within in
-    let k : Fit (spans_at b fs (first_held v) (asked v.held)) = bound_fits v.has_ended b fs (first_held v) (asked v.held) sc a0 (omega arith) (omega arith) in
-    let c : Counted (spans_at b fs (first_held v) (v.tried + (asked v.held - v.tried))) (first_held v) (length b) (looked_through (window_of v) v.tried (asked v.held - v.tried)) =
-    counts_through _ (first_held v) v.tried (first_held v) (length b) v.tried (asked v.held - v.tried) (window_of v) refl (omega arith) (omega arith)
-    (subst (λ (q : ℕ). Fit (spans_at b fs (first_held v) q)) (sym n) k) x.counts in
+    let k : Fit (spans_at b fs (first_held v) n) = bound_fits v.has_ended b fs (first_held v) n sc a0 (omega arith) (omega arith) in
+    let c : Counted (spans_at b fs (first_held v) (v.tried + (n - v.tried))) (first_held v) (length b) (looked_through (window_of v) v.tried (n - v.tried)) =
+    counts_through _ (first_held v) v.tried (first_held v) (length b) v.tried (n - v.tried) (window_of v) refl (omega arith) (omega arith)
+    (subst (λ (q : ℕ). Fit (spans_at b fs (first_held v) q)) (sym z) k) x.counts in
     record {
       stands = record { taken = s.taken; held = s.held; fits = s.fits; scanned = s.scanned; first = s.first; skipped = s.skipped };
       limit = x.limit;
       within = x.within;
-      each = looked_length (window_of v) v.tried (asked v.held - v.tried) ∙ e;
+      each = looked_length (window_of v) v.tried (n - v.tried) ∙ e;
       tried = a1;
-      counts = subst (λ (q : ℕ). Counted (spans_at b fs (first_held v) q) (first_held v) (length b) (looked_through (window_of v) v.tried (asked v.held - v.tried))) n c;
+      counts = subst (λ (q : ℕ). Counted (spans_at b fs (first_held v) q) (first_held v) (length b) (looked_through (window_of v) v.tried (n - v.tried))) z c;
     }
+
+-- the candidate at the front is examined
+pub step_examined : (v : FramerValue) (b : List ℕ) (fs : List Framed) → v.tried ≤ asked v.held → HasExamined v b fs → HasExamined (with_candidate_examined v) b fs
+step_examined v b fs h x = let a = asked_bound v.held in step_examined_to v (asked v.held) b fs h a.0 a.1 x
 
 -- a place is given up
 pub step_give_up : (v : FramerValue) (b : List ℕ) (fs : List Framed) → 0 < length v.held → v.tried ≡ asked v.held → IsPassed v.has_ended v.held → HasExamined v b fs

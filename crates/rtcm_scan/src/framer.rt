@@ -18,8 +18,8 @@ ghost use Rattle.rtcm_scan.specs.Looks.{most_looks};
 ghost use Rattle.rtcm_scan.specs.Drained.{IsDrained};
 ghost use Rattle.rtcm_scan.specs.Answers.{framed, frame_at, push_answer, push_all_answer, decision, new_scan};
 
-use crate::candidate::{Candidate, PREAMBLE};
-use crate::front::{Decision, examine, judge};
+use crate::candidate::Candidate;
+use crate::front::{Decision, examine, judge, pass_others};
 use arrayvec::ArrayVec;
 use rtcm_bits::{LONGEST_FRAME, LONGEST_MESSAGE, Window};
 use std::alloc::Global;
@@ -349,8 +349,8 @@ impl Framer {
         self.given_up += 1;
     }
 
-    /// Goes on over the bytes at the front that aren't the first of any frame, as many as are found
-    /// at once.
+    /// Goes on over the bytes at the front that aren't the first of any frame, all at once, to the
+    /// next preamble.
     fn pass_over(&mut self)
         requires { self.old.tried ≡ 0 }
         ensures stands { (b : List ℕ) (fs : List Framed) → HasFramed self.old b fs → HasFramed self.new b fs }
@@ -361,7 +361,7 @@ impl Framer {
         ensures taken { self.new.taken ≡ self.old.taken }
         ensures ended { self.new.has_ended ≡ self.old.has_ended }
     {
-        let n = self.window.drop_others(PREAMBLE);
+        let n = pass_others(&mut self.window, &mut self.candidate);
         self.place += n as u64;
         self.given_up += n as u64;
     }

@@ -1,12 +1,12 @@
 //! What stands at the front of the held bytes: a candidate is examined as far as its bytes are
 //! there, and then judged.
-ghost use Rattle.std.specs.Prelude.{◌≡◌, ◌-◌, ◌<◌, ◌≤◌, ℕ, min, length, slice_index, take};
+ghost use Rattle.std.specs.Prelude.{◌≡◌, ◌≢◌, ◌+◌, ◌-◌, ◌<◌, ◌≤◌, ℕ, [], min, length, slice_index, take};
 ghost use Rattle.rtcm_scan.specs.Candidate.{HasTaken, wanted_by};
 ghost use Rattle.rtcm_scan.specs.Pending.{asked};
-ghost use Rattle.rtcm_bits.specs.Window.{looked_through};
+ghost use Rattle.rtcm_bits.specs.Window.{looked_through, without_front};
 ghost use Rattle.rtcm_scan.specs.Answers.{ComesTo, if_missing};
 
-use crate::candidate::Candidate;
+use crate::candidate::{Candidate, PREAMBLE};
 use rtcm_bits::{Window, laws};
 
 /// What stands at the front of the held bytes.
@@ -73,6 +73,23 @@ fn examine_rest(window: &mut Window, candidate: &mut Candidate)
         window.check_range(candidate.count, more, &mut candidate.register);
         candidate.count = end;
     }
+}
+
+/// Drops the bytes at the front that aren't the first of any frame, and answers how many. The
+/// candidate takes the preamble where it stops, which was looked at once, as they were.
+pub(crate) fn pass_others(window: &mut Window, candidate: &mut Candidate) -> usize
+    requires { HasTaken candidate.old [] }
+    ensures within { result ≤ length window.old.bytes }
+    ensures others { (i : ℕ) → i < result → slice_index window.old.bytes i ≢ 0xD3 }
+    ensures taken { HasTaken candidate.new (take candidate.new.count window.new.bytes) }
+    ensures count { candidate.new.count ≡ min 1 (length window.old.bytes - result) }
+    ensures window { window.new ≡ without_front (looked_through window.old 0 (result + candidate.new.count)) result }
+{
+    let n = window.drop_others(PREAMBLE);
+    if window.held() > 0 {
+        candidate.take(PREAMBLE);
+    }
+    n
 }
 
 /// What a candidate comes to of which all bytes that are there were taken.

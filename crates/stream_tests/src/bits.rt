@@ -141,22 +141,38 @@ fn ranges_of_a_window(rt: HostRuntime) -> Result<(), Fail> {
     Ok(())
 }
 
-/// Whether bytes other than one are dropped, each with a look, up to it and up to the end.
+/// Whether bytes other than one are dropped, up to it and up to the end, with a look at each and at
+/// the one where it stops.
 fn drops_others(window: &mut Window) -> bool {
     window.held() == 0
         && push_all(window, &[7, 8, 0xD3, 9, 0xD3])
-        && (drop_others(window, 0xD3), counts(window)) == (2, (3, 2, 1))
-        && looks(window, 0) == Some(0)
-        && drop_others(window, 0xD3) == 0
-        && drop_others(window, 0xD4) == 3
-        && drop_others(window, 0xD4) == 0
-        && counts(window) == (0, 5, 1)
+        && (drop_others(window, 0xD3), counts(window)) == (2, (3, 3, 1))
+        && (looks(window, 0), looks(window, 1)) == (Some(1), Some(0))
+        && (drop_others(window, 0xD3), counts(window)) == (0, (3, 4, 2))
+        && (drop_others(window, 0xD4), counts(window)) == (3, (0, 7, 3))
+        && (drop_others(window, 0xD4), counts(window)) == (0, (0, 7, 3))
+}
+
+/// The first of many rounds in which other bytes aren't dropped with a look at each. The bytes begin
+/// at another place of their room in each round, and some lie over its end.
+fn first_wrong_round(window: &mut Window) -> Option<usize> {
+    for round in 0..2 * LONGEST_FRAME {
+        let dropped = push_all(window, &[1, 2, 3, 0xD3])
+            && drop_others(window, 0xD3) == 3
+            && looks(window, 0) == Some(1)
+            && drop_front(window, 1);
+        if !dropped {
+            return Some(round);
+        }
+    }
+    None
 }
 
 #[test]
 fn others_are_dropped(rt: HostRuntime) -> Result<(), Fail> {
     let mut window = Window::new(rt.alloc())?;
     assert!(rt; drops_others(&mut window));
+    assert_eq!(rt; first_wrong_round(&mut window), None);
     Ok(())
 }
 
