@@ -10,6 +10,7 @@ ghost use Rattle.rinex_file.specs.Exact.{ExplainsFault, most_lines};
 ghost use Rattle.rinex_file.specs.Blocks.{LeavesRest};
 ghost use Rattle.rinex_file.specs.Counting.{AreCounts};
 ghost use Rattle.rtcm_convert.specs.Moves.{Moves};
+ghost use Rattle.rtcm2rinex.specs.Devices.{CountsWriteFault};
 ghost use Rattle.rtcm2rinex.specs.Checking.{check_line, AcceptsFiles, ChecksFile, ChecksPart, IsCheckFault};
 
 use crate::fault::ToolFault;
@@ -35,7 +36,7 @@ fn check_line(counts: Counts) -> Line
 }
 
 /// Reads a file to its end and writes how many epochs, satellites and events it has. It is accepted
-/// exactly where it is spelled as `convert` spells files; else the first line that isn't is told.
+/// exactly where it is spelled as `convert` spells files; else a line that isn't is told.
 pub fn run_check<R: Read, W: Write>(
     alloc: Global,
     reader: &mut Counted<R>,
@@ -47,6 +48,7 @@ pub fn run_check<R: Read, W: Write>(
     ensures fault { (e : ReadFault) → result ≡ Err (ToolFault.Check e) → IfSome (R.remaining reader.old.inner) (λ input. ExplainsFault input e) }
     ensures unwritten { (e : ReadFault) → result ≡ Err (ToolFault.Check e) → writer.new ≡ writer.old }
     ensures read_failed { result ≡ Err (ToolFault.Check ReadFault.Read) → HasFailed reader.old.failures reader.new.failures }
+    ensures read_same { (result ≡ Err (ToolFault.Check ReadFault.Read) → ⊥) → reader.new.failures ≡ reader.old.failures }
 
     // No other fault comes than these; and some prefix of the input was read.
     ensures known { IfErr result IsCheckFault }
@@ -54,7 +56,7 @@ pub fn run_check<R: Read, W: Write>(
 
     // The writer failed: what it took is a prefix of the counts.
     ensures write { result ≡ Err ToolFault.Write → ChecksPart (R.remaining reader.old.inner) (W.contents writer.old.inner) (W.contents writer.new.inner) }
-    ensures write_failed { result ≡ Err ToolFault.Write → HasFailed writer.old.failures writer.new.failures }
+    ensures writer { CountsWriteFault result writer.old writer.new }
 
     // The text of each file value is accepted.
     ensures only { Moves R.remaining reader.old reader.new W.contents writer.old writer.new (AcceptsFiles result) }

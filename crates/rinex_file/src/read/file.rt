@@ -25,9 +25,9 @@ pub struct Counts {
 }
 
 /// Reads a file to its end and counts what it holds. It is accepted exactly where it is spelled as
-/// [`write_header`](crate::write_header) and [`write_epoch`](crate::write_epoch) would spell it.
-/// The first fault is answered, with its line. What is held while it reads doesn't grow with the
-/// file.
+/// [`write_header`](crate::write_header), [`write_event`](crate::write_event) and
+/// [`write_epoch`](crate::write_epoch) would spell it; else a fault is answered, with a line from
+/// which on it can't be. What is held while it reads doesn't grow with the file.
 pub fn check_file<R: Read>(alloc: Global, reader: &mut Counted<R>) -> Result<Counts, ReadFault>
     // What is counted is the file whose text the whole input is.
     ensures found { IfOk result (λ n. IsTextWith n (R.remaining reader.old.inner)) }
@@ -35,7 +35,9 @@ pub fn check_file<R: Read>(alloc: Global, reader: &mut Counted<R>) -> Result<Cou
     ensures fault { IfErr result (λ e. IfSome (R.remaining reader.old.inner) (λ input. ExplainsFault input e)) }
     // The text of each file value is accepted.
     ensures only { IfTextOfFile (R.remaining reader.old.inner) (λ v. IsCountedOr v result) }
+    // It fails with its reader: nothing is read again behind a failed read.
     ensures failed { result ≡ Err ReadFault.Read → HasFailed reader.old.failures reader.new.failures }
+    ensures same { (result ≡ Err ReadFault.Read → ⊥) → reader.new.failures ≡ reader.old.failures }
     // Some front of the input was read.
     ensures left { LeavesRest (R.remaining reader.old.inner) (R.remaining reader.new.inner) }
 {
@@ -61,8 +63,9 @@ pub fn check_file<R: Read>(alloc: Global, reader: &mut Counted<R>) -> Result<Cou
 }
 
 /// Reads a file to its end. It is accepted exactly where it is spelled as
-/// [`write_header`](crate::write_header) and [`write_epoch`](crate::write_epoch) would spell it.
-/// The first fault is answered, with its line.
+/// [`write_header`](crate::write_header), [`write_event`](crate::write_event) and
+/// [`write_epoch`](crate::write_epoch) would spell it; else a fault is answered, with a line from
+/// which on it can't be.
 pub fn read_file<R: Read>(alloc: Global, reader: &mut Counted<R>) -> Result<ObsFile, ReadFault>
     // What is answered is the file whose text the whole input is.
     ensures found { IfOk result (λ f. IsFileValue f × IfSome (R.remaining reader.old.inner) (λ input. input ≡ file_text f)) }
@@ -70,7 +73,9 @@ pub fn read_file<R: Read>(alloc: Global, reader: &mut Counted<R>) -> Result<ObsF
     ensures fault { IfErr result (λ e. IfSome (R.remaining reader.old.inner) (λ input. ExplainsFault input e)) }
     // The text of each file value is read.
     ensures only { IfTextOfFile (R.remaining reader.old.inner) (λ v. IsReadOr v result) }
+    // It fails with its reader: nothing is read again behind a failed read.
     ensures failed { result ≡ Err ReadFault.Read → HasFailed reader.old.failures reader.new.failures }
+    ensures same { (result ≡ Err ReadFault.Read → ⊥) → reader.new.failures ≡ reader.old.failures }
     // Some front of the input was read.
     ensures left { LeavesRest (R.remaining reader.old.inner) (R.remaining reader.new.inner) }
 {

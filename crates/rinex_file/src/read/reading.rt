@@ -82,7 +82,7 @@ impl Reading {
         ensures counted { CountsLine self.old self.new result }
         ensures left { LeavesRest (R.remaining reader.old.inner) (R.remaining reader.new.inner) }
         ensures failed { result ≡ Err ReadFault.Read → HasFailed reader.old.failures reader.new.failures }
-        ensures same { OnOk result (reader.new.failures ≡ reader.old.failures) }
+        ensures same { (result ≡ Err ReadFault.Read → ⊥) → reader.new.failures ≡ reader.old.failures }
     {
         let number = self.count + 1;
         match next_line(reader, &mut self.block, &mut self.line) {

@@ -148,10 +148,12 @@ fn a_reader_may_fail_behind_each_byte(rt: HostRuntime) {
     }
 }
 
-static FLUSHED: [Read; 3] = [
+static FLUSHED: [Read; 5] = [
     (&FRAMES, ONE_FRAME, Lines("0 ")),
     (&SHOW, ONE_FRAME, Lines("0 ")),
     (&OPTIONS, ONE_FRAME, Lines("  ")),
+    (&SIGNALS, ONE_FRAME, Lines("--")),
+    (&CHECK, FINE_FILE, Lines("ep")),
 ];
 
 // A buffer takes every line, and what stands behind it fails when they are sent on.

@@ -23,7 +23,7 @@ loop-counts-preserved g c =
       read = (with_line c.in-Ok-Some.field-0-0 c.next.new.self.course h, goes);
       within = c.in-Ok-Some.ensures.within;
       left = leaves_more _ _ _ inv.left c.in-Ok-Some.ensures.left;
-      same = c.in-Ok-Some.ensures.same ∙ inv.same;
+      same = c.in-Ok-Some.ensures.same (λ e. cc) ∙ inv.same;
     }
 
 pub returns-in-Ok-None-clause-found : goal.returns-in-Ok-None-clause-found

@@ -25,7 +25,7 @@ loop-added-preserved g c =
       kept = c.in-Ok.ensures.kept;
       within = c.in-Ok-Some.ensures.within;
       left = leaves_more _ _ _ inv.left c.in-Ok-Some.ensures.left;
-      same = c.in-Ok-Some.ensures.same ∙ inv.same;
+      same = c.in-Ok-Some.ensures.same (λ e. cc) ∙ inv.same;
     }
 
 pub returns-in-Err-keep-clause-only : goal.returns-in-Err-keep-clause-only

@@ -180,49 +180,49 @@ pub returns-in-Failed-clause-failed : goal.returns-in-Failed-clause-failed
 returns-in-Failed-clause-failed g c = λ e. c.in-Failed.ensures.failed refl
 
 pub returns-then-may_end-clause-same : goal.returns-then-may_end-clause-same
-returns-then-may_end-clause-same g c = c.in-End.ensures.same (λ e. cc)
+returns-then-may_end-clause-same g c = λ o. c.in-End.ensures.same (λ e. cc)
 
 pub returns-in-Ok-clause-same : goal.returns-in-Ok-clause-same
-returns-in-Ok-clause-same g c = c.in-Line.ensures.same (λ e. cc)
+returns-in-Ok-clause-same g c = λ o. c.in-Line.ensures.same (λ e. cc)
 
 pub returns-else-may_end-clause-same : goal.returns-else-may_end-clause-same
-returns-else-may_end-clause-same g c = tt
+returns-else-may_end-clause-same g c = λ o. c.in-End.ensures.same (λ e. cc)
 
 pub returns-else-may_end-clause-within : goal.returns-else-may_end-clause-within
 returns-else-may_end-clause-within g c = tt
 
 pub returns-in-Cut-clause-same : goal.returns-in-Cut-clause-same
-returns-in-Cut-clause-same g c = tt
+returns-in-Cut-clause-same g c = λ o. c.in-Cut.ensures.same (λ e. cc)
 
 pub returns-in-Cut-clause-within : goal.returns-in-Cut-clause-within
 returns-in-Cut-clause-within g c = tt
 
 pub returns-in-Long-clause-same : goal.returns-in-Long-clause-same
-returns-in-Long-clause-same g c = tt
+returns-in-Long-clause-same g c = λ o. c.in-Long.ensures.same (λ e. cc)
 
 pub returns-in-Long-clause-within : goal.returns-in-Long-clause-within
 returns-in-Long-clause-within g c = tt
 
 pub returns-in-Failed-clause-same : goal.returns-in-Failed-clause-same
-returns-in-Failed-clause-same g c = tt
+returns-in-Failed-clause-same g c = λ o. absurd (o refl)
 
 pub returns-in-Failed-clause-within : goal.returns-in-Failed-clause-within
 returns-in-Failed-clause-within g c = tt
 
 pub returns-then-self-eq-MOST_LINES-clause-same : goal.returns-then-self-eq-MOST_LINES-clause-same
-returns-then-self-eq-MOST_LINES-clause-same g c = tt
+returns-then-self-eq-MOST_LINES-clause-same g c = λ o. c.in-Line.ensures.same (λ e. cc)
 
 pub returns-then-self-eq-MOST_LINES-clause-within : goal.returns-then-self-eq-MOST_LINES-clause-within
 returns-then-self-eq-MOST_LINES-clause-within g c = tt
 
 pub returns-in-Err-Memory-clause-same : goal.returns-in-Err-Memory-clause-same
-returns-in-Err-Memory-clause-same g c = tt
+returns-in-Err-Memory-clause-same g c = λ o. c.in-Line.ensures.same (λ e. cc)
 
 pub returns-in-Err-Memory-clause-within : goal.returns-in-Err-Memory-clause-within
 returns-in-Err-Memory-clause-within g c = tt
 
 pub returns-in-Err-Bad-clause-same : goal.returns-in-Err-Bad-clause-same
-returns-in-Err-Bad-clause-same g c = tt
+returns-in-Err-Bad-clause-same g c = λ o. c.in-Line.ensures.same (λ e. cc)
 
 pub returns-in-Err-Bad-clause-within : goal.returns-in-Err-Bad-clause-within
 returns-in-Err-Bad-clause-within g c = tt
