@@ -9,8 +9,7 @@ use Rattle.obs_epoch.specs.declared.cell.StationValues.{StationValues}
 use Rattle.rinex_file.specs.declared.read.due.Due.{Due}
 use Rattle.rinex_file.specs.declared.read.due.Due.TheVariants.{Epoch, EventPosition, EventHeight, EventEpoch}
 use Rattle.rinex_file.specs.Value.{Stamped, FileValue}
-use Rattle.rtcm_msg.specs.Reach.{IsCoordinate}
-use Rattle.rinex_file.specs.FileValues.{IsFileValue, AreValues, IsChange}
+use Rattle.rinex_file.specs.FileValues.{IsFileValue, AreValues, IsChange, IsCoordinate}
 use Rattle.rinex_file.specs.Header.{header_line, lengths, position_line, delta_line}
 use Rattle.rinex_file.specs.Lines.{epoch_fields, epoch_line}
 use Rattle.rinex_file.specs.Numbers.{joined, padded, fixed}

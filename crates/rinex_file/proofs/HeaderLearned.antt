@@ -11,8 +11,7 @@ use Rattle.rinex_file.specs.declared.header.section.Section.{Section}
 use Rattle.rinex_file.specs.declared.header.section.Section.TheVariants.{Version, Program, Marker, MarkerType, Observer, Receiver, Antenna, Position, Delta, StrengthUnit, First, Shift}
 use Rattle.rinex_file.specs.Blanks.{trimmed}
 use Rattle.rinex_file.specs.Texts.{HeaderLists}
-use Rattle.rtcm_msg.specs.Reach.{IsCoordinate}
-use Rattle.rinex_file.specs.FileValues.{IsText, IsTime, of_system}
+use Rattle.rinex_file.specs.FileValues.{IsText, IsTime, of_system, IsCoordinate}
 use Rattle.rinex_file.specs.Numbers.{joined, left, right, fixed}
 use Rattle.rinex_file.specs.Header.{section_lines, header_line, two, three, lengths, first_line, strength_line, shift_lines, version_line}
 use Rattle.rinex_file.specs.Lines.{letter_of}

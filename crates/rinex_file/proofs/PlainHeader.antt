@@ -18,8 +18,7 @@ use Rattle.rinex_file.specs.declared.header.fault.HeaderField.TheVariants.{RunBy
 use Rattle.rinex_file.specs.declared.header.section.Section.{Section}
 use Rattle.rinex_file.specs.declared.header.section.Section.TheVariants.{Version, Program, Marker as MarkerSection, MarkerType as MarkerTypeSection, Observer as ObserverSection, Receiver, Antenna, Position, Delta, Types, StrengthUnit, First, Shift, End}
 use Rattle.rinex_file.specs.Exact.{IsLine}
-use Rattle.rtcm_msg.specs.Reach.{IsCoordinate}
-use Rattle.rinex_file.specs.FileValues.{AreTexts, IsPlan, AreValues, IsTime, IsFrom}
+use Rattle.rinex_file.specs.FileValues.{AreTexts, IsPlan, AreValues, IsTime, IsFrom, IsCoordinate}
 use Rattle.rinex_file.specs.Header.{header_line, version_line, lengths, file_system, first_line, types_of, type_front, type_columns, type_line, type_rows, type_lines, shift_lines, codes_of, section_lines, all_sections, header_lines, position_line, delta_line}
 use Rattle.rinex_file.specs.Lines.{letter_of}
 use Rattle.rinex_file.specs.Numbers.{joined, left, right, fixed}

@@ -9,7 +9,7 @@ use Rattle.rinex_file.specs.Numbers.{joined, left, right, fixed}
 use Rattle.rinex_file.specs.Read.Fields.{digits_in, number_in}
 use Rattle.rinex_file.specs.Header.{header_line, lengths}
 use Rattle.rinex_file.specs.Read.Progress.{version_with}
-use Rattle.rtcm_msg.specs.Reach.{IsCoordinate}
+use Rattle.rinex_file.specs.FileValues.{IsCoordinate}
 use Rattle.rinex_file.proofs.Digits.{number_in-fixed, digits_in-right, digits_in-fixed, length-fixed, length-right}
 
 -- ---- version

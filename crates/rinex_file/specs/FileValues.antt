@@ -8,9 +8,7 @@ use Rattle.gnss_obs.specs.Satellites.{satellites}
 use Rattle.gnss_obs.specs.Signals.{table}
 use Rattle.obs_epoch.specs.declared.cell.StationValues.{StationValues}
 use Rattle.obs_epoch.specs.Values.{PlanValue, planned_of}
-use Rattle.rtcm_msg.specs.Msm.{week}
-use Rattle.rtcm_msg.specs.Reach.{IsCoordinate}
-use Rattle.obs_epoch.specs.Weeks.{weeks}
+use Rattle.obs_epoch.specs.Weeks.{week, weeks}
 use Rattle.rinex_file.specs.declared.header.fault.HeaderField.{HeaderField}
 use Rattle.rinex_file.specs.Blanks.{trimmed}
 use Rattle.rinex_file.specs.Texts.{HeaderLists, width_of, text_of, is_printable}
@@ -36,6 +34,10 @@ pub record IsPlan (p : PlanValue) : Type 0 where
 -- z is at least `low` and at most `high`
 abbrev pub IsFrom : ℤ → ℤ → ℤ → Type 0
 IsFrom low high z = (low ≤ℤ z) × (z ≤ℤ high)
+
+-- a coordinate in units of 0.0001 m, as a station message has room for it: 38 bits with a sign
+abbrev pub IsCoordinate : ℤ → Type 0
+IsCoordinate z = IsFrom (neg_ℤ (pos 137_438_953_472)) (pos 137_438_953_471) z
 
 pub record AreValues (v : StationValues) : Type 0 where
   pub x : IsCoordinate v.x

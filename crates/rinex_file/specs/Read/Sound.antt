@@ -5,11 +5,10 @@ use Rattle.rinex_file.specs.declared.read.due.Due.{Due}
 use Rattle.rinex_file.specs.declared.read.due.Due.TheVariants.{Header, Epoch, EventPosition, EventHeight, EventEpoch, Satellite}
 use Rattle.obs_epoch.specs.declared.cell.StationValues.{StationValues}
 use Rattle.rinex_file.specs.Value.{Stamped}
-use Rattle.rtcm_msg.specs.Reach.{IsCoordinate}
 use Rattle.obs_epoch.specs.Dates.{civil_of}
 use Rattle.rinex_file.specs.Lines.{epoch_line}
 use Rattle.rinex_file.specs.Read.Fields.{ReadsExactly}
-use Rattle.rinex_file.specs.FileValues.{IsTime, IsStamped, AreSatelliteRows, IsChange, AreChanges, IsFirstSame, values_behind, time_stamped, most_rows}
+use Rattle.rinex_file.specs.FileValues.{IsTime, IsStamped, AreSatelliteRows, IsChange, AreChanges, IsFirstSame, values_behind, time_stamped, most_rows, IsCoordinate}
 use Rattle.rinex_file.specs.Read.Progress.{Progress, IsShown, StartsAt}
 
 abbrev pub AreStamped : Progress → List Stamped → Type 0

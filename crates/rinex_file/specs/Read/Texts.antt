@@ -1,7 +1,6 @@
 -- Which lines of a header are read as several texts or numbers.
 use Rattle.std.specs.Prelude.{ℕ, ℤ, List, codes, Option}
-use Rattle.rtcm_msg.specs.Reach.{IsCoordinate}
-use Rattle.rinex_file.specs.FileValues.{IsText}
+use Rattle.rinex_file.specs.FileValues.{IsText, IsCoordinate}
 use Rattle.rinex_file.specs.Header.{header_line, two, three, lengths}
 use Rattle.rinex_file.specs.Read.Fields.{ReadsExactly}
 

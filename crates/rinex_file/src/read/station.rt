@@ -1,6 +1,6 @@
 //! Version, position and height in a header, read back; and lines that are always the same.
 ghost use Rattle.std.specs.Prelude.{◌≡◌, ◌↔◌, ◌+◌, ◌≤◌, ◌<◌, ◌^◌, ◌||◌, IsTrue, pos, Bool, true, IfSome, IfNone, length, take, drop, codes};
-ghost use Rattle.rtcm_msg.specs.Reach.{IsCoordinate};
+ghost use Rattle.rinex_file.specs.FileValues.{IsCoordinate};
 ghost use Rattle.rinex_file.specs.Header.{header_line, lengths};
 ghost use Rattle.rinex_file.specs.Read.Fields.{number_in, ReadsExactly};
 ghost use Rattle.rinex_file.specs.Read.Progress.{version_with};

@@ -1,7 +1,7 @@
 use Rattle.std.proofs.Common.{arith, refl, ◌≡◌, ◌<◌, ◌^◌, ◌∙◌, sym, ap, subst, ℤ, ℕ, List, Some, unsigned_abs, w64, to_z, of_z}
 use Rattle.std.proofs.lemmas.Int.{fits_signed_from_abs, to_z-of_z}
 use Rattle.std.specs.Prelude.{codes}
-use Rattle.rtcm_msg.specs.Reach.{IsCoordinate}
+use Rattle.rinex_file.specs.FileValues.{IsCoordinate}
 use Rattle.rinex_file.specs.Header.{header_line, lengths}
 use Rattle.rinex_file.specs.Read.Fields.{ReadsExactly}
 use Rattle.rinex_file.proofs.Judged.{refused}
