@@ -1,6 +1,7 @@
 //! What no clause says: a worked stream and its file, that each call can succeed, and what goes out
 //! where a device fails.
 mod faults;
+mod looks;
 mod script;
 
 use rtcm_convert::{Fault, Report};

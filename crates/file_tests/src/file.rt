@@ -5,6 +5,7 @@
 //! owns a gatherer, one a writer, one a file, since each owner is dear to prove.
 mod events;
 mod faults;
+mod long;
 mod reading;
 mod writing;
 

@@ -251,34 +251,52 @@ fn counts(framer: &Framer) -> Counts {
     (framer.skipped(), framer.examined(), framer.most())
 }
 
-/// What the framer tells, where the stream comes in blocks of a size;
-/// None where it refuses one, or gives other frames.
-fn told(framer: &mut Framer, stream: &Stream, size: usize) -> Option<Told>
+/// Hands these bytes of the stream on in blocks of a size. How many frames it has given then,
+/// `before` by earlier calls; None where the framer refuses a block, or gives other frames.
+fn hand_on(
+    framer: &mut Framer,
+    stream: &Stream,
+    bytes: &[u8],
+    size: usize,
+    before: usize,
+) -> Option<usize>
     requires { 0 < size }
 {
-    let mut frames = 0;
-    for block in stream.taken().chunks(size) {
+    let mut frames = before;
+    for block in bytes.chunks(size) {
         if !takes(framer, block) {
             return None;
         }
         frames = drain(framer, stream, frames)?;
     }
+    Some(frames)
+}
+
+/// What the framer tells, where the stream's bytes up to a cut and those behind it come in blocks of
+/// a size.
+fn told(framer: &mut Framer, stream: &Stream, cut: usize, size: usize) -> Option<Told>
+    requires { 0 < size }
+{
+    let bytes = stream.taken();
+    let cut = cut.min(bytes.len());
+    let frames = hand_on(framer, stream, &bytes[..cut], size, 0)?;
+    let frames = hand_on(framer, stream, &bytes[cut..], size, frames)?;
     let before = (frames, framer.held(), counts(framer));
     framer.end();
     let frames = drain(framer, stream, frames)?;
-    if frames < stream.frames.len() || framer.taken() != stream.taken().len() as u64 {
+    if frames < stream.frames.len() || framer.taken() != bytes.len() as u64 {
         return None;
     }
     Some((before, counts(framer)))
 }
 
-/// What a framer tells of the stream in blocks of a size.
-fn told_by(alloc: Global, stream: &Stream, size: usize) -> Option<Told>
+/// What a framer tells of the stream, cut there and in blocks of a size.
+fn told_by(alloc: Global, stream: &Stream, cut: usize, size: usize) -> Option<Told>
     requires { 0 < size }
 {
     match Framer::new(alloc, MOST_BYTES) {
         Ok(mut framer) => {
-            let told = told(&mut framer, stream, size);
+            let told = told(&mut framer, stream, cut, size);
             drop(framer);
             told
         }
@@ -286,17 +304,27 @@ fn told_by(alloc: Global, stream: &Stream, size: usize) -> Option<Told>
     }
 }
 
-fn is_told(alloc: Global, stream: &Stream, size: usize) -> bool
+fn is_told(alloc: Global, stream: &Stream, cut: usize, size: usize) -> bool
     requires { 0 < size }
 {
-    told_by(alloc, stream, size) == Some((stream.before, stream.behind))
+    told_by(alloc, stream, cut, size) == Some((stream.before, stream.behind))
 }
 
 /// The first size of blocks in which the stream doesn't give its frames and counts.
 fn first_wrong_size(alloc: Global, stream: &Stream) -> Option<usize> {
     for size in 1..=stream.size.max(1) {
-        if !is_told(alloc, stream, size) {
+        if !is_told(alloc, stream, 0, size) {
             return Some(size);
+        }
+    }
+    None
+}
+
+/// The first place at which the stream, cut in two there, doesn't give its frames and counts.
+fn first_wrong_cut(alloc: Global, stream: &Stream) -> Option<usize> {
+    for cut in 0..=stream.size {
+        if !is_told(alloc, stream, cut, stream.size.max(1)) {
+            return Some(cut);
         }
     }
     None
@@ -317,14 +345,19 @@ fn is_listed(stream: &Stream) -> bool {
 #[test]
 fn worked_streams(rt: HostRuntime) {
     for stream in &STREAMS {
+        let wrong = (
+            first_wrong_size(rt.alloc(), stream),
+            first_wrong_cut(rt.alloc(), stream),
+        );
         assert_eq!(rt;
-            (first_wrong_size(rt.alloc(), stream), is_listed(stream)),
-            (None, true),
+            (wrong, is_listed(stream)),
+            ((None, None), true),
             "{:?}",
             stream.behind
         );
     }
-    assert!(rt; is_told(rt.alloc(), &CLAIMS, 1));
+    assert!(rt; is_told(rt.alloc(), &CLAIMS, 0, 1));
+    assert!(rt; is_listed(&CLAIMS));
 }
 
 /// What a framer answers that has reached its limit: its room, a byte, a block, how many bytes it
@@ -363,8 +396,20 @@ fn limited(alloc: Global, limit: usize) -> Option<Answers> {
     }
 }
 
+/// What a framer that has room answers to a byte behind its end.
+fn behind_end(alloc: Global) -> Option<Result<(), ScanFault>> {
+    match Framer::new(alloc, MOST_BYTES) {
+        Ok(mut framer) => {
+            framer.end();
+            push(&mut framer, 0xD3)
+        }
+        Err(_) => None,
+    }
+}
+
 #[test]
 fn limits(rt: HostRuntime) {
+    assert!(rt; behind_end(rt.alloc()) == Some(Err(ScanFault::Ended)));
     assert!(rt; refused(rt.alloc(), MOST_BYTES + 1) == Some(ScanFault::BadLimit));
     let long = Some(Err(ScanFault::TooLong));
     for limit in [0, 10] {

@@ -271,7 +271,7 @@ fn answered(made: Result<Report, Fault>) -> Answer {
 }
 
 /// Feeds at least one piece.
-fn feed<W: Write>(
+pub fn feed<W: Write>(
     converter: &mut Converter,
     bytes: &[u8],
     size: usize,
@@ -294,11 +294,16 @@ fn run<R: Read, W: Write>(
     converter.run(reader, writer)
 }
 
-fn finish<W: Write>(converter: &mut Converter, writer: &mut Counted<W>) -> Result<Report, Fault> {
+/// Says that no byte follows.
+pub fn finish<W: Write>(
+    converter: &mut Converter,
+    writer: &mut Counted<W>,
+) -> Result<Report, Fault> {
     converter.finish(writer)
 }
 
-fn looks(converter: &Converter) -> Good {
+/// The bytes held, and the looks in all and at one byte.
+pub fn looks(converter: &Converter) -> Good {
     Good::Counts(
         converter.held() as u64,
         converter.examined(),
@@ -314,7 +319,8 @@ fn kept(converter: &Converter) -> Good {
     )
 }
 
-fn converter(alloc: Global, told: Told) -> Result<Converter, Fault> {
+/// A converter of this setup.
+pub fn converter(alloc: Global, told: Told) -> Result<Converter, Fault> {
     Converter::new(alloc, setup(alloc, told)?)
 }
 

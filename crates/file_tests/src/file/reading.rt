@@ -78,7 +78,8 @@ fn written_otherwise(alloc: Global, file: &ObsFile, text: &[u8]) -> Option<usize
     }
 }
 
-fn told_by(alloc: Global, file: &ObsFile, text: &[u8]) -> Told {
+/// What a file tells that was read of these bytes.
+pub fn told_by(alloc: Global, file: &ObsFile, text: &[u8]) -> Told {
     Told {
         counts: Counts {
             epochs: file.epochs() as u64,
@@ -128,7 +129,7 @@ fn check_failing(alloc: Global, text: &[u8]) -> Result<Counts, ReadFault> {
 }
 
 /// The small file, of one epoch.
-const SMALL: Told = Told {
+pub const SMALL: Told = Told {
     counts: Counts {
         epochs: 1,
         satellites: 1,

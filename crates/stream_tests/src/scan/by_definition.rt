@@ -115,7 +115,7 @@ fn agrees(alloc: Global, bytes: &[u8]) -> bool {
 
 /// Whether a framer that takes so many bytes at a time gives these frames and counts.
 fn is_counted(alloc: Global, stream: &Stream, size: usize) -> bool {
-    match told_by(alloc, stream, size.max(1)) {
+    match told_by(alloc, stream, 0, size.max(1)) {
         Some((_, behind)) => behind == stream.behind,
         None => false,
     }
