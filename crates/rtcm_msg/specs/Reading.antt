@@ -11,7 +11,7 @@ use Rattle.rtcm_msg.specs.declared.message.Message.TheVariants as messages
 use Rattle.rtcm_msg.specs.Grid4 as grid4
 use Rattle.rtcm_msg.specs.Grid7 as grid7
 
--- the numbers of the multiple signal messages of all systems
+-- the numbers of the multiple signal messages of GPS, GLONASS, Galileo, SBAS, QZSS and BeiDou
 abbrev pub is_any_msm : ℕ → Bool
 is_any_msm n = nat_le 1071 n && nat_le n 1127 && nat_le 1 (n % 10) && nat_le (n % 10) 7
 

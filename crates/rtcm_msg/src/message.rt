@@ -27,8 +27,9 @@ pub enum Message {
     Msm4(Msm<Grid4>),
     /// Message 1077 or 1097.
     Msm7(Msm<Grid7>),
-    /// A message of another number, DF002. Of a multiple signal message of any system and type that
-    /// is long enough for them, `set` has the station, DF003, and the multiple message bit, DF393.
+    /// A message of another number, DF002. Of a multiple signal message from 1071 to 1127, of
+    /// whatever type, that is long enough for them, `set` has the station, DF003, and the multiple
+    /// message bit, DF393.
     Other {
         number: u16,
         set: Option<(u16, bool)>,
@@ -45,7 +46,7 @@ pub(crate) fn read_set(reader: &mut BitReader) -> Option<(u16, bool)>
     Some((station, more))
 }
 
-/// Whether a message of this number is a multiple signal message, of whatever system and type.
+/// Whether a message of this number is a multiple signal message from 1071 to 1127, of whatever type.
 pub(crate) fn is_any_msm(number: u16) -> bool
     ensures { result ≡ is_any_msm number }
 {

@@ -443,7 +443,7 @@ fn other_of(bytes: &[u8]) -> Option<(u16, Option<(u16, bool)>)> {
     }
 }
 
-static OTHERS: [(&[u8], u16, Option<(u16, bool)>); 5] = [
+static OTHERS: [(&[u8], u16, Option<(u16, bool)>); 7] = [
     // 1127 of station 2003 with DF393 = 0, whole up to bit 55, and one byte less
     (
         &[0x46, 0x77, 0xD3, 0x00, 0x00, 0x0F, 0xA0],
@@ -451,13 +451,15 @@ static OTHERS: [(&[u8], u16, Option<(u16, bool)>); 5] = [
         Some((2003, false)),
     ),
     (&[0x46, 0x77, 0xD3, 0x00, 0x00, 0x0F], 1127, None),
-    // 1075 with DF393 = 1; 1070 and 1230 are no MSMs
+    // 1075 with DF393 = 1; 1070, 1078 and 1230 are no MSMs, 1131 is one of a later system
     (
         &[0x43, 0x37, 0xD3, 0x00, 0x00, 0x0F, 0xA2],
         1075,
         Some((2003, true)),
     ),
     (&[0x42, 0xE7, 0xD3, 0x00, 0x00, 0x0F, 0xA0], 1070, None),
+    (&[0x43, 0x67, 0xD3, 0x00, 0x00, 0x0F, 0xA0], 1078, None),
+    (&[0x46, 0xB7, 0xD3, 0x00, 0x00, 0x0F, 0xA0], 1131, None),
     (&[0x4C, 0xE7, 0xD3, 0x00, 0x00, 0x0F, 0xA0], 1230, None),
 ];
 
