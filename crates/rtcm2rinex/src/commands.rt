@@ -86,7 +86,7 @@ const CONVERT: [OptionRow<'static>; 17] = [
     OptionRow {
         name: "week",
         value: "WEEK",
-        help: "GPS week of the first observations, counted on from 1980 without wrapping",
+        help: "GPS week of the first observations, 0 to 99,999, counted on from 1980 without wrapping",
         reading: Reading::Week,
     },
     OptionRow {
@@ -116,13 +116,13 @@ const CONVERT: [OptionRow<'static>; 17] = [
     OptionRow {
         name: "gather",
         value: "RULE",
-        help: "What closes an epoch: the multiple message bit (DF393) or a later time alone",
+        help: "What closes an epoch: the last message of a set (DF393) or a later time, or a later time alone",
         reading: Reading::Among(&["bit", "time"], "bit"),
     },
     OptionRow {
         name: "limit",
         value: "BYTES",
-        help: "Most bytes of the stream",
+        help: "Most bytes of the stream; a longer one is a fault",
         reading: Reading::Bytes,
     },
     OptionRow {
