@@ -1,6 +1,6 @@
 use Rattle.std.proofs.Common.{◌∙◌, ap, map, subst, sym}
 use Rattle.std.proofs.lemmas.Result.{IfOk-weaker}
-use Rattle.clap.specs.Simple.{App, app_of}
+use Rattle.clap.specs.Simple.{App}
 use Rattle.rtcm2rinex.specs.CommandLine.{IsProgram, command_told, with_commands}
 use Rattle.rtcm2rinex.proofs.CommandLineLemmas.{versioned}
 use Rattle.rtcm2rinex.proofs.cli.program.Goals as goal
