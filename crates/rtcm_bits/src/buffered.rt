@@ -1,5 +1,5 @@
 //! A buffer in front of a writer, so that many small writes make few calls of a device.
-ghost use Rattle.std.specs.Prelude.{◌≡◌, ◌+◌, ◌<◌, ◌≤◌, [], ◌++◌, true, false, length, take, OnOk, OnErr, IfOk, IsErr, vec_len, vec_capacity};
+ghost use Rattle.std.specs.Prelude.{◌≡◌, ◌+◌, ◌-◌, ◌<◌, ◌≤◌, [], ◌++◌, true, false, length, min, take, Ok, OnOk, OnErr, IfOk, IsErr, vec_len, vec_capacity};
 ghost use Rattle.std.specs.Io.{WritesAtMost};
 ghost use Rattle.std.specs.Io.KnownBytes.{Keeps, Appends, WriteAppends};
 ghost use Rattle.rtcm_bits.specs.Buffering.{contents_of};
@@ -92,6 +92,8 @@ impl<W: Write> Write for Buffered<W> {
         ensures bytes { WriteAppends (contents_of W.contents self.old) (contents_of W.contents self.new) result buf.now }
         ensures failed { OnErr result (self.new.has_failed ≡ true) }
         ensures over { self.old.has_failed ≡ true → IsErr result × (self.new ≡ self.old) }
+        ensures room { self.old.has_failed ≡ false → length self.old.waiting < 65536
+            → result ≡ Ok (min (length buf.now) (65536 - length self.old.waiting)) }
     {
         if self.failed {
             return Err(io::Error::from(ErrorKind::Other));
