@@ -22,3 +22,5 @@ pub mod MomentLemmas
 pub mod LocalLemmas
 pub mod PrefixLemmas
 pub mod FramesLemmas
+pub mod PassingLemmas
+pub mod ReadLemmas

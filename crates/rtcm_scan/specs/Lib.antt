@@ -11,3 +11,4 @@ pub mod Pending
 pub mod Examined
 pub mod Local
 pub mod View
+pub mod Passing

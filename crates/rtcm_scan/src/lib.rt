@@ -3,10 +3,15 @@
 #![tactic(auto)]
 
 mod candidate;
+mod feed;
 mod framer;
 mod frames;
 mod front;
 pub mod laws;
+mod read;
+mod sink;
 
+pub use feed::StreamFault;
 pub use framer::{Frame, Framer, MOST_BYTES, ScanFault};
 pub use frames::{FrameView, Frames};
+pub use sink::FrameSink;

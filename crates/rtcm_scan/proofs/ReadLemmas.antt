@@ -1,0 +1,142 @@
+-- A stream that is read piece by piece.
+use Rattle.std.specs.Prelude.{⊤}
+use Rattle.std.proofs.Common.{◌≡◌, ℕ, ◌+◌, ◌-◌, ◌<◌, ◌≤◌, Bool, true, false, List, [], ◌∷◌, ◌++◌, ◌∙◌, ap, sym, refl, arith, length, suc, take, append_assoc, append-nil, subst, length-append, Option, true≢false}
+use Rattle.std.specs.Io.KnownBytes.{Consumes, Keeps, IsAtEnd}
+use Rattle.std.proofs.KnownBytes.{Consumes-trans, Consumes-nil, Consumes-kept}
+use Rattle.rtcm_scan.specs.Frames.{Framed}
+use Rattle.rtcm_scan.specs.Known.{known_frames}
+use Rattle.rtcm_scan.specs.Scan.{FramerValue}
+use Rattle.rtcm_scan.specs.Passing.{Coming, Breaking, HasPassedAll, HasBroken, Passes, Breaks, BreaksKnown, PassesKnown, PassesToLimit, PassesAll, BreaksReading, Reads, AtFault}
+use Rattle.rtcm_scan.proofs.PassingLemmas.{prefix_self}
+use Rattle.rtcm_scan.specs.declared.feed.StreamFault.{StreamFault}
+use Rattle.rtcm_scan.specs.declared.feed.StreamFault.TheVariants.{Read, TooLong, Sink}
+
+-- a fault of a piece that was taken is one of the piece that was read
+pub fault_of_piece : {F : Type 0} (f : StreamFault F) (K L B Sent L' B' : Type 0) → (L → Sent → L') → (B → B') → AtFault f ⊥ L B → AtFault f Sent Sent ⊤ → AtFault f K L' B'
+fault_of_piece Read K L B Sent L' B' long sink a s = absurd a
+fault_of_piece TooLong K L B Sent L' B' long sink a s = long a s
+fault_of_piece (Sink x) K L B Sent L' B' long sink a s = sink a
+
+-- at each fault one thing gives another
+pub at_each : {F : Type 0} (f : StreamFault F) (P Q R P' Q' R' : Type 0) → (P → P') → (Q → Q') → (R → R') → AtFault f P Q R → AtFault f P' Q' R'
+at_each Read P Q R P' Q' R' p q r a = p a
+at_each TooLong P Q R P' Q' R' p q r a = q a
+at_each (Sink x) P Q R P' Q' R' p q r a = r a
+
+take_over : (front piece : List ℕ) (k n : ℕ) → n ≡ length front + k → take n (front ++ piece) ≡ front ++ take k piece
+take_over [] piece k n e = let z : n ≡ k = omega (arith, e) in ap (λ (m : ℕ). take m piece) z
+take_over (x ∷ front) piece k n e =
+    let z : n ≡ suc (length front + k) = omega (arith, e) in
+    ap (λ (m : ℕ). take m (x ∷ (front ++ piece))) z ∙ ap (λ (l : List ℕ). x ∷ l) (take_over front piece k (length front + k) refl)
+
+limit_after : (limit taken w : ℕ) (front piece : List ℕ) → w ≡ taken + length front → w ≤ limit → front ++ take (limit - w) piece ≡ take (limit - taken) (front ++ piece)
+limit_after limit taken w front piece e le = sym (take_over front piece (limit - w) (limit - taken) (omega (arith, e, le)))
+
+module _ {S O : Type 0} (took : Coming S O) (broke : Breaking S O) where
+  -- no byte
+  pub passes_none : (v : FramerValue) (s : S) (o o' : O) → ((s0 : S) (o0 : O) (ps fs : List Framed) → took s0 o0 ps s o fs → took s0 o0 ps s o' fs) → Passes took v s o v s o' []
+  passes_none v s o o' send s0 o0 ps b x = subst (λ (l : List ℕ). HasPassedAll took v s0 o0 ps s o' l) (sym (append-nil b)) (record {
+    passed = record { framer = x.passed.framer; taken = send s0 o0 ps (known_frames v.has_ended b) x.passed.taken };
+    drained = x.drained;
+    counted = x.counted;
+  })
+
+  -- one piece after others
+  pub passes_more : (v v' v2 : FramerValue) (s s' s2 : S) (o o' o2 : O) (front piece : List ℕ) → Passes took v s o v' s' o' front → Passes took v' s' o' v2 s2 o2 piece → Passes took v s o v2 s2 o2 (front ++ piece)
+  passes_more v v' v2 s s' s2 o o' o2 front piece p q s0 o0 ps b x =
+      subst (λ (l : List ℕ). HasPassedAll took v2 s0 o0 ps s2 o2 l) (append_assoc b front piece) (q s0 o0 ps (b ++ front) (p s0 o0 ps b x))
+
+  pub reads_more : (v v' v2 : FramerValue) (s s' s2 : S) (o o' o2 : O) (r r' r2 : Option (List ℕ)) (n : ℕ)
+      → Reads r r' (λ front. Passes took v s o v' s' o' front × (v'.taken ≡ v.taken + length front)) → Reads r' r2 (λ piece. Passes took v' s' o' v2 s2 o2 piece × (n ≡ length piece)) → v2.taken ≡ v'.taken + n
+      → Reads r r2 (λ front. Passes took v s o v2 s2 o2 front × (v2.taken ≡ v.taken + length front))
+  reads_more v v' v2 s s' s2 o o' o2 r r' r2 n p q t =
+      let l : length (p.0 ++ q.0) ≡ length p.0 + length q.0 = length-append p.0 q.0 in
+      let a : v'.taken ≡ v.taken + length p.0 = p.2.1 in
+      let e : n ≡ length q.0 = q.2.1 in
+      (p.0 ++ q.0, Consumes-trans r r' r2 p.0 q.0 p.1 q.1, (passes_more v v' v2 s s' s2 o o' o2 p.0 q.0 p.2.0 q.2.0, omega (arith, l, a, e, t)))
+
+  -- nothing was read after others
+  pub read_on : (v v' v2 : FramerValue) (s s' s2 : S) (o o' o2 : O) (r r' r2 : Option (List ℕ)) → Keeps r' r2 × (v2 ≡ v') × (s2 ≡ s') × (o2 ≡ o')
+      → Reads r r' (λ front. Passes took v s o v' s' o' front × (v'.taken ≡ v.taken + length front)) → Reads r r2 (Passes took v s o v2 s2 o2)
+  read_on v v' v2 s s' s2 o o' o2 r r' r2 e p = (
+    p.0,
+    Consumes-kept r r' r2 p.0 p.1 e.0,
+    λ s0 o0 ps b x. (subst (λ (y : O). HasPassedAll took v2 s0 o0 ps s2 y (b ++ p.0)) (sym e.3) (subst (λ (y : S). HasPassedAll took v2 s0 o0 ps y o' (b ++ p.0)) (sym e.2)
+        (subst (λ (y : FramerValue). HasPassedAll took y s0 o0 ps s' o' (b ++ p.0)) (sym e.1) (p.2.0 s0 o0 ps b x)))),
+  )
+
+  -- a piece that goes over the limit, after others
+  pub limit_more : (v v' v2 : FramerValue) (s s' s2 : S) (o o' o2 : O) (r r' r2 : Option (List ℕ)) → v'.limit ≡ v.limit → v'.taken ≤ v.limit
+      → Reads r r' (λ front. Passes took v s o v' s' o' front × (v'.taken ≡ v.taken + length front)) → Reads r' r2 (PassesToLimit took v' s' o' v2 s2 o2) → Reads r r2 (PassesToLimit took v s o v2 s2 o2)
+  limit_more v v' v2 s s' s2 o o' o2 r r' r2 same within p q =
+      let front : List ℕ = p.0 in
+      let piece : List ℕ = q.0 in
+      let a : v'.taken ≡ v.taken + length front = p.2.1 in
+      let l : length (front ++ piece) ≡ length front + length piece = length-append front piece in
+      let over : v'.limit < v'.taken + length piece = q.2.over in
+      let cut : front ++ take (v'.limit - v'.taken) piece ≡ take (v.limit - v.taken) (front ++ piece) = ap (λ (n : ℕ). front ++ take (n - v'.taken) piece) same ∙ limit_after v.limit v.taken v'.taken front piece a within in (
+        front ++ piece,
+        Consumes-trans r r' r2 front piece p.1 q.1,
+        record {
+          passes = subst (λ (l : List ℕ). Passes took v s o v2 s2 o2 l) cut (passes_more v v' v2 s s' s2 o o' o2 front (take (v'.limit - v'.taken) piece) p.2.0 q.2.passes);
+          full = q.2.full ∙ same;
+          over = omega (arith, l, a, over, same);
+        },
+      )
+
+  -- the sink failed at a piece after others
+  pub breaks_more : (v v' : FramerValue) (s s' s2 : S) (o o' o2 : O) (r r' r2 : Option (List ℕ)) (most size : ℕ) → size ≡ most → v'.has_ended ≡ v.has_ended → v.has_ended ≡ false
+      → Reads r r' (λ front. Passes took v s o v' s' o' front × (v'.taken ≡ v.taken + length front)) → Reads r' r2 (λ piece. Breaks took broke v' s' o' s2 o2 piece × (length piece ≤ size))
+      → BreaksReading took broke v s o s2 o2 most r r2
+  breaks_more v v' s s' s2 o o' o2 r r' r2 most size same_size same going p q = record {
+    front = p.0;
+    piece = q.0;
+    ended = v.has_ended;
+    consumes = Consumes-trans r r' r2 p.0 q.0 p.1 q.1;
+    breaks = λ s0 o0 ps b x. (subst (λ (l : List ℕ). HasBroken broke v.has_ended s0 o0 ps s2 o2 (known_frames v.has_ended (b ++ p.0)) l) (append_assoc b p.0 q.0)
+        (subst (λ (e : Bool). HasBroken broke e s0 o0 ps s2 o2 (known_frames e (b ++ p.0)) ((b ++ p.0) ++ q.0)) same (q.2.0 s0 o0 ps (b ++ p.0) (p.2.0 s0 o0 ps b x))));
+    few = subst (λ (n : ℕ). length q.0 ≤ n) same_size q.2.1;
+    at_end = λ e. absurd (true≢false (sym e ∙ going));
+  }
+
+  -- the sink failed before any byte was read
+  pub breaks_first : (v : FramerValue) (s : S) (o o' : O) (r : Option (List ℕ)) (most : ℕ) → v.has_ended ≡ false → ((s0 : S) (o0 : O) (ps fs : List Framed) → took s0 o0 ps s o fs → broke s0 o0 ps s o' fs fs)
+      → BreaksReading took broke v s o s o' most r r
+  breaks_first v s o o' r most going send = record {
+    front = [];
+    piece = [];
+    ended = v.has_ended;
+    consumes = Consumes-nil r;
+    breaks = λ s0 o0 ps b x. (subst (λ (l : List ℕ). HasBroken broke v.has_ended s0 o0 ps s o' (known_frames v.has_ended l) l) (sym (append-nil b)) (record {
+      taken = known_frames v.has_ended b;
+      reached = known_frames v.has_ended b;
+      first = prefix_self (known_frames v.has_ended b);
+      known = prefix_self (known_frames v.has_ended b);
+      broken = send s0 o0 ps (known_frames v.has_ended b) x.passed.taken;
+    }));
+    few = omega arith;
+    at_end = λ e. absurd (true≢false (sym e ∙ going));
+  }
+
+  -- all was read, and the frames that are left were passed on
+  pub passes_end : (v v' v2 : FramerValue) (s s' s2 : S) (o o' o2 : O) (r r' : Option (List ℕ)) → IsAtEnd r'
+      → Reads r r' (λ front. Passes took v s o v' s' o' front × (v'.taken ≡ v.taken + length front)) → PassesKnown took v' s' o' v2 s2 o2 → PassesAll took v s o v2 s2 o2 r r'
+  passes_end v v' v2 s s' s2 o o' o2 r r' e p k = (
+    (p.0, p.1, λ s0 o0 ps b x. (let d = p.2.0 s0 o0 ps b x in k s0 o0 ps (b ++ p.0) (known_frames v'.has_ended (b ++ p.0)) d.passed)),
+    e,
+  )
+
+  -- the sink failed at one of them
+  pub breaks_end : (v v' : FramerValue) (s s' s2 : S) (o o' o2 : O) (r r' : Option (List ℕ)) (most : ℕ) → v'.has_ended ≡ v.has_ended → IsAtEnd r'
+      → Reads r r' (λ front. Passes took v s o v' s' o' front × (v'.taken ≡ v.taken + length front)) → BreaksKnown took broke true v' s' o' s2 o2 → BreaksReading took broke v s o s2 o2 most r r'
+  breaks_end v v' s s' s2 o o' o2 r r' most same e p k = record {
+    front = p.0;
+    piece = [];
+    ended = true;
+    consumes = subst (λ (l : List ℕ). Consumes r r' l) (sym (append-nil p.0)) p.1;
+    breaks = λ s0 o0 ps b x. (let d = p.2.0 s0 o0 ps b x in
+        subst (λ (l : List ℕ). HasBroken broke true s0 o0 ps s2 o2 (known_frames v.has_ended (b ++ p.0)) (b ++ l)) (sym (append-nil p.0))
+        (subst (λ (h : Bool). HasBroken broke true s0 o0 ps s2 o2 (known_frames h (b ++ p.0)) (b ++ p.0)) same (k s0 o0 ps (b ++ p.0) (known_frames v'.has_ended (b ++ p.0)) d.passed)));
+    few = omega arith;
+    at_end = λ _. e;
+  }

@@ -1,0 +1,22 @@
+use Rattle.std.proofs.Common.{◌≡◌, ◌+◌, ◌-◌, ◌≤◌, false, length, max}
+use Rattle.rtcm_scan.specs.Passing.{Passes, Reads}
+use Rattle.rtcm_scan.proofs.framer.Framer.read_frames.Given as goal
+
+abbrev pub invariant-loop-fault : goal.invariant-loop-fault
+invariant-loop-fault g l =
+    let remaining = g.R.Read.remaining in
+    record {
+      came : Reads (remaining l.fn.reader.inner) (remaining l.reader.inner)
+          (λ front. Passes g.S.FrameSink.took l.fn.self l.fn.sink l.fn.out l.self l.sink l.out front × (l.self.taken ≡ l.fn.self.taken + length front));
+      can : g.S.FrameSink.can_take l.sink;
+      sent : g.S.FrameSink.is_sent l.out;
+      going : l.self.has_ended ≡ false;
+      limit : l.self.limit ≡ l.fn.self.limit;
+      within : l.self.taken ≤ l.fn.self.limit;
+      size : length l.buffer ≡ length l.fn.buffer;
+      reader : l.reader.failures ≡ l.fn.reader.failures;
+      widest : l.reader.widest ≤ max l.fn.reader.widest (length l.fn.buffer);
+    }
+
+abbrev pub decreases-loop-fault : goal.decreases-loop-fault
+decreases-loop-fault g l = (l.self.limit + 1) - l.self.taken

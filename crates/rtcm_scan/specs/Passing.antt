@@ -1,0 +1,132 @@
+-- What becomes of the frames that a framer passes to a sink, for every history.
+use Rattle.std.specs.Prelude.{◌≡◌, ℕ, ◌+◌, ◌-◌, ◌<◌, ◌≤◌, max, ⊤, Bool, true, List, ◌++◌, take, length, Option, Result, Ok, Err, OnOk, IfErr}
+use Rattle.rtcm_bits.specs.Device.{Device, HasFailed}
+use Rattle.std.specs.Io.KnownBytes.{Consumes, IsAtEnd}
+use Rattle.rtcm_bits.specs.Prefix.{IsPrefix}
+use Rattle.rtcm_scan.specs.Frames.{Framed}
+use Rattle.rtcm_scan.specs.Drained.{IsDrained}
+use Rattle.rtcm_scan.specs.Examined.{HasExamined, HasExaminedSome, IsCountedExactly}
+use Rattle.rtcm_scan.specs.Known.{known_frames}
+use Rattle.rtcm_scan.specs.Scan.{FramerValue}
+use Rattle.rtcm_scan.specs.declared.feed.StreamFault.{StreamFault}
+use Rattle.rtcm_scan.specs.declared.feed.StreamFault.TheVariants.{Read, TooLong, Sink}
+
+-- From the first sink and output, those after the first frames, to the second, those after the second.
+abbrev pub Coming : (S O : Type 0) → Type 1
+Coming S O = S → O → List Framed → S → O → List Framed → Type 0
+
+-- The same for a sink that failed: it took the second frames, and at most a part of the third.
+abbrev pub Breaking : (S O : Type 0) → Type 1
+Breaking S O = S → O → List Framed → S → O → List Framed → List Framed → Type 0
+
+-- A framer took b and passed on fs, and the sink took them.
+pub record HasPassed {S O : Type 0} (took : Coming S O) (v : FramerValue) (s0 : S) (o0 : O) (ps : List Framed) (s : S) (o : O) (b : List ℕ) (fs : List Framed) : Type 0 where
+  pub framer : HasExamined v b fs
+  pub taken : took s0 o0 ps s o fs
+
+-- A framer took b, passed on all frames that are known of it, and the sink took them.
+pub record HasPassedAll {S O : Type 0} (took : Coming S O) (v : FramerValue) (s0 : S) (o0 : O) (ps : List Framed) (s : S) (o : O) (b : List ℕ) : Type 0 where
+  pub passed : HasPassed took v s0 o0 ps s o b (known_frames v.has_ended b)
+  pub drained : IsDrained v b (known_frames v.has_ended b)
+  pub counted : IsCountedExactly v b
+
+-- The sink failed: it took at least the frames `least`, and at most those that are known of b.
+pub record HasBroken {S O : Type 0} (broke : Breaking S O) (ended : Bool) (s0 : S) (o0 : O) (ps : List Framed) (s : S) (o : O) (least : List Framed) (b : List ℕ) : Type 0 where
+  pub taken : List Framed
+  pub reached : List Framed
+  pub first : IsPrefix least taken
+  pub known : IsPrefix reached (known_frames ended b)
+  pub broken : broke s0 o0 ps s o taken reached
+
+-- ---- what a call does, whatever was taken before
+
+-- all frames that are known were passed on
+abbrev pub PassesKnown : {S O : Type 0} → Coming S O → FramerValue → S → O → FramerValue → S → O → Type 0
+PassesKnown {S} {O} took v s o v' s' o' = (s0 : S) (o0 : O) (ps : List Framed) (b : List ℕ) (fs : List Framed) → HasPassed took v s0 o0 ps s o b fs → HasPassedAll took v' s0 o0 ps s' o' b
+
+-- the sink failed at one of those that are known, or are at the end
+abbrev pub BreaksKnown : {S O : Type 0} → Coming S O → Breaking S O → Bool → FramerValue → S → O → S → O → Type 0
+BreaksKnown {S} {O} took broke ended v s o s' o' =
+    (s0 : S) (o0 : O) (ps : List Framed) (b : List ℕ) (fs : List Framed) → HasPassed took v s0 o0 ps s o b fs → HasBroken broke ended s0 o0 ps s' o' fs b
+
+-- the next bytes were taken, and the sink took all frames that are known
+abbrev pub Passes : {S O : Type 0} → Coming S O → FramerValue → S → O → FramerValue → S → O → List ℕ → Type 0
+Passes {S} {O} took v s o v' s' o' next = (s0 : S) (o0 : O) (ps : List Framed) (b : List ℕ) → HasPassedAll took v s0 o0 ps s o b → HasPassedAll took v' s0 o0 ps s' o' (b ++ next)
+
+-- the sink failed at a frame of these bytes: it took those that are known before them, and at most those that are known with them
+abbrev pub Breaks : {S O : Type 0} → Coming S O → Breaking S O → FramerValue → S → O → S → O → List ℕ → Type 0
+Breaks {S} {O} took broke v s o s' o' piece = (s0 : S) (o0 : O) (ps : List Framed) (b : List ℕ) → HasPassedAll took v s0 o0 ps s o b
+    → HasBroken broke v.has_ended s0 o0 ps s' o' (known_frames v.has_ended b) (b ++ piece)
+
+-- those of the next bytes that the framer's limit lets it take
+abbrev pub up_to_limit : FramerValue → List ℕ → List ℕ
+up_to_limit v next = take (v.limit - v.taken) next
+
+-- the next bytes go over the limit, and were taken up to it
+pub record PassesToLimit {S O : Type 0} (took : Coming S O) (v : FramerValue) (s : S) (o : O) (v' : FramerValue) (s' : S) (o' : O) (next : List ℕ) : Type 0 where
+  pub passes : Passes took v s o v' s' o' (up_to_limit v next)
+  pub full : v'.taken ≡ v.limit
+  pub over : v.limit < v.taken + length next
+
+-- at most n bytes more were taken, within the same limit, and the framer is one of some stream still
+pub record GoesOn (v v' : FramerValue) (n : ℕ) : Type 0 where
+  pub least : v.taken ≤ v'.taken
+  pub most : v'.taken ≤ v.taken + n
+  pub within : v'.taken ≤ v.limit
+  pub limit : v'.limit ≡ v.limit
+  pub ended : v'.has_ended ≡ v.has_ended
+  pub some : HasExaminedSome v → HasExaminedSome v'
+
+-- no byte more was taken
+pub record IsSameStream (v v' : FramerValue) : Type 0 where
+  pub limit : v'.limit ≡ v.limit
+  pub taken : v'.taken ≡ v.taken
+  pub some : HasExaminedSome v → HasExaminedSome v'
+
+-- ---- a stream that is read
+
+-- some bytes were read, of which this holds
+abbrev pub Reads : Option (List ℕ) → Option (List ℕ) → (List ℕ → Type 0) → Type 0
+Reads r r' P = (front : List ℕ) × Consumes r r' front × P front
+
+-- all was read, and all frames were passed on
+abbrev pub PassesAll : {S O : Type 0} → Coming S O → FramerValue → S → O → FramerValue → S → O → Option (List ℕ) → Option (List ℕ) → Type 0
+PassesAll took v s o v' s' o' r r' = Reads r r' (Passes took v s o v' s' o') × IsAtEnd r'
+
+-- The bytes read split into some whose frames were passed on and a last piece at which the sink failed; if all was read, that piece
+-- is empty, and the sink failed at the frames that the end makes known.
+pub record BreaksReading {S O : Type 0} (took : Coming S O) (broke : Breaking S O) (v : FramerValue) (s : S) (o : O) (s' : S) (o' : O) (most : ℕ) (r r' : Option (List ℕ)) : Type 0 where
+  pub front : List ℕ
+  pub piece : List ℕ
+  pub ended : Bool
+  pub consumes : Consumes r r' (front ++ piece)
+  pub breaks : (s0 : S) (o0 : O) (ps : List Framed) (b : List ℕ) → HasPassedAll took v s0 o0 ps s o b
+      → HasBroken broke ended s0 o0 ps s' o' (known_frames v.has_ended (b ++ front)) (b ++ (front ++ piece))
+  pub few : length piece ≤ most
+  pub at_end : ended ≡ true → IsAtEnd r'
+
+-- where a call that reads pieces leaves the sink, the framer and the buffer, of n bytes before and m after
+pub record IsReadingOn {S : Type 0} (can_take : S → Type 0) (s : S) (v v' : FramerValue) (n m : ℕ) : Type 0 where
+  pub can : can_take s
+  pub limit : v'.limit ≡ v.limit
+  pub ended : v'.has_ended ≡ v.has_ended
+  pub size : m ≡ n
+
+-- ---- what holds at which fault
+
+-- one thing at `Read`, another at `TooLong`, and another at a fault of the sink
+abbrev pub AtFault : {F : Type 0} → StreamFault F → (read long sink : Type 0) → Type 0
+AtFault Read P Q R = P
+AtFault TooLong P Q R = Q
+AtFault (Sink fault) P Q R = R
+
+-- it holds unless the sink failed
+abbrev pub UnlessBroken : {A F : Type 0} → Result A (StreamFault F) → Type 0 → Type 0
+UnlessBroken (Ok x) P = P
+UnlessBroken (Err fault) P = AtFault fault P P ⊤
+
+-- the reader failed once at `Read`, and else not; it was asked for at most n bytes at a time
+abbrev pub CountsReads : {T A F : Type 0} → Result A (StreamFault F) → Device T → Device T → ℕ → Type 0
+CountsReads result old new n =
+    IfErr result (λ fault. AtFault fault (HasFailed old.failures new.failures) (new.failures ≡ old.failures) (new.failures ≡ old.failures))
+    × OnOk result (new.failures ≡ old.failures) × (new.widest ≤ max old.widest n)

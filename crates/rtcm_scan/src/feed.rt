@@ -1,0 +1,134 @@
+//! From bytes to a consumer of frames.
+ghost use Rattle.std.specs.Prelude.{◌≡◌, ◌+◌, ◌≤◌, ◌<◌, true, length, take, OnOk, OnErr, IfOk, IfErr};
+ghost use Rattle.rtcm_scan.specs.Passing.{PassesKnown, BreaksKnown, Passes, Breaks, PassesToLimit};
+ghost use Rattle.rtcm_scan.specs.Passing.{GoesOn, IsSameStream, AtFault, UnlessBroken};
+
+use crate::framer::{Frame, Framer};
+use crate::sink::FrameSink;
+use arrayvec::ArrayVec;
+
+/// Why not all bytes of a stream were taken.
+pub enum StreamFault<F> {
+    /// The reader failed.
+    Read,
+    /// The stream is longer than its limit. All bytes up to the limit were taken.
+    TooLong,
+    /// The sink failed.
+    Sink(F),
+}
+
+impl Framer {
+    /// Passes on frame after frame until no more are decided.
+    fn drain_into<O, S: FrameSink<O>>(&mut self, sink: &mut S, out: &mut O) -> Result<(), S::Fault>
+        requires { S.can_take sink.old }
+        ensures goes { S.can_take sink.new }
+        ensures whole { OnOk result (PassesKnown S.took self.old sink.old out.old self.new sink.new out.new) }
+        ensures part { OnErr result (BreaksKnown S.took S.broke self.old.has_ended self.old sink.old out.old sink.new out.new) }
+        ensures ready { OnOk result (self.new.is_ready ≡ true) }
+        ensures ended { self.new.has_ended ≡ self.old.has_ended }
+        ensures same { IsSameStream self.old self.new }
+    {
+        let mut frame = Frame {
+            offset: 0,
+            message: ArrayVec::new(),
+        };
+        while let Some(offset) = self.next_into(&mut frame.message) {
+            frame.offset = offset;
+            if let Err(fault) = sink.take(&frame, out) {
+                return Err(fault);
+            }
+        }
+        Ok(())
+    }
+
+    /// Takes these bytes up to the limit, passes on each frame as soon as it is decided, and
+    /// returns the number of bytes taken.
+    fn take_piece<O, S: FrameSink<O>>(
+        &mut self,
+        piece: &[u8],
+        sink: &mut S,
+        out: &mut O,
+    ) -> Result<usize, S::Fault>
+        requires can { S.can_take sink.old }
+        requires going { self.old.has_ended ≡ true → length piece.now ≡ 0 }
+        ensures goes { S.can_take sink.new }
+        ensures whole { IfOk result (λ n. Passes S.took self.old sink.old out.old self.new sink.new out.new (take n piece.now)) }
+        ensures part { OnErr result (Breaks S.took S.broke self.old sink.old out.old sink.new out.new piece.now) }
+        ensures most { IfOk result (λ n. n ≤ length piece.now) }
+        ensures taken { IfOk result (λ n. self.new.taken ≡ self.old.taken + n) }
+        ensures full { IfOk result (λ n. n < length piece.now → self.new.taken ≡ self.old.limit) }
+        ensures ready { OnOk result (self.new.is_ready ≡ true) }
+        ensures same { GoesOn self.old self.new (length piece.now) }
+    {
+        // A method on the framer knows that it took no more than its limit.
+        let _ = self.taken();
+        let mut taken = 0;
+        loop {
+            if let Err(fault) = self.drain_into(sink, out) {
+                return Err(fault);
+            }
+            let next = taken + self.room().min(piece.len() - taken);
+            if next == taken {
+                return Ok(taken);
+            }
+            let Ok(()) = self.push_all(&piece[taken..next]) else {
+                unreachable!()
+            };
+            taken = next;
+        }
+    }
+
+    /// Takes these bytes up to the limit, passes on each frame as soon as it is decided, and
+    /// flushes the output.
+    ///
+    /// # Errors
+    ///
+    /// `TooLong` if these bytes go over the limit, and `Sink` if the sink failed.
+    pub fn feed<O, S: FrameSink<O>>(
+        &mut self,
+        piece: &[u8],
+        sink: &mut S,
+        out: &mut O,
+    ) -> Result<(), StreamFault<S::Fault>>
+        requires can { S.can_take sink.old }
+        requires going { self.old.has_ended ≡ true → length piece.now ≡ 0 }
+        ensures goes { S.can_take sink.new }
+        ensures whole { OnOk result (Passes S.took self.old sink.old out.old self.new sink.new out.new piece.now) }
+        ensures fault { IfErr result (λ fault. AtFault fault ⊥
+            (PassesToLimit S.took self.old sink.old out.old self.new sink.new out.new piece.now)
+            (Breaks S.took S.broke self.old sink.old out.old sink.new out.new piece.now)) }
+        ensures sent { UnlessBroken result (S.is_sent out.new) }
+        ensures taken { OnOk result (self.new.taken ≡ self.old.taken + length piece.now) }
+        ensures ready { OnOk result (self.new.is_ready ≡ true) }
+        ensures same { GoesOn self.old self.new (length piece.now) }
+    {
+        let taken = match self.take_piece(piece, sink, out) {
+            Ok(taken) => taken,
+            Err(fault) => return Err(StreamFault::Sink(fault)),
+        };
+        if let Err(fault) = sink.send(out) {
+            return Err(StreamFault::Sink(fault));
+        }
+        if taken < piece.len() {
+            return Err(StreamFault::TooLong);
+        }
+        Ok(())
+    }
+
+    /// Ends the stream: passes on the frames that are left, and flushes the output.
+    pub fn finish<O, S: FrameSink<O>>(&mut self, sink: &mut S, out: &mut O) -> Result<(), S::Fault>
+        requires { S.can_take sink.old }
+        ensures goes { S.can_take sink.new }
+        ensures whole { OnOk result (PassesKnown S.took self.old sink.old out.old self.new sink.new out.new) }
+        ensures part { OnErr result (BreaksKnown S.took S.broke true self.old sink.old out.old sink.new out.new) }
+        ensures sent { OnOk result (S.is_sent out.new) }
+        ensures ended { self.new.has_ended ≡ true }
+        ensures same { IsSameStream self.old self.new }
+    {
+        self.end();
+        match self.drain_into(sink, out) {
+            Ok(()) => sink.send(out),
+            Err(fault) => Err(fault),
+        }
+    }
+}

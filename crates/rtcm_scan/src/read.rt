@@ -1,0 +1,94 @@
+//! A stream that is read to its end.
+ghost use Rattle.std.specs.Prelude.{◌≡◌, ◌+◌, ◌≤◌, ◌<◌, ⊤, true, false, length, OnOk, IfOk, IfErr};
+ghost use Rattle.std.specs.Io.KnownBytes.{Keeps, IsAtEnd};
+ghost use Rattle.rtcm_scan.specs.Passing.{Passes, Breaks, PassesToLimit, PassesAll, BreaksReading, Reads, CountsReads, IsReadingOn, AtFault, UnlessBroken};
+
+use crate::feed::StreamFault;
+use crate::framer::Framer;
+use crate::sink::FrameSink;
+use rtcm_bits::Counted;
+use std::io::Read;
+
+impl Framer {
+    /// Reads a piece of the stream, takes it, and returns its length.
+    fn read_piece<R: Read, O, S: FrameSink<O>>(
+        &mut self,
+        reader: &mut Counted<R>,
+        buffer: &mut [u8],
+        sink: &mut S,
+        out: &mut O,
+    ) -> Result<usize, StreamFault<S::Fault>>
+        requires can { S.can_take sink.old }
+        requires room { 0 < length buffer.old }
+        requires going { self.old.has_ended ≡ false }
+        ensures whole { IfOk result (λ n. Reads (R.remaining reader.old.inner) (R.remaining reader.new.inner)
+            (λ piece. Passes S.took self.old sink.old out.old self.new sink.new out.new piece × (n ≡ length piece))) }
+        ensures end { IfOk result (λ n. n ≡ 0 → IsAtEnd (R.remaining reader.new.inner)) }
+        ensures taken { IfOk result (λ n. (self.new.taken ≡ self.old.taken + n) × (self.new.taken ≤ self.old.limit)) }
+        ensures fault { IfErr result (λ fault. AtFault fault
+            (Keeps (R.remaining reader.old.inner) (R.remaining reader.new.inner) × (self.new ≡ self.old) × (sink.new ≡ sink.old) × (out.new ≡ out.old))
+            (Reads (R.remaining reader.old.inner) (R.remaining reader.new.inner) (PassesToLimit S.took self.old sink.old out.old self.new sink.new out.new) × S.is_sent out.new)
+            (Reads (R.remaining reader.old.inner) (R.remaining reader.new.inner)
+            (λ piece. Breaks S.took S.broke self.old sink.old out.old sink.new out.new piece × (length piece ≤ length buffer.old)))) }
+        ensures sent { OnOk result (S.is_sent out.new) }
+        ensures reader { CountsReads result reader.old reader.new (length buffer.old) }
+        ensures same { IsReadingOn S.can_take sink.new self.old self.new (length buffer.old) (length buffer.new) }
+    {
+        let n = match reader.read(buffer) {
+            Ok(n) => n,
+            Err(_) => return Err(StreamFault::Read),
+        };
+        match self.feed(&buffer[..n], sink, out) {
+            Ok(()) => Ok(n),
+            Err(fault) => Err(fault),
+        }
+    }
+
+    /// Reads to the end of the stream, at most as many bytes at a time as the buffer has, passes on
+    /// each frame as soon as it is decided, and flushes the output after each piece.
+    ///
+    /// # Errors
+    ///
+    /// `Read` if the reader failed, `TooLong` if the stream goes over the framer's limit, and
+    /// `Sink` if the sink failed.
+    pub fn read_frames<R: Read, O, S: FrameSink<O>>(
+        &mut self,
+        reader: &mut Counted<R>,
+        buffer: &mut [u8],
+        sink: &mut S,
+        out: &mut O,
+    ) -> Result<(), StreamFault<S::Fault>>
+        requires can { S.can_take sink.old }
+        requires room { 0 < length buffer.old }
+        requires going { self.old.has_ended ≡ false }
+        ensures whole { OnOk result (PassesAll S.took self.old sink.old out.old self.new sink.new out.new
+            (R.remaining reader.old.inner) (R.remaining reader.new.inner)) }
+        ensures fault { IfErr result (λ fault. AtFault fault
+            (Reads (R.remaining reader.old.inner) (R.remaining reader.new.inner) (Passes S.took self.old sink.old out.old self.new sink.new out.new))
+            (Reads (R.remaining reader.old.inner) (R.remaining reader.new.inner) (PassesToLimit S.took self.old sink.old out.old self.new sink.new out.new))
+            (BreaksReading S.took S.broke self.old sink.old out.old sink.new out.new (length buffer.old)
+            (R.remaining reader.old.inner) (R.remaining reader.new.inner))) }
+        ensures sent { UnlessBroken result (S.is_sent out.new) }
+        ensures reader { CountsReads result reader.old reader.new (length buffer.old) }
+        ensures ended { OnOk result (self.new.has_ended ≡ true) }
+        ensures going { IfErr result (λ fault. AtFault fault (self.new.has_ended ≡ false) (self.new.has_ended ≡ false) ⊤) }
+        ensures goes { S.can_take sink.new }
+    {
+        // A method on the framer knows that it took no more than its limit.
+        let _ = self.taken();
+        if let Err(fault) = sink.send(out) {
+            return Err(StreamFault::Sink(fault));
+        }
+        loop {
+            match self.read_piece(reader, buffer, sink, out) {
+                Ok(0) => break,
+                Ok(_) => {}
+                Err(fault) => return Err(fault),
+            }
+        }
+        match self.finish(sink, out) {
+            Ok(()) => Ok(()),
+            Err(fault) => Err(StreamFault::Sink(fault)),
+        }
+    }
+}

@@ -1,0 +1,40 @@
+//! Consumers of frames.
+ghost use Rattle.std.specs.Prelude.{◌++◌, ◌∷◌, [], List, ⊤, OnOk, OnErr};
+ghost use Rattle.rtcm_scan.specs.Frames.{Framed};
+ghost use Rattle.rtcm_scan.specs.Answers.{framed};
+
+use crate::framer::Frame;
+
+/// A consumer of the frames of a stream, in order. It may write to an output.
+pub trait FrameSink<O> {
+    /// Why a frame wasn't taken.
+    type Fault;
+
+    // Holds as long as a frame may be passed to it.
+    ghost can_take: { Self → Type 0 } = { λ _. ⊤ };
+
+    // Nothing waits in the output.
+    ghost is_sent: { O → Type 0 } = { λ _. ⊤ };
+
+    // From the first sink and output, those after the first frames, it took the frames up to the
+    // second, and is the second sink, with the second output.
+    ghost took: { Self → O → List Framed → Self → O → List Framed → Type 0 };
+
+    // The same, but it failed: it took the second frames, and at most a part of the third.
+    ghost broke: { Self → O → List Framed → Self → O → List Framed → List Framed → Type 0 };
+
+    /// Takes the next frame.
+    fn take(&mut self, frame: &Frame, out: &mut O) -> Result<(), Self::Fault>
+        requires { can_take self.old }
+        ensures goes { can_take self.new }
+        ensures whole { OnOk result ((s : Self) (o : O) (ps fs : List Framed) → took s o ps self.old out.old fs
+            → took s o ps self.new out.new (fs ++ framed frame.now ∷ [])) }
+        ensures part { OnErr result ((s : Self) (o : O) (ps fs : List Framed) → took s o ps self.old out.old fs
+            → broke s o ps self.new out.new fs (fs ++ framed frame.now ∷ [])) };
+
+    /// Flushes the output, if anything waits in it.
+    fn send(&self, out: &mut O) -> Result<(), Self::Fault>
+        ensures sent { OnOk result (is_sent out.new) }
+        ensures whole { OnOk result ((s : Self) (o : O) (ps fs : List Framed) → took s o ps self.now out.old fs → took s o ps self.now out.new fs) }
+        ensures part { OnErr result ((s : Self) (o : O) (ps fs : List Framed) → took s o ps self.now out.old fs → broke s o ps self.now out.new fs fs) };
+}
