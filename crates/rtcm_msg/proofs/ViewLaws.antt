@@ -11,7 +11,9 @@ use Rattle.rtcm_msg.specs.Packed.{total_width}
 use Rattle.rtcm_msg.specs.Columns.{columns_at, EachBelow}
 use Rattle.rtcm_msg.specs.Msm.{MasksValue, IsHeader, AreMasks, IsValue, header_at, masks_at, msm_at}
 use Rattle.rtcm_msg.specs.Rows.{rows_at, row_at, end_of_rows}
-use Rattle.rtcm_msg.specs.Views.{satellite_widths, cell_widths, message_in, formed_at, AreDataThere}
+use Rattle.rtcm_msg.specs.declared.view.Data.{Data}
+use Rattle.rtcm_msg.specs.declared.view.Data.TheVariants as datas
+use Rattle.rtcm_msg.specs.Views.{satellite_widths, cell_widths, satellite_rows, cell_rows, message_in, formed_at, LieWithin, AreDataThere}
 use Rattle.rtcm_msg.proofs.Binds.{ok_inj, number_took, number_there}
 use Rattle.rtcm_msg.proofs.FaultLaws.{Stands, masks_stand}
 use Rattle.rtcm_msg.proofs.ColumnSteps.{columns_fit}
@@ -117,12 +119,15 @@ found form g bits c0 c1 c2 h s n m at end e f stands there same same2 first room
     }
 
 -- where the data lie, counted in bytes
-pub laid : (form : Form) (bytes : List ℕ) (n place m at : ℕ) → length bytes ≤ 1023 → n ≤ 64 → m ≤ 64 → place + n * total_width (satellite_widths form) ≤ length (bits_of bytes) → at + m * total_width (cell_widths form) ≤ length (bits_of bytes)
-    → AreDataThere form (length bytes) n place m at
-laid form bytes n place m at small a b first second = record {
-  small = small;
-  satellites_few = a;
-  satellites_there = rw (← length-bits_of bytes) first;
-  cells_few = b;
-  cells_there = rw (← length-bits_of bytes) second;
-}
+pub laid : (form : Form) (bytes : List ℕ) (n place m at : ℕ) → length bytes ≤ 1023 → place + n * total_width (satellite_widths form) ≤ length (bits_of bytes) → at + m * total_width (cell_widths form) ≤ length (bits_of bytes)
+    → LieWithin form (length bytes) n place m at
+laid form bytes n place m at small first second = record { small = small; satellites_there = rw (← length-bits_of bytes) first; cells_there = rw (← length-bits_of bytes) second }
+
+-- how many there are, in either form of the data
+pub satellites_counted : (form : Form) (n m : ℕ) (d : Data) → AreDataThere form n m d → length (satellite_rows form n d) ≡ n
+satellites_counted form n m (datas.Bits bytes at cells_at) h = rows_counted (satellite_widths form) bytes.now n at h.there.satellites_there
+satellites_counted form n m (datas.Packed s c) h = h.there.0
+
+pub cells_counted : (form : Form) (n m : ℕ) (d : Data) → AreDataThere form n m d → length (cell_rows form m d) ≡ m
+cells_counted form n m (datas.Bits bytes at cells_at) h = rows_counted (cell_widths form) bytes.now m cells_at h.there.cells_there
+cells_counted form n m (datas.Packed s c) h = h.there.1

@@ -1,11 +1,40 @@
--- What a message that is read where its bytes lie says.
+-- What a view of a message gives.
+use Rattle.std.specs.Prelude.{ℕ, List}
 use Rattle.rtcm_msg.specs.declared.message.Message.{Message}
 use Rattle.rtcm_msg.specs.declared.message.Message.TheVariants as messages
 use Rattle.rtcm_msg.specs.declared.view.View.{View}
 use Rattle.rtcm_msg.specs.declared.view.View.TheVariants as views
+use Rattle.rtcm_msg.specs.declared.view.Form.{Form}
+use Rattle.rtcm_msg.specs.declared.view.Form.TheVariants as forms
+use Rattle.rtcm_msg.specs.declared.entry.Entry.{Entry}
+use Rattle.rtcm_msg.specs.declared.entry.LockField.{LockField}
+use Rattle.rtcm_msg.specs.declared.entry.LockField.TheVariants.{Df402, Df407}
+use Rattle.rtcm_msg.specs.declared.seats.Seat.{Seat}
+use Rattle.rtcm_msg.specs.Msm.{MsmValue}
+use Rattle.rtcm_msg.specs.Entries.{entry4, entry7}
 use Rattle.rtcm_msg.specs.Views.{formed}
 
 abbrev pub viewed_message : View → Message
 viewed_message (views.Station s) = messages.Station s
 viewed_message (views.Msm m) = formed m
 viewed_message (views.Other number set) = messages.Other number set
+
+-- which field the lock time indicator of a message of this form is
+abbrev pub lock_field : Form → LockField
+lock_field forms.Msm4 = Df402
+lock_field forms.Msm7 = Df407
+
+-- the number of lock time indicators
+abbrev pub codes_of : LockField → ℕ
+codes_of Df402 = 16
+codes_of Df407 = 1024
+
+-- the data of a cell, by the form of its message
+abbrev pub entry_in : Form → MsmValue → Seat × ℕ → Entry
+entry_in forms.Msm4 v = entry4 v
+entry_in forms.Msm7 v = entry7 v
+
+-- a walk over the cells of a message of this form: the data of those that are left
+pub record Unread : Type 0 where
+  pub form : Form
+  pub left : List Entry

@@ -1,9 +1,13 @@
 -- Messages that are read where their bytes lie.
-use Rattle.std.specs.Prelude.{ℕ, ◌+◌, ◌*◌, ◌≤◌, Bool, List, Result, Ok}
+use Rattle.std.specs.Prelude.{◌≡◌, ℕ, ◌+◌, ◌*◌, ◌≤◌, Bool, List, length, Result, Ok}
 use Rattle.rtcm_msg.specs.declared.message.Message.{Message}
 use Rattle.rtcm_msg.specs.declared.message.Message.TheVariants as messages
 use Rattle.rtcm_msg.specs.declared.view.Form.{Form}
 use Rattle.rtcm_msg.specs.declared.view.Form.TheVariants as forms
+use Rattle.rtcm_msg.specs.declared.view.Data.{Data}
+use Rattle.rtcm_msg.specs.declared.view.Data.TheVariants as datas
+use Rattle.rtcm_msg.specs.Rows.{rows_at}
+use Rattle.rtcm_bits.specs.Bits.{bits_of}
 use Rattle.rtcm_bits.specs.FrameOf.{longest_message}
 use Rattle.rtcm_bits.specs.Reading.{Cursor}
 use Rattle.rtcm_msg.specs.declared.fault.MsgFault.{MsgFault}
@@ -44,10 +48,26 @@ formed m = message_in m.form m.msm
 abbrev pub formed_at : Form → Bool → Cursor → Result Message MsgFault
 formed_at form is_galileo c = msm_at (satellite_widths form) (cell_widths form) is_galileo c >>= λ m. Ok (message_in form m.0)
 
--- so many satellites' and cells' data lie at these places of so many bytes
-pub record AreDataThere (form : Form) (bytes satellites satellites_at cells cells_at : ℕ) : Type 0 where
+-- the data of n satellites or cells, each one's fields in one number
+abbrev pub satellite_rows : Form → ℕ → Data → List ℕ
+satellite_rows form n (datas.Bits bytes satellites_at cells_at) = rows_at (satellite_widths form) n (bits_of bytes.now) satellites_at
+satellite_rows form n (datas.Packed satellites cells) = satellites.now
+
+abbrev pub cell_rows : Form → ℕ → Data → List ℕ
+cell_rows form n (datas.Bits bytes satellites_at cells_at) = rows_at (cell_widths form) n (bits_of bytes.now) cells_at
+cell_rows form n (datas.Packed satellites cells) = cells.now
+
+-- in the bytes there are the data of this many satellites and cells from these bits on, or there are as many numbers
+pub record LieWithin (form : Form) (bytes satellites satellites_at cells cells_at : ℕ) : Type 0 where
   pub small : bytes ≤ longest_message
-  pub satellites_few : satellites ≤ satellite_mask_bits
   pub satellites_there : satellites_at + satellites * total_width (satellite_widths form) ≤ 8 * bytes
-  pub cells_few : cells ≤ most_pairs
   pub cells_there : cells_at + cells * total_width (cell_widths form) ≤ 8 * bytes
+
+abbrev pub Lie : Form → ℕ → ℕ → Data → Type 0
+Lie form satellites cells (datas.Bits bytes satellites_at cells_at) = LieWithin form (length bytes.now) satellites satellites_at cells cells_at
+Lie form satellites cells (datas.Packed s c) = (length s.now ≡ satellites) × (length c.now ≡ cells)
+
+pub record AreDataThere (form : Form) (satellites cells : ℕ) (rows : Data) : Type 0 where
+  pub satellites_few : satellites ≤ satellite_mask_bits
+  pub cells_few : cells ≤ most_pairs
+  pub there : Lie form satellites cells rows

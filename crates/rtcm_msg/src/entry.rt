@@ -23,10 +23,51 @@ pub struct Entry {
     pub rate: Option<i32>,
     /// The carrier to noise ratio in 1/16 dB-Hz: DF403 or DF408.
     pub strength: Option<u16>,
-    /// The lock time indicator: DF402 in MSM4, DF407 in MSM7.
+    /// The lock time indicator: DF402 or DF407, by `Form::lock_field`.
     pub lock: u16,
     /// Whether a half-cycle ambiguity is possible: DF420.
     pub half_cycle: bool,
+}
+
+/// The field of a message's lock time indicators.
+#[derive(Clone, Copy, Debug, PartialEq, Eq)]
+pub enum LockField {
+    /// Lock time indicator of 4 bits.
+    Df402,
+    /// Lock time indicator with extended range and resolution, of 10 bits.
+    Df407,
+}
+
+/// What a cell of this seat says, by its data and those of its satellite.
+pub(crate) fn entry_of<G: Grid>(seat: Seat, satellite: &G::Satellite, cell: &G::Cell) -> Entry
+    requires satellite { G.is_satellite satellite.now }
+    requires cell { G.is_cell cell.now }
+    ensures value { result ≡ record {
+      satellite = seat.satellite;
+      signal = seat.signal;
+      range = G.range_of satellite.now cell.now;
+      phase = G.phase_of satellite.now cell.now;
+      rate = G.rate_of satellite.now cell.now;
+      strength = G.strength_of cell.now;
+      lock = G.lock_code_of cell.now;
+      half_cycle = G.half_cycle_of cell.now;
+    } }
+    ensures range { IfSome result.range (λ r. unsigned_abs r ≤ 2 ^ 40) }
+    ensures phase { IfSome result.phase (λ r. unsigned_abs r ≤ 2 ^ 40) }
+    ensures rate { IfSome result.rate (λ r. unsigned_abs r ≤ 10 ^ 8) }
+    ensures strength { IfSome result.strength (λ s. s < 2 ^ 10) }
+    ensures lock { result.lock < G.lock_codes }
+{
+    Entry {
+        satellite: seat.satellite,
+        signal: seat.signal,
+        range: G::range(satellite, cell),
+        phase: G::phase(satellite, cell),
+        rate: G::rate(satellite, cell),
+        strength: G::strength(cell),
+        lock: G::lock_code(cell),
+        half_cycle: G::half_cycle(cell),
+    }
 }
 
 impl<G: Grid> Msm<G> {
@@ -41,18 +82,7 @@ impl<G: Grid> Msm<G> {
         ensures strength { IfSome result.strength (λ s. s < 2 ^ 10) }
         ensures lock { result.lock < G.lock_codes }
     {
-        let satellite = self.satellite(seat.place);
-        let cell = self.cell(i);
-        Entry {
-            satellite: seat.satellite,
-            signal: seat.signal,
-            range: G::range(&satellite, &cell),
-            phase: G::phase(&satellite, &cell),
-            rate: G::rate(&satellite, &cell),
-            strength: G::strength(&cell),
-            lock: G::lock_code(&cell),
-            half_cycle: G::half_cycle(&cell),
-        }
+        entry_of::<G>(seat, &self.satellite(seat.place), &self.cell(i))
     }
 }
 

@@ -1,8 +1,12 @@
-ghost use Rattle.std.specs.Prelude.{◌≡◌, All, Bool, ◌+◌, ℕ, ℤ, List, ◌^◌, ◌<◌, ◌≤◌, Option, IfNone, IfSome, unsigned_abs};
+ghost use Rattle.std.specs.Prelude.{◌≡◌, All, Bool, length, ◌+◌, ◌*◌, ℕ, ℤ, List, ◌^◌, ◌<◌, ◌≤◌, Option, IfNone, IfSome, unsigned_abs};
 ghost use Rattle.std.specs.Option.{ForSome};
 ghost use Rattle.rtcm_msg.specs.Fractions.{range_joined};
 ghost use Rattle.rtcm_msg.specs.Packed.{total_width};
 ghost use Rattle.rtcm_msg.specs.declared.fault.Field.{Field};
+ghost use Rattle.rtcm_bits.specs.Bits.{bits_of};
+ghost use Rattle.rtcm_bits.specs.FrameOf.{longest_message};
+ghost use Rattle.rtcm_msg.specs.Msm.{satellite_mask_bits, most_pairs};
+ghost use Rattle.rtcm_msg.specs.Rows.{row_at};
 
 use crate::fault::Field;
 
@@ -143,6 +147,22 @@ pub trait Grid {
     fn cell_of(number: u128) -> Self::Cell
         requires { number < 2 ^ total_width cell_widths }
         ensures { result ≡ cell_at number };
+
+    /// The satellite of place `i`, where the data of `count` satellites begin at bit `place`.
+    fn satellite_in(bytes: &[u8], count: usize, place: usize, i: usize) -> Self::Satellite
+        requires there { i < count }
+        requires few { count ≤ satellite_mask_bits }
+        requires within { place + count * total_width satellite_widths ≤ 8 * length bytes.now }
+        requires small { length bytes.now ≤ longest_message }
+        ensures { result ≡ satellite_at (row_at satellite_widths count (bits_of bytes.now) place i 0) };
+
+    /// The cell of place `i`, where the data of `count` cells begin at bit `place`.
+    fn cell_in(bytes: &[u8], count: usize, place: usize, i: usize) -> Self::Cell
+        requires there { i < count }
+        requires few { count ≤ most_pairs }
+        requires within { place + count * total_width cell_widths ≤ 8 * length bytes.now }
+        requires small { length bytes.now ≤ longest_message }
+        ensures { result ≡ cell_at (row_at cell_widths count (bits_of bytes.now) place i 0) };
 
     // A field has at most 64 bits, and a satellite or a cell fits its number.
     ghost satellite_widths_few: { All (λ w. w ≤ 64) satellite_widths };

@@ -5,8 +5,9 @@ ghost use Rattle.rtcm_msg.specs.Ranges.{fits_int};
 ghost use Rattle.rtcm_msg.specs.Grid4 as grid4;
 
 use crate::fault::Field;
+use crate::field::signed_at;
 use crate::grid::{Grid, range_joined};
-use rtcm_bits::{raw_of, signed_of};
+use rtcm_bits::{number_at, raw_of, signed_of};
 
 /// The data of a satellite in MSM4.
 #[derive(Clone, Copy, Debug, PartialEq, Eq, Drop)]
@@ -243,6 +244,30 @@ impl Grid for Grid4 {
             lock: (number / (1 << 7) % 16) as u8,
             half_cycle: number / (1 << 6) % 2 == 1,
             strength: (number % 64) as u8,
+        }
+    }
+
+    #[inline(always)]
+    fn satellite_in(bytes: &[u8], count: usize, place: usize, i: usize) -> Satellite4 {
+        let fractions = place + count * 8;
+        Satellite4 {
+            whole: number_at(bytes, place + i * 8, 8) as u8,
+            fraction: number_at(bytes, fractions + i * 10, 10) as u16,
+        }
+    }
+
+    #[inline(always)]
+    fn cell_in(bytes: &[u8], count: usize, place: usize, i: usize) -> Cell4 {
+        let phases = place + count * 15;
+        let locks = phases + count * 22;
+        let half_cycles = locks + count * 4;
+        let strengths = half_cycles + count * 1;
+        Cell4 {
+            range: signed_at(bytes, place + i * 15, 15) as i16,
+            phase: signed_at(bytes, phases + i * 22, 22) as i32,
+            lock: number_at(bytes, locks + i * 4, 4) as u8,
+            half_cycle: number_at(bytes, half_cycles + i * 1, 1) == 1,
+            strength: number_at(bytes, strengths + i * 6, 6) as u8,
         }
     }
 

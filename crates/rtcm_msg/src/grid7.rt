@@ -5,8 +5,9 @@ ghost use Rattle.rtcm_msg.specs.Ranges.{fits_int};
 ghost use Rattle.rtcm_msg.specs.Grid7 as grid7;
 
 use crate::fault::Field;
+use crate::field::signed_at;
 use crate::grid::{Grid, range_joined};
-use rtcm_bits::{raw_of, signed_of};
+use rtcm_bits::{number_at, raw_of, signed_of};
 
 /// The data of a satellite in MSM7.
 #[derive(Clone, Copy, Debug, PartialEq, Eq, Drop)]
@@ -292,6 +293,36 @@ impl Grid for Grid7 {
             half_cycle: number / (1 << 25) % 2 == 1,
             strength: (number / (1 << 15) % 1024) as u16,
             rate: signed_of((number % 32768) as u64, 15) as i16,
+        }
+    }
+
+    #[inline(always)]
+    fn satellite_in(bytes: &[u8], count: usize, place: usize, i: usize) -> Satellite7 {
+        let extended = place + count * 8;
+        let fractions = extended + count * 4;
+        let rates = fractions + count * 10;
+        Satellite7 {
+            whole: number_at(bytes, place + i * 8, 8) as u8,
+            extended: number_at(bytes, extended + i * 4, 4) as u8,
+            fraction: number_at(bytes, fractions + i * 10, 10) as u16,
+            rate: signed_at(bytes, rates + i * 14, 14) as i16,
+        }
+    }
+
+    #[inline(always)]
+    fn cell_in(bytes: &[u8], count: usize, place: usize, i: usize) -> Cell7 {
+        let phases = place + count * 20;
+        let locks = phases + count * 24;
+        let half_cycles = locks + count * 10;
+        let strengths = half_cycles + count * 1;
+        let rates = strengths + count * 10;
+        Cell7 {
+            range: signed_at(bytes, place + i * 20, 20) as i32,
+            phase: signed_at(bytes, phases + i * 24, 24) as i32,
+            lock: number_at(bytes, locks + i * 10, 10) as u16,
+            half_cycle: number_at(bytes, half_cycles + i * 1, 1) == 1,
+            strength: number_at(bytes, strengths + i * 10, 10) as u16,
+            rate: signed_at(bytes, rates + i * 15, 15) as i16,
         }
     }
 

@@ -5,15 +5,16 @@ ghost use Rattle.rtcm_bits.specs.FrameOf.{longest_message};
 ghost use Rattle.rtcm_msg.specs.Spelling.{message_bits, is_other, ReadsMessage, IsFault, IsMessage, IsEncoding};
 ghost use Rattle.rtcm_msg.specs.declared.message.Message.{Message};
 ghost use Rattle.rtcm_msg.specs.declared.fault.MsgFault.{MsgFault};
+ghost use Rattle.rtcm_msg.specs.Viewed.{viewed_message};
 ghost use Rattle.rtcm_msg.specs.Reading.{message_at, set_at, is_any_msm};
 ghost use Rattle.rtcm_msg.specs.declared.message.Message.TheVariants as messages;
 
 use crate::fault::MsgFault;
 use crate::grid4::Grid4;
 use crate::grid7::Grid7;
-use crate::msm::{Msm, write_msm};
-use crate::station::Station;
-use crate::view::look;
+use crate::msm::{Msm, view_of, write_msm};
+use crate::station::{Station, copy_of};
+use crate::view::{Form, View, look};
 use crate::writing::write_station;
 use arrayvec::ArrayVec;
 use rtcm_bits::{BitReader, BitWriter, LONGEST_MESSAGE};
@@ -96,6 +97,21 @@ pub fn decode(bytes: &[u8]) -> Result<Message, MsgFault>
 }
 
 impl Message {
+    /// The message as a view.
+    pub fn view(&self) -> View<'_>
+        ensures { viewed_message result ≡ self.now }
+    {
+        match self {
+            Message::Station(station) => View::Station(copy_of(station)),
+            Message::Msm4(msm) => View::Msm(view_of(msm, Form::Msm4)),
+            Message::Msm7(msm) => View::Msm(view_of(msm, Form::Msm7)),
+            Message::Other { number, set } => View::Other {
+                number: *number,
+                set: *set,
+            },
+        }
+    }
+
     /// Whether the message is of a number that is not read.
     pub fn is_other(&self) -> bool
         ensures { result ≡ is_other self.now }

@@ -9,7 +9,7 @@ use crate::fault::ValueFault;
 use crate::grid::Grid;
 use crate::header::{MsmHeader, WEEK, header_fault};
 use crate::masks::{MOST_PAIRS, MOST_SATELLITES, Masks};
-use crate::view::MsmView;
+use crate::view::{Form, MsmView};
 use crate::writing::{write_columns, write_header, write_masks};
 use arrayvec::ArrayVec;
 use rtcm_bits::BitWriter;
@@ -155,26 +155,44 @@ impl<G: Grid> Msm<G> {
     }
 }
 
-/// The satellites of a message that is looked at, each one's fields in one number.
-fn satellites_of(view: &MsmView<'_>) -> ArrayVec<u64, MOST_SATELLITES>
+/// The satellites of a view, each one's fields in one number.
+fn satellites_of<G: Grid>(view: &MsmView<'_>) -> ArrayVec<u64, MOST_SATELLITES>
+    requires { G.satellite_widths ≡ views.satellite_widths view.now.form }
     ensures { result.items ≡ view.now.msm.satellites }
 {
     let mut satellites = ArrayVec::new();
     for i in 0..view.satellites() {
-        satellites.push(view.satellite_number(i));
+        satellites.push(G::satellite_number(&view.satellite::<G>(i)));
     }
     satellites
 }
 
-/// The cells of a message that is looked at, each one's fields in one number.
-fn cells_of(view: &MsmView<'_>) -> ArrayVec<u128, MOST_PAIRS>
+/// The cells of a view, each one's fields in one number.
+fn cells_of<G: Grid>(view: &MsmView<'_>) -> ArrayVec<u128, MOST_PAIRS>
+    requires { G.cell_widths ≡ views.cell_widths view.now.form }
     ensures { result.items ≡ view.now.msm.cells }
 {
     let mut cells = ArrayVec::new();
     for i in 0..view.cells() {
-        cells.push(view.cell_number(i));
+        cells.push(G::cell_number(&view.cell::<G>(i)));
     }
     cells
+}
+
+/// The message as a view.
+pub(crate) fn view_of<G: Grid>(msm: &Msm<G>, form: Form) -> MsmView<'_>
+    requires satellites { G.satellite_widths ≡ views.satellite_widths form }
+    requires cells { G.cell_widths ≡ views.cell_widths form }
+    ensures { result ≡ record { form = form; msm = msm.now } }
+{
+    MsmView::packed(
+        form,
+        msm.is_galileo,
+        msm.header,
+        msm.masks,
+        &msm.satellites,
+        &msm.cells,
+    )
 }
 
 /// The message that is looked at, where its data are laid out as the grid has them.
@@ -188,8 +206,8 @@ pub(crate) fn msm_of<G: Grid>(view: &MsmView<'_>) -> Msm<G>
         is_galileo: view.is_galileo(),
         header: view.header(),
         masks: view.masks(),
-        satellites: satellites_of(view),
-        cells: cells_of(view),
+        satellites: satellites_of::<G>(view),
+        cells: cells_of::<G>(view),
         grid: PhantomData,
     }
 }

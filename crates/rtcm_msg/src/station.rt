@@ -98,6 +98,15 @@ impl Station {
     }
 }
 
+/// The same message.
+pub(crate) fn copy_of(station: &Station) -> Station
+    ensures { result ≡ station.now }
+{
+    Station {
+        parts: station.parts,
+    }
+}
+
 /// Whether a coordinate fits 38 bits with a sign.
 fn fits_coordinate(z: i64) -> bool
     ensures value { result ≡ fits_int 38 z }

@@ -1,25 +1,29 @@
-ghost use Rattle.std.specs.Prelude.{◌≡◌, ◌*◌, ◌<◌, ◌≤◌, ◌^◌, All, IfOk, length, slice_index, count_ones};
+ghost use Rattle.std.specs.Prelude.{◌≡◌, ◌*◌, ◌<◌, ◌≤◌, ◌^◌, [], ◌∷◌, All, IfOk, IfSome, IfNone, length, slice_index, count_ones};
 ghost use Rattle.rtcm_bits.specs.Bits.{bits_of};
 ghost use Rattle.rtcm_bits.specs.FrameOf.{longest_message};
 ghost use Rattle.rtcm_msg.specs.Fields.{GivesViewed, standing};
-ghost use Rattle.rtcm_msg.specs.Msm.{IsHeader, IsValue, satellite_mask_bits, most_pairs};
+ghost use Rattle.rtcm_msg.specs.Msm.{IsHeader, IsValue, satellite_mask_bits, most_pairs, msm_of_parts};
 ghost use Rattle.rtcm_msg.specs.Packed.{total_width};
 ghost use Rattle.rtcm_msg.specs.Reading.{message_at, body_at};
-ghost use Rattle.rtcm_msg.specs.Viewed.{viewed_message};
+ghost use Rattle.rtcm_msg.specs.Viewed.{viewed_message, entry_in, lock_field, codes_of};
+ghost use Rattle.rtcm_msg.specs.Entries.{IsEntry, entries};
 ghost use Rattle.rtcm_msg.specs.Spelling.{IsMessage};
 ghost use Rattle.rtcm_msg.specs.Views as views;
 
+use crate::entry::{Entry, LockField, entry_of};
 use crate::fault::MsgFault;
 use crate::field::field;
 use crate::grid::Grid;
 use crate::grid4::Grid4;
 use crate::grid7::Grid7;
 use crate::header::{MsmHeader, read_header};
-use crate::masks::{Masks, read_masks};
+use crate::masks::{MOST_PAIRS, MOST_SATELLITES, Masks, read_masks};
 use crate::message::{Message, front, is_any_msm, read_set};
 use crate::msm::msm_of;
-use crate::rows::{end_of_rows, row_at};
+use crate::rows::end_of_rows;
+use crate::seats::{Seat, Seats};
 use crate::station::{Station, read_station};
+use arrayvec::ArrayVec;
 use rtcm_bits::BitReader;
 use std::marker::Model;
 
@@ -33,6 +37,16 @@ pub enum Form {
 }
 
 impl Form {
+    /// The field of the lock time indicators.
+    pub fn lock_field(self) -> LockField
+        ensures { result ≡ lock_field self }
+    {
+        match self {
+            Form::Msm4 => LockField::Df402,
+            Form::Msm7 => LockField::Df407,
+        }
+    }
+
     /// The message number, DF002.
     fn number(self, is_galileo: bool) -> u16
         ensures value { result ≡ views.message_number self is_galileo }
@@ -69,27 +83,38 @@ impl Form {
     }
 }
 
-/// A multiple signal message that is read where its bytes lie: the header and the masks are read,
-/// and it is known that the data of satellites and cells are there.
+/// Where the data of a message's satellites and cells are.
+#[derive(Clone, Copy)]
+enum Data<'a> {
+    /// In the bytes of a message: those of the satellites and those of the cells from a bit on.
+    Bits {
+        bytes: &'a [u8],
+        satellites_at: usize,
+        cells_at: usize,
+    },
+    /// In numbers, one for each satellite and one for each cell.
+    Packed {
+        satellites: &'a [u64],
+        cells: &'a [u128],
+    },
+}
+
+/// A multiple signal message whose header and masks were read, and whose data of satellites and
+/// cells are there, but are read one by one.
 #[derive(Drop)]
 pub struct MsmView<'a> {
     form: Form,
     is_galileo: bool,
     header: MsmHeader,
     masks: Masks,
-    bytes: &'a [u8],
     satellites: usize,
-    satellites_at: usize,
     cells: usize,
-    cells_at: usize,
+    rows: Data<'a>,
 }
 
 impl<'a> Model for MsmView<'a> {
-    ghost use Rattle.std.specs.Prelude.{length};
-    ghost use Rattle.rtcm_msg.specs.Views.{FormedMsm, AreDataThere, satellite_widths, cell_widths};
-    ghost use Rattle.rtcm_msg.specs.Rows.{rows_at};
+    ghost use Rattle.rtcm_msg.specs.Views.{FormedMsm, AreDataThere, satellite_widths, cell_widths, satellite_rows, cell_rows};
     ghost use Rattle.rtcm_msg.specs.Msm.{IsValue};
-    ghost use Rattle.rtcm_bits.specs.Bits.{bits_of};
 
     ghost Value = { FormedMsm };
 
@@ -99,8 +124,8 @@ impl<'a> Model for MsmView<'a> {
         is_galileo = v.is_galileo;
         header = v.header;
         sets = v.masks;
-        satellites = rows_at (satellite_widths v.form) v.satellites (bits_of v.bytes.now) v.satellites_at;
-        cells = rows_at (cell_widths v.form) v.cells (bits_of v.bytes.now) v.cells_at;
+        satellites = satellite_rows v.form v.satellites v.rows;
+        cells = cell_rows v.form v.cells v.rows;
       };
     } };
 
@@ -109,13 +134,39 @@ impl<'a> Model for MsmView<'a> {
           is_galileo = v.is_galileo;
           header = v.header;
           sets = v.masks;
-          satellites = rows_at (satellite_widths v.form) v.satellites (bits_of v.bytes.now) v.satellites_at;
-          cells = rows_at (cell_widths v.form) v.cells (bits_of v.bytes.now) v.cells_at;
+          satellites = satellite_rows v.form v.satellites v.rows;
+          cells = cell_rows v.form v.cells v.rows;
         })
-        × AreDataThere v.form (length v.bytes.now) v.satellites v.satellites_at v.cells v.cells_at };
+        × AreDataThere v.form v.satellites v.cells v.rows };
 }
 
 impl<'a> MsmView<'a> {
+    /// A message of these parts, each satellite's and each cell's fields in one number.
+    pub(crate) fn packed(
+        form: Form,
+        is_galileo: bool,
+        header: MsmHeader,
+        masks: Masks,
+        satellites: &'a ArrayVec<u64, MOST_SATELLITES>,
+        cells: &'a ArrayVec<u128, MOST_PAIRS>,
+    ) -> MsmView<'a>
+        requires { IsValue (views.satellite_widths form) (views.cell_widths form) (msm_of_parts is_galileo header masks satellites.now.items cells.now.items) }
+        ensures { result ≡ record { form = form; msm = msm_of_parts is_galileo header masks satellites.now.items cells.now.items } }
+    {
+        MsmView {
+            form,
+            is_galileo,
+            header,
+            masks,
+            satellites: satellites.len(),
+            cells: cells.len(),
+            rows: Data::Packed {
+                satellites: satellites.as_slice(),
+                cells: cells.as_slice(),
+            },
+        }
+    }
+
     /// How its data are laid out.
     pub fn form(&self) -> Form
         ensures form { result ≡ self.now.form }
@@ -172,32 +223,82 @@ impl<'a> MsmView<'a> {
         self.cells
     }
 
-    /// The fields of a satellite in one number, the first in the most significant bits.
-    pub(crate) fn satellite_number(&self, i: usize) -> u64
-        requires { i < length self.now.msm.satellites }
-        ensures value { result ≡ slice_index self.now.msm.satellites i }
+    /// The data of a satellite, in rising order of the IDs.
+    #[inline(always)]
+    pub(crate) fn satellite<G: Grid>(&self, i: usize) -> G::Satellite
+        requires there { i < length self.now.msm.satellites }
+        requires widths { G.satellite_widths ≡ views.satellite_widths self.now.form }
+        ensures value { result ≡ G.satellite_at (slice_index self.now.msm.satellites i) }
+        ensures in_range { G.is_satellite result }
+        ensures same { G.satellite_packed result ≡ slice_index self.now.msm.satellites i }
     {
-        row_at(
-            self.bytes,
-            self.form.satellite_widths(),
-            self.satellites,
-            self.satellites_at,
-            i,
-        ) as u64
+        match self.rows {
+            Data::Bits {
+                bytes,
+                satellites_at,
+                cells_at: _,
+            } => G::satellite_in(bytes, self.satellites, satellites_at, i),
+            Data::Packed {
+                satellites,
+                cells: _,
+            } => G::satellite_of(satellites[i]),
+        }
     }
 
-    /// The fields of a cell in one number, the first in the most significant bits.
-    pub(crate) fn cell_number(&self, i: usize) -> u128
-        requires { i < length self.now.msm.cells }
-        ensures { result ≡ slice_index self.now.msm.cells i }
+    /// The data of a cell, in the order of the cell mask.
+    #[inline(always)]
+    pub(crate) fn cell<G: Grid>(&self, i: usize) -> G::Cell
+        requires there { i < length self.now.msm.cells }
+        requires widths { G.cell_widths ≡ views.cell_widths self.now.form }
+        ensures value { result ≡ G.cell_at (slice_index self.now.msm.cells i) }
+        ensures in_range { G.is_cell result }
+        ensures same { G.cell_packed result ≡ slice_index self.now.msm.cells i }
     {
-        row_at(
-            self.bytes,
-            self.form.cell_widths(),
-            self.cells,
-            self.cells_at,
-            i,
-        )
+        match self.rows {
+            Data::Bits {
+                bytes,
+                satellites_at: _,
+                cells_at,
+            } => G::cell_in(bytes, self.cells, cells_at, i),
+            Data::Packed {
+                satellites: _,
+                cells,
+            } => G::cell_of(cells[i]),
+        }
+    }
+
+    /// The entry of cell `i`, whose satellite and signal the seat is.
+    fn entry(&self, seat: Seat, i: usize) -> Entry
+        requires place { seat.place < length self.now.msm.satellites }
+        requires cell { i < length self.now.msm.cells }
+        ensures value { result ≡ entry_in self.now.form self.now.msm (seat, slice_index self.now.msm.cells i) }
+        ensures bounds { IsEntry (codes_of (lock_field self.now.form)) result }
+    {
+        match self.form() {
+            Form::Msm4 => entry_of::<Grid4>(
+                seat,
+                &self.satellite::<Grid4>(seat.place),
+                &self.cell::<Grid4>(i),
+            ),
+            Form::Msm7 => entry_of::<Grid7>(
+                seat,
+                &self.satellite::<Grid7>(seat.place),
+                &self.cell::<Grid7>(i),
+            ),
+        }
+    }
+
+    /// Its cells, one by one.
+    pub fn entries(&self) -> Entries<'_>
+        ensures all { result ≡ record { form = self.now.form; left = entries (views.formed self.now) } }
+        ensures few { length result.left ≤ most_pairs }
+    {
+        let _ = self.cells();
+        Entries {
+            view: self,
+            seats: Seats::new(self.masks()),
+            next: 0,
+        }
     }
 
     /// The message with its data.
@@ -207,6 +308,49 @@ impl<'a> MsmView<'a> {
         match self.form() {
             Form::Msm4 => Message::Msm4(msm_of(self)),
             Form::Msm7 => Message::Msm7(msm_of(self)),
+        }
+    }
+}
+
+/// Reads the cells of a message one by one where their data lie, in the order of the cell mask.
+#[derive(Drop)]
+pub struct Entries<'a> {
+    view: &'a MsmView<'a>,
+    seats: Seats,
+    next: usize,
+}
+
+impl<'a> Model for Entries<'a> {
+    ghost use Rattle.std.specs.Prelude.{◌≡◌, ◌+◌, map, drop, length};
+    ghost use Rattle.std.specs.List.{zip};
+    ghost use Rattle.rtcm_msg.specs.Viewed.{Unread, entry_in};
+
+    ghost Value = { Unread };
+
+    ghost view = { λ e. record {
+      form = e.view.now.form;
+      left = map (entry_in e.view.now.form e.view.now.msm) (zip e.seats.left (drop e.next e.view.now.msm.cells));
+    } };
+
+    ghost invariant = { λ e. (e.seats.sets ≡ e.view.now.msm.sets)
+        × (length e.seats.left + e.next ≡ length e.view.now.msm.cells) };
+}
+
+impl<'a> Entries<'a> {
+    /// What the next cell says.
+    pub fn next(&mut self) -> Option<Entry>
+        ensures some { IfSome result (λ e. (self.old.left ≡ e ∷ self.new.left) × IsEntry (codes_of (lock_field self.old.form)) e) }
+        ensures none { IfNone result ((self.old.left ≡ []) × (self.new.left ≡ [])) }
+        ensures same { self.new.form ≡ self.old.form }
+    {
+        match self.seats.next() {
+            None => None,
+            Some(seat) => {
+                let _ = (self.view.satellites(), self.view.cells());
+                let entry = self.view.entry(seat, self.next);
+                self.next += 1;
+                Some(entry)
+            }
         }
     }
 }
@@ -264,11 +408,13 @@ fn view_msm<'a>(
         is_galileo,
         header,
         masks,
-        bytes,
         satellites,
-        satellites_at,
         cells,
-        cells_at,
+        rows: Data::Bits {
+            bytes,
+            satellites_at,
+            cells_at,
+        },
     }))
 }
 

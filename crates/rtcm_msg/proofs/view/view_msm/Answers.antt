@@ -54,8 +54,11 @@ invariant_of-result c =
     let P : ℕ → Type 0 = λ p. Found c.args.form c.args.is_galileo bits c.args.reader.now c.in_ok-header.header c.in_ok-masks.masks (count_ones c.satellites.result) p (count_ones c.cells.result) c.in_ok-cells_at.cells_at in
     let here = subst P (sym c.place-satellites_at.ensures) all in (
       here.value,
-      laid c.args.form c.args.bytes.now (count_ones c.satellites.result) c.place-satellites_at.result (count_ones c.cells.result) c.in_ok-cells_at.cells_at c.requires.small
-          (few_satellites c.satellites.result c.in_ok-masks.masks c.cells.ensures.sets c.satellites.ensures) (few_cells c.cells.result c.in_ok-masks.masks c.cells.ensures.sets c.cells.ensures.value) here.satellites_there here.cells_there,
+      record {
+        satellites_few = few_satellites c.satellites.result c.in_ok-masks.masks c.cells.ensures.sets c.satellites.ensures;
+        cells_few = few_cells c.cells.result c.in_ok-masks.masks c.cells.ensures.sets c.cells.ensures.value;
+        there = laid c.args.form c.args.bytes.now (count_ones c.satellites.result) c.place-satellites_at.result (count_ones c.cells.result) c.in_ok-cells_at.cells_at c.requires.small here.satellites_there here.cells_there;
+      },
     )
 
 pub returns : goal.returns

@@ -1,0 +1,38 @@
+use Rattle.std.proofs.Common.{ℕ, List, ◌≡◌, ◌^◌, ◌<◌, ◌∙◌, ap, sym, subst, arith, length, slice_index}
+use Rattle.rtcm_msg.specs.declared.view.Data.{Data}
+use Rattle.rtcm_msg.specs.Packed.{total_width}
+use Rattle.rtcm_msg.specs.Views.{FormedMsm, AreDataThere, cell_widths, cell_rows}
+use Rattle.rtcm_msg.proofs.ViewLaws.{row_value, cells_counted}
+use Rattle.rtcm_msg.proofs.view.MsmView.cell.Goals as goal
+
+-- the place is one of as many rows
+below : (i n : ℕ) (xs ys : List ℕ) → length xs ≡ n → xs ≡ ys → i < length ys → i < n
+below i n xs ys count same h = omega (arith, count, ap length same, h)
+
+fits : (x y : ℕ) (vs ws : List ℕ) → x ≡ y → vs ≡ ws → x < 2 ^ total_width ws → y < 2 ^ total_width vs
+fits x y vs ws e f h = rw (f, ← e) h
+
+pub cell_in-requires-clause-there : goal.cell_in-requires-clause-there
+cell_in-requires-clause-there g c = below c.args.i c.self.inside.cells _ _ (cells_counted c.self.inside.form c.self.inside.satellites c.self.inside.cells c.self.inside.rows c.self.invariant.1) (ap (λ (v : FormedMsm). v.msm.cells) c.self.view_is) c.requires.there
+
+pub returns-in-Bits-clause-value : goal.returns-in-Bits-clause-value
+returns-in-Bits-clause-value g c =
+    let there = subst (AreDataThere c.self.inside.form c.self.inside.satellites c.self.inside.cells) c.in-Bits.is c.self.invariant.1 in
+    let h = below c.args.i c.self.inside.cells _ _ (cells_counted c.self.inside.form c.self.inside.satellites c.self.inside.cells c.self.inside.rows c.self.invariant.1) (ap (λ (v : FormedMsm). v.msm.cells) c.self.view_is) c.requires.there in
+    let widths = c.requires.widths ∙ sym (ap (λ (v : FormedMsm). cell_widths v.form) c.self.view_is) in
+    c.cell_in.ensures
+    ∙ ap g.G.Grid.cell_at (row_value g.G.Grid.cell_widths (cell_widths c.self.inside.form) c.in-Bits.bytes.now c.self.inside.cells c.in-Bits.cells_at c.args.i widths there.there.cells_there h
+    ∙ (ap (λ (d : Data). slice_index (cell_rows c.self.inside.form c.self.inside.cells d) c.args.i) (sym c.in-Bits.is)
+    ∙ ap (λ (v : FormedMsm). slice_index v.msm.cells c.args.i) c.self.view_is))
+
+pub returns-in-Bits-clause-in_range : goal.returns-in-Bits-clause-in_range
+returns-in-Bits-clause-in_range g c =
+    let widths = c.requires.widths ∙ sym (ap (λ (v : FormedMsm). cell_widths v.form) c.self.view_is) in
+    let small = fits _ (slice_index c.args.self.now.msm.cells c.args.i) g.G.Grid.cell_widths (cell_widths c.self.inside.form) (ap (λ (v : FormedMsm). slice_index v.msm.cells c.args.i) c.self.view_is) widths (c.self.invariant.0.cells c.args.i) in
+    subst g.G.Grid.is_cell (sym (returns-in-Bits-clause-value g c)) (g.met.G.Grid.cell_in_range _ small)
+
+pub returns-in-Bits-clause-same : goal.returns-in-Bits-clause-same
+returns-in-Bits-clause-same g c =
+    let widths = c.requires.widths ∙ sym (ap (λ (v : FormedMsm). cell_widths v.form) c.self.view_is) in
+    let small = fits _ (slice_index c.args.self.now.msm.cells c.args.i) g.G.Grid.cell_widths (cell_widths c.self.inside.form) (ap (λ (v : FormedMsm). slice_index v.msm.cells c.args.i) c.self.view_is) widths (c.self.invariant.0.cells c.args.i) in
+    ap g.G.Grid.cell_packed (returns-in-Bits-clause-value g c) ∙ g.met.G.Grid.cell_same _ small

@@ -1,0 +1,16 @@
+-- What a message contains beside the data of satellites and cells.
+use Rattle.std.specs.Prelude.{Some, None, option_map}
+use Rattle.rtcm_msg.specs.declared.summary.Summary.{Summary}
+use Rattle.rtcm_msg.specs.declared.header.MsmHeader.{MsmHeader}
+use Rattle.rtcm_msg.specs.declared.message.Message.{Message}
+use Rattle.rtcm_msg.specs.declared.message.Message.TheVariants.{Station, Msm4, Msm7, Other}
+
+-- of a multiple signal message with this header
+abbrev pub header_summary : MsmHeader → Summary
+header_summary h = record { station = Some h.station; time = Some h.time; more = Some h.more; point = None }
+
+abbrev pub summary : Message → Summary
+summary (Station p) = record { station = Some p.station; time = None; more = None; point = Some p }
+summary (Msm4 m) = header_summary m.header
+summary (Msm7 m) = header_summary m.header
+summary (Other number set) = record { station = option_map (λ p. p.0) set; time = None; more = option_map (λ p. p.1) set; point = None }
