@@ -1,12 +1,13 @@
 -- Cells are counted one by one.
-use Rattle.std.proofs.Common.{◌≡◌, ℕ, ◌+◌, ◌-◌, ◌<◌, ◌≤◌, ◌^◌, ◌==◌, ◌&&◌, ◌||◌, Bool, true, false, List, [], ◌∷◌, ◌++◌, length, get_or, take, refl, sym, ap, ap₂, ◌∙◌, subst, arith, Option, Some, None, min, filter, append-nil, append_assoc, length-append, is_some}
+use Rattle.rtcm_msg.specs.declared.entry.LockField.{LockField}
+use Rattle.std.proofs.Common.{◌≡◌, ℕ, suc, ◌+◌, ◌-◌, ◌<◌, ◌≤◌, ◌^◌, ◌==◌, ◌&&◌, ◌||◌, Bool, true, false, List, [], ◌∷◌, ◌++◌, length, get_or, refl, sym, ap, ap₂, ◌∙◌, subst, arith, Option, Some, None, min, filter, append-nil, append_assoc, length-append, is_some}
 use Rattle.std.specs.Prelude.{filter_map, cond, nat_lt, if◌then◌else◌}
 use Rattle.std.specs.List.{cons_option, position_or_len}
 use Rattle.gnss_obs.specs.declared.tables.ListedSignal as tables
 use Rattle.std.specs.Option.{option_map, option_and_then, option_map_or}
-use Rattle.std.proofs.lemmas.List.Elements.{filter-append, filter_map-append}
+use Rattle.std.proofs.lemmas.List.Elements.{filter-append}
 use Rattle.std.proofs.lemmas.List.Sums.{length-filter, count_by-le-length}
-use Rattle.std.proofs.lemmas.List.{get_or-set_same, get_or-set_other, take_more, length-set, length-take}
+use Rattle.std.proofs.lemmas.List.{get_or-set_same, get_or-set_other, length-set}
 use Rattle.gnss_obs.specs.declared.system.System.{System}
 use Rattle.gnss_obs.specs.declared.system.System.TheVariants.{Gps, Galileo}
 use Rattle.gnss_obs.specs.Satellites.{Satellite, satellite_of_id}
@@ -14,10 +15,9 @@ use Rattle.gnss_obs.specs.Signals.{SignalAt, IsSignal, table, signal_of_id, hert
 use Rattle.gnss_obs.specs.LockTimes.{LockTime}
 use Rattle.gnss_obs.specs.Observables.{nearest_pseudorange, nearest_phase, nearest_doppler, nearest_strength}
 use Rattle.rtcm_msg.specs.declared.entry.Entry.{Entry}
-use Rattle.obs_epoch.specs.declared.seen.Seen.{Seen}
-use Rattle.obs_epoch.specs.Heard.{Heard, seen_in, lock_by, observed}
+use Rattle.obs_epoch.specs.Heard.{Heard, seen_in, lock_by, observed, HeardCell}
 use Rattle.obs_epoch.specs.Cells.{is_system}
-use Rattle.obs_epoch.specs.Census.{CensusValue, brings_value, is_of_station, valued, is_of_signal, count_of, signal_in, IsCensus, counted, counted_of, counted_in, one_up, entry_signal, entry_value}
+use Rattle.obs_epoch.specs.Census.{CensusValue, brings_value, is_of_station, valued, is_of_signal, count_of, signal_in, IsCensus, counted, counted_of, CountsEntries, counted_in, one_up, entry_signal, entry_value}
 
 -- ---- what filters leave is no more
 
@@ -36,7 +36,7 @@ length-filter_map f (x ∷ xs) = by (f x) (length-filter_map f xs) where
 abbrev here : SignalAt → SignalAt → Bool
 here g s = is_system g.system s.system && (s.index == g.index)
 
-count_more : (g : SignalAt) (cells : List Seen) (x : Seen) → count_of g (cells ++ x ∷ []) ≡ count_of g cells + (if here g x.signal then 1 else 0)
+count_more : (g : SignalAt) (cells : List HeardCell) (x : HeardCell) → count_of g (cells ++ x ∷ []) ≡ count_of g cells + (if here g x.signal then 1 else 0)
 count_more g cells x =
     ap length (filter-append (is_of_signal g) cells (x ∷ [])) ∙ length-append (filter (is_of_signal g) cells) (filter (is_of_signal g) (x ∷ [])) ∙ ap (λ n. count_of g cells + n) (one (here g x.signal))
   where
@@ -44,7 +44,7 @@ count_more g cells x =
     one true = refl
     one false = refl
 
-few_of : (g : SignalAt) (cells : List Seen) → count_of g cells ≤ length cells
+few_of : (g : SignalAt) (cells : List HeardCell) → count_of g cells ≤ length cells
 few_of g cells = few_passed (is_of_signal g) cells
 
 one_up_at : (xs : List ℕ) (g i : ℕ) → g < length xs → get_or xs g 0 < 2 ^ 64 - 1 → get_or (one_up xs g) i 0 ≡ get_or xs i 0 + (if g == i then 1 else 0)
@@ -68,7 +68,7 @@ one_up_at xs g i within few = by (g == i) refl where
   by false h = get_or-set_other xs g i (min (get_or xs g 0 + 1) (2 ^ 64 - 1)) 0 (other g i h) ∙ none (get_or xs i 0)
 
 -- a cell more of a signal of the tables
-census_more : (c : CensusValue) (cells : List Seen) (x : Seen) → IsCensus c cells → length cells < 2 ^ 64 - 1 → IsSignal x.signal → IsCensus (counted_of c x.signal) (cells ++ x ∷ [])
+census_more : (c : CensusValue) (cells : List HeardCell) (x : HeardCell) → IsCensus c cells → length cells < 2 ^ 64 - 1 → IsSignal x.signal → IsCensus (counted_of c x.signal) (cells ++ x ∷ [])
 census_more c cells x h few listed = record {
   gps = long_gps x.signal.system;
   galileo = long_galileo x.signal.system;
@@ -129,18 +129,18 @@ value_same lock e s g =
     ap₂ (λ a b. a || b) (ap₂ (λ a b. a || b) (ap₂ (λ a b. a || b) (is_some-map nearest_pseudorange e.range) (is_some-map (nearest_phase (hertz_of g)) e.phase)) (is_some-map (nearest_doppler (hertz_of g)) e.rate)) (is_some-map nearest_strength e.strength)
 
 -- an entry is counted where its cell is one that counts
-entry_counted : (is_msm7 : Bool) (system : System) (e : Entry) (o : Option SignalAt) (c after : CensusValue) (cells : List Seen) → o ≡ entry_signal system e → after ≡ option_map_or (counted_of c) o c
-    → length cells < 2 ^ 64 - 1 → IsCensus c cells → IsCensus after (cells ++ filter brings_value (cons_option (seen_in is_msm7 system e) []))
-entry_counted is_msm7 system e o c after cells is made few h =
-    subst (λ (a : CensusValue). IsCensus a (cells ++ filter brings_value (cons_option (seen_in is_msm7 system e) []))) (sym made)
-    (subst (λ (p : Option SignalAt). IsCensus (option_map_or (counted_of c) p c) (cells ++ filter brings_value (cons_option (seen_in is_msm7 system e) []))) (sym is)
+entry_counted : (field : LockField) (system : System) (e : Entry) (o : Option SignalAt) (c after : CensusValue) (cells : List HeardCell) → o ≡ entry_signal system e → after ≡ option_map_or (counted_of c) o c
+    → length cells < 2 ^ 64 - 1 → IsCensus c cells → IsCensus after (cells ++ filter brings_value (cons_option (seen_in field system e) []))
+entry_counted field system e o c after cells is made few h =
+    subst (λ (a : CensusValue). IsCensus a (cells ++ filter brings_value (cons_option (seen_in field system e) []))) (sym made)
+    (subst (λ (p : Option SignalAt). IsCensus (option_map_or (counted_of c) p c) (cells ++ filter brings_value (cons_option (seen_in field system e) []))) (sym is)
     (by (satellite_of_id system e.satellite) (signal_of_id system e.signal) (λ g same. (listed_of system e.signal g same).1)))
   where
     none : IsCensus c (cells ++ [])
     none = subst (IsCensus c) (sym (append-nil cells)) h
 
-    seen : Satellite → SignalAt → Seen
-    seen s g = observed (lock_by is_msm7 e.lock) e s g
+    seen : Satellite → SignalAt → HeardCell
+    seen s g = observed (lock_by field e.lock) e s g
 
     valued : (s : Satellite) (g : SignalAt) → IsSignal g → (b : Bool) → brings_value (seen s g) ≡ b
         → IsCensus (option_map_or (counted_of c) (cond b (Some g) None) c) (cells ++ cond b (seen s g ∷ []) [])
@@ -149,7 +149,7 @@ entry_counted is_msm7 system e o c after cells is made few h =
 
     both : (s : Satellite) (g : SignalAt) → IsSignal g → IsCensus (option_map_or (counted_of c) (cond (entry_value e) (Some g) None) c) (cells ++ filter brings_value (seen s g ∷ []))
     both s g listed =
-        subst (λ (b : Bool). IsCensus (option_map_or (counted_of c) (cond b (Some g) None) c) (cells ++ filter brings_value (seen s g ∷ []))) (value_same (lock_by is_msm7 e.lock) e s g)
+        subst (λ (b : Bool). IsCensus (option_map_or (counted_of c) (cond b (Some g) None) c) (cells ++ filter brings_value (seen s g ∷ []))) (value_same (lock_by field e.lock) e s g)
         (valued s g listed (brings_value (seen s g)) refl)
 
     neither : (b : Bool) → IsCensus (option_map_or (counted_of c) (cond b None None) c) (cells ++ [])
@@ -162,29 +162,38 @@ entry_counted is_msm7 system e o c after cells is made few h =
     by (Some s) None listed = neither (entry_value e)
     by (Some s) (Some g) listed = both s g (listed g refl)
 
--- what is counted of one entry more
-pub entries_more : (is_msm7 : Bool) (system : System) (es : List Entry) (i : ℕ) (d : Entry) (o : Option SignalAt) (c after : CensusValue) (cells : List Seen) → i < length es
-    → o ≡ entry_signal system (get_or es i d) → after ≡ option_map_or (counted_of c) o c → length cells + length es < 2 ^ 63
-    → IsCensus c (cells ++ filter brings_value (filter_map (seen_in is_msm7 system) (take i es)))
-    → IsCensus after (cells ++ filter brings_value (filter_map (seen_in is_msm7 system) (take (i + 1) es)))
-entries_more is_msm7 system es i d o c after cells within is made few h =
-    let seen = seen_in is_msm7 system in
-    let e : Entry = get_or es i d in
-    let front : List Seen = filter brings_value (filter_map seen (take i es)) in
-    let last : List Seen = filter brings_value (cons_option (seen e) []) in
-    let small : length front ≤ i = short (length front) (length (filter_map seen (take i es))) (length (take i es)) i (few_passed brings_value (filter_map seen (take i es))) (length-filter_map seen (take i es)) (length-take i es) in
-    let fewer : length (cells ++ front) < 2 ^ 64 - 1 = room (length (cells ++ front)) (length cells) (length front) i (length es) (length-append cells front) small within few in
-    let counted : IsCensus after ((cells ++ front) ++ last) = entry_counted is_msm7 system e o c after (cells ++ front) is made fewer h in
-    let joined : filter brings_value (filter_map seen (take (i + 1) es)) ≡ front ++ last =
-    ap (λ (l : List Entry). filter brings_value (filter_map seen l)) (take_more es i d within) ∙ ap (filter brings_value) (filter_map-append seen (take i es) (e ∷ []))
-    ∙ filter-append brings_value (filter_map seen (take i es)) (cons_option (seen e) []) in
-    subst (IsCensus after) (append_assoc cells front last ∙ ap (λ (l : List Seen). cells ++ l) (sym joined)) counted
-  where
-    short : (a b c n : ℕ) → a ≤ b → b ≤ c → c ≡ min n (length es) → a ≤ n
-    short a b c n x y z = omega (arith, x, y, z)
+-- the cells of one entry and of those after it
+one_first : (o : Option HeardCell) (xs : List HeardCell) → filter brings_value (cons_option o []) ++ filter brings_value xs ≡ filter brings_value (cons_option o xs)
+one_first None xs = refl
+one_first (Some x) xs = by (brings_value x) where
+  by : (b : Bool) → cond b (x ∷ []) [] ++ filter brings_value xs ≡ cond b (x ∷ filter brings_value xs) (filter brings_value xs)
+  by true = refl
+  by false = refl
 
-    room : (t a b i n : ℕ) → t ≡ a + b → b ≤ i → i < n → a + n < 2 ^ 63 → t < 2 ^ 64 - 1
-    room t a b i n x y z w = omega (arith, x, y, z, w)
+one_most : (o : Option HeardCell) → length (filter brings_value (cons_option o [])) ≤ 1
+one_most None = omega arith
+one_most (Some x) = by (brings_value x) where
+  by : (b : Bool) → length (cond b (x ∷ []) []) ≤ 1
+  by true = omega arith
+  by false = omega arith
+
+-- one entry is counted, and then those after it
+pub entry_more : (system : System) (e : Entry) (es : List Entry) (o : Option SignalAt) (c next last : CensusValue) → o ≡ entry_signal system e → next ≡ option_map_or (counted_of c) o c
+    → CountsEntries next last system es → CountsEntries c last system (e ∷ es)
+entry_more system e es o c next last is made more = λ field cells few h.
+    let one : List HeardCell = filter brings_value (cons_option (seen_in field system e) []) in
+    let here = entry_counted field system e o c next cells is made (room (length cells) (length es) few) h in
+    let after = more field (cells ++ one) (still (length (cells ++ one)) (length cells) (length one) (length es) (length-append cells one) (one_most (seen_in field system e)) few) here in
+    subst (IsCensus last) (append_assoc cells one (filter brings_value (filter_map (seen_in field system) es)) ∙ ap (λ (l : List HeardCell). cells ++ l) (one_first (seen_in field system e) (filter_map (seen_in field system) es))) after
+  where
+    room : (a n : ℕ) → a + suc n < 2 ^ 63 → a < 2 ^ 64 - 1
+    room a n x = omega (arith, x)
+
+    still : (t a b n : ℕ) → t ≡ a + b → b ≤ 1 → a + suc n < 2 ^ 63 → t + n < 2 ^ 63
+    still t a b n x y z = omega (arith, x, y, z)
+
+pub none_more : (c : CensusValue) (system : System) → CountsEntries c c system []
+none_more c system = λ field cells few h. subst (IsCensus c) (sym (append-nil cells)) h
 
 -- ---- the cells of a message
 
@@ -198,14 +207,14 @@ wanted_cells wanted station m w at is holds =
     same None = refl
     same (Some n) = ap (λ (o : Option ℕ). option_map_or (λ from. from == n) o false) at
 
-pub message_counted : (after : CensusValue) (cells front : List Seen) (wanted : Option ℕ) (m : Heard) → valued wanted m ≡ front → IsCensus after (cells ++ front) → IsCensus after (cells ++ valued wanted m)
-message_counted after cells front wanted m same h = subst (λ (l : List Seen). IsCensus after (cells ++ l)) (sym same) h
+pub message_counted : (after : CensusValue) (cells front : List HeardCell) (wanted : Option ℕ) (m : Heard) → valued wanted m ≡ front → IsCensus after (cells ++ front) → IsCensus after (cells ++ valued wanted m)
+message_counted after cells front wanted m same h = subst (λ (l : List HeardCell). IsCensus after (cells ++ l)) (sym same) h
 
-pub few_valued : (is_msm7 : Bool) (system : System) (es : List Entry) (cells : List Seen) → cells ≡ filter brings_value (filter_map (seen_in is_msm7 system) es) → length es ≤ 64 → length cells ≤ 64
-few_valued is_msm7 system es cells is few =
-    let a = few_passed brings_value (filter_map (seen_in is_msm7 system) es) in
-    let b = length-filter_map (seen_in is_msm7 system) es in
-    join (length cells) (length (filter brings_value (filter_map (seen_in is_msm7 system) es))) (length (filter_map (seen_in is_msm7 system) es)) (length es) (ap length is) a b few
+pub few_valued : (field : LockField) (system : System) (es : List Entry) (cells : List HeardCell) → cells ≡ filter brings_value (filter_map (seen_in field system) es) → length es ≤ 64 → length cells ≤ 64
+few_valued field system es cells is few =
+    let a = few_passed brings_value (filter_map (seen_in field system) es) in
+    let b = length-filter_map (seen_in field system) es in
+    join (length cells) (length (filter brings_value (filter_map (seen_in field system) es))) (length (filter_map (seen_in field system) es)) (length es) (ap length is) a b few
   where
     join : (n a b c : ℕ) → n ≡ a → a ≤ b → b ≤ c → c ≤ 64 → n ≤ 64
     join n a b c x y z w = omega (arith, x, y, z, w)

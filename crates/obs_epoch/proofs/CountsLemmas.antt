@@ -7,10 +7,8 @@ use Rattle.std.proofs.lemmas.List.{length-take-le, take_all}
 use Rattle.std.proofs.lemmas.Map.Steps.{list_any_congr}
 use Rattle.gnss_obs.specs.declared.system.System.{System}
 use Rattle.gnss_obs.specs.declared.system.System.TheVariants.{Gps, Galileo}
-use Rattle.obs_epoch.specs.declared.seen.Seen.{Seen}
-use Rattle.obs_epoch.specs.declared.seen.CellCounts.{CellCounts}
-use Rattle.obs_epoch.specs.declared.seen.Fate.TheVariants.{Skipped, Repeated, Crowded, Kept}
-use Rattle.obs_epoch.specs.Heard.{GatherSetup}
+use Rattle.obs_epoch.specs.declared.taken.Fate.TheVariants.{Skipped, Repeated, Crowded, Kept}
+use Rattle.obs_epoch.specs.Heard.{GatherSetup, HeardCell}
 use Rattle.obs_epoch.specs.Cells.{counts_of, is_of_system, is_among, has_same_key, kept, kept_of_both, is_planned}
 use Rattle.obs_epoch.specs.Values.{most_cells}
 use Rattle.obs_epoch.specs.Held.{count_in}
@@ -18,13 +16,14 @@ use Rattle.obs_epoch.specs.Gather.{no_counts}
 use Rattle.obs_epoch.proofs.CellsLemmas.{kept-add, mine, mine-among, among-push, same_key_laws, key_system}
 use Rattle.obs_epoch.proofs.NotingLemmas.{kept_apart}
 use Rattle.obs_epoch.proofs.LoadLemmas.{counts_after, fate_after, planned_one}
+use Rattle.obs_epoch.specs.declared.taken.CellCounts.{CellCounts}
 
 or_false : (a : Bool) → (a || false) ≡ a
 or_false true = refl
 or_false false = refl
 
 -- a key is among the kept cells of both where it is among those of its system
-both-among : (xs : List Seen) (p : Seen) → is_among (kept_of_both xs) p ≡ is_among (kept p.satellite.system xs) p
+both-among : (xs : List HeardCell) (p : HeardCell) → is_among (kept_of_both xs) p ≡ is_among (kept p.satellite.system xs) p
 both-among xs p = list_any-append (has_same_key p) (kept Gps xs) (kept Galileo xs) ∙ by p.satellite.system refl where
   by : (system : System) → p.satellite.system ≡ system → (is_among (kept Gps xs) p || is_among (kept Galileo xs) p) ≡ is_among (kept p.satellite.system xs) p
   by Gps e =
@@ -32,12 +31,12 @@ both-among xs p = list_any-append (has_same_key p) (kept Gps xs) (kept Galileo x
   by Galileo e =
       ap (λ b. b || is_among (kept Galileo xs) p) (kept_apart Gps xs p (grind (arith, e))) ∙ ap (λ c. is_among (kept c xs) p) (sym e)
 
-own : (system : System) (x : Seen) → x.satellite.system ≡ system → is_of_system system x ≡ true
+own : (system : System) (x : HeardCell) → x.satellite.system ≡ system → is_of_system system x ≡ true
 own Gps x e = grind (arith, e)
 own Galileo x e = grind (arith, e)
 
 -- where there is room, all firsts are kept
-all_kept : (system : System) (xs : List Seen) → nat_le most_cells (length (kept system xs)) ≡ false → kept system xs ≡ mine system xs
+all_kept : (system : System) (xs : List HeardCell) → nat_le most_cells (length (kept system xs)) ≡ false → kept system xs ≡ mine system xs
 all_kept system xs h = take_all most_cells (mine system xs) (by (nat_le most_cells (length (mine system xs))) refl) where
   by : (b : Bool) → nat_le most_cells (length (mine system xs)) ≡ b → length (mine system xs) ≤ most_cells
   by true e =
@@ -47,7 +46,7 @@ all_kept system xs h = take_all most_cells (mine system xs) (by (nat_le most_cel
   by false e = grind (arith, e)
 
 -- what was offered before is kept or not, whatever comes
-known-push : (system : System) (xs : List Seen) (y p : Seen) → is_of_system system p ≡ true → is_among xs p ≡ true → is_among (kept system (xs ++ y ∷ [])) p ≡ is_among (kept system xs) p
+known-push : (system : System) (xs : List HeardCell) (y p : HeardCell) → is_of_system system p ≡ true → is_among xs p ≡ true → is_among (kept system (xs ++ y ∷ [])) p ≡ is_among (kept system xs) p
 known-push system xs y p o there = ap (λ l. is_among l p) (kept-add system xs y) ∙ by (is_of_system system y) (is_among (kept system xs) y) (nat_le most_cells (length (kept system xs))) refl refl where
   same_case : (b : Bool) → has_same_key p y ≡ b → is_among (kept system xs) y ≡ false → nat_le most_cells (length (kept system xs)) ≡ false → (is_among (kept system xs) p || b) ≡ is_among (kept system xs) p
   same_case false e f g = or_false _
@@ -63,14 +62,14 @@ known-push system xs y p o there = ap (λ l. is_among l p) (kept-add system xs y
   by true false true e f = refl
   by true false false e f = among-push (kept system xs) y p ∙ same_case (has_same_key p y) refl e f
 
-known-more : (system : System) (xs ys : List Seen) (p : Seen) → is_of_system system p ≡ true → is_among xs p ≡ true → is_among (kept system (xs ++ ys)) p ≡ is_among (kept system xs) p
+known-more : (system : System) (xs ys : List HeardCell) (p : HeardCell) → is_of_system system p ≡ true → is_among xs p ≡ true → is_among (kept system (xs ++ ys)) p ≡ is_among (kept system xs) p
 known-more system xs [] p o there = ap (λ l. is_among (kept system l) p) (append-nil xs)
 known-more system xs (y ∷ ys) p o there =
     ap (λ l. is_among (kept system l) p) (sym (append_assoc xs (y ∷ []) ys))
     ∙ known-more system (xs ++ y ∷ []) ys p o (among-push xs y p ∙ ap (λ b. b || has_same_key p y) there)
     ∙ known-push system xs y p o there
 
-length-add : (system : System) (xs : List Seen) (y : Seen) (b : Bool) → (is_of_system system y && not (is_among (kept system xs) y || nat_le most_cells (length (kept system xs)))) ≡ b
+length-add : (system : System) (xs : List HeardCell) (y : HeardCell) (b : Bool) → (is_of_system system y && not (is_among (kept system xs) y || nat_le most_cells (length (kept system xs)))) ≡ b
     → length (kept system (xs ++ y ∷ [])) ≡ length (kept system xs) + (if b then 1 else 0)
 length-add system xs y b e = ap length (kept-add system xs y) ∙ by b e where
   by : (c : Bool) → (is_of_system system y && not (is_among (kept system xs) y || nat_le most_cells (length (kept system xs)))) ≡ c
@@ -78,13 +77,13 @@ length-add system xs y b e = ap length (kept-add system xs y) ∙ by b e where
   by true f = ap (λ v. length (if v then kept system xs ++ y ∷ [] else kept system xs)) f ∙ length-append (kept system xs) (y ∷ [])
   by false f = ap (λ v. length (if v then kept system xs ++ y ∷ [] else kept system xs)) f ∙ (let n : length (kept system xs) ≡ length (kept system xs) + 0 = omega arith in n)
 
-not_own : (here other : System) (y : Seen) → y.satellite.system ≡ here → (is_of_system other y ≡ false) → (a n : Bool) → (is_of_system other y && not (a || n)) ≡ false
+not_own : (here other : System) (y : HeardCell) → y.satellite.system ≡ here → (is_of_system other y ≡ false) → (a n : Bool) → (is_of_system other y && not (a || n)) ≡ false
 not_own here other y e f a n = ap (λ b. b && not (a || n)) f
 
-not_galileo : (y : Seen) → y.satellite.system ≡ Gps → is_of_system Galileo y ≡ false
+not_galileo : (y : HeardCell) → y.satellite.system ≡ Gps → is_of_system Galileo y ≡ false
 not_galileo y e = grind (arith, e)
 
-not_gps : (y : Seen) → y.satellite.system ≡ Galileo → is_of_system Gps y ≡ false
+not_gps : (y : HeardCell) → y.satellite.system ≡ Galileo → is_of_system Gps y ≡ false
 not_gps y e = grind (arith, e)
 
 sum_first : (a b c d k : ℕ) → a ≡ b + k → c ≡ d + 0 → a + c ≡ (b + d) + k
@@ -94,7 +93,7 @@ sum_second : (a b c d k : ℕ) → c ≡ d + k → a ≡ b + 0 → a + c ≡ (b 
 sum_second a b c d k g h = omega (arith, g, h)
 
 -- how many are kept after one cell more
-both-length : (xs : List Seen) (y : Seen) (a n : Bool) → is_among (kept y.satellite.system xs) y ≡ a → nat_le most_cells (length (kept y.satellite.system xs)) ≡ n
+both-length : (xs : List HeardCell) (y : HeardCell) (a n : Bool) → is_among (kept y.satellite.system xs) y ≡ a → nat_le most_cells (length (kept y.satellite.system xs)) ≡ n
     → length (kept_of_both (xs ++ y ∷ [])) ≡ length (kept_of_both xs) + (if not (a || n) then 1 else 0)
 both-length xs y a n e f =
     length-append (kept Gps (xs ++ y ∷ [])) (kept Galileo (xs ++ y ∷ [])) ∙ by y.satellite.system refl ∙ ap (λ k. k + (if not (a || n) then 1 else 0)) (sym (length-append (kept Gps xs) (kept Galileo xs))) where
@@ -111,14 +110,14 @@ both-length xs y a n e f =
           let other = length-add Gps xs y false (not_own Galileo Gps y g (not_gps y g) (is_among (kept Gps xs) y) (nat_le most_cells (length (kept Gps xs)))) in
           sum_second _ _ _ _ _ mine_is other
 
-self_system : (y : Seen) → is_of_system y.satellite.system y ≡ true
+self_system : (y : HeardCell) → is_of_system y.satellite.system y ≡ true
 self_system y = by y.satellite.system refl where
   by : (system : System) → y.satellite.system ≡ system → is_of_system y.satellite.system y ≡ true
   by Gps e = grind (arith, e)
   by Galileo e = grind (arith, e)
 
 -- whether the cell that comes is of a kept key then
-now-among : (xs ys : List Seen) (y : Seen) (a n : Bool) → is_among (kept y.satellite.system xs) y ≡ a → nat_le most_cells (length (kept y.satellite.system xs)) ≡ n
+now-among : (xs ys : List HeardCell) (y : HeardCell) (a n : Bool) → is_among (kept y.satellite.system xs) y ≡ a → nat_le most_cells (length (kept y.satellite.system xs)) ≡ n
     → is_among (kept_of_both ((xs ++ y ∷ []) ++ ys)) y ≡ (a || not n)
 now-among xs ys y a n e f =
     both-among ((xs ++ y ∷ []) ++ ys) y ∙ known-more y.satellite.system (xs ++ y ∷ []) ys y (self_system y) (among-push xs y y ∙ ap (λ b. is_among xs y || b) (same_key_laws.refl y) ∙ or_true (is_among xs y))
@@ -185,18 +184,18 @@ one_sum N n true false false b b' e skipped known crowded h g =
 change : (N n : CellCounts) (b e u v w u' v' w' : ℕ) → u ≡ u' → v ≡ v' → w ≡ w' → Sums N n b e u v w → Sums N n b e u' v' w'
 change N n b e u v w u' v' w' p q r h = record { kept = h.kept; skips = h.skips ∙ ap (λ k. n.skipped + k) p; knows = h.knows ∙ ap (λ k. (n.repeated + n.kept) + k) q; crowds = h.crowds ∙ ap (λ k. n.crowded + k) r }
 
-abbrev planned : GatherSetup → List Seen → List Seen
+abbrev planned : GatherSetup → List HeardCell → List HeardCell
 planned s ys = filter (is_planned s) ys
 
-abbrev Tally : GatherSetup → List Seen → CellCounts → List Seen → Type 0
+abbrev Tally : GatherSetup → List HeardCell → CellCounts → List HeardCell → Type 0
 Tally s xs n ys =
     Sums (counts_after s xs n ys) n (length (kept_of_both xs)) (length (kept_of_both (xs ++ planned s ys))) (count_by (λ x. not (is_planned s x)) ys)
     (count_by (is_among (kept_of_both (xs ++ planned s ys))) (planned s ys)) (count_by (λ x. not (is_among (kept_of_both (xs ++ planned s ys)) x)) (planned s ys))
 
-count_cons : (p : Seen → Bool) (x : Seen) (xs : List Seen) → count_by p (x ∷ xs) ≡ (if p x then 1 else 0) + count_by p xs
+count_cons : (p : HeardCell → Bool) (x : HeardCell) (xs : List HeardCell) → count_by p (x ∷ xs) ≡ (if p x then 1 else 0) + count_by p xs
 count_cons p x xs = sum_by-cons (λ y. cond (p y) 1 0) x xs
 
-tally_step : (s : GatherSetup) (xs : List Seen) (n : CellCounts) (y : Seen) (ys : List Seen) → Tally s (xs ++ planned_one s y) (count_in (fate_after s xs y) n) ys → Tally s xs n (y ∷ ys)
+tally_step : (s : GatherSetup) (xs : List HeardCell) (n : CellCounts) (y : HeardCell) (ys : List HeardCell) → Tally s (xs ++ planned_one s y) (count_in (fate_after s xs y) n) ys → Tally s xs n (y ∷ ys)
 tally_step s xs n y ys h =
     change (counts_after s (xs ++ planned_one s y) (count_in (fate_after s xs y) n) ys) n (length (kept_of_both xs)) (length (kept_of_both (xs ++ planned s (y ∷ ys)))) _ _ _ _ _ _ (sym skips) (sym (knows (is_planned s y))) (sym (crowds (is_planned s y)))
     (one_sum (counts_after s (xs ++ planned_one s y) (count_in (fate_after s xs y) n) ys) n (is_planned s y) a f (length (kept_of_both xs)) (length (kept_of_both (xs ++ planned_one s y))) (length (kept_of_both (xs ++ planned s (y ∷ ys)))) _ _ _
@@ -237,7 +236,7 @@ tally_step s xs n y ys h =
           ∙ ap (λ b. (if not b then 1 else 0) + count_by (λ x. not (is_among (kept_of_both (xs ++ y ∷ planned s ys)) x)) (planned s ys)) now
       crowds false = let none : (n : ℕ) → n ≡ 0 + n = λ n. omega arith in none _
 
-tally : (s : GatherSetup) (xs : List Seen) (n : CellCounts) (ys : List Seen) → Tally s xs n ys
+tally : (s : GatherSetup) (xs : List HeardCell) (n : CellCounts) (ys : List HeardCell) → Tally s xs n ys
 tally s xs n [] = record {
   kept = ap (λ l. n.kept + length (kept_of_both l)) (sym (append-nil xs));
   skips = omega arith;
@@ -246,7 +245,7 @@ tally s xs n [] = record {
 }
 tally s xs n (y ∷ ys) = tally_step s xs n y ys (tally s (xs ++ planned_one s y) (count_in (fate_after s xs y) n) ys)
 
-pub counts_are : (s : GatherSetup) (xs ys : List Seen) → counts_after s xs no_counts ys ≡ counts_of s xs ys
+pub counts_are : (s : GatherSetup) (xs ys : List HeardCell) → counts_after s xs no_counts ys ≡ counts_of s xs ys
 counts_are s xs ys =
     let h = tally s xs no_counts ys in
     same_counts (counts_after s xs no_counts ys) _ (omega (arith, h.kept)) (omega (arith, h.skips)) (omega (arith, h.knows, h.kept)) (omega (arith, h.crowds)) where

@@ -1,18 +1,18 @@
 -- The cells of a message come one by one: those that are listed, and how many others there are.
-use Rattle.std.proofs.Common.{◌≡◌, ℕ, ◌+◌, List, [], ◌∷◌, Bool, refl, ap, ◌∙◌, arith, Option, Some, None, is_some}
+use Rattle.rtcm_msg.specs.declared.entry.LockField.{LockField}
+use Rattle.std.proofs.Common.{◌≡◌, ℕ, ◌+◌, List, [], ◌∷◌, refl, ap, ◌∙◌, arith, Option, Some, None, is_some}
 use Rattle.std.specs.Prelude.{filter_map, cond}
 use Rattle.std.specs.Option.{option_map_or}
 use Rattle.std.specs.List.{cons_option}
 use Rattle.gnss_obs.specs.declared.system.System.{System}
 use Rattle.rtcm_msg.specs.declared.entry.Entry.{Entry}
-use Rattle.obs_epoch.specs.declared.seen.Seen.{Seen}
-use Rattle.obs_epoch.specs.declared.seen.CellCounts.{CellCounts}
-use Rattle.obs_epoch.specs.declared.seen.Fate.{Fate}
-use Rattle.obs_epoch.specs.declared.seen.Fate.TheVariants.{Skipped, Repeated, Crowded, Kept}
-use Rattle.obs_epoch.specs.Heard.{seen_in, unlisted_in}
+use Rattle.obs_epoch.specs.declared.taken.Fate.TheVariants.{Skipped, Repeated, Crowded, Kept}
+use Rattle.obs_epoch.specs.Heard.{seen_in, unlisted_in, HeardCell}
 use Rattle.obs_epoch.specs.Cells.{with_skipped}
 use Rattle.obs_epoch.specs.Held.{count_in}
 use Rattle.obs_epoch.specs.Gather.{Loaded, load, load_one, load_entries, with_unlisted, fate_in, hold}
+use Rattle.obs_epoch.specs.declared.taken.CellCounts.{CellCounts}
+use Rattle.obs_epoch.specs.declared.taken.Fate.{Fate}
 
 later_count : (k : Fate) (n : ℕ) (c : CellCounts) → count_in k (with_skipped n c) ≡ with_skipped n (count_in k c)
 later_count Kept n c = refl
@@ -22,10 +22,10 @@ later_count Skipped n c = ap (λ v. record c { skipped = v }) (swap c.skipped n)
   swap : (a b : ℕ) → a + b + 1 ≡ a + 1 + b
   swap a b = omega arith
 
-later_one : (n : ℕ) (l : Loaded) (x : Seen) → load_one (with_unlisted n l) x ≡ with_unlisted n (load_one l x)
+later_one : (n : ℕ) (l : Loaded) (x : HeardCell) → load_one (with_unlisted n l) x ≡ with_unlisted n (load_one l x)
 later_one n l x = ap (λ c. record { state = hold l.state x; counts = c }) (later_count (fate_in l.state x) n l.counts)
 
-later : (n : ℕ) (l : Loaded) (xs : List Seen) → load (with_unlisted n l) xs ≡ with_unlisted n (load l xs)
+later : (n : ℕ) (l : Loaded) (xs : List HeardCell) → load (with_unlisted n l) xs ≡ with_unlisted n (load l xs)
 later n l [] = refl
 later n l (x ∷ xs) = ap (λ v. load v xs) (later_one n l x) ∙ later n (load_one l x) xs
 
@@ -34,27 +34,27 @@ twice n m l = ap (λ v. record { state = l.state; counts = record l.counts { ski
   sum : (a b c : ℕ) → a + b + c ≡ a + (b + c)
   sum a b c = omega arith
 
-abbrev listed : Bool → System → List Entry → List Seen
-listed is_msm7 system es = filter_map (seen_in is_msm7 system) es
+abbrev listed : LockField → System → List Entry → List HeardCell
+listed field system es = filter_map (seen_in field system) es
 
-abbrev others : Bool → System → List Entry → ℕ
-others is_msm7 system es = unlisted_in is_msm7 system es
+abbrev others : LockField → System → List Entry → ℕ
+others field system es = unlisted_in field system es
 
 none_more : (l : Loaded) → l ≡ with_unlisted 0 l
 none_more l = ap (λ v. record { state = l.state; counts = record l.counts { skipped = v } }) (plus-zero l.counts.skipped) where
   plus-zero : (n : ℕ) → n ≡ n + 0
   plus-zero n = omega arith
 
-pub load_entries_is : (is_msm7 : Bool) (system : System) (l : Loaded) (es : List Entry)
-    → load_entries is_msm7 system l es ≡ with_unlisted (others is_msm7 system es) (load l (listed is_msm7 system es))
-load_entries_is is_msm7 system l [] = none_more l
-load_entries_is is_msm7 system l (e ∷ es) = by (seen_in is_msm7 system e) (λ v. load_entries_is is_msm7 system v es) where
-  by : (o : Option Seen) → ((v : Loaded) → load_entries is_msm7 system v es ≡ with_unlisted (others is_msm7 system es) (load v (listed is_msm7 system es)))
-      → load_entries is_msm7 system (option_map_or (load_one l) o (with_unlisted 1 l)) es
-      ≡ with_unlisted (cond (is_some o) 0 1 + others is_msm7 system es) (load l (cons_option o (listed is_msm7 system es)))
+pub load_entries_is : (field : LockField) (system : System) (l : Loaded) (es : List Entry)
+    → load_entries field system l es ≡ with_unlisted (others field system es) (load l (listed field system es))
+load_entries_is field system l [] = none_more l
+load_entries_is field system l (e ∷ es) = by (seen_in field system e) (λ v. load_entries_is field system v es) where
+  by : (o : Option HeardCell) → ((v : Loaded) → load_entries field system v es ≡ with_unlisted (others field system es) (load v (listed field system es)))
+      → load_entries field system (option_map_or (load_one l) o (with_unlisted 1 l)) es
+      ≡ with_unlisted (cond (is_some o) 0 1 + others field system es) (load l (cons_option o (listed field system es)))
   by None more =
-      more (with_unlisted 1 l) ∙ ap (with_unlisted (others is_msm7 system es)) (later 1 l (listed is_msm7 system es))
-      ∙ twice (others is_msm7 system es) 1 (load l (listed is_msm7 system es))
-  by (Some x) more = more (load_one l x) ∙ ap (λ n. with_unlisted n (load (load_one l x) (listed is_msm7 system es))) (zero-plus (others is_msm7 system es)) where
+      more (with_unlisted 1 l) ∙ ap (with_unlisted (others field system es)) (later 1 l (listed field system es))
+      ∙ twice (others field system es) 1 (load l (listed field system es))
+  by (Some x) more = more (load_one l x) ∙ ap (λ n. with_unlisted n (load (load_one l x) (listed field system es))) (zero-plus (others field system es)) where
     zero-plus : (n : ℕ) → n ≡ 0 + n
     zero-plus n = omega arith

@@ -5,8 +5,7 @@ use Rattle.std.specs.Option.{option_map_or}
 use Rattle.std.proofs.lemmas.List.Elements.{filter-append}
 use Rattle.gnss_obs.specs.declared.system.System.{System}
 use Rattle.gnss_obs.specs.declared.system.System.TheVariants.{Gps, Galileo}
-use Rattle.obs_epoch.specs.Heard.{GatherSetup}
-use Rattle.obs_epoch.specs.declared.seen.Seen.{Seen}
+use Rattle.obs_epoch.specs.Heard.{GatherSetup, HeardCell, kept_cell}
 use Rattle.obs_epoch.specs.Times.{Timed, is_at, greatest_time}
 use Rattle.obs_epoch.specs.Cells.{offered, kept, kept_at, is_planned, has_same_key}
 use Rattle.obs_epoch.specs.Order.{sorted}
@@ -40,7 +39,7 @@ earlier : (u t : ℕ) (time : Option ℕ) → u < t → IsLater t time → IsLat
 earlier u t None lt h = tt
 earlier u t (Some v) lt h = omega (arith, lt, h)
 
-locked_all : (s : GatherSetup) (xs : List Timed) (x : Timed) (key : Seen) (t : ℕ) (us : List ℕ) → IsLater t x.time → Below t us
+locked_all : (s : GatherSetup) (xs : List Timed) (x : Timed) (key : HeardCell) (t : ℕ) (us : List ℕ) → IsLater t x.time → Below t us
     → filter_map (locked_at s (xs ++ x ∷ []) key) us ≡ filter_map (locked_at s xs key) us
 locked_all s xs x key t [] h b = refl
 locked_all s xs x key t (u ∷ us) h b =
@@ -56,22 +55,22 @@ below_filter : (t : ℕ) (us : List ℕ) → Below t (filter (λ u. nat_lt u t) 
 below_filter t [] = tt
 below_filter t (u ∷ us) = below_cond t u (filter (λ v. nat_lt v t) us) (nat_lt u t) refl (below_filter t us)
 
-previous-push : (s : GatherSetup) (xs : List Timed) (x : Timed) (t : ℕ) (key : Seen) → IsLater t x.time
+previous-push : (s : GatherSetup) (xs : List Timed) (x : Timed) (t : ℕ) (key : HeardCell) → IsLater t x.time
     → filter (λ u. nat_lt u t) (times (xs ++ x ∷ [])) ≡ filter (λ u. nat_lt u t) (times xs) → previous s (xs ++ x ∷ []) t key ≡ previous s xs t key
 previous-push s xs x t key h same =
     ap (λ us. last_of (filter_map (locked_at s (xs ++ x ∷ []) key) us)) same
     ∙ ap last_of (locked_all s xs x key t (filter (λ u. nat_lt u t) (times xs)) h (below_filter t (times xs)))
 
-lli_of-push : (s : GatherSetup) (xs : List Timed) (x : Timed) (t : ℕ) (c : Seen) → IsLater t x.time
+lli_of-push : (s : GatherSetup) (xs : List Timed) (x : Timed) (t : ℕ) (c : HeardCell) → IsLater t x.time
     → filter (λ u. nat_lt u t) (times (xs ++ x ∷ [])) ≡ filter (λ u. nat_lt u t) (times xs) → lli_of s (xs ++ x ∷ []) t c ≡ lli_of s xs t c
 lli_of-push s xs x t c h same =
     ap (λ o. lli_with t c o) (previous-push s xs x t c h same)
 
-with_lli-push : (s : GatherSetup) (xs : List Timed) (x : Timed) (t : ℕ) (cs : List Seen) → IsLater t x.time
+with_lli-push : (s : GatherSetup) (xs : List Timed) (x : Timed) (t : ℕ) (cs : List HeardCell) → IsLater t x.time
     → filter (λ u. nat_lt u t) (times (xs ++ x ∷ [])) ≡ filter (λ u. nat_lt u t) (times xs) → cells_with_lli s (xs ++ x ∷ []) t cs ≡ cells_with_lli s xs t cs
 with_lli-push s xs x t [] h same = refl
 with_lli-push s xs x t (c ∷ cs) h same =
-    ap₂ (λ m l. record { seen = c; lli = m } ∷ l) (lli_of-push s xs x t c h same) (with_lli-push s xs x t cs h same)
+    ap₂ (λ m l. (kept_cell c m) ∷ l) (lli_of-push s xs x t c h same) (with_lli-push s xs x t cs h same)
 
 -- the epoch of time t stays as it is
 pub epoch_at-push : (s : GatherSetup) (xs : List Timed) (x : Timed) (t : ℕ) → IsLater t x.time

@@ -5,7 +5,6 @@ use Rattle.std.specs.Option.{option_map_or}
 use Rattle.std.specs.List.{list_any}
 use Rattle.std.proofs.lemmas.List.{map-append}
 use Rattle.obs_epoch.specs.Heard.{GatherSetup, Heard, ends_epoch}
-use Rattle.obs_epoch.specs.WithLli.{EpochWithLli, shown}
 use Rattle.obs_epoch.specs.Times.{Timed, is_at, max_known, greatest_time, from_first, is_closed, taken_at, timed}
 use Rattle.obs_epoch.specs.Loss.{times}
 use Rattle.obs_epoch.specs.Epochs.{is_shut, closed_times, epoch_at, values_of}
@@ -15,6 +14,7 @@ use Rattle.obs_epoch.specs.Gathering.{open_after, before_closing, closed_at, clo
 use Rattle.obs_epoch.proofs.TimesLemmas.{next, timed-push, greatest-push}
 use Rattle.obs_epoch.proofs.ClosedLemmas.{ends, no_times, closed_is, when, taken_follows, grows_by}
 use Rattle.obs_epoch.proofs.EpochLemmas.{AllLater, IsLater, epoch_at-push, times_before, all_later}
+use Rattle.obs_epoch.specs.Values.{EpochValue}
 
 -- ---- what is closed stays closed
 
@@ -147,7 +147,7 @@ pub closed_at-push : (s : GatherSetup) (ms : List Heard) (m : Heard) (t : ℕ) �
     → closed_at s (ms ++ m ∷ []) t ≡ closed_at s ms t
 closed_at-push s ms m t later shut =
     let xs = timed s ms in
-    ap₂ (λ (e : EpochWithLli) l. record { epoch = shown e; values = values_of s l })
+    ap₂ (λ (e : EpochValue) l. record { epoch = e; values = values_of s l })
     (ap (λ l. epoch_at s l t) (timed-push s ms m) ∙ epoch_at-push s xs (next s xs m) t later (times_before s xs (next s xs m) t (taken_follows s xs m) later))
     (before-push s t ms m shut)
 

@@ -5,8 +5,7 @@ use Rattle.std.specs.Option.{option_map_or}
 use Rattle.std.specs.List.{list_any}
 use Rattle.std.proofs.lemmas.List.{map-append}
 use Rattle.obs_epoch.specs.Heard.{GatherSetup, Heard, ends_epoch}
-use Rattle.obs_epoch.specs.Values.{Closed}
-use Rattle.obs_epoch.specs.WithLli.{EpochWithLli, shown}
+use Rattle.obs_epoch.specs.Values.{Closed, EpochValue}
 use Rattle.obs_epoch.specs.Times.{Timed, is_at, greatest_time, from_first, is_closed, taken_at, timed}
 use Rattle.obs_epoch.specs.Loss.{times}
 use Rattle.obs_epoch.specs.Epochs.{is_shut, closed_times, closed_so_far, epoch_at, values_of}
@@ -93,7 +92,7 @@ shut_new s ys before t grown =
 new_closed : (g : Gathered) (s : GatherSetup) (ms : List Heard) (m : Heard) (shut : Bool) → HasTakenMessages g s ms shut → closes_first s (timed s ms) m ≡ shut → IsTold m
     → (o : Option ℕ) → closes g.clock m ≡ o → (take_step g m).state.handed ≡ is_some o
     → handed_over (take_step g m).state ≡ closed_list_at s (ms ++ m ∷ []) (option_to_list o)
-new_closed g s ms m shut h early told None e has = let v = (take_step g m).state in ap (λ b. closed_by (if b then Some (shown v.epoch) else None) v.values) has
+new_closed g s ms m shut h early told None e has = let v = (take_step g m).state in ap (λ b. closed_by (if b then Some (v.epoch) else None) v.values) has
 new_closed g s ms m shut h early told (Some t) e has =
     let v = (take_step g m).state in
     let ns = ms ++ m ∷ [] in
@@ -105,8 +104,8 @@ new_closed g s ms m shut h early told (Some t) e has =
     let epoch : v.epoch ≡ epoch_at s ys t = t1.after.epoch ∙ ap (λ o. option_map_or (epoch_at s ys) o no_epoch) now in
     let values : v.values ≡ values_of s (before_closing s t ns) =
     t1.after.values ∙ same_values s ms m (no_point_told g.clock m t told e) ∙ ap (values_of s) (sym (before-push s t ms m closed_now ∙ before_all s t ms open_still)) in
-    ap (λ b. closed_by (if b then Some (shown v.epoch) else None) v.values) has
-    ∙ ap₂ (λ (a : EpochWithLli) w. record { epoch = shown a; values = w } ∷ []) epoch values
+    ap (λ b. closed_by (if b then Some (v.epoch) else None) v.values) has
+    ∙ ap₂ (λ (a : EpochValue) w. record { epoch = a; values = w } ∷ []) epoch values
 
 -- the pending epoch, as it is handed out
 pending_closed : (v : Gathered) (s : GatherSetup) (ms : List Heard) (t : ℕ) → greatest_time (timed s ms) ≡ Some t → is_pending s (timed s ms) ≡ true
@@ -115,8 +114,8 @@ pending_closed v s ms t e p epoch values has =
     let xs = timed s ms in
     let here : v.epoch ≡ epoch_at s xs t = epoch ∙ ap (λ o. option_map_or (epoch_at s xs) o no_epoch) e in
     let known : v.values ≡ values_of s (before_closing s t ms) = values ∙ ap (values_of s) (sym (before_all s t ms (pending_open s xs t e p))) in
-    ap (λ b. closed_by (if b then Some (shown v.epoch) else None) v.values) has
-    ∙ ap₂ (λ (a : EpochWithLli) w. record { epoch = shown a; values = w } ∷ []) here known
+    ap (λ b. closed_by (if b then Some (v.epoch) else None) v.values) has
+    ∙ ap₂ (λ (a : EpochValue) w. record { epoch = a; values = w } ∷ []) here known
     ∙ ap (λ o. closed_list_at s ms (option_to_list o)) (sym e)
 
 -- ---- the calls
@@ -207,7 +206,7 @@ gathers_first g s ms es m h going early point = by (greatest_time (timed s ms)) 
 
 pub has_closed : (v : Gathered) → v.handed ≡ is_some (closed_in v)
 has_closed v = by v.handed where
-  by : (b : Bool) → b ≡ is_some (if b then Some (shown v.epoch) else None)
+  by : (b : Bool) → b ≡ is_some (if b then Some (v.epoch) else None)
   by true = refl
   by false = refl
 
@@ -267,7 +266,7 @@ gathers_ended g s ms es h going = (
   has = end_handed g.clock.pending _ ∙ pending
 
   last : (p : Bool) → is_pending s xs ≡ p → handed_over v ≡ closed_list_at s ms (if p then option_to_list (greatest_time xs) else [])
-  last false p = ap (λ b. closed_by (if b then Some (shown v.epoch) else None) v.values) (has ∙ p)
+  last false p = ap (λ b. closed_by (if b then Some (v.epoch) else None) v.values) (has ∙ p)
   last true p = by (greatest_time xs) refl where
     by : (o : Option ℕ) → greatest_time xs ≡ o → handed_over v ≡ closed_list_at s ms (option_to_list (greatest_time xs))
     by None e = absurd (grind (arith, e, p))

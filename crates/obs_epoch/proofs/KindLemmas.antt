@@ -4,7 +4,6 @@ use Rattle.std.specs.Prelude.{if◌then◌else◌}
 use Rattle.obs_epoch.specs.declared.taken.Kind.TheVariants as kinds
 use Rattle.obs_epoch.specs.declared.clock.Answer.{Answer}
 use Rattle.obs_epoch.specs.declared.clock.Answer.TheVariants as answers
-use Rattle.obs_epoch.specs.declared.seen.CellCounts.{CellCounts}
 use Rattle.obs_epoch.specs.Heard.{GatherSetup, Heard}
 use Rattle.obs_epoch.specs.Values.{Closed}
 use Rattle.obs_epoch.specs.Times.{Timed, timed}
@@ -16,6 +15,7 @@ use Rattle.obs_epoch.specs.Standing.{HasTakenMessages}
 use Rattle.obs_epoch.specs.Gathering.{HasGatheredEpochs, IsAwaited}
 use Rattle.obs_epoch.proofs.TakeLemmas.{taken, closes_it, not_first}
 use Rattle.obs_epoch.proofs.HandingLemmas.{not_done}
+use Rattle.obs_epoch.specs.declared.taken.CellCounts.{CellCounts}
 
 at_other : (k : Answer) (n : CellCounts) → (k ≡ answers.CloseFirst → ⊥) → is_close_first (kind_at k n) ≡ false
 at_other answers.CloseFirst n unlike = absurd (unlike refl)

@@ -8,7 +8,6 @@ pub mod LockLemmas
 pub mod NotingLemmas
 pub mod TakeLemmas
 pub mod TimesLemmas
-pub mod HeldLemmas
 pub mod CellsLemmas
 pub mod CountsLemmas
 pub mod ClosedLemmas
@@ -27,3 +26,4 @@ mod StandLemmas
 pub mod GroupLemmas
 mod ReachLemmas
 mod CensusLemmas
+pub mod ViewLemmas

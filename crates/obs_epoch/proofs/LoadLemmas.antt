@@ -3,74 +3,72 @@ use Rattle.std.proofs.Common.{◌≡◌, ℕ, suc, Bool, true, false, not, ◌||
 use Rattle.std.specs.Prelude.{if◌then◌else◌, cond}
 use Rattle.gnss_obs.specs.declared.system.System.{System}
 use Rattle.gnss_obs.specs.declared.system.System.TheVariants.{Gps, Galileo}
-use Rattle.obs_epoch.specs.declared.seen.Seen.{Seen}
-use Rattle.obs_epoch.specs.WithLli.{CellWithLli}
-use Rattle.obs_epoch.specs.declared.seen.KnownLock.{KnownLock}
-use Rattle.obs_epoch.specs.declared.seen.CellCounts.{CellCounts}
-use Rattle.obs_epoch.specs.declared.seen.Fate.{Fate}
-use Rattle.obs_epoch.specs.declared.seen.Fate.TheVariants.{Skipped, Repeated, Crowded, Kept}
-use Rattle.obs_epoch.specs.Heard.{GatherSetup}
+use Rattle.obs_epoch.specs.declared.taken.Fate.TheVariants.{Skipped, Repeated, Crowded, Kept}
+use Rattle.obs_epoch.specs.Heard.{GatherSetup, HeardCell, kept_cell}
 use Rattle.obs_epoch.specs.Cells.{is_of_system, has_same_key, is_among, kept, add, is_planned}
 use Rattle.obs_epoch.specs.Loss.{lli_with}
-use Rattle.obs_epoch.specs.WithLli.{EpochWithLli}
 use Rattle.obs_epoch.specs.Held.{lookup, is_held, fate_of, count_in}
-use Rattle.obs_epoch.specs.Gather.{Gathered, cells_in, with_more_in, with_more, fate_in, hold, hold_by, load}
-use Rattle.obs_epoch.specs.Values.{PlanValue, planned_of, most_cells}
-use Rattle.obs_epoch.specs.Order.{insert_by, is_before, seat_of, seat_with_lli, sorted}
+use Rattle.obs_epoch.specs.Gather.{Gathered, with_more_in, with_more, fate_in, hold, hold_by, load}
+use Rattle.obs_epoch.specs.Values.{PlanValue, planned_of, most_cells, EpochValue, cells_of}
+use Rattle.obs_epoch.specs.Order.{insert_by, is_before, seat_of, sorted, cell_seat}
 use Rattle.obs_epoch.proofs.CellsLemmas.{kept-add}
 use Rattle.obs_epoch.proofs.OrderLemmas.{sorted-push, among-sorted, length-sorted}
+use Rattle.obs_epoch.specs.declared.cell.Cell.{Cell}
+use Rattle.obs_epoch.specs.declared.lli.KnownLock.{KnownLock}
+use Rattle.obs_epoch.specs.declared.taken.CellCounts.{CellCounts}
+use Rattle.obs_epoch.specs.declared.taken.Fate.{Fate}
 
 -- cells with their loss-of-lock indicators, where the locks of their keys before are known
-abbrev pub with_lli_by : (Seen → Option KnownLock) → ℕ → List Seen → List CellWithLli
+abbrev pub with_lli_by : (HeardCell → Option KnownLock) → ℕ → List HeardCell → List Cell
 with_lli_by f t [] = []
-with_lli_by f t (x ∷ xs) = record { seen = x; lli = lli_with t x (f x) } ∷ with_lli_by f t xs
+with_lli_by f t (x ∷ xs) = kept_cell x (lli_with t x (f x)) ∷ with_lli_by f t xs
 
-with_lli_by-insert : (planned : List ℕ) (f : Seen → Option KnownLock) (t : ℕ) (xs : List Seen) (x : Seen)
-    → with_lli_by f t (insert_by (seat_of planned) x xs) ≡ insert_by (seat_with_lli planned) (record { seen = x; lli = lli_with t x (f x) }) (with_lli_by f t xs)
+with_lli_by-insert : (planned : List ℕ) (f : HeardCell → Option KnownLock) (t : ℕ) (xs : List HeardCell) (x : HeardCell)
+    → with_lli_by f t (insert_by (seat_of planned) x xs) ≡ insert_by (cell_seat planned) (kept_cell x (lli_with t x (f x))) (with_lli_by f t xs)
 with_lli_by-insert planned f t [] x = refl
 with_lli_by-insert planned f t (y ∷ xs) x = by (is_before (seat_of planned x) (seat_of planned y)) (with_lli_by-insert planned f t xs x) where
-  one : Seen → CellWithLli
-  one z = record { seen = z; lli = lli_with t z (f z) }
+  one : HeardCell → Cell
+  one z = kept_cell z (lli_with t z (f z))
 
-  by : (b : Bool) → with_lli_by f t (insert_by (seat_of planned) x xs) ≡ insert_by (seat_with_lli planned) (one x) (with_lli_by f t xs)
-      → with_lli_by f t (if b then x ∷ y ∷ xs else y ∷ insert_by (seat_of planned) x xs) ≡ (if b then one x ∷ one y ∷ with_lli_by f t xs else one y ∷ insert_by (seat_with_lli planned) (one x) (with_lli_by f t xs))
+  by : (b : Bool) → with_lli_by f t (insert_by (seat_of planned) x xs) ≡ insert_by (cell_seat planned) (one x) (with_lli_by f t xs)
+      → with_lli_by f t (if b then x ∷ y ∷ xs else y ∷ insert_by (seat_of planned) x xs) ≡ (if b then one x ∷ one y ∷ with_lli_by f t xs else one y ∷ insert_by (cell_seat planned) (one x) (with_lli_by f t xs))
   by true e = refl
   by false e = ap (λ l. one y ∷ l) e
 
 -- a kept cell comes to its place in the order
-with_lli_by-push : (planned : List ℕ) (f : Seen → Option KnownLock) (t : ℕ) (xs : List Seen) (x : Seen)
-    → with_lli_by f t (sorted planned (xs ++ x ∷ [])) ≡ insert_by (seat_with_lli planned) (record { seen = x; lli = lli_with t x (f x) }) (with_lli_by f t (sorted planned xs))
+with_lli_by-push : (planned : List ℕ) (f : HeardCell → Option KnownLock) (t : ℕ) (xs : List HeardCell) (x : HeardCell)
+    → with_lli_by f t (sorted planned (xs ++ x ∷ [])) ≡ insert_by (cell_seat planned) (kept_cell x (lli_with t x (f x))) (with_lli_by f t (sorted planned xs))
 with_lli_by-push planned f t xs x = ap (with_lli_by f t) (sorted-push planned xs x) ∙ with_lli_by-insert planned f t (sorted planned xs) x
 
-pub with_lli_by-same : (f g : Seen → Option KnownLock) (t : ℕ) (xs : List Seen) → ((key : Seen) → f key ≡ g key) → with_lli_by f t xs ≡ with_lli_by g t xs
+pub with_lli_by-same : (f g : HeardCell → Option KnownLock) (t : ℕ) (xs : List HeardCell) → ((key : HeardCell) → f key ≡ g key) → with_lli_by f t xs ≡ with_lli_by g t xs
 with_lli_by-same f g t [] h = refl
-with_lli_by-same f g t (x ∷ xs) h = ap₂ (λ o l. record { seen = x; lli = lli_with t x o } ∷ l) (h x) (with_lli_by-same f g t xs h)
+with_lli_by-same f g t (x ∷ xs) h = ap₂ (λ o l. (kept_cell x (lli_with t x o)) ∷ l) (h x) (with_lli_by-same f g t xs h)
 
-with_lli_by-length : (f : Seen → Option KnownLock) (t : ℕ) (xs : List Seen) → length (with_lli_by f t xs) ≡ length xs
+with_lli_by-length : (f : HeardCell → Option KnownLock) (t : ℕ) (xs : List HeardCell) → length (with_lli_by f t xs) ≡ length xs
 with_lli_by-length f t [] = refl
 with_lli_by-length f t (x ∷ xs) = ap suc (with_lli_by-length f t xs)
 
-with_lli_by-held : (f : Seen → Option KnownLock) (t : ℕ) (xs : List Seen) (y : Seen) → is_held (with_lli_by f t xs) y ≡ is_among xs y
+with_lli_by-held : (f : HeardCell → Option KnownLock) (t : ℕ) (xs : List HeardCell) (y : HeardCell) → is_held (with_lli_by f t xs) y ≡ is_among xs y
 with_lli_by-held f t [] y = refl
 with_lli_by-held f t (x ∷ xs) y = ap (λ b. has_same_key y x || b) (with_lli_by-held f t xs y)
 
 -- the epoch of time t in which these cells were offered
-abbrev pub epoch_of : PlanValue → (Seen → Option KnownLock) → ℕ → List Seen → EpochWithLli
+abbrev pub epoch_of : PlanValue → (HeardCell → Option KnownLock) → ℕ → List HeardCell → EpochValue
 epoch_of p f t xs = record { time = t; gps = with_lli_by f t (sorted p.gps (kept Gps xs)); galileo = with_lli_by f t (sorted p.galileo (kept Galileo xs)) }
 
 -- what becomes of a cell after these
-abbrev pub fate_after : GatherSetup → List Seen → Seen → Fate
+abbrev pub fate_after : GatherSetup → List HeardCell → HeardCell → Fate
 fate_after s xs x =
     if is_planned s x then (if is_among (kept x.satellite.system xs) x then Repeated else (if nat_le most_cells (length (kept x.satellite.system xs)) then Crowded else Kept)) else Skipped
 
-abbrev pub planned_one : GatherSetup → Seen → List Seen
+abbrev pub planned_one : GatherSetup → HeardCell → List HeardCell
 planned_one s x = if is_planned s x then x ∷ [] else []
 
-cells_in_of : (system : System) (p : PlanValue) (f : Seen → Option KnownLock) (t : ℕ) (xs : List Seen) → cells_in system (epoch_of p f t xs) ≡ with_lli_by f t (sorted (planned_of system p) (kept system xs))
+cells_in_of : (system : System) (p : PlanValue) (f : HeardCell → Option KnownLock) (t : ℕ) (xs : List HeardCell) → cells_of system (epoch_of p f t xs) ≡ with_lli_by f t (sorted (planned_of system p) (kept system xs))
 cells_in_of Gps p f t xs = refl
 cells_in_of Galileo p f t xs = refl
 
-pub fate_is : (s : GatherSetup) (f : Seen → Option KnownLock) (t : ℕ) (xs : List Seen) (x : Seen) → fate_of s (cells_in x.satellite.system (epoch_of s.plan f t xs)) x ≡ fate_after s xs x
+pub fate_is : (s : GatherSetup) (f : HeardCell → Option KnownLock) (t : ℕ) (xs : List HeardCell) (x : HeardCell) → fate_of s (cells_of x.satellite.system (epoch_of s.plan f t xs)) x ≡ fate_after s xs x
 fate_is s f t xs x =
     ap (λ ms. fate_of s ms x) (cells_in_of x.satellite.system s.plan f t xs)
     ∙ ap₂ (λ b n. if is_planned s x then (if b then Repeated else (if nat_le most_cells n then Crowded else Kept)) else Skipped)
@@ -80,22 +78,22 @@ fate_is s f t xs x =
       planned = planned_of x.satellite.system s.plan
 
 -- the other system's cells stay
-add_other : (system : System) (ks : List Seen) (x : Seen) → is_of_system system x ≡ false → add system ks x ≡ ks
+add_other : (system : System) (ks : List HeardCell) (x : HeardCell) → is_of_system system x ≡ false → add system ks x ≡ ks
 add_other system ks x h = ap (λ b. if b && not (is_among ks x || nat_le most_cells (length ks)) then ks ++ x ∷ [] else ks) h
 
-add_own : (system : System) (ks : List Seen) (x : Seen) → is_of_system system x ≡ true → add system ks x ≡ (if is_among ks x || nat_le most_cells (length ks) then ks else ks ++ x ∷ [])
+add_own : (system : System) (ks : List HeardCell) (x : HeardCell) → is_of_system system x ≡ true → add system ks x ≡ (if is_among ks x || nat_le most_cells (length ks) then ks else ks ++ x ∷ [])
 add_own system ks x h =
     ap (λ b. if b && not (is_among ks x || nat_le most_cells (length ks)) then ks ++ x ∷ [] else ks) h ∙ by (is_among ks x || nat_le most_cells (length ks)) where
       by : (b : Bool) → (if not b then ks ++ x ∷ [] else ks) ≡ (if b then ks else ks ++ x ∷ [])
       by true = refl
       by false = refl
 
-abbrev pub epoch_by : PlanValue → Fate → (Seen → Option KnownLock) → EpochWithLli → Seen → EpochWithLli
-epoch_by p Kept f e x = with_more p e (record { seen = x; lli = lli_with e.time x (f x) })
+abbrev pub epoch_by : PlanValue → Fate → (HeardCell → Option KnownLock) → EpochValue → HeardCell → EpochValue
+epoch_by p Kept f e x = with_more p e (kept_cell x (lli_with e.time x (f x)))
 epoch_by p _ f e x = e
 
 -- a cell of GPS
-one_gps : (s : GatherSetup) (f : Seen → Option KnownLock) (t : ℕ) (xs : List Seen) (x : Seen) (p a n : Bool) → x.satellite.system ≡ Gps
+one_gps : (s : GatherSetup) (f : HeardCell → Option KnownLock) (t : ℕ) (xs : List HeardCell) (x : HeardCell) (p a n : Bool) → x.satellite.system ≡ Gps
     → is_planned s x ≡ p → is_among (kept Gps xs) x ≡ a → nat_le most_cells (length (kept Gps xs)) ≡ n
     → epoch_by s.plan (if p then (if a then Repeated else (if n then Crowded else Kept)) else Skipped) f (epoch_of s.plan f t xs) x ≡ epoch_of s.plan f t (xs ++ (if p then x ∷ [] else []))
 one_gps s f t xs x false a n g e h k = ap (epoch_of s.plan f t) (sym (append-nil xs))
@@ -109,9 +107,9 @@ one_gps s f t xs x true a n g e h k = by a n h k where
   same : kept Gps (xs ++ x ∷ []) ≡ kept Gps xs → epoch_of s.plan f t xs ≡ epoch_of s.plan f t (xs ++ x ∷ [])
   same e = sym (ap₂ (λ u v. record { time = t; gps = with_lli_by f t (sorted s.plan.gps u); galileo = with_lli_by f t (sorted s.plan.galileo v) }) e other)
 
-  more : kept Gps (xs ++ x ∷ []) ≡ kept Gps xs ++ x ∷ [] → with_more s.plan (epoch_of s.plan f t xs) (record { seen = x; lli = lli_with t x (f x) }) ≡ epoch_of s.plan f t (xs ++ x ∷ [])
+  more : kept Gps (xs ++ x ∷ []) ≡ kept Gps xs ++ x ∷ [] → with_more s.plan (epoch_of s.plan f t xs) (kept_cell x (lli_with t x (f x))) ≡ epoch_of s.plan f t (xs ++ x ∷ [])
   more e =
-      ap (λ c. with_more_in c s.plan (epoch_of s.plan f t xs) (record { seen = x; lli = lli_with t x (f x) })) g
+      ap (λ c. with_more_in c s.plan (epoch_of s.plan f t xs) (kept_cell x (lli_with t x (f x)))) g
       ∙ ap (λ l. record { time = t; gps = l; galileo = with_lli_by f t (sorted s.plan.galileo (kept Galileo xs)) }) (sym (with_lli_by-push s.plan.gps f t (kept Gps xs) x))
       ∙ sym (ap₂ (λ u v. record { time = t; gps = with_lli_by f t (sorted s.plan.gps u); galileo = with_lli_by f t (sorted s.plan.galileo v) }) e other)
 
@@ -122,7 +120,7 @@ one_gps s f t xs x true a n g e h k = by a n h k where
   by false false h k = more (own ∙ ap₂ (λ b c. if b || c then kept Gps xs else kept Gps xs ++ x ∷ []) h k)
 
 -- a cell of Galileo
-one_galileo : (s : GatherSetup) (f : Seen → Option KnownLock) (t : ℕ) (xs : List Seen) (x : Seen) (p a n : Bool) → x.satellite.system ≡ Galileo
+one_galileo : (s : GatherSetup) (f : HeardCell → Option KnownLock) (t : ℕ) (xs : List HeardCell) (x : HeardCell) (p a n : Bool) → x.satellite.system ≡ Galileo
     → is_planned s x ≡ p → is_among (kept Galileo xs) x ≡ a → nat_le most_cells (length (kept Galileo xs)) ≡ n
     → epoch_by s.plan (if p then (if a then Repeated else (if n then Crowded else Kept)) else Skipped) f (epoch_of s.plan f t xs) x ≡ epoch_of s.plan f t (xs ++ (if p then x ∷ [] else []))
 one_galileo s f t xs x false a n g e h k = ap (epoch_of s.plan f t) (sym (append-nil xs))
@@ -136,9 +134,9 @@ one_galileo s f t xs x true a n g e h k = by a n h k where
   same : kept Galileo (xs ++ x ∷ []) ≡ kept Galileo xs → epoch_of s.plan f t xs ≡ epoch_of s.plan f t (xs ++ x ∷ [])
   same e = sym (ap₂ (λ u v. record { time = t; gps = with_lli_by f t (sorted s.plan.gps u); galileo = with_lli_by f t (sorted s.plan.galileo v) }) other e)
 
-  more : kept Galileo (xs ++ x ∷ []) ≡ kept Galileo xs ++ x ∷ [] → with_more s.plan (epoch_of s.plan f t xs) (record { seen = x; lli = lli_with t x (f x) }) ≡ epoch_of s.plan f t (xs ++ x ∷ [])
+  more : kept Galileo (xs ++ x ∷ []) ≡ kept Galileo xs ++ x ∷ [] → with_more s.plan (epoch_of s.plan f t xs) (kept_cell x (lli_with t x (f x))) ≡ epoch_of s.plan f t (xs ++ x ∷ [])
   more e =
-      ap (λ c. with_more_in c s.plan (epoch_of s.plan f t xs) (record { seen = x; lli = lli_with t x (f x) })) g
+      ap (λ c. with_more_in c s.plan (epoch_of s.plan f t xs) (kept_cell x (lli_with t x (f x)))) g
       ∙ ap (λ l. record { time = t; gps = with_lli_by f t (sorted s.plan.gps (kept Gps xs)); galileo = l }) (sym (with_lli_by-push s.plan.galileo f t (kept Galileo xs) x))
       ∙ sym (ap₂ (λ u v. record { time = t; gps = with_lli_by f t (sorted s.plan.gps u); galileo = with_lli_by f t (sorted s.plan.galileo v) }) other e)
 
@@ -149,7 +147,7 @@ one_galileo s f t xs x true a n g e h k = by a n h k where
   by false false h k = more (own ∙ ap₂ (λ b c. if b || c then kept Galileo xs else kept Galileo xs ++ x ∷ []) h k)
 
 -- a cell more: the held epoch is that of the longer list
-one_more : (s : GatherSetup) (f : Seen → Option KnownLock) (t : ℕ) (xs : List Seen) (x : Seen)
+one_more : (s : GatherSetup) (f : HeardCell → Option KnownLock) (t : ℕ) (xs : List HeardCell) (x : HeardCell)
     → epoch_by s.plan (fate_after s xs x) f (epoch_of s.plan f t xs) x ≡ epoch_of s.plan f t (xs ++ planned_one s x)
 one_more s f t xs x = by x.satellite.system refl where
   by : (system : System) → x.satellite.system ≡ system
@@ -163,25 +161,25 @@ one_more s f t xs x = by x.satellite.system refl where
       ∙ one_galileo s f t xs x _ _ _ g refl refl refl
 
 -- counts of cells that come after these, one by one
-abbrev pub counts_after : GatherSetup → List Seen → CellCounts → List Seen → CellCounts
+abbrev pub counts_after : GatherSetup → List HeardCell → CellCounts → List HeardCell → CellCounts
 counts_after s xs n [] = n
 counts_after s xs n (y ∷ ys) = counts_after s (xs ++ planned_one s y) (count_in (fate_after s xs y) n) ys
 
-pub hold_is : (k : Fate) (g : Gathered) (x : Seen) → hold_by k g x ≡ record g { epoch = epoch_by g.clock.setup.plan k (lookup g.locks) g.epoch x }
+pub hold_is : (k : Fate) (g : Gathered) (x : HeardCell) → hold_by k g x ≡ record g { epoch = epoch_by g.clock.setup.plan k (lookup g.locks) g.epoch x }
 hold_is Kept g x = refl
 hold_is Skipped g x = refl
 hold_is Repeated g x = refl
 hold_is Crowded g x = refl
 
 -- the cells of a message, held one by one
-pub load_is : (g : Gathered) (n : CellCounts) (t : ℕ) (xs ys : List Seen) → g.epoch ≡ epoch_of g.clock.setup.plan (lookup g.locks) t xs
+pub load_is : (g : Gathered) (n : CellCounts) (t : ℕ) (xs ys : List HeardCell) → g.epoch ≡ epoch_of g.clock.setup.plan (lookup g.locks) t xs
     → load (record { state = g; counts = n }) ys
     ≡ record { state = record g { epoch = epoch_of g.clock.setup.plan (lookup g.locks) t (xs ++ filter (is_planned g.clock.setup) ys) }; counts = counts_after g.clock.setup xs n ys }
 load_is g n t xs [] h = ap (λ e. record { state = record g { epoch = e }; counts = n }) (h ∙ ap (epoch_of g.clock.setup.plan (lookup g.locks) t) (sym (append-nil xs)))
 load_is g n t xs (y ∷ ys) h =
     let s = g.clock.setup in
     let f = lookup g.locks in
-    let fate : fate_in g y ≡ fate_after s xs y = ap (λ e. fate_of s (cells_in y.satellite.system e) y) h ∙ fate_is s f t xs y in
+    let fate : fate_in g y ≡ fate_after s xs y = ap (λ e. fate_of s (cells_of y.satellite.system e) y) h ∙ fate_is s f t xs y in
     let after : hold g y ≡ record g { epoch = epoch_of s.plan f t (xs ++ planned_one s y) } =
     ap (λ k. hold_by k g y) fate ∙ hold_is (fate_after s xs y) g y
     ∙ ap (λ e. record g { epoch = e }) (ap (λ e. epoch_by s.plan (fate_after s xs y) f e y) h ∙ one_more s f t xs y) in
@@ -189,6 +187,6 @@ load_is g n t xs (y ∷ ys) h =
     ∙ load_is (record g { epoch = epoch_of s.plan f t (xs ++ planned_one s y) }) (count_in (fate_after s xs y) n) t (xs ++ planned_one s y) ys refl
     ∙ ap (λ l. record { state = record g { epoch = epoch_of s.plan f t l }; counts = counts_after s (xs ++ planned_one s y) (count_in (fate_after s xs y) n) ys })
     (append_assoc xs (planned_one s y) (filter (is_planned s) ys) ∙ ap (λ l. xs ++ l) (split (is_planned s y) y (filter (is_planned s) ys))) where
-      split : (b : Bool) (y : Seen) (l : List Seen) → (if b then y ∷ [] else []) ++ l ≡ cond b (y ∷ l) l
+      split : (b : Bool) (y : HeardCell) (l : List HeardCell) → (if b then y ∷ [] else []) ++ l ≡ cond b (y ∷ l) l
       split true y l = refl
       split false y l = refl

@@ -10,16 +10,15 @@ use Rattle.std.proofs.lemmas.List.Sums.{sum_by-cons, sum_by-set}
 use Rattle.std.proofs.lemmas.List.Elements.{filter-append}
 use Rattle.gnss_obs.specs.declared.system.System.{System}
 use Rattle.gnss_obs.specs.declared.system.System.TheVariants.{Gps, Galileo}
-use Rattle.obs_epoch.specs.declared.seen.Seen.{Seen}
-use Rattle.obs_epoch.specs.declared.seen.KnownLock.{KnownLock}
-use Rattle.obs_epoch.specs.WithLli.{CellWithLli}
 use Rattle.obs_epoch.specs.Cells.{has_same_key, is_among, has_listed_key, firsts}
 use Rattle.gnss_obs.specs.Satellites.{satellites}
 use Rattle.gnss_obs.specs.Signals.{table}
-use Rattle.obs_epoch.specs.WithLli.{IsKey}
 use Rattle.obs_epoch.specs.Loss.{lock_of, is_locked}
 use Rattle.obs_epoch.specs.Held.{lookup, put, note, note_all, lock_place_in, lock_place, most_locks, no_locks, recorded, one_if_new, TracksLocks}
 use Rattle.obs_epoch.proofs.CellsLemmas.{same_key_laws, firsts-push, new_key, among-push}
+use Rattle.obs_epoch.specs.Heard.{HeardCell, IsKey, heard_of}
+use Rattle.obs_epoch.specs.declared.lli.KnownLock.{KnownLock}
+use Rattle.obs_epoch.specs.declared.cell.Cell.{Cell}
 
 -- ---- keys and their entries
 
@@ -51,12 +50,12 @@ place_differs Galileo Galileo s i t j p q ls lt li lj e = (let d = differs_galil
 place_differs Gps Galileo s i t j p q ls lt li lj e = absurd (apart s i _ p ls li e)
 place_differs Galileo Gps s i t j p q ls lt li lj e = absurd (apart t j _ q lt lj (sym e))
 
-record Listed (x : Seen) : Type 0 where
+record Listed (x : HeardCell) : Type 0 where
   one : 0 < x.satellite.id
   most : x.satellite.id ≤ satellites x.satellite.system
   signal : x.signal.index < length (table x.satellite.system)
 
-listed : (x : Seen) → IsKey x → Listed x
+listed : (x : HeardCell) → IsKey x → Listed x
 listed x h = record {
   one = omega (arith, h.satellite.0);
   most = h.satellite.1;
@@ -72,18 +71,18 @@ from_listed system id index h = (grind (arith, h), grind (arith, h), grind (arit
 to_listed : (system : System) (id index : ℕ) → 0 < id → id ≤ satellites system → index < length (table system) → listed_at system id index ≡ true
 to_listed system id index a b c = grind (arith, a, b, c)
 
-pub entry_below : (x : Seen) → has_listed_key x ≡ true → lock_place x < most_locks
+pub entry_below : (x : HeardCell) → has_listed_key x ≡ true → lock_place x < most_locks
 entry_below x h =
     let l = from_listed x.satellite.system x.satellite.id x.signal.index h in
     below_place x.satellite.system x.satellite.id x.signal.index l.0 l.1 l.2
 
 -- cells of one key
-record SameParts (x y : Seen) : Type 0 where
+record SameParts (x y : HeardCell) : Type 0 where
   system : x.satellite.system ≡ y.satellite.system
   id : x.satellite.id ≡ y.satellite.id
   index : x.signal.index ≡ y.signal.index
 
-same_parts : (x y : Seen) → has_same_key x y ≡ true → SameParts x y
+same_parts : (x y : HeardCell) → has_same_key x y ≡ true → SameParts x y
 same_parts x y h = by x.satellite.system y.satellite.system refl refl where
   by : (a b : System) → x.satellite.system ≡ a → y.satellite.system ≡ b → SameParts x y
   by Gps Gps p q = record { system = p ∙ sym q; id = grind (arith, p, q, h); index = grind (arith, p, q, h) }
@@ -91,7 +90,7 @@ same_parts x y h = by x.satellite.system y.satellite.system refl refl where
   by Gps Galileo p q = absurd (grind (arith, p, q, h))
   by Galileo Gps p q = absurd (grind (arith, p, q, h))
 
-of_parts : (x y : Seen) → SameParts x y → has_same_key x y ≡ true
+of_parts : (x y : HeardCell) → SameParts x y → has_same_key x y ≡ true
 of_parts x y h = by x.satellite.system y.satellite.system refl refl where
   by : (a b : System) → x.satellite.system ≡ a → y.satellite.system ≡ b → has_same_key x y ≡ true
   by Gps Gps p q = grind (arith, p, q, h.id, h.index)
@@ -99,17 +98,17 @@ of_parts x y h = by x.satellite.system y.satellite.system refl refl where
   by Gps Galileo p q = absurd (grind (arith, p, q, h.system))
   by Galileo Gps p q = absurd (grind (arith, p, q, h.system))
 
-pub same_listed : (x y : Seen) → has_same_key x y ≡ true → has_listed_key x ≡ has_listed_key y
+pub same_listed : (x y : HeardCell) → has_same_key x y ≡ true → has_listed_key x ≡ has_listed_key y
 same_listed x y h =
     let s = same_parts x y h in
     ap (λ c. listed_at c x.satellite.id x.signal.index) s.system ∙ ap₂ (λ i j. listed_at y.satellite.system i j) s.id s.index
 
-same_entry : (x y : Seen) → has_same_key x y ≡ true → lock_place x ≡ lock_place y
+same_entry : (x y : HeardCell) → has_same_key x y ≡ true → lock_place x ≡ lock_place y
 same_entry x y h =
     let s = same_parts x y h in
     ap (λ c. lock_place_in c x.satellite.id x.signal.index) s.system ∙ ap₂ (λ i j. lock_place_in y.satellite.system i j) s.id s.index
 
-other_entry : (x y : Seen) → has_listed_key x ≡ true → has_listed_key y ≡ true → has_same_key x y ≡ false → lock_place x ≢ lock_place y
+other_entry : (x y : HeardCell) → has_listed_key x ≡ true → has_listed_key y ≡ true → has_same_key x y ≡ false → lock_place x ≢ lock_place y
 other_entry x y l m h e =
     let a = from_listed x.satellite.system x.satellite.id x.signal.index l in
     let b = from_listed y.satellite.system y.satellite.id y.signal.index m in
@@ -122,10 +121,10 @@ other_entry x y l m h e =
 abbrev answer : Bool → KnownLock → Option KnownLock → Option KnownLock
 answer same l o = if same then Some l else o
 
-pub lookup_listed : (ts : List (Option KnownLock)) (x : Seen) → has_listed_key x ≡ true → lookup ts x ≡ get_or ts (lock_place x) None
+pub lookup_listed : (ts : List (Option KnownLock)) (x : HeardCell) → has_listed_key x ≡ true → lookup ts x ≡ get_or ts (lock_place x) None
 lookup_listed ts x h = ap (λ b. if b then get_or ts (lock_place x) None else None) h
 
-pub lookup-put : (ts : List (Option KnownLock)) (x key : Seen) (l : KnownLock) → has_listed_key x ≡ true → length ts ≡ most_locks
+pub lookup-put : (ts : List (Option KnownLock)) (x key : HeardCell) (l : KnownLock) → has_listed_key x ≡ true → length ts ≡ most_locks
     → lookup (put ts x l) key ≡ answer (has_same_key key x) l (lookup ts key)
 lookup-put ts x key l k size = by (has_listed_key key) (has_same_key key x) refl refl where
   less : lock_place x < length ts
@@ -138,11 +137,11 @@ lookup-put ts x key l k size = by (has_listed_key key) (has_same_key key x) refl
   by false true e f = let same = same_listed key x f in absurd (grind (arith, same, e, k))
   by false false e f = refl
 
-abbrev lock_for : Seen → ℕ → Seen → Option KnownLock
+abbrev lock_for : HeardCell → ℕ → HeardCell → Option KnownLock
 lock_for key t x = if has_same_key key x then lock_of t x else None
 
 -- what is found after a cell is noted
-pub lookup-note : (t : ℕ) (ts : List (Option KnownLock)) (x key : Seen) → has_listed_key x ≡ true → length ts ≡ most_locks
+pub lookup-note : (t : ℕ) (ts : List (Option KnownLock)) (x key : HeardCell) → has_listed_key x ≡ true → length ts ≡ most_locks
     → lookup (note t ts x) key ≡ option_or (lock_for key t x) (lookup ts key)
 lookup-note t ts x key k size = by (lock_of t x) where
   turn : (b : Bool) (l : KnownLock) (o : Option KnownLock) → answer b l o ≡ option_or (if b then Some l else None) o
@@ -157,51 +156,51 @@ lookup-note t ts x key k size = by (lock_of t x) where
   by None = none (has_same_key key x) (lookup ts key)
   by (Some l) = lookup-put ts x key l k size ∙ turn (has_same_key key x) l (lookup ts key)
 
-pub note_size : (t : ℕ) (ts : List (Option KnownLock)) (x : Seen) → length (note t ts x) ≡ length ts
+pub note_size : (t : ℕ) (ts : List (Option KnownLock)) (x : HeardCell) → length (note t ts x) ≡ length ts
 note_size t ts x = by (lock_of t x) where
   by : (l : Option KnownLock) → length (option_map_or (put ts x) l ts) ≡ length ts
   by None = refl
   by (Some l) = length-set ts (lock_place x) (Some l)
 
-pub note_all_size : (t : ℕ) (ts : List (Option KnownLock)) (ms : List CellWithLli) → length (note_all t ts ms) ≡ length ts
+pub note_all_size : (t : ℕ) (ts : List (Option KnownLock)) (ms : List Cell) → length (note_all t ts ms) ≡ length ts
 note_all_size t ts [] = refl
-note_all_size t ts (m ∷ ms) = note_all_size t (note t ts m.seen) ms ∙ note_size t ts m.seen
+note_all_size t ts (m ∷ ms) = note_all_size t (note t ts (heard_of m)) ms ∙ note_size t ts (heard_of m)
 
-abbrev pub AllListed : List Seen → Type 0
+abbrev pub AllListed : List HeardCell → Type 0
 AllListed xs = AllByRecursion (λ x. has_listed_key x ≡ true) xs
 
 -- ---- after all cells of an epoch
 
-abbrev pub seens : List CellWithLli → List Seen
-seens ms = map (λ (m : CellWithLli). m.seen) ms
+abbrev pub seens : List Cell → List HeardCell
+seens ms = map (λ (m : Cell). (heard_of m)) ms
 
-pub find_none : (key : Seen) (xs : List Seen) → is_among xs key ≡ false → find (has_same_key key) xs ≡ None
+pub find_none : (key : HeardCell) (xs : List HeardCell) → is_among xs key ≡ false → find (has_same_key key) xs ≡ None
 find_none key [] h = refl
 find_none key (x ∷ xs) h = by (has_same_key key x) h (find_none key xs) where
   by : (b : Bool) → (b || is_among xs key) ≡ false → (is_among xs key ≡ false → find (has_same_key key) xs ≡ None) → (if b then Some x else find (has_same_key key) xs) ≡ None
   by true h more = grind (arith, h)
   by false h more = more h
 
-head_apart : (x : Seen) (xs : List Seen) → IsDistinct has_same_key (x ∷ xs) → is_among xs x ≡ false
+head_apart : (x : HeardCell) (xs : List HeardCell) → IsDistinct has_same_key (x ∷ xs) → is_among xs x ≡ false
 head_apart x xs d = none xs (IsDistinct-head has_same_key x xs d) where
-  none : (ys : List Seen) → AllByRecursion (λ y. has_same_key x y ≡ false) ys → is_among ys x ≡ false
+  none : (ys : List HeardCell) → AllByRecursion (λ y. has_same_key x y ≡ false) ys → is_among ys x ≡ false
   none [] h = refl
   none (y ∷ ys) h = ap (λ b. b || is_among ys x) h.0 ∙ none ys h.1
 
-pub lookup-note_all : (t : ℕ) (ts : List (Option KnownLock)) (ms : List CellWithLli) (key : Seen) → IsDistinct has_same_key (seens ms) → AllListed (seens ms) → length ts ≡ most_locks
+pub lookup-note_all : (t : ℕ) (ts : List (Option KnownLock)) (ms : List Cell) (key : HeardCell) → IsDistinct has_same_key (seens ms) → AllListed (seens ms) → length ts ≡ most_locks
     → lookup (note_all t ts ms) key ≡ option_or (option_and_then (lock_of t) (find (has_same_key key) (seens ms))) (lookup ts key)
 lookup-note_all t ts [] key d k size = refl
 lookup-note_all t ts (m ∷ ms) key d k size =
-    lookup-note_all t (note t ts m.seen) ms key (IsDistinct-tail has_same_key m.seen (seens ms) d) k.1 (note_size t ts m.seen ∙ size)
-    ∙ ap (λ o. option_or (option_and_then (lock_of t) (find (has_same_key key) (seens ms))) o) (lookup-note t ts m.seen key k.0 size)
-    ∙ by (has_same_key key m.seen) refl where
-      by : (b : Bool) → has_same_key key m.seen ≡ b
-          → option_or (option_and_then (lock_of t) (find (has_same_key key) (seens ms))) (option_or (if b then lock_of t m.seen else None) (lookup ts key))
-          ≡ option_or (option_and_then (lock_of t) (if b then Some m.seen else find (has_same_key key) (seens ms))) (lookup ts key)
+    lookup-note_all t (note t ts (heard_of m)) ms key (IsDistinct-tail has_same_key (heard_of m) (seens ms) d) k.1 (note_size t ts (heard_of m) ∙ size)
+    ∙ ap (λ o. option_or (option_and_then (lock_of t) (find (has_same_key key) (seens ms))) o) (lookup-note t ts (heard_of m) key k.0 size)
+    ∙ by (has_same_key key (heard_of m)) refl where
+      by : (b : Bool) → has_same_key key (heard_of m) ≡ b
+          → option_or (option_and_then (lock_of t) (find (has_same_key key) (seens ms))) (option_or (if b then lock_of t (heard_of m) else None) (lookup ts key))
+          ≡ option_or (option_and_then (lock_of t) (if b then Some (heard_of m) else find (has_same_key key) (seens ms))) (lookup ts key)
       by true e =
           let none : find (has_same_key key) (seens ms) ≡ None =
-          find_none key (seens ms) (list_any_congr same_key_laws key m.seen (seens ms) e ∙ head_apart m.seen (seens ms) d) in
-          ap (λ o. option_or (option_and_then (lock_of t) o) (option_or (lock_of t m.seen) (lookup ts key))) none
+          find_none key (seens ms) (list_any_congr same_key_laws key (heard_of m) (seens ms) e ∙ head_apart (heard_of m) (seens ms) d) in
+          ap (λ o. option_or (option_and_then (lock_of t) o) (option_or (lock_of t (heard_of m)) (lookup ts key))) none
       by false e = refl
 
 -- ---- how many they are: as many as there are keys among the locked cells noted
@@ -212,22 +211,22 @@ recorded-set ts i l h = by (get_or ts i None) (sum_by-set (λ o. cond (is_some {
   by None e = omega (arith, e)
   by (Some k) e = omega (arith, e)
 
-abbrev is_new : List Seen → Seen → ℕ
+abbrev is_new : List HeardCell → HeardCell → ℕ
 is_new xs y = if is_among xs y then 0 else 1
 
-length_firsts-push : (xs : List Seen) (y : Seen) → length (firsts (xs ++ y ∷ [])) ≡ length (firsts xs) + is_new xs y
+length_firsts-push : (xs : List HeardCell) (y : HeardCell) → length (firsts (xs ++ y ∷ [])) ≡ length (firsts xs) + is_new xs y
 length_firsts-push xs y =
     ap length (firsts-push xs y) ∙ length-append (firsts xs) (new_key xs y) ∙ ap (λ n. length (firsts xs) + n) (by (is_among xs y)) where
       by : (b : Bool) → length (if b then [] else y ∷ []) ≡ (if b then 0 else 1)
       by true = refl
       by false = refl
 
-recorded-put : (ts : List (Option KnownLock)) (x : Seen) (l : KnownLock) → has_listed_key x ≡ true → length ts ≡ most_locks → recorded (put ts x l) ≡ recorded ts + (if is_some (lookup ts x) then 0 else 1)
+recorded-put : (ts : List (Option KnownLock)) (x : HeardCell) (l : KnownLock) → has_listed_key x ≡ true → length ts ≡ most_locks → recorded (put ts x l) ≡ recorded ts + (if is_some (lookup ts x) then 0 else 1)
 recorded-put ts x l k size =
     recorded-set ts (lock_place x) l (subst (λ n. lock_place x < n) (sym size) (entry_below x k))
     ∙ ap (λ o. recorded ts + one_if_new o) (sym (lookup_listed ts x k))
 
-pub tracks_put : (ts : List (Option KnownLock)) (noted : List Seen) (x : Seen) (l : KnownLock) → has_listed_key x ≡ true → TracksLocks ts noted → TracksLocks (put ts x l) (noted ++ x ∷ [])
+pub tracks_put : (ts : List (Option KnownLock)) (noted : List HeardCell) (x : HeardCell) (l : KnownLock) → has_listed_key x ≡ true → TracksLocks ts noted → TracksLocks (put ts x l) (noted ++ x ∷ [])
 tracks_put ts noted x l k h = record {
   has = λ key. ap is_some (lookup-put ts x key l k h.size) ∙ by (has_same_key key x) (lookup ts key) (is_among noted key) (h.has key) ∙ sym (among-push noted x key);
   count = recorded-put ts x l k h.size ∙ ap₂ (λ n b. n + (if b then 0 else 1)) h.count (h.has x) ∙ sym (length_firsts-push noted x);
@@ -240,27 +239,27 @@ tracks_put ts noted x l k h = record {
   by false o false e = e
 
 -- the cells of these that are locked
-abbrev pub locked : List Seen → List Seen
+abbrev pub locked : List HeardCell → List HeardCell
 locked xs = filter is_locked xs
 
-is_some_lock : (t : ℕ) (x : Seen) → is_some (lock_of t x) ≡ is_locked x
+is_some_lock : (t : ℕ) (x : HeardCell) → is_some (lock_of t x) ≡ is_locked x
 is_some_lock t x = by (is_locked x) where
   by : (b : Bool) → is_some {T = KnownLock} (if b then Some (record { time = t; lock = x.lock }) else None) ≡ b
   by true = refl
   by false = refl
 
-pub tracks_note : (t : ℕ) (rs : List (Option KnownLock)) (noted : List Seen) (x : Seen) → has_listed_key x ≡ true → TracksLocks rs noted → TracksLocks (note t rs x) (noted ++ locked (x ∷ []))
+pub tracks_note : (t : ℕ) (rs : List (Option KnownLock)) (noted : List HeardCell) (x : HeardCell) → has_listed_key x ≡ true → TracksLocks rs noted → TracksLocks (note t rs x) (noted ++ locked (x ∷ []))
 tracks_note t rs noted x k h = by (lock_of t x) (is_some_lock t x) where
   by : (o : Option KnownLock) → is_some o ≡ is_locked x → TracksLocks (option_map_or (put rs x) o rs) (noted ++ cond (is_locked x) (x ∷ []) [])
   by None e = subst (λ b. TracksLocks rs (noted ++ cond b (x ∷ []) [])) e (subst (TracksLocks rs) (sym (append-nil noted)) h)
   by (Some l) e = subst (λ b. TracksLocks (put rs x l) (noted ++ cond b (x ∷ []) [])) e (tracks_put rs noted x l k h)
 
-pub tracks_all : (t : ℕ) (rs : List (Option KnownLock)) (noted : List Seen) (ms : List CellWithLli) → AllListed (seens ms) → TracksLocks rs noted → TracksLocks (note_all t rs ms) (noted ++ locked (seens ms))
+pub tracks_all : (t : ℕ) (rs : List (Option KnownLock)) (noted : List HeardCell) (ms : List Cell) → AllListed (seens ms) → TracksLocks rs noted → TracksLocks (note_all t rs ms) (noted ++ locked (seens ms))
 tracks_all t rs noted [] k h = subst (TracksLocks rs) (sym (append-nil noted)) h
 tracks_all t rs noted (m ∷ ms) k h =
-    subst (TracksLocks (note_all t (note t rs m.seen) ms))
-    (append_assoc noted (locked (m.seen ∷ [])) (locked (seens ms)) ∙ ap (λ l. noted ++ l) (sym (filter-append is_locked (m.seen ∷ []) (seens ms))))
-    (tracks_all t (note t rs m.seen) (noted ++ locked (m.seen ∷ [])) ms k.1 (tracks_note t rs noted m.seen k.0 h))
+    subst (TracksLocks (note_all t (note t rs (heard_of m)) ms))
+    (append_assoc noted (locked ((heard_of m) ∷ [])) (locked (seens ms)) ∙ ap (λ l. noted ++ l) (sym (filter-append is_locked ((heard_of m) ∷ []) (seens ms))))
+    (tracks_all t (note t rs (heard_of m)) (noted ++ locked ((heard_of m) ∷ [])) ms k.1 (tracks_note t rs noted (heard_of m) k.0 h))
 
 -- ---- no records
 
@@ -276,7 +275,7 @@ no_entry zero i = refl
 no_entry (suc n) zero = refl
 no_entry (suc n) (suc i) = no_entry n i
 
-pub none_found : (key : Seen) → lookup no_locks key ≡ None
+pub none_found : (key : HeardCell) → lookup no_locks key ≡ None
 none_found key = by (has_listed_key key) where
   by : (b : Bool) → (if b then get_or no_locks (lock_place key) None else None) ≡ None
   by true = no_entry most_locks (lock_place key)

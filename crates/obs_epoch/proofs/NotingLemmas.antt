@@ -8,26 +8,24 @@ use Rattle.std.proofs.lemmas.Grind.{flat_map-append}
 use Rattle.std.proofs.lemmas.Map.Keys.{IsDistinct-push}
 use Rattle.gnss_obs.specs.declared.system.System.{System}
 use Rattle.gnss_obs.specs.declared.system.System.TheVariants.{Gps, Galileo}
-use Rattle.obs_epoch.specs.declared.seen.Seen.{Seen}
-use Rattle.obs_epoch.specs.WithLli.{CellWithLli}
-use Rattle.obs_epoch.specs.declared.seen.KnownLock.{KnownLock}
-use Rattle.obs_epoch.specs.Heard.{GatherSetup}
+use Rattle.obs_epoch.specs.Heard.{GatherSetup, HeardCell}
 use Rattle.obs_epoch.specs.Times.{Timed, is_at}
 use Rattle.obs_epoch.specs.Cells.{is_of_system, has_listed_key, is_planned, has_same_key, is_among, kept, kept_at, add, offered}
-use Rattle.obs_epoch.specs.Values.{most_cells, planned_of}
+use Rattle.obs_epoch.specs.Values.{most_cells, planned_of, EpochValue}
 use Rattle.obs_epoch.proofs.OrderLemmas.{among-sorted, all-sorted, distinct-sorted}
 use Rattle.obs_epoch.specs.Loss.{lock_of, locked_at, latest_in, last_of, is_locked}
-use Rattle.obs_epoch.specs.WithLli.{EpochWithLli}
 use Rattle.obs_epoch.specs.Epochs.{cells_with_lli, epoch_at}
 use Rattle.obs_epoch.specs.Held.{lookup, note_all, most_locks, TracksLocks}
 use Rattle.obs_epoch.specs.Gather.{Gathered, noted}
 use Rattle.obs_epoch.specs.Standing.{locked_in, Locked}
 use Rattle.obs_epoch.proofs.CellsLemmas.{kept-add, same_key_laws, among-push, key_system}
 use Rattle.obs_epoch.proofs.LockLemmas.{seens, lookup-note_all, note_all_size, tracks_all, locked, find_none, AllListed}
+use Rattle.obs_epoch.specs.declared.cell.Cell.{Cell}
+use Rattle.obs_epoch.specs.declared.lli.KnownLock.{KnownLock}
 
 -- ---- the kept cells have different keys, all of one system
 
-add_distinct : (system : System) (ks : List Seen) (y : Seen) → IsDistinct has_same_key ks → IsDistinct has_same_key (add system ks y)
+add_distinct : (system : System) (ks : List HeardCell) (y : HeardCell) → IsDistinct has_same_key ks → IsDistinct has_same_key (add system ks y)
 add_distinct system ks y d = by (is_of_system system y) (is_among ks y) (nat_le most_cells (length ks)) refl where
   by : (o a n : Bool) → is_among ks y ≡ a → IsDistinct has_same_key (if o && not (a || n) then ks ++ y ∷ [] else ks)
   by false a n e = d
@@ -35,7 +33,7 @@ add_distinct system ks y d = by (is_of_system system y) (is_among ks y) (nat_le 
   by true false true e = d
   by true false false e = IsDistinct-push same_key_laws ks y d e
 
-distinct_more : (system : System) (xs ys : List Seen) → IsDistinct has_same_key (kept system xs) → IsDistinct has_same_key (kept system (xs ++ ys))
+distinct_more : (system : System) (xs ys : List HeardCell) → IsDistinct has_same_key (kept system xs) → IsDistinct has_same_key (kept system (xs ++ ys))
 distinct_more system xs [] d = subst (λ l. IsDistinct has_same_key (kept system l)) (sym (append-nil xs)) d
 distinct_more system xs (y ∷ ys) d =
     subst (λ l. IsDistinct has_same_key (kept system l)) (append_assoc xs (y ∷ []) ys)
@@ -45,11 +43,11 @@ kept_none : (system : System) → kept system [] ≡ []
 kept_none Gps = refl
 kept_none Galileo = refl
 
-pub kept_distinct : (system : System) (xs : List Seen) → IsDistinct has_same_key (kept system xs)
+pub kept_distinct : (system : System) (xs : List HeardCell) → IsDistinct has_same_key (kept system xs)
 unfolding IsDistinct
 kept_distinct system xs = distinct_more system [] xs (subst (IsDistinct has_same_key) (sym (kept_none system)) tt)
 
-add_apart : (system : System) (ks : List Seen) (y key : Seen) → is_of_system system key ≡ false → is_among ks key ≡ false → is_among (add system ks y) key ≡ false
+add_apart : (system : System) (ks : List HeardCell) (y key : HeardCell) → is_of_system system key ≡ false → is_among ks key ≡ false → is_among (add system ks y) key ≡ false
 add_apart system ks y key o h = by (is_of_system system y) (is_among ks y || nat_le most_cells (length ks)) refl where
   by : (b n : Bool) → is_of_system system y ≡ b → is_among (if b && not n then ks ++ y ∷ [] else ks) key ≡ false
   by false n e = h
@@ -59,29 +57,29 @@ add_apart system ks y key o h = by (is_of_system system y) (is_among ks y || nat
     other false f = refl
     other true f = let same = key_system system key y f in absurd (grind (arith, same, e, o))
 
-apart_more : (system : System) (xs ys : List Seen) (key : Seen) → is_of_system system key ≡ false → is_among (kept system xs) key ≡ false → is_among (kept system (xs ++ ys)) key ≡ false
+apart_more : (system : System) (xs ys : List HeardCell) (key : HeardCell) → is_of_system system key ≡ false → is_among (kept system xs) key ≡ false → is_among (kept system (xs ++ ys)) key ≡ false
 apart_more system xs [] key o h = subst (λ l. is_among (kept system l) key ≡ false) (sym (append-nil xs)) h
 apart_more system xs (y ∷ ys) key o h =
     subst (λ l. is_among (kept system l) key ≡ false) (append_assoc xs (y ∷ []) ys)
     (apart_more system (xs ++ y ∷ []) ys key o (ap (λ l. is_among l key) (kept-add system xs y) ∙ add_apart system (kept system xs) y key o h))
 
-pub kept_apart : (system : System) (xs : List Seen) (key : Seen) → is_of_system system key ≡ false → is_among (kept system xs) key ≡ false
+pub kept_apart : (system : System) (xs : List HeardCell) (key : HeardCell) → is_of_system system key ≡ false → is_among (kept system xs) key ≡ false
 kept_apart system xs key o = apart_more system [] xs key o (ap (λ l. is_among l key) (kept_none system))
 
 -- the same in their order
 at_distinct : (s : GatherSetup) (t : ℕ) (xs : List Timed) (system : System) → IsDistinct has_same_key (kept_at s t xs system)
 at_distinct s t xs system = distinct-sorted (planned_of system s.plan) (kept system (offered s t xs)) (kept_distinct system (offered s t xs))
 
-at_apart : (s : GatherSetup) (t : ℕ) (xs : List Timed) (system : System) (key : Seen) → is_of_system system key ≡ false → is_among (kept_at s t xs system) key ≡ false
+at_apart : (s : GatherSetup) (t : ℕ) (xs : List Timed) (system : System) (key : HeardCell) → is_of_system system key ≡ false → is_among (kept_at s t xs system) key ≡ false
 at_apart s t xs system key o = among-sorted (planned_of system s.plan) (kept system (offered s t xs)) key ∙ kept_apart system (offered s t xs) key o
 
 -- ---- the kept cells are listed
 
-listed_append : (xs ys : List Seen) → AllListed xs → AllListed ys → AllListed (xs ++ ys)
+listed_append : (xs ys : List HeardCell) → AllListed xs → AllListed ys → AllListed (xs ++ ys)
 listed_append [] ys h k = k
 listed_append (x ∷ xs) ys h k = (h.0, listed_append xs ys h.1 k)
 
-listed_planned : (s : GatherSetup) (xs : List Seen) → AllListed (filter (is_planned s) xs)
+listed_planned : (s : GatherSetup) (xs : List HeardCell) → AllListed (filter (is_planned s) xs)
 listed_planned s [] = tt
 listed_planned s (x ∷ xs) = by (is_planned s x) refl (listed_planned s xs) where
   by : (b : Bool) → is_planned s x ≡ b → AllListed (filter (is_planned s) xs) → AllListed (cond b (x ∷ filter (is_planned s) xs) (filter (is_planned s) xs))
@@ -92,13 +90,13 @@ listed_offered : (s : GatherSetup) (xs : List Timed) → AllListed (flat_map (λ
 listed_offered s [] = tt
 listed_offered s (x ∷ xs) = listed_append (filter (is_planned s) x.message.cells) _ (listed_planned s x.message.cells) (listed_offered s xs)
 
-add_listed : (system : System) (ks : List Seen) (y : Seen) → has_listed_key y ≡ true → AllListed ks → AllListed (add system ks y)
+add_listed : (system : System) (ks : List HeardCell) (y : HeardCell) → has_listed_key y ≡ true → AllListed ks → AllListed (add system ks y)
 add_listed system ks y l h = by (is_of_system system y && not (is_among ks y || nat_le most_cells (length ks))) where
   by : (b : Bool) → AllListed (if b then ks ++ y ∷ [] else ks)
   by true = listed_append ks (y ∷ []) h (l, tt)
   by false = h
 
-listed_more : (system : System) (xs ys : List Seen) → AllListed ys → AllListed (kept system xs) → AllListed (kept system (xs ++ ys))
+listed_more : (system : System) (xs ys : List HeardCell) → AllListed ys → AllListed (kept system xs) → AllListed (kept system (xs ++ ys))
 listed_more system xs [] l d = subst (λ v. AllListed (kept system v)) (sym (append-nil xs)) d
 listed_more system xs (y ∷ ys) l d =
     subst (λ v. AllListed (kept system v)) (append_assoc xs (y ∷ []) ys)
@@ -122,16 +120,16 @@ filter_map_push f (u ∷ ts) t = ap (cons_option (f u)) (filter_map_push f ts t)
   by None = refl
   by (Some l) = refl
 
-pub latest_in-push : (s : GatherSetup) (xs : List Timed) (ts : List ℕ) (t : ℕ) (key : Seen)
+pub latest_in-push : (s : GatherSetup) (xs : List Timed) (ts : List ℕ) (t : ℕ) (key : HeardCell)
     → latest_in s xs (ts ++ t ∷ []) key ≡ option_or (locked_at s xs key t) (latest_in s xs ts key)
 latest_in-push s xs ts t key = ap last_of (filter_map_push (locked_at s xs key) ts t) ∙ last_push (filter_map (locked_at s xs key) ts) (locked_at s xs key t)
 
-seens_with_lli : (s : GatherSetup) (xs : List Timed) (t : ℕ) (ks : List Seen) → seens (cells_with_lli s xs t ks) ≡ ks
+seens_with_lli : (s : GatherSetup) (xs : List Timed) (t : ℕ) (ks : List HeardCell) → seens (cells_with_lli s xs t ks) ≡ ks
 seens_with_lli s xs t [] = refl
 seens_with_lli s xs t (k ∷ ks) = ap (λ l. k ∷ l) (seens_with_lli s xs t ks)
 
 -- what is found after an epoch is noted
-noted_found : (s : GatherSetup) (xs : List Timed) (ts : List ℕ) (t : ℕ) (rs : List (Option KnownLock)) (key : Seen) → length rs ≡ most_locks → lookup rs key ≡ latest_in s xs ts key
+noted_found : (s : GatherSetup) (xs : List Timed) (ts : List ℕ) (t : ℕ) (rs : List (Option KnownLock)) (key : HeardCell) → length rs ≡ most_locks → lookup rs key ≡ latest_in s xs ts key
     → lookup (note_all t (note_all t rs (cells_with_lli s xs t (kept_at s t xs Gps))) (cells_with_lli s xs t (kept_at s t xs Galileo))) key ≡ latest_in s xs (ts ++ t ∷ []) key
 noted_found s xs ts t rs key size h =
     lookup-note_all t (note_all t rs gps) galileo key (subst (IsDistinct has_same_key) (sym (seens_with_lli s xs t (kept_at s t xs Galileo))) (at_distinct s t xs Galileo))
@@ -140,10 +138,10 @@ noted_found s xs ts t rs key size h =
     (lookup-note_all t rs gps key (subst (IsDistinct has_same_key) (sym (seens_with_lli s xs t (kept_at s t xs Gps))) (at_distinct s t xs Gps)) (are_listed Gps) size
     ∙ ap₂ (λ l o. option_or (option_and_then (lock_of t) (find (has_same_key key) l)) o) (seens_with_lli s xs t (kept_at s t xs Gps)) h)
     ∙ by key.satellite.system refl ∙ sym (latest_in-push s xs ts t key) where
-      gps : List CellWithLli
+      gps : List Cell
       gps = cells_with_lli s xs t (kept_at s t xs Gps)
 
-      galileo : List CellWithLli
+      galileo : List Cell
       galileo = cells_with_lli s xs t (kept_at s t xs Galileo)
 
       are_listed : (system : System) → AllListed (seens (cells_with_lli s xs t (kept_at s t xs system)))
@@ -178,7 +176,7 @@ noted_tracks s xs ts t rs h =
 pub noted_locked : (g : Gathered) (s : GatherSetup) (xs : List Timed) (ts : List ℕ) (t : ℕ) → g.epoch ≡ epoch_at s xs t → Locked g s xs ts → Locked (noted g) s xs (ts ++ t ∷ [])
 noted_locked g s xs ts t e h =
     let is : (noted g).locks ≡ note_all t (note_all t g.locks (cells_with_lli s xs t (kept_at s t xs Gps))) (cells_with_lli s xs t (kept_at s t xs Galileo)) =
-    ap (λ (v : EpochWithLli). note_all v.time (note_all v.time g.locks v.gps) v.galileo) e in
+    ap (λ (v : EpochValue). note_all v.time (note_all v.time g.locks v.gps) v.galileo) e in
     record {
       found = λ key. ap (λ l. lookup l key) is ∙ noted_found s xs ts t g.locks key h.tracks.size (h.found key);
       tracks = subst (λ l. TracksLocks l (locked_in s xs (ts ++ t ∷ []))) (sym is) (noted_tracks s xs ts t g.locks h.tracks);

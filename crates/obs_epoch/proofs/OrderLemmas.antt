@@ -4,7 +4,6 @@ use Rattle.std.specs.Prelude.{if◌then◌else◌, fold}
 use Rattle.std.proofs.lemmas.List.{get_or-map, length-map}
 use Rattle.std.specs.List.{list_any, AllByRecursion, IsDistinct}
 use Rattle.std.proofs.lemmas.Map.Keys.{IsDistinct-head, IsDistinct-tail, IsDistinct-cons}
-use Rattle.obs_epoch.specs.declared.seen.Seen.{Seen}
 use Rattle.obs_epoch.specs.declared.order.Seat.{Seat}
 use Rattle.obs_epoch.specs.Cells.{has_same_key, is_among}
 use Rattle.obs_epoch.proofs.CellsLemmas.{same_key_laws}
@@ -12,6 +11,7 @@ use Rattle.gnss_obs.specs.declared.system.System.{System}
 use Rattle.obs_epoch.specs.declared.cell.Cell.{Cell}
 use Rattle.obs_epoch.specs.Values.{PlanValue, planned_of}
 use Rattle.obs_epoch.specs.Order.{is_before, SeatsRise, insert_by, spot, cell_seat, seat_of, sorted}
+use Rattle.obs_epoch.specs.Heard.{HeardCell}
 
 -- ---- seats
 
@@ -157,16 +157,16 @@ own_seat system p x cell b v same is e = ap (λ s. is_before x (cell_seat (plann
 
 -- ---- the same cells
 
-pub sorted-push : (planned : List ℕ) (xs : List Seen) (x : Seen) → sorted planned (xs ++ x ∷ []) ≡ insert_by (seat_of planned) x (sorted planned xs)
+pub sorted-push : (planned : List ℕ) (xs : List HeardCell) (x : HeardCell) → sorted planned (xs ++ x ∷ []) ≡ insert_by (seat_of planned) x (sorted planned xs)
 sorted-push planned xs x = from [] xs where
-  from : (ys xs : List Seen) → fold (λ zs z. insert_by (seat_of planned) z zs) ys (xs ++ x ∷ []) ≡ insert_by (seat_of planned) x (fold (λ zs z. insert_by (seat_of planned) z zs) ys xs)
+  from : (ys xs : List HeardCell) → fold (λ zs z. insert_by (seat_of planned) z zs) ys (xs ++ x ∷ []) ≡ insert_by (seat_of planned) x (fold (λ zs z. insert_by (seat_of planned) z zs) ys xs)
   from ys [] = refl
   from ys (z ∷ xs) = from (insert_by (seat_of planned) z ys) xs
 
-abbrev onto : List ℕ → List Seen → List Seen → List Seen
+abbrev onto : List ℕ → List HeardCell → List HeardCell → List HeardCell
 onto planned ys xs = fold (λ zs z. insert_by (seat_of planned) z zs) ys xs
 
-among-onto : (planned : List ℕ) (key : Seen) (ys xs : List Seen) → is_among (onto planned ys xs) key ≡ (is_among ys key || is_among xs key)
+among-onto : (planned : List ℕ) (key : HeardCell) (ys xs : List HeardCell) → is_among (onto planned ys xs) key ≡ (is_among ys key || is_among xs key)
 among-onto planned key ys [] = by (is_among ys key) where
   by : (b : Bool) → b ≡ (b || false)
   by true = refl
@@ -181,34 +181,34 @@ among-onto planned key ys (x ∷ xs) =
       by false true c = refl
       by false false c = refl
 
-pub among-sorted : (planned : List ℕ) (xs : List Seen) (key : Seen) → is_among (sorted planned xs) key ≡ is_among xs key
+pub among-sorted : (planned : List ℕ) (xs : List HeardCell) (key : HeardCell) → is_among (sorted planned xs) key ≡ is_among xs key
 among-sorted planned xs key = among-onto planned key [] xs
 
-length-onto : (planned : List ℕ) (ys xs : List Seen) → length (onto planned ys xs) ≡ length ys + length xs
+length-onto : (planned : List ℕ) (ys xs : List HeardCell) → length (onto planned ys xs) ≡ length ys + length xs
 length-onto planned ys [] = omega arith
 length-onto planned ys (x ∷ xs) =
     let more = length-onto planned (insert_by (seat_of planned) x ys) xs in
     let one = length-insert_by (seat_of planned) x ys in
     omega (arith, more, one)
 
-pub length-sorted : (planned : List ℕ) (xs : List Seen) → length (sorted planned xs) ≡ length xs
+pub length-sorted : (planned : List ℕ) (xs : List HeardCell) → length (sorted planned xs) ≡ length xs
 length-sorted planned xs = let is = length-onto planned [] xs in omega (arith, is)
 
-all-onto : (P : Seen → Type 0) (planned : List ℕ) (ys xs : List Seen) → AllByRecursion P ys → AllByRecursion P xs → AllByRecursion P (onto planned ys xs)
+all-onto : (P : HeardCell → Type 0) (planned : List ℕ) (ys xs : List HeardCell) → AllByRecursion P ys → AllByRecursion P xs → AllByRecursion P (onto planned ys xs)
 all-onto P planned ys [] h k = h
 all-onto P planned ys (x ∷ xs) h k = all-onto P planned (insert_by (seat_of planned) x ys) xs (all-insert_by P (seat_of planned) x ys k.0 h) k.1
 
-pub all-sorted : (P : Seen → Type 0) (planned : List ℕ) (xs : List Seen) → AllByRecursion P xs → AllByRecursion P (sorted planned xs)
+pub all-sorted : (P : HeardCell → Type 0) (planned : List ℕ) (xs : List HeardCell) → AllByRecursion P xs → AllByRecursion P (sorted planned xs)
 all-sorted P planned xs h = all-onto P planned [] xs tt h
 
-unlike : (xs : List Seen) (x : Seen) → is_among xs x ≡ false → AllByRecursion (λ y. has_same_key x y ≡ false) xs
+unlike : (xs : List HeardCell) (x : HeardCell) → is_among xs x ≡ false → AllByRecursion (λ y. has_same_key x y ≡ false) xs
 unlike [] x h = tt
 unlike (y ∷ xs) x h = by (has_same_key x y) refl (unlike xs x) where
   by : (b : Bool) → has_same_key x y ≡ b → (is_among xs x ≡ false → AllByRecursion (λ z. has_same_key x z ≡ false) xs) → AllByRecursion (λ z. has_same_key x z ≡ false) (y ∷ xs)
   by true e more = absurd (grind (arith, e, h))
   by false e more = (e, more (ap (λ b. b || is_among xs x) (sym e) ∙ h))
 
-distinct-insert : (planned : List ℕ) (x : Seen) (ys : List Seen) → IsDistinct has_same_key ys → is_among ys x ≡ false → IsDistinct has_same_key (insert_by (seat_of planned) x ys)
+distinct-insert : (planned : List ℕ) (x : HeardCell) (ys : List HeardCell) → IsDistinct has_same_key ys → is_among ys x ≡ false → IsDistinct has_same_key (insert_by (seat_of planned) x ys)
 distinct-insert planned x [] d h = IsDistinct-cons has_same_key x [] tt d
 distinct-insert planned x (y ∷ ys) d h =
     let other = unlike (y ∷ ys) x h in
@@ -220,26 +220,26 @@ distinct-insert planned x (y ∷ ys) d h =
           IsDistinct-cons has_same_key y (insert_by (seat_of planned) x ys)
           (all-insert_by (λ z. has_same_key y z ≡ false) (seat_of planned) x ys (same_key_laws.symm y x ∙ (unlike (y ∷ ys) x h).0) (IsDistinct-head has_same_key y ys d)) e
 
-abbrev Apart : List Seen → List Seen → Type 0
+abbrev Apart : List HeardCell → List HeardCell → Type 0
 Apart ys xs = AllByRecursion (λ x. is_among ys x ≡ false) xs
 
-still_apart : (planned : List ℕ) (x : Seen) (ys xs : List Seen) → AllByRecursion (λ z. has_same_key x z ≡ false) xs → Apart ys xs → Apart (insert_by (seat_of planned) x ys) xs
+still_apart : (planned : List ℕ) (x : HeardCell) (ys xs : List HeardCell) → AllByRecursion (λ z. has_same_key x z ≡ false) xs → Apart ys xs → Apart (insert_by (seat_of planned) x ys) xs
 still_apart planned x ys [] h k = tt
 still_apart planned x ys (z ∷ xs) h k = (
   any-insert_by (has_same_key z) (seat_of planned) x ys ∙ ap₂ (λ a b. a || b) (same_key_laws.symm z x ∙ h.0) k.0,
   still_apart planned x ys xs h.1 k.1,
 )
 
-distinct-onto : (planned : List ℕ) (ys xs : List Seen) → IsDistinct has_same_key ys → IsDistinct has_same_key xs → Apart ys xs → IsDistinct has_same_key (onto planned ys xs)
+distinct-onto : (planned : List ℕ) (ys xs : List HeardCell) → IsDistinct has_same_key ys → IsDistinct has_same_key xs → Apart ys xs → IsDistinct has_same_key (onto planned ys xs)
 distinct-onto planned ys [] d e a = d
 distinct-onto planned ys (x ∷ xs) d e a =
     distinct-onto planned (insert_by (seat_of planned) x ys) xs (distinct-insert planned x ys d a.0) (IsDistinct-tail has_same_key x xs e)
     (still_apart planned x ys xs (IsDistinct-head has_same_key x xs e) a.1)
 
-none_apart : (xs : List Seen) → Apart [] xs
+none_apart : (xs : List HeardCell) → Apart [] xs
 none_apart [] = tt
 none_apart (x ∷ xs) = (refl, none_apart xs)
 
-pub distinct-sorted : (planned : List ℕ) (xs : List Seen) → IsDistinct has_same_key xs → IsDistinct has_same_key (sorted planned xs)
+pub distinct-sorted : (planned : List ℕ) (xs : List HeardCell) → IsDistinct has_same_key xs → IsDistinct has_same_key (sorted planned xs)
 unfolding IsDistinct
 distinct-sorted planned xs d = distinct-onto planned [] xs tt d (none_apart xs)

@@ -1,5 +1,7 @@
 -- How far the values of epochs reach.
-use Rattle.std.proofs.Common.{◌≡◌, ℕ, zero, suc, ℤ, pos, ◌+◌, ◌*◌, ◌^◌, ◌<◌, ◌≤◌, ◌≤ℤ◌, ◌==◌, Bool, true, false, ◌||◌, ◌&&◌, List, [], ◌∷◌, ◌++◌, filter, map, take, refl, sym, ap, ◌∙◌, subst, arith, Option, Some, None, nat_lt, nat_le, is_some, unsigned_abs, lit<}
+use Rattle.rtcm_msg.specs.declared.entry.LockField.{LockField}
+use Rattle.rtcm_msg.specs.declared.entry.LockField.TheVariants.{Df402, Df407}
+use Rattle.std.proofs.Common.{◌≡◌, ℕ, zero, suc, ℤ, pos, ◌+◌, ◌*◌, ◌^◌, ◌<◌, ◌≤◌, ◌≤ℤ◌, ◌==◌, Bool, true, false, ◌||◌, ◌&&◌, List, [], ◌∷◌, ◌++◌, filter, take, refl, sym, ap, ◌∙◌, subst, arith, Option, Some, None, nat_lt, nat_le, is_some, unsigned_abs, lit<}
 use Rattle.std.specs.Prelude.{if◌then◌else◌, cond, flat_map, filter_map, option_map, option_and_then, IfSome, fold}
 use Rattle.std.specs.Option.{option_map_or}
 use Rattle.std.specs.List.{AllByRecursion, IsDistinct, cons_option}
@@ -18,22 +20,20 @@ use Rattle.rtcm_msg.specs.Spelling.{IsMessage}
 use Rattle.rtcm_msg.specs.Reach.{IsMeasured, EntriesAreMeasured, IsCoordinate, IsPoint, PointsAreTold}
 use Rattle.rtcm_msg.specs.Entries.{entries}
 use Rattle.obs_epoch.specs.declared.cell.StationValues.{StationValues}
-use Rattle.obs_epoch.specs.declared.seen.Seen.{Seen}
-use Rattle.obs_epoch.specs.declared.seen.KnownLock.{KnownLock}
 use Rattle.rtcm_msg.specs.Msm.{week}
 use Rattle.obs_epoch.specs.Weeks.{weeks}
 use Rattle.obs_epoch.specs.Values.{Closed, HasTwelveDigits, cells_of, planned_of, most_cells}
 use Rattle.obs_epoch.specs.Plans.{place_in}
-use Rattle.obs_epoch.specs.Heard.{GatherSetup, Heard, heard, observed, seen_in, lock_by, is_own}
+use Rattle.obs_epoch.specs.Heard.{GatherSetup, Heard, heard, observed, seen_in, lock_by, is_own, HeardCell, kept_cell}
 use Rattle.obs_epoch.specs.Times.{Timed, is_at, timed, timed_after, taken_at, is_late, is_past, time_of}
 use Rattle.obs_epoch.specs.Cells.{is_of_system, is_system, is_planned, has_listed_key, is_among, has_same_key, offered, firsts_after, firsts, kept, kept_at}
-use Rattle.obs_epoch.specs.WithLli.{shown_cell, shown}
 use Rattle.obs_epoch.specs.Loss.{times, lli_with, lli_of, has_lost, previous}
 use Rattle.obs_epoch.specs.Epochs.{cells_with_lli, epoch_at, values_told, no_values, is_shut}
 use Rattle.obs_epoch.specs.Gathering.{open_after, before_closing, closed_list_at, all_epochs}
 use Rattle.obs_epoch.specs.Reach.{IsStrength, IsHeardCell, IsHeard, IsGathered, same_place, AreGathered, AreToldValues, IsGatheredEpoch, TimesRise, AreGatheredEpochs}
 use Rattle.obs_epoch.proofs.OrderLemmas.{all-sorted, distinct-sorted}
 use Rattle.obs_epoch.proofs.NotingLemmas.{kept_distinct}
+use Rattle.obs_epoch.specs.declared.lli.KnownLock.{KnownLock}
 
 -- ---- what holds of each
 
@@ -82,24 +82,24 @@ observed_told z lock e satellite signal h = record {
   s = mapped nearest_strength (λ (s : ℕ). (0 < s) × (s < 1024)) IsStrength (λ s k. z.decibels s k.0 k.1) e.strength h.strength;
 }
 
-seen_told : AreSizes → (is_msm7 : Bool) (system : System) (e : Entry) → IsMeasured e → IfSome (seen_in is_msm7 system e) IsHeardCell
-seen_told z is_msm7 system e h = by (satellite_of_id system e.satellite) (signal_of_id system e.signal) where
-  by : (a : Option Satellite) (b : Option SignalAt) → IfSome (option_and_then (λ satellite. option_map (observed (lock_by is_msm7 e.lock) e satellite) b) a) IsHeardCell
+seen_told : AreSizes → (field : LockField) (system : System) (e : Entry) → IsMeasured e → IfSome (seen_in field system e) IsHeardCell
+seen_told z field system e h = by (satellite_of_id system e.satellite) (signal_of_id system e.signal) where
+  by : (a : Option Satellite) (b : Option SignalAt) → IfSome (option_and_then (λ satellite. option_map (observed (lock_by field e.lock) e satellite) b) a) IsHeardCell
   by None b = tt
   by (Some satellite) None = tt
-  by (Some satellite) (Some signal) = observed_told z (lock_by is_msm7 e.lock) e satellite signal h
+  by (Some satellite) (Some signal) = observed_told z (lock_by field e.lock) e satellite signal h
 
-cells_told : AreSizes → (is_msm7 : Bool) (system : System) (es : List Entry) → AllByRecursion IsMeasured es → AllByRecursion IsHeardCell (filter_map (seen_in is_msm7 system) es)
-cells_told z is_msm7 system [] h = tt
-cells_told z is_msm7 system (e ∷ es) h = by (seen_in is_msm7 system e) (seen_told z is_msm7 system e h.0) (cells_told z is_msm7 system es h.1) where
-  by : (o : Option Seen) → IfSome o IsHeardCell → AllByRecursion IsHeardCell (filter_map (seen_in is_msm7 system) es) → AllByRecursion IsHeardCell (cons_option o (filter_map (seen_in is_msm7 system) es))
+cells_told : AreSizes → (field : LockField) (system : System) (es : List Entry) → AllByRecursion IsMeasured es → AllByRecursion IsHeardCell (filter_map (seen_in field system) es)
+cells_told z field system [] h = tt
+cells_told z field system (e ∷ es) h = by (seen_in field system e) (seen_told z field system e h.0) (cells_told z field system es h.1) where
+  by : (o : Option HeardCell) → IfSome o IsHeardCell → AllByRecursion IsHeardCell (filter_map (seen_in field system) es) → AllByRecursion IsHeardCell (cons_option o (filter_map (seen_in field system) es))
   by None k l = l
   by (Some x) k l = (k, l)
 
 pub message_heard : AreSizes → EntriesAreMeasured → PointsAreTold → (m : Message) → IsMessage m → IsHeard (heard m)
 message_heard z all points (Station p) h = record { cells = tt; point = points p h }
-message_heard z all points (Msm4 m) h = record { cells = cells_told z false _ (entries (Msm4 m)) (all (Msm4 m)); point = tt }
-message_heard z all points (Msm7 m) h = record { cells = cells_told z true _ (entries (Msm7 m)) (all (Msm7 m)); point = tt }
+message_heard z all points (Msm4 m) h = record { cells = cells_told z Df402 _ (entries (Msm4 m)) (all (Msm4 m)); point = tt }
+message_heard z all points (Msm7 m) h = record { cells = cells_told z Df407 _ (entries (Msm7 m)) (all (Msm7 m)); point = tt }
 message_heard z all points (Other n set) h = record { cells = tt; point = tt }
 
 -- ---- times
@@ -171,14 +171,14 @@ times_within (x ∷ xs) h = by x.time h.0.time (times_within xs h.1) where
 -- ---- cells
 
 -- a cell of a message that was read, planned
-abbrev IsOffered : GatherSetup → Seen → Type 0
+abbrev IsOffered : GatherSetup → HeardCell → Type 0
 IsOffered s x = IsHeardCell x × (is_planned s x ≡ true)
 
 all_offered : (s : GatherSetup) (xs : List Timed) → AllByRecursion IsTimed xs → AllByRecursion (IsOffered s) (flat_map (λ (x : Timed). filter (is_planned s) x.message.cells) xs)
 all_offered s [] h = tt
 all_offered s (x ∷ xs) h = all_append (IsOffered s) (filter (is_planned s) x.message.cells) _ (all_passed IsHeardCell (is_planned s) x.message.cells h.0.heard.cells) (all_offered s xs h.1)
 
-all_firsts : (P : Seen → Type 0) (earlier xs : List Seen) → AllByRecursion P xs → AllByRecursion P (firsts_after earlier xs)
+all_firsts : (P : HeardCell → Type 0) (earlier xs : List HeardCell) → AllByRecursion P xs → AllByRecursion P (firsts_after earlier xs)
 all_firsts P earlier [] h = tt
 all_firsts P earlier (x ∷ xs) h = by (is_among earlier x) (all_firsts P (earlier ++ x ∷ []) xs h.1) where
   by : (b : Bool) → AllByRecursion P (firsts_after (earlier ++ x ∷ []) xs) → AllByRecursion P ((if b then [] else x ∷ []) ++ firsts_after (earlier ++ x ∷ []) xs)
@@ -186,7 +186,7 @@ all_firsts P earlier (x ∷ xs) h = by (is_among earlier x) (all_firsts P (earli
   by false k = (h.0, k)
 
 -- and of a system
-abbrev IsKept : GatherSetup → System → Seen → Type 0
+abbrev IsKept : GatherSetup → System → HeardCell → Type 0
 IsKept s system x = IsOffered s x × (is_of_system system x ≡ true)
 
 all_kept : (s : GatherSetup) (t : ℕ) (xs : List Timed) (system : System) → AllByRecursion IsTimed xs → AllByRecursion (IsKept s system) (kept_at s t xs system)
@@ -210,7 +210,7 @@ second_of : (a b : Bool) → (a && b) ≡ true → b ≡ true
 second_of true b h = h
 second_of false b h = absurd (grind (arith, h))
 
-small_lli : (t : ℕ) (x : Seen) (before : Option KnownLock) → lli_with t x before < 4
+small_lli : (t : ℕ) (x : HeardCell) (before : Option KnownLock) → lli_with t x before < 4
 small_lli t x before = by (is_some x.l) (has_lost t x before) x.half_cycle where
   by : (l a b : Bool) → (if l then (if a then 1 else 0) + (if b then 2 else 0) else 0) < 4
   by false a b = lit< tt
@@ -219,14 +219,14 @@ small_lli t x before = by (is_some x.l) (has_lost t x before) x.half_cycle where
   by true true false = lit< tt
   by true true true = lit< tt
 
-no_lli : (t : ℕ) (x : Seen) (before : Option KnownLock) → x.l ≡ None → lli_with t x before ≡ 0
+no_lli : (t : ℕ) (x : HeardCell) (before : Option KnownLock) → x.l ≡ None → lli_with t x before ≡ 0
 no_lli t x before e = ap (λ (o : Option ℤ). if is_some o then (if has_lost t x before then 1 else 0) + (if x.half_cycle then 2 else 0) else 0) e
 
 number_is : (n most : ℕ) (rest : Bool) → (nat_lt 0 n && nat_le n most && rest) ≡ true → (1 ≤ n) × (n ≤ most)
 number_is n most rest h = (grind (arith, h), grind (arith, h))
 
-gathered : (s : GatherSetup) (system : System) (x : Seen) (lli : ℕ) → IsKept s system x → lli < 4 → (x.l ≡ None → lli ≡ 0)
-    → IsGathered system (planned_of system s.plan) (shown_cell (record { seen = x; lli = lli }))
+gathered : (s : GatherSetup) (system : System) (x : HeardCell) (lli : ℕ) → IsKept s system x → lli < 4 → (x.l ≡ None → lli ≡ 0)
+    → IsGathered system (planned_of system s.plan) (kept_cell x lli)
 gathered s system x lli h few none =
     let here : x.satellite.system ≡ system = system_is system x.satellite.system h.1 in
     let listed : has_listed_key x ≡ true = first_of (has_listed_key x) _ h.0.1 in
@@ -243,8 +243,8 @@ gathered s system x lli h few none =
       without_phase = none;
     }
 
-each_gathered : (s : GatherSetup) (xs : List Timed) (t : ℕ) (system : System) (cs : List Seen) → AllByRecursion (IsKept s system) cs
-    → AllByRecursion (IsGathered system (planned_of system s.plan)) (map shown_cell (cells_with_lli s xs t cs))
+each_gathered : (s : GatherSetup) (xs : List Timed) (t : ℕ) (system : System) (cs : List HeardCell) → AllByRecursion (IsKept s system) cs
+    → AllByRecursion (IsGathered system (planned_of system s.plan)) ((cells_with_lli s xs t cs))
 each_gathered s xs t system [] h = tt
 each_gathered s xs t system (c ∷ cs) h =
     let before = previous s xs t c in
@@ -256,26 +256,26 @@ same_system Gps Galileo c h k = absurd (grind (arith, h))
 same_system Galileo Gps c h k = absurd (grind (arith, h))
 same_system Galileo Galileo c h k = k
 
-other_place : (system : System) (x y : Seen) (m n : ℕ) → is_of_system system x ≡ true → is_of_system system y ≡ true → has_same_key x y ≡ false
-    → same_place (shown_cell (record { seen = x; lli = m })) (shown_cell (record { seen = y; lli = n })) ≡ false
+other_place : (system : System) (x y : HeardCell) (m n : ℕ) → is_of_system system x ≡ true → is_of_system system y ≡ true → has_same_key x y ≡ false
+    → same_place (kept_cell x m) (kept_cell y n) ≡ false
 other_place system x y m n h k other =
     let same = same_system system x.satellite.system y.satellite.system h k in
     sym (ap (λ b. b && (x.satellite.id == y.satellite.id) && (x.signal.index == y.signal.index)) same) ∙ other
 
-all_other : (s : GatherSetup) (xs : List Timed) (t : ℕ) (system : System) (c : Seen) (m : ℕ) (cs : List Seen) → is_of_system system c ≡ true → AllByRecursion (IsKept s system) cs
+all_other : (s : GatherSetup) (xs : List Timed) (t : ℕ) (system : System) (c : HeardCell) (m : ℕ) (cs : List HeardCell) → is_of_system system c ≡ true → AllByRecursion (IsKept s system) cs
     → AllByRecursion (λ y. has_same_key c y ≡ false) cs
-    → AllByRecursion (λ y. same_place (shown_cell (record { seen = c; lli = m })) y ≡ false) (map shown_cell (cells_with_lli s xs t cs))
+    → AllByRecursion (λ y. same_place (kept_cell c m) y ≡ false) ((cells_with_lli s xs t cs))
 all_other s xs t system c m [] h k other = tt
 all_other s xs t system c m (y ∷ cs) h k other = (other_place system c y m (lli_of s xs t y) h k.0.1 other.0, all_other s xs t system c m cs h k.1 other.1)
 
-places_apart : (s : GatherSetup) (xs : List Timed) (t : ℕ) (system : System) (cs : List Seen) → AllByRecursion (IsKept s system) cs → IsDistinct has_same_key cs
-    → IsDistinct same_place (map shown_cell (cells_with_lli s xs t cs))
+places_apart : (s : GatherSetup) (xs : List Timed) (t : ℕ) (system : System) (cs : List HeardCell) → AllByRecursion (IsKept s system) cs → IsDistinct has_same_key cs
+    → IsDistinct same_place ((cells_with_lli s xs t cs))
 unfolding IsDistinct
 places_apart s xs t system [] h d = tt
 places_apart s xs t system (c ∷ cs) h d = (all_other s xs t system c (lli_of s xs t c) cs h.0.1 h.1 d.0, places_apart s xs t system cs h.1 d.1)
 
 cells_gathered : (s : GatherSetup) (xs : List Timed) (t : ℕ) (system : System) → AllByRecursion IsTimed xs
-    → AreGathered system (planned_of system s.plan) (map shown_cell (cells_with_lli s xs t (kept_at s t xs system)))
+    → AreGathered system (planned_of system s.plan) ((cells_with_lli s xs t (kept_at s t xs system)))
 cells_gathered s xs t system h =
     let cs = kept_at s t xs system in
     let all = all_kept s t xs system h in
@@ -284,7 +284,7 @@ cells_gathered s xs t system h =
       apart = places_apart s xs t system cs all (distinct-sorted (planned_of system s.plan) (kept system (offered s t xs)) (kept_distinct system (offered s t xs)));
     }
 
-cells_at : (s : GatherSetup) (xs : List Timed) (t : ℕ) → AllByRecursion IsTimed xs → (system : System) → AreGathered system (planned_of system s.plan) (cells_of system (shown (epoch_at s xs t)))
+cells_at : (s : GatherSetup) (xs : List Timed) (t : ℕ) → AllByRecursion IsTimed xs → (system : System) → AreGathered system (planned_of system s.plan) (cells_of system ((epoch_at s xs t)))
 cells_at s xs t h Gps = cells_gathered s xs t Gps h
 cells_at s xs t h Galileo = cells_gathered s xs t Galileo h
 

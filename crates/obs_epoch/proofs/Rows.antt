@@ -2,19 +2,18 @@
 use Rattle.std.proofs.Common.{◌≡◌, ℕ, ◌+◌, ◌*◌, Bool, true, false, List, [], ◌∷◌, map, refl, Option, Some, None}
 use Rattle.std.specs.Prelude.{pos, ℤ}
 use Rattle.gnss_obs.specs.declared.system.System.TheVariants.{Gps}
-use Rattle.obs_epoch.specs.Heard.{GatherSetup, Heard}
-use Rattle.obs_epoch.specs.declared.seen.Seen.{Seen}
+use Rattle.obs_epoch.specs.Heard.{GatherSetup, Heard, HeardCell}
 use Rattle.obs_epoch.specs.Times.{timed}
 use Rattle.rtcm_msg.specs.Msm.{week}
 use Rattle.obs_epoch.specs.Cells.{counts_of}
-use Rattle.obs_epoch.specs.WithLli.{EpochWithLli}
 use Rattle.obs_epoch.specs.Epochs.{epochs, closed_epochs}
-use Rattle.obs_epoch.specs.WithLli.{CellWithLli}
+use Rattle.obs_epoch.specs.Values.{EpochValue}
+use Rattle.obs_epoch.specs.declared.cell.Cell.{Cell}
 
 abbrev setup : GatherSetup
 setup = record { plan = record { gps = 2 ∷ []; galileo = 2 ∷ [] }; start_week = 2300; station = Some 7; by_bit = true }
 
-abbrev observed : ℕ → Bool → List Seen → Heard
+abbrev observed : ℕ → Bool → List HeardCell → Heard
 observed tow more cells = record { station = Some 7; tow = Some tow; more = Some more; cells = cells; unlisted = 0; point = None }
 
 abbrev other : Bool → Heard
@@ -39,7 +38,7 @@ pub not_by_bit : map (λ x. x.time) (timed (record setup { by_bit = false }) clo
     ≡ Some (2300 * week + 5) ∷ Some (2300 * week + 5) ∷ None ∷ Some (2300 * week + 5) ∷ []
 not_by_bit = refl
 
-abbrev cell : Option ℤ → Option ℕ → Seen
+abbrev cell : Option ℤ → Option ℕ → HeardCell
 cell l least = record {
   satellite = record { system = Gps; id = 5 };
   signal = record { system = Gps; index = 2 };
@@ -51,8 +50,8 @@ cell l least = record {
   half_cycle = false;
 }
 
-abbrev small_lli : List EpochWithLli → List (List ℕ)
-small_lli es = map (λ (e : EpochWithLli). map (λ (m : CellWithLli). m.lli) e.gps) es
+abbrev small_lli : List EpochValue → List (List ℕ)
+small_lli es = map (λ (e : EpochValue). map (λ (m : Cell). m.lli) e.gps) es
 
 -- a lock of 4,096 ms, then an invalid phase, then a lock of 2,048 ms
 abbrev three : List Heard

@@ -1,5 +1,5 @@
 -- The order in which an epoch's cells stand, and one more of them.
-use Rattle.std.proofs.Common.{◌≡◌, ℕ, zero, suc, ◌-◌, ◌<◌, ◌≤◌, ◌==◌, Bool, true, false, ◌||◌, ◌&&◌, List, [], ◌∷◌, map, refl, sym, ap, ap₂, ◌∙◌, subst, arith, length, get_or, insert, Option, Some, None, is_some, nat_le, not}
+use Rattle.std.proofs.Common.{◌+◌, take, drop, ◌≡◌, ℕ, zero, suc, ◌-◌, ◌<◌, ◌≤◌, ◌==◌, Bool, true, false, ◌||◌, ◌&&◌, List, [], ◌∷◌, map, refl, sym, ap, ap₂, ◌∙◌, subst, arith, length, get_or, insert, Option, Some, None, is_some, nat_le, not}
 use Rattle.std.specs.Prelude.{if◌then◌else◌, position}
 use Rattle.std.specs.Option.{option_map_or}
 use Rattle.std.specs.List.{list_any, AllByRecursion}
@@ -7,40 +7,29 @@ use Rattle.std.proofs.lemmas.List.Quantifiers.{position-Some}
 use Rattle.gnss_obs.specs.declared.system.System.{System}
 use Rattle.gnss_obs.specs.declared.system.System.TheVariants.{Gps, Galileo}
 use Rattle.obs_epoch.specs.declared.cell.Cell.{Cell}
-use Rattle.obs_epoch.specs.declared.seen.Seen.{Seen}
-use Rattle.obs_epoch.specs.declared.seen.Tracking.{Tracking}
 use Rattle.obs_epoch.specs.declared.order.Seat.{Seat}
-use Rattle.obs_epoch.specs.Values.{EpochValue, PlanValue, planned_of, cells_of, most_cells}
-use Rattle.obs_epoch.specs.WithLli.{CellWithLli, EpochWithLli, shown_cell, paired}
+use Rattle.obs_epoch.specs.Values.{EpochValue, PlanValue, planned_of, cells_of, most_cells, AreHeld, IsHeld}
 use Rattle.obs_epoch.specs.Plans.{place_in}
+use Rattle.gnss_obs.specs.Signals.{table}
 use Rattle.obs_epoch.specs.Cells.{has_same_key, same_key, has_listed_key, is_planned}
-use Rattle.obs_epoch.specs.Heard.{GatherSetup, Heard}
-use Rattle.obs_epoch.specs.Order.{is_before, SeatsRise, insert_by, spot, seat_of, seat_with_lli, cell_seat, AreOrderedBy, AreSorted}
+use Rattle.obs_epoch.specs.Heard.{IsKey, IsObserved, GatherSetup, Heard, HeardCell, kept_cell, heard_of}
+use Rattle.obs_epoch.specs.Order.{is_before, SeatsRise, insert_by, spot, seat_of, cell_seat, AreOrderedBy, AreSorted}
 use Rattle.obs_epoch.specs.Held.{is_held, lookup}
-use Rattle.obs_epoch.specs.Gather.{Gathered, cells_in, with_more_in, more_at, with_more, spot_in, AreInPlanOrder, AreInOrder, fate_in, hold, hold_by}
-use Rattle.obs_epoch.specs.declared.seen.Fate.TheVariants.{Kept, Skipped, Repeated, Crowded}
+use Rattle.obs_epoch.specs.Gather.{Gathered, with_more_in, more_at, with_more, spot_in, AreInPlanOrder, AreInOrder, fate_in, hold, hold_by}
+use Rattle.obs_epoch.specs.declared.taken.Fate.TheVariants.{Kept, Skipped, Repeated, Crowded}
 use Rattle.obs_epoch.specs.Clock.{State}
 use Rattle.obs_epoch.specs.Step.{step_by, step_at, ended_where, is_told_own, is_late_at, is_first_at, time_at}
 use Rattle.obs_epoch.specs.Times.{is_past}
 use Rattle.obs_epoch.specs.Loss.{lli_with}
 use Rattle.obs_epoch.proofs.OrderLemmas.{before_self, before_all, Before, get_before, insert_spot, rise-insert_by, all-insert_by}
-use Rattle.obs_epoch.proofs.HeldLemmas.{seen_as}
+use Rattle.std.proofs.lemmas.List.Elements.{All-append, All-take, All-drop, All-cons}
+use Rattle.std.proofs.lemmas.List.Edits.{length-insert}
 
 -- ---- of a system
 
-pub stand_in : (system : System) (p : PlanValue) (e : EpochWithLli) → AreInOrder p e → AreInPlanOrder system (planned_of system p) (cells_in system e)
+pub stand_in : (system : System) (p : PlanValue) (e : EpochValue) → AreInOrder p e → AreInPlanOrder system (planned_of system p) (cells_of system e)
 stand_in Gps p e h = h.gps
 stand_in Galileo p e h = h.galileo
-
-seats_paired : (planned : List ℕ) (cs : List Cell) (ts : List Tracking) → length cs ≡ length ts → map (seat_with_lli planned) (paired cs ts) ≡ map (cell_seat planned) cs
-seats_paired planned [] ts e = refl
-seats_paired planned (c ∷ cs) [] e = absurd (omega (arith, e))
-seats_paired planned (c ∷ cs) (t ∷ ts) e = ap (λ l. cell_seat planned c ∷ l) (seats_paired planned cs ts (omega (arith, e)))
-
-pub seats_in : (system : System) (planned : List ℕ) (e : EpochValue) (gs vs : List Tracking) → length e.gps ≡ length gs → length e.galileo ≡ length vs
-    → map (seat_with_lli planned) (cells_in system (seen_as e gs vs)) ≡ map (cell_seat planned) (cells_of system e)
-seats_in Gps planned e gs vs a b = seats_paired planned e.gps gs a
-seats_in Galileo planned e gs vs a b = seats_paired planned e.galileo vs b
 
 -- ---- the last before the spot
 
@@ -112,7 +101,7 @@ any_last p f s a [] n d r e = absurd (omega (arith, e))
 any_last p f s a (x ∷ xs) n d r e = any_by p f s a x xs n d r (λ m g. any_last p f s a xs m d r.1 g) (is_before s (f x)) e
 
 -- a key's cell has the key's seat
-same_seat : (planned : List ℕ) (x : Seen) (c : Cell) → same_key x.satellite x.signal c.satellite c.signal ≡ true → cell_seat planned c ≡ seat_of planned x
+same_seat : (planned : List ℕ) (x : HeardCell) (c : Cell) → same_key x.satellite x.signal c.satellite c.signal ≡ true → cell_seat planned c ≡ seat_of planned x
 same_seat planned x c h = by x.satellite.system c.satellite.system refl refl where
   of : x.satellite.id ≡ c.satellite.id → x.signal.index ≡ c.signal.index → cell_seat planned c ≡ seat_of planned x
   of e f = ap₂ (λ i j. record { satellite = i; place = option_map_or (λ q. q) (position (λ k. k == j) planned) 0 }) (sym e) (sym f)
@@ -124,7 +113,7 @@ same_seat planned x c h = by x.satellite.system c.satellite.system refl refl whe
   by Galileo Gps p q = absurd (grind (arith, p, q, h))
 
 -- whether a key is held is told by the last cell before its spot
-pub held_is_last : (planned : List ℕ) (x : Seen) (cells : List Cell) (at : ℕ) (r : Bool) → AreOrderedBy planned cells → at ≡ spot (seat_of planned x) (map (cell_seat planned) cells)
+pub held_is_last : (planned : List ℕ) (x : HeardCell) (cells : List Cell) (at : ℕ) (r : Bool) → AreOrderedBy planned cells → at ≡ spot (seat_of planned x) (map (cell_seat planned) cells)
     → (at ≡ 0 → r ≡ false)
     → ((d : Cell) → 0 < at → r ≡ same_key x.satellite x.signal (get_or cells (at - 1) d).satellite (get_or cells (at - 1) d).signal)
     → r ≡ list_any (λ c. same_key x.satellite x.signal c.satellite c.signal) cells
@@ -151,7 +140,7 @@ of_place planned i j (Some p) (Some q) e f h k g =
     let second : get_or planned q 0 ≡ j = grind (arith, two) in
     sym first ∙ ap (λ n. get_or planned n 0) g ∙ second
 
-other_seat : (system : System) (planned : List ℕ) (x y : Seen) → x.satellite.system ≡ system → y.satellite.system ≡ system → is_some (place_in x.signal planned) ≡ true → is_some (place_in y.signal planned) ≡ true
+other_seat : (system : System) (planned : List ℕ) (x y : HeardCell) → x.satellite.system ≡ system → y.satellite.system ≡ system → is_some (place_in x.signal planned) ≡ true → is_some (place_in y.signal planned) ≡ true
     → has_same_key x y ≡ false → seat_of planned x ≡ seat_of planned y → ⊥
 other_seat system planned x y a b h k other same =
     let id : x.satellite.id ≡ y.satellite.id = ap (λ (s : Seat). s.satellite) same in
@@ -161,87 +150,104 @@ other_seat system planned x y a b h k other same =
       by Gps p q i j o = grind (arith, p, q, i, j, o)
       by Galileo p q i j o = grind (arith, p, q, i, j, o)
 
-others : (system : System) (planned : List ℕ) (x : Seen) (ms : List CellWithLli) → x.satellite.system ≡ system → is_some (place_in x.signal planned) ≡ true
-    → AllByRecursion (λ (m : CellWithLli). (m.seen.satellite.system ≡ system) × (is_some (place_in m.seen.signal planned) ≡ true)) ms → is_held ms x ≡ false
-    → AllByRecursion (λ (m : CellWithLli). seat_of planned x ≡ seat_with_lli planned m → ⊥) ms
+others : (system : System) (planned : List ℕ) (x : HeardCell) (ms : List Cell) → x.satellite.system ≡ system → is_some (place_in x.signal planned) ≡ true
+    → AllByRecursion (λ (m : Cell). (m.satellite.system ≡ system) × (is_some (place_in m.signal planned) ≡ true)) ms → is_held ms x ≡ false
+    → AllByRecursion (λ (m : Cell). seat_of planned x ≡ cell_seat planned m → ⊥) ms
 others system planned x [] a h all none = tt
-others system planned x (m ∷ ms) a h all none = by (has_same_key x m.seen) refl (others system planned x ms a h all.1) where
-  by : (b : Bool) → has_same_key x m.seen ≡ b → (is_held ms x ≡ false → AllByRecursion (λ (n : CellWithLli). seat_of planned x ≡ seat_with_lli planned n → ⊥) ms)
-      → AllByRecursion (λ (n : CellWithLli). seat_of planned x ≡ seat_with_lli planned n → ⊥) (m ∷ ms)
+others system planned x (m ∷ ms) a h all none = by (has_same_key x (heard_of m)) refl (others system planned x ms a h all.1) where
+  by : (b : Bool) → has_same_key x (heard_of m) ≡ b → (is_held ms x ≡ false → AllByRecursion (λ (n : Cell). seat_of planned x ≡ cell_seat planned n → ⊥) ms)
+      → AllByRecursion (λ (n : Cell). seat_of planned x ≡ cell_seat planned n → ⊥) (m ∷ ms)
   by true e more = absurd (grind (arith, e, none))
-  by false e more = (other_seat system planned x m.seen a all.0.0 h all.0.1 e, more (ap (λ b. b || is_held ms x) (sym e) ∙ none))
+  by false e more = (other_seat system planned x (heard_of m) a all.0.0 h all.0.1 e, more (ap (λ b. b || is_held ms x) (sym e) ∙ none))
 
-stand_more : (system : System) (planned : List ℕ) (m : CellWithLli) (ms : List CellWithLli) → m.seen.satellite.system ≡ system → is_some (place_in m.seen.signal planned) ≡ true
-    → AreInPlanOrder system planned ms → is_held ms m.seen ≡ false → AreInPlanOrder system planned (insert_by (seat_with_lli planned) m ms)
+stand_more : (system : System) (planned : List ℕ) (m : Cell) (ms : List Cell) → m.satellite.system ≡ system → is_some (place_in m.signal planned) ≡ true
+    → AreInPlanOrder system planned ms → is_held ms (heard_of m) ≡ false → AreInPlanOrder system planned (insert_by (cell_seat planned) m ms)
 stand_more system planned m ms a h s none = record {
-  each = all-insert_by (λ (n : CellWithLli). (n.seen.satellite.system ≡ system) × (is_some (place_in n.seen.signal planned) ≡ true)) (seat_with_lli planned) m ms (a, h) s.each;
-  rise = rise-insert_by (seat_with_lli planned) m ms s.rise (others system planned m.seen ms a h s.each none);
+  each = all-insert_by (λ (n : Cell). (n.satellite.system ≡ system) × (is_some (place_in n.signal planned) ≡ true)) (cell_seat planned) m ms (a, h) s.each;
+  rise = rise-insert_by (cell_seat planned) m ms s.rise (others system planned (heard_of m) ms a h s.each none);
 }
 
 -- the epoch with one cell more stands in order
-pub order_more : (p : PlanValue) (e : EpochWithLli) (m : CellWithLli) → is_some (place_in m.seen.signal (planned_of m.seen.satellite.system p)) ≡ true → AreInOrder p e
-    → is_held (cells_in m.seen.satellite.system e) m.seen ≡ false → AreInOrder p (with_more p e m)
-order_more p e m h o none = by m.seen.satellite.system refl where
-  by : (system : System) → m.seen.satellite.system ≡ system → AreInOrder p (with_more_in m.seen.satellite.system p e m)
+pub order_more : (p : PlanValue) (e : EpochValue) (m : Cell) → is_some (place_in m.signal (planned_of m.satellite.system p)) ≡ true → AreInOrder p e
+    → is_held (cells_of m.satellite.system e) (heard_of m) ≡ false → AreInOrder p (with_more p e m)
+order_more p e m h o none = by m.satellite.system refl where
+  by : (system : System) → m.satellite.system ≡ system → AreInOrder p (with_more_in m.satellite.system p e m)
   by Gps f = subst (λ s. AreInOrder p (with_more_in s p e m)) (sym f) (record {
-    gps = stand_more Gps p.gps m e.gps f (ap (λ s. is_some (place_in m.seen.signal (planned_of s p))) (sym f) ∙ h) o.gps (ap (λ s. is_held (cells_in s e) m.seen) (sym f) ∙ none);
+    gps = stand_more Gps p.gps m e.gps f (ap (λ s. is_some (place_in m.signal (planned_of s p))) (sym f) ∙ h) o.gps (ap (λ s. is_held (cells_of s e) (heard_of m)) (sym f) ∙ none);
     galileo = o.galileo;
   })
   by Galileo f = subst (λ s. AreInOrder p (with_more_in s p e m)) (sym f) (record {
     gps = o.gps;
-    galileo = stand_more Galileo p.galileo m e.galileo f (ap (λ s. is_some (place_in m.seen.signal (planned_of s p))) (sym f) ∙ h) o.galileo (ap (λ s. is_held (cells_in s e) m.seen) (sym f) ∙ none);
+    galileo = stand_more Galileo p.galileo m e.galileo f (ap (λ s. is_some (place_in m.signal (planned_of s p))) (sym f) ∙ h) o.galileo (ap (λ s. is_held (cells_of s e) (heard_of m)) (sym f) ∙ none);
   })
 
 -- it comes to its spot
-pub more_is : (p : PlanValue) (e : EpochWithLli) (m : CellWithLli) → more_at m.seen.satellite.system (spot_in p e m.seen) e m ≡ with_more p e m
-more_is p e m = by m.seen.satellite.system where
-  by : (system : System) → more_at system (spot (seat_of (planned_of system p) m.seen) (map (seat_with_lli (planned_of system p)) (cells_in system e))) e m ≡ with_more_in system p e m
-  by Gps = ap (λ l. record e { gps = l }) (insert_spot (seat_with_lli p.gps) m e.gps)
-  by Galileo = ap (λ l. record e { galileo = l }) (insert_spot (seat_with_lli p.galileo) m e.galileo)
+pub more_is : (p : PlanValue) (e : EpochValue) (m : Cell) → more_at m.satellite.system (spot_in p e (heard_of m)) e m ≡ with_more p e m
+more_is p e m = by m.satellite.system where
+  by : (system : System) → more_at system (spot (seat_of (planned_of system p) (heard_of m)) (map (cell_seat (planned_of system p)) (cells_of system e))) e m ≡ with_more_in system p e m
+  by Gps = ap (λ l. record e { gps = l }) (insert_spot (cell_seat p.gps) m e.gps)
+  by Galileo = ap (λ l. record e { galileo = l }) (insert_spot (cell_seat p.galileo) m e.galileo)
 
-map_insert : (ms : List CellWithLli) (at : ℕ) (m : CellWithLli) → map shown_cell (insert ms at m) ≡ insert (map shown_cell ms) at (shown_cell m)
-map_insert ms zero m = refl
-map_insert [] (suc at) m = refl
-map_insert (n ∷ ms) (suc at) m = ap (λ l. shown_cell n ∷ l) (map_insert ms at m)
-
-seats_shown : (planned : List ℕ) (ms : List CellWithLli) → map (cell_seat planned) (map shown_cell ms) ≡ map (seat_with_lli planned) ms
-seats_shown planned [] = refl
-seats_shown planned (m ∷ ms) = ap (λ l. seat_with_lli planned m ∷ l) (seats_shown planned ms)
-
-pub stand_shown : (system : System) (planned : List ℕ) (ms : List CellWithLli) → AreInPlanOrder system planned ms → AreOrderedBy planned (map shown_cell ms)
-stand_shown system planned ms s = subst SeatsRise (sym (seats_shown planned ms)) s.rise
-
-pub sorted_more : (p : PlanValue) (e : EpochWithLli) (m : CellWithLli) → AreInOrder p (with_more p e m)
-    → AreSorted (insert (map shown_cell (cells_in m.seen.satellite.system e)) (spot_in p e m.seen) (shown_cell m))
-sorted_more p e m o = by m.seen.satellite.system o where
-  at : (system : System) → map shown_cell (insert_by (seat_with_lli (planned_of system p)) m (cells_in system e))
-      ≡ insert (map shown_cell (cells_in system e)) (spot (seat_of (planned_of system p) m.seen) (map (seat_with_lli (planned_of system p)) (cells_in system e))) (shown_cell m)
-  at system =
-      ap (map shown_cell) (sym (insert_spot (seat_with_lli (planned_of system p)) m (cells_in system e)))
-      ∙ map_insert (cells_in system e) (spot (seat_of (planned_of system p) m.seen) (map (seat_with_lli (planned_of system p)) (cells_in system e))) m
-
+pub sorted_more : (p : PlanValue) (e : EpochValue) (m : Cell) → AreInOrder p (with_more p e m)
+    → AreSorted (insert (cells_of m.satellite.system e) (spot_in p e (heard_of m)) m)
+sorted_more p e m o = by m.satellite.system o where
   by : (system : System) → AreInOrder p (with_more_in system p e m)
-      → AreSorted (insert (map shown_cell (cells_in system e)) (spot (seat_of (planned_of system p) m.seen) (map (seat_with_lli (planned_of system p)) (cells_in system e))) (shown_cell m))
-  by Gps o = (p.gps, subst (AreOrderedBy p.gps) (at Gps) (stand_shown Gps p.gps _ o.gps))
-  by Galileo o = (p.galileo, subst (AreOrderedBy p.galileo) (at Galileo) (stand_shown Galileo p.galileo _ o.galileo))
+      → AreSorted (insert (cells_of system e) (spot (seat_of (planned_of system p) (heard_of m)) (map (cell_seat (planned_of system p)) (cells_of system e))) m)
+  by Gps o = (p.gps, subst (AreOrderedBy p.gps) (sym (insert_spot (cell_seat p.gps) m e.gps)) o.gps.rise)
+  by Galileo o = (p.galileo, subst (AreOrderedBy p.galileo) (sym (insert_spot (cell_seat p.galileo) m e.galileo)) o.galileo.rise)
 
--- a planned cell's signal has a place
-pub planned_place : (s : GatherSetup) (x : Seen) → is_planned s x ≡ true → is_some (place_in x.signal (planned_of x.satellite.system s.plan)) ≡ true
-planned_place s x h = by (has_listed_key x) h where
-  by : (b : Bool) → (b && is_some (place_in x.signal (planned_of x.satellite.system s.plan))) ≡ true → is_some (place_in x.signal (planned_of x.satellite.system s.plan)) ≡ true
-  by true h = h
-  by false h = absurd (grind (arith, h))
+-- one cell more may be held
+pub held_more : (system : System) (cells : List Cell) (at : ℕ) (x : Cell) → AreHeld system cells → at ≤ length cells → length cells < most_cells → x.satellite.system ≡ system
+    → IsObserved (heard_of x) → x.lli < 4 → AreHeld system (insert cells at x)
+held_more system cells at x held within room is observed low =
+    let one : IsHeld system x = record {
+      satellite = is;
+      signal = observed.key.same ∙ is;
+      number = observed.key.satellite;
+      place = observed.key.signal;
+      c = observed.c;
+      l = observed.l;
+      d = observed.d;
+      s = observed.s;
+      lli = low;
+    } in
+    let count : length (insert cells at x) ≡ length cells + 1 = length-insert cells at x within in
+    record {
+      each = All-append (IsHeld system) (take at cells) (x ∷ drop at cells) (All-take (IsHeld system) at cells held.each)
+          (All-cons (IsHeld system) x (drop at cells) one (All-drop (IsHeld system) at cells held.each));
+      few = subst (λ n. n ≤ most_cells) (sym count) (omega (arith, room));
+    }
+
+-- a listed cell of a signal that has a place in the plan is planned
+pub planned_is : (s : GatherSetup) (x : HeardCell) → IsKey x → is_some (place_in x.signal (planned_of x.satellite.system s.plan)) ≡ true → is_planned s x ≡ true
+planned_is s x key h =
+    let id = key.satellite in
+    let index : x.signal.index < length (table x.satellite.system) = subst (λ t. x.signal.index < length (table t)) key.same key.signal in
+    let listed : has_listed_key x ≡ true = grind (arith, id, index) in
+    ap₂ (λ a b. a && b) listed h
+
+-- the answer of a search for a free key
+pub free_spot : (n : ℕ) (b : Bool) (m : ℕ) → Some n ≡ (if b then None else Some m) → (b ≡ false) × (n ≡ m)
+free_spot n true m e = absurd (grind (arith, e))
+free_spot n false m e = (refl, grind (arith, e))
+
+pub no_spot : (b : Bool) (m : ℕ) → None ≡ (if b then None else Some m) → b ≡ true
+no_spot true m e = refl
+no_spot false m e = absurd (grind (arith, e))
+
+-- what becomes of a planned cell
+pub fate_by : (g : Gathered) (x : HeardCell) (held full : Bool) → is_planned g.clock.setup x ≡ true → is_held (cells_of x.satellite.system g.epoch) x ≡ held
+    → nat_le most_cells (length (cells_of x.satellite.system g.epoch)) ≡ full → fate_in g x ≡ (if held then Repeated else (if full then Crowded else Kept))
+fate_by g x held full planned h f =
+    ap (λ b. if b then (if is_held (cells_of x.satellite.system g.epoch) x then Repeated else (if nat_le most_cells (length (cells_of x.satellite.system g.epoch)) then Crowded else Kept)) else Skipped) planned
+    ∙ ap₂ (λ b c. if b then Repeated else (if c then Crowded else Kept)) h f
 
 -- a cell that is kept comes into the held epoch
-pub kept_is : (g : Gathered) (x : Seen) (at lli : ℕ) (e : EpochWithLli) → is_planned g.clock.setup x ≡ true → is_held (cells_in x.satellite.system g.epoch) x ≡ false
-    → nat_le most_cells (length (cells_in x.satellite.system g.epoch)) ≡ false → lli ≡ lli_with g.epoch.time x (lookup g.locks x) → at ≡ spot_in g.clock.setup.plan g.epoch x
-    → e ≡ more_at x.satellite.system at g.epoch (record { seen = x; lli = lli }) → record g { epoch = e } ≡ hold g x
-kept_is g x at lli e planned held room mark_is at_is e_is =
-    let fate : fate_in g x ≡ Kept =
-    ap (λ b. if b then (if is_held (cells_in x.satellite.system g.epoch) x then Repeated else (if nat_le most_cells (length (cells_in x.satellite.system g.epoch)) then Crowded else Kept)) else Skipped) planned
-    ∙ ap₂ (λ b c. if b then Repeated else (if c then Crowded else Kept)) held room in
-    let m : CellWithLli = record { seen = x; lli = lli_with g.epoch.time x (lookup g.locks x) } in
-    ap (λ v. record g { epoch = v }) (e_is ∙ ap₂ (λ i n. more_at x.satellite.system i g.epoch (record { seen = x; lli = n })) at_is mark_is ∙ more_is g.clock.setup.plan g.epoch m)
+pub kept_is : (g : Gathered) (x : HeardCell) (at lli : ℕ) (e : EpochValue) → fate_in g x ≡ Kept → lli ≡ lli_with g.epoch.time x (lookup g.locks x)
+    → at ≡ spot_in g.clock.setup.plan g.epoch x → e ≡ more_at x.satellite.system at g.epoch (kept_cell x lli) → record g { epoch = e } ≡ hold g x
+kept_is g x at lli e fate mark_is at_is e_is =
+    let m : Cell = kept_cell x (lli_with g.epoch.time x (lookup g.locks x)) in
+    ap (λ v. record g { epoch = v }) (e_is ∙ ap₂ (λ i n. more_at x.satellite.system i g.epoch (kept_cell x n)) at_is mark_is ∙ more_is g.clock.setup.plan g.epoch m)
     ∙ ap (λ k. hold_by k g x) (sym fate)
 
 -- a step of the clock leaves the plan
@@ -264,3 +270,6 @@ step_setup g m = by (is_told_own g m.station) (g.setup.by_bit && option_map_or n
 
 pub not_full : (n : ℕ) → n < most_cells → nat_le most_cells n ≡ false
 not_full n h = grind (arith, h)
+
+pub is_full : (n : ℕ) → most_cells ≤ n → nat_le most_cells n ≡ true
+is_full n h = grind (arith, h)

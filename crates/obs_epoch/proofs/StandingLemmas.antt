@@ -7,9 +7,7 @@ use Rattle.std.proofs.lemmas.List.{take_at}
 use Rattle.std.proofs.lemmas.List.Elements.{filter-append}
 use Rattle.std.proofs.lemmas.Grind.{flat_map-append}
 use Rattle.gnss_obs.specs.declared.system.System.TheVariants.{Gps, Galileo}
-use Rattle.obs_epoch.specs.declared.seen.Seen.{Seen}
-use Rattle.obs_epoch.specs.declared.seen.KnownLock.{KnownLock}
-use Rattle.obs_epoch.specs.Heard.{GatherSetup, Heard, is_own, ends_epoch}
+use Rattle.obs_epoch.specs.Heard.{GatherSetup, Heard, is_own, ends_epoch, HeardCell, kept_cell}
 use Rattle.obs_epoch.specs.Times.{Timed, is_at, greatest_time, is_closed, taken_at}
 use Rattle.obs_epoch.specs.Cells.{kept_at, offered, is_planned, has_same_key}
 use Rattle.obs_epoch.specs.Loss.{lock_of, locked_at, latest_in, previous, times, last_of, is_locked, lli_with}
@@ -25,10 +23,11 @@ use Rattle.obs_epoch.proofs.ClosingLemmas.{taken_by}
 use Rattle.obs_epoch.proofs.EpochLemmas.{IsLater, AllLater, all_none, all_below, kept_at-push, times_before, epoch_at-push}
 use Rattle.obs_epoch.proofs.LockLemmas.{none_found, none_recorded}
 use Rattle.obs_epoch.proofs.LoadLemmas.{with_lli_by, epoch_of, load_is, counts_after}
+use Rattle.obs_epoch.specs.declared.lli.KnownLock.{KnownLock}
 
 -- ---- what was closed stays, whatever comes
 
-latest-push : (s : GatherSetup) (xs : List Timed) (x : Timed) (ts : List ℕ) (key : Seen) → AllLater x.time ts → filter_map (locked_at s (xs ++ x ∷ []) key) ts ≡ filter_map (locked_at s xs key) ts
+latest-push : (s : GatherSetup) (xs : List Timed) (x : Timed) (ts : List ℕ) (key : HeardCell) → AllLater x.time ts → filter_map (locked_at s (xs ++ x ∷ []) key) ts ≡ filter_map (locked_at s xs key) ts
 latest-push s xs x [] key h = refl
 latest-push s xs x (t ∷ ts) key h =
     ap₂ (λ o l. cons_option o l) (ap (λ l. option_and_then (lock_of t) (find (has_same_key key) l)) (kept_at-push s t xs x key.satellite.system h.0)) (latest-push s xs x ts key h.1)
@@ -96,11 +95,11 @@ closed_later s xs m shut h = by (taken_at s xs m) refl where
 
 -- ---- indicators by the lock records
 
-with_lli_is : (s : GatherSetup) (xs : List Timed) (f : Seen → Option KnownLock) (t : ℕ) (ks : List Seen) → ((key : Seen) → f key ≡ previous s xs t key) → with_lli_by f t ks ≡ cells_with_lli s xs t ks
+with_lli_is : (s : GatherSetup) (xs : List Timed) (f : HeardCell → Option KnownLock) (t : ℕ) (ks : List HeardCell) → ((key : HeardCell) → f key ≡ previous s xs t key) → with_lli_by f t ks ≡ cells_with_lli s xs t ks
 with_lli_is s xs f t [] h = refl
-with_lli_is s xs f t (k ∷ ks) h = ap₂ (λ o l. record { seen = k; lli = lli_with t k o } ∷ l) (h k) (with_lli_is s xs f t ks h)
+with_lli_is s xs f t (k ∷ ks) h = ap₂ (λ o l. (kept_cell k (lli_with t k o)) ∷ l) (h k) (with_lli_is s xs f t ks h)
 
-epoch_is : (s : GatherSetup) (xs : List Timed) (f : Seen → Option KnownLock) (t : ℕ) → ((key : Seen) → f key ≡ previous s xs t key) → epoch_of s.plan f t (offered s t xs) ≡ epoch_at s xs t
+epoch_is : (s : GatherSetup) (xs : List Timed) (f : HeardCell → Option KnownLock) (t : ℕ) → ((key : HeardCell) → f key ≡ previous s xs t key) → epoch_of s.plan f t (offered s t xs) ≡ epoch_at s xs t
 epoch_is s xs f t h = ap₂ (λ a b. record { time = t; gps = a; galileo = b }) (with_lli_is s xs f t (kept_at s t xs Gps) h) (with_lli_is s xs f t (kept_at s t xs Galileo) h)
 
 offered-more : (s : GatherSetup) (xs : List Timed) (m : Heard) (u : ℕ) → taken_at s xs m ≡ Some u → offered s u (xs ++ next s xs m ∷ []) ≡ offered s u xs ++ filter (is_planned s) m.cells
@@ -145,7 +144,7 @@ begun_is g s xs m u shut some h held locks now = ap (λ o. begun_to (greatest_ti
       let same : is_same (greatest_time xs) (Some u) ≡ true = ap (λ o. is_same o (Some u)) e ∙ same_known u in
       let at : filter (λ v. nat_lt v u) (times xs) ≡ closed_so_far s xs shut =
       ap (filter (λ v. nat_lt v u)) (sym (times-push_same xs (next s xs m) u some e)) ∙ (before_taken s xs m u shut some h).0 in
-      let known : (key : Seen) → lookup g.locks key ≡ previous s xs u key =
+      let known : (key : HeardCell) → lookup g.locks key ≡ previous s xs u key =
       λ key. locks.found key ∙ ap (λ ts. latest_in s xs ts key) (sym at) in
       ap (λ b. if b then g else record g { epoch = record { time = u; gps = []; galileo = [] } }) same
       ∙ ap (λ v. record g { epoch = v }) (held ∙ ap (λ o. option_map_or (epoch_at s xs) o no_epoch) e ∙ sym (epoch_is s xs (lookup g.locks) u known))
@@ -165,7 +164,7 @@ loaded_taken g s xs m u shut some h held locks clock =
     let now : g.clock.latest ≡ Some u = ap (λ (c : State). c.latest) clock ∙ new.0 in
     let setup : g.clock.setup ≡ s = ap (λ (c : State). c.setup) clock in
     let later = locked-push g s xs x (closed_so_far s xs shut) (closed_later s xs m shut h) locks in
-    let known : (key : Seen) → lookup g.locks key ≡ previous s ys u key =
+    let known : (key : HeardCell) → lookup g.locks key ≡ previous s ys u key =
     λ key. later.found key ∙ ap (λ ts. latest_in s ys ts key) (sym (before_taken s xs m u shut some h).0) in
     ap (λ v. load (record { state = v; counts = no_counts }) m.cells) (begun_is g s xs m u shut some h held locks now)
     ∙ load_is (record g { epoch = epoch_of s.plan f u (offered s u xs) }) no_counts u (offered s u xs) m.cells (ap (λ c. epoch_of c.plan f u (offered s u xs)) (sym setup))

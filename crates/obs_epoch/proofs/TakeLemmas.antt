@@ -8,10 +8,9 @@ use Rattle.rtcm_msg.specs.declared.message.Message.{Message}
 use Rattle.rtcm_msg.specs.declared.message.Message.TheVariants as message
 use Rattle.obs_epoch.specs.declared.clock.Answer.{Answer}
 use Rattle.obs_epoch.specs.declared.clock.Answer.TheVariants as answers
-use Rattle.obs_epoch.specs.Heard.{GatherSetup, Heard, heard, is_own}
+use Rattle.obs_epoch.specs.Heard.{GatherSetup, Heard, heard, is_own, HeardCell}
 use Rattle.obs_epoch.specs.Times.{Timed, greatest_time, taken_at, timed, is_late, is_past, time_of}
 use Rattle.obs_epoch.specs.Cells.{with_skipped, offered, counts_of}
-use Rattle.obs_epoch.specs.WithLli.{EpochWithLli}
 use Rattle.obs_epoch.specs.Epochs.{epoch_at, closed_so_far, closed_times, values_of, values_told, no_values}
 use Rattle.obs_epoch.specs.Clock.{State, HasHeardMessages, is_pending, closes_first, answer_of}
 use Rattle.obs_epoch.specs.Step.{answer_by, step_by, closed_by, closed_of}
@@ -22,11 +21,11 @@ use Rattle.obs_epoch.proofs.ClockLemmas.{standing, same_state, takes, closes, ne
 use Rattle.obs_epoch.proofs.ClosedLemmas.{taken_follows}
 use Rattle.obs_epoch.proofs.ClosingLemmas.{closing, parts}
 use Rattle.obs_epoch.proofs.EpochLemmas.{same_epochs}
-use Rattle.obs_epoch.specs.declared.seen.Seen.{Seen}
 use Rattle.obs_epoch.proofs.CountsLemmas.{counts_are}
 use Rattle.obs_epoch.proofs.LoadLemmas.{hold_is}
 use Rattle.obs_epoch.proofs.NotingLemmas.{noted_locked}
 use Rattle.obs_epoch.proofs.StandingLemmas.{locked-push, closed_later, own_of, loaded_taken, held_same}
+use Rattle.obs_epoch.specs.Values.{EpochValue}
 
 pub clock_is : (g : State) (s : GatherSetup) (ms : List Heard) (shut : Bool) → HasHeardMessages g s ms shut → g ≡ standing s (timed s ms) shut
 clock_is g s ms shut h = same_state g s _ _ h.setup h.latest h.pending
@@ -175,7 +174,7 @@ reached g s ms m shut h early = by (taken_at s xs m) refl where
       })
 
 -- the list of closed epochs grows by what is handed out
-grown : (s : GatherSetup) (ms : List Heard) (m : Heard) (shut : Bool) (o : Option ℕ) (e : EpochWithLli) → closes_first s (timed s ms) m ≡ shut
+grown : (s : GatherSetup) (ms : List Heard) (m : Heard) (shut : Bool) (o : Option ℕ) (e : EpochValue) → closes_first s (timed s ms) m ≡ shut
     → closed_so_far s (timed s (ms ++ m ∷ [])) false ≡ closed_so_far s (timed s ms) shut ++ option_to_list o
     → e ≡ held_at s (timed s (ms ++ m ∷ [])) → ((t : ℕ) → o ≡ Some t → greatest_time (timed s (ms ++ m ∷ [])) ≡ Some t)
     → closed_list s (timed s (ms ++ m ∷ [])) false ≡ closed_list s (timed s ms) shut ++ handed_out (is_some o) e
@@ -438,7 +437,7 @@ no_point s xs (message.Other number set) h = refl
 
 -- ---- what was handed out
 
-load_handed : (l : Loaded) (xs : List Seen) → (load l xs).state.handed ≡ l.state.handed
+load_handed : (l : Loaded) (xs : List HeardCell) → (load l xs).state.handed ≡ l.state.handed
 load_handed l [] = refl
 load_handed l (x ∷ xs) = load_handed (load_one l x) xs ∙ ap (λ (g : Gathered). g.handed) (hold_is (fate_in l.state x) l.state x)
 
@@ -464,7 +463,7 @@ handed_is g m = by (is_some (closed_by g.clock m)) (loaded_by (answer_by g.clock
 
 -- ---- whether it has ended
 
-load_ended : (l : Loaded) (xs : List Seen) → (load l xs).state.has_ended ≡ l.state.has_ended
+load_ended : (l : Loaded) (xs : List HeardCell) → (load l xs).state.has_ended ≡ l.state.has_ended
 load_ended l [] = refl
 load_ended l (x ∷ xs) = load_ended (load_one l x) xs ∙ ap (λ (g : Gathered). g.has_ended) (hold_is (fate_in l.state x) l.state x)
 

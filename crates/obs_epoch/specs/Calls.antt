@@ -1,17 +1,18 @@
 -- What a call of a gatherer comes to, whatever the gatherer was told, took and handed out before.
-use Rattle.std.specs.Prelude.{ℕ, ◌≡◌, Bool, true, false, List, [], ◌∷◌, ◌++◌, length, Option, Some, None}
+use Rattle.std.specs.Prelude.{ℕ, ◌≡◌, Bool, true, false, List, [], ◌∷◌, ◌++◌, length, Option, Some, None, is_some}
 use Rattle.gnss_obs.specs.declared.system.System.{System}
 use Rattle.obs_epoch.specs.declared.taken.Kind.{Kind}
+use Rattle.obs_epoch.specs.declared.taken.Taken.{Taken}
 use Rattle.obs_epoch.specs.Heard.{GatherSetup, Heard}
-use Rattle.obs_epoch.specs.Values.{Closed}
+use Rattle.obs_epoch.specs.Values.{Closed, cells_of}
 use Rattle.obs_epoch.specs.Times.{timed}
 use Rattle.obs_epoch.specs.Cells.{firsts}
 use Rattle.obs_epoch.specs.Epochs.{closed_so_far}
 use Rattle.obs_epoch.specs.Clock.{is_pending, closes_first}
-use Rattle.obs_epoch.specs.Gather.{Gathered, cells_in}
+use Rattle.obs_epoch.specs.Gather.{Gathered}
 use Rattle.obs_epoch.specs.Standing.{held_at, locked_in}
 use Rattle.obs_epoch.specs.Kinds.{is_close_first, kind_of}
-use Rattle.obs_epoch.specs.Gathering.{HasGatheredEpochs, IsAwaited, handed_over, is_done}
+use Rattle.obs_epoch.specs.Gathering.{HasGatheredEpochs, IsAwaited, handed_over, closed_in, is_done}
 
 -- the kind tells whether the pending epoch is closed first: exactly where the message's time is greater and within the weeks
 abbrev pub TellsClosingFirst : Gathered → Heard → Kind → Type 0
@@ -37,6 +38,23 @@ TellsKindOfTaken old m kind =
     (s : GatherSetup) (ms : List Heard) (es : List Closed) (again : Option Heard) → HasGatheredEpochs old s ms es again
     → IsAwaited again m → is_close_first kind ≡ false → kind ≡ kind_of s ms m
 
+-- a message that comes again is taken
+abbrev pub TakesAwaited : Gathered → Heard → Kind → Type 0
+TakesAwaited old m kind =
+    (s : GatherSetup) (ms : List Heard) (es : List Closed) → HasGatheredEpochs old s ms es (Some m) → is_close_first kind ≡ false
+
+-- what a call with a message comes to: the pending epoch is closed first exactly if the message's time is greater and
+-- within the weeks, and the message is then to come again; every other message is taken, and the epoch that it closes is
+-- handed out
+pub record TakesMessage (old new : Gathered) (m : Heard) (answer : Taken) : Type 0 where
+  pub exactly : TellsClosingFirst old m answer.kind
+  pub first : AwaitsMessage old new m answer.kind
+  pub again : TakesAwaited old m answer.kind
+  pub taken : GathersMessage old new m answer.kind
+  pub kind : TellsKindOfTaken old m answer.kind
+  pub closed : answer.closed ≡ is_some (closed_in new)
+  pub going : new.has_ended ≡ false
+
 -- the end hands out the pending epoch, and tells whether there was one
 abbrev pub EndsPendingEpoch : Gathered → Gathered → Bool → Type 0
 EndsPendingEpoch old new was =
@@ -53,7 +71,7 @@ StaysEnded old new =
 abbrev pub HoldsCells : Gathered → System → ℕ → Type 0
 HoldsCells now system count =
     (s : GatherSetup) (ms : List Heard) (es : List Closed) (again : Option Heard) → HasGatheredEpochs now s ms es again
-    → count ≡ length (cells_in system (held_at s (timed s ms)))
+    → count ≡ length (cells_of system (held_at s (timed s ms)))
 
 -- so many keys have the locked cells of the closed epochs
 abbrev pub HoldsLockedKeys : Gathered → ℕ → Type 0

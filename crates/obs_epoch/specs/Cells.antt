@@ -8,10 +8,9 @@ use Rattle.gnss_obs.specs.Signals.{SignalAt, table}
 use Rattle.obs_epoch.specs.Values.{planned_of, most_cells}
 use Rattle.obs_epoch.specs.Plans.{place_in}
 use Rattle.obs_epoch.specs.Order.{sorted}
-use Rattle.obs_epoch.specs.Heard.{GatherSetup}
-use Rattle.obs_epoch.specs.declared.seen.Seen.{Seen}
+use Rattle.obs_epoch.specs.Heard.{GatherSetup, HeardCell}
 use Rattle.obs_epoch.specs.Times.{Timed, is_at}
-use Rattle.obs_epoch.specs.declared.seen.CellCounts.{CellCounts}
+use Rattle.obs_epoch.specs.declared.taken.CellCounts.{CellCounts}
 
 abbrev pub is_gps : System → Bool
 is_gps Gps = true
@@ -21,7 +20,7 @@ abbrev pub is_system : System → System → Bool
 is_system Gps s = is_gps s
 is_system Galileo s = not (is_gps s)
 
-abbrev pub is_of_system : System → Seen → Bool
+abbrev pub is_of_system : System → HeardCell → Bool
 is_of_system system x = is_system system x.satellite.system
 
 -- of one system, satellite and signal
@@ -29,52 +28,52 @@ abbrev pub same_key : Satellite → SignalAt → Satellite → SignalAt → Bool
 same_key satellite signal other_satellite other_signal =
     is_system satellite.system other_satellite.system && (satellite.id == other_satellite.id) && (signal.index == other_signal.index)
 
-abbrev pub has_same_key : Seen → Seen → Bool
+abbrev pub has_same_key : HeardCell → HeardCell → Bool
 has_same_key a b = same_key a.satellite a.signal b.satellite b.signal
 
 -- its satellite is one of its system, and its signal stands in that system's table
-abbrev pub has_listed_key : Seen → Bool
+abbrev pub has_listed_key : HeardCell → Bool
 has_listed_key x =
     nat_lt 0 x.satellite.id && nat_le x.satellite.id (satellites x.satellite.system) && nat_lt x.signal.index (length (table x.satellite.system))
 
 -- satellite and signal are listed, and the signal is planned
-abbrev pub is_planned : GatherSetup → Seen → Bool
+abbrev pub is_planned : GatherSetup → HeardCell → Bool
 is_planned s x = has_listed_key x && is_some (place_in x.signal (planned_of x.satellite.system s.plan))
 
 -- the planned cells of the taken messages of time t, in order
-abbrev pub offered : GatherSetup → ℕ → List Timed → List Seen
+abbrev pub offered : GatherSetup → ℕ → List Timed → List HeardCell
 offered s t xs = flat_map (λ x. filter (is_planned s) x.message.cells) (filter (is_at t) xs)
 
-abbrev pub is_among : List Seen → Seen → Bool
+abbrev pub is_among : List HeardCell → HeardCell → Bool
 is_among xs x = list_any (has_same_key x) xs
 
 -- of these, after the earlier ones, those whose key none before has
-abbrev pub firsts_after : List Seen → List Seen → List Seen
+abbrev pub firsts_after : List HeardCell → List HeardCell → List HeardCell
 firsts_after earlier [] = []
 firsts_after earlier (x ∷ xs) =
     (if is_among earlier x then [] else x ∷ []) ++ firsts_after (earlier ++ x ∷ []) xs
 
 -- the first of each key
-abbrev pub firsts : List Seen → List Seen
+abbrev pub firsts : List HeardCell → List HeardCell
 firsts xs = firsts_after [] xs
 
 -- those that are kept of a system
-abbrev pub kept : System → List Seen → List Seen
+abbrev pub kept : System → List HeardCell → List HeardCell
 kept system xs = take most_cells (filter (is_of_system system) (firsts xs))
 
 -- one cell more: it is kept where it is of the system, where none of its key is kept, and where there is room
-abbrev pub add : System → List Seen → Seen → List Seen
+abbrev pub add : System → List HeardCell → HeardCell → List HeardCell
 add system ks y = if is_of_system system y && not (is_among ks y || nat_le most_cells (length ks)) then ks ++ y ∷ [] else ks
 
 -- the kept cells of the epoch of time t, of a system, by satellite and within it by the plan
-abbrev pub kept_at : GatherSetup → ℕ → List Timed → System → List Seen
+abbrev pub kept_at : GatherSetup → ℕ → List Timed → System → List HeardCell
 kept_at s t xs system = sorted (planned_of system s.plan) (kept system (offered s t xs))
 
-abbrev pub kept_of_both : List Seen → List Seen
+abbrev pub kept_of_both : List HeardCell → List HeardCell
 kept_of_both xs = kept Gps xs ++ kept Galileo xs
 
 -- of the cells that a message brings behind those before it: how many were kept, weren't planned, are repeated, are one too many
-abbrev pub counts_of : GatherSetup → List Seen → List Seen → CellCounts
+abbrev pub counts_of : GatherSetup → List HeardCell → List HeardCell → CellCounts
 counts_of s before cells =
     let planned = filter (is_planned s) cells in
     let all = kept_of_both (before ++ planned) in

@@ -1,5 +1,5 @@
 -- How many cells with a value messages have of each signal.
-use Rattle.std.specs.Prelude.{◌≡◌, ℕ, ◌+◌, ◌-◌, ◌<◌, ◌^◌, ◌==◌, ◌&&◌, ◌||◌, Bool, true, false, min, nat_lt, List, [], ◌++◌, length, get_or, set, filter, filter_map, Option, None, is_some, if◌then◌else◌}
+use Rattle.std.specs.Prelude.{◌≡◌, ℕ, ◌+◌, ◌-◌, ◌<◌, ◌≤◌, ◌^◌, ◌==◌, ◌&&◌, ◌||◌, Bool, true, false, min, nat_lt, List, [], ◌++◌, length, get_or, set, filter, filter_map, Option, None, is_some, if◌then◌else◌}
 use Rattle.std.specs.Option.{option_map_or}
 use Rattle.std.specs.List.{list_any}
 use Rattle.gnss_obs.specs.declared.system.System.{System}
@@ -7,14 +7,14 @@ use Rattle.gnss_obs.specs.declared.system.System.TheVariants.{Gps, Galileo}
 use Rattle.gnss_obs.specs.Satellites.{satellite_of_id}
 use Rattle.gnss_obs.specs.Signals.{SignalAt, table, signal_of_id}
 use Rattle.rtcm_msg.specs.declared.entry.Entry.{Entry}
-use Rattle.obs_epoch.specs.declared.seen.Seen.{Seen}
-use Rattle.obs_epoch.specs.Heard.{Heard, seen_in}
+use Rattle.rtcm_msg.specs.declared.entry.LockField.{LockField}
+use Rattle.obs_epoch.specs.Heard.{Heard, seen_in, HeardCell}
 use Rattle.obs_epoch.specs.Cells.{is_system}
 
 -- ---- the cells that count
 
 -- a pseudorange, a phase, a Doppler shift or a strength
-abbrev pub brings_value : Seen → Bool
+abbrev pub brings_value : HeardCell → Bool
 brings_value x = is_some x.c || is_some x.l || is_some x.d || is_some x.s
 
 -- a message of the station that is wanted; where none is told, of whatever station
@@ -22,16 +22,16 @@ abbrev pub is_of_station : Option ℕ → Heard → Bool
 is_of_station wanted m = option_map_or (λ n. option_map_or (λ from. from == n) m.station false) wanted true
 
 -- a message's cells of listed satellites and signals that have a value
-abbrev pub valued : Option ℕ → Heard → List Seen
+abbrev pub valued : Option ℕ → Heard → List HeardCell
 valued wanted m = if is_of_station wanted m then filter brings_value m.cells else []
 
 -- ---- the signals that they are of
 
-abbrev pub is_of_signal : SignalAt → Seen → Bool
+abbrev pub is_of_signal : SignalAt → HeardCell → Bool
 is_of_signal g x = is_system g.system x.signal.system && (x.signal.index == g.index)
 
 -- how many of these cells are of a signal
-abbrev pub count_of : SignalAt → List Seen → ℕ
+abbrev pub count_of : SignalAt → List HeardCell → ℕ
 count_of g cells = length (filter (is_of_signal g) cells)
 
 abbrev pub signal_in : System → ℕ → SignalAt
@@ -77,12 +77,17 @@ entry_signal system e = if is_some (satellite_of_id system e.satellite) && entry
 -- ---- all cells so far
 
 -- the counts are those of these cells
-pub record IsCensus (c : CensusValue) (cells : List Seen) : Type 0 where
+pub record IsCensus (c : CensusValue) (cells : List HeardCell) : Type 0 where
   pub gps : length c.gps ≡ length (table Gps)
   pub galileo : length c.galileo ≡ length (table Galileo)
   pub each : (system : System) (i : ℕ) → i < length (table system) → counted c system i ≡ count_of (signal_in system i) cells
 
--- From c to c' the cells of these entries that have a value were counted, whatever was counted before and whichever grid their message has.
+-- From c to c' the cells of these entries that have a value were counted, whatever was counted before and whichever lock field their message has.
 abbrev pub CountsEntries : (c c' : CensusValue) → System → List Entry → Type 0
-CountsEntries c c' system entries = (is_msm7 : Bool) (cells : List Seen) → length cells + length entries < 2 ^ 63 → IsCensus c cells
-    → IsCensus c' (cells ++ filter brings_value (filter_map (seen_in is_msm7 system) entries))
+CountsEntries c c' system entries = (field : LockField) (cells : List HeardCell) → length cells + length entries < 2 ^ 63 → IsCensus c cells
+    → IsCensus c' (cells ++ filter brings_value (filter_map (seen_in field system) entries))
+
+-- From c to c' the cells of a message that have a value were counted.
+pub record CountsMessage (c c' : CensusValue) (wanted : Option ℕ) (m : Heard) : Type 0 where
+  pub counts : (cells : List HeardCell) → length cells < 2 ^ 62 → IsCensus c cells → IsCensus c' (cells ++ valued wanted m)
+  pub few : length (valued wanted m) ≤ 64

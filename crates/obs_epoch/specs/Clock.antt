@@ -1,17 +1,12 @@
 -- What a clock stands for, and what became of a message.
-use Rattle.std.specs.Prelude.{ℕ, ◌≡◌, ◌*◌, ◌<◌, ◌&&◌, Bool, false, not, nat_lt, List, [], Option, None, if◌then◌else◌}
+use Rattle.std.specs.Prelude.{ℕ, ◌≡◌, ◌*◌, ◌<◌, ◌&&◌, Bool, false, not, nat_lt, List, Option, if◌then◌else◌}
 use Rattle.std.specs.Option.{option_map_or, ForSome}
-use Rattle.obs_epoch.specs.declared.clock.HeardByClock.{HeardByClock}
 use Rattle.obs_epoch.specs.declared.clock.Answer.{Answer}
 use Rattle.obs_epoch.specs.declared.clock.Answer.TheVariants.{OtherStation, Ignored, Late, PastWeeks, Kept}
 use Rattle.obs_epoch.specs.Heard.{GatherSetup, Heard, is_own}
 use Rattle.rtcm_msg.specs.Msm.{week}
 use Rattle.obs_epoch.specs.Weeks.{weeks}
 use Rattle.obs_epoch.specs.Times.{Timed, greatest_time, is_closed, is_late, is_past, time_of, timed}
-
--- the message, as far as a clock is told of it
-abbrev pub heard_by_clock : HeardByClock → Heard
-heard_by_clock m = record { station = m.station; tow = m.tow; more = m.more; cells = []; unlisted = 0; point = None }
 
 -- what a clock is seen as: what it was told at first, the greatest time, and whether the epoch of that time is pending
 pub record State : Type 0 where

@@ -3,20 +3,20 @@ use Rattle.std.specs.Prelude.{ℕ, ◌||◌, Bool, false, nat_lt, List, [], ◌�
 use Rattle.std.specs.Option.{option_map_or}
 use Rattle.gnss_obs.specs.declared.system.System.TheVariants.{Gps, Galileo}
 use Rattle.rtcm_msg.specs.declared.station.StationParts.{StationParts}
-use Rattle.obs_epoch.specs.declared.seen.Seen.{Seen}
-use Rattle.obs_epoch.specs.WithLli.{CellWithLli, EpochWithLli}
 use Rattle.obs_epoch.specs.declared.cell.StationValues.{StationValues}
-use Rattle.obs_epoch.specs.Heard.{GatherSetup, Heard, is_own}
+use Rattle.obs_epoch.specs.Heard.{GatherSetup, Heard, is_own, HeardCell, kept_cell}
 use Rattle.obs_epoch.specs.Times.{Timed, greatest_time, is_closed}
 use Rattle.obs_epoch.specs.Cells.{kept_at}
 use Rattle.obs_epoch.specs.Loss.{times, lli_of}
+use Rattle.obs_epoch.specs.declared.cell.Cell.{Cell}
+use Rattle.obs_epoch.specs.Values.{EpochValue}
 
-abbrev pub cells_with_lli : GatherSetup → List Timed → ℕ → List Seen → List CellWithLli
+abbrev pub cells_with_lli : GatherSetup → List Timed → ℕ → List HeardCell → List Cell
 cells_with_lli s xs t [] = []
-cells_with_lli s xs t (c ∷ cs) = record { seen = c; lli = lli_of s xs t c } ∷ cells_with_lli s xs t cs
+cells_with_lli s xs t (c ∷ cs) = kept_cell c (lli_of s xs t c) ∷ cells_with_lli s xs t cs
 
 -- the epoch of time t
-abbrev pub epoch_at : GatherSetup → List Timed → ℕ → EpochWithLli
+abbrev pub epoch_at : GatherSetup → List Timed → ℕ → EpochValue
 epoch_at s xs t = record {
   time = t;
   gps = cells_with_lli s xs t (kept_at s t xs Gps);
@@ -24,7 +24,7 @@ epoch_at s xs t = record {
 }
 
 -- all epochs, closed or not
-abbrev pub epochs : GatherSetup → List Timed → List EpochWithLli
+abbrev pub epochs : GatherSetup → List Timed → List EpochValue
 epochs s xs = map (epoch_at s xs) (times xs)
 
 -- closed within the list: by a message that ends it, or by a taken message of a greater time
@@ -32,7 +32,7 @@ abbrev pub is_shut : GatherSetup → List Timed → ℕ → Bool
 is_shut s xs t = is_closed s t xs || option_map_or (λ u. nat_lt t u) (greatest_time xs) false
 
 -- the epochs that are closed within the list
-abbrev pub closed_epochs : GatherSetup → List Timed → List EpochWithLli
+abbrev pub closed_epochs : GatherSetup → List Timed → List EpochValue
 closed_epochs s xs = map (epoch_at s xs) (filter (is_shut s xs) (times xs))
 
 -- the point that a station message tells; the height stays where it tells none

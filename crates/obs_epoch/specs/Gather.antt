@@ -3,68 +3,58 @@ use Rattle.std.specs.Prelude.{ℕ, ◌≡◌, ◌==◌, Bool, true, false, List,
 use Rattle.std.specs.Option.{option_map_or}
 use Rattle.gnss_obs.specs.declared.system.System.{System}
 use Rattle.gnss_obs.specs.declared.system.System.TheVariants.{Gps, Galileo}
-use Rattle.obs_epoch.specs.declared.seen.Seen.{Seen}
-use Rattle.obs_epoch.specs.WithLli.{CellWithLli}
-use Rattle.obs_epoch.specs.declared.seen.KnownLock.{KnownLock}
 use Rattle.obs_epoch.specs.declared.cell.StationValues.{StationValues}
-use Rattle.obs_epoch.specs.declared.seen.CellCounts.{CellCounts}
-use Rattle.obs_epoch.specs.declared.seen.Fate.{Fate}
-use Rattle.obs_epoch.specs.declared.seen.Fate.TheVariants.{Kept}
+use Rattle.obs_epoch.specs.declared.taken.Fate.TheVariants.{Kept}
 use Rattle.obs_epoch.specs.declared.clock.Answer.{Answer}
 use Rattle.obs_epoch.specs.declared.clock.Answer.TheVariants as answers
 use Rattle.rtcm_msg.specs.declared.entry.Entry.{Entry}
-use Rattle.obs_epoch.specs.Heard.{Heard, seen_in}
+use Rattle.rtcm_msg.specs.declared.entry.LockField.{LockField}
+use Rattle.obs_epoch.specs.Heard.{Heard, seen_in, HeardCell, kept_cell}
 use Rattle.obs_epoch.specs.Cells.{with_skipped}
 use Rattle.std.specs.List.{AllByRecursion}
-use Rattle.obs_epoch.specs.Values.{PlanValue, planned_of}
+use Rattle.obs_epoch.specs.Values.{PlanValue, planned_of, EpochValue, cells_of}
 use Rattle.obs_epoch.specs.Plans.{place_in}
-use Rattle.obs_epoch.specs.Order.{SeatsRise, insert_by, spot, seat_of, seat_with_lli}
+use Rattle.obs_epoch.specs.Order.{SeatsRise, insert_by, spot, seat_of, cell_seat}
 use Rattle.obs_epoch.specs.Loss.{lli_with}
-use Rattle.obs_epoch.specs.WithLli.{EpochWithLli}
 use Rattle.obs_epoch.specs.Epochs.{values_told}
 use Rattle.obs_epoch.specs.Held.{lookup, note_all, fate_of, count_in}
 use Rattle.obs_epoch.specs.Clock.{State}
 use Rattle.obs_epoch.specs.Step.{answer_by, step_by, closed_by}
+use Rattle.obs_epoch.specs.declared.cell.Cell.{Cell}
+use Rattle.obs_epoch.specs.declared.lli.KnownLock.{KnownLock}
+use Rattle.obs_epoch.specs.declared.taken.CellCounts.{CellCounts}
+use Rattle.obs_epoch.specs.declared.taken.Fate.{Fate}
 
 -- ---- the epoch that is held
 
--- the epoch, and the station values so far
-pub record Holding : Type 0 where
-  pub epoch : EpochWithLli
-  pub values : StationValues
-
-abbrev pub no_epoch : EpochWithLli
+abbrev pub no_epoch : EpochValue
 no_epoch = record { time = 0; gps = []; galileo = [] }
 
-abbrev pub cells_in : System → EpochWithLli → List CellWithLli
-cells_in Gps e = e.gps
-cells_in Galileo e = e.galileo
-
 -- one cell more, at its place in the order of a plan
-abbrev pub with_more_in : System → PlanValue → EpochWithLli → CellWithLli → EpochWithLli
-with_more_in Gps p e m = record e { gps = insert_by (seat_with_lli p.gps) m e.gps }
-with_more_in Galileo p e m = record e { galileo = insert_by (seat_with_lli p.galileo) m e.galileo }
+abbrev pub with_more_in : System → PlanValue → EpochValue → Cell → EpochValue
+with_more_in Gps p e m = record e { gps = insert_by (cell_seat p.gps) m e.gps }
+with_more_in Galileo p e m = record e { galileo = insert_by (cell_seat p.galileo) m e.galileo }
 
-abbrev pub with_more : PlanValue → EpochWithLli → CellWithLli → EpochWithLli
-with_more p e m = with_more_in m.seen.satellite.system p e m
+abbrev pub with_more : PlanValue → EpochValue → Cell → EpochValue
+with_more p e m = with_more_in m.satellite.system p e m
 
 -- one cell more, behind so many of its system
-abbrev pub more_at : System → ℕ → EpochWithLli → CellWithLli → EpochWithLli
+abbrev pub more_at : System → ℕ → EpochValue → Cell → EpochValue
 more_at Gps at e m = record e { gps = insert e.gps at m }
 more_at Galileo at e m = record e { galileo = insert e.galileo at m }
 
 -- how many cells don't stand behind a cell of that key
-abbrev pub spot_in : PlanValue → EpochWithLli → Seen → ℕ
+abbrev pub spot_in : PlanValue → EpochValue → HeardCell → ℕ
 spot_in p e x =
     let planned = planned_of x.satellite.system p in
-    spot (seat_of planned x) (map (seat_with_lli planned) (cells_in x.satellite.system e))
+    spot (seat_of planned x) (map (cell_seat planned) (cells_of x.satellite.system e))
 
 -- planned cells of a system stand in the order of a plan
-pub record AreInPlanOrder (system : System) (planned : List ℕ) (ms : List CellWithLli) : Type 0 where
-  pub each : AllByRecursion (λ m. (m.seen.satellite.system ≡ system) × (is_some (place_in m.seen.signal planned) ≡ true)) ms
-  pub rise : SeatsRise (map (seat_with_lli planned) ms)
+pub record AreInPlanOrder (system : System) (planned : List ℕ) (ms : List Cell) : Type 0 where
+  pub each : AllByRecursion (λ m. (m.satellite.system ≡ system) × (is_some (place_in m.signal planned) ≡ true)) ms
+  pub rise : SeatsRise (map (cell_seat planned) ms)
 
-pub record AreInOrder (p : PlanValue) (e : EpochWithLli) : Type 0 where
+pub record AreInOrder (p : PlanValue) (e : EpochValue) : Type 0 where
   pub gps : AreInPlanOrder Gps p.gps e.gps
   pub galileo : AreInPlanOrder Galileo p.galileo e.galileo
 
@@ -72,21 +62,25 @@ pub record AreInOrder (p : PlanValue) (e : EpochWithLli) : Type 0 where
 
 pub record Gathered : Type 0 where
   pub clock : State
-  pub epoch : EpochWithLli
+  pub epoch : EpochValue
   pub locks : List (Option KnownLock)
   pub values : StationValues
   pub handed : Bool
   pub has_ended : Bool
 
-abbrev pub fate_in : Gathered → Seen → Fate
-fate_in g x = fate_of g.clock.setup (cells_in x.satellite.system g.epoch) x
+-- a cell of a planned signal, before it is kept
+abbrev pub planned_cell : PlanValue → HeardCell → Option Cell
+planned_cell p x = if is_some (place_in x.signal (planned_of x.satellite.system p)) then Some (kept_cell x 0) else None
 
-abbrev pub hold_by : Fate → Gathered → Seen → Gathered
-hold_by Kept g x = record g { epoch = with_more g.clock.setup.plan g.epoch (record { seen = x; lli = lli_with g.epoch.time x (lookup g.locks x) }) }
+abbrev pub fate_in : Gathered → HeardCell → Fate
+fate_in g x = fate_of g.clock.setup (cells_of x.satellite.system g.epoch) x
+
+abbrev pub hold_by : Fate → Gathered → HeardCell → Gathered
+hold_by Kept g x = record g { epoch = with_more g.clock.setup.plan g.epoch (kept_cell x (lli_with g.epoch.time x (lookup g.locks x))) }
 hold_by _ g x = g
 
 -- a cell comes
-abbrev pub hold : Gathered → Seen → Gathered
+abbrev pub hold : Gathered → HeardCell → Gathered
 hold g x = hold_by (fate_in g x) g x
 
 pub record Loaded : Type 0 where
@@ -96,11 +90,11 @@ pub record Loaded : Type 0 where
 abbrev pub no_counts : CellCounts
 no_counts = record { kept = 0; skipped = 0; repeated = 0; crowded = 0 }
 
-abbrev pub load_one : Loaded → Seen → Loaded
+abbrev pub load_one : Loaded → HeardCell → Loaded
 load_one l x = record { state = hold l.state x; counts = count_in (fate_in l.state x) l.counts }
 
 -- cells come, one by one
-abbrev pub load : Loaded → List Seen → Loaded
+abbrev pub load : Loaded → List HeardCell → Loaded
 load l [] = l
 load l (x ∷ xs) = load (load_one l x) xs
 
@@ -108,13 +102,13 @@ load l (x ∷ xs) = load (load_one l x) xs
 abbrev pub with_unlisted : ℕ → Loaded → Loaded
 with_unlisted n l = record { state = l.state; counts = with_skipped n l.counts }
 
-abbrev pub load_entry : Bool → System → Loaded → Entry → Loaded
-load_entry is_msm7 system l e = option_map_or (load_one l) (seen_in is_msm7 system e) (with_unlisted 1 l)
+abbrev pub load_entry : LockField → System → Loaded → Entry → Loaded
+load_entry field system l e = option_map_or (load_one l) (seen_in field system e) (with_unlisted 1 l)
 
 -- the cells of a message come, one by one
-abbrev pub load_entries : Bool → System → Loaded → List Entry → Loaded
-load_entries is_msm7 system l [] = l
-load_entries is_msm7 system l (e ∷ es) = load_entries is_msm7 system (load_entry is_msm7 system l e) es
+abbrev pub load_entries : LockField → System → Loaded → List Entry → Loaded
+load_entries field system l [] = l
+load_entries field system l (e ∷ es) = load_entries field system (load_entry field system l e) es
 
 -- the cells of a message
 abbrev pub load_heard : Loaded → Heard → Loaded

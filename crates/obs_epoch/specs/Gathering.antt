@@ -5,7 +5,6 @@ use Rattle.rtcm_bits.specs.Prefix.{IsPrefix}
 use Rattle.obs_epoch.specs.declared.cell.StationValues.{StationValues}
 use Rattle.obs_epoch.specs.Heard.{GatherSetup, Heard}
 use Rattle.obs_epoch.specs.Values.{EpochValue, PlanValue, Closed}
-use Rattle.obs_epoch.specs.WithLli.{shown}
 use Rattle.obs_epoch.specs.Times.{timed}
 use Rattle.obs_epoch.specs.Loss.{times}
 use Rattle.obs_epoch.specs.Epochs.{epoch_at, is_shut, closed_times, closed_so_far, values_of}
@@ -27,7 +26,7 @@ before_closing s t ms = open_after s t [] ms
 
 -- the epoch of time t, with the station values that were known when it was closed
 abbrev pub closed_at : GatherSetup → List Heard → ℕ → Closed
-closed_at s ms t = record { epoch = shown (epoch_at s (timed s ms) t); values = values_of s (before_closing s t ms) }
+closed_at s ms t = record { epoch = (epoch_at s (timed s ms) t); values = values_of s (before_closing s t ms) }
 
 abbrev pub closed_list_at : GatherSetup → List Heard → List ℕ → List Closed
 closed_list_at s ms ts = map (closed_at s ms) ts
@@ -51,7 +50,7 @@ plan_in v = v.clock.setup.plan
 
 -- the epoch that the last call closed, as others see it
 abbrev pub closed_in : Gathered → Option EpochValue
-closed_in v = if v.handed then Some (shown v.epoch) else None
+closed_in v = if v.handed then Some (v.epoch) else None
 
 -- a closed epoch with the station values that are known, where there is one
 abbrev pub closed_by : Option EpochValue → StationValues → List Closed

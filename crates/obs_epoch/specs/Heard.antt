@@ -1,10 +1,10 @@
 -- What a gatherer is told at first, and what it hears of a message.
-use Rattle.std.specs.Prelude.{ℕ, ◌==◌, ◌&&◌, Bool, true, false, not, List, [], ◌∷◌, if◌then◌else◌, Option, Some, None, option_map, option_and_then, filter_map, ◌+◌, is_some}
+use Rattle.std.specs.Prelude.{ℕ, ℤ, ◌≡◌, IfSome, ◌==◌, ◌&&◌, Bool, true, false, not, List, [], ◌∷◌, if◌then◌else◌, Option, Some, None, option_map, option_and_then, filter_map, ◌+◌, is_some}
 use Rattle.std.specs.Option.{option_map_or}
 use Rattle.gnss_obs.specs.declared.system.System.{System}
 use Rattle.gnss_obs.specs.declared.system.System.TheVariants.{Gps, Galileo}
-use Rattle.gnss_obs.specs.Satellites.{Satellite, satellite_of_id}
-use Rattle.gnss_obs.specs.Signals.{SignalAt, signal_of_id, hertz_of}
+use Rattle.gnss_obs.specs.Satellites.{Satellite, satellite_of_id, IsSatellite}
+use Rattle.gnss_obs.specs.Signals.{SignalAt, signal_of_id, hertz_of, IsSignal}
 use Rattle.gnss_obs.specs.Observables.{nearest_pseudorange, nearest_phase, nearest_doppler, nearest_strength}
 use Rattle.gnss_obs.specs.LockTimes.{LockTime, times4, times7}
 use Rattle.rtcm_msg.specs.declared.station.StationParts.{StationParts}
@@ -12,9 +12,12 @@ use Rattle.rtcm_msg.specs.declared.entry.Entry.{Entry}
 use Rattle.rtcm_msg.specs.declared.message.Message.{Message}
 use Rattle.rtcm_msg.specs.declared.message.Message.TheVariants as message
 use Rattle.rtcm_msg.specs.Msm.{MsmValue}
+use Rattle.rtcm_msg.specs.declared.entry.LockField.{LockField}
+use Rattle.rtcm_msg.specs.declared.entry.LockField.TheVariants.{Df402, Df407}
+use Rattle.rtcm_msg.specs.declared.summary.Summary.{Summary}
 use Rattle.rtcm_msg.specs.Entries.{entries}
-use Rattle.obs_epoch.specs.Values.{PlanValue}
-use Rattle.obs_epoch.specs.declared.seen.Seen.{Seen}
+use Rattle.obs_epoch.specs.Values.{PlanValue, HasTwelveDigits}
+use Rattle.obs_epoch.specs.declared.cell.Cell.{Cell}
 
 -- what a gatherer is told at first: the signals that are wanted, the week of the first time, the station (none: every
 -- station's messages are those of one station), and whether a message may close an epoch
@@ -24,6 +27,59 @@ pub record GatherSetup : Type 0 where
   pub station : Option ℕ
   pub by_bit : Bool
 
+-- a cell of a message, of a listed satellite and signal: its values in thousandths, the lock of its phase, and whether
+-- the phase may be off by half a cycle (DF420)
+pub record HeardCell : Type 0 where
+  pub satellite : Satellite
+  pub signal : SignalAt
+  pub c : Option ℤ
+  pub l : Option ℤ
+  pub d : Option ℤ
+  pub s : Option ℤ
+  pub lock : LockTime
+  pub half_cycle : Bool
+
+-- a listed satellite and a listed signal of one system
+pub record IsKey (x : HeardCell) : Type 0 where
+  pub satellite : IsSatellite x.satellite
+  pub signal : IsSignal x.signal
+  pub same : x.signal.system ≡ x.satellite.system
+
+-- a cell of a listed satellite and signal of one system, with values of a bounded size
+pub record IsObserved (x : HeardCell) : Type 0 where
+  pub key : IsKey x
+  pub c : IfSome x.c HasTwelveDigits
+  pub l : IfSome x.l HasTwelveDigits
+  pub d : IfSome x.d HasTwelveDigits
+  pub s : IfSome x.s HasTwelveDigits
+
+-- the same cell kept in an epoch, with its loss-of-lock indicator
+abbrev pub kept_cell : HeardCell → ℕ → Cell
+kept_cell x lli = record {
+  satellite = x.satellite;
+  signal = x.signal;
+  c = x.c;
+  l = x.l;
+  d = x.d;
+  s = x.s;
+  lli = lli;
+  lock = x.lock;
+  half_cycle = x.half_cycle;
+}
+
+-- the cell of a message that a kept cell is
+abbrev pub heard_of : Cell → HeardCell
+heard_of c = record {
+  satellite = c.satellite;
+  signal = c.signal;
+  c = c.c;
+  l = c.l;
+  d = c.d;
+  s = c.s;
+  lock = c.lock;
+  half_cycle = c.half_cycle;
+}
+
 -- what a gatherer needs of a message: the station where it tells one, the time of week where it has observations,
 -- whether more of the same time follow where it tells that, its cells of listed satellites and signals in order, how many
 -- others it has, and the point that it tells
@@ -31,12 +87,12 @@ pub record Heard : Type 0 where
   pub station : Option ℕ
   pub tow : Option ℕ
   pub more : Option Bool
-  pub cells : List Seen
+  pub cells : List HeardCell
   pub unlisted : ℕ
   pub point : Option StationParts
 
 -- the values of a cell in thousandths, and its lock
-abbrev pub observed : LockTime → Entry → Satellite → SignalAt → Seen
+abbrev pub observed : LockTime → Entry → Satellite → SignalAt → HeardCell
 observed lock e satellite signal = record {
   satellite = satellite;
   signal = signal;
@@ -49,42 +105,51 @@ observed lock e satellite signal = record {
 }
 
 -- a cell of a message, where its satellite and its signal are listed
-abbrev pub seen_by : LockTime → System → Entry → Option Seen
+abbrev pub seen_by : LockTime → System → Entry → Option HeardCell
 seen_by lock system e =
     option_and_then (λ satellite. option_map (observed lock e satellite) (signal_of_id system e.signal)) (satellite_of_id system e.satellite)
 
 abbrev pub system_of : Bool → System
 system_of is_galileo = if is_galileo then Galileo else Gps
 
--- the lock that a code stands for: DF402 in the messages of the short form, DF407 in those of the long one
-abbrev pub lock_by : Bool → ℕ → LockTime
-lock_by is_msm7 code = if is_msm7 then times7 code else times4 code
+-- the lock of an indicator of a field
+abbrev pub lock_by : LockField → ℕ → LockTime
+lock_by Df402 code = times4 code
+lock_by Df407 code = times7 code
 
--- a cell of a message of this form and system
-abbrev pub seen_in : Bool → System → Entry → Option Seen
-seen_in is_msm7 system e = seen_by (lock_by is_msm7 e.lock) system e
+-- a cell of a message of this lock field and system
+abbrev pub seen_in : LockField → System → Entry → Option HeardCell
+seen_in field system e = seen_by (lock_by field e.lock) system e
 
 -- how many cells are of another satellite or signal
-abbrev pub unlisted_in : Bool → System → List Entry → ℕ
-unlisted_in is_msm7 system [] = 0
-unlisted_in is_msm7 system (e ∷ es) = (if is_some (seen_in is_msm7 system e) then 0 else 1) + unlisted_in is_msm7 system es
+abbrev pub unlisted_in : LockField → System → List Entry → ℕ
+unlisted_in field system [] = 0
+unlisted_in field system (e ∷ es) = (if is_some (seen_in field system e) then 0 else 1) + unlisted_in field system es
 
-abbrev pub heard_msm : Bool → MsmValue → List Entry → Heard
-heard_msm is_msm7 m es = record {
+abbrev pub heard_msm : LockField → MsmValue → List Entry → Heard
+heard_msm field m es = record {
   station = Some m.header.station;
   tow = Some m.header.time;
   more = Some m.header.more;
-  cells = filter_map (seen_in is_msm7 (system_of m.is_galileo)) es;
-  unlisted = unlisted_in is_msm7 (system_of m.is_galileo) es;
+  cells = filter_map (seen_in field (system_of m.is_galileo)) es;
+  unlisted = unlisted_in field (system_of m.is_galileo) es;
   point = None;
 }
 
 abbrev pub heard : Message → Heard
 heard (message.Station p) = record { station = Some p.station; tow = None; more = None; cells = []; unlisted = 0; point = Some p }
-heard (message.Msm4 m) = heard_msm false m (entries (message.Msm4 m))
-heard (message.Msm7 m) = heard_msm true m (entries (message.Msm7 m))
+heard (message.Msm4 m) = heard_msm Df402 m (entries (message.Msm4 m))
+heard (message.Msm7 m) = heard_msm Df407 m (entries (message.Msm7 m))
 heard (message.Other number set) =
     record { station = option_map (λ p. p.0) set; tow = None; more = option_map (λ p. p.1) set; cells = []; unlisted = 0; point = None }
+
+-- a message without its cells
+abbrev pub without_cells : Heard → Heard
+without_cells m = record m { cells = []; unlisted = 0 }
+
+-- the same from what the message contains beside them
+abbrev pub heard_summary : Summary → Heard
+heard_summary m = record { station = m.station; tow = m.time; more = m.more; cells = []; unlisted = 0; point = m.point }
 
 -- a message of the station that is wanted
 abbrev pub is_own : GatherSetup → Heard → Bool

@@ -7,16 +7,14 @@ use Rattle.gnss_obs.specs.declared.system.System.TheVariants.{Gps, Galileo}
 use Rattle.gnss_obs.specs.Satellites.{satellites}
 use Rattle.gnss_obs.specs.Signals.{table}
 use Rattle.obs_epoch.specs.declared.cell.Cell.{Cell}
-use Rattle.obs_epoch.specs.declared.seen.Seen.{Seen}
-use Rattle.obs_epoch.specs.declared.seen.KnownLock.{KnownLock}
-use Rattle.obs_epoch.specs.WithLli.{CellWithLli}
-use Rattle.obs_epoch.specs.declared.seen.CellCounts.{CellCounts}
-use Rattle.obs_epoch.specs.declared.seen.Fate.{Fate}
-use Rattle.obs_epoch.specs.declared.seen.Fate.TheVariants.{Skipped, Repeated, Crowded, Kept}
-use Rattle.obs_epoch.specs.Heard.{GatherSetup}
+use Rattle.obs_epoch.specs.declared.taken.Fate.TheVariants.{Skipped, Repeated, Crowded, Kept}
+use Rattle.obs_epoch.specs.Heard.{GatherSetup, HeardCell, heard_of}
 use Rattle.obs_epoch.specs.Cells.{is_among, firsts, has_same_key, same_key, is_planned, has_listed_key}
 use Rattle.obs_epoch.specs.Values.{most_cells}
 use Rattle.obs_epoch.specs.Loss.{lock_of}
+use Rattle.obs_epoch.specs.declared.lli.KnownLock.{KnownLock}
+use Rattle.obs_epoch.specs.declared.taken.CellCounts.{CellCounts}
+use Rattle.obs_epoch.specs.declared.taken.Fate.{Fate}
 
 -- ---- lock records: an entry for each key that there is, those of GPS first
 
@@ -36,11 +34,11 @@ abbrev pub lock_place_in : System → ℕ → ℕ → ℕ
 lock_place_in Gps id index = length (table Gps) * (id - 1) + index
 lock_place_in Galileo id index = keys_of Gps + (length (table Galileo) * (id - 1) + index)
 
-abbrev pub lock_place : Seen → ℕ
+abbrev pub lock_place : HeardCell → ℕ
 lock_place x = lock_place_in x.satellite.system x.satellite.id x.signal.index
 
 -- what is recorded of a key
-abbrev pub lookup : List (Option KnownLock) → Seen → Option KnownLock
+abbrev pub lookup : List (Option KnownLock) → HeardCell → Option KnownLock
 lookup locks key = if has_listed_key key then get_or locks (lock_place key) None else None
 
 -- how many keys have a record
@@ -51,37 +49,37 @@ recorded locks = count_by is_some locks
 abbrev pub one_if_new : Option KnownLock → ℕ
 one_if_new before = if is_some before then 0 else 1
 
-abbrev pub put : List (Option KnownLock) → Seen → KnownLock → List (Option KnownLock)
+abbrev pub put : List (Option KnownLock) → HeardCell → KnownLock → List (Option KnownLock)
 put locks x l = set locks (lock_place x) (Some l)
 
 -- a kept cell of time t is noted, where it is locked
-abbrev pub note : ℕ → List (Option KnownLock) → Seen → List (Option KnownLock)
+abbrev pub note : ℕ → List (Option KnownLock) → HeardCell → List (Option KnownLock)
 note t locks x = option_map_or (put locks x) (lock_of t x) locks
 
-abbrev pub note_all : ℕ → List (Option KnownLock) → List CellWithLli → List (Option KnownLock)
+abbrev pub note_all : ℕ → List (Option KnownLock) → List Cell → List (Option KnownLock)
 note_all t locks [] = locks
-note_all t locks (m ∷ ms) = note_all t (note t locks m.seen) ms
+note_all t locks (m ∷ ms) = note_all t (note t locks (heard_of m)) ms
 
 -- the keys of these cells have records, and no others
-pub record TracksLocks (locks : List (Option KnownLock)) (noted : List Seen) : Type 0 where
-  pub has : (key : Seen) → is_some (lookup locks key) ≡ is_among noted key
+pub record TracksLocks (locks : List (Option KnownLock)) (noted : List HeardCell) : Type 0 where
+  pub has : (key : HeardCell) → is_some (lookup locks key) ≡ is_among noted key
   pub count : recorded locks ≡ length (firsts noted)
   pub size : length locks ≡ most_locks
 
 -- ---- cells: of a key the first, and of these as many as there is room for
 
-abbrev pub is_held : List CellWithLli → Seen → Bool
-is_held ms x = list_any (λ m. has_same_key x m.seen) ms
+abbrev pub is_held : List Cell → HeardCell → Bool
+is_held ms x = list_any (λ m. has_same_key x (heard_of m)) ms
 
 -- a cell of that key
-abbrev pub is_cell_of : Seen → Cell → Bool
+abbrev pub is_cell_of : HeardCell → Cell → Bool
 is_cell_of x c = same_key x.satellite x.signal c.satellite c.signal
 
-abbrev pub fate_of : GatherSetup → List CellWithLli → Seen → Fate
+abbrev pub fate_of : GatherSetup → List Cell → HeardCell → Fate
 fate_of s ms x =
     if is_planned s x then (if is_held ms x then Repeated else (if nat_le most_cells (length ms) then Crowded else Kept)) else Skipped
 
-abbrev pub with_cell : Fate → List CellWithLli → CellWithLli → List CellWithLli
+abbrev pub with_cell : Fate → List Cell → Cell → List Cell
 with_cell Kept ms m = ms ++ m ∷ []
 with_cell _ ms m = ms
 

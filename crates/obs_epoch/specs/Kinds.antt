@@ -8,7 +8,6 @@ use Rattle.std.specs.Prelude.{nat_lt}
 use Rattle.std.specs.Option.{option_map_or}
 use Rattle.obs_epoch.specs.declared.taken.Gather.{Gather}
 use Rattle.obs_epoch.specs.declared.taken.Gather.TheVariants as gathers
-use Rattle.obs_epoch.specs.declared.seen.CellCounts.{CellCounts}
 use Rattle.obs_epoch.specs.Values.{PlanValue}
 use Rattle.obs_epoch.specs.Weeks.{weeks}
 use Rattle.obs_epoch.specs.declared.fault.PlanFault.{PlanFault}
@@ -17,6 +16,7 @@ use Rattle.obs_epoch.specs.Heard.{GatherSetup, Heard}
 use Rattle.obs_epoch.specs.Times.{timed}
 use Rattle.obs_epoch.specs.Clock.{answer_of}
 use Rattle.obs_epoch.specs.Standing.{counts_of_message}
+use Rattle.obs_epoch.specs.declared.taken.CellCounts.{CellCounts}
 
 abbrev pub is_close_first : Kind → Bool
 is_close_first kinds.CloseFirst = true

@@ -8,7 +8,6 @@ pub mod Order
 pub mod Times
 pub mod Cells
 pub mod Loss
-pub mod WithLli
 pub mod Epochs
 pub mod Held
 pub mod Clock

@@ -6,11 +6,10 @@ use Rattle.gnss_obs.specs.declared.system.System.{System}
 use Rattle.gnss_obs.specs.Satellites.{Satellite}
 use Rattle.gnss_obs.specs.Signals.{SignalAt}
 use Rattle.obs_epoch.specs.declared.cell.Cell.{Cell}
-use Rattle.obs_epoch.specs.declared.seen.Seen.{Seen}
 use Rattle.obs_epoch.specs.declared.order.Seat.{Seat}
 use Rattle.obs_epoch.specs.Values.{PlanValue, EpochValue, AreHeld, most_cells}
 use Rattle.obs_epoch.specs.Plans.{place_in}
-use Rattle.obs_epoch.specs.WithLli.{CellWithLli}
+use Rattle.obs_epoch.specs.Heard.{HeardCell}
 
 -- the seat of a key: its satellite's number, and its signal's place among those that are planned
 abbrev pub plan_seat : List ℕ → Satellite → SignalAt → Seat
@@ -37,17 +36,14 @@ spot s (t ∷ ts) = if is_before s t then 0 else suc (spot s ts)
 
 -- ---- cells
 
-abbrev pub seat_of : List ℕ → Seen → Seat
+abbrev pub seat_of : List ℕ → HeardCell → Seat
 seat_of planned x = plan_seat planned x.satellite x.signal
-
-abbrev pub seat_with_lli : List ℕ → CellWithLli → Seat
-seat_with_lli planned m = seat_of planned m.seen
 
 abbrev pub cell_seat : List ℕ → Cell → Seat
 cell_seat planned c = plan_seat planned c.satellite c.signal
 
 -- cells in the order of their seats
-abbrev pub sorted : List ℕ → List Seen → List Seen
+abbrev pub sorted : List ℕ → List HeardCell → List HeardCell
 sorted planned xs = fold (λ ys x. insert_by (seat_of planned) x ys) [] xs
 
 -- cells stand by satellite, and within it by the place of their signals among these; no two have one seat

@@ -8,12 +8,11 @@ use Rattle.rtcm_msg.specs.Spelling.{IsMessage}
 use Rattle.rtcm_msg.specs.Reach.{IsCoordinate, IsPoint}
 use Rattle.obs_epoch.specs.declared.cell.Cell.{Cell}
 use Rattle.obs_epoch.specs.declared.cell.StationValues.{StationValues}
-use Rattle.obs_epoch.specs.declared.seen.Seen.{Seen}
 use Rattle.rtcm_msg.specs.Msm.{week}
 use Rattle.obs_epoch.specs.Weeks.{weeks}
 use Rattle.obs_epoch.specs.Values.{PlanValue, Closed, HasTwelveDigits, cells_of, planned_of}
 use Rattle.obs_epoch.specs.Plans.{place_in}
-use Rattle.obs_epoch.specs.Heard.{GatherSetup, Heard, heard}
+use Rattle.obs_epoch.specs.Heard.{GatherSetup, Heard, heard, HeardCell}
 use Rattle.obs_epoch.specs.Gathering.{all_epochs}
 
 -- ---- messages
@@ -23,7 +22,7 @@ abbrev pub IsStrength : ℤ → Type 0
 IsStrength s = (pos 1 ≤ℤ s) × (s ≤ℤ pos 99_999)
 
 -- the values of a cell of a message that was read
-pub record IsHeardCell (x : Seen) : Type 0 where
+pub record IsHeardCell (x : HeardCell) : Type 0 where
   pub c : IfSome x.c HasTwelveDigits
   pub l : IfSome x.l HasTwelveDigits
   pub d : IfSome x.d HasTwelveDigits

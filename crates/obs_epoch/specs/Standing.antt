@@ -2,29 +2,28 @@
 use Rattle.std.specs.Prelude.{ℕ, ◌≡◌, Bool, List, [], ◌∷◌, ◌++◌, filter, flat_map, map, if◌then◌else◌}
 use Rattle.std.specs.Option.{option_map_or}
 use Rattle.gnss_obs.specs.declared.system.System.TheVariants.{Gps, Galileo}
-use Rattle.obs_epoch.specs.declared.seen.Seen.{Seen}
-use Rattle.obs_epoch.specs.Heard.{GatherSetup, Heard}
+use Rattle.obs_epoch.specs.Heard.{GatherSetup, Heard, HeardCell}
 use Rattle.obs_epoch.specs.Times.{Timed, greatest_time, timed, taken_at}
 use Rattle.obs_epoch.specs.Cells.{kept_at, offered, counts_of, with_skipped}
-use Rattle.obs_epoch.specs.declared.seen.CellCounts.{CellCounts}
 use Rattle.obs_epoch.specs.Loss.{is_locked, latest_in}
-use Rattle.obs_epoch.specs.WithLli.{EpochWithLli}
 use Rattle.obs_epoch.specs.Epochs.{epoch_at, closed_so_far, values_of}
 use Rattle.obs_epoch.specs.Held.{lookup, TracksLocks}
 use Rattle.obs_epoch.specs.Clock.{HasHeardMessages}
 use Rattle.obs_epoch.specs.Gather.{Gathered, no_epoch, no_counts}
+use Rattle.obs_epoch.specs.declared.taken.CellCounts.{CellCounts}
+use Rattle.obs_epoch.specs.Values.{EpochValue}
 
 -- the locked cells of the epochs of these times
-abbrev pub locked_in : GatherSetup → List Timed → List ℕ → List Seen
+abbrev pub locked_in : GatherSetup → List Timed → List ℕ → List HeardCell
 locked_in s xs ts = flat_map (λ t. filter is_locked (kept_at s t xs Gps ++ kept_at s t xs Galileo)) ts
 
 -- the epoch of the greatest time
-abbrev pub held_at : GatherSetup → List Timed → EpochWithLli
+abbrev pub held_at : GatherSetup → List Timed → EpochValue
 held_at s xs = option_map_or (epoch_at s xs) (greatest_time xs) no_epoch
 
 -- the locks are the latest of their keys in the epochs of these times, one record of each key
 pub record Locked (g : Gathered) (s : GatherSetup) (xs : List Timed) (ts : List ℕ) : Type 0 where
-  pub found : (key : Seen) → lookup g.locks key ≡ latest_in s xs ts key
+  pub found : (key : HeardCell) → lookup g.locks key ≡ latest_in s xs ts key
   pub tracks : TracksLocks g.locks (locked_in s xs ts)
 
 -- the gatherer stands for these messages, and for a pending epoch that was closed since then where `shut` holds
@@ -35,7 +34,7 @@ pub record HasTakenMessages (g : Gathered) (s : GatherSetup) (ms : List Heard) (
   pub values : g.values ≡ values_of s ms
 
 -- the epochs that are closed, with the pending one where `shut` says that it was closed since
-abbrev pub closed_list : GatherSetup → List Timed → Bool → List EpochWithLli
+abbrev pub closed_list : GatherSetup → List Timed → Bool → List EpochValue
 closed_list s xs shut = map (epoch_at s xs) (closed_so_far s xs shut)
 
 -- what becomes of the cells of a message after these
@@ -43,5 +42,5 @@ abbrev pub counts_of_message : GatherSetup → List Timed → Heard → CellCoun
 counts_of_message s xs m = option_map_or (λ u. with_skipped m.unlisted (counts_of s (offered s u xs) m.cells)) (taken_at s xs m) no_counts
 
 -- the epoch that a call closed, where it closed one
-abbrev pub handed_out : Bool → EpochWithLli → List EpochWithLli
+abbrev pub handed_out : Bool → EpochValue → List EpochValue
 handed_out closed e = if closed then e ∷ [] else []

@@ -54,6 +54,10 @@ pub record AreHeld (system : System) (cells : List Cell) : Type 0 where
   pub each : All (IsHeld system) cells
   pub few : length cells ≤ most_cells
 
+-- the cells of either system that may be held
+abbrev pub MayBeHeld : List Cell → Type 0
+MayBeHeld cells = All (λ c. IsHeld c.satellite.system c) cells
+
 -- a cell that says something
 abbrev pub has_value : Cell → Bool
 has_value c = is_some c.c || is_some c.l || is_some c.d || is_some c.s

@@ -1,7 +1,7 @@
 //! What is kept of a message: cells, and where the station stands.
 ghost use Rattle.std.specs.Prelude.{◌≡◌, ◌↔◌, IsTrue};
 
-use gnss_obs::{Sat, Signal, Thousandths};
+use gnss_obs::{Lock, Sat, Signal, Thousandths};
 
 /// What was observed of one signal of one satellite.
 #[derive(Clone, Copy, Debug, PartialEq, Eq)]
@@ -22,6 +22,9 @@ pub struct Cell {
     /// phase of this key, bit 1 where the phase may be off by half a cycle (DF420); 0 without a
     /// phase.
     pub lli: u8,
+    // How the phase is tracked: its lock, and whether it may be off by half a cycle (DF420).
+    pub(crate) lock: Lock,
+    pub(crate) half_cycle: bool,
 }
 
 /// Where the station's antenna stands, by the last messages that told it; 0 where none did.

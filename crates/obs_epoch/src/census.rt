@@ -3,13 +3,13 @@ ghost use Rattle.std.specs.Prelude.{◌≡◌, ◌==◌, ◌+◌, ◌<◌, ◌�
 ghost use Rattle.std.specs.List.{list_any};
 ghost use Rattle.std.specs.Option.{option_map_or};
 ghost use Rattle.gnss_obs.specs.Signals.{table};
-ghost use Rattle.obs_epoch.specs.declared.seen.Seen.{Seen};
-ghost use Rattle.obs_epoch.specs.Heard.{heard, seen_in};
-ghost use Rattle.obs_epoch.specs.Census.{brings_value, valued, counted, has_any, counted_of, entry_value, entry_signal, CountsEntries, IsCensus};
+ghost use Rattle.obs_epoch.specs.Heard.{heard, seen_in, HeardCell};
+ghost use Rattle.obs_epoch.specs.Census.{brings_value, valued, counted, has_any, counted_of, entry_value, entry_signal, CountsEntries, CountsMessage, IsCensus};
+ghost use Rattle.rtcm_msg.specs.Viewed.{viewed_message};
 
 use crate::hear::system_of;
 use gnss_obs::{GALILEO_SIGNAL_COUNT, GPS_SIGNAL_COUNT, Sat, Signal, System};
-use rtcm_msg::{Entry, Message, entries};
+use rtcm_msg::{Entries, Entry, Message, View};
 use std::marker::Model;
 
 /// For each signal of the tables, how many cells with a value there are.
@@ -59,34 +59,34 @@ impl Census {
         is_any_positive(self.galileo.as_slice())
     }
 
-    /// Counts the cells of a message of the station that is wanted; where none is told, of every
+    /// Counts the cells of a message of the station that is wanted; if none is given, of every
     /// station.
     pub fn count_message(&mut self, station: Option<u16>, message: &Message)
-        ensures counts { (cells : List Seen) → length cells < 2 ^ 62 → IsCensus self.old cells
-            → IsCensus self.new (cells ++ valued station (heard message.now)) }
-        ensures few { length (valued station (heard message.now)) ≤ 64 }
+        ensures { CountsMessage self.old self.new station (heard message.now) }
     {
-        match message {
-            Message::Msm4(msm) => {
-                if is_wanted(station, msm.header().station) {
-                    self.count_entries(system_of(msm.is_galileo()), entries(msm).as_slice());
+        self.count_view(station, &message.view());
+    }
+
+    /// Counts as `count_message` does, and reads the cells where their data are.
+    pub fn count_view(&mut self, station: Option<u16>, view: &View<'_>)
+        ensures { CountsMessage self.old self.new station (heard (viewed_message view.now)) }
+    {
+        match view {
+            View::Msm(m) => {
+                if is_wanted(station, m.header().station) {
+                    self.count_entries(system_of(m.is_galileo()), &mut m.entries());
                 }
             }
-            Message::Msm7(msm) => {
-                if is_wanted(station, msm.header().station) {
-                    self.count_entries(system_of(msm.is_galileo()), entries(msm).as_slice());
-                }
-            }
-            Message::Station(_) | Message::Other { .. } => {}
+            View::Station(_) | View::Other { number: _, set: _ } => {}
         }
     }
 
-    /// Counts the cells of listed satellites and signals that have a value.
-    fn count_entries(&mut self, system: System, entries: &[Entry])
-        ensures { CountsEntries self.old self.new system entries.now }
+    // Counts the cells of listed satellites and signals that have a value.
+    fn count_entries(&mut self, system: System, entries: &mut Entries<'_>)
+        ensures { CountsEntries self.old self.new system entries.old.left }
     {
-        for i in 0..entries.len() {
-            if let Some(signal) = signal_of(system, &entries[i]) {
+        while let Some(entry) = entries.next() {
+            if let Some(signal) = signal_of(system, &entry) {
                 self.add(signal);
             }
         }

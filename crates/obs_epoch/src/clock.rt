@@ -1,14 +1,13 @@
 //! The time of each message.
 ghost use Rattle.std.specs.Prelude.{◌==◌, ◌≡◌, ◌<◌, ◌*◌, [], true, false};
 ghost use Rattle.std.specs.Option.{ForSome};
-ghost use Rattle.obs_epoch.specs.Cells.{is_planned as is_planned_lem};
 ghost use Rattle.rtcm_msg.specs.Msm.{week};
+ghost use Rattle.obs_epoch.specs.Heard.{heard_summary};
 ghost use Rattle.obs_epoch.specs.Weeks.{weeks};
-ghost use Rattle.obs_epoch.specs.WithLli.{IsKey};
 
 use crate::plan::Plan;
-use crate::seen::Seen;
 use crate::time::{WEEK, WEEKS};
+use rtcm_msg::Summary;
 use std::marker::Model;
 
 /// What becomes of a message by its station and time.
@@ -20,14 +19,6 @@ pub enum Answer {
     PastWeeks,
     Kept,
     CloseFirst,
-}
-
-/// What a message tells of station and time.
-#[derive(Clone, Copy)]
-pub struct HeardByClock {
-    pub station: Option<u16>,
-    pub tow: Option<u32>,
-    pub more: Option<bool>,
 }
 
 ghost use Rattle.obs_epoch.specs.Step.{closed_of as closed_of_lem};
@@ -59,7 +50,7 @@ impl Model for Clock {
 }
 
 impl Clock {
-    ghost use Rattle.obs_epoch.specs.Clock.{HasHeardMessages, heard_by_clock};
+    ghost use Rattle.obs_epoch.specs.Clock.{HasHeardMessages};
     ghost use Rattle.obs_epoch.specs.Step.{answer_by, step_by, answer_at, step_at, is_told_own, closed_by};
     ghost use Rattle.obs_epoch.specs.declared.clock.Answer.{Answer};
 
@@ -77,14 +68,6 @@ impl Clock {
             latest: None,
             pending: false,
         }
-    }
-
-    /// Whether a cell is wanted.
-    pub fn is_planned(&self, x: &Seen) -> bool
-        requires { IsKey x.now }
-        ensures { result ≡ is_planned_lem self.now.setup x.now }
-    {
-        self.plan.place(x.signal).is_some()
     }
 
     /// The signals that are wanted.
@@ -113,29 +96,29 @@ impl Clock {
     }
 
     /// A message comes: what becomes of it, and the time of the epoch that it closes.
-    pub fn step_closing(&mut self, told: HeardByClock) -> (Answer, Option<u64>)
-        requires { ForSome told.tow (λ tow. tow < week) }
-        ensures answer { result.0 ≡ answer_by self.old (heard_by_clock told) }
-        ensures closed { result.1 ≡ closed_by self.old (heard_by_clock told) }
-        ensures step { self.new ≡ step_by self.old (heard_by_clock told) }
+    pub fn step_closing(&mut self, said: &Summary) -> (Answer, Option<u64>)
+        requires { ForSome said.now.time (λ tow. tow < week) }
+        ensures answer { result.0 ≡ answer_by self.old (heard_summary said.now) }
+        ensures closed { result.1 ≡ closed_by self.old (heard_summary said.now) }
+        ensures step { self.new ≡ step_by self.old (heard_summary said.now) }
     {
-        let is_mark = self.by_bit && told.more == Some(false);
+        let is_mark = self.by_bit && said.more == Some(false);
         let was = self.pending;
         let before = self.latest;
-        let answer = self.step(told);
+        let answer = self.step(said);
         (answer, closed_of(answer, is_mark, was, before, self.latest))
     }
 
-    fn step(&mut self, told: HeardByClock) -> Answer
-        requires { ForSome told.tow (λ tow. tow < week) }
-        ensures answer { result ≡ answer_by self.old (heard_by_clock told) }
-        ensures step { self.new ≡ step_by self.old (heard_by_clock told) }
+    fn step(&mut self, said: &Summary) -> Answer
+        requires { ForSome said.now.time (λ tow. tow < week) }
+        ensures answer { result ≡ answer_by self.old (heard_summary said.now) }
+        ensures step { self.new ≡ step_by self.old (heard_summary said.now) }
     {
-        if !self.is_own(told.station) {
+        if !self.is_own(said.station) {
             return Answer::OtherStation;
         }
-        let is_mark = self.by_bit && told.more == Some(false);
-        let answer = match told.tow {
+        let is_mark = self.by_bit && said.more == Some(false);
+        let answer = match said.time {
             None => Answer::Ignored,
             Some(tow) => self.place(tow),
         };

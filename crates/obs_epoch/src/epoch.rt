@@ -1,21 +1,25 @@
 //! An epoch: what was observed at one time.
-ghost use Rattle.std.specs.Prelude.{◌≡◌, ◌+◌, ◌<◌, ◌≤◌, [], length, drop, IfOk, insert};
+ghost use Rattle.std.specs.Prelude.{◌≡◌, ◌+◌, ◌-◌, ◌<◌, ◌≤◌, [], false, length, drop, IfOk, IfSome, Option, Some, None, insert, slice_index_or, if◌then◌else◌};
 ghost use Rattle.std.specs.Vec.{vec_len, vec_capacity};
-ghost use Rattle.obs_epoch.specs.Values.{AreHeld, cells_of, satellites_written, is_written, written_among, most_cells, most_written, run};
+ghost use Rattle.obs_epoch.specs.declared.cell.Cell.{Cell};
+ghost use Rattle.obs_epoch.specs.Values.{AreHeld, MayBeHeld, cells_of, satellites_written, is_written, written_among, most_cells, most_written, run};
 ghost use Rattle.obs_epoch.specs.Epochs.{no_values};
-ghost use Rattle.obs_epoch.specs.WithLli.{with_cell_of, cell_with_lli, IsObserved};
+ghost use Rattle.obs_epoch.specs.Heard.{heard_of, IsKey, IsObserved};
+ghost use Rattle.obs_epoch.specs.Held.{is_held as is_held_lem, is_cell_of, note_all};
+ghost use Rattle.obs_epoch.specs.Gather.{no_epoch, more_at, spot_in, AreInOrder};
 ghost use Rattle.obs_epoch.specs.Order.{AreSorted};
 ghost use Rattle.gnss_obs.specs.Satellites.{satellites as satellites_in};
 
 use crate::cell::{Cell, StationValues};
-use crate::locks::insert_within;
-use crate::seen::Seen;
+use crate::locks::{Locks, insert_within, is_same_key};
+use crate::order::{seat_at, spot};
+use crate::plan::Plan;
 use crate::time::GpsTime;
 use gnss_obs::System;
 use std::alloc::{AllocError, Global};
 use std::marker::Model;
 
-/// So many cells of a system are kept in an epoch.
+/// Largest number of cells of one system that an epoch keeps.
 pub(crate) const MOST_CELLS: usize = 256;
 
 /// An epoch: its time, the cells of each system that are kept, and the station values that were
@@ -65,7 +69,7 @@ impl Epoch {
         })
     }
 
-    // The epoch of another time, with no cell.
+    // Begins the epoch of another time, with no cell.
     pub(crate) fn begin(&mut self, time: GpsTime)
         ensures { self.new ≡ record { epoch = record { time = time; gps = []; galileo = [] }; values = self.old.values } }
     {
@@ -75,35 +79,57 @@ impl Epoch {
         self.counted = None;
     }
 
-    // Other station values.
+    // Sets the station values.
     pub(crate) fn tell(&mut self, values: StationValues)
         ensures { self.new ≡ record { epoch = self.old.epoch; values = values } }
     {
         self.values = values;
     }
 
-    // One cell more, with its loss-of-lock indicator, behind so many of its system.
-    pub(crate) fn hold(&mut self, at: usize, x: &Seen, lli: u8)
-        requires observed { IsObserved x.now }
-        requires indicator { lli < 4 }
-        requires room { length (cells_of x.now.satellite.system self.old.epoch) < most_cells }
-        requires within { at ≤ length (cells_of x.now.satellite.system self.old.epoch) }
-        requires order { AreSorted (insert (cells_of x.now.satellite.system self.old.epoch) at (cell_with_lli x.now lli)) }
-        ensures { self.new ≡ record { epoch = with_cell_of x.now.satellite.system at self.old.epoch (cell_with_lli x.now lli); values = self.old.values } }
+    // Returns the insertion index of a key, or None if a cell of that key is kept.
+    pub(crate) fn seek(&self, plan: &Plan, x: &Cell) -> Option<usize>
+        requires key { IsKey (heard_of x.now) }
+        requires order { AreInOrder plan.now self.now.epoch }
+        ensures at { result ≡ (if is_held_lem (cells_of x.now.satellite.system self.now.epoch) (heard_of x.now) then None
+            else Some (spot_in plan.now self.now.epoch (heard_of x.now))) }
+        ensures within { IfSome result (λ at. at ≤ length (cells_of x.now.satellite.system self.now.epoch)) }
     {
-        self.counted = None;
-        match x.satellite.system() {
-            System::Gps => insert_cell(&mut self.gps, at, x, lli),
-            System::Galileo => insert_cell(&mut self.galileo, at, x, lli),
+        let system = x.satellite.system();
+        let cells = self.cells(system);
+        let at = spot(cells, plan, seat_at(plan, x.satellite, x.signal), system);
+        if is_last(cells, at, x) {
+            None
+        } else {
+            Some(at)
         }
     }
 
-    // It closes: the satellites that are to be written are counted, once for all who ask.
-    pub(crate) fn close(&mut self)
-        ensures { self.new ≡ self.old }
+    // Inserts a cell.
+    pub(crate) fn hold(&mut self, at: usize, x: Cell)
+        requires observed { IsObserved (heard_of x) }
+        requires indicator { x.lli < 4 }
+        requires room { length (cells_of x.satellite.system self.old.epoch) < most_cells }
+        requires within { at ≤ length (cells_of x.satellite.system self.old.epoch) }
+        requires order { AreSorted (insert (cells_of x.satellite.system self.old.epoch) at x) }
+        ensures { self.new ≡ record { epoch = more_at x.satellite.system at self.old.epoch x; values = self.old.values } }
+    {
+        self.counted = None;
+        match x.satellite.system() {
+            System::Gps => insert_cell(&mut self.gps, at, x),
+            System::Galileo => insert_cell(&mut self.galileo, at, x),
+        }
+    }
+
+    // Closes the epoch: counts its satellites, once for every caller, and notes its locks.
+    pub(crate) fn close(&mut self, locks: &mut Locks)
+        ensures same { self.new ≡ self.old }
+        ensures noted { locks.new ≡ note_all self.old.epoch.time (note_all self.old.epoch.time locks.old self.old.epoch.gps) self.old.epoch.galileo }
     {
         let count = self.count();
         self.counted = Some(count);
+        let time = self.time.milliseconds();
+        note_cells(locks, time, self.gps.as_slice());
+        note_cells(locks, time, self.galileo.as_slice());
     }
 
     /// Its time.
@@ -198,10 +224,11 @@ fn written(cells: &[Cell], system: System) -> usize
     count
 }
 
-fn insert_cell(cells: &mut Vec<Cell>, at: usize, x: &Seen, lli: u8)
+#[inline(always)]
+fn insert_cell(cells: &mut Vec<Cell>, at: usize, x: Cell)
     requires room { vec_len cells.old < vec_capacity cells.old }
     requires within { at ≤ vec_len cells.old }
-    ensures items { cells.new.items ≡ insert cells.old.items at (cell_with_lli x.now lli) }
+    ensures items { cells.new.items ≡ insert cells.old.items at x }
     ensures len { vec_len cells.new ≡ vec_len cells.old + 1 }
     ensures room { vec_capacity cells.old ≤ vec_capacity cells.new }
 {
@@ -212,7 +239,31 @@ fn insert_cell(cells: &mut Vec<Cell>, at: usize, x: &Seen, lli: u8)
         l: x.l,
         d: x.d,
         s: x.s,
-        lli,
+        lli: x.lli,
+        lock: x.lock,
+        half_cycle: x.half_cycle,
     };
     insert_within(cells, at, cell);
+}
+
+// Whether the cell before an index has that key.
+fn is_last(cells: &[Cell], at: usize, x: &Cell) -> bool
+    requires { at ≤ length cells.now }
+    ensures none { at ≡ 0 → result ≡ false }
+    ensures last { (d : Cell) → 0 < at → result ≡ is_cell_of (heard_of x.now) (slice_index_or cells.now (at - 1) d) }
+{
+    if at == 0 {
+        return false;
+    }
+    let c = &cells[at - 1];
+    is_same_key(x.satellite, x.signal, c.satellite, c.signal)
+}
+
+fn note_cells(locks: &mut Locks, time: u64, cells: &[Cell])
+    requires held { MayBeHeld cells.now }
+    ensures { locks.new ≡ note_all time locks.old cells.now }
+{
+    for i in 0..cells.len() {
+        locks.note(time, &cells[i]);
+    }
 }

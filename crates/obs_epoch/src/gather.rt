@@ -1,39 +1,41 @@
 //! Messages into epochs, with the indicators of lost lock.
 ghost use Rattle.std.specs.Prelude.{◌≡◌, ◌↔◌, ◌⊎◌, ◌<◌, ◌≤◌, [], true, false, length, None, Some, is_some, IfOk, IfErr, IfSome, MatchResult, IsOk, Err, option_map, option_to_list, not, List, Option, All};
 ghost use Rattle.rtcm_msg.specs.Entries.{IsEntry};
-ghost use Rattle.rtcm_msg.specs.Msm.{lock_codes, week};
+ghost use Rattle.rtcm_msg.specs.Msm.{most_pairs, week};
+ghost use Rattle.rtcm_msg.specs.Viewed.{viewed_message, lock_field, codes_of};
 ghost use Rattle.obs_epoch.specs.Weeks.{weeks};
 ghost use Rattle.obs_epoch.specs.Clock.{HasHeardMessages};
-ghost use Rattle.obs_epoch.specs.Heard.{GatherSetup, Heard, heard, system_of};
+ghost use Rattle.obs_epoch.specs.Heard.{GatherSetup, Heard, heard, heard_summary, system_of};
 ghost use Rattle.obs_epoch.specs.Order.{StandByPlan};
-ghost use Rattle.obs_epoch.specs.WithLli.{IsObserved};
+ghost use Rattle.obs_epoch.specs.Plans.{place_in};
+ghost use Rattle.obs_epoch.specs.Heard.{heard_of, IsObserved};
 ghost use Rattle.obs_epoch.specs.Epochs.{values_told, values_of, no_values};
 ghost use Rattle.obs_epoch.specs.Held.{count_in, most_locks, no_locks, recorded};
 ghost use Rattle.obs_epoch.specs.Step.{answer_by, closed_by as closes};
 ghost use Rattle.obs_epoch.specs.Standing.{HasTakenMessages};
-ghost use Rattle.obs_epoch.specs.Values.{Closed, most_cells};
+ghost use Rattle.obs_epoch.specs.Values.{Closed, cells_of, most_cells, planned_of};
 ghost use Rattle.obs_epoch.specs.Kinds.{is_close_first, kind_by, is_no_station, setup_of, IsUnfitSetup};
 ghost use Rattle.obs_epoch.specs.Gathering.{HasGatheredEpochs, closed_by, closed_in, plan_in};
-ghost use Rattle.obs_epoch.specs.Calls.{TellsClosingFirst, AwaitsMessage, GathersMessage, TellsKindOfTaken, EndsPendingEpoch, StaysEnded, HoldsCells, HoldsLockedKeys};
+ghost use Rattle.obs_epoch.specs.Calls.{TakesMessage, EndsPendingEpoch, StaysEnded, HoldsCells, HoldsLockedKeys};
 ghost use Rattle.obs_epoch.specs.declared.fault.PlanFault.{PlanFault};
-ghost use Rattle.obs_epoch.specs.Gather.{take_step, end_step, loaded_by, load_heard, load_entry, load_entries, epoch_begun, is_same as is_same_lem, no_counts, cells_in, load, noted, rested, fate_in, hold, no_epoch};
-ghost use Rattle.obs_epoch.specs.declared.seen.CellCounts.{CellCounts};
+ghost use Rattle.obs_epoch.specs.Gather.{take_step, end_step, loaded_by, load_heard, load_entry, load_entries, epoch_begun, is_same as is_same_lem, no_counts, load, noted, rested, fate_in, hold, no_epoch};
+ghost use Rattle.obs_epoch.specs.declared.taken.CellCounts.{CellCounts};
 
-use crate::cell::StationValues;
+use crate::cell::{Cell, StationValues};
 use crate::clock::{Answer, Clock};
 use crate::epoch::{Epoch, MOST_CELLS};
 use crate::fault::PlanFault;
-use crate::hear::{system_of, told_of, values_of};
-use crate::held::Held;
+use crate::hear::{summary_of, system_of, values_of};
 use crate::lli::lli;
 use crate::locks::Locks;
 use crate::observe::observe;
 use crate::plan::Plan;
-use crate::seen::{CellCounts, Fate, Seen, counted, no_counts};
-use crate::taken::{Gather, Taken, is_by_bit, is_no_station, kind_by};
+use crate::taken::{
+    CellCounts, Fate, Gather, Taken, counted, is_by_bit, is_no_station, kind_by, no_counts,
+};
 use crate::time::{GpsTime, WEEKS};
 use gnss_obs::System;
-use rtcm_msg::{Entry, Message, entries};
+use rtcm_msg::{Entries, Entry, LockField, Message, Summary, View};
 use std::alloc::{AllocError, Global};
 use std::marker::Model;
 
@@ -41,7 +43,7 @@ use std::marker::Model;
 #[derive(Drop)]
 pub struct Gatherer {
     clock: Clock,
-    held: Held,
+    epoch: Epoch,
     locks: Locks,
     handed: bool,
     has_ended: bool,
@@ -55,14 +57,14 @@ impl Model for Gatherer {
 
     ghost view = { λ a. record {
       clock = a.clock;
-      epoch = a.held.epoch;
+      epoch = a.epoch.epoch;
       locks = a.locks;
-      values = a.held.values;
+      values = a.epoch.values;
       handed = a.handed;
       has_ended = a.has_ended;
     } };
 
-    ghost invariant = { λ a. AreInOrder a.clock.setup.plan a.held.epoch };
+    ghost invariant = { λ a. AreInOrder a.clock.setup.plan a.epoch.epoch };
 }
 
 impl Gatherer {
@@ -87,9 +89,9 @@ impl Gatherer {
         ensures only { IfErr result (λ e. (e ≡ PlanFault.BadWeek) ⊎ ((e ≡ PlanFault.BadStation) ⊎ (e ≡ PlanFault.Memory))) }
     {
         match reserved(alloc, start_week, station) {
-            Ok((held, locks)) => {
+            Ok((epoch, locks)) => {
                 let clock = Clock::new(plan, start_week, station, is_by_bit(gather));
-                Ok(Gatherer::made(clock, held, locks))
+                Ok(Gatherer::made(clock, epoch, locks))
             }
             Err(fault) => {
                 drop(plan);
@@ -99,9 +101,9 @@ impl Gatherer {
     }
 
     // No message was taken.
-    fn made(clock: Clock, held: Held, locks: Locks) -> Gatherer
+    fn made(clock: Clock, epoch: Epoch, locks: Locks) -> Gatherer
         requires stands { HasHeardMessages clock clock.setup [] false }
-        requires held { held ≡ record { epoch = no_epoch; values = no_values } }
+        requires epoch { epoch ≡ record { epoch = no_epoch; values = no_values } }
         requires locks { locks ≡ no_locks }
         ensures stands { HasTakenMessages result clock.setup [] false }
         ensures going { result.has_ended ≡ false }
@@ -109,32 +111,28 @@ impl Gatherer {
     {
         Gatherer {
             clock,
-            held,
+            epoch,
             locks,
             handed: false,
             has_ended: false,
         }
     }
 
-    /// Takes a message, whatever it is; `end` must not have been called. Where the answer is
-    /// `CloseFirst`, the pending epoch was closed, the message wasn't taken, and it is to be handed
-    /// in again at once.
+    /// Takes a message of any kind; `end` must not have been called. If the kind is `CloseFirst`,
+    /// the pending epoch was closed and the message was not taken: pass it again at once.
     pub fn take(&mut self, m: &Message) -> Taken
         requires { self.old.has_ended ≡ false }
-        // The pending epoch is closed first exactly where this message's time is greater and within
-        // the weeks.
-        ensures exactly { TellsClosingFirst self.old (heard m.now) result.kind }
-        ensures first { AwaitsMessage self.old self.new (heard m.now) result.kind }
-        // A message that comes again is taken.
-        ensures again { (s : GatherSetup) (ms : List Heard) (es : List Closed) → HasGatheredEpochs self.old s ms es (Some (heard m.now))
-            → is_close_first result.kind ≡ false }
-        // Every other message is taken, and hands out the epoch that it closes.
-        ensures taken { GathersMessage self.old self.new (heard m.now) result.kind }
-        ensures kind { TellsKindOfTaken self.old (heard m.now) result.kind }
-        ensures closed { result.closed ≡ is_some (closed_in self.new) }
-        ensures going { self.new.has_ended ≡ false }
+        ensures { TakesMessage self.old self.new (heard m.now) result }
     {
-        self.step(m)
+        self.take_view(&m.view())
+    }
+
+    /// Takes a message as `take` does, and reads its cells where their data are.
+    pub fn take_view(&mut self, view: &View<'_>) -> Taken
+        requires { self.old.has_ended ≡ false }
+        ensures { TakesMessage self.old self.new (heard (viewed_message view.now)) result }
+    {
+        self.step(view)
     }
 
     /// No message follows: closes the pending epoch, and says whether there was one. After the
@@ -161,11 +159,7 @@ impl Gatherer {
         // when it was closed.
         ensures closed { option_to_list (option_map (λ e. e.now) result) ≡ closed_by (closed_in self.now) self.now.values }
     {
-        if self.handed {
-            Some(self.held.epoch())
-        } else {
-            None
-        }
+        if self.handed { Some(&self.epoch) } else { None }
     }
 
     /// Whether `end` was called.
@@ -178,11 +172,11 @@ impl Gatherer {
     /// How many cells of a system are held: those of the pending epoch or, where none is pending,
     /// of the one last closed.
     pub fn cells(&self, system: System) -> usize
-        ensures count { result ≡ length (cells_in system self.now.epoch) }
+        ensures count { result ≡ length (cells_of system self.now.epoch) }
         ensures held { HoldsCells self.now system result }
         ensures bound { result ≤ most_cells }
     {
-        self.held.len(system)
+        self.epoch.cells(system).len()
     }
 
     /// How many lock records are held: one for each satellite and signal of which a closed epoch
@@ -201,7 +195,7 @@ impl Gatherer {
         ensures told { (s : GatherSetup) (ms : List Heard) (es : List Closed) (again : Option Heard) → HasGatheredEpochs self.now s ms es again
             → result ≡ values_of s ms }
     {
-        self.held.values()
+        self.epoch.station_values()
     }
 
     /// The signals that are wanted.
@@ -211,22 +205,24 @@ impl Gatherer {
         self.clock.plan()
     }
 
-    fn step(&mut self, m: &Message) -> Taken
-        ensures kind { result.kind ≡ kind_by (heard m.now) (answer_by self.old.clock (heard m.now)) (take_step self.old (heard m.now)).counts }
-        ensures closed { result.closed ≡ is_some (closes self.old.clock (heard m.now)) }
-        ensures step { self.new ≡ (take_step self.old (heard m.now)).state }
+    fn step(&mut self, view: &View<'_>) -> Taken
+        ensures kind { result.kind ≡ kind_by (heard (viewed_message view.now)) (answer_by self.old.clock (heard (viewed_message view.now)))
+            (take_step self.old (heard (viewed_message view.now))).counts }
+        ensures closed { result.closed ≡ is_some (closes self.old.clock (heard (viewed_message view.now))) }
+        ensures step { self.new ≡ (take_step self.old (heard (viewed_message view.now))).state }
     {
         let before = self.clock.latest();
-        let values = self.told(m);
-        self.held.tell(values);
-        let (answer, closed) = self.clock.step_closing(told_of(m));
+        let said = summary_of(view);
+        let values = self.values_after(&said);
+        self.epoch.tell(values);
+        let (answer, closed) = self.clock.step_closing(&said);
         self.handed = closed.is_some();
-        let counts = self.load(answer, before, m);
+        let counts = self.load(answer, before, view);
         if closed.is_some() {
             self.close_pending();
         }
         Taken {
-            kind: kind_by(m, answer, counts),
+            kind: kind_by(&said, answer, counts),
             closed: closed.is_some(),
         }
     }
@@ -245,31 +241,30 @@ impl Gatherer {
         was
     }
 
-    fn told(&self, m: &Message) -> StationValues
-        ensures { result ≡ values_told self.now.clock.setup self.now.values (heard m.now) }
+    // The station values after a message.
+    fn values_after(&self, said: &Summary) -> StationValues
+        ensures { result ≡ values_told self.now.clock.setup self.now.values (heard_summary said.now) }
     {
-        let values = self.held.values();
-        match m {
-            Message::Station(station) => {
-                let parts = station.parts();
-                if self.clock.is_own(Some(parts.station)) {
+        let values = self.epoch.station_values();
+        match said.point {
+            None => values,
+            Some(parts) => {
+                if self.clock.is_own(said.station) {
                     values_of(&parts, values.height)
                 } else {
                     values
                 }
             }
-            Message::Msm4(_) | Message::Msm7(_) => values,
-            Message::Other { number: _, set: _ } => values,
         }
     }
 
-    fn load(&mut self, answer: Answer, before: Option<u64>, m: &Message) -> CellCounts
-        ensures { record { state = self.new; counts = result } ≡ loaded_by answer before self.old (heard m.now) }
+    fn load(&mut self, answer: Answer, before: Option<u64>, view: &View<'_>) -> CellCounts
+        ensures { record { state = self.new; counts = result } ≡ loaded_by answer before self.old (heard (viewed_message view.now)) }
     {
         match answer {
             Answer::Kept => {
                 self.begin(before);
-                self.take_all(m)
+                self.take_all(view)
             }
             Answer::OtherStation
             | Answer::Ignored
@@ -279,21 +274,16 @@ impl Gatherer {
         }
     }
 
-    fn take_all(&mut self, m: &Message) -> CellCounts
-        ensures { record { state = self.new; counts = result } ≡ load_heard (record { state = self.old; counts = no_counts }) (heard m.now) }
+    fn take_all(&mut self, view: &View<'_>) -> CellCounts
+        ensures { record { state = self.new; counts = result } ≡ load_heard (record { state = self.old; counts = no_counts }) (heard (viewed_message view.now)) }
     {
-        match m {
-            Message::Msm4(m) => self.take_entries(
-                false,
+        match view {
+            View::Msm(m) => self.take_entries(
+                m.form().lock_field(),
                 system_of(m.is_galileo()),
-                entries(m).as_slice(),
+                &mut m.entries(),
             ),
-            Message::Msm7(m) => self.take_entries(
-                true,
-                system_of(m.is_galileo()),
-                entries(m).as_slice(),
-            ),
-            Message::Station(_) | Message::Other { number: _, set: _ } => no_counts(),
+            View::Station(_) | View::Other { number: _, set: _ } => no_counts(),
         }
     }
 
@@ -302,53 +292,59 @@ impl Gatherer {
     {
         let latest = self.clock.latest();
         if !is_same(before, latest) {
-            self.held.begin(match latest {
+            self.epoch.begin(match latest {
                 None => GpsTime::within(0),
                 Some(time) => GpsTime::within(time),
             });
         }
     }
 
-    // A cell of the message that is taken.
-    fn take_cell(&mut self, x: Seen) -> Fate
-        requires { IsObserved x }
-        ensures fate { result ≡ fate_in self.old x }
-        ensures step { self.new ≡ hold self.old x }
+    // Keeps a cell of a planned signal, unless its key is kept or there is no room.
+    fn take_cell(&mut self, x: Cell) -> Fate
+        requires observed { IsObserved (heard_of x) }
+        requires planned { is_some (place_in x.signal (planned_of x.satellite.system self.old.clock.setup.plan)) ≡ true }
+        ensures fate { result ≡ fate_in self.old (heard_of x) }
+        ensures step { self.new ≡ hold self.old (heard_of x) }
     {
-        if !self.clock.is_planned(&x) {
-            return Fate::Skipped;
+        match self.epoch.seek(self.clock.plan(), &x) {
+            None => Fate::Repeated,
+            Some(at) => {
+                if self.epoch.cells(x.satellite.system()).len() >= MOST_CELLS {
+                    return Fate::Crowded;
+                }
+                let mut x = x;
+                x.lli = lli(&x, self.epoch.time().milliseconds(), self.locks.latest(&x));
+                self.epoch.hold(at, x);
+                Fate::Kept
+            }
         }
-        let spot = self.held.seek(self.clock.plan(), &x);
-        if spot.is_held {
-            return Fate::Repeated;
-        }
-        if self.held.len(x.satellite.system()) >= MOST_CELLS {
-            return Fate::Crowded;
-        }
-        let lli = lli(&x, self.held.time(), self.locks.latest(&x));
-        self.held.hold(spot.at, x, lli);
-        Fate::Kept
     }
 
-    // The cells of the message that is taken, of the long form or the short one.
-    fn take_entries(&mut self, is_msm7: bool, system: System, entries: &[Entry]) -> CellCounts
-        requires { All (IsEntry (lock_codes is_msm7)) entries.now }
-        ensures { record { state = self.new; counts = result } ≡ load_entries is_msm7 system (record { state = self.old; counts = no_counts }) entries.now }
+    // Takes the cells of a message.
+    fn take_entries(
+        &mut self,
+        field: LockField,
+        system: System,
+        entries: &mut Entries<'_>,
+    ) -> CellCounts
+        requires form { field ≡ lock_field entries.old.form }
+        requires few { length entries.old.left ≤ most_pairs }
+        ensures { record { state = self.new; counts = result } ≡ load_entries field system (record { state = self.old; counts = no_counts }) entries.old.left }
     {
         let mut counts = no_counts();
-        for i in 0..entries.len() {
-            counts = counted(self.take_entry(is_msm7, system, &entries[i]), counts);
+        while let Some(entry) = entries.next() {
+            counts = counted(self.take_entry(field, system, &entry), counts);
         }
         counts
     }
 
     // A cell of the message that is taken.
-    fn take_entry(&mut self, is_msm7: bool, system: System, entry: &Entry) -> Fate
-        requires { IsEntry (lock_codes is_msm7) entry.now }
+    fn take_entry(&mut self, field: LockField, system: System, entry: &Entry) -> Fate
+        requires { IsEntry (codes_of field) entry.now }
         ensures { (n : CellCounts) → record { state = self.new; counts = count_in result n }
-            ≡ load_entry is_msm7 system (record { state = self.old; counts = n }) entry.now }
+            ≡ load_entry field system (record { state = self.old; counts = n }) entry.now }
     {
-        match observe(is_msm7, system, entry) {
+        match observe(self.clock.plan(), field, system, entry) {
             None => Fate::Skipped,
             Some(x) => self.take_cell(x),
         }
@@ -358,7 +354,7 @@ impl Gatherer {
     fn close_pending(&mut self)
         ensures { self.new ≡ noted self.old }
     {
-        self.held.close(&mut self.locks);
+        self.epoch.close(&mut self.locks);
     }
 }
 
@@ -367,7 +363,7 @@ fn reserved(
     alloc: Global,
     start_week: u32,
     station: Option<u16>,
-) -> Result<(Held, Locks), PlanFault>
+) -> Result<(Epoch, Locks), PlanFault>
     ensures { MatchResult result
         (λ r. (r.0 ≡ record { epoch = no_epoch; values = no_values }) × (r.1 ≡ no_locks) × (start_week < weeks) × (is_no_station station ≡ false))
         (IsUnfitSetup start_week station) }
@@ -385,12 +381,12 @@ fn reserved(
 }
 
 // No cell and no lock record.
-fn empty(alloc: Global) -> Result<(Held, Locks), AllocError>
+fn empty(alloc: Global) -> Result<(Epoch, Locks), AllocError>
     ensures { IfOk result (λ r. (r.0 ≡ record { epoch = no_epoch; values = no_values }) × (r.1 ≡ no_locks)) }
 {
     let locks = Locks::new(alloc)?;
-    let held = Held::new(alloc)?;
-    Ok((held, locks))
+    let epoch = Epoch::new(alloc)?;
+    Ok((epoch, locks))
 }
 
 fn is_same(a: Option<u64>, b: Option<u64>) -> bool

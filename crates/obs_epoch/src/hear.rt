@@ -1,53 +1,22 @@
 //! What a gatherer hears of a message.
-ghost use Rattle.std.specs.Prelude.{◌≡◌, ◌<◌, Some};
+ghost use Rattle.std.specs.Prelude.{◌≡◌, ◌<◌};
 ghost use Rattle.std.specs.Option.{ForSome};
 ghost use Rattle.rtcm_msg.specs.Msm.{week};
-ghost use Rattle.obs_epoch.specs.Heard.{heard, system_of};
+ghost use Rattle.obs_epoch.specs.Heard.{heard, heard_summary, without_cells, system_of};
+ghost use Rattle.rtcm_msg.specs.Viewed.{viewed_message};
 ghost use Rattle.obs_epoch.specs.Epochs.{values_by};
 
 use crate::cell::StationValues;
-use crate::clock::HeardByClock;
 use gnss_obs::System;
-use rtcm_msg::{Message, MsmHeader, StationParts};
+use rtcm_msg::{StationParts, Summary, View};
 
-/// What a clock is told of a message.
-pub fn told_of(m: &Message) -> HeardByClock
-    ensures station { result.station ≡ (heard m.now).station }
-    ensures tow { result.tow ≡ (heard m.now).tow }
-    ensures more { result.more ≡ (heard m.now).more }
-    ensures week { ForSome result.tow (λ tow. tow < week) }
+/// Returns what a message contains beside its cells.
+#[tactic(auto, using(crate::proofs::ViewLemmas::summary_heard))]
+pub fn summary_of(view: &View<'_>) -> Summary
+    ensures heard { heard_summary result ≡ without_cells (heard (viewed_message view.now)) }
+    ensures week { ForSome result.time (λ time. time < week) }
 {
-    match m {
-        Message::Station(station) => HeardByClock {
-            station: Some(station.parts().station),
-            tow: None,
-            more: None,
-        },
-        Message::Msm4(m) => told_by(&m.header()),
-        Message::Msm7(m) => told_by(&m.header()),
-        Message::Other { number: _, set } => match set {
-            None => HeardByClock {
-                station: None,
-                tow: None,
-                more: None,
-            },
-            Some(set) => HeardByClock {
-                station: Some(set.0),
-                tow: None,
-                more: Some(set.1),
-            },
-        },
-    }
-}
-
-fn told_by(header: &MsmHeader) -> HeardByClock
-    ensures { result ≡ record { station = Some header.now.station; tow = Some header.now.time; more = Some header.now.more } }
-{
-    HeardByClock {
-        station: Some(header.station),
-        tow: Some(header.time),
-        more: Some(header.more),
-    }
+    view.summary()
 }
 
 /// The system of a message with observations.

@@ -3,10 +3,11 @@ ghost use Rattle.std.specs.Prelude.{◌≡◌, ◌+◌, ◌<◌, ◌≤◌, [], 
 ghost use Rattle.std.specs.Vec.{vec_len, vec_capacity};
 ghost use Rattle.obs_epoch.specs.Held.{lock_place, lookup, most_locks, no_locks, note, one_if_new, put, recorded};
 ghost use Rattle.obs_epoch.specs.Cells.{is_system, same_key};
-ghost use Rattle.obs_epoch.specs.WithLli.{IsKey};
+ghost use Rattle.obs_epoch.specs.Heard.{IsKey, heard_of};
 ghost use Rattle.obs_epoch.specs.Loss.{lock_of};
 
-use crate::seen::{KnownLock, Seen};
+use crate::cell::Cell;
+use crate::lli::KnownLock;
 use gnss_obs::{
     GALILEO_SATELLITES, GALILEO_SIGNAL_COUNT, GPS_SATELLITES, GPS_SIGNAL_COUNT, Sat, Signal, System,
 };
@@ -31,7 +32,7 @@ pub struct Locks {
 
 impl Model for Locks {
     ghost use Rattle.std.specs.Prelude.{List, Option, ◌≡◌, length};
-    ghost use Rattle.obs_epoch.specs.declared.seen.KnownLock.{KnownLock};
+    ghost use Rattle.obs_epoch.specs.declared.lli.KnownLock.{KnownLock};
     ghost use Rattle.obs_epoch.specs.Held.{most_locks, recorded};
 
     ghost Value = { List (Option KnownLock) };
@@ -60,26 +61,26 @@ impl Locks {
     }
 
     /// What is recorded of that key.
-    pub fn latest(&self, x: &Seen) -> Option<KnownLock>
-        requires { IsKey x.now }
-        ensures { result ≡ lookup self.now x.now }
+    pub fn latest(&self, x: &Cell) -> Option<KnownLock>
+        requires { IsKey (heard_of x.now) }
+        ensures { result ≡ lookup self.now (heard_of x.now) }
     {
         self.entries[lock_place(x)]
     }
 
     /// A kept cell of an epoch that closes: its lock, where it is known.
-    pub fn note(&mut self, time: u64, x: &Seen)
-        requires { IsKey x.now }
-        ensures { self.new ≡ note time self.old x.now }
+    pub fn note(&mut self, time: u64, x: &Cell)
+        requires { IsKey (heard_of x.now) }
+        ensures { self.new ≡ note time self.old (heard_of x.now) }
     {
         if let Some(lock) = lock_at(time, x) {
             self.set(x, lock);
         }
     }
 
-    fn set(&mut self, x: &Seen, lock: KnownLock)
-        requires { IsKey x.now }
-        ensures { self.new ≡ put self.old x.now lock }
+    fn set(&mut self, x: &Cell, lock: KnownLock)
+        requires { IsKey (heard_of x.now) }
+        ensures { self.new ≡ put self.old (heard_of x.now) lock }
     {
         let entry = lock_place(x);
         let count = self.count + one_if_new(self.entries[entry]);
@@ -110,9 +111,9 @@ fn one_if_new(before: Option<KnownLock>) -> usize
 }
 
 // The entry of a key.
-fn lock_place(x: &Seen) -> usize
-    requires { IsKey x.now }
-    ensures entry { result ≡ lock_place x.now }
+fn lock_place(x: &Cell) -> usize
+    requires { IsKey (heard_of x.now) }
+    ensures entry { result ≡ lock_place (heard_of x.now) }
     ensures bound { result < most_locks }
 {
     let id = x.satellite.id() as usize;
@@ -124,8 +125,8 @@ fn lock_place(x: &Seen) -> usize
 }
 
 /// The lock of a cell, where its phase is valid and its lock known.
-pub fn lock_at(time: u64, x: &Seen) -> Option<KnownLock>
-    ensures { result ≡ lock_of time x.now }
+pub fn lock_at(time: u64, x: &Cell) -> Option<KnownLock>
+    ensures { result ≡ lock_of time (heard_of x.now) }
 {
     if x.l.is_some() && x.lock.least().is_some() {
         Some(KnownLock { time, lock: x.lock })

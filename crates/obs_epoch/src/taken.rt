@@ -1,11 +1,12 @@
 //! What becomes of a message.
-ghost use Rattle.std.specs.Prelude.{◌≡◌};
-ghost use Rattle.obs_epoch.specs.Heard.{heard};
+ghost use Rattle.std.specs.Prelude.{◌≡◌, ◌+◌, ◌<◌};
+ghost use Rattle.obs_epoch.specs.Heard.{heard_summary};
+ghost use Rattle.obs_epoch.specs.Held.{count_in};
+ghost use Rattle.obs_epoch.specs.Gather.{no_counts};
 ghost use Rattle.obs_epoch.specs.Kinds.{is_close_first, kind_at, station_kind, kind_by, is_by_bit, is_no_station};
 
 use crate::clock::Answer;
-use crate::seen::CellCounts;
-use rtcm_msg::Message;
+use rtcm_msg::Summary;
 
 /// How the epochs of a station are closed.
 #[derive(Clone, Copy, Debug, PartialEq, Eq)]
@@ -44,6 +45,24 @@ pub enum Kind {
     /// Observations of a later epoch: the pending epoch was closed, and the message is to be handed
     /// in again.
     CloseFirst,
+}
+
+/// What became of the cells of a message.
+#[derive(Clone, Copy)]
+pub struct CellCounts {
+    pub kept: usize,
+    pub skipped: usize,
+    pub repeated: usize,
+    pub crowded: usize,
+}
+
+/// What became of a cell.
+#[derive(Clone, Copy)]
+pub enum Fate {
+    Skipped,
+    Repeated,
+    Crowded,
+    Kept,
 }
 
 /// What became of a message, and whether an epoch was closed.
@@ -98,13 +117,15 @@ impl Kind {
 }
 
 // What became of a message, by its time and its cells.
-pub(crate) fn kind_by(m: &Message, answer: Answer, counts: CellCounts) -> Kind
-    ensures { result ≡ kind_by (heard m.now) answer counts }
+pub(crate) fn kind_by(said: &Summary, answer: Answer, counts: CellCounts) -> Kind
+    ensures { result ≡ kind_by (heard_summary said.now) answer counts }
 {
-    match m {
-        Message::Station(_) => Kind::of_station(answer),
-        Message::Msm4(_) | Message::Msm7(_) => Kind::of_observations(answer, counts),
-        Message::Other { number: _, set: _ } => Kind::Ignored,
+    if said.time.is_some() {
+        Kind::of_observations(answer, counts)
+    } else if said.point.is_some() {
+        Kind::of_station(answer)
+    } else {
+        Kind::Ignored
     }
 }
 
@@ -122,4 +143,32 @@ pub(crate) fn is_no_station(station: Option<u16>) -> bool
         None => false,
         Some(station) => station > 4_095,
     }
+}
+
+/// Returns the counts of no cell.
+pub(crate) fn no_counts() -> CellCounts
+    ensures { result ≡ no_counts }
+{
+    CellCounts {
+        kept: 0,
+        skipped: 0,
+        repeated: 0,
+        crowded: 0,
+    }
+}
+
+/// Returns the counts with one cell more.
+pub(crate) fn counted(fate: Fate, n: CellCounts) -> CellCounts
+    requires { n.kept + n.skipped + n.repeated + n.crowded < usize.MAX }
+    ensures counts { result ≡ count_in fate n }
+    ensures all { result.kept + result.skipped + result.repeated + result.crowded ≡ n.kept + n.skipped + n.repeated + n.crowded + 1 }
+{
+    let mut n = n;
+    match fate {
+        Fate::Kept => n.kept += 1,
+        Fate::Skipped => n.skipped += 1,
+        Fate::Repeated => n.repeated += 1,
+        Fate::Crowded => n.crowded += 1,
+    }
+    n
 }

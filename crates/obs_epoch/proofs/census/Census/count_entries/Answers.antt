@@ -1,23 +1,23 @@
-use Rattle.std.proofs.Common.{◌∙◌, ◌≡◌, ap, sym, subst, List, take_all, arith, ◌++◌}
+use Rattle.std.proofs.Common.{◌∙◌, ap, sym, subst, List}
 use Rattle.std.specs.Option.{option_map_or}
-use Rattle.std.specs.Prelude.{filter, filter_map}
 use Rattle.rtcm_msg.specs.declared.entry.Entry.{Entry}
-use Rattle.obs_epoch.specs.Heard.{seen_in}
-use Rattle.obs_epoch.specs.Census.{brings_value, counted_of, IsCensus}
-use Rattle.obs_epoch.proofs.CensusLemmas.{entries_more}
+use Rattle.obs_epoch.specs.Census.{counted_of, CountsEntries}
+use Rattle.obs_epoch.proofs.CensusLemmas.{entry_more, none_more}
 use Rattle.obs_epoch.proofs.census.Census.count_entries.Goals as goal
-use Rattle.obs_epoch.proofs.census.Census.count_entries.Goals.{in-Some, in_default}
 
-pub loop-i-preserved : goal.loop-i-preserved
-loop-i-preserved c = λ is_msm7 cells few h.
-    let made : c.match-signal_of.self ≡ option_map_or (counted_of c.loop-i.self) c.signal_of.result c.loop-i.self = elim c.match-signal_of.branch [
-      | in-Some w ↦ w.self-is ∙ w.add.ensures ∙ sym (ap (λ o. option_map_or (counted_of c.loop-i.self) o c.loop-i.self) w.in-Some.is)
-      | in_default w ↦ w.self-is ∙ sym (ap (λ o. option_map_or (counted_of c.loop-i.self) o c.loop-i.self) w.in_default.is)
-    ] in
-    entries_more is_msm7 c.args.system c.args.entries.now c.loop-i.i _ c.signal_of.result c.loop-i.self c.match-signal_of.self cells c.loop-i-test.true c.signal_of.ensures.value made few
-    (c.loop-i.invariant is_msm7 cells few h)
+pub loop-entry-preserved-in-Some-signal_of : goal.loop-entry-preserved-in-Some-signal_of
+loop-entry-preserved-in-Some-signal_of c = λ last more.
+    let made = c.add.ensures ∙ sym (ap (λ o. option_map_or (counted_of c.loop-entry.self) o c.loop-entry.self) c.in-Some-signal_of.is) in
+    c.loop-entry.invariant last (subst (λ (l : List Entry). CountsEntries c.loop-entry.self last c.args.system l) (sym c.in-Some.ensures.some.0)
+    (entry_more c.args.system c.in-Some.entry c.next.new.self.left c.signal_of.result c.loop-entry.self c.add.new.self last c.signal_of.ensures.value made more))
+
+pub loop-entry-preserved : goal.loop-entry-preserved
+loop-entry-preserved c = λ last more.
+    let made = sym (ap (λ o. option_map_or (counted_of c.loop-entry.self) o c.loop-entry.self) c.in_default-signal_of.is) in
+    c.loop-entry.invariant last (subst (λ (l : List Entry). CountsEntries c.loop-entry.self last c.args.system l) (sym c.in-Some.ensures.some.0)
+    (entry_more c.args.system c.in-Some.entry c.next.new.self.left c.signal_of.result c.loop-entry.self c.loop-entry.self last c.signal_of.ensures.value made more))
 
 pub returns : goal.returns
-returns c = λ is_msm7 cells few h.
-    let all = take_all c.loop-i.i c.args.entries.now (omega (arith, c.loop-i-test.false)) in
-    subst (λ (es : List Entry). IsCensus c.loop-i.self (cells ++ filter brings_value (filter_map (seen_in is_msm7 c.args.system) es))) all (c.loop-i.invariant is_msm7 cells few h)
+returns c =
+    c.loop-entry.invariant c.loop-entry.self
+    (subst (λ (l : List Entry). CountsEntries c.loop-entry.self c.loop-entry.self c.args.system l) (sym c.in_default.ensures.none.0) (none_more c.loop-entry.self c.args.system))

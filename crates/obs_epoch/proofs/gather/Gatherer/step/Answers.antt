@@ -1,10 +1,12 @@
 use Rattle.std.proofs.Common.{◌∙◌, sym, ap, subst}
-use Rattle.obs_epoch.specs.Gather.{Holding, AreInOrder}
-use Rattle.obs_epoch.specs.Clock.{State, heard_by_clock}
+use Rattle.obs_epoch.specs.Gather.{AreInOrder}
+use Rattle.obs_epoch.specs.Clock.{State}
+use Rattle.obs_epoch.specs.Heard.{heard_summary}
 use Rattle.obs_epoch.proofs.StandLemmas.{step_setup}
 use Rattle.obs_epoch.proofs.gather.Gatherer.step.Goals as goal
+use Rattle.obs_epoch.specs.Values.{Closed}
 
 pub invariant_of-self : goal.invariant_of-self
 invariant_of-self c =
-    let same = ap (λ (g : State). g.setup.plan) c.step_closing-answer.ensures.step ∙ ap (λ s. s.plan) (step_setup c.self.inside.clock (heard_by_clock c.told_of.result)) in
-    subst (λ e. AreInOrder c.step_closing-answer.new.self.setup.plan e) (sym (ap (λ (h : Holding). h.epoch) c.tell.ensures)) (subst (λ p. AreInOrder p c.self.inside.held.epoch) (sym same) c.self.invariant)
+    let same = ap (λ (g : State). g.setup.plan) c.step_closing-answer.ensures.step ∙ ap (λ s. s.plan) (step_setup c.self.inside.clock (heard_summary c.summary_of-said.result)) in
+    subst (λ e. AreInOrder c.step_closing-answer.new.self.setup.plan e) (sym (ap (λ (h : Closed). h.epoch) c.tell.ensures)) (subst (λ p. AreInOrder p c.self.inside.epoch.epoch) (sym same) c.self.invariant)
