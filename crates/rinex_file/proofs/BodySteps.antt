@@ -1,5 +1,5 @@
 -- Where a reading goes on from one line of an epoch to the next.
-use Rattle.std.proofs.Common.{arith, ◌≡◌, ◌↔◌, ℕ, suc, ◌+◌, ◌<◌, ◌≤◌, List, [], ◌∷◌, ◌++◌, refl, sym, ap, subst, ◌∙◌, length, append_assoc, append-nil, length-append, drop, get_or, Option, Some, None, Bool, true, false}
+use Rattle.std.proofs.Common.{arith, ◌≡◌, ℕ, suc, ◌+◌, ◌<◌, ◌≤◌, List, [], ◌∷◌, ◌++◌, refl, sym, ap, subst, ◌∙◌, length, append_assoc, append-nil, zero-add, length-append, drop, get_or, Option, Some, None, Bool, true, false}
 use Rattle.std.specs.Prelude.{All, map, flat_map, if◌then◌else◌, nat_lt}
 use Rattle.std.specs.List.Sorted.{IsStrictlyIncreasing}
 use Rattle.std.proofs.lemmas.List.{map-append}
@@ -12,7 +12,10 @@ use Rattle.rinex_file.specs.FileValues.{IsFileValue, IsStamped, IsSatelliteRow, 
 use Rattle.rinex_file.specs.Lines.{epoch_line, satellite_line}
 use Rattle.rinex_file.specs.File.{stamped_lines, change_lines, event_line}
 use Rattle.rinex_file.specs.Read.Progress.{Progress, file_with, stamped, StartsAt, IsAt, IsBetween, IsInEvent, IsInEpoch, HasLinesLeft, begun_at, with_row, with_epoch}
-use Rattle.rinex_file.specs.Read.Sound.{AreRead, IsBegun, IsEventDue, IsSoundAt, IsSound, MayBegin, values_now}
+use Rattle.rinex_file.specs.Read.Sound.{AreRead, IsBegun, IsEventDue, IsSoundAt, IsSound, MayBegin, values_now, AreLinesAt}
+use Rattle.rinex_file.specs.Begun.{lines_of_header, whole_lines, part_lines}
+use Rattle.rinex_file.specs.Course.{GoesOnWithLine, ShowsLine}
+use Rattle.std.proofs.lemmas.List.Concat.{flat_map-append}
 use Rattle.rinex_file.proofs.FewRows.{few_rows, few_planned}
 use Rattle.rinex_file.proofs.Entries.{few_signals}
 use Rattle.gnss_obs.specs.declared.system.System.TheVariants.{Gps, Galileo}
@@ -206,53 +209,34 @@ module _ (s : Progress) (c : Option StationValues) (t n : ℕ) (line : List ℕ)
         rest = next.rest;
       }
 
-  -- its lines, from that line on
-  begun_lines : (left : List (List ℕ)) (more : List SatelliteRow) (others : List Stamped) → length more ≡ n → left ≡ map satellite_line more ++ flat_map stamped_lines others
-      → line ∷ left ≡ (epoch_line (civil_of t) (length (s.rows ++ more)) ∷ map satellite_line (s.rows ++ more)) ++ flat_map stamped_lines others
-  begun_lines left more others count rest =
-      let rows : s.rows ++ more ≡ more = ap (λ r. r ++ more) none in
-      ap (λ l. l ∷ left) shown ∙ ap (λ k. epoch_line (civil_of t) k ∷ left) (sym count) ∙ ap (λ l. epoch_line (civil_of t) (length more) ∷ l) rest
-      ∙ ap (λ r. epoch_line (civil_of t) (length r) ∷ (map satellite_line r ++ flat_map stamped_lines others)) (sym rows)
-
 -- the line of an epoch with the station values before
 pub plain_taken : (s : Progress) (t n : ℕ) (line : List ℕ) → s.due ≡ Epoch → NoEvent s line → s.rows ≡ [] → line ≡ epoch_line (civil_of t) n
-    → ((w : ℕ × ℕ) → Begins s w → line ≡ begin_line w → w ≡ (t, n))
-    → (v : FileValue) (left : List (List ℕ)) → HasLinesLeft s v (line ∷ left) ↔ HasLinesLeft (begun_at s None t n) v left
+    → ((w : ℕ × ℕ) → Begins s w → line ≡ begin_line w → w ≡ (t, n)) → GoesOnWithLine s (begun_at s None t n) line
 unfolding HasLinesLeft
-plain_taken s t n line due never none shown only v left = (
-  λ on. (on.0, to_within s None t n line none shown only v left (plain_next s v line left due never on)),
-  λ on.
-      let here : IsInEpoch (begun_at s None t n) n v left = on.1 in
-      let between : IsBetween s v (line ∷ left) = record {
-        others = at_time None t (s.rows ++ here.more) ∷ here.others;
-        value = here.value;
-        starts = here.starts;
-        rest = begun_lines s None t n line none shown only left here.more here.others here.count here.rest;
-      } in
-      (on.0, subst (λ d. IsAt s d v (line ∷ left)) (sym due) between),
-)
+plain_taken s t n line due never none shown only v left on = (on.0, to_within s None t n line none shown only v left (plain_next s v line left due never on))
 
 -- the line of an epoch behind an event
 pub changed_taken : (s : Progress) (w : StationValues) (t n : ℕ) (line : List ℕ) → s.due ≡ EventEpoch w → s.rows ≡ [] → line ≡ epoch_line (civil_of t) n
-    → ((w : ℕ × ℕ) → Begins s w → line ≡ begin_line w → w ≡ (t, n))
-    → (v : FileValue) (left : List (List ℕ)) → HasLinesLeft s v (line ∷ left) ↔ HasLinesLeft (begun_at s (Some w) t n) v left
+    → ((w : ℕ × ℕ) → Begins s w → line ≡ begin_line w → w ≡ (t, n)) → GoesOnWithLine s (begun_at s (Some w) t n) line
 unfolding HasLinesLeft
-changed_taken s w t n line due none shown only v left = (
-  λ on. (on.0, to_within s (Some w) t n line none shown only v left (changed_next s w v line left due on)),
-  λ on.
-      let here : IsInEpoch (begun_at s (Some w) t n) n v left = on.1 in
-      let event : IsInEvent s 3 (λ x. x ≡ w) v (line ∷ left) = record {
-        next = at_time (Some w) t (s.rows ++ here.more);
-        values = w;
-        others = here.others;
-        value = here.value;
-        starts = here.starts;
-        change = refl;
-        shown = refl;
-        rest = begun_lines s (Some w) t n line none shown only left here.more here.others here.count here.rest;
-      } in
-      (on.0, subst (λ d. IsAt s d v (line ∷ left)) (sym due) event),
-)
+changed_taken s w t n line due none shown only v left on = (on.0, to_within s (Some w) t n line none shown only v left (changed_next s w v line left due on))
+
+-- the lines with that of an epoch
+begun_lines : (whole taken before : List (List ℕ)) (line : List ℕ) (t n : ℕ) (c : Option StationValues) (rows : List SatelliteRow) → rows ≡ [] → taken ≡ whole ++ before → before ≡ change_lines c
+    → line ≡ epoch_line (civil_of t) n → taken ++ line ∷ [] ≡ whole ++ part_lines (at_time c t rows) (length rows + n)
+begun_lines whole taken before line t n c rows none e same shown =
+    ap (λ l. l ++ line ∷ []) e ∙ append_assoc whole before (line ∷ []) ∙ ap (λ l. whole ++ (l ++ line ∷ [])) same ∙ ap (λ l. whole ++ (change_lines c ++ l ∷ [])) shown
+    ∙ ap (λ (k : ℕ). whole ++ part_lines (at_time c t []) k) (sym (zero-add n)) ∙ sym (ap (λ (r : List SatelliteRow). whole ++ part_lines (at_time c t r) (length r + n)) none)
+
+pub plain_shows : (s : Progress) (t n : ℕ) (line : List ℕ) → s.due ≡ Epoch → s.rows ≡ [] → line ≡ epoch_line (civil_of t) n → ShowsLine s (begun_at s None t n) line
+plain_shows s t n line due none shown taken are =
+    let whole = whole_lines s.known.shown s.epochs in
+    let here : taken ≡ whole = subst (λ d. AreLinesAt s d taken) due are in
+    begun_lines whole taken [] line t n None s.rows none (here ∙ sym (append-nil whole)) refl shown
+
+pub changed_shows : (s : Progress) (w : StationValues) (t n : ℕ) (line : List ℕ) → s.due ≡ EventEpoch w → s.rows ≡ [] → line ≡ epoch_line (civil_of t) n → ShowsLine s (begun_at s (Some w) t n) line
+changed_shows s w t n line due none shown taken are =
+    begun_lines (whole_lines s.known.shown s.epochs) taken (change_lines (Some w)) line t n (Some w) s.rows none (subst (λ d. AreLinesAt s d taken) due are) refl shown
 
 -- ---- what holds where the line of an epoch is taken
 
@@ -265,10 +249,13 @@ sound_between s due sound = subst (λ d. IsSoundAt s d) due sound
 pub sound_changed : (s : Progress) (w : StationValues) → s.due ≡ EventEpoch w → IsSound s → IsEventDue s × IsChange (values_now s) (Some w)
 sound_changed s w due sound = subst (λ d. IsSoundAt s d) due sound
 
+room_left : (rows : List SatelliteRow) (n most : ℕ) → rows ≡ [] → n ≤ most → length rows + n ≤ most
+room_left rows n most none room = let size : length rows ≡ 0 = ap length none in omega (arith, size, room)
+
 pub sound_begun : (s : Progress) (c : Option StationValues) (t n : ℕ) → AreRead s → s.rows ≡ [] → MayBegin s t n → IsTime t → IsChange (values_now s) c → (s.epochs ≡ [] → c ≡ None)
     → IsSound (begun_at s c t n)
 sound_begun s c t n read none may time change same = (
-  record { shown = read.shown; epochs = read.epochs; rising = read.rising; starts = read.starts; first = read.first; changes = read.changes },
+  read,
   record {
     time = time;
     later = may.later;
@@ -278,6 +265,7 @@ sound_begun s c t n read none may time change same = (
     same = same;
   },
   may.some,
+  room_left s.rows n (most_rows (length s.known.shown.plan.gps) (length s.known.shown.plan.galileo)) none may.room,
 )
 
 -- ---- the line of a satellite
@@ -338,37 +326,51 @@ module _ (s : Progress) (n : ℕ) (line : List ℕ) (due : s.due ≡ Satellite (
       never (subst (λ w. IsStrictlyIncreasing (map rank_of s.rows ++ rank_of w ∷ [])) same rise)
 
   pub row_taken : (seen : SatelliteRow) → line ≡ satellite_line seen → ((w : SatelliteRow) → IsSatelliteRow (length s.known.shown.plan.gps) (length s.known.shown.plan.galileo) w → line ≡ satellite_line w → w ≡ seen)
-      → (v : FileValue) (left : List (List ℕ)) → HasLinesLeft s v (line ∷ left) ↔ HasLinesLeft (with_row s seen n) v left
+      → GoesOnWithLine s (with_row s seen n) line
   unfolding HasLinesLeft
-  row_taken seen shown only v left = (
-    λ on.
-        let next = row_next s n v line left due on in
-        let same : next.seen ≡ seen = only next.seen next.is next.shown in
-        let rows : s.rows ++ next.seen ∷ next.more ≡ (s.rows ++ seen ∷ []) ++ next.more =
-        ap (λ w. s.rows ++ w ∷ next.more) same ∙ sym (append_assoc s.rows (seen ∷ []) next.more) in (
-          on.0,
-          record {
-            more = next.more;
-            others = next.others;
-            count = next.count;
-            value = next.value ∙ ap (λ r. file_with s (s.epochs ++ stamped s r ∷ next.others)) rows;
-            starts = subst (λ r. StartsAt s.known.shown.first (s.epochs ++ stamped s r ∷ next.others)) rows next.starts;
-            rest = next.rest;
-          },
-        ),
-    λ on.
-        let here : IsInEpoch (with_row s seen n) n v left = on.1 in
-        let rows : (s.rows ++ seen ∷ []) ++ here.more ≡ s.rows ++ seen ∷ here.more = append_assoc s.rows (seen ∷ []) here.more in
-        let within : IsInEpoch s (suc n) v (line ∷ left) = record {
-          more = seen ∷ here.more;
-          others = here.others;
-          count = ap suc here.count;
-          value = here.value ∙ ap (λ r. file_with s (s.epochs ++ stamped s r ∷ here.others)) rows;
-          starts = subst (λ r. StartsAt s.known.shown.first (s.epochs ++ stamped s r ∷ here.others)) rows here.starts;
-          rest = ap (λ l. l ∷ left) shown ∙ ap (λ l. satellite_line seen ∷ l) here.rest;
-        } in
-        (on.0, subst (λ d. IsAt s d v (line ∷ left)) (sym due) within),
-  )
+  row_taken seen shown only v left on =
+      let next = row_next s n v line left due on in
+      let same : next.seen ≡ seen = only next.seen next.is next.shown in
+      let rows : s.rows ++ next.seen ∷ next.more ≡ (s.rows ++ seen ∷ []) ++ next.more =
+      ap (λ w. s.rows ++ w ∷ next.more) same ∙ sym (append_assoc s.rows (seen ∷ []) next.more) in (
+        on.0,
+        record {
+          more = next.more;
+          others = next.others;
+          count = next.count;
+          value = next.value ∙ ap (λ r. file_with s (s.epochs ++ stamped s r ∷ next.others)) rows;
+          starts = subst (λ r. StartsAt s.known.shown.first (s.epochs ++ stamped s r ∷ next.others)) rows next.starts;
+          rest = next.rest;
+        },
+      )
+
+-- the lines with that of a satellite
+row_lines : (whole taken : List (List ℕ)) (line : List ℕ) (c : Option StationValues) (t k n : ℕ) (rows : List SatelliteRow) (seen : SatelliteRow) → taken ≡ whole ++ part_lines (at_time c t rows) k
+    → line ≡ satellite_line seen → k ≡ n → taken ++ line ∷ [] ≡ whole ++ part_lines (at_time c t (rows ++ seen ∷ [])) n
+row_lines whole taken line c t k n rows seen e shown same =
+    let front = change_lines c in
+    let first = epoch_line (civil_of t) k in
+    ap (λ l. l ++ line ∷ []) e ∙ append_assoc whole (front ++ first ∷ map satellite_line rows) (line ∷ [])
+    ∙ ap (λ l. whole ++ l) (append_assoc front (first ∷ map satellite_line rows) (line ∷ []) ∙ ap (λ l. front ++ (first ∷ (map satellite_line rows ++ l ∷ []))) shown
+    ∙ ap (λ l. front ++ first ∷ l) (sym (map-append satellite_line rows (seen ∷ []))) ∙ ap (λ (m : ℕ). part_lines (at_time c t (rows ++ seen ∷ [])) m) same)
+
+one_fewer : (rows : List SatelliteRow) (seen : SatelliteRow) (n : ℕ) → length rows + suc n ≡ length (rows ++ seen ∷ []) + n
+one_fewer rows seen n = let size : length (rows ++ seen ∷ []) ≡ length rows + 1 = length-append rows (seen ∷ []) in omega (arith, size)
+
+pub row_shows : (s : Progress) (n : ℕ) (line : List ℕ) → s.due ≡ Satellite (suc n) → (seen : SatelliteRow) → line ≡ satellite_line seen → ShowsLine s (with_row s seen n) line
+row_shows s n line due seen shown taken are =
+    row_lines (whole_lines s.known.shown s.epochs) taken line s.change s.time (length s.rows + suc n) (length (s.rows ++ seen ∷ []) + n) s.rows seen (subst (λ d. AreLinesAt s d taken) due are) shown
+    (one_fewer s.rows seen n)
+
+-- the last satellite makes the epoch whole
+pub last_shows : (s : Progress) (line : List ℕ) → s.due ≡ Satellite 1 → (seen : SatelliteRow) → line ≡ satellite_line seen → ShowsLine s (with_epoch (with_row s seen 0)) line
+last_shows s line due seen shown taken are =
+    let e = stamped s (s.rows ++ seen ∷ []) in
+    let all = row_shows s 0 line due seen shown taken are in
+    let n : length (s.rows ++ seen ∷ []) + 0 ≡ length (s.rows ++ seen ∷ []) = omega arith in
+    let head = lines_of_header s.known.shown in
+    all ∙ ap (λ (m : ℕ). whole_lines s.known.shown s.epochs ++ part_lines e m) n ∙ append_assoc head (flat_map stamped_lines s.epochs) (stamped_lines e)
+    ∙ ap (λ l. head ++ l) (ap (λ l. flat_map stamped_lines s.epochs ++ l) (sym (append-nil (stamped_lines e))) ∙ sym (flat_map-append stamped_lines s.epochs (e ∷ [])))
 
 from_none : (s : Progress) (v : FileValue) (left : List (List ℕ)) (more : List SatelliteRow) (others : List Stamped) → length more ≡ 0
     → v ≡ file_with s (s.epochs ++ stamped s (s.rows ++ more) ∷ others) → StartsAt s.known.shown.first (s.epochs ++ stamped s (s.rows ++ more) ∷ others)
@@ -385,31 +387,9 @@ from_none s v left [] others count value starts rest =
       rest = rest;
     }
 
--- an epoch whose satellites were all read
-pub epoch_closed : (s : Progress) → s.due ≡ Satellite 0 → (v : FileValue) (left : List (List ℕ)) → HasLinesLeft s v left ↔ HasLinesLeft (with_epoch s) v left
-unfolding HasLinesLeft
-epoch_closed s due v left = (
-  λ on.
-      let here : IsInEpoch s 0 v left = subst (λ d. IsAt s d v left) due on.1 in
-      (on.0, from_none s v left here.more here.others here.count here.value here.starts here.rest),
-  λ on.
-      let here : IsBetween (with_epoch s) v left = on.1 in
-      let all : (s.epochs ++ stamped s s.rows ∷ []) ++ here.others ≡ s.epochs ++ stamped s (s.rows ++ []) ∷ here.others =
-      append_assoc s.epochs (stamped s s.rows ∷ []) here.others ∙ ap (λ r. s.epochs ++ stamped s r ∷ here.others) (sym (append-nil s.rows)) in
-      let within : IsInEpoch s 0 v left = record {
-        more = [];
-        others = here.others;
-        count = refl;
-        value = here.value ∙ ap (file_with s) all;
-        starts = subst (StartsAt s.known.shown.first) all here.starts;
-        rest = here.rest;
-      } in
-      (on.0, subst (λ d. IsAt s d v left) (sym due) within),
-)
-
 -- ---- what holds where the line of a satellite is taken
 
-pub sound_open : (s : Progress) (n : ℕ) → s.due ≡ Satellite n → IsSound s → AreRead s × IsBegun s × (0 < n)
+pub sound_open : (s : Progress) (n : ℕ) → s.due ≡ Satellite n → IsSound s → AreRead s × IsBegun s × (0 < n) × (length s.rows + n ≤ most_rows (length s.known.shown.plan.gps) (length s.known.shown.plan.galileo))
 sound_open s n due sound = subst (λ d. IsSoundAt s d) due sound
 
 pub few_at : (s : Progress) (n : ℕ) → s.due ≡ Satellite n → IsSound s → (length s.known.shown.plan.gps ≤ 19) × (length s.known.shown.plan.galileo ≤ 19)
@@ -438,17 +418,19 @@ module _ (s : Progress) (n left : ℕ) (due : s.due ≡ Satellite left) (sound :
   rows_more : AreSatelliteRows (length s.known.shown.plan.gps) (length s.known.shown.plan.galileo) (s.rows ++ seen ∷ [])
   rows_more = seen_more (length s.known.shown.plan.gps) (length s.known.shown.plan.galileo) s.rows seen (sound_open s left due sound).1.rows is rise
 
-  pub sound_row : 0 < n → IsSound (with_row s seen n)
-  sound_row some =
-      let (read, begun, all) = sound_open s left due sound in (
-        record { shown = read.shown; epochs = read.epochs; rising = read.rising; starts = read.starts; first = read.first; changes = read.changes },
+  pub sound_row : 0 < n → left ≡ suc n → IsSound (with_row s seen n)
+  sound_row some one =
+      let (read, begun, all, room) = sound_open s left due sound in
+      let size : length s.rows + left ≡ length (s.rows ++ seen ∷ []) + n = ap (λ (k : ℕ). length s.rows + k) one ∙ one_fewer s.rows seen n in (
+        read,
         record { time = begun.time; later = begun.later; rows = rows_more; first = begun.first; change = begun.change; same = begun.same },
         some,
+        subst (λ (k : ℕ). k ≤ most_rows (length s.known.shown.plan.gps) (length s.known.shown.plan.galileo)) size room,
       )
 
   pub sound_closed : IsSound (with_epoch (with_row s seen n))
   sound_closed =
-      let (read, begun, all) = sound_open s left due sound in
+      let (read, begun, all, room) = sound_open s left due sound in
       let size : length (s.rows ++ seen ∷ []) ≡ length s.rows + 1 = length-append s.rows (seen ∷ []) in (
         record {
           shown = read.shown;
@@ -468,8 +450,8 @@ module _ (s : Progress) (n left : ℕ) (due : s.due ≡ Satellite left) (sound :
 -- the last line of an epoch's satellites
 pub last_taken : (s : Progress) (line : List ℕ) → s.due ≡ Satellite 1 → (seen : SatelliteRow) → line ≡ satellite_line seen
     → ((w : SatelliteRow) → IsSatelliteRow (length s.known.shown.plan.gps) (length s.known.shown.plan.galileo) w → line ≡ satellite_line w → w ≡ seen)
-    → (v : FileValue) (left : List (List ℕ)) → HasLinesLeft s v (line ∷ left) ↔ HasLinesLeft (with_epoch (with_row s seen 0)) v left
-last_taken s line due seen shown only v left =
-    let row = row_taken s 0 line due seen shown only v left in
-    let closed = epoch_closed (with_row s seen 0) refl v left in
-    (λ on. closed.0 (row.0 on), λ on. row.1 (closed.1 on))
+    → GoesOnWithLine s (with_epoch (with_row s seen 0)) line
+unfolding HasLinesLeft
+last_taken s line due seen shown only v left on =
+    let here : IsInEpoch (with_row s seen 0) 0 v left = (row_taken s 0 line due seen shown only v left on).1 in
+    (on.0, from_none (with_row s seen 0) v left here.more here.others here.count here.value here.starts here.rest)

@@ -1,20 +1,21 @@
 -- A satellite's cells, each put at its signal's place in the plan.
-use Rattle.std.proofs.Common.{arith, ◌≡◌, ◌∙◌, sym, ap, ap₂, refl, subst, ℕ, zero, suc, ◌+◌, ◌*◌, ◌-◌, ◌/◌, ◌%◌, ◌<◌, ◌≤◌, List, [], ◌∷◌, ◌++◌, map, take, drop, length, replicate, get_or, append_assoc, append-nil, length-append, take-append-drop, Bool, true, false, not, ◌==◌, ◌&&◌, Some, None}
-use Rattle.std.specs.Prelude.{◌≢◌, nat_eq, nat_lt, find, flat_map, position, All, if◌then◌else◌, cond}
+use Rattle.std.proofs.Common.{arith, ◌≡◌, ◌∙◌, sym, ap, ap₂, refl, subst, ℕ, ℤ, zero, suc, ◌+◌, ◌*◌, ◌-◌, ◌<◌, ◌≤◌, List, [], ◌∷◌, ◌++◌, map, take, drop, length, replicate, get_or, append_assoc, append-nil, length-append, take-append-drop, Bool, true, false, not, ◌==◌, ◌&&◌, Option, Some, None, slice_set}
+use Rattle.std.specs.Prelude.{◌≢◌, ◌||◌, nat_eq, nat_lt, find, flat_map, position, All, is_some, if◌then◌else◌, cond}
 use Rattle.std.specs.Option.{option_map_or}
 use Rattle.std.specs.List.{AllByRecursion, IsDistinct, position_or_len}
-use Rattle.std.proofs.lemmas.List.{drop_more, drop_at, drop_all, take_at, map-append, length-drop, length-take-le, replicate-append-replicate}
+use Rattle.std.proofs.lemmas.List.{drop_more, drop_at, drop_all, take_at, length-drop, replicate-append-replicate}
+use Rattle.std.proofs.lemmas.List.Concat.{flat_map-append}
 use Rattle.std.proofs.lemmas.List.Quantifiers.{position-Some}
-use Rattle.std.proofs.lemmas.List.Elements.{All-head, All-tail}
+use Rattle.std.proofs.lemmas.List.Elements.{All-head, All-tail, All-nil, All-cons}
 use Rattle.gnss_obs.specs.declared.system.System.{System}
 use Rattle.obs_epoch.specs.declared.cell.Cell.{Cell}
 use Rattle.obs_epoch.specs.Values.{IsHeld}
 use Rattle.rinex_file.specs.Value.{SignalValues, signal_values_of, no_signal_values, signal_values_at, is_of_key}
-use Rattle.rinex_file.specs.Numbers.{padded}
+use Rattle.rinex_file.specs.FileValues.{HaveRoom, has_some_value}
+use Rattle.rinex_file.specs.Blanks.{trimmed}
 use Rattle.rinex_file.specs.Lines.{field, lli_byte, strength_byte, signal_text}
-use Rattle.rinex_file.proofs.Columns.{padded-two}
-use Rattle.rinex_file.proofs.Entries.{flat_map-append, no_entry-text}
-use Rattle.rinex_file.proofs.RowText.{if_fits, length-columns}
+use Rattle.rinex_file.proofs.HeaderText.{trimmed-blanks}
+use Rattle.rinex_file.proofs.RowText.{if_fits}
 
 -- ---- a part of a text is written over
 
@@ -46,39 +47,6 @@ pub same_text : (e : SignalValues) (a b c d : List ℕ) (lost strength : ℕ) �
     → a ≡ field e.c 32 strength → b ≡ field e.l lost strength → c ≡ field e.d 32 32 → d ≡ field e.s 32 32 → a ++ (b ++ (c ++ d)) ≡ signal_text e
 unfolding signal_text
 same_text e a b c d lost strength s l fa fb fc fd = cc
-
--- ---- the columns of signals
-
-pub columns : (ℕ → SignalValues) → List ℕ → List ℕ
-columns g signals = flat_map signal_text (map g signals)
-
-one_more : (a b : List ℕ) (n : ℕ) → length a ≡ 64 → length b ≡ 64 * n → length (a ++ b) ≡ 64 * suc n
-one_more a b n l m = length-append a b ∙ omega (arith, l, m)
-
-length-signals : (g : ℕ → SignalValues) (signals : List ℕ) → ((x : ℕ) → length (signal_text (g x)) ≡ 64) → length (columns g signals) ≡ 64 * length signals
-unfolding columns
-length-signals g [] each = refl
-length-signals g (s ∷ signals) each = one_more (signal_text (g s)) (columns g signals) (length signals) (each s) (length-signals g signals each)
-
-held-length : (system : System) (c : Cell) → IsHeld system c → length (signal_text (signal_values_of c)) ≡ 64
-held-length system c h = length-columns (signal_values_of c) (if_fits c.c h.c) (if_fits c.l h.l) (if_fits c.d h.d) (if_fits c.s h.s)
-
-pub length-at : (system : System) (cells : List Cell) (id index : ℕ) → All (IsHeld system) cells → length (signal_text (signal_values_at cells id index)) ≡ 64
-length-at system [] id index all = ap length no_entry-text
-length-at system (c ∷ cells) id index all =
-    elim (is_of_key id index c) as (λ b. length (signal_text (option_map_or signal_values_of (if b then Some c else find (is_of_key id index) cells) no_signal_values)) ≡ 64) [
-      | true ↦ held-length system c (All-head (IsHeld system) c cells all)
-      | false ↦ length-at system cells id index (All-tail (IsHeld system) c cells all)
-    ]
-
--- without a cell all of them are blank
-pub blank_columns : (id : ℕ) (signals : List ℕ) → flat_map signal_text (map (signal_values_at [] id) signals) ≡ replicate (64 * length signals) 32
-blank_columns id [] = refl
-blank_columns id (s ∷ signals) =
-    ap₂ (λ a b. a ++ b) no_entry-text (blank_columns id signals) ∙ replicate-append-replicate 64 (64 * length signals) 32
-    ∙ ap (λ n. replicate n 32) (more (length signals)) where
-      more : (n : ℕ) → 64 + 64 * n ≡ 64 * suc n
-      more n = omega arith
 
 -- ---- what a cell in front changes
 
@@ -134,103 +102,110 @@ no_place index signals f g e same = unplanned index signals f g (past (position_
       never f = cc
     by false is f = grind (arith, is)
 
--- the signals before a place
-before_same : (n : ℕ) (signals : List ℕ) (f g : ℕ → SignalValues) → n ≤ length signals → ((k : ℕ) → k < n → f (get_or signals k 0) ≡ g (get_or signals k 0)) → map f (take n signals) ≡ map g (take n signals)
-before_same zero signals f g within same = refl
-before_same (suc n) [] f g within same = refl
-before_same (suc n) (s ∷ signals) f g within same =
-    ap₂ (λ a l. a ∷ l) (same 0 (omega arith)) (before_same n signals f g (omega (arith, within)) (λ k h. same (suc k) (omega (arith, h))))
-
--- those behind it
-apart-drop : (n : ℕ) (signals : List ℕ) → IsDistinct nat_eq signals → IsDistinct nat_eq (drop n signals)
-unfolding IsDistinct
-apart-drop zero signals h = h
-apart-drop (suc n) [] h = tt
-apart-drop (suc n) (s ∷ signals) h = apart-drop n signals h.1
-
+-- the signals after one that differ from it
 map_apart : (x : ℕ) (signals : List ℕ) (f g : ℕ → SignalValues) → AllByRecursion (λ y. nat_eq x y ≡ false) signals → ((other : ℕ) → other ≢ x → f other ≡ g other) → map f signals ≡ map g signals
 map_apart x [] f g h same = refl
 map_apart x (y ∷ signals) f g h same = ap₂ (λ a l. a ∷ l) (same y (differ y h.0)) (map_apart x signals f g h.1 same) where
   differ : (y : ℕ) → nat_eq x y ≡ false → y ≢ x
   differ y e = λ is. grind (arith, e, is)
 
-behind_same : (index p : ℕ) (signals : List ℕ) (f g : ℕ → SignalValues) → p < length signals → get_or signals p 0 ≡ index → IsDistinct nat_eq signals
-    → ((other : ℕ) → other ≢ index → f other ≡ g other) → map f (drop (p + 1) signals) ≡ map g (drop (p + 1) signals)
+apart_at : (s p : ℕ) (signals : List ℕ) → AllByRecursion (λ y. nat_eq s y ≡ false) signals → p < length signals → nat_eq s (get_or signals p 0) ≡ false
+apart_at s p [] all within = absurd (omega (arith, within))
+apart_at s zero (x ∷ signals) all within = all.0
+apart_at s (suc p) (x ∷ signals) all within = apart_at s p signals all.1 (omega (arith, within))
+
+differs : (s x y : ℕ) → nat_eq s x ≡ false → x ≡ y → s ≢ y
+differs s x y e f = λ is. grind (arith, e, f, is)
+
+-- a list of values with the one at a signal's place replaced
+set_place : (p index : ℕ) (signals : List ℕ) (f g : ℕ → SignalValues) → p < length signals → get_or signals p 0 ≡ index → IsDistinct nat_eq signals → ((other : ℕ) → other ≢ index → f other ≡ g other)
+    → slice_set (map g signals) p (f index) ≡ map f signals
 unfolding IsDistinct
-behind_same index p signals f g within here apart same =
-    let behind : IsDistinct nat_eq (index ∷ drop (p + 1) signals) =
-    subst (λ l. IsDistinct nat_eq l) (drop_more signals p 0 within ∙ ap (λ s. s ∷ drop (p + 1) signals) here) (apart-drop p signals apart) in
-    map_apart index (drop (p + 1) signals) f g behind.0 same
+set_place p index [] f g within here apart same = absurd (omega (arith, within))
+set_place zero index (s ∷ signals) f g within here apart same =
+    ap₂ (λ a l. a ∷ l) (ap f (sym here)) (sym (map_apart s signals f g apart.0 (λ other isnt. same other (subst (λ (x : ℕ). other ≢ x) here isnt))))
+set_place (suc p) index (s ∷ signals) f g within here apart same =
+    ap₂ (λ a l. a ∷ l) (sym (same s (differs s (get_or signals p 0) index (apart_at s p signals apart.0 (omega (arith, within))) here)))
+    (set_place p index signals f g (omega (arith, within)) here apart.1 same)
 
--- the columns before a signal, its own, and those behind it
-parted : (g : ℕ → SignalValues) (signals : List ℕ) (p index : ℕ) → p < length signals → get_or signals p 0 ≡ index
-    → columns g signals ≡ columns g (take p signals) ++ (signal_text (g index) ++ columns g (drop (p + 1) signals))
-unfolding columns
-parted g signals p index within here =
-    let split : signals ≡ take p signals ++ (index ∷ drop (p + 1) signals) =
-    sym (take-append-drop p signals) ∙ ap (λ l. take p signals ++ l) (drop_more signals p 0 within ∙ ap (λ s. s ∷ drop (p + 1) signals) here) in
-    ap (λ l. flat_map signal_text (map g l)) split ∙ ap (flat_map signal_text) (map-append g (take p signals) (index ∷ drop (p + 1) signals))
-    ∙ flat_map-append signal_text (map g (take p signals)) (map g (index ∷ drop (p + 1) signals))
-
-front_length : (front behind : List ℕ) (p : ℕ) → length front ≡ 3 → length behind ≡ 64 * p → length (front ++ behind) ≡ 3 + 64 * p
-front_length front behind p l m = length-append front behind ∙ omega (arith, l, m)
-
--- a signal's columns written over are those of its new values
-pub put_place : (front : List ℕ) (signals : List ℕ) (f g : ℕ → SignalValues) (index p : ℕ) → length front ≡ 3 → IsDistinct nat_eq signals
-    → position (λ i. i == index) signals ≡ Some p → ((x : ℕ) → length (signal_text (g x)) ≡ 64) → ((other : ℕ) → other ≢ index → f other ≡ g other)
-    → take (3 + 64 * p) (front ++ columns g signals) ++ (signal_text (f index) ++ drop 64 (drop (3 + 64 * p) (front ++ columns g signals))) ≡ front ++ columns f signals
-unfolding columns
-put_place front signals f g index p l apart is each same =
-    let (within, here, none) = position-Some (λ i. i == index) signals p 0 is in
-    let at : get_or signals p 0 ≡ index = grind (arith, here) in
-    let before : columns f (take p signals) ≡ columns g (take p signals) =
-    ap (flat_map signal_text) (before_same p signals f g (omega (arith, within)) (λ k h. same (get_or signals k 0) (differ (get_or signals k 0) (none k h)))) in
-    let behind : columns f (drop (p + 1) signals) ≡ columns g (drop (p + 1) signals) = ap (flat_map signal_text) (behind_same index p signals f g within at apart same) in
-    let a = columns g (take p signals) in
-    let c = columns g (drop (p + 1) signals) in
-    let whole : front ++ columns g signals ≡ (front ++ a) ++ (signal_text (g index) ++ c) =
-    ap (λ t. front ++ t) (parted g signals p index within at) ∙ sym (append_assoc front a (signal_text (g index) ++ c)) in
-    let place = front_length front a p l (length-signals g (take p signals) each ∙ ap (λ n. 64 * n) (length-take-le p signals (omega (arith, within)))) in
-    ap (λ t. take (3 + 64 * p) t ++ (signal_text (f index) ++ drop 64 (drop (3 + 64 * p) t))) whole
-    ∙ put_more (front ++ a) (signal_text (g index) ++ c) (signal_text (f index)) (3 + 64 * p) 64 place
-    ∙ ap (λ t. ((front ++ a) ++ signal_text (f index)) ++ t) (drop_at (signal_text (g index)) c 64 (each index))
-    ∙ append_assoc (front ++ a) (signal_text (f index)) c ∙ append_assoc front a (signal_text (f index) ++ c)
-    ∙ ap₂ (λ s t. front ++ (s ++ (signal_text (f index) ++ t))) (sym before) (sym behind)
-    ∙ ap (λ t. front ++ t) (sym (parted f signals p index within at)) where
-      differ : (s : ℕ) → (s == index) ≡ false → s ≢ index
-      differ s e = λ is. grind (arith, e, is)
-
--- ---- a satellite's line
-
--- the columns in front
-named : (letter id : ℕ) → id < 100 → length (letter ∷ padded 2 id) ≡ 3
-named letter id few = ap (λ t. length (letter ∷ t)) (padded-two id few)
+-- ---- a satellite's cells
 
 -- no cell was put yet
-pub none_put : (letter id : ℕ) (signals : List ℕ) (cells : List Cell) (from : ℕ) (line : List ℕ) → id < 100 → length cells ≤ from
-    → line ≡ (letter ∷ (48 + id / 10) ∷ (48 + id % 10) ∷ []) ++ replicate (64 * length signals) 32
-    → line ≡ (letter ∷ padded 2 id) ++ flat_map signal_text (map (signal_values_at (drop from cells) id) signals)
-none_put letter id signals cells from line few past is =
-    is ∙ ap₂ (λ a b. (letter ∷ a) ++ b) (sym (padded-two id few)) (sym (blank_columns id signals))
-    ∙ ap (λ l. (letter ∷ padded 2 id) ++ flat_map signal_text (map (signal_values_at l id) signals)) (sym (drop_all from cells past))
+pub none_put : (id : ℕ) (signals : List ℕ) → map (signal_values_at [] id) signals ≡ replicate (length signals) no_signal_values
+none_put id [] = refl
+none_put id (s ∷ signals) = ap (λ l. no_signal_values ∷ l) (none_put id signals)
 
 -- a cell was put at its place
-pub cell_put : (system : System) (letter id : ℕ) (signals : List ℕ) (c : Cell) (rest : List Cell) (p : ℕ) (old new : List ℕ) → id < 100 → IsDistinct nat_eq signals
-    → position (λ i. i == c.signal.index) signals ≡ Some p → c.satellite.id ≡ id → All (IsHeld system) rest
-    → old ≡ (letter ∷ padded 2 id) ++ flat_map signal_text (map (signal_values_at rest id) signals)
-    → new ≡ take (3 + 64 * p) old ++ (signal_text (signal_values_of c) ++ drop 64 (drop (3 + 64 * p) old))
-    → new ≡ (letter ∷ padded 2 id) ++ flat_map signal_text (map (signal_values_at (c ∷ rest) id) signals)
-unfolding columns
-cell_put system letter id signals c rest p old new few apart is own all was put =
-    put ∙ ap (λ t. take (3 + 64 * p) t ++ (signal_text (signal_values_of c) ++ drop 64 (drop (3 + 64 * p) t))) was
-    ∙ ap (λ e. take (3 + 64 * p) text ++ (signal_text e ++ drop 64 (drop (3 + 64 * p) text))) (sym (found_first c rest id c.signal.index key))
-    ∙ put_place (letter ∷ padded 2 id) signals (signal_values_at (c ∷ rest) id) (signal_values_at rest id) c.signal.index p (named letter id few) apart is
-    (λ x. length-at system rest id x all) (others_stay c rest id) where
-      text : List ℕ
-      text = (letter ∷ padded 2 id) ++ flat_map signal_text (map (signal_values_at rest id) signals)
-
+pub cell_put : (signals : List ℕ) (id p : ℕ) (c : Cell) (rest : List Cell) → IsDistinct nat_eq signals → position (λ i. i == c.signal.index) signals ≡ Some p → c.satellite.id ≡ id
+    → slice_set (map (signal_values_at rest id) signals) p (signal_values_of c) ≡ map (signal_values_at (c ∷ rest) id) signals
+cell_put signals id p c rest apart is own =
+    let (within, here, none) = position-Some (λ i. i == c.signal.index) signals p 0 is in
+    let at : get_or signals p 0 ≡ c.signal.index = grind (arith, here) in
+    ap (slice_set (map (signal_values_at rest id) signals) p) (sym (found_first c rest id c.signal.index (of_key (c.satellite.id == id) c.signal.index c.signal.index (same c.satellite.id id own) refl)))
+    ∙ set_place p c.signal.index signals (signal_values_at (c ∷ rest) id) (signal_values_at rest id) within at apart (others_stay c rest id) where
       same : (x y : ℕ) → x ≡ y → (x == y) ≡ true
       same x y e = grind (arith, e)
 
-      key : is_of_key id c.signal.index c ≡ true
-      key = of_key (c.satellite.id == id) c.signal.index c.signal.index (same c.satellite.id id own) refl
+-- what cells show fits its columns
+none_fit : HaveRoom no_signal_values
+none_fit = record { c = tt; l = tt; d = tt; s = tt; lli = omega arith }
+
+held_fit : (system : System) (c : Cell) → IsHeld system c → HaveRoom (signal_values_of c)
+held_fit system c h = record { c = if_fits c.c h.c; l = if_fits c.l h.l; d = if_fits c.d h.d; s = if_fits c.s h.s; lli = h.lli }
+
+found_fit : (system : System) (cells : List Cell) (id index : ℕ) → All (IsHeld system) cells → HaveRoom (signal_values_at cells id index)
+found_fit system [] id index all = none_fit
+found_fit system (c ∷ cells) id index all =
+    elim (is_of_key id index c) as (λ b. HaveRoom (option_map_or signal_values_of (if b then Some c else find (is_of_key id index) cells) no_signal_values)) [
+      | true ↦ held_fit system c (All-head (IsHeld system) c cells all)
+      | false ↦ found_fit system cells id index (All-tail (IsHeld system) c cells all)
+    ]
+
+pub all_fit : (system : System) (cells : List Cell) (id : ℕ) (signals : List ℕ) → All (IsHeld system) cells → All HaveRoom (map (signal_values_at cells id) signals)
+all_fit system cells id [] all = All-nil HaveRoom
+all_fit system cells id (s ∷ signals) all = All-cons HaveRoom (signal_values_at cells id s) (map (signal_values_at cells id) signals) (found_fit system cells id s all) (all_fit system cells id signals all)
+
+-- ---- signals without a value
+
+or_none : (a b c d : Bool) → (a || b || c || d) ≡ false → (a ≡ false) × (b ≡ false) × (c ≡ false) × (d ≡ false)
+or_none false false false false e = (refl, refl, refl, refl)
+or_none true b c d e = cc
+or_none false true c d e = cc
+or_none false false true d e = cc
+or_none false false false true e = cc
+
+is_none : (v : Option ℤ) → is_some v ≡ false → v ≡ None
+is_none None e = refl
+is_none (Some v) e = cc
+
+blank_text : (c l d s : Option ℤ) (lost strength : ℕ) → c ≡ None → l ≡ None → d ≡ None → s ≡ None
+    → field c 32 strength ++ (field l lost strength ++ (field d 32 32 ++ field s 32 32)) ≡ replicate 64 32
+unfolding field
+blank_text None None None None lost strength a b e f = refl
+blank_text (Some v) l d s lost strength a b e f = cc
+blank_text None (Some v) d s lost strength a b e f = cc
+blank_text None None (Some v) s lost strength a b e f = cc
+blank_text None None None (Some v) lost strength a b e f = cc
+
+no_value : (e : SignalValues) → has_some_value e ≡ false → signal_text e ≡ replicate 64 32
+unfolding signal_text
+no_value e none =
+    let (c, l, d, s) = or_none (is_some e.c) (is_some e.l) (is_some e.d) (is_some e.s) none in
+    blank_text e.c e.l e.d e.s (lli_byte e.lli) (strength_byte e.s) (is_none e.c c) (is_none e.l l) (is_none e.d d) (is_none e.s s)
+
+-- one signal more without a value
+pub blank_more : (values : List SignalValues) (n m : ℕ) (v : SignalValues) → m ≡ n + 1 → n < length values → v ≡ get_or values n v → has_some_value v ≡ false
+    → flat_map signal_text (drop m values) ≡ replicate (64 * (length values - m)) 32 → flat_map signal_text (drop n values) ≡ replicate (64 * (length values - n)) 32
+blank_more values n m v next within is none rest =
+    let size : 64 + 64 * (length values - m) ≡ 64 * (length values - n) = omega (arith, within, next) in
+    ap (flat_map signal_text) (drop_more values n v within ∙ ap₂ (λ x k. x ∷ drop k values) (sym is) (sym next))
+    ∙ ap₂ (λ a b. a ++ b) (no_value v none) rest
+    ∙ replicate-append-replicate 64 (64 * (length values - m)) 32 ∙ ap (λ k. replicate k 32) size
+
+-- the line with the blanks of the signals without a value
+pub shown_line : (front : List ℕ) (values : List SignalValues) (n k : ℕ) → flat_map signal_text (drop n values) ≡ replicate k 32
+    → trimmed (front ++ flat_map signal_text (take n values)) ≡ trimmed (front ++ flat_map signal_text values)
+shown_line front values n k blank =
+    sym (trimmed-blanks k (front ++ flat_map signal_text (take n values)))
+    ∙ ap trimmed (append_assoc front (flat_map signal_text (take n values)) (replicate k 32) ∙ ap (λ t. front ++ (flat_map signal_text (take n values) ++ t)) (sym blank)
+    ∙ ap (λ t. front ++ t) (sym (flat_map-append signal_text (take n values) (drop n values))) ∙ ap (λ l. front ++ flat_map signal_text l) (take-append-drop n values))

@@ -1,5 +1,5 @@
 -- Where a reading goes on from one line of an event to the next.
-use Rattle.std.proofs.Common.{arith, lit<, ◌≡◌, ◌≢◌, ◌↔◌, ℕ, zero, suc, ◌<◌, ◌^◌, ◌-◌, ◌*◌, ◌/◌, ◌%◌, unsigned_abs, w64, to_z, of_z, ℤ, pos, get_or, List, [], ◌∷◌, ◌++◌, refl, sym, ap, subst, ◌∙◌, length, drop, replicate, decimal, Option, Some, None, Bool, true, false}
+use Rattle.std.proofs.Common.{arith, lit<, ◌≡◌, ◌≢◌, ℕ, zero, suc, ◌<◌, ◌^◌, ◌-◌, ◌*◌, ◌/◌, ◌%◌, unsigned_abs, w64, to_z, of_z, ℤ, pos, get_or, List, [], ◌∷◌, ◌++◌, refl, sym, ap, subst, ◌∙◌, length, drop, append_assoc, replicate, decimal, Option, Some, None, Bool, true, false}
 use Rattle.std.specs.Prelude.{⊤, ◌||◌, flat_map, codes}
 use Rattle.std.specs.Int.{is_negative}
 use Rattle.std.specs.Fmt.{sign_text}
@@ -14,9 +14,11 @@ use Rattle.rinex_file.specs.Header.{header_line, lengths, position_line, delta_l
 use Rattle.rinex_file.specs.Lines.{epoch_fields, epoch_line}
 use Rattle.rinex_file.specs.Numbers.{joined, padded, fixed}
 use Rattle.rinex_file.specs.Read.Fields.{has}
-use Rattle.rinex_file.specs.File.{stamped_lines, event_line}
+use Rattle.rinex_file.specs.File.{stamped_lines, event_line, event_lines}
+use Rattle.rinex_file.specs.Begun.{whole_lines}
+use Rattle.rinex_file.specs.Course.{GoesOnWithLine, ShowsLine}
 use Rattle.rinex_file.specs.Read.Progress.{Progress, file_with, StartsAt, IsAt, IsBetween, IsInEvent, HasPosition, HasLinesLeft, due_next}
-use Rattle.rinex_file.specs.Read.Sound.{AreRead, IsEventDue, IsSoundAt, IsSound, values_now}
+use Rattle.rinex_file.specs.Read.Sound.{IsEventDue, IsSoundAt, IsSound, AreLinesAt, at_position, values_now}
 use Rattle.rinex_file.proofs.Digits.{has-append}
 use Rattle.rinex_file.proofs.HeaderLearned.{coordinate_same}
 use Rattle.rinex_file.proofs.BodySteps.{lines_with, lines_are, changes_midst, sound_between}
@@ -97,24 +99,21 @@ to_next s d k Show v left h = record {
   rest = h.rest;
 }
 
-pub event_taken : (s : Progress) (line : List ℕ) → s.due ≡ Epoch → line ≡ event_line → (v : FileValue) (left : List (List ℕ)) → HasLinesLeft s v (line ∷ left) ↔ HasLinesLeft (due_next s EventPosition) v left
+pub event_taken : (s : Progress) (line : List ℕ) → s.due ≡ Epoch → line ≡ event_line → GoesOnWithLine s (due_next s EventPosition) line
 unfolding HasLinesLeft
-event_taken s line due shown v left = (
-  λ on.
-      let here : IsBetween s v (line ∷ left) = subst (λ d. IsAt s d v (line ∷ left)) due on.1 in
-      let event = event_begins s v line left here.others shown here.value here.starts here.rest in
-      (on.0, to_next s EventPosition 1 (λ w. ⊤) v left event),
-  λ on.
-      let here : IsInEvent (due_next s EventPosition) 1 (λ w. ⊤) v left = on.1 in
-      let lines = lines_are here.next (Some here.values) here.change in
-      let between : IsBetween s v (line ∷ left) = record {
-        others = here.next ∷ here.others;
-        value = here.value;
-        starts = here.starts;
-        rest = ap (λ l. l ∷ left) shown ∙ ap (λ l. event_line ∷ l) (here.rest ∙ ap (λ l. drop 1 l ++ Others here.others) lines) ∙ ap (λ l. l ++ Others here.others) (sym lines);
-      } in
-      (on.0, subst (λ d. IsAt s d v (line ∷ left)) (sym due) between),
-)
+event_taken s line due shown v left on =
+    let here : IsBetween s v (line ∷ left) = subst (λ d. IsAt s d v (line ∷ left)) due on.1 in
+    let event = event_begins s v line left here.others shown here.value here.starts here.rest in
+    (on.0, to_next s EventPosition 1 (λ w. ⊤) v left event)
+
+pub event_shows : (s : Progress) (line : List ℕ) → s.due ≡ Epoch → line ≡ event_line → ShowsLine s (due_next s EventPosition) line
+event_shows s line due shown taken are =
+    let here : taken ≡ whole_lines s.known.shown s.epochs = subst (λ d. AreLinesAt s d taken) due are in
+    ap (λ l. l ++ line ∷ []) here ∙ ap (λ l. whole_lines s.known.shown s.epochs ++ l ∷ []) shown
+
+-- the lines with another one
+lines_more : (whole taken before : List (List ℕ)) (line shown : List ℕ) → taken ≡ whole ++ before → line ≡ shown → taken ++ line ∷ [] ≡ whole ++ (before ++ shown ∷ [])
+lines_more whole taken before line shown e same = ap (λ l. l ++ line ∷ []) e ∙ append_assoc whole before (line ∷ []) ∙ ap (λ l. whole ++ (before ++ l ∷ [])) same
 
 -- the station values of an event are other ones than those before
 told_values : (s : Progress) (v : FileValue) (e : Stamped) (others : List Stamped) (w : StationValues) → IsFileValue v → v ≡ file_with s (s.epochs ++ e ∷ others) → e.change ≡ Some w
@@ -174,50 +173,28 @@ no_position s line due none v left on =
     let w = next.event.values in
     none (w.x, w.y, w.z) (next.are.x, next.are.y, next.are.z) next.event.shown
 
--- the lines of an event from one on
-event_from : (e : Stamped) (w : StationValues) (others : List Stamped) (line : List ℕ) (left : List (List ℕ)) → e.change ≡ Some w → line ≡ position_line w → left ≡ drop 2 (stamped_lines e) ++ Others others
-    → line ∷ left ≡ drop 1 (stamped_lines e) ++ Others others
-event_from e w others line left change shown rest =
-    let lines = lines_are e (Some w) change in
-    ap (λ l. l ∷ left) shown ∙ ap (λ l. position_line w ∷ l) (rest ∙ ap (λ l. drop 2 l ++ Others others) lines) ∙ ap (λ l. drop 1 l ++ Others others) (sym lines)
-
-pub position_taken : (s : Progress) (x y z : ℤ) (line : List ℕ) → s.due ≡ EventPosition → line ≡ position_text (x, y, z)
-    → ((p : ℤ × ℤ × ℤ) → IsPosition p → line ≡ position_text p → p ≡ (x, y, z))
-    → (v : FileValue) (left : List (List ℕ)) → HasLinesLeft s v (line ∷ left) ↔ HasLinesLeft (due_next s (EventHeight x y z)) v left
+pub position_taken : (s : Progress) (x y z : ℤ) (line : List ℕ) → s.due ≡ EventPosition → ((p : ℤ × ℤ × ℤ) → IsPosition p → line ≡ position_text p → p ≡ (x, y, z))
+    → GoesOnWithLine s (due_next s (EventHeight x y z)) line
 unfolding HasLinesLeft
-position_taken s x y z line due shown only v left = (
-  λ on.
-      let next = position_next s v line left due on in
-      let here = next.event in
-      let same : SamePosition (here.values.x, here.values.y, here.values.z) (x, y, z) = only (here.values.x, here.values.y, here.values.z) (next.are.x, next.are.y, next.are.z) here.shown in
-      let event : IsInEvent (due_next s (EventHeight x y z)) 2 (HasPosition x y z) v left = record {
-        next = here.next;
-        values = here.values;
-        others = here.others;
-        value = here.value;
-        starts = here.starts;
-        change = here.change;
-        shown = (ap (λ p. p.0) same, ap (λ p. p.1) same, ap (λ p. p.2) same);
-        rest = here.rest;
-      } in
-      (on.0, event),
-  λ on.
-      let here : IsInEvent (due_next s (EventHeight x y z)) 2 (HasPosition x y z) v left = on.1 in
-      let w = here.values in
-      let same : position_text (x, y, z) ≡ position_line w =
-      ap (λ t. position_text (t, y, z)) (sym here.shown.0) ∙ ap (λ t. position_text (w.x, t, z)) (sym here.shown.1) ∙ ap (λ t. position_text (w.x, w.y, t)) (sym here.shown.2) in
-      let event : IsInEvent s 1 (λ w. ⊤) v (line ∷ left) = record {
-        next = here.next;
-        values = w;
-        others = here.others;
-        value = here.value;
-        starts = here.starts;
-        change = here.change;
-        shown = tt;
-        rest = event_from here.next w here.others line left here.change (shown ∙ same) here.rest;
-      } in
-      (on.0, subst (λ d. IsAt s d v (line ∷ left)) (sym due) event),
-)
+position_taken s x y z line due only v left on =
+    let next = position_next s v line left due on in
+    let here = next.event in
+    let same : SamePosition (here.values.x, here.values.y, here.values.z) (x, y, z) = only (here.values.x, here.values.y, here.values.z) (next.are.x, next.are.y, next.are.z) here.shown in
+    let event : IsInEvent (due_next s (EventHeight x y z)) 2 (HasPosition x y z) v left = record {
+      next = here.next;
+      values = here.values;
+      others = here.others;
+      value = here.value;
+      starts = here.starts;
+      change = here.change;
+      shown = (ap (λ p. p.0) same, ap (λ p. p.1) same, ap (λ p. p.2) same);
+      rest = here.rest;
+    } in
+    (on.0, event)
+
+pub position_shows : (s : Progress) (x y z : ℤ) (line : List ℕ) → s.due ≡ EventPosition → line ≡ position_text (x, y, z) → ShowsLine s (due_next s (EventHeight x y z)) line
+position_shows s x y z line due shown taken are =
+    lines_more (whole_lines s.known.shown s.epochs) taken (event_line ∷ []) line (position_text (x, y, z)) (subst (λ d. AreLinesAt s d taken) due are) shown
 
 -- ---- the height
 
@@ -282,53 +259,30 @@ module _ (s : Progress) (x y z : ℤ) (line : List ℕ) (due : s.due ≡ EventHe
         let next = height_next s x y z v line left due on in
         next.other (same_next v left next ∙ same)
 
-    pub height_taken : line ≡ height_text h → (v : FileValue) (left : List (List ℕ)) → HasLinesLeft s v (line ∷ left) ↔ HasLinesLeft (due_next s (EventEpoch (values_with x y z h))) v left
+    pub height_taken : (w : StationValues) → w ≡ values_with x y z h → GoesOnWithLine s (due_next s (EventEpoch w)) line
     unfolding HasLinesLeft
-    height_taken shown v left = (
-      λ on.
-          let next = height_next s x y z v line left due on in
-          let here = next.event in
-          let event : IsInEvent (due_next s (EventEpoch (values_with x y z h))) 3 (λ w. w ≡ values_with x y z h) v left = record {
-            next = here.next;
-            values = here.values;
-            others = here.others;
-            value = here.value;
-            starts = here.starts;
-            change = here.change;
-            shown = same_next v left next;
-            rest = here.rest;
-          } in
-          (on.0, event),
-      λ on.
-          let here : IsInEvent (due_next s (EventEpoch (values_with x y z h))) 3 (λ w. w ≡ values_with x y z h) v left = on.1 in
-          let w = here.values in
-          let lines = lines_are here.next (Some w) here.change in
-          let same : height_text h ≡ delta_line w = ap (λ (u : StationValues). delta_line u) (sym here.shown) in
-          let text : line ∷ left ≡ drop 2 (stamped_lines here.next) ++ Others here.others =
-          ap (λ l. l ∷ left) (shown ∙ same) ∙ ap (λ l. delta_line w ∷ l) (here.rest ∙ ap (λ l. drop 3 l ++ Others here.others) lines) ∙ ap (λ l. drop 2 l ++ Others here.others) (sym lines) in
-          let event : IsInEvent s 2 (HasPosition x y z) v (line ∷ left) = record {
-            next = here.next;
-            values = w;
-            others = here.others;
-            value = here.value;
-            starts = here.starts;
-            change = here.change;
-            shown = (ap (λ (u : StationValues). u.x) here.shown, ap (λ (u : StationValues). u.y) here.shown, ap (λ (u : StationValues). u.z) here.shown);
-            rest = text;
-          } in
-          (on.0, subst (λ d. IsAt s d v (line ∷ left)) (sym due) event),
-    )
+    height_taken w named v left on =
+        let next = height_next s x y z v line left due on in
+        let here = next.event in
+        let event : IsInEvent (due_next s (EventEpoch w)) 3 (λ u. u ≡ w) v left = record {
+          next = here.next;
+          values = here.values;
+          others = here.others;
+          value = here.value;
+          starts = here.starts;
+          change = here.change;
+          shown = same_next v left next ∙ sym named;
+          rest = here.rest;
+        } in
+        (on.0, event)
 
--- the same with other names of these station values
-pub height_taken_as : (s : Progress) (x y z : ℤ) (h : ℕ) (w : StationValues) (line : List ℕ) → w ≡ values_with x y z h
-    → ((v : FileValue) (left : List (List ℕ)) → HasLinesLeft s v (line ∷ left) ↔ HasLinesLeft (due_next s (EventEpoch (values_with x y z h))) v left)
-    → (v : FileValue) (left : List (List ℕ)) → HasLinesLeft s v (line ∷ left) ↔ HasLinesLeft (due_next s (EventEpoch w)) v left
-height_taken_as s x y z h w line same = subst (λ u. (v : FileValue) (left : List (List ℕ)) → HasLinesLeft s v (line ∷ left) ↔ HasLinesLeft (due_next s (EventEpoch u)) v left) (sym same)
+pub height_shows : (s : Progress) (x y z : ℤ) (h : ℕ) (w : StationValues) (line : List ℕ) → s.due ≡ EventHeight x y z → line ≡ height_text h → w ≡ values_with x y z h → ShowsLine s (due_next s (EventEpoch w)) line
+height_shows s x y z h w line due shown named taken are =
+    let whole = whole_lines s.known.shown s.epochs in
+    lines_more whole taken (event_line ∷ position_line (at_position x y z) ∷ []) line (height_text h) (subst (λ d. AreLinesAt s d taken) due are) shown
+    ∙ ap (λ (u : StationValues). whole ++ event_lines u) (sym named)
 
 -- ---- what holds where a line of an event is taken
-
-read_next : (s : Progress) (d : Due) → AreRead s → AreRead (due_next s d)
-read_next s d read = record { shown = read.shown; epochs = read.epochs; rising = read.rising; starts = read.starts; first = read.first; changes = read.changes }
 
 some_read : (es : List Stamped) → 0 < length es → es ≢ []
 some_read es some none = let size : length es ≡ 0 = ap length none in omega (arith, size, some)
@@ -336,14 +290,14 @@ some_read es some none = let size : length es ≡ 0 = ap length none in omega (a
 pub sound_event : (s : Progress) → s.due ≡ Epoch → IsSound s → 0 < length s.epochs → IsSound (due_next s EventPosition)
 sound_event s due sound some =
     let (read, rows) = sound_between s due sound in
-    (read_next s EventPosition read, rows, some_read s.epochs some)
+    (read, rows, some_read s.epochs some)
 
 pub sound_position : (s : Progress) (x y z : ℤ) → s.due ≡ EventPosition → IsSound s → IsPosition (x, y, z) → IsSound (due_next s (EventHeight x y z))
 sound_position s x y z due sound is =
     let at : IsEventDue s = subst (λ d. IsSoundAt s d) due sound in
-    ((read_next s (EventHeight x y z) at.0, at.1, at.2), is)
+    (at, is)
 
 pub sound_height : (s : Progress) (x y z : ℤ) (h : ℕ) → s.due ≡ EventHeight x y z → IsSound s → h < 2 ^ 16 → (values_with x y z h ≡ values_now s → ⊥) → IsSound (due_next s (EventEpoch (values_with x y z h)))
 sound_height s x y z h due sound small other =
     let at : IsEventDue s × (IsCoordinate x × IsCoordinate y × IsCoordinate z) = subst (λ d. IsSoundAt s d) due sound in
-    ((read_next s (EventEpoch (values_with x y z h)) at.0.0, at.0.1, at.0.2), (record { x = at.1.0; y = at.1.1; z = at.1.2; height = small }, other))
+    (at.0, (record { x = at.1.0; y = at.1.1; z = at.1.2; height = small }, other))

@@ -6,25 +6,13 @@ use Rattle.gnss_obs.specs.declared.system.System.TheVariants.{Gps}
 use Rattle.rinex_file.specs.Blanks.{trimmed}
 use Rattle.rinex_file.specs.Texts.{HeaderLists}
 use Rattle.rinex_file.specs.Value.{FileValue}
-use Rattle.rinex_file.specs.Header.{header_line, header_lines, section_lines}
+use Rattle.rinex_file.specs.Header.{header_line, header_lines, row_line}
 use Rattle.rinex_file.specs.Lines.{field, signal_text, satellite_line, epoch_line}
 use Rattle.rinex_file.specs.Numbers.{joined}
 use Rattle.rinex_file.specs.File.{file_text}
 
 abbrev texts : HeaderLists
-texts = record {
-  run_by = [];
-  date = codes "20240204 000001 UTC";
-  marker = [];
-  marker_type = codes "GEODETIC";
-  observer = [];
-  agency = [];
-  rec_number = [];
-  rec_type = [];
-  rec_version = [];
-  ant_number = [];
-  ant_type = [];
-}
+texts = [] ∷ codes "20240204 000001 UTC" ∷ [] ∷ codes "GEODETIC" ∷ [] ∷ [] ∷ [] ∷ [] ∷ [] ∷ [] ∷ [] ∷ []
 
 -- one epoch of one satellite, GPS 5 with 1C
 abbrev one : FileValue
@@ -60,9 +48,9 @@ pub one_text : file_text one ≡ lines (
     ∷ codes "> 2024 02 04 00 00  1.0000000  0  1"
     ∷ codes "G05  20985472.060 7 110279400.000 7      -525.504          45.063"
     ∷ [])
-unfolding digits header_line header_lines section_lines epoch_line satellite_line trimmed signal_text field
+unfolding digits header_line header_lines row_line epoch_line satellite_line trimmed signal_text field
 one_text = refl
 
 pub one_length : length (file_text one) ≡ 1236
-unfolding digits header_line header_lines section_lines epoch_line satellite_line trimmed signal_text field
+unfolding digits header_line header_lines row_line epoch_line satellite_line trimmed signal_text field
 one_length = refl

@@ -1,33 +1,22 @@
 -- Texts without a fault fit their columns.
-use Rattle.std.proofs.Common.{arith, ◌≡◌, refl, ap, ap₂, ◌≤◌, ◌&&◌, ℕ, List, [], ◌∷◌, length, Bool, true, false, Option, Some, None}
-use Rattle.std.specs.Prelude.{if◌then◌else◌, nat_lt, ◌==◌}
-use Rattle.std.specs.List.{list_all, AllByRecursion}
+use Rattle.std.proofs.Common.{arith, ◌≡◌, ◌∙◌, refl, sym, ap, ap₂, subst, ℕ, suc, ◌+◌, ◌<◌, ◌≤◌, ◌≢◌, ◌&&◌, List, [], ◌∷◌, length, drop, get_or, Bool, true, false, Option, Some, None}
+use Rattle.std.specs.Prelude.{if◌then◌else◌, nat_lt, ◌==◌, map}
+use Rattle.std.specs.List.{list_all}
+use Rattle.std.proofs.Math.Seq.{drop-cons}
+use Rattle.std.proofs.Math.ListN.{get_or-map}
+use Rattle.std.proofs.lemmas.List.{length-map}
+use Rattle.gnss_obs.proofs.Checked.{passes_at, is_less}
 use Rattle.rinex_file.specs.declared.header.fault.HeaderField.{HeaderField}
 use Rattle.rinex_file.specs.declared.header.fault.HeadFault.{HeadFault}
 use Rattle.rinex_file.specs.declared.header.fault.HeadFault.TheVariants.{TooLong, NotPrintable}
-use Rattle.rinex_file.specs.declared.header.fault.HeaderField.TheVariants.{RunBy, Date, Marker, MarkerType, Observer, Agency, RecNumber, RecType, RecVersion, AntNumber, AntType}
+use Rattle.rinex_file.specs.declared.header.fault.HeaderField.TheVariants.{AntType}
 use Rattle.rinex_file.specs.Blanks.{trimmed, before_cut}
-use Rattle.rinex_file.specs.Texts.{HeaderLists, width_of, text_of, is_printable, fault_of, or_later, first_fault, fields, trimmed_texts}
-use Rattle.rinex_file.specs.FileValues.{IsText, AreTexts}
-use Rattle.rinex_file.proofs.HeaderText.{trimmed-trimmed}
+use Rattle.rinex_file.specs.Texts.{HeaderLists, text_count, width_of, text_of, field_at, is_printable, fault_of, or_later, first_fault, fields, trimmed_texts}
+use Rattle.rinex_file.specs.FileValues.{IsText}
+use Rattle.rinex_file.proofs.HeaderText.{trimmed-trimmed, equal_or}
+use Rattle.rinex_file.proofs.HeaderEnd.{same_lists}
 
-first_none : (found later : Option HeadFault) → or_later found later ≡ None → found ≡ None
-first_none None later e = refl
-first_none (Some fault) later e = cc
-
-later_none : (found later : Option HeadFault) → or_later found later ≡ None → later ≡ None
-later_none None later e = e
-later_none (Some fault) later e = cc
-
-found_none : (t : HeaderLists) (fs : List HeaderField) (found : Option HeadFault) → first_fault t found fs ≡ None → found ≡ None
-found_none t [] found e = e
-found_none t (f ∷ fs) found e = first_none found (fault_of f (text_of t f)) (found_none t fs (or_later found (fault_of f (text_of t f))) e)
-
-pub all_none : (t : HeaderLists) (fs : List HeaderField) (found : Option HeadFault) → first_fault t found fs ≡ None → AllByRecursion (λ f. fault_of f (text_of t f) ≡ None) fs
-all_none t [] found e = tt
-all_none t (f ∷ fs) found e =
-    let next = or_later found (fault_of f (text_of t f)) in
-    (later_none found (fault_of f (text_of t f)) (found_none t fs next e), all_none t fs next e)
+-- ---- one text
 
 judged : (f : HeaderField) (printable long : Bool) → (if printable then (if long then Some (TooLong f) else None) else Some (NotPrintable f)) ≡ None → long ≡ false
 judged f true true e = cc
@@ -67,24 +56,44 @@ shown : (f : HeaderField) (printable long : Bool) → (if printable then (if lon
 shown f true long e = refl
 shown f false long e = cc
 
-fine : (f : HeaderField) (text : List ℕ) → fault_of f text ≡ None → IsText (width_of f) (trimmed text)
+pub fine : (f : HeaderField) (text : List ℕ) → fault_of f text ≡ None → IsText (width_of f) (trimmed text)
 fine f text e = record {
   short = short f text e;
   printable = printable_cut text (shown f (list_all is_printable text) (nat_lt (width_of f) (length (trimmed text))) e);
   cut = trimmed-trimmed text;
 }
 
-pub are_fine : (t : HeaderLists) → first_fault t None fields ≡ None → AreTexts (trimmed_texts t)
-are_fine t e = each (all_none t fields None e) where
-  each : AllByRecursion (λ f. fault_of f (text_of t f) ≡ None) fields → AreTexts (trimmed_texts t)
-  each all RunBy = fine RunBy t.run_by all.0
-  each all Date = fine Date t.date all.1.0
-  each all Marker = fine Marker t.marker all.1.1.0
-  each all MarkerType = fine MarkerType t.marker_type all.1.1.1.0
-  each all Observer = fine Observer t.observer all.1.1.1.1.0
-  each all Agency = fine Agency t.agency all.1.1.1.1.1.0
-  each all RecNumber = fine RecNumber t.rec_number all.1.1.1.1.1.1.0
-  each all RecType = fine RecType t.rec_type all.1.1.1.1.1.1.1.0
-  each all RecVersion = fine RecVersion t.rec_version all.1.1.1.1.1.1.1.1.0
-  each all AntNumber = fine AntNumber t.ant_number all.1.1.1.1.1.1.1.1.1.0
-  each all AntType = fine AntType t.ant_type all.1.1.1.1.1.1.1.1.1.1.0
+pub few_columns : (i : ℕ) → i < text_count → width_of (field_at i) ≤ 60
+few_columns i less = let h = is_less (width_of (field_at i)) 61 (passes_at (λ j. nat_lt (width_of (field_at j)) 61) 11 i refl less) in omega (arith, h)
+
+-- ---- one text after the other
+
+found_stays : (t : HeaderLists) (fs : List HeaderField) (fault : HeadFault) → first_fault t (Some fault) fs ≡ Some fault
+found_stays t [] fault = refl
+found_stays t (f ∷ fs) fault = found_stays t fs fault
+
+module _ (t : HeaderLists) (i : ℕ) (less : i < text_count) where
+  fields_next : first_fault t None (drop i fields) ≡ first_fault t (fault_of (field_at i) (text_of t (field_at i))) (drop (suc i) fields)
+  fields_next = ap (first_fault t None) (drop-cons fields i AntType less)
+
+  pub fault_here : (fault : HeadFault) → fault_of (field_at i) (text_of t (field_at i)) ≡ Some fault → first_fault t None (drop i fields) ≡ Some fault
+  fault_here fault e = fields_next ∙ ap (λ found. first_fault t found (drop (suc i) fields)) e ∙ found_stays t (drop (suc i) fields) fault
+
+  pub fine_here : fault_of (field_at i) (text_of t (field_at i)) ≡ None → first_fault t None (drop i fields) ≡ first_fault t None (drop (i + 1) fields)
+  fine_here e =
+      let next : suc i ≡ i + 1 = omega arith in
+      fields_next ∙ ap (λ found. first_fault t found (drop (suc i) fields)) e ∙ ap (λ n. first_fault t None (drop n fields)) next
+
+-- the texts so far are cut
+abbrev pub AreCut : ℕ → HeaderLists → HeaderLists → Type 0
+AreCut i t x = (j : ℕ) → j < i → get_or x j [] ≡ trimmed (get_or t j [])
+
+pub one_cut : (i : ℕ) (t x y : HeaderLists) (text : List ℕ) → AreCut i t x → text ≡ trimmed (get_or t i []) → get_or y i [] ≡ text → ((j : ℕ) → j ≢ i → get_or y j [] ≡ get_or x j []) → AreCut (i + 1) t y
+one_cut i t x y text cut is value same j less = equal_or (get_or y j [] ≡ trimmed (get_or t j [])) j i
+    (λ e. subst (λ n. get_or y n [] ≡ trimmed (get_or t n [])) (sym e) (value ∙ is))
+    (λ far. same j far ∙ cut j (omega (arith, less, far)))
+
+pub all_cut : (t x : HeaderLists) → length t ≡ text_count → length x ≡ text_count → AreCut text_count t x → x ≡ trimmed_texts t
+unfolding trimmed
+all_cut t x size count cut =
+    same_lists x (map trimmed t) (count ∙ sym size ∙ sym (length-map t trimmed)) (λ j less. cut j (subst (λ n. j < n) count less) ∙ sym (get_or-map trimmed t j []))

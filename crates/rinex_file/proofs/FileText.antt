@@ -7,7 +7,7 @@ use Rattle.obs_epoch.specs.Values.{PlanValue, Closed, same_values}
 use Rattle.rinex_file.specs.Numbers.{joined, left}
 use Rattle.rinex_file.specs.Texts.{HeaderLists}
 use Rattle.rinex_file.specs.Value.{stamped_of, stamped_behind, all_stamped}
-use Rattle.rinex_file.specs.Header.{header_line, header_lines, section_lines, version_line}
+use Rattle.rinex_file.specs.Header.{header_line, header_lines, row_line, version_line}
 use Rattle.rinex_file.specs.File.{header_text, epoch_text, event_text, event_lines, change_lines, change_text, closed_text, stamped_lines, file_text, gathered}
 use Rattle.rinex_file.proofs.Sent.{joined-append}
 
@@ -44,7 +44,7 @@ unfolding header_line
 header_line-some content label rest e = some_line (left 60 content) (left 20 label) rest e
 
 pub header_text-some : (x : HeaderLists) (p : PlanValue) (v : StationValues) (first : ℕ) → header_text x p v first ≢ []
-unfolding header_text header_lines section_lines
+unfolding header_text header_lines row_line
 header_text-some x p v first e =
     let shape : header_text x p v first ≡ version_line p ++ joined (drop 1 (header_lines x p v (civil_of first))) = refl in
     header_line-some _ _ (joined (drop 1 (header_lines x p v (civil_of first)))) (sym shape ∙ e)

@@ -1,39 +1,30 @@
 -- Where a reading goes on from the header to the epochs, and where it ends.
-use Rattle.std.proofs.Common.{arith, lit<, ◌≡◌, ◌↔◌, ℕ, zero, suc, ◌<◌, List, [], ◌∷◌, ◌++◌, refl, sym, ap, subst, ◌∙◌, length, drop, append-nil, Option, Some, None}
+use Rattle.std.proofs.Common.{arith, lit<, ◌≡◌, ◌↔◌, ℕ, zero, suc, ◌<◌, List, [], ◌∷◌, ◌++◌, refl, sym, ap, subst, ◌∙◌, length, drop, append-nil, append_assoc, Option, Some, None}
 use Rattle.std.specs.Prelude.{⊤, All, map, flat_map}
 use Rattle.std.proofs.lemmas.List.Elements.{All-head, All-nil}
 use Rattle.std.proofs.lemmas.List.{length-map}
 use Rattle.obs_epoch.specs.Dates.{civil_of}
 use Rattle.obs_epoch.specs.declared.cell.StationValues.{StationValues}
-use Rattle.rinex_file.specs.declared.header.section.Section.{Section}
-use Rattle.rinex_file.specs.declared.header.section.Section.TheVariants.{Version}
 use Rattle.rinex_file.specs.declared.read.due.Due.{Due}
 use Rattle.rinex_file.specs.declared.read.due.Due.TheVariants.{Header, Epoch, EventPosition, EventHeight, EventEpoch, Satellite}
 use Rattle.rinex_file.specs.Value.{SatelliteRow, Stamped, FileValue}
 use Rattle.rinex_file.specs.FileValues.{IsFileValue, IsStamped, AreChanges, IsFirstSame, time_stamped}
 use Rattle.rinex_file.specs.Header.{header_lines}
 use Rattle.rinex_file.specs.Lines.{satellite_line}
-use Rattle.rinex_file.specs.File.{stamped_lines, file_lines}
-use Rattle.rinex_file.specs.Read.Progress.{Progress, Known, Shown, IsShown, shown_lines, shown_of, IsHeaderLeft, IsHeaderRead, file_with, StartsAt, IsInHeader, IsAt, IsBetween, IsInEvent, HasPosition, IsInEpoch, HasLinesLeft}
-use Rattle.rinex_file.specs.Read.Sound.{AreRead, IsBegun, IsSoundAt, IsSound}
+use Rattle.rinex_file.specs.File.{stamped_lines, file_lines, lines_of_parts}
+use Rattle.rinex_file.specs.Read.Progress.{Progress, Known, Shown, IsShown, shown_of, IsHeaderLeft, IsHeaderRead, HasHeaderAt, file_with, StartsAt, IsInHeader, IsAt, IsBetween, IsInEvent, HasPosition, IsInEpoch, HasLinesLeft}
+use Rattle.rinex_file.specs.Read.Sound.{AreRead, IsSoundAt, IsSound, AreLinesAt, AreLinesOf}
+use Rattle.rinex_file.specs.Begun.{lines_of_header, whole_lines}
 use Rattle.rinex_file.specs.declared.read.course.Course.{Course}
-use Rattle.rinex_file.specs.Course.{History, FollowsHistory, progress_at}
-use Rattle.rinex_file.proofs.Sections.{rows_at, emit}
-use Rattle.rinex_file.proofs.BodySteps.{lines_with, lines_are}
+use Rattle.rinex_file.specs.Course.{History, FollowsHistory, progress_at, GoesOnWithLine, ShowsLine}
+use Rattle.rinex_file.proofs.HeaderRows.{some_left}
+use Rattle.rinex_file.proofs.BodySteps.{lines_with, lines_are, sound_open, sound_between}
 
 -- what is shown of a file value may be shown
 pub shown_is : (v : FileValue) (e : Stamped) (es : List Stamped) → v.epochs ≡ e ∷ es → IsFileValue v → IsShown (shown_of v e.time)
 shown_is v e es same is =
     let all : All (IsStamped (length v.plan.gps) (length v.plan.galileo)) (e ∷ es) = subst (All (IsStamped (length v.plan.gps) (length v.plan.galileo))) same is.epochs in
     record { texts = is.texts; plan = is.plan; values = is.values; first = (All-head (IsStamped (length v.plan.gps) (length v.plan.galileo)) e es all).time }
-
--- a line is left of a header
-pub some_left : (k : Known) (section : Section) (row : ℕ) (h : Shown) → IsHeaderLeft k section row h [] → ⊥
-some_left k section row h left =
-    let rows = rows_at h.texts h.plan h.values (civil_of h.first) section in
-    let more = emit (shown_lines h) section row (omega (arith, rows, left.due)) in
-    let none = left.lines ∙ more in
-    cc
 
 -- the lines of a file, by its first epoch
 lines_by_first : (v : FileValue) (e : Stamped) (es : List Stamped) → v.epochs ≡ e ∷ es
@@ -47,35 +38,35 @@ abbrev pub known_as : Progress → Known → Due → Progress
 known_as s k due = record { due = due; known = k; epochs = s.epochs; change = s.change; time = s.time; rows = s.rows }
 
 -- what follows where a line of the header is due and a line does
-pub record HeaderNext (s : Progress) (section : Section) (row : ℕ) (v : FileValue) (line : List ℕ) (left : List (List ℕ)) : Type 0 where
+pub record HeaderNext (s : Progress) (place : ℕ) (v : FileValue) (line : List ℕ) (left : List (List ℕ)) : Type 0 where
   pub first : Stamped
   pub others : List Stamped
   pub lines : List (List ℕ)
   pub epochs : v.epochs ≡ first ∷ others
-  pub header : IsHeaderLeft s.known section row (shown_of v first.time) (line ∷ lines)
+  pub header : IsHeaderLeft s.known place (shown_of v first.time) (line ∷ lines)
   pub rest : left ≡ lines ++ flat_map stamped_lines (first ∷ others)
 
-from_lines : (s : Progress) (section : Section) (row : ℕ) (v : FileValue) (line : List ℕ) (left : List (List ℕ)) (first : Stamped) (others : List Stamped) (lines : List (List ℕ))
-    → v.epochs ≡ first ∷ others → IsHeaderLeft s.known section row (shown_of v first.time) lines → line ∷ left ≡ lines ++ flat_map stamped_lines (first ∷ others)
-    → HeaderNext s section row v line left
-from_lines s section row v line left first others [] epochs header rest = absurd (some_left s.known section row (shown_of v first.time) header)
-from_lines s section row v line left first others (l ∷ ls) epochs header rest =
+from_lines : (s : Progress) (place : ℕ) (v : FileValue) (line : List ℕ) (left : List (List ℕ)) (first : Stamped) (others : List Stamped) (lines : List (List ℕ))
+    → v.epochs ≡ first ∷ others → IsHeaderLeft s.known place (shown_of v first.time) lines → line ∷ left ≡ lines ++ flat_map stamped_lines (first ∷ others)
+    → HeaderNext s place v line left
+from_lines s place v line left first others [] epochs header rest = absurd (some_left s.known place (shown_of v first.time) header)
+from_lines s place v line left first others (l ∷ ls) epochs header rest =
     let same : l ≡ line = cc in
     record {
       first = first;
       others = others;
       lines = ls;
       epochs = epochs;
-      header = subst (λ x. IsHeaderLeft s.known section row (shown_of v first.time) (x ∷ ls)) same header;
+      header = subst (λ x. IsHeaderLeft s.known place (shown_of v first.time) (x ∷ ls)) same header;
       rest = cc;
     }
 
-header_next : (s : Progress) (section : Section) (row : ℕ) (v : FileValue) (line : List ℕ) (left : List (List ℕ)) → s.due ≡ Header section row → HasLinesLeft s v (line ∷ left)
-    → HeaderNext s section row v line left
+header_next : (s : Progress) (place : ℕ) (v : FileValue) (line : List ℕ) (left : List (List ℕ)) → s.due ≡ Header place → HasLinesLeft s v (line ∷ left)
+    → HeaderNext s place v line left
 unfolding HasLinesLeft
-header_next s section row v line left due (is, at) =
-    let here : IsInHeader s section row v (line ∷ left) = subst (λ d. IsAt s d v (line ∷ left)) due at in
-    from_lines s section row v line left here.first here.others here.lines here.epochs here.header here.rest
+header_next s place v line left due (is, at) =
+    let here : IsInHeader s place v (line ∷ left) = subst (λ d. IsAt s d v (line ∷ left)) due at in
+    from_lines s place v line left here.first here.others here.lines here.epochs here.header here.rest
 
 -- a file made of what a header shows
 abbrev file_of : Shown → List Stamped → FileValue
@@ -91,17 +82,16 @@ shown_at h t = record { texts = h.texts; plan = h.plan; values = h.values; first
 abbrev SameShown : Shown → Shown → Type 0
 SameShown h k = h ≡ k
 
-module _ (s : Progress) (section : Section) (row : ℕ) (line : List ℕ) (due : s.due ≡ Header section row) where
-  pub no_header : ((h : Shown) (left : List (List ℕ)) → IsHeaderLeft s.known section row h (line ∷ left) → ⊥) → (v : FileValue) (left : List (List ℕ)) → HasLinesLeft s v (line ∷ left) → ⊥
-  no_header never v left on = let next = header_next s section row v line left due on in never (shown_of v next.first.time) next.lines next.header
+module _ (s : Progress) (place : ℕ) (line : List ℕ) (due : s.due ≡ Header place) where
+  pub no_header : ((h : Shown) (left : List (List ℕ)) → IsHeaderLeft s.known place h (line ∷ left) → ⊥) → (v : FileValue) (left : List (List ℕ)) → HasLinesLeft s v (line ∷ left) → ⊥
+  no_header never v left on = let next = header_next s place v line left due on in never (shown_of v next.first.time) next.lines next.header
 
-  pub header_taken : (k : Known) (section' : Section) (row' : ℕ)
-      → ((h : Shown) (left : List (List ℕ)) → IsHeaderLeft s.known section row h (line ∷ left) ↔ IsHeaderLeft k section' row' h left)
-      → (v : FileValue) (left : List (List ℕ)) → HasLinesLeft s v (line ∷ left) ↔ HasLinesLeft (known_as s k (Header section' row')) v left
-  unfolding HasLinesLeft
-  header_taken k section' row' step v left = (
-    λ on.
-        let next = header_next s section row v line left due on in (
+  module _ (k : Known) (place' : ℕ)
+      (step : (h : Shown) (left : List (List ℕ)) → IsHeaderLeft s.known place h (line ∷ left) ↔ IsHeaderLeft k place' h left) where
+    pub header_taken : GoesOnWithLine s (known_as s k (Header place')) line
+    unfolding HasLinesLeft
+    header_taken v left on =
+        let next = header_next s place v line left due on in (
           on.0,
           record {
             first = next.first;
@@ -111,23 +101,15 @@ module _ (s : Progress) (section : Section) (row : ℕ) (line : List ℕ) (due :
             header = (step (shown_of v next.first.time) next.lines).0 next.header;
             rest = next.rest;
           },
-        ),
-    λ on.
-        let here : IsInHeader (known_as s k (Header section' row')) section' row' v left = on.1 in
-        let before : IsInHeader s section row v (line ∷ left) = record {
-          first = here.first;
-          others = here.others;
-          lines = line ∷ here.lines;
-          epochs = here.epochs;
-          header = (step (shown_of v here.first.time) here.lines).1 here.header;
-          rest = ap (λ l. line ∷ l) here.rest;
-        } in
-        (on.0, subst (λ d. IsAt s d v (line ∷ left)) (sym due) before),
-  )
+        )
+
+    pub header_shows : ShowsLine s (known_as s k (Header place')) line
+    header_shows taken are h left at =
+        subst (λ d. AreLinesAt s d taken) due are h (line ∷ left) ((step h left).1 at) ∙ sym (append_assoc taken (line ∷ []) left)
 
   module _ (k : Known) (none : s.epochs ≡ [])
-      (step : (h : Shown) (left : List (List ℕ)) → IsHeaderLeft s.known section row h (line ∷ left) ↔ IsHeaderRead k h left) where
-    ended : (v : FileValue) (left : List (List ℕ)) → HeaderNext s section row v line left → IsBetween (known_as s k Epoch) v left
+      (step : (h : Shown) (left : List (List ℕ)) → IsHeaderLeft s.known place h (line ∷ left) ↔ IsHeaderRead k h left) where
+    ended : (v : FileValue) (left : List (List ℕ)) → HeaderNext s place v line left → IsBetween (known_as s k Epoch) v left
     ended v left next =
         let read = (step (shown_of v next.first.time) next.lines).0 next.header in
         let epochs : next.first ∷ next.others ≡ s.epochs ++ next.first ∷ next.others = ap (λ x. x ++ next.first ∷ next.others) (sym none) in
@@ -141,35 +123,16 @@ module _ (s : Progress) (section : Section) (row : ℕ) (line : List ℕ) (due :
           rest = next.rest ∙ ap (λ l. l ++ flat_map stamped_lines (next.first ∷ next.others)) read.lines;
         }
 
-    before_end : (v : FileValue) (left : List (List ℕ)) (others : List Stamped) → IsFileValue v → v ≡ file_of k.shown (s.epochs ++ others) → StartsAt k.shown.first (s.epochs ++ others)
-        → left ≡ flat_map stamped_lines others → IsInHeader s section row v (line ∷ left)
-    before_end v left [] is value starts rest =
-        let epochs : v.epochs ≡ [] = ap (λ w. w.epochs) value ∙ ap (λ x. x ++ []) none in
-        let size = ap length epochs in
-        let some = is.some in
-        absurd (omega (arith, size, some))
-    before_end v left (e ∷ es) is value starts rest =
-        let epochs : v.epochs ≡ e ∷ es = ap (λ w. w.epochs) value ∙ ap (λ x. x ++ e ∷ es) none in
-        let first : k.shown.first ≡ e.time = subst (λ x. StartsAt k.shown.first (x ++ e ∷ es)) none starts in
-        let same : SameShown (shown_of v e.time) k.shown =
-        ap (λ w. shown_of w e.time) value ∙ ap (λ t. shown_at k.shown t) (sym first) in
-        record {
-          first = e;
-          others = es;
-          lines = line ∷ [];
-          epochs = epochs;
-          header = (step (shown_of v e.time) []).1 (record { is = shown_is v e es epochs is; same = same; lines = refl });
-          rest = ap (λ l. line ∷ l) rest;
-        }
-
-    pub header_ended : (v : FileValue) (left : List (List ℕ)) → HasLinesLeft s v (line ∷ left) ↔ HasLinesLeft (known_as s k Epoch) v left
+    pub header_ended : GoesOnWithLine s (known_as s k Epoch) line
     unfolding HasLinesLeft
-    header_ended v left = (
-      λ on. (on.0, ended v left (header_next s section row v line left due on)),
-      λ on.
-          let here : IsBetween (known_as s k Epoch) v left = on.1 in
-          (on.0, subst (λ d. IsAt s d v (line ∷ left)) (sym due) (before_end v left here.others on.0 here.value here.starts here.rest)),
-    )
+    header_ended v left on = (on.0, ended v left (header_next s place v line left due on))
+
+    pub ended_shows : IsShown k.shown → ShowsLine s (known_as s k Epoch) line
+    ended_shows is taken are =
+        let head = lines_of_header k.shown in
+        let at = (step k.shown []).1 (record { is = is; same = refl; lines = refl }) in
+        let all : head ≡ taken ++ line ∷ [] = subst (λ d. AreLinesAt s d taken) due are k.shown (line ∷ []) at in
+        sym all ∙ sym (append-nil head) ∙ ap (λ (es : List Stamped). whole_lines k.shown es) (sym none)
 
 -- the header was read, and nothing more
 pub sound_start : (s : Progress) (k : Known) → IsShown k.shown → s.epochs ≡ [] → AreRead (known_as s k Epoch)
@@ -183,14 +146,14 @@ sound_start s k shown none =
       changes = subst (AreChanges k.shown.values) (sym none) tt;
     }
 
-pub sound_header : (s : Progress) (section : Section) (row : ℕ) → s.due ≡ Header section row → IsSound s → (s.epochs ≡ []) × (s.rows ≡ [])
-sound_header s section row due sound = subst (λ d. IsSoundAt s d) due sound
+pub sound_header : (s : Progress) (place : ℕ) → s.due ≡ Header place → IsSound s → (s.epochs ≡ []) × (s.rows ≡ []) × HasHeaderAt s.known place
+sound_header s place due sound = subst (λ d. IsSoundAt s d) due sound
 
 -- ---- the first line
 
-module _ (s : Progress) (due : s.due ≡ Header Version 0)
-    (step : (h : Shown) (left : List (List ℕ)) → IsHeaderLeft s.known Version 0 h left ↔ (IsShown h × (left ≡ header_lines h.texts h.plan h.values (civil_of h.first)))) where
-  from_first : (v : FileValue) (left : List (List ℕ)) (epochs : List Stamped) → v.epochs ≡ epochs → IsFileValue v → left ≡ file_lines v → IsInHeader s Version 0 v left
+module _ (s : Progress) (due : s.due ≡ Header 0)
+    (step : (h : Shown) (left : List (List ℕ)) → IsHeaderLeft s.known 0 h left ↔ (IsShown h × (left ≡ header_lines h.texts h.plan h.values (civil_of h.first)))) where
+  from_first : (v : FileValue) (left : List (List ℕ)) (epochs : List Stamped) → v.epochs ≡ epochs → IsFileValue v → left ≡ file_lines v → IsInHeader s 0 v left
   from_first v left [] epochs is lines =
       let size = ap length epochs in
       let some = is.some in
@@ -205,28 +168,22 @@ module _ (s : Progress) (due : s.due ≡ Header Version 0)
         rest = lines ∙ lines_by_first v e es epochs;
       }
 
-  pub header_starts : (v : FileValue) (left : List (List ℕ)) → HasLinesLeft s v left ↔ (IsFileValue v × (left ≡ file_lines v))
+  pub header_starts : (v : FileValue) → IsFileValue v → HasLinesLeft s v (file_lines v)
   unfolding HasLinesLeft
-  header_starts v left = (
-    λ on.
-        let here : IsInHeader s Version 0 v left = subst (λ d. IsAt s d v left) due on.1 in
-        let header = (step (shown_of v here.first.time) here.lines).0 here.header in
-        (on.0, here.rest ∙ ap (λ l. l ++ flat_map stamped_lines (here.first ∷ here.others)) header.1 ∙ sym (lines_by_first v here.first here.others here.epochs)),
-    λ is. (is.0, subst (λ d. IsAt s d v left) (sym due) (from_first v left v.epochs refl is.0 is.1)),
-  )
+  header_starts v is = (is, subst (λ d. IsAt s d v (file_lines v)) (sym due) (from_first v (file_lines v) v.epochs refl is refl))
 
 -- ---- the end
 
-none_begins : (s : Progress) (section : Section) (row : ℕ) (v : FileValue) (first : Stamped) (others : List Stamped) (lines : List (List ℕ))
-    → IsHeaderLeft s.known section row (shown_of v first.time) lines → [] ≡ lines ++ flat_map stamped_lines (first ∷ others) → ⊥
-none_begins s section row v first others [] header rest = some_left s.known section row (shown_of v first.time) header
-none_begins s section row v first others (l ∷ ls) header rest = cc
+none_begins : (s : Progress) (place : ℕ) (v : FileValue) (first : Stamped) (others : List Stamped) (lines : List (List ℕ))
+    → IsHeaderLeft s.known place (shown_of v first.time) lines → [] ≡ lines ++ flat_map stamped_lines (first ∷ others) → ⊥
+none_begins s place v first others [] header rest = some_left s.known place (shown_of v first.time) header
+none_begins s place v first others (l ∷ ls) header rest = cc
 
-pub header_unfinished : (s : Progress) (section : Section) (row : ℕ) → s.due ≡ Header section row → (v : FileValue) → HasLinesLeft s v [] → ⊥
+pub header_unfinished : (s : Progress) (place : ℕ) → s.due ≡ Header place → (v : FileValue) → HasLinesLeft s v [] → ⊥
 unfolding HasLinesLeft
-header_unfinished s section row due v (is, at) =
-    let here : IsInHeader s section row v [] = subst (λ d. IsAt s d v []) due at in
-    none_begins s section row v here.first here.others here.lines here.header here.rest
+header_unfinished s place due v (is, at) =
+    let here : IsInHeader s place v [] = subst (λ d. IsAt s d v []) due at in
+    none_begins s place v here.first here.others here.lines here.header here.rest
 
 no_rows_left : (n : ℕ) (more : List SatelliteRow) (others : List Stamped) → 0 < n → length more ≡ n → [] ≡ map satellite_line more ++ flat_map stamped_lines others → ⊥
 no_rows_left n [] others some count rest = omega (arith, some, count)
@@ -236,8 +193,8 @@ pub epoch_unfinished : (s : Progress) (n : ℕ) → s.due ≡ Satellite n → Is
 unfolding HasLinesLeft
 epoch_unfinished s n due sound v (is, at) =
     let here : IsInEpoch s n v [] = subst (λ d. IsAt s d v []) due at in
-    let all : AreRead s × IsBegun s × (0 < n) = subst (λ d. IsSoundAt s d) due sound in
-    no_rows_left n here.more here.others all.2 here.count here.rest
+    let all : 0 < n = (sound_open s n due sound).2 in
+    no_rows_left n here.more here.others all here.count here.rest
 
 -- a line of an event or of its epoch is missing
 pub event_unfinished : (s : Progress) (k : ℕ) (Show : StationValues → Type 0) → k < 4 → (v : FileValue) → IsInEvent s k Show v [] → ⊥
@@ -293,18 +250,14 @@ file_read s due sound some =
       changes = read.0.changes;
     }
 
-pub goes_on : (s : Progress) → s.due ≡ Epoch → IsSound s → 0 < length s.epochs → HasLinesLeft s (file_with s s.epochs) []
-unfolding HasLinesLeft
-goes_on s due sound some =
-    let read : AreRead s × (s.rows ≡ []) = subst (λ d. IsSoundAt s d) due sound in
-    let all : s.epochs ≡ s.epochs ++ [] = sym (append-nil s.epochs) in
-    let here : IsBetween s (file_with s s.epochs) [] = record {
-      others = [];
-      value = ap (file_with s) all;
-      starts = subst (StartsAt s.known.shown.first) all read.0.starts;
-      rest = refl;
-    } in
-    (file_read s due sound some, subst (λ d. IsAt s d (file_with s s.epochs) []) (sym due) here)
+-- the lines of the file that was read whole
+pub lines_read : (h : Shown) (es : List Stamped) → 0 < length es → StartsAt h.first es → lines_of_parts h.texts h.plan h.values es ≡ whole_lines h es
+lines_read h [] some starts = absurd (omega (arith, some))
+lines_read h (e ∷ es) some starts = ap (λ (t : ℕ). header_lines h.texts h.plan h.values (civil_of t) ++ flat_map stamped_lines (e ∷ es)) (sym starts)
+
+pub file_shown : (s : Progress) (taken : List (List ℕ)) → s.due ≡ Epoch → IsSound s → 0 < length s.epochs → AreLinesOf s taken → file_lines (file_with s s.epochs) ≡ taken
+file_shown s taken due sound some are =
+    lines_read s.known.shown s.epochs some (sound_between s due sound).0.starts ∙ sym (subst (λ d. AreLinesAt s d taken) due are)
 
 -- ---- where a course may not end
 
@@ -317,7 +270,7 @@ unfolding HasLinesLeft
 at_due s d due v left on = subst (λ d. IsAt s d v left) due on.1
 
 unfinished_at : (c : Course) (h : History) (due : Due) → c.due ≡ due → FollowsHistory c h → ((due ≡ Epoch) × (0 < c.epochs) → ⊥) → (v : FileValue) → HasLinesLeft (progress_at c h) v [] → ⊥
-unfinished_at c h (Header section row) same stands never v on = header_unfinished (progress_at c h) section row same v on
+unfinished_at c h (Header place) same stands never v on = header_unfinished (progress_at c h) place same v on
 unfinished_at c h Epoch same stands never v on = no_file (progress_at c h) same (no_epochs h.epochs c.epochs stands.epochs (λ some. never (refl, some))) v on
 unfinished_at c h EventPosition same stands never v on = event_unfinished (progress_at c h) 1 (λ w. ⊤) (lit< tt) v (at_due (progress_at c h) EventPosition same v [] on)
 unfinished_at c h (EventHeight x y z) same stands never v on = event_unfinished (progress_at c h) 2 (HasPosition x y z) (lit< tt) v (at_due (progress_at c h) (EventHeight x y z) same v [] on)

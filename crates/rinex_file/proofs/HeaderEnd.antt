@@ -1,57 +1,37 @@
 -- The last line of a header, and the header that was read.
-use Rattle.std.proofs.Common.{arith, ◌≡◌, ◌∙◌, sym, ap, refl, subst, ℕ, ℤ, pos, lit≤, ◌+◌, ◌<◌, List, [], ◌∷◌, length, None, ◌↔◌, All, nat_eq}
+use Rattle.std.proofs.Common.{arith, ◌≡◌, ◌∙◌, sym, ap, refl, subst, ℕ, ℤ, pos, zero, suc, lit≤, ◌+◌, ◌-◌, ◌<◌, ◌≤◌, List, [], ◌∷◌, length, get_or, take, replicate, None, ◌↔◌, All, nat_eq, Bool, true, false, IsTrue}
 use Rattle.std.specs.List.{IsDistinct}
+use Rattle.std.proofs.lemmas.List.{take_all}
 use Rattle.std.proofs.lemmas.List.Elements.{All-map, All-weaker}
-use Rattle.std.specs.Prelude.{Result, Ok, Err}
+use Rattle.std.specs.Prelude.{Result, Ok, Err, map}
 use Rattle.gnss_obs.specs.Signals.{SignalAt, IsSignal, table}
 use Rattle.gnss_obs.specs.declared.system.System.{System}
 use Rattle.gnss_obs.specs.declared.system.System.TheVariants.{Gps, Galileo}
 use Rattle.obs_epoch.specs.Signals.{indices, IsOf}
 use Rattle.obs_epoch.specs.Values.{PlanValue, planned_of}
 use Rattle.obs_epoch.specs.declared.cell.StationValues.{StationValues}
-use Rattle.rinex_file.specs.declared.header.section.Section.TheVariants.{Version, End}
 use Rattle.rinex_file.specs.Blanks.{trimmed}
-use Rattle.rinex_file.specs.Texts.{HeaderLists}
+use Rattle.rinex_file.specs.Texts.{HeaderLists, text_count}
 use Rattle.rinex_file.specs.FileValues.{IsText, AreTexts, AreValues, IsPlan, IsTime}
-use Rattle.rinex_file.specs.Header.{section_lines, header_lines, end_line}
-use Rattle.rinex_file.specs.Read.Progress.{Known, Shown, IsShown, KnowsFirst, KnowsBefore, IsHeaderLeft, is_some_planned}
-use Rattle.rinex_file.specs.Read.HeaderSteps.{IsWhole, StepsTo, NoneGoesOn}
+use Rattle.rinex_file.specs.Header.{row_line, header_lines, end_line, first_types}
+use Rattle.rinex_file.specs.Read.Progress.{Known, Shown, IsShown, KnowsAt, IsHeaderLeft, is_some_planned, plans, signal_count, shown_from, signals_begun}
+use Rattle.rinex_file.specs.Read.HeaderSteps.{IsWholeOf, IsWhole, StepsTo, NoneGoesOn}
 use Rattle.obs_epoch.specs.Dates.{civil_of}
 use Rattle.std.proofs.lemmas.Int.{ints}
 use Rattle.obs_epoch.proofs.PlanLemmas.{none_of}
-use Rattle.rinex_file.proofs.Sections.{all_lines}
+use Rattle.rinex_file.proofs.HeaderText.{by_places}
+use Rattle.rinex_file.proofs.HeaderKnown.{few_shown, types_high}
 
 -- ---- a header whose parts are all known
 
-abbrev made_texts : (a b c d e f g h i j k : List ℕ) → HeaderLists
-made_texts a b c d e f g h i j k = record {
-  run_by = a;
-  date = b;
-  marker = c;
-  marker_type = d;
-  observer = e;
-  agency = f;
-  rec_number = g;
-  rec_type = h;
-  rec_version = i;
-  ant_number = j;
-  ant_type = k;
-}
-
-same_texts : (x y : HeaderLists) → x.run_by ≡ y.run_by → x.date ≡ y.date → x.marker ≡ y.marker → x.marker_type ≡ y.marker_type → x.observer ≡ y.observer → x.agency ≡ y.agency
-    → x.rec_number ≡ y.rec_number → x.rec_type ≡ y.rec_type → x.rec_version ≡ y.rec_version → x.ant_number ≡ y.ant_number → x.ant_type ≡ y.ant_type → x ≡ y
-same_texts x y a b c d e f g h i j k =
-    ap (λ t. made_texts t x.date x.marker x.marker_type x.observer x.agency x.rec_number x.rec_type x.rec_version x.ant_number x.ant_type) a
-    ∙ ap (λ t. made_texts y.run_by t x.marker x.marker_type x.observer x.agency x.rec_number x.rec_type x.rec_version x.ant_number x.ant_type) b
-    ∙ ap (λ t. made_texts y.run_by y.date t x.marker_type x.observer x.agency x.rec_number x.rec_type x.rec_version x.ant_number x.ant_type) c
-    ∙ ap (λ t. made_texts y.run_by y.date y.marker t x.observer x.agency x.rec_number x.rec_type x.rec_version x.ant_number x.ant_type) d
-    ∙ ap (λ t. made_texts y.run_by y.date y.marker y.marker_type t x.agency x.rec_number x.rec_type x.rec_version x.ant_number x.ant_type) e
-    ∙ ap (λ t. made_texts y.run_by y.date y.marker y.marker_type y.observer t x.rec_number x.rec_type x.rec_version x.ant_number x.ant_type) f
-    ∙ ap (λ t. made_texts y.run_by y.date y.marker y.marker_type y.observer y.agency t x.rec_type x.rec_version x.ant_number x.ant_type) g
-    ∙ ap (λ t. made_texts y.run_by y.date y.marker y.marker_type y.observer y.agency y.rec_number t x.rec_version x.ant_number x.ant_type) h
-    ∙ ap (λ t. made_texts y.run_by y.date y.marker y.marker_type y.observer y.agency y.rec_number y.rec_type t x.ant_number x.ant_type) i
-    ∙ ap (λ t. made_texts y.run_by y.date y.marker y.marker_type y.observer y.agency y.rec_number y.rec_type y.rec_version t x.ant_type) j
-    ∙ ap (λ t. made_texts y.run_by y.date y.marker y.marker_type y.observer y.agency y.rec_number y.rec_type y.rec_version y.ant_number t) k
+pub same_lists : (a b : List (List ℕ)) → length a ≡ length b → ((i : ℕ) → i < length a → get_or a i [] ≡ get_or b i []) → a ≡ b
+same_lists [] [] size same = refl
+same_lists [] (y ∷ ys) size same = absurd (omega (arith, size))
+same_lists (x ∷ xs) [] size same = absurd (omega (arith, size))
+same_lists (x ∷ xs) (y ∷ ys) size same =
+    let head : x ≡ y = same 0 (omega arith) in
+    let rest : xs ≡ ys = same_lists xs ys (omega (arith, size)) (λ i less. same (suc i) (omega (arith, less))) in
+    cc
 
 abbrev made_plan : List ℕ → List ℕ → PlanValue
 made_plan a b = record { gps = a; galileo = b }
@@ -79,69 +59,77 @@ same_shown g h a b c d =
     ∙ ap (λ v. made_shown h.texts h.plan v g.first) c
     ∙ ap (λ t. made_shown h.texts h.plan h.values t) d
 
-all_said : (k : Known) (h : Shown) → KnowsBefore End k h → k.shown ≡ h
-all_said k h s =
-    let to_delta = s.0.0.0.0.0.0 in
-    let to_marker = to_delta.0.0.0.0.0.0 in
-    let delta = to_delta.1 in
-    let position = to_delta.0.1 in
-    let antenna = to_delta.0.0.1 in
-    let receiver = to_delta.0.0.0.1 in
-    let observer = to_delta.0.0.0.0.1 in
-    let kind = to_delta.0.0.0.0.0.1 in
-    let marker = to_marker.1 in
-    let program = to_marker.0.1 in
-    same_shown k.shown h
-    (same_texts k.shown.texts h.texts program.0 program.1 marker kind observer.0 observer.1 receiver.0 receiver.1 receiver.2 antenna.0 antenna.1)
-    (same_plan k.shown.plan h.plan s.0.0.0.0.0.1 s.0.0.0.0.1)
-    (same_values k.shown.values h.values position.0 position.1 position.2 delta)
-    s.0.0.1
+-- all of a system's signals begin before the last row
+all_begin : (h : Shown) → IsShown h → (s : System) → take (signals_begun (25 - first_types s)) (planned_of s h.plan) ≡ planned_of s h.plan
+all_begin h is s =
+    let few = few_shown h is s in
+    let high = types_high s in
+    take_all (signals_begun (25 - first_types s)) (planned_of s h.plan) (most (first_types s) (length (planned_of s h.plan)) high few) where
+      most : (b n : ℕ) → b ≤ 15 → n ≤ 19 → n ≤ signals_begun (25 - b)
+      most b n high few = omega (arith, high, few)
+
+all_said : (k : Known) (h : Shown) → IsShown h → length k.shown.texts ≡ text_count → KnowsAt 25 k h → k.shown ≡ h
+all_said k h is count s =
+    let texts : k.shown.texts ≡ h.texts = same_lists k.shown.texts h.texts (count ∙ sym is.texts.count) (λ i less. s.texts i (subst (λ n. i < n) count less)) in
+    let position = s.position (lit≤ tt) in
+    same_shown k.shown h texts
+    (same_plan k.shown.plan h.plan (s.signals Gps ∙ all_begin h is Gps) (s.signals Galileo ∙ all_begin h is Galileo))
+    (same_values k.shown.values h.values position.0 position.1 position.2 (s.height (lit≤ tt)))
+    (s.first (lit≤ tt))
 
 -- what a header says of itself
-said_of_itself : (k : Known) → IsWhole k → KnowsBefore End k k.shown
-said_of_itself k whole =
-    let version : KnowsFirst 1 k k.shown = (tt, (whole.0, whole.1)) in
-    let texts : KnowsFirst 7 k k.shown = ((((((version, (refl, refl)), refl), refl), (refl, refl)), (refl, refl, refl)), (refl, refl)) in
-    let values : KnowsFirst 9 k k.shown = ((texts, (refl, refl, refl)), refl) in
-    ((((((values, refl), refl), tt), refl), tt), tt)
+said_of_itself : (k : Known) → IsShown k.shown → IsWhole k → KnowsAt 25 k k.shown
+said_of_itself k is whole = record {
+  systems = λ s l. (whole.0 s).planned;
+  texts = λ i l. refl;
+  position = λ l. (refl, refl, refl);
+  height = λ l. refl;
+  counts = λ s l. (whole.0 s).count;
+  signals = λ s. sym (all_begin k.shown is s);
+  first = λ l. refl;
+}
+
+-- the signals of a system are those of a header
+record IsWholeIn (k : Known) (g : Shown) (s : System) : Type 0 where
+  planned : plans k s ≡ is_some_planned (planned_of s g.plan)
+  count : 0 < length (planned_of s g.plan) → signal_count k s ≡ length (planned_of s g.plan)
+
+whole_by : (k : Known) (h : Shown) → length k.shown.texts ≡ text_count → KnowsAt 25 k h → IsShown h → IsWhole k
+whole_by k h count said is =
+    let same : h ≡ k.shown = sym (all_said k h is count said) in
+    let all : ((s : System) → IsWholeIn k k.shown s) × (0 < length k.shown.plan.gps + length k.shown.plan.galileo) =
+    subst (λ (g : Shown). ((s : System) → IsWholeIn k g s) × (0 < length g.plan.gps + length g.plan.galileo)) same
+    (λ s. record { planned = said.systems s (lit≤ tt); count = said.counts s (let high = types_high s in omega (arith, high)) }, is.plan.some) in
+    (λ s. record { planned = (all.0 s).planned; count = (all.0 s).count }, all.1)
 
 -- ---- the last line
 
 one_end : (line x : List ℕ) (left : List (List ℕ)) → line ∷ left ≡ x ∷ [] → (line ≡ x) × (left ≡ [])
 one_end line x left e = (cc, cc)
 
-end_lines : (k : Known) (h : Shown) (line : List ℕ) (left : List (List ℕ)) → IsHeaderLeft k End 0 h (line ∷ left) → (line ≡ end_line) × (left ≡ [])
-unfolding section_lines
+end_lines : (k : Known) (h : Shown) (line : List ℕ) (left : List (List ℕ)) → IsHeaderLeft k 25 h (line ∷ left) → (line ≡ end_line) × (left ≡ [])
+unfolding row_line
 end_lines k h line left i = one_end line end_line left i.lines
 
-whole_by : (k : Known) (h : Shown) → KnowsBefore End k h → IsShown h → IsWhole k
-whole_by k h said is =
-    let same : h ≡ k.shown = sym (all_said k h said) in
-    let version = said.0.0.0.0.0.0.0.0.0.0.0.0.0.0.1 in
-    subst (λ (g : Shown). (k.gps ≡ is_some_planned g.plan.gps) × (k.galileo ≡ is_some_planned g.plan.galileo) × (0 < length g.plan.gps + length g.plan.galileo)) same
-    (version.0, version.1, is.plan.some)
-
-pub end_steps : (k : Known) (line : List ℕ) → line ≡ end_line → IsWhole k → StepsTo k End 0 line k None
-unfolding section_lines
-end_steps k line e whole h left = (
-  λ i. record { is = i.is; same = sym (all_said k h i.before); lines = (end_lines k h line left i).1 },
-  λ r. record {
-    is = r.is;
-    before = subst (λ g. KnowsBefore End k g) (sym r.same) (said_of_itself k whole);
-    within = tt;
-    due = omega arith;
-    lines = ap (λ l. l ∷ left) e ∙ ap (λ l. end_line ∷ l) r.lines;
-  },
+pub end_steps : (k : Known) (line : List ℕ) → line ≡ end_line → length k.shown.texts ≡ text_count → IsWhole k → StepsTo k 25 line k None
+unfolding row_line
+end_steps k line e count whole h left = (
+  λ i. record { is = i.is; same = sym (all_said k h i.is count i.before); lines = (end_lines k h line left i).1 },
+  λ r.
+      let is : IsShown k.shown = subst IsShown r.same r.is in
+      record {
+        is = r.is;
+        before = subst (λ g. KnowsAt 25 k g) (sym r.same) (said_of_itself k is whole);
+        due = lit≤ tt;
+        lines = ap (λ l. l ∷ left) e ∙ ap (λ l. end_line ∷ l) r.lines;
+      },
 )
 
-pub no_end_row : (k : Known) (row : ℕ) (line : List ℕ) → (row ≡ 0 → ⊥) → NoneGoesOn k End row line
-no_end_row k row line far h left i = let due = i.due in omega (arith, due)
-
-pub no_end_line : (k : Known) (line : List ℕ) → (line ≡ end_line → ⊥) → NoneGoesOn k End 0 line
+pub no_end_line : (k : Known) (line : List ℕ) → (line ≡ end_line → ⊥) → NoneGoesOn k 25 line
 no_end_line k line other h left i = other (end_lines k h line left i).0
 
-pub not_whole : (k : Known) (line : List ℕ) → (IsWhole k → ⊥) → NoneGoesOn k End 0 line
-not_whole k line part h left i = part (whole_by k h i.before i.is)
+pub not_whole : (k : Known) (line : List ℕ) → length k.shown.texts ≡ text_count → (IsWhole k → ⊥) → NoneGoesOn k 25 line
+not_whole k line count part h left i = part (whole_by k h count i.before i.is)
 
 -- ---- the header that was read
 
@@ -162,20 +150,52 @@ planned_by gps galileo g e some = record { listed = listed; apart = apart; some 
 pub shown_by : (k made : Known) → made ≡ k → IsWhole k → AreTexts made.shown.texts
     → (0 < length made.shown.plan.gps + length made.shown.plan.galileo → IsPlan made.shown.plan) → AreValues made.shown.values → IsTime made.shown.first → IsShown k.shown
 shown_by k made e whole texts plan values first =
-    let some = subst (λ (n : Known). 0 < length n.shown.plan.gps + length n.shown.plan.galileo) (sym e) whole.2 in
+    let some = subst (λ (n : Known). 0 < length n.shown.plan.gps + length n.shown.plan.galileo) (sym e) whole.1 in
     subst (λ (n : Known). IsShown n.shown) e (record { texts = texts; plan = plan some; values = values; first = first })
 
 -- ---- no header
 
 pub begins_header : (k : Known) → k.shown.plan.gps ≡ [] → k.shown.plan.galileo ≡ [] → (h : Shown) (left : List (List ℕ))
-    → IsHeaderLeft k Version 0 h left ↔ (IsShown h × (left ≡ header_lines h.texts h.plan h.values (civil_of h.first)))
-begins_header k a b h left =
-    let all = all_lines h.texts h.plan h.values (civil_of h.first) in
-    (λ i. (i.is, i.lines ∙ all), λ s. record { is = s.0; before = tt; within = (a, b); due = omega arith; lines = s.1 ∙ sym all })
+    → IsHeaderLeft k 0 h left ↔ (IsShown h × (left ≡ header_lines h.texts h.plan h.values (civil_of h.first)))
+unfolding header_lines
+begins_header k gps galileo h left = (
+  λ i. (i.is, i.lines),
+  λ s. record {
+    is = s.0;
+    before = record {
+      systems = λ t l. absurd (omega (arith, l));
+      texts = λ i l. absurd (omega (arith, l));
+      position = λ l. absurd (omega (arith, l));
+      height = λ l. absurd (omega (arith, l));
+      counts = λ t l. absurd (omega (arith, l));
+      signals = λ t. none t ∙ sym (none_begun (planned_of t h.plan) (first_types t));
+      first = λ l. absurd (omega (arith, l));
+    };
+    due = lit≤ tt;
+    lines = s.1;
+  },
+) where
+  none : (t : System) → planned_of t k.shown.plan ≡ []
+  none Gps = gps
+  none Galileo = galileo
 
-pub blank_text : (width : ℕ) (text : List ℕ) → text ≡ [] → IsText width text
+  none_begun : (all : List ℕ) (b : ℕ) → take (signals_begun (0 - b)) all ≡ []
+  none_begun all b = let e : signals_begun (0 - b) ≡ 0 = omega arith in ap (λ n. take n all) e
+
+abbrev blanks : ℕ → List (List ℕ)
+blanks n = replicate n []
+
+blank_at : (i n : ℕ) → get_or (blanks n) i [] ≡ []
+blank_at i zero = refl
+blank_at zero (suc n) = refl
+blank_at (suc i) (suc n) = blank_at i n
+
+blank_text : (width : ℕ) (text : List ℕ) → text ≡ [] → IsText width text
 unfolding trimmed
 blank_text width text e = subst (IsText width) (sym e) (record { short = omega arith; printable = refl; cut = refl })
+
+pub blank_texts : (x : HeaderLists) → x ≡ replicate text_count [] → AreTexts x
+blank_texts x e = subst AreTexts (sym e) (by_places (blanks text_count) refl (λ i less. blank_text _ (get_or (blanks text_count) i []) (blank_at i text_count)))
 
 pub none_read : (system : System) (ss : List SignalAt) → ss ≡ [] → IsOf system ss
 none_read system ss e = subst (IsOf system) (sym e) (none_of system)

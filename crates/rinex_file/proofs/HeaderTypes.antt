@@ -1,30 +1,24 @@
 -- The lines of types of a header, as they are read one after the other.
-use Rattle.std.proofs.Common.{arith, ◌≡◌, ◌∙◌, sym, ap, refl, subst, ℕ, zero, suc, ◌+◌, ◌<◌, ◌≤◌, true, false, List, [], ◌∷◌, ◌++◌, length, take, min, Option, Some, None, ◌↔◌}
-use Rattle.std.specs.Prelude.{flat_map, IfSome, IfNone, Result, Err}
-use Rattle.std.proofs.lemmas.List.{drop_all, take_all, take-take, take-map, length-take}
+use Rattle.std.proofs.Common.{arith, ◌≡◌, ◌≢◌, ◌∙◌, sym, ap, refl, subst, ℕ, zero, suc, ◌+◌, ◌-◌, ◌<◌, ◌≤◌, ◌==◌, ◌&&◌, ◌||◌, Bool, true, false, List, [], ◌∷◌, ◌++◌, length, take, min, nat_eq, Option, Some, None, ◌↔◌}
+use Rattle.std.specs.Prelude.{Result, Err, nat_lt}
+use Rattle.std.proofs.lemmas.Bool.Decides.{nat_tests}
+use Rattle.std.proofs.lemmas.List.{take-take, take-map, length-take}
 use Rattle.gnss_obs.specs.Signals.{SignalAt, table}
 use Rattle.gnss_obs.specs.declared.system.System.{System}
 use Rattle.gnss_obs.specs.declared.system.System.TheVariants.{Gps, Galileo}
 use Rattle.obs_epoch.specs.Signals.{indices}
-use Rattle.obs_epoch.specs.Values.{planned_of}
+use Rattle.obs_epoch.specs.Values.{PlanValue, planned_of}
 use Rattle.obs_epoch.proofs.PlanLemmas.{length_indices}
-use Rattle.rinex_file.specs.declared.read.due.Refusal.{Refusal}
-use Rattle.rinex_file.specs.declared.header.section.Section.{Section}
-use Rattle.rinex_file.specs.declared.header.section.Section.TheVariants.{Types}
-use Rattle.rinex_file.specs.FileValues.{of_system}
-use Rattle.rinex_file.specs.Lines.{letter_of}
-use Rattle.rinex_file.specs.Header.{section_lines, lines_from, sections_behind, type_line, type_rows, types_of, codes_of}
-use Rattle.rinex_file.specs.Read.Progress.{Known, Shown, IsShown, KnowsSection, KnowsBefore, KnowsWithin, IsHeaderLeft, shown_lines, AreTypes, types_line, signals_begun}
-use Rattle.rinex_file.specs.Read.HeaderSteps.{IsUnread, IsPast, StepsTo, NoneGoesOn, AreBegun, CountsDue, ComparesRow, TakesRow, RefusesRow, with_signals, with_count}
-use Rattle.rinex_file.proofs.TypeRows.{few_types}
-use Rattle.rinex_file.proofs.Sections.{emit, at_row}
-use Rattle.rinex_file.proofs.HeaderSteps.{both_ways, said_version, none_planned, some_planned, shown_rows}
+use Rattle.rinex_file.specs.declared.header.rows.HeaderRow.TheVariants.{Types}
+use Rattle.rinex_file.specs.Header.{row_line, has_line, first_types, type_rows}
+use Rattle.rinex_file.specs.Read.Progress.{Known, Shown, IsShown, KnowsAt, plans, signal_count, shown_line, AreTypes, types_line, signals_begun, texts_before, is_some_planned}
+use Rattle.rinex_file.specs.Read.HeaderSteps.{known_line, AreValid, HasShownAt, LearnsLine, RefusesHeaderLine, AreBegun, CountsDue, ComparesRow, TakesRow, RefusesRow, plan_with, with_signals, with_count}
+use Rattle.std.specs.Prelude.{All}
+use Rattle.std.specs.List.{IsDistinct}
+use Rattle.rinex_file.proofs.HeaderOpen.{own, own_is, all_plan, some_planned_of, Whole, whole_with}
+use Rattle.rinex_file.proofs.HeaderKnown.{IsOutside, still, few_shown, types_low, types_high, all_texts, some_planned, present, same_system}
 
 -- ---- numbers of signals
-
--- of the signals of a line all begin in it or before where it is the last
-last_begins : (count row : ℕ) → type_rows count ≤ row + 1 → count ≤ signals_begun (row + 1)
-last_begins count row last = omega (arith, last)
 
 begun_more : (row : ℕ) → signals_begun row ≤ signals_begun (row + 1)
 begun_more row = omega arith
@@ -67,264 +61,232 @@ begun_size old all row count due begun =
 pub begun_next_size : (new all : List ℕ) (row count : ℕ) → length all ≡ count → new ≡ take (signals_begun (row + 1)) all → length new ≡ min (signals_begun (row + 1)) count
 begun_next_size new all row count size is = ap length is ∙ length-take (signals_begun (row + 1)) all ∙ ap (min (signals_begun (row + 1))) size
 
--- ---- the line that is due
+-- ---- a system and the other
 
--- the signals that a header shows
-types_shown : (system : System) (k : Known) (h : Shown) → IsShown h → KnowsBefore (Types system) k h → of_system system k.gps k.galileo ≡ true → AreTypes system (planned_of system h.plan)
-types_shown Gps k h is before planned =
-    record { listed = is.plan.listed Gps; apart = is.plan.apart Gps; some = some_planned k.gps h.plan.gps (said_version 8 k h before).0 planned }
-types_shown Galileo k h is before planned =
-    record { listed = is.plan.listed Galileo; apart = is.plan.apart Galileo; some = some_planned k.galileo h.plan.galileo (said_version 9 k h before).1 planned }
+abbrev other : System → System
+other Gps = Galileo
+other Galileo = Gps
 
-record IsAtRow (k : Known) (system : System) (row : ℕ) (line : List ℕ) (h : Shown) (left : List (List ℕ)) : Type 0 where
-  is : IsShown h
-  before : KnowsBefore (Types system) k h
-  unread : IsUnread (Types system) k
-  count : 0 < row → k.signals ≡ length (planned_of system h.plan)
-  begins : planned_of system k.shown.plan ≡ take (signals_begun row) (planned_of system h.plan)
-  due : row < type_rows (length (planned_of system h.plan))
-  here : line ≡ types_line system (planned_of system h.plan) row
-  lines : left ≡ lines_from (shown_lines h) (Types system) (row + 1)
+-- what holds of a system, and of the other
+either_system : (P : System → Type 0) (s : System) → P s → P (other s) → (t : System) → P t
+either_system P Gps a b Gps = a
+either_system P Gps a b Galileo = b
+either_system P Galileo a b Gps = b
+either_system P Galileo a b Galileo = a
 
-nothing_in_front : (n : ℕ) → n < n → ⊥
-nothing_in_front n h = omega (arith, h)
+planned_made : (s : System) (p : PlanValue) (signals : List ℕ) → planned_of s (plan_with s p signals) ≡ signals
+planned_made Gps p signals = refl
+planned_made Galileo p signals = refl
 
-within_parts : (system : System) (row : ℕ) (k : Known) (h : Shown) → KnowsWithin (Types system) row k h
-    → IsUnread (Types system) k × (0 < row → k.signals ≡ length (planned_of system h.plan)) × (planned_of system k.shown.plan ≡ take (signals_begun row) (planned_of system h.plan))
-within_parts Gps zero k h w = (w.1, λ far. absurd (nothing_in_front 0 far), w.0)
-within_parts Gps (suc row) k h w = (w.0, λ far. w.1, w.2)
-within_parts Galileo zero k h w = (tt, λ far. absurd (nothing_in_front 0 far), w)
-within_parts Galileo (suc row) k h w = (tt, λ far. w.0, w.1)
+planned_other : (s : System) (p : PlanValue) (signals : List ℕ) → planned_of (other s) (plan_with s p signals) ≡ planned_of (other s) p
+planned_other Gps p signals = refl
+planned_other Galileo p signals = refl
 
-above_none : (row : ℕ) → 0 < suc row
-above_none row = omega arith
+count_made : (s : System) (k : Known) (count : ℕ) → signal_count (with_count s k count) s ≡ count
+count_made Gps k count = refl
+count_made Galileo k count = refl
 
-within_by : (system : System) (row : ℕ) (k : Known) (h : Shown) → IsUnread (Types system) k → (0 < row → k.signals ≡ length (planned_of system h.plan))
-    → planned_of system k.shown.plan ≡ take (signals_begun row) (planned_of system h.plan) → KnowsWithin (Types system) row k h
-within_by Gps zero k h unread count begins = (begins, unread)
-within_by Gps (suc row) k h unread count begins = (unread, count (above_none row), begins)
-within_by Galileo zero k h unread count begins = begins
-within_by Galileo (suc row) k h unread count begins = (count (above_none row), begins)
+count_other : (s : System) (k : Known) (count : ℕ) → signal_count (with_count s k count) (other s) ≡ signal_count k (other s)
+count_other Gps k count = refl
+count_other Galileo k count = refl
 
-same_head : (line x : List ℕ) (left rest : List (List ℕ)) → line ∷ left ≡ x ∷ rest → (line ≡ x) × (left ≡ rest)
-same_head line x left rest e = (cc, cc)
+far_other : (s : System) (row : ℕ) → row < 6 → first_types (other s) ≤ first_types s + row → first_types s + row < first_types (other s) + 6 → ⊥
+far_other Gps row less more few = omega (arith, less, more)
+far_other Galileo row less more few = omega (arith, less, few)
 
-one_row : (system : System) (h : Shown) (row : ℕ) → row < type_rows (length (planned_of system h.plan))
-    → lines_from (shown_lines h) (Types system) row ≡ types_line system (planned_of system h.plan) row ∷ lines_from (shown_lines h) (Types system) (row + 1)
-unfolding section_lines
-one_row system h row due =
-    let rows = shown_rows h (Types system) in
-    let less : row < length (shown_lines h (Types system)) = omega (arith, rows, due) in
-    emit (shown_lines h) (Types system) row less
-    ∙ ap (λ l. l ∷ lines_from (shown_lines h) (Types system) (row + 1))
-    (at_row (type_line (letter_of system) (types_of (codes_of system (planned_of system h.plan)))) (type_rows (length (planned_of system h.plan))) row due)
+-- where the rows of the other are not behind, they are before or behind all of these
+not_next : (s : System) (row : ℕ) → row < 6 → first_types (other s) < suc (first_types s + row) → first_types (other s) < first_types s + row
+not_next Gps row less more = absurd (omega (arith, less, more))
+not_next Galileo row less more = omega (arith, less)
 
-row_left : (k : Known) (system : System) (row : ℕ) (line : List ℕ) (h : Shown) (left : List (List ℕ)) → IsHeaderLeft k (Types system) row h (line ∷ left) ↔ IsAtRow k system row line h left
-row_left k system row line h left = (
-  λ i.
-      let parts = within_parts system row k h i.within in
-      let both = same_head line _ left _ (i.lines ∙ one_row system h row i.due) in
-      record { is = i.is; before = i.before; unread = parts.0; count = parts.1; begins = parts.2; due = i.due; here = both.0; lines = both.1 },
-  λ a. record {
-    is = a.is;
-    before = a.before;
-    within = within_by system row k h a.unread a.count a.begins;
-    due = a.due;
-    lines = ap (λ l. l ∷ left) a.here ∙ ap (λ l. types_line system (planned_of system h.plan) row ∷ l) a.lines ∙ sym (one_row system h row a.due);
-  },
-)
+-- ---- a line of types
 
--- ---- lines that are refused
+pub made : System → Known → List ℕ → ℕ → Known
+made s k signals count = with_count s (with_signals s k signals) count
 
-no_such_row : (row : ℕ) (all : List ℕ) → all ≡ [] → row < type_rows (length all) → ⊥
-no_such_row row all none due = let less : row < 0 = subst (λ (l : List ℕ). row < type_rows (length l)) none due in omega (arith, less)
+pub made_is : (s : System) (k m : Known) (signals : List ℕ) (count : ℕ) → m ≡ with_signals s k signals → made s k signals count ≡ with_count s m count
+unfolding made
+made_is s k m signals count e = ap (λ n. with_count s n count) (sym e)
 
-pub none_planned_there : (k : Known) (system : System) (row : ℕ) (line : List ℕ) → of_system system k.gps k.galileo ≡ false → NoneGoesOn k (Types system) row line
-none_planned_there k Gps row line unplanned h left i =
-    no_such_row row h.plan.gps (none_planned k.gps h.plan.gps (said_version 8 k h i.before).0 unplanned) i.due
-none_planned_there k Galileo row line unplanned h left i =
-    no_such_row row h.plan.galileo (none_planned k.galileo h.plan.galileo (said_version 9 k h i.before).1 unplanned) i.due
+and_first : (a b : Bool) → (a && b) ≡ true → a ≡ true
+and_first true b h = refl
+and_first false b h = h
 
-pub none_due : (k : Known) (system : System) (row : ℕ) (line : List ℕ) (r : Option ℕ) → of_system system k.gps k.galileo ≡ true → CountsDue k system row line r → r ≡ None
-    → NoneGoesOn k (Types system) row line
-none_due k system row line r planned due none h left i =
-    let a = (row_left k system row line h left).0 i in
-    no_some (length (planned_of system h.plan)) (sym (due (planned_of system h.plan) (types_shown system k h a.is a.before planned) a.count a.due a.here) ∙ none) where
-      no_some : (n : ℕ) → Some n ≡ None → ⊥
-      no_some n e = cc
+pub planned_there : (k : Known) (s : System) (row : ℕ) → known_line k (Types s row) ≡ true → plans k s ≡ true
+planned_there k s row has = and_first (plans k s) (row == 0 || nat_lt row (type_rows (signal_count k s))) has
+
+types_shown : (s : System) (h : Shown) → IsShown h → 0 < length (planned_of s h.plan) → AreTypes s (planned_of s h.plan)
+types_shown s h is some = record { listed = is.plan.listed s; apart = is.plan.apart s; some = some }
 
 same_some : (a b : ℕ) → Some a ≡ Some b → a ≡ b
 same_some a b e = cc
 
-count_is : (k : Known) (system : System) (row : ℕ) (line : List ℕ) (r : Option ℕ) (count : ℕ) (h : Shown) (left : List (List ℕ)) → of_system system k.gps k.galileo ≡ true
-    → CountsDue k system row line r → r ≡ Some count → IsAtRow k system row line h left → length (planned_of system h.plan) ≡ count
-count_is k system row line r count h left planned due found a =
-    same_some _ count (sym (due (planned_of system h.plan) (types_shown system k h a.is a.before planned) a.count a.due a.here) ∙ found)
+row_number : (b row : ℕ) → (b + row) - b ≡ row
+row_number b row = omega arith
 
-pub none_taken : (k : Known) (system : System) (row : ℕ) (line : List ℕ) (r : Option ℕ) (count : ℕ) → of_system system k.gps k.galileo ≡ true → CountsDue k system row line r → r ≡ Some count
-    → RefusesRow system count row line (planned_of system k.shown.plan) → NoneGoesOn k (Types system) row line
-none_taken k system row line r count planned due found refuses h left i =
-    let a = (row_left k system row line h left).0 i in
-    refuses (planned_of system h.plan) (types_shown system k h a.is a.before planned) (count_is k system row line r count h left planned due found a, a.begins) a.here
+next_number : (b row : ℕ) → suc (b + row) - b ≡ row + 1
+next_number b row = omega arith
 
--- ---- what was read, with the signals of a line
+module _ (k : Known) (s : System) (row : ℕ) (line : List ℕ) (r : Option ℕ) (few : row < 6) (has : known_line k (Types s row) ≡ true) (due : CountsDue k s row line r) where
+  -- what a header shows that has the line
+  record IsAtRow (h : Shown) : Type 0 where
+    are : AreTypes s (planned_of s h.plan)
+    begins : planned_of s k.shown.plan ≡ take (signals_begun row) (planned_of s h.plan)
+    found : r ≡ Some (length (planned_of s h.plan))
 
-pub made : System → Known → List ℕ → ℕ → Known
-made system k signals count = with_count (with_signals system k signals) count
+  at_row : (h : Shown) → IsShown h → KnowsAt (first_types s + row) k h → types_line s (planned_of s h.plan) row ≡ line → IsAtRow h
+  at_row h is a e =
+      let low = types_low s in
+      let all = planned_of s h.plan in
+      let some = some_planned (plans k s) all (a.systems s (omega (arith, low))) (planned_there k s row has) in
+      let are = types_shown s h is some in
+      let there : has_line h.plan (Types s row) ≡ true = present (Types s row) (first_types s + row) k h (omega arith) a ∙ has in
+      let less : row < type_rows (length all) = grind (arith, there) in
+      record {
+        are = are;
+        begins = a.signals s ∙ ap (λ n. take (signals_begun n) all) (row_number (first_types s) row);
+        found = due all are (λ far. a.counts s (omega (arith, far)) some) less (sym e);
+      }
 
-pub made_is : (system : System) (k m : Known) (signals : List ℕ) (count : ℕ) → m ≡ with_signals system k signals → made system k signals count ≡ with_count m count
-unfolding made
-made_is system k m signals count e = ap (λ n. with_count n count) (sym e)
+  pub none_due : r ≡ None → RefusesHeaderLine (Types s row) line k
+  unfolding row_line
+  none_due none h is a e = no_some (length (planned_of s h.plan)) (sym (at_row h is a e).found ∙ none) where
+    no_some : (n : ℕ) → Some n ≡ None → ⊥
+    no_some n e = cc
 
-before_same : (system : System) (k : Known) (signals : List ℕ) (count : ℕ) (h : Shown) → KnowsBefore (Types system) k h ↔ KnowsBefore (Types system) (made system k signals count) h
-unfolding made
-before_same Gps k signals count h = (λ b. b, λ b. b)
-before_same Galileo k signals count h = (λ b. b, λ b. b)
+  some_count : (row count : ℕ) → row < type_rows count → 0 < count
+  some_count row count less = omega (arith, less)
 
-unread_same : (system : System) (k : Known) (signals : List ℕ) (count : ℕ) → IsUnread (Types system) k ↔ IsUnread (Types system) (made system k signals count)
-unfolding made
-unread_same Gps k signals count = (λ u. u, λ u. u)
-unread_same Galileo k signals count = (λ u. u, λ u. u)
+  module _ (count : ℕ) (found : r ≡ Some count) (few_count : count ≤ length (table s)) (less : row < type_rows count) where
+    size : (h : Shown) → IsAtRow h → length (planned_of s h.plan) ≡ count
+    size h at = same_some (length (planned_of s h.plan)) count (sym at.found ∙ found)
 
-planned_made : (system : System) (k : Known) (signals : List ℕ) (count : ℕ) → planned_of system (made system k signals count).shown.plan ≡ signals
-unfolding made
-planned_made Gps k signals count = refl
-planned_made Galileo k signals count = refl
+    pub none_taken : RefusesRow s count row line (planned_of s k.shown.plan) → RefusesHeaderLine (Types s row) line k
+    unfolding row_line
+    none_taken refuses h is a e =
+        let at = at_row h is a e in
+        refuses (planned_of s h.plan) at.are (size h at, at.begins) (sym e)
 
-count_made : (system : System) (k : Known) (signals : List ℕ) (count : ℕ) → (made system k signals count).signals ≡ count
-unfolding made
-count_made system k signals count = refl
+    taken_row : (signals : List ℕ) → (0 < row → signal_count k s ≡ count) → TakesRow s count row line (planned_of s k.shown.plan) signals → (h : Shown) → IsShown h
+        → (KnowsAt (first_types s + row) k h × (types_line s (planned_of s h.plan) row ≡ line)) ↔ KnowsAt (suc (first_types s + row)) (made s k signals count) h
+    unfolding made
+    taken_row signals later takes h is = (on, back) where
+      n : ℕ
+      n = first_types s + row
 
--- what a line of types leaves
-record IsTaken (k : Known) (system : System) (row count : ℕ) (signals : List ℕ) (h : Shown) (left : List (List ℕ)) : Type 0 where
-  is : IsShown h
-  before : KnowsBefore (Types system) k h
-  unread : IsUnread (Types system) k
-  begins : AreBegun count (row + 1) signals (planned_of system h.plan)
-  lines : left ≡ lines_from (shown_lines h) (Types system) (row + 1)
+      all : List ℕ
+      all = planned_of s h.plan
 
-least : (a b : ℕ) → b ≤ a → min a b ≡ b
-least a b h = omega (arith, h)
+      low : 9 ≤ first_types s
+      low = types_low s
 
-says_by : (system : System) (k : Known) (h : Shown) → planned_of system k.shown.plan ≡ planned_of system h.plan → KnowsSection (Types system) k h
-says_by system k h e = e
+      high : first_types s ≤ 15
+      high = types_high s
 
-said_by : (system : System) (k : Known) (h : Shown) → KnowsSection (Types system) k h → planned_of system k.shown.plan ≡ planned_of system h.plan
-said_by system k h e = e
+      texts : texts_before n ≡ texts_before (suc n)
+      texts = all_texts n (omega (arith, low)) ∙ sym (all_texts (suc n) (omega (arith, low)))
 
-module _ (k : Known) (system : System) (row : ℕ) (line : List ℕ) (r : Option ℕ) (count : ℕ) (signals : List ℕ) (planned : of_system system k.gps k.galileo ≡ true) (due : CountsDue k system row line r)
-    (found : r ≡ Some count) (later : 0 < row → k.signals ≡ count) (less : row < type_rows count) (takes : TakesRow system count row line (planned_of system k.shown.plan) signals) where
-  row_taken_left : (h : Shown) (left : List (List ℕ)) → IsHeaderLeft k (Types system) row h (line ∷ left) ↔ IsTaken k system row count signals h left
-  row_taken_left h left = both_ways (row_left k system row line h left) (on, back) where
-    on : IsAtRow k system row line h left → IsTaken k system row count signals h left
-    on a =
-        let size = count_is k system row line r count h left planned due found a in
-        let are = types_shown system k h a.is a.before planned in
-        record { is = a.is; before = a.before; unread = a.unread; begins = (takes.taken (planned_of system h.plan) are).0 ((size, a.begins), a.here); lines = a.lines }
+      rest : take (signals_begun (n - first_types (other s))) (planned_of (other s) h.plan) ≡ take (signals_begun (suc n - first_types (other s))) (planned_of (other s) h.plan)
+      rest = still n (other s) (planned_of (other s) h.plan) (few_shown h is (other s)) (λ more less. absurd (far_other s row few more less))
 
-    back : IsTaken k system row count signals h left → IsAtRow k system row line h left
-    back t =
-        let are = types_shown system k h t.is t.before planned in
-        let all = (takes.taken (planned_of system h.plan) are).1 t.begins in
-        record {
-          is = t.is;
-          before = t.before;
-          unread = t.unread;
-          count = λ far. later far ∙ sym t.begins.0;
-          begins = all.0.1;
-          due = subst (λ n. row < type_rows n) (sym t.begins.0) less;
-          here = all.1;
-          lines = t.lines;
-        }
+      on : KnowsAt n k h × (types_line s all row ≡ line) → KnowsAt (suc n) (made s k signals count) h
+      on b =
+          let a = b.0 in
+          let at = at_row h is a b.1 in
+          let begun = (takes.taken all at.are).0 ((size h at, at.begins), sym b.1) in
+          record {
+            systems = λ t l. a.systems t (omega (arith, low));
+            texts = λ i l. a.texts i (subst (λ m. i < m) (sym texts) l);
+            position = λ l. a.position (omega (arith, low));
+            height = λ l. a.height (omega (arith, low));
+            counts = either_system (λ t. first_types t < suc n → 0 < length (planned_of t h.plan) → signal_count (made s k signals count) t ≡ length (planned_of t h.plan)) s
+                (λ l some. count_made s (with_signals s k signals) count ∙ sym (size h at))
+                (λ l some. count_other s (with_signals s k signals) count ∙ a.counts (other s) (not_next s row few l) some);
+            signals = either_system (λ t. planned_of t (plan_with s k.shown.plan signals) ≡ take (signals_begun (suc n - first_types t)) (planned_of t h.plan)) s
+                (planned_made s k.shown.plan signals ∙ begun.1 ∙ ap (λ m. take (signals_begun m) all) (sym (next_number (first_types s) row)))
+                (planned_other s k.shown.plan signals ∙ a.signals (other s) ∙ rest);
+            first = λ l. absurd (omega (arith, l, high, few));
+          }
 
-  pub more_types : row + 1 < type_rows count → StepsTo k (Types system) row line (made system k signals count) (Some (Types system, row + 1))
-  more_types more h left = both_ways (row_taken_left h left) (on, back) where
-    new : Known
-    new = made system k signals count
+      back : KnowsAt (suc n) (made s k signals count) h → KnowsAt n k h × (types_line s all row ≡ line)
+      back b =
+          let some = some_planned (plans k s) all (b.systems s (omega arith)) (planned_there k s row has) in
+          let are = types_shown s h is some in
+          let counted : length all ≡ count = sym (sym (count_made s (with_signals s k signals) count) ∙ b.counts s (omega arith) some) in
+          let begun : signals ≡ take (signals_begun (row + 1)) all =
+          sym (planned_made s k.shown.plan signals) ∙ b.signals s ∙ ap (λ m. take (signals_begun m) all) (next_number (first_types s) row) in
+          let before = (takes.taken all are).1 (counted, begun) in (
+            record {
+              systems = λ t l. b.systems t (omega arith);
+              texts = λ i l. b.texts i (subst (λ m. i < m) texts l);
+              position = λ l. b.position (omega (arith, l));
+              height = λ l. b.height (omega (arith, l));
+              counts = either_system (λ t. first_types t < n → 0 < length (planned_of t h.plan) → signal_count k t ≡ length (planned_of t h.plan)) s
+                  (λ l some. later (omega (arith, l)) ∙ sym counted)
+                  (λ l some. sym (count_other s (with_signals s k signals) count) ∙ b.counts (other s) (omega (arith, l)) some);
+              signals = either_system (λ t. planned_of t k.shown.plan ≡ take (signals_begun (n - first_types t)) (planned_of t h.plan)) s
+                  (before.0.1 ∙ ap (λ m. take (signals_begun m) all) (sym (row_number (first_types s) row)))
+                  (sym (planned_other s k.shown.plan signals) ∙ b.signals (other s) ∙ sym rest);
+              first = λ l. b.first (omega (arith, l));
+            },
+            sym before.1,
+          )
 
-    on : IsTaken k system row count signals h left → IsHeaderLeft new (Types system) (row + 1) h left
-    on t = record {
-      is = t.is;
-      before = (before_same system k signals count h).0 t.before;
-      within = within_by system (row + 1) new h ((unread_same system k signals count).0 t.unread) (λ far. count_made system k signals count ∙ sym t.begins.0)
-          (planned_made system k signals count ∙ t.begins.1);
-      due = subst (λ n. row + 1 < type_rows n) (sym t.begins.0) more;
-      lines = t.lines;
-    }
+    stays_row : (signals : List ℕ) → (0 < row → signal_count k s ≡ count) → TakesRow s count row line (planned_of s k.shown.plan) signals → AreValid (made s k signals count) → HasShownAt (first_types s + row) k
+        → HasShownAt (suc (first_types s + row)) (made s k signals count)
+    unfolding made
+    stays_row signals later takes valid at = record { h = h; is = shown; knows = knows } where
+      n : ℕ
+      n = first_types s + row
 
-    back : IsHeaderLeft new (Types system) (row + 1) h left → IsTaken k system row count signals h left
-    back i =
-        let parts = within_parts system (row + 1) new h i.within in
-        record {
-          is = i.is;
-          before = (before_same system k signals count h).1 i.before;
-          unread = (unread_same system k signals count).1 parts.0;
-          begins = (sym (sym (count_made system k signals count) ∙ parts.1 (omega arith)), sym (planned_made system k signals count) ∙ parts.2);
-          lines = i.lines;
-        }
+      same : planned_of s (plan_with s k.shown.plan signals) ≡ signals
+      same = planned_made s k.shown.plan signals
 
-  pub last_types : type_rows count ≤ row + 1 → (h : Shown) (left : List (List ℕ)) → IsHeaderLeft k (Types system) row h (line ∷ left) ↔ IsPast (made system k signals count) (Types system) h left
-  last_types last h left = both_ways (row_taken_left h left) (on, back) where
-    new : Known
-    new = made system k signals count
+      rest : Whole s count (signals_begun (row + 1)) signals
+      rest = whole_with s count (signals_begun (row + 1)) signals (some_count row count less) takes.size few_count
+          (subst (λ l. All (λ i. i < length (table s)) l) same (valid.listed s)) (subst (λ (l : List ℕ). IsDistinct nat_eq l) same (valid.apart s))
 
-    all_begin : count ≤ signals_begun (row + 1)
-    all_begin = last_begins count row last
+      p : PlanValue
+      p = plan_with s at.h.plan rest.all
 
-    at_end : length (planned_of system h.plan) ≡ count → lines_from (shown_lines h) (Types system) (row + 1) ≡ flat_map (shown_lines h) (sections_behind (Types system))
-    at_end size =
-        let rows = shown_rows h (Types system) in
-        let short : length (shown_lines h (Types system)) ≤ row + 1 = subst (λ n. n ≤ row + 1) (sym (rows ∙ ap type_rows size)) last in
-        ap (λ l. l ++ flat_map (shown_lines h) (sections_behind (Types system))) (drop_all (row + 1) (shown_lines h (Types system)) short)
+      h : Shown
+      h = own (made s k signals count) p
 
-    on : IsTaken k system row count signals h left → IsPast new (Types system) h left
-    on t =
-        let fits : length (planned_of system h.plan) ≤ signals_begun (row + 1) = subst (λ n. n ≤ signals_begun (row + 1)) (sym t.begins.0) all_begin in
-        let whole : signals ≡ planned_of system h.plan = t.begins.1 ∙ take_all (signals_begun (row + 1)) (planned_of system h.plan) fits in
-        record {
-          is = t.is;
-          before = (before_same system k signals count h).0 t.before;
-          says = says_by system new h (planned_made system k signals count ∙ whole);
-          unread = (unread_same system k signals count).0 t.unread;
-          lines = t.lines ∙ at_end t.begins.0;
-        }
+      shown : IsShown h
+      shown = own_is (made s k signals count) p valid (all_plan s at.h.plan rest.all at.is.plan rest.are)
 
-    back : IsPast new (Types system) h left → IsTaken k system row count signals h left
-    back p =
-        let whole : signals ≡ planned_of system h.plan = sym (planned_made system k signals count) ∙ said_by system new h p.says in
-        let size : length (planned_of system h.plan) ≡ count = ap length (sym whole) ∙ takes.size ∙ least (signals_begun (row + 1)) count all_begin in
-        let fits : length (planned_of system h.plan) ≤ signals_begun (row + 1) = subst (λ n. n ≤ signals_begun (row + 1)) (sym size) all_begin in
-        record {
-          is = p.is;
-          before = (before_same system k signals count h).1 p.before;
-          unread = (unread_same system k signals count).1 p.unread;
-          begins = (size, whole ∙ sym (take_all (signals_begun (row + 1)) (planned_of system h.plan) fits));
-          lines = p.lines ∙ sym (at_end size);
-        }
+      all : planned_of s p ≡ rest.all
+      all = planned_made s at.h.plan rest.all
 
--- behind the types of a system there is a section
-types_next : (system : System) → sections_behind (Types system) ≡ [] → ⊥
-types_next Gps e = cc
-types_next Galileo e = cc
+      others : planned_of (other s) p ≡ planned_of (other s) at.h.plan
+      others = planned_other s at.h.plan rest.all
 
-pub types_on : (old new : Known) (system : System) (row : ℕ) (line : List ℕ) (r : Option (Section × ℕ))
-    → ((h : Shown) (left : List (List ℕ)) → IsHeaderLeft old (Types system) row h (line ∷ left) ↔ IsPast new (Types system) h left)
-    → IfSome r (λ next. (h : Shown) (left : List (List ℕ)) → IsPast new (Types system) h left ↔ IsHeaderLeft new next.0 next.1 h left)
-    → IfNone r (sections_behind (Types system) ≡ []) → StepsTo old (Types system) row line new r
-types_on old new system row line (Some next) past here last = λ h left. both_ways (past h left) (here h left)
-types_on old new system row line None past here last = absurd (types_next system last)
+      low : 9 ≤ first_types s
+      low = types_low s
 
-pub types_not_last : (system : System) (r : Option (Section × ℕ)) → IfNone r (sections_behind (Types system) ≡ []) → r ≡ None → ⊥
-types_not_last system (Some next) last e = cc
-types_not_last system None last e = types_next system last
+      knows : KnowsAt (suc n) (made s k signals count) h
+      knows = record {
+        systems = λ t l. either_system (λ t. plans k t ≡ is_some_planned (planned_of t p)) s
+            (planned_there k s row has ∙ sym (ap is_some_planned all ∙ some_planned_of rest.all rest.are.some))
+            (at.knows.systems (other s) (omega (arith, low)) ∙ ap is_some_planned (sym others)) t;
+        texts = λ i l. refl;
+        position = λ l. (refl, refl, refl);
+        height = λ l. refl;
+        counts = either_system (λ t. first_types t < suc n → 0 < length (planned_of t p) → signal_count (made s k signals count) t ≡ length (planned_of t p)) s
+            (λ l some. count_made s (with_signals s k signals) count ∙ sym rest.size ∙ ap length (sym all))
+            (λ l some. count_other s (with_signals s k signals) count ∙ at.knows.counts (other s) (not_next s row few l) (subst (λ (xs : List ℕ). 0 < length xs) others some) ∙ ap length (sym others));
+        signals = either_system (λ t. planned_of t (plan_with s k.shown.plan signals) ≡ take (signals_begun (suc n - first_types t)) (planned_of t p)) s
+            (same ∙ rest.begins ∙ ap (λ m. take (signals_begun m) rest.all) (sym (next_number (first_types s) row)) ∙ ap (take (signals_begun (suc n - first_types s))) (sym all))
+            (planned_other s k.shown.plan signals ∙ at.knows.signals (other s)
+            ∙ still n (other s) (planned_of (other s) at.h.plan) (few_shown at.h at.is (other s)) (λ more l. absurd (far_other s row few more l))
+            ∙ ap (take (signals_begun (suc n - first_types (other s)))) (sym others));
+        first = λ l. refl;
+      }
 
-pub same_refusal : (r : Result (Option (Section × ℕ)) Refusal) (x y : Refusal) → r ≡ Err x → r ≡ Err y → x ≡ y
+    pub learn_types : (signals : List ℕ) → (0 < row → signal_count k s ≡ count) → TakesRow s count row line (planned_of s k.shown.plan) signals
+        → LearnsLine (Types s row) line k (made s k signals count)
+    unfolding made row_line
+    learn_types signals later takes = record { says = λ h is. taken_row signals later takes h is; stays = stays_row signals later takes }
+
+pub same_refusal : {A E : Type 0} (r : Result A E) (x y : E) → r ≡ Err x → r ≡ Err y → x ≡ y
 same_refusal r x y a b = cc
-
--- the number of signals that is due in a line behind the first
-pub later_due : (system : System) (signals row : ℕ) (all : List ℕ) → AreTypes system all → (row ≡ 0 → ⊥) → (0 < row → signals ≡ length all) → length (table system) < signals → ⊥
-later_due system signals row all are later count many =
-    let far : 0 < row = omega (arith, later) in
-    let few = few_types system all are in
-    let same = count far in
-    omega (arith, few, many, same)

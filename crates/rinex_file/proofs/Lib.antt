@@ -6,7 +6,7 @@ mod Entries
 mod SignalTypes
 mod TypeCodes
 mod TypeRows
-mod Sections
+mod HeaderRows
 mod Sent
 mod Splits
 mod LineByLine
@@ -31,10 +31,10 @@ mod HeaderText
 mod StationLines
 mod RowText
 mod EpochText
-mod HeaderSteps
-mod PutTexts
+mod HeaderKnown
 mod HeaderLearned
 mod HeaderEnd
+mod HeaderOpen
 mod HeaderTypes
 mod Groups
 mod DueLines

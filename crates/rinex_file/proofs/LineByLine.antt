@@ -1,10 +1,9 @@
 -- A file that is read line by line: what was read stands for the lines that were taken.
 use Rattle.std.proofs.Common.{arith, ◌≡◌, ◌∙◌, sym, ap, subst, refl, ℕ, suc, ◌+◌, ◌<◌, ◌≤◌, List, [], ◌∷◌, ◌++◌, length, length-append, append_assoc, append-nil, true, false, Option, Some, None, IfSome, inl, inr}
-use Rattle.std.specs.Prelude.{◌==◌, All, ◌↔◌, if◌then◌else◌, ⊤, Bool, Result, Ok, Err}
+use Rattle.std.specs.Prelude.{◌==◌, All, if◌then◌else◌, ⊤, Bool, Result, Ok, Err}
 use Rattle.std.specs.Io.KnownBytes.{Consumes, IsAtEnd}
 use Rattle.std.proofs.KnownBytes.{Consumes-nil, Consumes-trans}
 use Rattle.std.proofs.lemmas.List.Elements.{All-head, All-tail, All-cons, All-append}
-use Rattle.std.proofs.lemmas.List.Sums.{sum_by-append}
 use Rattle.rinex_file.specs.declared.read.fault.ReadFault.{ReadFault}
 use Rattle.rinex_file.specs.declared.read.fault.ReadFault.TheVariants.{Memory, Read, BadHeader, BadEpoch, BadEvent, BadSatellite, CutShort, TooLong}
 use Rattle.rinex_file.specs.Read.Fields.{has}
@@ -12,9 +11,11 @@ use Rattle.rinex_file.specs.Numbers.{joined}
 use Rattle.rinex_file.specs.Value.{FileValue}
 use Rattle.rinex_file.specs.FileValues.{IsFileValue}
 use Rattle.rinex_file.specs.File.{file_text, file_lines}
-use Rattle.rinex_file.specs.Exact.{IsLine, NoFileBegins, IsCutShort, IsTooLong, IsFaulty, ExplainsFault, IsNoFault, line_feeds, most_lines}
-use Rattle.rinex_file.specs.Read.Progress.{Progress, HasLinesLeft, HasReadLines}
-use Rattle.rinex_file.specs.Course.{GoesOnWithLine, RefusesLine}
+use Rattle.rinex_file.specs.Exact.{IsLine, NoFileBegins, IsCutShort, IsTooLong, IsFaulty, ExplainsFault, IsNoFault, most_lines}
+use Rattle.rinex_file.specs.Begun.{AreBegun}
+use Rattle.rinex_file.specs.Read.Progress.{Progress, HasLinesLeft}
+use Rattle.rinex_file.specs.Read.Sound.{AreLinesOf, HasReadLines}
+use Rattle.rinex_file.specs.Course.{GoesOnWithLine, ShowsLine, RefusesLine}
 use Rattle.rinex_file.specs.Read.Steps.{IsTaken, IsTextOfOnly}
 use Rattle.rinex_file.proofs.Sent.{joined-append}
 use Rattle.rinex_file.proofs.Splits.{splits, or_false, has-line}
@@ -49,38 +50,6 @@ not_within [] x (b ∷ bs) rest endless less e =
 not_within (a ∷ us) x (b ∷ bs) rest endless less e =
     let tail : us ++ 10 ∷ x ≡ bs ++ rest = cc in
     not_within us x bs rest (or_false (b == 10) (has 10 bs) endless).1 (omega (arith, less)) tail
-
--- ---- line feeds
-
-no_feeds : (bytes : List ℕ) → has 10 bytes ≡ false → line_feeds bytes ≡ 0
-no_feeds [] endless = refl
-no_feeds (b ∷ bs) endless =
-    let both = or_false (b == 10) (has 10 bs) endless in
-    let rest : line_feeds bs ≡ 0 = no_feeds bs both.1 in
-    let head : (b == 10) ≡ false = both.0 in
-    rw head rest
-
-feeds-append : (xs ys : List ℕ) → line_feeds (xs ++ ys) ≡ line_feeds xs + line_feeds ys
-feeds-append xs ys = sum_by-append _ xs ys
-
-one_feed : (line : List ℕ) → IsLine line → line_feeds line ≡ 1
-one_feed line (body, e, endless) =
-    ap line_feeds e ∙ feeds-append body (10 ∷ []) ∙ ap (λ (n : ℕ). n + 1) (no_feeds body endless)
-
-line_feeds-joined : (lines : List (List ℕ)) → All IsLine lines → line_feeds (joined lines) ≡ length lines
-line_feeds-joined [] are = refl
-line_feeds-joined (l ∷ ls) are =
-    let one : line_feeds l ≡ 1 = one_feed l (All-head IsLine l ls are) in
-    let rest : line_feeds (joined ls) ≡ length ls = line_feeds-joined ls (All-tail IsLine l ls are) in
-    feeds-append l (joined ls) ∙ omega (arith, one, rest)
-
--- so many line feeds, and then bytes without one
-feeds_taken : (lines : List (List ℕ)) (bytes : List ℕ) (n : ℕ) → All IsLine lines → length lines ≡ n → has 10 bytes ≡ false → line_feeds (joined lines ++ bytes) + 1 ≡ n + 1
-feeds_taken lines bytes n are many endless =
-    let first : line_feeds (joined lines) ≡ length lines = line_feeds-joined lines are in
-    let rest : line_feeds bytes ≡ 0 = no_feeds bytes endless in
-    let both : line_feeds (joined lines ++ bytes) ≡ line_feeds (joined lines) + line_feeds bytes = feeds-append (joined lines) bytes in
-    omega (arith, first, rest, both, many)
 
 -- ---- lines behind lines
 
@@ -147,34 +116,30 @@ taken_more a b c taken line first next = subst (Consumes a c) (sym (joined-more 
 -- ---- what was read
 
 -- nothing was read
-pub start : (s : Progress) (a : Option (List ℕ)) → ((v : FileValue) (left : List (List ℕ)) → HasLinesLeft s v left ↔ (IsFileValue v × (left ≡ file_lines v))) → IsTaken s 0 a a
-start s a new = record {
+pub start : (s : Progress) (a : Option (List ℕ)) → ((v : FileValue) → IsFileValue v → HasLinesLeft s v (file_lines v)) → AreLinesOf s [] → IsTaken s 0 a a
+start s a new are = record {
   lines = [];
   are = λ k d less. absurd (omega (arith, less));
   many = refl;
   taken = Consumes-nil a;
-  stands = record {
-    goes = λ v left is e. (new v left).1 (is, sym e);
-    begins = λ v left goes. let both = (new v left).0 goes in (both.0, sym both.1);
-  };
+  stands = record { goes = λ v left is e. subst (HasLinesLeft s v) e (new v is); are = are };
 }
 
-stands_more : (old new : Progress) (taken : List (List ℕ)) (line : List ℕ) → HasReadLines old taken → GoesOnWithLine old new line → HasReadLines new (taken ++ line ∷ [])
-stands_more old new taken line stands more = record {
-  goes = λ v left is e. (more v left).0 (stands.goes v (line ∷ left) is (e ∙ append_assoc taken (line ∷ []) left));
-  begins = λ v left goes.
-      let both = stands.begins v (line ∷ left) ((more v left).1 goes) in
-      (both.0, both.1 ∙ sym (append_assoc taken (line ∷ []) left));
+stands_more : (old new : Progress) (taken : List (List ℕ)) (line : List ℕ) → HasReadLines old taken → GoesOnWithLine old new line → ShowsLine old new line → HasReadLines new (taken ++ line ∷ [])
+stands_more old new taken line stands more shows = record {
+  goes = λ v left is e. more v left (stands.goes v (line ∷ left) is (e ∙ append_assoc taken (line ∷ []) left));
+  are = shows taken stands.are;
 }
 
 -- one line more was read
-pub one_more : (old new : Progress) (n : ℕ) (a b c : Option (List ℕ)) (line : List ℕ) → IsTaken old n a b → IsLine line → Consumes b c line → GoesOnWithLine old new line → IsTaken new (n + 1) a c
-one_more old new n a b c line t is next more = record {
+pub one_more : (old new : Progress) (n : ℕ) (a b c : Option (List ℕ)) (line : List ℕ) → IsTaken old n a b → IsLine line → Consumes b c line → GoesOnWithLine old new line → ShowsLine old new line
+    → IsTaken new (n + 1) a c
+one_more old new n a b c line t is next more shows = record {
   lines = t.lines ++ line ∷ [];
   are = are_more t.lines line t.are is;
   many = count_more t.lines line n t.many;
   taken = taken_more a b c t.lines line t.taken next;
-  stands = stands_more old new t.lines line t.stands more;
+  stands = stands_more old new t.lines line t.stands more shows;
 }
 
 -- the next line has too many bytes
@@ -228,32 +193,41 @@ module _ (are_lines : (v : FileValue) → IsFileValue v → All IsLine (file_lin
       lines ∙ ap (λ l. taken ++ l) none ∙ append-nil taken
 
   -- the input ends within a line
-  pub cut_within : (s : Progress) (n : ℕ) (a b c : Option (List ℕ)) (bytes : List ℕ) → IsTaken s n a b → 0 < length bytes → has 10 bytes ≡ false → IsAtEnd c → Consumes b c bytes
+  pub cut_within : (s : Progress) (n : ℕ) (a b c : Option (List ℕ)) (bytes : List ℕ) (t : IsTaken s n a b) → AreBegun t.lines → 0 < length bytes → has 10 bytes ≡ false → IsAtEnd c → Consumes b c bytes
       → IfSome a (λ input. IsCutShort input (n + 1))
-  cut_within s n a b c bytes t some endless end next =
+  cut_within s n a b c bytes t begun some endless end next =
       consumed_all a c (joined t.lines ++ bytes) (λ input. IsCutShort input (n + 1)) (Consumes-trans a b c (joined t.lines) bytes t.taken next) end (record {
-        count = feeds_taken t.lines bytes n t.are t.many endless;
+        lines = t.lines;
+        rest = bytes;
+        first = record { are = t.are; first = refl };
+        count = ap (λ (k : ℕ). k + 1) t.many;
+        endless = endless;
+        begun = begun;
         none = λ v is e. no_bytes (joined t.lines) bytes some (e ∙ ap joined (behind v t.lines bytes is t.are e endless));
       })
 
   -- the input ends behind a line, where more lines are due
-  pub cut_behind : (s : Progress) (n : ℕ) (a b c : Option (List ℕ)) (bytes : List ℕ) → IsTaken s n a b → bytes ≡ [] → IsAtEnd c → Consumes b c bytes
+  pub cut_behind : (s : Progress) (n : ℕ) (a b c : Option (List ℕ)) (bytes : List ℕ) (t : IsTaken s n a b) → AreBegun t.lines → bytes ≡ [] → IsAtEnd c → Consumes b c bytes
       → ((v : FileValue) → HasLinesLeft s v [] → ⊥) → IfSome a (λ input. IsCutShort input (n + 1))
-  cut_behind s n a b c bytes t none end next never =
+  cut_behind s n a b c bytes t begun none end next never =
       let endless : has 10 bytes ≡ false = ap (has 10) none in
       consumed_all a c (joined t.lines ++ bytes) (λ input. IsCutShort input (n + 1)) (Consumes-trans a b c (joined t.lines) bytes t.taken next) end (record {
-        count = feeds_taken t.lines bytes n t.are t.many endless;
+        lines = t.lines;
+        rest = bytes;
+        first = record { are = t.are; first = refl };
+        count = ap (λ (k : ℕ). k + 1) t.many;
+        endless = endless;
+        begun = begun;
         none = λ v is e. never v (t.stands.goes v [] is (behind v t.lines bytes is t.are e endless ∙ sym (append-nil t.lines)));
       })
 
   -- the input is the text of the file that was read
-  pub whole : (s : Progress) (n : ℕ) (a b c : Option (List ℕ)) (bytes : List ℕ) (f : FileValue) → IsTaken s n a b → bytes ≡ [] → IsAtEnd c → Consumes b c bytes → HasLinesLeft s f []
+  pub whole : (s : Progress) (n : ℕ) (a b c : Option (List ℕ)) (bytes : List ℕ) (f : FileValue) (t : IsTaken s n a b) → file_lines f ≡ t.lines → bytes ≡ [] → IsAtEnd c → Consumes b c bytes
       → ((v : FileValue) → HasLinesLeft s v [] → v ≡ f) → IfSome a (IsTextOfOnly f)
-  whole s n a b c bytes f t none end next goes only =
-      let (is, lines) = t.stands.begins f [] goes in
+  whole s n a b c bytes f t lines none end next only =
       let endless : has 10 bytes ≡ false = ap (has 10) none in
       consumed_all a c (joined t.lines ++ bytes) (IsTextOfOnly f) (Consumes-trans a b c (joined t.lines) bytes t.taken next) end (record {
-        same = ap (λ l. joined t.lines ++ l) none ∙ append-nil (joined t.lines) ∙ sym (ap joined (lines ∙ append-nil t.lines));
+        same = ap (λ l. joined t.lines ++ l) none ∙ append-nil (joined t.lines) ∙ sym (ap joined lines);
         only = λ v also e. only v (t.stands.goes v [] also (behind v t.lines bytes also t.are e endless ∙ sym (append-nil t.lines)));
       })
 
@@ -366,3 +340,7 @@ other_behind false fault result P is other e = other_fault fault P other (sym (a
 
 pub not_cut : (n : ℕ) → CutShort n ≡ Read → ⊥
 not_cut n e = cc
+
+-- the same fault in place of another value
+pub still_read : {A B : Type 0} (fault : ReadFault) → result_of A fault ≡ Err Read → result_of B fault ≡ Err Read
+still_read {A} {B} fault e = ap (result_of B) (ap fault_in e)

@@ -14,17 +14,20 @@ use Rattle.obs_epoch.specs.declared.civil.Civil.{Civil}
 use Rattle.obs_epoch.specs.Dates.{YearMonthDay, month_on, year_on, month_length, year_length, date_of, civil_with, civil_of}
 use Rattle.obs_epoch.specs.Values.{PlanValue, planned_of}
 use Rattle.obs_epoch.specs.Weeks.{day as day_length}
-use Rattle.rinex_file.specs.declared.header.fault.HeaderField.TheVariants.{RunBy, Date, Marker, MarkerType, Observer, Agency, RecNumber, RecType, RecVersion, AntNumber, AntType}
-use Rattle.rinex_file.specs.declared.header.section.Section.{Section}
-use Rattle.rinex_file.specs.declared.header.section.Section.TheVariants.{Version, Program, Marker as MarkerSection, MarkerType as MarkerTypeSection, Observer as ObserverSection, Receiver, Antenna, Position, Delta, Types, StrengthUnit, First, Shift, End}
+use Rattle.rinex_file.specs.declared.header.rows.TextRow.{TextRow}
+use Rattle.rinex_file.specs.declared.header.rows.TextRow.TheVariants as row
+use Rattle.rinex_file.specs.declared.header.rows.HeaderRow.{HeaderRow}
+use Rattle.rinex_file.specs.declared.header.rows.HeaderRow.TheVariants.{Version, Texts, Position, Delta, Types, StrengthUnit, First, Shift, End}
 use Rattle.rinex_file.specs.Exact.{IsLine}
 use Rattle.rinex_file.specs.FileValues.{AreTexts, IsPlan, AreValues, IsTime, IsFrom, IsCoordinate}
-use Rattle.rinex_file.specs.Header.{header_line, version_line, lengths, file_system, first_line, types_of, type_front, type_columns, type_line, type_rows, type_lines, shift_lines, codes_of, section_lines, all_sections, header_lines, position_line, delta_line}
+use Rattle.rinex_file.specs.Header.{header_line, version_line, lengths, file_system, first_line, label_of, start_of, count_of, front_of, text_columns, texts_from, texts_line, types_of, type_front, type_columns, type_line, shift_line, codes_of, row_line, row_lines, has_line, all_rows, header_lines, position_line, delta_line}
 use Rattle.rinex_file.specs.Lines.{letter_of}
 use Rattle.rinex_file.specs.Numbers.{joined, left, right, fixed}
 use Rattle.rinex_file.specs.Read.Fields.{has}
-use Rattle.rinex_file.specs.Texts.{HeaderLists}
+use Rattle.rinex_file.specs.Texts.{HeaderLists, text_count, width_of, field_at}
 use Rattle.rinex_file.proofs.Entries.{few_signals}
+use Rattle.rinex_file.proofs.Faultless.{few_columns}
+use Rattle.rinex_file.proofs.HeaderText.{text_at, row_within}
 use Rattle.rinex_file.proofs.FewRows.{few_planned}
 use Rattle.rinex_file.proofs.SignalTypes.{length-system_types}
 use Rattle.rinex_file.proofs.PlainTexts.{both, Clean, IsPlain, plain-wider, plain-append, plain-left, plain-right, plain-decimal, plain-fixed, ArePlain, plain-joined, plain-spaced, plain-text}
@@ -60,51 +63,49 @@ header_fields parts label are few is = header (length parts * 80) (joined parts)
 pub of_80 : (n : ℕ) (text : List ℕ) → IsPlain n text → n ≤ 80 → IsPlain 80 text
 of_80 n text is h = plain-wider n 80 text h is
 
-left_20 : (text : List ℕ) → IsPlain 60 text → IsPlain 80 (left 20 text)
-left_20 text is = plain-left 20 60 text is
-
 -- ---- texts
 
-module _ (x : HeaderLists) (are : AreTexts x) where
-  run_by : IsPlain 60 x.run_by
-  run_by = plain-text 20 x.run_by (are RunBy) (lit≤ tt)
+-- a number of texts from a place on
+plain_texts : (x : HeaderLists) → AreTexts x → (more place : ℕ) → place + more ≤ text_count → IsPlain (more * 120) (texts_from x place more)
+plain_texts x are zero place within = record { clean = refl; short = omega arith }
+plain_texts x are (suc more) place within =
+    let few = few_columns place (omega (arith, within)) in
+    let text = plain-text (width_of (field_at place)) (get_or x place []) (text_at x are place (omega (arith, within))) few in
+    plain-wider (120 + more * 120) (suc more * 120) (texts_from x place (suc more)) (omega arith)
+    (plain-append 120 (more * 120) (text_columns x place) (texts_from x (suc place) more)
+    (plain-wider (60 + width_of (field_at place)) 120 (text_columns x place) (omega (arith, few)) (plain-left (width_of (field_at place)) 60 (get_or x place []) text))
+    (plain_texts x are more (suc place) (omega (arith, within))))
 
-  date : IsPlain 60 x.date
-  date = plain-text 20 x.date (are Date) (lit≤ tt)
+plain_front : (r : TextRow) → IsPlain 20 (front_of r)
+plain_front row.Program = record { clean = refl; short = lit≤ tt }
+plain_front row.Marker = record { clean = refl; short = lit≤ tt }
+plain_front row.MarkerType = record { clean = refl; short = lit≤ tt }
+plain_front row.Observer = record { clean = refl; short = lit≤ tt }
+plain_front row.Receiver = record { clean = refl; short = lit≤ tt }
+plain_front row.Antenna = record { clean = refl; short = lit≤ tt }
 
-  marker : IsPlain 60 x.marker
-  marker = plain-text 60 x.marker (are Marker) (lit≤ tt)
+plain_row_label : (r : TextRow) → IsPlain 20 (label_of r)
+plain_row_label row.Program = record { clean = refl; short = lit≤ tt }
+plain_row_label row.Marker = record { clean = refl; short = lit≤ tt }
+plain_row_label row.MarkerType = record { clean = refl; short = lit≤ tt }
+plain_row_label row.Observer = record { clean = refl; short = lit≤ tt }
+plain_row_label row.Receiver = record { clean = refl; short = lit≤ tt }
+plain_row_label row.Antenna = record { clean = refl; short = lit≤ tt }
 
-  marker_type : IsPlain 60 x.marker_type
-  marker_type = plain-text 20 x.marker_type (are MarkerType) (lit≤ tt)
+few_texts : (r : TextRow) → count_of r ≤ 3
+few_texts row.Program = lit≤ tt
+few_texts row.Marker = lit≤ tt
+few_texts row.MarkerType = lit≤ tt
+few_texts row.Observer = lit≤ tt
+few_texts row.Receiver = lit≤ tt
+few_texts row.Antenna = lit≤ tt
 
-  observer : IsPlain 60 x.observer
-  observer = plain-text 20 x.observer (are Observer) (lit≤ tt)
-
-  agency : IsPlain 60 x.agency
-  agency = plain-text 40 x.agency (are Agency) (lit≤ tt)
-
-  rec_number : IsPlain 60 x.rec_number
-  rec_number = plain-text 20 x.rec_number (are RecNumber) (lit≤ tt)
-
-  rec_type : IsPlain 60 x.rec_type
-  rec_type = plain-text 20 x.rec_type (are RecType) (lit≤ tt)
-
-  rec_version : IsPlain 60 x.rec_version
-  rec_version = plain-text 20 x.rec_version (are RecVersion) (lit≤ tt)
-
-  ant_number : IsPlain 60 x.ant_number
-  ant_number = plain-text 20 x.ant_number (are AntNumber) (lit≤ tt)
-
-  ant_type : IsPlain 60 x.ant_type
-  ant_type = plain-text 20 x.ant_type (are AntType) (lit≤ tt)
-
-two_fields : (a b label : List ℕ) → IsPlain 60 a → IsPlain 60 b → IsPlain 20 label → IsFileLine (header_line (joined (left 20 a ∷ b ∷ [])) label)
-two_fields a b label p q is = header_fields (left 20 a ∷ b ∷ []) label (left_20 a p, (of_80 60 b q (lit≤ tt), tt)) (lit≤ tt) is
-
-three_fields : (a b c label : List ℕ) → IsPlain 60 a → IsPlain 60 b → IsPlain 60 c → IsPlain 20 label
-    → IsFileLine (header_line (joined (left 20 a ∷ left 20 b ∷ c ∷ [])) label)
-three_fields a b c label p q r is = header_fields (left 20 a ∷ left 20 b ∷ c ∷ []) label (left_20 a p, (left_20 b q, (of_80 60 c r (lit≤ tt), tt))) (lit≤ tt) is
+line_of_texts : (x : HeaderLists) → AreTexts x → (r : TextRow) → IsFileLine (texts_line x r)
+line_of_texts x are r =
+    let few = few_texts r in
+    header (20 + count_of r * 120) (front_of r ++ texts_from x (start_of r) (count_of r)) (label_of r)
+    (plain-append 20 (count_of r * 120) (front_of r) (texts_from x (start_of r) (count_of r)) (plain_front r) (plain_texts x are (count_of r) (start_of r) (row_within r)))
+    (plain_row_label r) (omega (arith, few))
 
 -- ---- numbers
 
@@ -184,20 +185,15 @@ pub no_letter : (system : System) → (letter_of system == 10) ≡ false
 no_letter Gps = refl
 no_letter Galileo = refl
 
-lines_of_types : (system : System) (signals : List ℕ) → length signals ≤ 19 → All IsFileLine (type_lines system signals)
-lines_of_types system signals few =
+one_of_types : (system : System) (signals : List ℕ) (row : ℕ) → length signals ≤ 19 → IsFileLine (type_line (letter_of system) (types_of (codes_of system signals)) row)
+one_of_types system signals row few =
     let types = types_of (codes_of system signals) in
     let count : length types ≡ 4 * length signals = length-system_types system signals in
-    let fits : length types < 2 ^ 64 = omega (arith, count, few) in
-    let rows = range_with_len 0 (type_rows (length signals)) in
-    All-map IsFileLine (type_line (letter_of system) types) rows
-    (λ k d h. line_of_types (letter_of system) types (get_or rows k d) (no_letter system) fits (types_are_plain (codes_of system signals) (codes_are_plain system signals)))
+    line_of_types (letter_of system) types row (no_letter system) (omega (arith, count, few)) (types_are_plain (codes_of system signals) (codes_are_plain system signals))
 
-lines_of_shift : (system : System) (signals : List ℕ) → All IsFileLine (shift_lines system signals)
-lines_of_shift system signals =
-    All-replicate IsFileLine (min (length signals) 1) (header_line (letter_of system ∷ []) (codes "SYS / PHASE SHIFT"))
-    (header 1 (letter_of system ∷ []) (codes "SYS / PHASE SHIFT") (record { clean = ap (λ c. c || false) (no_letter system); short = lit≤ tt })
-    (plain_label (codes "SYS / PHASE SHIFT") refl (lit≤ tt)) (lit≤ tt))
+one_shift : (system : System) → IsFileLine (shift_line system)
+one_shift Gps = header 1 (71 ∷ []) (codes "SYS / PHASE SHIFT") (record { clean = refl; short = lit≤ tt }) (plain_label _ refl (lit≤ tt)) (lit≤ tt)
+one_shift Galileo = header 1 (69 ∷ []) (codes "SYS / PHASE SHIFT") (record { clean = refl; short = lit≤ tt }) (plain_label _ refl (lit≤ tt)) (lit≤ tt)
 
 -- ---- times
 
@@ -286,9 +282,6 @@ line_of_first t is =
 
 -- ---- the other lines of the header
 
-only : (l : List ℕ) → IsFileLine l → All IsFileLine (l ∷ [])
-only l is = All-cons IsFileLine l [] is (λ k d h. absurd (omega (arith, h)))
-
 system_byte : (p : PlanValue) → IsPlain 80 (file_system p ∷ [])
 system_byte p = byte (length p.gps == 0) (length p.galileo == 0) where
   byte : (a b : Bool) → IsPlain 80 ((if a then 69 else (if b then 71 else 77)) ∷ [])
@@ -317,31 +310,27 @@ pub line_of_delta : (v : StationValues) → AreValues v → IsFileLine (delta_li
 line_of_delta v values = three_lengths (pos v.height) (pos 0) (pos 0) (codes "ANTENNA: DELTA H/E/N")
     (let height = values.height in omega (arith, height)) (lit< tt) (lit< tt) (plain_label _ refl (lit≤ tt))
 
--- ---- sections
+-- ---- rows
 
-lines_in : (x : HeaderLists) (p : PlanValue) (v : StationValues) (t : Civil) → AreTexts x → IsPlan p → AreValues v → IsShort t → (s : Section) → All IsFileLine (section_lines x p v t s)
-unfolding section_lines
-lines_in x p v t texts plan values time Version = only (version_line p) (version p)
-lines_in x p v t texts plan values time Program = only _ (three_fields (codes "rtcm2rinex") x.run_by x.date (codes "PGM / RUN BY / DATE")
-    (record { clean = refl; short = lit≤ tt }) (run_by x texts) (date x texts) (plain_label _ refl (lit≤ tt)))
-lines_in x p v t texts plan values time MarkerSection = only _ (header 60 x.marker (codes "MARKER NAME") (marker x texts) (plain_label _ refl (lit≤ tt)) (lit≤ tt))
-lines_in x p v t texts plan values time MarkerTypeSection = only _ (header 60 x.marker_type (codes "MARKER TYPE") (marker_type x texts) (plain_label _ refl (lit≤ tt)) (lit≤ tt))
-lines_in x p v t texts plan values time ObserverSection = only _ (two_fields x.observer x.agency (codes "OBSERVER / AGENCY") (observer x texts) (agency x texts) (plain_label _ refl (lit≤ tt)))
-lines_in x p v t texts plan values time Receiver = only _ (three_fields x.rec_number x.rec_type x.rec_version (codes "REC # / TYPE / VERS")
-    (rec_number x texts) (rec_type x texts) (rec_version x texts) (plain_label _ refl (lit≤ tt)))
-lines_in x p v t texts plan values time Antenna = only _ (two_fields x.ant_number x.ant_type (codes "ANT # / TYPE") (ant_number x texts) (ant_type x texts) (plain_label _ refl (lit≤ tt)))
-lines_in x p v t texts plan values time Position = only _ (line_of_position v values)
-lines_in x p v t texts plan values time Delta = only _ (line_of_delta v values)
-lines_in x p v t texts plan values time (Types s) = lines_of_types s (planned_of s p) (few_signals_of p plan s)
-lines_in x p v t texts plan values time StrengthUnit = only _ (header 4 (codes "DBHZ") (codes "SIGNAL STRENGTH UNIT") (record { clean = refl; short = lit≤ tt }) (plain_label _ refl (lit≤ tt)) (lit≤ tt))
-lines_in x p v t texts plan values time First = only _ (line_of_first t time)
-lines_in x p v t texts plan values time (Shift s) = lines_of_shift s (planned_of s p)
-lines_in x p v t texts plan values time End = only _ (header 0 [] (codes "END OF HEADER") (record { clean = refl; short = lit≤ tt }) (plain_label _ refl (lit≤ tt)) (lit≤ tt))
+line_in : (x : HeaderLists) (p : PlanValue) (v : StationValues) (t : Civil) → AreTexts x → IsPlan p → AreValues v → IsShort t → (r : HeaderRow) → IsFileLine (row_line x p v t r)
+unfolding row_line
+line_in x p v t texts plan values time Version = version p
+line_in x p v t texts plan values time (Texts r) = line_of_texts x texts r
+line_in x p v t texts plan values time Position = line_of_position v values
+line_in x p v t texts plan values time Delta = line_of_delta v values
+line_in x p v t texts plan values time (Types s row) = one_of_types s (planned_of s p) row (few_signals_of p plan s)
+line_in x p v t texts plan values time StrengthUnit = header 4 (codes "DBHZ") (codes "SIGNAL STRENGTH UNIT") (record { clean = refl; short = lit≤ tt }) (plain_label _ refl (lit≤ tt)) (lit≤ tt)
+line_in x p v t texts plan values time First = line_of_first t time
+line_in x p v t texts plan values time (Shift s) = one_shift s
+line_in x p v t texts plan values time End = header 0 [] (codes "END OF HEADER") (record { clean = refl; short = lit≤ tt }) (plain_label _ refl (lit≤ tt)) (lit≤ tt)
 
-lines_of_sections : (lines : Section → List (List ℕ)) → ((s : Section) → All IsFileLine (lines s)) → (sections : List Section) → All IsFileLine (flat_map lines sections)
-lines_of_sections lines each [] = λ k d h. absurd (omega (arith, h))
-lines_of_sections lines each (s ∷ sections) = All-append IsFileLine (lines s) (flat_map lines sections) (each s) (lines_of_sections lines each sections)
+lines_of_rows : (x : HeaderLists) (p : PlanValue) (v : StationValues) (t : Civil) → ((r : HeaderRow) → IsFileLine (row_line x p v t r)) → (rows : List HeaderRow) → All IsFileLine (flat_map (row_lines x p v t) rows)
+lines_of_rows x p v t each [] = λ k d h. absurd (omega (arith, h))
+lines_of_rows x p v t each (r ∷ rows) = by (has_line p r) (lines_of_rows x p v t each rows) where
+  by : (b : Bool) → All IsFileLine (flat_map (row_lines x p v t) rows) → All IsFileLine ((if b then row_line x p v t r ∷ [] else []) ++ flat_map (row_lines x p v t) rows)
+  by true others = All-cons IsFileLine (row_line x p v t r) (flat_map (row_lines x p v t) rows) (each r) others
+  by false others = others
 
 pub lines_of_header : (x : HeaderLists) (p : PlanValue) (v : StationValues) (t : Civil) → AreTexts x → IsPlan p → AreValues v → IsShort t → All IsFileLine (header_lines x p v t)
 unfolding header_lines
-lines_of_header x p v t texts plan values time = lines_of_sections (section_lines x p v t) (lines_in x p v t texts plan values time) all_sections
+lines_of_header x p v t texts plan values time = lines_of_rows x p v t (line_in x p v t texts plan values time) all_rows

@@ -8,6 +8,7 @@ use Rattle.rinex_file.specs.Value.{SatelliteRow, FileValue}
 use Rattle.rinex_file.specs.FileValues.{IsFileValue}
 use Rattle.rinex_file.specs.File.{file_text}
 use Rattle.rinex_file.specs.Course.{History, rows_in, with_line}
+use Rattle.rinex_file.specs.Exact.{IsTextOf}
 use Rattle.rinex_file.specs.Counting.{AreCounts, IsTextWith}
 use Rattle.rinex_file.specs.Read.Steps.{ReadsNextLine, HasRead, IsWhole, IsTextOfOnly, file_at}
 use Rattle.rinex_file.proofs.LineByLine.{said_of}
@@ -29,6 +30,7 @@ pub counts_found : (c : Course) (h : History) (input : Option (List ℕ)) → Is
 counts_found c h input whole = record {
   v = file_at c h;
   is = whole.is;
+  few = whole.few;
   text = said_of input (IsTextOfOnly (file_at c h)) (λ bytes. bytes ≡ file_text (file_at c h)) (λ bytes text. text.same) whole.text;
   counted = counted_at c h input whole;
 }
@@ -46,11 +48,13 @@ one_more new h input left o added e goes = subst (λ (x : Option Added). ReadsNe
 pub the_end : (new : Reading) (h : History) (input left : Option (List ℕ)) (o : Option Added) → o ≡ None → ReadsNextLine new h input left (Ok o) → IsWhole new.course h input
 the_end new h input left o e goes = subst (λ (x : Option Added). ReadsNextLine new h input left (Ok x)) e goes
 
-pub file_found : (c : Course) (h : History) (input : Option (List ℕ)) (f : FileValue) → IsWhole c h input → f ≡ file_at c h
-    → IsFileValue f × IfSome input (λ bytes. bytes ≡ file_text f)
+pub file_found : (c : Course) (h : History) (input : Option (List ℕ)) (f : FileValue) → IsWhole c h input → f ≡ file_at c h → IsTextOf f input
 file_found c h input f whole same =
-    subst (λ (x : FileValue). IsFileValue x × IfSome input (λ bytes. bytes ≡ file_text x)) (sym same)
-    (whole.is, said_of input (IsTextOfOnly (file_at c h)) (λ bytes. bytes ≡ file_text (file_at c h)) (λ bytes text. text.same) whole.text)
+    subst (λ (x : FileValue). IsTextOf x input) (sym same) (record {
+      is = whole.is;
+      few = whole.few;
+      text = said_of input (IsTextOfOnly (file_at c h)) (λ bytes. bytes ≡ file_text (file_at c h)) (λ bytes text. text.same) whole.text;
+    })
 
 pub file_only : (c : Course) (h : History) (input : Option (List ℕ)) (f v : FileValue) → IsWhole c h input → f ≡ file_at c h → IsFileValue v
     → IfSome input (λ bytes. bytes ≡ file_text v → f ≡ v)

@@ -5,7 +5,7 @@ use Rattle.std.specs.Int.{is_negative}
 use Rattle.std.specs.Fmt.{sign_text}
 use Rattle.std.proofs.lemmas.Int.{ints, to_z-of_z, fits_signed_from_abs}
 use Rattle.std.proofs.lemmas.List.{take_at, drop_at, take_all}
-use Rattle.std.proofs.lemmas.List.Elements.{All-head, All-tail}
+use Rattle.std.proofs.lemmas.List.Elements.{All-head, All-tail, All-weaker}
 use Rattle.rinex_file.specs.Numbers.{right, padded, fixed}
 use Rattle.rinex_file.specs.Read.Fields.{digits_in, number_in, has}
 use Rattle.rinex_file.proofs.Digits.{number_in-fixed, has_point-fixed, length-fixed, length-right, digits_in-padded, length-padded, not_negative}
@@ -14,7 +14,7 @@ use Rattle.gnss_obs.specs.declared.system.System.{System}
 use Rattle.gnss_obs.specs.declared.system.System.TheVariants.{Gps, Galileo}
 use Rattle.obs_epoch.specs.Values.{HasTwelveDigits}
 use Rattle.rinex_file.specs.Value.{SignalValues, Row, SatelliteRow}
-use Rattle.rinex_file.specs.FileValues.{FitsColumns, AreSignalValues, IsFrom, IsRow}
+use Rattle.rinex_file.specs.FileValues.{FitsColumns, HaveRoom, AreSignalValues, IsFrom, IsRow}
 use Rattle.rinex_file.specs.Blanks.{trimmed}
 use Rattle.rinex_file.specs.Lines.{field, signal_text, lli_byte, strength_byte, row_text, satellite_line, letter_of}
 use Rattle.rinex_file.proofs.Columns.{padded-two}
@@ -128,6 +128,13 @@ same_parts a b c d e f g h m n p q r s t = cc
 pub same_entry : (x y : SignalValues) → x.c ≡ y.c → x.l ≡ y.l → x.d ≡ y.d → x.s ≡ y.s → x.lli ≡ y.lli → x ≡ y
 unfolding made
 same_entry x y c l d s m = same_parts x.c y.c x.l y.l x.d y.d x.s y.s x.lli y.lli c l d s m
+
+-- values of a file fit their columns
+pub values_fit : (e : SignalValues) → AreSignalValues e → HaveRoom e
+values_fit e is = record { c = is.c; l = is.l; d = is.d; s = strength_fits e.s is.s; lli = is.lli }
+
+pub all_values_fit : (es : List SignalValues) → All AreSignalValues es → All HaveRoom es
+all_values_fit es all = All-weaker AreSignalValues HaveRoom values_fit es all
 
 four_lengths : (a b c d : List ℕ) → length a ≡ 16 → length b ≡ 16 → length c ≡ 16 → length d ≡ 16 → length (a ++ (b ++ (c ++ d))) ≡ 64
 four_lengths a b c d k l m n = simp length-append (omega (arith, k, l, m, n))
@@ -254,15 +261,6 @@ same_seen_parts s t q r e f = cc
 pub same_seen : (s t : SatelliteRow) → s.system ≡ t.system → s.row ≡ t.row → s ≡ t
 unfolding made_seen
 same_seen s t e f = same_seen_parts s.system t.system s.row t.row e f
-
--- ---- the line, entry after entry
-
-pub kept_done : (letter id : ℕ) (es fs : List SignalValues) (i : ℕ) (text : List ℕ) → id < 100 → length es ≤ i → es ≡ fs
-    → text ≡ (letter ∷ (48 + id / 10) ∷ (48 + id % 10) ∷ []) ++ flat_map signal_text (take i es)
-    → text ≡ (letter ∷ padded 2 id) ++ flat_map signal_text fs
-kept_done letter id es fs i text few all same is =
-    is ∙ ap (λ l. (letter ∷ (48 + id / 10) ∷ (48 + id % 10) ∷ []) ++ flat_map signal_text l) (take_all i es all ∙ same)
-    ∙ ap (λ l. (letter ∷ l) ++ flat_map signal_text fs) (sym (padded-two id few))
 
 -- ---- a satellite is read from its line, filled up with blanks
 

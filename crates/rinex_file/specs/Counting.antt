@@ -1,11 +1,11 @@
 -- What a file's counts say of it.
-use Rattle.std.specs.Prelude.{◌≡◌, ℕ, List, length, Option, Result, Ok, Err, IfSome}
+use Rattle.std.specs.Prelude.{◌≡◌, ◌≤◌, ℕ, List, length, Option, Result, Ok, Err, IfSome}
 use Rattle.rinex_file.specs.declared.read.file.Counts.{Counts}
 use Rattle.rinex_file.specs.declared.read.fault.ReadFault.{ReadFault}
 use Rattle.rinex_file.specs.Value.{FileValue}
 use Rattle.rinex_file.specs.FileValues.{IsFileValue}
-use Rattle.rinex_file.specs.File.{file_text}
-use Rattle.rinex_file.specs.Exact.{IsNoFault}
+use Rattle.rinex_file.specs.File.{file_text, file_lines}
+use Rattle.rinex_file.specs.Exact.{IsNoFault, most_lines}
 use Rattle.rinex_file.specs.Course.{rows_in, events_in}
 
 -- these are the numbers of the file's epochs, of the lines of satellites, and of the events
@@ -18,6 +18,7 @@ pub record AreCounts (n : Counts) (v : FileValue) : Type 0 where
 pub record IsTextWith (n : Counts) (input : Option (List ℕ)) : Type 0 where
   pub v : FileValue
   pub is : IsFileValue v
+  pub few : length (file_lines v) ≤ most_lines
   pub text : IfSome input (λ bytes. bytes ≡ file_text v)
   pub counted : AreCounts n v
 

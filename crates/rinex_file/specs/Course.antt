@@ -1,5 +1,5 @@
 -- How far the reading of a file is, and what it says of all that was read.
-use Rattle.std.specs.Prelude.{◌≡◌, ℕ, ◌+◌, ◌≤◌, List, [], ◌∷◌, ◌++◌, length, map, Option, Some, None, Result, Ok, Err, ⊤, ◌↔◌}
+use Rattle.std.specs.Prelude.{◌≡◌, ℕ, ◌+◌, ◌≤◌, List, [], ◌∷◌, ◌++◌, length, map, Option, Some, None, Result, Ok, Err, ⊤}
 use Rattle.std.specs.List.{sum_by}
 use Rattle.rinex_file.specs.declared.read.course.Course.{Course}
 use Rattle.rinex_file.specs.declared.read.due.Added.{Added}
@@ -10,7 +10,7 @@ use Rattle.rinex_file.specs.Value.{SatelliteRow, Stamped, FileValue}
 use Rattle.obs_epoch.specs.declared.cell.StationValues.{StationValues}
 use Rattle.rinex_file.specs.FileValues.{time_stamped, rank_of, changed_by, values_behind}
 use Rattle.rinex_file.specs.Read.Progress.{Progress, HasLinesLeft}
-use Rattle.rinex_file.specs.Read.Sound.{IsSound}
+use Rattle.rinex_file.specs.Read.Sound.{IsSound, AreLinesOf}
 
 -- what was read of a file behind its header: epochs, and the satellites so far of an epoch that was begun
 pub record History : Type 0 where
@@ -69,9 +69,13 @@ with_line NoRow c h = h
 with_line OneRow c h = with_satellite h c.seen
 with_line LastRow c h = with_epoch (with_satellite h c.seen) c.change c.time
 
--- the line is the one that may follow
+-- a file that has the line next has these lines left after it
 abbrev pub GoesOnWithLine : Progress → Progress → List ℕ → Type 0
-GoesOnWithLine old new line = (v : FileValue) (left : List (List ℕ)) → HasLinesLeft old v (line ∷ left) ↔ HasLinesLeft new v left
+GoesOnWithLine old new line = (v : FileValue) (left : List (List ℕ)) → HasLinesLeft old v (line ∷ left) → HasLinesLeft new v left
+
+-- the line is that of what was read with it
+abbrev pub ShowsLine : Progress → Progress → List ℕ → Type 0
+ShowsLine old new line = (taken : List (List ℕ)) → AreLinesOf old taken → AreLinesOf new (taken ++ line ∷ [])
 
 -- no file goes on with the line
 abbrev pub RefusesLine : Progress → List ℕ → Type 0
@@ -81,6 +85,7 @@ RefusesLine s line = (v : FileValue) (left : List (List ℕ)) → HasLinesLeft s
 pub record IsNext (old new : Course) (added : Added) (line : List ℕ) (h : History) : Type 0 where
   pub stands : FollowsHistory new (with_line added new h)
   pub follows : GoesOnWithLine (progress_at old h) (progress_at new (with_line added new h)) line
+  pub shows : ShowsLine (progress_at old h) (progress_at new (with_line added new h)) line
 
 -- what a course does with a line
 abbrev pub TakesLine : Course → Course → List ℕ → Result Added Refusal → Type 0

@@ -1,5 +1,5 @@
 -- What is read from bytes that come line by line.
-use Rattle.std.specs.Prelude.{◌≡◌, ℕ, ◌+◌, ◌^◌, ◌<◌, ◌≤◌, ◌⊎◌, ◌==◌, true, false, List, [], ◌∷◌, ◌++◌, length, drop, map, flat_map, is_some, All, count_by, Option, Result, Ok, Err, ⊤, IfSome}
+use Rattle.std.specs.Prelude.{◌≡◌, ℕ, ◌+◌, ◌^◌, ◌<◌, ◌≤◌, ◌⊎◌, false, List, [], ◌∷◌, ◌++◌, length, All, Option, Result, Ok, Err, ⊤, IfSome}
 use Rattle.std.specs.Io.KnownBytes.{IsAtEnd}
 use Rattle.rinex_file.specs.declared.read.lines.Found.{Found}
 use Rattle.rinex_file.specs.declared.read.lines.Found.TheVariants.{Line, End, Cut, Long, Failed}
@@ -9,10 +9,10 @@ use Rattle.rinex_file.specs.declared.read.due.Due.{Due}
 use Rattle.rinex_file.specs.declared.read.due.Due.TheVariants.{Header, Epoch, EventPosition, EventHeight, EventEpoch, Satellite}
 use Rattle.rinex_file.specs.Read.Fields.{has}
 use Rattle.rinex_file.specs.Numbers.{joined}
-use Rattle.rinex_file.specs.Value.{SatelliteRow, Stamped, FileValue}
+use Rattle.rinex_file.specs.Value.{FileValue}
 use Rattle.rinex_file.specs.FileValues.{IsFileValue}
-use Rattle.rinex_file.specs.Lines.{satellite_line}
-use Rattle.rinex_file.specs.File.{file_text, file_lines, stamped_lines}
+use Rattle.rinex_file.specs.File.{file_text, file_lines}
+use Rattle.rinex_file.specs.Begun.{IsHeaderBegun, IsBetweenEpochs, IsEventBegun, IsEpochBegun, AreBegun}
 use Rattle.rinex_file.specs.Limits.{most_line}
 
 -- a line: bytes that end in the one line feed among them
@@ -54,58 +54,37 @@ pub record IsOverLong (input : List ℕ) (k : ℕ) : Type 0 where
   pub size : length long ≡ most_line
   pub endless : has 10 long ≡ false
 
-abbrev pub line_feeds : List ℕ → ℕ
-line_feeds text = count_by (λ b. b == 10) text
-
--- the input ends before the line feed of line k, and is no file value's text
+-- the input ends before the line feed of line k, the lines before it are begun, and it is no file value's text
 pub record IsCutShort (input : List ℕ) (k : ℕ) : Type 0 where
-  pub count : line_feeds input + 1 ≡ k
-  pub none : (v : FileValue) → IsFileValue v → input ≡ file_text v → ⊥
-
--- ---- which kind of line is due
-
--- the file goes on with lines of its header
-pub record HasHeaderNext (v : FileValue) (lines : List (List ℕ)) : Type 0 where
-  pub header : List (List ℕ)
-  pub some : 0 < length header
-  pub left : file_lines v ≡ lines ++ (header ++ flat_map stamped_lines v.epochs)
-
--- with the lines of an epoch, those of the event in front of it included, where so many of the event's lines come before
-pub record HasEpochLeft (taken : ℕ) (v : FileValue) (lines : List (List ℕ)) : Type 0 where
-  pub before : List Stamped
-  pub epoch : Stamped
-  pub others : List Stamped
-  pub epochs : v.epochs ≡ before ++ epoch ∷ others
-  pub event : 0 < taken → is_some epoch.change ≡ true
-  pub left : file_lines v ≡ lines ++ (drop taken (stamped_lines epoch) ++ flat_map stamped_lines others)
-
--- with the line of a satellite
-pub record HasSatelliteNext (v : FileValue) (lines : List (List ℕ)) : Type 0 where
-  pub before : List Stamped
-  pub epoch : Stamped
-  pub others : List Stamped
-  pub first : List SatelliteRow
-  pub satellite : SatelliteRow
-  pub more : List SatelliteRow
-  pub epochs : v.epochs ≡ before ++ epoch ∷ others
-  pub rows : epoch.rows ≡ first ++ satellite ∷ more
-  pub left : file_lines v ≡ lines ++ (map satellite_line (satellite ∷ more) ++ flat_map stamped_lines others)
-
--- so does every file value that has line k, and whose first k - 1 lines are those of the input
-pub record IsDue (HasNext : FileValue → List (List ℕ) → Type 0) (input : List ℕ) (k : ℕ) : Type 0 where
   pub lines : List (List ℕ)
   pub rest : List ℕ
   pub first : AreFirstLines input lines rest
   pub count : length lines + 1 ≡ k
-  pub due : (v : FileValue) (line : List ℕ) (left : List (List ℕ)) → IsFileValue v → file_lines v ≡ lines ++ line ∷ left → HasNext v lines
+  pub endless : has 10 rest ≡ false
+  pub begun : AreBegun lines
+  pub none : (v : FileValue) → IsFileValue v → input ≡ file_text v → ⊥
+
+-- ---- which kind of line is expected
+
+-- the first k - 1 lines of the input are such
+pub record IsAfter (Are : List (List ℕ) → Type 0) (input : List ℕ) (k : ℕ) : Type 0 where
+  pub lines : List (List ℕ)
+  pub rest : List ℕ
+  pub first : AreFirstLines input lines rest
+  pub count : length lines + 1 ≡ k
+  pub are : Are lines
+
+-- the lines before one of this kind
+abbrev pub AreBefore : Due → List (List ℕ) → Type 0
+AreBefore (Header place) lines = IsHeaderBegun lines
+AreBefore Epoch lines = IsBetweenEpochs lines
+AreBefore EventPosition lines = IsEventBegun 1 lines
+AreBefore (EventHeight x y z) lines = IsEventBegun 2 lines
+AreBefore (EventEpoch values) lines = IsEventBegun 3 lines
+AreBefore (Satellite n) lines = IsEpochBegun lines
 
 abbrev pub IsDueAt : Due → List ℕ → ℕ → Type 0
-IsDueAt (Header section row) input k = IsDue HasHeaderNext input k
-IsDueAt Epoch input k = IsDue (HasEpochLeft 0) input k
-IsDueAt EventPosition input k = IsDue (HasEpochLeft 1) input k
-IsDueAt (EventHeight x y z) input k = IsDue (HasEpochLeft 2) input k
-IsDueAt (EventEpoch values) input k = IsDue (HasEpochLeft 3) input k
-IsDueAt (Satellite n) input k = IsDue HasSatelliteNext input k
+IsDueAt due input k = IsAfter (AreBefore due) input k
 
 -- ---- faults
 
@@ -129,10 +108,10 @@ pub record IsTooLong (input : List ℕ) : Type 0 where
 abbrev pub ExplainsFault : List ℕ → ReadFault → Type 0
 ExplainsFault input Memory = ⊤
 ExplainsFault input Read = ⊤
-ExplainsFault input (BadHeader k) = IsFaulty input k × IsDue HasHeaderNext input k
-ExplainsFault input (BadEpoch k) = IsFaulty input k × (IsDue (HasEpochLeft 0) input k ⊎ IsDue (HasEpochLeft 3) input k)
-ExplainsFault input (BadEvent k) = IsFaulty input k × (IsDue (HasEpochLeft 1) input k ⊎ IsDue (HasEpochLeft 2) input k)
-ExplainsFault input (BadSatellite k) = IsFaulty input k × IsDue HasSatelliteNext input k
+ExplainsFault input (BadHeader k) = IsFaulty input k × IsAfter IsHeaderBegun input k
+ExplainsFault input (BadEpoch k) = IsFaulty input k × (IsAfter IsBetweenEpochs input k ⊎ IsAfter (IsEventBegun 3) input k)
+ExplainsFault input (BadEvent k) = IsFaulty input k × (IsAfter (IsEventBegun 1) input k ⊎ IsAfter (IsEventBegun 2) input k)
+ExplainsFault input (BadSatellite k) = IsFaulty input k × IsAfter IsEpochBegun input k
 ExplainsFault input (CutShort k) = IsCutShort input k
 ExplainsFault input TooLong = IsTooLong input
 
@@ -146,6 +125,12 @@ IsNoFault _ = ⊥
 abbrev pub IfTextOfFile : Option (List ℕ) → (FileValue → Type 0) → Type 0
 IfTextOfFile input Holds =
     (v : FileValue) → IsFileValue v → length (file_lines v) ≤ most_lines → IfSome input (λ bytes. bytes ≡ file_text v → Holds v)
+
+-- the input, where it is known, is the text of this file value, whose lines all have a number
+pub record IsTextOf (v : FileValue) (input : Option (List ℕ)) : Type 0 where
+  pub is : IsFileValue v
+  pub few : length (file_lines v) ≤ most_lines
+  pub text : IfSome input (λ bytes. bytes ≡ file_text v)
 
 -- this value, or want of memory, or a failed reader
 abbrev pub IsReadOr : FileValue → Result FileValue ReadFault → Type 0

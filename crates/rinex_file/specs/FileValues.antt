@@ -11,7 +11,7 @@ use Rattle.obs_epoch.specs.Values.{PlanValue, planned_of}
 use Rattle.obs_epoch.specs.Weeks.{week, weeks}
 use Rattle.rinex_file.specs.declared.header.fault.HeaderField.{HeaderField}
 use Rattle.rinex_file.specs.Blanks.{trimmed}
-use Rattle.rinex_file.specs.Texts.{HeaderLists, width_of, text_of, is_printable}
+use Rattle.rinex_file.specs.Texts.{HeaderLists, text_count, width_of, text_of, is_printable}
 use Rattle.rinex_file.specs.Value.{SignalValues, Row, SatelliteRow, Stamped, FileValue}
 
 -- ---- the header
@@ -22,8 +22,10 @@ pub record IsText (width : ℕ) (text : List ℕ) : Type 0 where
   pub printable : list_all is_printable text ≡ true
   pub cut : trimmed text ≡ text
 
-abbrev pub AreTexts : HeaderLists → Type 0
-AreTexts x = (field : HeaderField) → IsText (width_of field) (text_of x field)
+-- a text for each field
+pub record AreTexts (x : HeaderLists) : Type 0 where
+  pub count : length x ≡ text_count
+  pub each : (field : HeaderField) → IsText (width_of field) (text_of x field)
 
 -- listed signals, none of them twice, and at least one in all
 pub record IsPlan (p : PlanValue) : Type 0 where
@@ -58,7 +60,15 @@ has_some_value e = is_some e.c || is_some e.l || is_some e.d || is_some e.s
 abbrev pub FitsColumns : ℤ → Type 0
 FitsColumns v = IsFrom (neg_ℤ (pos 999_999_999_999)) (pos 9_999_999_999_999) v
 
--- values that their columns have room for, and no loss-of-lock indicator where there is no phase
+-- values that their columns have room for
+pub record HaveRoom (e : SignalValues) : Type 0 where
+  pub c : IfSome e.c FitsColumns
+  pub l : IfSome e.l FitsColumns
+  pub d : IfSome e.d FitsColumns
+  pub s : IfSome e.s FitsColumns
+  pub lli : e.lli < 4
+
+-- those of a file: a strength of 0.001 to 99.999 dB-Hz, and no loss-of-lock indicator without a phase
 pub record AreSignalValues (e : SignalValues) : Type 0 where
   pub c : IfSome e.c FitsColumns
   pub l : IfSome e.l FitsColumns

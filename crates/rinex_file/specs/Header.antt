@@ -1,29 +1,23 @@
--- The lines of a header, RINEX 3.05, table A2. Content stands in columns 1 to 60, the label from column 61 on.
-use Rattle.std.specs.Prelude.{ℕ, zero, suc, ℤ, pos, ◌+◌, ◌*◌, ◌/◌, ◌==◌, if◌then◌else◌, List, [], ◌∷◌, ◌++◌, length, take, drop, map, flat_map, replicate, decimal, codes, min}
-use Rattle.std.specs.List.{range_with_len}
+-- The lines of a header, RINEX 3.05, table A2: content in columns 1 to 60, the label from column 61 on.
+use Rattle.std.specs.Prelude.{ℕ, zero, suc, ℤ, pos, ◌+◌, ◌*◌, ◌/◌, ◌==◌, if◌then◌else◌, List, [], ◌∷◌, ◌++◌, length, take, drop, map, flat_map, replicate, decimal, codes, get_or, Bool, true, nat_lt}
 use Rattle.gnss_obs.specs.Signals.{code_of}
 use Rattle.gnss_obs.specs.declared.system.System.{System}
 use Rattle.gnss_obs.specs.declared.system.System.TheVariants.{Gps, Galileo}
 use Rattle.obs_epoch.specs.declared.cell.StationValues.{StationValues}
 use Rattle.obs_epoch.specs.declared.civil.Civil.{Civil}
 use Rattle.obs_epoch.specs.Values.{PlanValue, planned_of}
-use Rattle.rinex_file.specs.declared.header.section.Section.{Section}
-use Rattle.rinex_file.specs.declared.header.section.Section.TheVariants.{Version, Program, Marker, MarkerType, Observer, Receiver, Antenna, Position, Delta, Types, StrengthUnit, First, Shift, End}
+use Rattle.rinex_file.specs.declared.header.rows.TextRow.{TextRow}
+use Rattle.rinex_file.specs.declared.header.rows.TextRow.TheVariants.{Program, Marker, MarkerType, Observer, Receiver, Antenna}
+use Rattle.rinex_file.specs.declared.header.rows.HeaderRow.{HeaderRow}
+use Rattle.rinex_file.specs.declared.header.rows.HeaderRow.TheVariants.{Version, Texts, Position, Delta, Types, StrengthUnit, First, Shift, End}
 use Rattle.rinex_file.specs.Numbers.{joined, left, right, fixed}
 use Rattle.rinex_file.specs.Limits.{content_columns, label_columns, types_in_line}
-use Rattle.rinex_file.specs.Texts.{HeaderLists}
+use Rattle.rinex_file.specs.Texts.{HeaderLists, width_of, field_at}
 use Rattle.rinex_file.specs.Lines.{letter_of}
 
 -- content, label and a line feed
 unfoldable pub header_line : List ℕ → List ℕ → List ℕ
 header_line content label = joined (left content_columns content ∷ left label_columns label ∷ (10 ∷ []) ∷ [])
-
--- two texts, and three, of 20 columns each but the last
-abbrev pub two : List ℕ → List ℕ → List ℕ
-two a b = joined (left 20 a ∷ b ∷ [])
-
-abbrev pub three : List ℕ → List ℕ → List ℕ → List ℕ
-three a b c = joined (left 20 a ∷ left 20 b ∷ c ∷ [])
 
 -- three numbers in 0.0001 m
 abbrev pub lengths : ℤ → ℤ → ℤ → List ℕ
@@ -40,30 +34,55 @@ version_line p = header_line
     (joined (right 9 (fixed 2 (pos 305)) ∷ replicate 11 32 ∷ left 20 (codes "OBSERVATION DATA") ∷ (file_system p ∷ []) ∷ []))
     (codes "RINEX VERSION / TYPE")
 
-abbrev pub program_line : HeaderLists → List ℕ
-program_line x = header_line (three (codes "rtcm2rinex") x.run_by x.date) (codes "PGM / RUN BY / DATE")
+-- the label of a row of texts
+abbrev pub label_of : TextRow → List ℕ
+label_of Program = codes "PGM / RUN BY / DATE"
+label_of Marker = codes "MARKER NAME"
+label_of MarkerType = codes "MARKER TYPE"
+label_of Observer = codes "OBSERVER / AGENCY"
+label_of Receiver = codes "REC # / TYPE / VERS"
+label_of Antenna = codes "ANT # / TYPE"
 
-abbrev pub marker_line : HeaderLists → List ℕ
-marker_line x = header_line x.marker (codes "MARKER NAME")
+-- the place of its first text among all
+abbrev pub start_of : TextRow → ℕ
+start_of Program = 0
+start_of Marker = 2
+start_of MarkerType = 3
+start_of Observer = 4
+start_of Receiver = 6
+start_of Antenna = 9
 
-abbrev pub marker_type_line : HeaderLists → List ℕ
-marker_type_line x = header_line x.marker_type (codes "MARKER TYPE")
+-- its number of texts
+abbrev pub count_of : TextRow → ℕ
+count_of Program = 2
+count_of Observer = 2
+count_of Receiver = 3
+count_of Antenna = 2
+count_of other = 1
 
-abbrev pub observer_line : HeaderLists → List ℕ
-observer_line x = header_line (two x.observer x.agency) (codes "OBSERVER / AGENCY")
+-- what is before its texts: the name of the program
+abbrev pub front_of : TextRow → List ℕ
+front_of Program = left 20 (codes "rtcm2rinex")
+front_of other = []
 
-abbrev pub receiver_line : HeaderLists → List ℕ
-receiver_line x = header_line (three x.rec_number x.rec_type x.rec_version) (codes "REC # / TYPE / VERS")
+-- the text at a place, in its columns
+abbrev pub text_columns : HeaderLists → ℕ → List ℕ
+text_columns x place = left (width_of (field_at place)) (get_or x place [])
 
-abbrev pub antenna_line : HeaderLists → List ℕ
-antenna_line x = header_line (two x.ant_number x.ant_type) (codes "ANT # / TYPE")
+-- a number of texts from a place on, each in its columns
+abbrev pub texts_from : HeaderLists → ℕ → ℕ → List ℕ
+texts_from x place zero = []
+texts_from x place (suc more) = text_columns x place ++ texts_from x (suc place) more
+
+abbrev pub texts_line : HeaderLists → TextRow → List ℕ
+texts_line x row = header_line (front_of row ++ texts_from x (start_of row) (count_of row)) (label_of row)
 
 -- ---- station
 
 abbrev pub position_line : StationValues → List ℕ
 position_line v = header_line (lengths v.x v.y v.z) (codes "APPROX POSITION XYZ")
 
--- the height of the antenna, which stands neither east nor north of the marker
+-- the height of the antenna, which is neither east nor north of the marker
 abbrev pub delta_line : StationValues → List ℕ
 delta_line v = header_line (lengths (pos v.height) (pos 0) (pos 0)) (codes "ANTENNA: DELTA H/E/N")
 
@@ -77,32 +96,28 @@ type_of kind code = (if kind == 0 then 67 else (if kind == 1 then 76 else (if ki
 abbrev pub types_of : List (List ℕ) → List (List ℕ)
 types_of signals = flat_map (λ code. type_of 0 code ∷ type_of 1 code ∷ type_of 2 code ∷ type_of 3 code ∷ []) signals
 
--- what a line of types begins with: on the first, the system's letter and the number of types
+-- the front of a line of types: on the first, the system's letter and the number of types
 abbrev pub type_front : ℕ → ℕ → ℕ → List ℕ
 type_front letter types zero = letter ∷ 32 ∷ 32 ∷ right 3 (decimal types)
 type_front letter types (suc line) = replicate 6 32
 
--- the types that stand in a line, with a blank in front of each: a full line has the most, and the last what is left
+-- the types in a line, each after a blank: a full line has the most, and the last what is left
 abbrev pub type_columns : List (List ℕ) → ℕ → List ℕ
 type_columns types line = flat_map (λ t. 32 ∷ t) (take types_in_line (drop (types_in_line * line) types))
 
 abbrev pub type_line : ℕ → List (List ℕ) → ℕ → List ℕ
 type_line letter types line = header_line (type_front letter (length types) line ++ type_columns types line) (codes "SYS / # / OBS TYPES")
 
--- so many lines are needed for the types of so many signals, the last of which may not be full
+-- the number of lines that the types of a number of signals need; the last may not be full
 abbrev pub type_rows : ℕ → ℕ
 type_rows signals = (4 * signals + 12) / types_in_line
 
 abbrev pub codes_of : System → List ℕ → List (List ℕ)
 codes_of system signals = map (λ index. code_of (record { system = system; index = index })) signals
 
--- the types of a system; no line where no signal of it is planned
-abbrev pub type_lines : System → List ℕ → List (List ℕ)
-type_lines system signals = map (type_line (letter_of system) (types_of (codes_of system signals))) (range_with_len 0 (type_rows (length signals)))
-
--- no phase is shifted; no line where no signal of the system is planned
-abbrev pub shift_lines : System → List ℕ → List (List ℕ)
-shift_lines system signals = replicate (min (length signals) 1) (header_line (letter_of system ∷ []) (codes "SYS / PHASE SHIFT"))
+-- no phase is shifted
+abbrev pub shift_line : System → List ℕ
+shift_line system = header_line (letter_of system ∷ []) (codes "SYS / PHASE SHIFT")
 
 -- ---- units, time and end
 
@@ -119,69 +134,76 @@ first_line t = header_line
 abbrev pub end_line : List ℕ
 end_line = header_line [] (codes "END OF HEADER")
 
--- ---- the whole
+-- ---- the rows, each of one line or none
 
-abbrev pub one_line : List ℕ → List (List ℕ)
-one_line line = line ∷ []
+-- the line of a row
+unfoldable pub row_line : HeaderLists → PlanValue → StationValues → Civil → HeaderRow → List ℕ
+row_line x p v t Version = version_line p
+row_line x p v t (Texts row) = texts_line x row
+row_line x p v t Position = position_line v
+row_line x p v t Delta = delta_line v
+row_line x p v t (Types system row) = type_line (letter_of system) (types_of (codes_of system (planned_of system p))) row
+row_line x p v t StrengthUnit = strength_line
+row_line x p v t First = first_line t
+row_line x p v t (Shift system) = shift_line system
+row_line x p v t End = end_line
 
--- the lines of a section
-unfoldable pub section_lines : HeaderLists → PlanValue → StationValues → Civil → Section → List (List ℕ)
-section_lines x p v t Version = one_line (version_line p)
-section_lines x p v t Program = one_line (program_line x)
-section_lines x p v t Marker = one_line (marker_line x)
-section_lines x p v t MarkerType = one_line (marker_type_line x)
-section_lines x p v t Observer = one_line (observer_line x)
-section_lines x p v t Receiver = one_line (receiver_line x)
-section_lines x p v t Antenna = one_line (antenna_line x)
-section_lines x p v t Position = one_line (position_line v)
-section_lines x p v t Delta = one_line (delta_line v)
-section_lines x p v t (Types system) = type_lines system (planned_of system p)
-section_lines x p v t StrengthUnit = one_line strength_line
-section_lines x p v t First = one_line (first_line t)
-section_lines x p v t (Shift system) = shift_lines system (planned_of system p)
-section_lines x p v t End = one_line end_line
+-- it is in the header: types and phase shifts are those of a planned system
+abbrev pub has_line : PlanValue → HeaderRow → Bool
+has_line p (Types system row) = nat_lt row (type_rows (length (planned_of system p)))
+has_line p (Shift system) = nat_lt 0 (length (planned_of system p))
+has_line p other = true
 
--- the sections in order
-abbrev pub all_sections : List Section
-all_sections =
-    Version ∷ Program ∷ Marker ∷ MarkerType ∷ Observer ∷ Receiver ∷ Antenna ∷ Position ∷ Delta
-    ∷ Types Gps ∷ Types Galileo ∷ StrengthUnit ∷ First ∷ Shift Gps ∷ Shift Galileo ∷ End ∷ []
+abbrev pub row_lines : HeaderLists → PlanValue → StationValues → Civil → HeaderRow → List (List ℕ)
+row_lines x p v t row = if has_line p row then row_line x p v t row ∷ [] else []
+
+-- the rows in order; the signals of a system have at most six lines of types
+abbrev pub all_rows : List HeaderRow
+all_rows =
+    Version ∷ Texts Program ∷ Texts Marker ∷ Texts MarkerType ∷ Texts Observer ∷ Texts Receiver ∷ Texts Antenna ∷ Position ∷ Delta
+    ∷ Types Gps 0 ∷ Types Gps 1 ∷ Types Gps 2 ∷ Types Gps 3 ∷ Types Gps 4 ∷ Types Gps 5
+    ∷ Types Galileo 0 ∷ Types Galileo 1 ∷ Types Galileo 2 ∷ Types Galileo 3 ∷ Types Galileo 4 ∷ Types Galileo 5
+    ∷ StrengthUnit ∷ First ∷ Shift Gps ∷ Shift Galileo ∷ End ∷ []
+
+abbrev pub row_count : ℕ
+row_count = 26
 
 -- the lines of a header, in order
 unfoldable pub header_lines : HeaderLists → PlanValue → StationValues → Civil → List (List ℕ)
-header_lines x p v t = flat_map (section_lines x p v t) all_sections
+header_lines x p v t = flat_map (row_lines x p v t) all_rows
 
 -- ---- one line after the other
 
--- so many lines stand in a section
-abbrev pub section_rows : PlanValue → Section → ℕ
-section_rows p (Types system) = type_rows (length (planned_of system p))
-section_rows p (Shift system) = min (length (planned_of system p)) 1
-section_rows p other = 1
+-- the row at a place
+abbrev pub row_at : ℕ → HeaderRow
+row_at place = get_or all_rows place End
 
--- the place of a section among all
-abbrev pub section_place : Section → ℕ
-section_place Version = 0
-section_place Program = 1
-section_place Marker = 2
-section_place MarkerType = 3
-section_place Observer = 4
-section_place Receiver = 5
-section_place Antenna = 6
-section_place Position = 7
-section_place Delta = 8
-section_place (Types Gps) = 9
-section_place (Types Galileo) = 10
-section_place StrengthUnit = 11
-section_place First = 12
-section_place (Shift Gps) = 13
-section_place (Shift Galileo) = 14
-section_place End = 15
+-- the place of the first row of a system's types
+abbrev pub first_types : System → ℕ
+first_types Gps = 9
+first_types Galileo = 15
 
--- the sections behind one
-abbrev pub sections_behind : Section → List Section
-sections_behind section = drop (suc (section_place section)) all_sections
+abbrev pub text_row_place : TextRow → ℕ
+text_row_place Program = 1
+text_row_place Marker = 2
+text_row_place MarkerType = 3
+text_row_place Observer = 4
+text_row_place Receiver = 5
+text_row_place Antenna = 6
 
--- the lines from a line of a section on, where the sections have these
-abbrev pub lines_from : (Section → List (List ℕ)) → Section → ℕ → List (List ℕ)
-lines_from lines section row = drop row (lines section) ++ flat_map lines (sections_behind section)
+-- the place of a row
+abbrev pub row_place : HeaderRow → ℕ
+row_place Version = 0
+row_place (Texts row) = text_row_place row
+row_place Position = 7
+row_place Delta = 8
+row_place (Types system row) = first_types system + row
+row_place StrengthUnit = 21
+row_place First = 22
+row_place (Shift Gps) = 23
+row_place (Shift Galileo) = 24
+row_place End = 25
+
+-- the lines of the rows from a place on
+abbrev pub lines_from : HeaderLists → PlanValue → StationValues → Civil → ℕ → List (List ℕ)
+lines_from x p v t place = flat_map (row_lines x p v t) (drop place all_rows)

@@ -4,12 +4,12 @@ pub mod Blanks
 pub mod Texts
 pub mod Value
 pub mod Lines
-pub mod SignalColumns
 pub mod Header
 pub mod File
 pub mod Heads
 pub mod TextsOf
 pub mod FileValues
+pub mod Begun
 pub mod Exact
 pub mod Course
 pub mod Blocks

@@ -1,5 +1,5 @@
--- The eleven texts of a header that are handed in.
-use Rattle.std.specs.Prelude.{ℕ, ◌&&◌, Bool, nat_le, nat_lt, List, [], ◌∷◌, length, Option, Some, None, if◌then◌else◌}
+-- The eleven texts of a header, RINEX 3.05, table A2.
+use Rattle.std.specs.Prelude.{ℕ, ◌&&◌, Bool, nat_le, nat_lt, List, [], ◌∷◌, length, get_or, map, Option, Some, None, if◌then◌else◌}
 use Rattle.std.specs.List.{list_all}
 use Rattle.rinex_file.specs.declared.header.fault.HeaderField.{HeaderField}
 use Rattle.rinex_file.specs.declared.header.fault.HeaderField.TheVariants.{RunBy, Date, Marker, MarkerType, Observer, Agency, RecNumber, RecType, RecVersion, AntNumber, AntType}
@@ -7,51 +7,54 @@ use Rattle.rinex_file.specs.declared.header.fault.HeadFault.{HeadFault}
 use Rattle.rinex_file.specs.declared.header.fault.HeadFault.TheVariants.{TooLong, NotPrintable}
 use Rattle.rinex_file.specs.Blanks.{trimmed}
 
--- the bytes of each text
-pub record HeaderLists : Type 0 where
-  pub run_by : List ℕ
-  pub date : List ℕ
-  pub marker : List ℕ
-  pub marker_type : List ℕ
-  pub observer : List ℕ
-  pub agency : List ℕ
-  pub rec_number : List ℕ
-  pub rec_type : List ℕ
-  pub rec_version : List ℕ
-  pub ant_number : List ℕ
-  pub ant_type : List ℕ
+-- the bytes of each text, in the order of the fields
+abbrev pub HeaderLists : Type 0
+HeaderLists = List (List ℕ)
 
--- so many columns are for the text of a field
+abbrev pub text_count : ℕ
+text_count = 11
+
+-- the place of a field among all
+abbrev pub place_of : HeaderField → ℕ
+place_of RunBy = 0
+place_of Date = 1
+place_of Marker = 2
+place_of MarkerType = 3
+place_of Observer = 4
+place_of Agency = 5
+place_of RecNumber = 6
+place_of RecType = 7
+place_of RecVersion = 8
+place_of AntNumber = 9
+place_of AntType = 10
+
+-- the width of a field, in columns
 abbrev pub width_of : HeaderField → ℕ
-width_of RunBy = 20
-width_of Date = 20
 width_of Marker = 60
-width_of MarkerType = 20
-width_of Observer = 20
 width_of Agency = 40
-width_of RecNumber = 20
-width_of RecType = 20
-width_of RecVersion = 20
-width_of AntNumber = 20
-width_of AntType = 20
+width_of other = 20
+
+-- the first column of a field in its line, counted from 0
+abbrev pub column_of : HeaderField → ℕ
+column_of RunBy = 20
+column_of Date = 40
+column_of Agency = 20
+column_of RecType = 20
+column_of RecVersion = 40
+column_of AntType = 20
+column_of other = 0
 
 -- the text of a field
 abbrev pub text_of : HeaderLists → HeaderField → List ℕ
-text_of t RunBy = t.run_by
-text_of t Date = t.date
-text_of t Marker = t.marker
-text_of t MarkerType = t.marker_type
-text_of t Observer = t.observer
-text_of t Agency = t.agency
-text_of t RecNumber = t.rec_number
-text_of t RecType = t.rec_type
-text_of t RecVersion = t.rec_version
-text_of t AntNumber = t.ant_number
-text_of t AntType = t.ant_type
+text_of t field = get_or t (place_of field) []
 
 -- the fields in the order in which they are judged
 abbrev pub fields : List HeaderField
 fields = RunBy ∷ Date ∷ Marker ∷ MarkerType ∷ Observer ∷ Agency ∷ RecNumber ∷ RecType ∷ RecVersion ∷ AntNumber ∷ AntType ∷ []
+
+-- the field at a place
+abbrev pub field_at : ℕ → HeaderField
+field_at place = get_or fields place AntType
 
 abbrev pub is_printable : ℕ → Bool
 is_printable b = nat_le 32 b && nat_le b 126
@@ -75,16 +78,4 @@ first_fault t found (field ∷ rest) = first_fault t (or_later found (fault_of f
 
 -- each text without the blanks at its end
 abbrev pub trimmed_texts : HeaderLists → HeaderLists
-trimmed_texts t = record {
-  run_by = trimmed t.run_by;
-  date = trimmed t.date;
-  marker = trimmed t.marker;
-  marker_type = trimmed t.marker_type;
-  observer = trimmed t.observer;
-  agency = trimmed t.agency;
-  rec_number = trimmed t.rec_number;
-  rec_type = trimmed t.rec_type;
-  rec_version = trimmed t.rec_version;
-  ant_number = trimmed t.ant_number;
-  ant_type = trimmed t.ant_type;
-}
+trimmed_texts t = map trimmed t

@@ -77,6 +77,9 @@ signal_values_at cells id index = option_map_or signal_values_of (find (is_of_ke
 abbrev pub row_of : List ℕ → List Cell → ℕ → Row
 row_of signals cells id = record { satellite = id; entries = map (signal_values_at cells id) signals }
 
+abbrev pub entries_of : PlanValue → System → ℕ → List Cell → List SignalValues
+entries_of plan system id cells = map (signal_values_at cells id) (planned_of system plan)
+
 -- a satellite of a system with these cells, with its entries
 abbrev pub row_among : PlanValue → System → List Cell → ℕ → SatelliteRow
 row_among plan system cells id = record { system = system; row = row_of (planned_of system plan) cells id }

@@ -3,6 +3,6 @@ pub(crate) mod fault;
 pub(crate) mod head;
 pub(crate) mod labels;
 pub(crate) mod lines;
-pub(crate) mod section;
+pub(crate) mod rows;
 pub(crate) mod texts;
 pub(crate) mod types;

@@ -2,7 +2,7 @@
 //!
 //! A [`Head`] says what a header shows, with the texts that [`HeaderTexts`] has judged.
 //! [`header_lines`], [`epoch_line`] and [`satellite_line`] make lines; [`write_header`],
-//! [`write_event`] and [`write_epoch`] send them out. None of these takes memory.
+//! [`write_event`] and [`write_epoch`] write them. None of these takes memory.
 #![tactic(auto)]
 
 mod header;

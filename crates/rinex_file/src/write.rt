@@ -10,7 +10,6 @@ ghost use Rattle.rinex_file.specs.Heads.{head_text};
 pub(crate) mod epoch;
 pub(crate) mod event;
 pub(crate) mod file;
-pub(crate) mod kept_line;
 pub(crate) mod numbers;
 pub(crate) mod satellite;
 
@@ -28,7 +27,7 @@ use std::io::Write;
 
 /// Writes a header, line by line.
 ///
-/// Where the writer fails, what went out is a prefix of the header.
+/// If the writer fails, what was written is a prefix of the header.
 #[tactic(auto, unfolding(crate::specs::File::header_text))]
 pub fn write_header<W: Write>(head: &Head, writer: &mut Counted<W>) -> Result<(), HeadFault>
     ensures whole { OnOk result (Appends (W.contents writer.old.inner) (W.contents writer.new.inner) (head_text head.now)) }
@@ -42,9 +41,9 @@ pub fn write_header<W: Write>(head: &Head, writer: &mut Counted<W>) -> Result<()
     Ok(())
 }
 
-/// Writes an event that tells station values: its line, and position and height as in a header.
+/// Writes an event with station values: its line, and position and height as in a header.
 ///
-/// Where the writer fails, what went out is a prefix of these lines.
+/// If the writer fails, what was written is a prefix of these lines.
 #[tactic(auto, unfolding(crate::specs::File::event_text))]
 pub fn write_event<W: Write>(
     values: StationValues,
@@ -61,7 +60,7 @@ pub fn write_event<W: Write>(
     Ok(())
 }
 
-// Writes the line of a satellite where one of its cells has a value.
+// Writes the line of a satellite if one of its cells has a value.
 fn write_satellite<W: Write>(
     cells: &[Cell],
     plan: &Plan,
@@ -79,7 +78,6 @@ fn write_satellite<W: Write>(
     if !is_written(cells, id) {
         return Ok(());
     }
-    line.clear();
     put_seen(line, cells, plan, system, id);
     writer.write_whole(line.as_slice())
 }
@@ -111,7 +109,7 @@ fn write_system<W: Write>(
 /// Writes an epoch: its line, and a line for each satellite that has a value, those of GPS first
 /// and by rising number.
 ///
-/// Where the writer fails, what went out is a prefix of these lines.
+/// If the writer fails, what was written is a prefix of these lines.
 #[tactic(auto, unfolding(crate::specs::File::epoch_text))]
 pub fn write_epoch<W: Write>(
     epoch: &Epoch,

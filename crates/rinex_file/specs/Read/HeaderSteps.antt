@@ -1,82 +1,99 @@
 -- From one line of a header to the next, as its lines are read.
-use Rattle.std.specs.Prelude.{◌≡◌, ℕ, ◌+◌, ◌<◌, Bool, true, List, [], ◌∷◌, length, flat_map, take, drop, min, Option, Some, ⊤, ◌↔◌, MatchBool}
+use Rattle.std.specs.Prelude.{◌≡◌, ℕ, suc, ◌+◌, ◌<◌, ◌==◌, ◌||◌, ◌&&◌, nat_lt, Bool, true, List, [], ◌∷◌, length, get_or, take, drop, min, Option, Some, ⊤, ◌↔◌, MatchBool, All, nat_eq}
 use Rattle.obs_epoch.specs.declared.cell.StationValues.{StationValues}
-use Rattle.gnss_obs.specs.Signals.{SignalAt, IsSignal, code_of}
+use Rattle.gnss_obs.specs.Signals.{SignalAt, IsSignal, code_of, table}
+use Rattle.std.specs.List.{IsDistinct}
 use Rattle.gnss_obs.specs.declared.system.System.{System}
 use Rattle.gnss_obs.specs.declared.system.System.TheVariants.{Gps, Galileo}
-use Rattle.rinex_file.specs.declared.header.section.Section.{Section}
-use Rattle.rinex_file.specs.declared.header.section.Section.TheVariants.{Types, StrengthUnit, First, Shift, End}
-use Rattle.rinex_file.specs.Texts.{HeaderLists}
-use Rattle.rinex_file.specs.FileValues.{of_system}
-use Rattle.rinex_file.specs.Header.{lines_from, sections_behind, type_rows}
-use Rattle.rinex_file.specs.Read.Progress.{Known, Shown, IsShown, KnowsSection, KnowsBefore, KnowsWithin, NoneYet, IsHeaderLeft, MayFollow, shown_lines, is_some_planned, AreTypes, types_line, signals_begun}
+use Rattle.obs_epoch.specs.Values.{PlanValue, planned_of}
+use Rattle.rinex_file.specs.declared.header.rows.TextRow.{TextRow}
+use Rattle.rinex_file.specs.declared.header.rows.HeaderRow.{HeaderRow}
+use Rattle.rinex_file.specs.declared.header.rows.HeaderRow.TheVariants.{Types, Shift, End}
+use Rattle.rinex_file.specs.Blanks.{trimmed}
+use Rattle.rinex_file.specs.Texts.{HeaderLists, width_of, column_of, field_at}
+use Rattle.rinex_file.specs.FileValues.{AreTexts, AreValues, IsTime, of_system}
+use Rattle.rinex_file.specs.Header.{row_place, start_of, count_of, texts_line, type_rows}
+use Rattle.rinex_file.specs.Read.Progress.{Known, Shown, IsShown, KnowsAt, IsHeaderLeft, MayFollow, plans, signal_count, shown_line, is_some_planned, AreTypes, types_line, signals_begun}
 
--- a section of at most one line, with another section behind it
-abbrev pub IsSole : Section → Type 0
-IsSole (Types system) = ⊥
+-- a row other than those of types and the last
+abbrev pub IsSole : HeaderRow → Type 0
+IsSole (Types system row) = ⊥
 IsSole End = ⊥
 IsSole other = ⊤
 
--- a section has lines, by the first line of the file
-abbrev pub has_lines : Known → Section → Bool
-has_lines k (Types system) = of_system system k.gps k.galileo
-has_lines k (Shift system) = of_system system k.gps k.galileo
-has_lines k other = true
+-- a row has a line, by the first line of the file and a system's first line of types
+abbrev pub known_line : Known → HeaderRow → Bool
+known_line k (Types system row) = plans k system && (row == 0 || nat_lt row (type_rows (signal_count k system)))
+known_line k (Shift system) = plans k system
+known_line k other = true
 
--- no signal was read yet of those that stand behind a section
-abbrev pub IsUnread : Section → Known → Type 0
-IsUnread (Types Gps) k = k.shown.plan.galileo ≡ []
-IsUnread (Types Galileo) k = ⊤
-IsUnread StrengthUnit k = ⊤
-IsUnread First k = ⊤
-IsUnread (Shift system) k = ⊤
-IsUnread End k = ⊤
-IsUnread other k = NoneYet k
+-- each part of what was read is one of a header
+pub record AreValid (k : Known) : Type 0 where
+  pub texts : AreTexts k.shown.texts
+  pub listed : (system : System) → All (λ i. i < length (table system)) (planned_of system k.shown.plan)
+  pub apart : (system : System) → IsDistinct nat_eq (planned_of system k.shown.plan)
+  pub values : AreValues k.shown.values
+  pub first : IsTime k.shown.first
 
--- What a line of a section says is known now, and so is what was known before.
-pub record LearnsLine (section : Section) (line : List ℕ) (old new : Known) : Type 0 where
-  pub plan : new.shown.plan ≡ old.shown.plan
-  pub before : (h : Shown) → KnowsBefore section old h ↔ KnowsBefore section new h
-  pub says : (h : Shown) → IsShown h → KnowsBefore section new h → (shown_lines h section ≡ line ∷ []) ↔ KnowsSection section new h
+-- some header shows what is known before a place
+pub record HasShownAt (place : ℕ) (k : Known) : Type 0 where
+  pub h : Shown
+  pub is : IsShown h
+  pub knows : KnowsAt place k h
 
--- no header has this line in a section
-abbrev pub RefusesHeaderLine : Section → List ℕ → Known → Type 0
-RefusesHeaderLine section line old = (h : Shown) → IsShown h → KnowsBefore section old h → shown_lines h section ≡ line ∷ [] → ⊥
+-- What a row's line says is known now, and so is what was known before. Some header still shows it.
+pub record LearnsLine (row : HeaderRow) (line : List ℕ) (old new : Known) : Type 0 where
+  pub says : (h : Shown) → IsShown h → (KnowsAt (row_place row) old h × (shown_line h row ≡ line)) ↔ KnowsAt (suc (row_place row)) new h
+  pub stays : AreValid new → HasShownAt (row_place row) old → HasShownAt (suc (row_place row)) new
+
+-- no header has this line in a row
+abbrev pub RefusesHeaderLine : HeaderRow → List ℕ → Known → Type 0
+RefusesHeaderLine row line old = (h : Shown) → IsShown h → KnowsAt (row_place row) old h → shown_line h row ≡ line → ⊥
 
 -- what was learned of a line, or that it is refused
-abbrev pub LearnsOrRefuses : Section → List ℕ → Known → Known → Bool → Type 0
-LearnsOrRefuses section line old new taken = MatchBool taken (LearnsLine section line old new) (RefusesHeaderLine section line old)
+abbrev pub LearnsOrRefuses : HeaderRow → List ℕ → Known → Known → Bool → Type 0
+LearnsOrRefuses row line old new taken = MatchBool taken (LearnsLine row line old new) (RefusesHeaderLine row line old)
 
--- The header that is shown has a section behind it: what it says is known, and these lines are left.
-pub record IsPast (k : Known) (section : Section) (h : Shown) (left : List (List ℕ)) : Type 0 where
-  pub is : IsShown h
-  pub before : KnowsBefore section k h
-  pub says : KnowsSection section k h
-  pub unread : IsUnread section k
-  pub lines : left ≡ flat_map (shown_lines h) (sections_behind section)
+-- signals of a system were read exactly where it is planned, and as many as its first line of types says
+pub record IsWholeOf (system : System) (k : Known) : Type 0 where
+  pub planned : plans k system ≡ is_some_planned (planned_of system k.shown.plan)
+  pub count : 0 < length (planned_of system k.shown.plan) → signal_count k system ≡ length (planned_of system k.shown.plan)
 
--- A section is next, which may have no line.
-pub record IsReached (k : Known) (section : Section) (h : Shown) (left : List (List ℕ)) : Type 0 where
-  pub is : IsShown h
-  pub before : KnowsBefore section k h
-  pub within : KnowsWithin section 0 k h
-  pub lines : left ≡ lines_from (shown_lines h) section 0
-
--- signals were read of exactly the planned systems, and there is one
+-- of both systems, and there is a signal
 abbrev pub IsWhole : Known → Type 0
-IsWhole k = (k.gps ≡ is_some_planned k.shown.plan.gps) × (k.galileo ≡ is_some_planned k.shown.plan.galileo) × (0 < length k.shown.plan.gps + length k.shown.plan.galileo)
-
--- behind a section the headers go on at this place
-abbrev pub GoesOnBehind : Known → Section → Section × ℕ → Type 0
-GoesOnBehind k section next = (h : Shown) (left : List (List ℕ)) → IsPast k section h left ↔ IsHeaderLeft k next.0 next.1 h left
+IsWhole k = ((system : System) → IsWholeOf system k) × (0 < length k.shown.plan.gps + length k.shown.plan.galileo)
 
 -- the headers that go on from one place are those that go on from another
-abbrev pub StepsTo : Known → Section → ℕ → List ℕ → Known → Option (Section × ℕ) → Type 0
-StepsTo old section row line new next = (h : Shown) (left : List (List ℕ)) → IsHeaderLeft old section row h (line ∷ left) ↔ MayFollow new next h left
+abbrev pub StepsTo : Known → ℕ → List ℕ → Known → Option ℕ → Type 0
+StepsTo old place line new next = (h : Shown) (left : List (List ℕ)) → IsHeaderLeft old place h (line ∷ left) ↔ MayFollow new next h left
 
 -- no header goes on with this line
-abbrev pub NoneGoesOn : Known → Section → ℕ → List ℕ → Type 0
-NoneGoesOn old section row line = (h : Shown) (left : List (List ℕ)) → IsHeaderLeft old section row h (line ∷ left) → ⊥
+abbrev pub NoneGoesOn : Known → ℕ → List ℕ → Type 0
+NoneGoesOn old place line = (h : Shown) (left : List (List ℕ)) → IsHeaderLeft old place h (line ∷ left) → ⊥
+
+-- the headers that go on from a place are those that go on from a later one
+abbrev pub SameFrom : Known → ℕ → ℕ → Type 0
+SameFrom k place next = (h : Shown) (left : List (List ℕ)) → IsHeaderLeft k place h left ↔ IsHeaderLeft k next h left
+
+-- ---- texts
+
+-- the text in the columns of a field
+abbrev pub text_in : ℕ → List ℕ → List ℕ
+text_in place line = trimmed (take (width_of (field_at place)) (drop (column_of (field_at place)) line))
+
+-- the texts of a row were taken from its columns, and those before are as they were
+pub record TakesTexts (row : TextRow) (count : ℕ) (line : List ℕ) (old new : HeaderLists) : Type 0 where
+  pub same : (i : ℕ) → i < start_of row → get_or new i [] ≡ get_or old i []
+  pub taken : (i : ℕ) → i < count → get_or new (start_of row + i) [] ≡ text_in (start_of row + i) line
+
+-- no header has this line in a row of texts
+abbrev pub RefusesTexts : TextRow → List ℕ → Type 0
+RefusesTexts row line = (x : HeaderLists) → AreTexts x → texts_line x row ≡ line → ⊥
+
+-- the texts of a row were read: the line is theirs
+pub record ReadsTexts (row : TextRow) (line : List ℕ) (old new : HeaderLists) : Type 0 where
+  pub taken : TakesTexts row (count_of row) line old new
+  pub shown : texts_line new row ≡ line
 
 -- ---- what was read, with one part put in place of another
 
@@ -85,7 +102,8 @@ with_texts k texts = record {
   shown = record { texts = texts; plan = k.shown.plan; values = k.shown.values; first = k.shown.first };
   gps = k.gps;
   galileo = k.galileo;
-  signals = k.signals;
+  gps_count = k.gps_count;
+  galileo_count = k.galileo_count;
 }
 
 abbrev pub with_values : Known → StationValues → Known
@@ -93,7 +111,8 @@ with_values k values = record {
   shown = record { texts = k.shown.texts; plan = k.shown.plan; values = values; first = k.shown.first };
   gps = k.gps;
   galileo = k.galileo;
-  signals = k.signals;
+  gps_count = k.gps_count;
+  galileo_count = k.galileo_count;
 }
 
 abbrev pub with_first : Known → ℕ → Known
@@ -101,31 +120,38 @@ with_first k first = record {
   shown = record { texts = k.shown.texts; plan = k.shown.plan; values = k.shown.values; first = first };
   gps = k.gps;
   galileo = k.galileo;
-  signals = k.signals;
+  gps_count = k.gps_count;
+  galileo_count = k.galileo_count;
 }
 
 -- with what the first line says
 abbrev pub with_systems : Known → Bool → Bool → Known
-with_systems k gps galileo = record { shown = k.shown; gps = gps; galileo = galileo; signals = k.signals }
+with_systems k gps galileo = record { shown = k.shown; gps = gps; galileo = galileo; gps_count = k.gps_count; galileo_count = k.galileo_count }
+
+-- the same plan with the signals of a system
+abbrev pub plan_with : System → PlanValue → List ℕ → PlanValue
+plan_with Gps p signals = record { gps = signals; galileo = p.galileo }
+plan_with Galileo p signals = record { gps = p.gps; galileo = signals }
 
 -- with the signals of a system
 abbrev pub with_signals : System → Known → List ℕ → Known
-with_signals Gps k signals = record {
-  shown = record { texts = k.shown.texts; plan = record { gps = signals; galileo = k.shown.plan.galileo }; values = k.shown.values; first = k.shown.first };
+with_signals system k signals = record {
+  shown = record { texts = k.shown.texts; plan = plan_with system k.shown.plan signals; values = k.shown.values; first = k.shown.first };
   gps = k.gps;
   galileo = k.galileo;
-  signals = k.signals;
-}
-with_signals Galileo k signals = record {
-  shown = record { texts = k.shown.texts; plan = record { gps = k.shown.plan.gps; galileo = signals }; values = k.shown.values; first = k.shown.first };
-  gps = k.gps;
-  galileo = k.galileo;
-  signals = k.signals;
+  gps_count = k.gps_count;
+  galileo_count = k.galileo_count;
 }
 
 -- with the number of a system's signals
-abbrev pub with_count : Known → ℕ → Known
-with_count k count = record { shown = k.shown; gps = k.gps; galileo = k.galileo; signals = count }
+abbrev pub with_count : System → Known → ℕ → Known
+with_count system k count = record {
+  shown = k.shown;
+  gps = k.gps;
+  galileo = k.galileo;
+  gps_count = of_system system count k.gps_count;
+  galileo_count = of_system system k.galileo_count count;
+}
 
 -- ---- lines of types
 
@@ -141,7 +167,7 @@ pub record TakesRow (system : System) (count row : ℕ) (line old new : List ℕ
 -- the types of so many signals are those that a line shows, where it is due
 abbrev pub CountsDue : Known → System → ℕ → List ℕ → Option ℕ → Type 0
 CountsDue k system row line count =
-    (all : List ℕ) → AreTypes system all → (0 < row → k.signals ≡ length all) → row < type_rows (length all)
+    (all : List ℕ) → AreTypes system all → (0 < row → signal_count k system ≡ length all) → row < type_rows (length all)
     → line ≡ types_line system all row → count ≡ Some (length all)
 
 -- where the line is that of these types, the signals that begin in it were taken behind those of the lines before

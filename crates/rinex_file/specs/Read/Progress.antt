@@ -1,24 +1,23 @@
 -- What is known of a file while its lines are read, one after the other, and which files may still follow.
-use Rattle.std.specs.Prelude.{◌≡◌, ℕ, ℤ, zero, suc, ◌+◌, ◌*◌, ◌/◌, ◌<◌, ◌==◌, not, Bool, List, [], ◌∷◌, ◌++◌, length, take, drop, get_or, map, All, replicate, codes, pos, nat_eq, if◌then◌else◌, flat_map, Option, Some, None, ⊤}
+use Rattle.std.specs.Prelude.{◌≡◌, ℕ, ℤ, ◌+◌, ◌-◌, ◌*◌, ◌/◌, ◌<◌, ◌==◌, not, Bool, List, [], ◌∷◌, ◌++◌, length, take, drop, get_or, map, All, replicate, codes, pos, nat_eq, if◌then◌else◌, flat_map, Option, Some, None, ⊤}
 use Rattle.gnss_obs.specs.declared.system.System.{System}
 use Rattle.gnss_obs.specs.declared.system.System.TheVariants.{Gps, Galileo}
 use Rattle.obs_epoch.specs.declared.cell.StationValues.{StationValues}
 use Rattle.obs_epoch.specs.Values.{PlanValue, planned_of}
 use Rattle.obs_epoch.specs.Dates.{civil_of}
-use Rattle.rinex_file.specs.declared.header.section.Section.{Section}
-use Rattle.rinex_file.specs.declared.header.section.Section.TheVariants.{Version, Program, Marker, MarkerType, Observer, Receiver, Antenna, Position, Delta, Types, StrengthUnit, First, Shift, End}
+use Rattle.rinex_file.specs.declared.header.rows.HeaderRow.{HeaderRow}
 use Rattle.rinex_file.specs.declared.read.due.Due.{Due}
 use Rattle.rinex_file.specs.declared.read.due.Due.TheVariants.{Header, Epoch, EventPosition, EventHeight, EventEpoch, Satellite}
-use Rattle.rinex_file.specs.Texts.{HeaderLists}
+use Rattle.rinex_file.specs.Texts.{HeaderLists, text_count}
 use Rattle.rinex_file.specs.Value.{SatelliteRow, Stamped, FileValue}
-use Rattle.rinex_file.specs.FileValues.{AreTexts, IsPlan, AreValues, IsTime, IsFileValue}
-use Rattle.rinex_file.specs.Header.{section_lines, header_lines, lines_from, section_rows, all_sections, section_place, header_line, type_line, types_of, codes_of}
+use Rattle.rinex_file.specs.FileValues.{AreTexts, IsPlan, AreValues, IsTime, IsFileValue, of_system}
+use Rattle.rinex_file.specs.Header.{row_line, header_lines, lines_from, row_count, first_types, header_line, type_line, types_of, codes_of}
 use Rattle.rinex_file.specs.Limits.{types_in_line}
 use Rattle.rinex_file.specs.Lines.{satellite_line, letter_of}
 use Rattle.rinex_file.specs.Numbers.{joined, left, right, fixed}
 use Rattle.gnss_obs.specs.Signals.{table}
 use Rattle.std.specs.List.{IsDistinct}
-use Rattle.rinex_file.specs.File.{file_lines, stamped_lines}
+use Rattle.rinex_file.specs.File.{stamped_lines}
 
 -- ---- the header
 
@@ -35,50 +34,36 @@ pub record IsShown (h : Shown) : Type 0 where
   pub values : AreValues h.values
   pub first : IsTime h.first
 
-abbrev pub shown_lines : Shown → Section → List (List ℕ)
-shown_lines h = section_lines h.texts h.plan h.values (civil_of h.first)
+-- the line of a row
+abbrev pub shown_line : Shown → HeaderRow → List ℕ
+shown_line h row = row_line h.texts h.plan h.values (civil_of h.first) row
+
+-- the lines of the rows from a place on
+abbrev pub shown_from : Shown → ℕ → List (List ℕ)
+shown_from h place = lines_from h.texts h.plan h.values (civil_of h.first) place
 
 -- these are all lines of the header that is shown
 abbrev pub AreHeaderLines : Shown → List (List ℕ) → Type 0
 AreHeaderLines h lines = IsShown h × (lines ≡ header_lines h.texts h.plan h.values (civil_of h.first))
 
 -- What was read of a header: its parts, each as it was until its line was read; whether a system is planned, which the first
--- line says; and how many signals are, of the system whose types stand last.
+-- line says; and the number of its signals, which its first line of types says.
 pub record Known : Type 0 where
   pub shown : Shown
   pub gps : Bool
   pub galileo : Bool
-  pub signals : ℕ
+  pub gps_count : ℕ
+  pub galileo_count : ℕ
+
+abbrev pub plans : Known → System → Bool
+plans k system = of_system system k.gps k.galileo
+
+abbrev pub signal_count : Known → System → ℕ
+signal_count k system = of_system system k.gps_count k.galileo_count
 
 -- some signal is planned
 abbrev pub is_some_planned : List ℕ → Bool
 is_some_planned signals = not (length signals == 0)
-
--- what a section says is known
-abbrev pub KnowsSection : Section → Known → Shown → Type 0
-KnowsSection Version k h = (k.gps ≡ is_some_planned h.plan.gps) × (k.galileo ≡ is_some_planned h.plan.galileo)
-KnowsSection Program k h = (k.shown.texts.run_by ≡ h.texts.run_by) × (k.shown.texts.date ≡ h.texts.date)
-KnowsSection Marker k h = k.shown.texts.marker ≡ h.texts.marker
-KnowsSection MarkerType k h = k.shown.texts.marker_type ≡ h.texts.marker_type
-KnowsSection Observer k h = (k.shown.texts.observer ≡ h.texts.observer) × (k.shown.texts.agency ≡ h.texts.agency)
-KnowsSection Receiver k h = (k.shown.texts.rec_number ≡ h.texts.rec_number) × (k.shown.texts.rec_type ≡ h.texts.rec_type) × (k.shown.texts.rec_version ≡ h.texts.rec_version)
-KnowsSection Antenna k h = (k.shown.texts.ant_number ≡ h.texts.ant_number) × (k.shown.texts.ant_type ≡ h.texts.ant_type)
-KnowsSection Position k h = (k.shown.values.x ≡ h.values.x) × (k.shown.values.y ≡ h.values.y) × (k.shown.values.z ≡ h.values.z)
-KnowsSection Delta k h = k.shown.values.height ≡ h.values.height
-KnowsSection (Types system) k h = planned_of system k.shown.plan ≡ planned_of system h.plan
-KnowsSection StrengthUnit k h = ⊤
-KnowsSection First k h = k.shown.first ≡ h.first
-KnowsSection (Shift system) k h = ⊤
-KnowsSection End k h = ⊤
-
--- what the first sections say is known, so many of them
-abbrev pub KnowsFirst : ℕ → Known → Shown → Type 0
-KnowsFirst zero k h = ⊤
-KnowsFirst (suc n) k h = KnowsFirst n k h × KnowsSection (get_or all_sections n End) k h
-
--- what the sections in front of one say is known
-abbrev pub KnowsBefore : Section → Known → Shown → Type 0
-KnowsBefore section k h = KnowsFirst (section_place section) k h
 
 -- ---- signals
 
@@ -102,49 +87,50 @@ types_line system all row = type_line (letter_of system) (types_of (codes_of sys
 abbrev pub signals_begun : ℕ → ℕ
 signals_begun row = (types_in_line * row + 3) / 4
 
--- no signal was read yet
-abbrev pub NoneYet : Known → Type 0
-NoneYet k = (k.shown.plan.gps ≡ []) × (k.shown.plan.galileo ≡ [])
+-- ---- one row after the other
 
--- what the lines of a section in front of one say is known, and no signal whose lines come later is
-abbrev pub KnowsWithin : Section → ℕ → Known → Shown → Type 0
-KnowsWithin Version row k h = NoneYet k
-KnowsWithin Program row k h = NoneYet k
-KnowsWithin Marker row k h = NoneYet k
-KnowsWithin MarkerType row k h = NoneYet k
-KnowsWithin Observer row k h = NoneYet k
-KnowsWithin Receiver row k h = NoneYet k
-KnowsWithin Antenna row k h = NoneYet k
-KnowsWithin Position row k h = NoneYet k
-KnowsWithin Delta row k h = NoneYet k
-KnowsWithin (Types Gps) zero k h = NoneYet k
-KnowsWithin (Types Gps) (suc row) k h =
-    (k.shown.plan.galileo ≡ []) × (k.signals ≡ length h.plan.gps) × (k.shown.plan.gps ≡ take (signals_begun (suc row)) h.plan.gps)
-KnowsWithin (Types Galileo) zero k h = k.shown.plan.galileo ≡ []
-KnowsWithin (Types Galileo) (suc row) k h = (k.signals ≡ length h.plan.galileo) × (k.shown.plan.galileo ≡ take (signals_begun (suc row)) h.plan.galileo)
-KnowsWithin StrengthUnit row k h = ⊤
-KnowsWithin First row k h = ⊤
-KnowsWithin (Shift system) row k h = ⊤
-KnowsWithin End row k h = ⊤
+-- the number of texts in the rows before a place
+abbrev pub texts_before : ℕ → ℕ
+texts_before place = get_or (0 ∷ 0 ∷ 2 ∷ 3 ∷ 4 ∷ 6 ∷ 9 ∷ []) place text_count
 
--- The header that is shown has this line next, and these lines are left of it. What was read is known.
-pub record IsHeaderLeft (k : Known) (section : Section) (row : ℕ) (h : Shown) (left : List (List ℕ)) : Type 0 where
+-- What the rows before a place show is known, and no signal of a later row is.
+pub record KnowsAt (place : ℕ) (k : Known) (h : Shown) : Type 0 where
+  pub systems : (system : System) → 0 < place → plans k system ≡ is_some_planned (planned_of system h.plan)
+  pub texts : (i : ℕ) → i < texts_before place → get_or k.shown.texts i [] ≡ get_or h.texts i []
+  pub position : 7 < place → (k.shown.values.x ≡ h.values.x) × (k.shown.values.y ≡ h.values.y) × (k.shown.values.z ≡ h.values.z)
+  pub height : 8 < place → k.shown.values.height ≡ h.values.height
+  pub counts : (system : System) → first_types system < place → 0 < length (planned_of system h.plan) → signal_count k system ≡ length (planned_of system h.plan)
+  pub signals : (system : System) → planned_of system k.shown.plan ≡ take (signals_begun (place - first_types system)) (planned_of system h.plan)
+  pub first : 22 < place → k.shown.first ≡ h.first
+
+-- The header that is shown goes on with these lines, those of the rows from a place on. What the rows before it show is known.
+pub record IsHeaderLeft (k : Known) (place : ℕ) (h : Shown) (left : List (List ℕ)) : Type 0 where
   pub is : IsShown h
-  pub before : KnowsBefore section k h
-  pub within : KnowsWithin section row k h
-  pub due : row < section_rows h.plan section
-  pub lines : left ≡ lines_from (shown_lines h) section row
+  pub before : KnowsAt place k h
+  pub due : place < row_count
+  pub lines : left ≡ shown_from h place
 
--- the same where nothing may be left: the header is known
+-- some header goes on from a place
+pub record HasHeaderAt (k : Known) (place : ℕ) : Type 0 where
+  pub h : Shown
+  pub left : List (List ℕ)
+  pub at : IsHeaderLeft k place h left
+
+-- the same where no line is left: the header is known
 pub record IsHeaderRead (k : Known) (h : Shown) (left : List (List ℕ)) : Type 0 where
   pub is : IsShown h
   pub same : h ≡ k.shown
   pub lines : left ≡ []
 
--- what follows where this line is next, or none is
-abbrev pub MayFollow : Known → Option (Section × ℕ) → Shown → List (List ℕ) → Type 0
+-- what follows where the rows from a place on are next, or none is
+abbrev pub MayFollow : Known → Option ℕ → Shown → List (List ℕ) → Type 0
 MayFollow k None h left = IsHeaderRead k h left
-MayFollow k (Some place) h left = IsHeaderLeft k place.0 place.1 h left
+MayFollow k (Some place) h left = IsHeaderLeft k place h left
+
+-- if some header goes on from a place, one goes on from the next
+abbrev pub StaysOpen : Known → ℕ → Known → Option ℕ → Type 0
+StaysOpen old place new None = ⊤
+StaysOpen old place new (Some next) = HasHeaderAt old place → HasHeaderAt new next
 
 -- ---- the file
 
@@ -176,12 +162,12 @@ StartsAt first [] = ⊤
 StartsAt first (e ∷ es) = first ≡ e.time
 
 -- in the header
-pub record IsInHeader (s : Progress) (section : Section) (row : ℕ) (v : FileValue) (left : List (List ℕ)) : Type 0 where
+pub record IsInHeader (s : Progress) (place : ℕ) (v : FileValue) (left : List (List ℕ)) : Type 0 where
   pub first : Stamped
   pub others : List Stamped
   pub lines : List (List ℕ)
   pub epochs : v.epochs ≡ first ∷ others
-  pub header : IsHeaderLeft s.known section row (shown_of v first.time) lines
+  pub header : IsHeaderLeft s.known place (shown_of v first.time) lines
   pub rest : left ≡ lines ++ flat_map stamped_lines (first ∷ others)
 
 -- where an epoch is due, or the end
@@ -216,7 +202,7 @@ pub record IsInEpoch (s : Progress) (satellites : ℕ) (v : FileValue) (left : L
   pub rest : left ≡ map satellite_line more ++ flat_map stamped_lines others
 
 abbrev pub IsAt : Progress → Due → FileValue → List (List ℕ) → Type 0
-IsAt s (Header section row) v left = IsInHeader s section row v left
+IsAt s (Header place) v left = IsInHeader s place v left
 IsAt s Epoch v left = IsBetween s v left
 IsAt s EventPosition v left = IsInEvent s 1 (λ w. ⊤) v left
 IsAt s (EventHeight x y z) v left = IsInEvent s 2 (HasPosition x y z) v left
@@ -226,11 +212,6 @@ IsAt s (Satellite n) v left = IsInEpoch s n v left
 -- the file value goes on with these lines where so much was read
 unfoldable pub HasLinesLeft : Progress → FileValue → List (List ℕ) → Type 0
 HasLinesLeft s v left = IsFileValue v × IsAt s s.due v left
-
--- what was read stands for the lines that were taken: the file values that go on are those that begin with these lines
-pub record HasReadLines (s : Progress) (taken : List (List ℕ)) : Type 0 where
-  pub goes : (v : FileValue) (left : List (List ℕ)) → IsFileValue v → file_lines v ≡ taken ++ left → HasLinesLeft s v left
-  pub begins : (v : FileValue) (left : List (List ℕ)) → HasLinesLeft s v left → IsFileValue v × (file_lines v ≡ taken ++ left)
 
 -- the same where another line is due
 abbrev pub due_next : Progress → Due → Progress

@@ -1,5 +1,5 @@
 -- What holds of all that was read of a file, wherever its reading stands.
-use Rattle.std.specs.Prelude.{◌≡◌, ◌≢◌, Option, Some, None, ℕ, ◌<◌, ◌≤◌, List, [], ◌∷◌, ◌++◌, length, map, All}
+use Rattle.std.specs.Prelude.{◌≡◌, ◌≢◌, Option, Some, None, ℕ, ℤ, ◌+◌, ◌<◌, ◌≤◌, List, [], ◌∷◌, ◌++◌, length, map, All}
 use Rattle.std.specs.List.Sorted.{IsStrictlyIncreasing}
 use Rattle.rinex_file.specs.declared.read.due.Due.{Due}
 use Rattle.rinex_file.specs.declared.read.due.Due.TheVariants.{Header, Epoch, EventPosition, EventHeight, EventEpoch, Satellite}
@@ -9,44 +9,36 @@ use Rattle.obs_epoch.specs.Dates.{civil_of}
 use Rattle.rinex_file.specs.Lines.{epoch_line}
 use Rattle.rinex_file.specs.Read.Fields.{ReadsExactly}
 use Rattle.rinex_file.specs.FileValues.{IsTime, IsStamped, AreSatelliteRows, IsChange, AreChanges, IsFirstSame, values_behind, time_stamped, most_rows, IsCoordinate}
-use Rattle.rinex_file.specs.Read.Progress.{Progress, IsShown, StartsAt}
-
-abbrev pub AreStamped : Progress → List Stamped → Type 0
-AreStamped s es = All (IsStamped (length s.known.shown.plan.gps) (length s.known.shown.plan.galileo)) es
+use Rattle.rinex_file.specs.Begun.{AreWhole, IsPartOfNext, whole_lines, part_lines, lines_of_header}
+use Rattle.rinex_file.specs.File.{file_lines, event_line, event_lines}
+use Rattle.rinex_file.specs.Header.{position_line}
+use Rattle.rinex_file.specs.Value.{FileValue}
+use Rattle.rinex_file.specs.FileValues.{IsFileValue}
+use Rattle.rinex_file.specs.Read.Progress.{Progress, Shown, stamped, HasLinesLeft, IsHeaderLeft, HasHeaderAt}
 
 -- the header and the epochs are those of a file
-pub record AreRead (s : Progress) : Type 0 where
-  pub shown : IsShown s.known.shown
-  pub epochs : AreStamped s s.epochs
-  pub rising : IsStrictlyIncreasing (map time_stamped s.epochs)
-  pub starts : StartsAt s.known.shown.first s.epochs
-  pub first : IsFirstSame s.epochs
-  pub changes : AreChanges s.known.shown.values s.epochs
+abbrev pub AreRead : Progress → Type 0
+AreRead s = AreWhole s.known.shown s.epochs
 
 -- the station values behind the epochs that were read
 abbrev pub values_now : Progress → StationValues
 values_now s = values_behind s.known.shown.values s.epochs
 
--- an epoch behind these was begun
-pub record IsBegun (s : Progress) : Type 0 where
-  pub time : IsTime s.time
-  pub later : IsStrictlyIncreasing (map time_stamped s.epochs ++ s.time ∷ [])
-  pub rows : AreSatelliteRows (length s.known.shown.plan.gps) (length s.known.shown.plan.galileo) s.rows
-  pub first : s.epochs ≡ [] → s.known.shown.first ≡ s.time
-  pub change : IsChange (values_now s) s.change
-  pub same : s.epochs ≡ [] → s.change ≡ None
+-- an epoch after these was begun
+abbrev pub IsBegun : Progress → Type 0
+IsBegun s = IsPartOfNext s.known.shown s.epochs (stamped s s.rows)
 
 -- an event may stand behind the epochs that were read
 abbrev pub IsEventDue : Progress → Type 0
 IsEventDue s = AreRead s × (s.rows ≡ []) × (s.epochs ≢ [])
 
 abbrev pub IsSoundAt : Progress → Due → Type 0
-IsSoundAt s (Header section row) = (s.epochs ≡ []) × (s.rows ≡ [])
+IsSoundAt s (Header place) = (s.epochs ≡ []) × (s.rows ≡ []) × HasHeaderAt s.known place
 IsSoundAt s Epoch = AreRead s × (s.rows ≡ [])
 IsSoundAt s EventPosition = IsEventDue s
 IsSoundAt s (EventHeight x y z) = IsEventDue s × (IsCoordinate x × IsCoordinate y × IsCoordinate z)
 IsSoundAt s (EventEpoch values) = IsEventDue s × IsChange (values_now s) (Some values)
-IsSoundAt s (Satellite n) = AreRead s × IsBegun s × (0 < n)
+IsSoundAt s (Satellite n) = AreRead s × IsBegun s × (0 < n) × (length s.rows + n ≤ most_rows (length s.known.shown.plan.gps) (length s.known.shown.plan.galileo))
 
 abbrev pub IsSound : Progress → Type 0
 IsSound s = IsSoundAt s s.due
@@ -66,3 +58,26 @@ pub record MayBegin (s : Progress) (t n : ℕ) : Type 0 where
   pub first : s.epochs ≡ [] → s.known.shown.first ≡ t
   pub some : 0 < n
   pub room : n ≤ most_rows (length s.known.shown.plan.gps) (length s.known.shown.plan.galileo)
+
+-- ---- the lines that were read
+
+-- station values of a position, and any height
+abbrev pub at_position : ℤ → ℤ → ℤ → StationValues
+at_position x y z = record { x = x; y = y; z = z; height = 0 }
+
+-- these are the lines of what was read
+abbrev pub AreLinesAt : Progress → Due → List (List ℕ) → Type 0
+AreLinesAt s (Header place) lines = (h : Shown) (left : List (List ℕ)) → IsHeaderLeft s.known place h left → lines_of_header h ≡ lines ++ left
+AreLinesAt s Epoch lines = lines ≡ whole_lines s.known.shown s.epochs
+AreLinesAt s EventPosition lines = lines ≡ whole_lines s.known.shown s.epochs ++ event_line ∷ []
+AreLinesAt s (EventHeight x y z) lines = lines ≡ whole_lines s.known.shown s.epochs ++ event_line ∷ position_line (at_position x y z) ∷ []
+AreLinesAt s (EventEpoch values) lines = lines ≡ whole_lines s.known.shown s.epochs ++ event_lines values
+AreLinesAt s (Satellite n) lines = lines ≡ whole_lines s.known.shown s.epochs ++ part_lines (stamped s s.rows) (length s.rows + n)
+
+abbrev pub AreLinesOf : Progress → List (List ℕ) → Type 0
+AreLinesOf s lines = AreLinesAt s s.due lines
+
+-- what was read stands for the lines that were taken: these are its lines, and the file values that begin with them go on
+pub record HasReadLines (s : Progress) (taken : List (List ℕ)) : Type 0 where
+  pub goes : (v : FileValue) (left : List (List ℕ)) → IsFileValue v → file_lines v ≡ taken ++ left → HasLinesLeft s v left
+  pub are : AreLinesOf s taken

@@ -8,9 +8,10 @@ use Rattle.rinex_file.specs.declared.read.course.Course.{Course}
 use Rattle.rinex_file.specs.Numbers.{joined}
 use Rattle.rinex_file.specs.Value.{FileValue}
 use Rattle.rinex_file.specs.FileValues.{IsFileValue}
-use Rattle.rinex_file.specs.File.{file_text}
+use Rattle.rinex_file.specs.File.{file_text, file_lines}
 use Rattle.rinex_file.specs.Exact.{IsLine, ExplainsFault, most_lines}
-use Rattle.rinex_file.specs.Read.Progress.{Progress, HasReadLines, file_with}
+use Rattle.rinex_file.specs.Read.Progress.{Progress, file_with}
+use Rattle.rinex_file.specs.Read.Sound.{HasReadLines}
 use Rattle.rinex_file.specs.Course.{History, FollowsHistory, HasRoom, progress_at, with_line}
 
 -- some lines were taken, so many, and what was read stands for them
@@ -42,6 +43,7 @@ pub record IsTextOfOnly (f : FileValue) (input : List ℕ) : Type 0 where
 -- the file of a history was read whole
 pub record IsWhole (c : Course) (h : History) (input : Option (List ℕ)) : Type 0 where
   pub is : IsFileValue (file_at c h)
+  pub few : length (file_lines (file_at c h)) ≤ most_lines
   pub text : IfSome input (IsTextOfOnly (file_at c h))
   pub stands : FollowsHistory c h
   pub none : h.rows ≡ []

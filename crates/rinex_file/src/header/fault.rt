@@ -1,11 +1,11 @@
 //! What can be wrong with a header or with writing.
-ghost use Rattle.std.specs.Prelude.{◌≡◌};
+ghost use Rattle.std.specs.Prelude.{◌≡◌, ◌<◌};
 ghost use Rattle.rinex_file.specs.declared.header.fault.HeadFault.TheVariants as faults;
 
 use rtcm_bits::DeviceFailed;
 use thiserror::Error;
 
-/// A text of the header that is handed in.
+/// A text of the header that the caller passes.
 #[derive(Clone, Copy, Debug, PartialEq, Eq)]
 pub enum HeaderField {
     /// Who ran the program, 20 columns of `PGM / RUN BY / DATE`.
@@ -54,17 +54,97 @@ impl From<DeviceFailed> for HeadFault {
     }
 }
 
-impl HeaderField {
-    ghost use Rattle.rinex_file.specs.Texts.{width_of};
+/// What is fixed of a text: its place among all, its first column, its width, and its name.
+#[derive(Clone, Copy)]
+struct FieldRow {
+    place: usize,
+    column: usize,
+    width: usize,
+    name: &'static str,
+}
 
-    /// How many columns are for the text.
+fn row(place: usize, column: usize, width: usize, name: &'static str) -> FieldRow
+    ensures { (result.place ≡ place) × (result.column ≡ column) × (result.width ≡ width) }
+{
+    FieldRow {
+        place,
+        column,
+        width,
+        name,
+    }
+}
+
+impl HeaderField {
+    ghost use Rattle.rinex_file.specs.Texts.{width_of, column_of, place_of, field_at, text_count};
+
+    /// All fields, in the order in which they are judged.
+    pub const ALL: [HeaderField; 11] = [
+        HeaderField::RunBy,
+        HeaderField::Date,
+        HeaderField::Marker,
+        HeaderField::MarkerType,
+        HeaderField::Observer,
+        HeaderField::Agency,
+        HeaderField::RecNumber,
+        HeaderField::RecType,
+        HeaderField::RecVersion,
+        HeaderField::AntNumber,
+        HeaderField::AntType,
+    ];
+
+    // The table of the fields.
+    fn row(self) -> FieldRow
+        ensures place { result.place ≡ place_of self }
+        ensures column { result.column ≡ column_of self }
+        ensures width { result.width ≡ width_of self }
+    {
+        match self {
+            HeaderField::RunBy => row(0, 20, 20, "run_by"),
+            HeaderField::Date => row(1, 40, 20, "date"),
+            HeaderField::Marker => row(2, 0, 60, "marker"),
+            HeaderField::MarkerType => row(3, 0, 20, "marker_type"),
+            HeaderField::Observer => row(4, 0, 20, "observer"),
+            HeaderField::Agency => row(5, 20, 40, "agency"),
+            HeaderField::RecNumber => row(6, 0, 20, "rec_number"),
+            HeaderField::RecType => row(7, 20, 20, "rec_type"),
+            HeaderField::RecVersion => row(8, 40, 20, "rec_version"),
+            HeaderField::AntNumber => row(9, 0, 20, "ant_number"),
+            HeaderField::AntType => row(10, 20, 20, "ant_type"),
+        }
+    }
+
+    /// The number of columns of the text.
     pub fn width(self) -> usize
         ensures { result ≡ width_of self }
     {
-        match self {
-            HeaderField::Marker => 60,
-            HeaderField::Agency => 40,
-            _ => 20,
-        }
+        self.row().width
+    }
+
+    /// The first column of the text in its line, counted from 0.
+    pub(crate) fn column(self) -> usize
+        ensures { result ≡ column_of self }
+    {
+        self.row().column
+    }
+
+    /// The name, as that of the field in [`Texts`](crate::Texts).
+    pub fn name(self) -> &'static str {
+        self.row().name
+    }
+
+    /// The place among all fields, counted from 0.
+    pub(crate) fn place(self) -> usize
+        ensures place { result ≡ place_of self }
+        ensures bound { result < text_count }
+    {
+        self.row().place
+    }
+
+    /// The field at a place.
+    pub(crate) fn at(place: usize) -> HeaderField
+        requires { place < text_count }
+        ensures { result ≡ field_at place }
+    {
+        HeaderField::ALL[place]
     }
 }

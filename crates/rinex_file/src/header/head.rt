@@ -1,17 +1,17 @@
 //! A header, line after line.
-ghost use Rattle.std.specs.Prelude.{◌≡◌, ◌+◌, ◌<◌, ◌^◌, [], get_or, IfNone, IfSome};
+ghost use Rattle.std.specs.Prelude.{◌≡◌, ◌<◌, [], true, IfNone, IfSome};
 ghost use Rattle.std.specs.Iterator.{YieldsFirstBy, item_count};
 ghost use Rattle.obs_epoch.specs.Dates.{civil_of};
-ghost use Rattle.rinex_file.specs.Header.{section_rows, header_lines, lines_from};
-ghost use Rattle.rinex_file.specs.Heads.{head_lines};
+ghost use Rattle.obs_epoch.specs.declared.cell.StationValues.{StationValues};
+ghost use Rattle.obs_epoch.specs.declared.civil.Civil.{Civil};
+ghost use Rattle.rinex_file.specs.Texts.{HeaderLists};
+ghost use Rattle.rinex_file.specs.Header.{row_line, has_line, row_at, row_count, lines_from, header_lines};
 
-use crate::header::fault::HeaderField;
 use crate::header::labels;
 use crate::header::lines::{
-    antenna_line, delta_line, first_line, labelled, observer_line, position_line, program_line,
-    receiver_line, version_line,
+    delta_line, first_line, labelled, position_line, texts_line, version_line,
 };
-use crate::header::section::Section;
+use crate::header::rows::{HeaderRow, ROW_COUNT, row_at};
 use crate::header::texts::HeaderTexts;
 use crate::header::types::{type_line, type_rows};
 use crate::write::numbers::Line;
@@ -22,7 +22,7 @@ use std::marker::Model;
 /// What a header shows.
 #[derive(Drop)]
 pub struct Head<'a> {
-    /// The texts that were handed in.
+    /// The texts.
     pub texts: &'a HeaderTexts,
     /// The signals whose observations the file has.
     pub plan: &'a Plan,
@@ -32,60 +32,49 @@ pub struct Head<'a> {
     pub first: GpsTime,
 }
 
-// So many lines stand in a section.
-fn section_rows(plan: &Plan, section: Section) -> usize
-    ensures { result ≡ section_rows plan.now section }
+// Whether a row has a line.
+fn has_line(plan: &Plan, row: HeaderRow) -> bool
+    ensures { result ≡ has_line plan.now row }
 {
-    match section {
-        Section::Types(system) => type_rows(plan, system),
-        Section::Shift(system) => plan.signals(system).min(1),
-        _ => 1,
+    match row {
+        HeaderRow::Types(system, row) => row < type_rows(plan, system),
+        HeaderRow::Shift(system) => plan.signals(system) > 0,
+        _ => true,
     }
 }
 
-// The place of the next line: this one, or the first of a section behind.
-fn place_from(head: &Head, section: Section, row: usize) -> Option<(Section, usize)>
-    ensures none { IfNone result (lines_from (head_lines head.now) section row ≡ []) }
-    ensures here { IfSome result (λ place. place.1 < section_rows head.now.plan.now place.0) }
-    ensures bound { IfSome result (λ place. place.1 + 1 < 2 ^ 64) }
-    ensures same { IfSome result (λ place. lines_from (head_lines head.now) section row ≡ lines_from (head_lines head.now) place.0 place.1) }
+// The place of the first row with a line, from a place on.
+fn place_from(plan: &Plan, from: usize) -> Option<usize>
+    ensures none { IfNone result ((x : HeaderLists) (v : StationValues) (t : Civil) → lines_from x plan.now v t from ≡ []) }
+    ensures bound { IfSome result (λ place. place < row_count) }
+    ensures here { IfSome result (λ place. has_line plan.now (row_at place) ≡ true) }
+    ensures same { IfSome result (λ place. (x : HeaderLists) (v : StationValues) (t : Civil)
+        → lines_from x plan.now v t from ≡ lines_from x plan.now v t place) }
 {
-    let mut at = section;
-    let mut line = row;
-    while line >= section_rows(head.plan, at) {
-        let Some(next) = at.following() else {
-            return None;
-        };
-        at = next;
-        line = 0;
+    for place in from..ROW_COUNT {
+        if has_line(plan, row_at(place)) {
+            return Some(place);
+        }
     }
-    Some((at, line))
+    None
 }
 
-// A line of a section.
-#[tactic(auto, unfolding(crate::specs::Header::section_lines))]
-fn line_at(head: &Head, section: Section, row: usize) -> Line
-    requires { row < section_rows head.now.plan.now section }
-    ensures { result.items ≡ get_or (head_lines head.now section) row [] }
+// The line of a row.
+#[tactic(auto, unfolding(crate::specs::Header::row_line))]
+fn line_of(head: &Head, row: HeaderRow) -> Line
+    requires { has_line head.now.plan.now row ≡ true }
+    ensures { result.items ≡ row_line head.now.texts.now head.now.plan.now head.now.values (civil_of head.now.first) row }
 {
-    match section {
-        Section::Version => version_line(head.plan),
-        Section::Program => program_line(head.texts),
-        Section::Marker => labelled(head.texts.text(HeaderField::Marker), labels::MARKER),
-        Section::MarkerType => labelled(
-            head.texts.text(HeaderField::MarkerType),
-            labels::MARKER_TYPE,
-        ),
-        Section::Observer => observer_line(head.texts),
-        Section::Receiver => receiver_line(head.texts),
-        Section::Antenna => antenna_line(head.texts),
-        Section::Position => position_line(&head.values),
-        Section::Delta => delta_line(&head.values),
-        Section::Types(system) => type_line(head.plan, system, row),
-        Section::StrengthUnit => labelled(labels::UNIT, labels::STRENGTH_UNIT),
-        Section::First => first_line(head.first),
-        Section::Shift(system) => labelled(&[letter_of(system)], labels::SHIFT),
-        Section::End => labelled(b"", labels::END),
+    match row {
+        HeaderRow::Version => version_line(head.plan),
+        HeaderRow::Texts(row) => texts_line(head.texts, row),
+        HeaderRow::Position => position_line(&head.values),
+        HeaderRow::Delta => delta_line(&head.values),
+        HeaderRow::Types(system, row) => type_line(head.plan, system, row),
+        HeaderRow::StrengthUnit => labelled(labels::UNIT, labels::STRENGTH_UNIT),
+        HeaderRow::First => first_line(head.first),
+        HeaderRow::Shift(system) => labelled(&[letter_of(system)], labels::SHIFT),
+        HeaderRow::End => labelled(b"", labels::END),
     }
 }
 
@@ -96,18 +85,17 @@ pub struct HeaderLines<'a> {
     plan: &'a Plan,
     values: StationValues,
     first: GpsTime,
-    section: Section,
-    row: usize,
+    place: usize,
 }
 
 impl<'a> Model for HeaderLines<'a> {
     ghost use Rattle.std.specs.Prelude.{ℕ, List};
     ghost use Rattle.obs_epoch.specs.Dates.{civil_of};
-    ghost use Rattle.rinex_file.specs.Header.{section_lines, lines_from};
+    ghost use Rattle.rinex_file.specs.Header.{lines_from};
 
     ghost Value = { List (List ℕ) };
 
-    ghost view = { λ s. lines_from (section_lines s.texts.now s.plan.now s.values (civil_of s.first)) s.section s.row };
+    ghost view = { λ s. lines_from s.texts.now s.plan.now s.values (civil_of s.first) s.place };
 }
 
 impl<'a> Iterator for HeaderLines<'a> {
@@ -124,12 +112,11 @@ impl<'a> Iterator for HeaderLines<'a> {
             values: self.values,
             first: self.first,
         };
-        match place_from(&head, self.section, self.row) {
+        match place_from(self.plan, self.place) {
             None => None,
-            Some((section, row)) => {
-                self.section = section;
-                self.row = row + 1;
-                Some(line_at(&head, section, row))
+            Some(place) => {
+                self.place = place + 1;
+                Some(line_of(&head, row_at(place)))
             }
         }
     }
@@ -144,7 +131,6 @@ pub fn header_lines<'a>(head: &Head<'a>) -> HeaderLines<'a>
         plan: head.plan,
         values: head.values,
         first: head.first,
-        section: Section::Version,
-        row: 0,
+        place: 0,
     }
 }

@@ -1,11 +1,12 @@
 //! The lines of a header: RINEX 3.05, table A2.
 ghost use Rattle.std.specs.Prelude.{◌≡◌, ◌+◌, ◌≤◌, length, if◌then◌else◌};
 ghost use Rattle.obs_epoch.specs.Dates.{civil_of};
-ghost use Rattle.rinex_file.specs.Header.{header_line, version_line, two, three, lengths, program_line, observer_line, receiver_line, antenna_line, position_line, delta_line, first_line};
+ghost use Rattle.rinex_file.specs.Header.{header_line, version_line, lengths, texts_line, position_line, delta_line, first_line};
 ghost use Rattle.rinex_file.specs.Read.Progress.{version_with};
 
 use crate::header::fault::HeaderField;
 use crate::header::labels;
+use crate::header::rows::TextRow;
 use crate::header::texts::HeaderTexts;
 use crate::write::numbers::{Line, put, put_fixed, put_left, put_seconds, put_whole};
 use gnss_obs::System;
@@ -24,29 +25,6 @@ pub(crate) fn labelled(content: &[u8], label: &[u8]) -> Line
     line
 }
 
-/// Two texts, the first in 20 columns.
-pub(crate) fn two_texts(a: &[u8], b: &[u8], label: &[u8]) -> Line
-    requires { (length a.now ≤ 60) × (length b.now ≤ 60) × (length label.now ≤ 20) }
-    ensures { result.items ≡ header_line (two a.now b.now) label.now }
-{
-    let mut content = Line::new();
-    put_left(&mut content, 20, a);
-    put(&mut content, b);
-    labelled(content.as_slice(), label)
-}
-
-/// Three texts, the first two in 20 columns each.
-pub(crate) fn three_texts(a: &[u8], b: &[u8], c: &[u8], label: &[u8]) -> Line
-    requires { (length a.now ≤ 60) × (length b.now ≤ 60) × (length c.now ≤ 60) × (length label.now ≤ 20) }
-    ensures { result.items ≡ header_line (three a.now b.now c.now) label.now }
-{
-    let mut content = Line::new();
-    put_left(&mut content, 20, a);
-    put_left(&mut content, 20, b);
-    put(&mut content, c);
-    labelled(content.as_slice(), label)
-}
-
 /// Three numbers in 0.0001 m, as F14.4 each.
 pub(crate) fn three_lengths(a: i64, b: i64, c: i64, label: &[u8]) -> Line
     requires { length label.now ≤ 20 }
@@ -59,7 +37,7 @@ pub(crate) fn three_lengths(a: i64, b: i64, c: i64, label: &[u8]) -> Line
     labelled(content.as_slice(), label)
 }
 
-// The letter of the planned systems: `M` where both are.
+// The letter of the planned systems: `M` if both are.
 fn file_system(gps: bool, galileo: bool) -> u8
     ensures { result ≡ (if gps then (if galileo then 77 else 71) else 69) }
 {
@@ -94,41 +72,17 @@ pub(crate) fn version_line(plan: &Plan) -> Line
     )
 }
 
-/// The program, who ran it, and when.
-pub(crate) fn program_line(texts: &HeaderTexts) -> Line
-    ensures { result.items ≡ program_line texts.now }
+/// A row of texts.
+pub(crate) fn texts_line(texts: &HeaderTexts, row: TextRow) -> Line
+    ensures { result.items ≡ texts_line texts.now row }
 {
-    let run_by = texts.text(HeaderField::RunBy);
-    let date = texts.text(HeaderField::Date);
-    three_texts(labels::PROGRAM_NAME, run_by, date, labels::PROGRAM)
-}
-
-/// Observer and agency.
-pub(crate) fn observer_line(texts: &HeaderTexts) -> Line
-    ensures { result.items ≡ observer_line texts.now }
-{
-    let observer = texts.text(HeaderField::Observer);
-    let agency = texts.text(HeaderField::Agency);
-    two_texts(observer, agency, labels::OBSERVER)
-}
-
-/// Number, type and version of the receiver.
-pub(crate) fn receiver_line(texts: &HeaderTexts) -> Line
-    ensures { result.items ≡ receiver_line texts.now }
-{
-    let number = texts.text(HeaderField::RecNumber);
-    let kind = texts.text(HeaderField::RecType);
-    let version = texts.text(HeaderField::RecVersion);
-    three_texts(number, kind, version, labels::RECEIVER)
-}
-
-/// Number and type of the antenna.
-pub(crate) fn antenna_line(texts: &HeaderTexts) -> Line
-    ensures { result.items ≡ antenna_line texts.now }
-{
-    let number = texts.text(HeaderField::AntNumber);
-    let kind = texts.text(HeaderField::AntType);
-    two_texts(number, kind, labels::ANTENNA)
+    let mut content = Line::new();
+    put(&mut content, row.front());
+    for i in 0..row.count() {
+        let field = HeaderField::at(row.start() + i);
+        put_left(&mut content, field.width(), texts.text(field));
+    }
+    labelled(content.as_slice(), row.label())
 }
 
 /// The position of the antenna.

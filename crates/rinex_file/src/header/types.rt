@@ -15,17 +15,17 @@ use crate::write::satellite::letter_of;
 use gnss_obs::{Signal, System};
 use obs_epoch::Plan;
 
-/// So many types stand in a line.
+/// The number of types in a line.
 pub(crate) const TYPES_IN_LINE: usize = 13;
 
-/// So many lines are needed for the types of a system.
+/// The number of lines that the types of a system need.
 pub(crate) fn type_rows(plan: &Plan, system: System) -> usize
     ensures { result ≡ type_rows (length (planned_of system plan.now)) }
 {
     (4 * plan.signals(system) + TYPES_IN_LINE - 1) / TYPES_IN_LINE
 }
 
-// What a line of types begins with.
+// Appends the front of a line of types.
 fn put_front(content: &mut Line, letter: u8, types: usize, row: usize)
     requires room { array_vec_len content.old ≤ 100 }
     requires types { types ≤ 1000 }
@@ -76,7 +76,7 @@ fn put_types(content: &mut Line, system: System, signals: &[Signal], row: usize)
     }
 }
 
-/// Appends what a line of a system's types shows where so many signals are planned and these are
+/// Appends the content of a line of a system's types. `count` signals are planned, and these are
 /// the first of them.
 pub(crate) fn put_row(
     content: &mut Line,

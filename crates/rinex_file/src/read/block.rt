@@ -1,4 +1,4 @@
-//! A block of bytes that were read ahead of the line that is due.
+//! A block of bytes that were read ahead of the next line.
 ghost use Rattle.std.specs.Prelude.{◌≡◌, ◌<◌, ◌≤◌, [], ◌∷◌, take, drop, length, false};
 ghost use Rattle.std.specs.Io.KnownBytes.{Consumes, IsAtEnd, prepend_known};
 ghost use Rattle.arrayvec.specs.ArrayVec.{array_vec_len};
@@ -12,7 +12,7 @@ use rtcm_bits::Counted;
 use std::io::Read;
 use std::marker::Model;
 
-/// So many bytes are asked for at a time.
+/// Size of a block, in bytes.
 const BLOCK_BYTES: usize = 65_536;
 
 /// Bytes that were read, and of which no line was made.
@@ -44,7 +44,7 @@ pub(crate) enum Filled {
     Failed,
 }
 
-// The place of the first line feed, or the number of the bytes where there is none.
+// The place of the first line feed, or the number of the bytes if there is none.
 fn line_feed(bytes: &[u8]) -> usize
     ensures bound { result ≤ length bytes.now }
     ensures none { has 10 (take result bytes.now) ≡ false }
@@ -69,7 +69,7 @@ impl Block {
         }
     }
 
-    /// Reads ahead, where no byte is left.
+    /// Reads ahead if no byte is left.
     pub(crate) fn fill<R: Read>(&mut self, reader: &mut Counted<R>) -> Filled
         ensures same { Consumes (prepend_known self.old (R.remaining reader.old.inner)) (prepend_known self.new (R.remaining reader.new.inner)) [] }
         ensures left { LeavesRest (R.remaining reader.old.inner) (R.remaining reader.new.inner) }
@@ -93,8 +93,8 @@ impl Block {
         }
     }
 
-    /// Moves bytes behind those of a line, up to its line feed or as many as there are and the line
-    /// has room for. Answers whether the line feed is among them.
+    /// Appends bytes to those of a line, up to its line feed or as many as there are and the line
+    /// has room for. Returns whether the line feed is among them.
     pub(crate) fn move_to(&mut self, line: &mut Line) -> bool
         requires { array_vec_len line.old ≤ most_line }
         ensures { MovesBytes result self.old self.new line.old.items line.new.items }

@@ -8,10 +8,9 @@ ghost use Rattle.rinex_file.specs.FileValues.{IsFileValue, rank_of, time_stamped
 ghost use Rattle.rinex_file.specs.File.{event_line, file_lines};
 ghost use Rattle.rinex_file.specs.Read.Progress.{HasLinesLeft};
 ghost use Rattle.rinex_file.specs.Course.{EndsIn, History, HasRoom, FollowsHistory, TakesLine, changes_of, nothing, progress_at};
-ghost use Rattle.rinex_file.specs.Read.Sound.{AreRead, IsTimeBehind, MayBegin, ReadsEpochLine};
+ghost use Rattle.rinex_file.specs.Read.Sound.{AreLinesOf, AreRead, IsTimeBehind, MayBegin, ReadsEpochLine};
 ghost use Rattle.rinex_file.specs.Limits.{most_line};
 
-use crate::header::section::Section;
 use crate::read::due::{Added, Due, Refusal};
 use crate::read::epoch::read_epoch_line;
 use crate::read::head_parts::HeadParts;
@@ -38,7 +37,7 @@ pub(crate) struct Course {
     // they did.
     pub(crate) last: Option<u64>,
     pub(crate) values: Option<StationValues>,
-    // The satellite that was read last, and its place where it is one of the epoch that was begun.
+    // The satellite that was read last, and its place if it is one of the epoch that was begun.
     pub(crate) seen: KeptSatellite,
     pub(crate) rank: Option<u64>,
     pub(crate) epochs: u64,
@@ -56,7 +55,7 @@ fn rank_of(seen: &KeptSatellite) -> u64
     }
 }
 
-// Whether a number stands behind all of those that rise up to the last.
+// Whether a number is greater than all of those that rise up to the last.
 fn is_behind(last: Option<u64>, next: u64) -> bool
     ensures { (xs : List ℕ) → EndsIn xs last → IsStrictlyIncreasing xs → IsTrue result ↔ IsStrictlyIncreasing (xs ++ next ∷ []) }
 {
@@ -66,7 +65,7 @@ fn is_behind(last: Option<u64>, next: u64) -> bool
     }
 }
 
-// Whether an epoch may have this time behind others that rise up to the last, in a file that begins
+// Whether an epoch may have this time after others that rise up to the last, in a file that begins
 // at this first time.
 fn may_follow(last: Option<u64>, first: GpsTime, time: GpsTime) -> bool
     ensures { (es : List Stamped) → EndsIn (map time_stamped es) last → IsStrictlyIncreasing (map time_stamped es)
@@ -78,7 +77,7 @@ fn may_follow(last: Option<u64>, first: GpsTime, time: GpsTime) -> bool
     }
 }
 
-// So many satellites have the systems of which some signal is planned.
+// Number of satellites of the systems of which some signal is planned.
 fn most_rows(gps: usize, galileo: usize) -> usize
     ensures { result ≡ most_rows gps galileo }
 {
@@ -105,7 +104,7 @@ fn changes_of(change: Option<StationValues>) -> u64
     }
 }
 
-// The station values that changed last, behind a change or none.
+// The station values that changed last, after a change or none.
 fn changed_by(before: Option<StationValues>, change: Option<StationValues>) -> Option<StationValues>
     ensures { (v : StationValues) → changed_by v result ≡ changed_by (changed_by v before) change }
 {
@@ -119,13 +118,14 @@ impl Course {
     /// Nothing was read.
     pub(crate) fn new(alloc: Global) -> Course
         ensures stands { FollowsHistory result nothing }
-        ensures starts { (v : FileValue) (left : List (List ℕ)) → HasLinesLeft (progress_at result nothing) v left ↔ (IsFileValue v × (left ≡ file_lines v)) }
+        ensures starts { (v : FileValue) → IsFileValue v → HasLinesLeft (progress_at result nothing) v (file_lines v) }
+        ensures lines { AreLinesOf (progress_at result nothing) [] }
         ensures none { HasRoom result 0 }
     {
         let head = HeadSoFar::new(alloc);
         let time = head.first();
         Course {
-            due: Due::Header(Section::Version, 0),
+            due: Due::Header(0),
             head,
             change: None,
             time,
@@ -152,7 +152,7 @@ impl Course {
         ensures room { (n : ℕ) → HasRoom self.old n → OnOk result (HasRoom self.new (n + 1)) }
     {
         match self.due {
-            Due::Header(section, row) => self.take_header(section, row, line, again),
+            Due::Header(place) => self.take_header(place, line, again),
             Due::Epoch => self.take_next(line, again),
             Due::EventPosition => self.take_position(line),
             Due::EventHeight(x, y, z) => self.take_height(x, y, z, line),
@@ -162,22 +162,16 @@ impl Course {
     }
 
     // Takes a line of the header.
-    fn take_header(
-        &mut self,
-        section: Section,
-        row: usize,
-        line: &[u8],
-        again: &mut Line,
-    ) -> Result<Added, Refusal>
-        requires due { self.old.due ≡ Due.Header section row }
+    fn take_header(&mut self, place: usize, line: &[u8], again: &mut Line) -> Result<Added, Refusal>
+        requires due { self.old.due ≡ Due.Header place }
         ensures takes { TakesLine self.old self.new line.now result }
         ensures room { (n : ℕ) → HasRoom self.old n → OnOk result (HasRoom self.new (n + 1)) }
     {
-        match self.head.take(section, row, line, again) {
+        match self.head.take(place, line, again) {
             Err(Refusal::Memory) => Err(Refusal::Memory),
             Err(Refusal::Bad) => Err(Refusal::Bad),
-            Ok(Some((section, row))) => {
-                self.due = Due::Header(section, row);
+            Ok(Some(next)) => {
+                self.due = Due::Header(next);
                 Ok(Added::NoRow)
             }
             Ok(None) => {
@@ -187,7 +181,7 @@ impl Course {
         }
     }
 
-    // Whether an epoch of so many satellites may follow at a time.
+    // Whether an epoch of this number of satellites may follow at a time.
     fn may_begin(&self, time: GpsTime, satellites: usize) -> bool
         requires between { (h : History) → FollowsHistory self.now h → AreRead (progress_at self.now h) }
         ensures { (h : History) → FollowsHistory self.now h → IsTrue result ↔ MayBegin (progress_at self.now h) time satellites }
@@ -216,7 +210,7 @@ impl Course {
         Some(read)
     }
 
-    // Whether an event begins with the line: it may, but in front of the first epoch.
+    // Whether an event begins with the line: it may, but before the first epoch.
     fn begins_event(&self, line: &[u8]) -> bool
         ensures { IsTrue result ↔ ((0 < self.now.epochs) × (line.now ≡ event_line)) }
     {
@@ -255,7 +249,7 @@ impl Course {
         Ok(Added::NoRow)
     }
 
-    // The station values behind the epochs that were read.
+    // The station values after the epochs that were read.
     fn station_values(&self) -> StationValues
         ensures { result ≡ changed_by self.now.head.shown.values self.now.values }
     {
@@ -265,7 +259,7 @@ impl Course {
         }
     }
 
-    // Takes the height in an event, behind this position: they aren't both those that stand
+    // Takes the height in an event, after this position: they aren't both those that hold
     // already.
     fn take_height(&mut self, x: i64, y: i64, z: i64, line: &[u8]) -> Result<Added, Refusal>
         requires due { self.old.due ≡ Due.EventHeight x y z }
@@ -283,7 +277,7 @@ impl Course {
         Ok(Added::NoRow)
     }
 
-    // Takes the line of an epoch behind an event that tells these station values.
+    // Takes the line of an epoch after an event with these station values.
     fn take_changed(
         &mut self,
         values: StationValues,
@@ -303,7 +297,7 @@ impl Course {
         Ok(Added::NoRow)
     }
 
-    // Takes the line of a satellite, where so many are left.
+    // Takes the line of a satellite, of which this number is left.
     fn take_satellite(
         &mut self,
         left: usize,
@@ -341,7 +335,7 @@ impl Course {
         Ok(Added::LastRow)
     }
 
-    /// What is due.
+    /// The kind of line that is expected.
     pub(crate) fn due(&self) -> Due
         ensures { result ≡ self.now.due }
     {

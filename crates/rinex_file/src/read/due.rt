@@ -1,21 +1,20 @@
-//! What is due where a file is read line by line.
-use crate::header::section::Section;
+//! The line that is expected when a file is read line by line.
 use obs_epoch::StationValues;
 
 /// What the next line is to be.
 #[derive(Clone, Copy)]
 pub(crate) enum Due {
-    /// A line of the header: its section, and its place within it from 0.
-    Header(Section, usize),
+    /// A line of the header, from the row at this place on.
+    Header(usize),
     /// The line of an epoch or of an event, or the end.
     Epoch,
     /// The position in an event.
     EventPosition,
-    /// The height in an event, behind this position in 0.0001 m.
+    /// The height in an event, after this position in 0.0001 m.
     EventHeight(i64, i64, i64),
-    /// The line of an epoch behind an event that tells these station values.
+    /// The line of an epoch after an event with these station values.
     EventEpoch(StationValues),
-    /// The line of a satellite; so many are left.
+    /// The line of a satellite, with the number of satellites that are left.
     Satellite(usize),
 }
 

@@ -1,4 +1,4 @@
-//! The lines that show a date and time of day, read back: what stands there is judged, written
+//! The lines that show a date and time of day, read back: what they show is validated, written
 //! again and compared.
 ghost use Rattle.std.specs.Prelude.{◌≡◌, ◌≤◌, ℕ, length, min, IfSome, Some};
 ghost use Rattle.obs_epoch.specs.Dates.{civil_of};
@@ -15,14 +15,14 @@ use crate::write::numbers::Line;
 use obs_epoch::laws::calendar;
 use obs_epoch::{Civil, GpsTime};
 
-// The number, or the greatest of 8 bits where it is greater: no date has that.
+// The number, or the greatest of 8 bits if it is greater: no date has that.
 fn byte_of(number: u64) -> u8
     ensures { result ≡ min number 255 }
 {
     number.min(255) as u8
 }
 
-// The number, or the greatest of 16 bits where it is greater: no date has that.
+// The number, or the greatest of 16 bits if it is greater: no date has that.
 fn word_of(number: u64) -> u16
     ensures { result ≡ min number 65_535 }
 {

@@ -10,14 +10,14 @@ pub enum ReadFault {
     /// The reader failed.
     #[error("the reader failed")]
     Read,
-    /// The line isn't one of a header, or not the one that is due.
+    /// The line isn't one of a header, or not the one that is expected.
     #[error("a line of the header is spelled otherwise")]
     BadHeader(u64),
     /// The line isn't that of an epoch, or not of one that may follow.
     #[error("the line of an epoch is spelled otherwise")]
     BadEpoch(u64),
-    /// The line isn't one of the two behind that of an event, or they tell the station values that
-    /// stand already.
+    /// The line isn't one of the two after that of an event, or they have the station values that
+    /// hold already.
     #[error("a line of an event is spelled otherwise")]
     BadEvent(u64),
     /// The line isn't that of a satellite, or not of one that may follow.

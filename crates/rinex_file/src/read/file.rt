@@ -1,9 +1,7 @@
 //! Reading a file whole.
 ghost use Rattle.std.specs.Prelude.{◌≡◌, Err, IfOk, IfErr, IfSome};
 ghost use Rattle.rtcm_bits.specs.Device.{HasFailed};
-ghost use Rattle.rinex_file.specs.FileValues.{IsFileValue};
-ghost use Rattle.rinex_file.specs.File.{file_text};
-ghost use Rattle.rinex_file.specs.Exact.{ExplainsFault, IfTextOfFile, IsReadOr};
+ghost use Rattle.rinex_file.specs.Exact.{ExplainsFault, IfTextOfFile, IsReadOr, IsTextOf};
 ghost use Rattle.rinex_file.specs.Blocks.{LeavesRest};
 ghost use Rattle.rinex_file.specs.Counting.{IsTextWith, IsCountedOr};
 
@@ -24,10 +22,10 @@ pub struct Counts {
     pub events: u64,
 }
 
-/// Reads a file to its end and counts what it holds. It is accepted exactly where it is spelled as
-/// [`write_header`](crate::write_header), [`write_event`](crate::write_event) and
-/// [`write_epoch`](crate::write_epoch) would spell it; else a fault is answered, with a line from
-/// which on it can't be. What is held while it reads doesn't grow with the file.
+/// Reads a file to its end and counts what it holds. A file is accepted if and only if it is exactly
+/// what [`write_header`](crate::write_header), [`write_event`](crate::write_event) and
+/// [`write_epoch`](crate::write_epoch) write. Otherwise a fault is returned, with the number of the
+/// first line that can't follow. Memory doesn't grow with the file.
 pub fn check_file<R: Read>(alloc: Global, reader: &mut Counted<R>) -> Result<Counts, ReadFault>
     // What is counted is the file whose text the whole input is.
     ensures found { IfOk result (λ n. IsTextWith n (R.remaining reader.old.inner)) }
@@ -35,10 +33,10 @@ pub fn check_file<R: Read>(alloc: Global, reader: &mut Counted<R>) -> Result<Cou
     ensures fault { IfErr result (λ e. IfSome (R.remaining reader.old.inner) (λ input. ExplainsFault input e)) }
     // The text of each file value is accepted.
     ensures only { IfTextOfFile (R.remaining reader.old.inner) (λ v. IsCountedOr v result) }
-    // It fails with its reader: nothing is read again behind a failed read.
+    // It fails with its reader: nothing is read again after a failed read.
     ensures failed { result ≡ Err ReadFault.Read → HasFailed reader.old.failures reader.new.failures }
     ensures same { (result ≡ Err ReadFault.Read → ⊥) → reader.new.failures ≡ reader.old.failures }
-    // Some front of the input was read.
+    // A prefix of the input was read.
     ensures left { LeavesRest (R.remaining reader.old.inner) (R.remaining reader.new.inner) }
 {
     let mut reading = Reading::new(alloc);
@@ -62,21 +60,21 @@ pub fn check_file<R: Read>(alloc: Global, reader: &mut Counted<R>) -> Result<Cou
     }
 }
 
-/// Reads a file to its end. It is accepted exactly where it is spelled as
+/// Reads a file to its end. A file is accepted if and only if it is exactly what
 /// [`write_header`](crate::write_header), [`write_event`](crate::write_event) and
-/// [`write_epoch`](crate::write_epoch) would spell it; else a fault is answered, with a line from
-/// which on it can't be.
+/// [`write_epoch`](crate::write_epoch) write. Otherwise a fault is returned, with the number of the
+/// first line that can't follow.
 pub fn read_file<R: Read>(alloc: Global, reader: &mut Counted<R>) -> Result<ObsFile, ReadFault>
-    // What is answered is the file whose text the whole input is.
-    ensures found { IfOk result (λ f. IsFileValue f × IfSome (R.remaining reader.old.inner) (λ input. input ≡ file_text f)) }
+    // The result is the file whose text the whole input is.
+    ensures found { IfOk result (λ f. IsTextOf f (R.remaining reader.old.inner)) }
     // Why nothing was read.
     ensures fault { IfErr result (λ e. IfSome (R.remaining reader.old.inner) (λ input. ExplainsFault input e)) }
     // The text of each file value is read.
     ensures only { IfTextOfFile (R.remaining reader.old.inner) (λ v. IsReadOr v result) }
-    // It fails with its reader: nothing is read again behind a failed read.
+    // It fails with its reader: nothing is read again after a failed read.
     ensures failed { result ≡ Err ReadFault.Read → HasFailed reader.old.failures reader.new.failures }
     ensures same { (result ≡ Err ReadFault.Read → ⊥) → reader.new.failures ≡ reader.old.failures }
-    // Some front of the input was read.
+    // A prefix of the input was read.
     ensures left { LeavesRest (R.remaining reader.old.inner) (R.remaining reader.new.inner) }
 {
     let mut reading = Reading::new(alloc);

@@ -1,21 +1,20 @@
-//! The sections of a header that have at most one line: what it shows is taken into what was read.
+//! The rows of a header other than those of types: what a line shows is added to what was read.
 ghost use Rattle.rinex_file.specs.Read.HeaderSteps.{IsSole, LearnsOrRefuses};
 
 use crate::header::labels;
-use crate::header::section::Section;
+use crate::header::rows::{HeaderRow, TextRow};
 use crate::read::epoch::read_first;
 use crate::read::head_so_far::HeadSoFar;
-use crate::read::numbers::is_same;
 use crate::read::station::{is_header_line, read_delta, read_position, read_version};
-use crate::read::texts::{read_one, read_three, read_two};
+use crate::read::texts::read_texts;
 use crate::write::satellite::letter_of;
 use gnss_obs::System;
 use obs_epoch::StationValues;
 
 impl HeadSoFar {
     // Version and systems.
-    fn take_version(&mut self, line: &[u8]) -> bool
-        ensures { LearnsOrRefuses Section.Version line.now self.old self.new result }
+    fn read_systems(&mut self, line: &[u8]) -> bool
+        ensures { LearnsOrRefuses HeaderRow.Version line.now self.old self.new result }
     {
         match read_version(line) {
             Some((gps, galileo)) => {
@@ -27,88 +26,9 @@ impl HeadSoFar {
         }
     }
 
-    // The program, who ran it, and when.
-    fn take_program(&mut self, line: &[u8]) -> bool
-        ensures { LearnsOrRefuses Section.Program line.now self.old self.new result }
-    {
-        let Some((program, run_by, date)) = read_three(line, labels::PROGRAM) else {
-            return false;
-        };
-        if !is_same(program.as_slice(), labels::PROGRAM_NAME) {
-            return false;
-        }
-        self.texts.set_program(run_by, date);
-        true
-    }
-
-    // The marker's name.
-    fn take_marker(&mut self, line: &[u8]) -> bool
-        ensures { LearnsOrRefuses Section.Marker line.now self.old self.new result }
-    {
-        match read_one(line, labels::MARKER) {
-            Some(text) => {
-                self.texts.set_marker(text);
-                true
-            }
-            None => false,
-        }
-    }
-
-    // The marker's type.
-    fn take_marker_type(&mut self, line: &[u8]) -> bool
-        ensures { LearnsOrRefuses Section.MarkerType line.now self.old self.new result }
-    {
-        match read_one(line, labels::MARKER_TYPE) {
-            Some(text) => {
-                self.texts.set_marker_type(text);
-                true
-            }
-            None => false,
-        }
-    }
-
-    // Observer and agency.
-    fn take_observer(&mut self, line: &[u8]) -> bool
-        ensures { LearnsOrRefuses Section.Observer line.now self.old self.new result }
-    {
-        match read_two(line, labels::OBSERVER) {
-            Some((observer, agency)) => {
-                self.texts.set_observer(observer, agency);
-                true
-            }
-            None => false,
-        }
-    }
-
-    // Number, type and version of the receiver.
-    fn take_receiver(&mut self, line: &[u8]) -> bool
-        ensures { LearnsOrRefuses Section.Receiver line.now self.old self.new result }
-    {
-        match read_three(line, labels::RECEIVER) {
-            Some((number, kind, version)) => {
-                self.texts.set_receiver(number, kind, version);
-                true
-            }
-            None => false,
-        }
-    }
-
-    // Number and type of the antenna.
-    fn take_antenna(&mut self, line: &[u8]) -> bool
-        ensures { LearnsOrRefuses Section.Antenna line.now self.old self.new result }
-    {
-        match read_two(line, labels::ANTENNA) {
-            Some((number, kind)) => {
-                self.texts.set_antenna(number, kind);
-                true
-            }
-            None => false,
-        }
-    }
-
     // The position of the antenna.
-    fn take_position(&mut self, line: &[u8]) -> bool
-        ensures { LearnsOrRefuses Section.Position line.now self.old self.new result }
+    fn read_position(&mut self, line: &[u8]) -> bool
+        ensures { LearnsOrRefuses HeaderRow.Position line.now self.old self.new result }
     {
         match read_position(line) {
             Some((x, y, z)) => {
@@ -121,8 +41,8 @@ impl HeadSoFar {
     }
 
     // The height of the antenna above the marker.
-    fn take_delta(&mut self, line: &[u8]) -> bool
-        ensures { LearnsOrRefuses Section.Delta line.now self.old self.new result }
+    fn read_height(&mut self, line: &[u8]) -> bool
+        ensures { LearnsOrRefuses HeaderRow.Delta line.now self.old self.new result }
     {
         match read_delta(line) {
             Some(height) => {
@@ -133,16 +53,9 @@ impl HeadSoFar {
         }
     }
 
-    // The unit of the strengths.
-    fn take_unit(&mut self, line: &[u8]) -> bool
-        ensures { LearnsOrRefuses Section.StrengthUnit line.now self.old self.new result }
-    {
-        is_header_line(line, labels::UNIT, labels::STRENGTH_UNIT)
-    }
-
     // The time of the first epoch.
-    fn take_first(&mut self, line: &[u8]) -> bool
-        ensures { LearnsOrRefuses Section.First line.now self.old self.new result }
+    fn read_first_time(&mut self, line: &[u8]) -> bool
+        ensures { LearnsOrRefuses HeaderRow.First line.now self.old self.new result }
     {
         match read_first(line) {
             Some(time) => {
@@ -153,36 +66,42 @@ impl HeadSoFar {
         }
     }
 
-    // That no phase of a system is shifted.
-    fn take_shift(&mut self, system: System, line: &[u8]) -> bool
-        ensures { LearnsOrRefuses (Section.Shift system) line.now self.old self.new result }
+    // The unit of the strengths.
+    fn is_unit(&self, line: &[u8]) -> bool
+        ensures { LearnsOrRefuses HeaderRow.StrengthUnit line.now self.now self.now result }
     {
-        if !self.plans(system) {
-            return false;
-        }
+        is_header_line(line, labels::UNIT, labels::STRENGTH_UNIT)
+    }
+
+    // That no phase of a system is shifted.
+    fn is_shift(&self, system: System, line: &[u8]) -> bool
+        ensures { LearnsOrRefuses (HeaderRow.Shift system) line.now self.now self.now result }
+    {
         is_header_line(line, &[letter_of(system)], labels::SHIFT)
     }
 
-    /// Takes the line of a section, and answers whether it is one.
-    pub(crate) fn learn(&mut self, section: Section, line: &[u8]) -> bool
-        requires { IsSole section }
-        ensures { LearnsOrRefuses section line.now self.old self.new result }
+    // The texts of a row.
+    fn read_text_row(&mut self, row: TextRow, line: &[u8]) -> bool
+        ensures { LearnsOrRefuses (HeaderRow.Texts row) line.now self.old self.new result }
     {
-        match section {
-            Section::Version => self.take_version(line),
-            Section::Program => self.take_program(line),
-            Section::Marker => self.take_marker(line),
-            Section::MarkerType => self.take_marker_type(line),
-            Section::Observer => self.take_observer(line),
-            Section::Receiver => self.take_receiver(line),
-            Section::Antenna => self.take_antenna(line),
-            Section::Position => self.take_position(line),
-            Section::Delta => self.take_delta(line),
-            Section::StrengthUnit => self.take_unit(line),
-            Section::First => self.take_first(line),
-            Section::Shift(system) => self.take_shift(system, line),
-            Section::Types(_) => false,
-            Section::End => false,
+        read_texts(&mut self.texts, row, line)
+    }
+
+    /// Reads the line of a row, and returns whether some header has it.
+    pub(crate) fn read_header_line(&mut self, row: HeaderRow, line: &[u8]) -> bool
+        requires { IsSole row }
+        ensures { LearnsOrRefuses row line.now self.old self.new result }
+    {
+        match row {
+            HeaderRow::Version => self.read_systems(line),
+            HeaderRow::Texts(row) => self.read_text_row(row, line),
+            HeaderRow::Position => self.read_position(line),
+            HeaderRow::Delta => self.read_height(line),
+            HeaderRow::StrengthUnit => self.is_unit(line),
+            HeaderRow::First => self.read_first_time(line),
+            HeaderRow::Shift(system) => self.is_shift(system, line),
+            HeaderRow::Types(_, _) => false,
+            HeaderRow::End => false,
         }
     }
 }

@@ -1,16 +1,15 @@
 //! What was read of a header.
-ghost use Rattle.std.specs.Prelude.{◌≡◌, ◌<◌, ◌≤◌, [], ◌↔◌, ℕ, List, length, Err, None, IfOk, IfSome, IfNone, OnOk, IsTrue};
+ghost use Rattle.std.specs.Prelude.{◌≡◌, ◌<◌, ◌≤◌, [], ◌↔◌, ℕ, List, true, length, Err, None, IfOk, IfSome, IfNone, OnOk, IsTrue, MatchBool};
 ghost use Rattle.gnss_obs.specs.Signals.{table};
 ghost use Rattle.obs_epoch.specs.Signals.{indices, IsOf};
 ghost use Rattle.obs_epoch.specs.Values.{planned_of};
-ghost use Rattle.rinex_file.specs.FileValues.{of_system};
-ghost use Rattle.rinex_file.specs.Header.{type_rows, sections_behind};
-ghost use Rattle.rinex_file.specs.Read.Progress.{Shown, IsShown, IsHeaderLeft, AreHeaderLines};
-ghost use Rattle.rinex_file.specs.Read.HeaderSteps.{IsSole, has_lines, IsReached, IsWhole, GoesOnBehind, StepsTo, NoneGoesOn, CountsDue, TakesRow, RefusesRow, with_signals};
+ghost use Rattle.rinex_file.specs.Header.{type_rows, row_at, row_count};
+ghost use Rattle.rinex_file.specs.Read.Progress.{Shown, IsShown, IsHeaderLeft, AreHeaderLines, HasHeaderAt, StaysOpen, plans, signal_count};
+ghost use Rattle.rinex_file.specs.Read.HeaderSteps.{AreValid, known_line, LearnsLine, RefusesHeaderLine, IsWholeOf, IsWhole, SameFrom, StepsTo, NoneGoesOn, CountsDue, TakesRow, RefusesRow, with_signals, with_count};
 ghost use Rattle.rinex_file.specs.Limits.{most_signals};
 
 use crate::header::labels;
-use crate::header::section::Section;
+use crate::header::rows::{HeaderRow, ROW_COUNT, row_at};
 use crate::header::texts::HeaderTexts;
 use crate::header::types::TYPES_IN_LINE;
 use crate::read::due::Refusal;
@@ -32,10 +31,13 @@ pub(crate) struct HeadSoFar {
     pub(crate) first: GpsTime,
     pub(crate) has_gps: bool,
     pub(crate) has_galileo: bool,
-    signals: usize,
+    gps_count: usize,
+    galileo_count: usize,
 }
 
 impl Model for HeadSoFar {
+    ghost use Rattle.std.specs.Prelude.{◌≤◌, length};
+    ghost use Rattle.gnss_obs.specs.Signals.{table};
     ghost use Rattle.obs_epoch.specs.Signals.{indices, IsOf};
     ghost use Rattle.gnss_obs.specs.declared.system.System.TheVariants.{Gps, Galileo};
     ghost use Rattle.rinex_file.specs.Read.Progress.{Known};
@@ -47,13 +49,15 @@ impl Model for HeadSoFar {
       shown = record { texts = h.texts; plan = record { gps = indices h.gps.items; galileo = indices h.galileo.items }; values = h.values; first = h.first };
       gps = h.has_gps;
       galileo = h.has_galileo;
-      signals = h.signals;
+      gps_count = h.gps_count;
+      galileo_count = h.galileo_count;
     } };
 
-    ghost invariant = { λ h. IsOf Gps h.gps.items × IsOf Galileo h.galileo.items × AreValues h.values × IsTime h.first };
+    ghost invariant = { λ h. IsOf Gps h.gps.items × IsOf Galileo h.galileo.items × AreValues h.values × IsTime h.first
+        × (h.gps_count ≤ length (table Gps)) × (h.galileo_count ≤ length (table Galileo)) };
 }
 
-// So many lines are needed for the types of so many signals.
+// The number of lines that the types of a number of signals need.
 fn rows_of(signals: usize) -> usize
     requires { signals ≤ most_signals }
     ensures { result ≡ type_rows signals }
@@ -61,7 +65,7 @@ fn rows_of(signals: usize) -> usize
     (4 * signals + TYPES_IN_LINE - 1) / TYPES_IN_LINE
 }
 
-// Takes the signals whose types begin in a line, behind as many as begin in the lines before.
+// Takes the signals whose types begin in a line, after those of the lines before.
 fn take_row(
     signals: &mut Vec<Signal>,
     system: System,
@@ -90,13 +94,14 @@ fn take_row(
 impl HeadSoFar {
     /// Nothing was read.
     pub(crate) fn new(alloc: Global) -> HeadSoFar
-        ensures { (h : Shown) (left : List (List ℕ)) → IsHeaderLeft result Section.Version 0 h left ↔ AreHeaderLines h left }
+        ensures starts { (h : Shown) (left : List (List ℕ)) → IsHeaderLeft result 0 h left ↔ AreHeaderLines h left }
+        ensures left { HasHeaderAt result 0 }
     {
         let zero = match GpsTime::new(0) {
             Some(time) => time,
             None => unreachable!(),
         };
-        HeadSoFar {
+        let head = HeadSoFar {
             texts: HeaderTexts::blank(),
             gps: Vec::new(alloc),
             galileo: Vec::new(alloc),
@@ -109,13 +114,24 @@ impl HeadSoFar {
             first: zero,
             has_gps: false,
             has_galileo: false,
-            signals: 0,
-        }
+            gps_count: 0,
+            galileo_count: 0,
+        };
+        head.are_valid();
+        head
+    }
+
+    // Shows that each part that was read is one of a header.
+    fn are_valid(&self)
+        ensures { AreValid self.now }
+    {
+        let _ = &self.gps;
+        self.texts.are_texts();
     }
 
     /// Whether signals of a system are planned, by the first line.
     pub(crate) fn plans(&self, system: System) -> bool
-        ensures { result ≡ of_system system self.now.gps self.now.galileo }
+        ensures { result ≡ plans self.now system }
     {
         match system {
             System::Gps => self.has_gps,
@@ -123,110 +139,104 @@ impl HeadSoFar {
         }
     }
 
-    // Whether a section has lines.
-    fn has_lines(&self, section: Section) -> bool
-        ensures { result ≡ has_lines self.now section }
+    // The number of signals of a system, by its first line of types.
+    fn signal_count(&self, system: System) -> usize
+        ensures count { result ≡ signal_count self.now system }
+        ensures bound { result ≤ length (table system) }
     {
-        match section {
-            Section::Types(system) => self.plans(system),
-            Section::Shift(system) => self.plans(system),
+        match system {
+            System::Gps => self.gps_count,
+            System::Galileo => self.galileo_count,
+        }
+    }
+
+    // Whether a system has a line of types with this number, as far as the lines before say.
+    fn has_types(&self, system: System, row: usize) -> bool
+        ensures { result ≡ known_line self.now (HeaderRow.Types system row) }
+    {
+        if !self.plans(system) {
+            return false;
+        }
+        row == 0 || row < rows_of(self.signal_count(system))
+    }
+
+    // Whether a row has a line, as far as the lines before say.
+    fn has_line(&self, row: HeaderRow) -> bool
+        ensures { result ≡ known_line self.now row }
+    {
+        match row {
+            HeaderRow::Types(system, row) => self.has_types(system, row),
+            HeaderRow::Shift(system) => self.plans(system),
             _ => true,
         }
     }
 
-    // The first section from this one on that has lines.
-    fn section_from(&self, section: Section) -> Section
-        ensures { (h : Shown) (left : List (List ℕ)) → IsReached self.now section h left ↔ IsHeaderLeft self.now result 0 h left }
+    // The place of the first row with a line, from a place on.
+    fn place_from(&self, from: usize) -> Option<usize>
+        ensures none { IfNone result ((h : Shown) (left : List (List ℕ)) → IsHeaderLeft self.now from h left → ⊥) }
+        ensures bound { IfSome result (λ place. place < row_count) }
+        ensures here { IfSome result (λ place. known_line self.now (row_at place) ≡ true) }
+        ensures same { IfSome result (λ place. SameFrom self.now from place) }
     {
-        let mut at = section;
-        while !self.has_lines(at) {
-            at = match at.following() {
-                Some(next) => next,
-                None => return at,
-            };
+        for place in from..ROW_COUNT {
+            if self.has_line(row_at(place)) {
+                return Some(place);
+            }
         }
-        at
+        None
     }
 
-    // The place of the first line behind a section, or None behind the last.
-    fn place_behind(&self, section: Section) -> Option<(Section, usize)>
-        ensures some { IfSome result (λ next. GoesOnBehind self.now section next) }
-        ensures none { IfNone result (sections_behind section ≡ []) }
+    // Whether the signals of a system were read, as many as its first line of types says.
+    fn is_whole_of(&self, system: System) -> bool
+        ensures { IsTrue result ↔ IsWholeOf system self.now }
     {
-        let next = section.following()?;
-        Some((self.section_from(next), 0))
+        let read = self.planned(system);
+        if !self.plans(system) {
+            return read == 0;
+        }
+        read > 0 && self.signal_count(system) == read
     }
 
-    // Takes the line of a section that has at most one.
-    fn take_sole(
-        &mut self,
-        section: Section,
-        row: usize,
-        line: &[u8],
-    ) -> Result<Option<(Section, usize)>, Refusal>
-        requires { IsSole section }
-        ensures taken { IfOk result (λ next. StepsTo self.old section row line.now self.new next) }
-        ensures some { IfOk result (λ next. next ≡ None → ⊥) }
-        ensures bad { result ≡ Err Refusal.Bad → NoneGoesOn self.old section row line.now }
-    {
-        if row != 0 {
-            return Err(Refusal::Bad);
-        }
-        if !self.learn(section, line) {
-            return Err(Refusal::Bad);
-        }
-        Ok(self.place_behind(section))
-    }
-
-    // Whether signals were read of exactly the planned systems, and some system is planned.
+    // Whether the signals of both systems were read, and there is one.
     fn is_whole(&self) -> bool
         ensures { IsTrue result ↔ IsWhole self.now }
     {
-        if self.gps.is_empty() == self.has_gps {
+        if !self.is_whole_of(System::Gps) {
             return false;
         }
-        if self.galileo.is_empty() == self.has_galileo {
+        if !self.is_whole_of(System::Galileo) {
             return false;
         }
-        self.has_gps || self.has_galileo
+        self.gps.len() + self.galileo.len() > 0
     }
 
-    // Takes the last line.
-    fn take_end(&self, row: usize, line: &[u8]) -> Result<Option<(Section, usize)>, Refusal>
-        ensures taken { IfOk result (λ next. StepsTo self.now Section.End row line.now self.now next) }
-        ensures shown { IfOk result (λ next. IsShown self.now.shown) }
-        ensures bad { result ≡ Err Refusal.Bad → NoneGoesOn self.now Section.End row line.now }
+    // Whether this is the last line of a header.
+    fn is_end(&self, line: &[u8]) -> bool
+        ensures taken { MatchBool result (StepsTo self.now 25 line.now self.now None) (NoneGoesOn self.now 25 line.now) }
+        ensures shown { IsTrue result → IsShown self.now.shown }
     {
         self.texts.are_texts();
-        if row != 0 {
-            return Err(Refusal::Bad);
-        }
         if !is_header_line(line, b"", labels::END) {
-            return Err(Refusal::Bad);
+            return false;
         }
-        if !self.is_whole() {
-            return Err(Refusal::Bad);
-        }
-        Ok(None)
+        self.is_whole()
     }
 
-    // So many signals of a system are planned, where this line of its types is due.
+    // The number of signals of a system that is planned, when this line of its types is expected.
     fn count_due(&self, system: System, row: usize, line: &[u8]) -> Option<usize>
         ensures bound { IfSome result (λ n. n ≤ length (table system)) }
         ensures rows { IfSome result (λ n. row < type_rows n) }
-        ensures later { IfSome result (λ n. 0 < row → self.now.signals ≡ n) }
+        ensures later { IfSome result (λ n. 0 < row → signal_count self.now system ≡ n) }
         ensures due { CountsDue self.now system row line.now result }
     {
         if row == 0 {
             return read_count(line, system);
         }
-        if self.signals > system.signals() {
+        let count = self.signal_count(system);
+        if row >= rows_of(count) {
             return None;
         }
-        if row >= rows_of(self.signals) {
-            return None;
-        }
-        Some(self.signals)
+        Some(count)
     }
 
     // Takes the signals of a system whose types begin in a line.
@@ -257,6 +267,17 @@ impl HeadSoFar {
         }
     }
 
+    // Puts in the number of signals of a system.
+    fn set_count(&mut self, system: System, count: usize)
+        requires { count ≤ length (table system) }
+        ensures { self.new ≡ with_count system self.old count }
+    {
+        match system {
+            System::Gps => self.gps_count = count,
+            System::Galileo => self.galileo_count = count,
+        }
+    }
+
     // Takes a line of the types of a system.
     fn take_types(
         &mut self,
@@ -264,42 +285,73 @@ impl HeadSoFar {
         row: usize,
         line: &[u8],
         again: &mut Line,
-    ) -> Result<Option<(Section, usize)>, Refusal>
-        ensures taken { IfOk result (λ next. StepsTo self.old (Section.Types system) row line.now self.new next) }
-        ensures some { IfOk result (λ next. next ≡ None → ⊥) }
-        ensures bad { result ≡ Err Refusal.Bad → NoneGoesOn self.old (Section.Types system) row line.now }
+    ) -> Result<(), Refusal>
+        requires row { row < 6 }
+        requires here { known_line self.old (HeaderRow.Types system row) ≡ true }
+        ensures taken { OnOk result (LearnsLine (HeaderRow.Types system row) line.now self.old self.new) }
+        ensures bad { result ≡ Err Refusal.Bad → RefusesHeaderLine (HeaderRow.Types system row) line.now self.old }
     {
-        if !self.plans(system) {
-            return Err(Refusal::Bad);
-        }
         let Some(count) = self.count_due(system, row, line) else {
             return Err(Refusal::Bad);
         };
         self.take_signals(system, count, row, line, again)?;
-        self.signals = count;
-        if row + 1 < rows_of(count) {
-            return Ok(Some((Section::Types(system), row + 1)));
-        }
-        Ok(self.place_behind(Section::Types(system)))
+        self.set_count(system, count);
+        Ok(())
     }
 
-    /// Takes a line where this one is due, and answers the place of the next, or None where the
-    /// header ends. What is known then stands for the headers that have this line next.
-    pub(crate) fn take(
+    // Takes the line of the row at a place.
+    fn take_at(
         &mut self,
-        section: Section,
-        row: usize,
+        place: usize,
         line: &[u8],
         again: &mut Line,
-    ) -> Result<Option<(Section, usize)>, Refusal>
-        ensures taken { IfOk result (λ next. StepsTo self.old section row line.now self.new next) }
+    ) -> Result<Option<usize>, Refusal>
+        requires place { place < row_count }
+        requires here { known_line self.old (row_at place) ≡ true }
+        ensures taken { IfOk result (λ next. StepsTo self.old place line.now self.new next) }
         ensures shown { IfOk result (λ next. next ≡ None → IsShown self.new.shown) }
-        ensures bad { result ≡ Err Refusal.Bad → NoneGoesOn self.old section row line.now }
+        ensures stays { IfOk result (λ next. StaysOpen self.old place self.new next) }
+        ensures bad { result ≡ Err Refusal.Bad → NoneGoesOn self.old place line.now }
     {
-        match section {
-            Section::Types(system) => self.take_types(system, row, line, again),
-            Section::End => self.take_end(row, line),
-            _ => self.take_sole(section, row, line),
+        match row_at(place) {
+            HeaderRow::Types(system, row) => {
+                self.take_types(system, row, line, again)?;
+                self.are_valid();
+                Ok(Some(place + 1))
+            }
+            HeaderRow::End => {
+                if !self.is_end(line) {
+                    return Err(Refusal::Bad);
+                }
+                Ok(None)
+            }
+            row => {
+                if !self.read_header_line(row, line) {
+                    return Err(Refusal::Bad);
+                }
+                self.are_valid();
+                Ok(Some(place + 1))
+            }
+        }
+    }
+
+    /// Takes a line that is expected from the row at a place on, and returns the place of the next
+    /// row, or None at the end of the header. What is known then describes the headers that have
+    /// this line next.
+    pub(crate) fn take(
+        &mut self,
+        from: usize,
+        line: &[u8],
+        again: &mut Line,
+    ) -> Result<Option<usize>, Refusal>
+        ensures taken { IfOk result (λ next. StepsTo self.old from line.now self.new next) }
+        ensures shown { IfOk result (λ next. next ≡ None → IsShown self.new.shown) }
+        ensures stays { IfOk result (λ next. StaysOpen self.old from self.new next) }
+        ensures bad { result ≡ Err Refusal.Bad → NoneGoesOn self.old from line.now }
+    {
+        match self.place_from(from) {
+            None => Err(Refusal::Bad),
+            Some(place) => self.take_at(place, line, again),
         }
     }
 }

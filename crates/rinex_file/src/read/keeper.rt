@@ -10,7 +10,7 @@ ghost use Rattle.rinex_file.specs.Read.Kept.{epochs_of, AreKept};
 use crate::read::course::Course;
 use crate::read::due::Added;
 use crate::read::head_parts::HeadParts;
-use crate::values::kept::{KeptEpoch, KeptRow, KeptSatellite, KeptValues};
+use crate::values::kept::{KeptEpoch, KeptRow, KeptSatellite, SignalValues};
 use crate::values::obs_file::ObsFile;
 use obs_epoch::{GpsTime, StationValues};
 use std::alloc::{AllocError, Global};
@@ -21,11 +21,11 @@ pub(crate) struct Keeper {
     pub(crate) epochs: Vec<KeptEpoch>,
     pub(crate) changes: Vec<StationValues>,
     pub(crate) rows: Vec<KeptRow>,
-    pub(crate) entries: Vec<KeptValues>,
+    pub(crate) entries: Vec<SignalValues>,
     pub(crate) begun: usize,
 }
 
-// Keeps a change of station values where there is one, and says whether there is.
+// Keeps a change of station values if there is one, and returns whether there is.
 fn keep_change(
     changes: &mut Vec<StationValues>,
     change: Option<StationValues>,
@@ -91,7 +91,7 @@ impl Keeper {
         Ok(())
     }
 
-    // Keeps the epoch that was begun, behind this change of station values and at this time.
+    // Keeps the epoch that was begun, after this change of station values and at this time.
     fn close(&mut self, change: Option<StationValues>, time: GpsTime) -> Result<(), AllocError>
         requires kept { IsKept self.old }
         ensures kept { OnOk result (IsKept self.new) }
@@ -134,7 +134,7 @@ fn file_of(
     epochs: Vec<KeptEpoch>,
     changes: Vec<StationValues>,
     rows: Vec<KeptRow>,
-    entries: Vec<KeptValues>,
+    entries: Vec<SignalValues>,
 ) -> ObsFile
     requires value { IsFileValue (file_with parts.texts parts.plan parts.values (epochs_of epochs.items changes.items rows.items entries.items)) }
     requires kept { AreKept epochs.items changes.items rows.items entries.items 0 }

@@ -10,7 +10,7 @@ use crate::write::numbers::Line;
 use rtcm_bits::Counted;
 use std::io::Read;
 
-/// What was found where a line is due.
+/// What was found in place of the next line.
 #[derive(Clone, Copy)]
 pub(crate) enum Found {
     /// A line with its line feed.

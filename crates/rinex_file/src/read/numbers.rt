@@ -26,7 +26,7 @@ pub(crate) fn digits_in(text: &[u8]) -> u64
     number
 }
 
-/// The digits of a text as one number, negative where there is a minus.
+/// The digits of a text as one number, negative if there is a minus.
 pub(crate) fn number_in(text: &[u8]) -> i64
     requires { length text.now ≤ 18 }
     ensures value { result ≡ number_in text.now }
@@ -46,7 +46,7 @@ pub(crate) struct NumberText {
 }
 
 impl NumberText {
-    /// The digits as one number, negative where there is a minus.
+    /// The digits as one number, negative if there is a minus.
     pub(crate) fn value(self) -> i64
         requires { self.digits < 10 ^ 18 }
         ensures { result ≡ (if self.has_minus then neg_ℤ (pos self.digits) else pos self.digits) }

@@ -16,7 +16,7 @@ use rtcm_bits::Counted;
 use std::alloc::Global;
 use std::io::Read;
 
-/// So many lines of a file have a number.
+/// Largest number of lines of a file.
 const MOST_LINES: u64 = 1 << 32;
 
 /// The reading of a file: how far it is, the lines that were taken, and buffers.
@@ -29,13 +29,13 @@ pub(crate) struct Reading {
     again: Line,
 }
 
-// The fault of a line that is another than the one that was due.
+// The fault of a line that isn't of the kind that was expected.
 fn fault_at(due: Due, number: u64) -> ReadFault
     ensures faulty { (input : List ℕ) → IsFaulty input number → IsDueAt due input number → ExplainsFault input result }
     ensures other { result ≡ ReadFault.Read → ⊥ }
 {
     match due {
-        Due::Header(_, _) => ReadFault::BadHeader(number),
+        Due::Header(_) => ReadFault::BadHeader(number),
         Due::Epoch => ReadFault::BadEpoch(number),
         Due::EventPosition => ReadFault::BadEvent(number),
         Due::EventHeight(_, _, _) => ReadFault::BadEvent(number),
@@ -44,7 +44,7 @@ fn fault_at(due: Due, number: u64) -> ReadFault
     }
 }
 
-// The fault where something stands behind so many lines, which may be as many as have a number.
+// The fault if something follows this number of lines, which may be the largest.
 fn fault_behind(lines: u64, fault: ReadFault) -> ReadFault
     ensures { result ≡ (if lines == most_lines then ReadFault.TooLong else fault) }
 {
@@ -70,7 +70,7 @@ impl Reading {
         }
     }
 
-    /// Takes the next line, and answers what it adds, or None where the file ended.
+    /// Reads the next line and returns what it adds, or None at the end of the file.
     pub(crate) fn next<R: Read>(
         &mut self,
         reader: &mut Counted<R>,

@@ -1,4 +1,4 @@
-//! The line of a satellite, read back: what stands there is judged, written again and compared.
+//! The line of a satellite, read back: what it shows is validated, written again and compared.
 ghost use Rattle.std.specs.Prelude.{◌≡◌, ◌↔◌, ℕ, pos, ◌+◌, ◌-◌, ◌*◌, ◌≤◌, ◌<◌, List, [], ◌∷◌, drop, ◌++◌, replicate, length, slice_index, All, Any, Some, IfSome, IsTrue};
 ghost use Rattle.arrayvec.specs.ArrayVec.{array_vec_len};
 ghost use Rattle.gnss_obs.specs.declared.system.System.{System};
@@ -10,9 +10,9 @@ ghost use Rattle.rinex_file.specs.Read.Row.{value_in, signal_values_in, signals_
 ghost use Rattle.rinex_file.specs.Limits.{most_line, signal_columns, most_signals};
 
 use crate::read::numbers::{digits_in, is_same, number_text};
-use crate::values::kept::{KeptSatellite, KeptValues};
-use crate::write::kept_line::kept_line;
+use crate::values::kept::{KeptSatellite, SignalValues};
 use crate::write::numbers::{Line, MOST_SIGNALS, SIGNAL_COLUMNS, put, put_times};
+use crate::write::satellite::satellite_text;
 use arrayvec::ArrayVec;
 use gnss_obs::System;
 
@@ -31,11 +31,11 @@ fn value_in(text: &[u8]) -> Option<i64>
 
 // What the 64 columns of a signal show.
 #[tactic(auto, unfolding(crate::specs::Read::Row::signal_values_in))]
-fn signal_values_in(text: &[u8]) -> KeptValues
+fn signal_values_in(text: &[u8]) -> SignalValues
     requires { signal_columns ≤ length text.now }
     ensures { result ≡ signal_values_in text.now }
 {
-    KeptValues {
+    SignalValues {
         c: value_in(text),
         l: value_in(&text[16..]),
         d: value_in(&text[32..]),
@@ -44,8 +44,8 @@ fn signal_values_in(text: &[u8]) -> KeptValues
     }
 }
 
-// The entries that the columns of so many signals show, in place of those that were there.
-fn put_entries(text: &[u8], signals: usize, entries: &mut ArrayVec<KeptValues, MOST_SIGNALS>)
+// The entries that the columns of this number of signals show, in place of those before.
+fn put_entries(text: &[u8], signals: usize, entries: &mut ArrayVec<SignalValues, MOST_SIGNALS>)
     requires few { signals ≤ most_signals }
     requires room { 3 + signal_columns * signals ≤ length text.now }
     ensures { entries.new.items ≡ signals_in signals (drop 3 text.now) }
@@ -69,7 +69,7 @@ fn put_seen_in(system: System, text: &[u8], signals: usize, seen: &mut KeptSatel
     put_entries(text, signals, &mut seen.entries);
 }
 
-// Whether a value fits into its columns, or none stands there.
+// Whether a value fits into its columns, or there is none.
 fn is_value(value: Option<i64>) -> bool
     ensures { IsTrue result ↔ IfSome value FitsColumns }
 {
@@ -79,7 +79,7 @@ fn is_value(value: Option<i64>) -> bool
     }
 }
 
-// Whether a strength is one that is written, 0.001 to 99.999 dB-Hz, or none stands there.
+// Whether a strength is one that is written, 0.001 to 99.999 dB-Hz, or there is none.
 fn is_strength(value: Option<i64>) -> bool
     ensures { IsTrue result ↔ IfSome value (IsFrom (pos 1) (pos 99_999)) }
 {
@@ -89,9 +89,9 @@ fn is_strength(value: Option<i64>) -> bool
     }
 }
 
-// Whether values and indicator are those of a signal: a loss-of-lock indicator stands by a phase
+// Whether values and indicator are those of a signal: a loss-of-lock indicator belongs to a phase
 // alone.
-fn is_entry(entry: &KeptValues) -> bool
+fn is_entry(entry: &SignalValues) -> bool
     ensures { IsTrue result ↔ AreSignalValues entry.now }
 {
     let c = is_value(entry.c);
@@ -102,28 +102,21 @@ fn is_entry(entry: &KeptValues) -> bool
     c && l && d && s && lli
 }
 
-// Whether it has a value.
-fn says(entry: &KeptValues) -> bool
-    ensures { result ≡ has_some_value entry.now }
-{
-    entry.c.is_some() || entry.l.is_some() || entry.d.is_some() || entry.s.is_some()
-}
-
 // Whether each is an entry of a file value.
-fn are_entries(entries: &[KeptValues]) -> bool
+fn are_entries(entries: &[SignalValues]) -> bool
     ensures { IsTrue result ↔ All AreSignalValues entries.now }
 {
     entries.iter().all(|e| is_entry(e))
 }
 
 // Whether one of them has a value.
-fn say_something(entries: &[KeptValues]) -> bool
+fn say_something(entries: &[SignalValues]) -> bool
     ensures { IsTrue result ↔ Any (λ e. IsTrue (has_some_value e)) entries.now }
 {
-    entries.iter().any(|e| says(e))
+    entries.iter().any(|e| e.has_value())
 }
 
-// Whether a system with so many satellites, of which so many signals are planned, can have this
+// Whether a system with this number of satellites and of planned signals can have this
 // row.
 fn is_row(seen: &KeptSatellite, most: u8, signals: usize) -> bool
     ensures { IsTrue result ↔ IsRow most signals seen.now.row }
@@ -149,7 +142,7 @@ fn fill(text: &[u8], signals: usize, filled: &mut Line)
     put_times(filled, b' ', blanks);
 }
 
-// What stands for one system, and for the other.
+// The first value for GPS, the second for Galileo.
 fn of_system(system: System, gps: usize, galileo: usize) -> usize
     ensures { result ≡ of_system system gps galileo }
 {
@@ -187,12 +180,12 @@ fn read_of(
     if !is_row(seen, system.satellites(), signals) {
         return false;
     }
-    kept_line(seen.system, seen.satellite, seen.entries.as_slice(), again);
+    satellite_text(again, seen.system, seen.satellite, seen.entries.as_slice());
     is_same(again.as_slice(), line)
 }
 
-/// Reads the satellite that a line shows, where so many signals of each system are planned. Answers
-/// whether it shows one.
+/// Reads the satellite that a line shows, given the number of planned signals of each system.
+/// Returns whether it shows one.
 pub(crate) fn read_seen(
     line: &[u8],
     again: &mut Line,

@@ -11,7 +11,7 @@ use crate::header::lines::{labelled, three_lengths, version_with};
 use crate::read::numbers::{digits_in, is_same, number_in};
 use crate::read::texts::columns;
 
-// Whether this is the first line where these systems are planned.
+// Whether this is the first line if these systems are planned.
 fn is_version(line: &[u8], gps: bool, galileo: bool) -> bool
     ensures { IsTrue result ↔ (line.now ≡ version_with gps galileo) }
 {
@@ -34,7 +34,7 @@ pub(crate) fn read_version(line: &[u8]) -> Option<(bool, bool)>
     None
 }
 
-// The number in 14 columns of a line that begin at `from`, in 0.0001 m; None where 38 bits don't
+// The number in 14 columns of a line that begin at `from`, in 0.0001 m; None if 38 bits don't
 // hold it.
 fn coordinate_in(line: &[u8], from: usize) -> Option<i64>
     ensures some { IfSome result (λ z. IsCoordinate z × (z ≡ number_in (take 14 (drop from line.now)))) }

@@ -1,21 +1,20 @@
 //! The texts of a header's lines, read back.
-ghost use Rattle.std.specs.Prelude.{◌≡◌, ◌≤◌, ℕ, List, length, take, drop, IfSome, IfNone};
-ghost use Rattle.std.specs.Option.{option_map};
-ghost use Rattle.rinex_file.specs.Blanks.{trimmed};
+ghost use Rattle.std.specs.Prelude.{◌≡◌, ◌<◌, ◌≤◌, ℕ, List, length, take, drop, IfSome, IfNone, MatchBool};
+ghost use Rattle.rinex_file.specs.Texts.{text_count, width_of, field_at};
 ghost use Rattle.rinex_file.specs.FileValues.{IsText};
-ghost use Rattle.rinex_file.specs.Header.{header_line};
-ghost use Rattle.rinex_file.specs.Read.Fields.{ReadsExactly};
-ghost use Rattle.rinex_file.specs.Read.Texts.{ReadsTwoTexts, ReadsThreeTexts};
+ghost use Rattle.rinex_file.specs.Header.{count_of};
+ghost use Rattle.rinex_file.specs.Read.HeaderSteps.{text_in, TakesTexts, ReadsTexts, RefusesTexts};
 
-use crate::header::lines::{labelled, three_texts, two_texts};
-use crate::header::texts::is_printable;
+use crate::header::fault::HeaderField;
+use crate::header::lines::texts_line;
+use crate::header::rows::TextRow;
+use crate::header::texts::{HeaderTexts, Text, is_printable};
 use crate::read::numbers::is_same;
 use crate::write::numbers::put;
 use crate::write::satellite::cut_length;
 use arrayvec::ArrayVec;
 
-/// The columns of a line that begin at `from`, counted from 0: `width` of them, or as many as there
-/// are.
+/// Returns `width` columns of a line, or as many as there are, from `from` on, counted from 0.
 pub(crate) fn columns(line: &[u8], from: usize, width: usize) -> &[u8]
     ensures value { result.now ≡ take width (drop from line.now) }
     ensures bound { length result.now ≤ width }
@@ -24,13 +23,15 @@ pub(crate) fn columns(line: &[u8], from: usize, width: usize) -> &[u8]
     &rest[..width.min(rest.len())]
 }
 
-// The text in N columns of a line that begin at `from`, without the blanks at its end; None where
-// it isn't printable.
-fn text_in<const N: usize>(line: &[u8], from: usize) -> Option<ArrayVec<u8, N>>
-    ensures some { IfSome result (λ t. IsText N t.items × (t.items ≡ trimmed (take N (drop from line.now)))) }
-    ensures none { IfNone result ((w : List ℕ) → IsText N w → trimmed (take N (drop from line.now)) ≡ w → ⊥) }
+// The text in the columns of the field at a place, without the blanks at its end; None if it isn't
+// printable.
+fn text_in(line: &[u8], place: usize) -> Option<Text>
+    requires { place < text_count }
+    ensures some { IfSome result (λ t. IsText (width_of (field_at place)) t.items × (t.items ≡ text_in place line.now)) }
+    ensures none { IfNone result ((w : List ℕ) → IsText (width_of (field_at place)) w → text_in place line.now ≡ w → ⊥) }
 {
-    let field = columns(line, from, N);
+    let field = HeaderField::at(place);
+    let field = columns(line, field.column(), field.width());
     let cut = &field[..cut_length(field)];
     if !is_printable(cut) {
         return None;
@@ -40,51 +41,26 @@ fn text_in<const N: usize>(line: &[u8], from: usize) -> Option<ArrayVec<u8, N>>
     Some(text)
 }
 
-/// The text of a line with this label.
-pub(crate) fn read_one<const N: usize>(line: &[u8], label: &[u8]) -> Option<ArrayVec<u8, N>>
-    requires width { N ≤ 60 }
-    requires label { length label.now ≤ 20 }
-    ensures { ReadsExactly (IsText N) (λ t. header_line t label.now) line.now (option_map (λ t. t.items) result) }
+// Takes the texts in the columns of a row; false if one isn't printable.
+fn take_texts(texts: &mut HeaderTexts, row: TextRow, line: &[u8]) -> bool
+    ensures { MatchBool result (TakesTexts row (count_of row) line.now texts.old texts.new) (RefusesTexts row line.now) }
 {
-    let text = text_in(line, 0)?;
-    if !is_same(line, labelled(text.as_slice(), label).as_slice()) {
-        return None;
+    let start = row.start();
+    for i in 0..row.count() {
+        let Some(text) = text_in(line, start + i) else {
+            return false;
+        };
+        texts.set(start + i, text);
     }
-    Some(text)
+    true
 }
 
-/// The two texts of a line with this label, the first in 20 columns.
-pub(crate) fn read_two<const N: usize>(
-    line: &[u8],
-    label: &[u8],
-) -> Option<(ArrayVec<u8, 20>, ArrayVec<u8, N>)>
-    requires width { N ≤ 40 }
-    requires label { length label.now ≤ 20 }
-    ensures { ReadsTwoTexts N label.now line.now (option_map (λ t. (t.0.items, t.1.items)) result) }
+/// Takes the texts of a row, and returns whether the line is theirs.
+pub(crate) fn read_texts(texts: &mut HeaderTexts, row: TextRow, line: &[u8]) -> bool
+    ensures { MatchBool result (ReadsTexts row line.now texts.old texts.new) (RefusesTexts row line.now) }
 {
-    let first = text_in(line, 0)?;
-    let second = text_in(line, 20)?;
-    let again = two_texts(first.as_slice(), second.as_slice(), label);
-    if !is_same(line, again.as_slice()) {
-        return None;
+    if !take_texts(texts, row, line) {
+        return false;
     }
-    Some((first, second))
-}
-
-/// The three texts of a line with this label, in 20 columns each.
-pub(crate) fn read_three(
-    line: &[u8],
-    label: &[u8],
-) -> Option<(ArrayVec<u8, 20>, ArrayVec<u8, 20>, ArrayVec<u8, 20>)>
-    requires label { length label.now ≤ 20 }
-    ensures { ReadsThreeTexts label.now line.now (option_map (λ t. (t.0.items, t.1.items, t.2.items)) result) }
-{
-    let first = text_in(line, 0)?;
-    let second = text_in(line, 20)?;
-    let third = text_in(line, 40)?;
-    let again = three_texts(first.as_slice(), second.as_slice(), third.as_slice(), label);
-    if !is_same(line, again.as_slice()) {
-        return None;
-    }
-    Some((first, second, third))
+    is_same(line, texts_line(texts, row).as_slice())
 }

@@ -15,7 +15,7 @@ use crate::read::station::is_header_line;
 use crate::write::numbers::Line;
 use gnss_obs::{Signal, System};
 
-/// So many signals of a system are planned, by its first line of types.
+/// The number of planned signals of a system, by its first line of types.
 pub(crate) fn read_count(line: &[u8], system: System) -> Option<usize>
     ensures some { IfSome result (λ n. (1 ≤ n) × (n ≤ length (table system))) }
     ensures count { (all : List ℕ) → AreTypes system all → line.now ≡ types_line system all 0 → result ≡ Some (length all) }
@@ -56,7 +56,7 @@ pub(crate) fn read_types(
     }
 }
 
-// Takes the signals of the codes that stand in a line of types behind a `C`, the letter of a
+// Takes the signals of the codes in a line of types that follow a `C`, the letter of a
 // signal's first type.
 fn take_signals(
     signals: &mut Vec<Signal>,
@@ -81,7 +81,7 @@ fn take_signals(
     Ok(())
 }
 
-/// So many signals begin in the lines in front of one.
+/// The number of signals that begin in the lines before one.
 pub(crate) fn signals_begun(row: usize) -> usize
     requires { row ≤ 6 }
     ensures { result ≡ signals_begun row }
@@ -89,7 +89,7 @@ pub(crate) fn signals_begun(row: usize) -> usize
     (TYPES_IN_LINE * row + 3) / 4
 }
 
-// Takes the signal whose code stands at a column, counted from 0.
+// Takes the signal whose code is at a column, counted from 0.
 fn take_signal(
     signals: &mut Vec<Signal>,
     system: System,
@@ -123,7 +123,7 @@ fn has_signal(signals: &[Signal], index: usize) -> bool
     signals.iter().any(|s| index == s.index())
 }
 
-// The signal whose code stands at a column, counted from 0.
+// The signal whose code is at a column, counted from 0.
 fn signal_in(line: &[u8], system: System, column: usize) -> Option<Signal>
     requires { column ≤ 100 }
     ensures system { IfSome result (λ s. (s.system ≡ system) × IsSignal s) }

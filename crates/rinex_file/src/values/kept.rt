@@ -1,15 +1,19 @@
 //! What was read of an epoch, as it lies in memory.
+ghost use Rattle.std.specs.Prelude.{◌≡◌};
+ghost use Rattle.rinex_file.specs.Value.{no_signal_values, signal_values_of};
+ghost use Rattle.rinex_file.specs.FileValues.{has_some_value};
+
 use crate::write::numbers::MOST_SIGNALS;
 use arrayvec::ArrayVec;
-use gnss_obs::System;
-use obs_epoch::GpsTime;
+use gnss_obs::{System, Thousandths};
+use obs_epoch::{Cell, GpsTime};
 use std::marker::Model;
 
 /// What a line shows of a signal: pseudorange (0.001 m), phase (0.001 cycles), Doppler (0.001 Hz)
-/// and strength (0.001 dB-Hz), and the loss-of-lock indicator of the phase. All are absent where
+/// and strength (0.001 dB-Hz), and the loss-of-lock indicator of the phase. All are absent if
 /// nothing was observed.
 #[derive(Clone, Copy, Default)]
-pub(crate) struct KeptValues {
+pub(crate) struct SignalValues {
     pub(crate) c: Option<i64>,
     pub(crate) l: Option<i64>,
     pub(crate) d: Option<i64>,
@@ -17,7 +21,7 @@ pub(crate) struct KeptValues {
     pub(crate) lli: u8,
 }
 
-impl Model for KeptValues {
+impl Model for SignalValues {
     ghost use Rattle.rinex_file.specs.Value.{SignalValues};
 
     ghost Value = { SignalValues };
@@ -27,13 +31,58 @@ impl Model for KeptValues {
     ghost inverse = { λ e. record { c = e.c; l = e.l; d = e.d; s = e.s; lli = e.lli } };
 }
 
+// The number of thousandths.
+fn number_of(value: Option<Thousandths>) -> Option<i64>
+    ensures { result ≡ value }
+{
+    match value {
+        None => None,
+        Some(value) => Some(value.value()),
+    }
+}
+
+impl SignalValues {
+    /// Nothing was observed.
+    pub(crate) fn none() -> SignalValues
+        ensures { result ≡ no_signal_values }
+    {
+        SignalValues {
+            c: None,
+            l: None,
+            d: None,
+            s: None,
+            lli: 0,
+        }
+    }
+
+    /// The values of a cell.
+    pub(crate) fn of(cell: &Cell) -> SignalValues
+        ensures { result ≡ signal_values_of cell.now }
+    {
+        SignalValues {
+            c: number_of(cell.c),
+            l: number_of(cell.l),
+            d: number_of(cell.d),
+            s: number_of(cell.s),
+            lli: cell.lli,
+        }
+    }
+
+    /// Whether something was observed.
+    pub(crate) fn has_value(&self) -> bool
+        ensures { result ≡ has_some_value self.now }
+    {
+        self.c.is_some() || self.l.is_some() || self.d.is_some() || self.s.is_some()
+    }
+}
+
 /// A satellite of a system, with an entry for each planned signal in the plan's order, as a line
 /// shows it.
 #[derive(Drop)]
 pub(crate) struct KeptSatellite {
     pub(crate) system: System,
     pub(crate) satellite: u8,
-    pub(crate) entries: ArrayVec<KeptValues, MOST_SIGNALS>,
+    pub(crate) entries: ArrayVec<SignalValues, MOST_SIGNALS>,
 }
 
 impl Model for KeptSatellite {
@@ -44,7 +93,7 @@ impl Model for KeptSatellite {
     ghost view = { λ s. record { system = s.system; row = record { satellite = s.satellite; entries = s.entries.items } } };
 }
 
-/// A satellite of a system, with so many of the entries that are kept of all.
+/// A satellite of a system, with the number of its entries among those kept of all.
 #[derive(Clone, Copy, Drop)]
 pub(crate) struct KeptRow {
     pub(crate) system: System,
@@ -52,8 +101,8 @@ pub(crate) struct KeptRow {
     pub(crate) entries: usize,
 }
 
-/// An epoch, with so many of the satellites that are kept of all, and whether it has the next of
-/// the changes of station values.
+/// An epoch, with the number of its satellites among those kept of all, and whether it has the next
+/// of the changes of station values.
 #[derive(Clone, Copy, Drop)]
 pub(crate) struct KeptEpoch {
     pub(crate) time: GpsTime,

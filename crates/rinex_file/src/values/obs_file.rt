@@ -4,7 +4,7 @@ ghost use Rattle.std.specs.List.{sum_by};
 ghost use Rattle.rinex_file.specs.Course.{events_in};
 
 use crate::header::texts::HeaderTexts;
-use crate::values::kept::{KeptEpoch, KeptRow, KeptValues};
+use crate::values::kept::{KeptEpoch, KeptRow, SignalValues};
 use obs_epoch::{Plan, StationValues};
 use std::marker::Model;
 
@@ -17,7 +17,7 @@ pub struct ObsFile {
     pub(crate) epochs: Vec<KeptEpoch>,
     pub(crate) changes: Vec<StationValues>,
     pub(crate) rows: Vec<KeptRow>,
-    pub(crate) entries: Vec<KeptValues>,
+    pub(crate) entries: Vec<SignalValues>,
 }
 
 impl Model for ObsFile {
@@ -51,7 +51,7 @@ impl ObsFile {
         &self.plan
     }
 
-    /// Position and height of the antenna, as the header tells them.
+    /// Position and height of the antenna, as in the header.
     pub fn station_values(&self) -> StationValues
         ensures { result ≡ self.now.values }
     {
@@ -65,7 +65,7 @@ impl ObsFile {
         self.epochs.as_slice().len()
     }
 
-    /// The number of events, each of which tells station values that are no longer those before.
+    /// The number of events, each of which changes the station values.
     pub fn events(&self) -> usize
         ensures { result ≡ events_in self.now.epochs }
     {

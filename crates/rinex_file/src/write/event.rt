@@ -1,4 +1,4 @@
-//! Event records: RINEX 3.05, table A3, event flag 4. One stands in front of an epoch whose station
+//! Event records: RINEX 3.05, table A3, event flag 4. One precedes an epoch whose station
 //! values are no longer those before.
 ghost use Rattle.std.specs.Prelude.{◌≡◌, ◌↔◌, IsTrue};
 ghost use Rattle.rinex_file.specs.File.{event_line};

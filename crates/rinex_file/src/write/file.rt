@@ -8,12 +8,12 @@ ghost use Rattle.rinex_file.specs.Lines.{satellite_line};
 
 use crate::header::head::{Head, header_lines};
 use crate::header::lines::{delta_line, position_line};
-use crate::values::kept::{KeptEpoch, KeptRow, KeptValues};
+use crate::values::kept::{KeptEpoch, KeptRow, SignalValues};
 use crate::values::obs_file::ObsFile;
 use crate::write::epoch::epoch_line;
 use crate::write::event::event_line;
-use crate::write::kept_line::kept_line;
 use crate::write::numbers::Line;
+use crate::write::satellite::satellite_text;
 use obs_epoch::{GpsTime, StationValues};
 use std::alloc::{AllocError, Global};
 
@@ -34,11 +34,11 @@ fn add_header(text: &mut Vec<u8>, file: &ObsFile, first: GpsTime) -> Result<(), 
     Ok(())
 }
 
-// Appends the line of a satellite whose entries begin at this place, and answers where they end.
+// Appends the line of a satellite whose entries begin at this place, and returns where they end.
 fn add_row(
     text: &mut Vec<u8>,
     row: &KeptRow,
-    entries: &[KeptValues],
+    entries: &[SignalValues],
     at: usize,
     line: &mut Line,
 ) -> Result<usize, AllocError>
@@ -48,18 +48,18 @@ fn add_row(
     ensures end { IfOk result (λ end. end ≡ at + row.now.entries) }
 {
     let end = at + row.entries;
-    kept_line(row.system, row.satellite, &entries[at..end], line);
+    satellite_text(line, row.system, row.satellite, &entries[at..end]);
     text.extend_from_slice(line.as_slice())?;
     Ok(end)
 }
 
-// Appends the lines of an epoch with these satellites, whose entries come first of these. Answers
+// Appends the lines of an epoch with these satellites, whose entries come first of these. Returns
 // how many entries they have.
 fn add_epoch(
     text: &mut Vec<u8>,
     time: GpsTime,
     rows: &[KeptRow],
-    entries: &[KeptValues],
+    entries: &[SignalValues],
     line: &mut Line,
 ) -> Result<usize, AllocError>
     requires room { All HasRoom (rows_of rows.now entries.now) }
@@ -76,7 +76,7 @@ fn add_epoch(
     Ok(at)
 }
 
-// Appends the event of an epoch that has the change of station values at this place, and answers
+// Appends the event of an epoch that has the change of station values at this place, and returns
 // where the next one is.
 #[tactic(auto, unfolding(crate::specs::File::event_text))]
 fn add_change(
@@ -100,13 +100,13 @@ fn add_change(
 }
 
 // Appends the lines of an epoch whose satellites, entries and change begin at these places, and
-// answers where they end.
+// returns where they end.
 fn add_next(
     text: &mut Vec<u8>,
     epoch: &KeptEpoch,
     changes: &[StationValues],
     rows: &[KeptRow],
-    entries: &[KeptValues],
+    entries: &[SignalValues],
     at: (usize, usize, usize),
     line: &mut Line,
 ) -> Result<(usize, usize, usize), AllocError>
@@ -130,7 +130,7 @@ fn add_epochs(
     epochs: &[KeptEpoch],
     changes: &[StationValues],
     rows: &[KeptRow],
-    entries: &[KeptValues],
+    entries: &[SignalValues],
     line: &mut Line,
 ) -> Result<(), AllocError>
     requires kept { AreKept epochs.now changes.now rows.now entries.now 0 }

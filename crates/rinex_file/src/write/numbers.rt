@@ -1,4 +1,4 @@
-//! Numbers of stated width, as they stand in the columns of a line.
+//! Numbers of stated width, as in the columns of a line.
 ghost use Rattle.std.specs.Prelude.{◌≡◌, ◌+◌, ◌^◌, ◌≤◌, ◌*◌, ◌++◌, pos, replicate, decimal, length};
 ghost use Rattle.rinex_file.specs.Numbers.{fixed, padded, left, right};
 ghost use Rattle.arrayvec.specs.ArrayVec.{array_vec_len};
@@ -7,16 +7,16 @@ ghost use Rattle.rinex_file.specs.Limits.{most_line};
 use arrayvec::ArrayVec;
 use itoa::Buffer;
 
-/// So many columns has a value: F14.3, and the loss-of-lock and the strength column behind it.
+/// Width of a value field, in columns: F14.3 plus the LLI and SSI columns.
 pub(crate) const VALUE_COLUMNS: usize = 16;
 
-/// So many columns has a signal: pseudorange, phase, Doppler shift and strength.
+/// Width of a signal, in columns: pseudorange, phase, Doppler shift and strength.
 pub(crate) const SIGNAL_COLUMNS: usize = 64;
 
-/// So many signals has a system at most: those of Galileo.
+/// Largest number of signals of a system: those of Galileo.
 pub(crate) const MOST_SIGNALS: usize = 19;
 
-/// So many bytes has a line at most, its line feed included: three columns for a satellite, and
+/// Largest size of a line with its line feed, in bytes: three columns for a satellite, and
 /// those of its signals.
 pub(crate) const MOST_LINE: usize = 1220;
 
@@ -32,7 +32,7 @@ pub(crate) fn put<const N: usize>(line: &mut ArrayVec<u8, N>, bytes: &[u8])
     let _ = line.try_extend_from_slice(bytes);
 }
 
-/// Appends a byte so many times.
+/// Appends a byte `count` times.
 pub(crate) fn put_times<const N: usize>(line: &mut ArrayVec<u8, N>, byte: u8, count: usize)
     requires { array_vec_len line.old + count ≤ N }
     ensures { line.new.items ≡ line.old.items ++ replicate count byte }
@@ -42,7 +42,7 @@ pub(crate) fn put_times<const N: usize>(line: &mut ArrayVec<u8, N>, byte: u8, co
     }
 }
 
-/// Appends a number with zeros in front, up to so many digits.
+/// Appends a number with leading zeros up to this number of digits.
 pub(crate) fn put_padded<const N: usize>(line: &mut ArrayVec<u8, N>, places: usize, number: u64)
     requires { array_vec_len line.old + length (padded places number) ≤ N }
     ensures { line.new.items ≡ line.old.items ++ padded places number }
@@ -85,7 +85,7 @@ pub(crate) fn put_whole(line: &mut Line, width: usize, number: u64)
     put_right(line, width, digits);
 }
 
-/// Appends a number with zeros in front, up to so many digits.
+/// Appends a number with leading zeros up to this number of digits.
 pub(crate) fn put_digits(line: &mut Line, places: usize, number: u64)
     requires places { places ≤ 20 }
     requires room { array_vec_len line.old + 60 ≤ most_line }

@@ -1,25 +1,23 @@
 //! Observation lines: RINEX 3.05, table A3, "OBSERVATION DATA RECORD".
-ghost use Rattle.std.specs.Prelude.{◌≡◌, ◌+◌, ◌*◌, ◌≤◌, ◌<◌, ◌++◌, [], ◌∷◌, length, take, replicate, IfSome, Some, nat_eq};
+ghost use Rattle.std.specs.Prelude.{◌≡◌, ◌+◌, ◌-◌, ◌*◌, ◌≤◌, ◌<◌, ◌++◌, [], ◌∷◌, length, take, drop, replicate, flat_map, All, List, IfSome, Some, nat_eq};
 ghost use Rattle.std.specs.List.{IsDistinct};
 ghost use Rattle.arrayvec.specs.ArrayVec.{array_vec_len};
-ghost use Rattle.obs_epoch.specs.Values.{HasTwelveDigits, IsHeld, AreHeld, planned_of};
-ghost use Rattle.rinex_file.specs.FileValues.{FitsColumns};
-ghost use Rattle.rinex_file.specs.Value.{signal_values_of, row_among, row_in_epoch};
+ghost use Rattle.obs_epoch.specs.declared.cell.Cell.{Cell};
+ghost use Rattle.obs_epoch.specs.Values.{IsHeld, AreHeld, planned_of};
+ghost use Rattle.rinex_file.specs.FileValues.{FitsColumns, HaveRoom};
+ghost use Rattle.rinex_file.specs.Value.{no_signal_values, satellite_row, entries_of, row_among, row_in_epoch};
 ghost use Rattle.rinex_file.specs.Numbers.{padded};
 ghost use Rattle.rinex_file.specs.Blanks.{trimmed};
 ghost use Rattle.rinex_file.specs.Lines.{field, strength_byte, signal_text, letter_of, satellite_line};
-ghost use Rattle.rinex_file.specs.SignalColumns.{with_columns, ShowsCellFirst};
-ghost use Rattle.rinex_file.specs.Limits.{most_line, signal_columns, value_columns};
+ghost use Rattle.rinex_file.specs.Limits.{most_line, signal_columns, value_columns, most_signals};
 
-use crate::write::numbers::{Line, SIGNAL_COLUMNS, VALUE_COLUMNS, put};
+use crate::values::kept::SignalValues;
+use crate::write::numbers::{Line, MOST_SIGNALS, SIGNAL_COLUMNS, VALUE_COLUMNS, put};
 use gnss_obs::{Sat, System, Thousandths, strength_digit};
 use itoa::write_digits;
 use obs_epoch::{Cell, Epoch, Plan};
 
-// So many columns has a satellite: its letter and its number.
-const SATELLITE_COLUMNS: usize = 3;
-
-// What stands behind the whole part of a value, in its columns: a point, thousandths, and two
+// What follows the whole part of a value in its columns: a point, thousandths, and two
 // columns more.
 fn behind_whole(part: u64, lost: u8, strength: u8) -> [u8; VALUE_COLUMNS]
     requires { part < 1000 }
@@ -34,7 +32,7 @@ fn behind_whole(part: u64, lost: u8, strength: u8) -> [u8; VALUE_COLUMNS]
     ]
 }
 
-/// A value as F14.3, with the two columns behind it. Its whole part may have ten digits, or nine
+/// A value as F14.3, with the two columns after it. Its whole part may have ten digits, or nine
 /// and a minus.
 #[tactic(auto, unfolding(crate::specs::Lines::field))]
 pub(crate) fn columns_of(value: i64, lost: u8, strength: u8) -> [u8; VALUE_COLUMNS]
@@ -50,98 +48,101 @@ pub(crate) fn columns_of(value: i64, lost: u8, strength: u8) -> [u8; VALUE_COLUM
     columns
 }
 
-// Writes a value in 14 columns with the two columns behind it, or 16 blanks.
+// Writes a value in 14 columns and the two columns after it, or 16 blanks.
 #[tactic(auto, unfolding(crate::specs::Lines::field))]
-fn put_field(columns: &mut [u8], value: Option<Thousandths>, lost: u8, strength: u8)
-    requires fits { IfSome value HasTwelveDigits }
+fn put_field(columns: &mut [u8], value: Option<i64>, lost: u8, strength: u8)
+    requires fits { IfSome value FitsColumns }
     requires room { length columns.old ≡ value_columns }
     ensures text { columns.new ≡ field value lost strength }
     ensures size { length columns.new ≡ value_columns }
 {
     match value {
         None => columns.fill(b' '),
-        Some(value) => columns.copy_from_slice(&columns_of(value.value(), lost, strength)),
+        Some(value) => columns.copy_from_slice(&columns_of(value, lost, strength)),
     }
 }
 
 // The strength column.
-fn strength_column(s: Option<Thousandths>) -> u8
+fn strength_column(s: Option<i64>) -> u8
     ensures { result ≡ strength_byte s }
 {
     match s {
         None => b' ',
-        Some(s) => b'0' + strength_digit(s),
+        Some(s) => b'0' + strength_digit(Thousandths::new(s)),
     }
 }
 
-// Appends the columns of so many signals without a value.
-fn put_blanks(line: &mut Line, signals: usize)
-    requires { array_vec_len line.old + signal_columns * signals ≤ most_line }
-    ensures text { line.new.items ≡ line.old.items ++ replicate (signal_columns * signals) 32 }
-    ensures size { array_vec_len line.new ≡ array_vec_len line.old + signal_columns * signals }
-{
-    let blanks = [b' '; SIGNAL_COLUMNS];
-    for _ in 0..signals {
-        put(line, &blanks);
-    }
-}
-
-// Writes the columns of a signal with this cell.
+// Writes the columns of a signal.
 #[tactic(auto, unfolding(crate::specs::Lines::signal_text))]
-fn put_cell(columns: &mut [u8], cell: &Cell)
-    requires held { IsHeld cell.now.signal.system cell.now }
+fn put_signal(columns: &mut [u8], values: &SignalValues)
+    requires fits { HaveRoom values.now }
     requires room { length columns.old ≡ signal_columns }
-    ensures text { columns.new ≡ signal_text (signal_values_of cell.now) }
+    ensures text { columns.new ≡ signal_text values.now }
     ensures size { length columns.new ≡ signal_columns }
 {
-    let strength = strength_column(cell.s);
-    let lost = if cell.lli == 0 { b' ' } else { b'0' + cell.lli };
-    put_field(&mut columns[..VALUE_COLUMNS], cell.c, b' ', strength);
+    let strength = strength_column(values.s);
+    let lost = if values.lli == 0 {
+        b' '
+    } else {
+        b'0' + values.lli
+    };
+    put_field(&mut columns[..VALUE_COLUMNS], values.c, b' ', strength);
     put_field(
         &mut columns[VALUE_COLUMNS..2 * VALUE_COLUMNS],
-        cell.l,
+        values.l,
         lost,
         strength,
     );
     put_field(
         &mut columns[2 * VALUE_COLUMNS..3 * VALUE_COLUMNS],
-        cell.d,
+        values.d,
         b' ',
         b' ',
     );
-    put_field(&mut columns[3 * VALUE_COLUMNS..], cell.s, b' ', b' ');
+    put_field(&mut columns[3 * VALUE_COLUMNS..], values.s, b' ', b' ');
 }
 
-// Writes the columns of the planned signal at this place.
-fn put_at(line: &mut Line, place: usize, cell: &Cell)
-    requires held { IsHeld cell.now.signal.system cell.now }
-    requires room { 3 + signal_columns * place + signal_columns ≤ array_vec_len line.old }
-    ensures text { line.new.items ≡ with_columns place (signal_text (signal_values_of cell.now)) line.old.items }
-    ensures size { array_vec_len line.new ≡ array_vec_len line.old }
+// Blank columns of a signal.
+fn blank_columns() -> [u8; SIGNAL_COLUMNS]
+    ensures { length result ≡ signal_columns }
 {
-    let text = line.as_mut_slice();
-    let from = SATELLITE_COLUMNS + SIGNAL_COLUMNS * place;
-    put_cell(&mut text[from..from + SIGNAL_COLUMNS], cell);
+    [b' '; SIGNAL_COLUMNS]
 }
 
-// Writes the columns of a cell of this satellite whose signal is planned; any other is passed over.
-// A line that shows some cells shows this one in front of them then: it takes the place of one of
-// the same signal.
-fn put_planned(line: &mut Line, plan: &Plan, system: System, id: u8, cell: &Cell)
-    requires held { IsHeld system cell.now }
-    requires id { id < 100 }
-    requires apart { IsDistinct nat_eq (planned_of system plan.now) }
-    requires room { array_vec_len line.old ≡ 3 + signal_columns * length (planned_of system plan.now) }
-    ensures text { ShowsCellFirst plan.now system id cell.now line.old.items line.new.items }
-    ensures size { array_vec_len line.new ≡ array_vec_len line.old }
+// Appends the columns of a signal.
+fn add_signal(line: &mut Line, values: &SignalValues)
+    requires fits { HaveRoom values.now }
+    requires room { array_vec_len line.old + signal_columns ≤ most_line }
+    ensures text { line.new.items ≡ line.old.items ++ signal_text values.now }
+    ensures size { array_vec_len line.new ≡ array_vec_len line.old + signal_columns }
 {
-    if cell.satellite.id() != id {
-        return;
+    let mut columns = blank_columns();
+    put_signal(&mut columns, values);
+    put(line, &columns);
+}
+
+// Appends the columns of signals.
+fn add_signals(line: &mut Line, values: &[SignalValues])
+    requires fits { All HaveRoom values.now }
+    requires room { array_vec_len line.old + signal_columns * length values.now ≤ most_line }
+    ensures text { line.new.items ≡ line.old.items ++ flat_map signal_text values.now }
+    ensures size { array_vec_len line.new ≡ array_vec_len line.old + signal_columns * length values.now }
+{
+    for value in values {
+        add_signal(line, value);
     }
-    match plan.place(cell.signal) {
-        None => {}
-        Some(place) => put_at(line, place, cell),
+}
+
+// The number of signals up to the last that has a value.
+fn shown_signals(values: &[SignalValues]) -> usize
+    ensures bound { result ≤ length values.now }
+    ensures blank { flat_map signal_text (drop result values.now) ≡ replicate (signal_columns * (length values.now - result)) 32 }
+{
+    let mut end = values.len();
+    while end > 0 && !values[end - 1].has_value() {
+        end -= 1;
     }
+    end
 }
 
 // How much of the text is left without the blanks at its end.
@@ -166,39 +167,78 @@ pub(crate) fn letter_of(system: System) -> u8
     }
 }
 
-/// Appends the line of a satellite with these cells to an empty line.
-pub(crate) fn put_seen(line: &mut Line, cells: &[Cell], plan: &Plan, system: System, id: u8)
-    requires empty { line.old.items ≡ [] }
-    requires held { AreHeld system cells.now }
+/// Writes the line of a satellite with these values of the planned signals, in place of what the
+/// buffer holds.
+pub(crate) fn satellite_text(line: &mut Line, system: System, id: u8, values: &[SignalValues])
     requires id { id < 100 }
-    ensures { line.new.items ≡ satellite_line (row_among plan.now system cells.now id) }
+    requires room { All HaveRoom values.now }
+    requires few { length values.now ≤ most_signals }
+    ensures { line.new.items ≡ satellite_line (satellite_row system id values.now) }
 {
+    line.clear();
     line.push(letter_of(system));
     line.push(b'0' + id / 10);
     line.push(b'0' + id % 10);
-    put_blanks(line, plan.signals(system));
-    // No signal is planned twice, as the contract of `of` says: so each has one place.
-    let _ = plan.of(system);
-    // The first cell of a signal is the one that is shown: it is written last.
-    let mut at = cells.len();
-    while at > 0 {
-        at -= 1;
-        put_planned(line, plan, system, id, &cells[at]);
-    }
+    add_signals(line, &values[..shown_signals(values)]);
     let end = cut_length(line.as_slice());
     line.truncate(end);
     line.push(b'\n');
 }
 
+// Puts the values of a cell of this satellite at the place of its signal, if that is planned; any
+// other cell is passed over. A later cell of the signal is replaced.
+fn put_cell(values: &mut [SignalValues], plan: &Plan, system: System, id: u8, cell: &Cell)
+    requires held { IsHeld system cell.now }
+    requires apart { IsDistinct nat_eq (planned_of system plan.now) }
+    requires size { length values.old ≡ length (planned_of system plan.now) }
+    ensures put { (rest : List Cell) → values.old ≡ entries_of plan.now system id rest → values.new ≡ entries_of plan.now system id (cell.now ∷ rest) }
+    ensures size { length values.new ≡ length values.old }
+{
+    if cell.satellite.id() != id {
+        return;
+    }
+    match plan.place(cell.signal) {
+        None => {}
+        Some(place) => values[place] = SignalValues::of(cell),
+    }
+}
+
+// Puts the values of a satellite's cells at the places of their signals.
+fn put_cells(values: &mut [SignalValues], cells: &[Cell], plan: &Plan, system: System, id: u8)
+    requires none { values.old ≡ replicate (length (planned_of system plan.now)) no_signal_values }
+    requires held { AreHeld system cells.now }
+    ensures { values.new ≡ entries_of plan.now system id cells.now }
+{
+    // No signal is planned twice, as the contract of `of` says: so each has one place.
+    let _ = plan.of(system);
+    // The first cell of a signal is the one that is shown: it is put last.
+    let mut at = cells.len();
+    while at > 0 {
+        at -= 1;
+        put_cell(values, plan, system, id, &cells[at]);
+    }
+}
+
+/// Writes the line of a satellite with these cells, in place of what the buffer holds.
+pub(crate) fn put_seen(line: &mut Line, cells: &[Cell], plan: &Plan, system: System, id: u8)
+    requires held { AreHeld system cells.now }
+    requires id { id < 100 }
+    ensures { line.new.items ≡ satellite_line (row_among plan.now system cells.now id) }
+{
+    let mut values = [SignalValues::none(); MOST_SIGNALS];
+    let planned = &mut values[..plan.signals(system)];
+    put_cells(planned, cells, plan, system, id);
+    satellite_text(line, system, id, planned);
+}
+
 /// The line of a satellite of the epoch, in place of what the buffer holds: its system's letter and
 /// its number in two columns, and for each planned signal pseudorange (m), phase (cycles), Doppler
-/// (Hz) and strength (dB-Hz) as F14.3 with the loss-of-lock and the strength column behind each.
-/// What wasn't observed is blank. It is written by [`write_epoch`](crate::write_epoch) where it has
+/// (Hz) and strength (dB-Hz) as F14.3 with the loss-of-lock and the strength column after each.
+/// What wasn't observed is blank. It is written by [`write_epoch`](crate::write_epoch) if it has
 /// a value.
 pub fn satellite_line(epoch: &Epoch, plan: &Plan, satellite: Sat, line: &mut Line)
     ensures { line.new.items ≡ satellite_line (row_in_epoch plan.now epoch.now.epoch satellite.system satellite.id) }
 {
-    line.clear();
     let cells = epoch.cells(satellite.system());
     put_seen(line, cells, plan, satellite.system(), satellite.id());
 }

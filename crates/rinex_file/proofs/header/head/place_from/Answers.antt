@@ -1,23 +1,21 @@
-use Rattle.std.proofs.Common.{◌∙◌, length}
-use Rattle.obs_epoch.specs.Dates.{civil_of}
-use Rattle.rinex_file.specs.Header.{section_lines, section_rows}
-use Rattle.rinex_file.proofs.Sections.{rows_at, skip, ended, at_end}
+use Rattle.std.proofs.Common.{arith, ◌≡◌, ◌∙◌, ◌+◌, ap, sym, refl, suc, ℕ, false}
+use Rattle.std.specs.Prelude.{flat_map}
+use Rattle.std.proofs.lemmas.List.{drop_all}
+use Rattle.rinex_file.specs.Header.{row_at, row_lines, has_line, all_rows, lines_from}
+use Rattle.rinex_file.proofs.HeaderRows.{line_none}
 use Rattle.rinex_file.proofs.header.head.place_from.Goals as goal
 
-pub returns-in_default-clause-none : goal.returns-in_default-clause-none
-returns-in_default-clause-none c =
-    let h = c.args.head.now in
-    let t = civil_of h.first in
-    let lines = section_lines h.texts.now h.plan.now h.values t in
-    let at = c.loop-line.at in
-    let short = at_end (length (lines at)) c.section_rows.result (section_rows h.plan.now at) c.loop-line.line (rows_at h.texts.now h.plan.now h.values t at) c.section_rows.ensures c.loop-line-test.true in
-    c.loop-line.invariant ∙ ended lines at c.loop-line.line short c.in_default.ensures
+pub loop-place-init : goal.loop-place-init
+loop-place-init c x v t = refl
 
-pub loop-line-preserved : goal.loop-line-preserved
-loop-line-preserved c =
-    let h = c.args.head.now in
-    let t = civil_of h.first in
-    let lines = section_lines h.texts.now h.plan.now h.values t in
-    let at = c.loop-line.at in
-    let short = at_end (length (lines at)) c.section_rows.result (section_rows h.plan.now at) c.loop-line.line (rows_at h.texts.now h.plan.now h.values t at) c.section_rows.ensures c.loop-line-test.true in
-    c.loop-line.invariant ∙ skip lines at c.in-Some.next c.loop-line.line short c.in-Some.ensures
+pub loop-place-preserved : goal.loop-place-preserved
+loop-place-preserved c x v t =
+    let plan = c.args.plan.now in
+    let at = c.loop-place.place in
+    let lacks : has_line plan (row_at at) ≡ false = ap (has_line plan) (sym c.row_at.ensures) ∙ sym c.has_line.ensures ∙ c.if-has_line.false in
+    let next : suc at ≡ at + 1 = omega arith in
+    c.loop-place.invariant x v t ∙ line_none x plan v t at c.loop-place-test.true lacks ∙ ap (lines_from x plan v t) next
+
+pub returns-clause-none : goal.returns-clause-none
+returns-clause-none c x v t =
+    c.loop-place.invariant x v t ∙ ap (flat_map (row_lines x c.args.plan.now v t)) (drop_all c.loop-place.place all_rows c.loop-place-test.false)

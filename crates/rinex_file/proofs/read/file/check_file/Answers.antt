@@ -1,8 +1,9 @@
-use Rattle.std.proofs.Common.{refl, ◌∙◌}
+use Rattle.std.proofs.Common.{refl, ◌∙◌, subst, ℕ}
+use Rattle.rtcm_bits.specs.Device.{HasFailed}
 use Rattle.rinex_file.specs.Course.{nothing, with_line}
 use Rattle.rinex_file.proofs.Ahead.{leaves_all, leaves_more}
 use Rattle.rinex_file.proofs.FileLines.{lines_are_lines, lines_are_short}
-use Rattle.rinex_file.proofs.LineByLine.{only_faults}
+use Rattle.rinex_file.proofs.LineByLine.{still_read, only_faults}
 use Rattle.rinex_file.proofs.ReadWhole.{one_more, the_end, counts_found, counts_only}
 use Rattle.rinex_file.proofs.read.file.check_file.Goals as goal
 
@@ -49,3 +50,6 @@ returns-in-Err-clause-only g c = λ v is few. only_faults lines_are_lines lines_
 
 pub returns-in-Err-clause-left : goal.returns-in-Err-clause-left
 returns-in-Err-clause-left g c = leaves_more _ _ _ c.loop-counts.invariant.left c.in-Err.ensures.left
+
+pub returns-in-Err-clause-failed : goal.returns-in-Err-clause-failed
+returns-in-Err-clause-failed g c = λ e. subst (λ (n : ℕ). HasFailed n c.next.new.reader.failures) c.loop-counts.invariant.same (c.in-Err.ensures.failed (still_read c.in-Err.fault e))

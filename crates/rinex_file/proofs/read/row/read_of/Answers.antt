@@ -1,13 +1,13 @@
-use Rattle.std.proofs.Common.{◌≡◌, ◌∙◌, ◌↔◌, sym, ap, subst, ℕ, List, Bool, true, false, IsTrue, refl}
+use Rattle.std.proofs.Common.{◌≡◌, ◌∙◌, ◌↔◌, sym, ap, subst, ℕ, List, Bool, true, false, IsTrue, refl, All}
 use Rattle.gnss_obs.specs.declared.system.System.{System}
 use Rattle.gnss_obs.specs.Satellites.{satellites}
-use Rattle.rinex_file.specs.FileValues.{IsRow}
+use Rattle.rinex_file.specs.FileValues.{IsRow, HaveRoom, AreSignalValues}
 use Rattle.rinex_file.specs.Lines.{satellite_line}
 use Rattle.rinex_file.specs.Read.Fields.{ReadsExactly, some_if}
 use Rattle.rinex_file.specs.Read.Row.{satellite_row_in}
 use Rattle.rinex_file.specs.Value.{SignalValues, SatelliteRow, satellite_row}
 use Rattle.rinex_file.proofs.Judged.{refused}
-use Rattle.rinex_file.proofs.RowText.{seen_in-line}
+use Rattle.rinex_file.proofs.RowText.{seen_in-line, all_values_fit}
 use Rattle.rinex_file.proofs.read.row.read_of.Goals as goal
 use Rattle.rinex_file.proofs.read.row.read_of.Goals.{After-put_seen_in}
 
@@ -38,6 +38,11 @@ pub returns : goal.returns
 returns c =
     let row = subst (λ (n : ℕ). IsRow n c.args.signals c.put_seen_in.new.seen.row) c.satellites.ensures.value (c.is_row.ensures.0 c.if-not-is_row.false) in
     compared c.is_same.result c.args.system c.args.signals c.args.line.now c.as_slice-3.result.now c.put_seen_in.new.seen c.is_same.ensures
-    (c.as_slice-3.ensures.value ∙ c.kept_line.ensures ∙ ap (λ (es : List SignalValues). satellite_line (satellite_row c.seen.inside.system c.seen.inside.satellite es)) c.as_slice-2.ensures.value ∙ ap satellite_line c.seen.view_is)
+    (c.as_slice-3.ensures.value ∙ c.satellite_text.ensures ∙ ap (λ (es : List SignalValues). satellite_line (satellite_row c.seen.inside.system c.seen.inside.satellite es)) c.as_slice-2.ensures.value ∙ ap satellite_line c.seen.view_is)
     (ap (λ (s : SatelliteRow). s.system) c.put_seen_in.ensures, row)
     (λ v same is e. found ((goal.at.returns c).After-put_seen_in) v same is e)
+
+pub satellite_text-requires-clause-room : goal.satellite_text-requires-clause-room
+satellite_text-requires-clause-room c =
+    subst (λ (es : List SignalValues). All HaveRoom es) (sym c.as_slice-2.ensures.value)
+    (all_values_fit _ (subst (λ (s : SatelliteRow). All AreSignalValues s.row.entries) (sym c.seen.view_is) (c.is_row.ensures.0 c.if-not-is_row.false).entries))

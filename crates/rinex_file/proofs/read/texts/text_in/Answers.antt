@@ -1,7 +1,7 @@
-use Rattle.std.proofs.Common.{arith, ◌≡◌, ◌∙◌, sym, ap, ℕ, List, ◌≤◌, ◌++◌, length, take, true}
+use Rattle.std.proofs.Common.{arith, ◌≡◌, ◌∙◌, sym, ap, subst, ℕ, List, ◌≤◌, ◌++◌, length, take, drop, true}
 use Rattle.std.specs.List.{list_all}
 use Rattle.rinex_file.specs.Blanks.{trimmed}
-use Rattle.rinex_file.specs.Texts.{is_printable}
+use Rattle.rinex_file.specs.Texts.{is_printable, width_of, column_of, field_at}
 use Rattle.rinex_file.specs.FileValues.{IsText}
 use Rattle.rinex_file.proofs.Cuts.{length-trimmed}
 use Rattle.rinex_file.proofs.HeaderText.{trimmed-trimmed}
@@ -16,10 +16,16 @@ is_text n columns text few is printable = record {
 }
 
 pub returns-clause-some : goal.returns-clause-some
-returns-clause-some g c =
+returns-clause-some c =
     let field = c.columns-field.result.now in
+    let at = c.at-field.ensures in
+    let wide : c.width.result ≡ width_of (field_at c.args.place) = c.width.ensures ∙ ap width_of at in
+    let columns : field ≡ take (width_of (field_at c.args.place)) (drop (column_of (field_at c.args.place)) c.args.line.now) =
+    c.columns-field.ensures.value ∙ ap (λ w. take w (drop c.column.result c.args.line.now)) wide
+    ∙ ap (λ f. take (width_of (field_at c.args.place)) (drop f c.args.line.now)) (c.column.ensures ∙ ap column_of at) in
     let same : c.put.new.line.items ≡ take c.cut_length.result field = c.put.ensures.text ∙ ap (λ l. l ++ take c.cut_length.result field) c.new-text.ensures in
     let is : c.put.new.line.items ≡ trimmed field = same ∙ c.cut_length.ensures.text in (
-      is_text g.row.N field c.put.new.line.items c.columns-field.ensures.bound is (ap (list_all is_printable) same ∙ sym c.is_printable.ensures ∙ c.if-not-is_printable.false),
-      is ∙ ap trimmed c.columns-field.ensures.value,
+      is_text (width_of (field_at c.args.place)) field c.put.new.line.items (subst (λ w. length field ≤ w) wide c.columns-field.ensures.bound) is
+          (ap (list_all is_printable) same ∙ sym c.is_printable.ensures ∙ c.if-not-is_printable.false),
+      is ∙ ap trimmed columns,
     )

@@ -1,23 +1,21 @@
-use Rattle.std.proofs.Common.{arith, ◌≡◌, ◌∙◌, sym, ap, ◌+◌, ◌-◌, ◌==◌, true, false, length, drop, refl}
-use Rattle.std.specs.Prelude.{if◌then◌else◌}
-use Rattle.std.proofs.lemmas.List.{length-drop}
-use Rattle.rinex_file.specs.Value.{signal_values_of}
-use Rattle.rinex_file.specs.Lines.{lli_byte}
-use Rattle.rinex_file.proofs.CellPlaces.{put_four, same_text}
+use Rattle.std.proofs.Common.{arith, ◌≡◌, ◌∙◌, sym, ap, subst, ◌∷◌, List, slice_set}
+use Rattle.obs_epoch.specs.Plans.{place_in}
+use Rattle.obs_epoch.specs.Values.{planned_of}
+use Rattle.rinex_file.specs.Value.{SignalValues, signal_values_at, signal_values_of}
+use Rattle.rinex_file.proofs.CellPlaces.{no_place, others_stay, passed_satellite, cell_put}
 use Rattle.rinex_file.proofs.write.satellite.put_cell.Goals as goal
-use Rattle.rinex_file.proofs.write.satellite.put_cell.Goals.{then-cell-eq0, else-cell-eq0}
 
-pub returns-clause-text : goal.returns-clause-text
-returns-clause-text c =
-    let lli = c.args.cell.now.lli in
-    let lost : c.if-cell-eq0.lost ≡ lli_byte lli =
-    elim c.if-cell-eq0.branch [
-      | then-cell-eq0 w ↦ let none : (lli == 0) ≡ true = grind (arith, w.if-cell-eq0.true) in w.lost-is ∙ sym (ap (λ b. if b then 32 else 48 + lli) none)
-      | else-cell-eq0 w ↦ let some : (lli == 0) ≡ false = grind (arith, w.if-cell-eq0.false) in w.lost-is ∙ sym (ap (λ b. if b then 32 else 48 + lli) some)
-    ] in
-    let rest : length (drop 16 c.args.columns.now) ≡ 48 = length-drop 16 c.args.columns.now ∙ ap (λ n. n - 16) c.requires.room in
-    put_four c.put_field.new.columns c.put_field-2.new.columns c.put_field-3.new.columns c.put_field-4.new.columns (drop 16 c.args.columns.now) _
-    c.put_field.ensures.size c.put_field-2.ensures.size c.put_field-3.ensures.size rest _ _ refl refl refl
-    ∙ same_text (signal_values_of c.args.cell.now) c.put_field.new.columns c.put_field-2.new.columns c.put_field-3.new.columns c.put_field-4.new.columns
-    c.if-cell-eq0.lost c.strength_column-strength.result c.strength_column-strength.ensures lost
-    c.put_field.ensures.text c.put_field-2.ensures.text c.put_field-3.ensures.text c.put_field-4.ensures.text
+pub returns-in-None-clause-put : goal.returns-in-None-clause-put
+returns-in-None-clause-put c rest was =
+    let cell = c.args.cell.now in
+    let id = c.args.id in
+    let none = ap (λ s. place_in cell.signal (planned_of s c.args.plan.now)) (sym c.requires.held.signal) ∙ sym c.place.ensures.place ∙ c.in-None.is in
+    was ∙ sym (no_place cell.signal.index (planned_of c.args.system c.args.plan.now) (signal_values_at (cell ∷ rest) id) (signal_values_at rest id) none (others_stay cell rest id))
+
+pub returns-in-Some-clause-put : goal.returns-in-Some-clause-put
+returns-in-Some-clause-put c rest was =
+    let cell = c.args.cell.now in
+    let own : cell.satellite.id ≡ c.args.id = grind (arith, c.if-id.false, c.id.ensures.value) in
+    let place = ap (λ s. place_in cell.signal (planned_of s c.args.plan.now)) (sym c.requires.held.signal) ∙ sym c.place.ensures.place ∙ c.in-Some.is in
+    ap (λ (v : SignalValues). slice_set c.args.values.now c.in-Some.place v) c.of.ensures ∙ ap (λ (l : List SignalValues). slice_set l c.in-Some.place (signal_values_of cell)) was
+    ∙ cell_put (planned_of c.args.system c.args.plan.now) c.args.id c.in-Some.place cell rest c.requires.apart place own

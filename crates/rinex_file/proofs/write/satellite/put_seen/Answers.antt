@@ -1,55 +1,21 @@
-use Rattle.std.proofs.Common.{arith, ◌≡◌, ◌∙◌, sym, ap, ap₂, ℕ, ◌+◌, ◌-◌, ◌*◌, ◌/◌, ◌%◌, ◌++◌, ◌∷◌, [], length, take, drop, replicate}
-use Rattle.std.specs.Prelude.{flat_map, map}
-use Rattle.std.proofs.lemmas.List.{drop_more, length-replicate}
-use Rattle.std.proofs.lemmas.List.Elements.{All-drop}
-use Rattle.obs_epoch.specs.Values.{IsHeld, planned_of}
-use Rattle.rinex_file.specs.Blanks.{trimmed}
-use Rattle.rinex_file.specs.Value.{signal_values_at}
-use Rattle.rinex_file.specs.Numbers.{padded}
-use Rattle.rinex_file.specs.Lines.{signal_text, letter_of, satellite_line}
-use Rattle.rinex_file.proofs.CellPlaces.{none_put}
+use Rattle.std.proofs.Common.{arith, ◌≡◌, ◌∙◌, sym, ap, subst, ℕ, ◌≤◌, List, length, take, replicate, All}
+use Rattle.gnss_obs.specs.Signals.{table}
+use Rattle.obs_epoch.specs.Values.{planned_of}
+use Rattle.rinex_file.proofs.Entries.{few_signals}
+use Rattle.rinex_file.specs.Value.{SignalValues, no_signal_values}
+use Rattle.rinex_file.specs.FileValues.{HaveRoom}
+use Rattle.rinex_file.proofs.CellPlaces.{all_fit}
+use Rattle.std.proofs.lemmas.List.{take-replicate}
 use Rattle.rinex_file.proofs.write.satellite.put_seen.Goals as goal
 
-pub loop-at-init : goal.loop-at-init
-loop-at-init c =
-    let id = c.args.id in
-    let letter = letter_of c.args.system in
-    let planned = planned_of c.args.system c.args.plan.now in
-    let name = c.push-3.ensures.items
-    ∙ ap (λ t. t ++ (48 + id % 10) ∷ []) (c.push-2.ensures.items ∙ ap (λ t. t ++ (48 + id / 10) ∷ []) (c.push.ensures.items ∙ ap₂ (λ t l. t ++ l ∷ []) c.requires.empty c.letter_of.ensures)) in
-    let is : c.put_blanks.new.line.items ≡ (letter ∷ (48 + id / 10) ∷ (48 + id % 10) ∷ []) ++ replicate (64 * length planned) 32 =
-    c.put_blanks.ensures.text ∙ ap₂ (λ t n. t ++ replicate (64 * n) 32) name c.signals.ensures.count in
-    let blanks : length (replicate {A = ℕ} (64 * length planned) 32) ≡ 64 * length planned = length-replicate (64 * length planned) 32 in
-    record {
-      text = none_put letter id planned c.args.cells.now (length c.args.cells.now) c.put_blanks.new.line.items c.requires.id (omega arith) is;
-      size = ap length is ∙ omega (arith, blanks);
-      within = omega arith;
-    }
+few : (n m : ℕ) → n ≤ m → m ≤ 19 → n ≤ 19
+few n m a b = omega (arith, a, b)
 
-pub loop-at-preserved : goal.loop-at-preserved
-loop-at-preserved c =
-    let id = c.args.id in
-    let planned = planned_of c.args.system c.args.plan.now in
-    let cells = c.args.cells.now in
-    let at = c.loop-at.at in
-    let inv = c.loop-at.invariant in
-    let back : at - 1 + 1 ≡ at = omega arith in
-    let more : drop (at - 1) cells ≡ c.index-cells-at.result ∷ drop at cells =
-    drop_more cells (at - 1) c.index-cells-at.result (omega (arith, inv.within)) ∙ ap₂ (λ x n. x ∷ drop n cells) (sym c.index-cells-at.is) back in
-    record {
-      text = c.put_planned.ensures.text (drop at cells) (All-drop (IsHeld c.args.system) at cells c.requires.held.each) inv.text
-          ∙ ap (λ l. (letter_of c.args.system ∷ padded 2 id) ++ flat_map signal_text (map (signal_values_at l id) planned)) (sym more);
-      size = c.put_planned.ensures.size ∙ inv.size;
-      within = omega (arith, inv.within);
-    }
+pub put_cells-requires-clause-none : goal.put_cells-requires-clause-none
+put_cells-requires-clause-none c =
+    ap (λ (v : SignalValues). take c.signals.result (replicate 19 v)) c.none-values.ensures ∙ take-replicate c.signals.result 19 no_signal_values (few c.signals.result (length (table c.args.system)) c.signals.ensures.bound (few_signals c.args.system))
+    ∙ ap (λ (k : ℕ). replicate k no_signal_values) c.signals.ensures.count
 
-pub returns : goal.returns
-unfolding satellite_line
-returns c =
-    let id = c.args.id in
-    let planned = planned_of c.args.system c.args.plan.now in
-    let none : c.loop-at.at ≡ 0 = omega arith in
-    let whole = c.loop-at.invariant.text ∙ ap (λ n. (letter_of c.args.system ∷ padded 2 id) ++ flat_map signal_text (map (signal_values_at (drop n c.args.cells.now) id) planned)) none in
-    let same = c.as_slice.ensures.value in
-    c.push-4.ensures.items
-    ∙ ap (λ t. t ++ 10 ∷ []) (c.truncate.ensures.items ∙ ap (take c.cut_length-end.result) (sym same) ∙ c.cut_length-end.ensures.text ∙ ap trimmed (same ∙ whole))
+pub satellite_text-requires-clause-room : goal.satellite_text-requires-clause-room
+satellite_text-requires-clause-room c =
+    subst (λ (l : List SignalValues). All HaveRoom l) (sym c.put_cells.ensures) (all_fit c.args.system c.args.cells.now c.args.id (planned_of c.args.system c.args.plan.now) c.requires.held.each)

@@ -1,6 +1,6 @@
 use Rattle.std.proofs.Common.{Some}
 use Rattle.rinex_file.specs.Course.{progress_at}
-use Rattle.rinex_file.proofs.BodySteps.{changed_taken, no_changed, sound_begun, sound_changed}
+use Rattle.rinex_file.proofs.BodySteps.{changed_taken, changed_shows, no_changed, sound_begun, sound_changed}
 use Rattle.rinex_file.proofs.read.course.Course.take_changed.Goals as goal
 
 pub returns-in_default-clause-takes : goal.returns-in_default-clause-takes
@@ -23,4 +23,5 @@ returns-clause-takes c = λ h stands.
         values = stands.values;
       };
       follows = changed_taken s c.args.values c.in-Some.begun.0 c.in-Some.begun.1 c.args.line.now c.requires.due event.1 begun.1 begun.2;
+      shows = changed_shows s c.args.values c.in-Some.begun.0 c.in-Some.begun.1 c.args.line.now c.requires.due event.1 begun.1;
     }

@@ -6,7 +6,7 @@ use Rattle.rinex_file.specs.Read.Progress.{due_next}
 use Rattle.rinex_file.specs.Read.Sound.{IsSound}
 use Rattle.rinex_file.specs.Course.{progress_at}
 use Rattle.rinex_file.proofs.Judged.{refused}
-use Rattle.rinex_file.proofs.EventSteps.{back, values_with, height_taken, height_taken_as, no_height, same_height, sound_height}
+use Rattle.rinex_file.proofs.EventSteps.{back, values_with, height_taken, height_shows, no_height, same_height, sound_height}
 use Rattle.rinex_file.proofs.read.course.Course.take_height.Goals as goal
 
 abbrev SameValues : StationValues → StationValues → Type 0
@@ -47,6 +47,6 @@ returns-clause-takes c = λ h stands.
         events = stands.events;
         values = stands.values;
       };
-      follows = height_taken_as s c.args.x c.args.y c.args.z height w c.args.line.now same
-          (height_taken s c.args.x c.args.y c.args.z c.args.line.now c.requires.due height c.in-Some.ensures.2 c.in-Some.ensures.1);
+      follows = height_taken s c.args.x c.args.y c.args.z c.args.line.now c.requires.due height c.in-Some.ensures.2 w same;
+      shows = height_shows s c.args.x c.args.y c.args.z height w c.args.line.now c.requires.due c.in-Some.ensures.1 same;
     }

@@ -1,8 +1,8 @@
 use Rattle.std.proofs.Common.{◌<◌, ℕ, subst, sym, refl, None}
 use Rattle.rinex_file.specs.Course.{progress_at}
 use Rattle.rinex_file.proofs.Judged.{refused}
-use Rattle.rinex_file.proofs.BodySteps.{NoEvent, plain_taken, no_plain, sound_begun, sound_between}
-use Rattle.rinex_file.proofs.EventSteps.{event_taken, sound_event}
+use Rattle.rinex_file.proofs.BodySteps.{NoEvent, plain_taken, plain_shows, no_plain, sound_begun, sound_between}
+use Rattle.rinex_file.proofs.EventSteps.{event_taken, event_shows, sound_event}
 use Rattle.rinex_file.proofs.read.course.Course.take_next.Goals as goal
 
 pub returns-then-begins_event-clause-takes : goal.returns-then-begins_event-clause-takes
@@ -20,6 +20,7 @@ returns-then-begins_event-clause-takes c = λ h stands.
         values = stands.values;
       };
       follows = event_taken s c.args.line.now c.requires.due shown;
+      shows = event_shows s c.args.line.now c.requires.due shown;
     }
 
 pub returns-in_default-clause-takes : goal.returns-in_default-clause-takes
@@ -45,4 +46,5 @@ returns-clause-takes c = λ h stands.
         values = stands.values;
       };
       follows = plain_taken s c.in-Some.begun.0 c.in-Some.begun.1 c.args.line.now c.requires.due never rows begun.1 begun.2;
+      shows = plain_shows s c.in-Some.begun.0 c.in-Some.begun.1 c.args.line.now c.requires.due rows begun.1;
     }

@@ -1,6 +1,6 @@
 use Rattle.std.proofs.Common.{◌∙◌, ap, sym, subst}
 use Rattle.rinex_file.specs.Course.{progress_at}
-use Rattle.rinex_file.proofs.EventSteps.{IsPosition, position_text, position_taken, position_back, back, no_position, sound_position}
+use Rattle.rinex_file.proofs.EventSteps.{IsPosition, position_text, position_taken, position_shows, position_back, back, no_position, sound_position}
 use Rattle.rinex_file.proofs.read.course.Course.take_position.Goals as goal
 
 pub returns-in_default-clause-takes : goal.returns-in_default-clause-takes
@@ -21,6 +21,6 @@ returns-clause-takes c = λ h stands.
         events = stands.events;
         values = stands.values;
       };
-      follows = position_taken s (back p.0) (back p.1) (back p.2) c.args.line.now c.requires.due (c.in-Some.ensures.1 ∙ ap position_text (sym same))
-          (λ q is text. c.in-Some.ensures.2 q is text ∙ sym same);
+      follows = position_taken s (back p.0) (back p.1) (back p.2) c.args.line.now c.requires.due (λ q is text. c.in-Some.ensures.2 q is text ∙ sym same);
+      shows = position_shows s (back p.0) (back p.1) (back p.2) c.args.line.now c.requires.due (c.in-Some.ensures.1 ∙ ap position_text (sym same));
     }

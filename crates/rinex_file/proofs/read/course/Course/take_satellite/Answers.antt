@@ -12,7 +12,7 @@ use Rattle.rinex_file.specs.Read.Progress.{Progress}
 use Rattle.rinex_file.specs.Read.Fields.{ReadsExactly, some_if}
 use Rattle.rinex_file.specs.Course.{EndsIn, changes_of, stamped_at, events_in, progress_at, rows_in}
 use Rattle.rinex_file.proofs.Judged.{refused}
-use Rattle.rinex_file.proofs.BodySteps.{values_more, row_taken, no_row, bad_row, last_taken, sound_open, few_at, sound_row, sound_closed}
+use Rattle.rinex_file.proofs.BodySteps.{values_more, row_taken, row_shows, last_shows, no_row, bad_row, last_taken, sound_open, few_at, sound_row, sound_closed}
 use Rattle.rinex_file.proofs.read.course.Course.take_satellite.Goals as goal
 
 pub read_seen-requires-clause-few : goal.read_seen-requires-clause-few
@@ -26,6 +26,9 @@ read_seen-requires-clause-few c =
 -- one of the lines is due at least
 one_due : (left : ℕ) (s : Progress) → s.due ≡ Satellite left → 0 < left → s.due ≡ Satellite (suc (left - 1))
 one_due left s due some = let n : left ≡ suc (left - 1) = omega (arith, some) in due ∙ ap Satellite n
+
+one_left : (left : ℕ) → 0 < left → left ≡ suc (left - 1)
+one_left left some = omega (arith, some)
 
 -- what a line shows, where so many signals are planned
 abbrev Shows : ℕ → ℕ → List ℕ → Bool → SatelliteRow → Type 0
@@ -45,7 +48,7 @@ returns-then-not-read_seen-clause-takes c = λ h stands.
 pub returns-then-not-is_behind-clause-takes : goal.returns-then-not-is_behind-clause-takes
 returns-then-not-is_behind-clause-takes c = λ h stands.
     let s = progress_at c.args.self.now h in
-    let (read, begun, some) = sound_open s c.args.left c.requires.due stands.sound in
+    let (read, begun, some, room) = sound_open s c.args.left c.requires.due stands.sound in
     let shown = shows c.planned-gps.result c.planned-galileo.result (length s.known.shown.plan.gps) (length s.known.shown.plan.galileo) c.args.line.now c.read_seen.result true c.read_seen.new.seen
     c.planned-gps.ensures c.planned-galileo.ensures c.if-not-read_seen.false c.read_seen.ensures in
     bad_row s (c.args.left - 1) c.args.line.now (one_due c.args.left s c.requires.due some) c.read_seen.new.seen shown.2
@@ -80,7 +83,7 @@ pub returns-then-left-gt1-clause-takes : goal.returns-then-left-gt1-clause-takes
 returns-then-left-gt1-clause-takes c = λ h stands.
     let s = progress_at c.args.self.now h in
     let seen = c.read_seen.new.seen in
-    let (read, begun, some) = sound_open s c.args.left c.requires.due stands.sound in
+    let (read, begun, some, room) = sound_open s c.args.left c.requires.due stands.sound in
     let shown = shows c.planned-gps.result c.planned-galileo.result (length s.known.shown.plan.gps) (length s.known.shown.plan.galileo) c.args.line.now c.read_seen.result true seen
     c.planned-gps.ensures c.planned-galileo.ensures c.if-not-read_seen.false c.read_seen.ensures in
     let rise = rises (map rank_of h.rows) c.rank_of-rank.result (rank_of seen) c.rank_of-rank.ensures
@@ -88,7 +91,7 @@ returns-then-left-gt1-clause-takes c = λ h stands.
     let more : 0 < c.args.left - 1 = let n = c.if-left-gt1.true in omega (arith, n) in
     record {
       stands = record {
-        sound = sound_row s (c.args.left - 1) c.args.left c.requires.due stands.sound seen shown.0 rise more;
+        sound = sound_row s (c.args.left - 1) c.args.left c.requires.due stands.sound seen shown.0 rise more (one_left c.args.left some);
         last = stands.last;
         rank = ends rank_of h.rows seen c.rank_of-rank.result c.rank_of-rank.ensures;
         epochs = stands.epochs;
@@ -97,13 +100,14 @@ returns-then-left-gt1-clause-takes c = λ h stands.
         values = stands.values;
       };
       follows = row_taken s (c.args.left - 1) c.args.line.now (one_due c.args.left s c.requires.due some) seen shown.1 shown.2;
+      shows = row_shows s (c.args.left - 1) c.args.line.now (one_due c.args.left s c.requires.due some) seen shown.1;
     }
 
 pub returns-clause-takes : goal.returns-clause-takes
 returns-clause-takes c = λ h stands.
     let s = progress_at c.args.self.now h in
     let seen = c.read_seen.new.seen in
-    let (read, begun, some) = sound_open s c.args.left c.requires.due stands.sound in
+    let (read, begun, some, room) = sound_open s c.args.left c.requires.due stands.sound in
     let shown = shows c.planned-gps.result c.planned-galileo.result (length s.known.shown.plan.gps) (length s.known.shown.plan.galileo) c.args.line.now c.read_seen.result true seen
     c.planned-gps.ensures c.planned-galileo.ensures c.if-not-read_seen.false c.read_seen.ensures in
     let rise = rises (map rank_of h.rows) c.rank_of-rank.result (rank_of seen) c.rank_of-rank.ensures
@@ -121,4 +125,5 @@ returns-clause-takes c = λ h stands.
         values = λ v. c.changed_by-self.ensures v ∙ ap (λ (w : StationValues). changed_by w c.args.self.now.change) (stands.values v) ∙ sym (values_more v h.epochs epoch);
       };
       follows = last_taken s c.args.line.now (c.requires.due ∙ ap Satellite last) seen shown.1 shown.2;
+      shows = last_shows s c.args.line.now (c.requires.due ∙ ap Satellite last) seen shown.1;
     }

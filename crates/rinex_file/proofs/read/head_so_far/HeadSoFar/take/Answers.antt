@@ -1,29 +1,27 @@
-use Rattle.rinex_file.specs.declared.header.section.Section.TheVariants.{Types, End}
-use Rattle.rinex_file.proofs.HeaderSteps.{sole_by, steps_at, never_shown, always_shown, refused_at}
+use Rattle.std.proofs.Common.{ℕ, List, Option}
+use Rattle.std.specs.Prelude.{Result, Ok, Err, IfOk}
+use Rattle.rinex_file.specs.declared.read.due.Refusal.{Refusal}
+use Rattle.rinex_file.specs.Read.Progress.{Known, StaysOpen}
+use Rattle.rinex_file.specs.Read.HeaderSteps.{SameFrom, StepsTo}
+use Rattle.rinex_file.proofs.HeaderKnown.{steps_from, open_on}
 use Rattle.rinex_file.proofs.read.head_so_far.HeadSoFar.take.Goals as goal
 
-pub returns-in-Types : goal.returns-in-Types
-returns-in-Types c = record {
-  taken =
-      steps_at c.args.section (Types c.in-Types.system) c.args.row c.args.line.now c.args.self.now c.take_types.new.self c.take_types.result c.in-Types.is
-      c.take_types.ensures.taken;
-  shown = never_shown c.take_types.new.self c.take_types.result c.take_types.ensures.some;
-  bad = λ e. refused_at c.args.section (Types c.in-Types.system) c.args.row c.args.line.now c.args.self.now c.in-Types.is (c.take_types.ensures.bad e);
-}
+steps : (k new : Known) (a b : ℕ) (line : List ℕ) (r : Result (Option ℕ) Refusal) → SameFrom k a b → IfOk r (λ next. StepsTo k b line new next) → IfOk r (λ next. StepsTo k a line new next)
+steps k new a b line (Ok next) same step = steps_from k new a b line next same step
+steps k new a b line (Err e) same step = tt
 
-pub returns-in-End : goal.returns-in-End
-returns-in-End c = record {
-  taken = steps_at c.args.section End c.args.row c.args.line.now c.args.self.now c.args.self.now c.take_end.result c.in-End.is c.take_end.ensures.taken;
-  shown = always_shown c.args.self.now c.take_end.result c.take_end.ensures.shown;
-  bad = λ e. refused_at c.args.section End c.args.row c.args.line.now c.args.self.now c.in-End.is (c.take_end.ensures.bad e);
-}
+stays : (k new : Known) (a b : ℕ) (r : Result (Option ℕ) Refusal) → SameFrom k a b → IfOk r (λ next. StaysOpen k b new next) → IfOk r (λ next. StaysOpen k a new next)
+stays k new a b (Ok next) same open_still = open_on k new a b next same open_still
+stays k new a b (Err e) same open_still = tt
 
-pub returns-in_default : goal.returns-in_default
-returns-in_default c = record {
-  taken = c.take_sole.ensures.taken;
-  shown = never_shown c.take_sole.new.self c.take_sole.result c.take_sole.ensures.some;
-  bad = c.take_sole.ensures.bad;
-}
+pub returns-in-None-clause-bad : goal.returns-in-None-clause-bad
+returns-in-None-clause-bad c e h left i = c.in-None.ensures.none h _ i
 
-pub take_sole-requires : goal.take_sole-requires
-take_sole-requires c = sole_by c.args.section c.in_default.not-Types c.in_default.not-End
+pub returns-in-Some-clause-taken : goal.returns-in-Some-clause-taken
+returns-in-Some-clause-taken c = steps c.args.self.now c.take_at.new.self c.args.from c.in-Some.place c.args.line.now c.take_at.result c.in-Some.ensures.same c.take_at.ensures.taken
+
+pub returns-in-Some-clause-stays : goal.returns-in-Some-clause-stays
+returns-in-Some-clause-stays c = stays c.args.self.now c.take_at.new.self c.args.from c.in-Some.place c.take_at.result c.in-Some.ensures.same c.take_at.ensures.stays
+
+pub returns-in-Some-clause-bad : goal.returns-in-Some-clause-bad
+returns-in-Some-clause-bad c e h left i = c.take_at.ensures.bad e h left ((c.in-Some.ensures.same h _).0 i)

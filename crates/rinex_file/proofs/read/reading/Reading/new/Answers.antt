@@ -12,6 +12,6 @@ none_ahead (Some x) block e = ap (λ b. Some (b ++ x)) e
 
 pub returns-clause-read : goal.returns-clause-read
 returns-clause-read c = λ input. record {
-  taken = subst (λ (r : Option (List ℕ)). IsTaken (progress_at c.new.result nothing) 0 input r) (sym (none_ahead input c.new-2.result c.new-2.ensures)) (start (progress_at c.new.result nothing) input c.new.ensures.starts);
+  taken = subst (λ (r : Option (List ℕ)). IsTaken (progress_at c.new.result nothing) 0 input r) (sym (none_ahead input c.new-2.result c.new-2.ensures)) (start (progress_at c.new.result nothing) input c.new.ensures.starts c.new.ensures.lines);
   stands = c.new.ensures.stands;
 }

@@ -1,16 +1,19 @@
-use Rattle.std.proofs.Common.{arith, ◌≡◌, refl, subst, ℕ, ◌+◌, ◌^◌, ◌<◌, ◌≤◌, length, Err}
+use Rattle.std.proofs.Common.{arith, ◌≡◌, ◌∙◌, refl, sym, ap, subst, ℕ, List, ◌+◌, ◌^◌, ◌<◌, ◌≤◌, length, Err}
 use Rattle.std.proofs.Math.Nat.{le_trans}
 use Rattle.rinex_file.specs.declared.read.course.Course.{Course}
 use Rattle.rinex_file.specs.declared.read.due.Refusal.{Refusal}
 use Rattle.rinex_file.specs.declared.read.fault.ReadFault.TheVariants.{CutShort}
 use Rattle.rinex_file.specs.Exact.{IsFaulty, IsDueAt}
-use Rattle.rinex_file.proofs.DueLines.{due_at}
-use Rattle.rinex_file.specs.Course.{HasRoom, GoesOnWithLine, RefusesLine, TakesLine, progress_at, with_line}
+use Rattle.rinex_file.proofs.DueLines.{begun, due_at}
+use Rattle.rinex_file.specs.Course.{HasRoom, GoesOnWithLine, ShowsLine, RefusesLine, TakesLine, progress_at, with_line}
 use Rattle.rinex_file.proofs.FileLines.{lines_are_lines}
 use Rattle.rinex_file.proofs.Judged.{refused as judged}
-use Rattle.rinex_file.proofs.HeaderBody.{unfinished, goes_on, only_file, file_read, sound_rows}
+use Rattle.rinex_file.proofs.HeaderBody.{unfinished, file_shown, only_file, file_read, sound_rows}
 use Rattle.rinex_file.proofs.LineByLine.{one_more, refused, over_long, cut_within, cut_behind, whole, behind_fault, both_said, said_of, long_some, too_long, line_some, said_nothing, not_read, other_fault, other_behind, not_cut}
 use Rattle.rinex_file.proofs.read.reading.Reading.next.Goals as goal
+
+few_lines : (lines taken : List (List ℕ)) (n : ℕ) → lines ≡ taken → length taken ≡ n → n ≤ 2 ^ 32 → length lines ≤ 2 ^ 32
+few_lines lines taken n same size few = subst (λ (k : ℕ). k ≤ 2 ^ 32) (sym (ap length same ∙ size)) few
 
 pub returns-then-may_end-clause-goes : goal.returns-then-may_end-clause-goes
 returns-then-may_end-clause-goes g c = λ h input read.
@@ -19,9 +22,11 @@ returns-then-may_end-clause-goes g c = λ h input read.
     let end = c.in-End.ensures in
     let (due, counted) = c.may_end.ensures.0 c.if-may_end.true in
     let some : 0 < length h.epochs = subst (λ (n : ℕ). 0 < n) read.stands.epochs counted in
+    let lines = file_shown s read.taken.lines due read.stands.sound some read.taken.stands.are in
     record {
       is = file_read s due read.stands.sound some;
-      text = whole lines_are_lines s c.args.self.now.count input _ _ c.next_line.new.line.items _ read.taken end.found.0 end.found.1 end.taken (goes_on s due read.stands.sound some) (only_file s due);
+      few = few_lines _ read.taken.lines _ lines read.taken.many c.requires.within.1;
+      text = whole lines_are_lines s c.args.self.now.count input _ _ c.next_line.new.line.items _ read.taken lines end.found.0 end.found.1 end.taken (only_file s due);
       stands = read.stands;
       none = sound_rows s due read.stands.sound;
     }
@@ -30,7 +35,7 @@ pub returns-else-may_end-clause-goes : goal.returns-else-may_end-clause-goes
 returns-else-may_end-clause-goes g c = λ h input read.
     let course = c.args.self.now.course in
     let end = c.in-End.ensures in
-    cut_behind lines_are_lines (progress_at course h) c.args.self.now.count input _ _ c.next_line.new.line.items read.taken end.found.0 end.found.1 end.taken
+    cut_behind lines_are_lines (progress_at course h) c.args.self.now.count input _ _ c.next_line.new.line.items read.taken (begun _ _ _ _ read.taken read.stands.sound) end.found.0 end.found.1 end.taken
     (unfinished course h read.stands (judged c.may_end.result _ c.may_end.ensures c.if-may_end.false))
 
 pub returns-in-Cut-clause-goes : goal.returns-in-Cut-clause-goes
@@ -40,7 +45,7 @@ returns-in-Cut-clause-goes g c = λ h input read.
     let cut = c.in-Cut.ensures in
     let bytes = c.next_line.new.line.items in
     behind_fault s n input _ _ bytes (CutShort (n + 1)) c.fault_behind.result read.taken cut.found.0 cut.taken c.fault_behind.ensures
-    (cut_within lines_are_lines s n input _ _ bytes read.taken cut.found.0 cut.found.2 cut.found.3 cut.taken)
+    (cut_within lines_are_lines s n input _ _ bytes read.taken (begun _ _ _ _ read.taken read.stands.sound) cut.found.0 cut.found.2 cut.found.3 cut.taken)
 
 pub returns-in-Long-clause-goes : goal.returns-in-Long-clause-goes
 returns-in-Long-clause-goes g c = λ h input read.
@@ -60,7 +65,8 @@ returns-in-Ok-clause-goes g c = λ h input read.
     let line = c.next_line.new.line.items in
     let next = c.in-Ok.ensures.takes h read.stands in
     record {
-      taken = one_more old new c.args.self.now.count input _ _ line read.taken c.in-Line.ensures.found c.in-Line.ensures.taken (subst (GoesOnWithLine old new) c.as_slice.ensures.value next.follows);
+      taken = one_more old new c.args.self.now.count input _ _ line read.taken c.in-Line.ensures.found c.in-Line.ensures.taken (subst (GoesOnWithLine old new) c.as_slice.ensures.value next.follows)
+          (subst (ShowsLine old new) c.as_slice.ensures.value next.shows);
       stands = next.stands;
     }
 

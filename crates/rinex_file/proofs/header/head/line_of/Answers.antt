@@ -1,0 +1,44 @@
+use Rattle.std.proofs.Common.{◌∙◌, sym, ap, [], ◌∷◌}
+use Rattle.std.specs.Prelude.{codes}
+use Rattle.obs_epoch.specs.Dates.{civil_of}
+use Rattle.rinex_file.specs.Header.{row_line, header_line}
+use Rattle.rinex_file.proofs.header.head.line_of.Goals as goal
+
+pub returns-in-Version : goal.returns-in-Version
+unfolding row_line
+returns-in-Version c = let h = c.args.head.now in c.version_line.ensures ∙ ap (row_line h.texts.now h.plan.now h.values (civil_of h.first)) (sym c.in-Version.is)
+
+pub returns-in-Texts : goal.returns-in-Texts
+unfolding row_line
+returns-in-Texts c = let h = c.args.head.now in c.texts_line.ensures ∙ ap (row_line h.texts.now h.plan.now h.values (civil_of h.first)) (sym c.in-Texts.is)
+
+pub returns-in-Position : goal.returns-in-Position
+unfolding row_line
+returns-in-Position c = let h = c.args.head.now in c.position_line.ensures ∙ ap (row_line h.texts.now h.plan.now h.values (civil_of h.first)) (sym c.in-Position.is)
+
+pub returns-in-Delta : goal.returns-in-Delta
+unfolding row_line
+returns-in-Delta c = let h = c.args.head.now in c.delta_line.ensures ∙ ap (row_line h.texts.now h.plan.now h.values (civil_of h.first)) (sym c.in-Delta.is)
+
+pub returns-in-Types : goal.returns-in-Types
+unfolding row_line
+returns-in-Types c = let h = c.args.head.now in c.type_line.ensures ∙ ap (row_line h.texts.now h.plan.now h.values (civil_of h.first)) (sym c.in-Types.is)
+
+pub returns-in-StrengthUnit : goal.returns-in-StrengthUnit
+unfolding row_line
+returns-in-StrengthUnit c = let h = c.args.head.now in c.labelled.ensures ∙ ap (row_line h.texts.now h.plan.now h.values (civil_of h.first)) (sym c.in-StrengthUnit.is)
+
+pub returns-in-First : goal.returns-in-First
+unfolding row_line
+returns-in-First c = let h = c.args.head.now in c.first_line.ensures ∙ ap (row_line h.texts.now h.plan.now h.values (civil_of h.first)) (sym c.in-First.is)
+
+pub returns-in-End : goal.returns-in-End
+unfolding row_line
+returns-in-End c = let h = c.args.head.now in c.labelled-in-End.ensures ∙ ap (row_line h.texts.now h.plan.now h.values (civil_of h.first)) (sym c.in-End.is)
+
+pub returns-in-Shift : goal.returns-in-Shift
+unfolding row_line
+returns-in-Shift c =
+    let h = c.args.head.now in
+    c.labelled-in-Shift.ensures ∙ ap (λ b. header_line (b ∷ []) (codes "SYS / PHASE SHIFT")) c.letter_of.ensures
+    ∙ ap (row_line h.texts.now h.plan.now h.values (civil_of h.first)) (sym c.in-Shift.is)

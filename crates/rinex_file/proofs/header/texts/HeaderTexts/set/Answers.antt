@@ -1,0 +1,23 @@
+use Rattle.std.proofs.Common.{◌∙◌, ◌<◌, sym, subst, ap, [], length, get_or}
+use Rattle.std.proofs.lemmas.List.{map-set, get_or-set_same, get_or-set_other}
+use Rattle.std.specs.Prelude.{map}
+use Rattle.std.proofs.Math.ListN.{set}
+use Rattle.rinex_file.specs.Texts.{text_count}
+use Rattle.rinex_file.specs.FileValues.{AreTexts}
+use Rattle.rinex_file.proofs.HeaderText.{set_text}
+use Rattle.rinex_file.proofs.header.texts.HeaderTexts.set.Goals as goal
+
+pub invariant_of-self : goal.invariant_of-self
+invariant_of-self c =
+    subst AreTexts (sym (map-set (λ text. text.items) c.self.inside.texts c.args.place c.args.text))
+    (set_text (map (λ text. text.items) c.self.inside.texts) c.args.place c.args.text.items c.self.invariant c.requires.place c.requires.text)
+
+pub returns-clause-value : goal.returns-clause-value
+returns-clause-value c =
+    ap (λ l. get_or l c.args.place []) (map-set (λ text. text.items) c.self.inside.texts c.args.place c.args.text)
+    ∙ get_or-set_same (map (λ text. text.items) c.self.inside.texts) c.args.place c.args.text.items [] (subst (λ n. c.args.place < n) (sym c.self.invariant.count) c.requires.place)
+
+pub returns-clause-same : goal.returns-clause-same
+returns-clause-same c i far =
+    ap (λ l. get_or l i []) (map-set (λ text. text.items) c.self.inside.texts c.args.place c.args.text)
+    ∙ get_or-set_other (map (λ text. text.items) c.self.inside.texts) c.args.place i c.args.text.items [] far ∙ ap (λ l. get_or l i []) c.self.view_is

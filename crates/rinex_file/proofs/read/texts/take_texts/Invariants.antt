@@ -1,0 +1,12 @@
+use Rattle.std.proofs.Common.{◌≡◌, ◌≤◌}
+use Rattle.rinex_file.specs.Header.{start_of, count_of}
+use Rattle.rinex_file.specs.Read.HeaderSteps.{TakesTexts}
+use Rattle.rinex_file.proofs.read.texts.take_texts.Given as goal
+
+-- the texts so far were taken
+abbrev pub invariant-loop-i : goal.invariant-loop-i
+invariant-loop-i l = record {
+  start : l.start ≡ start_of l.fn.row;
+  end : l.i-end ≡ count_of l.fn.row;
+  taken : TakesTexts l.fn.row l.i l.line l.fn.texts l.texts;
+}

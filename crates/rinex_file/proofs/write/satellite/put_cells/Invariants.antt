@@ -1,0 +1,13 @@
+use Rattle.std.proofs.Common.{◌≡◌, ◌≤◌, length, drop}
+use Rattle.rinex_file.specs.Value.{entries_of}
+use Rattle.rinex_file.proofs.write.satellite.put_cells.Given as goal
+
+-- the values are those of the cells from here on
+abbrev pub invariant-loop-at : goal.invariant-loop-at
+invariant-loop-at l = record {
+  shown : l.values ≡ entries_of l.plan l.system l.id (drop l.at l.cells);
+  within : l.at ≤ length l.cells;
+}
+
+abbrev pub decreases-loop-at : goal.decreases-loop-at
+decreases-loop-at l = l.at

@@ -1,0 +1,80 @@
+-- Lines that a file may begin with, as far as they go by themselves: a part of a header; or a header, whole epochs, and a part of an
+-- event or of an epoch.
+use Rattle.std.specs.Prelude.{◌≡◌, ◌≢◌, ◌⊎◌, ℕ, ◌<◌, ◌≤◌, List, [], ◌∷◌, ◌++◌, length, take, map, flat_map, All, Some, None}
+use Rattle.std.specs.List.Sorted.{IsStrictlyIncreasing}
+use Rattle.obs_epoch.specs.declared.cell.StationValues.{StationValues}
+use Rattle.obs_epoch.specs.Dates.{civil_of}
+use Rattle.rinex_file.specs.Value.{Stamped}
+use Rattle.rinex_file.specs.FileValues.{IsTime, IsStamped, AreSatelliteRows, IsChange, AreChanges, IsFirstSame, values_behind, time_stamped, most_rows}
+use Rattle.rinex_file.specs.Header.{header_lines}
+use Rattle.rinex_file.specs.Lines.{epoch_line, satellite_line}
+use Rattle.rinex_file.specs.File.{stamped_lines, change_lines, event_lines}
+use Rattle.rinex_file.specs.Read.Progress.{Shown, IsShown, StartsAt}
+
+-- a header, and whole epochs that may follow it
+pub record AreWhole (h : Shown) (es : List Stamped) : Type 0 where
+  pub shown : IsShown h
+  pub epochs : All (IsStamped (length h.plan.gps) (length h.plan.galileo)) es
+  pub rising : IsStrictlyIncreasing (map time_stamped es)
+  pub starts : StartsAt h.first es
+  pub first : IsFirstSame es
+  pub changes : AreChanges h.values es
+
+-- an epoch that may follow these, with some of its satellites
+pub record IsPartOfNext (h : Shown) (es : List Stamped) (e : Stamped) : Type 0 where
+  pub time : IsTime e.time
+  pub later : IsStrictlyIncreasing (map time_stamped es ++ e.time ∷ [])
+  pub rows : AreSatelliteRows (length h.plan.gps) (length h.plan.galileo) e.rows
+  pub first : es ≡ [] → h.first ≡ e.time
+  pub change : IsChange (values_behind h.values es) e.change
+  pub same : es ≡ [] → e.change ≡ None
+
+abbrev pub lines_of_header : Shown → List (List ℕ)
+lines_of_header h = header_lines h.texts h.plan h.values (civil_of h.first)
+
+abbrev pub whole_lines : Shown → List Stamped → List (List ℕ)
+whole_lines h es = lines_of_header h ++ flat_map stamped_lines es
+
+-- the lines of an epoch of n satellites, up to those that it has
+abbrev pub part_lines : Stamped → ℕ → List (List ℕ)
+part_lines e n = change_lines e.change ++ (epoch_line (civil_of e.time) n ∷ map satellite_line e.rows)
+
+-- a header's first lines, but not all
+pub record IsHeaderBegun (lines : List (List ℕ)) : Type 0 where
+  pub h : Shown
+  pub left : List (List ℕ)
+  pub is : IsShown h
+  pub some : 0 < length left
+  pub are : lines_of_header h ≡ lines ++ left
+
+-- a header and whole epochs
+pub record IsBetweenEpochs (lines : List (List ℕ)) : Type 0 where
+  pub h : Shown
+  pub es : List Stamped
+  pub whole : AreWhole h es
+  pub are : lines ≡ whole_lines h es
+
+-- and the first k lines of an event
+pub record IsEventBegun (k : ℕ) (lines : List (List ℕ)) : Type 0 where
+  pub h : Shown
+  pub es : List Stamped
+  pub values : StationValues
+  pub whole : AreWhole h es
+  pub some : es ≢ []
+  pub change : IsChange (values_behind h.values es) (Some values)
+  pub are : lines ≡ whole_lines h es ++ take k (event_lines values)
+
+-- and the line of an epoch of n satellites, with fewer of them
+pub record IsEpochBegun (lines : List (List ℕ)) : Type 0 where
+  pub h : Shown
+  pub es : List Stamped
+  pub e : Stamped
+  pub n : ℕ
+  pub whole : AreWhole h es
+  pub next : IsPartOfNext h es e
+  pub fewer : length e.rows < n
+  pub room : n ≤ most_rows (length h.plan.gps) (length h.plan.galileo)
+  pub are : lines ≡ whole_lines h es ++ part_lines e n
+
+abbrev pub AreBegun : List (List ℕ) → Type 0
+AreBegun lines = IsHeaderBegun lines ⊎ IsBetweenEpochs lines ⊎ IsEventBegun 1 lines ⊎ IsEventBegun 2 lines ⊎ IsEventBegun 3 lines ⊎ IsEpochBegun lines
