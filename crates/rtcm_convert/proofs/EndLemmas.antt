@@ -1,87 +1,98 @@
 -- The end of a stream.
-use Rattle.std.proofs.Common.{◌≡◌, ℕ, List, [], ◌++◌, true, false, sym, ap, subst, ◌∙◌, Option, append-nil, Result, Ok, Err, OnOk, arith, length, ◌*◌, ◌≤◌, ◌^◌}
+use Rattle.std.proofs.Common.{◌≡◌, ℕ, List, ◌++◌, true, false, sym, ap, subst, ◌∙◌, Option, append-nil, [], arith, length, ◌*◌, ◌≤◌, ◌^◌}
+use Rattle.rtcm_bits.specs.Device.{Device, HasFailed}
+use Rattle.rtcm_bits.specs.Prefix.{IsPrefix}
 use Rattle.rtcm_scan.specs.Frames.{Framed, frames_of}
 use Rattle.rtcm_scan.specs.Decided.{decided_frames}
-use Rattle.rtcm_bits.specs.Prefix.{IsPrefix}
-use Rattle.rtcm_scan.specs.Known.{known_frames}
-use Rattle.rtcm_scan.specs.Scan.{FramerValue}
 use Rattle.rtcm_scan.specs.Drained.{IsDrained}
-use Rattle.rtcm_scan.specs.Examined.{HasExamined, IsCountedExactly}
+use Rattle.rtcm_scan.specs.Known.{known_frames}
+use Rattle.rtcm_scan.specs.Passing.{PassesKnown, BreaksKnown, HasPassedAll, HasBroken}
+use Rattle.rtcm_scan.specs.Scan.{FramerValue}
 use Rattle.rtcm_convert.specs.Converted.{SetupValue, so_far, file, epochs_in}
-use Rattle.rtcm_convert.specs.Outcomes.{outcomes, tally_of, capped}
-use Rattle.rtcm_convert.specs.declared.tally.Tally.{Tally}
 use Rattle.rtcm_convert.specs.Fed.{AppendsBetween, AppendsPrefixBetween}
-use Rattle.rtcm_convert.specs.Filed.{HasFiledFrames, HasGathered}
+use Rattle.rtcm_convert.specs.Filed.{HasFiledFrames}
 use Rattle.rtcm_convert.specs.Laws.{FiledStays, FiledGrows, WrittenStays, WrittenGrows}
-use Rattle.rtcm_convert.specs.Stream.{Drained}
-use Rattle.rtcm_convert.specs.declared.filer.Filer.{Filer}
-use Rattle.rtcm_convert.proofs.PartLemmas.{goes_on-trans, breaks_off-after, breaks_off-before}
+use Rattle.rtcm_convert.specs.Outcomes.{outcomes}
+use Rattle.rtcm_convert.specs.Steps.{WritesRest, BreaksInRest, CountsEpochs, GathersAll}
+use Rattle.rtcm_convert.specs.Stream.{Drained, Files, BreaksFiling, IsEnded, AppendsPrefixOfRest}
+use Rattle.rtcm_convert.specs.declared.file_writer.FileWriter.{FileWriter}
 use Rattle.rtcm_convert.proofs.ExactLemmas.{tally_whole, whole_epochs, epochs_few, outcomes_length}
-use Rattle.rtcm_convert.proofs.StreamLemmas.{Drains, DrainsPart}
+use Rattle.rtcm_convert.proofs.PartLemmas.{goes_on-trans, breaks_off-after, breaks_off-before}
+use Rattle.rtcm_convert.proofs.StreamLemmas.{files_self, so_far-front}
 
--- a framer that was told that no byte follows
-pub record Ends (v v' : FramerValue) : Type 0 where
-  pub before : v.has_ended ≡ false
-  pub after : v'.has_ended ≡ true
-  pub stands : (b : List ℕ) (fs : List Framed) → HasExamined v b fs → HasExamined v' b fs
-
-pub ended : (v v1 v2 : FramerValue) (w w2 : Filer) (a b : Option (List ℕ)) → Ends v v1 → Drains v1 w v2 w2 a b → v2.has_ended ≡ v1.has_ended
-    → (s : SetupValue) (bytes : List ℕ) → Drained v w s bytes → HasFiledFrames w2 s (frames_of bytes) × AppendsBetween a b (so_far s (decided_frames bytes)) (so_far s (frames_of bytes))
-ended v v1 v2 w w2 a b e drain same s bytes d =
-    let p = drain s bytes (known_frames v.has_ended bytes) (e.stands bytes _ d.framer) d.filer in
-    let f : known_frames v2.has_ended bytes ≡ frames_of bytes = ap (λ h. known_frames h bytes) (same ∙ e.after) in
-    let k : known_frames v1.has_ended bytes ≡ frames_of bytes = ap (λ h. known_frames h bytes) e.after in
-    let j : known_frames v.has_ended bytes ≡ decided_frames bytes = ap (λ h. known_frames h bytes) e.before in (
-      subst (λ (l : List Framed). HasFiledFrames w2 s l) f p.0.filer,
-      subst (λ (l : List Framed). AppendsBetween a b (so_far s (decided_frames bytes)) (so_far s l)) k
-          (subst (λ (l : List Framed). AppendsBetween a b (so_far s l) (so_far s (known_frames v1.has_ended bytes))) j p.1),
-    )
-
-pub ended_whole : (v v1 v2 : FramerValue) (w w2 : Filer) (a b c : Option (List ℕ)) → Ends v v1 → Drains v1 w v2 w2 a b → v2.has_ended ≡ v1.has_ended
-    → ((s : SetupValue) (fs : List Framed) → HasFiledFrames w2 s fs → AppendsBetween b c (so_far s fs) (file s fs))
-    → (s : SetupValue) (bytes : List ℕ) → Drained v w s bytes → AppendsBetween a c (so_far s (decided_frames bytes)) (file s (frames_of bytes))
-ended_whole v v1 v2 w w2 a b c e drain same end s bytes d =
-    let p = ended v v1 v2 w w2 a b e drain same s bytes d in
-    goes_on-trans a b c _ _ _ p.1 (end s (frames_of bytes) p.0)
-
--- no byte behind the limit was taken
-within : (v : FramerValue) (w : Filer) (s : SetupValue) (bytes : List ℕ) → Drained v w s bytes → length bytes ≤ 2 ^ 48
+-- no byte over the limit was taken
+within : (v : FramerValue) (w : FileWriter) (s : SetupValue) (bytes : List ℕ) → Drained v w s bytes → length bytes ≤ 2 ^ 48
 within v w s bytes d = let t = d.framer.stands.taken in let a = d.framer.within in let b = d.framer.limit in omega arith
 
 abbrev pub Few : Type 0
 Few = (b : List ℕ) → 6 * length (frames_of b) ≤ length b
 
-pub ended_epochs : Few → (v v1 v2 : FramerValue) (w w2 : Filer) (n : ℕ) (a b : Option (List ℕ)) → Ends v v1 → Drains v1 w v2 w2 a b → v2.has_ended ≡ v1.has_ended
-    → ((s : SetupValue) (fs : List Framed) → HasFiledFrames w2 s fs → n ≡ capped (epochs_in s fs))
-    → (s : SetupValue) (bytes : List ℕ) → Drained v w s bytes → n ≡ epochs_in s (frames_of bytes)
-ended_epochs few v v1 v2 w w2 n a b e drain same end s bytes d =
-    end s (frames_of bytes) (ended v v1 v2 w w2 a b e drain same s bytes d).0
-    ∙ whole_epochs (epochs_in s (frames_of bytes)) (length (frames_of bytes)) (length bytes) (epochs_few s (frames_of bytes)) (few bytes) (within v w s bytes d)
+module _ {W : Type 0} (c : W → Option (List ℕ)) (v v' : FramerValue) (w w' : FileWriter) (o o' : Device W) where
+  -- the frames that were left were passed on
+  passed_all : PassesKnown (Files c) v w o v' w' o' → (s : SetupValue) (bytes : List ℕ) → Drained v w s bytes → HasPassedAll (Files c) v' w o (known_frames v.has_ended bytes) w' o' bytes
+  passed_all k s bytes d = k w o (known_frames v.has_ended bytes) bytes (known_frames v.has_ended bytes) (record { framer = d.framer; taken = files_self c w o (known_frames v.has_ended bytes) })
 
-pub ended_gathered : {T E : Type 0} (v v1 v2 : FramerValue) (w w2 w3 : Filer) (a b : Option (List ℕ)) (result : Result T E) → Ends v v1 → Drains v1 w v2 w2 a b → v2.has_ended ≡ v1.has_ended
-    → ((s : SetupValue) (fs : List Framed) → HasFiledFrames w2 s fs → HasGathered w3 s fs)
-    → OnOk result ((s : SetupValue) (bytes : List ℕ) → Drained v w s bytes → HasGathered w3 s (frames_of bytes))
-ended_gathered v v1 v2 w w2 w3 a b (Ok x) e drain same end = λ s bytes d. end s (frames_of bytes) (ended v v1 v2 w w2 a b e drain same s bytes d).0
-ended_gathered v v1 v2 w w2 w3 a b (Err x) e drain same end = tt
+  filed_all : v.has_ended ≡ false → v'.has_ended ≡ true → PassesKnown (Files c) v w o v' w' o' → (s : SetupValue) (bytes : List ℕ) → Drained v w s bytes
+      → HasFiledFrames w' s (frames_of bytes) × AppendsBetween (c o.inner) (c o'.inner) (so_far s (decided_frames bytes)) (so_far s (frames_of bytes))
+  filed_all before after k s bytes d =
+      let q = (passed_all k s bytes d).passed.taken.files s d.file_writer in
+      let f : known_frames v'.has_ended bytes ≡ frames_of bytes = ap (λ h. known_frames h bytes) after in
+      let j : known_frames v.has_ended bytes ≡ decided_frames bytes = ap (λ h. known_frames h bytes) before in (
+        subst (λ (l : List Framed). HasFiledFrames w' s l) f q.0,
+        subst (λ (l : List Framed). AppendsBetween (c o.inner) (c o'.inner) (so_far s (decided_frames bytes)) (so_far s l)) f
+            (subst (λ (l : List Framed). AppendsBetween (c o.inner) (c o'.inner) (so_far s l) (so_far s (known_frames v'.has_ended bytes))) j q.1),
+      )
 
-pub ended_part : (v v1 v2 : FramerValue) (w w2 : Filer) (a b c : Option (List ℕ)) → Ends v v1 → Drains v1 w v2 w2 a b → v2.has_ended ≡ v1.has_ended
-    → ((s : SetupValue) (fs : List Framed) → HasFiledFrames w2 s fs → AppendsPrefixBetween b c (so_far s fs) (file s fs))
-    → (s : SetupValue) (bytes : List ℕ) → Drained v w s bytes → AppendsPrefixBetween a c (so_far s (decided_frames bytes)) (file s (frames_of bytes))
-ended_part v v1 v2 w w2 a b c e drain same end s bytes d =
-    let p = ended v v1 v2 w w2 a b e drain same s bytes d in
-    breaks_off-after a b c _ _ _ p.1 (end s (frames_of bytes) p.0)
+  -- then the rest of the file was written
+  pub ended : Few → (w2 : FileWriter) (e : Option (List ℕ)) → v.has_ended ≡ false → v'.has_ended ≡ true → v'.limit ≡ v.limit → v'.taken ≡ v.taken → PassesKnown (Files c) v w o v' w' o'
+      → WritesRest w' (c o'.inner) e → CountsEpochs w' w2.epochs → GathersAll w' w2 → w2.tally ≡ w'.tally
+      → (s : SetupValue) (bytes : List ℕ) → Drained v w s bytes → IsEnded v' w2 (c o.inner) e s bytes
+  ended few w2 e before after limit taken k rest epochs gathers tally s bytes d =
+      let p = filed_all before after k s bytes d in
+      let a = passed_all k s bytes d in
+      let n : length (outcomes s (frames_of bytes)) ≡ length (frames_of bytes) = outcomes_length s [] (frames_of bytes) in
+      let t : v.taken ≡ length bytes = d.framer.stands.taken in
+      let l : v.taken ≤ v.limit = d.framer.within in
+      record {
+        over = after;
+        out = goes_on-trans (c o.inner) (c o'.inner) e _ _ _ p.1 (rest s (frames_of bytes) p.0);
+        epochs = epochs s (frames_of bytes) p.0 ∙ whole_epochs (epochs_in s (frames_of bytes)) (length (frames_of bytes)) (length bytes) (epochs_few s (frames_of bytes)) (few bytes) (within v w s bytes d);
+        tally = tally ∙ p.0.tally ∙ tally_whole (outcomes s (frames_of bytes)) (length bytes) p.0.few (subst (λ (k : ℕ). 6 * k ≤ length bytes) (sym n) (few bytes)) (within v w s bytes d);
+        taken = taken ∙ t;
+        within = omega (arith, t, l, limit);
+        drained = subst (λ (l : List Framed). IsDrained v' bytes l) (ap (λ h. known_frames h bytes) after) a.drained;
+        counted = a.counted;
+        gathered = gathers s (frames_of bytes) p.0;
+      }
+
+  -- a prefix of it was
+  pub ended_part : (e : Option (List ℕ)) → v.has_ended ≡ false → v'.has_ended ≡ true → PassesKnown (Files c) v w o v' w' o' → BreaksInRest w' (c o'.inner) e
+      → (s : SetupValue) (bytes : List ℕ) → Drained v w s bytes → AppendsPrefixOfRest (c o.inner) e s bytes bytes
+  ended_part e before after k rest s bytes d =
+      let p = filed_all before after k s bytes d in
+      breaks_off-after (c o.inner) (c o'.inner) e _ _ _ p.1 (rest s (frames_of bytes) p.0)
+
+  -- no call of the device failed
+  pub ended_fine : PassesKnown (Files c) v w o v' w' o' → (b : List ℕ) → HasPassedAll (Files c) v w o (known_frames v.has_ended b) w o b → (o'.failures ≡ o.failures) × (o'.widest ≡ o.widest)
+  ended_fine k b x = let p = k w o (known_frames v.has_ended b) b (known_frames v.has_ended b) x.passed in (p.passed.taken.fine, p.passed.taken.widest)
 
 so_far-file : FiledStays → (s : SetupValue) (fs : List Framed) → IsPrefix (so_far s fs) (file s fs)
 so_far-file stays s fs = subst (λ (l : List Framed). IsPrefix (so_far s fs) (file s l)) (append-nil fs) (stays s fs [])
 
-pub drain_part : FiledStays → (v v1 : FramerValue) (w : Filer) (a b : Option (List ℕ)) → Ends v v1 → DrainsPart v1 w a b
-    → (s : SetupValue) (bytes : List ℕ) → Drained v w s bytes → AppendsPrefixBetween a b (so_far s (decided_frames bytes)) (file s (frames_of bytes))
-drain_part stays v v1 w a b e drain s bytes d =
-    let p = drain s bytes (known_frames v.has_ended bytes) (e.stands bytes _ d.framer) d.filer in
-    let k : known_frames v1.has_ended bytes ≡ frames_of bytes = ap (λ h. known_frames h bytes) e.after in
-    let j : known_frames v.has_ended bytes ≡ decided_frames bytes = ap (λ h. known_frames h bytes) e.before in
-    breaks_off-before a b _ _ _ (subst (λ (l : List Framed). AppendsPrefixBetween a b (so_far s (decided_frames bytes)) (so_far s l)) k
-    (subst (λ (l : List Framed). AppendsPrefixBetween a b (so_far s l) (so_far s (known_frames v1.has_ended bytes))) j p)) (so_far-file stays s (frames_of bytes))
+-- the device failed before
+pub drain_part : {W : Type 0} → (c : W → Option (List ℕ)) (v : FramerValue) (w w' : FileWriter) (o o' : Device W) → FiledStays → FiledGrows → v.has_ended ≡ false → BreaksKnown (Files c) (BreaksFiling c) true v w o w' o'
+    → (s : SetupValue) (bytes : List ℕ) → Drained v w s bytes → AppendsPrefixOfRest (c o.inner) (c o'.inner) s bytes bytes
+drain_part c v w w' o o' stays grows before k s bytes d =
+    let p : HasBroken (BreaksFiling c) true w o (known_frames v.has_ended bytes) w' o' (known_frames v.has_ended bytes) bytes =
+    k w o (known_frames v.has_ended bytes) bytes (known_frames v.has_ended bytes) (record { framer = d.framer; taken = files_self c w o (known_frames v.has_ended bytes) }) in
+    let j : known_frames v.has_ended bytes ≡ decided_frames bytes = ap (λ h. known_frames h bytes) before in
+    let out : AppendsPrefixBetween (c o.inner) (c o'.inner) (so_far s (decided_frames bytes)) (so_far s p.reached) =
+    subst (λ (l : List Framed). AppendsPrefixBetween (c o.inner) (c o'.inner) (so_far s l) (so_far s p.reached)) j (p.broken.part s d.file_writer) in
+    breaks_off-before (c o.inner) (c o'.inner) _ _ _ (breaks_off-before (c o.inner) (c o'.inner) _ _ _ out (so_far-front grows s p.reached (frames_of bytes) p.known)) (so_far-file stays s (frames_of bytes))
+
+pub drain_failed : {W : Type 0} → (c : W → Option (List ℕ)) (v : FramerValue) (w w' : FileWriter) (o o' : Device W) → BreaksKnown (Files c) (BreaksFiling c) true v w o w' o' → (b : List ℕ)
+    → HasPassedAll (Files c) v w o (known_frames v.has_ended b) w o b → HasFailed o.failures o'.failures × (o'.widest ≡ o.widest)
+drain_failed c v w w' o o' k b x = let p = k w o (known_frames v.has_ended b) b (known_frames v.has_ended b) x.passed in (p.broken.failed, p.broken.widest)
 
 -- what is written of some bytes is a prefix of the file of more bytes, and of what is written of them
 abbrev pub FramesStay : Type 0
@@ -99,18 +110,3 @@ pub written_grows : FiledGrows → FramesGrow → WrittenGrows
 written_grows grows frames s b more =
     let p = frames b more in
     subst (λ (l : List Framed). IsPrefix (so_far s (decided_frames b)) (so_far s l)) (sym p.1) (grows s (decided_frames b) p.0)
-
-pub ended_tally : Few → {T E : Type 0} (v v1 v2 : FramerValue) (w w2 : Filer) (r : Tally) (a b : Option (List ℕ)) (result : Result T E) → Ends v v1 → Drains v1 w v2 w2 a b → v2.has_ended ≡ v1.has_ended → r ≡ w2.tally
-    → OnOk result ((s : SetupValue) (bytes : List ℕ) → Drained v w s bytes → r ≡ tally_of (outcomes s (frames_of bytes)))
-ended_tally few v v1 v2 w w2 r a b (Ok x) e drain same is = λ s bytes d.
-    let f = (ended v v1 v2 w w2 a b e drain same s bytes d).0 in
-    let n : length (outcomes s (frames_of bytes)) ≡ length (frames_of bytes) = outcomes_length s [] (frames_of bytes) in
-    is ∙ f.tally ∙ tally_whole (outcomes s (frames_of bytes)) (length bytes) f.few (subst (λ (k : ℕ). 6 * k ≤ length bytes) (sym n) (few bytes)) (within v w s bytes d)
-ended_tally few v v1 v2 w w2 r a b (Err x) e drain same is = tt
-
-pub ended_drained : {T E : Type 0} (v v1 v2 : FramerValue) (w w2 : Filer) (a b : Option (List ℕ)) (result : Result T E) → Ends v v1 → Drains v1 w v2 w2 a b → v2.has_ended ≡ v1.has_ended
-    → OnOk result ((s : SetupValue) (bytes : List ℕ) → Drained v w s bytes → IsDrained v2 bytes (frames_of bytes) × IsCountedExactly v2 bytes)
-ended_drained v v1 v2 w w2 a b (Ok x) e drain same = λ s bytes d.
-    let p = drain s bytes (known_frames v.has_ended bytes) (e.stands bytes _ d.framer) d.filer in
-    (subst (λ (l : List Framed). IsDrained v2 bytes l) (ap (λ h. known_frames h bytes) (same ∙ e.after)) p.0.drained, p.0.counted)
-ended_drained v v1 v2 w w2 a b (Err x) e drain same = tt

@@ -1,4 +1,6 @@
 -- No count of a stream reaches the greatest number that is counted: a frame has six bytes at least, and 64 cells at most.
+use Rattle.rtcm_msg.specs.declared.entry.LockField.{LockField}
+use Rattle.rtcm_msg.specs.declared.entry.LockField.TheVariants.{Df402, Df407}
 use Rattle.std.proofs.Common.{◌≡◌, ℕ, ◌+◌, ◌-◌, ◌*◌, ◌≤◌, ◌^◌, List, [], ◌∷◌, ◌++◌, Bool, true, false, refl, sym, ap, subst, ◌∙◌, arith, length, length-append, add-zero, suc, zero, nat_lt, Option, Some, None, is_some, not}
 use Rattle.std.specs.Prelude.{count_by, filter, filter_map, if◌then◌else◌}
 use Rattle.std.specs.List.{cons_option, zip}
@@ -14,13 +16,11 @@ use Rattle.rtcm_msg.specs.declared.entry.Entry.{Entry}
 use Rattle.rtcm_msg.specs.Msm.{MasksValue, MsmValue, AreMasks, pairs}
 use Rattle.rtcm_msg.specs.Spelling.{IsMessage}
 use Rattle.rtcm_msg.specs.Entries.{chosen, seats, all_pairs, entries, entry4, entry7}
-use Rattle.obs_epoch.specs.declared.seen.Seen.{Seen}
-use Rattle.obs_epoch.specs.declared.seen.CellCounts.{CellCounts}
 use Rattle.obs_epoch.specs.declared.taken.Kind.{Kind}
 use Rattle.obs_epoch.specs.declared.taken.Kind.TheVariants as kind
 use Rattle.obs_epoch.specs.declared.clock.Answer.{Answer}
 use Rattle.obs_epoch.specs.declared.clock.Answer.TheVariants as answers
-use Rattle.obs_epoch.specs.Heard.{GatherSetup, Heard, heard, heard_msm, seen_in, system_of, unlisted_in}
+use Rattle.obs_epoch.specs.Heard.{GatherSetup, Heard, heard, heard_msm, seen_in, system_of, unlisted_in, HeardCell}
 use Rattle.obs_epoch.specs.Times.{Timed, timed, timed_after, taken_at}
 use Rattle.obs_epoch.specs.Loss.{times}
 use Rattle.obs_epoch.specs.Cells.{counts_of, with_skipped, is_planned, is_among, kept_of_both as kept_both, offered}
@@ -33,6 +33,7 @@ use Rattle.obs_epoch.specs.Values.{satellites_written}
 use Rattle.rtcm_convert.specs.Converted.{SetupValue, messages_of, heard_in, epochs_in}
 use Rattle.rtcm_convert.specs.Outcomes.{outcomes_after, capped, capped_tally, sum_of_counts, tally_of, tally_of_one, IsFew, AreFew}
 use Rattle.rtcm_convert.specs.declared.tally.Tally.{Tally}
+use Rattle.obs_epoch.specs.declared.taken.CellCounts.{CellCounts}
 
 -- ---- the cells of a message
 
@@ -81,9 +82,9 @@ unlisted_step : (b : Bool) (n k : ℕ) → n ≤ k → (if b then 0 else 1) + n 
 unlisted_step true n k le = omega arith
 unlisted_step false n k le = omega arith
 
-unlisted_few : (is_msm7 : Bool) (system : System) (es : List Entry) → unlisted_in is_msm7 system es ≤ length es
-unlisted_few is_msm7 system [] = omega arith
-unlisted_few is_msm7 system (e ∷ es) = unlisted_step (is_some (seen_in is_msm7 system e)) (unlisted_in is_msm7 system es) (length es) (unlisted_few is_msm7 system es)
+unlisted_few : (field : LockField) (system : System) (es : List Entry) → unlisted_in field system es ≤ length es
+unlisted_few field system [] = omega arith
+unlisted_few field system (e ∷ es) = unlisted_step (is_some (seen_in field system e)) (unlisted_in field system es) (length es) (unlisted_few field system es)
 
 -- what is heard of a message has so few cells
 record HasFew (m : Heard) : Type 0 where
@@ -93,16 +94,16 @@ record HasFew (m : Heard) : Type 0 where
 short_of : (n k : ℕ) → n ≤ k → k ≤ 64 → n ≤ 64
 short_of n k a b = omega arith
 
-heard_msm_few : (is_msm7 : Bool) (v : MsmValue) (es : List Entry) → length es ≤ 64 → HasFew (heard_msm is_msm7 v es)
-heard_msm_few is_msm7 v es le = record {
-  cells = short_of _ _ (filter_map_few (seen_in is_msm7 (system_of v.is_galileo)) es) le;
-  unlisted = short_of _ _ (unlisted_few is_msm7 (system_of v.is_galileo) es) le;
+heard_msm_few : (field : LockField) (v : MsmValue) (es : List Entry) → length es ≤ 64 → HasFew (heard_msm field v es)
+heard_msm_few field v es le = record {
+  cells = short_of _ _ (filter_map_few (seen_in field (system_of v.is_galileo)) es) le;
+  unlisted = short_of _ _ (unlisted_few field (system_of v.is_galileo) es) le;
 }
 
 heard_few : (m : Message) → IsMessage m → HasFew (heard m)
 heard_few (message.Station s) h = record { cells = omega arith; unlisted = omega arith }
-heard_few (message.Msm4 v) h = heard_msm_few false v (entries (message.Msm4 v)) (entries_few (message.Msm4 v) h)
-heard_few (message.Msm7 v) h = heard_msm_few true v (entries (message.Msm7 v)) (entries_few (message.Msm7 v) h)
+heard_few (message.Msm4 v) h = heard_msm_few Df402 v (entries (message.Msm4 v)) (entries_few (message.Msm4 v) h)
+heard_few (message.Msm7 v) h = heard_msm_few Df407 v (entries (message.Msm7 v)) (entries_few (message.Msm7 v) h)
 heard_few (message.Other n set) h = record { cells = omega arith; unlisted = omega arith }
 
 -- ---- the counts of a message
@@ -112,7 +113,7 @@ record CountsFew (n : CellCounts) : Type 0 where
   repeated : n.repeated ≤ 128
   crowded : n.crowded ≤ 128
 
-planned_few : (s : GatherSetup) (xs : List Seen) → length (filter (is_planned s) xs) ≤ length xs
+planned_few : (s : GatherSetup) (xs : List HeardCell) → length (filter (is_planned s) xs) ≤ length xs
 planned_few s xs = subst (λ (n : ℕ). n ≤ length xs) (sym (length-filter (is_planned s) xs)) (count_by-le-length (is_planned s) xs)
 
 less : (a b c n : ℕ) → a ≤ b → b ≤ c → c ≤ 64 → a - n ≤ 128
@@ -124,7 +125,7 @@ at_most a b c p q r = omega arith
 sum_few : (a b c : ℕ) → a ≤ b → b ≤ 64 → c ≤ 64 → a + c ≤ 128
 sum_few a b c p q r = omega arith
 
-counts_few : (s : GatherSetup) (before : List Seen) (m : Heard) → HasFew m → CountsFew (with_skipped m.unlisted (counts_of s before m.cells))
+counts_few : (s : GatherSetup) (before : List HeardCell) (m : Heard) → HasFew m → CountsFew (with_skipped m.unlisted (counts_of s before m.cells))
 counts_few s before m h =
     let planned = filter (is_planned s) m.cells in
     let all = kept_both (before ++ planned) in

@@ -3,9 +3,9 @@ use Rattle.std.proofs.Common.{◌≡◌, ◌≤◌, ℕ, max, refl, sym, ap, sub
 use Rattle.std.specs.Prelude.{if◌then◌else◌, IsErrOf}
 use Rattle.rtcm_bits.specs.Device.{Device}
 use Rattle.rtcm_convert.specs.Conversion.{Conversion, IsGoing, refusal}
-use Rattle.rtcm_convert.specs.Faults.{FailsWithReader, FailsWithWriter, ReaderFailures, WriterFailures, IsFeedFault, IsFinishFault, IsSetupFault}
+use Rattle.rtcm_convert.specs.Faults.{FailsWithReader, FailsWithWriter, ReaderFailures, WriterFailures, IsFeedFault, IsPullFault, IsFinishFault, IsRunFault, IsSetupFault, IsSentAtFault, IsSentAfter}
 use Rattle.rtcm_convert.specs.declared.fault.Fault.{Fault}
-use Rattle.rtcm_convert.specs.declared.fault.Fault.TheVariants.{BadSetup, Failed, Finished, Memory, TooLong, Write}
+use Rattle.rtcm_convert.specs.declared.fault.Fault.TheVariants.{BadSetup, Failed, Finished, Memory, NoEpoch, Read, TooLong, Write}
 
 -- ---- the writer, since a call before which it was as well as now
 
@@ -106,3 +106,38 @@ stopped false false fault e h k = cc
 
 pub not_going : (v : Conversion) (fault : Fault) → Some fault ≡ refusal v → IsGoing v → ⊥
 not_going v fault e going = stopped v.has_ended v.has_failed fault e going.more going.fine
+
+-- ---- what a call leaves
+
+pub kinds_of : {A : Type 0} (r : Result A Fault) (K P : Fault → Type 0) → IfErr r (λ f. K f × P f) → IfErr r K
+kinds_of (Ok x) K P h = tt
+kinds_of (Err fault) K P h = h.0
+
+pub pull_in_run : (fault : Fault) → IsPullFault fault → IsRunFault fault
+pull_in_run fault (inl e) = inl e
+pull_in_run fault (inr (inl e)) = inr (inl e)
+pull_in_run fault (inr (inr e)) = inr (inr (inr e))
+
+pub finish_in_run : {A : Type 0} (r : Result A Fault) (P : Fault → Type 0) → IfErr r (λ f. IsFinishFault f × P f) → IfErr r (λ f. IsRunFault f × P f)
+finish_in_run (Ok x) P h = tt
+finish_in_run (Err fault) P h = (inr (inr h.0), h.1)
+
+-- what was sent since
+pub sent_fault : (fault : Fault) (a b c : Bool) → (a ≡ true → b ≡ true) → IsSentAtFault fault b c → IsSentAtFault fault a c
+sent_fault Write a b c f g = tt
+sent_fault TooLong a b c f g = g
+sent_fault NoEpoch a b c f g = g
+sent_fault Read a b c f g = λ h. g (f h)
+sent_fault Memory a b c f g = λ h. g (f h)
+sent_fault BadSetup a b c f g = λ h. g (f h)
+sent_fault Failed a b c f g = λ h. g (f h)
+sent_fault Finished a b c f g = λ h. g (f h)
+
+pub sent_since : {A : Type 0} (r : Result A Fault) (a b c : Bool) → (a ≡ true → b ≡ true) → IsSentAfter r b c → IsSentAfter r a c
+sent_since (Ok x) a b c f g = g
+sent_since (Err fault) a b c f g = sent_fault fault a b c f g
+
+-- a refused setup writes nothing
+pub sent_setup : (fault : Fault) (a : Bool) → IsSetupFault fault → IsSentAtFault fault a a
+sent_setup fault a (inl e) = subst (λ (f : Fault). IsSentAtFault f a a) (sym e) (λ h. h)
+sent_setup fault a (inr e) = subst (λ (f : Fault). IsSentAtFault f a a) (sym e) (λ h. h)

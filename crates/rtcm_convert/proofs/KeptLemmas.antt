@@ -42,19 +42,19 @@ abbrev pub HasKeys : Gathered → ℕ → Type 0
 HasKeys v n = (s : GatherSetup) (ms : List Heard) (es : List Closed) (again : Option Heard) → HasGatheredEpochs v s ms es again
     → n ≡ length (firsts (locked_in s (timed s ms) (closed_so_far s (timed s ms) (is_done v s ms again))))
 
-pub locks_all : (v : Conversion) (n : ℕ) → HasKeys v.filer.gatherer n → (s : SetupValue) (b : List ℕ) → HasFinished v s b → n ≡ locks_in_all s (frames_of b)
+pub locks_all : (v : Conversion) (n : ℕ) → HasKeys v.file_writer.gatherer n → (s : SetupValue) (b : List ℕ) → HasFinished v s b → n ≡ locks_in_all s (frames_of b)
 locks_all v n keys s b x =
     let g = x.gathered in
     keys s.gather (messages_of (frames_of b)) g.epochs None g.gathers
-    ∙ ap (locks_at s (frames_of b)) (closed_all v.filer.gatherer s.gather (messages_of (frames_of b)) g.epochs g.gathers g.ended)
+    ∙ ap (locks_at s (frames_of b)) (closed_all v.file_writer.gatherer s.gather (messages_of (frames_of b)) g.epochs g.gathers g.ended)
 
-locks_in_known : (v : Conversion) (n : ℕ) (fs : List Framed) (s : SetupValue) → HasKeys v.filer.gatherer n → v.filer.gatherer.has_ended ≡ false → Settled v.filer s (messages_of fs) → n ≡ locks_kept s fs
+locks_in_known : (v : Conversion) (n : ℕ) (fs : List Framed) (s : SetupValue) → HasKeys v.file_writer.gatherer n → v.file_writer.gatherer.has_ended ≡ false → Settled v.file_writer s (messages_of fs) → n ≡ locks_kept s fs
 locks_in_known v n fs s keys going x =
     let es = epochs_so_far s.gather (messages_of fs) in
     keys s.gather (messages_of fs) es None x.gatherer
-    ∙ ap (locks_at s fs) (closed_now v.filer.gatherer s.gather (messages_of fs) es x.gatherer going)
+    ∙ ap (locks_at s fs) (closed_now v.file_writer.gatherer s.gather (messages_of fs) es x.gatherer going)
 
-pub locks_now : (v : Conversion) (n : ℕ) → IsFit v → HasKeys v.filer.gatherer n → (s : SetupValue) (b : List ℕ) → HasConverted v s b → n ≡ locks_kept s (decided_frames b)
+pub locks_now : (v : Conversion) (n : ℕ) → IsFit v → HasKeys v.file_writer.gatherer n → (s : SetupValue) (b : List ℕ) → HasConverted v s b → n ≡ locks_kept s (decided_frames b)
 locks_now v n fit keys s b x =
-    locks_in_known v n (known_frames v.scan.has_ended b) s keys (fit.going x.going) x.drained.filer.settled
+    locks_in_known v n (known_frames v.scan.has_ended b) s keys (fit.going x.going) x.drained.file_writer.settled
     ∙ ap (λ h. locks_kept s (known_frames h b)) (fit.listening x.going)

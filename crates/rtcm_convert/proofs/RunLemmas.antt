@@ -8,9 +8,9 @@ use Rattle.rtcm_scan.specs.Known.{known_place}
 use Rattle.rtcm_convert.specs.Converted.{SetupValue}
 use Rattle.rtcm_convert.specs.declared.report.Report.{Report}
 use Rattle.rtcm_convert.specs.Stream.{AppendsDecided, AppendsPrefixOfRest}
-use Rattle.rtcm_convert.specs.Conversion.{Conversion, IsGoing, refusal, HasConverted, TakesPiece, TakesToLimit, TakesFromReader, WritesAdded, Completed, CompletedEmpty, FinishesNow, FinishesEmptyNow, CompletesFile, CompletesEmptyFile, IsTakenFrom, WritesPrefixOfAdded, FailsFeeding, FailsFinishing}
+use Rattle.rtcm_convert.specs.Conversion.{Conversion, IsGoing, refusal, HasConverted, TakesPiece, TakesFromReader, IsPastLimit, ReadOverLimit, RanToLimit, WritesAdded, Completed, CompletedEmpty, FinishesNow, FinishesEmptyNow, CompletesFile, CompletesEmptyFile, WritesPrefixOfAdded, StopsAtPiece, FailsFeeding, FailsFinishing}
 use Rattle.rtcm_convert.specs.declared.fault.Fault.TheVariants.{Failed, Finished}
-use Rattle.rtcm_convert.proofs.PartLemmas.{goes_on-refl, goes_on-trans, breaks_off-after}
+use Rattle.rtcm_convert.proofs.PartLemmas.{goes_on-refl, goes_on-trans}
 
 flags : (ended failed : Bool) → None ≡ (if ended then Some Finished else if failed then Some Failed else None) → (failed ≡ false) × (ended ≡ false)
 flags true failed e = absurd cc
@@ -36,10 +36,10 @@ ran-trans v w x r r' r'' a b c p q =
     (p.0 ++ q.0, Consumes-trans r r' r'' p.0 q.0 p.1 q.1, taken_more v.scan.taken w.scan.taken x.scan.taken p.0 q.0 p.2 q.2, goes-trans v w x a b c p.0 q.0 p.3 q.3)
 
 pub completed_after : (w : Conversion) (a b c : Option (List ℕ)) (s : SetupValue) (x y : List ℕ) (report : Report) → AppendsDecided a b s x y → Completed w b c s y y report → Completed w a c s x y report
-completed_after w a b c s x y report e f = record { out = goes_on-trans a b c _ _ _ e f.out; some = f.some; report_is = f.report_is; finished = f.finished }
+completed_after w a b c s x y report e f = record { out = goes_on-trans a b c _ _ _ e f.out; some = f.some; report_is = f.report_is; finished = f.finished; kept = f.kept; bounds = f.bounds }
 
 pub empty_after : (w : Conversion) (a b c : Option (List ℕ)) (s : SetupValue) (x y : List ℕ) → AppendsDecided a b s x y → CompletedEmpty w b c s y y → CompletedEmpty w a c s x y
-empty_after w a b c s x y e f = record { none = f.none; out = goes_on-trans a b c _ _ _ e f.out; finished = f.finished }
+empty_after w a b c s x y e f = record { none = f.none; out = goes_on-trans a b c _ _ _ e f.out; finished = f.finished; kept = f.kept; bounds = f.bounds }
 
 pub ran_whole : {E : Type 0} (v w x : Conversion) (r r' a b c : Option (List ℕ)) (result : Result Report E) → TakesFromReader v w r r' a b → IsAtEnd r' → IfOk result (λ report. FinishesNow w x b c report)
     → IfOk result (λ report. IfSome r (CompletesFile v x a c report))
@@ -53,18 +53,6 @@ pub run_read : (v w x : Conversion) (r r' r'' a b c : Option (List ℕ)) → Tak
 run_read v w x r r' r'' a b c p k e same =
     (p.0, Consumes-kept r r' r'' p.0 p.1 k, same ∙ p.2, λ s bytes y. subst (λ (o : Option (List ℕ)). AppendsDecided a o s bytes (bytes ++ p.0)) (sym e) (p.3 s bytes y).1)
 
-pub run_long : (v w : Conversion) (r r' r'' a b c : Option (List ℕ)) → TakesFromReader v w r r' a b → w.scan.limit ≡ v.scan.limit
-    → ((piece : List ℕ) × Consumes r' r'' piece × TakesToLimit w b c piece × (w.scan.limit < w.scan.taken + length piece)) → (front : List ℕ) × Consumes r r'' front × TakesToLimit v a c front
-run_long v w r r' r'' a b c p same q = (
-  p.0 ++ q.0,
-  Consumes-trans r r' r'' p.0 q.0 p.1 q.1,
-  λ s bytes y.
-      let i = p.3 s bytes y in
-      let j = goes_on-trans a b c _ _ _ i.1 (q.2 s (bytes ++ p.0) i.0) in
-      let e : take w.scan.limit ((bytes ++ p.0) ++ q.0) ≡ take v.scan.limit (bytes ++ (p.0 ++ q.0)) = ap (λ n. take n ((bytes ++ p.0) ++ q.0)) same ∙ ap (λ l. take v.scan.limit l) (append_assoc bytes p.0 q.0) in
-      subst (λ (l : List ℕ). AppendsDecided a c s bytes l) e j,
-)
-
 -- the held bytes are those that are not decided
 held_near : (w : Conversion) (s : SetupValue) (bytes : List ℕ) (n : ℕ) → w.scan.has_ended ≡ false → HasConverted w s bytes → length w.scan.held + n ≤ 1029 → (length bytes - decided bytes) + n ≤ 1029
 held_near w s bytes n going x le =
@@ -75,9 +63,8 @@ held_near w s bytes n going x le =
 taken_from : (u v w n m : ℕ) → v ≡ u + n → v + 0 ≤ w → w ≤ v + m → (u + n ≤ w) × (w ≤ u + (n + m))
 taken_from u v w n m d e f = (omega arith, omega arith)
 
-pub run_feeding : (v w x : Conversion) (r r' r'' a b c : Option (List ℕ)) → TakesFromReader v w r r' a b → w.scan.has_ended ≡ false
-    → ((piece : List ℕ) × Consumes r' r'' piece × (length w.scan.held + length piece ≤ 1029) × IsTakenFrom w x 0 (length piece) × WritesPrefixOfAdded w b c piece) → FailsFeeding v x r r'' a c
-run_feeding v w x r r' r'' a b c p going q =
+pub run_feeding : (v w x : Conversion) (r r' r'' a b c : Option (List ℕ)) → TakesFromReader v w r r' a b → StopsAtPiece w x r' r'' b c → FailsFeeding v x r r'' a c
+run_feeding v w x r r' r'' a b c p q =
     let t = taken_from v.scan.taken w.scan.taken x.scan.taken (length p.0) (length q.0) p.2 q.3.least q.3.most in (
       p.0,
       q.0,
@@ -85,13 +72,13 @@ run_feeding v w x r r' r'' a b c p going q =
       record { least = t.0; most = t.1 },
       λ s bytes y.
           let i = p.3 s bytes y in
-          record { mid = b; before = i.1; last = q.4 s (bytes ++ p.0) i.0; near = held_near w s (bytes ++ p.0) (length q.0) going i.0 q.2 },
+          record { mid = b; before = i.1; last = q.4 s (bytes ++ p.0) i.0; near = held_near w s (bytes ++ p.0) (length q.0) q.5 i.0 q.2 },
     )
 
 pub run_finishing : (v w x : Conversion) (r r' a b c : Option (List ℕ)) → TakesFromReader v w r r' a b → IsAtEnd r' → x.scan.taken ≡ w.scan.taken
     → ((s : SetupValue) (bytes : List ℕ) → HasConverted w s bytes → AppendsPrefixOfRest b c s bytes bytes) → FailsFinishing v x r r' a c
 run_finishing v w x r r' a b c p e same f =
-    (p.0, p.1, e, same ∙ p.2, λ s bytes y. let i = p.3 s bytes y in breaks_off-after a b c _ _ _ i.1 (f s (bytes ++ p.0) i.0))
+    (p.0, p.1, e, same ∙ p.2, λ s bytes y. let i = p.3 s bytes y in record { mid = b; before = i.1; last = f s (bytes ++ p.0) i.0 })
 
 pub ran_start : (v : Conversion) (r a : Option (List ℕ)) → TakesFromReader v v r r a a
 ran_start v r a = (
@@ -119,24 +106,27 @@ above None r'' front P c f = tt
 above (Some xs) None front P c f = absurd c
 above (Some xs) (Some ys) front P c f = f xs ys c
 
-pub ran_long : (v w : Conversion) (r r' r'' a b c : Option (List ℕ)) → TakesFromReader v w r r' a b → w.scan.limit ≡ v.scan.limit
-    → ((piece : List ℕ) × Consumes r' r'' piece × TakesToLimit w b c piece × (w.scan.limit < w.scan.taken + length piece))
-    → IfSome r (λ rest. (s : SetupValue) (bytes : List ℕ) → HasConverted v s bytes → v.scan.limit < length (bytes ++ rest))
-ran_long v w r r' r'' a b c p same q =
-    above r r'' (p.0 ++ q.0) (λ rest. (s : SetupValue) (bytes : List ℕ) → HasConverted v s bytes → v.scan.limit < length (bytes ++ rest)) (Consumes-trans r r' r'' p.0 q.0 p.1 q.1)
-    (λ xs ys e s bytes y.
-    let i = p.3 s bytes y in
-    let taken : w.scan.taken ≡ length (bytes ++ p.0) = i.0.drained.framer.stands.taken in
-    let all : length (bytes ++ (p.0 ++ q.0)) ≡ length (bytes ++ p.0) + length q.0 = ap length (sym (append_assoc bytes p.0 q.0)) ∙ length-append (bytes ++ p.0) q.0 in
-    let over = q.3 in
-    let lt : v.scan.limit < length (bytes ++ (p.0 ++ q.0)) = omega arith in
-    longer v.scan.limit bytes xs (p.0 ++ q.0) ys lt e)
-
-pub pulled_long : (v : Conversion) (r r' a b : Option (List ℕ)) (piece : List ℕ) → Consumes r r' piece → TakesToLimit v a b piece → v.scan.limit < v.scan.taken + length piece
-    → (p : List ℕ) × Consumes r r' p × TakesToLimit v a b p × (v.scan.limit < v.scan.taken + length p)
-pulled_long v r r' a b piece c g l = (piece, c, g, l)
+-- a piece went over the limit, after others
+pub ran_long : (v w x : Conversion) (r r' r'' a b c : Option (List ℕ)) → TakesFromReader v w r r' a b → w.scan.limit ≡ v.scan.limit → ReadOverLimit w x r' r'' b c → RanToLimit v x r r'' a c
+ran_long v w x r r' r'' a b c p same q = record {
+  front = p.0 ++ q.0;
+  consumes = Consumes-trans r r' r'' p.0 q.0 p.1 q.1;
+  adds = λ s bytes y.
+      (let i = p.3 s bytes y in
+      let j = goes_on-trans a b c _ _ _ i.1 (q.2.adds s (bytes ++ p.0) i.0) in
+      let e : take w.scan.limit ((bytes ++ p.0) ++ q.0) ≡ take v.scan.limit (bytes ++ (p.0 ++ q.0)) = ap (λ n. take n ((bytes ++ p.0) ++ q.0)) same ∙ ap (λ l. take v.scan.limit l) (append_assoc bytes p.0 q.0) in
+      subst (λ (l : List ℕ). AppendsDecided a c s bytes l) e j);
+  full = q.2.full ∙ same;
+  over = above r r'' (p.0 ++ q.0) (IsPastLimit v) (Consumes-trans r r' r'' p.0 q.0 p.1 q.1)
+      (λ xs ys e s bytes y.
+      let i = p.3 s bytes y in
+      let taken : w.scan.taken ≡ length (bytes ++ p.0) = i.0.drained.framer.stands.taken in
+      let all : length (bytes ++ (p.0 ++ q.0)) ≡ length (bytes ++ p.0) + length q.0 = ap length (sym (append_assoc bytes p.0 q.0)) ∙ length-append (bytes ++ p.0) q.0 in
+      let over : w.scan.limit < w.scan.taken + length q.0 = q.2.over in
+      let lt : v.scan.limit < length (bytes ++ (p.0 ++ q.0)) = omega (arith, taken, all, over, same) in
+      longer v.scan.limit bytes xs (p.0 ++ q.0) ys lt e);
+}
 
 pub pulled_part : (v w : Conversion) (r r' a b : Option (List ℕ)) (piece : List ℕ) → Consumes r r' piece → length v.scan.held + length piece ≤ 1029
-    → v.scan.taken ≤ w.scan.taken → w.scan.taken ≤ v.scan.taken + length piece → WritesPrefixOfAdded v a b piece
-    → (p : List ℕ) × Consumes r r' p × (length v.scan.held + length p ≤ 1029) × IsTakenFrom v w 0 (length p) × WritesPrefixOfAdded v a b p
-pulled_part v w r r' a b piece c l least most g = (piece, c, l, record { least = subst (λ (n : ℕ). n ≤ w.scan.taken) (sym (add-zero v.scan.taken)) least; most = most }, g)
+    → v.scan.taken ≤ w.scan.taken → w.scan.taken ≤ v.scan.taken + length piece → WritesPrefixOfAdded v a b piece → v.scan.has_ended ≡ false → StopsAtPiece v w r r' a b
+pulled_part v w r r' a b piece c l least most g going = (piece, c, l, record { least = subst (λ (n : ℕ). n ≤ w.scan.taken) (sym (add-zero v.scan.taken)) least; most = most }, g, going)

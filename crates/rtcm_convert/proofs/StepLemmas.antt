@@ -14,7 +14,7 @@ use Rattle.obs_epoch.specs.Gathering.{HasGatheredEpochs, IsAwaited, closed_by, c
 use Rattle.rtcm_convert.specs.Converted.{SetupValue, text_with}
 use Rattle.rtcm_convert.specs.Fed.{AppendsBetween, AppendsPrefixBetween}
 use Rattle.rtcm_convert.specs.Filed.{added, epochs_after, values_after, HasFiledEpochs}
-use Rattle.rtcm_convert.specs.declared.filer.Filer.{Filer}
+use Rattle.rtcm_convert.specs.declared.file_writer.FileWriter.{FileWriter}
 use Rattle.rtcm_convert.proofs.PartLemmas.{goes_on-by, breaks_off-by, breaks_off-before}
 use Rattle.rtcm_convert.proofs.TextLemmas.{last, text-closed, count-closed, last-closed, text-more}
 
@@ -27,15 +27,15 @@ pub record Took (old new : Gathered) (kind : Kind) (m : Heard) : Type 0 where
   pub again : (s : GatherSetup) (ms : List Heard) (es : List Closed) → HasGatheredEpochs old s ms es (Some m) → is_close_first kind ≡ false
   pub ended : new.has_ended ≡ false
 
--- what the filer wrote of the epoch that was closed
-pub record Wrote (old new : Filer) (now : Gathered) (a b : Option (List ℕ)) : Type 0 where
+-- what the file_writer wrote of the epoch that was closed
+pub record Wrote (old new : FileWriter) (now : Gathered) (a b : Option (List ℕ)) : Type 0 where
   pub gatherer : new.gatherer ≡ now
   pub texts : new.texts ≡ old.texts
   pub epochs : new.epochs ≡ epochs_after old.epochs (closed_in now)
   pub values : new.values ≡ values_after old.values (closed_in now) now.values
   pub out : Appends a b (added old.texts (plan_in now) old.values (closed_in now) now.values)
 
-pub wrote_all : (v w : Filer) (g : Gathered) (a b : Option (List ℕ)) (s : SetupValue) (ms ms' : List Heard) (es : List Closed) (again again' : Option Heard)
+pub wrote_all : (v w : FileWriter) (g : Gathered) (a b : Option (List ℕ)) (s : SetupValue) (ms ms' : List Heard) (es : List Closed) (again again' : Option Heard)
     → Wrote v w g a b → HasFiledEpochs v s ms es again → HasGatheredEpochs g s.gather ms' (es ++ closed_by (closed_in g) g.values) again'
     → (all : List Closed) × HasFiledEpochs w s ms' all again' × AppendsBetween a b (text_with s es) (text_with s all)
 wrote_all v w g a b s ms ms' es again again' o x y =
@@ -72,11 +72,11 @@ closed_front v g k m s ms es (Some n) t f x =
     front_none g s (ms ++ m ∷ []) _ t.ended (t.taken s ms es (Some n) x f (t.again s ms es y))
 
 -- what was added, by the words of the definitions
-pub part_of : (v : Filer) (g : Gathered) (a b : Option (List ℕ)) (s : SetupValue) (ms : List Heard) (es : List Closed) (again : Option Heard) → HasFiledEpochs v s ms es again → plan_in g ≡ s.gather.plan
+pub part_of : (v : FileWriter) (g : Gathered) (a b : Option (List ℕ)) (s : SetupValue) (ms : List Heard) (es : List Closed) (again : Option Heard) → HasFiledEpochs v s ms es again → plan_in g ≡ s.gather.plan
     → AppendsPrefix a b (added v.texts (plan_in g) v.values (closed_in g) g.values) → AppendsPrefix a b (added s.texts s.gather.plan (last es) (closed_in g) g.values)
 part_of v g a b s ms es again x plan p = rw (← x.texts, ← plan, ← x.values) p
 
-pub wrote_part : (v : Filer) (g : Gathered) (k : Kind) (m : Heard) (a b : Option (List ℕ))
+pub wrote_part : (v : FileWriter) (g : Gathered) (k : Kind) (m : Heard) (a b : Option (List ℕ))
     → Took v.gatherer g k m → AppendsPrefix a b (added v.texts (plan_in g) v.values (closed_in g) g.values)
     → (s : SetupValue) (ms : List Heard) (es : List Closed) (again : Option Heard) → IsAwaited again m → HasFiledEpochs v s ms es again
     → AppendsPrefixBetween a b (text_with s es) (text_with s (closed_epochs s.gather (ms ++ m ∷ [])))

@@ -1,107 +1,116 @@
--- A framer and a filer that go on together.
-use Rattle.std.proofs.Common.{◌≡◌, ℕ, List, [], ◌∷◌, ◌++◌, Bool, false, sym, ap, subst, ◌∙◌, Option}
+-- The file writer as a sink of frames, and a piece of a stream.
+use Rattle.std.proofs.Common.{◌≡◌, ℕ, List, [], ◌∷◌, ◌++◌, ◌+◌, ◌-◌, ◌≤◌, Bool, false, refl, sym, ap, subst, suc, arith, length, take, ◌∙◌, Option, Result, Ok, Err, OnOk, OnErr}
+use Rattle.std.specs.Io.KnownBytes.{Keeps}
+use Rattle.rtcm_bits.specs.Device.{Device, HasFailed}
+use Rattle.rtcm_bits.specs.Prefix.{IsPrefix}
 use Rattle.rtcm_scan.specs.Frames.{Framed}
 use Rattle.rtcm_scan.specs.Decided.{decided_frames}
-use Rattle.rtcm_bits.specs.Prefix.{IsPrefix}
 use Rattle.rtcm_scan.specs.Known.{known_frames}
-use Rattle.rtcm_scan.specs.Scan.{FramerValue, HasFramed}
-use Rattle.rtcm_scan.specs.Drained.{IsDrained}
-use Rattle.rtcm_scan.specs.Examined.{HasExamined, IsCountedExactly, IsCountedTo}
+use Rattle.rtcm_scan.specs.Passing.{Passes, Breaks, HasPassedAll, up_to_limit}
+use Rattle.rtcm_scan.specs.Scan.{FramerValue}
 use Rattle.rtcm_convert.specs.Converted.{SetupValue, so_far}
 use Rattle.rtcm_convert.specs.Fed.{AppendsBetween, AppendsPrefixBetween}
-use Rattle.rtcm_convert.specs.Filed.{HasFiledFrames}
 use Rattle.rtcm_convert.specs.Laws.{FiledGrows}
-use Rattle.rtcm_convert.specs.Stream.{Drained, HasFramedSome, AppendsDecided, AppendsPrefixOfDecided}
-use Rattle.rtcm_convert.specs.declared.filer.Filer.{Filer}
-use Rattle.rtcm_convert.proofs.PartLemmas.{goes_on-refl, goes_on-trans, breaks_off-after, breaks_off-before}
+use Rattle.rtcm_convert.specs.Steps.{TakesFrame, BreaksInFrame}
+use Rattle.rtcm_convert.specs.Stream.{Drained, HasDrained, HasDrainedSome, Files, BreaksFiling, AppendsDecided, AppendsPrefixOfDecided}
+use Rattle.rtcm_convert.specs.declared.file_writer.FileWriter.{FileWriter}
+use Rattle.rtcm_convert.proofs.PartLemmas.{goes_on-refl, goes_on-trans, goes_on-kept, goes_on-front, breaks_off-after, breaks_off-before}
 
--- from the first framer and filer to these, the frames that were handed on are those that were written of
-abbrev pub Came : FramerValue → Filer → FramerValue → Filer → Option (List ℕ) → Option (List ℕ) → Type 0
-Came v w v' w' a b = (s : SetupValue) (bytes : List ℕ) (fs : List Framed) → HasExamined v bytes fs → HasFiledFrames w s fs
-    → (all : List Framed) × HasExamined v' bytes all × HasFiledFrames w' s all × AppendsBetween a b (so_far s fs) (so_far s all)
+pub ok_both : {T E : Type 0} (r : Result T E) (A B P : Type 0) → (A → B → P) → OnOk r A → OnOk r B → OnOk r P
+ok_both (Ok k) A B P f a b = f a b
+ok_both (Err e) A B P f a b = tt
 
-abbrev pub Hands : FramerValue → FramerValue → Framed → Type 0
-Hands v v' f = (bytes : List ℕ) (fs : List Framed) → HasExamined v bytes fs → HasExamined v' bytes (fs ++ f ∷ []) × IsCountedTo v' bytes f.offset (fs ++ f ∷ [])
+pub err_both : {T E : Type 0} (r : Result T E) (A B P : Type 0) → (A → B → P) → OnErr r A → OnErr r B → OnErr r P
+err_both (Ok k) A B P f a b = tt
+err_both (Err e) A B P f a b = f a b
 
-abbrev pub Takes : Filer → Filer → Framed → Option (List ℕ) → Option (List ℕ) → Type 0
-Takes w w' f a b = (s : SetupValue) (fs : List Framed) → HasFiledFrames w s fs → HasFiledFrames w' s (fs ++ f ∷ []) × AppendsBetween a b (so_far s fs) (so_far s (fs ++ f ∷ []))
-
-abbrev pub TakesPart : Filer → Framed → Option (List ℕ) → Option (List ℕ) → Type 0
-TakesPart w f a b = (s : SetupValue) (fs : List Framed) → HasFiledFrames w s fs → AppendsPrefixBetween a b (so_far s fs) (so_far s (fs ++ f ∷ []))
-
-pub came_start : (v : FramerValue) (w : Filer) (a : Option (List ℕ)) → Came v w v w a a
-came_start v w a s bytes fs x y = (fs, x, y, goes_on-refl a (so_far s fs))
-
-pub came_more : (v0 v v' : FramerValue) (w0 w w' : Filer) (f : Framed) (a b c : Option (List ℕ)) → Came v0 w0 v w a b → Hands v v' f → Takes w w' f b c → Came v0 w0 v' w' a c
-came_more v0 v v' w0 w w' f a b c came hands takes s bytes fs x y =
-    let p = came s bytes fs x y in
-    let q = takes s p.0 p.2 in
-    (p.0 ++ f ∷ [], (hands bytes p.0 p.1).0, q.0, goes_on-trans a b c _ _ _ p.3 q.1)
-
-so_far-front : FiledGrows → (s : SetupValue) (fs gs : List Framed) → IsPrefix fs gs → IsPrefix (so_far s fs) (so_far s gs)
+pub so_far-front : FiledGrows → (s : SetupValue) (fs gs : List Framed) → IsPrefix fs gs → IsPrefix (so_far s fs) (so_far s gs)
 so_far-front grows s fs gs p = subst (λ (l : List Framed). IsPrefix (so_far s fs) (so_far s l)) (sym p.1) (grows s fs p.0)
 
-pub came_part : FiledGrows → (v0 v v' : FramerValue) (w0 w : Filer) (f : Framed) (a b c : Option (List ℕ)) → Came v0 w0 v w a b → Hands v v' f → TakesPart w f b c → v'.has_ended ≡ v0.has_ended
-    → (s : SetupValue) (bytes : List ℕ) (fs : List Framed) → HasExamined v0 bytes fs → HasFiledFrames w0 s fs → AppendsPrefixBetween a c (so_far s fs) (so_far s (known_frames v0.has_ended bytes))
-came_part grows v0 v v' w0 w f a b c came hands takes same s bytes fs x y =
-    let p = came s bytes fs x y in
-    let front : IsPrefix (p.0 ++ f ∷ []) (known_frames v0.has_ended bytes) =
-    subst (λ (e : Bool). IsPrefix (p.0 ++ f ∷ []) (known_frames e bytes)) same (hands bytes p.0 p.1).0.stands.first in
-    breaks_off-before a c _ _ _ (breaks_off-after a b c _ _ _ p.3 (takes s p.0 p.2)) (so_far-front grows s _ _ front)
+module _ {W : Type 0} (c : W → Option (List ℕ)) where
+  pub files_self : (w : FileWriter) (o : Device W) (ps : List Framed) → Files c w o ps w o ps
+  files_self w o ps = record { fine = refl; widest = refl; files = λ s x. (x, goes_on-refl (c o.inner) (so_far s ps)) }
 
-pub came_end : (v0 v v' : FramerValue) (w0 w : Filer) (a b : Option (List ℕ)) → Came v0 w0 v w a b
-    → ((bytes : List ℕ) (fs : List Framed) → HasFramed v bytes fs → HasFramed v' bytes fs × IsDrained v' bytes fs)
-    → ((bytes : List ℕ) (fs : List Framed) → HasExamined v bytes fs → HasExamined v' bytes fs × IsCountedExactly v' bytes) → v'.has_ended ≡ v0.has_ended
-    → (s : SetupValue) (bytes : List ℕ) (fs : List Framed) → HasExamined v0 bytes fs → HasFiledFrames w0 s fs
-    → Drained v' w s bytes × AppendsBetween a b (so_far s fs) (so_far s (known_frames v0.has_ended bytes))
-came_end v0 v v' w0 w a b came none counts same s bytes fs x y =
-    let p = came s bytes fs x y in
-    let q = none bytes p.0 p.1.stands in
-    let k = counts bytes p.0 p.1 in
-    let e : p.0 ≡ known_frames v'.has_ended bytes = q.1.frames in (
-      record {
-        framer = subst (λ (l : List Framed). HasExamined v' bytes l) e k.0;
-        drained = subst (λ (l : List Framed). IsDrained v' bytes l) e q.1;
-        counted = k.1;
-        filer = subst (λ (l : List Framed). HasFiledFrames w s l) e p.2;
-      },
-      subst (λ (l : List Framed). AppendsBetween a b (so_far s fs) (so_far s l)) (e ∙ ap (λ h. known_frames h bytes) same) p.3,
-    )
+  -- a frame more
+  pub files_more : (v0 v v' : FileWriter) (o0 o o' : Device W) (ps fs : List Framed) (f : Framed) → TakesFrame v v' f (c o.inner) (c o'.inner) → o'.failures ≡ o.failures → o'.widest ≡ o.widest
+      → Files c v0 o0 ps v o fs → Files c v0 o0 ps v' o' (fs ++ f ∷ [])
+  files_more v0 v v' o0 o o' ps fs f t fine widest x = record {
+    fine = fine ∙ x.fine;
+    widest = widest ∙ x.widest;
+    files = λ s y. (let p = x.files s y in let q = t s fs p.0 in (q.0, goes_on-trans (c o0.inner) (c o.inner) (c o'.inner) _ _ _ p.1 q.1));
+  }
 
-abbrev pub Pushes : FramerValue → FramerValue → List ℕ → Type 0
-Pushes v v' x = (b : List ℕ) (fs : List Framed) → HasExamined v b fs → HasExamined v' (b ++ x) fs
+  pub files_part : (v0 v v' : FileWriter) (o0 o o' : Device W) (ps fs : List Framed) (f : Framed) → BreaksInFrame v f (c o.inner) (c o'.inner) → HasFailed o.failures o'.failures → o'.widest ≡ o.widest
+      → Files c v0 o0 ps v o fs → BreaksFiling c v0 o0 ps v' o' fs (fs ++ f ∷ [])
+  files_part v0 v v' o0 o o' ps fs f t failed widest x = record {
+    failed = subst (λ (n : ℕ). HasFailed n o'.failures) x.fine failed;
+    widest = widest ∙ x.widest;
+    part = λ s y. (let p = x.files s y in breaks_off-after (c o0.inner) (c o.inner) (c o'.inner) _ _ _ p.1 (t s fs p.0));
+  }
 
-abbrev pub Drains : FramerValue → Filer → FramerValue → Filer → Option (List ℕ) → Option (List ℕ) → Type 0
-Drains v w v' w' a b = (s : SetupValue) (bytes : List ℕ) (fs : List Framed) → HasExamined v bytes fs → HasFiledFrames w s fs
-    → Drained v' w' s bytes × AppendsBetween a b (so_far s fs) (so_far s (known_frames v.has_ended bytes))
+  -- the device was flushed
+  pub files_sent : (v0 v : FileWriter) (o0 o o' : Device W) (ps fs : List Framed) → Keeps (c o.inner) (c o'.inner) → o'.failures ≡ o.failures → o'.widest ≡ o.widest → Files c v0 o0 ps v o fs → Files c v0 o0 ps v o' fs
+  files_sent v0 v o0 o o' ps fs k fine widest x = record {
+    fine = fine ∙ x.fine;
+    widest = widest ∙ x.widest;
+    files = λ s y. (let p = x.files s y in (p.0, goes_on-kept (c o0.inner) (c o.inner) (c o'.inner) _ _ p.1 k));
+  }
 
-abbrev pub DrainsPart : FramerValue → Filer → Option (List ℕ) → Option (List ℕ) → Type 0
-DrainsPart v w a b = (s : SetupValue) (bytes : List ℕ) (fs : List Framed) → HasExamined v bytes fs → HasFiledFrames w s fs
-    → AppendsPrefixBetween a b (so_far s fs) (so_far s (known_frames v.has_ended bytes))
+  pub files_unsent : (v0 v : FileWriter) (o0 o o' : Device W) (ps fs : List Framed) → Keeps (c o.inner) (c o'.inner) → HasFailed o.failures o'.failures → o'.widest ≡ o.widest → Files c v0 o0 ps v o fs
+      → BreaksFiling c v0 o0 ps v o' fs fs
+  files_unsent v0 v o0 o o' ps fs k failed widest x = record {
+    failed = subst (λ (n : ℕ). HasFailed n o'.failures) x.fine failed;
+    widest = widest ∙ x.widest;
+    part = λ s y. (goes_on-front (c o0.inner) (c o'.inner) _ _ (goes_on-kept (c o0.inner) (c o.inner) (c o'.inner) _ _ (x.files s y).1 k));
+  }
 
-pub block_whole : (v0 v1 v2 : FramerValue) (w0 w2 : Filer) (x : List ℕ) (a b : Option (List ℕ)) → v0.has_ended ≡ false → v1.has_ended ≡ false → Pushes v0 v1 x → Drains v1 w0 v2 w2 a b
-    → (s : SetupValue) (bytes : List ℕ) → Drained v0 w0 s bytes → Drained v2 w2 s (bytes ++ x) × AppendsDecided a b s bytes (bytes ++ x)
-block_whole v0 v1 v2 w0 w2 x a b h0 h1 push drain s bytes d =
-    let p = drain s (bytes ++ x) (known_frames v0.has_ended bytes) (push bytes _ d.framer) d.filer in
-    let q = subst (λ (e : Bool). AppendsBetween a b (so_far s (known_frames e bytes)) (so_far s (known_frames v1.has_ended (bytes ++ x)))) h0 p.1 in
-    (p.0, subst (λ (e : Bool). AppendsBetween a b (so_far s (decided_frames bytes)) (so_far s (known_frames e (bytes ++ x)))) h1 q)
+  -- all frames that are known were passed on
+  pub passed_here : (v : FramerValue) (w : FileWriter) (o : Device W) (b : List ℕ) → HasDrained v b → HasPassedAll (Files c) v w o (known_frames v.has_ended b) w o b
+  passed_here v w o b d = record {
+    passed = record { framer = d.framer; taken = files_self w o (known_frames v.has_ended b) };
+    drained = d.drained;
+    counted = d.counted;
+  }
 
-pub block_part : (v0 v1 : FramerValue) (w0 : Filer) (x : List ℕ) (a b : Option (List ℕ)) → v0.has_ended ≡ false → v1.has_ended ≡ false → Pushes v0 v1 x → DrainsPart v1 w0 a b
-    → (s : SetupValue) (bytes : List ℕ) → Drained v0 w0 s bytes → AppendsPrefixOfDecided a b s bytes (bytes ++ x)
-block_part v0 v1 w0 x a b h0 h1 push drain s bytes d =
-    let p = drain s (bytes ++ x) (known_frames v0.has_ended bytes) (push bytes _ d.framer) d.filer in
-    let q = subst (λ (e : Bool). AppendsPrefixBetween a b (so_far s (known_frames e bytes)) (so_far s (known_frames v1.has_ended (bytes ++ x)))) h0 p in
-    subst (λ (e : Bool). AppendsPrefixBetween a b (so_far s (decided_frames bytes)) (so_far s (known_frames e (bytes ++ x)))) h1 q
+  scan_of : (v : FramerValue) (w : FileWriter) (s : SetupValue) (b : List ℕ) → Drained v w s b → HasDrained v b
+  scan_of v w s b d = record { framer = d.framer; drained = d.drained; counted = d.counted }
 
--- the framer stands for some bytes still: after some bytes, after a frame, when all was decided, and at the end
-pub some_pushed : (v v' : FramerValue) (x : List ℕ) → Pushes v v' x → HasFramedSome v → HasFramedSome v'
-some_pushed v v' x push h = (h.0 ++ x, h.1, push h.0 h.1 h.2)
+  -- a piece was taken
+  pub piece_whole : (v v' : FramerValue) (w w' : FileWriter) (o o' : Device W) (piece : List ℕ) → v.has_ended ≡ false → v'.has_ended ≡ false → Passes (Files c) v w o v' w' o' piece
+      → (s : SetupValue) (bytes : List ℕ) → Drained v w s bytes → Drained v' w' s (bytes ++ piece) × AppendsDecided (c o.inner) (c o'.inner) s bytes (bytes ++ piece)
+  piece_whole v v' w w' o o' piece before after k s bytes d =
+      let p = k w o (known_frames v.has_ended bytes) bytes (passed_here v w o bytes (scan_of v w s bytes d)) in
+      let q = p.passed.taken.files s d.file_writer in (
+        record { framer = p.passed.framer; drained = p.drained; counted = p.counted; file_writer = q.0 },
+        subst (λ (e : Bool). AppendsBetween (c o.inner) (c o'.inner) (so_far s (decided_frames bytes)) (so_far s (known_frames e (bytes ++ piece)))) after
+            (subst (λ (e : Bool). AppendsBetween (c o.inner) (c o'.inner) (so_far s (known_frames e bytes)) (so_far s (known_frames v'.has_ended (bytes ++ piece)))) before q.1),
+      )
 
-pub some_handed : (v v' : FramerValue) (f : Framed) → Hands v v' f → HasFramedSome v → HasFramedSome v'
-some_handed v v' f hands h = (h.0, h.1 ++ f ∷ [], (hands h.0 h.1 h.2).0)
+  -- the device failed at it
+  pub piece_part : FiledGrows → (v : FramerValue) (w w' : FileWriter) (o o' : Device W) (piece : List ℕ) → v.has_ended ≡ false → Breaks (Files c) (BreaksFiling c) v w o w' o' piece
+      → (s : SetupValue) (bytes : List ℕ) → Drained v w s bytes → AppendsPrefixOfDecided (c o.inner) (c o'.inner) s bytes (bytes ++ piece)
+  piece_part grows v w w' o o' piece before k s bytes d =
+      let p = k w o (known_frames v.has_ended bytes) bytes (passed_here v w o bytes (scan_of v w s bytes d)) in
+      let q = breaks_off-before (c o.inner) (c o'.inner) _ _ _ (p.broken.part s d.file_writer) (so_far-front grows s p.reached (known_frames v.has_ended (bytes ++ piece)) p.known) in
+      subst (λ (e : Bool). AppendsPrefixBetween (c o.inner) (c o'.inner) (so_far s (known_frames e bytes)) (so_far s (known_frames e (bytes ++ piece)))) before q
 
-pub some_drained : (v v' : FramerValue) → ((bytes : List ℕ) (fs : List Framed) → HasExamined v bytes fs → HasExamined v' bytes fs × IsCountedExactly v' bytes) → HasFramedSome v → HasFramedSome v'
-some_drained v v' counts h = (h.0, h.1, (counts h.0 h.1 h.2).0)
+  -- what a piece did with the device, and that all that is known was passed on
+  pub piece_fine : (v v' : FramerValue) (w w' : FileWriter) (o o' : Device W) (piece : List ℕ) → Passes (Files c) v w o v' w' o' piece → HasDrainedSome v
+      → HasDrainedSome v' × (o'.failures ≡ o.failures) × (o'.widest ≡ o.widest)
+  piece_fine v v' w w' o o' piece k d =
+      let p = k w o (known_frames v.has_ended d.0) d.0 (passed_here v w o d.0 d.1) in
+      ((d.0 ++ piece, record { framer = p.passed.framer; drained = p.drained; counted = p.counted }), p.passed.taken.fine, p.passed.taken.widest)
 
-pub some_ended : (v v' : FramerValue) → ((bytes : List ℕ) (fs : List Framed) → HasExamined v bytes fs → HasExamined v' bytes fs) → HasFramedSome v → HasFramedSome v'
-some_ended v v' counts h = (h.0, h.1, counts h.0 h.1 h.2)
+  pub piece_failed : (v : FramerValue) (w w' : FileWriter) (o o' : Device W) (piece : List ℕ) → Breaks (Files c) (BreaksFiling c) v w o w' o' piece → HasDrainedSome v
+      → HasFailed o.failures o'.failures × (o'.widest ≡ o.widest)
+  piece_failed v w w' o o' piece k d = let p = k w o (known_frames v.has_ended d.0) d.0 (passed_here v w o d.0 d.1) in (p.broken.failed, p.broken.widest)
+
+take_over : (front piece : List ℕ) (k n : ℕ) → n ≡ length front + k → take n (front ++ piece) ≡ front ++ take k piece
+take_over [] piece k n e = let z : n ≡ k = omega (arith, e) in ap (λ (m : ℕ). take m piece) z
+take_over (x ∷ front) piece k n e =
+    let z : n ≡ suc (length front + k) = omega (arith, e) in
+    ap (λ (m : ℕ). take m (x ∷ (front ++ piece))) z ∙ ap (λ (l : List ℕ). x ∷ l) (take_over front piece k (length front + k) refl)
+
+-- the bytes up to the limit
+pub to_limit : (v : FramerValue) (bytes piece : List ℕ) → v.taken ≡ length bytes → v.taken ≤ v.limit → bytes ++ up_to_limit v piece ≡ take v.limit (bytes ++ piece)
+to_limit v bytes piece e le = sym (take_over bytes piece (v.limit - v.taken) v.limit (omega (arith, e, le)))

@@ -21,7 +21,7 @@ use Rattle.rtcm_convert.specs.Outcomes.{outcome, outcomes, outcomes_after, cappe
 use Rattle.rtcm_convert.specs.Fed.{AppendsBetween, AppendsPrefixBetween}
 use Rattle.rtcm_convert.specs.Filed.{added, HasFiledEpochs, Settled, HasFiledFrames, HasGathered}
 use Rattle.rtcm_convert.specs.declared.tally.Tally.{Tally}
-use Rattle.rtcm_convert.specs.declared.filer.Filer.{Filer}
+use Rattle.rtcm_convert.specs.declared.file_writer.FileWriter.{FileWriter}
 use Rattle.rtcm_convert.proofs.PartLemmas.{goes_on-refl, goes_on-trans, breaks_off-after, breaks_off-by}
 use Rattle.rtcm_convert.proofs.TextLemmas.{cap_more, count, last, text-closed}
 use Rattle.rtcm_convert.proofs.ExactLemmas.{few_more, message_few, refused_few}
@@ -32,10 +32,10 @@ if_ok_both (Ok k) A B P f a b = f k a b
 if_ok_both (Err e) A B P f a b = tt
 
 -- what was written then, and which epochs these are
-abbrev pub Written : Filer → SetupValue → List Heard → Option Heard → Option (List ℕ) → Option (List ℕ) → List Closed → Type 0
+abbrev pub Written : FileWriter → SetupValue → List Heard → Option Heard → Option (List ℕ) → Option (List ℕ) → List Closed → Type 0
 Written w s ms again a b es = (all : List Closed) × HasFiledEpochs w s ms all again × AppendsBetween a b (text_with s es) (text_with s all)
 
-abbrev pub IsPart : Filer → Heard → Option (List ℕ) → Option (List ℕ) → Type 0
+abbrev pub IsPart : FileWriter → Heard → Option (List ℕ) → Option (List ℕ) → Type 0
 IsPart v m a b = (s : SetupValue) (ms : List Heard) (es : List Closed) (again : Option Heard) → IsAwaited again m → HasFiledEpochs v s ms es again
     → AppendsPrefixBetween a b (text_with s es) (text_with s (closed_epochs s.gather (ms ++ m ∷ [])))
 
@@ -45,22 +45,22 @@ Goes a b s ms ns = AppendsBetween a b (text_with s (closed_epochs s.gather ms)) 
 abbrev pub Breaks : Option (List ℕ) → Option (List ℕ) → SetupValue → List Heard → List Heard → Type 0
 Breaks a b s ms ns = AppendsPrefixBetween a b (text_with s (closed_epochs s.gather ms)) (text_with s (closed_epochs s.gather ns))
 
-pub settle : (w : Filer) (s : SetupValue) (ms : List Heard) (a b : Option (List ℕ)) (es : List Closed) → w.gatherer.has_ended ≡ false
+pub settle : (w : FileWriter) (s : SetupValue) (ms : List Heard) (a b : Option (List ℕ)) (es : List Closed) → w.gatherer.has_ended ≡ false
     → Written w s ms None a b es → Settled w s ms × AppendsBetween a b (text_with s es) (text_with s (closed_epochs s.gather ms))
 settle w s ms a b es going p =
     let e : p.0 ≡ closed_epochs s.gather ms = p.1.gatherer.epochs refl ∙ ap (λ e. known_epochs e s.gather ms) going in
     (subst (λ (all : List Closed). HasFiledEpochs w s ms all None) e p.1, subst (λ (all : List Closed). AppendsBetween a b (text_with s es) (text_with s all)) e p.2)
 
-pub settle_again : (v w x : Filer) (s : SetupValue) (ms ns : List Heard) (m : Heard) (a b c : Option (List ℕ)) → x.gatherer.has_ended ≡ false
+pub settle_again : (v w x : FileWriter) (s : SetupValue) (ms ns : List Heard) (m : Heard) (a b c : Option (List ℕ)) → x.gatherer.has_ended ≡ false
     → (first : Written w s ms (Some m) a b (closed_epochs s.gather ms)) → Written x s ns None b c first.0 → Settled x s ns × Goes a c s ms ns
 settle_again v w x s ms ns m a b c going first p =
     let q = settle x s ns b c first.0 going p in
     (q.0, goes_on-trans a b c _ _ _ first.2 q.1)
 
-pub part_alone : (v : Filer) (m : Heard) (a b : Option (List ℕ)) → IsPart v m a b → (s : SetupValue) (ms : List Heard) → Settled v s ms → Breaks a b s ms (ms ++ m ∷ [])
+pub part_alone : (v : FileWriter) (m : Heard) (a b : Option (List ℕ)) → IsPart v m a b → (s : SetupValue) (ms : List Heard) → Settled v s ms → Breaks a b s ms (ms ++ m ∷ [])
 part_alone v m a b p s ms x = p s ms (closed_epochs s.gather ms) None tt x
 
-pub part_again : (w : Filer) (m : Heard) (a b c : Option (List ℕ)) (s : SetupValue) (ms : List Heard)
+pub part_again : (w : FileWriter) (m : Heard) (a b c : Option (List ℕ)) (s : SetupValue) (ms : List Heard)
     → Written w s ms (Some m) a b (closed_epochs s.gather ms) → IsPart w m b c → Breaks a c s ms (ms ++ m ∷ [])
 part_again w m a b c s ms first p = breaks_off-after a b c _ _ _ first.2 (p s ms first.0 (Some m) refl first.1)
 
@@ -119,7 +119,7 @@ outcome_ok s fs f m k e is = rw e (ap Some is)
 outcome_err : (s : SetupValue) (fs : List Framed) (f : Framed) (d : MsgFault) → message_at f.message ≡ Err d → None ≡ outcome s fs f
 outcome_err s fs f d e = rw e refl
 
-pub files_more : (v w x : Filer) (s : SetupValue) (fs : List Framed) (f : Framed) (m : Message) (k : Kind) (a b : Option (List ℕ)) → message_at f.message ≡ Ok m → IsMessage m
+pub files_more : (v w x : FileWriter) (s : SetupValue) (fs : List Framed) (f : Framed) (m : Message) (k : Kind) (a b : Option (List ℕ)) → message_at f.message ≡ Ok m → IsMessage m
     → ((s : SetupValue) (ms : List Heard) → Settled v s ms → Settled w s (ms ++ heard m ∷ []) × Goes a b s ms (ms ++ heard m ∷ []))
     → ((s : SetupValue) (ms : List Heard) → Settled v s ms → k ≡ kind_of s.gather ms (heard m))
     → w.tally ≡ v.tally → x ≡ record w { tally = tallies_added w.tally (tally_of_one (Some k)) }
@@ -136,7 +136,7 @@ files_more v w x s fs f m k a b e valid t kind same now y =
       subst (λ (ns : List Heard). Goes a b s (messages_of fs) ns) ms p.1,
     )
 
-pub files_same : (v x : Filer) (s : SetupValue) (fs : List Framed) (f : Framed) (d : MsgFault) (a : Option (List ℕ)) → message_at f.message ≡ Err d → x ≡ record v { tally = tallies_added v.tally (tally_of_one None) }
+pub files_same : (v x : FileWriter) (s : SetupValue) (fs : List Framed) (f : Framed) (d : MsgFault) (a : Option (List ℕ)) → message_at f.message ≡ Err d → x ≡ record v { tally = tallies_added v.tally (tally_of_one None) }
     → HasFiledFrames v s fs → HasFiledFrames x s (fs ++ f ∷ []) × AppendsBetween a a (so_far s fs) (so_far s (fs ++ f ∷ []))
 files_same v x s fs f d a e now y =
     let ms = sym (messages_same fs f d e) in
@@ -149,14 +149,14 @@ files_same v x s fs f d a e now y =
       subst (λ (ns : List Heard). Goes a a s (messages_of fs) ns) ms (goes_on-refl a _),
     )
 
-pub files_part : (v : Filer) (f : Framed) (m : Message) (a b : Option (List ℕ)) → message_at f.message ≡ Ok m
+pub files_part : (v : FileWriter) (f : Framed) (m : Message) (a b : Option (List ℕ)) → message_at f.message ≡ Ok m
     → ((s : SetupValue) (ms : List Heard) → Settled v s ms → Breaks a b s ms (ms ++ heard m ∷ []))
     → (s : SetupValue) (fs : List Framed) → HasFiledFrames v s fs → AppendsPrefixBetween a b (so_far s fs) (so_far s (fs ++ f ∷ []))
 files_part v f m a b e t s fs x =
     subst (λ (ns : List Heard). Breaks a b s (messages_of fs) ns) (sym (messages_more fs f m e)) (t s (messages_of fs) x.settled)
 
 -- the rest of the file
-pub file_whole : (v w : Filer) (g : Gathered) (a b : Option (List ℕ)) → Wrote v w g a b → g.has_ended ≡ true
+pub file_whole : (v w : FileWriter) (g : Gathered) (a b : Option (List ℕ)) → Wrote v w g a b → g.has_ended ≡ true
     → ((s : GatherSetup) (ms : List Heard) (es : List Closed) → HasGatheredEpochs v.gatherer s ms es None → HasGatheredEpochs g s ms (es ++ closed_by (closed_in g) g.values) None)
     → (s : SetupValue) (fs : List Framed) → HasFiledFrames v s fs → AppendsBetween a b (so_far s fs) (file s fs) × (w.epochs ≡ capped (epochs_in s fs))
 file_whole v w g a b o over t s fs x =
@@ -167,7 +167,7 @@ file_whole v w g a b o over t s fs x =
     (subst (λ (all : List Closed). AppendsBetween a b (so_far s fs) (text_with s all)) e p.2, p.1.epochs ∙ ap count e)
 
 -- no message follows
-pub gathered : (v w : Filer) (g : Gathered) → w.gatherer ≡ g → g.has_ended ≡ true
+pub gathered : (v w : FileWriter) (g : Gathered) → w.gatherer ≡ g → g.has_ended ≡ true
     → ((s : GatherSetup) (ms : List Heard) (es : List Closed) → HasGatheredEpochs v.gatherer s ms es None → HasGatheredEpochs g s ms (es ++ closed_by (closed_in g) g.values) None)
     → (s : SetupValue) (fs : List Framed) → HasFiledFrames v s fs → HasGathered w s fs
 gathered v w g is over t s fs x =
@@ -179,7 +179,7 @@ gathered v w g is over t s fs x =
       gathers = subst (λ (h : Gathered). HasGatheredEpochs h s.gather (messages_of fs) all None) (sym is) (t s.gather (messages_of fs) es x.settled.gatherer);
     }
 
-pub file_part : (v : Filer) (g : Gathered) (a b : Option (List ℕ)) → AppendsPrefix a b (added v.texts (plan_in g) v.values (closed_in g) g.values) → g.has_ended ≡ true
+pub file_part : (v : FileWriter) (g : Gathered) (a b : Option (List ℕ)) → AppendsPrefix a b (added v.texts (plan_in g) v.values (closed_in g) g.values) → g.has_ended ≡ true
     → ((s : GatherSetup) (ms : List Heard) (es : List Closed) → HasGatheredEpochs v.gatherer s ms es None → HasGatheredEpochs g s ms (es ++ closed_by (closed_in g) g.values) None)
     → (s : SetupValue) (fs : List Framed) → HasFiledFrames v s fs → AppendsPrefixBetween a b (so_far s fs) (file s fs)
 file_part v g a b p over t s fs x =
@@ -191,7 +191,7 @@ file_part v g a b p over t s fs x =
     subst (λ (all : List Closed). AppendsPrefixBetween a b (so_far s fs) (text_with s all)) e (breaks_off-by a b _ _ _ (text-closed s es (closed_in g) g.values) out)
 
 -- a message that was handed in twice
-pub taken_again : {E : Type 0} (v w x : Filer) (m : Heard) (a b c : Option (List ℕ)) (r : Result Kind E) → x.gatherer.has_ended ≡ false
+pub taken_again : {E : Type 0} (v w x : FileWriter) (m : Heard) (a b c : Option (List ℕ)) (r : Result Kind E) → x.gatherer.has_ended ≡ false
     → ((s : SetupValue) (ms : List Heard) (es : List Closed) → HasFiledEpochs v s ms es None → Written w s ms (Some m) a b es)
     → IfOk r (λ k. is_close_first k ≡ false → (s : SetupValue) (ms : List Heard) (es : List Closed) (again : Option Heard) → IsAwaited again m → HasFiledEpochs w s ms es again → Written x s (ms ++ m ∷ []) None b c es)
     → IfOk r (λ k. (s : SetupValue) (ms : List Heard) (es : List Closed) → HasFiledEpochs w s ms es (Some m) → is_close_first k ≡ false)
@@ -201,7 +201,7 @@ taken_again v w x m a b c (Ok k) going first taken again = λ s ms y.
     settle_again v w x s ms (ms ++ m ∷ []) m a b c going one (taken (again s ms one.0 one.1) s ms one.0 (Some m) refl one.1)
 taken_again v w x m a b c (Err e) going first taken again = tt
 
-pub kind_again : {E : Type 0} (v w : Filer) (m : Heard) (a b : Option (List ℕ)) (r : Result Kind E)
+pub kind_again : {E : Type 0} (v w : FileWriter) (m : Heard) (a b : Option (List ℕ)) (r : Result Kind E)
     → ((s : SetupValue) (ms : List Heard) (es : List Closed) → HasFiledEpochs v s ms es None → Written w s ms (Some m) a b es)
     → IfOk r (λ k. is_close_first k ≡ false → (s : SetupValue) (ms : List Heard) (es : List Closed) (again : Option Heard) → IsAwaited again m → HasFiledEpochs w s ms es again → k ≡ kind_of s.gather ms m)
     → IfOk r (λ k. (s : SetupValue) (ms : List Heard) (es : List Closed) → HasFiledEpochs w s ms es (Some m) → is_close_first k ≡ false)

@@ -6,25 +6,24 @@ use Rattle.std.proofs.lemmas.Grind.{flat_map-append}
 use Rattle.std.proofs.Math.Seq.{take-length}
 use Rattle.std.specs.Io.KnownBytes.{Appends, Consumes}
 use Rattle.std.proofs.KnownBytes.{Appends-trans}
-use Rattle.rtcm_bits.specs.Device.{AppendsPrefix}
 use Rattle.rtcm_scan.specs.Frames.{frames_of}
 use Rattle.rtcm_scan.specs.Decided.{decided_frames}
 use Rattle.rtcm_convert.specs.Converted.{SetupValue, so_far, file, epochs_in}
 use Rattle.rtcm_convert.specs.Outcomes.{report_of}
 use Rattle.rtcm_convert.specs.Fed.{AppendsBetween, AppendsPrefixBetween}
 use Rattle.rtcm_convert.specs.Laws.{NothingYet}
-use Rattle.rtcm_convert.specs.Stream.{AppendsDecided, AppendsPrefixOfRest}
+use Rattle.rtcm_convert.specs.Stream.{AppendsDecided}
 use Rattle.rtcm_convert.specs.SetupValues.{setup_value}
 use Rattle.rtcm_convert.specs.Readable.{HasValue}
 use Rattle.rtcm_convert.specs.Made.{IsMade, IsMadeEmpty}
 use Rattle.rtcm_convert.specs.declared.setup.Setup.{Setup}
-use Rattle.rtcm_convert.specs.Broken.{IsBetween, IsBroken, FailedWriting, FailedWritingAtEnd, BrokeInPieces, WrotePieces, joined_pieces, of_first}
-use Rattle.rtcm_convert.specs.Conversion.{Conversion, HasConverted, TakesPiece, TakesToLimit, WritesAdded, WritesPrefixOfAdded, StopsAtEnd, Completed, CompletedEmpty, FinishesNow, FinishesEmptyNow, CompletesFile, CompletesEmptyFile, FailsAtPiece, FailsFeeding, FailsFinishing}
+use Rattle.rtcm_convert.specs.Broken.{IsBetween, IsAtRest, IsBroken, FailedWriting, FailedWritingAtEnd, BrokeInPieces, WrotePieces, joined_pieces, of_first}
+use Rattle.rtcm_convert.specs.Conversion.{Conversion, HasConverted, TakesPiece, TakesToLimit, WritesAdded, WritesPrefixOfAdded, StopsAtEnd, Completed, CompletedEmpty, FinishesNow, FinishesEmptyNow, CompletesFile, CompletesEmptyFile, FailsAtPiece, FailsAtEnd, RanToLimit, FailsFeeding, FailsFinishing}
 use Rattle.rtcm_convert.specs.declared.report.Report.{Report}
 use Rattle.rtcm_convert.specs.Faults.{IsRunFault, IsPiecesFault, IsFinishFault}
 use Rattle.rtcm_convert.specs.declared.fault.Fault.{Fault}
 use Rattle.rtcm_convert.specs.declared.fault.Fault.TheVariants.{BadSetup, Failed, Finished, NoEpoch, Read, TooLong, Write}
-use Rattle.rtcm_convert.proofs.PartLemmas.{goes_on-trans, breaks_off-after}
+use Rattle.rtcm_convert.proofs.PartLemmas.{goes_on-trans}
 use Rattle.rtcm_convert.proofs.RunLemmas.{completed_after, empty_after}
 
 pub from_nothing : NothingYet → (a b : Option (List ℕ)) (s : SetupValue) (y : List ℕ) → AppendsBetween a b (so_far s (decided_frames [])) y → Appends a b y
@@ -82,10 +81,10 @@ pub run_read : (v w : Conversion) (s : SetupValue) (r r' a b : Option (List ℕ)
     → (front : List ℕ) × Consumes r r' front × Appends a b (so_far s (decided_frames front))
 run_read v w s r r' a b nothing x p = (p.0, p.1, from_nothing nothing a b s (so_far s (decided_frames p.0)) (p.3 s [] x))
 
-pub run_long : (v : Conversion) (s : SetupValue) (r r' a b : Option (List ℕ)) (limit : ℕ) → NothingYet → HasConverted v s [] → v.scan.limit ≡ limit → ((front : List ℕ) × Consumes r r' front × TakesToLimit v a b front)
+pub run_long : (v w : Conversion) (s : SetupValue) (r r' a b : Option (List ℕ)) (limit : ℕ) → NothingYet → HasConverted v s [] → v.scan.limit ≡ limit → RanToLimit v w r r' a b
     → (front : List ℕ) × Consumes r r' front × Appends a b (so_far s (decided_frames (take limit front)))
-run_long v s r r' a b limit nothing x e p =
-    (p.0, p.1, subst (λ (n : ℕ). Appends a b (so_far s (decided_frames (take n p.0)))) e (from_nothing nothing a b s (so_far s (decided_frames (take v.scan.limit p.0))) (p.2 s [] x)))
+run_long v w s r r' a b limit nothing x e p =
+    (p.front, p.consumes, subst (λ (n : ℕ). Appends a b (so_far s (decided_frames (take n p.front)))) e (from_nothing nothing a b s (so_far s (decided_frames (take v.scan.limit p.front))) (p.adds s [] x)))
 
 -- what these bytes make went out, and then a front of what follows
 between : (a b c : Option (List ℕ)) (s : SetupValue) (front upper : List ℕ) → NothingYet → AppendsDecided a b s [] front → AppendsPrefixBetween b c (so_far s (decided_frames front)) upper
@@ -103,10 +102,8 @@ broken a b s front piece nothing p = record {
   near = p.near;
 }
 
-broken_at_end : (a b : Option (List ℕ)) (s : SetupValue) (front : List ℕ) → NothingYet → AppendsPrefixOfRest a b s [] front → AppendsPrefix a b (file s (frames_of front))
-broken_at_end a b s front nothing p =
-    let e : file s (frames_of front) ≡ p.part ++ p.rest = p.text ∙ ap (λ l. (l ++ p.part) ++ p.rest) (nothing s) in
-    (p.rest, (p.part, e, p.out))
+broken_at_end : (a b : Option (List ℕ)) (s : SetupValue) (front : List ℕ) → NothingYet → FailsAtEnd a b s [] front → IsAtRest a b s front
+broken_at_end a b s front nothing p = between a p.mid b s front (file s (frames_of front)) nothing p.before p.last
 
 pub run_write : (v w : Conversion) (s : SetupValue) (r r' a b : Option (List ℕ)) → NothingYet → HasConverted v s [] → (FailsFeeding v w r r' a b ⊎ FailsFinishing v w r r' a b)
     → FailedWriting r r' a b s ⊎ FailedWritingAtEnd r r' a b s
@@ -201,7 +198,7 @@ pieces_broke v s a b c pieces i piece nothing x out less more stop =
 pub pieces_broke_at_end : {Z : Type 0} → (v : Conversion) (s : SetupValue) (a b c : Option (List ℕ)) (pieces : List (Vec ℕ Z)) (bytes : List ℕ) → NothingYet
     → HasConverted v s bytes → AppendsDecided a b s [] bytes → bytes ≡ joined_pieces pieces → StopsAtEnd v b c → BrokeInPieces a c s pieces
 pieces_broke_at_end v s a b c pieces bytes nothing x out all stop =
-    inr (subst (λ (l : List ℕ). AppendsPrefix a c (file s (frames_of l))) all (broken_at_end a c s bytes nothing (breaks_off-after a b c _ _ _ out (stop s bytes x))))
+    inr (subst (λ (l : List ℕ). IsAtRest a c s l) all (between a b c s bytes (file s (frames_of bytes)) nothing out (stop s bytes x)))
 
 abbrev fault_in : {A : Type 0} → Fault → Result A Fault → Fault
 fault_in other (Ok a) = other

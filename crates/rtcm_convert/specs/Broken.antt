@@ -1,7 +1,6 @@
 -- What was written of a stream at which the writer failed, or that wasn't read or taken to its end.
 use Rattle.std.specs.Prelude.{ℕ, List, length, take, ◌+◌, ◌-◌, ◌<◌, ◌≤◌, ◌⊎◌, ◌++◌, flat_map, Option, Vec}
 use Rattle.std.specs.Io.KnownBytes.{Appends, Consumes, IsAtEnd}
-use Rattle.rtcm_bits.specs.Device.{AppendsPrefix}
 use Rattle.rtcm_bits.specs.FrameOf.{longest_frame}
 use Rattle.rtcm_scan.specs.Frames.{frames_of}
 use Rattle.rtcm_scan.specs.Decided.{decided, decided_frames}
@@ -14,6 +13,10 @@ pub record IsBetween (a b : Option (List ℕ)) (lower upper : List ℕ) : Type 0
   pub went : Appends a b out
   pub least : IsPrefix lower out
   pub most : IsPrefix out upper
+
+-- it has at least what the decided frames of these bytes make, and at most their whole file
+abbrev pub IsAtRest : Option (List ℕ) → Option (List ℕ) → SetupValue → List ℕ → Type 0
+IsAtRest a b s bytes = IsBetween a b (so_far s (decided_frames bytes)) (file s (frames_of bytes))
 
 -- ---- a stream that is read
 
@@ -35,9 +38,9 @@ pub record IsBroken (a b : Option (List ℕ)) (s : SetupValue) (front piece : Li
 abbrev pub FailedWriting : Option (List ℕ) → Option (List ℕ) → Option (List ℕ) → Option (List ℕ) → SetupValue → Type 0
 FailedWriting r r' a b s = (front : List ℕ) × (piece : List ℕ) × Consumes r r' (front ++ piece) × IsBroken a b s front piece
 
--- all was read, and a prefix of the file of its frames went out
+-- all was read; what went out has at least what the decided frames make, and at most the whole file
 abbrev pub FailedWritingAtEnd : Option (List ℕ) → Option (List ℕ) → Option (List ℕ) → Option (List ℕ) → SetupValue → Type 0
-FailedWritingAtEnd r r' a b s = (front : List ℕ) × Consumes r r' front × IsAtEnd r' × AppendsPrefix a b (file s (frames_of front))
+FailedWritingAtEnd r r' a b s = (front : List ℕ) × Consumes r r' front × IsAtEnd r' × IsAtRest a b s front
 
 -- the writer failed at one of the pieces read, or when all was read
 abbrev pub BrokeReading : Option (List ℕ) → Option (List ℕ) → Option (List ℕ) → Option (List ℕ) → SetupValue → Type 0
@@ -63,4 +66,4 @@ BrokeAtPiece a b s pieces = (k : ℕ) × (k < length pieces) × IsBetween a b (o
 
 -- the writer failed at one of the pieces or, when all were taken, in what was left of the file
 abbrev pub BrokeInPieces : {Z : Type 0} → Option (List ℕ) → Option (List ℕ) → SetupValue → List (Vec ℕ Z) → Type 0
-BrokeInPieces a b s pieces = BrokeAtPiece a b s pieces ⊎ AppendsPrefix a b (file s (frames_of (joined_pieces pieces)))
+BrokeInPieces a b s pieces = BrokeAtPiece a b s pieces ⊎ IsAtRest a b s (joined_pieces pieces)

@@ -1,27 +1,32 @@
 -- What a contract sees of a converter, and the bytes that it stands for.
 use Rattle.std.specs.Prelude.{◌≡◌, ◌⊎◌, ℕ, ◌+◌, ◌-◌, ◌<◌, ◌≤◌, List, ◌++◌, take, length}
-use Rattle.std.specs.Prelude.{Bool, true, false, Option, Some, None, IfSome, if◌then◌else◌}
+use Rattle.std.specs.Prelude.{Bool, true, false, Option, Some, None, IfSome, if◌then◌else◌, Result, IfErr}
 use Rattle.std.specs.Io.KnownBytes.{Consumes, IsAtEnd}
 use Rattle.rtcm_bits.specs.FrameOf.{longest_frame}
 use Rattle.rtcm_scan.specs.Frames.{frames_of}
 use Rattle.rtcm_scan.specs.Decided.{decided}
 use Rattle.rtcm_scan.specs.Scan.{FramerValue}
 use Rattle.rtcm_scan.specs.Drained.{IsDrained}
-use Rattle.rtcm_scan.specs.Examined.{IsCountedExactly}
 use Rattle.rtcm_convert.specs.Converted.{SetupValue, epochs_in}
+use Rattle.gnss_obs.specs.declared.system.System.TheVariants.{Gps, Galileo}
+use Rattle.obs_epoch.specs.Values.{cells_of}
+use Rattle.obs_epoch.specs.Held.{recorded}
+use Rattle.rtcm_convert.specs.Kept.{IsWithinBounds, IsKeptNow, IsKeptAtEnd}
+use Rattle.rtcm_convert.specs.declared.kept.Kept.{Kept}
 use Rattle.rtcm_convert.specs.Filed.{HasGathered}
 use Rattle.rtcm_convert.specs.Outcomes.{report_of}
-use Rattle.rtcm_convert.specs.Stream.{Drained, HasFramedSome, AppendsDecided, AppendsPrefixOfDecided, AppendsRest, AppendsPrefixOfRest}
-use Rattle.rtcm_convert.specs.declared.filer.Filer.{Filer}
+use Rattle.rtcm_scan.specs.Examined.{HasExaminedSome, IsCountedExactly}
+use Rattle.rtcm_convert.specs.Stream.{Drained, HasDrainedSome, AppendsDecided, AppendsPrefixOfDecided, AppendsRest, AppendsPrefixOfRest}
+use Rattle.rtcm_convert.specs.declared.file_writer.FileWriter.{FileWriter}
 use Rattle.rtcm_convert.specs.declared.report.Report.{Report}
 use Rattle.rtcm_convert.specs.declared.fault.Fault.{Fault}
 use Rattle.rtcm_convert.specs.declared.fault.Fault.TheVariants.{Failed, Finished, NoEpoch}
 
--- scan: what is seen of its framer; filer: what writes the epochs; has_failed: an earlier call failed; has_ended: the
+-- scan: what is seen of its framer; file_writer: what writes the epochs; has_failed: an earlier call failed; has_ended: the
 -- stream was ended
 pub record Conversion : Type 0 where
   pub scan : FramerValue
-  pub filer : Filer
+  pub file_writer : FileWriter
   pub has_failed : Bool
   pub has_ended : Bool
 
@@ -32,10 +37,11 @@ pub record IsGoing (v : Conversion) : Type 0 where
 
 -- a converter that goes on can take bytes; the framer stands for some bytes at every moment
 pub record IsFit (v : Conversion) : Type 0 where
-  pub going : IsGoing v → v.filer.gatherer.has_ended ≡ false
+  pub going : IsGoing v → v.file_writer.gatherer.has_ended ≡ false
   pub listening : IsGoing v → v.scan.has_ended ≡ false
   pub ready : IsGoing v → v.scan.is_ready ≡ true
-  pub examined : HasFramedSome v.scan
+  pub drained : IsGoing v → HasDrainedSome v.scan
+  pub examined : HasExaminedSome v.scan
 
 -- the fault that every call answers from then on
 abbrev pub refusal : Conversion → Option Fault
@@ -45,7 +51,7 @@ refusal v = (if v.has_ended then Some Finished else if v.has_failed then Some Fa
 -- decided ones ask for, and wrote the epochs that their frames close.
 pub record HasConverted (v : Conversion) (s : SetupValue) (b : List ℕ) : Type 0 where
   pub going : IsGoing v
-  pub drained : Drained v.scan v.filer s b
+  pub drained : Drained v.scan v.file_writer s b
 
 -- the stream of these bytes, which are no more than the limit, was ended: all of it was taken, decided, examined and gathered
 pub record HasFinished (v : Conversion) (s : SetupValue) (b : List ℕ) : Type 0 where
@@ -54,7 +60,23 @@ pub record HasFinished (v : Conversion) (s : SetupValue) (b : List ℕ) : Type 0
   pub within : length b ≤ v.scan.limit
   pub drained : IsDrained v.scan b (frames_of b)
   pub counted : IsCountedExactly v.scan b
-  pub gathered : HasGathered v.filer s (frames_of b)
+  pub gathered : HasGathered v.file_writer s (frames_of b)
+
+-- what it holds and has examined
+abbrev pub kept_of : Conversion → Kept
+kept_of v = record {
+  held = length v.scan.held;
+  gps_cells = length (cells_of Gps v.file_writer.gatherer.epoch);
+  galileo_cells = length (cells_of Galileo v.file_writer.gatherer.epoch);
+  locks = recorded v.file_writer.gatherer.locks;
+  examined = v.scan.examined;
+  most = v.scan.most;
+}
+
+-- those are the values for the bytes that it took, within the bounds
+pub record KeepsNow (v : Conversion) : Type 0 where
+  pub bounds : IsWithinBounds v.scan.taken (kept_of v)
+  pub values : (s : SetupValue) (b : List ℕ) → HasConverted v s b → IsKeptNow s b (kept_of v)
 
 -- it took n bytes more, within the same limit, and goes on
 abbrev pub GoesOnBy : Conversion → Conversion → ℕ → Type 0
@@ -67,6 +89,12 @@ TakesPiece v w a b piece = (s : SetupValue) (bytes : List ℕ) → HasConverted 
 -- it took these bytes up to its limit, and what they add went out
 abbrev pub TakesToLimit : Conversion → Option (List ℕ) → Option (List ℕ) → List ℕ → Type 0
 TakesToLimit v a b piece = (s : SetupValue) (bytes : List ℕ) → HasConverted v s bytes → AppendsDecided a b s bytes (take v.scan.limit (bytes ++ piece))
+
+-- these bytes go over the limit; they were taken up to it, and what they add went out
+pub record CutsAtLimit (v w : Conversion) (a b : Option (List ℕ)) (piece : List ℕ) : Type 0 where
+  pub adds : TakesToLimit v a b piece
+  pub full : w.scan.taken ≡ v.scan.limit
+  pub over : v.scan.limit < v.scan.taken + length piece
 
 -- a prefix of what these bytes add went out
 abbrev pub WritesPrefixOfAdded : Conversion → Option (List ℕ) → Option (List ℕ) → List ℕ → Type 0
@@ -92,13 +120,21 @@ WritesAdded v a b front = (s : SetupValue) (bytes : List ℕ) → HasConverted v
 abbrev pub RanToFault : Conversion → Conversion → Option (List ℕ) → Option (List ℕ) → Option (List ℕ) → Option (List ℕ) → Type 0
 RanToFault v w r r' a b = (front : List ℕ) × Consumes r r' front × (w.scan.taken ≡ v.scan.taken + length front) × WritesAdded v a b front
 
--- some bytes more were read, and taken up to the limit; what these add went out
-abbrev pub RanToLimit : Conversion → Option (List ℕ) → Option (List ℕ) → Option (List ℕ) → Option (List ℕ) → Type 0
-RanToLimit v r r' a b = (front : List ℕ) × Consumes r r' front × TakesToLimit v a b front
+-- a piece of n bytes was read, none at the end, and taken; what it adds went out
+abbrev pub PullsPiece : Conversion → Conversion → ℕ → Option (List ℕ) → Option (List ℕ) → Option (List ℕ) → Option (List ℕ) → Type 0
+PullsPiece v w n r r' a b = TakesFromReader v w r r' a b × (n ≡ 0 → IsAtEnd r') × GoesOnBy v w n
 
 -- a piece was read that goes over the limit, and was taken up to it
-abbrev pub ReadOverLimit : Conversion → Option (List ℕ) → Option (List ℕ) → Option (List ℕ) → Option (List ℕ) → Type 0
-ReadOverLimit v r r' a b = (piece : List ℕ) × Consumes r r' piece × TakesToLimit v a b piece × (v.scan.limit < v.scan.taken + length piece)
+abbrev pub ReadOverLimit : Conversion → Conversion → Option (List ℕ) → Option (List ℕ) → Option (List ℕ) → Option (List ℕ) → Type 0
+ReadOverLimit v w r r' a b = (piece : List ℕ) × Consumes r r' piece × CutsAtLimit v w a b piece
+
+-- the stream is longer than the limit; some bytes more were read, and taken up to it; what these add went out
+pub record RanToLimit (v w : Conversion) (r r' a b : Option (List ℕ)) : Type 0 where
+  pub front : List ℕ
+  pub consumes : Consumes r r' front
+  pub adds : TakesToLimit v a b front
+  pub full : w.scan.taken ≡ v.scan.limit
+  pub over : IfSome r (IsPastLimit v)
 
 -- What these bytes add went out, up to `mid`, and a prefix of what a last piece adds; the piece fits behind the bytes that were not decided.
 pub record FailsAtPiece (a b : Option (List ℕ)) (s : SetupValue) (bytes piece : List ℕ) (all : List ℕ) : Type 0 where
@@ -107,15 +143,21 @@ pub record FailsAtPiece (a b : Option (List ℕ)) (s : SetupValue) (bytes piece 
   pub last : AppendsPrefixOfDecided mid b s all (all ++ piece)
   pub near : (length all - decided all) + length piece ≤ longest_frame
 
+-- What these bytes add went out, up to `mid`, and then a prefix of the rest of their file.
+pub record FailsAtEnd (a b : Option (List ℕ)) (s : SetupValue) (bytes all : List ℕ) : Type 0 where
+  pub mid : Option (List ℕ)
+  pub before : AppendsDecided a mid s bytes all
+  pub last : AppendsPrefixOfRest mid b s all all
+
 -- at least n bytes more were taken, and at most m
 pub record IsTakenFrom (v w : Conversion) (n m : ℕ) : Type 0 where
   pub least : v.scan.taken + n ≤ w.scan.taken
   pub most : w.scan.taken ≤ v.scan.taken + m
 
--- a piece was read at which the writer failed; it fits behind the bytes held
+-- a piece was read at which the writer failed; it fits beside the bytes held
 abbrev pub StopsAtPiece : Conversion → Conversion → Option (List ℕ) → Option (List ℕ) → Option (List ℕ) → Option (List ℕ) → Type 0
 StopsAtPiece v w r r' a b = (piece : List ℕ) × Consumes r r' piece × (length v.scan.held + length piece ≤ longest_frame)
-    × IsTakenFrom v w 0 (length piece) × WritesPrefixOfAdded v a b piece
+    × IsTakenFrom v w 0 (length piece) × WritesPrefixOfAdded v a b piece × (v.scan.has_ended ≡ false)
 
 -- the bytes that were read split into some that were taken and a last piece at which the writer failed
 abbrev pub FailsFeeding : Conversion → Conversion → Option (List ℕ) → Option (List ℕ) → Option (List ℕ) → Option (List ℕ) → Type 0
@@ -126,24 +168,29 @@ FailsFeeding v w r r' a b = (front : List ℕ) × (piece : List ℕ) × Consumes
 -- all was read, and the writer failed in what was left to write
 abbrev pub FailsFinishing : Conversion → Conversion → Option (List ℕ) → Option (List ℕ) → Option (List ℕ) → Option (List ℕ) → Type 0
 FailsFinishing v w r r' a b = (front : List ℕ) × Consumes r r' front × IsAtEnd r' × (w.scan.taken ≡ v.scan.taken + length front)
-    × ((s : SetupValue) (bytes : List ℕ) → HasConverted v s bytes → AppendsPrefixOfRest a b s bytes (bytes ++ front))
+    × ((s : SetupValue) (bytes : List ℕ) → HasConverted v s bytes → FailsAtEnd a b s bytes (bytes ++ front))
 
 -- the writer failed at one of the pieces, or when all was read
 abbrev pub StopsRunning : Conversion → Conversion → Option (List ℕ) → Option (List ℕ) → Option (List ℕ) → Option (List ℕ) → Type 0
 StopsRunning v w r r' a b = FailsFeeding v w r r' a b ⊎ FailsFinishing v w r r' a b
 
--- The rest of the file of all these bytes went out, which has an epoch; that is the report; and all was decided and examined.
+-- The rest of the file of all these bytes was written, which has an epoch; that is the report; all was decided and examined; and
+-- what the converter holds and has examined has its values for these bytes, within the bounds.
 pub record Completed (w : Conversion) (a b : Option (List ℕ)) (s : SetupValue) (bytes all : List ℕ) (report : Report) : Type 0 where
   pub out : AppendsRest a b s bytes all
   pub some : 0 < epochs_in s (frames_of all)
   pub report_is : report ≡ report_of s all
   pub finished : HasFinished w s all
+  pub kept : IsKeptAtEnd s all (kept_of w)
+  pub bounds : IsWithinBounds (length all) (kept_of w)
 
 -- No epoch stands in the file of all these bytes; the rest of it, which is nothing, went out; and all was decided and examined.
 pub record CompletedEmpty (w : Conversion) (a b : Option (List ℕ)) (s : SetupValue) (bytes all : List ℕ) : Type 0 where
   pub none : epochs_in s (frames_of all) ≡ 0
   pub out : AppendsRest a b s bytes all
   pub finished : HasFinished w s all
+  pub kept : IsKeptAtEnd s all (kept_of w)
+  pub bounds : IsWithinBounds (length all) (kept_of w)
 
 -- the stream ends here, and the file was completed
 abbrev pub FinishesNow : Conversion → Conversion → Option (List ℕ) → Option (List ℕ) → Report → Type 0
@@ -173,3 +220,7 @@ CompletesEmptyFileOfAll v w r r' a b = IfSome r (CompletesEmptyFile v w a b)
 abbrev pub LeftBy : Fault → Conversion → Type 0
 LeftBy NoEpoch v = v.has_ended ≡ true
 LeftBy _ v = (v.has_failed ≡ true) × (v.has_ended ≡ false)
+
+-- how a call leaves a converter: within the same limit and, if it went on before, as its fault says, which is one of these
+abbrev pub IsLeft : {A : Type 0} → (Fault → Type 0) → Conversion → Conversion → Result A Fault → Type 0
+IsLeft kinds v w result = (w.scan.limit ≡ v.scan.limit) × (IsGoing v → IfErr result (λ fault. kinds fault × LeftBy fault w))

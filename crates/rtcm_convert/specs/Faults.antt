@@ -1,9 +1,21 @@
 -- What an answer says of the devices that a call reads and writes.
-use Rattle.std.specs.Prelude.{◌≡◌, ◌≤◌, ◌⊎◌, ℕ, max, Result, OnOk, IfErr}
+use Rattle.std.specs.Prelude.{◌≡◌, ◌≤◌, ◌⊎◌, ℕ, max, ⊤, Bool, true, Result, Ok, Err, OnOk, IfErr}
 use Rattle.rtcm_bits.specs.Device.{Device, HasFailed, FailsWith}
 use Rattle.rtcm_bits.specs.FrameOf.{longest_frame}
 use Rattle.rtcm_convert.specs.declared.fault.Fault.{Fault}
 use Rattle.rtcm_convert.specs.declared.fault.Fault.TheVariants.{BadSetup, Memory, Read, TooLong, NoEpoch, Write}
+
+-- Nothing waits in the writer, unless the writer failed. A call that was refused, or whose reader failed, leaves none waiting if
+-- none waited before.
+abbrev pub IsSentAtFault : Fault → Bool → Bool → Type 0
+IsSentAtFault Write before after = ⊤
+IsSentAtFault TooLong before after = after ≡ true
+IsSentAtFault NoEpoch before after = after ≡ true
+IsSentAtFault fault before after = before ≡ true → after ≡ true
+
+abbrev pub IsSentAfter : {A : Type 0} → Result A Fault → Bool → Bool → Type 0
+IsSentAfter (Ok x) before after = after ≡ true
+IsSentAfter (Err fault) before after = IsSentAtFault fault before after
 
 -- `Write` is the one fault of the call, and is answered only where a failure of the writer was counted; else none was
 abbrev pub FailsToWrite : {T A : Type 0} → Result A Fault → Device T → Device T → Type 0

@@ -9,7 +9,7 @@ use Rattle.rinex_file.specs.Texts.{HeaderLists}
 use Rattle.rinex_file.specs.File.{header_text, epoch_text, change_text}
 use Rattle.rtcm_convert.specs.Converted.{SetupValue, messages_of, written_epochs}
 use Rattle.rtcm_convert.specs.Outcomes.{outcomes, tally_of, capped, capped_tally, AreFew}
-use Rattle.rtcm_convert.specs.declared.filer.Filer.{Filer}
+use Rattle.rtcm_convert.specs.declared.file_writer.FileWriter.{FileWriter}
 
 -- what stands before an epoch where these station values were written last: an event where they are no longer the same, and the
 -- header where none were
@@ -32,16 +32,16 @@ abbrev pub epochs_after : ℕ → Option EpochValue → ℕ
 epochs_after n None = n
 epochs_after n (Some e) = (if nat_lt 0 (satellites_written e) then capped (n + 1) else n)
 
--- what the filer writes before an epoch
-abbrev pub opening_of : Filer → Closed → List ℕ
+-- what the file_writer writes before an epoch
+abbrev pub opening_of : FileWriter → Closed → List ℕ
 opening_of v c = opening v.texts (plan_in v.gatherer) v.values c.epoch c.values
 
--- what the filer adds to its file for the epoch that its gatherer closed last
-abbrev pub added_by : Filer → List ℕ
+-- what the file_writer adds to its file for the epoch that its gatherer closed last
+abbrev pub added_by : FileWriter → List ℕ
 added_by v = added v.texts (plan_in v.gatherer) v.values (closed_in v.gatherer) v.gatherer.values
 
--- the filer has counted the epoch that its gatherer closed last, and remembers the station values that were written last
-abbrev pub StandsBehindClosed : Filer → Filer → Type 0
+-- the file_writer has counted the epoch that its gatherer closed last, and remembers the station values that were written last
+abbrev pub StandsBehindClosed : FileWriter → FileWriter → Type 0
 StandsBehindClosed v w = (w.epochs ≡ epochs_after v.epochs (closed_in v.gatherer)) × (w.values ≡ values_after v.values (closed_in v.gatherer) v.gatherer.values)
 
 -- the station values behind these epochs, where these stand before them
@@ -54,25 +54,25 @@ abbrev pub last_values : List Closed → Option StationValues
 last_values [] = None
 last_values (c ∷ cs) = Some (values_behind_closed c.values cs)
 
--- the filer took these messages and wrote these epochs; where `again` is a message, it is to be handed in again
-pub record HasFiledEpochs (v : Filer) (s : SetupValue) (ms : List Heard) (es : List Closed) (again : Option Heard) : Type 0 where
+-- the file_writer took these messages and wrote these epochs; where `again` is a message, it is to be handed in again
+pub record HasFiledEpochs (v : FileWriter) (s : SetupValue) (ms : List Heard) (es : List Closed) (again : Option Heard) : Type 0 where
   pub texts : v.texts ≡ s.texts
   pub gatherer : HasGatheredEpochs v.gatherer s.gather ms es again
   pub epochs : v.epochs ≡ capped (length (written_epochs es))
   pub values : v.values ≡ last_values (written_epochs es)
 
--- the filer took these messages and wrote the epochs that they close
-abbrev pub Settled : Filer → SetupValue → List Heard → Type 0
+-- the file_writer took these messages and wrote the epochs that they close
+abbrev pub Settled : FileWriter → SetupValue → List Heard → Type 0
 Settled v s ms = HasFiledEpochs v s ms (closed_epochs s.gather ms) None
 
--- the filer took the messages of these frames, and no more will come
-pub record HasGathered (v : Filer) (s : SetupValue) (fs : List Framed) : Type 0 where
+-- the file_writer took the messages of these frames, and no more will come
+pub record HasGathered (v : FileWriter) (s : SetupValue) (fs : List Framed) : Type 0 where
   pub ended : v.gatherer.has_ended ≡ true
   pub epochs : List Closed
   pub gathers : HasGatheredEpochs v.gatherer s.gather (messages_of fs) epochs None
 
--- the filer took the messages of these frames and wrote the epochs that they close
-pub record HasFiledFrames (v : Filer) (s : SetupValue) (fs : List Framed) : Type 0 where
+-- the file_writer took the messages of these frames and wrote the epochs that they close
+pub record HasFiledFrames (v : FileWriter) (s : SetupValue) (fs : List Framed) : Type 0 where
   pub settled : Settled v s (messages_of fs)
   pub tally : v.tally ≡ capped_tally (tally_of (outcomes s fs))
   pub few : AreFew (outcomes s fs)

@@ -1,14 +1,20 @@
 -- How much a converter keeps of the frames that it took.
-use Rattle.std.specs.Prelude.{ℕ, List, length}
+use Rattle.std.specs.Prelude.{◌≡◌, ℕ, ◌*◌, ◌≤◌, List, drop, length}
 use Rattle.gnss_obs.specs.declared.system.System.{System}
-use Rattle.rtcm_scan.specs.Frames.{Framed}
+use Rattle.gnss_obs.specs.declared.system.System.TheVariants.{Gps, Galileo}
+use Rattle.rtcm_bits.specs.FrameOf.{longest_frame}
+use Rattle.rtcm_scan.specs.Decided.{decided, decided_frames}
+use Rattle.rtcm_scan.specs.Frames.{Framed, frames_of}
+use Rattle.rtcm_scan.specs.Looks.{examined, examined_now, most, most_looks, most_now}
+use Rattle.obs_epoch.specs.Values.{most_cells}
+use Rattle.rtcm_convert.specs.declared.kept.Kept.{Kept}
 use Rattle.obs_epoch.specs.Times.{Timed, timed}
 use Rattle.obs_epoch.specs.Cells.{firsts}
 use Rattle.obs_epoch.specs.Loss.{times}
 use Rattle.obs_epoch.specs.Epochs.{closed_times}
-use Rattle.obs_epoch.specs.Gather.{cells_in}
 use Rattle.obs_epoch.specs.Standing.{locked_in, held_at}
 use Rattle.rtcm_convert.specs.Converted.{SetupValue, messages_of}
+use Rattle.obs_epoch.specs.Values.{cells_of}
 
 -- the messages of these frames with their times
 abbrev pub timed_of : SetupValue → List Framed → List Timed
@@ -16,7 +22,7 @@ timed_of s fs = timed s.gather (messages_of fs)
 
 -- the cells of a system of the epoch of the greatest time: the pending one or, where none is pending, the one last closed
 abbrev pub cells_kept : SetupValue → System → List Framed → ℕ
-cells_kept s system fs = length (cells_in system (held_at s.gather (timed_of s fs)))
+cells_kept s system fs = length (cells_of system (held_at s.gather (timed_of s fs)))
 
 -- the satellites and signals of which an epoch of these times has a kept cell with a valid phase and a known lock
 abbrev pub locks_at : SetupValue → List Framed → List ℕ → ℕ
@@ -29,3 +35,32 @@ locks_kept s fs = locks_at s fs (closed_times s.gather (timed_of s fs))
 -- of all epochs, when the stream has ended
 abbrev pub locks_in_all : SetupValue → List Framed → ℕ
 locks_in_all s fs = locks_at s fs (times (timed_of s fs))
+
+-- ---- what a converter holds and has examined
+
+-- the bounds that hold at every moment, when so many bytes were taken
+pub record IsWithinBounds (taken : ℕ) (k : Kept) : Type 0 where
+  pub held : k.held ≤ longest_frame
+  pub gps_cells : k.gps_cells ≤ most_cells
+  pub galileo_cells : k.galileo_cells ≤ most_cells
+  pub locks : k.locks ≤ 1_164
+  pub examined : k.examined ≤ most_looks * taken
+  pub most : k.most ≤ most_looks
+
+-- the values when these bytes were taken
+pub record IsKeptNow (s : SetupValue) (b : List ℕ) (k : Kept) : Type 0 where
+  pub held : k.held ≡ length (drop (decided b) b)
+  pub gps_cells : k.gps_cells ≡ cells_kept s Gps (decided_frames b)
+  pub galileo_cells : k.galileo_cells ≡ cells_kept s Galileo (decided_frames b)
+  pub locks : k.locks ≡ locks_kept s (decided_frames b)
+  pub examined : k.examined ≡ examined_now b
+  pub most : k.most ≡ most_now b
+
+-- the values when the stream of these bytes was ended
+pub record IsKeptAtEnd (s : SetupValue) (b : List ℕ) (k : Kept) : Type 0 where
+  pub held : k.held ≡ 0
+  pub gps_cells : k.gps_cells ≡ cells_kept s Gps (frames_of b)
+  pub galileo_cells : k.galileo_cells ≡ cells_kept s Galileo (frames_of b)
+  pub locks : k.locks ≡ locks_in_all s (frames_of b)
+  pub examined : k.examined ≡ examined b
+  pub most : k.most ≡ most b

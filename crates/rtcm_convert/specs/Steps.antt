@@ -1,4 +1,4 @@
--- What the calls of the filer do, whatever messages and frames it took before.
+-- What the calls of the file_writer do, whatever messages and frames it took before.
 use Rattle.std.specs.Prelude.{◌≡◌, ℕ, true, false, List, [], ◌∷◌, ◌++◌, Option, Some, None}
 use Rattle.rtcm_scan.specs.Frames.{Framed}
 use Rattle.obs_epoch.specs.Values.{Closed}
@@ -10,7 +10,7 @@ use Rattle.rtcm_convert.specs.Converted.{SetupValue, text_with, so_far, file, ep
 use Rattle.rtcm_convert.specs.Outcomes.{capped}
 use Rattle.rtcm_convert.specs.Fed.{AppendsBetween, AppendsPrefixBetween}
 use Rattle.rtcm_convert.specs.Filed.{HasFiledEpochs, Settled, HasFiledFrames, HasGathered}
-use Rattle.rtcm_convert.specs.declared.filer.Filer.{Filer}
+use Rattle.rtcm_convert.specs.declared.file_writer.FileWriter.{FileWriter}
 
 -- ---- a message that is handed in, for the first time or again
 
@@ -23,67 +23,67 @@ abbrev pub IsFinalKind : Kind → Type 0
 IsFinalKind kind = is_close_first kind ≡ false
 
 -- the epoch that was closed first was written, and the message is to be handed in again
-abbrev pub WritesFirst : Filer → Filer → Heard → Option (List ℕ) → Option (List ℕ) → Type 0
+abbrev pub WritesFirst : FileWriter → FileWriter → Heard → Option (List ℕ) → Option (List ℕ) → Type 0
 WritesFirst v w m a b = (s : SetupValue) (ms : List Heard) (es : List Closed) → HasFiledEpochs v s ms es None
     → (all : List Closed) × HasFiledEpochs w s ms all (Some m) × AppendsBetween a b (text_with s es) (text_with s all)
 
 -- the message was taken, and the epoch that it closed was written
-abbrev pub TakesMessage : Filer → Filer → Heard → Option (List ℕ) → Option (List ℕ) → Type 0
+abbrev pub TakesMessage : FileWriter → FileWriter → Heard → Option (List ℕ) → Option (List ℕ) → Type 0
 TakesMessage v w m a b = (s : SetupValue) (ms : List Heard) (es : List Closed) (again : Option Heard) → IsAwaited again m → HasFiledEpochs v s ms es again
     → (all : List Closed) × HasFiledEpochs w s (ms ++ m ∷ []) all None × AppendsBetween a b (text_with s es) (text_with s all)
 
 -- where it was handed in again it was taken
-abbrev pub IsTakenAgain : Filer → Heard → Kind → Type 0
+abbrev pub IsTakenAgain : FileWriter → Heard → Kind → Type 0
 IsTakenAgain v m kind = (s : SetupValue) (ms : List Heard) (es : List Closed) → HasFiledEpochs v s ms es (Some m) → IsFinalKind kind
 
 -- that is what becomes of it
-abbrev pub IsKindOf : Filer → Heard → Kind → Type 0
+abbrev pub IsKindOf : FileWriter → Heard → Kind → Type 0
 IsKindOf v m kind = (s : SetupValue) (ms : List Heard) (es : List Closed) (again : Option Heard) → IsAwaited again m → HasFiledEpochs v s ms es again
     → kind ≡ kind_of s.gather ms m
 
 -- a front of what it closes went out
-abbrev pub BreaksInMessage : Filer → Heard → Option (List ℕ) → Option (List ℕ) → Type 0
+abbrev pub BreaksInMessage : FileWriter → Heard → Option (List ℕ) → Option (List ℕ) → Type 0
 BreaksInMessage v m a b = (s : SetupValue) (ms : List Heard) (es : List Closed) (again : Option Heard) → IsAwaited again m → HasFiledEpochs v s ms es again
     → AppendsPrefixBetween a b (text_with s es) (text_with s (closed_epochs s.gather (ms ++ m ∷ [])))
 
 -- ---- the next message
 
 -- it was taken, and the epochs that it closes were written
-abbrev pub TakesNext : Filer → Filer → Heard → Option (List ℕ) → Option (List ℕ) → Type 0
+abbrev pub TakesNext : FileWriter → FileWriter → Heard → Option (List ℕ) → Option (List ℕ) → Type 0
 TakesNext v w m a b = (s : SetupValue) (ms : List Heard) → Settled v s ms → Settled w s (ms ++ m ∷ [])
     × AppendsBetween a b (text_with s (closed_epochs s.gather ms)) (text_with s (closed_epochs s.gather (ms ++ m ∷ [])))
 
 -- that is what becomes of it
-abbrev pub IsKindOfNext : Filer → Heard → Kind → Type 0
+abbrev pub IsKindOfNext : FileWriter → Heard → Kind → Type 0
 IsKindOfNext v m kind = (s : SetupValue) (ms : List Heard) → Settled v s ms → kind ≡ kind_of s.gather ms m
 
 -- a front of what it closes went out
-abbrev pub BreaksInNext : Filer → Heard → Option (List ℕ) → Option (List ℕ) → Type 0
+abbrev pub BreaksInNext : FileWriter → Heard → Option (List ℕ) → Option (List ℕ) → Type 0
 BreaksInNext v m a b = (s : SetupValue) (ms : List Heard) → Settled v s ms
     → AppendsPrefixBetween a b (text_with s (closed_epochs s.gather ms)) (text_with s (closed_epochs s.gather (ms ++ m ∷ [])))
 
 -- ---- the next frame, and the end
 
 -- the frame was taken, and the epochs that it closes were written
-abbrev pub TakesFrame : Filer → Filer → Framed → Option (List ℕ) → Option (List ℕ) → Type 0
+abbrev pub TakesFrame : FileWriter → FileWriter → Framed → Option (List ℕ) → Option (List ℕ) → Type 0
 TakesFrame v w f a b = (s : SetupValue) (fs : List Framed) → HasFiledFrames v s fs → HasFiledFrames w s (fs ++ f ∷ []) × AppendsBetween a b (so_far s fs) (so_far s (fs ++ f ∷ []))
 
 -- a front of what it closes went out
-abbrev pub BreaksInFrame : Filer → Framed → Option (List ℕ) → Option (List ℕ) → Type 0
+abbrev pub BreaksInFrame : FileWriter → Framed → Option (List ℕ) → Option (List ℕ) → Type 0
 BreaksInFrame v f a b = (s : SetupValue) (fs : List Framed) → HasFiledFrames v s fs → AppendsPrefixBetween a b (so_far s fs) (so_far s (fs ++ f ∷ []))
 
 -- the rest of the file was written
-abbrev pub WritesRest : Filer → Option (List ℕ) → Option (List ℕ) → Type 0
+abbrev pub WritesRest : FileWriter → Option (List ℕ) → Option (List ℕ) → Type 0
 WritesRest v a b = (s : SetupValue) (fs : List Framed) → HasFiledFrames v s fs → AppendsBetween a b (so_far s fs) (file s fs)
 
 -- a front of the rest of the file went out
-abbrev pub BreaksInRest : Filer → Option (List ℕ) → Option (List ℕ) → Type 0
+abbrev pub BreaksInRest : FileWriter → Option (List ℕ) → Option (List ℕ) → Type 0
 BreaksInRest v a b = (s : SetupValue) (fs : List Framed) → HasFiledFrames v s fs → AppendsPrefixBetween a b (so_far s fs) (file s fs)
 
 -- so many epochs stand in the whole file
-abbrev pub CountsEpochs : Filer → ℕ → Type 0
+abbrev pub CountsEpochs : FileWriter → ℕ → Type 0
 CountsEpochs v n = (s : SetupValue) (fs : List Framed) → HasFiledFrames v s fs → n ≡ capped (epochs_in s fs)
 
 -- all messages of its frames were gathered
-abbrev pub GathersAll : Filer → Filer → Type 0
+abbrev pub GathersAll : FileWriter → FileWriter → Type 0
 GathersAll v w = (s : SetupValue) (fs : List Framed) → HasFiledFrames v s fs → HasGathered w s fs

@@ -1,30 +1,34 @@
 //! The converter: a stream goes in piece by piece, and its observation file comes out.
 ghost use Rattle.std.specs.Prelude.{◌≡◌, ◌<◌, ◌≤◌, ◌+◌, ◌*◌, ◌↔◌, [], List, ℕ, true, false, length, drop};
 ghost use Rattle.std.specs.Prelude.{Err, OnOk, IfOk, IfErr, IfSome, IsErrOf};
-ghost use Rattle.std.specs.Io.KnownBytes.{Keeps, IsAtEnd};
+ghost use Rattle.std.specs.Io.KnownBytes.{Keeps};
 ghost use Rattle.rtcm_scan.specs.Frames.{frames_of};
 ghost use Rattle.rtcm_scan.specs.Decided.{decided, decided_frames, most_undecided};
 ghost use Rattle.rtcm_bits.specs.FrameOf.{longest_frame};
 ghost use Rattle.rtcm_scan.specs.Looks.{examined, examined_now, most, most_looks, most_now};
+ghost use Rattle.obs_epoch.specs.Values.{cells_of};
+ghost use Rattle.obs_epoch.specs.Held.{recorded};
 ghost use Rattle.obs_epoch.specs.Values.{most_cells};
-ghost use Rattle.rtcm_convert.specs.Kept.{cells_kept, locks_kept, locks_in_all};
+ghost use Rattle.rtcm_convert.specs.Kept.{cells_kept, locks_kept, locks_in_all, IsWithinBounds, IsKeptNow, IsKeptAtEnd};
 ghost use Rattle.rtcm_convert.specs.Moves.{Moves};
-ghost use Rattle.rtcm_convert.specs.Faults.{FailsWithReader, FailsWithWriter, IsUntouched, IsSetupFault, IsFeedFault, IsPullFault, IsFinishFault, IsRunFault};
+ghost use Rattle.rtcm_convert.specs.Faults.{FailsWithReader, FailsWithWriter, IsSentAfter, IsUntouched, IsSetupFault, IsFeedFault, IsPullFault, IsFinishFault, IsRunFault};
 ghost use Rattle.rtcm_convert.specs.SetupValues.{setup_value, IsBad};
 ghost use Rattle.rtcm_convert.specs.Converted.{SetupValue};
 ghost use Rattle.rtcm_convert.specs.Outcomes.{report_with};
-ghost use Rattle.rtcm_convert.specs.Conversion.{HasConverted, HasFinished, IsGoing, GoesOnBy, TakesPiece, TakesToLimit, WritesPrefixOfAdded, StopsAtEnd, LeftBy, refusal};
-ghost use Rattle.rtcm_convert.specs.Conversion.{FinishesNow, FinishesEmptyNow, CompletesFileOfAll, CompletesEmptyFileOfAll, IsPastLimit};
-ghost use Rattle.rtcm_convert.specs.Conversion.{TakesFromReader, RanToFault, RanToLimit, ReadOverLimit, StopsAtPiece, StopsRunning};
+ghost use Rattle.rtcm_convert.specs.Conversion.{kept_of, KeepsNow, HasConverted, HasFinished, IsGoing, GoesOnBy, TakesPiece, CutsAtLimit, WritesPrefixOfAdded, StopsAtEnd, IsLeft, refusal};
+ghost use Rattle.rtcm_convert.specs.Conversion.{FinishesNow, FinishesEmptyNow, CompletesFileOfAll, CompletesEmptyFileOfAll};
+ghost use Rattle.rtcm_convert.specs.Conversion.{PullsPiece, RanToFault, RanToLimit, ReadOverLimit, StopsAtPiece, StopsRunning};
 
 use crate::fault::Fault;
-use crate::filer::Filer;
+use crate::file_writer::FileWriter;
+use crate::kept::Kept;
+use crate::laws;
 use crate::report::Report;
 use crate::setup::Setup;
-use crate::stream::{end_stream, feed_bytes};
+use crate::stream::end_stream;
 use gnss_obs::System;
 use rtcm_bits::{Counted, LONGEST_FRAME};
-use rtcm_scan::{Framer, MOST_BYTES};
+use rtcm_scan::{Framer, MOST_BYTES, StreamFault};
 use std::alloc::Global;
 use std::io::{Read, Write};
 use std::marker::Model;
@@ -33,7 +37,7 @@ use std::marker::Model;
 #[derive(Drop)]
 pub struct Converter {
     framer: Framer,
-    filer: Filer,
+    file_writer: FileWriter,
     failed: bool,
     finished: bool,
 }
@@ -44,9 +48,9 @@ impl Model for Converter {
 
     ghost Value = { Conversion };
 
-    ghost view = { λ c. record { scan = c.framer; filer = c.filer; has_failed = c.failed; has_ended = c.finished } };
+    ghost view = { λ c. record { scan = c.framer; file_writer = c.file_writer; has_failed = c.failed; has_ended = c.finished } };
 
-    ghost invariant = { λ c. IsFit (record { scan = c.framer; filer = c.filer; has_failed = c.failed; has_ended = c.finished }) };
+    ghost invariant = { λ c. IsFit (record { scan = c.framer; file_writer = c.file_writer; has_failed = c.failed; has_ended = c.finished }) };
 }
 
 impl Converter {
@@ -63,16 +67,16 @@ impl Converter {
             return Err(Fault::BadSetup);
         }
         let limit = setup.limit;
-        match Filer::new(alloc, setup) {
-            Ok(filer) => match Framer::new(alloc, limit) {
+        match FileWriter::new(alloc, setup) {
+            Ok(file_writer) => match Framer::new(alloc, limit) {
                 Ok(framer) => Ok(Converter {
                     framer,
-                    filer,
+                    file_writer,
                     failed: false,
                     finished: false,
                 }),
                 Err(_) => {
-                    drop(filer);
+                    drop(file_writer);
                     Err(Fault::Memory)
                 }
             },
@@ -83,31 +87,41 @@ impl Converter {
     /// Takes a piece of the stream, and writes every epoch that it closes.
     pub fn feed<W: Write>(&mut self, piece: &[u8], writer: &mut Counted<W>) -> Result<(), Fault>
         ensures refused { IfSome (refusal self.old) (λ fault. (result ≡ Err fault) × (self.new ≡ self.old) × (writer.new ≡ writer.old)) }
-        // All was taken, and what went out is what these bytes add.
+        // All was taken, and what these bytes add was written.
         ensures whole { OnOk result (TakesPiece self.old self.new (W.contents writer.old.inner) (W.contents writer.new.inner) piece.now) }
         ensures going { OnOk result (GoesOnBy self.old self.new (length piece.now)) }
-        // At a fault no more than this piece was taken, and at `TooLong` all up to the limit.
+        // At a fault no more than this piece was taken.
         ensures taken { (self.old.scan.taken ≤ self.new.scan.taken) × (self.new.scan.taken ≤ self.old.scan.taken + length piece.now) }
-        ensures full { IsErrOf result Fault.TooLong → self.new.scan.taken ≡ self.old.scan.limit }
-        ensures same { self.new.scan.limit ≡ self.old.scan.limit }
-        // What went out is a prefix of that.
+        // What is held and was examined then.
+        ensures keeps { OnOk result (KeepsNow self.new) }
+        // A prefix of what these bytes add was written.
         ensures part { IsErrOf result Fault.Write → WritesPrefixOfAdded self.old (W.contents writer.old.inner) (W.contents writer.new.inner) piece.now }
-        // The bytes up to the limit were taken, and what they add went out.
-        ensures long { IsErrOf result Fault.TooLong → TakesToLimit self.old (W.contents writer.old.inner) (W.contents writer.new.inner) piece.now }
-        ensures limit { IsErrOf result Fault.TooLong → self.old.scan.limit < self.old.scan.taken + length piece.now }
+        // The bytes up to the limit were taken, and what they add was written.
+        ensures long { IsErrOf result Fault.TooLong → CutsAtLimit self.old self.new (W.contents writer.old.inner) (W.contents writer.new.inner) piece.now }
+        // Nothing waits in the writer.
+        ensures sent { IsSentAfter result writer.old.is_sent writer.new.is_sent }
         ensures device { FailsWithWriter result writer.old writer.new }
-        ensures only { IsGoing self.old → IfErr result IsFeedFault }
-        ensures err { IsGoing self.old → IfErr result (λ fault. LeftBy fault self.new) }
+        ensures left { IsLeft IsFeedFault self.old self.new result }
     {
         if let Some(fault) = self.refusal() {
             return Err(fault);
         }
-        match feed_bytes(&mut self.framer, &mut self.filer, piece, writer) {
-            Ok(()) => Ok(()),
-            Err(fault) => {
-                self.failed = true;
-                Err(fault)
+        laws::filed();
+        match self.framer.feed(piece, &mut self.file_writer, writer) {
+            Ok(()) => {
+                // What the contract says of these bytes is read here.
+                let _ = self.kept();
+                Ok(())
             }
+            Err(StreamFault::TooLong) => {
+                self.failed = true;
+                Err(Fault::TooLong)
+            }
+            Err(StreamFault::Sink(_)) => {
+                self.failed = true;
+                Err(Fault::Write)
+            }
+            Err(StreamFault::Read) => unreachable!(),
         }
     }
 
@@ -120,21 +134,23 @@ impl Converter {
         ensures whole { IfOk result (FinishesNow self.old self.new (W.contents writer.old.inner) (W.contents writer.new.inner)) }
         // No epoch of the whole stream was written, so nothing was.
         ensures no_epoch { IsErrOf result Fault.NoEpoch → FinishesEmptyNow self.old self.new (W.contents writer.old.inner) (W.contents writer.new.inner) }
-        // A prefix of the rest of the file went out.
+        // A prefix of the rest of the file was written.
         ensures part { IsErrOf result Fault.Write → StopsAtEnd self.old (W.contents writer.old.inner) (W.contents writer.new.inner) }
+        // Nothing waits in the writer.
+        ensures sent { IsSentAfter result writer.old.is_sent writer.new.is_sent }
         ensures device { FailsWithWriter result writer.old writer.new }
-        ensures only { IsGoing self.old → IfErr result IsFinishFault }
-        ensures ended { OnOk result (self.new.has_ended ≡ true) }
-        ensures err { IsGoing self.old → IfErr result (λ fault. LeftBy fault self.new) }
-        ensures same { (self.new.scan.taken ≡ self.old.scan.taken) × (self.new.scan.limit ≡ self.old.scan.limit) }
+        ensures taken { self.new.scan.taken ≡ self.old.scan.taken }
+        ensures left { IsLeft IsFinishFault self.old self.new result × OnOk result (self.new.has_ended ≡ true) }
     {
         if let Some(fault) = self.refusal() {
             return Err(fault);
         }
-        match end_stream(&mut self.framer, &mut self.filer, writer) {
+        match end_stream(&mut self.framer, &mut self.file_writer, writer) {
             Ok(()) => {
                 self.finished = true;
-                if self.filer.epochs == 0 {
+                // What the contract says of the end is read here.
+                let _ = self.kept();
+                if self.file_writer.epochs == 0 {
                     return Err(Fault::NoEpoch);
                 }
                 Ok(self.report())
@@ -161,11 +177,13 @@ impl Converter {
 
     /// The report of a stream that was ended.
     fn report(&self) -> Report
-        ensures { result ≡ report_with self.now.scan.taken self.now.scan.skipped self.now.filer.tally self.now.filer.epochs }
+        ensures { result ≡ report_with self.now.scan.taken self.now.scan.skipped self.now.file_writer.tally self.now.file_writer.epochs }
     {
         let bytes = self.framer.taken();
         let skipped = self.framer.skipped();
-        self.filer.tally.report(bytes, skipped, self.filer.epochs)
+        self.file_writer
+            .tally
+            .report(bytes, skipped, self.file_writer.epochs)
     }
 
     /// Reads a piece, and takes it: how many bytes it has.
@@ -175,24 +193,18 @@ impl Converter {
         writer: &mut Counted<W>,
     ) -> Result<usize, Fault>
         requires { IsGoing self.old }
-        ensures whole { OnOk result (Moves R.remaining reader.old reader.new W.contents writer.old writer.new
-            (TakesFromReader self.old self.new)) }
-        ensures end { IfOk result (λ n. n ≡ 0 → IsAtEnd (R.remaining reader.new.inner)) }
-        ensures going { IfOk result (GoesOnBy self.old self.new) }
+        ensures whole { IfOk result (λ n. Moves R.remaining reader.old reader.new W.contents writer.old writer.new (PullsPiece self.old self.new n)) }
         // Nothing was read.
-        ensures read { IsErrOf result Fault.Read → Keeps (R.remaining reader.old.inner) (R.remaining reader.new.inner) }
-        ensures unwritten { IsErrOf result Fault.Read → (writer.new ≡ writer.old) × (self.new.scan.taken ≡ self.old.scan.taken) }
-        ensures full { IsErrOf result Fault.TooLong → self.new.scan.taken ≡ self.old.scan.limit }
-        ensures same { self.new.scan.limit ≡ self.old.scan.limit }
+        ensures read { IsErrOf result Fault.Read → Keeps (R.remaining reader.old.inner) (R.remaining reader.new.inner)
+            × (writer.new ≡ writer.old) × (self.new.scan.taken ≡ self.old.scan.taken) }
         ensures long { IsErrOf result Fault.TooLong → Moves R.remaining reader.old reader.new W.contents writer.old writer.new
-            (ReadOverLimit self.old) }
+            (ReadOverLimit self.old self.new) }
         ensures part { IsErrOf result Fault.Write → Moves R.remaining reader.old reader.new W.contents writer.old writer.new
             (StopsAtPiece self.old self.new) }
-        ensures listening { self.old.scan.has_ended ≡ false }
+        ensures sent { IsSentAfter result writer.old.is_sent writer.new.is_sent }
         ensures reader { FailsWithReader result reader.old reader.new }
         ensures writer { FailsWithWriter result writer.old writer.new }
-        ensures only { IfErr result IsPullFault }
-        ensures err { IfErr result (λ fault. LeftBy fault self.new) }
+        ensures left { IsLeft IsPullFault self.old self.new result }
     {
         let room = LONGEST_FRAME - self.held();
         let mut buffer = [0u8; LONGEST_FRAME];
@@ -223,24 +235,21 @@ impl Converter {
         // No epoch of the whole stream was written, so nothing was.
         ensures no_epoch { IsErrOf result Fault.NoEpoch → Moves R.remaining reader.old reader.new W.contents writer.old writer.new
             (CompletesEmptyFileOfAll self.old self.new) }
-        // The stream is longer than the limit.
-        ensures too_long { IsErrOf result Fault.TooLong → IfSome (R.remaining reader.old.inner) (IsPastLimit self.old) }
-        // The bytes up to the limit were taken, and what they add went out.
+        // The stream is longer than the limit; the bytes up to it were taken, and what they add was
+        // written.
         ensures long { IsErrOf result Fault.TooLong → Moves R.remaining reader.old reader.new W.contents writer.old writer.new
-            (RanToLimit self.old) }
-        ensures full { IsErrOf result Fault.TooLong → self.new.scan.taken ≡ self.old.scan.limit }
-        ensures same { self.new.scan.limit ≡ self.old.scan.limit }
-        // The reader failed: what the bytes that were read add went out.
+            (RanToLimit self.old self.new) }
+        // The reader failed: what the bytes that were read add was written.
         ensures read { IsErrOf result Fault.Read → Moves R.remaining reader.old reader.new W.contents writer.old writer.new
             (RanToFault self.old self.new) }
         // The writer failed, at one of the pieces or at the end.
         ensures write { IsErrOf result Fault.Write → Moves R.remaining reader.old reader.new W.contents writer.old writer.new
             (StopsRunning self.old self.new) }
+        // Nothing waits in the writer.
+        ensures sent { IsSentAfter result writer.old.is_sent writer.new.is_sent }
         ensures reader { FailsWithReader result reader.old reader.new }
         ensures writer { FailsWithWriter result writer.old writer.new }
-        ensures only { IsGoing self.old → IfErr result IsRunFault }
-        ensures ended { OnOk result (self.new.has_ended ≡ true) }
-        ensures err { IsGoing self.old → IfErr result (λ fault. LeftBy fault self.new) }
+        ensures left { IsLeft IsRunFault self.old self.new result × OnOk result (self.new.has_ended ≡ true) }
     {
         if let Some(fault) = self.refusal() {
             return Err(fault);
@@ -251,6 +260,23 @@ impl Converter {
                 Ok(_) => {}
                 Err(fault) => return Err(fault),
             }
+        }
+    }
+
+    /// Returns what the converter holds and has examined: the values of the calls below.
+    pub fn kept(&self) -> Kept
+        ensures value { result ≡ kept_of self.now }
+        ensures bounds { IsWithinBounds self.now.scan.taken (kept_of self.now) }
+        ensures now { (s : SetupValue) (b : List ℕ) → HasConverted self.now s b → IsKeptNow s b (kept_of self.now) }
+        ensures all { (s : SetupValue) (b : List ℕ) → HasFinished self.now s b → IsKeptAtEnd s b (kept_of self.now) }
+    {
+        Kept {
+            held: self.held(),
+            gps_cells: self.cells(System::Gps),
+            galileo_cells: self.cells(System::Galileo),
+            locks: self.locks(),
+            examined: self.examined(),
+            most: self.most(),
         }
     }
 
@@ -270,21 +296,23 @@ impl Converter {
     /// How many cells of a system are held: those of the pending epoch or, where none is pending,
     /// of the one last closed.
     pub fn cells(&self, system: System) -> usize
+        ensures value { result ≡ length (cells_of system self.now.file_writer.gatherer.epoch) }
         ensures now { (s : SetupValue) (b : List ℕ) → HasConverted self.now s b → result ≡ cells_kept s system (decided_frames b) }
         ensures all { (s : SetupValue) (b : List ℕ) → HasFinished self.now s b → result ≡ cells_kept s system (frames_of b) }
         ensures bound { result ≤ most_cells }
     {
-        self.filer.gatherer.cells(system)
+        self.file_writer.gatherer.cells(system)
     }
 
     /// How many lock records are held: one for each satellite and signal of which a closed epoch
     /// has a kept cell with a valid phase and a known lock.
     pub fn locks(&self) -> usize
+        ensures value { result ≡ recorded self.now.file_writer.gatherer.locks }
         ensures now { (s : SetupValue) (b : List ℕ) → HasConverted self.now s b → result ≡ locks_kept s (decided_frames b) }
         ensures all { (s : SetupValue) (b : List ℕ) → HasFinished self.now s b → result ≡ locks_in_all s (frames_of b) }
         ensures bound { result ≤ 1_164 }
     {
-        self.filer.gatherer.locks()
+        self.file_writer.gatherer.locks()
     }
 
     /// How often bytes were looked at in all.

@@ -4,7 +4,8 @@
 
 mod converter;
 mod fault;
-mod filer;
+mod file_writer;
+mod kept;
 pub mod laws;
 mod report;
 mod setup;
@@ -14,6 +15,7 @@ mod whole;
 
 pub use converter::Converter;
 pub use fault::Fault;
+pub use kept::Kept;
 pub use report::Report;
 pub use setup::Setup;
 pub use whole::{convert_pieces, convert_stream};

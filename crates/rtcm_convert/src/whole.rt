@@ -1,7 +1,7 @@
 //! Whole streams.
 ghost use Rattle.std.specs.Prelude.{◌≡◌, ◌≢◌, ◌<◌, ◌↔◌, Err, IsErrOf, IfOk, IfErr, OnOk, IfSome, length};
 ghost use Rattle.rtcm_convert.specs.Moves.{Moves};
-ghost use Rattle.rtcm_convert.specs.Faults.{FailsWithReader, FailsWithWriter, IsPiecesFault, IsSetupFault, IsUntouched};
+ghost use Rattle.rtcm_convert.specs.Faults.{FailsWithReader, FailsWithWriter, IsSentAfter, IsPiecesFault, IsSetupFault, IsUntouched};
 ghost use Rattle.rtcm_convert.specs.Conversion.{IsGoing};
 ghost use Rattle.rtcm_convert.specs.Broken.{WrotePieces, BrokeInPieces, joined_pieces};
 ghost use Rattle.rtcm_convert.specs.Made.{OfItsSetup, PiecesMakeFile, PiecesMakeEmptyFile, PiecesMakeFileToLimit, PiecesMakePartOfFile, IsMade, IsMadeEmpty, IsMadeToLimit, IsMadeSoFar, IsMadeInPart, IsReportOf};
@@ -42,6 +42,8 @@ pub fn convert_stream<R: Read, W: Write>(
     ensures write { IsErrOf result Fault.Write → Moves R.remaining reader.old reader.new W.contents writer.old writer.new
         (IsMadeInPart setup) }
     ensures reader { FailsWithReader result reader.old reader.new }
+    // Nothing waits in the writer.
+    ensures sent { IsSentAfter result writer.old.is_sent writer.new.is_sent }
     ensures writer { FailsWithWriter result writer.old writer.new }
     ensures bad_setup { result ≡ Err Fault.BadSetup ↔ IsBad setup }
     ensures untouched { IfErr result (λ fault. IsSetupFault fault → IsUntouched reader.old reader.new writer.old writer.new) }
@@ -78,6 +80,8 @@ pub fn convert_pieces<W: Write>(
         → WrotePieces (W.contents writer.old.inner) (W.contents writer.new.inner) (setup_value setup) setup.limit pieces.now }
     // The writer failed at one of the pieces, or when all were taken.
     ensures write { IsErrOf result Fault.Write → BrokeInPieces (W.contents writer.old.inner) (W.contents writer.new.inner) (setup_value setup) pieces.now }
+    // Nothing waits in the writer.
+    ensures sent { IsSentAfter result writer.old.is_sent writer.new.is_sent }
     ensures writer { FailsWithWriter result writer.old writer.new }
     ensures bad_setup { result ≡ Err Fault.BadSetup ↔ IsBad setup }
     ensures untouched { IfErr result (λ fault. IsSetupFault fault → writer.new ≡ writer.old) }
@@ -107,6 +111,8 @@ fn take_pieces<W: Write>(
     ensures too_long { IsErrOf result Fault.TooLong → OfItsSetup converter.old (λ x. x.limit < length (joined_pieces pieces.now)) }
     ensures long { IsErrOf result Fault.TooLong → PiecesMakeFileToLimit converter.old (W.contents writer.old.inner) (W.contents writer.new.inner) pieces.now }
     ensures write { IsErrOf result Fault.Write → PiecesMakePartOfFile converter.old (W.contents writer.old.inner) (W.contents writer.new.inner) pieces.now }
+    // Nothing waits in the writer.
+    ensures sent { IsSentAfter result writer.old.is_sent writer.new.is_sent }
     ensures writer { FailsWithWriter result writer.old writer.new }
     ensures only { IfErr result IsPiecesFault }
 {

@@ -1,41 +1,43 @@
-use Rattle.std.proofs.Common.{ap}
+use Rattle.std.proofs.Common.{◌∙◌, ℕ, refl, subst}
 use Rattle.std.proofs.lemmas.Result.{on_ok_weaker, on_err_weaker}
-use Rattle.rtcm_scan.specs.Scan.{FramerValue}
-use Rattle.rtcm_convert.proofs.EndLemmas.{Ends, ended_whole, ended_epochs, ended_part, ended_tally, ended_drained, ended_gathered, drain_part}
-use Rattle.rtcm_convert.proofs.PartLemmas.{on_err}
+use Rattle.rtcm_bits.specs.Device.{HasFailed}
+use Rattle.rtcm_convert.proofs.EndLemmas.{ended, ended_part, ended_fine, drain_part, drain_failed}
+use Rattle.rtcm_convert.proofs.StreamLemmas.{ok_both, passed_here}
 use Rattle.rtcm_convert.proofs.stream.end_stream.Goals as goal
 
-pub returns-clause-whole : goal.returns-clause-whole
-returns-clause-whole g c =
-    let e : Ends c.args.framer.now c.end.new.self = record { before = c.requires.listening; after = ap (λ (v : FramerValue). v.has_ended) c.end.ensures.ended; stands = c.end.ensures.counts } in
-    on_ok_weaker c.end_file.result (ended_whole c.args.framer.now c.end.new.self c.drain.new.framer c.args.filer.now c.drain.new.filer _ _ _ e c.in_ok-drain.ensures.whole c.drain.ensures.same.2) c.end_file.ensures.whole
+pub returns-in-Ok-clause-whole : goal.returns-in-Ok-clause-whole
+returns-in-Ok-clause-whole g c =
+    let e = c.end_file.ensures in
+    let n = c.finish.ensures in
+    ok_both c.end_file.result _ _ _ (λ rest epochs. ended g.W.Write.contents c.args.framer.now c.finish.new.self c.args.file_writer.now c.finish.new.sink c.args.writer.now c.finish.new.out
+    c.prefix.ensures.few c.end_file.new.file_writer _ c.requires.listening c.in-Ok.ensures.ended n.same.limit n.same.taken c.in-Ok.ensures.whole rest epochs e.gathered e.same) e.whole e.epochs
 
-pub returns-clause-epochs : goal.returns-clause-epochs
-returns-clause-epochs g c =
-    let e : Ends c.args.framer.now c.end.new.self = record { before = c.requires.listening; after = ap (λ (v : FramerValue). v.has_ended) c.end.ensures.ended; stands = c.end.ensures.counts } in
-    on_ok_weaker c.end_file.result (ended_epochs c.prefix-2.ensures.few c.args.framer.now c.end.new.self c.drain.new.framer c.args.filer.now c.drain.new.filer _ _ _ e c.in_ok-drain.ensures.whole c.drain.ensures.same.2) c.end_file.ensures.epochs
+pub returns-in-Ok-clause-part : goal.returns-in-Ok-clause-part
+returns-in-Ok-clause-part g c =
+    on_err_weaker c.end_file.result (ended_part g.W.Write.contents c.args.framer.now c.finish.new.self c.args.file_writer.now c.finish.new.sink c.args.writer.now c.finish.new.out
+    _ c.requires.listening c.in-Ok.ensures.ended c.in-Ok.ensures.whole) c.end_file.ensures.part
 
-pub returns-clause-part : goal.returns-clause-part
-returns-clause-part g c =
-    let e : Ends c.args.framer.now c.end.new.self = record { before = c.requires.listening; after = ap (λ (v : FramerValue). v.has_ended) c.end.ensures.ended; stands = c.end.ensures.counts } in
-    on_err_weaker c.end_file.result (ended_part c.args.framer.now c.end.new.self c.drain.new.framer c.args.filer.now c.drain.new.filer _ _ _ e c.in_ok-drain.ensures.whole c.drain.ensures.same.2) c.end_file.ensures.part
+pub returns-in-Ok-clause-device : goal.returns-in-Ok-clause-device
+returns-in-Ok-clause-device g c =
+    let d = c.end_file.ensures.device in
+    let x = c.requires.some in
+    let f = ended_fine g.W.Write.contents c.args.framer.now c.finish.new.self c.args.file_writer.now c.finish.new.sink c.args.writer.now c.finish.new.out c.in-Ok.ensures.whole x.0
+    (passed_here g.W.Write.contents c.args.framer.now c.args.file_writer.now c.args.writer.now x.0 x.1) in (
+      d.0,
+      (
+        on_err_weaker c.end_file.result (λ h. subst (λ (n : ℕ). HasFailed n c.end_file.new.writer.failures) f.0 h) d.1.0,
+        on_ok_weaker c.end_file.result (λ h. h ∙ f.0) d.1.1,
+        d.1.2 ∙ f.1,
+      ),
+    )
 
-pub returns-in_err-drain-clause-part : goal.returns-in_err-drain-clause-part
-returns-in_err-drain-clause-part g c =
-    let e : Ends c.args.framer.now c.end.new.self = record { before = c.requires.listening; after = ap (λ (v : FramerValue). v.has_ended) c.end.ensures.ended; stands = c.end.ensures.counts } in
-    on_err _ _ (drain_part c.filed.ensures.file c.args.framer.now c.end.new.self c.args.filer.now _ _ e c.in_err-drain.ensures.part)
+pub returns-in-Err-clause-part : goal.returns-in-Err-clause-part
+returns-in-Err-clause-part g c =
+    drain_part g.W.Write.contents c.args.framer.now c.args.file_writer.now c.finish.new.sink c.args.writer.now c.finish.new.out c.filed.ensures.file c.filed.ensures.grows c.requires.listening c.in-Err.ensures.part
 
-pub returns-clause-tally : goal.returns-clause-tally
-returns-clause-tally g c =
-    let e : Ends c.args.framer.now c.end.new.self = record { before = c.requires.listening; after = ap (λ (v : FramerValue). v.has_ended) c.end.ensures.ended; stands = c.end.ensures.counts } in
-    ended_tally c.prefix-2.ensures.few c.args.framer.now c.end.new.self c.drain.new.framer c.args.filer.now c.drain.new.filer _ _ _ c.end_file.result e c.in_ok-drain.ensures.whole c.drain.ensures.same.2 c.end_file.ensures.same
-
-pub returns-clause-drained : goal.returns-clause-drained
-returns-clause-drained g c =
-    let e : Ends c.args.framer.now c.end.new.self = record { before = c.requires.listening; after = ap (λ (v : FramerValue). v.has_ended) c.end.ensures.ended; stands = c.end.ensures.counts } in
-    ended_drained c.args.framer.now c.end.new.self c.drain.new.framer c.args.filer.now c.drain.new.filer _ _ c.end_file.result e c.in_ok-drain.ensures.whole c.drain.ensures.same.2
-
-pub returns-clause-gathered : goal.returns-clause-gathered
-returns-clause-gathered g c =
-    let e : Ends c.args.framer.now c.end.new.self = record { before = c.requires.listening; after = ap (λ (v : FramerValue). v.has_ended) c.end.ensures.ended; stands = c.end.ensures.counts } in
-    ended_gathered c.args.framer.now c.end.new.self c.drain.new.framer c.args.filer.now c.drain.new.filer c.end_file.new.filer _ _ c.end_file.result e c.in_ok-drain.ensures.whole c.drain.ensures.same.2 c.end_file.ensures.gathered
+pub returns-in-Err-clause-device : goal.returns-in-Err-clause-device
+returns-in-Err-clause-device g c =
+    let x = c.requires.some in
+    let f = drain_failed g.W.Write.contents c.args.framer.now c.args.file_writer.now c.finish.new.sink c.args.writer.now c.finish.new.out c.in-Err.ensures.part x.0
+    (passed_here g.W.Write.contents c.args.framer.now c.args.file_writer.now c.args.writer.now x.0 x.1) in
+    (refl, (f.0, tt, f.1))

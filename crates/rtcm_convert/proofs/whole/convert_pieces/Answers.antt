@@ -1,7 +1,7 @@
 use Rattle.std.proofs.lemmas.Result.{on_ok_weaker}
 use Rattle.rtcm_convert.specs.declared.fault.Fault.TheVariants.{Failed, Finished, NoEpoch, Read, TooLong, Write}
 use Rattle.std.proofs.Common.{refl}
-use Rattle.rtcm_convert.proofs.FaultLemmas.{not_of_setup}
+use Rattle.rtcm_convert.proofs.FaultLemmas.{sent_setup, not_of_setup}
 use Rattle.rtcm_convert.proofs.WholeLemmas.{never_in_pieces, not_bad_in_pieces}
 use Rattle.rtcm_convert.proofs.whole.convert_pieces.Goals as goal
 
@@ -44,3 +44,6 @@ returns-in-Err-clause-write g c = λ e. absurd (not_of_setup c.in-Err.fault Writ
 
 pub returns-in-Err-clause-only : goal.returns-in-Err-clause-only
 returns-in-Err-clause-only g c = (λ e. not_of_setup c.in-Err.fault Failed c.in-Err.ensures.only refl e, λ e. not_of_setup c.in-Err.fault Finished c.in-Err.ensures.only refl e, λ e. not_of_setup c.in-Err.fault Read c.in-Err.ensures.only refl e)
+
+pub returns-in-Err-clause-sent : goal.returns-in-Err-clause-sent
+returns-in-Err-clause-sent g c = sent_setup c.in-Err.fault c.args.writer.now.is_sent c.in-Err.ensures.only

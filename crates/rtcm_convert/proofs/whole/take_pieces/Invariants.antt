@@ -1,4 +1,4 @@
-use Rattle.std.proofs.Common.{◌≡◌, take, []}
+use Rattle.std.proofs.Common.{◌≡◌, true, take, []}
 use Rattle.std.specs.Prelude.{flat_map}
 use Rattle.rtcm_convert.specs.Conversion.{IsGoing, HasConverted}
 use Rattle.rtcm_convert.specs.Stream.{AppendsDecided}
@@ -17,4 +17,5 @@ invariant-loop-piece g l =
       limit : l.converter.scan.limit ≡ l.fn.converter.scan.limit;
       fine : l.writer.failures ≡ l.fn.writer.failures;
       unread : l.writer.widest ≡ l.fn.writer.widest;
+      sent : l.fn.writer.is_sent ≡ true → l.writer.is_sent ≡ true;
     }

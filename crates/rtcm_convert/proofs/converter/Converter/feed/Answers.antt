@@ -1,13 +1,15 @@
-use Rattle.std.proofs.Common.{refl}
+use Rattle.std.proofs.Common.{◌∙◌, refl, sym, subst}
+use Rattle.rtcm_scan.specs.Passing.{up_to_limit}
+use Rattle.rtcm_convert.specs.Conversion.{Conversion, IsGoing}
 use Rattle.rtcm_convert.specs.declared.fault.Fault.TheVariants.{TooLong, Write}
-use Rattle.rtcm_convert.proofs.FaultLemmas.{of_refusal, not_going, not_refusal}
+use Rattle.rtcm_convert.proofs.FaultLemmas.{of_refusal, not_refusal}
+use Rattle.rtcm_convert.proofs.FeedLemmas.{with_flags, long_of, sink_of, fed_whole, fed_fit, fed_long, fed_part}
+use Rattle.rtcm_convert.proofs.RunLemmas.{going_on}
+use Rattle.rtcm_convert.proofs.StreamLemmas.{piece_fine, piece_failed}
 use Rattle.rtcm_convert.proofs.converter.Converter.feed.Goals as goal
 
 pub returns-in-Some-clause-device : goal.returns-in-Some-clause-device
 returns-in-Some-clause-device g c = ((of_refusal c.args.self.now c.in-Some.fault c.in-Some.ensures c.args.writer.now.failures).0, tt, refl)
-
-pub returns-in-Some-clause-full : goal.returns-in-Some-clause-full
-returns-in-Some-clause-full g c = λ e. absurd (not_refusal c.args.self.now c.in-Some.fault TooLong c.in-Some.ensures refl e)
 
 pub returns-in-Some-clause-part : goal.returns-in-Some-clause-part
 returns-in-Some-clause-part g c = λ e. absurd (not_refusal c.args.self.now c.in-Some.fault Write c.in-Some.ensures refl e)
@@ -15,11 +17,51 @@ returns-in-Some-clause-part g c = λ e. absurd (not_refusal c.args.self.now c.in
 pub returns-in-Some-clause-long : goal.returns-in-Some-clause-long
 returns-in-Some-clause-long g c = λ e. absurd (not_refusal c.args.self.now c.in-Some.fault TooLong c.in-Some.ensures refl e)
 
-pub returns-in-Some-clause-limit : goal.returns-in-Some-clause-limit
-returns-in-Some-clause-limit g c = λ e. absurd (not_refusal c.args.self.now c.in-Some.fault TooLong c.in-Some.ensures refl e)
+pub invariant_of-self : goal.invariant_of-self
+invariant_of-self g c =
+    let f = c.self.inside in
+    let go : IsGoing (with_flags f.failed f.finished f.framer f.file_writer) = subst (λ (x : Conversion). IsGoing x) (sym c.self.view_is) (going_on c.args.self.now c.in_default.ensures) in
+    fed_fit g.W.Write.contents f.failed f.finished f.framer c.feed.new.self f.file_writer c.feed.new.sink c.args.writer.now c.feed.new.out c.args.piece.now c.self.invariant go c.in-Ok.ensures.goes c.in-Ok.ensures.ready c.feed.ensures.same c.in-Ok.ensures.whole
 
-pub returns-in-Some-clause-only : goal.returns-in-Some-clause-only
-returns-in-Some-clause-only g c = λ going. absurd (not_going c.args.self.now c.in-Some.fault c.in-Some.ensures going)
+pub returns-in-Ok-clause-whole : goal.returns-in-Ok-clause-whole
+returns-in-Ok-clause-whole g c =
+    let f = c.self.inside in
+    let go : IsGoing (with_flags f.failed f.finished f.framer f.file_writer) = subst (λ (x : Conversion). IsGoing x) (sym c.self.view_is) (going_on c.args.self.now c.in_default.ensures) in
+    rw (← c.self.view_is) (fed_whole g.W.Write.contents f.failed f.finished f.framer c.feed.new.self f.file_writer c.feed.new.sink c.args.writer.now c.feed.new.out c.args.piece.now (c.self.invariant.listening go) (c.feed.ensures.same.ended ∙ c.self.invariant.listening go) c.in-Ok.ensures.whole)
 
-pub returns-in-Some-clause-err : goal.returns-in-Some-clause-err
-returns-in-Some-clause-err g c = λ going. absurd (not_going c.args.self.now c.in-Some.fault c.in-Some.ensures going)
+pub returns-in-Ok-clause-device : goal.returns-in-Ok-clause-device
+returns-in-Ok-clause-device g c =
+    let f = c.self.inside in
+    let go : IsGoing (with_flags f.failed f.finished f.framer f.file_writer) = subst (λ (x : Conversion). IsGoing x) (sym c.self.view_is) (going_on c.args.self.now c.in_default.ensures) in
+    let d = piece_fine g.W.Write.contents f.framer c.feed.new.self f.file_writer c.feed.new.sink c.args.writer.now c.feed.new.out c.args.piece.now c.in-Ok.ensures.whole (c.self.invariant.drained go) in
+    (tt, d.1, d.2)
+
+pub returns-in-Err-TooLong-clause-long : goal.returns-in-Err-TooLong-clause-long
+returns-in-Err-TooLong-clause-long g c =
+    let f = c.self.inside in
+    let go : IsGoing (with_flags f.failed f.finished f.framer f.file_writer) = subst (λ (x : Conversion). IsGoing x) (sym c.self.view_is) (going_on c.args.self.now c.in_default.ensures) in
+    let k = long_of c.in-Err-TooLong.field-0 _ _ _ c.in-Err-TooLong.field-0-is c.in-Err-TooLong.ensures.fault in
+    λ _. rw (← c.self.view_is) (fed_long g.W.Write.contents f.failed f.finished f.framer c.feed.new.self f.file_writer c.feed.new.sink c.args.writer.now c.feed.new.out c.args.piece.now (c.self.invariant.listening go) (c.feed.ensures.same.ended ∙ c.self.invariant.listening go) k)
+
+pub returns-in-Err-TooLong-clause-device : goal.returns-in-Err-TooLong-clause-device
+returns-in-Err-TooLong-clause-device g c =
+    let f = c.self.inside in
+    let go : IsGoing (with_flags f.failed f.finished f.framer f.file_writer) = subst (λ (x : Conversion). IsGoing x) (sym c.self.view_is) (going_on c.args.self.now c.in_default.ensures) in
+    let k = long_of c.in-Err-TooLong.field-0 _ _ _ c.in-Err-TooLong.field-0-is c.in-Err-TooLong.ensures.fault in
+    let d = piece_fine g.W.Write.contents f.framer c.feed.new.self f.file_writer c.feed.new.sink c.args.writer.now c.feed.new.out (up_to_limit f.framer c.args.piece.now) k.passes (c.self.invariant.drained go) in
+    (d.1, tt, d.2)
+
+pub returns-in-Err-Sink-clause-part : goal.returns-in-Err-Sink-clause-part
+returns-in-Err-Sink-clause-part g c =
+    let f = c.self.inside in
+    let go : IsGoing (with_flags f.failed f.finished f.framer f.file_writer) = subst (λ (x : Conversion). IsGoing x) (sym c.self.view_is) (going_on c.args.self.now c.in_default.ensures) in
+    let k = sink_of c.in-Err-Sink.field-0 c.in-Err-Sink.field-0-0 _ _ _ c.in-Err-Sink.field-0-is c.in-Err-Sink.ensures.fault in
+    λ _. rw (← c.self.view_is) (fed_part g.W.Write.contents f.failed f.finished f.framer c.feed.new.self f.file_writer c.feed.new.sink c.args.writer.now c.feed.new.out c.args.piece.now c.filed.ensures.grows (c.self.invariant.listening go) k)
+
+pub returns-in-Err-Sink-clause-device : goal.returns-in-Err-Sink-clause-device
+returns-in-Err-Sink-clause-device g c =
+    let f = c.self.inside in
+    let go : IsGoing (with_flags f.failed f.finished f.framer f.file_writer) = subst (λ (x : Conversion). IsGoing x) (sym c.self.view_is) (going_on c.args.self.now c.in_default.ensures) in
+    let k = sink_of c.in-Err-Sink.field-0 c.in-Err-Sink.field-0-0 _ _ _ c.in-Err-Sink.field-0-is c.in-Err-Sink.ensures.fault in
+    let d = piece_failed g.W.Write.contents f.framer f.file_writer c.feed.new.sink c.args.writer.now c.feed.new.out c.args.piece.now k (c.self.invariant.drained go) in
+    (d.0, tt, d.1)

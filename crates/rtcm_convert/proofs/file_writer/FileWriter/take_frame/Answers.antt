@@ -3,7 +3,7 @@ use Rattle.rtcm_msg.specs.Reading.{message_at}
 use Rattle.rtcm_scan.specs.Answers.{framed}
 use Rattle.rtcm_convert.proofs.PartLemmas.{on_err}
 use Rattle.rtcm_convert.proofs.TakeLemmas.{files_more, files_same, files_part}
-use Rattle.rtcm_convert.proofs.filer.Filer.take_frame.Goals as goal
+use Rattle.rtcm_convert.proofs.file_writer.FileWriter.take_frame.Goals as goal
 
 pub returns-in-Err-clause-whole : goal.returns-in-Err-clause-whole
 returns-in-Err-clause-whole g c = λ s fs x.

@@ -4,7 +4,7 @@ use Rattle.obs_epoch.specs.declared.cell.StationValues.{StationValues}
 use Rattle.obs_epoch.specs.Gathering.{plan_in}
 use Rattle.rtcm_convert.specs.Filed.{opening}
 use Rattle.rtcm_convert.proofs.PartLemmas.{on_err}
-use Rattle.rtcm_convert.proofs.filer.Filer.open.Goals as goal
+use Rattle.rtcm_convert.proofs.file_writer.FileWriter.open.Goals as goal
 
 pub returns-in-Some-clause-part : goal.returns-in-Some-clause-part
 returns-in-Some-clause-part g c =

@@ -24,7 +24,7 @@ use std::io::Write;
 
 /// Takes frames in order, and writes the epochs that they close.
 #[derive(Drop)]
-pub(crate) struct Filer {
+pub(crate) struct FileWriter {
     pub(crate) gatherer: Gatherer,
     pub(crate) texts: HeaderTexts,
     /// The station values that were written last: in the header, or in an event.
@@ -50,12 +50,12 @@ fn write_change<W: Write>(
     Ok(write_event(values, writer)?)
 }
 
-impl Filer {
-    /// A filer that has taken no frame. A week or a station out of range is `BadSetup`; want of
+impl FileWriter {
+    /// A file_writer that has taken no frame. A week or a station out of range is `BadSetup`; want of
     /// memory is `Memory`.
-    pub(crate) fn new(alloc: Global, setup: Setup) -> Result<Filer, Fault>
-        ensures stands { IfOk result (λ filer. HasFiledFrames filer (setup_value setup) []) }
-        ensures going { IfOk result (λ filer. filer.gatherer.has_ended ≡ false) }
+    pub(crate) fn new(alloc: Global, setup: Setup) -> Result<FileWriter, Fault>
+        ensures stands { IfOk result (λ file_writer. HasFiledFrames file_writer (setup_value setup) []) }
+        ensures going { IfOk result (λ file_writer. file_writer.gatherer.has_ended ≡ false) }
         ensures bad { result ≡ Err Fault.BadSetup ↔ IsBadStart setup }
         ensures only { IfErr result IsSetupFault }
     {
@@ -66,7 +66,7 @@ impl Filer {
             setup.station,
             setup.gather,
         ) {
-            Ok(gatherer) => Ok(Filer {
+            Ok(gatherer) => Ok(FileWriter {
                 gatherer,
                 texts: setup.texts,
                 values: None,

@@ -1,7 +1,7 @@
 use Rattle.obs_epoch.specs.Heard.{heard}
 use Rattle.rtcm_convert.proofs.PartLemmas.{on_err}
 use Rattle.rtcm_convert.proofs.StepLemmas.{Took, wrote_all, wrote_part}
-use Rattle.rtcm_convert.proofs.filer.Filer.step.Goals as goal
+use Rattle.rtcm_convert.proofs.file_writer.FileWriter.step.Goals as goal
 
 pub returns-in_err-write_closed-clause-part : goal.returns-in_err-write_closed-clause-part
 returns-in_err-write_closed-clause-part g c =

@@ -2,7 +2,7 @@ use Rattle.std.proofs.Common.{rules}
 use Rattle.rtcm_bits.specs.Device.{AppendsPrefix}
 use Rattle.rinex_file.specs.File.{change_text}
 use Rattle.rtcm_convert.proofs.PartLemmas.{on_err}
-use Rattle.rtcm_convert.proofs.filer.write_change.Goals as goal
+use Rattle.rtcm_convert.proofs.file_writer.write_change.Goals as goal
 
 pub returns-in_err-write_event-clause-part : goal.returns-in_err-write_event-clause-part
 returns-in_err-write_event-clause-part g c =

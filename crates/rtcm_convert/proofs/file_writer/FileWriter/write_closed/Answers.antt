@@ -2,7 +2,7 @@ use Rattle.std.proofs.Common.{◌∙◌, ap, Some}
 use Rattle.obs_epoch.specs.Gathering.{closed_in}
 use Rattle.rtcm_convert.proofs.PartLemmas.{on_err}
 use Rattle.rtcm_convert.proofs.TextLemmas.{none_lent, whole_lent, open_lent, part_lent, now_none, now_lent}
-use Rattle.rtcm_convert.proofs.filer.Filer.write_closed.Goals as goal
+use Rattle.rtcm_convert.proofs.file_writer.FileWriter.write_closed.Goals as goal
 
 pub returns-in_err-open-clause-part : goal.returns-in_err-open-clause-part
 returns-in_err-open-clause-part g c =

@@ -1,6 +1,6 @@
 use Rattle.std.proofs.lemmas.Result.{on_err_weaker}
 use Rattle.rtcm_convert.proofs.TakeLemmas.{if_ok_both, file_whole, file_part, gathered}
-use Rattle.rtcm_convert.proofs.filer.Filer.end.Goals as goal
+use Rattle.rtcm_convert.proofs.file_writer.FileWriter.end.Goals as goal
 
 pub returns-clause-whole : goal.returns-clause-whole
 returns-clause-whole g c = if_ok_both c.write_closed.result (λ _. _) (λ _. _) _ (λ _ whole now s fs x.
