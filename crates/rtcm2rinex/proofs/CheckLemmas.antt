@@ -1,9 +1,63 @@
--- A line that was written and couldn't be sent on.
-use Rattle.std.proofs.Common.{ℕ, List, [], Option, Result, Ok, Err, OnErr, sym, ◌≡◌, subst, append-nil}
-use Rattle.std.specs.Io.KnownBytes.{Appends, Keeps}
-use Rattle.std.proofs.KnownBytes.{Appends-kept}
-use Rattle.rtcm_bits.specs.Device.{AppendsPrefix}
+-- How a check of a file ends.
+use Rattle.std.proofs.Common.{◌≡◌, refl, sym, subst, true, ℕ, List, Option, Some, None, Result, Ok, Err, IfSome}
+use Rattle.rtcm_bits.specs.Device.{Device, HasFailed}
+use Rattle.rinex_file.specs.Exact.{IsNoFault}
+use Rattle.rinex_file.specs.Value.{FileValue}
+use Rattle.rinex_file.specs.File.{file_text}
+use Rattle.rinex_file.specs.FileValues.{IsFileValue}
+use Rattle.rinex_file.specs.Counting.{AreCounts}
+use Rattle.rinex_file.specs.declared.read.file.Counts.{Counts}
+use Rattle.rinex_file.specs.declared.read.fault.ReadFault.{ReadFault}
+use Rattle.rinex_file.specs.declared.read.fault.ReadFault.TheVariants.{Memory, Read, BadHeader, BadEpoch, BadEvent, BadSatellite, CutShort, TooLong}
+use Rattle.std.specs.Prelude.{⊤}
+use Rattle.rtcm2rinex.specs.declared.fault.ToolFault.{ToolFault}
+use Rattle.rtcm2rinex.specs.declared.fault.ToolFault.TheVariants as faults
+use Rattle.rtcm2rinex.specs.Devices.{Ends, ReadFailures}
+use Rattle.rtcm2rinex.specs.Printing.{EndsPrinting}
+use Rattle.rtcm2rinex.specs.Checking.{check_line, ChecksFile, IsCheckedOr, StopsChecking}
 
-pub kept_front : {A E : Type 0} (r : Result A E) (a b c : Option (List ℕ)) (x y : List ℕ) → x ≡ y → Appends a b x → Keeps b c → OnErr r (AppendsPrefix a c y)
-kept_front (Ok v) a b c x y e h k = tt
-kept_front (Err d) a b c x y e h k = ([], (y, sym (append-nil y), Appends-kept a b c y (subst (λ (l : List ℕ). Appends a b l) e h) k))
+-- what holds of known bytes
+pub where_known : (P Q : List ℕ → Type 0) (r : Option (List ℕ)) → ((input : List ℕ) → P input → Q input) → IfSome r P → IfSome r Q
+where_known P Q None step h = tt
+where_known P Q (Some input) step h = step input h
+
+-- a fault of reading is one of checking
+pub refused : (v : FileValue) (e : ReadFault) (w w' : Option (List ℕ)) → IsNoFault e → IsCheckedOr v (Err (faults.Check e)) w w'
+refused v Memory w w' h = tt
+refused v Read w w' h = tt
+refused v (BadHeader k) w w' h = absurd h
+refused v (BadEpoch k) w w' h = absurd h
+refused v (BadEvent k) w w' h = absurd h
+refused v (BadSatellite k) w w' h = absurd h
+refused v (CutShort k) w w' h = absurd h
+refused v TooLong w w' h = absurd h
+
+-- the reader failed only at `Read`
+pub read_failures : (e : ReadFault) (before after : ℕ) → (e ≡ Read → HasFailed before after) → ((e ≡ Read → ⊥) → after ≡ before) → ReadFailures (faults.Check e) before after
+read_failures Memory before after failed same = same (λ e. cc)
+read_failures Read before after failed same = failed refl
+read_failures (BadHeader k) before after failed same = same (λ e. cc)
+read_failures (BadEpoch k) before after failed same = same (λ e. cc)
+read_failures (BadEvent k) before after failed same = same (λ e. cc)
+read_failures (BadSatellite k) before after failed same = same (λ e. cc)
+read_failures (CutShort k) before after failed same = same (λ e. cc)
+read_failures TooLong before after failed same = same (λ e. cc)
+
+-- the line that was made is that of the file
+pub line_of : (line : List ℕ) (counts : Counts) (v : FileValue) → ((f : FileValue) → AreCounts counts f → line ≡ check_line f) → AreCounts counts v → line ≡ check_line v
+line_of line counts v shows are = shows v are
+
+-- the counts of a file were printed, or a part of them
+pub checked : {R W : Type 0} (left : R → Option (List ℕ)) (held : W → Option (List ℕ)) (r r2 : Device R) (w w2 : Device W) (ended : Result ⊤ ToolFault) (v : FileValue)
+    → IsFileValue v → IfSome (left r.inner) (λ input. input ≡ file_text v) → r2.failures ≡ r.failures → EndsPrinting ended held w w2 (check_line v)
+    → Ends ended r r2 w w2 (λ _. ChecksFile (left r.inner) (held w.inner) (held w2.inner)) (StopsChecking left r r2 held w w2)
+checked left held r r2 w w2 (Ok u) v is text same p = ((same, p.0, p.1), (v, is, text, p.2))
+checked left held r r2 w w2 (Err fault) v is text same p =
+    subst (λ (f : ToolFault). Ends (Err f) r r2 w w2 (λ (u : ⊤). ChecksFile (left r.inner) (held w.inner) (held w2.inner)) (StopsChecking left r r2 held w w2)) (sym p.0)
+    ((same, p.1.0), (v, is, text, p.1.1))
+
+-- the same of each file value that was read
+pub checked_or : {W : Type 0} (held : W → Option (List ℕ)) (w w2 : Device W) (ended : Result ⊤ ToolFault) (v : FileValue) → EndsPrinting ended held w w2 (check_line v)
+    → IsCheckedOr v ended (held w.inner) (held w2.inner)
+checked_or held w w2 (Ok u) v p = p.2
+checked_or held w w2 (Err fault) v p = subst (λ (f : ToolFault). IsCheckedOr v (Err f) (held w.inner) (held w2.inner)) (sym p.0) p.1.1

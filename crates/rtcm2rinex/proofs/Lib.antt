@@ -1,12 +1,17 @@
 mod FrameLemmas
 mod LineLemmas
-mod ListedLemmas
+mod StreamLemmas
+mod ListingLemmas
 mod ShowLemmas
 mod ToldLemmas
 mod CommandLineLemmas
 mod ReadBackLemmas
-pub mod CheckLemmas
-mod SurveyLemmas
+mod CheckLemmas
+mod PrintingLemmas
+mod ConvertLemmas
+mod CountingLemmas
 mod SignalLemmas
 mod ValuedLemmas
 mod PlannedLemmas
+mod AcceptedLemmas
+mod CommandLemmas

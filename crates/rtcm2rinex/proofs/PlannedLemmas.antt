@@ -8,12 +8,10 @@ use Rattle.gnss_obs.specs.declared.system.System.{System}
 use Rattle.gnss_obs.specs.declared.system.System.TheVariants.{Gps, Galileo}
 use Rattle.gnss_obs.specs.Satellites.{satellites}
 use Rattle.gnss_obs.specs.Signals.{SignalAt, IsSignal, table, code_of, signal_of_code}
-use Rattle.obs_epoch.specs.declared.seen.Seen.{Seen}
 use Rattle.obs_epoch.specs.declared.fault.PlanFault.{PlanFault}
 use Rattle.obs_epoch.specs.declared.fault.PlanFault.TheVariants.{RepeatedCode}
 use Rattle.obs_epoch.specs.Cells.{is_planned, has_listed_key}
-use Rattle.obs_epoch.specs.Heard.{GatherSetup}
-use Rattle.obs_epoch.specs.WithLli.{IsKey}
+use Rattle.obs_epoch.specs.Heard.{GatherSetup, HeardCell, IsKey}
 use Rattle.obs_epoch.specs.Plans.{below, place_in, between_commas, onto_first, one_signal_more, signals_after, signals_of, plan_of}
 use Rattle.obs_epoch.specs.Values.{planned_of}
 use Rattle.obs_epoch.specs.Census.{is_of_signal, count_of, signal_in}
@@ -168,7 +166,7 @@ word_read law system (i ∷ is) h =
 
 -- ---- the plan has the signal of each cell
 
-count_in : (g : SignalAt) (cells : List Seen) (i : ℕ) (d : Seen) → i < length cells → is_of_signal g (get_or cells i d) ≡ true → 0 < count_of g cells
+count_in : (g : SignalAt) (cells : List HeardCell) (i : ℕ) (d : HeardCell) → i < length cells → is_of_signal g (get_or cells i d) ≡ true → 0 < count_of g cells
 count_in g [] i d within is = absurd (omega (arith, within))
 count_in g (x ∷ xs) zero d within is = subst (λ (b : Bool). 0 < length (cond b (x ∷ filter (is_of_signal g) xs) (filter (is_of_signal g) xs))) (sym is) (omega arith)
 count_in g (x ∷ xs) (suc i) d within is = by (is_of_signal g x) (count_in g xs i d (omega (arith, within)) is) where
@@ -210,7 +208,7 @@ among_filter p (suc n) k within is =
     by false e more = or_left (list_any (λ i. i == k) (filter p (below n))) (list_any (λ i. i == k) (filter p (n ∷ []))) (more (less n k e within))
 
 -- a signal that has cells is one of those that are there
-own_among : (cells : List Seen) (g : SignalAt) → IsSignal g → 0 < count_of g cells → list_any (λ i. i == g.index) (had cells g.system) ≡ true
+own_among : (cells : List HeardCell) (g : SignalAt) → IsSignal g → 0 < count_of g cells → list_any (λ i. i == g.index) (had cells g.system) ≡ true
 own_among cells g listed some = among_filter (λ i. nat_lt 0 (count_of (signal_in g.system i) cells)) (length (table g.system)) g.index listed (positive (count_of g cells) some) where
   positive : (n : ℕ) → 0 < n → nat_lt 0 n ≡ true
   positive n h = grind (arith, h)
@@ -234,7 +232,7 @@ some_place test xs h = by (nat_lt (position_or_len test xs) (length xs)) (has_pl
   by true e = refl
   by false e = absurd (grind (arith, e))
 
-key_listed : (x : Seen) → IsKey x → has_listed_key x ≡ true
+key_listed : (x : HeardCell) → IsKey x → has_listed_key x ≡ true
 key_listed x key =
     ap₂ (λ a b. a && b) (ap₂ (λ a b. a && b) (positive x.satellite.id key.satellite.0) (few x.satellite.id (satellites x.satellite.system) key.satellite.1))
     (less x.signal.index (length (table x.satellite.system)) (subst (λ (u : System). x.signal.index < length (table u)) key.same key.signal))
@@ -248,18 +246,18 @@ key_listed x key =
     less : (a b : ℕ) → a < b → nat_lt a b ≡ true
     less a b h = grind (arith, h)
 
-had_in : (cells : List Seen) (system : System) → planned_of system (plan_had cells) ≡ had cells system
+had_in : (cells : List HeardCell) (system : System) → planned_of system (plan_had cells) ≡ had cells system
 had_in cells Gps = refl
 had_in cells Galileo = refl
 
-planned_one : (s : GatherSetup) (cells : List Seen) (x : Seen) → s.plan ≡ plan_had cells → IsKey x → 0 < count_of x.signal cells → is_planned s x ≡ true
+planned_one : (s : GatherSetup) (cells : List HeardCell) (x : HeardCell) → s.plan ≡ plan_had cells → IsKey x → 0 < count_of x.signal cells → is_planned s x ≡ true
 planned_one s cells x plan key some =
     let same : planned_of x.satellite.system s.plan ≡ had cells x.signal.system = ap (planned_of x.satellite.system) plan ∙ had_in cells x.satellite.system ∙ ap (had cells) (sym key.same) in
     let place : is_some (place_in x.signal (planned_of x.satellite.system s.plan)) ≡ true =
     ap (λ (l : List ℕ). is_some (place_in x.signal l)) same ∙ some_place (λ i. i == x.signal.index) (had cells x.signal.system) (own_among cells x.signal key.signal some) in
     ap₂ (λ a b. a && b) (key_listed x key) place
 
-pub all_planned : (s : GatherSetup) (cells : List Seen) → s.plan ≡ plan_had cells → All IsKey cells → All (λ x. is_planned s x ≡ true) cells
+pub all_planned : (s : GatherSetup) (cells : List HeardCell) → s.plan ≡ plan_had cells → All IsKey cells → All (λ x. is_planned s x ≡ true) cells
 all_planned s cells plan keys = λ k d within. planned_one s cells (get_or cells k d) plan (keys k d within) (count_in (get_or cells k d).signal cells k d within (own_signal (get_or cells k d)))
 
 -- ---- the line is read as the plan
@@ -273,10 +271,10 @@ plan_from g e [] [] a b h = absurd (h refl refl)
 plan_from g e [] (x ∷ xs) a b h = rw (a, b) refl
 plan_from g e (p ∷ ps) gs a b h = rw (a, b) refl
 
-pub plan_read : CodesReadBack → (cells : List Seen) → 0 < length cells → All IsKey cells → plan_of (codes_word Gps (had cells Gps)) (codes_word Galileo (had cells Galileo)) ≡ Ok (plan_had cells)
+pub plan_read : CodesReadBack → (cells : List HeardCell) → 0 < length cells → All IsKey cells → plan_of (codes_word Gps (had cells Gps)) (codes_word Galileo (had cells Galileo)) ≡ Ok (plan_had cells)
 plan_read law [] some keys = absurd (omega (arith, some))
 plan_read law (x ∷ xs) some keys =
-    let cells : List Seen = x ∷ xs in
+    let cells : List HeardCell = x ∷ xs in
     let key : IsKey x = keys 0 x (omega arith) in
     let among = own_among cells x.signal key.signal (count_in x.signal cells 0 x (omega arith) (own_signal x)) in
     plan_from (codes_word Gps (had cells Gps)) (codes_word Galileo (had cells Galileo)) (had cells Gps) (had cells Galileo)

@@ -7,7 +7,7 @@ use Rattle.clap.specs.declared.parser.matches.Found.{Found}
 use Rattle.clap.proofs.WalkLemmas.{first_value-rows, one_text-rows}
 use Rattle.rtcm2rinex.specs.SetupTold.{IsNumberOf, text_told}
 use Rattle.rtcm2rinex.specs.Telling.{IsFormOf}
-use Rattle.rtcm2rinex.specs.declared.form.SignalsForm.TheVariants.{Options, Counts}
+use Rattle.rtcm2rinex.specs.declared.signals.SignalsForm.TheVariants.{Options, Counts}
 
 -- what a typed getter gives is the number that the text spells; P and Q say more of it
 number_of : {E : Type 0} (P Q : List ℕ → Result ℕ E → Type 0) (bits : ℕ) (text : Option (List ℕ)) (n : Option ℕ) → (text ≡ None → n ≡ None)

@@ -1,4 +1,6 @@
 -- The cells with a value are of listed satellites and signals.
+use Rattle.rtcm_msg.specs.declared.entry.LockField.{LockField}
+use Rattle.rtcm_msg.specs.declared.entry.LockField.TheVariants.{Df402, Df407}
 use Rattle.std.proofs.Common.{◌≡◌, ℕ, ◌<◌, ◌≤◌, ◌==◌, ◌&&◌, Bool, true, false, List, [], ◌∷◌, length, refl, sym, ap, ◌∙◌, subst, arith, filter, All, Option, Some, None, Result, Ok, Err}
 use Rattle.std.specs.Prelude.{filter_map, cond, nat_lt, nat_le}
 use Rattle.std.specs.Option.{option_map, option_and_then, option_map_or}
@@ -15,9 +17,7 @@ use Rattle.rtcm_msg.specs.Entries.{entries}
 use Rattle.rtcm_msg.specs.declared.fault.MsgFault.{MsgFault}
 use Rattle.rtcm_msg.specs.Reading.{message_at}
 use Rattle.rtcm_scan.specs.Frames.{Framed}
-use Rattle.obs_epoch.specs.declared.seen.Seen.{Seen}
-use Rattle.obs_epoch.specs.Heard.{Heard, heard, seen_in, lock_by, observed, system_of}
-use Rattle.obs_epoch.specs.WithLli.{IsKey}
+use Rattle.obs_epoch.specs.Heard.{Heard, heard, seen_in, lock_by, observed, system_of, HeardCell, IsKey}
 use Rattle.rtcm_convert.specs.Converted.{heard_of}
 use Rattle.obs_epoch.specs.Census.{brings_value, is_of_station, valued, signal_in}
 use Rattle.rtcm2rinex.specs.Signals.{valued_of, valued_in}
@@ -51,10 +51,10 @@ satellite_listed system id s h = by (nat_le 1 id && nat_le id (satellites system
   by false t e = absurd (grind (arith, e))
 
 -- a cell that is seen
-seen_key : (is_msm7 : Bool) (system : System) (e : Entry) (x : Seen) → seen_in is_msm7 system e ≡ Some x → IsKey x
-seen_key is_msm7 system e x h = by (satellite_of_id system e.satellite) (signal_of_id system e.signal) (satellite_listed system e.satellite) (listed_of system e.signal) h where
-  seen : Satellite → SignalAt → Seen
-  seen s g = observed (lock_by is_msm7 e.lock) e s g
+seen_key : (field : LockField) (system : System) (e : Entry) (x : HeardCell) → seen_in field system e ≡ Some x → IsKey x
+seen_key field system e x h = by (satellite_of_id system e.satellite) (signal_of_id system e.signal) (satellite_listed system e.satellite) (listed_of system e.signal) h where
+  seen : Satellite → SignalAt → HeardCell
+  seen s g = observed (lock_by field e.lock) e s g
 
   key : (s : Satellite) (g : SignalAt) → (s.system ≡ system) × IsSatellite s → (g.system ≡ system) × IsSignal g → IsKey (seen s g)
   key s g a b = record { satellite = a.1; signal = b.1; same = b.0 ∙ sym a.0 }
@@ -65,14 +65,14 @@ seen_key is_msm7 system e x h = by (satellite_of_id system e.satellite) (signal_
   by (Some s) None a b h = absurd (grind (arith, h))
   by (Some s) (Some g) a b h = subst IsKey (some_same (seen s g) x h) (key s g (a s refl) (b g refl))
 
-all_seen : (is_msm7 : Bool) (system : System) (es : List Entry) → All IsKey (filter_map (seen_in is_msm7 system) es)
-all_seen is_msm7 system [] = All-nil IsKey
-all_seen is_msm7 system (e ∷ es) = by (seen_in is_msm7 system e) (seen_key is_msm7 system e) (all_seen is_msm7 system es) where
-  by : (o : Option Seen) → ((x : Seen) → o ≡ Some x → IsKey x) → All IsKey (filter_map (seen_in is_msm7 system) es) → All IsKey (cons_option o (filter_map (seen_in is_msm7 system) es))
+all_seen : (field : LockField) (system : System) (es : List Entry) → All IsKey (filter_map (seen_in field system) es)
+all_seen field system [] = All-nil IsKey
+all_seen field system (e ∷ es) = by (seen_in field system e) (seen_key field system e) (all_seen field system es) where
+  by : (o : Option HeardCell) → ((x : HeardCell) → o ≡ Some x → IsKey x) → All IsKey (filter_map (seen_in field system) es) → All IsKey (cons_option o (filter_map (seen_in field system) es))
   by None h rest = rest
-  by (Some x) h rest = All-cons IsKey x (filter_map (seen_in is_msm7 system) es) (h x refl) rest
+  by (Some x) h rest = All-cons IsKey x (filter_map (seen_in field system) es) (h x refl) rest
 
-all_passed : (p : Seen → Bool) (xs : List Seen) → All IsKey xs → All IsKey (filter p xs)
+all_passed : (p : HeardCell → Bool) (xs : List HeardCell) → All IsKey xs → All IsKey (filter p xs)
 all_passed p [] h = All-nil IsKey
 all_passed p (x ∷ xs) h = by (p x) (all_passed p xs (All-tail IsKey x xs h)) where
   by : (b : Bool) → All IsKey (filter p xs) → All IsKey (cond b (x ∷ filter p xs) (filter p xs))
@@ -81,8 +81,8 @@ all_passed p (x ∷ xs) h = by (p x) (all_passed p xs (All-tail IsKey x xs h)) w
 
 all_heard : (m : Message) → All IsKey (heard m).cells
 all_heard (Station p) = All-nil IsKey
-all_heard (Msm4 m) = all_seen false (system_of m.is_galileo) (entries (Msm4 m))
-all_heard (Msm7 m) = all_seen true (system_of m.is_galileo) (entries (Msm7 m))
+all_heard (Msm4 m) = all_seen Df402 (system_of m.is_galileo) (entries (Msm4 m))
+all_heard (Msm7 m) = all_seen Df407 (system_of m.is_galileo) (entries (Msm7 m))
 all_heard (Other n set) = All-nil IsKey
 
 all_valued : (wanted : Option ℕ) (m : Heard) → All IsKey m.cells → All IsKey (valued wanted m)

@@ -1,14 +1,13 @@
 -- What the command `check` writes. `r` and `w` are what the reader and the writer held before, and w' what the writer holds after.
-use Rattle.std.specs.Prelude.{◌≡◌, ◌≤◌, ◌⊎◌, ℕ, List, [], ◌∷◌, length, codes, decimal, Option, Result, Ok, Err, IfSome, ⊤}
+use Rattle.std.specs.Prelude.{◌≡◌, ◌≤◌, ℕ, List, [], ◌∷◌, length, codes, decimal, Option, Result, Ok, Err, IfSome, ⊤}
 use Rattle.std.specs.List.{sum_by}
 use Rattle.std.specs.Io.KnownBytes.{Appends}
-use Rattle.rtcm_bits.specs.Device.{AppendsPrefix}
+use Rattle.rtcm_bits.specs.Device.{AppendsPrefix, Device}
 use Rattle.rinex_file.specs.Value.{FileValue}
 use Rattle.rinex_file.specs.FileValues.{IsFileValue}
 use Rattle.rinex_file.specs.File.{file_text, file_lines}
-use Rattle.rinex_file.specs.Exact.{most_lines}
+use Rattle.rinex_file.specs.Exact.{ExplainsFault, most_lines}
 use Rattle.rinex_file.specs.Course.{events_in}
-use Rattle.rinex_file.specs.declared.read.fault.ReadFault.{ReadFault}
 use Rattle.rinex_file.specs.declared.read.fault.ReadFault.TheVariants as reading
 use Rattle.rtcm2rinex.specs.declared.fault.ToolFault.{ToolFault}
 use Rattle.rtcm2rinex.specs.declared.fault.ToolFault.TheVariants as faults
@@ -34,9 +33,11 @@ ChecksFile r w w' = IsFileWith (Appends w w') r
 abbrev pub ChecksPart : (r w w' : Option (List ℕ)) → Type 0
 ChecksPart r w w' = IsFileWith (AppendsPrefix w w') r
 
--- what may come in place of the counts: a fault of reading, or the writer's
-abbrev pub IsCheckFault : ToolFault → Type 0
-IsCheckFault fault = ((e : ReadFault) × (fault ≡ faults.Check e)) ⊎ (fault ≡ faults.Write)
+-- Why a file isn't accepted, and that nothing was written; or that the writer failed.
+abbrev pub StopsChecking : {R W : Type 0} → (R → Option (List ℕ)) → (r r' : Device R) → (W → Option (List ℕ)) → (w w' : Device W) → ToolFault → Type 0
+StopsChecking left r r' held w w' (faults.Check e) = IfSome (left r.inner) (λ input. ExplainsFault input e) × (w' ≡ w)
+StopsChecking left r r' held w w' faults.Write = ChecksPart (left r.inner) (held w.inner) (held w'.inner)
+StopsChecking left r r' held w w' other = ⊥
 
 -- what may come of the text of this file value: its counts, unless memory or a device fails
 abbrev pub IsCheckedOr : FileValue → Result ⊤ ToolFault → (w w' : Option (List ℕ)) → Type 0

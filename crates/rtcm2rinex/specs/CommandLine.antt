@@ -147,20 +147,29 @@ abbrev pub AddsCommand : {E : Type 0} → (old below new : Result Command E) →
 AddsCommand old below new =
     IfOk new (λ made. (command sub : Command) × (old ≡ Ok command) × (below ≡ Ok sub) × AddsSubcommand command sub made)
 
+-- the names of the program's commands
+abbrev pub IsCommand : Text → Type 0
+IsCommand name =
+    (name ≡ codes "frames") ⊎ (name ≡ codes "show") ⊎ (name ≡ codes "signals") ⊎ (name ≡ codes "convert") ⊎ (name ≡ codes "check")
+
 -- ---- what words ask for, by clap's own definitions
 
--- the command of this name, with these options
+-- the words have no fault, and ask for the command of this name with these options
 abbrev pub Asks : List Text → Text → List Row → Type 0
-Asks words name options = (a : App) × IsProgram a × (subcommand_of a words ≡ Some (name, options))
+Asks words name options = (a : App) × IsProgram a × (fault_of a words ≡ []) × (subcommand_of a words ≡ Some (name, options))
 
--- with an error of this kind: the words are refused, or ask for a text
+-- with an error of this kind: the words have a fault, or ask for a text
 abbrev pub IsAnswered : List Text → ErrorKind → Type 0
 IsAnswered words k = (a : App) × IsProgram a × IsAmong k (fault_of a words)
 
--- what was found in the words is what they ask for
+-- a command of the program was found in the words, and they ask for it
 abbrev pub IsFoundIn : List Text → ArgMatches → Type 0
-IsFoundIn words m = (a : App) × IsProgram a × (subcommand_rows_of m ≡ subcommand_of a words)
+IsFoundIn words m = (name : Text) × (options : List Row) × IsCommand name × (subcommand_rows_of m ≡ Some (name, options)) × Asks words name options
 
 -- why nothing was found in them: memory ran out, or the words themselves
 abbrev pub RefusesWords : List Text → Error → Type 0
 RefusesWords words e = (kind_of e ≡ kind.OutOfMemory) ⊎ IsAnswered words (kind_of e)
+
+-- an error that isn't the version's text answers them
+abbrev pub AreRefused : List Text → Type 0
+AreRefused words = (k : ErrorKind) × IsAnswered words k × (k ≡ kind.DisplayVersion → ⊥)

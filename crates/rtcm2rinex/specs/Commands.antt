@@ -1,41 +1,80 @@
--- What the program's commands are for. The reader had r left and now has r', and the writer held w and now holds w'.
-use Rattle.std.specs.Prelude.{◌≡◌, ◌⊎◌, ℕ, List, Option, Some, codes}
-use Rattle.std.specs.Io.KnownBytes.{Appends}
+-- What the program has done when it ends: the reader was r and is r', the writer was w and is w'.
+use Rattle.std.specs.Prelude.{◌≡◌, ◌⊎◌, ◌^◌, ℕ, List, Option, Some, Result, Ok, Err, codes}
+use Rattle.clap.specs.Simple.{subcommand_rows_of}
 use Rattle.clap.specs.Walk.{Row, Text}
 use Rattle.clap.specs.declared.error.kind.ErrorKind.TheVariants.{DisplayVersion}
+use Rattle.clap.specs.declared.error.kind.ErrorKind.{ErrorKind}
+use Rattle.clap.specs.declared.parser.matches.ArgMatches.{ArgMatches}
 use Rattle.rtcm_bits.specs.Device.{Device}
+use Rattle.rtcm_convert.specs.Faults.{IsUntouched}
 use Rattle.rtcm_convert.specs.Moves.{Moves}
 use Rattle.rtcm2rinex.specs.FrameLines.{frame_lines}
 use Rattle.rtcm2rinex.specs.ShowLines.{show_lines}
-use Rattle.rtcm2rinex.specs.Listing.{ListsAll}
-use Rattle.rtcm2rinex.specs.Converting.{IsConverted}
-use Rattle.rtcm2rinex.specs.Checking.{ChecksFile}
-use Rattle.rtcm2rinex.specs.Telling.{HasToldSignals}
-use Rattle.rtcm2rinex.specs.CommandLine.{Asks, IsAnswered}
-use Rattle.rtcm2rinex.specs.declared.version.TheConstants.{VERSION}
+use Rattle.rtcm2rinex.specs.Listing.{ListsAll, StopsListing}
+use Rattle.rtcm2rinex.specs.Converting.{IsConverted, StopsConverting}
+use Rattle.rtcm2rinex.specs.Checking.{ChecksFile, StopsChecking}
+use Rattle.rtcm2rinex.specs.Telling.{HasToldSignals, StopsTelling}
+use Rattle.rtcm2rinex.specs.CommandLine.{Asks, IsAnswered, IsCommand}
+use Rattle.rtcm2rinex.specs.Printing.{PrintsText, PrintsPart}
+use Rattle.rtcm2rinex.specs.Devices.{AreFine, Ends, HaveFailedBy}
+use Rattle.rtcm2rinex.specs.declared.fault.ToolFault.{ToolFault}
+use Rattle.rtcm2rinex.specs.declared.cli.TheConstants.{VERSION}
 
 -- The command of this name did what it is for, with these options: the stream was read to its end and listed, its signals were told, or its
 -- file was written and has an epoch; or a file was read back.
-abbrev pub HasDone : Text → List Row → (r r' w w' : Option (List ℕ)) → Type 0
-HasDone name options r r' w w' =
-    ((name ≡ codes "frames") × ListsAll frame_lines r r' w w')
-    ⊎ ((name ≡ codes "show") × ListsAll show_lines r r' w w')
-    ⊎ ((name ≡ codes "signals") × HasToldSignals options r r' w w')
-    ⊎ ((name ≡ codes "convert") × IsConverted options r w w')
-    ⊎ ((name ≡ codes "check") × ChecksFile r w w')
+abbrev pub HasDone : {R W : Type 0} → (R → Option (List ℕ)) → (r r' : Device R) → (W → Option (List ℕ)) → (w w' : Device W) → Text → List Row → Type 0
+HasDone left r r' held w w' name options =
+    ((name ≡ codes "frames") × Moves left r r' held w w' (ListsAll frame_lines))
+    ⊎ ((name ≡ codes "show") × Moves left r r' held w w' (ListsAll show_lines))
+    ⊎ ((name ≡ codes "signals") × Moves left r r' held w w' (HasToldSignals options))
+    ⊎ ((name ≡ codes "convert") × IsConverted options (left r.inner) (held w.inner) (held w'.inner))
+    ⊎ ((name ≡ codes "check") × ChecksFile (left r.inner) (held w.inner) (held w'.inner))
 
--- the command that was found, with the options that were
-abbrev pub HasDoneOf : Option (Text × List Row) → (r r' w w' : Option (List ℕ)) → Type 0
-HasDoneOf found r r' w w' = (name : Text) × (options : List Row) × (found ≡ Some (name, options)) × HasDone name options r r' w w'
+-- a fault stopped it
+abbrev pub HasStopped : {R W : Type 0} → (R → Option (List ℕ)) → (r r' : Device R) → (W → Option (List ℕ)) → (w w' : Device W) → Text → List Row → ToolFault → Type 0
+HasStopped left r r' held w w' name options fault =
+    ((name ≡ codes "frames") × StopsListing (2 ^ 48) frame_lines left r r' held w w' fault)
+    ⊎ ((name ≡ codes "show") × StopsListing (2 ^ 48) show_lines left r r' held w w' fault)
+    ⊎ ((name ≡ codes "signals") × StopsTelling options left r r' held w w' fault)
+    ⊎ ((name ≡ codes "convert") × StopsConverting options left r r' held w w' fault)
+    ⊎ ((name ≡ codes "check") × StopsChecking left r r' held w w' fault)
 
--- the command that the words ask for, with the options that they give
-abbrev pub HasDoneAsked : List Text → (r r' w w' : Option (List ℕ)) → Type 0
-HasDoneAsked words r r' w w' = (name : Text) × (options : List Row) × Asks words name options × HasDone name options r r' w w'
+-- how it ended
+abbrev pub EndsCommand : {A R W : Type 0} → Result A ToolFault → (R → Option (List ℕ)) → (r r' : Device R) → (W → Option (List ℕ)) → (w w' : Device W) → Text → List Row → Type 0
+EndsCommand result left r r' held w w' name options =
+    Ends result r r' w w' (λ _. HasDone left r r' held w w' name options) (HasStopped left r r' held w w' name options)
 
--- The words ask for the version. Nothing was read, from r to r', and the version was written.
-abbrev pub HasToldVersion : {R : Type 0} → List Text → (r r' : Device R) → (w w' : Option (List ℕ)) → Type 0
-HasToldVersion words r r' w w' = IsAnswered words DisplayVersion × (r' ≡ r) × Appends w w' VERSION.now
+-- a command of the program was found in words
+abbrev pub HasCommand : ArgMatches → Type 0
+HasCommand m = (name : Text) × (options : List Row) × IsCommand name × (subcommand_rows_of m ≡ Some (name, options))
 
--- What the words ask for was done: a command, or to tell the version.
+-- how the command that was found ended
+abbrev pub EndsFound : {A R W : Type 0} → Result A ToolFault → (R → Option (List ℕ)) → (r r' : Device R) → (W → Option (List ℕ)) → (w w' : Device W)
+    → Option (Text × List Row) → Type 0
+EndsFound result left r r' held w w' found =
+    (name : Text) × (options : List Row) × (found ≡ Some (name, options)) × EndsCommand result left r r' held w w' name options
+
+-- ---- the exit status
+
+-- The command that the words ask for did what it is for, with the options that they give; or they ask for the version, and it was written.
 abbrev pub HasServed : {R W : Type 0} → (R → Option (List ℕ)) → (r r' : Device R) → (W → Option (List ℕ)) → (w w' : Device W) → List Text → Type 0
-HasServed left r r' held w w' words = Moves left r r' held w w' (HasDoneAsked words) ⊎ HasToldVersion words r r' (held w.inner) (held w'.inner)
+HasServed left r r' held w w' words =
+    ((name : Text) × (options : List Row) × Asks words name options × AreFine r r' w w' × HasDone left r r' held w w' name options)
+    ⊎ (IsAnswered words DisplayVersion × (r' ≡ r) × PrintsText held w w' VERSION.now)
+
+-- A fault stopped the command that the words ask for, or the version; or memory ran out before anything was read or written.
+abbrev pub HasFailedToServe : {R W : Type 0} → (R → Option (List ℕ)) → (r r' : Device R) → (W → Option (List ℕ)) → (w w' : Device W) → List Text → Type 0
+HasFailedToServe left r r' held w w' words =
+    ((name : Text) × (options : List Row) × (fault : ToolFault) × Asks words name options × HaveFailedBy fault r r' w w'
+    × HasStopped left r r' held w w' name options fault)
+    ⊎ (IsAnswered words DisplayVersion × (r' ≡ r) × PrintsPart held w w' VERSION.now)
+    ⊎ IsUntouched r r' w w'
+
+-- Nothing was written for want of memory, or the version's text in part.
+abbrev pub StopsAnswering : {W : Type 0} → ErrorKind → (W → Option (List ℕ)) → (w w' : Device W) → Type 0
+StopsAnswering k held w w' = (w' ≡ w) ⊎ ((k ≡ DisplayVersion) × PrintsPart held w w' VERSION.now)
+
+-- good, or a fault
+abbrev pub status_of : {A : Type 0} → Result A ToolFault → ℕ
+status_of (Ok x) = 0
+status_of (Err fault) = 1

@@ -1,36 +1,44 @@
 -- What the command `convert` has read and written.
-use Rattle.std.specs.Prelude.{◌≡◌, ◌⊎◌, ℕ, List, Option, IfSome}
+use Rattle.std.specs.Prelude.{◌≡◌, ◌⊎◌, ◌<◌, true, ℕ, List, length, Option, IfSome}
 use Rattle.rtcm_convert.specs.SetupValues.{IsBad}
-use Rattle.rtcm_convert.specs.Made.{IsMade, IsMadeEmpty}
+use Rattle.rtcm_convert.specs.Made.{IsMade, IsMadeEmpty, IsMadeToLimit, IsMadeSoFar, IsMadeInPart, IsReportOf}
+use Rattle.rtcm_convert.specs.declared.report.Report.{Report}
+use Rattle.rtcm_convert.specs.Faults.{IsUntouched}
+use Rattle.rtcm_convert.specs.Moves.{Moves}
+use Rattle.rtcm_bits.specs.Device.{Device}
 use Rattle.rtcm_convert.specs.declared.setup.Setup.{Setup}
-use Rattle.rtcm_convert.specs.declared.fault.Fault.{Fault}
 use Rattle.rtcm_convert.specs.declared.fault.Fault.TheVariants as convert
 use Rattle.clap.specs.Walk.{Row}
 use Rattle.rtcm2rinex.specs.declared.fault.ToolFault.{ToolFault}
 use Rattle.rtcm2rinex.specs.declared.fault.ToolFault.TheVariants as faults
-use Rattle.rtcm2rinex.specs.SetupTold.{IsSetupOf}
+use Rattle.rtcm2rinex.specs.SetupTold.{IsSetupOf, IsSetupRefused}
 
 -- Told what these options say, which isn't out of range, a conversion read all that the reader had, and wrote the file of its frames,
 -- which has an epoch.
 abbrev pub IsConverted : List Row → (r w w' : Option (List ℕ)) → Type 0
 IsConverted options r w w' = (x : Setup) × IsSetupOf options x × (IsBad x → ⊥) × IfSome r (IsMade x w w')
 
+-- the file of these bytes was written, and that is its report
+abbrev pub IsMadeWith : Setup → Report → (w w' : Option (List ℕ)) → List ℕ → Type 0
+IsMadeWith x report w w' bytes = IsMade x w w' bytes × IsReportOf x report bytes
+
 -- No epoch stands in the file of what the reader had left, and that file was written: it is empty.
 abbrev pub MakesNoEpoch : Setup → (r r' w w' : Option (List ℕ)) → Type 0
 MakesNoEpoch x r r' w w' = IfSome r (IsMadeEmpty x w w')
 
--- how a fault of a conversion is told: one of a device as that of any command
-abbrev pub fault_told : Fault → ToolFault
-fault_told convert.Read = faults.Read
-fault_told convert.Write = faults.Write
-fault_told refusal = faults.Convert refusal
+-- What a conversion with this setup has read and written at a fault: at `Read` the file of the epochs that the bytes before close, at
+-- `Write` a part of the file, and after the limit the file of the epochs that the bytes up to it close.
+abbrev pub StopsConversion : {R W : Type 0} → Setup → (R → Option (List ℕ)) → (r r' : Device R) → (W → Option (List ℕ)) → (w w' : Device W) → ToolFault → Type 0
+StopsConversion x left r r' held w w' faults.Read = Moves left r r' held w w' (IsMadeSoFar x) × (w.is_sent ≡ true → w'.is_sent ≡ true)
+StopsConversion x left r r' held w w' faults.Write = Moves left r r' held w w' (IsMadeInPart x)
+StopsConversion x left r r' held w w' (faults.Convert convert.TooLong) =
+    IfSome (left r.inner) (λ b. x.limit < length b) × Moves left r r' held w w' (IsMadeToLimit x) × (w'.is_sent ≡ true)
+StopsConversion x left r r' held w w' (faults.Convert convert.NoEpoch) = Moves left r r' held w w' (MakesNoEpoch x) × (w'.is_sent ≡ true)
+StopsConversion x left r r' held w w' (faults.Convert convert.BadSetup) = IsBad x × IsUntouched r r' w w'
+StopsConversion x left r r' held w w' (faults.Convert convert.Memory) = IsUntouched r r' w w'
+StopsConversion x left r r' held w w' other = ⊥
 
--- the faults of a conversion
-abbrev pub IsConvertFault : ToolFault → Type 0
-IsConvertFault fault =
-    (fault ≡ faults.Read) ⊎ (fault ≡ faults.Write) ⊎ (fault ≡ faults.Convert convert.Memory) ⊎ (fault ≡ faults.Convert convert.BadSetup)
-    ⊎ (fault ≡ faults.Convert convert.TooLong) ⊎ (fault ≡ faults.Convert convert.NoEpoch)
-
--- nothing can be converted with what it was told, or without memory
-abbrev pub IsSetupRefusal : ToolFault → Type 0
-IsSetupRefusal fault = (fault ≡ faults.Convert convert.BadSetup) ⊎ (fault ≡ faults.Convert convert.Memory)
+-- A text or the plan of these options is refused, and nothing was read or written; or the conversion that they ask for was stopped.
+abbrev pub StopsConverting : {R W : Type 0} → List Row → (R → Option (List ℕ)) → (r r' : Device R) → (W → Option (List ℕ)) → (w w' : Device W) → ToolFault → Type 0
+StopsConverting options left r r' held w w' fault =
+    (IsSetupRefused options fault × IsUntouched r r' w w') ⊎ ((x : Setup) × IsSetupOf options x × StopsConversion x left r r' held w w' fault)

@@ -1,23 +1,52 @@
--- What an answer says of the devices of a command.
-use Rattle.std.specs.Prelude.{◌≡◌, ℕ, Result, OnOk, IfErr}
+-- What the result of a command says of its devices, which were r and w before and are r' and w' after it.
+use Rattle.std.specs.Prelude.{◌≡◌, ℕ, true, Result, Ok, Err}
 use Rattle.rtcm_bits.specs.Device.{Device, HasFailed}
+use Rattle.rtcm_scan.specs.declared.feed.StreamFault.{StreamFault}
+use Rattle.rtcm_scan.specs.declared.feed.StreamFault.TheVariants as stream
+use Rattle.rtcm_scan.specs.declared.framer.ScanFault.TheVariants as scan
+use Rattle.rtcm_convert.specs.declared.fault.Fault.{Fault}
+use Rattle.rtcm_convert.specs.declared.fault.Fault.TheVariants as convert
+use Rattle.rinex_file.specs.declared.read.fault.ReadFault.TheVariants as reading
 use Rattle.rtcm2rinex.specs.declared.fault.ToolFault.{ToolFault}
 use Rattle.rtcm2rinex.specs.declared.fault.ToolFault.TheVariants as faults
 
--- the failures of a reader before and after a fault: at `Read` one was counted, and at any other none
+-- a fault of a conversion: one of a device is that of any command
+abbrev pub fault_told : Fault → ToolFault
+fault_told convert.Read = faults.Read
+fault_told convert.Write = faults.Write
+fault_told refusal = faults.Convert refusal
+
+-- a fault of a stream whose frames go to a device
+abbrev pub stream_fault : {F : Type 0} → StreamFault F → ToolFault
+stream_fault stream.Read = faults.Read
+stream_fault stream.TooLong = faults.Scan scan.TooLong
+stream_fault (stream.Sink failed) = faults.Write
+
+-- the failures of a reader before and after a fault: one more at `Read`, and the same number at any other
 abbrev pub ReadFailures : ToolFault → ℕ → ℕ → Type 0
 ReadFailures faults.Read before after = HasFailed before after
+ReadFailures (faults.Check reading.Read) before after = HasFailed before after
 ReadFailures _ before after = after ≡ before
 
--- the failures of a writer before and after a fault: at `Write` one was counted, and at any other none
+-- a reader before and after
+abbrev pub CountsReader : {T A : Type 0} → Result A ToolFault → Device T → Device T → Type 0
+CountsReader (Ok x) r r' = r'.failures ≡ r.failures
+CountsReader (Err fault) r r' = ReadFailures fault r.failures r'.failures
+
+-- the failures of a writer before and after a fault: one more at `Write`, and the same number at any other
 abbrev pub WriteFailures : ToolFault → ℕ → ℕ → Type 0
 WriteFailures faults.Write before after = HasFailed before after
 WriteFailures _ before after = after ≡ before
 
--- `Read` is answered only where a failure of the reader was counted, and anything else only where none was
-abbrev pub CountsReadFault : {T A : Type 0} → Result A ToolFault → Device T → Device T → Type 0
-CountsReadFault result old new = IfErr result (λ fault. ReadFailures fault old.failures new.failures) × OnOk result (new.failures ≡ old.failures)
+-- no device failed, and nothing waits in the writer
+abbrev pub AreFine : {R W : Type 0} → (r r' : Device R) → (w w' : Device W) → Type 0
+AreFine r r' w w' = (r'.failures ≡ r.failures) × (w'.failures ≡ w.failures) × (w'.is_sent ≡ true)
 
--- `Write` is answered only where a failure of the writer was counted, and anything else only where none was
-abbrev pub CountsWriteFault : {T A : Type 0} → Result A ToolFault → Device T → Device T → Type 0
-CountsWriteFault result old new = IfErr result (λ fault. WriteFailures fault old.failures new.failures) × OnOk result (new.failures ≡ old.failures)
+-- the device that the fault names failed, and no other
+abbrev pub HaveFailedBy : {R W : Type 0} → ToolFault → (r r' : Device R) → (w w' : Device W) → Type 0
+HaveFailedBy fault r r' w w' = ReadFailures fault r.failures r'.failures × WriteFailures fault w.failures w'.failures
+
+-- How a command ended: with Done of its value, if no device failed and nothing waits in the writer, or by a fault with Stopped of it.
+abbrev pub Ends : {A R W : Type 0} → Result A ToolFault → (r r' : Device R) → (w w' : Device W) → (A → Type 0) → (ToolFault → Type 0) → Type 0
+Ends (Ok x) r r' w w' Done Stopped = AreFine r r' w w' × Done x
+Ends (Err fault) r r' w w' Done Stopped = HaveFailedBy fault r r' w w' × Stopped fault

@@ -2,9 +2,7 @@ pub mod Lines
 pub mod Metres
 pub mod FrameLines
 pub mod ShowLines
-pub mod Kinds
 pub mod Listing
-pub mod Listed
 pub mod SetupTold
 pub mod CommandLine
 pub mod Devices
@@ -12,7 +10,8 @@ pub mod Converting
 pub mod ReadBack
 pub mod Checking
 pub mod Signals
-pub mod Survey
+pub mod Counting
 pub mod Telling
+pub mod Printing
 pub mod Commands
 pub mod SignalLaws

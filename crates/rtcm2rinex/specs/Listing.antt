@@ -1,12 +1,30 @@
 -- What a command that lists a stream's frames has read and written.
-use Rattle.std.specs.Prelude.{◌≡◌, ◌⊎◌, ◌<◌, ℕ, List, take, length, Option}
+use Rattle.std.specs.Prelude.{◌≡◌, ◌<◌, ◌≤◌, ℕ, Bool, true, List, ◌++◌, take, length, Option}
+use Rattle.std.specs.List.{flat_map}
 use Rattle.std.specs.Io.KnownBytes.{Appends, Consumes, IsAtEnd}
-use Rattle.rtcm_bits.specs.Device.{AppendsPrefix}
-use Rattle.rtcm_scan.specs.declared.framer.ScanFault.TheVariants as scan
-use Rattle.rtcm2rinex.specs.declared.fault.ToolFault.{ToolFault}
-use Rattle.rtcm2rinex.specs.declared.fault.ToolFault.TheVariants as faults
+use Rattle.rtcm_bits.specs.Device.{Device, HasFailed}
 use Rattle.rtcm_scan.specs.Frames.{Framed, frames_of}
 use Rattle.rtcm_scan.specs.Decided.{decided_frames}
+use Rattle.rtcm_scan.specs.Known.{known_frames}
+use Rattle.rtcm_scan.specs.declared.framer.ScanFault.TheVariants as scan
+use Rattle.rtcm_convert.specs.Broken.{IsBetween}
+use Rattle.rtcm_convert.specs.Faults.{IsUntouched}
+use Rattle.rtcm_convert.specs.Moves.{Moves}
+use Rattle.rtcm2rinex.specs.declared.fault.ToolFault.{ToolFault}
+use Rattle.rtcm2rinex.specs.declared.fault.ToolFault.TheVariants as faults
+use Rattle.rtcm2rinex.specs.declared.listing.Listing.{Listing}
+use Rattle.rtcm2rinex.specs.declared.listing.Listing.TheVariants.{Frames, Messages}
+use Rattle.rtcm2rinex.specs.FrameLines.{frame_line}
+use Rattle.rtcm2rinex.specs.ShowLines.{show_line}
+
+-- the line of a frame
+abbrev pub listing_line : Listing → Framed → List ℕ
+listing_line Frames f = frame_line f
+listing_line Messages f = show_line f
+
+-- those of frames, one after the other
+abbrev pub listing_lines : Listing → List Framed → List ℕ
+listing_lines listing fs = flat_map (listing_line listing) fs
 
 -- The reader had r left and now has r', and the writer held w and now holds w'. `lines` are those of a list of frames.
 
@@ -22,29 +40,34 @@ ListsDecided lines r r' w w' = (b : List ℕ) × Consumes r r' b × Appends w w'
 abbrev pub ListsToLimit : ℕ → (List Framed → List ℕ) → (r r' w w' : Option (List ℕ)) → Type 0
 ListsToLimit limit lines r r' w w' = (b : List ℕ) × Consumes r r' b × (limit < length b) × Appends w w' (lines (decided_frames (take limit b)))
 
--- some bytes were read, and a prefix of the lines of the frames that they decide, or that the whole stream has, was written
-abbrev pub ListsPart : (List Framed → List ℕ) → (r r' w w' : Option (List ℕ)) → Type 0
-ListsPart lines r r' w w' = (b : List ℕ) × Consumes r r' b
-    × (AppendsPrefix w w' (lines (decided_frames b)) ⊎ (IsAtEnd r' × AppendsPrefix w w' (lines (frames_of b))))
+-- The bytes read end in a piece of at most 65,536. At least the lines of the frames that the bytes before it decide were written, and at most
+-- those of the frames that all of them decide or, at the end of the stream, have.
+pub record ListsPart (lines : List Framed → List ℕ) (r r' w w' : Option (List ℕ)) : Type 0 where
+  pub front : List ℕ
+  pub piece : List ℕ
+  pub ended : Bool
+  pub consumes : Consumes r r' (front ++ piece)
+  pub few : length piece ≤ 65536
+  pub at_end : ended ≡ true → IsAtEnd r'
+  pub between : IsBetween w w' (lines (decided_frames front)) (lines (known_frames ended (front ++ piece)))
 
--- more bytes came than the limit allows
-abbrev pub too_long : ToolFault
-too_long = faults.Scan scan.TooLong
+-- What a listing of at most so many bytes that stopped by a fault has read and written. Nothing waits but at `Write`.
+abbrev pub StopsListing : {R W : Type 0} → ℕ → (List Framed → List ℕ) → (R → Option (List ℕ)) → (r r' : Device R) → (W → Option (List ℕ)) → (w w' : Device W) → ToolFault → Type 0
+StopsListing limit lines left r r' held w w' faults.Read = Moves left r r' held w w' (ListsDecided lines) × (w'.is_sent ≡ true)
+StopsListing limit lines left r r' held w w' faults.Write = Moves left r r' held w w' (ListsPart lines)
+StopsListing limit lines left r r' held w w' (faults.Scan scan.TooLong) = Moves left r r' held w w' (ListsToLimit limit lines) × (w'.is_sent ≡ true)
+StopsListing limit lines left r r' held w w' (faults.Scan scan.Memory) = IsUntouched r r' w w'
+StopsListing limit lines left r r' held w w' other = ⊥
 
--- there is no memory for the bytes that aren't decided
-abbrev pub no_memory : ToolFault
-no_memory = faults.Scan scan.Memory
+-- ---- a listing as a consumer of frames
 
--- the faults while a stream is read and listed, and those of such a command
-abbrev pub IsListingFault : ToolFault → Type 0
-IsListingFault fault = (fault ≡ faults.Read) ⊎ (fault ≡ faults.Write) ⊎ (fault ≡ too_long)
+-- From the device o0, after the frames ps, to o, after fs: the lines of the frames between were written, and no call failed.
+pub record Lists {W : Type 0} (held : W → Option (List ℕ)) (k0 : Listing) (o0 : Device W) (ps : List Framed) (k : Listing) (o : Device W) (fs : List Framed) : Type 0 where
+  pub same : k ≡ k0
+  pub out : (w : Option (List ℕ)) → Appends w (held o0.inner) (listing_lines k0 ps) → Appends w (held o.inner) (listing_lines k0 fs)
+  pub fine : o.failures ≡ o0.failures
 
-abbrev pub IsListFault : ToolFault → Type 0
-IsListFault fault = (fault ≡ faults.Read) ⊎ (fault ≡ faults.Write) ⊎ (fault ≡ too_long) ⊎ (fault ≡ no_memory)
-
--- the faults while a stream is surveyed, and those of a survey
-abbrev pub IsSurveyingFault : ToolFault → Type 0
-IsSurveyingFault fault = (fault ≡ faults.Read) ⊎ (fault ≡ too_long)
-
-abbrev pub IsSurveyFault : ToolFault → Type 0
-IsSurveyFault fault = (fault ≡ faults.Read) ⊎ (fault ≡ too_long) ⊎ (fault ≡ no_memory)
+-- One call failed: the lines of fs were written, and a part of those that gs has beside.
+pub record ListsUpTo {W : Type 0} (held : W → Option (List ℕ)) (k0 : Listing) (o0 : Device W) (ps : List Framed) (k : Listing) (o : Device W) (fs gs : List Framed) : Type 0 where
+  pub out : (w : Option (List ℕ)) → Appends w (held o0.inner) (listing_lines k0 ps) → IsBetween w (held o.inner) (listing_lines k0 fs) (listing_lines k0 gs)
+  pub failed : HasFailed o0.failures o.failures

@@ -1,5 +1,5 @@
 -- What the options of `convert` tell a conversion.
-use Rattle.std.specs.Prelude.{◌≡◌, ◌<◌, ◌^◌, ℕ, List, [], Option, Some, None, Ok, Err, codes, unwrap_or, not, ◌⊎◌}
+use Rattle.std.specs.Prelude.{◌≡◌, ◌<◌, ◌^◌, ℕ, List, [], ◌∷◌, map, Option, Some, None, Ok, Err, codes, unwrap_or, not, ◌⊎◌}
 use Rattle.std.specs.Str.{bytes_eq}
 use Rattle.std.specs.Str.Parse.{IsNumeral, digits_value, without_leading_plus}
 use Rattle.clap.specs.Walk.{Row, first_of, one_of, rows_of}
@@ -23,19 +23,10 @@ text_told options name = unwrap_or (first_of name options) []
 
 -- the texts of the header, each by the option of its name
 abbrev pub texts_told : List Row → HeaderLists
-texts_told options = record {
-  run_by = text_told options (codes "run-by");
-  date = text_told options (codes "date");
-  marker = text_told options (codes "marker");
-  marker_type = text_told options (codes "marker-type");
-  observer = text_told options (codes "observer");
-  agency = text_told options (codes "agency");
-  rec_number = text_told options (codes "rec-number");
-  rec_type = text_told options (codes "rec-type");
-  rec_version = text_told options (codes "rec-version");
-  ant_number = text_told options (codes "ant-number");
-  ant_type = text_told options (codes "ant-type");
-}
+texts_told options =
+    map (text_told options)
+    (codes "run-by" ∷ codes "date" ∷ codes "marker" ∷ codes "marker-type" ∷ codes "observer" ∷ codes "agency"
+    ∷ codes "rec-number" ∷ codes "rec-type" ∷ codes "rec-version" ∷ codes "ant-number" ∷ codes "ant-type" ∷ [])
 
 -- a text spells a number of so many bits
 abbrev pub SpellsNumber : ℕ → List ℕ → Type 0

@@ -8,9 +8,11 @@ ghost use Rattle.rtcm2rinex.specs.CommandLine as line;
 use crate::commands::{COMMANDS, CommandRow, OptionRow, Reading};
 use crate::help;
 use crate::help::Help;
-use crate::version::VERSION;
 use clap::{Arg, ArgAction, ArgMatches, Command, Error, value_parser};
 use std::alloc::{AllocError, Global};
+
+/// The name, the version, and the kit that it is proved and built with, as `rt version` prints it.
+pub const VERSION: &str = "rtcm2rinex 1.1.0 (rattle-kit-13b logic dac8208d650f15bf)\n";
 
 /// What the words ask for, the first of which is the program's name.
 pub fn parse<'a>(alloc: Global, words: &'a [&'a str]) -> Result<ArgMatches<'a>, Error>

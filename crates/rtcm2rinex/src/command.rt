@@ -1,30 +1,26 @@
-//! The whole program, over a reader, a writer and a fault writer.
-ghost use Rattle.std.specs.Prelude.{◌≡◌, ◌≤◌};
-ghost use Rattle.std.specs.Io.KnownBytes.{Appends};
-ghost use Rattle.clap.specs.Walk.{texts};
+//! The whole program, over a reader, a writer and a writer for faults.
+ghost use Rattle.std.specs.Prelude.{◌≡◌, ◌≢◌, ◌≤◌};
 ghost use Rattle.clap.specs.Simple.{subcommand_rows_of};
+ghost use Rattle.clap.specs.Walk.{texts};
+ghost use Rattle.rtcm_convert.specs.Faults.{IsUntouched};
 ghost use Rattle.clap.specs.Values.{kind_of};
-ghost use Rattle.clap.specs.declared.error.kind.ErrorKind.TheVariants.{DisplayVersion};
-ghost use Rattle.rtcm2rinex.specs.FrameLines.{frame_lines};
-ghost use Rattle.rtcm2rinex.specs.ShowLines.{show_lines};
-ghost use Rattle.rtcm2rinex.specs.Listing.{ListsAll};
-ghost use Rattle.rtcm2rinex.specs.Converting.{IsConverted};
-ghost use Rattle.rtcm2rinex.specs.Checking.{ChecksFile};
-ghost use Rattle.rtcm2rinex.specs.Telling.{HasToldSignals};
+ghost use Rattle.clap.specs.declared.error.kind.ErrorKind.TheVariants.{DisplayVersion, OutOfMemory};
+ghost use Rattle.rtcm2rinex.specs.CommandLine.{AreRefused, IsCommand};
+ghost use Rattle.rtcm2rinex.specs.Commands.{EndsCommand, EndsFound, HasCommand, HasFailedToServe, HasServed, StopsAnswering, status_of};
+ghost use Rattle.rtcm2rinex.specs.Printing.{PrintsText};
+ghost use Rattle.rtcm2rinex.specs.declared.cli.TheConstants.{VERSION};
+ghost use Rattle.rtcm2rinex.specs.Converting.{IsConverted, StopsConverting};
+ghost use Rattle.rtcm2rinex.specs.Devices.{Ends};
 ghost use Rattle.rtcm2rinex.specs.SetupTold.{options_of};
-ghost use Rattle.rtcm2rinex.specs.Commands.{HasDone, HasDoneOf, HasServed};
-ghost use Rattle.rtcm_convert.specs.Moves.{Moves};
-ghost use Rattle.rtcm2rinex.specs.declared.version.TheConstants.{VERSION};
 
-use crate::asked::{form_of, station_of};
 use crate::check::run_check;
-use crate::cli::parse;
-use crate::convert::{run_convert, tell};
+use crate::cli::{VERSION, parse};
+use crate::convert::{print_report, run_convert};
 use crate::fault::ToolFault;
+use crate::line::print_text;
 use crate::listing::{run_frames, run_show};
-use crate::options::setup_of;
-use crate::signals::{run_signals, send};
-use crate::version::VERSION;
+use crate::options::{form_of, setup_of, station_of};
+use crate::signals::run_signals;
 use clap::ArgMatches;
 use clap::error::ErrorKind;
 use rtcm_bits::Counted;
@@ -32,8 +28,8 @@ use std::alloc::Global;
 use std::io;
 use std::io::{Read, Write};
 
-/// Runs the command that the words ask for, the first of which is the program's name, and answers
-/// the exit status: 0 is good, 1 a fault, and 2 a command line that isn't accepted or asks for
+/// Runs the command that the words ask for, the first of which is the program's name, and returns
+/// the exit status: 0 after success, 1 after a fault, and 2 if the words aren't accepted or ask for
 /// help.
 pub fn command<R: Read, W: Write, E: Write>(
     alloc: Global,
@@ -44,45 +40,44 @@ pub fn command<R: Read, W: Write, E: Write>(
 ) -> u8
     ensures status { result ≤ 2 }
 
-    // Good is only that the words ask for a command, by clap's own definitions under the program's
-    // options, and that it did what it is for with these options; or that they ask for the version,
-    // and it was written.
+    // By clap's own definitions under the program's options, the words ask for a command, and it did
+    // what it is for with these options; or they ask for the version, and it was written.
     ensures good { result ≡ 0 → HasServed R.remaining reader.old reader.new W.contents writer.old writer.new (texts words.now) }
 
-    // Of a command line that isn't accepted nothing comes but its text.
-    ensures unread { result ≡ 2 → reader.new ≡ reader.old }
-    ensures unwritten { result ≡ 2 → writer.new ≡ writer.old }
+    // They ask for a command that this fault stopped.
+    ensures stopped { result ≡ 1 → HasFailedToServe R.remaining reader.old reader.new W.contents writer.old writer.new (texts words.now) }
+
+    // They have a fault, or ask for help. Nothing was read, and nothing written to the output.
+    ensures refused { result ≡ 2 → AreRefused (texts words.now) × IsUntouched reader.old reader.new writer.old writer.new }
 {
     match parse(alloc, words) {
         Ok(matches) => {
-            let status = run_asked(alloc, &matches, reader, writer, faults);
+            let ended = run_found(alloc, &matches, reader, writer, faults);
             drop(matches);
-            status
+            exit_status(ended, faults)
         }
         Err(error) => answer(&error, writer, faults),
     }
 }
 
-/// Runs the command that was found in the words. Answers the exit status.
-fn run_asked<R: Read, W: Write, E: Write>(
+/// Runs the command that was found in the words.
+fn run_found<R: Read, W: Write, E: Write>(
     alloc: Global,
     matches: &ArgMatches,
     reader: &mut Counted<R>,
     writer: &mut Counted<W>,
     faults: &mut E,
-) -> u8
-    ensures status { result ≤ 2 }
-    ensures good { result ≡ 0 → Moves R.remaining reader.old reader.new W.contents writer.old writer.new (HasDoneOf (subcommand_rows_of matches.now)) }
-    ensures unread { result ≡ 2 → reader.new ≡ reader.old }
-    ensures unwritten { result ≡ 2 → writer.new ≡ writer.old }
+) -> Result<(), ToolFault>
+    requires { HasCommand matches.now }
+    ensures { EndsFound result R.remaining reader.old reader.new W.contents writer.old writer.new (subcommand_rows_of matches.now) }
 {
     match matches.subcommand() {
         Some((name, options)) => run(alloc, name, options, reader, writer, faults),
-        None => 2,
+        None => unreachable!(),
     }
 }
 
-/// Runs the command of a name. Answers the exit status.
+/// Runs the command of this name.
 fn run<R: Read, W: Write, E: Write>(
     alloc: Global,
     name: &str,
@@ -90,169 +85,85 @@ fn run<R: Read, W: Write, E: Write>(
     reader: &mut Counted<R>,
     writer: &mut Counted<W>,
     faults: &mut E,
-) -> u8
-    ensures status { result ≤ 2 }
-    ensures good { result ≡ 0 → Moves R.remaining reader.old reader.new W.contents writer.old writer.new (HasDone name.now (options_of options.now)) }
-    ensures unread { result ≡ 2 → reader.new ≡ reader.old }
-    ensures unwritten { result ≡ 2 → writer.new ≡ writer.old }
+) -> Result<(), ToolFault>
+    requires { IsCommand name.now }
+    ensures { EndsCommand result R.remaining reader.old reader.new W.contents writer.old writer.new name.now (options_of options.now) }
 {
     match name {
-        "frames" => frames(alloc, reader, writer, faults),
-        "show" => show(alloc, reader, writer, faults),
-        "signals" => signals(alloc, options, reader, writer, faults),
+        "frames" => run_frames(alloc, reader, writer),
+        "show" => run_show(alloc, reader, writer),
+        "signals" => run_signals(alloc, station_of(options), form_of(options), reader, writer),
         "convert" => convert(alloc, options, reader, writer, faults),
-        "check" => check(alloc, reader, writer, faults),
-        _ => 2,
+        "check" => run_check(alloc, reader, writer),
+        _ => unreachable!(),
     }
 }
 
-/// Lists the frames, or tells the fault. Answers the exit status.
-fn frames<R: Read, W: Write, E: Write>(
-    alloc: Global,
-    reader: &mut Counted<R>,
-    writer: &mut Counted<W>,
-    faults: &mut E,
-) -> u8
-    ensures status { result ≤ 1 }
-    ensures good { result ≡ 0 → Moves R.remaining reader.old reader.new W.contents writer.old writer.new (ListsAll frame_lines) }
-{
-    match run_frames(alloc, reader, writer) {
-        Ok(()) => 0,
-        Err(fault) => stop(fault, faults),
-    }
-}
-
-/// Shows the messages, or tells the fault. Answers the exit status.
-fn show<R: Read, W: Write, E: Write>(
-    alloc: Global,
-    reader: &mut Counted<R>,
-    writer: &mut Counted<W>,
-    faults: &mut E,
-) -> u8
-    ensures status { result ≤ 1 }
-    ensures good { result ≡ 0 → Moves R.remaining reader.old reader.new W.contents writer.old writer.new (ListsAll show_lines) }
-{
-    match run_show(alloc, reader, writer) {
-        Ok(()) => 0,
-        Err(fault) => stop(fault, faults),
-    }
-}
-
-/// Tells which signals the stream has, or the fault. Answers the exit status.
-fn signals<R: Read, W: Write, E: Write>(
-    alloc: Global,
-    options: &ArgMatches,
-    reader: &mut Counted<R>,
-    writer: &mut Counted<W>,
-    faults: &mut E,
-) -> u8
-    ensures status { result ≤ 1 }
-    ensures good { result ≡ 0 → Moves R.remaining reader.old reader.new W.contents writer.old writer.new (HasToldSignals (options_of options.now)) }
-{
-    match run_signals(alloc, station_of(options), form_of(options), reader, writer) {
-        Ok(()) => 0,
-        Err(fault) => stop(fault, faults),
-    }
-}
-
-/// Converts the stream as the options ask, and tells the counts or the fault. Answers the exit
-/// status.
+/// Converts the stream as the options ask, and prints the report.
 fn convert<R: Read, W: Write, E: Write>(
     alloc: Global,
     options: &ArgMatches,
     reader: &mut Counted<R>,
     writer: &mut Counted<W>,
     faults: &mut E,
-) -> u8
-    ensures status { result ≤ 1 }
-    ensures good { result ≡ 0
-        → IsConverted (options_of options.now) (R.remaining reader.old.inner) (W.contents writer.old.inner) (W.contents writer.new.inner) }
+) -> Result<(), ToolFault>
+    ensures { Ends result reader.old reader.new writer.old writer.new
+        (λ _. IsConverted (options_of options.now) (R.remaining reader.old.inner) (W.contents writer.old.inner) (W.contents writer.new.inner))
+        (StopsConverting (options_of options.now) R.remaining reader.old reader.new W.contents writer.old writer.new) }
 {
     let setup = match setup_of(alloc, options) {
         Ok(setup) => setup,
-        Err(fault) => return stop(fault, faults),
+        Err(fault) => return Err(fault),
     };
     match run_convert(alloc, setup, reader, writer) {
         Ok(report) => {
-            tell(&report, faults);
-            0
+            print_report(&report, faults);
+            Ok(())
         }
-        Err(fault) => stop(fault, faults),
+        Err(fault) => Err(fault),
     }
 }
 
-/// Checks a file, or tells the fault. Answers the exit status.
-fn check<R: Read, W: Write, E: Write>(
-    alloc: Global,
-    reader: &mut Counted<R>,
-    writer: &mut Counted<W>,
-    faults: &mut E,
-) -> u8
-    ensures status { result ≤ 1 }
-    ensures good { result ≡ 0 → ChecksFile (R.remaining reader.old.inner) (W.contents writer.old.inner) (W.contents writer.new.inner) }
+/// Prints the version if the words ask for it, else what is wrong with them. Returns the exit
+/// status.
+fn answer<W: Write, E: Write>(error: &clap::Error, writer: &mut Counted<W>, faults: &mut E) -> u8
+    ensures status { result ≤ 2 }
+    ensures good { result ≡ 0 → (kind_of error.now ≡ DisplayVersion) × PrintsText W.contents writer.old writer.new VERSION.now }
+    ensures stopped { result ≡ 1 → StopsAnswering (kind_of error.now) W.contents writer.old writer.new }
+    ensures refused { result ≡ 2 → (kind_of error.now ≢ DisplayVersion) × (kind_of error.now ≢ OutOfMemory) × (writer.new ≡ writer.old) }
 {
-    match run_check(alloc, reader, writer) {
-        Ok(()) => 0,
-        Err(fault) => stop(fault, faults),
+    match error.kind() {
+        ErrorKind::DisplayVersion => exit_status(print_text(VERSION.as_bytes(), writer), faults),
+        ErrorKind::OutOfMemory => exit_status(Err(ToolFault::Memory), faults),
+        _ => {
+            let _ = write!(faults, "{error}");
+            2
+        }
     }
 }
 
-/// Says why the words of the command line can't be had, and answers the exit status: memory ran
+/// Prints why the words of the command line can't be read, and returns the exit status: memory ran
 /// out, or a word isn't UTF-8.
 pub fn refuse_words<E: Write>(error: &io::Error, faults: &mut E) -> u8
     ensures { (1 ≤ result) × (result ≤ 2) }
 {
     if error.kind() == io::ErrorKind::OutOfMemory {
-        let _ = faults.write_all(b"rtcm2rinex: Memory\n");
-        1
-    } else {
-        let _ = faults.write_all(b"error: a word of the command line isn't UTF-8\n");
-        2
+        return exit_status(Err(ToolFault::Memory), faults);
     }
+    let _ = faults.write_all(b"error: a word of the command line isn't UTF-8\n");
+    2
 }
 
-/// Tells the version where the words ask for it; else says what is wrong with them. Answers the
-/// exit status.
-fn answer<W: Write, E: Write>(error: &clap::Error, writer: &mut Counted<W>, faults: &mut E) -> u8
-    ensures status { result ≤ 2 }
-    ensures asked { result ≡ 0 → kind_of error.now ≡ DisplayVersion }
-    ensures good { result ≡ 0 → Appends (W.contents writer.old.inner) (W.contents writer.new.inner) VERSION.now }
-    ensures unwritten { result ≡ 2 → writer.new ≡ writer.old }
+/// The exit status of a command that ended so, after a fault was printed on one line. A failure of
+/// this writer is ignored.
+fn exit_status<E: Write>(ended: Result<(), ToolFault>, faults: &mut E) -> u8
+    ensures { result ≡ status_of ended }
 {
-    match error.kind() {
-        ErrorKind::DisplayVersion => tell_version(writer, faults),
-        _ => refuse(error, faults),
-    }
-}
-
-/// Writes the version, or tells the fault. Answers the exit status.
-fn tell_version<W: Write, E: Write>(writer: &mut Counted<W>, faults: &mut E) -> u8
-    ensures status { result ≤ 1 }
-    ensures good { result ≡ 0 → Appends (W.contents writer.old.inner) (W.contents writer.new.inner) VERSION.now }
-{
-    match send(VERSION.as_bytes(), writer) {
+    match ended {
         Ok(()) => 0,
-        Err(_) => stop(ToolFault::Write, faults),
+        Err(fault) => {
+            let _ = writeln!(faults, "rtcm2rinex: {fault}");
+            1
+        }
     }
-}
-
-/// Says what is wrong with the words, or that memory ran out. A failure of this writer is ignored.
-fn refuse<E: Write>(error: &clap::Error, faults: &mut E) -> u8
-    ensures { (1 ≤ result) × (result ≤ 2) }
-{
-    if error.kind() == ErrorKind::OutOfMemory {
-        let _ = faults.write_all(b"rtcm2rinex: Memory\n");
-        1
-    } else {
-        let _ = write!(faults, "{error}");
-        2
-    }
-}
-
-/// Names the fault on one line. A failure of this writer is ignored.
-fn stop<E: Write>(fault: ToolFault, faults: &mut E) -> u8
-    ensures { result ≡ 1 }
-{
-    let _ = writeln!(faults, "rtcm2rinex: {fault}");
-    1
 }

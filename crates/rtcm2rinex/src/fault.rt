@@ -1,20 +1,22 @@
 //! Why a command stopped.
 ghost use Rattle.std.specs.Prelude.{◌≡◌};
-ghost use Rattle.rtcm2rinex.specs.Converting.{fault_told};
+ghost use Rattle.rtcm2rinex.specs.Devices.{fault_told, stream_fault};
 ghost use Rattle.rtcm2rinex.specs.declared.fault.ToolFault.TheVariants as faults;
 
 use gnss_obs::System;
 use obs_epoch::PlanFault;
-use rinex_file::{HeadFault, HeaderField, ReadFault};
+use rinex_file::{HeadFault, ReadFault};
 use rtcm_bits::DeviceFailed;
 use rtcm_convert::Fault;
-use rtcm_scan::ScanFault;
+use rtcm_scan::{ScanFault, StreamFault};
 use std::fmt;
 
 /// Why a command stopped. It is shown as the fault's own name, and behind it each thing that the
 /// fault carries.
 #[derive(Clone, Copy, Drop)]
 pub enum ToolFault {
+    /// There is no memory to read the words.
+    Memory,
     /// The reader failed.
     Read,
     /// The writer failed, or took none of the bytes that it was offered.
@@ -38,6 +40,18 @@ impl From<DeviceFailed> for ToolFault {
 
     fn from(_failed: DeviceFailed) -> ToolFault {
         ToolFault::Write
+    }
+}
+
+impl From<StreamFault<DeviceFailed>> for ToolFault {
+    ghost from_gives = { λ stream fault. fault ≡ stream_fault stream };
+
+    fn from(stream: StreamFault<DeviceFailed>) -> ToolFault {
+        match stream {
+            StreamFault::Read => ToolFault::Read,
+            StreamFault::TooLong => ToolFault::Scan(ScanFault::TooLong),
+            StreamFault::Sink(_) => ToolFault::Write,
+        }
     }
 }
 
@@ -80,6 +94,7 @@ impl From<ReadFault> for ToolFault {
 impl fmt::Display for ToolFault {
     fn fmt<W: fmt::Write>(&self, f: &mut fmt::Formatter<W>) -> fmt::Result {
         match *self {
+            ToolFault::Memory => f.write_str("Memory"),
             ToolFault::Read => f.write_str("Read"),
             ToolFault::Write => f.write_str("Write"),
             ToolFault::Scan(fault) => write!(f, "{fault:?}"),
@@ -95,8 +110,8 @@ impl fmt::Display for ToolFault {
 /// Why a text of the header was refused, and the text's name.
 fn show_head_fault<W: fmt::Write>(fault: HeadFault, f: &mut fmt::Formatter<W>) -> fmt::Result {
     match fault {
-        HeadFault::TooLong(field) => write!(f, "TooLong {}", field_name(field)),
-        HeadFault::NotPrintable(field) => write!(f, "NotPrintable {}", field_name(field)),
+        HeadFault::TooLong(field) => write!(f, "TooLong {}", field.name()),
+        HeadFault::NotPrintable(field) => write!(f, "NotPrintable {}", field.name()),
         fault => write!(f, "{fault:?}"),
     }
 }
@@ -132,22 +147,5 @@ fn letter_of(system: System) -> &'static str {
     match system {
         System::Gps => "G",
         System::Galileo => "E",
-    }
-}
-
-/// The name of a header field, as that of its option with underscores.
-fn field_name(field: HeaderField) -> &'static str {
-    match field {
-        HeaderField::RunBy => "run_by",
-        HeaderField::Date => "date",
-        HeaderField::Marker => "marker",
-        HeaderField::MarkerType => "marker_type",
-        HeaderField::Observer => "observer",
-        HeaderField::Agency => "agency",
-        HeaderField::RecNumber => "rec_number",
-        HeaderField::RecType => "rec_type",
-        HeaderField::RecVersion => "rec_version",
-        HeaderField::AntNumber => "ant_number",
-        HeaderField::AntType => "ant_type",
     }
 }

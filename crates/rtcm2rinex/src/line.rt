@@ -1,9 +1,13 @@
 //! A line of output.
 ghost use Rattle.std.specs.Prelude.{◌≡◌, ◌+◌, ◌<◌, ◌≤◌, [], ◌∷◌, ◌++◌, length, decimal};
 ghost use Rattle.rtcm2rinex.specs.Metres.{digit, size_text, metres};
+ghost use Rattle.rtcm2rinex.specs.Printing.{EndsPrinting};
 
+use crate::fault::ToolFault;
 use arrayvec::ArrayVec;
 use itoa::Buffer;
+use rtcm_bits::Counted;
+use std::io::Write;
 use std::marker::Model;
 
 /// The most bytes of a line, its line feed included.
@@ -128,6 +132,17 @@ impl Line {
         ensures { self.new ≡ self.old ++ bytes.now }
     {
         self.text.try_extend_from_slice(bytes).unwrap();
+    }
+}
+
+/// Writes a text at once, and flushes the writer.
+pub fn print_text<W: Write>(text: &[u8], writer: &mut Counted<W>) -> Result<(), ToolFault>
+    ensures { EndsPrinting result W.contents writer.old writer.new text.now }
+{
+    writer.write_whole(text)?;
+    match writer.flush_whole() {
+        Ok(()) => Ok(()),
+        Err(failed) => Err(ToolFault::from(failed)),
     }
 }
 

@@ -3,15 +3,12 @@
 //! reads such a file back, too, and says whether it is one.
 #![tactic(auto)]
 
-mod asked;
 mod check;
 mod cli;
 mod command;
 mod commands;
 mod convert;
 mod fault;
-mod form;
-mod frames;
 mod help;
 pub mod laws;
 mod line;
@@ -19,10 +16,8 @@ mod listing;
 mod options;
 mod show;
 mod signals;
-mod survey;
 #[cfg(test)]
 mod tests;
-mod version;
 
 use crate::command::{command, refuse_words};
 use rtcm_bits::{Buffered, Counted};

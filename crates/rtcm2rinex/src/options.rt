@@ -1,11 +1,14 @@
-//! What the options of `convert` ask for.
+//! What the options of the commands ask for.
 ghost use Rattle.std.specs.Prelude.{◌≡◌, MatchResult, codes, not};
+ghost use Rattle.clap.specs.Walk.{one_of};
 ghost use Rattle.std.specs.Str.{bytes_eq};
 ghost use Rattle.obs_epoch.specs.Kinds.{is_by_bit};
 ghost use Rattle.rinex_file.specs.TextsOf.{lists_of};
-ghost use Rattle.rtcm2rinex.specs.SetupTold.{IsSetupOf, IsSetupRefused, options_of, text_told, texts_told};
+ghost use Rattle.rtcm2rinex.specs.Telling.{IsFormOf};
+ghost use Rattle.rtcm2rinex.specs.SetupTold.{IsNumberOf, IsSetupOf, IsSetupRefused, options_of, text_told, texts_told};
 
 use crate::fault::ToolFault;
+use crate::signals::SignalsForm;
 use clap::ArgMatches;
 use obs_epoch::{Gather, Plan};
 use rinex_file::{HeaderTexts, Texts};
@@ -23,7 +26,7 @@ pub fn setup_of(alloc: Global, options: &ArgMatches) -> Result<Setup, ToolFault>
         plan,
         texts,
         start_week: options.get_one::<u32>("week").unwrap_or(0),
-        station: options.get_one::<u16>("station"),
+        station: station_of(options),
         gather: gather_of(text(options, "gather")),
         limit: options.get_one::<u64>("limit").unwrap_or(MOST_BYTES),
     })
@@ -65,5 +68,23 @@ fn text<'a>(options: &ArgMatches<'a>, name: &str) -> &'a str
     match options.get_str(name) {
         Some(text) => text,
         None => "",
+    }
+}
+
+/// The station whose messages count, if one is given.
+pub fn station_of(options: &ArgMatches) -> Option<u16>
+    ensures { IsNumberOf 16 (one_of (codes "station") (options_of options.now)) result }
+{
+    options.get_one::<u16>("station")
+}
+
+/// What is to be printed of signals.
+pub fn form_of(options: &ArgMatches) -> SignalsForm
+    ensures { IsFormOf (options_of options.now) result }
+{
+    if options.get_flag("counts") {
+        SignalsForm::Counts
+    } else {
+        SignalsForm::Options
     }
 }

@@ -1,16 +1,41 @@
-//! The command `show`: what each message says.
-ghost use Rattle.std.specs.Prelude.{◌≡◌, ◌+◌, ◌<◌, ◌≤◌, ◌^◌, if◌then◌else◌, is_some, [], length, MatchOption};
+//! The lines of frames and of their messages.
+ghost use Rattle.std.specs.Prelude.{◌≡◌, ◌+◌, ◌<◌, ◌≤◌, ◌^◌, if◌then◌else◌, is_some, [], ◌∷◌, ◌++◌, length, MatchOption};
 ghost use Rattle.rtcm_bits.specs.FrameOf.{longest_message};
 ghost use Rattle.rtcm_scan.specs.Answers.{framed};
 ghost use Rattle.rtcm_msg.specs.Station.{InRange};
 ghost use Rattle.rtcm_msg.specs.Views.{message_number};
+ghost use Rattle.rtcm2rinex.specs.FrameLines.{frame_line, number_word};
 ghost use Rattle.rtcm2rinex.specs.Lines.{with_words};
 ghost use Rattle.rtcm2rinex.specs.ShowLines.{show_line, station_line, msm_line, fault_line, height_words, fault_words};
 
-use crate::frames::add_message_number;
 use crate::line::Line;
+use rtcm_bits::BitReader;
 use rtcm_msg::{MsgFault, MsmView, StationParts, View, look};
 use rtcm_scan::Frame;
+
+/// The line of a frame: its offset, the length of its message, and the message's number.
+pub fn frame_line(frame: &Frame) -> Line
+    ensures { result ≡ frame_line (framed frame.now) }
+{
+    let mut line = Line::starting_with(frame.offset);
+    line.add_number(frame.message.len() as u64);
+    add_message_number(&mut line, frame.message.as_slice());
+    line.finish();
+    line
+}
+
+/// Adds the number of a message, or a dash if it has fewer than 12 bits.
+fn add_message_number(line: &mut Line, message: &[u8])
+    requires room { length line.old ≤ 235 }
+    requires short { length message.now ≤ longest_message }
+    ensures text { line.new ≡ line.old ++ 0x20 ∷ number_word message.now }
+    ensures short { length line.new ≤ length line.old + 21 }
+{
+    match BitReader::new(message).unsigned(12) {
+        Some(number) => line.add_number(number),
+        None => line.add_word("-"),
+    }
+}
 
 /// The line of a frame's message; one that is neither read nor refused has none.
 pub fn message_line(frame: &Frame) -> Option<Line>

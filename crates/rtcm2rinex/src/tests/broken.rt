@@ -135,6 +135,33 @@ fn is_told_behind(
     Ok(status == 1 && taken.as_slice() == output && faults.as_slice() == WRITE.as_bytes())
 }
 
+/// Whether the device of a buffer has this output when a read fails after all of the input.
+pub fn is_sent_before_fault(
+    alloc: Global,
+    words: &[&str],
+    input: Text<'_>,
+    output: Text<'_>,
+) -> Result<bool, AllocError> {
+    let input = input.bytes(alloc)?;
+    let output = output.bytes(alloc)?;
+    has_sent(alloc, words, input.as_slice(), output.as_slice())
+}
+
+fn has_sent(
+    alloc: Global,
+    words: &[&str],
+    input: &[u8],
+    output: &[u8],
+) -> Result<bool, AllocError> {
+    let end = ReadEnd::Fails(ErrorKind::Other);
+    let mut reader = Counted::new(PieceReader::new(input, &[5], end));
+    let mut writer = Counted::new(Buffered::new(alloc, Vec::new(alloc))?);
+    let mut faults = Vec::new(alloc);
+    let status = command(alloc, words, &mut reader, &mut writer, &mut faults);
+    let taken: Vec<u8> = writer.into_inner().into_inner();
+    Ok(status == 1 && taken.as_slice() == output && faults.as_slice() == READ.as_bytes())
+}
+
 /// The status of a command whose writer for faults fails, and whether that took nothing.
 pub fn untold(
     alloc: Global,

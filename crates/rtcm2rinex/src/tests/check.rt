@@ -1,5 +1,5 @@
 //! Files that are checked.
-use super::scenario::Comes::Good;
+use super::scenario::Comes::{Fault, Good};
 use super::scenario::{Case, FAULTLESS, Setting, assert_come};
 use super::texts::FINE_FILE;
 use super::texts::Line::{Above, NextTime, NextValues, Position, Time, TwoLines, Values};
@@ -37,4 +37,21 @@ fn a_file_that_was_made_is_good(rt: HostRuntime) {
         ..FAULTLESS
     };
     assert_come(&rt, rt.alloc(), &setting, &GOOD);
+}
+
+/// A file whose second line is another one.
+static SPOILT: [Case; 1] = [(
+    &[],
+    File(&[(1, &[Position])], &[Time, Values]),
+    Fault(Lines(""), "rtcm2rinex: BadHeader 2\n"),
+)];
+
+#[test]
+fn a_spoilt_file_is_refused(rt: HostRuntime) {
+    let setting = Setting {
+        words: &CHECK,
+        sizes: &[&[1], &[]],
+        ..FAULTLESS
+    };
+    assert_come(&rt, rt.alloc(), &setting, &SPOILT);
 }

@@ -1,11 +1,11 @@
 //! Streams that are converted: their files and reports, whole, in any pieces.
 use super::messages::HEIGHT;
-use super::scenario::Comes::Good;
+use super::scenario::Comes::{Good, Unread};
 use super::scenario::{Case, FAULTLESS, Setting, assert_come};
 use super::texts::Line::{Above, NextTime, NextValues, Position, Time, TwoLines, Values};
 use super::texts::Piece::{Fine, Framed};
 use super::texts::Text::{File, Stream};
-use super::texts::{FINE_FILE, REPORT};
+use super::texts::{FINE_FILE, REPORT, Text};
 
 pub const OPTIONS: [&str; 10] = [
     "rtcm2rinex",
@@ -19,6 +19,8 @@ pub const OPTIONS: [&str; 10] = [
     "--galileo",
     "none",
 ];
+
+const IN_ONE: Text = Stream(&[Fine(&[])]);
 
 /// One message, and one with station values that change behind it, in any pieces.
 static IN_PIECES: [Case; 2] = [
@@ -47,4 +49,44 @@ fn a_stream_becomes_a_file(rt: HostRuntime) {
         ..FAULTLESS
     };
     assert_come(&rt, rt.alloc(), &setting, &IN_PIECES);
+}
+
+const DATED: [&str; 6] = [
+    "rtcm2rinex",
+    "convert",
+    "--week",
+    "2300",
+    "--date",
+    "20240204 000001 UTC",
+];
+
+/// Options that are refused: a code of no signal, no signal at all, and 61 letters for 60 columns.
+static REFUSED: [Case; 3] = [
+    (
+        &["--gps", "1c"],
+        IN_ONE,
+        Unread("rtcm2rinex: UnknownCode G 0\n"),
+    ),
+    (
+        &["--gps", "none", "--galileo", "none"],
+        IN_ONE,
+        Unread("rtcm2rinex: NothingPlanned\n"),
+    ),
+    (
+        &[
+            "--marker",
+            "MARKERMARKERMARKERMARKERMARKERMARKERMARKERMARKERMARKERMARKERM",
+        ],
+        IN_ONE,
+        Unread("rtcm2rinex: TooLong marker\n"),
+    ),
+];
+
+#[test]
+fn refused_options_read_nothing(rt: HostRuntime) {
+    let setting = Setting {
+        words: &DATED,
+        ..FAULTLESS
+    };
+    assert_come(&rt, rt.alloc(), &setting, &REFUSED);
 }

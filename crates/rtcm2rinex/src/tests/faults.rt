@@ -1,5 +1,7 @@
 //! Devices that fail.
-use super::broken::{assert_read_faults, assert_write_faults, is_told_behind_buffer, untold};
+use super::broken::{
+    assert_read_faults, assert_write_faults, is_sent_before_fault, is_told_behind_buffer, untold,
+};
 use super::check::CHECK;
 use super::convert::OPTIONS;
 use super::frames::FRAMES;
@@ -161,6 +163,25 @@ static FLUSHED: [Read; 5] = [
 fn a_flush_that_fails_is_told(rt: HostRuntime) -> Result<(), Fail> {
     for (words, input, output) in &FLUSHED {
         assert!(rt; is_told_behind_buffer(rt.alloc(), words, *input, *output)?);
+    }
+    Ok(())
+}
+
+static SENT: [Read; 3] = [
+    (&FRAMES, Bytes(&FRAMED_STATION), Lines("0 19 1005\n")),
+    (
+        &SHOW,
+        Bytes(&FRAMED_STATION),
+        Lines("0 1005 2003 1114104.5999 -4850729.7108 3975521.4643\n"),
+    ),
+    (&OPTIONS, ONE_FRAME, FINE_FILE),
+];
+
+// What is decided has left the buffer before more is read.
+#[test]
+fn decided_output_is_flushed(rt: HostRuntime) -> Result<(), Fail> {
+    for (words, input, output) in &SENT {
+        assert!(rt; is_sent_before_fault(rt.alloc(), words, *input, *output)?);
     }
     Ok(())
 }

@@ -57,6 +57,8 @@ pub enum Comes<'a> {
     Good(Text<'a>, &'a str),
     /// This is written, and then a fault is told.
     Fault(Text<'a>, &'a str),
+    /// Nothing is read, nothing written, and this fault is printed.
+    Unread(&'a str),
     /// The words are refused with some text: nothing is read, and nothing written.
     Refused,
 }
@@ -89,7 +91,7 @@ impl<'a> Comes<'a> {
     fn output(&self) -> Text<'a> {
         match self {
             Comes::Good(output, _) | Comes::Fault(output, _) => *output,
-            Comes::Refused => Text::Lines(""),
+            Comes::Unread(_) | Comes::Refused => Text::Lines(""),
         }
     }
 
@@ -98,6 +100,7 @@ impl<'a> Comes<'a> {
         match self {
             Comes::Good(_, told) => outcome.is(0, output, told.as_bytes()),
             Comes::Fault(_, told) => outcome.is(1, output, told.as_bytes()),
+            Comes::Unread(told) => outcome.is(1, &[], told.as_bytes()) && !outcome.has_read,
             Comes::Refused => outcome.is_refused(),
         }
     }

@@ -1,79 +1,42 @@
-use Rattle.std.proofs.Common.{◌≡◌, subst, ℕ, List, Option, Some, None, IfSome, Err}
-use Rattle.std.specs.Io.KnownBytes.{Appends}
-use Rattle.rtcm_bits.specs.Device.{AppendsPrefix}
-use Rattle.rinex_file.specs.Value.{FileValue}
+use Rattle.std.proofs.Common.{◌≡◌, ◌∙◌, ap, refl, sym, subst, Err}
 use Rattle.rinex_file.specs.File.{file_text}
-use Rattle.rinex_file.specs.Exact.{IsNoFault}
 use Rattle.rinex_file.specs.Counting.{AreCounts}
-use Rattle.rinex_file.specs.declared.read.file.Counts.{Counts}
-use Rattle.rinex_file.specs.declared.read.fault.ReadFault.{ReadFault}
-use Rattle.rinex_file.specs.declared.read.fault.ReadFault.TheVariants.{Memory, Read, BadHeader, BadEpoch, BadEvent, BadSatellite, CutShort, TooLong}
-use Rattle.std.proofs.lemmas.Result.{err_from_is_err_and}
-use Rattle.rtcm2rinex.specs.declared.fault.ToolFault.TheVariants as faults
-use Rattle.rtcm2rinex.specs.Checking.{check_line, IsCheckedOr}
+use Rattle.rtcm2rinex.specs.Checking.{IsCheckedOr, StopsChecking}
+use Rattle.rtcm2rinex.specs.Devices.{HaveFailedBy}
+use Rattle.rtcm2rinex.specs.declared.fault.ToolFault.{ToolFault}
+use Rattle.rtcm2rinex.proofs.CheckLemmas.{checked, checked_or, line_of, read_failures, refused, where_known}
+use Rattle.rtcm2rinex.proofs.PrintingLemmas.{same_text}
 use Rattle.rtcm2rinex.proofs.check.run_check.Goals as goal
 
--- what holds of known bytes
-where_known : (P Q : List ℕ → Type 0) (r : Option (List ℕ)) → ((input : List ℕ) → P input → Q input) → IfSome r P → IfSome r Q
-where_known P Q None step h = tt
-where_known P Q (Some input) step h = step input h
+pub returns-in-Ok-clause-ends : goal.returns-in-Ok-clause-ends
+returns-in-Ok-clause-ends g c =
+    let found = c.in-Ok.ensures.found in
+    checked g.R.Read.remaining g.W.Write.contents c.args.reader.now c.check_file.new.reader c.args.writer.now c.print_text.new.writer c.print_text.result found.v found.is found.text
+    (c.in-Ok.ensures.same (λ e. cc))
+    (same_text c.print_text.result g.W.Write.contents c.args.writer.now c.print_text.new.writer _ _
+    (c.as_bytes.ensures.text ∙ line_of _ c.in-Ok.counts found.v c.check_line.ensures found.counted) c.print_text.ensures)
 
--- a fault of reading is one of checking
-refused : (v : FileValue) (e : ReadFault) (w w' : Option (List ℕ)) → IsNoFault e → IsCheckedOr v (Err (faults.Check e)) w w'
-refused v Memory w w' h = tt
-refused v Read w w' h = tt
-refused v (BadHeader k) w w' h = absurd h
-refused v (BadEpoch k) w w' h = absurd h
-refused v (BadEvent k) w w' h = absurd h
-refused v (BadSatellite k) w w' h = absurd h
-refused v (CutShort k) w w' h = absurd h
-refused v TooLong w w' h = absurd h
+pub returns-in-Ok-clause-only : goal.returns-in-Ok-clause-only
+returns-in-Ok-clause-only g c = λ v is few.
+    where_known (λ input. input ≡ file_text v → AreCounts c.in-Ok.counts v) _ (g.R.Read.remaining c.args.reader.now.inner)
+    (λ input h same. checked_or g.W.Write.contents c.args.writer.now c.print_text.new.writer c.print_text.result v
+    (same_text c.print_text.result g.W.Write.contents c.args.writer.now c.print_text.new.writer _ _ (c.as_bytes.ensures.text ∙ line_of _ c.in-Ok.counts v c.check_line.ensures (h same)) c.print_text.ensures))
+    (c.in-Ok.ensures.only v is few)
 
--- the same, with what is known first
-known_where : (P Q : List ℕ → Type 0) (r : Option (List ℕ)) → IfSome r P → ((input : List ℕ) → P input → Q input) → IfSome r Q
-known_where P Q r h step = where_known P Q r step h
+pub returns-in-Err-clause-ends : goal.returns-in-Err-clause-ends
+returns-in-Err-clause-ends g c =
+    let end = c.in-Err.ensures in
+    let reader = c.args.reader.now in
+    let writer = c.args.writer.now in
+    let before = reader.failures in
+    let after = c.check_file.new.reader.failures in
+    subst (λ (fault : ToolFault). HaveFailedBy fault reader c.check_file.new.reader writer writer
+    × StopsChecking g.R.Read.remaining reader c.check_file.new.reader g.W.Write.contents writer writer fault) (sym c.from.ensures)
+    ((read_failures c.in-Err.fault before after (λ e. end.failed (ap Err e)) (λ isnt. end.same (λ e. isnt cc)), refl), (end.fault, refl))
 
-pub returns-in_err-counts-clause-only : goal.returns-in_err-counts-clause-only
-returns-in_err-counts-clause-only g c =
-    let told = err_from_is_err_and c.from_residual.result c.from_residual.ensures.1 in
-    rw (told.1, told.2) (λ v is few. known_where _ _ (g.R.Read.remaining c.args.reader.now.inner) (c.in_err-counts.ensures.only v is few) (λ input h same. refused v _ _ _ (h same)))
-
--- the line that was made is that of the file
-line_of : (line : List ℕ) (counts : Counts) (v : FileValue) → ((f : FileValue) → AreCounts counts f → line ≡ check_line f) → AreCounts counts v → line ≡ check_line v
-line_of line counts v shows are = shows v are
-
-pub returns-clause-only : goal.returns-clause-only
-returns-clause-only g c = λ v is few.
-    where_known (λ input. input ≡ file_text v → AreCounts c.in_ok-counts.counts v) _ (g.R.Read.remaining c.args.reader.now.inner)
-    (λ input h same. subst (Appends (g.W.Write.contents c.args.writer.now.inner) (g.W.Write.contents c.write_line.new.writer.inner))
-    (line_of _ c.in_ok-counts.counts v c.check_line.ensures (h same)) c.in_ok-write_line.ensures.whole)
-    (c.in_ok-counts.ensures.only v is few)
-
-pub returns-in_err-write_line-clause-only : goal.returns-in_err-write_line-clause-only
-returns-in_err-write_line-clause-only g c =
-    let told = err_from_is_err_and c.from_residual-in_err-write_line.result c.from_residual-in_err-write_line.ensures.1 in
-    rw (told.1, told.2) (λ v is few.
-    where_known (λ input. input ≡ file_text v → AreCounts c.in_ok-counts.counts v) _ (g.R.Read.remaining c.args.reader.now.inner)
-    (λ input h same. subst (AppendsPrefix (g.W.Write.contents c.args.writer.now.inner) (g.W.Write.contents c.write_line.new.writer.inner))
-    (line_of _ c.in_ok-counts.counts v c.check_line.ensures (h same)) c.in_err-write_line.ensures.part)
-    (c.in_ok-counts.ensures.only v is few))
-
-pub returns-clause-whole : goal.returns-clause-whole
-returns-clause-whole g c =
-    let found = c.in_ok-counts.ensures.found in (
-      found.v,
-      found.is,
-      found.text,
-      subst (Appends (g.W.Write.contents c.args.writer.now.inner) (g.W.Write.contents c.write_line.new.writer.inner))
-          (line_of _ c.in_ok-counts.counts found.v c.check_line.ensures found.counted) c.in_ok-write_line.ensures.whole,
-    )
-
-pub returns-in_err-write_line-clause-write : goal.returns-in_err-write_line-clause-write
-returns-in_err-write_line-clause-write g c = λ e.
-    let found = c.in_ok-counts.ensures.found in (
-      found.v,
-      found.is,
-      found.text,
-      subst (AppendsPrefix (g.W.Write.contents c.args.writer.now.inner) (g.W.Write.contents c.write_line.new.writer.inner))
-          (line_of _ c.in_ok-counts.counts found.v c.check_line.ensures found.counted) c.in_err-write_line.ensures.part,
-    )
+pub returns-in-Err-clause-only : goal.returns-in-Err-clause-only
+returns-in-Err-clause-only g c = λ v is few.
+    let contents = g.W.Write.contents in
+    where_known _ _ (g.R.Read.remaining c.args.reader.now.inner)
+    (λ input h same. subst (λ (fault : ToolFault). IsCheckedOr v (Err fault) (contents c.args.writer.now.inner) (contents c.args.writer.now.inner)) (sym c.from.ensures) (refused v c.in-Err.fault _ _ (h same)))
+    (c.in-Err.ensures.only v is few)

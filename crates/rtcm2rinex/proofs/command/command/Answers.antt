@@ -1,17 +1,34 @@
-use Rattle.std.proofs.Common.{◌∙◌, inl, inr, refl, sym}
+use Rattle.std.proofs.Common.{inr, refl}
 use Rattle.clap.specs.Walk.{texts}
 use Rattle.rtcm2rinex.proofs.CommandLineLemmas.{is_version}
+use Rattle.rtcm2rinex.proofs.CommandLemmas.{answered_in_part, failed_to_serve, has_command, not_two, refused_words, served}
 use Rattle.rtcm2rinex.proofs.command.command.Goals as goal
 
+pub run_found-ended-requires : goal.run_found-ended-requires
+run_found-ended-requires g c = has_command (texts c.args.words.now) c.in-Ok.matches c.in-Ok.ensures.asked
+
 pub returns-in-Ok-clause-good : goal.returns-in-Ok-clause-good
-returns-in-Ok-clause-good g c = λ e.
-    let done = c.run_asked-status.ensures.good e in
-    let asked = c.in-Ok.ensures.asked in
-    inl (done.0, done.1, (asked.0, asked.1, sym asked.2 ∙ done.2), done.3)
+returns-in-Ok-clause-good g c =
+    served g.R.Read.remaining g.W.Write.contents c.args.reader.now c.run_found-ended.new.reader c.args.writer.now c.run_found-ended.new.writer (texts c.args.words.now)
+    c.in-Ok.matches c.run_found-ended.result c.exit_status.result c.exit_status.ensures c.in-Ok.ensures.asked c.run_found-ended.ensures
+
+pub returns-in-Ok-clause-stopped : goal.returns-in-Ok-clause-stopped
+returns-in-Ok-clause-stopped g c =
+    failed_to_serve g.R.Read.remaining g.W.Write.contents c.args.reader.now c.run_found-ended.new.reader c.args.writer.now c.run_found-ended.new.writer (texts c.args.words.now)
+    c.in-Ok.matches c.run_found-ended.result c.exit_status.result c.exit_status.ensures c.in-Ok.ensures.asked c.run_found-ended.ensures
+
+pub returns-in-Ok-clause-refused : goal.returns-in-Ok-clause-refused
+returns-in-Ok-clause-refused g c = λ two. absurd (not_two c.run_found-ended.result c.exit_status.result c.exit_status.ensures two)
 
 pub returns-in-Err-clause-good : goal.returns-in-Err-clause-good
-returns-in-Err-clause-good g c = λ e. inr (
-  is_version (texts c.args.words.now) c.in-Err.error c.in-Err.ensures.refused (c.answer.ensures.asked e),
-  refl,
-  c.answer.ensures.good e,
-)
+returns-in-Err-clause-good g c = λ e. (let good = c.answer.ensures.good e in
+    inr (is_version (texts c.args.words.now) c.in-Err.error c.in-Err.ensures.refused good.0, refl, good.1))
+
+pub returns-in-Err-clause-stopped : goal.returns-in-Err-clause-stopped
+returns-in-Err-clause-stopped g c = λ e.
+    answered_in_part g.R.Read.remaining g.W.Write.contents c.args.reader.now c.args.reader.now c.args.writer.now c.answer.new.writer (texts c.args.words.now)
+    c.in-Err.error c.in-Err.ensures.refused (c.answer.ensures.stopped e) refl
+
+pub returns-in-Err-clause-refused : goal.returns-in-Err-clause-refused
+returns-in-Err-clause-refused g c = λ e. (let refused = c.answer.ensures.refused e in
+    (refused_words (texts c.args.words.now) c.in-Err.error c.in-Err.ensures.refused refused.0 refused.1, (refl, refused.2)))

@@ -1,17 +1,23 @@
 use Rattle.std.proofs.Common.{inl, inr}
+use Rattle.rtcm2rinex.proofs.CommandLemmas.{ends_so}
 use Rattle.rtcm2rinex.proofs.command.run.Goals as goal
 
-pub returns-in-frames-clause-good : goal.returns-in-frames-clause-good
-returns-in-frames-clause-good g c = λ e. inl (c.in-frames.is, c.frames.ensures.good e)
+pub returns-in-frames : goal.returns-in-frames
+returns-in-frames g c = ends_so c.run_frames.result _ _ _ _ _ _ _ _ (λ x h. inl (c.in-frames.is, h)) (λ f h. inl (c.in-frames.is, h)) c.run_frames.ensures
 
-pub returns-in-show-clause-good : goal.returns-in-show-clause-good
-returns-in-show-clause-good g c = λ e. inr (inl (c.in-show.is, c.show.ensures.good e))
+pub returns-in-show : goal.returns-in-show
+returns-in-show g c = ends_so c.run_show.result _ _ _ _ _ _ _ _ (λ x h. inr (inl (c.in-show.is, h))) (λ f h. inr (inl (c.in-show.is, h))) c.run_show.ensures
 
-pub returns-in-signals-clause-good : goal.returns-in-signals-clause-good
-returns-in-signals-clause-good g c = λ e. inr (inr (inl (c.in-signals.is, c.signals.ensures.good e)))
+pub returns-in-signals : goal.returns-in-signals
+returns-in-signals g c =
+    ends_so c.run_signals.result _ _ _ _ _ _ _ _
+    (λ x h. inr (inr (inl (c.in-signals.is, (c.form_of.result, c.station_of.result, c.form_of.ensures, c.station_of.ensures, h)))))
+    (λ f h. inr (inr (inl (c.in-signals.is, (c.form_of.result, c.station_of.result, c.form_of.ensures, c.station_of.ensures, h))))) c.run_signals.ensures
 
-pub returns-in-convert-clause-good : goal.returns-in-convert-clause-good
-returns-in-convert-clause-good g c = λ e. inr (inr (inr (inl (c.in-convert.is, c.convert.ensures.good e))))
+pub returns-in-convert : goal.returns-in-convert
+returns-in-convert g c =
+    ends_so c.convert.result _ _ _ _ _ _ _ _ (λ x h. inr (inr (inr (inl (c.in-convert.is, h))))) (λ f h. inr (inr (inr (inl (c.in-convert.is, h))))) c.convert.ensures
 
-pub returns-in-check-clause-good : goal.returns-in-check-clause-good
-returns-in-check-clause-good g c = λ e. inr (inr (inr (inr (c.in-check.is, c.check.ensures.good e))))
+pub returns-in-check : goal.returns-in-check
+returns-in-check g c =
+    ends_so c.run_check.result _ _ _ _ _ _ _ _ (λ x h. inr (inr (inr (inr (c.in-check.is, h))))) (λ f h. inr (inr (inr (inr (c.in-check.is, h))))) c.run_check.ensures.ends

@@ -15,11 +15,11 @@ returns c =
         number_told (ExplainsUnsignedError 10) HasUnsignedDigitsIfOk 32 f (codes "week") _ c.get_one.ensures.none c.get_one.ensures.value,
         search rules,
       );
-      station = number_told (ExplainsUnsignedError 10) HasUnsignedDigitsIfOk 16 f (codes "station") _ c.get_one-2.ensures.none c.get_one-2.ensures.value;
+      station = c.station_of.ensures;
       gather = search rules;
       limit = (
-        c.get_one-3.result,
-        number_told (ExplainsUnsignedError 10) HasUnsignedDigitsIfOk 64 f (codes "limit") _ c.get_one-3.ensures.none c.get_one-3.ensures.value,
+        c.get_one-2.result,
+        number_told (ExplainsUnsignedError 10) HasUnsignedDigitsIfOk 64 f (codes "limit") _ c.get_one-2.ensures.none c.get_one-2.ensures.value,
         search rules,
       );
     }

@@ -1,13 +1,13 @@
 use Rattle.std.proofs.Common.{◌+◌, ◌*◌, ◌≤◌, List, length}
-use Rattle.obs_epoch.specs.declared.seen.Seen.{Seen}
 use Rattle.rtcm2rinex.specs.Signals.{had_below}
 use Rattle.obs_epoch.specs.Census.{IsCensus}
 use Rattle.rtcm2rinex.proofs.SignalLemmas.{IsPartly}
 use Rattle.rtcm2rinex.proofs.signals.add_codes.Given as goal
+use Rattle.obs_epoch.specs.Heard.{HeardCell}
 
 abbrev pub invariant-loop-index : goal.invariant-loop-index
 invariant-loop-index l =
     record {
-      text : (cells : List Seen) → IsCensus l.census cells → IsPartly l.fn.line l.line l.separator l.system (had_below cells l.system l.index);
+      text : (cells : List HeardCell) → IsCensus l.census cells → IsPartly l.fn.line l.line l.separator l.system (had_below cells l.system l.index);
       short : length l.line ≤ length l.fn.line + 3 * l.index;
     }

@@ -1,0 +1,72 @@
+-- What the exit status says.
+use Rattle.std.proofs.Common.{◌≡◌, ◌∙◌, inl, inr, sym, ap, ap₂, option_map, ℕ, List, Option, Some, None, Result, Ok, Err, arith}
+use Rattle.std.specs.Prelude.{⊤, ◌≢◌}
+use Rattle.std.specs.Box.{box_value}
+use Rattle.std.specs.Option.{option_map_or}
+use Rattle.std.specs.Prelude.{Box}
+use Rattle.clap.specs.Matches.{found_of, subcommand_name_of}
+use Rattle.clap.specs.Simple.{subcommand_rows, subcommand_rows_of}
+use Rattle.clap.specs.Walk.{Row, Text, rows_of}
+use Rattle.clap.specs.declared.parser.matches.ArgMatches.TheViews.{out-ArgMatches, out-SubCommand}
+use Rattle.clap.specs.declared.parser.matches.SubCommand.{SubCommand}
+use Rattle.clap.specs.Values.{kind_of}
+use Rattle.clap.specs.declared.error.Error.{Error}
+use Rattle.clap.specs.declared.error.kind.ErrorKind.TheVariants as kind
+use Rattle.clap.specs.declared.parser.matches.ArgMatches.{ArgMatches}
+use Rattle.rtcm_bits.specs.Device.{Device}
+use Rattle.rtcm2rinex.specs.CommandLine.{AreRefused, Asks, IsFoundIn, RefusesWords}
+use Rattle.rtcm2rinex.specs.Commands.{EndsFound, HasCommand, HasFailedToServe, HasServed, StopsAnswering, status_of}
+use Rattle.rtcm2rinex.specs.Devices.{Ends}
+use Rattle.rtcm2rinex.specs.declared.fault.ToolFault.{ToolFault}
+use Rattle.rtcm2rinex.proofs.CommandLineLemmas.{is_version}
+
+-- a command ended so, in other words
+pub ends_so : {A R W : Type 0} (ended : Result A ToolFault) (r r2 : Device R) (w w2 : Device W) (P Q : A → Type 0) (S T : ToolFault → Type 0)
+    → ((x : A) → P x → Q x) → ((fault : ToolFault) → S fault → T fault) → Ends ended r r2 w w2 P S → Ends ended r r2 w w2 Q T
+ends_so (Ok x) r r2 w w2 P Q S T done stopped h = (h.0, done x h.1)
+ends_so (Err fault) r r2 w w2 P Q S T done stopped h = (h.0, stopped fault h.1)
+
+pub has_command : (words : List Text) (m : ArgMatches) → IsFoundIn words m → HasCommand m
+has_command words m found = (found.0, found.1, found.2, found.3)
+
+-- a subcommand by its name and its options
+pub sub_found : {Z : Type 0} (sub : Option (Box SubCommand Z)) (n : Text) (o : List Row) → Some n ≡ option_map (λ b. (out-SubCommand (box_value b)).name.now) sub
+    → Some o ≡ option_map (λ p. p.1) (subcommand_rows sub) → subcommand_rows sub ≡ Some (n, o)
+sub_found None n o e f = cc
+sub_found (Some b) n o e f =
+    let p : n ≡ (out-SubCommand (box_value b)).name.now = ap (λ (x : Option Text). option_map_or (λ y. y) x n) e in
+    let q : o ≡ rows_of (found_of (out-SubCommand (box_value b)).matches) = ap (λ (x : Option (List Row)). option_map_or (λ y. y) x o) f in
+    sym (ap₂ (λ (x : Text) (y : List Row). Some (x, y)) p q)
+
+pub found_rows : (m : ArgMatches) (n : Text) (o : List Row) → Some n ≡ subcommand_name_of m → Some o ≡ option_map (λ p. p.1) (subcommand_rows (out-ArgMatches m).subcommand)
+    → subcommand_rows_of m ≡ Some (n, o)
+found_rows m n o e f = sub_found (out-ArgMatches m).subcommand n o e f
+
+-- the same command by two finds
+asked : (words : List Text) (found : Option (Text × List Row)) (n n2 : Text) (o o2 : List Row) → found ≡ Some (n, o) → found ≡ Some (n2, o2) → Asks words n o → Asks words n2 o2
+asked words found n n2 o o2 p q a = (a.0, a.1, a.2, a.3 ∙ sym p ∙ q)
+
+module _ {R W : Type 0} (left : R → Option (List ℕ)) (held : W → Option (List ℕ)) (r r2 : Device R) (w w2 : Device W) (words : List Text) where
+  pub served : (m : ArgMatches) (ended : Result ⊤ ToolFault) (status : ℕ) → status ≡ status_of ended → IsFoundIn words m
+      → EndsFound ended left r r2 held w w2 (subcommand_rows_of m) → status ≡ 0 → HasServed left r r2 held w w2 words
+  served m (Ok u) status is found end zero =
+      inl (end.0, end.1, asked words (subcommand_rows_of m) found.0 end.0 found.1 end.1 found.3 end.2 found.4, end.3.0, end.3.1)
+  served m (Err fault) status is found end zero = absurd (let bad : 1 ≡ 0 = sym is ∙ zero in omega (arith, bad))
+
+  pub failed_to_serve : (m : ArgMatches) (ended : Result ⊤ ToolFault) (status : ℕ) → status ≡ status_of ended → IsFoundIn words m
+      → EndsFound ended left r r2 held w w2 (subcommand_rows_of m) → status ≡ 1 → HasFailedToServe left r r2 held w w2 words
+  failed_to_serve m (Ok u) status is found end one = absurd (let bad : 0 ≡ 1 = sym is ∙ one in omega (arith, bad))
+  failed_to_serve m (Err fault) status is found end one =
+      inl (end.0, end.1, fault, asked words (subcommand_rows_of m) found.0 end.0 found.1 end.1 found.3 end.2 found.4, end.3.0, end.3.1)
+
+  pub answered_in_part : (e : Error) → RefusesWords words e → StopsAnswering (kind_of e) held w w2 → r2 ≡ r → HasFailedToServe left r r2 held w w2 words
+  answered_in_part e refused (inl same) unread = inr (inr (unread, same))
+  answered_in_part e refused (inr part) unread = inr (inl (is_version words e refused part.0, unread, part.1))
+
+pub not_two : (ended : Result ⊤ ToolFault) (status : ℕ) → status ≡ status_of ended → status ≡ 2 → ⊥
+not_two (Ok u) status is two = let bad : 0 ≡ 2 = sym is ∙ two in omega (arith, bad)
+not_two (Err fault) status is two = let bad : 1 ≡ 2 = sym is ∙ two in omega (arith, bad)
+
+pub refused_words : (words : List Text) (e : Error) → RefusesWords words e → (kind_of e ≢ kind.DisplayVersion) → (kind_of e ≢ kind.OutOfMemory) → AreRefused words
+refused_words words e (inl memory) version some = absurd (some memory)
+refused_words words e (inr answered) version some = (kind_of e, answered, version)

@@ -1,0 +1,23 @@
+-- Texts that are written at once, and what a failed call says.
+use Rattle.std.proofs.Common.{◌≡◌, sym, subst, append-nil, ℕ, List, [], Option, Result, Ok, Err, OnErr}
+use Rattle.std.specs.Io.KnownBytes.{Appends, Keeps}
+use Rattle.std.proofs.KnownBytes.{Appends-kept}
+use Rattle.rtcm_bits.specs.Device.{AppendsPrefix, Device}
+use Rattle.rtcm2rinex.specs.Printing.{EndsPrinting}
+use Rattle.rtcm2rinex.specs.declared.fault.ToolFault.{ToolFault}
+
+pub on_err : {A E : Type 0} (r : Result A E) (P Q : Type 0) → (P → Q) → OnErr r P → OnErr r Q
+on_err (Ok x) P Q f p = p
+on_err (Err e) P Q f p = f p
+
+pub both_err : {A E : Type 0} (r : Result A E) (P Q : Type 0) → OnErr r P → OnErr r Q → OnErr r (P × Q)
+both_err (Ok x) P Q p q = tt
+both_err (Err e) P Q p q = (p, q)
+
+-- a text that was written and couldn't be flushed
+pub kept_front : (a b c : Option (List ℕ)) (text : List ℕ) → Appends a b text → Keeps b c → AppendsPrefix a c text
+kept_front a b c text h k = ([], (text, sym (append-nil text), Appends-kept a b c text h k))
+
+-- the same text in other words
+pub same_text : {A W : Type 0} (r : Result A ToolFault) (held : W → Option (List ℕ)) (w w2 : Device W) (x y : List ℕ) → x ≡ y → EndsPrinting r held w w2 x → EndsPrinting r held w w2 y
+same_text r held w w2 x y e h = subst (EndsPrinting r held w w2) e h

@@ -1,0 +1,23 @@
+-- A new framer, from which a stream is read.
+use Rattle.std.proofs.Common.{◌≡◌, ◌∙◌, ap, sym, subst, Bool, false, List, []}
+use Rattle.rtcm_scan.specs.Decided.{decided_frames}
+use Rattle.rtcm_scan.specs.Drained.{IsDrained}
+use Rattle.rtcm_scan.specs.Examined.{HasExamined, IsCountedExactly}
+use Rattle.rtcm_scan.specs.Frames.{Framed}
+use Rattle.rtcm_scan.specs.Known.{known_frames}
+use Rattle.rtcm_scan.specs.Passing.{Coming, HasPassedAll}
+use Rattle.rtcm_scan.specs.Scan.{FramerValue}
+
+-- it passed on all frames of no bytes
+pub started : {S O : Type 0} (took : Coming S O) (v : FramerValue) (s : S) (o : O) → v.has_ended ≡ false → decided_frames [] ≡ [] → HasExamined v [] [] → IsDrained v [] []
+    → IsCountedExactly v [] → took s o [] s o [] → HasPassedAll took v s o [] s o []
+started took v s o going empty examined drained counted same =
+    let none : [] ≡ known_frames v.has_ended [] = sym (ap (λ (e : Bool). known_frames e []) going ∙ empty) in
+    record {
+      passed = record {
+        framer = subst (λ (fs : List Framed). HasExamined v [] fs) none examined;
+        taken = subst (λ (fs : List Framed). took s o [] s o fs) none same;
+      };
+      drained = subst (λ (fs : List Framed). IsDrained v [] fs) none drained;
+      counted = counted;
+    }
