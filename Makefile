@@ -1,9 +1,9 @@
-# make build      proves the program crate by crate, tells how long it took, and leaves it at crates/rtcm2rinex/out/rtcm2rinex
-# make run        builds it, converts a real recording, shows the head of the file and the report, and reads the file back
-# make install    builds it, and puts the program and its manual page below PREFIX (/usr/local)
-# make read-back  builds it, and lets RTKLIB read back what it makes of the recordings
-# make test       the gate: every proof from nothing, the must-fail edits, the tests, the program on the stored cases and with faults at each place
-# make plants     tries the wrong bodies of crates/*/plants over the work that checks kept, and lists any that is still proved
+# make build      proves and builds the program, crates/rtcm2rinex/out/rtcm2rinex
+# make run        builds it, converts a recording, prints the start of the file and the report, and checks the file
+# make install    builds it if it is missing, and installs program and manual page to PREFIX (/usr/local)
+# make read-back  builds it, and has RTKLIB read back the converted recordings
+# make test       runs the gate: documents, all proofs, must-fail mutants, tests, stored cases, fault injection (docs/GATE.md)
+# make mutants    tries the mutants of crates/*/must-fail and crates/*/mutants over kept work, and their controls
 PROGRAM := crates/rtcm2rinex/out/rtcm2rinex
 SAMPLE := samples/zed-f9t-2019-10-17
 MADE := out/zed-f9t-2019-10-17
@@ -11,11 +11,10 @@ OPTIONS := --week 2075 --date "20240204 000001 UTC" --gps 1C,2W,2X,2L,5X --galil
 
 PREFIX ?= /usr/local
 
-# The prover's allocator gives memory back that it soon takes again, a page fault each time. Where it keeps it, a check
-# takes a twentieth less time.
+# The prover's allocator returns memory to the kernel that it soon needs again; keeping it makes checks faster.
 export MIMALLOC_PURGE_DELAY ?= -1
 
-.PHONY: build run install read-back test plants
+.PHONY: build run install read-back test mutants
 
 build:
 	@tools/build
@@ -29,7 +28,7 @@ run: build
 	@cmp $(MADE).obs $(SAMPLE).obs && cmp $(MADE).report $(SAMPLE).report && echo "both as stored in samples/"
 	@echo "read back: $$($(PROGRAM) check < $(MADE).obs)"
 
-# What stands there is installed: `sudo make install` proves nothing anew.
+# An existing program is installed as it is, so that `sudo make install` proves nothing.
 install:
 	@test -x $(PROGRAM) || $(MAKE) build
 	install -d $(DESTDIR)$(PREFIX)/bin $(DESTDIR)$(PREFIX)/share/man/man1
@@ -37,12 +36,12 @@ install:
 	install -m 644 docs/rtcm2rinex.1 $(DESTDIR)$(PREFIX)/share/man/man1/rtcm2rinex.1
 
 read-back: build
-	@tools/read-back $(PROGRAM)
+	@tools/read_back $(PROGRAM)
 
 test:
 	@tools/gate
 
 # The crates first, lowest first, so that each edit is tried over what they kept.
-plants:
+mutants:
 	rt all check
-	tools/plant
+	tools/mutants
