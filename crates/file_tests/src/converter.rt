@@ -1,8 +1,9 @@
 //! What no clause says: a worked stream and its file, that each call can succeed, and what goes out
 //! where a device fails.
 mod faults;
-mod looks;
+mod hostile;
 mod script;
+mod slow;
 
 use rtcm_convert::{Fault, Report};
 use script::{Answer, Call, Good, IDLE, Script, Way, first_broken};

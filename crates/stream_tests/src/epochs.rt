@@ -6,6 +6,7 @@ mod cells;
 mod census;
 mod dates;
 mod faults;
+mod locks;
 mod messages;
 mod plans;
 
@@ -53,10 +54,13 @@ enum Step {
     HasNoDoppler,
     /// The indicator of its first GPS cell.
     Lli(u8),
+    /// The satellite's number and the indicator of its last Galileo cell.
+    LastLli(u8, u8),
 }
 
 use Step::{
-    Closed, Ends, HasEnded, HasNoDoppler, Holds, Keeps, Lli, Locks, Of, Plans, Takes, Values,
+    Closed, Ends, HasEnded, HasNoDoppler, Holds, Keeps, LastLli, Lli, Locks, Of, Plans, Takes,
+    Values,
 };
 
 // Each call with large clauses stands behind a function without one, so that no test carries them.
@@ -111,6 +115,20 @@ fn cell_at(g: &Gatherer, place: usize) -> Option<&Cell> {
     }
 }
 
+fn last_galileo(g: &Gatherer) -> Option<&Cell> {
+    match g.closed() {
+        None => None,
+        Some(epoch) => epoch.cells(System::Galileo).last(),
+    }
+}
+
+fn is_of_satellite(cell: Option<&Cell>, id: u8) -> bool {
+    match cell {
+        None => false,
+        Some(cell) => cell.satellite.id() == id,
+    }
+}
+
 fn is_of(cell: Option<&Cell>, id: u8, code: [u8; 2]) -> bool {
     match cell {
         None => false,
@@ -150,6 +168,7 @@ fn goes(g: &mut Gatherer, step: Step) -> bool {
         Of(place, id, code) => is_of(cell_at(g, place), id, code),
         HasNoDoppler => has_no_doppler(cell_at(g, 0)),
         Lli(lli) => has_lli(cell_at(g, 0), lli),
+        LastLli(id, lli) => is_of_satellite(last_galileo(g), id) && has_lli(last_galileo(g), lli),
     }
 }
 
@@ -269,13 +288,31 @@ fn an_unread_message_of_the_station_closes(rt: HostRuntime) {
 
 #[test]
 fn by_time_alone_no_bit_closes(rt: HostRuntime) {
-    static STEPS: [Step; 4] = [
+    static STEPS: [Step; 5] = [
         Takes(Heard::Long(1_000, true, 64), KEPT, false),
+        Takes(Heard::Galileo(1_000, true, 64), KEPT, false),
         Takes(Heard::Unread(7, false), Kind::Ignored, false),
-        Takes(Heard::Galileo(1_000, false, 64), KEPT, false),
+        Keeps(Heard::Galileo(1_000, true, 64), (0, 1, 0), false),
         Ends(true),
     ];
     goes_as_told(&rt, rt.alloc(), ALL, 2_300, Gather::Time, &STEPS);
+}
+
+#[test]
+fn galileo_may_come_first(rt: HostRuntime) {
+    static BY_BIT: [Step; 3] = [
+        Takes(Heard::Galileo(1_000, true, 64), KEPT, false),
+        Takes(Heard::Long(1_000, false, 64), KEPT, true),
+        Closed(Some((FIRST, 2, 1))),
+    ];
+    goes_by_bit(&rt, rt.alloc(), &BY_BIT);
+    static BY_TIME: [Step; 4] = [
+        Takes(Heard::Galileo(1_000, false, 64), KEPT, false),
+        Takes(Heard::Long(1_000, false, 64), KEPT, false),
+        Ends(true),
+        Closed(Some((FIRST, 2, 1))),
+    ];
+    goes_as_told(&rt, rt.alloc(), ALL, 2_300, Gather::Time, &BY_TIME);
 }
 
 #[test]

@@ -3,7 +3,8 @@ mod by_definition;
 
 ghost use Rattle.std.specs.Prelude.{◌<◌};
 
-use rtcm_bits::LONGEST_FRAME;
+use arrayvec::ArrayVec;
+use rtcm_bits::{LONGEST_FRAME, frame_of};
 use rtcm_scan::{Framer, Frames, MOST_BYTES, ScanFault};
 use std::alloc::{AllocError, Global};
 use std::test::Fail;
@@ -358,6 +359,46 @@ fn worked_streams(rt: HostRuntime) {
     }
     assert!(rt; is_told(rt.alloc(), &CLAIMS, 0, 1));
     assert!(rt; is_listed(&CLAIMS));
+}
+
+/// A byte 0, the frame of a longest message, of 1,023 bytes, and that of one of 958, as the longest
+/// MSM has.
+fn longest_frames() -> ArrayVec<u8, 2_048> {
+    let mut frame = ArrayVec::new();
+    let mut frames = ArrayVec::new();
+    let _ = frames.try_extend_from_slice(&[0]);
+    frame_of(&[0x5A; 1_023], &mut frame);
+    let _ = frames.try_extend_from_slice(frame.as_slice());
+    frame_of(&[0xA5; 958], &mut frame);
+    let _ = frames.try_extend_from_slice(frame.as_slice());
+    frames
+}
+
+// Blocks of two come to the end of the first frame with the byte before it, the longest without.
+#[test]
+fn longest_messages(rt: HostRuntime) {
+    let frames = longest_frames();
+    let with_byte = Stream {
+        bytes: frames.as_slice(),
+        size: 1_994,
+        frames: &[(1, 1_023), (1_030, 958)],
+        before: (2, 0, (1, 3_975, 2)),
+        behind: (1, 3_975, 2),
+    };
+    let frames_alone = Stream {
+        bytes: frames.as_slice().get(1..).unwrap_or(&[]),
+        size: 1_993,
+        frames: &[(0, 1_023), (1_029, 958)],
+        before: (2, 0, (0, 3_974, 2)),
+        behind: (0, 3_974, 2),
+    };
+    let by_size = (
+        is_told(rt.alloc(), &with_byte, 0, 1),
+        is_told(rt.alloc(), &with_byte, 0, 2),
+        is_told(rt.alloc(), &frames_alone, 0, LONGEST_FRAME),
+    );
+    let as_slices = (is_listed(&with_byte), is_listed(&frames_alone));
+    assert_eq!(rt; (by_size, as_slices), ((true, true, true), (true, true)));
 }
 
 /// What a framer answers that has reached its limit: its room, a byte, a block, how many bytes it

@@ -37,6 +37,20 @@ static READ_FAULTS: [(ReadFault, &str); 8] = [
     (ReadFault::TooLong, "the file has too many lines"),
 ];
 
+static FIELD_NAMES: [(HeaderField, &str); 11] = [
+    (HeaderField::RunBy, "run_by"),
+    (HeaderField::Date, "date"),
+    (HeaderField::Marker, "marker"),
+    (HeaderField::MarkerType, "marker_type"),
+    (HeaderField::Observer, "observer"),
+    (HeaderField::Agency, "agency"),
+    (HeaderField::RecNumber, "rec_number"),
+    (HeaderField::RecType, "rec_type"),
+    (HeaderField::RecVersion, "rec_version"),
+    (HeaderField::AntNumber, "ant_number"),
+    (HeaderField::AntType, "ant_type"),
+];
+
 /// Whether a fault of a header has this text.
 fn says_of_head(alloc: Global, fault: HeadFault, text: &str) -> bool {
     match format!(in alloc; "{fault}") {
@@ -82,4 +96,19 @@ fn faults_have_texts(rt: HostRuntime) {
         ),
         (None, None)
     );
+}
+
+/// The first of the names that its field doesn't have.
+fn field_name_otherwise() -> Option<&'static str> {
+    for (field, name) in FIELD_NAMES.iter() {
+        if field.name() != *name {
+            return Some(*name);
+        }
+    }
+    None
+}
+
+#[test]
+fn fields_have_names(rt: HostRuntime) {
+    assert_eq!(rt; field_name_otherwise(), None);
 }

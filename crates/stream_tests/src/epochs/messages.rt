@@ -14,6 +14,11 @@ pub enum Heard {
     Short(u32, bool, bool, u8),
     /// The long form of several GPS satellites and signals, by their masks, at 1,000.
     Wide(bool, u64, u32),
+    /// The long form of all listed satellites of GPS, or of Galileo, and the signals of a mask, with
+    /// its time and bit.
+    All(bool, u32, bool, u32),
+    /// The long form of the last satellite of Galileo with its last signal, and the lock's code.
+    Last(u32, u16),
     /// Of a number that isn't read, whose station (here any) and bit are.
     Unread(u16, bool),
     /// Where the station stands.
@@ -28,6 +33,11 @@ pub fn message(heard: Heard) -> Message {
         Heard::Wide(more, satellites, signals) => {
             long(false, header(1_000, more), satellites, signals, 64)
         }
+        Heard::All(is_galileo, time, more, signals) => {
+            let satellites = u64::MAX << if is_galileo { 28 } else { 32 };
+            long(is_galileo, header(time, more), satellites, signals, 64)
+        }
+        Heard::Last(time, lock) => long(true, header(time, false), 1 << 28, 1 << 8, lock),
         Heard::Unread(station, more) => Message::Other {
             number: 1127,
             set: Some((station, more)),
@@ -60,7 +70,7 @@ fn header(time: u32, more: bool) -> MsmHeader {
 fn long(is_galileo: bool, header: MsmHeader, satellites: u64, signals: u32, lock: u16) -> Message {
     let count = satellites.count_ones() as usize;
     let cells = count * signals.count_ones() as usize;
-    if count > 32 || cells > 64 || cells == 0 {
+    if count > 36 || cells > 64 || cells == 0 {
         return nothing();
     }
     let masks = match Masks::new(satellites, signals, u64::MAX >> (64 - cells)) {
@@ -85,7 +95,7 @@ fn long(is_galileo: bool, header: MsmHeader, satellites: u64, signals: u32, lock
         is_galileo,
         header,
         masks,
-        &[satellite; 32][..count],
+        &[satellite; 36][..count],
         &[cell; 64][..cells],
     ) {
         Ok(msm) => Message::Msm7(msm),

@@ -14,7 +14,7 @@ CARRIERS = {
 
 
 def thousandths(value: Fraction | None) -> int | None:
-    """The nearest whole number of thousandths, ties away from zero."""
+    """Returns the nearest integer number of thousandths, ties away from zero."""
     if value is None:
         return None
     size = int((2 * abs(value) * 1000 + 1) // 2)
@@ -22,17 +22,17 @@ def thousandths(value: Fraction | None) -> int | None:
 
 
 def fixed(value: int, decimals: int) -> str:
-    """A number of units of so many decimals, with its point."""
+    """Formats an integer number of units of 10^-decimals with a decimal point."""
     digits = str(abs(value)).rjust(decimals + 1, "0")
     return f"{'-' if value < 0 else ''}{digits[:-decimals]}.{digits[-decimals:]}"
 
 
-def column(value: int | None, mark: str = " ", digit: str = " ") -> str:
-    return " " * 16 if value is None else fixed(value, 3).rjust(14) + mark + digit
+def column(value: int | None, lli: str = " ", digit: str = " ") -> str:
+    return " " * 16 if value is None else fixed(value, 3).rjust(14) + lli + digit
 
 
 def columns(gathered: Gathered, time: int, cell: Cell | None) -> str:
-    """The columns C, L, D and S of a signal."""
+    """Returns the columns C, L, D and S of a signal."""
     if cell is None:
         return " " * 64
     system, _, code = cell.key
@@ -42,8 +42,8 @@ def columns(gathered: Gathered, time: int, cell: Cell | None) -> str:
     d = None if cell.rate is None else thousandths(-cell.rate * hertz / LIGHT)
     s = thousandths(cell.strength)
     digit = " " if s is None else str(min(max(s // 6000, 1), 9))
-    mark = gathered.mark(time, cell)
-    return column(c, digit=digit) + column(l, str(mark or " "), digit) + column(d) + column(s)
+    lli = gathered.lli(time, cell)
+    return column(c, digit=digit) + column(l, str(lli or " "), digit) + column(d) + column(s)
 
 
 def has_value(cell: Cell | None) -> bool:
@@ -53,7 +53,7 @@ def has_value(cell: Cell | None) -> bool:
 
 
 def date_of(time: int) -> tuple[datetime, str]:
-    """The minute of a time, and the seconds with seven decimals."""
+    """Returns the date to the minute and the seconds with seven decimals."""
     at = datetime(1980, 1, 6) + timedelta(milliseconds=time)
     return at, fixed((at.second * 1000 + at.microsecond // 1000) * 10_000, 7)
 
@@ -71,7 +71,7 @@ def station_lines(values: StationValues) -> list[str]:
 
 
 def event_lines(values: StationValues) -> list[str]:
-    """An event that tells station values."""
+    """Returns the event record of changed station values."""
     return [f">{'':30}4  2", *station_lines(values)]
 
 
@@ -110,7 +110,7 @@ def header(texts: dict[str, str], plan: Plan, values: StationValues, first: int)
 
 
 def epoch_lines(gathered: Gathered, time: int) -> list[str]:
-    """The epoch line and its satellites' lines; none where no satellite has a value."""
+    """Returns the epoch line and its satellite lines; none if no satellite has a value."""
     kept = gathered.kept(time)
     rows = []
     for system, codes in gathered.setup.plan.items():

@@ -1,10 +1,10 @@
-"""The transport frame."""
+"""The transport frame (RTCM 10403.3, section 4)."""
 
 GENERATOR = 0x1864CFB
 
 
 def check_of(data: bytes) -> bytes:
-    """The remainder of the data's bits and 24 zero bits by the generator."""
+    """Returns CRC-24Q: the remainder of the bits followed by 24 zero bits."""
     rest = 0
     for byte in data + bytes(3):
         for n in range(7, -1, -1):
@@ -20,7 +20,7 @@ def frame_of(message: bytes) -> bytes:
 
 
 def message_at(data: bytes, place: int) -> bytes | None:
-    """The message of the whole frame with a right check that begins there."""
+    """Returns the message of the complete frame with a valid CRC that begins at this offset."""
     head = data[place : place + 3]
     if len(head) < 3 or head[0] != 0xD3:
         return None
@@ -31,7 +31,7 @@ def message_at(data: bytes, place: int) -> bytes | None:
 
 
 def frames_of(data: bytes) -> list[tuple[int, bytes]]:
-    """The leftmost valid places that lie in no frame taken before, with the messages."""
+    """Returns the offsets and messages of the leftmost valid frames."""
     found, free_from = [], 0
     for place in range(len(data)):
         message = message_at(data, place) if place >= free_from else None
@@ -39,3 +39,17 @@ def frames_of(data: bytes) -> list[tuple[int, bytes]]:
             found.append((place, message))
             free_from = place + 6 + len(message)
     return found
+
+
+def decided_length(data: bytes) -> int:
+    """Returns the least offset outside of a frame at which bytes of a frame may be missing, or the length."""
+    free_from = 0
+    for place in range(len(data)):
+        if place < free_from or data[place] != 0xD3:
+            continue
+        head = data[place : place + 3]
+        if len(head) < 3 or place + 6 + (head[1] % 4 * 256 + head[2]) > len(data):
+            return place
+        message = message_at(data, place)
+        free_from = place + 1 if message is None else place + 6 + len(message)
+    return len(data)

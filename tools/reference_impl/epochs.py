@@ -1,4 +1,4 @@
-"""Times, epochs and marks of a list of messages."""
+"""Times, epochs and loss-of-lock indicators of a list of messages."""
 from dataclasses import dataclass
 
 from .messages import WEEK, Cell, Key, Message, Other, Station
@@ -20,11 +20,11 @@ class Setup:
 
 
 class Gathered:
-    """The epochs of a list of messages. A place is a number of a message in that list."""
+    """The epochs of a list of messages. A place is the index of a message in that list."""
 
     def __init__(self, setup: Setup, messages: list[Message]) -> None:
         self.setup, self.messages = setup, messages
-        # what becomes of each message, and the times of those that are taken, by their places
+        # the outcome of each message, and the times of those that are taken, by their places
         self.kinds: list[str] = []
         self.taken: dict[int, int] = {}
         for place in range(len(messages)):
@@ -35,8 +35,8 @@ class Gathered:
         station = self.messages[place].station
         return station is not None and self.setup.station in (None, station)
 
-    def is_mark(self, place: int) -> bool:
-        """Whether the message closes the epoch that is pending."""
+    def ends_epoch(self, place: int) -> bool:
+        """Returns whether the message ends the pending epoch."""
         message = self.messages[place]
         return self.setup.by_bit and not isinstance(message, Station) and self.is_own(place) and message.more == 0
 
@@ -44,7 +44,7 @@ class Gathered:
         return min(place for place, at in self.taken.items() if at == time)
 
     def kind(self, place: int) -> str:
-        """What becomes of a message, behind those before it."""
+        """Returns the outcome of a message, given the messages before it."""
         message = self.messages[place]
         if isinstance(message, Other):
             return "ignored"
@@ -56,7 +56,7 @@ class Gathered:
         if self.taken:
             greatest = max(self.taken.values())
             ahead = (message.time - greatest) % WEEK
-            is_closed = any(self.is_mark(at) for at in range(self.first_of(greatest), place))
+            is_closed = any(self.ends_epoch(at) for at in range(self.first_of(greatest), place))
             if ahead > WEEK // 2 or ahead == 0 and is_closed:
                 return "late"
             time = greatest + ahead
@@ -66,35 +66,38 @@ class Gathered:
         return "taken"
 
     def closing(self, time: int) -> int:
-        """The place of the message that closes the epoch, or the end of the list."""
+        """Returns the place of the message that closes the epoch, or the length of the list."""
         for place in range(self.first_of(time), len(self.messages)):
-            if self.is_mark(place) or self.taken.get(place, 0) > time:
+            if self.ends_epoch(place) or self.taken.get(place, 0) > time:
                 return place
         return len(self.messages)
 
-    def fates(self, time: int) -> list[tuple[str, Cell]]:
-        """Each cell of an epoch, and what becomes of it."""
+    def outcomes(self, time: int) -> list[tuple[str, Cell]]:
+        """Returns each cell of an epoch with its outcome."""
         kept: list[Key] = []
-        fates = []
+        outcomes = []
         for place in sorted(place for place, at in self.taken.items() if at == time):
             for cell in self.messages[place].cells:
                 if cell.key is None or cell.key[2] not in self.setup.plan[cell.key[0]]:
-                    fate = "skipped"
+                    outcome = "skipped"
                 elif cell.key in kept:
-                    fate = "repeated"
+                    outcome = "repeated"
                 elif sum(key[0] == cell.key[0] for key in kept) == MOST_CELLS:
-                    fate = "crowded"
+                    outcome = "crowded"
                 else:
                     kept.append(cell.key)
-                    fate = "kept"
-                fates.append((fate, cell))
-        return fates
+                    outcome = "kept"
+                outcomes.append((outcome, cell))
+        return outcomes
 
     def kept(self, time: int) -> dict[Key, Cell]:
-        return {cell.key: cell for fate, cell in self.fates(time) if fate == "kept"}
+        return {cell.key: cell for outcome, cell in self.outcomes(time) if outcome == "kept"}
 
-    def mark(self, time: int, cell: Cell) -> int:
-        """The loss-of-lock mark of a cell that is kept."""
+    def lli(self, time: int, cell: Cell) -> int:
+        """Returns the loss-of-lock indicator of a kept cell.
+
+        Its reference is the latest earlier kept cell of the same satellite and signal with a phase and a known lock.
+        """
         if cell.phase is None:
             return 0
         is_lost = False
@@ -106,7 +109,7 @@ class Gathered:
         return int(is_lost) + 2 * cell.half_cycle
 
     def station_values(self, time: int) -> StationValues:
-        """The station's coordinates and height as they are known when the epoch is closed."""
+        """Returns the coordinates and the antenna height known when the epoch is closed."""
         coordinates, height = (0, 0, 0), 0
         for place in range(self.closing(time)):
             message = self.messages[place]

@@ -1,4 +1,4 @@
-"""Messages: their fields, and what each cell says."""
+"""Messages: their fields, and the values of each cell."""
 from dataclasses import dataclass, field
 from fractions import Fraction
 
@@ -23,11 +23,11 @@ Key = tuple[str, int, str]
 
 
 class Refused(Exception):
-    """Why a message isn't read: `Short` and its bit, `TooManyCells` or `BadTime`."""
+    """Why a message is refused: `Short` and its bit, `TooManyCells` or `BadTime`."""
 
 
 class Bits:
-    """The bits of a message, read one field after the other."""
+    """Reads the bits of a message field by field."""
 
     def __init__(self, message: bytes) -> None:
         self.count = 8 * len(message)
@@ -58,7 +58,7 @@ class Station:
 
 @dataclass
 class Cell:
-    """What a cell says, in ms, m/s and dB-Hz, and the bounds of its lock time in ms. A key where it is listed."""
+    """The values of a cell in ms, m/s and dB-Hz, and the bounds of its lock time in ms. The key of an unlisted one is None."""
 
     key: Key | None
     pseudorange: Fraction | None
@@ -83,7 +83,7 @@ class Msm:
 
 @dataclass
 class Other:
-    """A message that isn't read, and of a listed MSM the station and DF393."""
+    """A message of another number; of a listed MSM with its station and DF393."""
 
     station: int | None = None
     more: int | None = None
@@ -94,7 +94,7 @@ Message = Station | Msm | Other
 
 @dataclass(frozen=True)
 class Layout:
-    """The fields in which MSM4 and MSM7 differ: widths, the fine values that are invalid, and their units as powers."""
+    """The fields in which MSM4 and MSM7 differ: widths in bits, and units as negative powers of 2."""
 
     range_bits: int
     range_power: int
@@ -140,7 +140,7 @@ def read_station(bits: Bits) -> Station:
 
 
 def ones(mask: int, width: int) -> list[int]:
-    """The IDs that a mask lists: its first bit is ID 1."""
+    """Returns the IDs of the bits set in a mask; the first bit is ID 1."""
     return [n + 1 for n in range(width) if mask >> (width - 1 - n) & 1]
 
 
@@ -163,7 +163,7 @@ def read_msm(bits: Bits, system: str, is_long: bool) -> Msm:
 def read_cells(
     bits: Bits, system: str, is_long: bool, satellites: list[int], listed: list[tuple[int, int]]
 ) -> list[Cell]:
-    """The data of the satellites and then of the cells, one field of all of them and then the next."""
+    """Reads the satellite data and the cell data, column by column."""
     whole = {id: bits.unsigned(8) for id in satellites}
     if is_long:
         for _ in satellites:
@@ -198,16 +198,16 @@ def read_cells(
 
 
 def finer(rough: Fraction | None, fine: int, width: int, power: int) -> Fraction | None:
-    """A rough value and a fine one, whose least number is invalid."""
+    """Returns the sum of a rough and a fine value; the least fine value is invalid."""
     return None if rough is None or fine == -(2 ** (width - 1)) else rough + Fraction(fine, 2**power)
 
 
 def least_of_4(i: int) -> int | None:
-    """DF402, and what the last indicator has no upper bound for."""
+    """Returns the minimum lock time of DF402 in ms; None after the last indicator."""
     return None if i > 15 else 0 if i == 0 else 2 ** (i + 4)
 
 
 def least_of_10(i: int) -> int | None:
-    """DF407; 705 and above are an unknown lock."""
+    """Returns the minimum lock time of DF407 in ms; None from 705 on (unknown lock)."""
     k = max(0, i // 32 - 1)
     return None if i > 704 else 2**k * (i - 32 * k)

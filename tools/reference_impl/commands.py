@@ -1,4 +1,4 @@
-"""The commands: from bytes to lines."""
+"""The commands: the lines printed for the bytes of a stream."""
 from .epochs import Gathered, Plan, Setup
 from .frames import frames_of
 from .lines import epoch_lines, event_lines, fixed, has_value, header
@@ -35,7 +35,7 @@ def show_lines(data: bytes) -> list[str]:
 
 
 def signal_counts(data: bytes, station: int | None) -> dict[tuple[str, str], int]:
-    """How many cells with a value each signal has, in the table's order; those that have none are left out."""
+    """Returns the number of cells with a value of each signal that has one, in the order of the tables."""
     counts = {(system, code): 0 for system, codes in SIGNALS.items() for code in codes.values()}
     for _, message in frames_of(data):
         try:
@@ -54,13 +54,15 @@ def count_lines(counts: dict[tuple[str, str], int]) -> list[str]:
 
 
 def option_line(counts: dict[tuple[str, str], int]) -> str:
-    """The options of `convert` that name these signals."""
+    """Returns the options of `convert` that plan these signals."""
     names = {system: ",".join(code for at, code in counts if at == system) or "none" for system in SIGNALS}
     return f"--gps {names['G']} --galileo {names['E']}"
 
 
-def convert(data: bytes, setup: Setup, texts: dict[str, str]) -> tuple[list[str], Report]:
-    """The lines of the file, and the report."""
+def convert(
+    data: bytes, setup: Setup, texts: dict[str, str], has_ended: bool = True
+) -> tuple[list[str], Report]:
+    """Returns the lines of the file and the report, or, of a stream that goes on, those of its closed epochs."""
     frames = frames_of(data)
     messages = []
     for _, message in frames:
@@ -70,7 +72,8 @@ def convert(data: bytes, setup: Setup, texts: dict[str, str]) -> tuple[list[str]
             pass
     gathered = Gathered(setup, messages)
     lines: list[str] = []
-    written = [(time, epoch) for time in gathered.times if (epoch := epoch_lines(gathered, time))]
+    closed = [time for time in gathered.times if has_ended or gathered.closing(time) < len(messages)]
+    written = [(time, epoch) for time in closed if (epoch := epoch_lines(gathered, time))]
     values = [gathered.station_values(time) for time, _ in written]
     for place, (time, epoch) in enumerate(written):
         if place == 0:
@@ -81,13 +84,13 @@ def convert(data: bytes, setup: Setup, texts: dict[str, str]) -> tuple[list[str]
     report = {"bytes": len(data), "skipped_bytes": len(data) - sum(6 + len(message) for _, message in frames)}
     report |= {"frames": len(frames), "faulty": len(frames) - len(messages)}
     report |= {kind: gathered.kinds.count(kind) for kind in KINDS}
-    fates = [fate for time in gathered.times for fate, _ in gathered.fates(time)]
-    report |= {fate: fates.count(fate) for fate in ("skipped", "repeated", "crowded")}
+    outcomes = [outcome for time in gathered.times for outcome, _ in gathered.outcomes(time)]
+    report |= {outcome: outcomes.count(outcome) for outcome in ("skipped", "repeated", "crowded")}
     return lines, report | {"epochs": len(written)}
 
 
 def check_line(data: bytes) -> str:
-    """The counts of a file that is good."""
+    """Returns the counts of a valid file."""
     lines = data.decode("ascii").split("END OF HEADER", 1)[1].split("\n")[1:]
     flags = [line[31] for line in lines if line.startswith(">")]
     satellites = sum(line[:1] in ("G", "E") for line in lines)
@@ -99,7 +102,7 @@ def report_line(report: Report) -> str:
 
 
 def plan_of(gps: str, galileo: str) -> Plan:
-    """The signals that two options ask for."""
+    """Returns the plan of the options `--gps` and `--galileo`."""
     plan = {}
     for system, text in (("G", gps), ("E", galileo)):
         every = list(SIGNALS[system].values())

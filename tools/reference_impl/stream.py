@@ -1,0 +1,120 @@
+"""Random streams with plausible observations, of any length: one epoch a second, with a message 1005 every ten."""
+import random
+from collections.abc import Iterator
+
+from .messages import WEEK
+
+# 2^-31 ms and its range, for GPS and Galileo.
+RANGES = {"G": (67 << 31, 86 << 31), "E": (78 << 31, 96 << 31)}
+NUMBERS = {"G": 1077, "E": 1097}
+SATELLITES = {"G": 12, "E": 10}
+# By ID: GPS 1C, 2L and 5Q; Galileo 1C, 6C, 7Q and 5Q.
+SIGNALS = {"G": (2, 16, 23), "E": (2, 8, 15, 23)}
+PLAN = ["--gps", "1C,2L,5Q", "--galileo", "1C,6C,7Q,5Q"]
+IDS = {"G": 32, "E": 36}
+STATION = 2003
+POSITION = (40_278_817_000, 3_306_800_000, 49_199_122_000)
+CRC_TABLE = []
+for _byte in range(256):
+    _rest = _byte << 16
+    for _ in range(8):
+        _rest = _rest << 1 ^ (0x1864CFB if _rest & 0x800000 else 0)
+    CRC_TABLE.append(_rest)
+
+
+def frame_of(message: bytes) -> bytes:
+    """Returns the frame of a message; the CRC is computed by a table."""
+    frame = b"\xd3" + len(message).to_bytes(2, "big") + message
+    rest = 0
+    for byte in frame:
+        rest = (rest << 8 & 0xFFFFFF) ^ CRC_TABLE[rest >> 16 ^ byte]
+    return frame + rest.to_bytes(3, "big")
+
+
+def packed(fields: list[tuple[int, int]]) -> bytes:
+    """Returns the bits of (width, value) fields, padded with zero bits."""
+    number = count = 0
+    for width, value in fields:
+        number, count = number << width | value % (1 << width), count + width
+    padding = -count % 8
+    return (number << padding).to_bytes((count + padding) // 8, "big")
+
+
+def station_message() -> bytes:
+    x, y, z = POSITION
+    return packed([(12, 1005), (12, STATION), (10, 0b1110), (38, x), (2, 0), (38, y), (2, 0), (38, z)])
+
+
+def lock_code(milliseconds: int) -> int:
+    """Returns DF407 of a lock time."""
+    k = max(0, milliseconds.bit_length() - 6)
+    return min((milliseconds >> k) + 32 * k, 704)
+
+
+class System:
+    """The satellites of a system: each moves at its own speed, and loses a lock now and then."""
+
+    def __init__(self, system: str, draw: random.Random) -> None:
+        self.system, self.draw = system, draw
+        ids = sorted(draw.sample(range(1, IDS[system] + 1), SATELLITES[system]))
+        low, high = RANGES[system]
+        self.start = {satellite: draw.randrange(low, high) for satellite in ids}
+        # m/s in units of 0.0001
+        self.rate = {satellite: draw.randrange(-7_000_000, 7_000_000) for satellite in ids}
+        self.locked_at = {(satellite, signal): 0 for satellite in ids for signal in SIGNALS[system]}
+
+    def message(self, time: int, more: int) -> bytes:
+        """Returns the MSM7 of a time in ms."""
+        draw, low, high = self.draw, *RANGES[self.system]
+        ranges, rates = [], []
+        for satellite, start in self.start.items():
+            moved = self.rate[satellite] * time * (1 << 31) // (10_000 * 299_792_458)
+            ranges.append(low + (start - low + moved) % (high - low))
+            rates.append(self.rate[satellite])
+        rough = [at + (1 << 20) >> 21 for at in ranges]
+        speeds = [(rate + 5_000) // 10_000 for rate in rates]
+        cells: list[list[tuple[int, int]]] = [[] for _ in range(6)]
+        for n, satellite in enumerate(self.start):
+            rest = ranges[n] - (rough[n] << 21)
+            for signal in SIGNALS[self.system]:
+                key, noise = (satellite, signal), draw.getrandbits(30)
+                if noise >> 13 == 77:
+                    self.locked_at[key] = time
+                cells[0].append((20, rest // 4 + (noise & 255)))
+                cells[1].append((24, rest + (noise >> 8 & 31)))
+                cells[2].append((10, lock_code(time - self.locked_at[key])))
+                cells[3].append((1, noise >> 13 == 78))
+                cells[4].append((10, 560 + (noise >> 13 & 255)))
+                cells[5].append((15, rates[n] - 10_000 * speeds[n] + (noise >> 21 & 7)))
+        masks = [
+            (64, sum(1 << 64 - satellite for satellite in self.start)),
+            (32, sum(1 << 32 - signal for signal in SIGNALS[self.system])),
+            (len(cells[0]), -1),
+        ]
+        head = [(12, NUMBERS[self.system]), (12, STATION), (30, time % WEEK), (1, more), (18, 0), *masks]
+        rows = [[(8, at >> 10) for at in rough], [(4, 0) for _ in rough], [(10, at) for at in rough]]
+        rows.append([(14, speed) for speed in speeds])
+        return packed([*head, *(field for row in (*rows, *cells) for field in row)])
+
+
+def frames(seed: int) -> Iterator[bytes]:
+    """Returns the frames of an endless stream; the same seed gives the same frames."""
+    draw = random.Random(seed)
+    systems = [System("G", draw), System("E", draw)]
+    epoch = 0
+    while True:
+        if epoch % 10 == 0:
+            yield frame_of(station_message())
+        yield frame_of(systems[0].message(1000 * epoch, 1))
+        yield frame_of(systems[1].message(1000 * epoch, 0))
+        epoch += 1
+
+
+def stream(size: int, seed: int = 1) -> bytes:
+    """Returns whole frames of at least this number of bytes."""
+    made = bytearray()
+    for frame in frames(seed):
+        made += frame
+        if len(made) >= size:
+            return bytes(made)
+    raise AssertionError
