@@ -310,7 +310,7 @@ values_from : (s : GatherSetup) (v : StationValues) (ms : List Heard) → AllByR
 values_from s v [] k h = h
 values_from s v (m ∷ ms) k h = values_from s (values_told s v m) ms k.1 (told_values s v m k.0 h)
 
-none_told : AreToldValues no_values
+pub none_told : AreToldValues no_values
 none_told = record { x = zero_between; y = zero_between; z = zero_between; height = lit< tt } where
   zero_between : IsCoordinate (pos 0)
   zero_between = (omega (arith, ints), omega (arith, ints))
@@ -325,15 +325,15 @@ open_heard s t earlier (m ∷ ms) h k =
 
 -- ---- epochs
 
-each_epoch : (s : GatherSetup) (ms : List Heard) (ts : List ℕ) → AllByRecursion IsHeard ms → AllByRecursion IsWithin ts → AllByRecursion (IsGatheredEpoch s.plan) (closed_list_at s ms ts)
-each_epoch s ms [] h w = tt
-each_epoch s ms (t ∷ ts) h w = (
+each_epoch : (s : GatherSetup) (ms : List Heard) (ts : List ℕ) → AreToldValues s.initial → AllByRecursion IsHeard ms → AllByRecursion IsWithin ts → AllByRecursion (IsGatheredEpoch s.plan) (closed_list_at s ms ts)
+each_epoch s ms [] v h w = tt
+each_epoch s ms (t ∷ ts) v h w = (
   record {
     time = w.0;
     cells = cells_at s (timed s ms) t (timed_all s ms h);
-    values = values_from s no_values (before_closing s t ms) (open_heard s t [] ms tt h) none_told;
+    values = values_from s s.initial (before_closing s t ms) (open_heard s t [] ms tt h) v;
   },
-  each_epoch s ms ts h w.1,
+  each_epoch s ms ts v h w.1,
 )
 
 all_later : (s : GatherSetup) (ms : List Heard) (t : ℕ) (ts : List ℕ) → AllByRecursion (λ u. t < u) ts → AllByRecursion (λ (f : Closed). t < f.epoch.time) (closed_list_at s ms ts)
@@ -344,8 +344,8 @@ epochs_rise : (s : GatherSetup) (ms : List Heard) (ts : List ℕ) → Rise ts �
 epochs_rise s ms [] h = tt
 epochs_rise s ms (t ∷ ts) h = (all_later s ms t ts h.0, epochs_rise s ms ts h.1)
 
-pub epochs_gathered : (s : GatherSetup) (ms : List Heard) → AllByRecursion IsHeard ms → AreGatheredEpochs s.plan (all_epochs s ms)
-epochs_gathered s ms h = record {
-  each = each_epoch s ms (times (timed s ms)) h (times_within (timed s ms) (timed_all s ms h));
+pub epochs_gathered : (s : GatherSetup) (ms : List Heard) → AreToldValues s.initial → AllByRecursion IsHeard ms → AreGatheredEpochs s.plan (all_epochs s ms)
+epochs_gathered s ms v h = record {
+  each = each_epoch s ms (times (timed s ms)) v h (times_within (timed s ms) (timed_all s ms h));
   rise = epochs_rise s ms (times (timed s ms)) (times_rise (timed s ms));
 }

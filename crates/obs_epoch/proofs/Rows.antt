@@ -6,12 +6,12 @@ use Rattle.obs_epoch.specs.Heard.{GatherSetup, Heard, HeardCell}
 use Rattle.obs_epoch.specs.Times.{timed}
 use Rattle.rtcm_msg.specs.Msm.{week}
 use Rattle.obs_epoch.specs.Cells.{counts_of}
-use Rattle.obs_epoch.specs.Epochs.{epochs, closed_epochs}
+use Rattle.obs_epoch.specs.Epochs.{epochs, closed_epochs, no_values}
 use Rattle.obs_epoch.specs.Values.{EpochValue}
 use Rattle.obs_epoch.specs.declared.cell.Cell.{Cell}
 
 abbrev setup : GatherSetup
-setup = record { plan = record { gps = 2 ∷ []; galileo = 2 ∷ [] }; start_week = 2300; station = Some 7; by_bit = true }
+setup = record { plan = record { gps = 2 ∷ []; galileo = 2 ∷ [] }; start_week = 2300; station = Some 7; by_bit = true; initial = no_values }
 
 abbrev observed : ℕ → Bool → List HeardCell → Heard
 observed tow more cells = record { station = Some 7; tow = Some tow; more = Some more; cells = cells; unlisted = 0; point = None }

@@ -11,7 +11,7 @@ use Rattle.obs_epoch.specs.declared.clock.Answer.TheVariants as answers
 use Rattle.obs_epoch.specs.Heard.{GatherSetup, Heard, heard, is_own, HeardCell}
 use Rattle.obs_epoch.specs.Times.{Timed, greatest_time, taken_at, timed, is_late, is_past, time_of}
 use Rattle.obs_epoch.specs.Cells.{with_skipped, offered, counts_of}
-use Rattle.obs_epoch.specs.Epochs.{epoch_at, closed_so_far, closed_times, values_of, values_told, no_values}
+use Rattle.obs_epoch.specs.Epochs.{epoch_at, closed_so_far, closed_times, values_of, values_told}
 use Rattle.obs_epoch.specs.Clock.{State, HasHeardMessages, is_pending, closes_first, answer_of}
 use Rattle.obs_epoch.specs.Step.{answer_by, step_by, closed_by, closed_of}
 use Rattle.obs_epoch.specs.Gather.{with_unlisted, Gathered, Loaded, no_epoch, no_counts, noted, load, loaded_by, epoch_begun, is_same, fate_in, load_one, ticked, closed_if, take_step, end_step}
@@ -38,7 +38,7 @@ clock_stands g s ms xs shut same e = record {
 }
 
 values-push : (s : GatherSetup) (ms : List Heard) (m : Heard) → values_of s (ms ++ m ∷ []) ≡ values_told s (values_of s ms) m
-values-push s ms m = fold-append (values_told s) no_values ms (m ∷ [])
+values-push s ms m = fold-append (values_told s) s.initial ms (m ∷ [])
 
 -- before the closing
 pub record Mid (g : Gathered) (s : GatherSetup) (ms : List Heard) (shut : Bool) (ts : List ℕ) : Type 0 where

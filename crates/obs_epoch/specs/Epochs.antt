@@ -45,9 +45,9 @@ values_told s v m = if is_own s m then option_map_or (λ p. values_by p v.height
 abbrev pub no_values : StationValues
 no_values = record { x = pos 0; y = pos 0; z = pos 0; height = 0 }
 
--- the point of the last own message that told one, and the last height; 0 where there was none
+-- the point of the last own message that has one, and the last height; the initial values until then
 abbrev pub values_of : GatherSetup → List Heard → StationValues
-values_of s ms = fold (values_told s) no_values ms
+values_of s ms = fold (values_told s) s.initial ms
 
 -- the times of the epochs that are closed within the list
 abbrev pub closed_times : GatherSetup → List Timed → List ℕ

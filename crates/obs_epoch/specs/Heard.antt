@@ -18,14 +18,16 @@ use Rattle.rtcm_msg.specs.declared.summary.Summary.{Summary}
 use Rattle.rtcm_msg.specs.Entries.{entries}
 use Rattle.obs_epoch.specs.Values.{PlanValue, HasTwelveDigits}
 use Rattle.obs_epoch.specs.declared.cell.Cell.{Cell}
+use Rattle.obs_epoch.specs.declared.cell.StationValues.{StationValues}
 
--- what a gatherer is told at first: the signals that are wanted, the week of the first time, the station (none: every
--- station's messages are those of one station), and whether a message may close an epoch
+-- what a gatherer begins with: the planned signals, the week of the first time, the station (none: the messages of every
+-- station are those of one station), whether a message may close an epoch, and the station values before any message
 pub record GatherSetup : Type 0 where
   pub plan : PlanValue
   pub start_week : ℕ
   pub station : Option ℕ
   pub by_bit : Bool
+  pub initial : StationValues
 
 -- a cell of a message, of a listed satellite and signal: its values in thousandths, the lock of its phase, and whether
 -- the phase may be off by half a cycle (DF420)

@@ -13,6 +13,8 @@ use Rattle.obs_epoch.specs.Weeks.{weeks}
 use Rattle.obs_epoch.specs.declared.fault.PlanFault.{PlanFault}
 use Rattle.obs_epoch.specs.declared.fault.PlanFault.TheVariants as faults
 use Rattle.obs_epoch.specs.Heard.{GatherSetup, Heard}
+use Rattle.obs_epoch.specs.declared.cell.StationValues.{StationValues}
+use Rattle.obs_epoch.specs.Epochs.{no_values}
 use Rattle.obs_epoch.specs.Times.{timed}
 use Rattle.obs_epoch.specs.Clock.{answer_of}
 use Rattle.obs_epoch.specs.Standing.{counts_of_message}
@@ -50,9 +52,14 @@ abbrev pub is_by_bit : Gather → Bool
 is_by_bit gathers.Bit = true
 is_by_bit gathers.Time = false
 
--- what a gatherer is told at first
+-- what a gatherer begins with
+abbrev pub setup_at : PlanValue → ℕ → Option ℕ → Gather → StationValues → GatherSetup
+setup_at plan start_week station gather initial =
+    record { plan = plan; start_week = start_week; station = station; by_bit = is_by_bit gather; initial = initial }
+
+-- with station values of 0
 abbrev pub setup_of : PlanValue → ℕ → Option ℕ → Gather → GatherSetup
-setup_of plan start_week station gather = record { plan = plan; start_week = start_week; station = station; by_bit = is_by_bit gather }
+setup_of plan start_week station gather = setup_at plan start_week station gather no_values
 
 -- no station has this number
 abbrev pub is_no_station : Option ℕ → Bool

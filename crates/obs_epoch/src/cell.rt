@@ -1,5 +1,6 @@
 //! What is kept of a message: cells, and where the station stands.
 ghost use Rattle.std.specs.Prelude.{◌≡◌, ◌↔◌, IsTrue};
+ghost use Rattle.rtcm_msg.specs.Reach.{IsCoordinate};
 
 use gnss_obs::{Lock, Sat, Signal, Thousandths};
 
@@ -51,10 +52,38 @@ impl Cell {
     }
 }
 
+/// Returns whether a number fits the 38 bits of a coordinate (DF025 to DF027).
+fn is_coordinate(v: &i64) -> bool
+    ensures { IsTrue result ↔ IsCoordinate v.now }
+{
+    -137_438_953_472 <= *v && *v <= 137_438_953_471
+}
+
 impl StationValues {
+    ghost use Rattle.obs_epoch.specs.Epochs.{no_values};
+    ghost use Rattle.obs_epoch.specs.Reach.{HasCoordinates};
     ghost use Rattle.obs_epoch.specs.Values.{same_values};
 
-    /// Whether all four numbers are the same.
+    /// Returns values of 0: those of a station of which nothing is known.
+    pub fn zero() -> StationValues
+        ensures { result ≡ no_values }
+    {
+        StationValues {
+            x: 0,
+            y: 0,
+            z: 0,
+            height: 0,
+        }
+    }
+
+    /// Returns whether a 1005 or 1006 can contain these values: coordinates of 38 bits.
+    pub fn fits_message(self) -> bool
+        ensures { IsTrue result ↔ HasCoordinates self }
+    {
+        is_coordinate(&self.x) && is_coordinate(&self.y) && is_coordinate(&self.z)
+    }
+
+    /// Returns whether all four numbers are the same.
     pub fn is_same(self, other: StationValues) -> bool
         ensures value { result ≡ same_values self other }
         ensures exact { IsTrue result ↔ (self ≡ other) }

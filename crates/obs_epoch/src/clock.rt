@@ -3,9 +3,12 @@ ghost use Rattle.std.specs.Prelude.{◌==◌, ◌≡◌, ◌<◌, ◌*◌, [], t
 ghost use Rattle.std.specs.Option.{ForSome};
 ghost use Rattle.rtcm_msg.specs.Msm.{week};
 ghost use Rattle.obs_epoch.specs.Heard.{heard_summary};
+ghost use Rattle.obs_epoch.specs.Kinds.{setup_at};
 ghost use Rattle.obs_epoch.specs.Weeks.{weeks};
 
+use crate::cell::StationValues;
 use crate::plan::Plan;
+use crate::taken::{Gather, is_by_bit};
 use crate::time::{WEEK, WEEKS};
 use rtcm_msg::Summary;
 use std::marker::Model;
@@ -30,6 +33,7 @@ pub struct Clock {
     start_week: u32,
     station: Option<u16>,
     by_bit: bool,
+    initial: StationValues,
     latest: Option<u64>,
     pending: bool,
 }
@@ -41,7 +45,7 @@ impl Model for Clock {
     ghost Value = { State };
 
     ghost view = { λ c. record {
-      setup = record { plan = c.plan; start_week = c.start_week; station = c.station; by_bit = c.by_bit };
+      setup = record { plan = c.plan; start_week = c.start_week; station = c.station; by_bit = c.by_bit; initial = c.initial };
       latest = c.latest;
       pending = c.pending;
     } };
@@ -55,16 +59,23 @@ impl Clock {
     ghost use Rattle.obs_epoch.specs.declared.clock.Answer.{Answer};
 
     /// No message was taken.
-    pub fn new(plan: Plan, start_week: u32, station: Option<u16>, by_bit: bool) -> Clock
+    pub fn new(
+        plan: Plan,
+        start_week: u32,
+        station: Option<u16>,
+        gather: Gather,
+        initial: StationValues,
+    ) -> Clock
         requires { start_week < weeks }
-        ensures setup { result.setup ≡ record { plan = plan; start_week = start_week; station = station; by_bit = by_bit } }
+        ensures setup { result.setup ≡ setup_at plan start_week station gather initial }
         ensures stands { HasHeardMessages result result.setup [] false }
     {
         Clock {
             plan,
             start_week,
             station,
-            by_bit,
+            by_bit: is_by_bit(gather),
+            initial,
             latest: None,
             pending: false,
         }

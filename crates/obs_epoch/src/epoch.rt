@@ -3,7 +3,6 @@ ghost use Rattle.std.specs.Prelude.{◌≡◌, ◌+◌, ◌-◌, ◌<◌, ◌≤
 ghost use Rattle.std.specs.Vec.{vec_len, vec_capacity};
 ghost use Rattle.obs_epoch.specs.declared.cell.Cell.{Cell};
 ghost use Rattle.obs_epoch.specs.Values.{AreHeld, MayBeHeld, cells_of, satellites_written, is_written, written_among, most_cells, most_written, run};
-ghost use Rattle.obs_epoch.specs.Epochs.{no_values};
 ghost use Rattle.obs_epoch.specs.Heard.{heard_of, IsKey, IsObserved};
 ghost use Rattle.obs_epoch.specs.Held.{is_held as is_held_lem, is_cell_of, note_all};
 ghost use Rattle.obs_epoch.specs.Gather.{no_epoch, more_at, spot_in, AreInOrder};
@@ -49,9 +48,9 @@ impl Model for Epoch {
 }
 
 impl Epoch {
-    // No cell, and no station values; there is room for as many cells as are kept.
-    pub(crate) fn new(alloc: Global) -> Result<Epoch, AllocError>
-        ensures { IfOk result (λ e. e ≡ record { epoch = record { time = 0; gps = []; galileo = [] }; values = no_values }) }
+    // No cell, and these station values; there is room for as many cells as are kept.
+    pub(crate) fn new(alloc: Global, values: StationValues) -> Result<Epoch, AllocError>
+        ensures { IfOk result (λ e. e ≡ record { epoch = record { time = 0; gps = []; galileo = [] }; values = values }) }
     {
         let gps = Vec::with_capacity(alloc, MOST_CELLS)?;
         let galileo = Vec::with_capacity(alloc, MOST_CELLS)?;
@@ -59,12 +58,7 @@ impl Epoch {
             time: GpsTime::within(0),
             gps,
             galileo,
-            values: StationValues {
-                x: 0,
-                y: 0,
-                z: 0,
-                height: 0,
-            },
+            values,
             counted: None,
         })
     }

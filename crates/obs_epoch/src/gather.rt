@@ -9,12 +9,12 @@ ghost use Rattle.obs_epoch.specs.Heard.{GatherSetup, Heard, heard, heard_summary
 ghost use Rattle.obs_epoch.specs.Order.{StandByPlan};
 ghost use Rattle.obs_epoch.specs.Plans.{place_in};
 ghost use Rattle.obs_epoch.specs.Heard.{heard_of, IsObserved};
-ghost use Rattle.obs_epoch.specs.Epochs.{values_told, values_of, no_values};
+ghost use Rattle.obs_epoch.specs.Epochs.{values_told, values_of};
 ghost use Rattle.obs_epoch.specs.Held.{count_in, most_locks, no_locks, recorded};
 ghost use Rattle.obs_epoch.specs.Step.{answer_by, closed_by as closes};
 ghost use Rattle.obs_epoch.specs.Standing.{HasTakenMessages};
 ghost use Rattle.obs_epoch.specs.Values.{Closed, cells_of, most_cells, planned_of};
-ghost use Rattle.obs_epoch.specs.Kinds.{is_close_first, kind_by, is_no_station, setup_of, IsUnfitSetup};
+ghost use Rattle.obs_epoch.specs.Kinds.{is_close_first, kind_by, is_no_station, setup_at, setup_of, IsUnfitSetup};
 ghost use Rattle.obs_epoch.specs.Gathering.{HasGatheredEpochs, closed_by, closed_in, plan_in};
 ghost use Rattle.obs_epoch.specs.Calls.{TakesMessage, EndsPendingEpoch, StaysEnded, HoldsCells, HoldsLockedKeys};
 ghost use Rattle.obs_epoch.specs.declared.fault.PlanFault.{PlanFault};
@@ -30,9 +30,7 @@ use crate::lli::lli;
 use crate::locks::Locks;
 use crate::observe::observe;
 use crate::plan::Plan;
-use crate::taken::{
-    CellCounts, Fate, Gather, Taken, counted, is_by_bit, is_no_station, kind_by, no_counts,
-};
+use crate::taken::{CellCounts, Fate, Gather, Taken, counted, is_no_station, kind_by, no_counts};
 use crate::time::{GpsTime, WEEKS};
 use gnss_obs::System;
 use rtcm_msg::{Entries, Entry, LockField, Message, Summary, View};
@@ -88,9 +86,41 @@ impl Gatherer {
         ensures station { (result ≡ Err PlanFault.BadStation) ↔ ((start_week < weeks) × (is_no_station station ≡ true)) }
         ensures only { IfErr result (λ e. (e ≡ PlanFault.BadWeek) ⊎ ((e ≡ PlanFault.BadStation) ⊎ (e ≡ PlanFault.Memory))) }
     {
-        match reserved(alloc, start_week, station) {
+        Gatherer::new_at(
+            alloc,
+            plan,
+            start_week,
+            station,
+            gather,
+            StationValues::zero(),
+        )
+    }
+
+    /// Returns a gatherer as `new` does, whose station values are `initial` until a station message
+    /// has others.
+    ///
+    /// # Errors
+    ///
+    /// Those of `new`.
+    pub fn new_at(
+        alloc: Global,
+        plan: Plan,
+        start_week: u32,
+        station: Option<u16>,
+        gather: Gather,
+        initial: StationValues,
+    ) -> Result<Gatherer, PlanFault>
+        ensures stands { IfOk result (λ g. HasGatheredEpochs g (setup_at plan start_week station gather initial) [] [] None) }
+        ensures going { IfOk result (λ g. g.has_ended ≡ false) }
+        ensures none { IfOk result (λ g. closed_in g ≡ None) }
+        ensures accepted { IsOk result → (start_week < weeks) × (is_no_station station ≡ false) }
+        ensures week { (result ≡ Err PlanFault.BadWeek) ↔ (weeks ≤ start_week) }
+        ensures station { (result ≡ Err PlanFault.BadStation) ↔ ((start_week < weeks) × (is_no_station station ≡ true)) }
+        ensures only { IfErr result (λ e. (e ≡ PlanFault.BadWeek) ⊎ ((e ≡ PlanFault.BadStation) ⊎ (e ≡ PlanFault.Memory))) }
+    {
+        match reserved(alloc, start_week, station, initial) {
             Ok((epoch, locks)) => {
-                let clock = Clock::new(plan, start_week, station, is_by_bit(gather));
+                let clock = Clock::new(plan, start_week, station, gather, initial);
                 Ok(Gatherer::made(clock, epoch, locks))
             }
             Err(fault) => {
@@ -103,7 +133,7 @@ impl Gatherer {
     // No message was taken.
     fn made(clock: Clock, epoch: Epoch, locks: Locks) -> Gatherer
         requires stands { HasHeardMessages clock clock.setup [] false }
-        requires epoch { epoch ≡ record { epoch = no_epoch; values = no_values } }
+        requires epoch { epoch ≡ record { epoch = no_epoch; values = clock.setup.initial } }
         requires locks { locks ≡ no_locks }
         ensures stands { HasTakenMessages result clock.setup [] false }
         ensures going { result.has_ended ≡ false }
@@ -363,9 +393,10 @@ fn reserved(
     alloc: Global,
     start_week: u32,
     station: Option<u16>,
+    initial: StationValues,
 ) -> Result<(Epoch, Locks), PlanFault>
     ensures { MatchResult result
-        (λ r. (r.0 ≡ record { epoch = no_epoch; values = no_values }) × (r.1 ≡ no_locks) × (start_week < weeks) × (is_no_station station ≡ false))
+        (λ r. (r.0 ≡ record { epoch = no_epoch; values = initial }) × (r.1 ≡ no_locks) × (start_week < weeks) × (is_no_station station ≡ false))
         (IsUnfitSetup start_week station) }
 {
     if start_week as u64 >= WEEKS {
@@ -374,18 +405,18 @@ fn reserved(
     if is_no_station(station) {
         return Err(PlanFault::BadStation);
     }
-    match empty(alloc) {
+    match empty(alloc, initial) {
         Ok(room) => Ok(room),
         Err(_) => Err(PlanFault::Memory),
     }
 }
 
 // No cell and no lock record.
-fn empty(alloc: Global) -> Result<(Epoch, Locks), AllocError>
-    ensures { IfOk result (λ r. (r.0 ≡ record { epoch = no_epoch; values = no_values }) × (r.1 ≡ no_locks)) }
+fn empty(alloc: Global, initial: StationValues) -> Result<(Epoch, Locks), AllocError>
+    ensures { IfOk result (λ r. (r.0 ≡ record { epoch = no_epoch; values = initial }) × (r.1 ≡ no_locks)) }
 {
     let locks = Locks::new(alloc)?;
-    let epoch = Epoch::new(alloc)?;
+    let epoch = Epoch::new(alloc, initial)?;
     Ok((epoch, locks))
 }
 

@@ -3,8 +3,9 @@ ghost use Rattle.std.specs.Prelude.{ℕ, ◌<◌, ◌≤◌, ◌*◌};
 ghost use Rattle.rtcm_msg.specs.Msm.{week};
 ghost use Rattle.obs_epoch.specs.Weeks.{weeks};
 ghost use Rattle.obs_epoch.specs.Dates.{IsCivilOf, civil_of};
+ghost use Rattle.obs_epoch.specs.Epochs.{no_values};
 ghost use Rattle.obs_epoch.specs.Laws.{ClosedStay, ClosedComeFirst, NoneClosed, NeverFirst, CodesAreSpelled};
-ghost use Rattle.obs_epoch.specs.Reach.{MessagesAreHeard, EpochsAreGathered};
+ghost use Rattle.obs_epoch.specs.Reach.{AreToldValues, MessagesAreHeard, EpochsAreGathered};
 
 /// Whatever messages follow, the epochs that are closed stay the first ones.
 pub fn closed_stay()
@@ -34,6 +35,7 @@ pub fn calendar()
 pub fn gathered()
     ensures heard { MessagesAreHeard }
     ensures epochs { EpochsAreGathered }
+    ensures zero { AreToldValues no_values }
 {
     gnss_obs::laws::sizes();
     rtcm_msg::laws::measures();

@@ -1,4 +1,4 @@
-use Rattle.obs_epoch.proofs.ReachLemmas.{message_heard, epochs_gathered}
+use Rattle.obs_epoch.proofs.ReachLemmas.{message_heard, epochs_gathered, none_told}
 use Rattle.obs_epoch.proofs.laws.gathered.Goals as goal
 
 pub returns-clause-heard : goal.returns-clause-heard
@@ -11,3 +11,6 @@ returns-clause-heard c = message_heard (record {
 
 pub returns-clause-epochs : goal.returns-clause-epochs
 returns-clause-epochs c = epochs_gathered
+
+pub returns-clause-zero : goal.returns-clause-zero
+returns-clause-zero c = none_told

@@ -4,7 +4,7 @@ use Rattle.obs_epoch.specs.declared.fault.PlanFault.{PlanFault}
 use Rattle.obs_epoch.specs.declared.fault.PlanFault.TheVariants.{UnknownCode, RepeatedCode, NothingPlanned, BadWeek, BadStation, Memory}
 use Rattle.obs_epoch.specs.Gather.{Gathered}
 use Rattle.obs_epoch.specs.Kinds.{IsUnfitSetup, is_no_station}
-use Rattle.obs_epoch.proofs.gather.Gatherer.new.Goals as goal
+use Rattle.obs_epoch.proofs.gather.Gatherer.new_at.Goals as goal
 
 memory_week : ◌≡◌ {A = Result Gathered PlanFault} (Err Memory) (Err BadWeek) → ⊥
 memory_week h = cc
