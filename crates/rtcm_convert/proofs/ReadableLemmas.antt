@@ -106,13 +106,13 @@ with_readable : Known → (s : SetupValue) (es : List Closed) → AreSound s →
 with_readable k s es sound h = no_text s.texts s.gather.plan (written_epochs es) (with_valued k s es sound h)
 
 pub file_valued : Known → (s : SetupValue) (fs : List Framed) → AreSound s → 0 < epochs_in s fs → HasValue (file s fs)
-file_valued k s fs sound some = with_valued k s (all_epochs s.gather (messages_of fs)) sound (k.epochs s.gather (messages_of fs) (messages_heard k fs)) some
+file_valued k s fs sound some = with_valued k s (all_epochs s.gather (messages_of fs)) sound (k.epochs s.gather (messages_of fs) sound.initial (messages_heard k fs)) some
 
 pub file_readable : Known → (s : SetupValue) (fs : List Framed) → AreSound s → IsReadable (file s fs)
-file_readable k s fs sound = with_readable k s (all_epochs s.gather (messages_of fs)) sound (k.epochs s.gather (messages_of fs) (messages_heard k fs))
+file_readable k s fs sound = with_readable k s (all_epochs s.gather (messages_of fs)) sound (k.epochs s.gather (messages_of fs) sound.initial (messages_heard k fs))
 
 pub so_far_readable : Known → (s : SetupValue) (fs : List Framed) → AreSound s → IsReadable (so_far s fs)
 so_far_readable k s fs sound =
     let ms = messages_of fs in
-    let all = subst (λ l. AreGatheredEpochs s.gather.plan (all_epochs s.gather l)) (sym (append-nil ms)) (k.epochs s.gather ms (messages_heard k fs)) in
+    let all = subst (λ l. AreGatheredEpochs s.gather.plan (all_epochs s.gather l)) (sym (append-nil ms)) (k.epochs s.gather ms sound.initial (messages_heard k fs)) in
     with_readable k s (closed_epochs s.gather ms) sound (front s.gather.plan (closed_epochs s.gather ms) (all_epochs s.gather (ms ++ [])) (k.first s.gather ms []) all)

@@ -1,6 +1,7 @@
 -- What is written is read back: it is the text of a file value, which `rinex_file::read_file` accepts.
 use Rattle.std.specs.Prelude.{◌≡◌, ℕ, ◌<◌, ◌⊎◌, List, []}
 use Rattle.rtcm_scan.specs.Frames.{Framed}
+use Rattle.obs_epoch.specs.Reach.{AreToldValues}
 use Rattle.rinex_file.specs.Value.{FileValue}
 use Rattle.rinex_file.specs.FileValues.{AreTexts, IsFileValue}
 use Rattle.rinex_file.specs.Gathered.{AreSignals}
@@ -19,10 +20,11 @@ HasValue text = (v : FileValue) × IsTextOf v text
 abbrev pub IsReadable : List ℕ → Type 0
 IsReadable text = (text ≡ []) ⊎ HasValue text
 
--- texts that fit their columns, and listed signals: those of a setup are
+-- texts that fit their columns, listed signals, and station values that a message can have: those of a setup are
 pub record AreSound (s : SetupValue) : Type 0 where
   pub texts : AreTexts s.texts
   pub plan : AreSignals s.gather.plan
+  pub initial : AreToldValues s.gather.initial
 
 -- the file that frames make, and what is written of it so far
 abbrev pub FilesAreReadable : Type 0

@@ -1,15 +1,20 @@
--- What a conversion is told at first, as its definitions see it.
+-- What a conversion begins with, as its definitions see it.
 use Rattle.std.specs.Prelude.{◌≡◌, ◌^◌, ◌<◌, ◌≤◌, ◌⊎◌, true}
 use Rattle.obs_epoch.specs.Weeks.{weeks}
-use Rattle.obs_epoch.specs.Kinds.{is_by_bit, is_no_station}
+use Rattle.obs_epoch.specs.Epochs.{no_values}
+use Rattle.obs_epoch.specs.Kinds.{setup_at, is_no_station}
+use Rattle.obs_epoch.specs.Reach.{HasCoordinates}
+use Rattle.obs_epoch.specs.declared.cell.StationValues.{StationValues}
 use Rattle.rtcm_convert.specs.declared.setup.Setup.{Setup}
 use Rattle.rtcm_convert.specs.Converted.{SetupValue}
 
+-- with the station values that hold until a station message has others
+abbrev pub setup_value_at : Setup → StationValues → SetupValue
+setup_value_at x initial = record { gather = setup_at x.plan x.start_week x.station x.gather initial; texts = x.texts }
+
+-- with station values of 0
 abbrev pub setup_value : Setup → SetupValue
-setup_value x = record {
-  gather = record { plan = x.plan; start_week = x.start_week; station = x.station; by_bit = is_by_bit x.gather };
-  texts = x.texts;
-}
+setup_value x = setup_value_at x no_values
 
 -- a week that there is not, or a station that there is not
 abbrev pub IsBadStart : Setup → Type 0
@@ -18,3 +23,7 @@ IsBadStart x = (weeks ≤ x.start_week) ⊎ (is_no_station x.station ≡ true)
 -- a limit of more than 2^48 bytes, a week that there is not, or a station that there is not
 abbrev pub IsBad : Setup → Type 0
 IsBad x = (2 ^ 48 < x.limit) ⊎ IsBadStart x
+
+-- or coordinates that no station message can have
+abbrev pub IsBadAt : Setup → StationValues → Type 0
+IsBadAt x initial = (HasCoordinates initial → ⊥) ⊎ IsBad x

@@ -1,6 +1,7 @@
 //! The converter: a stream goes in piece by piece, and its observation file comes out.
 ghost use Rattle.std.specs.Prelude.{◌≡◌, ◌<◌, ◌≤◌, ◌+◌, ◌*◌, ◌↔◌, [], List, ℕ, true, false, length, drop};
-ghost use Rattle.std.specs.Prelude.{Err, OnOk, IfOk, IfErr, IfSome, IsErrOf};
+ghost use Rattle.std.specs.Prelude.{Err, OnOk, IsOk, IfOk, IfErr, IfSome, IsErrOf};
+ghost use Rattle.obs_epoch.specs.Reach.{HasCoordinates};
 ghost use Rattle.std.specs.Io.KnownBytes.{Keeps};
 ghost use Rattle.rtcm_scan.specs.Frames.{frames_of};
 ghost use Rattle.rtcm_scan.specs.Decided.{decided, decided_frames, most_undecided};
@@ -12,7 +13,7 @@ ghost use Rattle.obs_epoch.specs.Values.{most_cells};
 ghost use Rattle.rtcm_convert.specs.Kept.{cells_kept, locks_kept, locks_in_all, IsWithinBounds, IsKeptNow, IsKeptAtEnd};
 ghost use Rattle.rtcm_convert.specs.Moves.{Moves};
 ghost use Rattle.rtcm_convert.specs.Faults.{FailsWithReader, FailsWithWriter, IsSentAfter, IsUntouched, IsSetupFault, IsFeedFault, IsPullFault, IsFinishFault, IsRunFault};
-ghost use Rattle.rtcm_convert.specs.SetupValues.{setup_value, IsBad};
+ghost use Rattle.rtcm_convert.specs.SetupValues.{setup_value, setup_value_at, IsBad, IsBadAt};
 ghost use Rattle.rtcm_convert.specs.Converted.{SetupValue};
 ghost use Rattle.rtcm_convert.specs.Outcomes.{report_with};
 ghost use Rattle.rtcm_convert.specs.Conversion.{kept_of, KeepsNow, HasConverted, HasFinished, IsGoing, GoesOnBy, TakesPiece, CutsAtLimit, WritesPrefixOfAdded, StopsAtEnd, IsLeft, refusal};
@@ -27,6 +28,7 @@ use crate::report::Report;
 use crate::setup::Setup;
 use crate::stream::end_stream;
 use gnss_obs::System;
+use obs_epoch::StationValues;
 use rtcm_bits::{Counted, LONGEST_FRAME};
 use rtcm_scan::{Framer, MOST_BYTES, StreamFault};
 use std::alloc::Global;
@@ -54,20 +56,39 @@ impl Model for Converter {
 }
 
 impl Converter {
-    /// A converter that has taken no byte. A setup whose limit, week or station is out of range is
-    /// `BadSetup`; want of memory is `Memory`. Only this call takes memory.
+    /// Returns a converter that has taken no byte. Only this call and `new_at` allocate.
+    ///
+    /// # Errors
+    ///
+    /// `BadSetup` for a limit, week or station out of range, and `Memory`.
     pub fn new(alloc: Global, setup: Setup) -> Result<Converter, Fault>
         ensures stands { IfOk result (λ c. HasConverted c (setup_value setup) []) }
         ensures fresh { IfOk result (λ c. (c.scan.limit ≡ setup.limit) × (c.scan.taken ≡ 0)) }
         ensures bad { result ≡ Err Fault.BadSetup ↔ IsBad setup }
         ensures only { IfErr result IsSetupFault }
     {
-        if setup.limit > MOST_BYTES {
+        Converter::new_at(alloc, setup, StationValues::zero())
+    }
+
+    /// Returns a converter as `new` does, whose station values are `initial` until a station
+    /// message has others.
+    ///
+    /// # Errors
+    ///
+    /// Those of `new`, and `BadSetup` for coordinates that don't fit 38 bits (DF025 to DF027).
+    pub fn new_at(alloc: Global, setup: Setup, initial: StationValues) -> Result<Converter, Fault>
+        ensures stands { IfOk result (λ c. HasConverted c (setup_value_at setup initial) []) }
+        ensures fresh { IfOk result (λ c. (c.scan.limit ≡ setup.limit) × (c.scan.taken ≡ 0)) }
+        ensures bad { result ≡ Err Fault.BadSetup ↔ IsBadAt setup initial }
+        ensures fits { IsOk result → HasCoordinates initial }
+        ensures only { IfErr result IsSetupFault }
+    {
+        if setup.limit > MOST_BYTES || !initial.fits_message() {
             drop(setup);
             return Err(Fault::BadSetup);
         }
         let limit = setup.limit;
-        match FileWriter::new(alloc, setup) {
+        match FileWriter::new(alloc, setup, initial) {
             Ok(file_writer) => match Framer::new(alloc, limit) {
                 Ok(framer) => Ok(Converter {
                     framer,

@@ -6,7 +6,7 @@ ghost use Rattle.rtcm_scan.specs.Answers.{framed};
 ghost use Rattle.rinex_file.specs.File.{change_text};
 ghost use Rattle.obs_epoch.specs.Heard.{heard};
 ghost use Rattle.rtcm_convert.specs.Faults.{FailsToWrite, IsSetupFault};
-ghost use Rattle.rtcm_convert.specs.SetupValues.{setup_value, IsBadStart};
+ghost use Rattle.rtcm_convert.specs.SetupValues.{setup_value_at, IsBadStart};
 ghost use Rattle.rtcm_convert.specs.Filed.{HasFiledFrames, opening_of, added_by, StandsBehindClosed};
 ghost use Rattle.rtcm_convert.specs.Steps.{IsCloseFirst, IsFinalKind, WritesFirst, TakesMessage, IsTakenAgain, IsKindOf, BreaksInMessage, TakesNext, IsKindOfNext, BreaksInNext};
 ghost use Rattle.rtcm_convert.specs.Steps.{TakesFrame, BreaksInFrame, WritesRest, BreaksInRest, CountsEpochs, GathersAll};
@@ -51,20 +51,25 @@ fn write_change<W: Write>(
 }
 
 impl FileWriter {
-    /// A file_writer that has taken no frame. A week or a station out of range is `BadSetup`; want of
-    /// memory is `Memory`.
-    pub(crate) fn new(alloc: Global, setup: Setup) -> Result<FileWriter, Fault>
-        ensures stands { IfOk result (λ file_writer. HasFiledFrames file_writer (setup_value setup) []) }
+    /// Returns a file writer that has taken no frame. A week or a station out of range is
+    /// `BadSetup`.
+    pub(crate) fn new(
+        alloc: Global,
+        setup: Setup,
+        initial: StationValues,
+    ) -> Result<FileWriter, Fault>
+        ensures stands { IfOk result (λ file_writer. HasFiledFrames file_writer (setup_value_at setup initial) []) }
         ensures going { IfOk result (λ file_writer. file_writer.gatherer.has_ended ≡ false) }
         ensures bad { result ≡ Err Fault.BadSetup ↔ IsBadStart setup }
         ensures only { IfErr result IsSetupFault }
     {
-        match Gatherer::new(
+        match Gatherer::new_at(
             alloc,
             setup.plan,
             setup.start_week,
             setup.station,
             setup.gather,
+            initial,
         ) {
             Ok(gatherer) => Ok(FileWriter {
                 gatherer,

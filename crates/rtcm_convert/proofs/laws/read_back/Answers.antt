@@ -1,13 +1,16 @@
 use Rattle.rtcm_scan.specs.Frames.{frames_of}
 use Rattle.rtcm_scan.specs.Decided.{decided_frames}
-use Rattle.rtcm_convert.specs.SetupValues.{setup_value}
+use Rattle.rtcm_convert.specs.SetupValues.{setup_value_at}
 use Rattle.rtcm_convert.proofs.laws.read_back.Goals as goal
 
 pub returns-clause-file : goal.returns-clause-file
-returns-clause-file c = λ b. c.readable.ensures.file (setup_value c.args.setup.now) (frames_of b) (record { texts = c.head.ensures.texts; plan = c.head.ensures.plan })
+returns-clause-file c = λ v told b. c.readable.ensures.file (setup_value_at c.args.setup.now v) (frames_of b)
+    (record { texts = c.head.ensures.texts; plan = c.head.ensures.plan; initial = told })
 
 pub returns-clause-so_far : goal.returns-clause-so_far
-returns-clause-so_far c = λ b. c.readable.ensures.so_far (setup_value c.args.setup.now) (decided_frames b) (record { texts = c.head.ensures.texts; plan = c.head.ensures.plan })
+returns-clause-so_far c = λ v told b. c.readable.ensures.so_far (setup_value_at c.args.setup.now v) (decided_frames b)
+    (record { texts = c.head.ensures.texts; plan = c.head.ensures.plan; initial = told })
 
 pub returns-clause-some : goal.returns-clause-some
-returns-clause-some c = λ b. c.readable.ensures.some (setup_value c.args.setup.now) (frames_of b) (record { texts = c.head.ensures.texts; plan = c.head.ensures.plan })
+returns-clause-some c = λ v told b. c.readable.ensures.some (setup_value_at c.args.setup.now v) (frames_of b)
+    (record { texts = c.head.ensures.texts; plan = c.head.ensures.plan; initial = told })

@@ -1,3 +1,4 @@
+use Rattle.obs_epoch.specs.Epochs.{no_values}
 use Rattle.std.proofs.lemmas.Result.{on_ok_weaker}
 use Rattle.rtcm_convert.specs.declared.fault.Fault.TheVariants.{Failed, Finished, NoEpoch, Read, TooLong, Write}
 use Rattle.std.proofs.Common.{refl}
@@ -7,22 +8,22 @@ use Rattle.rtcm_convert.proofs.whole.convert_pieces.Goals as goal
 
 pub returns-in-Ok-clause-file : goal.returns-in-Ok-clause-file
 returns-in-Ok-clause-file g c =
-    on_ok_weaker c.take_pieces-answer.result (λ h. h c.args.setup (record { stands = c.in-Ok.ensures.stands; limit = c.in-Ok.ensures.fresh.0; valued = c.read_back.ensures.some })) c.take_pieces-answer.ensures.file
+    on_ok_weaker c.take_pieces-answer.result (λ h. h c.args.setup (record { stands = c.in-Ok.ensures.stands; limit = c.in-Ok.ensures.fresh.0; valued = (c.read_back.ensures.some no_values c.read_back.ensures.zero) })) c.take_pieces-answer.ensures.file
 
 pub returns-in-Ok-clause-report : goal.returns-in-Ok-clause-report
-returns-in-Ok-clause-report g c = c.take_pieces-answer.ensures.report c.args.setup (record { stands = c.in-Ok.ensures.stands; limit = c.in-Ok.ensures.fresh.0; valued = c.read_back.ensures.some })
+returns-in-Ok-clause-report g c = c.take_pieces-answer.ensures.report c.args.setup (record { stands = c.in-Ok.ensures.stands; limit = c.in-Ok.ensures.fresh.0; valued = (c.read_back.ensures.some no_values c.read_back.ensures.zero) })
 
 pub returns-in-Ok-clause-no_epoch : goal.returns-in-Ok-clause-no_epoch
-returns-in-Ok-clause-no_epoch g c = λ e. c.take_pieces-answer.ensures.no_epoch e c.args.setup (record { stands = c.in-Ok.ensures.stands; limit = c.in-Ok.ensures.fresh.0; valued = c.read_back.ensures.some })
+returns-in-Ok-clause-no_epoch g c = λ e. c.take_pieces-answer.ensures.no_epoch e c.args.setup (record { stands = c.in-Ok.ensures.stands; limit = c.in-Ok.ensures.fresh.0; valued = (c.read_back.ensures.some no_values c.read_back.ensures.zero) })
 
 pub returns-in-Ok-clause-too_long : goal.returns-in-Ok-clause-too_long
-returns-in-Ok-clause-too_long g c = λ e. c.take_pieces-answer.ensures.too_long e c.args.setup (record { stands = c.in-Ok.ensures.stands; limit = c.in-Ok.ensures.fresh.0; valued = c.read_back.ensures.some })
+returns-in-Ok-clause-too_long g c = λ e. c.take_pieces-answer.ensures.too_long e c.args.setup (record { stands = c.in-Ok.ensures.stands; limit = c.in-Ok.ensures.fresh.0; valued = (c.read_back.ensures.some no_values c.read_back.ensures.zero) })
 
 pub returns-in-Ok-clause-long : goal.returns-in-Ok-clause-long
-returns-in-Ok-clause-long g c = λ e. c.take_pieces-answer.ensures.long e c.args.setup (record { stands = c.in-Ok.ensures.stands; limit = c.in-Ok.ensures.fresh.0; valued = c.read_back.ensures.some })
+returns-in-Ok-clause-long g c = λ e. c.take_pieces-answer.ensures.long e c.args.setup (record { stands = c.in-Ok.ensures.stands; limit = c.in-Ok.ensures.fresh.0; valued = (c.read_back.ensures.some no_values c.read_back.ensures.zero) })
 
 pub returns-in-Ok-clause-write : goal.returns-in-Ok-clause-write
-returns-in-Ok-clause-write g c = λ e. c.take_pieces-answer.ensures.write e c.args.setup (record { stands = c.in-Ok.ensures.stands; limit = c.in-Ok.ensures.fresh.0; valued = c.read_back.ensures.some })
+returns-in-Ok-clause-write g c = λ e. c.take_pieces-answer.ensures.write e c.args.setup (record { stands = c.in-Ok.ensures.stands; limit = c.in-Ok.ensures.fresh.0; valued = (c.read_back.ensures.some no_values c.read_back.ensures.zero) })
 
 pub returns-in-Ok-clause-bad_setup : goal.returns-in-Ok-clause-bad_setup
 returns-in-Ok-clause-bad_setup g c = not_bad_in_pieces c.new.result _ _ c.take_pieces-answer.result c.in-Ok.is c.new.ensures.bad c.take_pieces-answer.ensures.only

@@ -1,3 +1,4 @@
+use Rattle.obs_epoch.specs.Epochs.{no_values}
 use Rattle.rtcm_convert.specs.Faults.{IsRunFault}
 use Rattle.rtcm_convert.specs.SetupValues.{setup_value}
 use Rattle.rtcm_convert.specs.declared.fault.Fault.TheVariants.{Failed, Finished, NoEpoch, Read, TooLong, Write}
@@ -7,7 +8,7 @@ use Rattle.rtcm_convert.proofs.WholeLemmas.{run_whole, run_report, run_empty, ru
 use Rattle.rtcm_convert.proofs.whole.convert_stream.Goals as goal
 
 pub returns-in-Ok-clause-file : goal.returns-in-Ok-clause-file
-returns-in-Ok-clause-file g c = run_whole c.in-Ok.converter c.run-answer.new.self c.args.setup _ _ _ c.run-answer.result c.prefix.ensures.nothing c.read_back.ensures.some c.in-Ok.ensures.stands c.run-answer.ensures.left.0.0 c.in-Ok.ensures.fresh.0 c.run-answer.ensures.whole
+returns-in-Ok-clause-file g c = run_whole c.in-Ok.converter c.run-answer.new.self c.args.setup _ _ _ c.run-answer.result c.prefix.ensures.nothing (c.read_back.ensures.some no_values c.read_back.ensures.zero) c.in-Ok.ensures.stands c.run-answer.ensures.left.0.0 c.in-Ok.ensures.fresh.0 c.run-answer.ensures.whole
 
 pub returns-in-Ok-clause-report : goal.returns-in-Ok-clause-report
 returns-in-Ok-clause-report g c = run_report c.in-Ok.converter c.run-answer.new.self (setup_value c.args.setup) _ _ _ c.run-answer.result c.in-Ok.ensures.stands c.run-answer.ensures.whole
