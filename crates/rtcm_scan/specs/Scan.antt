@@ -92,3 +92,10 @@ pub record HasFramed (v : FramerValue) (b : List ℕ) (fs : List Framed) : Type 
 -- whatever the framer stood for, it stands for that with this frame handed out too
 abbrev pub HandsOut : FramerValue → FramerValue → Framed → Type 0
 HandsOut old new f = (b : List ℕ) (fs : List Framed) → HasFramed old b fs → HasFramed new b (fs ++ f ∷ [])
+
+-- no byte was taken, and no more are held than before
+pub record IsScannedOn (v v' : FramerValue) : Type 0 where
+  pub held : length v'.held ≤ length v.held
+  pub limit : v'.limit ≡ v.limit
+  pub taken : v'.taken ≡ v.taken
+  pub ended : v'.has_ended ≡ v.has_ended

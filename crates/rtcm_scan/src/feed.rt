@@ -5,7 +5,6 @@ ghost use Rattle.rtcm_scan.specs.Passing.{GoesOn, IsSameStream, AtFault, UnlessB
 
 use crate::framer::{Frame, Framer};
 use crate::sink::FrameSink;
-use arrayvec::ArrayVec;
 
 /// Why not all bytes of a stream were taken.
 pub enum StreamFault<F> {
@@ -18,8 +17,14 @@ pub enum StreamFault<F> {
 }
 
 impl Framer {
-    /// Passes on frame after frame until no more are decided.
-    fn drain_into<O, S: FrameSink<O>>(&mut self, sink: &mut S, out: &mut O) -> Result<(), S::Fault>
+    /// Passes frame after frame to the sink until no more are decided. `frame` is the buffer of
+    /// their messages.
+    fn drain_into<O, S: FrameSink<O>>(
+        &mut self,
+        frame: &mut Frame,
+        sink: &mut S,
+        out: &mut O,
+    ) -> Result<(), S::Fault>
         requires { S.can_take sink.old }
         ensures goes { S.can_take sink.new }
         ensures whole { OnOk result (PassesKnown S.took self.old sink.old out.old self.new sink.new out.new) }
@@ -28,13 +33,9 @@ impl Framer {
         ensures ended { self.new.has_ended ≡ self.old.has_ended }
         ensures same { IsSameStream self.old self.new }
     {
-        let mut frame = Frame {
-            offset: 0,
-            message: ArrayVec::new(),
-        };
         while let Some(offset) = self.next_into(&mut frame.message) {
             frame.offset = offset;
-            if let Err(fault) = sink.take(&frame, out) {
+            if let Err(fault) = sink.take(frame, out) {
                 return Err(fault);
             }
         }
@@ -62,9 +63,10 @@ impl Framer {
     {
         // A method on the framer knows that it took no more than its limit.
         let _ = self.taken();
+        let mut frame = Frame::new();
         let mut taken = 0;
         loop {
-            if let Err(fault) = self.drain_into(sink, out) {
+            if let Err(fault) = self.drain_into(&mut frame, sink, out) {
                 return Err(fault);
             }
             let next = taken + self.room().min(piece.len() - taken);
@@ -126,7 +128,8 @@ impl Framer {
         ensures same { IsSameStream self.old self.new }
     {
         self.end();
-        match self.drain_into(sink, out) {
+        let mut frame = Frame::new();
+        match self.drain_into(&mut frame, sink, out) {
             Ok(()) => sink.send(out),
             Err(fault) => Err(fault),
         }

@@ -7,7 +7,7 @@
 ghost use Rattle.std.specs.Prelude.{◌≡◌, ◌+◌, ◌-◌, ◌*◌, ◌<◌, ◌≤◌, ◌^◌, ◌⊎◌, ℕ, List, [], ◌∷◌, ◌++◌, min, length, take, true, false, IsTrue, IfOk, OnOk, OnErr, IfErr, IfSome, IfNone, OnSome, ◌↔◌};
 ghost use Rattle.rtcm_scan.specs.Frame.{begins_frame, frame_length, framed_message};
 ghost use Rattle.rtcm_scan.specs.Frames.{Framed};
-ghost use Rattle.rtcm_scan.specs.Scan.{HasFramed, HandsOut, most_bytes, first_held, window_of, with_window, with_byte, with_bytes};
+ghost use Rattle.rtcm_scan.specs.Scan.{HasFramed, HandsOut, IsScannedOn, most_bytes, first_held, window_of, with_window, with_byte, with_bytes};
 ghost use Rattle.rtcm_scan.specs.Candidate.{HasTaken};
 ghost use Rattle.rtcm_scan.specs.Examined.{HasExamined, IsCountedExactly, CountsFrame, CountsKnown};
 ghost use Rattle.rtcm_scan.specs.Pending.{asked, HasFrame, with_candidate_examined};
@@ -52,6 +52,16 @@ pub enum ScanFault {
 pub struct Frame {
     pub offset: u64,
     pub message: ArrayVec<u8, LONGEST_MESSAGE>,
+}
+
+impl Frame {
+    /// An empty buffer for frames.
+    pub(crate) fn new() -> Frame {
+        Frame {
+            offset: 0,
+            message: ArrayVec::new(),
+        }
+    }
 }
 
 /// Takes a stream in blocks or byte by byte, and hands out its frames. It holds the undecided bytes
@@ -261,10 +271,7 @@ impl Framer {
         ensures room { IfNone result (length self.new.held < longest_frame) }
         ensures waits { OnSome result (self.new.is_ready ≡ self.old.is_ready) }
         ensures less { OnSome result (length self.new.held < length self.old.held) }
-        ensures held { length self.new.held ≤ length self.old.held }
-        ensures limit { self.new.limit ≡ self.old.limit }
-        ensures taken { self.new.taken ≡ self.old.taken }
-        ensures ended { self.new.has_ended ≡ self.old.has_ended }
+        ensures same { IsScannedOn self.old self.new }
     {
         let mut message = ArrayVec::new();
         match self.next_into(&mut message) {
@@ -286,10 +293,7 @@ impl Framer {
         ensures waits { OnSome result (self.new.is_ready ≡ self.old.is_ready) }
         ensures less { OnSome result (length self.new.held < length self.old.held) }
         ensures kept { IfNone result (message.new ≡ message.old) }
-        ensures held { length self.new.held ≤ length self.old.held }
-        ensures limit { self.new.limit ≡ self.old.limit }
-        ensures taken { self.new.taken ≡ self.old.taken }
-        ensures ended { self.new.has_ended ≡ self.old.has_ended }
+        ensures same { IsScannedOn self.old self.new }
     {
         match self.seek() {
             Some(size) => Some(self.take_frame(size, message)),
@@ -308,10 +312,7 @@ impl Framer {
         ensures ready { IfNone result (self.new.is_ready ≡ true) }
         ensures room { IfNone result (length self.new.held < longest_frame) }
         ensures waits { OnSome result (self.new.is_ready ≡ self.old.is_ready) }
-        ensures held { length self.new.held ≤ length self.old.held }
-        ensures limit { self.new.limit ≡ self.old.limit }
-        ensures taken { self.new.taken ≡ self.old.taken }
-        ensures ended { self.new.has_ended ≡ self.old.has_ended }
+        ensures same { IsScannedOn self.old self.new }
     {
         while self.held() > 0 {
             match self.decide() {
@@ -355,11 +356,8 @@ impl Framer {
         requires { self.old.tried ≡ 0 }
         ensures stands { (b : List ℕ) (fs : List Framed) → HasFramed self.old b fs → HasFramed self.new b fs }
         ensures counts { (b : List ℕ) (fs : List Framed) → HasExamined self.old b fs → HasExamined self.new b fs }
-        ensures held { length self.new.held ≤ length self.old.held }
         ensures ready { self.new.is_ready ≡ self.old.is_ready }
-        ensures limit { self.new.limit ≡ self.old.limit }
-        ensures taken { self.new.taken ≡ self.old.taken }
-        ensures ended { self.new.has_ended ≡ self.old.has_ended }
+        ensures same { IsScannedOn self.old self.new }
     {
         let n = pass_others(&mut self.window, &mut self.candidate);
         self.place += n as u64;

@@ -13,8 +13,8 @@ loop-offset-preserved g c =
       passed = λ s o ps b fs x. (let k = i.passed s o ps b fs x in
           (k.0 ++ f ∷ [], prefix_one_more fs k.0 f k.1, record { framer = (n.some_counts b k.0 k.2.framer).0; taken = c.in_default-take.ensures.whole s o ps k.0 k.2.taken }));
       can = c.take.ensures.goes;
-      ended = n.ended ∙ i.ended;
-      limit = n.limit ∙ i.limit;
-      taken = n.taken ∙ i.taken;
+      ended = n.same.ended ∙ i.ended;
+      limit = n.same.limit ∙ i.limit;
+      taken = n.same.taken ∙ i.taken;
       some = λ h. (let m = i.some h in (m.0, m.1 ++ f ∷ [], (n.some_counts m.0 m.1 m.2).0));
     }

@@ -1,5 +1,6 @@
-use Rattle.std.proofs.Common.{arith}
+use Rattle.std.proofs.Common.{ap, ◌∙◌, arith}
 use Rattle.rtcm_scan.specs.Answers.{frame_at}
+use Rattle.rtcm_scan.specs.Scan.{FramerValue}
 use Rattle.rtcm_scan.proofs.NextLemmas.{step_found, counts_found, less_found}
 use Rattle.rtcm_scan.proofs.framer.Framer.next_into.Goals as goal
 
@@ -19,10 +20,16 @@ pub returns-in-Some-clause-less : goal.returns-in-Some-clause-less
 returns-in-Some-clause-less c =
     let f = c.in-Some.ensures.begins in
     let l = less_found c.seek.new.self c.take_frame.new.self c.in-Some.size c.take_frame.ensures.taken f.1 f.0 in
-    omega (arith, l, c.in-Some.ensures.held)
+    omega (arith, l, c.in-Some.ensures.same.held)
 
-pub returns-in-Some-clause-held : goal.returns-in-Some-clause-held
-returns-in-Some-clause-held c =
+pub returns-in-Some-clause-same : goal.returns-in-Some-clause-same
+returns-in-Some-clause-same c =
     let f = c.in-Some.ensures.begins in
+    let same = c.in-Some.ensures.same in
     let l = less_found c.seek.new.self c.take_frame.new.self c.in-Some.size c.take_frame.ensures.taken f.1 f.0 in
-    omega (arith, l, c.in-Some.ensures.held)
+    record {
+      held = omega (arith, l, same.held);
+      limit = ap (λ (v : FramerValue). v.limit) c.take_frame.ensures.taken ∙ same.limit;
+      taken = ap (λ (v : FramerValue). v.taken) c.take_frame.ensures.taken ∙ same.taken;
+      ended = ap (λ (v : FramerValue). v.has_ended) c.take_frame.ensures.taken ∙ same.ended;
+    }

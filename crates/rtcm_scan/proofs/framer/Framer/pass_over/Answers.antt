@@ -25,19 +25,18 @@ returns-clause-counts c = λ b fs s.
     let h = others_held c.args.self.now c.self.inside.window.bytes c.pass_others-n.result (ap (λ (v : FramerValue). v.held) c.self.view_is) o.within o.others in
     rw e (to_counts c.args.self.now c.pass_others-n.result c.pass_others-n.new.candidate.count b fs c.requires h.0 h.1 (omega (arith, o.count, l)) s)
 
-pub returns-clause-held : goal.returns-clause-held
-returns-clause-held c =
+pub returns-clause-same : goal.returns-clause-same
+returns-clause-same c =
     let d : length c.pass_others-n.new.window.bytes ≡ length c.self.inside.window.bytes - c.pass_others-n.result =
     ap (λ w. length w.bytes) c.pass_others-n.ensures.window ∙ length-drop c.pass_others-n.result _ ∙ ap (λ b. length b - c.pass_others-n.result) (looked_bytes c.self.inside.window 0 (c.pass_others-n.result + c.pass_others-n.new.candidate.count)) in
     let l : length c.self.inside.window.bytes ≡ length c.args.self.now.held = ap (λ (v : FramerValue). length v.held) c.self.view_is in
-    omega (arith, d, l)
-
-pub returns-clause-taken : goal.returns-clause-taken
-returns-clause-taken c =
-    let d : length c.pass_others-n.new.window.bytes ≡ length c.self.inside.window.bytes - c.pass_others-n.result =
-    ap (λ w. length w.bytes) c.pass_others-n.ensures.window ∙ length-drop c.pass_others-n.result _ ∙ ap (λ b. length b - c.pass_others-n.result) (looked_bytes c.self.inside.window 0 (c.pass_others-n.result + c.pass_others-n.new.candidate.count)) in
     let t : c.self.inside.place + length c.self.inside.window.bytes ≡ c.args.self.now.taken = ap (λ (v : FramerValue). v.taken) c.self.view_is in
-    omega (arith, d, t, c.pass_others-n.ensures.within)
+    record {
+      held = omega (arith, d, l);
+      limit = ap (λ (v : FramerValue). v.limit) c.self.view_is;
+      taken = omega (arith, d, t, c.pass_others-n.ensures.within);
+      ended = ap (λ (v : FramerValue). v.has_ended) c.self.view_is;
+    }
 
 pub invariant_of-self : goal.invariant_of-self
 invariant_of-self c =

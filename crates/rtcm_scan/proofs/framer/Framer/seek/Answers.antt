@@ -17,10 +17,12 @@ loop-self-preserved c =
           (from_passed c.loop-self.self.has_ended c.loop-self.self.held c.in-Passed.ensures.decision) (c.loop-self.invariant.stands b fs s));
       counts = λ b fs s. o.counts b fs (counts_passed c.loop-self.self c.decide.new.self c.give_up.new.self b fs c.in-Passed.ensures.examined c.give_up.ensures h
           (from_passed c.loop-self.self.has_ended c.loop-self.self.held c.in-Passed.ensures.decision) c.in-Passed.ensures.tried (c.loop-self.invariant.counts b fs s));
-      limit = o.limit ∙ ap (λ (y : FramerValue). y.limit) c.give_up.ensures ∙ ap (λ (y : FramerValue). y.limit) c.in-Passed.ensures.examined ∙ c.loop-self.invariant.limit;
-      taken = o.taken ∙ ap (λ (y : FramerValue). y.taken) c.give_up.ensures ∙ ap (λ (y : FramerValue). y.taken) c.in-Passed.ensures.examined ∙ c.loop-self.invariant.taken;
-      ended = o.ended ∙ ap (λ (y : FramerValue). y.has_ended) c.give_up.ensures ∙ ap (λ (y : FramerValue). y.has_ended) c.in-Passed.ensures.examined ∙ c.loop-self.invariant.ended;
-      held = (let d : length c.give_up.new.self.held ≡ length c.loop-self.self.held - 1 = ap (λ (y : FramerValue). length y.held) c.give_up.ensures ∙ length-drop 1 c.decide.new.self.held ∙ ap (λ (y : FramerValue). length y.held - 1) c.in-Passed.ensures.examined in omega (arith, d, o.held, c.loop-self.invariant.held));
+      same = record {
+        held = (let d : length c.give_up.new.self.held ≡ length c.loop-self.self.held - 1 = ap (λ (y : FramerValue). length y.held) c.give_up.ensures ∙ length-drop 1 c.decide.new.self.held ∙ ap (λ (y : FramerValue). length y.held - 1) c.in-Passed.ensures.examined in omega (arith, d, o.same.held, c.loop-self.invariant.same.held));
+        limit = o.same.limit ∙ ap (λ (y : FramerValue). y.limit) c.give_up.ensures ∙ ap (λ (y : FramerValue). y.limit) c.in-Passed.ensures.examined ∙ c.loop-self.invariant.same.limit;
+        taken = o.same.taken ∙ ap (λ (y : FramerValue). y.taken) c.give_up.ensures ∙ ap (λ (y : FramerValue). y.taken) c.in-Passed.ensures.examined ∙ c.loop-self.invariant.same.taken;
+        ended = o.same.ended ∙ ap (λ (y : FramerValue). y.has_ended) c.give_up.ensures ∙ ap (λ (y : FramerValue). y.has_ended) c.in-Passed.ensures.examined ∙ c.loop-self.invariant.same.ended;
+      };
       ready = o.ready ∙ ap (λ (y : FramerValue). y.is_ready) c.give_up.ensures ∙ ap (λ (y : FramerValue). y.is_ready) c.in-Passed.ensures.examined ∙ c.loop-self.invariant.ready;
     }
 

@@ -1,6 +1,6 @@
-use Rattle.std.proofs.Common.{◌≡◌, ◌≤◌, List, ℕ, length}
+use Rattle.std.proofs.Common.{◌≡◌, List, ℕ, length}
 use Rattle.rtcm_scan.specs.Frames.{Framed}
-use Rattle.rtcm_scan.specs.Scan.{HasFramed}
+use Rattle.rtcm_scan.specs.Scan.{HasFramed, IsScannedOn}
 use Rattle.rtcm_scan.specs.Examined.{HasExamined}
 use Rattle.rtcm_scan.proofs.framer.Framer.seek.Given as goal
 
@@ -8,10 +8,7 @@ abbrev pub invariant-loop-self : goal.invariant-loop-self
 invariant-loop-self l = record {
   stands : (b : List ℕ) (fs : List Framed) → HasFramed l.fn.self b fs → HasFramed l.self b fs;
   counts : (b : List ℕ) (fs : List Framed) → HasExamined l.fn.self b fs → HasExamined l.self b fs;
-  limit : l.self.limit ≡ l.fn.self.limit;
-  taken : l.self.taken ≡ l.fn.self.taken;
-  ended : l.self.has_ended ≡ l.fn.self.has_ended;
-  held : length l.self.held ≤ length l.fn.self.held;
+  same : IsScannedOn l.fn.self l.self;
   ready : l.self.is_ready ≡ l.fn.self.is_ready;
 }
 
