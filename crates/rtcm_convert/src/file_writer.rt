@@ -4,6 +4,7 @@ ghost use Rattle.std.specs.Io.KnownBytes.{Appends};
 ghost use Rattle.rtcm_bits.specs.Device.{AppendsPrefix};
 ghost use Rattle.rtcm_scan.specs.Answers.{framed};
 ghost use Rattle.rinex_file.specs.File.{change_text};
+ghost use Rattle.rtcm_msg.specs.Viewed.{viewed_message};
 ghost use Rattle.obs_epoch.specs.Heard.{heard};
 ghost use Rattle.rtcm_convert.specs.Faults.{FailsToWrite, IsSetupFault};
 ghost use Rattle.rtcm_convert.specs.SetupValues.{setup_value_at, IsBadStart};
@@ -17,7 +18,7 @@ use crate::tally::Tally;
 use obs_epoch::{Epoch, Gatherer, Kind, PlanFault, StationValues};
 use rinex_file::{Head, HeaderTexts, write_epoch, write_event, write_header};
 use rtcm_bits::Counted;
-use rtcm_msg::{Message, decode};
+use rtcm_msg::{View, look};
 use rtcm_scan::Frame;
 use std::alloc::Global;
 use std::io::Write;
@@ -128,33 +129,33 @@ impl FileWriter {
     }
 
     /// Hands a message to the gatherer, and writes the epoch that this closes.
-    fn step<W: Write>(&mut self, message: &Message, writer: &mut Counted<W>) -> Result<Kind, Fault>
+    fn step<W: Write>(&mut self, message: &View<'_>, writer: &mut Counted<W>) -> Result<Kind, Fault>
         requires { self.old.gatherer.has_ended ≡ false }
         // The message is to be handed in again.
-        ensures first { IfOk result (λ kind. IsCloseFirst kind → WritesFirst self.old self.new (heard message.now)
+        ensures first { IfOk result (λ kind. IsCloseFirst kind → WritesFirst self.old self.new (heard (viewed_message message.now))
             (W.contents writer.old.inner) (W.contents writer.new.inner)) }
         // It was taken.
-        ensures taken { IfOk result (λ kind. IsFinalKind kind → TakesMessage self.old self.new (heard message.now)
+        ensures taken { IfOk result (λ kind. IsFinalKind kind → TakesMessage self.old self.new (heard (viewed_message message.now))
             (W.contents writer.old.inner) (W.contents writer.new.inner)) }
-        ensures again { IfOk result (λ kind. IsTakenAgain self.old (heard message.now) kind) }
-        ensures kind { IfOk result (λ kind. IsFinalKind kind → IsKindOf self.old (heard message.now) kind) }
+        ensures again { IfOk result (λ kind. IsTakenAgain self.old (heard (viewed_message message.now)) kind) }
+        ensures kind { IfOk result (λ kind. IsFinalKind kind → IsKindOf self.old (heard (viewed_message message.now)) kind) }
         ensures same { self.new.tally ≡ self.old.tally }
-        ensures part { OnErr result (BreaksInMessage self.old (heard message.now) (W.contents writer.old.inner) (W.contents writer.new.inner)) }
+        ensures part { OnErr result (BreaksInMessage self.old (heard (viewed_message message.now)) (W.contents writer.old.inner) (W.contents writer.new.inner)) }
         ensures device { FailsToWrite result writer.old writer.new }
         ensures ended { self.new.gatherer.has_ended ≡ false }
     {
-        let taken = self.gatherer.take(message);
+        let taken = self.gatherer.take_view(message);
         self.write_closed(writer)?;
         Ok(taken.kind)
     }
 
     /// Takes a message: where the gatherer closes an epoch first, it is handed in again.
-    fn take<W: Write>(&mut self, message: &Message, writer: &mut Counted<W>) -> Result<Kind, Fault>
+    fn take<W: Write>(&mut self, message: &View<'_>, writer: &mut Counted<W>) -> Result<Kind, Fault>
         requires { self.old.gatherer.has_ended ≡ false }
-        ensures whole { OnOk result (TakesNext self.old self.new (heard message.now) (W.contents writer.old.inner) (W.contents writer.new.inner)) }
-        ensures kind { IfOk result (λ kind. IsKindOfNext self.old (heard message.now) kind) }
+        ensures whole { OnOk result (TakesNext self.old self.new (heard (viewed_message message.now)) (W.contents writer.old.inner) (W.contents writer.new.inner)) }
+        ensures kind { IfOk result (λ kind. IsKindOfNext self.old (heard (viewed_message message.now)) kind) }
         ensures same { self.new.tally ≡ self.old.tally }
-        ensures part { OnErr result (BreaksInNext self.old (heard message.now) (W.contents writer.old.inner) (W.contents writer.new.inner)) }
+        ensures part { OnErr result (BreaksInNext self.old (heard (viewed_message message.now)) (W.contents writer.old.inner) (W.contents writer.new.inner)) }
         ensures device { FailsToWrite result writer.old writer.new }
         ensures ended { self.new.gatherer.has_ended ≡ false }
     {
@@ -177,7 +178,7 @@ impl FileWriter {
         ensures device { FailsToWrite result writer.old writer.new }
         ensures ended { self.new.gatherer.has_ended ≡ false }
     {
-        match decode(&frame.message) {
+        match look(&frame.message) {
             Err(_) => {
                 self.tally.count(None);
                 Ok(())
