@@ -1,5 +1,5 @@
 -- How a fault stops a conversion.
-use Rattle.std.proofs.Common.{◌≡◌, ◌<◌, refl, ℕ, List, length, Option, Some, None, Result, Err, IsErrOf, IfSome, inl, inr}
+use Rattle.std.proofs.Common.{◌≡◌, refl, ℕ, List, Option, Result, Err, IsErrOf, IfSome, inl, inr}
 use Rattle.std.specs.Prelude.{◌≢◌, ◌↔◌}
 use Rattle.rtcm_bits.specs.Device.{Device}
 use Rattle.rtcm_convert.specs.Faults.{FailsWithReader, FailsWithWriter, IsSentAfter, IsSetupFault, IsUntouched}
@@ -18,22 +18,16 @@ module _ {R W : Type 0} (left : R → Option (List ℕ)) (held : W → Option (L
 
   pub conversion_stopped : (fault : Fault) → FailsWithReader (Result-of fault) rd rd2 → FailsWithWriter (Result-of fault) o o2 → IsSentAfter (Result-of fault) o.is_sent o2.is_sent
       → (IsErrOf (Result-of fault) NoEpoch → IfSome (left rd.inner) (IsMadeEmpty x (held o.inner) (held o2.inner)))
-      → (IsErrOf (Result-of fault) TooLong → IfSome (left rd.inner) (λ b. x.limit < length b))
       → (IsErrOf (Result-of fault) TooLong → IsMadeToLimit x (left rd.inner) (left rd2.inner) (held o.inner) (held o2.inner))
       → (IsErrOf (Result-of fault) Read → IsMadeSoFar x (left rd.inner) (left rd2.inner) (held o.inner) (held o2.inner))
       → (IsErrOf (Result-of fault) Write → IsMadeInPart x (left rd.inner) (left rd2.inner) (held o.inner) (held o2.inner))
       → (Result-of fault ≡ Err BadSetup ↔ IsBad x) → (IsSetupFault fault → IsUntouched rd rd2 o o2) → (Result-of fault ≢ Err Failed) × (Result-of fault ≢ Err Finished)
       → HaveFailedBy (fault_told fault) rd rd2 o o2 × StopsConversion x left rd rd2 held o o2 (fault_told fault)
-  conversion_stopped Memory reader writer sent none long limit read write bad untouched only = ((reader.0, writer.0), untouched (inr refl))
-  conversion_stopped BadSetup reader writer sent none long limit read write bad untouched only = ((reader.0, writer.0), (bad.0 refl, untouched (inl refl)))
-  conversion_stopped TooLong reader writer sent none long limit read write bad untouched only = ((reader.0, writer.0), (long refl, limit refl, sent))
-  conversion_stopped Read reader writer sent none long limit read write bad untouched only = ((reader.0, writer.0), (read refl, sent))
-  conversion_stopped Write reader writer sent none long limit read write bad untouched only = ((reader.0, writer.0), write refl)
-  conversion_stopped Failed reader writer sent none long limit read write bad untouched only = absurd (only.0 refl)
-  conversion_stopped Finished reader writer sent none long limit read write bad untouched only = absurd (only.1 refl)
-  conversion_stopped NoEpoch reader writer sent none long limit read write bad untouched only = ((reader.0, writer.0), (none refl, sent))
-
--- a file that was made, and its report
-pub made_with : (P Q : List ℕ → Type 0) (input : Option (List ℕ)) → IfSome input P → IfSome input Q → IfSome input (λ b. P b × Q b)
-made_with P Q None p q = tt
-made_with P Q (Some b) p q = (p, q)
+  conversion_stopped Memory reader writer sent none long read write bad untouched only = ((reader.0, writer.0), untouched (inr refl))
+  conversion_stopped BadSetup reader writer sent none long read write bad untouched only = ((reader.0, writer.0), (bad.0 refl, untouched (inl refl)))
+  conversion_stopped TooLong reader writer sent none long read write bad untouched only = ((reader.0, writer.0), (long refl, sent))
+  conversion_stopped Read reader writer sent none long read write bad untouched only = ((reader.0, writer.0), (read refl, sent))
+  conversion_stopped Write reader writer sent none long read write bad untouched only = ((reader.0, writer.0), write refl)
+  conversion_stopped Failed reader writer sent none long read write bad untouched only = absurd (only.0 refl)
+  conversion_stopped Finished reader writer sent none long read write bad untouched only = absurd (only.1 refl)
+  conversion_stopped NoEpoch reader writer sent none long read write bad untouched only = ((reader.0, writer.0), (none refl, sent))

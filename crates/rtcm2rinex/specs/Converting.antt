@@ -1,8 +1,7 @@
 -- What the command `convert` has read and written.
-use Rattle.std.specs.Prelude.{◌≡◌, ◌⊎◌, ◌<◌, true, ℕ, List, length, Option, IfSome}
+use Rattle.std.specs.Prelude.{◌≡◌, ◌⊎◌, true, ℕ, List, Option, IfSome}
 use Rattle.rtcm_convert.specs.SetupValues.{IsBad}
-use Rattle.rtcm_convert.specs.Made.{IsMade, IsMadeEmpty, IsMadeToLimit, IsMadeSoFar, IsMadeInPart, IsReportOf}
-use Rattle.rtcm_convert.specs.declared.report.Report.{Report}
+use Rattle.rtcm_convert.specs.Made.{IsMade, IsMadeEmpty, IsMadeToLimit, IsMadeSoFar, IsMadeInPart}
 use Rattle.rtcm_convert.specs.Faults.{IsUntouched}
 use Rattle.rtcm_convert.specs.Moves.{Moves}
 use Rattle.rtcm_bits.specs.Device.{Device}
@@ -18,10 +17,6 @@ use Rattle.rtcm2rinex.specs.SetupTold.{IsSetupOf, IsSetupRefused}
 abbrev pub IsConverted : List Row → (r w w' : Option (List ℕ)) → Type 0
 IsConverted options r w w' = (x : Setup) × IsSetupOf options x × (IsBad x → ⊥) × IfSome r (IsMade x w w')
 
--- the file of these bytes was written, and that is its report
-abbrev pub IsMadeWith : Setup → Report → (w w' : Option (List ℕ)) → List ℕ → Type 0
-IsMadeWith x report w w' bytes = IsMade x w w' bytes × IsReportOf x report bytes
-
 -- No epoch stands in the file of what the reader had left, and that file was written: it is empty.
 abbrev pub MakesNoEpoch : Setup → (r r' w w' : Option (List ℕ)) → Type 0
 MakesNoEpoch x r r' w w' = IfSome r (IsMadeEmpty x w w')
@@ -31,8 +26,7 @@ MakesNoEpoch x r r' w w' = IfSome r (IsMadeEmpty x w w')
 abbrev pub StopsConversion : {R W : Type 0} → Setup → (R → Option (List ℕ)) → (r r' : Device R) → (W → Option (List ℕ)) → (w w' : Device W) → ToolFault → Type 0
 StopsConversion x left r r' held w w' faults.Read = Moves left r r' held w w' (IsMadeSoFar x) × (w.is_sent ≡ true → w'.is_sent ≡ true)
 StopsConversion x left r r' held w w' faults.Write = Moves left r r' held w w' (IsMadeInPart x)
-StopsConversion x left r r' held w w' (faults.Convert convert.TooLong) =
-    IfSome (left r.inner) (λ b. x.limit < length b) × Moves left r r' held w w' (IsMadeToLimit x) × (w'.is_sent ≡ true)
+StopsConversion x left r r' held w w' (faults.Convert convert.TooLong) = Moves left r r' held w w' (IsMadeToLimit x) × (w'.is_sent ≡ true)
 StopsConversion x left r r' held w w' (faults.Convert convert.NoEpoch) = Moves left r r' held w w' (MakesNoEpoch x) × (w'.is_sent ≡ true)
 StopsConversion x left r r' held w w' (faults.Convert convert.BadSetup) = IsBad x × IsUntouched r r' w w'
 StopsConversion x left r r' held w w' (faults.Convert convert.Memory) = IsUntouched r r' w w'

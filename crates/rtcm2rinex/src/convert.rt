@@ -2,7 +2,8 @@
 ghost use Rattle.std.specs.Prelude.{◌≡◌, ◌≤◌, ◌↔◌, Err, IfSome, max};
 ghost use Rattle.rtcm_bits.specs.FrameOf.{longest_frame};
 ghost use Rattle.rtcm_convert.specs.SetupValues.{IsBad};
-ghost use Rattle.rtcm2rinex.specs.Converting.{IsMadeWith, StopsConversion};
+ghost use Rattle.rtcm_convert.specs.Made.{IsMadeWith};
+ghost use Rattle.rtcm2rinex.specs.Converting.{StopsConversion};
 ghost use Rattle.rtcm2rinex.specs.Devices.{Ends};
 
 use crate::fault::ToolFault;

@@ -1,5 +1,5 @@
 -- A piece that a converter takes, and the end of its stream.
-use Rattle.std.proofs.Common.{◌≡◌, ℕ, ◌<◌, List, Bool, true, false, sym, ap, subst, ◌∙◌, Option, length, suc, zero, arith, refl}
+use Rattle.std.proofs.Common.{◌≡◌, ℕ, ◌<◌, ◌++◌, List, Bool, true, false, sym, ap, subst, ◌∙◌, Option, length, suc, zero, arith, refl}
 use Rattle.rtcm_bits.specs.Device.{Device}
 use Rattle.rtcm_scan.specs.Decided.{skipped_before}
 use Rattle.rtcm_scan.specs.Frames.{frames_of}
@@ -8,7 +8,7 @@ use Rattle.rtcm_scan.specs.Passing.{Passes, Breaks, PassesToLimit, GoesOn, AtFau
 use Rattle.rtcm_scan.specs.Scan.{FramerValue}
 use Rattle.rtcm_scan.specs.declared.feed.StreamFault.{StreamFault}
 use Rattle.rtcm_scan.specs.declared.feed.StreamFault.TheVariants.{TooLong, Sink}
-use Rattle.rtcm_convert.specs.Conversion.{Conversion, kept_of, IsGoing, IsFit, HasConverted, HasFinished, TakesPiece, CutsAtLimit, WritesPrefixOfAdded, FinishesNow, FinishesEmptyNow}
+use Rattle.rtcm_convert.specs.Conversion.{Conversion, kept_of, KeepsNow, IsGoing, IsFit, HasConverted, HasFinished, TakesPiece, CutsAtLimit, WritesPrefixOfAdded, FinishesNow, FinishesEmptyNow}
 use Rattle.rtcm_convert.specs.Converted.{SetupValue, epochs_in}
 use Rattle.rtcm_convert.specs.Kept.{IsKeptAtEnd, IsWithinBounds}
 use Rattle.rtcm_convert.specs.Laws.{FiledGrows}
@@ -29,10 +29,16 @@ abbrev pub with_flags : Bool → Bool → FramerValue → FileWriter → Convers
 with_flags failed over v w = record { scan = v; file_writer = w; has_failed = failed; has_ended = over }
 
 module _ {W : Type 0} (c : W → Option (List ℕ)) (failed over : Bool) (v v' : FramerValue) (w w' : FileWriter) (o o' : Device W) (piece : List ℕ) where
-  pub fed_whole : v.has_ended ≡ false → v'.has_ended ≡ false → Passes (Files c) v w o v' w' o' piece → TakesPiece (with_flags failed over v w) (with_flags failed over v' w') (c o.inner) (c o'.inner) piece
-  fed_whole before after k s bytes h =
+  pub fed_whole : KeepsNow (with_flags failed over v' w') → v.has_ended ≡ false → v'.has_ended ≡ false → Passes (Files c) v w o v' w' o' piece → TakesPiece (with_flags failed over v w) (with_flags failed over v' w') (c o.inner) (c o'.inner) piece
+  fed_whole keeps before after k s bytes h =
       let p = piece_whole c v v' w w' o o' piece before after k s bytes h.drained in
-      (record { going = record { fine = h.going.fine; more = h.going.more }; drained = p.0 }, p.1)
+      let now : HasConverted (with_flags failed over v' w') s (bytes ++ piece) = record { going = record { fine = h.going.fine; more = h.going.more }; drained = p.0 } in
+      record {
+        converted = now;
+        out = p.1;
+        kept = keeps.values s (bytes ++ piece) now;
+        bounds = subst (λ (n : ℕ). IsWithinBounds n (kept_of (with_flags failed over v' w'))) p.0.framer.stands.taken keeps.bounds;
+      }
 
   pub fed_fit : IsFit (with_flags failed over v w) → IsGoing (with_flags failed over v w) → w'.gatherer.has_ended ≡ false → v'.is_ready ≡ true → GoesOn v v' (length piece) → Passes (Files c) v w o v' w' o' piece
       → IsFit (with_flags failed over v' w')

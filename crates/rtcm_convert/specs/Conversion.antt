@@ -82,9 +82,17 @@ pub record KeepsNow (v : Conversion) : Type 0 where
 abbrev pub GoesOnBy : Conversion → Conversion → ℕ → Type 0
 GoesOnBy v w n = IsGoing w × (w.scan.limit ≡ v.scan.limit) × (w.scan.taken ≡ v.scan.taken + n) × (0 < n → w.scan.taken ≤ w.scan.limit)
 
--- it took these bytes more, and what they add went out
+-- The converter took the bytes up to `all`: what they add went out, and what it holds and has examined are the values for all of them,
+-- within the bounds.
+pub record Continued (w : Conversion) (a b : Option (List ℕ)) (s : SetupValue) (bytes all : List ℕ) : Type 0 where
+  pub converted : HasConverted w s all
+  pub out : AppendsDecided a b s bytes all
+  pub kept : IsKeptNow s all (kept_of w)
+  pub bounds : IsWithinBounds (length all) (kept_of w)
+
+-- it took these bytes more
 abbrev pub TakesPiece : Conversion → Conversion → Option (List ℕ) → Option (List ℕ) → List ℕ → Type 0
-TakesPiece v w a b piece = (s : SetupValue) (bytes : List ℕ) → HasConverted v s bytes → HasConverted w s (bytes ++ piece) × AppendsDecided a b s bytes (bytes ++ piece)
+TakesPiece v w a b piece = (s : SetupValue) (bytes : List ℕ) → HasConverted v s bytes → Continued w a b s bytes (bytes ++ piece)
 
 -- it took these bytes up to its limit, and what they add went out
 abbrev pub TakesToLimit : Conversion → Option (List ℕ) → Option (List ℕ) → List ℕ → Type 0

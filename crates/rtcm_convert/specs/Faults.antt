@@ -44,6 +44,10 @@ FailsWithReader result old new =
     IfErr result (λ fault. ReaderFailures fault old.failures new.failures) × OnOk result (new.failures ≡ old.failures)
     × (new.widest ≤ max old.widest longest_frame)
 
+-- so it is of both devices
+abbrev pub FailsWithDevices : {R W A : Type 0} → Result A Fault → (r r' : Device R) → (w w' : Device W) → Type 0
+FailsWithDevices result r r' w w' = FailsWithReader result r r' × FailsWithWriter result w w'
+
 -- both devices are as before
 abbrev pub IsUntouched : {R W : Type 0} → (r r' : Device R) → (w w' : Device W) → Type 0
 IsUntouched r r' w w' = (r' ≡ r) × (w' ≡ w)

@@ -7,6 +7,7 @@ pub mod Filed
 pub mod Steps
 pub mod Stream
 pub mod Conversion
+pub mod Pieces
 pub mod SetupValues
 pub mod Made
 pub mod Kept

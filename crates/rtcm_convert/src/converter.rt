@@ -1,7 +1,7 @@
 //! The converter: a stream goes in piece by piece, and its observation file comes out.
 ghost use Rattle.std.specs.Prelude.{◌≡◌, ◌<◌, ◌≤◌, ◌+◌, ◌*◌, ◌↔◌, [], List, ℕ, true, false, length, drop};
-ghost use Rattle.std.specs.Prelude.{Err, OnOk, IsOk, IfOk, IfErr, IfSome, IsErrOf};
-ghost use Rattle.obs_epoch.specs.Reach.{HasCoordinates};
+ghost use Rattle.std.specs.Prelude.{Err, OnOk, IfOk, IfErr, IfSome, IsErrOf};
+ghost use Rattle.obs_epoch.specs.Reach.{AreToldValues};
 ghost use Rattle.std.specs.Io.KnownBytes.{Keeps};
 ghost use Rattle.rtcm_scan.specs.Frames.{frames_of};
 ghost use Rattle.rtcm_scan.specs.Decided.{decided, decided_frames, most_undecided};
@@ -12,12 +12,14 @@ ghost use Rattle.obs_epoch.specs.Held.{recorded};
 ghost use Rattle.obs_epoch.specs.Values.{most_cells};
 ghost use Rattle.rtcm_convert.specs.Kept.{cells_kept, locks_kept, locks_in_all, IsWithinBounds, IsKeptNow, IsKeptAtEnd};
 ghost use Rattle.rtcm_convert.specs.Moves.{Moves};
-ghost use Rattle.rtcm_convert.specs.Faults.{FailsWithReader, FailsWithWriter, IsSentAfter, IsUntouched, IsSetupFault, IsFeedFault, IsPullFault, IsFinishFault, IsRunFault};
-ghost use Rattle.rtcm_convert.specs.SetupValues.{setup_value, setup_value_at, IsBad, IsBadAt};
+ghost use Rattle.rtcm_convert.specs.Faults.{FailsWithReader, FailsWithWriter, IsSentAfter, IsUntouched, IsSetupFault, IsFeedFault, IsPullFault, IsFinishFault, IsPiecesFault, IsRunFault};
+ghost use Rattle.rtcm_convert.specs.SetupValues.{setup_value, setup_value_at, start_at, IsBad, IsBadAt};
 ghost use Rattle.rtcm_convert.specs.Converted.{SetupValue};
 ghost use Rattle.rtcm_convert.specs.Outcomes.{report_with};
 ghost use Rattle.rtcm_convert.specs.Conversion.{kept_of, KeepsNow, HasConverted, HasFinished, IsGoing, GoesOnBy, TakesPiece, CutsAtLimit, WritesPrefixOfAdded, StopsAtEnd, IsLeft, refusal};
-ghost use Rattle.rtcm_convert.specs.Conversion.{FinishesNow, FinishesEmptyNow, CompletesFileOfAll, CompletesEmptyFileOfAll};
+ghost use Rattle.rtcm_convert.specs.Conversion.{FinishesNow, FinishesEmptyNow, CompletesFile, CompletesEmptyFile, CompletesFileOfAll, CompletesEmptyFileOfAll};
+ghost use Rattle.rtcm_convert.specs.Broken.{joined_pieces};
+ghost use Rattle.rtcm_convert.specs.Pieces.{StopsInPieces};
 ghost use Rattle.rtcm_convert.specs.Conversion.{PullsPiece, RanToFault, RanToLimit, ReadOverLimit, StopsAtPiece, StopsRunning};
 
 use crate::fault::Fault;
@@ -79,8 +81,8 @@ impl Converter {
     pub fn new_at(alloc: Global, setup: Setup, initial: StationValues) -> Result<Converter, Fault>
         ensures stands { IfOk result (λ c. HasConverted c (setup_value_at setup initial) []) }
         ensures fresh { IfOk result (λ c. (c.scan.limit ≡ setup.limit) × (c.scan.taken ≡ 0)) }
-        ensures bad { result ≡ Err Fault.BadSetup ↔ IsBadAt setup initial }
-        ensures fits { IsOk result → HasCoordinates initial }
+        ensures bad { result ≡ Err Fault.BadSetup ↔ IsBadAt (start_at setup initial) }
+        ensures fits { IfOk result (λ c. AreToldValues initial) }
         ensures only { IfErr result IsSetupFault }
     {
         if setup.limit > MOST_BYTES || !initial.fits_message() {
@@ -183,6 +185,43 @@ impl Converter {
         }
     }
 
+    /// Takes these pieces of the stream in order, ends it, and returns the report: any number of
+    /// calls of [`feed`](Converter::feed), and [`finish`](Converter::finish).
+    ///
+    /// # Errors
+    ///
+    /// Those of `feed` and `finish`.
+    pub fn take_pieces<W: Write>(
+        &mut self,
+        pieces: &[Vec<u8>],
+        writer: &mut Counted<W>,
+    ) -> Result<Report, Fault>
+        ensures refused { IfSome (refusal self.old) (λ fault. (result ≡ Err fault) × (self.new ≡ self.old) × (writer.new ≡ writer.old)) }
+        // The file of all the bytes, those taken before and those of the pieces, was completed: with
+        // that report, and what the converter holds and has examined then.
+        ensures whole { IfOk result (λ report. CompletesFile self.old self.new (W.contents writer.old.inner) (W.contents writer.new.inner) report (joined_pieces pieces.now)) }
+        // No epoch of the whole stream was written, so nothing was.
+        ensures no_epoch { IsErrOf result Fault.NoEpoch → CompletesEmptyFile self.old self.new (W.contents writer.old.inner) (W.contents writer.new.inner) (joined_pieces pieces.now) }
+        // The bytes up to the limit were taken, and what they add was written.
+        ensures long { IsErrOf result Fault.TooLong → CutsAtLimit self.old self.new (W.contents writer.old.inner) (W.contents writer.new.inner) (joined_pieces pieces.now) }
+        // The writer failed at one of the pieces, or when all were taken.
+        ensures write { IsErrOf result Fault.Write → StopsInPieces self.old (W.contents writer.old.inner) (W.contents writer.new.inner) pieces.now }
+        // Nothing waits in the writer.
+        ensures sent { IsSentAfter result writer.old.is_sent writer.new.is_sent }
+        ensures device { FailsWithWriter result writer.old writer.new }
+        ensures left { IsLeft IsPiecesFault self.old self.new result × OnOk result (self.new.has_ended ≡ true) }
+    {
+        if let Some(fault) = self.refusal() {
+            return Err(fault);
+        }
+        for piece in pieces {
+            if let Err(fault) = self.feed(piece, writer) {
+                return Err(fault);
+            }
+        }
+        self.finish(writer)
+    }
+
     /// The fault that every call answers of a converter that is finished or has failed.
     fn refusal(&self) -> Option<Fault>
         ensures { result ≡ refusal self.now }
@@ -275,6 +314,8 @@ impl Converter {
         if let Some(fault) = self.refusal() {
             return Err(fault);
         }
+        // What the contract says of no bytes is read here.
+        let _ = self.kept();
         loop {
             match self.pull(reader, writer) {
                 Ok(0) => return self.finish(writer),

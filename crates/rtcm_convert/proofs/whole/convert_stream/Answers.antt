@@ -4,26 +4,20 @@ use Rattle.rtcm_convert.specs.SetupValues.{setup_value}
 use Rattle.rtcm_convert.specs.declared.fault.Fault.TheVariants.{Failed, Finished, NoEpoch, Read, TooLong, Write}
 use Rattle.std.proofs.Common.{refl}
 use Rattle.rtcm_convert.proofs.FaultLemmas.{sent_setup, kinds_of, not_of_setup}
-use Rattle.rtcm_convert.proofs.WholeLemmas.{run_whole, run_report, run_empty, run_over, run_read, run_long, run_write, never, not_bad}
+use Rattle.rtcm_convert.proofs.WholeLemmas.{run_made, run_empty, run_read, run_long, run_write, never, not_bad}
 use Rattle.rtcm_convert.proofs.whole.convert_stream.Goals as goal
 
-pub returns-in-Ok-clause-file : goal.returns-in-Ok-clause-file
-returns-in-Ok-clause-file g c = run_whole c.in-Ok.converter c.run-answer.new.self c.args.setup _ _ _ c.run-answer.result c.prefix.ensures.nothing (c.read_back.ensures.some no_values c.read_back.ensures.zero) c.in-Ok.ensures.stands c.run-answer.ensures.left.0.0 c.in-Ok.ensures.fresh.0 c.run-answer.ensures.whole
-
-pub returns-in-Ok-clause-report : goal.returns-in-Ok-clause-report
-returns-in-Ok-clause-report g c = run_report c.in-Ok.converter c.run-answer.new.self (setup_value c.args.setup) _ _ _ c.run-answer.result c.in-Ok.ensures.stands c.run-answer.ensures.whole
+pub returns-in-Ok-clause-made : goal.returns-in-Ok-clause-made
+returns-in-Ok-clause-made g c = run_made c.in-Ok.converter c.run-answer.new.self c.args.setup _ _ _ c.run-answer.result c.prefix.ensures.nothing (c.read_back.ensures.some no_values c.read_back.ensures.zero) c.in-Ok.ensures.stands c.run-answer.ensures.left.0.0 c.in-Ok.ensures.fresh.0 c.run-answer.ensures.whole
 
 pub returns-in-Ok-clause-no_epoch : goal.returns-in-Ok-clause-no_epoch
 returns-in-Ok-clause-no_epoch g c = λ e. run_empty c.in-Ok.converter c.run-answer.new.self c.args.setup _ _ _ c.prefix.ensures.nothing c.in-Ok.ensures.stands c.run-answer.ensures.left.0.0 c.in-Ok.ensures.fresh.0 (c.run-answer.ensures.no_epoch e)
-
-pub returns-in-Ok-clause-too_long : goal.returns-in-Ok-clause-too_long
-returns-in-Ok-clause-too_long g c = λ e. run_over c.in-Ok.converter (setup_value c.args.setup) _ c.args.setup.limit c.in-Ok.ensures.stands c.in-Ok.ensures.fresh.0 (c.run-answer.ensures.long e).over
 
 pub returns-in-Ok-clause-read : goal.returns-in-Ok-clause-read
 returns-in-Ok-clause-read g c = λ e. run_read c.in-Ok.converter c.run-answer.new.self (setup_value c.args.setup) _ _ _ _ c.prefix.ensures.nothing c.in-Ok.ensures.stands (c.run-answer.ensures.read e)
 
 pub returns-in-Ok-clause-long : goal.returns-in-Ok-clause-long
-returns-in-Ok-clause-long g c = λ e. run_long c.in-Ok.converter c.run-answer.new.self (setup_value c.args.setup) _ _ _ _ c.args.setup.limit c.prefix.ensures.nothing c.in-Ok.ensures.stands c.in-Ok.ensures.fresh.0 (c.run-answer.ensures.long e)
+returns-in-Ok-clause-long g c = λ e. run_long c.in-Ok.converter c.run-answer.new.self c.args.setup _ _ _ _ c.prefix.ensures.nothing c.in-Ok.ensures.stands c.in-Ok.ensures.fresh.0 (c.run-answer.ensures.long e)
 
 pub returns-in-Ok-clause-write : goal.returns-in-Ok-clause-write
 returns-in-Ok-clause-write g c = λ e. run_write c.in-Ok.converter c.run-answer.new.self (setup_value c.args.setup) _ _ _ _ c.prefix.ensures.nothing c.in-Ok.ensures.stands (c.run-answer.ensures.write e)
@@ -36,9 +30,6 @@ returns-in-Ok-clause-only g c = never c.run-answer.result (kinds_of c.run-answer
 
 pub returns-in-Err-clause-no_epoch : goal.returns-in-Err-clause-no_epoch
 returns-in-Err-clause-no_epoch g c = λ e. absurd (not_of_setup c.in-Err.fault NoEpoch c.in-Err.ensures.only refl e)
-
-pub returns-in-Err-clause-too_long : goal.returns-in-Err-clause-too_long
-returns-in-Err-clause-too_long g c = λ e. absurd (not_of_setup c.in-Err.fault TooLong c.in-Err.ensures.only refl e)
 
 pub returns-in-Err-clause-long : goal.returns-in-Err-clause-long
 returns-in-Err-clause-long g c = λ e. absurd (not_of_setup c.in-Err.fault TooLong c.in-Err.ensures.only refl e)

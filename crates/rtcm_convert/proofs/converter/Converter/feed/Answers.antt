@@ -27,7 +27,7 @@ pub returns-in-Ok-clause-whole : goal.returns-in-Ok-clause-whole
 returns-in-Ok-clause-whole g c =
     let f = c.self.inside in
     let go : IsGoing (with_flags f.failed f.finished f.framer f.file_writer) = subst (λ (x : Conversion). IsGoing x) (sym c.self.view_is) (going_on c.args.self.now c.in_default.ensures) in
-    rw (← c.self.view_is) (fed_whole g.W.Write.contents f.failed f.finished f.framer c.feed.new.self f.file_writer c.feed.new.sink c.args.writer.now c.feed.new.out c.args.piece.now (c.self.invariant.listening go) (c.feed.ensures.same.ended ∙ c.self.invariant.listening go) c.in-Ok.ensures.whole)
+    rw (← c.self.view_is) (fed_whole g.W.Write.contents f.failed f.finished f.framer c.feed.new.self f.file_writer c.feed.new.sink c.args.writer.now c.feed.new.out c.args.piece.now (record { bounds = c.kept.ensures.bounds; values = c.kept.ensures.now }) (c.self.invariant.listening go) (c.feed.ensures.same.ended ∙ c.self.invariant.listening go) c.in-Ok.ensures.whole)
 
 pub returns-in-Ok-clause-device : goal.returns-in-Ok-clause-device
 returns-in-Ok-clause-device g c =

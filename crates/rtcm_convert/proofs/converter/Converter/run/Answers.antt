@@ -46,7 +46,7 @@ returns-in-Err-clause-write g c = λ e.
 
 pub loop-self-init : goal.loop-self-init
 loop-self-init g c = record {
-  came = ran_start c.args.self.now _ _;
+  came = ran_start c.args.self.now _ _ (record { bounds = c.kept.ensures.bounds; values = c.kept.ensures.now });
   going = going_on c.args.self.now c.in_default.ensures;
   limit = refl;
   reader = refl;

@@ -1,0 +1,116 @@
+-- Pieces that a converter takes up to the end of its stream.
+use Rattle.std.proofs.Common.{◌≡◌, ℕ, ◌+◌, ◌<◌, ◌≤◌, inl, inr, List, [], ◌∷◌, ◌++◌, sym, ap, subst, ◌∙◌, arith, Option, Result, Ok, Err, IfOk, IfErr, append-nil, append_assoc, length, length-append, take, drop, get_or}
+use Rattle.std.specs.Prelude.{flat_map, Vec}
+use Rattle.std.proofs.lemmas.List.{take_more, take-append-drop, take-append-le}
+use Rattle.std.proofs.lemmas.Grind.{flat_map-append}
+use Rattle.std.proofs.Math.Seq.{take-length}
+use Rattle.rtcm_convert.specs.Broken.{joined_pieces}
+use Rattle.rtcm_convert.specs.Converted.{SetupValue}
+use Rattle.rtcm_convert.specs.Stream.{AppendsDecided, AppendsPrefixOfDecided}
+use Rattle.rtcm_convert.specs.Conversion.{Conversion, HasConverted, TakesPiece, CutsAtLimit, WritesPrefixOfAdded, StopsAtEnd, FinishesNow, FinishesEmptyNow, CompletesFile, CompletesEmptyFile, FailsAtEnd}
+use Rattle.rtcm_convert.specs.Pieces.{StopsInPieces}
+use Rattle.rtcm_convert.specs.Faults.{IsFeedFault, IsFinishFault, IsPiecesFault}
+use Rattle.rtcm_convert.specs.declared.fault.Fault.{Fault}
+use Rattle.rtcm_convert.specs.declared.report.Report.{Report}
+use Rattle.rtcm_convert.proofs.PartLemmas.{goes_on-refl, goes_on-trans}
+use Rattle.rtcm_convert.proofs.RunLemmas.{completed_after, empty_after}
+
+-- ---- the first pieces
+
+pub pieces_more : {X : Type 0} (bytes : X → List ℕ) (pieces : List X) (i : ℕ) (d : X) → i < length pieces
+    → flat_map bytes (take i pieces) ++ bytes (get_or pieces i d) ≡ flat_map bytes (take (i + 1) pieces)
+pieces_more bytes pieces i d lt =
+    sym (ap (flat_map bytes) (take_more pieces i d lt) ∙ flat_map-append bytes (take i pieces) (get_or pieces i d ∷ [])
+    ∙ ap (λ l. flat_map bytes (take i pieces) ++ l) (append-nil (bytes (get_or pieces i d))))
+
+pub pieces_all : {X : Type 0} (bytes : X → List ℕ) (pieces : List X) (i : ℕ) → i ≤ length pieces → length pieces ≤ i → flat_map bytes (take i pieces) ≡ flat_map bytes pieces
+pieces_all bytes pieces i le ge = let e : i ≡ length pieces = omega arith in ap (λ k. flat_map bytes (take k pieces)) e ∙ ap (flat_map bytes) (take-length pieces)
+
+-- the first of some pieces and the rest of them make all
+pieces_split : {X : Type 0} (bytes : X → List ℕ) (pieces : List X) (i : ℕ) → flat_map bytes pieces ≡ flat_map bytes (take i pieces) ++ flat_map bytes (drop i pieces)
+pieces_split bytes pieces i = ap (flat_map bytes) (sym (take-append-drop i pieces)) ∙ flat_map-append bytes (take i pieces) (drop i pieces)
+
+-- these bytes were taken, and what they add went out
+abbrev pub HasTaken : Conversion → Conversion → Option (List ℕ) → Option (List ℕ) → List ℕ → Type 0
+HasTaken v w a b front = (s : SetupValue) (bytes : List ℕ) → HasConverted v s bytes → HasConverted w s (bytes ++ front) × AppendsDecided a b s bytes (bytes ++ front)
+
+pub taken_none : (v : Conversion) (a : Option (List ℕ)) → HasTaken v v a a []
+taken_none v a s bytes x =
+    (subst (λ (l : List ℕ). HasConverted v s l) (sym (append-nil bytes)) x, subst (λ (l : List ℕ). AppendsDecided a a s bytes l) (sym (append-nil bytes)) (goes_on-refl a _))
+
+pub taken_then : (v w x : Conversion) (a b c : Option (List ℕ)) (front piece all : List ℕ) → front ++ piece ≡ all → HasTaken v w a b front → TakesPiece w x b c piece → HasTaken v x a c all
+taken_then v w x a b c front piece all more f g s bytes y =
+    let i = f s bytes y in
+    let j = g s (bytes ++ front) i.0 in
+    let e : (bytes ++ front) ++ piece ≡ bytes ++ all = append_assoc bytes front piece ∙ ap (λ l. bytes ++ l) more in
+    (subst (λ (l : List ℕ). HasConverted x s l) e j.converted, subst (λ (l : List ℕ). AppendsDecided a c s bytes l) e (goes_on-trans a b c _ _ _ i.1 j.out))
+
+pub longer_by : (u v w : ℕ) (front piece all : List ℕ) → front ++ piece ≡ all → v ≡ u + length front → w ≡ v + length piece → w ≡ u + length all
+longer_by u v w front piece all more d e = let l : length all ≡ length front + length piece = ap length (sym more) ∙ length-append front piece in omega (arith, d, e, l)
+
+module _ (v w x : Conversion) (a b c : Option (List ℕ)) (front : List ℕ) (came : HasTaken v w a b front) where
+  -- ---- the end
+
+  pub pieces_whole : {E : Type 0} (all : List ℕ) (result : Result Report E) → front ≡ all → IfOk result (λ report. FinishesNow w x b c report) → IfOk result (λ report. CompletesFile v x a c report all)
+  pieces_whole all (Ok report) e f = subst (CompletesFile v x a c report) e (λ s bytes y. (let i = came s bytes y in completed_after x a b c s bytes (bytes ++ front) report i.1 (f s (bytes ++ front) i.0)))
+  pieces_whole all (Err d) e f = tt
+
+  pub pieces_empty : (all : List ℕ) → front ≡ all → FinishesEmptyNow w x b c → CompletesEmptyFile v x a c all
+  pieces_empty all e f = subst (CompletesEmptyFile v x a c) e (λ s bytes y. (let i = came s bytes y in empty_after x a b c s bytes (bytes ++ front) i.1 (f s (bytes ++ front) i.0)))
+
+  pub pieces_broke_at_end : {Z : Type 0} → (pieces : List (Vec ℕ Z)) → front ≡ joined_pieces pieces → StopsAtEnd w b c → StopsInPieces v a c pieces
+  pieces_broke_at_end pieces e stop = inr (λ s bytes y.
+      let i = came s bytes y in
+      let at : bytes ++ front ≡ bytes ++ joined_pieces pieces = ap (λ l. bytes ++ l) e in
+      subst (λ (l : List ℕ). FailsAtEnd a c s bytes l) at (record { mid = b; before = i.1; last = stop s (bytes ++ front) i.0 }))
+
+  -- ---- a piece
+
+  -- a piece that goes over the limit: what went out is that of all the pieces up to it
+  pub pieces_long : (piece all rest : List ℕ) → w.scan.limit ≡ v.scan.limit → w.scan.taken ≡ v.scan.taken + length front → all ≡ (front ++ piece) ++ rest → CutsAtLimit w x b c piece → CutsAtLimit v x a c all
+  pieces_long piece all rest same taken e q = record {
+    adds = λ s bytes y.
+        (let i = came s bytes y in
+        let out = goes_on-trans a b c _ _ _ i.1 (q.adds s (bytes ++ front) i.0) in
+        let whole : bytes ++ all ≡ ((bytes ++ front) ++ piece) ++ rest =
+        ap (λ l. bytes ++ l) e ∙ sym (append_assoc bytes (front ++ piece) rest) ∙ ap (λ l. l ++ rest) (sym (append_assoc bytes front piece)) in
+        let had : w.scan.taken ≡ length (bytes ++ front) = i.0.drained.framer.stands.taken in
+        let size : length ((bytes ++ front) ++ piece) ≡ length (bytes ++ front) + length piece = length-append (bytes ++ front) piece in
+        let over : w.scan.limit < w.scan.taken + length piece = q.over in
+        let room : w.scan.limit ≤ length ((bytes ++ front) ++ piece) = omega (arith, over, had, size) in
+        let cut : take w.scan.limit ((bytes ++ front) ++ piece) ≡ take v.scan.limit (bytes ++ all) =
+        sym (take-append-le w.scan.limit ((bytes ++ front) ++ piece) rest room) ∙ ap (take w.scan.limit) (sym whole) ∙ ap (λ n. take n (bytes ++ all)) same in
+        subst (λ (l : List ℕ). AppendsDecided a c s bytes l) cut out);
+    full = q.full ∙ same;
+    over = (let l : length all ≡ length (front ++ piece) + length rest = ap length e ∙ length-append (front ++ piece) rest in
+        let m : length (front ++ piece) ≡ length front + length piece = length-append front piece in
+        let over : w.scan.limit < w.scan.taken + length piece = q.over in
+        omega (arith, l, m, over, taken, same));
+  }
+
+-- the pieces after the first ones
+pub pieces_rest : {X : Type 0} (bytes : X → List ℕ) (pieces : List X) (i : ℕ) (piece : List ℕ) → flat_map bytes (take i pieces) ++ piece ≡ flat_map bytes (take (i + 1) pieces)
+    → flat_map bytes pieces ≡ (flat_map bytes (take i pieces) ++ piece) ++ flat_map bytes (drop (i + 1) pieces)
+pieces_rest bytes pieces i piece more = pieces_split bytes pieces (i + 1) ∙ ap (λ l. l ++ flat_map bytes (drop (i + 1) pieces)) (sym more)
+
+-- the writer failed at a piece
+pub pieces_broke : {Z : Type 0} → (v w : Conversion) (a b c : Option (List ℕ)) (pieces : List (Vec ℕ Z)) (i : ℕ) (piece : List ℕ) → HasTaken v w a b (joined_pieces (take i pieces)) → i < length pieces
+    → joined_pieces (take i pieces) ++ piece ≡ joined_pieces (take (i + 1) pieces) → WritesPrefixOfAdded w b c piece → StopsInPieces v a c pieces
+pieces_broke v w a b c pieces i piece came less more stop = inl (
+  i,
+  less,
+  λ s bytes y.
+      let j = came s bytes y in
+      let e : (bytes ++ joined_pieces (take i pieces)) ++ piece ≡ bytes ++ joined_pieces (take (i + 1) pieces) = append_assoc bytes (joined_pieces (take i pieces)) piece ∙ ap (λ l. bytes ++ l) more in
+      record { mid = b; before = j.1; last = subst (λ (l : List ℕ). AppendsPrefixOfDecided b c s (bytes ++ joined_pieces (take i pieces)) l) e (stop s (bytes ++ joined_pieces (take i pieces)) j.0) },
+)
+
+-- ---- faults
+
+pub feed_in_pieces : (fault : Fault) → IsFeedFault fault → IsPiecesFault fault
+feed_in_pieces fault (inl e) = inl e
+feed_in_pieces fault (inr e) = inr (inr e)
+
+pub finish_in_pieces : {A : Type 0} (r : Result A Fault) (P : Fault → Type 0) → IfErr r (λ f. IsFinishFault f × P f) → IfErr r (λ f. IsPiecesFault f × P f)
+finish_in_pieces (Ok x) P h = tt
+finish_in_pieces (Err fault) P h = (inr h.0, h.1)
