@@ -55,10 +55,6 @@ pub record AreGathered (system : System) (signals : List ℕ) (cells : List Cell
   pub each : AllByRecursion (IsGathered system signals) cells
   pub apart : IsDistinct same_place cells
 
--- coordinates of 38 bits (DF025 to DF027)
-abbrev pub HasCoordinates : StationValues → Type 0
-HasCoordinates v = IsCoordinate v.x × (IsCoordinate v.y × IsCoordinate v.z)
-
 -- station values of a message, or none
 pub record AreToldValues (v : StationValues) : Type 0 where
   pub x : IsCoordinate v.x

@@ -61,7 +61,7 @@ fn is_coordinate(v: &i64) -> bool
 
 impl StationValues {
     ghost use Rattle.obs_epoch.specs.Epochs.{no_values};
-    ghost use Rattle.obs_epoch.specs.Reach.{HasCoordinates};
+    ghost use Rattle.obs_epoch.specs.Reach.{AreToldValues};
     ghost use Rattle.obs_epoch.specs.Values.{same_values};
 
     /// Returns values of 0: those of a station of which nothing is known.
@@ -78,7 +78,7 @@ impl StationValues {
 
     /// Returns whether a 1005 or 1006 can contain these values: coordinates of 38 bits.
     pub fn fits_message(self) -> bool
-        ensures { IsTrue result ↔ HasCoordinates self }
+        ensures { IsTrue result ↔ AreToldValues self }
     {
         is_coordinate(&self.x) && is_coordinate(&self.y) && is_coordinate(&self.z)
     }

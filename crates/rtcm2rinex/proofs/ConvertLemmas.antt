@@ -4,7 +4,7 @@ use Rattle.std.specs.Prelude.{◌≢◌, ◌↔◌}
 use Rattle.rtcm_bits.specs.Device.{Device}
 use Rattle.rtcm_convert.specs.Faults.{FailsWithReader, FailsWithWriter, IsSentAfter, IsSetupFault, IsUntouched}
 use Rattle.rtcm_convert.specs.Made.{IsMadeEmpty, IsMadeSoFar, IsMadeInPart, IsMadeToLimit}
-use Rattle.rtcm_convert.specs.SetupValues.{IsBad}
+use Rattle.rtcm_convert.specs.SetupValues.{IsBad, start_zero}
 use Rattle.rtcm_convert.specs.declared.fault.Fault.{Fault}
 use Rattle.rtcm_convert.specs.declared.fault.Fault.TheVariants.{Memory, BadSetup, TooLong, Read, Write, Failed, Finished, NoEpoch}
 use Rattle.rtcm_convert.specs.declared.report.Report.{Report}
@@ -17,10 +17,10 @@ module _ {R W : Type 0} (left : R → Option (List ℕ)) (held : W → Option (L
   Result-of fault = Err fault
 
   pub conversion_stopped : (fault : Fault) → FailsWithReader (Result-of fault) rd rd2 → FailsWithWriter (Result-of fault) o o2 → IsSentAfter (Result-of fault) o.is_sent o2.is_sent
-      → (IsErrOf (Result-of fault) NoEpoch → IfSome (left rd.inner) (IsMadeEmpty x (held o.inner) (held o2.inner)))
-      → (IsErrOf (Result-of fault) TooLong → IsMadeToLimit x (left rd.inner) (left rd2.inner) (held o.inner) (held o2.inner))
-      → (IsErrOf (Result-of fault) Read → IsMadeSoFar x (left rd.inner) (left rd2.inner) (held o.inner) (held o2.inner))
-      → (IsErrOf (Result-of fault) Write → IsMadeInPart x (left rd.inner) (left rd2.inner) (held o.inner) (held o2.inner))
+      → (IsErrOf (Result-of fault) NoEpoch → IfSome (left rd.inner) (IsMadeEmpty (start_zero x) (held o.inner) (held o2.inner)))
+      → (IsErrOf (Result-of fault) TooLong → IsMadeToLimit (start_zero x) (left rd.inner) (left rd2.inner) (held o.inner) (held o2.inner))
+      → (IsErrOf (Result-of fault) Read → IsMadeSoFar (start_zero x) (left rd.inner) (left rd2.inner) (held o.inner) (held o2.inner))
+      → (IsErrOf (Result-of fault) Write → IsMadeInPart (start_zero x) (left rd.inner) (left rd2.inner) (held o.inner) (held o2.inner))
       → (Result-of fault ≡ Err BadSetup ↔ IsBad x) → (IsSetupFault fault → IsUntouched rd rd2 o o2) → (Result-of fault ≢ Err Failed) × (Result-of fault ≢ Err Finished)
       → HaveFailedBy (fault_told fault) rd rd2 o o2 × StopsConversion x left rd rd2 held o o2 (fault_told fault)
   conversion_stopped Memory reader writer sent none long read write bad untouched only = ((reader.0, writer.0), untouched (inr refl))

@@ -1,7 +1,7 @@
 //! The command `convert`: the observation file of a stream.
 ghost use Rattle.std.specs.Prelude.{◌≡◌, ◌≤◌, ◌↔◌, Err, IfSome, max};
 ghost use Rattle.rtcm_bits.specs.FrameOf.{longest_frame};
-ghost use Rattle.rtcm_convert.specs.SetupValues.{IsBad};
+ghost use Rattle.rtcm_convert.specs.SetupValues.{IsBad, start_zero};
 ghost use Rattle.rtcm_convert.specs.Made.{IsMadeWith};
 ghost use Rattle.rtcm2rinex.specs.Converting.{StopsConversion};
 ghost use Rattle.rtcm2rinex.specs.Devices.{Ends};
@@ -23,7 +23,7 @@ pub fn run_convert<R: Read, W: Write>(
     writer: &mut Counted<W>,
 ) -> Result<Report, ToolFault>
     ensures ends { Ends result reader.old reader.new writer.old writer.new
-        (λ report. IfSome (R.remaining reader.old.inner) (IsMadeWith setup report (W.contents writer.old.inner) (W.contents writer.new.inner)))
+        (λ report. IfSome (R.remaining reader.old.inner) (IsMadeWith (start_zero setup) report (W.contents writer.old.inner) (W.contents writer.new.inner)))
         (StopsConversion setup R.remaining reader.old reader.new W.contents writer.old writer.new) }
     ensures bad_setup { result ≡ Err (ToolFault.Convert Fault.BadSetup) ↔ IsBad setup }
     ensures widest { reader.new.widest ≤ max reader.old.widest longest_frame }

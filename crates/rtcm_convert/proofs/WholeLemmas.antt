@@ -9,11 +9,10 @@ use Rattle.rtcm_convert.specs.Converted.{SetupValue, so_far, file, epochs_in}
 use Rattle.rtcm_convert.specs.Fed.{AppendsBetween, AppendsPrefixBetween}
 use Rattle.rtcm_convert.specs.Laws.{NothingYet}
 use Rattle.rtcm_convert.specs.Stream.{AppendsDecided}
-use Rattle.rtcm_convert.specs.SetupValues.{setup_value}
+use Rattle.rtcm_convert.specs.SetupValues.{Start, start_value}
 use Rattle.rtcm_convert.specs.Readable.{HasValue}
 use Rattle.rtcm_convert.specs.Made.{IsMade, IsMadeEmpty, IsMadeWith, IsMadeToLimit, AreMadeToLimit}
 use Rattle.rtcm_convert.specs.Pieces.{StopsInPieces}
-use Rattle.rtcm_convert.specs.declared.setup.Setup.{Setup}
 use Rattle.rtcm_convert.specs.Broken.{IsBetween, IsAtRest, IsBroken, FailedWriting, FailedWritingAtEnd, BrokeInPieces, joined_pieces, of_first}
 use Rattle.rtcm_convert.specs.Conversion.{Conversion, HasConverted, WritesAdded, CutsAtLimit, IsPastLimit, Completed, CompletedEmpty, CompletesFile, CompletesEmptyFile, FailsAtPiece, FailsAtEnd, RanToLimit, FailsFeeding, FailsFinishing}
 use Rattle.rtcm_convert.specs.declared.report.Report.{Report}
@@ -35,49 +34,49 @@ same_limit : (v w : Conversion) (n limit : ℕ) → n ≤ w.scan.limit → w.sca
 same_limit v w n limit le same e = subst (λ (k : ℕ). n ≤ k) (same ∙ e) le
 
 -- a file with an epoch is the text of a file value
-abbrev pub IsValued : Setup → Type 0
-IsValued x = (b : List ℕ) → 0 < epochs_in (setup_value x) (frames_of b) → HasValue (file (setup_value x) (frames_of b))
+abbrev pub IsValued : Start → Type 0
+IsValued x = (b : List ℕ) → 0 < epochs_in (start_value x) (frames_of b) → HasValue (file (start_value x) (frames_of b))
 
-pub made : (v w : Conversion) (x : Setup) (a b : Option (List ℕ)) (bytes : List ℕ) (report : Report) → NothingYet → IsValued x → w.scan.limit ≡ v.scan.limit → v.scan.limit ≡ x.limit
-    → Completed w a b (setup_value x) [] bytes report → IsMade x a b bytes
+pub made : (v w : Conversion) (x : Start) (a b : Option (List ℕ)) (bytes : List ℕ) (report : Report) → NothingYet → IsValued x → w.scan.limit ≡ v.scan.limit → v.scan.limit ≡ x.setup.limit
+    → Completed w a b (start_value x) [] bytes report → IsMade x a b bytes
 made v w x a b bytes report nothing valued same e p = record {
-  within = same_limit v w (length bytes) x.limit p.finished.within same e;
+  within = same_limit v w (length bytes) x.setup.limit p.finished.within same e;
   some = p.some;
   value = valued bytes p.some;
-  out = from_nothing nothing a b (setup_value x) (file (setup_value x) (frames_of bytes)) p.out;
+  out = from_nothing nothing a b (start_value x) (file (start_value x) (frames_of bytes)) p.out;
 }
 
-pub made_empty : (v w : Conversion) (x : Setup) (a b : Option (List ℕ)) (bytes : List ℕ) → NothingYet → w.scan.limit ≡ v.scan.limit → v.scan.limit ≡ x.limit
-    → CompletedEmpty w a b (setup_value x) [] bytes → IsMadeEmpty x a b bytes
+pub made_empty : (v w : Conversion) (x : Start) (a b : Option (List ℕ)) (bytes : List ℕ) → NothingYet → w.scan.limit ≡ v.scan.limit → v.scan.limit ≡ x.setup.limit
+    → CompletedEmpty w a b (start_value x) [] bytes → IsMadeEmpty x a b bytes
 made_empty v w x a b bytes nothing same e p = record {
-  within = same_limit v w (length bytes) x.limit p.finished.within same e;
+  within = same_limit v w (length bytes) x.setup.limit p.finished.within same e;
   none = p.none;
-  out = from_nothing nothing a b (setup_value x) (file (setup_value x) (frames_of bytes)) p.out;
+  out = from_nothing nothing a b (start_value x) (file (start_value x) (frames_of bytes)) p.out;
 }
 
-pub run_made : {E : Type 0} (v w : Conversion) (x : Setup) (r a b : Option (List ℕ)) (result : Result Report E) → NothingYet → IsValued x → HasConverted v (setup_value x) [] → w.scan.limit ≡ v.scan.limit → v.scan.limit ≡ x.limit
+pub run_made : {E : Type 0} (v w : Conversion) (x : Start) (r a b : Option (List ℕ)) (result : Result Report E) → NothingYet → IsValued x → HasConverted v (start_value x) [] → w.scan.limit ≡ v.scan.limit → v.scan.limit ≡ x.setup.limit
     → IfOk result (λ report. IfSome r (CompletesFile v w a b report)) → IfOk result (λ report. IfSome r (IsMadeWith x report a b))
 run_made v w x r a b (Ok report) nothing valued y same e h =
-    some_weaker r (CompletesFile v w a b report) (IsMadeWith x report a b) (λ l f. let p = f (setup_value x) [] y in (made v w x a b l report nothing valued same e p, p.report_is)) h
+    some_weaker r (CompletesFile v w a b report) (IsMadeWith x report a b) (λ l f. let p = f (start_value x) [] y in (made v w x a b l report nothing valued same e p, p.report_is)) h
 run_made v w x r a b (Err d) nothing valued y same e h = tt
 
-pub run_empty : (v w : Conversion) (x : Setup) (r a b : Option (List ℕ)) → NothingYet → HasConverted v (setup_value x) [] → w.scan.limit ≡ v.scan.limit → v.scan.limit ≡ x.limit
+pub run_empty : (v w : Conversion) (x : Start) (r a b : Option (List ℕ)) → NothingYet → HasConverted v (start_value x) [] → w.scan.limit ≡ v.scan.limit → v.scan.limit ≡ x.setup.limit
     → IfSome r (CompletesEmptyFile v w a b) → IfSome r (IsMadeEmpty x a b)
 run_empty v w x r a b nothing y same e h =
-    some_weaker r (CompletesEmptyFile v w a b) (IsMadeEmpty x a b) (λ l f. made_empty v w x a b l nothing same e (f (setup_value x) [] y)) h
+    some_weaker r (CompletesEmptyFile v w a b) (IsMadeEmpty x a b) (λ l f. made_empty v w x a b l nothing same e (f (start_value x) [] y)) h
 
 pub run_read : (v w : Conversion) (s : SetupValue) (r r' a b : Option (List ℕ)) → NothingYet → HasConverted v s [] → ((front : List ℕ) × Consumes r r' front × (w.scan.taken ≡ v.scan.taken + length front) × WritesAdded v a b front)
     → (front : List ℕ) × Consumes r r' front × Appends a b (so_far s (decided_frames front))
 run_read v w s r r' a b nothing x p = (p.0, p.1, from_nothing nothing a b s (so_far s (decided_frames p.0)) (p.3 s [] x))
 
-pub run_long : (v w : Conversion) (x : Setup) (r r' a b : Option (List ℕ)) → NothingYet → HasConverted v (setup_value x) [] → v.scan.limit ≡ x.limit → RanToLimit v w r r' a b → IsMadeToLimit x r r' a b
+pub run_long : (v w : Conversion) (x : Start) (r r' a b : Option (List ℕ)) → NothingYet → HasConverted v (start_value x) [] → v.scan.limit ≡ x.setup.limit → RanToLimit v w r r' a b → IsMadeToLimit x r r' a b
 run_long v w x r r' a b nothing y e p = record {
-  over = some_weaker r (IsPastLimit v) (λ bytes. x.limit < length bytes) (λ l f. subst (λ (n : ℕ). n < length l) e (f (setup_value x) [] y)) p.over;
+  over = some_weaker r (IsPastLimit v) (λ bytes. x.setup.limit < length bytes) (λ l f. subst (λ (n : ℕ). n < length l) e (f (start_value x) [] y)) p.over;
   out = (
     p.front,
     p.consumes,
-    subst (λ (n : ℕ). Appends a b (so_far (setup_value x) (decided_frames (take n p.front)))) e
-        (from_nothing nothing a b (setup_value x) (so_far (setup_value x) (decided_frames (take v.scan.limit p.front))) (p.adds (setup_value x) [] y)),
+    subst (λ (n : ℕ). Appends a b (so_far (start_value x) (decided_frames (take n p.front)))) e
+        (from_nothing nothing a b (start_value x) (so_far (start_value x) (decided_frames (take v.scan.limit p.front))) (p.adds (start_value x) [] y)),
   );
 }
 
@@ -106,12 +105,12 @@ run_write v w s r r' a b nothing x (inl p) = inl (p.0, p.1, p.2, broken a b s p.
 run_write v w s r r' a b nothing x (inr p) = inr (p.0, p.1, p.2, broken_at_end a b s p.0 nothing (p.4 s [] x))
 
 -- pieces that go over the limit, and those at which the writer failed
-pub pieces_cut : {Z : Type 0} → (v w : Conversion) (x : Setup) (a b : Option (List ℕ)) (pieces : List (Vec ℕ Z)) → NothingYet → HasConverted v (setup_value x) [] → v.scan.limit ≡ x.limit → v.scan.taken ≡ 0
+pub pieces_cut : {Z : Type 0} → (v w : Conversion) (x : Start) (a b : Option (List ℕ)) (pieces : List (Vec ℕ Z)) → NothingYet → HasConverted v (start_value x) [] → v.scan.limit ≡ x.setup.limit → v.scan.taken ≡ 0
     → CutsAtLimit v w a b (joined_pieces pieces) → AreMadeToLimit x a b pieces
 pieces_cut v w x a b pieces nothing y e none p = record {
   over = (let over : v.scan.limit < v.scan.taken + length (joined_pieces pieces) = p.over in omega (arith, over, none, e));
-  out = subst (λ (n : ℕ). Appends a b (so_far (setup_value x) (decided_frames (take n (joined_pieces pieces))))) e
-      (from_nothing nothing a b (setup_value x) (so_far (setup_value x) (decided_frames (take v.scan.limit (joined_pieces pieces)))) (p.adds (setup_value x) [] y));
+  out = subst (λ (n : ℕ). Appends a b (so_far (start_value x) (decided_frames (take n (joined_pieces pieces))))) e
+      (from_nothing nothing a b (start_value x) (so_far (start_value x) (decided_frames (take v.scan.limit (joined_pieces pieces)))) (p.adds (start_value x) [] y));
 }
 
 pub pieces_failed : {Z : Type 0} → (v : Conversion) (s : SetupValue) (a b : Option (List ℕ)) (pieces : List (Vec ℕ Z)) → NothingYet → HasConverted v s [] → StopsInPieces v a b pieces → BrokeInPieces a b s pieces

@@ -3,7 +3,7 @@ use Rattle.std.specs.Prelude.{◌≡◌, ◌^◌, ◌<◌, ◌≤◌, ◌⊎◌,
 use Rattle.obs_epoch.specs.Weeks.{weeks}
 use Rattle.obs_epoch.specs.Epochs.{no_values}
 use Rattle.obs_epoch.specs.Kinds.{setup_at, is_no_station}
-use Rattle.obs_epoch.specs.Reach.{HasCoordinates}
+use Rattle.obs_epoch.specs.Reach.{AreToldValues}
 use Rattle.obs_epoch.specs.declared.cell.StationValues.{StationValues}
 use Rattle.rtcm_convert.specs.declared.setup.Setup.{Setup}
 use Rattle.rtcm_convert.specs.Converted.{SetupValue}
@@ -24,6 +24,20 @@ IsBadStart x = (weeks ≤ x.start_week) ⊎ (is_no_station x.station ≡ true)
 abbrev pub IsBad : Setup → Type 0
 IsBad x = (2 ^ 48 < x.limit) ⊎ IsBadStart x
 
--- or coordinates that no station message can have
-abbrev pub IsBadAt : Setup → StationValues → Type 0
-IsBadAt x initial = (HasCoordinates initial → ⊥) ⊎ IsBad x
+-- what a conversion starts from: a setup, and the station values that hold until a station message has others
+pub record Start : Type 0 where
+  pub setup : Setup
+  pub initial : StationValues
+
+abbrev pub start_at : Setup → StationValues → Start
+start_at x initial = record { setup = x; initial = initial }
+
+abbrev pub start_zero : Setup → Start
+start_zero x = start_at x no_values
+
+abbrev pub start_value : Start → SetupValue
+start_value x = setup_value_at x.setup x.initial
+
+-- or station values that no message can have
+abbrev pub IsBadAt : Start → Type 0
+IsBadAt x = (AreToldValues x.initial → ⊥) ⊎ IsBad x.setup

@@ -4,13 +4,14 @@ ghost use Rattle.rtcm_convert.specs.Moves.{Moves};
 ghost use Rattle.rtcm_convert.specs.Faults.{FailsWithDevices, FailsWithWriter, IsSentAfter, IsSetupFault, IsUntouched};
 ghost use Rattle.rtcm_convert.specs.Broken.{BrokeInPieces, joined_pieces};
 ghost use Rattle.rtcm_convert.specs.Made.{IsMadeWith, IsMadeEmpty, IsMadeToLimit, AreMadeToLimit, IsMadeSoFar, IsMadeInPart};
-ghost use Rattle.rtcm_convert.specs.SetupValues.{setup_value, IsBad};
+ghost use Rattle.rtcm_convert.specs.SetupValues.{setup_value, start_at, start_zero, IsBad, IsBadAt};
 
 use crate::converter::Converter;
 use crate::fault::Fault;
 use crate::laws;
 use crate::report::Report;
 use crate::setup::Setup;
+use obs_epoch::StationValues;
 use rtcm_bits::Counted;
 use std::alloc::Global;
 use std::io::{Read, Write};
@@ -24,20 +25,20 @@ pub fn convert_stream<R: Read, W: Write>(
 ) -> Result<Report, Fault>
     // The file that was written is the one of the stream's frames in order, has an epoch, and is
     // the text of a file value; and that is its report.
-    ensures made { IfOk result (λ report. IfSome (R.remaining reader.old.inner) (IsMadeWith setup report (W.contents writer.old.inner) (W.contents writer.new.inner))) }
+    ensures made { IfOk result (λ report. IfSome (R.remaining reader.old.inner) (IsMadeWith (start_zero setup) report (W.contents writer.old.inner) (W.contents writer.new.inner))) }
     // The file has no epoch, and is empty.
     ensures no_epoch { IsErrOf result Fault.NoEpoch
-        → IfSome (R.remaining reader.old.inner) (IsMadeEmpty setup (W.contents writer.old.inner) (W.contents writer.new.inner)) }
+        → IfSome (R.remaining reader.old.inner) (IsMadeEmpty (start_zero setup) (W.contents writer.old.inner) (W.contents writer.new.inner)) }
     // The stream is longer than the limit; the bytes up to it were taken, and what went out is the
     // file of the epochs that they close.
     ensures long { IsErrOf result Fault.TooLong → Moves R.remaining reader.old reader.new W.contents writer.old writer.new
-        (IsMadeToLimit setup) }
+        (IsMadeToLimit (start_zero setup)) }
     // What went out is the file of the epochs that the bytes read close.
     ensures read { IsErrOf result Fault.Read → Moves R.remaining reader.old reader.new W.contents writer.old writer.new
-        (IsMadeSoFar setup) }
+        (IsMadeSoFar (start_zero setup)) }
     // The writer failed at one of the pieces read, or when all was read.
     ensures write { IsErrOf result Fault.Write → Moves R.remaining reader.old reader.new W.contents writer.old writer.new
-        (IsMadeInPart setup) }
+        (IsMadeInPart (start_zero setup)) }
     // Nothing waits in the writer.
     ensures sent { IsSentAfter result writer.old.is_sent writer.new.is_sent }
     ensures devices { FailsWithDevices result reader.old reader.new writer.old writer.new }
@@ -45,9 +46,45 @@ pub fn convert_stream<R: Read, W: Write>(
     ensures untouched { IfErr result (λ fault. IsSetupFault fault → IsUntouched reader.old reader.new writer.old writer.new) }
     ensures only { (result ≢ Err Fault.Failed) × (result ≢ Err Fault.Finished) }
 {
+    convert_stream_at(alloc, setup, StationValues::zero(), reader, writer)
+}
+
+/// Makes the observation file of a stream as [`convert_stream`] does, whose station values are
+/// `initial` until a station message has others. `BadSetup` also for coordinates that don't fit 38
+/// bits (DF025 to DF027).
+pub fn convert_stream_at<R: Read, W: Write>(
+    alloc: Global,
+    setup: Setup,
+    initial: StationValues,
+    reader: &mut Counted<R>,
+    writer: &mut Counted<W>,
+) -> Result<Report, Fault>
+    // The file that was written is the one of the stream's frames in order, has an epoch, and is
+    // the text of a file value; and that is its report.
+    ensures made { IfOk result (λ report. IfSome (R.remaining reader.old.inner) (IsMadeWith (start_at setup initial) report (W.contents writer.old.inner) (W.contents writer.new.inner))) }
+    // The file has no epoch, and is empty.
+    ensures no_epoch { IsErrOf result Fault.NoEpoch
+        → IfSome (R.remaining reader.old.inner) (IsMadeEmpty (start_at setup initial) (W.contents writer.old.inner) (W.contents writer.new.inner)) }
+    // The stream is longer than the limit; the bytes up to it were taken, and what went out is the
+    // file of the epochs that they close.
+    ensures long { IsErrOf result Fault.TooLong → Moves R.remaining reader.old reader.new W.contents writer.old writer.new
+        (IsMadeToLimit (start_at setup initial)) }
+    // What went out is the file of the epochs that the bytes read close.
+    ensures read { IsErrOf result Fault.Read → Moves R.remaining reader.old reader.new W.contents writer.old writer.new
+        (IsMadeSoFar (start_at setup initial)) }
+    // The writer failed at one of the pieces read, or when all was read.
+    ensures write { IsErrOf result Fault.Write → Moves R.remaining reader.old reader.new W.contents writer.old writer.new
+        (IsMadeInPart (start_at setup initial)) }
+    // Nothing waits in the writer.
+    ensures sent { IsSentAfter result writer.old.is_sent writer.new.is_sent }
+    ensures devices { FailsWithDevices result reader.old reader.new writer.old writer.new }
+    ensures bad_setup { result ≡ Err Fault.BadSetup ↔ IsBadAt (start_at setup initial) }
+    ensures untouched { IfErr result (λ fault. IsSetupFault fault → IsUntouched reader.old reader.new writer.old writer.new) }
+    ensures only { (result ≢ Err Fault.Failed) × (result ≢ Err Fault.Finished) }
+{
     laws::prefix();
     laws::read_back(&setup);
-    match Converter::new(alloc, setup) {
+    match Converter::new_at(alloc, setup, initial) {
         Ok(mut converter) => {
             let answer = converter.run(reader, writer);
             drop(converter);
@@ -66,12 +103,12 @@ pub fn convert_pieces<W: Write>(
 ) -> Result<Report, Fault>
     // However the stream is cut into pieces, the file that was written is the one of its frames in
     // order, has an epoch, and is the text of a file value; and that is its report.
-    ensures made { IfOk result (λ report. IsMadeWith setup report (W.contents writer.old.inner) (W.contents writer.new.inner) (joined_pieces pieces.now)) }
+    ensures made { IfOk result (λ report. IsMadeWith (start_zero setup) report (W.contents writer.old.inner) (W.contents writer.new.inner) (joined_pieces pieces.now)) }
     // The file has no epoch, and is empty.
-    ensures no_epoch { IsErrOf result Fault.NoEpoch → IsMadeEmpty setup (W.contents writer.old.inner) (W.contents writer.new.inner) (joined_pieces pieces.now) }
+    ensures no_epoch { IsErrOf result Fault.NoEpoch → IsMadeEmpty (start_zero setup) (W.contents writer.old.inner) (W.contents writer.new.inner) (joined_pieces pieces.now) }
     // The pieces go over the limit; what went out is the file of the epochs that the bytes up to it
     // close.
-    ensures long { IsErrOf result Fault.TooLong → AreMadeToLimit setup (W.contents writer.old.inner) (W.contents writer.new.inner) pieces.now }
+    ensures long { IsErrOf result Fault.TooLong → AreMadeToLimit (start_zero setup) (W.contents writer.old.inner) (W.contents writer.new.inner) pieces.now }
     // The writer failed at one of the pieces, or when all were taken.
     ensures write { IsErrOf result Fault.Write → BrokeInPieces (W.contents writer.old.inner) (W.contents writer.new.inner) (setup_value setup) pieces.now }
     // Nothing waits in the writer.
