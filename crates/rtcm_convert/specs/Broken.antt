@@ -29,7 +29,7 @@ abbrev pub WroteToLimit : Option (List ℕ) → Option (List ℕ) → Option (Li
 WroteToLimit r r' a b s limit = (front : List ℕ) × Consumes r r' front × Appends a b (so_far s (decided_frames (take limit front)))
 
 -- What went out has at least what the bytes taken before make, and at most what they make with a last piece; that piece
--- fits behind the bytes that were not decided.
+-- fits beside the bytes that were not decided.
 pub record IsBroken (a b : Option (List ℕ)) (s : SetupValue) (front piece : List ℕ) : Type 0 where
   pub between : IsBetween a b (so_far s (decided_frames front)) (so_far s (decided_frames (front ++ piece)))
   pub near : (length front - decided front) + length piece ≤ longest_frame

@@ -43,7 +43,7 @@ pub record IsFit (v : Conversion) : Type 0 where
   pub drained : IsGoing v → HasDrainedSome v.scan
   pub examined : HasExaminedSome v.scan
 
--- the fault that every call answers from then on
+-- the fault of every call from then on
 abbrev pub refusal : Conversion → Option Fault
 refusal v = (if v.has_ended then Some Finished else if v.has_failed then Some Failed else None)
 
@@ -144,7 +144,7 @@ pub record RanToLimit (v w : Conversion) (r r' a b : Option (List ℕ)) : Type 0
   pub full : w.scan.taken ≡ v.scan.limit
   pub over : IfSome r (IsPastLimit v)
 
--- What these bytes add went out, up to `mid`, and a prefix of what a last piece adds; the piece fits behind the bytes that were not decided.
+-- What these bytes add went out, up to `mid`, and a prefix of what a last piece adds; the piece fits beside the bytes that were not decided.
 pub record FailsAtPiece (a b : Option (List ℕ)) (s : SetupValue) (bytes piece : List ℕ) (all : List ℕ) : Type 0 where
   pub mid : Option (List ℕ)
   pub before : AppendsDecided a mid s bytes all
@@ -192,7 +192,7 @@ pub record Completed (w : Conversion) (a b : Option (List ℕ)) (s : SetupValue)
   pub kept : IsKeptAtEnd s all (kept_of w)
   pub bounds : IsWithinBounds (length all) (kept_of w)
 
--- No epoch stands in the file of all these bytes; the rest of it, which is nothing, went out; and all was decided and examined.
+-- The file of all these bytes has no epoch; the rest of it, which is nothing, went out; and all was decided and examined.
 pub record CompletedEmpty (w : Conversion) (a b : Option (List ℕ)) (s : SetupValue) (bytes all : List ℕ) : Type 0 where
   pub none : epochs_in s (frames_of all) ≡ 0
   pub out : AppendsRest a b s bytes all

@@ -11,7 +11,7 @@ use Rattle.obs_epoch.specs.Gathering.{all_epochs, closed_epochs}
 use Rattle.rinex_file.specs.Texts.{HeaderLists}
 use Rattle.rinex_file.specs.File.{header_text, closed_text}
 
--- what a conversion is told at first
+-- the settings of a conversion
 pub record SetupValue : Type 0 where
   pub gather : GatherSetup
   pub texts : HeaderLists
@@ -33,8 +33,8 @@ messages_of fs = filter_map heard_in fs
 abbrev pub written_epochs : List Closed → List Closed
 written_epochs es = filter (λ e. nat_lt 0 (satellites_written e.epoch)) es
 
--- a header with the first epoch's time and the station values known when it was closed, then the epochs, each behind an event
--- where the station values known when it was closed are no longer those of the epoch before; nothing where there is no epoch
+-- a header with the first epoch's time and the station values known when it was closed, then the epochs, each after an event
+-- if the station values known when it was closed differ from those of the epoch before; nothing if there is no epoch
 unfoldable pub text_of_epochs : HeaderLists → PlanValue → List Closed → List ℕ
 text_of_epochs texts plan [] = []
 text_of_epochs texts plan (e ∷ es) = header_text texts plan e.values e.epoch.time ++ closed_text plan e.values (e ∷ es)
@@ -51,6 +51,6 @@ file s fs = text_with s (all_epochs s.gather (messages_of fs))
 abbrev pub so_far : SetupValue → List Framed → List ℕ
 so_far s fs = text_with s (closed_epochs s.gather (messages_of fs))
 
--- how many epochs stand in the file
+-- the number of epochs in the file
 abbrev pub epochs_in : SetupValue → List Framed → ℕ
 epochs_in s fs = length (written_epochs (all_epochs s.gather (messages_of fs)))

@@ -1,4 +1,4 @@
--- What an answer says of the devices that a call reads and writes.
+-- What a result says of the devices that a call reads and writes.
 use Rattle.std.specs.Prelude.{◌≡◌, ◌≤◌, ◌⊎◌, ℕ, max, ⊤, Bool, true, Result, Ok, Err, OnOk, IfErr}
 use Rattle.rtcm_bits.specs.Device.{Device, HasFailed, FailsWith}
 use Rattle.rtcm_bits.specs.FrameOf.{longest_frame}
@@ -17,7 +17,7 @@ abbrev pub IsSentAfter : {A : Type 0} → Result A Fault → Bool → Bool → T
 IsSentAfter (Ok x) before after = after ≡ true
 IsSentAfter (Err fault) before after = IsSentAtFault fault before after
 
--- `Write` is the one fault of the call, and is answered only where a failure of the writer was counted; else none was
+-- `Write` is the one fault of the call, and is returned only if a failure of the writer was counted; else none was
 abbrev pub FailsToWrite : {T A : Type 0} → Result A Fault → Device T → Device T → Type 0
 FailsToWrite result old new = IfErr result (λ fault. fault ≡ Write) × FailsWith result old new
 
@@ -31,13 +31,13 @@ abbrev pub ReaderFailures : Fault → ℕ → ℕ → Type 0
 ReaderFailures Read before after = HasFailed before after
 ReaderFailures _ before after = after ≡ before
 
--- `Write` is answered only where a failure of the writer was counted, and anything else only where none was; nothing was
+-- `Write` is returned only if a failure of the writer was counted, and anything else only if none was; nothing was
 -- read from it
 abbrev pub FailsWithWriter : {T A : Type 0} → Result A Fault → Device T → Device T → Type 0
 FailsWithWriter result old new =
     IfErr result (λ fault. WriterFailures fault old.failures new.failures) × OnOk result (new.failures ≡ old.failures) × (new.widest ≡ old.widest)
 
--- `Read` is answered only where a failure of the reader was counted, and anything else only where none was; it was asked
+-- `Read` is returned only if a failure of the reader was counted, and anything else only if none was; it was asked
 -- for no more bytes at a time than can be held
 abbrev pub FailsWithReader : {T A : Type 0} → Result A Fault → Device T → Device T → Type 0
 FailsWithReader result old new =
@@ -56,8 +56,8 @@ IsUntouched r r' w w' = (r' ≡ r) × (w' ≡ w)
 abbrev pub IsSetupFault : Fault → Type 0
 IsSetupFault fault = (fault ≡ BadSetup) ⊎ (fault ≡ Memory)
 
--- the faults of bytes that are handed in, of a piece that is read, of the end, of pieces up to the end, and of a whole run, where
--- no call failed before
+-- the faults of bytes that are fed, of a piece that is read, of the end, of pieces up to the end, and of a whole run, if no call
+-- failed before
 abbrev pub IsFeedFault : Fault → Type 0
 IsFeedFault fault = (fault ≡ TooLong) ⊎ (fault ≡ Write)
 

@@ -1,4 +1,4 @@
--- What stands in the file when the epochs of some messages were written.
+-- The content of the file when the epochs of some messages were written.
 use Rattle.std.specs.Prelude.{◌≡◌, ℕ, ◌+◌, nat_lt, true, List, [], ◌∷◌, ◌++◌, length, Option, Some, None, if◌then◌else◌}
 use Rattle.rtcm_scan.specs.Frames.{Framed}
 use Rattle.obs_epoch.specs.Values.{PlanValue, EpochValue, Closed, satellites_written}
@@ -11,8 +11,7 @@ use Rattle.rtcm_convert.specs.Converted.{SetupValue, messages_of, written_epochs
 use Rattle.rtcm_convert.specs.Outcomes.{outcomes, tally_of, capped, capped_tally, AreFew}
 use Rattle.rtcm_convert.specs.declared.file_writer.FileWriter.{FileWriter}
 
--- what stands before an epoch where these station values were written last: an event where they are no longer the same, and the
--- header where none were
+-- the text before an epoch if these station values were written last: an event if they have changed, and the header if none were
 abbrev pub opening : HeaderLists → PlanValue → Option StationValues → EpochValue → StationValues → List ℕ
 opening texts plan None e values = header_text texts plan values e.time
 opening texts plan (Some before) e values = change_text before values
@@ -27,7 +26,7 @@ abbrev pub values_after : Option StationValues → Option EpochValue → Station
 values_after before None values = before
 values_after before (Some e) values = (if nat_lt 0 (satellites_written e) then Some values else before)
 
--- how many epochs the file has then
+-- the number of epochs that the file has then
 abbrev pub epochs_after : ℕ → Option EpochValue → ℕ
 epochs_after n None = n
 epochs_after n (Some e) = (if nat_lt 0 (satellites_written e) then capped (n + 1) else n)
@@ -44,7 +43,7 @@ added_by v = added v.texts (plan_in v.gatherer) v.values (closed_in v.gatherer) 
 abbrev pub StandsBehindClosed : FileWriter → FileWriter → Type 0
 StandsBehindClosed v w = (w.epochs ≡ epochs_after v.epochs (closed_in v.gatherer)) × (w.values ≡ values_after v.values (closed_in v.gatherer) v.gatherer.values)
 
--- the station values behind these epochs, where these stand before them
+-- the station values after these epochs, if these were written before them
 abbrev pub values_behind_closed : StationValues → List Closed → StationValues
 values_behind_closed v [] = v
 values_behind_closed v (c ∷ cs) = values_behind_closed c.values cs
@@ -54,7 +53,7 @@ abbrev pub last_values : List Closed → Option StationValues
 last_values [] = None
 last_values (c ∷ cs) = Some (values_behind_closed c.values cs)
 
--- the file_writer took these messages and wrote these epochs; where `again` is a message, it is to be handed in again
+-- the file_writer took these messages and wrote these epochs; if `again` is a message, it is to be passed again
 pub record HasFiledEpochs (v : FileWriter) (s : SetupValue) (ms : List Heard) (es : List Closed) (again : Option Heard) : Type 0 where
   pub texts : v.texts ≡ s.texts
   pub gatherer : HasGatheredEpochs v.gatherer s.gather ms es again

@@ -1,4 +1,4 @@
--- How much a converter keeps of the frames that it took.
+-- What a converter keeps of the frames that it processed.
 use Rattle.std.specs.Prelude.{◌≡◌, ℕ, ◌*◌, ◌≤◌, List, drop, length}
 use Rattle.gnss_obs.specs.declared.system.System.{System}
 use Rattle.gnss_obs.specs.declared.system.System.TheVariants.{Gps, Galileo}
@@ -20,7 +20,7 @@ use Rattle.obs_epoch.specs.Values.{cells_of}
 abbrev pub timed_of : SetupValue → List Framed → List Timed
 timed_of s fs = timed s.gather (messages_of fs)
 
--- the cells of a system of the epoch of the greatest time: the pending one or, where none is pending, the one last closed
+-- the cells of a system of the epoch of the greatest time: the pending one or, if none is pending, the one closed last
 abbrev pub cells_kept : SetupValue → System → List Framed → ℕ
 cells_kept s system fs = length (cells_of system (held_at s.gather (timed_of s fs)))
 
@@ -38,7 +38,7 @@ locks_in_all s fs = locks_at s fs (times (timed_of s fs))
 
 -- ---- what a converter holds and has examined
 
--- the bounds that hold at every moment, when so many bytes were taken
+-- the bounds that hold at every moment, when `taken` bytes were accepted
 pub record IsWithinBounds (taken : ℕ) (k : Kept) : Type 0 where
   pub held : k.held ≤ longest_frame
   pub gps_cells : k.gps_cells ≤ most_cells

@@ -10,7 +10,7 @@ use Rattle.rtcm_convert.specs.Converted.{SetupValue, text_of_epochs, so_far, fil
 use Rattle.rtcm_convert.specs.Outcomes.{report_of}
 use Rattle.rtcm_convert.specs.declared.report.Report.{Report}
 
--- what is written of some bytes is a prefix of the file, however the stream goes on
+-- what is written of some bytes is a prefix of the file, for every rest of the stream
 abbrev pub WrittenStays : Type 0
 WrittenStays = (s : SetupValue) (b more : List ℕ) → IsPrefix (so_far s (decided_frames b)) (file s (frames_of (b ++ more)))
 
@@ -32,7 +32,7 @@ NothingYet = (s : SetupValue) → so_far s (decided_frames []) ≡ []
 abbrev pub NothingFiled : Type 0
 NothingFiled = (s : SetupValue) → so_far s [] ≡ []
 
--- so many frames were counted, and each of them once among the seven kinds
+-- these frames were counted, and each of them once among the seven kinds
 pub record IsCountedOnce (r : Report) (frames : ℕ) : Type 0 where
   pub all : r.frames ≡ frames
   pub once : r.faulty + (r.station + (r.other + (r.ignored + (r.late + (r.past + r.taken))))) ≡ frames

@@ -9,7 +9,7 @@ use Rattle.rtcm_convert.specs.Converted.{SetupValue, messages_of, heard_in, epoc
 use Rattle.rtcm_convert.specs.declared.report.Report.{Report}
 use Rattle.rtcm_convert.specs.declared.tally.Tally.{Tally}
 
--- what becomes of a frame behind these: nothing where its message is refused, else what becomes of the message
+-- the outcome of a frame after these: none if its message is refused, else that of the message
 abbrev pub outcome : SetupValue → List Framed → Framed → Option Kind
 outcome s before f = option_map (λ m. kind_of s.gather (messages_of before) m) (heard_in f)
 
@@ -116,7 +116,7 @@ tally_of os = record {
   crowded = sum_of_counts (λ t. t.crowded) os;
 }
 
--- the report of so many bytes, of which some are in no frame, with these counts and so many epochs
+-- the report with these counts, and those of all bytes, of the bytes in no frame, and of the epochs
 abbrev pub report_with : ℕ → ℕ → Tally → ℕ → Report
 report_with bytes skipped_bytes t epochs = record {
   bytes = bytes;

@@ -1,4 +1,4 @@
--- Pieces that a converter takes up to the end of its stream, whatever it took before.
+-- Pieces that a converter accepts up to the end of its stream, for everything accepted before.
 use Rattle.std.specs.Prelude.{ℕ, ◌+◌, ◌<◌, ◌⊎◌, List, ◌++◌, take, length, Option, Vec}
 use Rattle.rtcm_convert.specs.Broken.{joined_pieces}
 use Rattle.rtcm_convert.specs.Converted.{SetupValue}
@@ -16,10 +16,10 @@ abbrev pub StopsAtOne : {Z : Type 0} → Conversion → Option (List ℕ) → Op
 StopsAtOne v a b pieces = (k : ℕ) × (k < length pieces)
     × ((s : SetupValue) (bytes : List ℕ) → HasConverted v s bytes → FailsBetween a b s bytes (bytes ++ joined_pieces (take k pieces)) (bytes ++ joined_pieces (take (k + 1) pieces)))
 
--- it failed when all were taken, in what was left of the file
+-- it failed at the end, in the rest of the file
 abbrev pub StopsAfterAll : {Z : Type 0} → Conversion → Option (List ℕ) → Option (List ℕ) → List (Vec ℕ Z) → Type 0
 StopsAfterAll v a b pieces = (s : SetupValue) (bytes : List ℕ) → HasConverted v s bytes → FailsAtEnd a b s bytes (bytes ++ joined_pieces pieces)
 
--- it failed at one of the pieces, or when all were taken
+-- it failed at one of the pieces, or at the end
 abbrev pub StopsInPieces : {Z : Type 0} → Conversion → Option (List ℕ) → Option (List ℕ) → List (Vec ℕ Z) → Type 0
 StopsInPieces v a b pieces = StopsAtOne v a b pieces ⊎ StopsAfterAll v a b pieces

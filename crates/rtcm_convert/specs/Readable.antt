@@ -30,7 +30,7 @@ pub record AreSound (s : SetupValue) : Type 0 where
 abbrev pub FilesAreReadable : Type 0
 FilesAreReadable = (s : SetupValue) (fs : List Framed) → AreSound s → IsReadable (file s fs)
 
--- where an epoch is written the file isn't empty
+-- if an epoch is written the file isn't empty
 abbrev pub FilesHaveValues : Type 0
 FilesHaveValues = (s : SetupValue) (fs : List Framed) → AreSound s → 0 < epochs_in s fs → HasValue (file s fs)
 

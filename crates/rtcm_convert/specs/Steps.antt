@@ -1,4 +1,4 @@
--- What the calls of the file_writer do, whatever messages and frames it took before.
+-- What the calls of the file_writer do, for all messages and frames before.
 use Rattle.std.specs.Prelude.{◌≡◌, ℕ, true, false, List, [], ◌∷◌, ◌++◌, Option, Some, None}
 use Rattle.rtcm_scan.specs.Frames.{Framed}
 use Rattle.obs_epoch.specs.Values.{Closed}
@@ -12,9 +12,9 @@ use Rattle.rtcm_convert.specs.Fed.{AppendsBetween, AppendsPrefixBetween}
 use Rattle.rtcm_convert.specs.Filed.{HasFiledEpochs, Settled, HasFiledFrames, HasGathered}
 use Rattle.rtcm_convert.specs.declared.file_writer.FileWriter.{FileWriter}
 
--- ---- a message that is handed in, for the first time or again
+-- ---- a message that is passed, for the first time or again
 
--- the message was not taken: an epoch is closed first, and then it is to be handed in again
+-- the message was not taken: an epoch is closed first, and then it is to be passed again
 abbrev pub IsCloseFirst : Kind → Type 0
 IsCloseFirst kind = is_close_first kind ≡ true
 
@@ -22,7 +22,7 @@ IsCloseFirst kind = is_close_first kind ≡ true
 abbrev pub IsFinalKind : Kind → Type 0
 IsFinalKind kind = is_close_first kind ≡ false
 
--- the epoch that was closed first was written, and the message is to be handed in again
+-- the epoch that was closed first was written, and the message is to be passed again
 abbrev pub WritesFirst : FileWriter → FileWriter → Heard → Option (List ℕ) → Option (List ℕ) → Type 0
 WritesFirst v w m a b = (s : SetupValue) (ms : List Heard) (es : List Closed) → HasFiledEpochs v s ms es None
     → (all : List Closed) × HasFiledEpochs w s ms all (Some m) × AppendsBetween a b (text_with s es) (text_with s all)
@@ -32,7 +32,7 @@ abbrev pub TakesMessage : FileWriter → FileWriter → Heard → Option (List �
 TakesMessage v w m a b = (s : SetupValue) (ms : List Heard) (es : List Closed) (again : Option Heard) → IsAwaited again m → HasFiledEpochs v s ms es again
     → (all : List Closed) × HasFiledEpochs w s (ms ++ m ∷ []) all None × AppendsBetween a b (text_with s es) (text_with s all)
 
--- where it was handed in again it was taken
+-- if it was passed again it was taken
 abbrev pub IsTakenAgain : FileWriter → Heard → Kind → Type 0
 IsTakenAgain v m kind = (s : SetupValue) (ms : List Heard) (es : List Closed) → HasFiledEpochs v s ms es (Some m) → IsFinalKind kind
 
@@ -80,7 +80,7 @@ WritesRest v a b = (s : SetupValue) (fs : List Framed) → HasFiledFrames v s fs
 abbrev pub BreaksInRest : FileWriter → Option (List ℕ) → Option (List ℕ) → Type 0
 BreaksInRest v a b = (s : SetupValue) (fs : List Framed) → HasFiledFrames v s fs → AppendsPrefixBetween a b (so_far s fs) (file s fs)
 
--- so many epochs stand in the whole file
+-- the whole file has n epochs
 abbrev pub CountsEpochs : FileWriter → ℕ → Type 0
 CountsEpochs v n = (s : SetupValue) (fs : List Framed) → HasFiledFrames v s fs → n ≡ capped (epochs_in s fs)
 

@@ -13,7 +13,7 @@ use Rattle.rtcm_convert.specs.Filed.{HasFiledFrames, HasGathered}
 use Rattle.rtcm_convert.specs.Outcomes.{outcomes, tally_of}
 use Rattle.rtcm_convert.specs.declared.file_writer.FileWriter.{FileWriter}
 
--- b was taken and examined, all frames that are known were handed on, and the epochs that these close were written
+-- b was taken and examined, all frames that are known were passed on, and the epochs that these close were written
 pub record Drained (v : FramerValue) (w : FileWriter) (s : SetupValue) (b : List ℕ) : Type 0 where
   pub framer : HasExamined v b (known_frames v.has_ended b)
   pub drained : IsDrained v b (known_frames v.has_ended b)
@@ -26,11 +26,11 @@ pub record HasDrained (v : FramerValue) (b : List ℕ) : Type 0 where
   pub drained : IsDrained v b (known_frames v.has_ended b)
   pub counted : IsCountedExactly v b
 
--- so it was for some bytes, whichever they are
+-- so it was for some bytes
 abbrev pub HasDrainedSome : FramerValue → Type 0
 HasDrainedSome v = (b : List ℕ) × HasDrained v b
 
--- known bytes grow by what the decided frames of the later bytes make behind those of the earlier ones
+-- known bytes grow by what the decided frames of the later bytes make after those of the earlier ones
 abbrev pub AppendsDecided : Option (List ℕ) → Option (List ℕ) → SetupValue → List ℕ → List ℕ → Type 0
 AppendsDecided old new s b c = AppendsBetween old new (so_far s (decided_frames b)) (so_far s (decided_frames c))
 
@@ -38,7 +38,7 @@ AppendsDecided old new s b c = AppendsBetween old new (so_far s (decided_frames 
 abbrev pub AppendsPrefixOfDecided : Option (List ℕ) → Option (List ℕ) → SetupValue → List ℕ → List ℕ → Type 0
 AppendsPrefixOfDecided old new s b c = AppendsPrefixBetween old new (so_far s (decided_frames b)) (so_far s (decided_frames c))
 
--- known bytes grow by what the whole file has behind that of the decided frames
+-- known bytes grow by what the whole file has after that of the decided frames
 abbrev pub AppendsRest : Option (List ℕ) → Option (List ℕ) → SetupValue → List ℕ → List ℕ → Type 0
 AppendsRest old new s b c = AppendsBetween old new (so_far s (decided_frames b)) (file s (frames_of c))
 
@@ -75,7 +75,7 @@ pub record IsEnded (v : FramerValue) (w : FileWriter) (a b : Option (List ℕ)) 
   pub counted : IsCountedExactly v bytes
   pub gathered : HasGathered w s (frames_of bytes)
 
--- so it is of the bytes before, whichever they are
+-- so it is of all bytes before
 abbrev pub EndsBytes : FramerValue → FileWriter → FramerValue → FileWriter → Option (List ℕ) → Option (List ℕ) → Type 0
 EndsBytes v w v' w' a b = (s : SetupValue) (bytes : List ℕ) → Drained v w s bytes → IsEnded v' w' a b s bytes
 

@@ -1,4 +1,4 @@
-//! The converter: a stream goes in piece by piece, and its observation file comes out.
+//! The converter: it accepts a stream piece by piece, and writes its observation file.
 ghost use Rattle.std.specs.Prelude.{◌≡◌, ◌<◌, ◌≤◌, ◌+◌, ◌*◌, ◌↔◌, [], List, ℕ, true, false, length, drop};
 ghost use Rattle.std.specs.Prelude.{Err, OnOk, IfOk, IfErr, IfSome, IsErrOf};
 ghost use Rattle.obs_epoch.specs.Reach.{AreToldValues};
@@ -37,7 +37,8 @@ use std::alloc::Global;
 use std::io::{Read, Write};
 use std::marker::Model;
 
-/// Makes an observation file of a stream.
+/// Converts a stream to an observation file. It holds at most 1,029 bytes of the stream, 256 cells
+/// per system and 1,164 lock records; [`kept`](Converter::kept) returns their numbers.
 #[derive(Drop)]
 pub struct Converter {
     framer: Framer,
@@ -107,19 +108,27 @@ impl Converter {
         }
     }
 
-    /// Takes a piece of the stream, and writes every epoch that it closes.
+    /// Accepts a piece of the stream, of any length, writes every epoch that it closes, and flushes
+    /// the writer.
+    ///
+    /// # Errors
+    ///
+    /// `TooLong` if the stream goes over its limit (the bytes up to it are accepted), `Write` if
+    /// the writer failed; and, without any effect, `Finished` if the stream was ended, and `Failed`
+    /// if an earlier call failed.
     pub fn feed<W: Write>(&mut self, piece: &[u8], writer: &mut Counted<W>) -> Result<(), Fault>
         ensures refused { IfSome (refusal self.old) (λ fault. (result ≡ Err fault) × (self.new ≡ self.old) × (writer.new ≡ writer.old)) }
-        // All was taken, and what these bytes add was written.
+        // All bytes were accepted, what they add was written, and the converter holds and has
+        // examined the values for all bytes, within the bounds.
         ensures whole { OnOk result (TakesPiece self.old self.new (W.contents writer.old.inner) (W.contents writer.new.inner) piece.now) }
         ensures going { OnOk result (GoesOnBy self.old self.new (length piece.now)) }
-        // At a fault no more than this piece was taken.
+        // At a fault no more than this piece was accepted.
         ensures taken { (self.old.scan.taken ≤ self.new.scan.taken) × (self.new.scan.taken ≤ self.old.scan.taken + length piece.now) }
         // What is held and was examined then.
         ensures keeps { OnOk result (KeepsNow self.new) }
         // A prefix of what these bytes add was written.
         ensures part { IsErrOf result Fault.Write → WritesPrefixOfAdded self.old (W.contents writer.old.inner) (W.contents writer.new.inner) piece.now }
-        // The bytes up to the limit were taken, and what they add was written.
+        // The bytes up to the limit were accepted, and what they add was written.
         ensures long { IsErrOf result Fault.TooLong → CutsAtLimit self.old self.new (W.contents writer.old.inner) (W.contents writer.new.inner) piece.now }
         // Nothing waits in the writer.
         ensures sent { IsSentAfter result writer.old.is_sent writer.new.is_sent }
@@ -132,7 +141,7 @@ impl Converter {
         laws::filed();
         match self.framer.feed(piece, &mut self.file_writer, writer) {
             Ok(()) => {
-                // What the contract says of these bytes is read here.
+                // Brings the values and bounds of what is held into the proof.
                 let _ = self.kept();
                 Ok(())
             }
@@ -148,12 +157,16 @@ impl Converter {
         }
     }
 
-    /// Ends the stream, and writes the rest of the file. Where no epoch of the whole stream was
-    /// written, nothing is, and the answer is `NoEpoch`; after that, as after `Ok`, the converter
-    /// is finished.
+    /// Ends the stream, writes the rest of the file, flushes the writer, and returns the report.
+    ///
+    /// # Errors
+    ///
+    /// `NoEpoch` if the file has no epoch, so that nothing was written; the converter is then
+    /// finished, as after `Ok`. `Write` if the writer failed; and, without any effect, `Finished`
+    /// if the stream was ended before, and `Failed` if an earlier call failed.
     pub fn finish<W: Write>(&mut self, writer: &mut Counted<W>) -> Result<Report, Fault>
         ensures refused { IfSome (refusal self.old) (λ fault. (result ≡ Err fault) × (self.new ≡ self.old) × (writer.new ≡ writer.old)) }
-        // The rest of the file went out, and that is the report.
+        // The rest of the file was written, and that is the report.
         ensures whole { IfOk result (FinishesNow self.old self.new (W.contents writer.old.inner) (W.contents writer.new.inner)) }
         // No epoch of the whole stream was written, so nothing was.
         ensures no_epoch { IsErrOf result Fault.NoEpoch → FinishesEmptyNow self.old self.new (W.contents writer.old.inner) (W.contents writer.new.inner) }
@@ -171,7 +184,7 @@ impl Converter {
         match end_stream(&mut self.framer, &mut self.file_writer, writer) {
             Ok(()) => {
                 self.finished = true;
-                // What the contract says of the end is read here.
+                // Brings the values and bounds of what is held into the proof.
                 let _ = self.kept();
                 if self.file_writer.epochs == 0 {
                     return Err(Fault::NoEpoch);
@@ -185,8 +198,8 @@ impl Converter {
         }
     }
 
-    /// Takes these pieces of the stream in order, ends it, and returns the report: any number of
-    /// calls of [`feed`](Converter::feed), and [`finish`](Converter::finish).
+    /// Accepts the pieces of the rest of the stream in order, ends it, and returns the report: a
+    /// call of [`feed`](Converter::feed) for each piece, and [`finish`](Converter::finish).
     ///
     /// # Errors
     ///
@@ -197,14 +210,15 @@ impl Converter {
         writer: &mut Counted<W>,
     ) -> Result<Report, Fault>
         ensures refused { IfSome (refusal self.old) (λ fault. (result ≡ Err fault) × (self.new ≡ self.old) × (writer.new ≡ writer.old)) }
-        // The file of all the bytes, those taken before and those of the pieces, was completed: with
-        // that report, and what the converter holds and has examined then.
+        // The file of all the bytes, those accepted before and those of the pieces, was completed,
+        // with that report, and the converter holds and has examined the values for all bytes,
+        // within the bounds.
         ensures whole { IfOk result (λ report. CompletesFile self.old self.new (W.contents writer.old.inner) (W.contents writer.new.inner) report (joined_pieces pieces.now)) }
         // No epoch of the whole stream was written, so nothing was.
         ensures no_epoch { IsErrOf result Fault.NoEpoch → CompletesEmptyFile self.old self.new (W.contents writer.old.inner) (W.contents writer.new.inner) (joined_pieces pieces.now) }
-        // The bytes up to the limit were taken, and what they add was written.
+        // The bytes up to the limit were accepted, and what they add was written.
         ensures long { IsErrOf result Fault.TooLong → CutsAtLimit self.old self.new (W.contents writer.old.inner) (W.contents writer.new.inner) (joined_pieces pieces.now) }
-        // The writer failed at one of the pieces, or when all were taken.
+        // The writer failed at one of the pieces, or at the end.
         ensures write { IsErrOf result Fault.Write → StopsInPieces self.old (W.contents writer.old.inner) (W.contents writer.new.inner) pieces.now }
         // Nothing waits in the writer.
         ensures sent { IsSentAfter result writer.old.is_sent writer.new.is_sent }
@@ -222,7 +236,7 @@ impl Converter {
         self.finish(writer)
     }
 
-    /// The fault that every call answers of a converter that is finished or has failed.
+    /// Returns the fault of every call of a converter that is finished or has failed.
     fn refusal(&self) -> Option<Fault>
         ensures { result ≡ refusal self.now }
     {
@@ -235,7 +249,7 @@ impl Converter {
         None
     }
 
-    /// The report of a stream that was ended.
+    /// Returns the report of a stream that was ended.
     fn report(&self) -> Report
         ensures { result ≡ report_with self.now.scan.taken self.now.scan.skipped self.now.file_writer.tally self.now.file_writer.epochs }
     {
@@ -246,7 +260,7 @@ impl Converter {
             .report(bytes, skipped, self.file_writer.epochs)
     }
 
-    /// Reads a piece, and takes it: how many bytes it has.
+    /// Reads a piece, accepts it, and returns its length in bytes, 0 at the end.
     fn pull<R: Read, W: Write>(
         &mut self,
         reader: &mut Counted<R>,
@@ -281,7 +295,12 @@ impl Converter {
         }
     }
 
-    /// Reads to the end, and makes the file of all that was read.
+    /// Reads the rest of the stream, at most 1,029 bytes at a time less those held, and writes the
+    /// rest of its file. The writer is flushed after each piece and at the end.
+    ///
+    /// # Errors
+    ///
+    /// `Read` if the reader failed, and those of `feed` and `finish`.
     pub fn run<R: Read, W: Write>(
         &mut self,
         reader: &mut Counted<R>,
@@ -289,17 +308,17 @@ impl Converter {
     ) -> Result<Report, Fault>
         ensures refused { IfSome (refusal self.old) (λ fault.
             (result ≡ Err fault) × (self.new ≡ self.old) × IsUntouched reader.old reader.new writer.old writer.new) }
-        // The rest of the file of all the bytes went out, and that is the report.
+        // The rest of the file of all the bytes was written, and that is the report.
         ensures whole { IfOk result (λ report. Moves R.remaining reader.old reader.new W.contents writer.old writer.new
             (CompletesFileOfAll self.old self.new report)) }
         // No epoch of the whole stream was written, so nothing was.
         ensures no_epoch { IsErrOf result Fault.NoEpoch → Moves R.remaining reader.old reader.new W.contents writer.old writer.new
             (CompletesEmptyFileOfAll self.old self.new) }
-        // The stream is longer than the limit; the bytes up to it were taken, and what they add was
-        // written.
+        // The stream is longer than the limit; the bytes up to it were accepted, and what they add
+        // was written.
         ensures long { IsErrOf result Fault.TooLong → Moves R.remaining reader.old reader.new W.contents writer.old writer.new
             (RanToLimit self.old self.new) }
-        // The reader failed: what the bytes that were read add was written.
+        // The reader failed: what the bytes read before add was written.
         ensures read { IsErrOf result Fault.Read → Moves R.remaining reader.old reader.new W.contents writer.old writer.new
             (RanToFault self.old self.new) }
         // The writer failed, at one of the pieces or at the end.
@@ -314,7 +333,7 @@ impl Converter {
         if let Some(fault) = self.refusal() {
             return Err(fault);
         }
-        // What the contract says of no bytes is read here.
+        // Brings the values and bounds of what is held into the proof.
         let _ = self.kept();
         loop {
             match self.pull(reader, writer) {
@@ -342,7 +361,7 @@ impl Converter {
         }
     }
 
-    /// How many bytes are held: those that are not decided, at most 1,029.
+    /// Returns the number of bytes held, from 0 to 1,029: those that are not decided.
     pub fn held(&self) -> usize
         ensures value { result ≡ length self.now.scan.held }
         ensures bound { result ≤ longest_frame }
@@ -355,8 +374,8 @@ impl Converter {
         self.framer.held()
     }
 
-    /// How many cells of a system are held: those of the pending epoch or, where none is pending,
-    /// of the one last closed.
+    /// Returns the number of cells of a system held, from 0 to 256: those of the pending epoch or,
+    /// if none is pending, of the one closed last.
     pub fn cells(&self, system: System) -> usize
         ensures value { result ≡ length (cells_of system self.now.file_writer.gatherer.epoch) }
         ensures now { (s : SetupValue) (b : List ℕ) → HasConverted self.now s b → result ≡ cells_kept s system (decided_frames b) }
@@ -366,8 +385,8 @@ impl Converter {
         self.file_writer.gatherer.cells(system)
     }
 
-    /// How many lock records are held: one for each satellite and signal of which a closed epoch
-    /// has a kept cell with a valid phase and a known lock.
+    /// Returns the number of lock records held, from 0 to 1,164: one for each satellite and signal
+    /// of which a closed epoch has a kept cell with a valid phase and a known lock.
     pub fn locks(&self) -> usize
         ensures value { result ≡ recorded self.now.file_writer.gatherer.locks }
         ensures now { (s : SetupValue) (b : List ℕ) → HasConverted self.now s b → result ≡ locks_kept s (decided_frames b) }
@@ -377,10 +396,10 @@ impl Converter {
         self.file_writer.gatherer.locks()
     }
 
-    /// How often bytes were looked at in all.
+    /// Returns the number of reads of bytes in all, at most 1,030 for each byte accepted.
     pub fn examined(&self) -> u64
         ensures value { result ≡ self.now.scan.examined }
-        // Not more than 1,030 times the bytes taken, at every moment.
+        // At most 1,030 for each byte accepted, at every moment.
         ensures bound { result ≤ most_looks * self.now.scan.taken }
         ensures now { (s : SetupValue) (b : List ℕ) → HasConverted self.now s b → result ≡ examined_now b }
         ensures all { (s : SetupValue) (b : List ℕ) → HasFinished self.now s b → result ≡ examined b }
@@ -388,7 +407,7 @@ impl Converter {
         self.framer.examined()
     }
 
-    /// How often that byte was looked at which was looked at most.
+    /// Returns the largest number of reads of any single byte, at most 1,030.
     pub fn most(&self) -> u16
         ensures value { result ≡ self.now.scan.most }
         ensures bound { result ≤ most_looks }

@@ -23,19 +23,19 @@ use rtcm_scan::Frame;
 use std::alloc::Global;
 use std::io::Write;
 
-/// Takes frames in order, and writes the epochs that they close.
+/// Gathers the messages of frames in order, and writes the epochs that they close.
 #[derive(Drop)]
 pub(crate) struct FileWriter {
     pub(crate) gatherer: Gatherer,
     pub(crate) texts: HeaderTexts,
     /// The station values that were written last: in the header, or in an event.
     pub(crate) values: Option<StationValues>,
-    /// How many epochs stand in the file.
+    /// Number of epochs in the file.
     pub(crate) epochs: u64,
     pub(crate) tally: Tally,
 }
 
-/// Writes an event where the station values are no longer those before.
+/// Writes an event if the station values have changed.
 fn write_change<W: Write>(
     before: StationValues,
     values: StationValues,
@@ -85,8 +85,8 @@ impl FileWriter {
         }
     }
 
-    /// Writes the header where no epoch stands in the file, and else an event where the epoch's
-    /// station values are no longer those that were written last.
+    /// Writes the header if the file has no epoch, or else an event if the epoch's station values
+    /// differ from those written last.
     fn open<W: Write>(&self, epoch: &Epoch, writer: &mut Counted<W>) -> Result<(), Fault>
         ensures whole { OnOk result (Appends (W.contents writer.old.inner) (W.contents writer.new.inner) (opening_of self.now epoch.now)) }
         ensures part { OnErr result (AppendsPrefix (W.contents writer.old.inner) (W.contents writer.new.inner) (opening_of self.now epoch.now)) }
@@ -104,9 +104,8 @@ impl FileWriter {
         Ok(write_header(&head, writer)?)
     }
 
-    /// Writes the epoch that the gatherer closed last where a satellite in it has a value, and the
-    /// header before the first, or an event before one whose station values are no longer those
-    /// that were written last.
+    /// Writes the epoch that the gatherer closed last, if a satellite in it has a value, after the
+    /// header or the event that it needs.
     fn write_closed<W: Write>(&mut self, writer: &mut Counted<W>) -> Result<(), Fault>
         ensures whole { OnOk result (Appends (W.contents writer.old.inner) (W.contents writer.new.inner) (added_by self.old)) }
         ensures part { OnErr result (AppendsPrefix (W.contents writer.old.inner) (W.contents writer.new.inner) (added_by self.old)) }
@@ -128,13 +127,13 @@ impl FileWriter {
         Ok(())
     }
 
-    /// Hands a message to the gatherer, and writes the epoch that this closes.
+    /// Passes a message to the gatherer, and writes the epoch that this closes.
     fn step<W: Write>(&mut self, message: &View<'_>, writer: &mut Counted<W>) -> Result<Kind, Fault>
         requires { self.old.gatherer.has_ended ≡ false }
-        // The message is to be handed in again.
+        // The message is to be passed again.
         ensures first { IfOk result (λ kind. IsCloseFirst kind → WritesFirst self.old self.new (heard (viewed_message message.now))
             (W.contents writer.old.inner) (W.contents writer.new.inner)) }
-        // It was taken.
+        // It was accepted.
         ensures taken { IfOk result (λ kind. IsFinalKind kind → TakesMessage self.old self.new (heard (viewed_message message.now))
             (W.contents writer.old.inner) (W.contents writer.new.inner)) }
         ensures again { IfOk result (λ kind. IsTakenAgain self.old (heard (viewed_message message.now)) kind) }
@@ -149,7 +148,7 @@ impl FileWriter {
         Ok(taken.kind)
     }
 
-    /// Takes a message: where the gatherer closes an epoch first, it is handed in again.
+    /// Gathers a message: if the gatherer closes an epoch first, it is passed again.
     fn take<W: Write>(&mut self, message: &View<'_>, writer: &mut Counted<W>) -> Result<Kind, Fault>
         requires { self.old.gatherer.has_ended ≡ false }
         ensures whole { OnOk result (TakesNext self.old self.new (heard (viewed_message message.now)) (W.contents writer.old.inner) (W.contents writer.new.inner)) }
@@ -166,7 +165,7 @@ impl FileWriter {
         self.step(message, writer)
     }
 
-    /// Takes a frame.
+    /// Processes a frame.
     pub(crate) fn take_frame<W: Write>(
         &mut self,
         frame: &Frame,

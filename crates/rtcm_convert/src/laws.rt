@@ -12,7 +12,7 @@ ghost use Rattle.rtcm_convert.specs.Readable.{FilesAreReadable, FilesHaveValues,
 
 use crate::setup::Setup;
 
-/// What is written of some bytes is a prefix of the file, however the stream goes on.
+/// What is written of some bytes is a prefix of the file, for every rest of the stream.
 pub fn prefix()
     ensures file { WrittenStays }
     ensures grows { WrittenGrows }

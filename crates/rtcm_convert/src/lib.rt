@@ -1,5 +1,5 @@
-//! Observation files of streams: the frames of a stream are read as messages, these are gathered to
-//! epochs, and each epoch is written as it is closed.
+//! Observation files of RTCM 3 streams: the messages of a stream's frames are gathered to epochs,
+//! and each epoch is written as soon as it is closed.
 #![tactic(auto)]
 
 mod converter;

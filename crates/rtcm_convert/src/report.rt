@@ -1,14 +1,14 @@
 //! What a conversion reports.
 
-/// What was counted of a whole stream. Each frame is counted once among `faulty`, `station`,
+/// The counts of a whole stream. Each frame is counted once among `faulty`, `station`,
 /// `other`, `ignored`, `late`, `past` and `taken`.
 #[derive(Clone, Copy, Debug, PartialEq, Eq)]
 pub struct Report {
-    /// The bytes of the stream.
+    /// Bytes of the stream.
     pub bytes: u64,
-    /// The bytes that are in no frame.
+    /// Bytes that are in no frame.
     pub skipped_bytes: u64,
-    /// The frames.
+    /// Frames.
     pub frames: u64,
     /// Frames whose message was refused.
     pub faulty: u64,
@@ -16,20 +16,20 @@ pub struct Report {
     pub station: u64,
     /// Station and observation messages of other stations.
     pub other: u64,
-    /// Messages of numbers that aren't read.
+    /// Messages of other types.
     pub ignored: u64,
-    /// Messages of a time that had gone by.
+    /// Messages older than the current epoch, or of an epoch already closed.
     pub late: u64,
-    /// Messages of a time past the last week.
+    /// Messages of a time after week 99,999.
     pub past: u64,
-    /// Messages whose cells were taken.
+    /// Messages whose cells were gathered.
     pub taken: u64,
     /// Cells of satellites or signals that aren't planned.
     pub skipped: u64,
     /// Cells of a satellite and signal of which the epoch had one already.
     pub repeated: u64,
-    /// Cells for which the epoch had no place left.
+    /// Cells beyond the 256 cells of a system in an epoch.
     pub crowded: u64,
-    /// The epochs in the file.
+    /// Epochs in the file.
     pub epochs: u64,
 }

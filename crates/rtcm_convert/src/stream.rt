@@ -50,7 +50,7 @@ fn end_file<W: Write>(file_writer: &mut FileWriter, writer: &mut Counted<W>) -> 
     Ok(writer.flush_whole()?)
 }
 
-/// Ends the stream: takes the frames that are left, writes the rest of the file, and flushes it.
+/// Ends the stream: processes the remaining frames, writes the rest of the file, and flushes it.
 pub(crate) fn end_stream<W: Write>(
     framer: &mut Framer,
     file_writer: &mut FileWriter,

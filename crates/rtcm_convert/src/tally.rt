@@ -1,11 +1,11 @@
-//! What is counted of the frames so far.
+//! The counts of the frames so far.
 ghost use Rattle.std.specs.Prelude.{◌≡◌};
 ghost use Rattle.rtcm_convert.specs.Outcomes.{no_tally, tally_of_one, tallies_added, report_with};
 
 use crate::report::Report;
 use obs_epoch::Kind;
 
-/// What was counted of the frames so far; the fields are those of `Report`.
+/// The counts of the frames so far; the fields are those of `Report`.
 #[derive(Clone, Copy)]
 pub(crate) struct Tally {
     pub(crate) frames: u64,
@@ -22,7 +22,7 @@ pub(crate) struct Tally {
 }
 
 impl Tally {
-    /// No frame.
+    /// The counts of no frame.
     pub(crate) fn new() -> Tally
         ensures { result ≡ no_tally }
     {
@@ -41,7 +41,7 @@ impl Tally {
         }
     }
 
-    /// One frame: refused, or with what became of its message.
+    /// The counts of one frame: `None` if its message was refused, else the message's outcome.
     fn of(outcome: Option<Kind>) -> Tally
         ensures { result ≡ tally_of_one outcome }
     {
@@ -72,7 +72,7 @@ impl Tally {
         one
     }
 
-    /// Counts a frame: refused, or with what became of its message.
+    /// Counts a frame: `None` if its message was refused, else the message's outcome.
     pub(crate) fn count(&mut self, outcome: Option<Kind>)
         ensures { self.new ≡ tallies_added self.old (tally_of_one outcome) }
     {
@@ -90,8 +90,8 @@ impl Tally {
         self.crowded = self.crowded.saturating_add(one.crowded);
     }
 
-    /// The report of so many bytes, of which some are in no frame, with these counts and so many
-    /// epochs.
+    /// Returns the report with these counts, and those of all bytes, of the bytes in no frame, and
+    /// of the epochs.
     pub(crate) fn report(&self, bytes: u64, skipped_bytes: u64, epochs: u64) -> Report
         ensures { result ≡ report_with bytes skipped_bytes self.now epochs }
     {

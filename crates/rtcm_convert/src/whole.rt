@@ -16,7 +16,13 @@ use rtcm_bits::Counted;
 use std::alloc::Global;
 use std::io::{Read, Write};
 
-/// Makes the observation file of a stream that is read to its end.
+/// Reads a stream to its end, and writes its observation file: [`Converter::run`] of a new
+/// converter.
+///
+/// # Errors
+///
+/// `BadSetup` and `Memory` of [`Converter::new`], before anything is read or written; `Read`,
+/// `Write`, `TooLong` and `NoEpoch` of [`Converter::run`].
 pub fn convert_stream<R: Read, W: Write>(
     alloc: Global,
     setup: Setup,
@@ -25,25 +31,29 @@ pub fn convert_stream<R: Read, W: Write>(
 ) -> Result<Report, Fault>
     // The file that was written is the one of the stream's frames in order, has an epoch, and is
     // the text of a file value; and that is its report.
-    ensures made { IfOk result (λ report. IfSome (R.remaining reader.old.inner) (IsMadeWith (start_zero setup) report (W.contents writer.old.inner) (W.contents writer.new.inner))) }
+    ensures made { IfOk result (λ report.
+        IfSome (R.remaining reader.old.inner) (IsMadeWith (start_zero setup) report (W.contents writer.old.inner) (W.contents writer.new.inner))) }
     // The file has no epoch, and is empty.
     ensures no_epoch { IsErrOf result Fault.NoEpoch
         → IfSome (R.remaining reader.old.inner) (IsMadeEmpty (start_zero setup) (W.contents writer.old.inner) (W.contents writer.new.inner)) }
-    // The stream is longer than the limit; the bytes up to it were taken, and what went out is the
-    // file of the epochs that they close.
-    ensures long { IsErrOf result Fault.TooLong → Moves R.remaining reader.old reader.new W.contents writer.old writer.new
+    // The stream is longer than the limit; the bytes up to it were accepted, and the file of the
+    // epochs that they close was written.
+    ensures long { IsErrOf result Fault.TooLong
+        → Moves R.remaining reader.old reader.new W.contents writer.old writer.new
         (IsMadeToLimit (start_zero setup)) }
-    // What went out is the file of the epochs that the bytes read close.
+    // The file of the epochs that the bytes read close was written.
     ensures read { IsErrOf result Fault.Read → Moves R.remaining reader.old reader.new W.contents writer.old writer.new
         (IsMadeSoFar (start_zero setup)) }
     // The writer failed at one of the pieces read, or when all was read.
-    ensures write { IsErrOf result Fault.Write → Moves R.remaining reader.old reader.new W.contents writer.old writer.new
+    ensures write { IsErrOf result Fault.Write
+        → Moves R.remaining reader.old reader.new W.contents writer.old writer.new
         (IsMadeInPart (start_zero setup)) }
     // Nothing waits in the writer.
     ensures sent { IsSentAfter result writer.old.is_sent writer.new.is_sent }
     ensures devices { FailsWithDevices result reader.old reader.new writer.old writer.new }
     ensures bad_setup { result ≡ Err Fault.BadSetup ↔ IsBad setup }
-    ensures untouched { IfErr result (λ fault. IsSetupFault fault → IsUntouched reader.old reader.new writer.old writer.new) }
+    ensures untouched { IfErr result (λ fault. IsSetupFault fault
+        → IsUntouched reader.old reader.new writer.old writer.new) }
     ensures only { (result ≢ Err Fault.Failed) × (result ≢ Err Fault.Finished) }
 {
     convert_stream_at(alloc, setup, StationValues::zero(), reader, writer)
@@ -61,25 +71,29 @@ pub fn convert_stream_at<R: Read, W: Write>(
 ) -> Result<Report, Fault>
     // The file that was written is the one of the stream's frames in order, has an epoch, and is
     // the text of a file value; and that is its report.
-    ensures made { IfOk result (λ report. IfSome (R.remaining reader.old.inner) (IsMadeWith (start_at setup initial) report (W.contents writer.old.inner) (W.contents writer.new.inner))) }
+    ensures made { IfOk result (λ report.
+        IfSome (R.remaining reader.old.inner) (IsMadeWith (start_at setup initial) report (W.contents writer.old.inner) (W.contents writer.new.inner))) }
     // The file has no epoch, and is empty.
     ensures no_epoch { IsErrOf result Fault.NoEpoch
         → IfSome (R.remaining reader.old.inner) (IsMadeEmpty (start_at setup initial) (W.contents writer.old.inner) (W.contents writer.new.inner)) }
-    // The stream is longer than the limit; the bytes up to it were taken, and what went out is the
-    // file of the epochs that they close.
-    ensures long { IsErrOf result Fault.TooLong → Moves R.remaining reader.old reader.new W.contents writer.old writer.new
+    // The stream is longer than the limit; the bytes up to it were accepted, and the file of the
+    // epochs that they close was written.
+    ensures long { IsErrOf result Fault.TooLong
+        → Moves R.remaining reader.old reader.new W.contents writer.old writer.new
         (IsMadeToLimit (start_at setup initial)) }
-    // What went out is the file of the epochs that the bytes read close.
+    // The file of the epochs that the bytes read close was written.
     ensures read { IsErrOf result Fault.Read → Moves R.remaining reader.old reader.new W.contents writer.old writer.new
         (IsMadeSoFar (start_at setup initial)) }
     // The writer failed at one of the pieces read, or when all was read.
-    ensures write { IsErrOf result Fault.Write → Moves R.remaining reader.old reader.new W.contents writer.old writer.new
+    ensures write { IsErrOf result Fault.Write
+        → Moves R.remaining reader.old reader.new W.contents writer.old writer.new
         (IsMadeInPart (start_at setup initial)) }
     // Nothing waits in the writer.
     ensures sent { IsSentAfter result writer.old.is_sent writer.new.is_sent }
     ensures devices { FailsWithDevices result reader.old reader.new writer.old writer.new }
     ensures bad_setup { result ≡ Err Fault.BadSetup ↔ IsBadAt (start_at setup initial) }
-    ensures untouched { IfErr result (λ fault. IsSetupFault fault → IsUntouched reader.old reader.new writer.old writer.new) }
+    ensures untouched { IfErr result (λ fault. IsSetupFault fault
+        → IsUntouched reader.old reader.new writer.old writer.new) }
     ensures only { (result ≢ Err Fault.Failed) × (result ≢ Err Fault.Finished) }
 {
     laws::prefix();
@@ -94,23 +108,33 @@ pub fn convert_stream_at<R: Read, W: Write>(
     }
 }
 
-/// Makes the observation file of a stream that comes in these pieces.
+/// Writes the observation file of a stream of these pieces: [`Converter::take_pieces`] of a new
+/// converter.
+///
+/// # Errors
+///
+/// `BadSetup` and `Memory` of [`Converter::new`], before anything is written; `Write`, `TooLong`
+/// and `NoEpoch` of [`Converter::take_pieces`].
 pub fn convert_pieces<W: Write>(
     alloc: Global,
     setup: Setup,
     pieces: &[Vec<u8>],
     writer: &mut Counted<W>,
 ) -> Result<Report, Fault>
-    // However the stream is cut into pieces, the file that was written is the one of its frames in
-    // order, has an epoch, and is the text of a file value; and that is its report.
-    ensures made { IfOk result (λ report. IsMadeWith (start_zero setup) report (W.contents writer.old.inner) (W.contents writer.new.inner) (joined_pieces pieces.now)) }
+    // For every way to cut the stream into pieces, the file that was written is the one of its
+    // frames in order, has an epoch, and is the text of a file value; and that is its report.
+    ensures made { IfOk result (λ report.
+        IsMadeWith (start_zero setup) report (W.contents writer.old.inner) (W.contents writer.new.inner) (joined_pieces pieces.now)) }
     // The file has no epoch, and is empty.
-    ensures no_epoch { IsErrOf result Fault.NoEpoch → IsMadeEmpty (start_zero setup) (W.contents writer.old.inner) (W.contents writer.new.inner) (joined_pieces pieces.now) }
-    // The pieces go over the limit; what went out is the file of the epochs that the bytes up to it
-    // close.
-    ensures long { IsErrOf result Fault.TooLong → AreMadeToLimit (start_zero setup) (W.contents writer.old.inner) (W.contents writer.new.inner) pieces.now }
-    // The writer failed at one of the pieces, or when all were taken.
-    ensures write { IsErrOf result Fault.Write → BrokeInPieces (W.contents writer.old.inner) (W.contents writer.new.inner) (setup_value setup) pieces.now }
+    ensures no_epoch { IsErrOf result Fault.NoEpoch
+        → IsMadeEmpty (start_zero setup) (W.contents writer.old.inner) (W.contents writer.new.inner) (joined_pieces pieces.now) }
+    // The pieces go over the limit; the file of the epochs that the bytes up to it close was
+    // written.
+    ensures long { IsErrOf result Fault.TooLong
+        → AreMadeToLimit (start_zero setup) (W.contents writer.old.inner) (W.contents writer.new.inner) pieces.now }
+    // The writer failed at one of the pieces, or at the end.
+    ensures write { IsErrOf result Fault.Write
+        → BrokeInPieces (W.contents writer.old.inner) (W.contents writer.new.inner) (setup_value setup) pieces.now }
     // Nothing waits in the writer.
     ensures sent { IsSentAfter result writer.old.is_sent writer.new.is_sent }
     ensures writer { FailsWithWriter result writer.old writer.new }

@@ -9,7 +9,7 @@ unfoldable pub places : ℕ → List ℕ
 places zero = []
 places (suc n) = places n ++ n ∷ []
 
--- whether a place is behind the first byte of a frame and before its end
+-- whether a place is after the first byte of a frame and before its end
 abbrev pub is_inside : ℕ → Framed → Bool
 is_inside p f = nat_lt f.offset p && nat_lt p (frame_end f)
 
@@ -41,7 +41,7 @@ decided_frames b = frames_before (decided b) (frames_of b)
 abbrev pub is_within : ℕ → Framed → Bool
 is_within p f = nat_le f.offset p && nat_lt p (frame_end f)
 
--- how many of the places before p are in none of these frames
+-- the number of places before p that are in none of these frames
 abbrev pub skipped_before : ℕ → List Framed → ℕ
 skipped_before p fs = count_by (λ q. not (list_any (is_within q) fs)) (places p)
 

@@ -38,7 +38,7 @@ pub record HasBroken {S O : Type 0} (broke : Breaking S O) (ended : Bool) (s0 : 
   pub known : IsPrefix reached (known_frames ended b)
   pub broken : broke s0 o0 ps s o taken reached
 
--- ---- what a call does, whatever was taken before
+-- ---- what a call does, for everything accepted before
 
 -- all frames that are known were passed on
 abbrev pub PassesKnown : {S O : Type 0} → Coming S O → FramerValue → S → O → FramerValue → S → O → Type 0
@@ -105,7 +105,7 @@ pub record BreaksReading {S O : Type 0} (took : Coming S O) (broke : Breaking S 
   pub few : length piece ≤ most
   pub at_end : ended ≡ true → IsAtEnd r'
 
--- where a call that reads pieces leaves the sink, the framer and the buffer, of n bytes before and m after
+-- the state of the sink, the framer and the buffer, of n bytes before and m after, when a call that reads pieces returns
 pub record IsReadingOn {S : Type 0} (can_take : S → Type 0) (s : S) (v v' : FramerValue) (n m : ℕ) : Type 0 where
   pub can : can_take s
   pub limit : v'.limit ≡ v.limit

@@ -6,11 +6,11 @@ ghost use Rattle.rtcm_scan.specs.Passing.{GoesOn, IsSameStream, AtFault, UnlessB
 use crate::framer::{Frame, Framer};
 use crate::sink::FrameSink;
 
-/// Why not all bytes of a stream were taken.
+/// Why a stream was not processed to its end.
 pub enum StreamFault<F> {
     /// The reader failed.
     Read,
-    /// The stream is longer than its limit. All bytes up to the limit were taken.
+    /// The stream is longer than the framer's limit. All bytes up to the limit were processed.
     TooLong,
     /// The sink failed.
     Sink(F),
@@ -42,8 +42,8 @@ impl Framer {
         Ok(())
     }
 
-    /// Takes these bytes up to the limit, passes on each frame as soon as it is decided, and
-    /// returns the number of bytes taken.
+    /// Accepts these bytes up to the limit, passes each frame to the sink as soon as it is decided,
+    /// and returns the number of bytes accepted.
     fn take_piece<O, S: FrameSink<O>>(
         &mut self,
         piece: &[u8],
@@ -61,7 +61,7 @@ impl Framer {
         ensures ready { OnOk result (self.new.is_ready ≡ true) }
         ensures same { GoesOn self.old self.new (length piece.now) }
     {
-        // A method on the framer knows that it took no more than its limit.
+        // Brings the bound on the number of accepted bytes into the proof.
         let _ = self.taken();
         let mut frame = Frame::new();
         let mut taken = 0;
@@ -80,8 +80,8 @@ impl Framer {
         }
     }
 
-    /// Takes these bytes up to the limit, passes on each frame as soon as it is decided, and
-    /// flushes the output.
+    /// Accepts these bytes up to the limit, passes each frame to the sink as soon as it is decided,
+    /// and flushes the output.
     ///
     /// # Errors
     ///
@@ -117,7 +117,11 @@ impl Framer {
         Ok(())
     }
 
-    /// Ends the stream: passes on the frames that are left, and flushes the output.
+    /// Ends the stream: passes the remaining frames to the sink, and flushes the output.
+    ///
+    /// # Errors
+    ///
+    /// The fault of the sink.
     pub fn finish<O, S: FrameSink<O>>(&mut self, sink: &mut S, out: &mut O) -> Result<(), S::Fault>
         requires { S.can_take sink.old }
         ensures goes { S.can_take sink.new }

@@ -1,9 +1,9 @@
 //! The frames of a stream that comes in blocks or byte by byte.
 //!
-//! The scan goes from the left: at the first undecided place either a whole frame with a right
-//! check stands, which is handed out and passed over, or none can, and the scan goes on one byte
-//! further, or bytes are missing, and it waits. So a frame inside a damaged frame is found. Each
-//! byte of a candidate is looked at once, however the stream is cut.
+//! The scan goes from the left. If a whole frame with a valid CRC begins at the first undecided
+//! offset, it is returned, and the scan continues after it; if none can begin there, the scan
+//! continues one byte further; if bytes are missing, it waits for them. So a frame inside a damaged
+//! frame is found. Each byte of a candidate is read once, for every way to cut the stream.
 ghost use Rattle.std.specs.Prelude.{◌≡◌, ◌+◌, ◌-◌, ◌*◌, ◌<◌, ◌≤◌, ◌^◌, ◌⊎◌, ℕ, List, [], ◌∷◌, ◌++◌, min, length, take, true, false, IsTrue, IfOk, OnOk, OnErr, IfErr, IfSome, IfNone, OnSome, ◌↔◌};
 ghost use Rattle.rtcm_scan.specs.Frame.{begins_frame, frame_length, framed_message};
 ghost use Rattle.rtcm_scan.specs.Frames.{Framed};
@@ -26,19 +26,19 @@ use std::alloc::Global;
 use std::marker::Model;
 use thiserror::Error;
 
-/// The most bytes of a stream, 2^48.
+/// Largest number of bytes of a stream, 2^48.
 pub const MOST_BYTES: u64 = 1 << 48;
 
-/// Why a framer refused. A refused call changes nothing.
+/// Why a call of a framer failed. The framer is then unchanged.
 #[derive(Clone, Copy, Debug, PartialEq, Eq, Error)]
 pub enum ScanFault {
-    /// No memory for the window.
+    /// There is no memory for the held bytes.
     #[error("no memory for the window")]
     Memory,
-    /// A limit of more than 2^48 bytes.
+    /// The limit is above 2^48 bytes.
     #[error("the limit is above 2^48 bytes")]
     BadLimit,
-    /// As many bytes as the limit allows were taken.
+    /// The stream is longer than the framer's limit.
     #[error("the stream is longer than its limit")]
     TooLong,
     /// The stream has ended.
@@ -46,11 +46,12 @@ pub enum ScanFault {
     Ended,
 }
 
-/// A frame: the place of its first byte in the stream, from 0, and its message, without header and
-/// check.
+/// A frame of a stream.
 #[derive(Drop)]
 pub struct Frame {
+    /// The offset of its first byte in the stream, in bytes from 0.
     pub offset: u64,
+    /// Its message, of 0 to 1,023 bytes: the frame without header and CRC.
     pub message: ArrayVec<u8, LONGEST_MESSAGE>,
 }
 
@@ -64,24 +65,23 @@ impl Frame {
     }
 }
 
-/// Takes a stream in blocks or byte by byte, and hands out its frames. It holds the undecided bytes
-/// alone, at most 1,029, in room that is reserved when it is made.
+/// Finds the frames of a stream that comes in blocks or byte by byte. It holds the undecided bytes,
+/// at most 1,029, in memory that [`new`](Framer::new) reserves.
 #[derive(Drop)]
 pub struct Framer {
     /// The held bytes.
     window: Window,
-    /// What is known of the candidate at the front of the held bytes. It is kept from one call to
-    /// the next.
+    /// The state of the candidate at the front of the held bytes, from one call to the next.
     candidate: Candidate,
-    /// The most bytes that may come.
+    /// Largest number of bytes that are accepted.
     limit: u64,
-    /// The place of the first held byte in the stream.
+    /// The offset of the first held byte in the stream.
     place: u64,
-    /// How many places before it are in no frame.
+    /// Number of bytes before it that are in no frame.
     given_up: u64,
-    /// Whether no byte follows.
+    /// Whether the stream has ended.
     ended: bool,
-    /// Whether all is decided that can be.
+    /// Whether the held bytes decide no further frame.
     drained: bool,
 }
 
@@ -101,12 +101,12 @@ impl Model for Framer {
 }
 
 impl Framer {
-    /// A framer that takes at most `limit` bytes.
+    /// Returns a framer of a stream of at most `limit` bytes, from 0 to 2^48.
     ///
     /// # Errors
     ///
-    /// `BadLimit` where the limit is above 2^48, else `Memory` where there is no room for the
-    /// window.
+    /// `BadLimit` if the limit is above 2^48, and `Memory` if there is no memory for the held
+    /// bytes.
     pub fn new(alloc: Global, limit: u64) -> Result<Framer, ScanFault>
         ensures new { IfOk result (λ f. f ≡ new_scan limit) }
         ensures stands { IfOk result (λ f. HasFramed f [] []) }
@@ -133,20 +133,20 @@ impl Framer {
         }
     }
 
-    /// Whether bytes may be pushed: nothing was since `next` or `next_into` last answered None, or
-    /// since the framer was made.
+    /// Returns whether bytes may be pushed: none were pushed since `next` or `next_into` last
+    /// returned `None`, or since the framer was made.
     pub fn ready(&self) -> bool
         ensures { result ≡ self.now.is_ready }
     {
         self.drained
     }
 
-    /// Takes one more byte, and looks at none. Then `next` or `next_into` is due until it answers
-    /// None.
+    /// Accepts one more byte, and reads none. Call `next` or `next_into` until it returns `None`
+    /// before the next push.
     ///
     /// # Errors
     ///
-    /// `Ended` after `end`, else `TooLong` where as many bytes as the limit were taken.
+    /// `Ended` after `end`, and `TooLong` if the number of bytes accepted is the limit.
     pub fn push(&mut self, byte: u8) -> Result<(), ScanFault>
         requires { IsTrue self.old.is_ready }
         ensures answer { result ≡ push_answer self.old }
@@ -169,13 +169,13 @@ impl Framer {
         Ok(())
     }
 
-    /// Takes these bytes, and looks at none. Then `next` or `next_into` is due until it answers
-    /// None.
+    /// Accepts these bytes, at most 1,029 with those held, and reads none. Call `next` or
+    /// `next_into` until it returns `None` before the next push.
     ///
     /// # Errors
     ///
-    /// `Ended` after `end`, else `TooLong` where these bytes pass the limit; then none of them is
-    /// taken.
+    /// `Ended` after `end`, and `TooLong` if these bytes go over the limit; none of them is then
+    /// accepted.
     pub fn push_all(&mut self, bytes: &[u8]) -> Result<(), ScanFault>
         requires ready { IsTrue self.old.is_ready }
         requires room { length self.old.held + length bytes.now ≤ longest_frame }
@@ -199,8 +199,7 @@ impl Framer {
         }
     }
 
-    /// Says that no byte follows: what bytes are missing never comes, and `next` decides all that
-    /// is left.
+    /// Ends the stream: `next` then decides all held bytes.
     pub fn end(&mut self)
         ensures ended { self.new ≡ record self.old { has_ended = true } }
         ensures stands { (b : List ℕ) (fs : List Framed) → HasFramed self.old b fs → HasFramed self.new b fs }
@@ -209,8 +208,8 @@ impl Framer {
         self.ended = true;
     }
 
-    /// How many bytes it holds: those from the first undecided place on, at most 1,028 once `next`
-    /// answered None.
+    /// Returns the number of bytes held, from 0 to 1,029: those from the first undecided offset on,
+    /// at most 1,028 after `next` returned `None`.
     pub fn held(&self) -> usize
         ensures value { result ≡ length self.now.held }
         ensures bound { result ≤ longest_frame }
@@ -219,7 +218,8 @@ impl Framer {
         self.window.held()
     }
 
-    /// How many bytes may be pushed at once: as many as there is room for, and as the limit allows.
+    /// Returns the number of bytes that may be pushed at once, within the limit and beside the held
+    /// bytes.
     pub fn room(&self) -> usize
         ensures value { result ≡ min (longest_frame - length self.now.held) (self.now.limit - self.now.taken) }
         ensures fits { length self.now.held + result ≤ longest_frame }
@@ -230,7 +230,7 @@ impl Framer {
         (LONGEST_FRAME - self.held()).min(allowed as usize)
     }
 
-    /// How many bytes it has taken.
+    /// Returns the number of bytes accepted.
     pub fn taken(&self) -> u64
         ensures value { result ≡ self.now.taken }
         ensures within { (result ≤ self.now.limit) × (self.now.limit ≤ most_bytes) }
@@ -238,14 +238,14 @@ impl Framer {
         self.place + self.window.held() as u64
     }
 
-    /// How many of the decided places are in no frame.
+    /// Returns the number of decided bytes that are in no frame.
     pub fn skipped(&self) -> u64
         ensures { result ≡ self.now.skipped }
     {
         self.given_up
     }
 
-    /// How often bytes were looked at in all, at most 1,030 times the bytes taken.
+    /// Returns the number of reads of bytes in all, at most 1,030 for each byte accepted.
     pub fn examined(&self) -> u64
         ensures value { result ≡ self.now.examined }
         ensures bound { (b : List ℕ) (fs : List Framed) → HasExamined self.now b fs → result ≤ most_looks * length b }
@@ -253,7 +253,7 @@ impl Framer {
         self.window.examined()
     }
 
-    /// How often a byte was looked at, at most: 1,030.
+    /// Returns the largest number of reads of any single byte, at most 1,030.
     pub fn most(&self) -> u16
         ensures value { result ≡ self.now.most }
         ensures bound { (b : List ℕ) (fs : List Framed) → HasExamined self.now b fs → result ≤ most_looks }
@@ -261,7 +261,7 @@ impl Framer {
         self.window.most()
     }
 
-    /// The next frame that the bytes so far decide, or None where they decide no further one.
+    /// Returns the next frame that the accepted bytes decide, if there is one.
     pub fn next(&mut self) -> Option<Frame>
         ensures some { IfSome result (λ f. HandsOut self.old self.new (framed f)) }
         ensures none { IfNone result ((b : List ℕ) (fs : List Framed) → HasFramed self.old b fs → HasFramed self.new b fs × IsDrained self.new b fs) }
@@ -280,9 +280,8 @@ impl Framer {
         }
     }
 
-    /// As `next`, but the message replaces what the caller's buffer has, so that a loop over frames
-    /// needs one buffer. It answers the place of the frame's first byte in the stream; where it
-    /// answers None, the buffer keeps what it had.
+    /// Returns the offset of the next frame, as [`next`](Framer::next) does, and replaces the
+    /// buffer's content by its message. If there is no frame, the buffer is unchanged.
     pub fn next_into(&mut self, message: &mut ArrayVec<u8, LONGEST_MESSAGE>) -> Option<u64>
         ensures some { IfSome result (λ offset. HandsOut self.old self.new (frame_at offset message.new.items)) }
         ensures none { IfNone result ((b : List ℕ) (fs : List Framed) → HasFramed self.old b fs → HasFramed self.new b fs × IsDrained self.new b fs) }
@@ -301,8 +300,8 @@ impl Framer {
         }
     }
 
-    /// Gives up places until a whole frame stands at the front, and answers its size. None where no
-    /// more are decided.
+    /// Drops bytes until a whole frame begins at the front, and returns its size, if the held bytes
+    /// decide one.
     fn seek(&mut self) -> Option<usize>
         ensures begins { IfSome result (HasFrame self.new) }
         ensures stands { (b : List ℕ) (fs : List Framed) → HasFramed self.old b fs → HasFramed self.new b fs }
@@ -328,7 +327,7 @@ impl Framer {
         None
     }
 
-    /// Examines the candidate at the front, as far as its bytes are there, and judges it.
+    /// Reads the bytes of the candidate at the front that are held, and decides about it.
     fn decide(&mut self) -> Decision
         requires { 0 < length self.old.held }
         ensures examined { self.new ≡ with_candidate_examined self.old }
@@ -339,7 +338,7 @@ impl Framer {
         judge(&self.candidate, self.ended)
     }
 
-    /// Goes on one byte further.
+    /// Drops the byte at the front, which is in no frame.
     fn give_up(&mut self)
         requires { 0 < length self.old.held }
         ensures { self.new ≡ record (with_window self.old (without_front (window_of self.old) 1) 0) { skipped = self.old.skipped + 1 } }
@@ -350,8 +349,7 @@ impl Framer {
         self.given_up += 1;
     }
 
-    /// Goes on over the bytes at the front that aren't the first of any frame, all at once, to the
-    /// next preamble.
+    /// Drops the bytes before the next preamble, all at once.
     fn pass_over(&mut self)
         requires { self.old.tried ≡ 0 }
         ensures stands { (b : List ℕ) (fs : List Framed) → HasFramed self.old b fs → HasFramed self.new b fs }
@@ -364,8 +362,8 @@ impl Framer {
         self.given_up += n as u64;
     }
 
-    /// Hands out the message of the frame at the front, answers the frame's place, and goes on
-    /// behind it.
+    /// Writes the message of the frame at the front to the buffer, drops the frame, and returns its
+    /// offset.
     fn take_frame(&mut self, size: usize, message: &mut ArrayVec<u8, LONGEST_MESSAGE>) -> u64
         requires begins { begins_frame self.old.held ≡ true }
         requires size { size ≡ frame_length self.old.held }
@@ -381,7 +379,7 @@ impl Framer {
         offset
     }
 
-    /// Notes that all is decided that can be.
+    /// Marks that the held bytes decide no further frame.
     fn set_drained(&mut self)
         requires { length self.old.held < longest_frame }
         ensures drained { self.new ≡ record self.old { is_ready = true } }

@@ -1,5 +1,5 @@
-//! What stands at the front of the held bytes: a candidate is examined as far as its bytes are
-//! there, and then judged.
+//! The candidate at the front of the held bytes: those of its bytes that are held are read, and
+//! then it is decided.
 ghost use Rattle.std.specs.Prelude.{◌≡◌, ◌≢◌, ◌+◌, ◌-◌, ◌<◌, ◌≤◌, ℕ, [], min, length, slice_index, take};
 ghost use Rattle.rtcm_scan.specs.Candidate.{HasTaken, wanted_by};
 ghost use Rattle.rtcm_scan.specs.Pending.{asked};
@@ -9,18 +9,18 @@ ghost use Rattle.rtcm_scan.specs.Answers.{ComesTo, if_missing};
 use crate::candidate::{Candidate, PREAMBLE};
 use rtcm_bits::{Window, laws};
 
-/// What stands at the front of the held bytes.
+/// What begins at the front of the held bytes.
 #[derive(Clone, Copy)]
 pub(crate) enum Decision {
-    /// Not enough bytes to say.
+    /// Undecided: bytes are missing.
     Open,
     /// No frame.
     Passed,
-    /// A frame of so many bytes.
+    /// A frame, with its size in bytes.
     Found(usize),
 }
 
-/// Examines the rest of the candidate at the front, as far as its bytes are there.
+/// Reads the unread bytes of the candidate at the front that are held.
 pub(crate) fn examine(window: &mut Window, candidate: &mut Candidate)
     requires taken { HasTaken candidate.old (take candidate.old.count window.old.bytes) }
     requires within { candidate.old.count ≤ length window.old.bytes }
@@ -36,8 +36,7 @@ pub(crate) fn examine(window: &mut Window, candidate: &mut Candidate)
     examine_rest(window, candidate);
 }
 
-/// Examines the candidate's header, byte by byte, since each byte of it may change how many are
-/// asked for.
+/// Reads the candidate's header byte by byte, since each of its bytes may change the frame's size.
 fn examine_header(window: &mut Window, candidate: &mut Candidate)
     requires taken { HasTaken candidate.old (take candidate.old.count window.old.bytes) }
     requires within { candidate.old.count ≤ length window.old.bytes }
@@ -55,7 +54,7 @@ fn examine_header(window: &mut Window, candidate: &mut Candidate)
     }
 }
 
-/// Examines the bytes behind the candidate's header, all that are there at once.
+/// Reads the held bytes after the candidate's header, all at once.
 fn examine_rest(window: &mut Window, candidate: &mut Candidate)
     requires taken { HasTaken candidate.old (take candidate.old.count window.old.bytes) }
     requires within { candidate.old.count ≤ length window.old.bytes }
@@ -75,8 +74,8 @@ fn examine_rest(window: &mut Window, candidate: &mut Candidate)
     }
 }
 
-/// Drops the bytes at the front that aren't the first of any frame, and answers how many. The
-/// candidate takes the preamble where it stops, which was looked at once, as they were.
+/// Drops the bytes before the next preamble, and returns their number. The preamble, which was read
+/// once, as they were, begins the candidate.
 pub(crate) fn pass_others(window: &mut Window, candidate: &mut Candidate) -> usize
     requires { HasTaken candidate.old [] }
     ensures within { result ≤ length window.old.bytes }
@@ -92,7 +91,7 @@ pub(crate) fn pass_others(window: &mut Window, candidate: &mut Candidate) -> usi
     n
 }
 
-/// What a candidate comes to of which all bytes that are there were taken.
+/// Decides about a candidate whose held bytes were all read.
 pub(crate) fn judge(candidate: &Candidate, has_ended: bool) -> Decision
     ensures { ComesTo candidate.now has_ended result }
 {
@@ -107,7 +106,7 @@ pub(crate) fn judge(candidate: &Candidate, has_ended: bool) -> Decision
     }
 }
 
-/// What stands where bytes are missing.
+/// The decision if bytes are missing.
 fn missing(has_ended: bool) -> Decision
     ensures { result ≡ if_missing has_ended }
 {

@@ -16,7 +16,7 @@ pub fn frames()
     ensures only { (b : List ℕ) (fs : List Framed) → AreFrames b fs → fs ≡ frames_of b }
 {}
 
-/// No byte of a stream is looked at more than 1,030 times, at its end or before.
+/// No byte of a stream is read more than 1,030 times, at its end or before.
 pub fn looks()
     ensures most { (b : List ℕ) → most b ≤ most_looks }
     ensures examined { (b : List ℕ) → examined b ≤ most_looks * length b }
@@ -24,13 +24,13 @@ pub fn looks()
     ensures examined_now { (b : List ℕ) → examined_now b ≤ most_looks * length b }
 {}
 
-/// Damage stays local: frames that begin far enough behind it are found, whatever their messages
-/// hold.
+/// Damage stays local: frames that begin far enough after it are found, for every content of their
+/// messages.
 pub fn local()
     ensures { (junk : List ℕ) (messages : List (List ℕ)) (k : ℕ) → StaysLocal junk messages k }
 {}
 
-/// Frames alone, one behind the other, are found, each where it stands.
+/// Frames alone, one after the other, are found, each at its offset.
 pub fn joined()
     ensures { (messages : List (List ℕ)) → FitFrames messages → frames_of (flat_map frame_bytes messages) ≡ placed 0 messages }
 {}
@@ -51,7 +51,7 @@ pub fn undecided()
     ensures near { (b : List ℕ) → length b ≤ decided b + most_undecided }
 {}
 
-/// The frames that a framer has handed out are the first of those that are known.
+/// The frames that a framer has returned are the first of those that are known.
 pub fn handed()
     ensures { (v : FramerValue) (b : List ℕ) (fs : List Framed) → HasFramed v b fs → IsPrefix fs (known_frames v.has_ended b) }
 {}

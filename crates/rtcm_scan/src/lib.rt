@@ -1,5 +1,5 @@
 //! The frames of RTCM 3 streams (RTCM 10403.3, transport layer): of a stream that comes in blocks,
-//! with exact counts of how often each byte is looked at, and of a slice.
+//! with exact counts of the reads of each byte, and of a slice.
 #![tactic(auto)]
 
 mod candidate;

@@ -10,7 +10,7 @@ use rtcm_bits::Counted;
 use std::io::Read;
 
 impl Framer {
-    /// Reads a piece of the stream, takes it, and returns its length.
+    /// Reads a piece of the stream, processes it, and returns its length in bytes, 0 at the end.
     fn read_piece<R: Read, O, S: FrameSink<O>>(
         &mut self,
         reader: &mut Counted<R>,
@@ -44,8 +44,8 @@ impl Framer {
         }
     }
 
-    /// Reads to the end of the stream, at most as many bytes at a time as the buffer has, passes on
-    /// each frame as soon as it is decided, and flushes the output after each piece.
+    /// Reads to the end of the stream, at most `buffer.len()` bytes at a time, passes each frame to
+    /// the sink as soon as it is decided, and flushes the output after each piece.
     ///
     /// # Errors
     ///
@@ -74,7 +74,7 @@ impl Framer {
         ensures going { IfErr result (λ fault. AtFault fault (self.new.has_ended ≡ false) (self.new.has_ended ≡ false) ⊤) }
         ensures goes { S.can_take sink.new }
     {
-        // A method on the framer knows that it took no more than its limit.
+        // Brings the bound on the number of accepted bytes into the proof.
         let _ = self.taken();
         if let Err(fault) = sink.send(out) {
             return Err(StreamFault::Sink(fault));

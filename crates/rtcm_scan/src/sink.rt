@@ -7,7 +7,7 @@ use crate::framer::Frame;
 
 /// A consumer of the frames of a stream, in order. It may write to an output.
 pub trait FrameSink<O> {
-    /// Why a frame wasn't taken.
+    /// Why a frame was not processed.
     type Fault;
 
     // Holds as long as a frame may be passed to it.
@@ -23,7 +23,11 @@ pub trait FrameSink<O> {
     // The same, but it failed: it took the second frames, and at most a part of the third.
     ghost broke: { Self → O → List Framed → Self → O → List Framed → List Framed → Type 0 };
 
-    /// Takes the next frame.
+    /// Processes the next frame.
+    ///
+    /// # Errors
+    ///
+    /// `Self::Fault` if the frame was not processed, or its output not written.
     fn take(&mut self, frame: &Frame, out: &mut O) -> Result<(), Self::Fault>
         requires { can_take self.old }
         ensures goes { can_take self.new }
@@ -33,6 +37,10 @@ pub trait FrameSink<O> {
             → broke s o ps self.new out.new fs (fs ++ framed frame.now ∷ [])) };
 
     /// Flushes the output, if anything waits in it.
+    ///
+    /// # Errors
+    ///
+    /// `Self::Fault` if the output could not be flushed.
     fn send(&self, out: &mut O) -> Result<(), Self::Fault>
         ensures sent { OnOk result (is_sent out.new) }
         ensures whole { OnOk result ((s : Self) (o : O) (ps fs : List Framed) → took s o ps self.now out.old fs → took s o ps self.now out.new fs) }
