@@ -1,7 +1,11 @@
-/* Stands before the C library (LD_PRELOAD) and lets one call fail: the Nth request for memory, the Nth read of standard
-   input or the Nth write of standard output, N from 1 on, as the environment says. It can also cut each read and write
-   to a byte, and tell how many of each call there were. It names what it needs of the C library itself, so that a
-   compiler without the library's headers builds it. */
+/* Replaces calls of the C library (LD_PRELOAD) and makes one of them fail, by environment variables:
+
+       FAIL_ALLOCATION, FAIL_READ, FAIL_WRITE   the number, from 1, of the allocation, the read of standard input or the
+                                                write of standard output that fails
+       MOST_READ, MOST_WRITTEN                  the largest number of bytes of a read or a write
+       CALLS_FILE                               the file to which the numbers of the three kinds of calls are written
+
+   It declares the functions of the C library that it uses, so that it can be built without the library's headers. */
 typedef unsigned long size;
 typedef long answer;
 
@@ -19,8 +23,8 @@ extern void *__libc_memalign(size align, size bytes);
 
 enum { NO_MEMORY = 12, BROKEN = 5, READ = 0, WRITE = 1, INPUT = 0, OUTPUT = 1, MADE_ANEW = 01 | 0100 | 01000 };
 
-static long requests, reads, writes;
-static long request_that_fails, read_that_fails, write_that_fails, most_read, most_written;
+static long allocations, reads, writes;
+static long allocation_that_fails, read_that_fails, write_that_fails, most_read, most_written;
 static int begun;
 
 static long number(const char *name) {
@@ -29,7 +33,7 @@ static long number(const char *name) {
 }
 
 __attribute__((constructor)) static void begin(void) {
-    request_that_fails = number("FAIL_REQUEST");
+    allocation_that_fails = number("FAIL_ALLOCATION");
     read_that_fails = number("FAIL_READ");
     write_that_fails = number("FAIL_WRITE");
     most_read = number("MOST_READ");
@@ -37,9 +41,9 @@ __attribute__((constructor)) static void begin(void) {
     begun = 1;
 }
 
-/* The C library's own requests before the program begins aren't counted. */
+/* Allocations of the C library before the program begins aren't counted. */
 static int refuses(void) {
-    if (!begun || ++requests != request_that_fails) return 0;
+    if (!begun || ++allocations != allocation_that_fails) return 0;
     *__errno_location() = NO_MEMORY;
     return 1;
 }
@@ -76,13 +80,13 @@ answer write(int file, const void *bytes, size most) {
     return syscall(WRITE, file, bytes, most);
 }
 
-__attribute__((destructor)) static void tell(void) {
+__attribute__((destructor)) static void write_calls(void) {
     char text[80];
-    char *path = getenv("TELL");
+    char *path = getenv("CALLS_FILE");
     begun = 0;
     if (!path) return;
     int file = open(path, MADE_ANEW, 0600);
     if (file < 0) return;
-    syscall(WRITE, file, text, (size)snprintf(text, sizeof text, "%ld %ld %ld\n", requests, reads, writes));
+    syscall(WRITE, file, text, (size)snprintf(text, sizeof text, "%ld %ld %ld\n", allocations, reads, writes));
     close(file);
 }
