@@ -6,11 +6,11 @@ abbrev pub passes_below : (ℕ → Bool) → ℕ → Bool
 passes_below test zero = true
 passes_below test (suc n) = test n && passes_below test n
 
-both_first : (a b : Bool) → (a && b) ≡ true → a ≡ true
+pub both_first : (a b : Bool) → (a && b) ≡ true → a ≡ true
 both_first true b h = refl
 both_first false b h = h
 
-both_second : (a b : Bool) → (a && b) ≡ true → b ≡ true
+pub both_second : (a b : Bool) → (a && b) ≡ true → b ≡ true
 both_second true b h = h
 both_second false b h = search rules
 
@@ -24,7 +24,7 @@ passes_at test (suc n) i all below = elim (last_or_below n i below) [
   | inr less ↦ passes_at test n i (both_second (test n) (passes_below test n) all) less
 ]
 
--- what the tests of numbers say
+-- the tests of numbers
 pub is_less : (a b : ℕ) → nat_lt a b ≡ true → a < b
 is_less a b h = grind (arith, h)
 

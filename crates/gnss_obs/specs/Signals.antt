@@ -1,11 +1,11 @@
 -- The signals of each system.
-use Rattle.std.specs.Prelude.{ℕ, List, [], ◌∷◌, ◌+◌, ◌-◌, Bool, ◌==◌, ◌<◌, nat_lt, if◌then◌else◌, Option, Some, None, option_map, length, position, slice_get}
+use Rattle.std.specs.Prelude.{ℕ, List, [], ◌+◌, Bool, ◌==◌, ◌<◌, nat_lt, if◌then◌else◌, Option, Some, None, option_map, length, position, slice_get}
 use Rattle.std.specs.Option.{option_map_or}
 use Rattle.std.specs.Str.{bytes_eq}
 use Rattle.gnss_obs.specs.declared.tables.ListedSignal.{ListedSignal}
 use Rattle.gnss_obs.specs.declared.system.System.{System}
 use Rattle.gnss_obs.specs.declared.system.System.TheVariants.{Gps, Galileo}
-use Rattle.gnss_obs.specs.SignalTables.{gps_signals, galileo_signals}
+use Rattle.gnss_obs.specs.SignalTables.{gps_signals, galileo_signals, gps_carriers, galileo_carriers, band_of, carrier_of}
 
 -- the table of a system
 abbrev pub table : System → List ListedSignal
@@ -27,27 +27,27 @@ signal_count Galileo = galileo_signal_count
 abbrev pub most_signals : ℕ
 most_signals = galileo_signal_count
 
--- a signal: its place in the table of its system, from 0
+-- a signal: its index in the table of its system, from 0
 pub record SignalAt : Type 0 where
   pub system : System
   pub index : ℕ
 
--- the place is one of the table's
+-- the index is one of the table's
 abbrev pub IsSignal : SignalAt → Type 0
 IsSignal s = s.index < length (table s.system)
 
--- the place behind
+-- the next index
 abbrev pub behind : SignalAt → SignalAt
 behind s = record { system = s.system; index = s.index + 1 }
 
--- the signal at a place, where there is one
+-- the signal at an index, if there is one
 abbrev pub signal_at : System → ℕ → Option SignalAt
 signal_at system index =
     if nat_lt index (length (table system))
     then Some (record { system = system; index = index })
     else None
 
--- the signal that a system's table has at the first place that passes a test
+-- the first signal in a system's table that passes a test
 abbrev pub signal_where : System → (ListedSignal → Bool) → Option SignalAt
 signal_where system test = option_map (λ i. record { system = system; index = i }) (position test (table system))
 
@@ -71,20 +71,10 @@ id_of s = option_map_or (λ e. e.0) (slice_get (table s.system) s.index) 0
 abbrev pub code_of : SignalAt → List ℕ
 code_of s = option_map_or (λ e. e.1) (slice_get (table s.system) s.index) []
 
--- the bands of a system by the digit that a code begins with, each with its carrier in hertz
+-- the carriers of a system
 abbrev pub carriers : System → List (ℕ × ℕ)
-carriers Gps = (1, 1575420000) ∷ (2, 1227600000) ∷ (5, 1176450000) ∷ []
-carriers Galileo = (1, 1575420000) ∷ (5, 1176450000) ∷ (6, 1278750000) ∷ (7, 1207140000) ∷ (8, 1191795000) ∷ []
-
--- the band of a code: the number that its digit, in ASCII, stands for
-abbrev pub band_of : List ℕ → ℕ
-band_of [] = 0
-band_of (digit ∷ rest) = digit - 48
-
--- the carrier of a band, 0 where there is none
-abbrev pub carrier_of : List (ℕ × ℕ) → ℕ → ℕ
-carrier_of [] band = 0
-carrier_of (c ∷ others) band = if c.0 == band then c.1 else carrier_of others band
+carriers Gps = gps_carriers
+carriers Galileo = galileo_carriers
 
 -- the carrier of a signal
 abbrev pub hertz_of : SignalAt → ℕ

@@ -4,9 +4,8 @@ ghost use Rattle.gnss_obs.specs.Satellites.{Satellite, IsSatellite, satellites, 
 use crate::System;
 use std::marker::Model;
 
-/// A satellite: GPS 1 to 32, Galileo 1 to 36. GPS comes first, and within a system the lower
-/// number.
-#[derive(Clone, Copy, Debug, PartialEq, Eq, PartialOrd, Ord)]
+/// A satellite: GPS 1 to 32 or Galileo 1 to 36.
+#[derive(Clone, Copy, Debug, PartialEq, Eq)]
 pub struct Sat {
     system: System,
     id: u8,
@@ -23,8 +22,8 @@ impl Model for Sat {
 }
 
 impl Sat {
-    /// The satellite of this number, or `None` where the system has none. The number is that of
-    /// RINEX, and the satellite ID of the mask DF394.
+    /// Returns the satellite with this number, or `None` if the system has none. The number is that
+    /// of RINEX, and the position in the satellite mask DF394 of RTCM 10403.3, counted from 1.
     pub fn new(system: System, id: u8) -> Option<Sat>
         ensures value { result ≡ satellite_of_id system id }
         ensures listed { IsSome result ↔ ((1 ≤ id) × (id ≤ satellites system)) }
@@ -38,14 +37,14 @@ impl Sat {
         Some(Sat { system, id })
     }
 
-    /// The system that the satellite belongs to.
+    /// Returns the system that the satellite belongs to.
     pub fn system(self) -> System
         ensures { result ≡ self.system }
     {
         self.system
     }
 
-    /// The satellite's number in its system, from 1.
+    /// Returns the number of the satellite in its system, from 1.
     pub fn id(self) -> u8
         ensures value { result ≡ self.id }
         ensures listed { IsSatellite self }

@@ -2,18 +2,18 @@ ghost use Rattle.std.specs.Prelude.{◌≡◌, ◌≤◌, length};
 
 use crate::tables::{GALILEO_SIGNAL_COUNT, GPS_SIGNAL_COUNT};
 
-/// How many satellites GPS has.
+/// Number of GPS satellites.
 pub const GPS_SATELLITES: u8 = 32;
 
-/// How many satellites Galileo has.
+/// Number of Galileo satellites.
 pub const GALILEO_SATELLITES: u8 = 36;
 
-/// A satellite system of which signals are read.
-#[derive(Clone, Copy, Debug, PartialEq, Eq, Hash, PartialOrd, Ord)]
+/// A satellite system.
+#[derive(Clone, Copy, Debug, PartialEq, Eq, Hash)]
 pub enum System {
-    /// The United States' system, `G` in RINEX.
+    /// GPS, `G` in RINEX.
     Gps,
-    /// The European Union's system, `E` in RINEX.
+    /// Galileo, `E` in RINEX.
     Galileo,
 }
 
@@ -21,7 +21,7 @@ impl System {
     ghost use Rattle.gnss_obs.specs.Satellites.{satellites, most_satellites};
     ghost use Rattle.gnss_obs.specs.Signals.{table, signal_count, most_signals};
 
-    /// How many satellites the system has: they are numbered from 1.
+    /// Returns the number of satellites of the system, which are numbered from 1.
     pub fn satellites(self) -> u8
         ensures value { result ≡ satellites self }
         ensures bound { result ≤ most_satellites }
@@ -32,7 +32,7 @@ impl System {
         }
     }
 
-    /// How many signals the system's table has: their places are numbered from 0.
+    /// Returns the number of signals of the system, whose indices count from 0.
     pub fn signals(self) -> usize
         ensures value { result ≡ length (table self) }
         ensures count { result ≡ signal_count self }

@@ -1,0 +1,10 @@
+-- The rows of the signal IDs.
+use Rattle.std.specs.Prelude.{ℕ, List}
+use Rattle.gnss_obs.specs.declared.system.System.{System}
+use Rattle.gnss_obs.specs.declared.system.System.TheVariants.{Gps, Galileo}
+use Rattle.gnss_obs.specs.declared.tables.TheConstants.{GPS_ROWS, GALILEO_ROWS}
+
+-- for each ID from 0 to 32 of a system, its row in the table of signals, or 255
+abbrev pub rows : System → List ℕ
+rows Gps = GPS_ROWS
+rows Galileo = GALILEO_ROWS
