@@ -3,7 +3,7 @@ use Rattle.std.proofs.Common.{pos, negsuc, ◌≡◌, refl, Some, None, true, fa
 use Rattle.gnss_obs.specs.Observables.{nearest_pseudorange, nearest_phase, nearest_doppler, nearest_strength, strength_digit}
 use Rattle.gnss_obs.specs.LockTimes.{times4, times7, lost}
 
--- 70 ms, and the next range that MSM7 tells
+-- 70 ms, and the next range that MSM7 encodes
 range : nearest_pseudorange (pos 150323855360) ≡ pos 20985472060
 range = refl
 

@@ -1,4 +1,4 @@
--- What the answer to a loss of lock says.
+-- The test for a loss of lock.
 use Rattle.std.proofs.Common.{ℕ, ◌≡◌, ◌<◌, ◌≤◌, ◌↔◌, IsTrue, Option, Some, None, arith, rules, refl, ◌+◌, ◌*◌, ◌==◌, ◌||◌, nat_lt}
 use Rattle.gnss_obs.specs.LockTimes.{LockTime, IsLost, lost, least4, least7}
 use Rattle.gnss_obs.proofs.Checked.{passes_at, is_less, is_equal, unless_less}

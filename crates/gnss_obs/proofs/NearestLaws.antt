@@ -6,7 +6,7 @@ use Rattle.std.proofs.lemmas.Int.{ints, unsigned_abs-mul, to_z-of_z, fits_signed
 use Rattle.std.proofs.lemmas.Nat.{mul-le, div_below, div-add-mod', mod_below}
 use Rattle.gnss_obs.specs.Rounding.{IsNearest, nearest, nearest_size}
 
--- how far the product is off
+-- the distance of the product from the fraction
 pub size_bounds : (n q : ℕ) → 0 < q → (2 * (nearest_size n q * q) ≤ 2 * n + q) × (2 * n + q < 2 * (nearest_size n q * q) + 2 * q)
 size_bounds n q some =
     let split = div-add-mod' (2 * n + q) (2 * q) in
@@ -65,7 +65,7 @@ nearest_is (negsuc n) q some =
         let product : v *ℤ pos q ≡ pos 0 -ℤ pos (t * q) = ap (λ x. x *ℤ pos q) e ∙ mirrored t q in
         record { near = rw product (mirror_apart (t * q) n q a b); tie = rw product (mirror_tied (t * q) n q b) }
 
--- a product of a number and a carrier, as the code takes it
+-- a product of a number and a carrier, as the code computes it
 pub product_casts : (x : ℤ) (h m : ℕ) → FitsSigned w128 x → unsigned_abs x ≤ m → m * 2 ^ 31 < 2 ^ 127 → h < 2 ^ 31 → to_z w128 (of_z w128 (x *ℤ to_z w128 h)) ≡ x *ℤ pos h
 product_casts x h m f size room small =
     let carrier : to_z w128 h ≡ pos h = omega (arith, ints) in
@@ -91,7 +91,7 @@ turned_casts x h m f size room small =
     below : (p : ℤ) → unsigned_abs p ≤ 2 ^ 100 → to_z w128 (of_z w128 (pos 0 -ℤ p)) ≡ pos 0 -ℤ p
     below p b = omega (arith, ints)
 
--- a nearest number stays one where both are named otherwise
+-- a nearest number under other names
 pub nearest_named : (a b : ℤ) (q : ℕ) (t u : ℤ) → a ≡ b → t ≡ u → IsNearest a q t → IsNearest b q u
 nearest_named a b q t u same_fraction same_number near = subst (λ x. IsNearest x q u) same_fraction (subst (IsNearest a q) same_number near)
 

@@ -2,7 +2,7 @@
 use Rattle.std.specs.Prelude.{ℕ, ◌+◌, ◌-◌, ◌*◌, ◌/◌, ◌^◌, ◌==◌, ◌||◌, ◌<◌, ◌≤◌, ◌⊎◌, nat_lt, nat_le, if◌then◌else◌, Bool, false, Option, Some, None}
 use Rattle.std.specs.Option.{IsSomeAnd}
 
--- the milliseconds that a lock has lasted at least, and those that it has not reached; unknown where there are none
+-- the least time of a lock in milliseconds, and the time that is not reached; None is unknown
 pub record LockTime : Type 0 where
   pub least : Option ℕ
   pub upper : Option ℕ
@@ -11,7 +11,7 @@ pub record LockTime : Type 0 where
 abbrev pub last4 : ℕ
 last4 = 15
 
--- the last indicator of MSM7 (DF407) that tells a time: those above it are an unknown lock
+-- the last indicator of MSM7 (DF407) that has a time: those above it are an unknown lock
 abbrev pub last7 : ℕ
 last7 = 704
 
@@ -30,7 +30,7 @@ times4 i = record {
 abbrev pub doublings : ℕ → ℕ
 doublings i = i / 32 - 1
 
--- the least time of an indicator of MSM7, from 0 to the last that tells one
+-- the least time of an indicator of MSM7, from 0 to the last that has one
 abbrev pub least7 : ℕ → ℕ
 least7 i = (i - 32 * doublings i) * 2 ^ doublings i
 
@@ -44,14 +44,14 @@ times7 i =
       upper = if i == last7 then None else Some (least7 (i + 1));
     }
 
--- lock was lost between two times of a phase, so many milliseconds apart: both lock times are known, and the later
+-- lock was lost between two times that are `elapsed` milliseconds apart: both lock times are known, and the later
 -- one is less, or is known to be no more than the time between
 abbrev pub IsLost : LockTime → LockTime → ℕ → Type 0
 IsLost earlier later elapsed =
     IsSomeAnd earlier.least (λ before. IsSomeAnd later.least (λ least.
     (least < before) ⊎ IsSomeAnd later.upper (λ upper. upper ≤ elapsed)))
 
--- the same as an answer
+-- the same as a test
 abbrev pub has_passed : Option ℕ → ℕ → Bool
 has_passed None elapsed = false
 has_passed (Some upper) elapsed = nat_le upper elapsed

@@ -6,14 +6,14 @@ pub record IsNearest (a : ℤ) (q : ℕ) (t : ℤ) : Type 0 where
   pub near : 2 * unsigned_abs ((t *ℤ pos q) -ℤ a) ≤ q
   pub tie : 2 * unsigned_abs ((t *ℤ pos q) -ℤ a) ≡ q → unsigned_abs a < unsigned_abs (t *ℤ pos q)
 
--- a value is there exactly where there is something to make it of, and is then nearest to that over q
+-- there is a value exactly if there is an input, and it is then nearest to the fraction of the input over q
 abbrev pub IsRounded : {A : Type 0} → (A → ℤ) → ℕ → Option A → Option ℤ → Type 0
 IsRounded above q None None = Unit {0}
 IsRounded above q None (Some t) = ⊥
 IsRounded above q (Some x) None = ⊥
 IsRounded above q (Some x) (Some t) = IsNearest (above x) q t
 
--- the same for the size of a
+-- n / q rounded to the nearest whole number, halves up
 abbrev pub nearest_size : ℕ → ℕ → ℕ
 nearest_size n q = (2 * n + q) / (2 * q)
 

@@ -27,7 +27,7 @@ most_satellites = galileo_satellites
 abbrev pub IsSatellite : Satellite → Type 0
 IsSatellite s = (1 ≤ s.id) × (s.id ≤ satellites s.system)
 
--- the satellite of a number, where there is one
+-- the satellite of a number, if there is one
 abbrev pub satellite_of_id : System → ℕ → Option Satellite
 satellite_of_id system id =
     if nat_le 1 id && nat_le id (satellites system)

@@ -1,19 +1,18 @@
-//! Laws of the definitions, each the contract of a function without a body.
+//! Laws of the definitions: each is the contract of a function without a body.
 ghost use Rattle.std.specs.Prelude.{◌≡◌, ◌+◌, ◌*◌, ◌^◌, ◌<◌, ◌≤◌, ◌≤ℤ◌, ℕ, ℤ, pos, unsigned_abs, Some};
 ghost use Rattle.gnss_obs.specs.LockTimes.{last4, last7, least4, least7};
 ghost use Rattle.gnss_obs.specs.Rounding.{IsNearest, nearest};
 ghost use Rattle.gnss_obs.specs.Observables.{nearest_pseudorange, nearest_phase, nearest_doppler, nearest_strength};
 ghost use Rattle.gnss_obs.specs.Signals.{SignalAt, IsSignal, greatest_signal_id, behind, id_of, code_of, hertz_of, signal_of_id, signal_of_code};
 
-/// There is exactly one nearest whole number, and it is the one that `nearest` computes.
+/// Exactly one whole number is nearest to a fraction, and `nearest` computes it.
 pub fn one_nearest()
     ensures is { (a : ℤ) (q : ℕ) → 0 < q → IsNearest a q (nearest a q) }
     ensures one { (a : ℤ) (q : ℕ) (t u : ℤ) → 0 < q → IsNearest a q t → IsNearest a q u → t ≡ u }
 {}
 
-/// The rules of both signal tables: the IDs are bits of the signal mask and rise, and each listed
-/// signal is read back from its ID and from its code, so that no two signals of a system share
-/// either.
+/// The signal tables: the IDs are positions in the signal mask DF395 and rise, and each signal is
+/// found by its ID and by its code, so that no two signals of a system share an ID or a code.
 pub fn signal_tables()
     ensures ids { (s : SignalAt) → IsSignal s → (1 ≤ id_of s) × (id_of s ≤ greatest_signal_id) }
     ensures rising { (s : SignalAt) → IsSignal (behind s) → id_of s < id_of (behind s) }
@@ -21,9 +20,9 @@ pub fn signal_tables()
     ensures code_reads_back { (s : SignalAt) → IsSignal s → signal_of_code s.system (code_of s) ≡ Some s }
 {}
 
-/// The rules of the lock time indicators: the least times rise with the indicator, so that each
-/// upper time is above its least. Those of DF407 count milliseconds up to 64, and from then on each
-/// further 32 indicators double the time.
+/// The lock time indicators: the least times rise with the indicator, so that each upper time is
+/// above its least. Those of DF407 are milliseconds up to 64, and from 32 on an indicator that is
+/// larger by 32 has twice the time.
 pub fn lock_times()
     ensures rising4 { (i : ℕ) → i < last4 → least4 i < least4 (i + 1) }
     ensures rising7 { (i : ℕ) → i < last7 → least7 i < least7 (i + 1) }
@@ -31,8 +30,8 @@ pub fn lock_times()
     ensures doubles7 { (i : ℕ) → 32 ≤ i → i + 32 ≤ last7 → least7 (i + 32) ≡ 2 * least7 i }
 {}
 
-/// How large the values of a message are: below 10^12 thousandths in size, and a strength from 1 to
-/// 99,999.
+/// The range of the values of a message: below 10^12 thousandths in size, and a strength from 1 to
+/// 99,999 thousandths.
 pub fn sizes()
     ensures metres { (r : ℤ) → unsigned_abs r ≤ 2 ^ 40 → unsigned_abs (nearest_pseudorange r) < 10 ^ 12 }
     ensures cycles { (s : SignalAt) (p : ℤ) → unsigned_abs p ≤ 2 ^ 40 → unsigned_abs (nearest_phase (hertz_of s) p) < 10 ^ 12 }

@@ -1,5 +1,5 @@
-//! Satellites, signals, and the values that a RINEX file holds of them: pseudorange, phase,
-//! Doppler, strength and lock.
+//! Satellites, signals, and the values that a RINEX file has of them: pseudorange, carrier phase,
+//! Doppler shift, signal strength and lock time.
 #![tactic(auto)]
 
 pub mod laws;

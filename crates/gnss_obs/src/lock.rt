@@ -4,14 +4,14 @@ ghost use Rattle.gnss_obs.specs.LockTimes as LockTimes;
 
 use std::marker::Model;
 
-/// The last indicator DF402.
+/// The greatest indicator DF402.
 const LAST_DF402: u8 = 15;
 
-/// The last indicator DF407 that tells a time.
+/// The greatest indicator DF407 that has a time.
 const LAST_DF407: u16 = 704;
 
-/// How long a receiver has tracked a phase without a break, as a lock time indicator tells it: at
-/// least so many milliseconds, and less than so many.
+/// The time for which a receiver has tracked a phase without a break, in milliseconds, as given by
+/// a lock time indicator: a range with its least value included and its upper value excluded.
 #[derive(Clone, Copy, Debug, PartialEq, Eq)]
 pub struct Lock {
     least: Option<u32>,
@@ -34,7 +34,7 @@ fn least4(code: u8) -> u32
     if code == 0 { 0 } else { 1 << (code + 4) }
 }
 
-/// The least time of an indicator DF407 that is known, in milliseconds.
+/// The least time of an indicator DF407 from 0 to 704, in milliseconds.
 fn least7(code: u16) -> u32
     requires { code ≤ last7 }
     ensures { result ≡ LockTimes.least7 code }
@@ -44,7 +44,7 @@ fn least7(code: u16) -> u32
 }
 
 impl Lock {
-    /// The lock of an indicator of MSM4, DF402.
+    /// Returns the lock of an indicator of MSM4 (RTCM 10403.3 DF402), 0 to 15.
     pub fn from_df402(code: u8) -> Lock
         requires { code ≤ last4 }
         ensures { result ≡ times4 code }
@@ -59,7 +59,8 @@ impl Lock {
         }
     }
 
-    /// The lock of an indicator of MSM7, DF407. From 705 on it is unknown.
+    /// Returns the lock of an indicator of MSM7 (RTCM 10403.3 DF407), 0 to 1,023. From 705 on it
+    /// is unknown.
     pub fn from_df407(code: u16) -> Lock
         requires { code < 2 ^ 10 }
         ensures { result ≡ times7 code }
@@ -80,14 +81,15 @@ impl Lock {
         }
     }
 
-    /// The milliseconds that the lock has lasted at least, where they are known.
+    /// Returns the least lock time in milliseconds, or `None` if the lock is unknown.
     pub fn least(self) -> Option<u32>
         ensures { result ≡ self.least }
     {
         self.least
     }
 
-    /// The milliseconds that the lock has not reached, where such a time is known.
+    /// Returns the lock time in milliseconds that is not reached, or `None` if the lock is unknown
+    /// or has no upper time (DF402 15, DF407 704).
     pub fn upper(self) -> Option<u32>
         ensures { result ≡ self.upper }
     {
@@ -95,9 +97,10 @@ impl Lock {
     }
 }
 
-/// Was lock lost between two times, `elapsed` milliseconds apart? It was where the later lock has
-/// lasted less long than the earlier one, or is known to be no older than the time between. Where
-/// either is unknown nothing is known of a loss.
+/// Returns whether lock was lost between two times that are `elapsed` milliseconds apart.
+///
+/// It was if the later lock has a smaller least time than the earlier one, or an upper time that is
+/// not above the elapsed time. If either lock is unknown, the result is `false`.
 pub fn is_lost(then: Lock, now: Lock, elapsed: u64) -> bool
     ensures lost { IsTrue result ↔ IsLost then now elapsed }
     ensures value { result ≡ lost then.least now.least now.upper elapsed }
@@ -105,7 +108,7 @@ pub fn is_lost(then: Lock, now: Lock, elapsed: u64) -> bool
     has_fallen(then.least, now.least, now.upper, elapsed)
 }
 
-/// The same, from the lock times of which the answer is made.
+/// The same, from the lock times that it depends on.
 fn has_fallen(before: Option<u32>, least: Option<u32>, upper: Option<u32>, elapsed: u64) -> bool
     ensures { result ≡ lost before least upper elapsed }
 {

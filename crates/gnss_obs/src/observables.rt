@@ -7,10 +7,11 @@ ghost use Rattle.gnss_obs.specs.Signals.{hertz_of};
 use crate::rounding::nearest_whole;
 use crate::{Signal, Thousandths};
 
-/// The speed of light in metres per second.
+/// Speed of light, in metres per second.
 const LIGHT: u32 = 299_792_458;
 
-/// The pseudorange in metres, of a range in units of 2^-31 ms. There is none without a range.
+/// Returns the pseudorange in metres from a range in units of 2^-31 ms, the sum of DF397, DF398 and
+/// DF400 or DF405 of RTCM 10403.3. `None` if there is no range.
 pub fn pseudorange(range: Option<i64>) -> Option<Thousandths>
     requires { ForSome range (λ r. unsigned_abs r ≤ 2 ^ 40) }
     ensures rounded { IsRounded (λ r. r *ℤ pos light) (2 ^ 31) range result }
@@ -23,8 +24,8 @@ pub fn pseudorange(range: Option<i64>) -> Option<Thousandths>
     }
 }
 
-/// The carrier phase in cycles, of a phase range in units of 2^-31 ms. There is none without a
-/// phase range.
+/// Returns the carrier phase in cycles from a phase range in units of 2^-31 ms, the sum of DF397,
+/// DF398 and DF401 or DF406 of RTCM 10403.3. `None` if there is no phase range.
 pub fn phase(phase: Option<i64>, signal: Signal) -> Option<Thousandths>
     requires { ForSome phase (λ p. unsigned_abs p ≤ 2 ^ 40) }
     ensures rounded { IsRounded (λ p. p *ℤ pos (hertz_of signal)) (2 ^ 31) phase result }
@@ -40,8 +41,9 @@ pub fn phase(phase: Option<i64>, signal: Signal) -> Option<Thousandths>
     }
 }
 
-/// The Doppler shift in hertz, of a phase range rate in 0.0001 m/s: positive where the satellite
-/// comes nearer, so where the rate is negative. There is none without a rate.
+/// Returns the Doppler shift in hertz from a phase range rate in units of 0.0001 m/s, the sum of
+/// DF399 and DF404 of RTCM 10403.3. It is positive if the rate is negative: the satellite comes
+/// nearer. `None` if there is no rate.
 pub fn doppler(rate: Option<i32>, signal: Signal) -> Option<Thousandths>
     requires { ForSome rate (λ v. unsigned_abs v ≤ 10 ^ 8) }
     ensures rounded { IsRounded (λ v. pos 0 -ℤ (v *ℤ pos (hertz_of signal))) (10 * light) rate result }
@@ -57,7 +59,8 @@ pub fn doppler(rate: Option<i32>, signal: Signal) -> Option<Thousandths>
     }
 }
 
-/// The strength in dB-Hz, of a carrier to noise ratio in 1/16 dB-Hz. There is none without a ratio.
+/// Returns the signal strength in dB-Hz from a carrier to noise ratio in units of 1/16 dB-Hz, DF403
+/// or DF408 of RTCM 10403.3. `None` if there is no ratio.
 pub fn strength(strength: Option<u16>) -> Option<Thousandths>
     requires { ForSome strength (λ s. s < 1024) }
     ensures rounded { IsRounded (λ s. pos (s * 1000)) 16 strength result }
@@ -72,8 +75,8 @@ pub fn strength(strength: Option<u16>) -> Option<Thousandths>
     }
 }
 
-/// The digit that stands for a strength in dB-Hz, from 1 for the weakest to 9: whole steps of 6
-/// dB-Hz.
+/// Returns the signal strength indicator of a strength in dB-Hz, 1 to 9: whole steps of 6 dB-Hz
+/// (RINEX 3.05, the signal strength indicator SSI).
 pub fn strength_digit(strength: Thousandths) -> u8
     ensures { result ≡ strength_digit strength }
 {

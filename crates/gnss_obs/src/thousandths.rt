@@ -2,8 +2,7 @@ ghost use Rattle.std.specs.Prelude.{◌≡◌, ℤ};
 
 use std::marker::Model;
 
-/// A whole number of thousandths, of the unit of the value that it stands for: metres, cycles,
-/// hertz or dB-Hz.
+/// A value in thousandths of its unit, which is the metre, the cycle, the hertz or the dB-Hz.
 #[derive(Clone, Copy, Debug, PartialEq, Eq, PartialOrd, Ord)]
 pub struct Thousandths {
     value: i64,
@@ -18,14 +17,14 @@ impl Model for Thousandths {
 }
 
 impl Thousandths {
-    /// So many thousandths.
+    /// Returns the value of this number of thousandths.
     pub fn new(value: i64) -> Thousandths
         ensures { result ≡ value }
     {
         Thousandths { value }
     }
 
-    /// How many thousandths there are.
+    /// Returns the number of thousandths.
     pub fn value(self) -> i64
         ensures { result ≡ self }
     {

@@ -7,7 +7,7 @@ use Rattle.gnss_obs.specs.Signals.{hertz_of}
 use Rattle.gnss_obs.proofs.NearestLaws.{turned_casts, product_within, nearest_named}
 use Rattle.gnss_obs.proofs.observables.doppler.Goals as goal
 
--- the product that the code takes, turned round, is the exact one
+-- the negative product that the code computes is the exact one
 widened : (v : ℤ) (h : ℕ) → FitsSigned w32 v → unsigned_abs v ≤ 10 ^ 8 → h < 2 ^ 31 → to_z w128 (of_z w128 (pos 0 -ℤ to_z w128 (of_z w128 (to_z w128 (of_z w128 (to_z w32 (of_z w32 v))) *ℤ to_z w128 h)))) ≡ pos 0 -ℤ (v *ℤ pos h)
 widened v h f size small =
     let same : to_z w128 (of_z w128 (to_z w32 (of_z w32 v))) ≡ v = omega (arith, ints) in

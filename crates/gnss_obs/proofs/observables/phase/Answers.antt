@@ -7,7 +7,7 @@ use Rattle.gnss_obs.specs.Signals.{hertz_of}
 use Rattle.gnss_obs.proofs.NearestLaws.{product_casts, product_size, product_within, nearest_named}
 use Rattle.gnss_obs.proofs.observables.phase.Goals as goal
 
--- the product that the code takes is the exact one
+-- the product that the code computes is the exact one
 widened : (p : ℤ) (h : ℕ) → FitsSigned w64 p → unsigned_abs p ≤ 2 ^ 40 → h < 2 ^ 31 → to_z w128 (of_z w128 (to_z w128 (of_z w128 (to_z w64 (of_z w64 p))) *ℤ to_z w128 h)) ≡ p *ℤ pos h
 widened p h f size small =
     let same : to_z w128 (of_z w128 (to_z w64 (of_z w64 p))) ≡ p = omega (arith, ints) in
