@@ -1,4 +1,4 @@
-//! Devices that fail at each place.
+//! Devices that fail after each byte.
 use super::scenario::{FAULTLESS, READ, Room, Setting, WRITE, run};
 use super::texts::{Text, front};
 use crate::command::command;
@@ -8,7 +8,8 @@ use std::alloc::{AllocError, Global};
 use std::io::ErrorKind;
 use std::process::Abort;
 
-/// Behind each byte of the output, a writer that fails there is told, and took the bytes before.
+/// Asserts, for each byte of the output, that a writer that fails after it is reported, with the
+/// bytes before written.
 pub fn assert_write_faults(
     rt: &impl Abort,
     alloc: Global,
@@ -23,8 +24,8 @@ pub fn assert_write_faults(
     );
 }
 
-/// Behind each byte of the input, a reader that fails there is told. Nothing is written before, and
-/// this behind the last.
+/// Asserts, for each byte of the input, that a reader that fails after it is reported. Nothing is
+/// written before the last byte, and this output after it.
 pub fn assert_read_faults(
     rt: &impl Abort,
     alloc: Global,
@@ -35,7 +36,7 @@ pub fn assert_read_faults(
     assert_eq!(*rt; untold_read_fault(alloc, words, input, output), Ok(None));
 }
 
-/// The number of bytes behind which a writer fails and something else comes of it.
+/// The first number of bytes after which a failing writer has another outcome.
 fn untold_write_fault(
     alloc: Global,
     words: &[&str],
@@ -65,7 +66,7 @@ fn untold_write(
     None
 }
 
-/// Whether a writer with this room is told as one that fails, and took these bytes.
+/// Whether a writer with this room is reported as failed, and has these bytes.
 fn is_write_told(alloc: Global, words: &[&str], input: &[u8], room: Room, taken: &[u8]) -> bool {
     let setting = Setting {
         words,
@@ -75,7 +76,7 @@ fn is_write_told(alloc: Global, words: &[&str], input: &[u8], room: Room, taken:
     run(alloc, &setting, input, &[]).is(1, taken, WRITE.as_bytes())
 }
 
-/// The number of bytes behind which a reader fails and something else comes of it.
+/// The first number of bytes after which a failing reader has another outcome.
 fn untold_read_fault(
     alloc: Global,
     words: &[&str],
@@ -97,7 +98,7 @@ fn untold_read(alloc: Global, words: &[&str], input: &[u8], output: &[u8]) -> Op
     None
 }
 
-/// Whether a reader that fails behind these bytes is told, and this was written.
+/// Whether a reader that fails after these bytes is reported, and this was written.
 fn is_read_told(alloc: Global, words: &[&str], given: &[u8], written: &[u8]) -> bool {
     let setting = Setting {
         words,
@@ -107,8 +108,8 @@ fn is_read_told(alloc: Global, words: &[&str], given: &[u8], written: &[u8]) -> 
     run(alloc, &setting, given, &[5]).is(1, written, READ.as_bytes())
 }
 
-/// Whether a buffer whose device takes two bytes, which are these, and then fails once is told as a
-/// writer that fails.
+/// Whether a buffer whose device accepts two bytes, which are these, and then fails once is
+/// reported as a failed writer.
 pub fn is_told_behind_buffer(
     alloc: Global,
     words: &[&str],
@@ -162,7 +163,7 @@ fn has_sent(
     Ok(status == 1 && taken.as_slice() == output && faults.as_slice() == READ.as_bytes())
 }
 
-/// The status of a command whose writer for faults fails, and whether that took nothing.
+/// The status of a command whose writer for faults fails, and whether that accepted nothing.
 pub fn untold(
     alloc: Global,
     words: &[&str],

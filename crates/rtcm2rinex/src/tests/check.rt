@@ -39,7 +39,7 @@ fn a_file_that_was_made_is_good(rt: HostRuntime) {
     assert_come(&rt, rt.alloc(), &setting, &GOOD);
 }
 
-/// A file whose second line is another one.
+/// A file with another second line.
 static SPOILT: [Case; 1] = [(
     &[],
     File(&[(1, &[Position])], &[Time, Values]),

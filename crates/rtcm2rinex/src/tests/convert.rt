@@ -1,4 +1,4 @@
-//! Streams that are converted: their files and reports, whole, in any pieces.
+//! Streams that are converted in pieces of any size: their files and reports.
 use super::messages::HEIGHT;
 use super::scenario::Comes::{Good, Unread};
 use super::scenario::{Case, FAULTLESS, Setting, assert_come};
@@ -22,7 +22,7 @@ pub const OPTIONS: [&str; 10] = [
 
 const IN_ONE: Text = Stream(&[Fine(&[])]);
 
-/// One message, and one with station values that change behind it, in any pieces.
+/// One message, and one followed by a change of the station values, in any pieces.
 static IN_PIECES: [Case; 2] = [
     (&[], Stream(&[Fine(&[])]), Good(FINE_FILE, REPORT)),
     (

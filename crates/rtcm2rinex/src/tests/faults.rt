@@ -22,7 +22,7 @@ const SHOW: [&str; 2] = ["rtcm2rinex", "show"];
 /// The frame of `FINE`.
 const ONE_FRAME: Text = Stream(&[Fine(&[])]);
 
-/// The first preamble may still begin a frame, so that nothing is decided.
+/// The first preamble can still begin a frame, so that nothing is decided.
 static CUT_OFF: [Case; 2] = [
     (
         &FRAMES,
@@ -80,7 +80,7 @@ const EVENT_FILE: Text = File(
     ],
 );
 
-/// The words, the stream, the most bytes a write, and all that is written of it.
+/// The words, the stream, the largest number of bytes of a write, and the whole output.
 type Written<'a> = (&'a [&'a str], Text<'a>, usize, Text<'a>);
 
 static WRITTEN: [Written; 4] = [
@@ -95,7 +95,7 @@ static WRITTEN: [Written; 4] = [
     ),
 ];
 
-// What a device took before it failed stays, and is a prefix of all that is written.
+// The bytes that a device accepted before it failed are a prefix of the whole output.
 #[test]
 fn a_writer_may_fail_behind_each_byte(rt: HostRuntime) {
     for (words, input, most, output) in &WRITTEN {
@@ -103,7 +103,7 @@ fn a_writer_may_fail_behind_each_byte(rt: HostRuntime) {
     }
 }
 
-/// The most bytes a write and in all, and what just fills that room.
+/// The largest numbers of bytes of a write and of all writes, and a case with such an output.
 static FILLED: [(usize, usize, Case); 2] = [
     (1, 1236, (&OPTIONS, ONE_FRAME, Good(FINE_FILE, REPORT))),
     (
@@ -117,7 +117,7 @@ static FILLED: [(usize, usize, Case); 2] = [
     ),
 ];
 
-// The device would fail where nothing is left to write.
+// The device would fail after the last byte of the output.
 #[test]
 fn a_writer_may_take_few_bytes(rt: HostRuntime) {
     for (most, total, case) in &FILLED {
@@ -133,7 +133,7 @@ fn a_writer_may_take_few_bytes(rt: HostRuntime) {
     }
 }
 
-/// The words, the stream, and all that is written of it.
+/// The words, the stream, and the whole output.
 type Read<'a> = (&'a [&'a str], Text<'a>, Text<'a>);
 
 static READS: [Read; 3] = [
@@ -142,7 +142,8 @@ static READS: [Read; 3] = [
     (&CHECK, FINE_FILE, Lines("")),
 ];
 
-// The file of the epochs that the bytes before close is written: of one message behind its last.
+// The file of the epochs that the bytes before close is written: of one message after its last
+// byte.
 #[test]
 fn a_reader_may_fail_behind_each_byte(rt: HostRuntime) {
     for (words, input, output) in &READS {
@@ -158,7 +159,7 @@ static FLUSHED: [Read; 5] = [
     (&CHECK, FINE_FILE, Lines("ep")),
 ];
 
-// A buffer takes every line, and what stands behind it fails when they are sent on.
+// A buffer accepts every line, and its device fails when they are written.
 #[test]
 fn a_flush_that_fails_is_told(rt: HostRuntime) -> Result<(), Fail> {
     for (words, input, output) in &FLUSHED {
@@ -177,7 +178,7 @@ static SENT: [Read; 3] = [
     (&OPTIONS, ONE_FRAME, FINE_FILE),
 ];
 
-// What is decided has left the buffer before more is read.
+// Decided output is flushed before the next read.
 #[test]
 fn decided_output_is_flushed(rt: HostRuntime) -> Result<(), Fail> {
     for (words, input, output) in &SENT {

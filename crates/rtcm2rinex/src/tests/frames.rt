@@ -1,4 +1,4 @@
-//! What `frames` lists.
+//! The output of `frames`.
 use super::messages::{FRAMED_NOTHING, FRAMED_STATION, INNER_FRAME, LATE_FRAME, STATION};
 use super::scenario::Comes::Good;
 use super::scenario::{Case, FAULTLESS, Setting, assert_come};
@@ -39,7 +39,7 @@ fn frames_are_listed_in_any_pieces(rt: HostRuntime) {
     }
 }
 
-/// Whether of at most so many bytes these lines are listed, and more are refused, or none.
+/// Whether a stream with this limit of bytes has these lines, and is refused or not.
 fn lists(alloc: Global, stream: &[u8], limit: u16, is_refused: bool, lines: &[u8]) -> bool {
     let mut reader = Counted::new(stream);
     let mut writer = Counted::new(Vec::new(alloc));
@@ -58,7 +58,7 @@ fn lists(alloc: Global, stream: &[u8], limit: u16, is_refused: bool, lines: &[u8
     found == Some(is_refused) && writer.into_inner().as_slice() == lines
 }
 
-// What the bytes up to the limit decide is written, and no more.
+// The output that the bytes up to the limit decide is written.
 #[test]
 fn a_long_stream_is_told(rt: HostRuntime) -> Result<(), Fail> {
     let stream = Stream(&[Framed(&STATION), Framed(&STATION)]).bytes(rt.alloc())?;

@@ -1,7 +1,7 @@
-//! What a command is given, and what has to come of it.
+//! The input of a command and its expected outcome.
 //!
-//! A proof over a value that has to be dropped is dear, and devices are such values. So one
-//! function makes them and lets them go, and a test is a setting and a list of cases.
+//! Values with a destructor, such as devices, make proofs slow. So one function makes and drops
+//! them, and a test is a setting and a list of cases.
 use super::texts::Text;
 use crate::command::command;
 use rtcm_bits::Counted;
@@ -9,7 +9,8 @@ use rtcm_bits::devices::{PieceReader, ReadEnd, ShortWriter, WriteEnd};
 use std::alloc::{AllocError, Global};
 use std::process::Abort;
 
-/// How much a writer takes: so many bytes a write, and so many in all before it ends so.
+/// The capacity of a writer: the largest numbers of bytes of a write and of all writes, and what
+/// follows.
 #[derive(Clone, Copy)]
 pub struct Room {
     pub most: usize,
@@ -22,15 +23,15 @@ pub const READ: &str = "rtcm2rinex: Read\n";
 
 pub const WRITE: &str = "rtcm2rinex: Write\n";
 
-/// Room for every output.
+/// Capacity for every output.
 pub const ROOM: Room = Room {
     most: usize::MAX,
     total: usize::MAX,
     end: WriteEnd::TakesNone,
 };
 
-/// The first words of the cases, the pieces in which each of their streams comes, how a stream
-/// ends, and the room for the output.
+/// The first words of the cases, the pieces in which each stream is read, how a stream ends, and
+/// the capacity of the writer.
 #[derive(Clone, Copy)]
 pub struct Setting<'a> {
     pub words: &'a [&'a str],
@@ -39,7 +40,7 @@ pub struct Setting<'a> {
     pub room: Room,
 }
 
-/// Streams that come whole, and devices that don't fail.
+/// Streams in one piece, and devices that don't fail.
 pub const FAULTLESS: Setting<'static> = Setting {
     words: &[],
     sizes: &[&[]],
@@ -47,15 +48,15 @@ pub const FAULTLESS: Setting<'static> = Setting {
     room: ROOM,
 };
 
-/// The words behind those of the setting, the stream, and what has to come of them.
+/// The words that follow those of the setting, the stream, and the expected outcome.
 pub type Case<'a> = (&'a [&'a str], Text<'a>, Comes<'a>);
 
-/// What comes of a command.
+/// The expected outcome of a command.
 #[derive(Clone, Copy)]
 pub enum Comes<'a> {
-    /// All is well: this is written, and this told beside it.
+    /// Success: this is written, and this is printed on standard error.
     Good(Text<'a>, &'a str),
-    /// This is written, and then a fault is told.
+    /// This is written, and then a fault is printed.
     Fault(Text<'a>, &'a str),
     /// Nothing is read, nothing written, and this fault is printed.
     Unread(&'a str),
@@ -63,7 +64,7 @@ pub enum Comes<'a> {
     Refused,
 }
 
-/// What came of a command.
+/// The outcome of a command.
 #[derive(Drop)]
 pub struct Outcome {
     pub status: u8,
@@ -74,7 +75,7 @@ pub struct Outcome {
 }
 
 impl Outcome {
-    /// Whether just this came of it.
+    /// Whether it is exactly this.
     pub fn is(&self, status: u8, output: &[u8], faults: &[u8]) -> bool {
         self.status == status
             && self.output.as_slice() == output
@@ -87,7 +88,7 @@ impl Outcome {
 }
 
 impl<'a> Comes<'a> {
-    /// What has to be written.
+    /// The expected output.
     fn output(&self) -> Text<'a> {
         match self {
             Comes::Good(output, _) | Comes::Fault(output, _) => *output,
@@ -95,7 +96,7 @@ impl<'a> Comes<'a> {
         }
     }
 
-    /// Whether it is this outcome, where this is the output.
+    /// Whether it is this outcome, with this output.
     fn is(&self, outcome: &Outcome, output: &[u8]) -> bool {
         match self {
             Comes::Good(_, told) => outcome.is(0, output, told.as_bytes()),
@@ -106,7 +107,7 @@ impl<'a> Comes<'a> {
     }
 }
 
-/// Where in the list the first case stands of which something else comes.
+/// The index of the first case with another outcome.
 pub fn first_wrong(
     alloc: Global,
     setting: &Setting<'_>,
@@ -120,7 +121,7 @@ pub fn first_wrong(
     Ok(None)
 }
 
-/// Whether that comes of a case which has to, however the stream is cut.
+/// Whether a case has its expected outcome for all sizes of pieces.
 fn is_right(alloc: Global, setting: &Setting<'_>, case: &Case<'_>) -> Result<bool, AllocError> {
     let words = joined(alloc, setting.words, case.0)?;
     let input = case.1.bytes(alloc)?;
@@ -138,7 +139,7 @@ fn is_right(alloc: Global, setting: &Setting<'_>, case: &Case<'_>) -> Result<boo
     ))
 }
 
-/// The words, one list behind the other.
+/// The words of both lists.
 fn joined<'a>(
     alloc: Global,
     words: &[&'a str],
@@ -150,7 +151,7 @@ fn joined<'a>(
     Ok(all)
 }
 
-/// Whether that comes of a command which has to, in pieces of each of the sizes.
+/// Whether a command has its expected outcome in pieces of each of the sizes.
 fn is_right_in_pieces(
     alloc: Global,
     setting: &Setting<'_>,
@@ -166,7 +167,7 @@ fn is_right_in_pieces(
     true
 }
 
-/// Runs the words of a setting over a stream that comes in pieces of these sizes.
+/// Runs the words of a setting over a stream in pieces of these sizes.
 pub fn run(alloc: Global, setting: &Setting<'_>, input: &[u8], sizes: &[usize]) -> Outcome {
     let room = setting.room;
     let mut reader = Counted::new(PieceReader::new(input, sizes, setting.end));
@@ -186,8 +187,8 @@ pub fn run(alloc: Global, setting: &Setting<'_>, input: &[u8], sizes: &[usize]) 
     }
 }
 
-/// In this setting just that comes of each of the cases which has to. A failure tells the place of
-/// the first case of which something else comes.
+/// Asserts that each case has its expected outcome in this setting. A failure prints the index of
+/// the first case with another outcome.
 pub fn assert_come(rt: &impl Abort, alloc: Global, setting: &Setting<'_>, cases: &[Case<'_>]) {
     assert_eq!(*rt; first_wrong(alloc, setting, cases), Ok(None));
 }

@@ -1,17 +1,17 @@
-//! Streams, files and lines, as tests name them.
+//! Streams, files and lines of the tests.
 use super::messages::FINE;
 use arrayvec::ArrayVec;
 use rtcm_bits::frame_of;
 use std::alloc::{AllocError, Global};
 
-/// Bytes of a stream, or of what was written.
+/// Bytes of a stream or of an output.
 #[derive(Clone, Copy)]
 pub enum Text<'a> {
     Bytes(&'a [u8]),
     Lines(&'a str),
-    /// These pieces, one behind the other.
+    /// These pieces, one after the other.
     Stream(&'a [Piece<'a>]),
-    /// A file: what stands in the place of lines of `HEADER`, and the lines behind it.
+    /// A file: the lines that replace those of `HEADER`, and the lines after the header.
     File(&'a [Replaced<'a>], &'a [Line<'a>]),
 }
 
@@ -22,33 +22,33 @@ pub enum Piece<'a> {
     Framed(&'a [u8]),
     /// The frame of `FINE` with other bytes at these places.
     Fine(&'a [(usize, u8)]),
-    /// A byte so many times.
+    /// A byte, repeated.
     Repeated(u8, usize),
-    /// So many bytes at the front of these, and no frame.
+    /// This number of the first ones of these bytes, without a frame.
     Front(&'a [u8], usize),
 }
 
-/// The place of a line of `HEADER`, and the lines that stand there.
+/// The index of a line of `HEADER`, and the lines that replace it.
 pub type Replaced<'a> = (usize, &'a [Line<'a>]);
 
-/// A line of a file. Those of many files have names, so that a proof spells each once.
+/// A line of a file. Lines of several files have names, so that a proof has each of them once.
 #[derive(Clone, Copy)]
 pub enum Line<'a> {
     Spelled(&'a str),
     /// The two lines of the epoch of `FINE`.
     Time,
     Values,
-    /// The two of `FINE` a second later, behind its epoch: the phase may have been lost.
+    /// Those of `FINE` a second later, after its epoch: the lock may have been lost.
     NextTime,
     NextValues,
-    /// The two lines of the station's values.
+    /// The two lines of the station values.
     Position,
     Above,
-    /// The line in front of an event that tells these values.
+    /// The line before an event with these values.
     TwoLines,
 }
 
-/// The header lines of a file of the GPS signal 1C, without the blanks behind them.
+/// The header lines of a file of the GPS signal 1C, without trailing blanks.
 pub const HEADER: [&str; 14] = [
     "     3.05           OBSERVATION DATA    G                   RINEX VERSION / TYPE",
     "rtcm2rinex                              20240204 000001 UTC PGM / RUN BY / DATE",
@@ -120,7 +120,7 @@ fn add_pieces(stream: &mut Vec<u8>, pieces: &[Piece<'_>]) -> Result<(), AllocErr
     Ok(())
 }
 
-/// The first so many bytes, or all.
+/// The first `length` bytes, or all.
 pub fn front(bytes: &[u8], length: usize) -> &[u8] {
     &bytes[..length.min(bytes.len())]
 }
@@ -145,7 +145,7 @@ fn add_frame(stream: &mut Vec<u8>, message: &[u8]) -> Result<(), AllocError> {
     stream.extend_from_slice(frame.as_slice())
 }
 
-/// The header with these lines in the place of some of its own, and the other lines behind it.
+/// The header with some lines replaced by these, followed by the other lines.
 fn add_file(
     text: &mut Vec<u8>,
     replaced: &[Replaced<'_>],
@@ -160,7 +160,7 @@ fn add_file(
     add_lines(text, lines, 0)
 }
 
-/// The lines that stand in the place of one of the header.
+/// The lines that replace one of the header.
 fn replacement<'a>(replaced: &[Replaced<'a>], place: usize) -> Option<&'a [Line<'a>]> {
     for (other, lines) in replaced {
         if *other == place {
@@ -170,7 +170,7 @@ fn replacement<'a>(replaced: &[Replaced<'a>], place: usize) -> Option<&'a [Line<
     None
 }
 
-/// Lines that are filled up to so many columns, each with its line feed.
+/// Lines that are padded to a number of columns, each with its line feed.
 fn add_lines(text: &mut Vec<u8>, lines: &[Line<'_>], columns: usize) -> Result<(), AllocError> {
     for line in lines {
         let line = line.text();

@@ -1,4 +1,4 @@
-//! What the words of a command line come to.
+//! Words of a command line that are not accepted.
 use super::messages::FRAMED_STATION;
 use super::scenario::Comes::Refused;
 use super::scenario::{Case, FAULTLESS, assert_come};
@@ -8,7 +8,7 @@ use std::alloc::Global;
 use std::io;
 use std::io::ErrorKind;
 
-/// No word at all, no command, an unknown one, and an option whose value isn't taken.
+/// No word at all, no command, an unknown one, and an option whose value isn't accepted.
 static NOT_ACCEPTED: [Case; 4] = [
     (&[], Bytes(&FRAMED_STATION), Refused),
     (&["rtcm2rinex"], Bytes(&FRAMED_STATION), Refused),
@@ -25,7 +25,7 @@ fn words_that_are_not_accepted_do_nothing(rt: HostRuntime) {
     assert_come(&rt, rt.alloc(), &FAULTLESS, &NOT_ACCEPTED);
 }
 
-/// Whether words that can't be had for this reason are answered by this status and text.
+/// Whether words that are refused for this reason have this status and text.
 fn are_refused(alloc: Global, kind: ErrorKind, status: u8, text: &[u8]) -> bool {
     let mut faults = Vec::new(alloc);
     let found = refuse_words(&io::Error::from(kind), &mut faults);
