@@ -1,4 +1,4 @@
--- A register that is handed the bits of a message one by one holds the remainder that long division gives.
+-- A register that processes the bits of a message one by one has the remainder of the long division.
 use Rattle.std.proofs.Common.{◌≡◌, ℕ, ◌<◌, ◌≤◌, Bool, true, false, cond, List, [], ◌∷◌, ◌++◌, length, drop, replicate, refl, sym, ap, ◌∙◌, arith, length-append, suc, zero, lit<}
 use Rattle.std.proofs.lemmas.List.{length-replicate}
 use Rattle.rtcm_bits.specs.Bits.{uint}

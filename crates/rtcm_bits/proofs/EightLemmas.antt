@@ -35,7 +35,7 @@ sum_remainder p q h =
     ∙ remainder_sum (length q) (p ++ replicate 24 false) (q ++ replicate 24 false) (omega (arith, lp, lq, h)) (omega (arith, lp, h))
     ∙ ap (λ (n : ℕ). add_front (remainder n (p ++ replicate 24 false)) (remainder (length q) (q ++ replicate 24 false))) (sym h)
 
--- zeros in front count for nothing
+-- leading zeros change nothing
 zeros_first : (m : List Bool) → bits_remainder (replicate 8 false ++ m) ≡ bits_remainder m
 unfolding bits_remainder remainder
 zeros_first m = refl
@@ -45,7 +45,7 @@ unfolding bits_of uint
 zero_bits [] = refl
 zero_bits (x ∷ xs) = ap (λ (t : List Bool). replicate 8 false ++ t) (zero_bits xs)
 
--- the check of bytes is the sum of that of the first, with zeros behind it, and that of the others
+-- the CRC of bytes is the sum of that of the first, followed by zeros, and that of the others
 front_bits : (c : ℕ) (rest : List ℕ) → uint 8 c ++ bits_of rest ≡ add_front (replicate 8 false ++ bits_of rest) (uint 8 c ++ bits_of (replicate (length rest) 0))
 front_bits c rest =
     let r : List Bool = bits_of rest in

@@ -24,7 +24,7 @@ station_frame : check (0xD3 ∷ 0x00 ∷ 0x13 ∷ 0x3E ∷ 0xD7 ∷ 0xD3 ∷ 0x0
 unfolding check bits_remainder remainder add_front generator uint number_from bits_of
 station_frame = refl
 
--- five bytes of which the first is looked at twice, the next two are handed over, and the first is dropped
+-- five bytes: two looks at the first one, the next two passed on, and the first one dropped
 four_left : WindowValue
 four_left = record { bytes = 11 ∷ 12 ∷ 13 ∷ 14 ∷ []; looks = 1 ∷ 1 ∷ 0 ∷ 0 ∷ []; examined = 4; most = 2 }
 

@@ -8,7 +8,7 @@ use Rattle.rtcm_bits.specs.Bits.{odd, uint, number, number_from, bits_of}
 use Rattle.rtcm_bits.specs.BitLaws.{length-uint, length-bits_of, number-uint, number-split, number-take-fits}
 use Rattle.rtcm_bits.proofs.BitLemmas.{number-append}
 
--- the bits behind the first r
+-- the bits after the first r
 drop-uint : (r w x : ℕ) → drop r (uint (r + w) x) ≡ uint w x
 unfolding uint
 drop-uint zero w x = ap (λ k. uint k x) (let e : 0 + w ≡ w = omega arith in e)
@@ -24,11 +24,11 @@ take-uint (suc n) k x =
     let g : k + n ≡ n + k = omega arith in
     rw (e, take-uint n k x) (ap (λ t. odd t ∷ uint n (x / 2 ^ k)) (ap (λ t. x / 2 ^ t) (sym g) ∙ f))
 
--- n bits of a number, behind r others and before k others
+-- n bits of a number, after r others and before k others
 pub part-uint : (r n k x : ℕ) → number (take n (drop r (uint (r + (n + k)) x))) ≡ x / 2 ^ k % 2 ^ n
 part-uint r n k x = rw (drop-uint r (n + k) x, take-uint n k x) (number-uint n 0 (x / 2 ^ k) ∙ omega arith)
 
--- the same of a byte, as the code finds it
+-- the same of a byte, as the code computes it
 pub part_of_byte : (byte skip n : ℕ) → skip + n ≤ 8 → byte / 2 ^ (8 - skip - n) % ((1 * 2 ^ n) % 2 ^ 64) ≡ number (take n (drop skip (uint 8 byte)))
 part_of_byte byte skip n h =
     let e : skip + (n + (8 - skip - n)) ≡ 8 = omega arith in
@@ -64,7 +64,7 @@ short_fits l i h k =
     let p : 2 ^ i ≤ 2 ^ 64 = pow-le-pow_right (omega arith) h in
     omega (arith, p, number-take-fits l i k)
 
--- the part of one byte behind the bits before it
+-- the part of one byte after the bits before it
 joined_part : (xs : List ℕ) (place at n value part : ℕ) → place ≤ at → at < 8 * length xs → at + n ≤ 8 * length xs → at % 8 + n ≤ 8 → value ≡ number (take (at - place) (drop place (bits_of xs)))
     → part ≡ number (take n (drop (at % 8) (uint 8 (get_or xs (at / 8) 0)))) → value * 2 ^ n + part ≡ number (take (at + n - place) (drop place (bits_of xs)))
 joined_part xs place at n value part h b k r e f =
@@ -81,7 +81,7 @@ pub record Next (xs : List ℕ) (place at n before part : ℕ) : Type 0 where
   pub value : before * 2 ^ n % 2 ^ 64 + part ≡ number (take (at + n - place) (drop place (bits_of xs)))
   pub fits : before * 2 ^ n % 2 ^ 64 + part < 2 ^ 64
 
--- the same as the code does it, in 64 bits
+-- the same as the code computes it, in 64 bits
 pub next_part : (xs : List ℕ) (place at n value part : ℕ) → place ≤ at → at < 8 * length xs → at + n ≤ 8 * length xs → at % 8 + n ≤ 8 → at + n ≤ place + 64
     → value ≡ number (take (at - place) (drop place (bits_of xs))) → part ≡ number (take n (drop (at % 8) (uint 8 (get_or xs (at / 8) 0)))) → Next xs place at n value part
 next_part xs place at n value part h b k r w e f =

@@ -1,4 +1,4 @@
--- A message with its check behind it has the remainder 0, and with no other three bytes.
+-- A message followed by its CRC has the remainder 0, and followed by no other three bytes.
 use Rattle.std.proofs.Common.{◌≡◌, ℕ, ◌+◌, ◌*◌, ◌^◌, ◌<◌, ◌≤◌, Bool, true, false, List, [], ◌∷◌, ◌++◌, length, take, drop, get_or, replicate, refl, sym, ap, ◌∙◌, arith, length-append, suc, zero}
 use Rattle.std.proofs.lemmas.Bool.{true≢false}
 use Rattle.std.proofs.lemmas.List.{append-nil, length-replicate, get_or_push, take-append-le, take_all}
@@ -148,7 +148,7 @@ bits_same r n l k e =
     let b : uint 24 (number n) ≡ n = ap (λ q. uint q (number n)) (sym k) ∙ uint-number n 0 in
     sym a ∙ ap (uint 24) e ∙ b
 
--- the remainder is 0 where the three bytes behind a message are its check
+-- the remainder is 0 if the three bytes after a message are its CRC
 pub residue_check : (m : List ℕ) (x y z : ℕ) → x < 256 → y < 256 → z < 256 → check (m ++ x ∷ y ∷ z ∷ []) ≡ 0 → x * 65536 + y * 256 + z ≡ check m
 unfolding check
 residue_check m x y z h k l e =

@@ -34,7 +34,7 @@ add_front_comm (a ∷ p) (b ∷ q) h =
     let e : plus a b ≡ plus b a = plus_comm a b in
     let f : add_front p q ≡ add_front q p = add_front_comm p q (omega (arith, h)) in cc
 
--- twice the same is nothing
+-- the sum of two equal lists is zero
 add_twice : (g p : List Bool) → length g ≤ length p → add_front g (add_front g p) ≡ p
 add_twice g p h = add_front_assoc g g p (omega arith) ∙ ap (λ r. add_front r p) (add_front-same g) ∙ zeros_to_front (length g) p
 

@@ -1,4 +1,4 @@
--- What a window's calls do to its rings, as a contract sees them.
+-- The calls of a window and its rings, as the contracts state them.
 use Rattle.std.proofs.Common.{◌≡◌, ℕ, ◌+◌, ◌*◌, ◌-◌, ◌<◌, ◌≤◌, min, List, [], ◌∷◌, ◌++◌, length, take, drop, replicate, slice_range, refl, sym, ap, ◌∙◌, get_or, arith, suc, zero, length-append, length-drop, ⊎_elim}
 use Rattle.std.proofs.lemmas.Bool.{cases_lt}
 use Rattle.std.proofs.lemmas.List.{take-append-le, drop-append-le, append-nil, take_rest, take_all, drop_all, get_or_default, length-replicate}
@@ -19,7 +19,7 @@ through_counts b xs e m start (suc n) h =
     let z : min (min (e + n) 18446744073709551615 + 1) 18446744073709551615 ≡ min (e + suc n) 18446744073709551615 = grind arith in
     rw (r, z) refl
 
--- a range of two lists that stand one behind the other: inside the first, over their seam, inside the second
+-- a range of two consecutive lists: inside the first, across both, inside the second
 range_first : (f b : List ℕ) (s n u v w x : ℕ) → s + n ≤ length f → u ≡ s → v ≡ n → w ≡ 0 → take v (drop u f) ++ take w (drop x b) ≡ take n (drop s (f ++ b))
 range_first f b s n u v w x h i j k =
     let d : drop s (f ++ b) ≡ drop s f ++ b = drop-append-le s f b (omega (arith, h)) in
@@ -100,7 +100,7 @@ in_step b b' c c' more zeros i a z h e f =
     let y : c' ≡ buffer (c.items ++ zeros) c.capacity = kept c c' zeros (omega (arith, h, z, i.1, i.3)) f in
     rw (x, y) (i.0, i.1, omega (arith, h, length-append b.items more), omega (arith, z, i.3, length-append b.items more, length-append c.items zeros), All-append (λ (b : ℕ). b < 256) b.items more i.4 a)
 
--- what a contract sees of it
+-- the window that the contract states
 pub view_pushed : (b b' c c' : Buffer ℕ) (more : List ℕ) (e m : ℕ) → InStep b c → length b.items + length more ≤ longest_frame
     → b' ≡ buffer (keep_last b.capacity (b.items ++ more)) b.capacity → c' ≡ buffer (keep_last c.capacity (c.items ++ replicate (length more) 0)) c.capacity
     → held_of b'.items c'.items e m ≡ pushed_all (held_of b.items c.items e m) more

@@ -10,7 +10,7 @@ use Rattle.rtcm_bits.proofs.BitLemmas.{number-append}
 use Rattle.rtcm_bits.proofs.PartLemmas.{part-uint}
 use Rattle.rtcm_bits.proofs.ListLemmas.{eight_of}
 
--- what two shifts leave of a word
+-- the part of a word that two shifts leave
 pub part_of_a_word : (word skip width : ℕ) → skip + width ≤ 64 → word * 2 ^ skip % 2 ^ 64 / 2 ^ (64 - width) ≡ number (take width (drop skip (uint 64 word)))
 part_of_a_word word skip width h =
     let k : ℕ = 64 - skip - width in
@@ -22,7 +22,7 @@ part_of_a_word word skip width h =
     ∙ ap (λ (n : ℕ). word * 2 ^ skip / 2 ^ n % 2 ^ width) g ∙ ap (λ (n : ℕ). n % 2 ^ width) (sym (shr-shr (word * 2 ^ skip) skip k) ∙ ap (λ (n : ℕ). n / 2 ^ k) (shl-shr word skip))
     ∙ sym (rw e at p)
 
--- a byte's bits behind a number
+-- the bits of a byte after those of a number
 byte_behind : (a x : ℕ) (rest : List Bool) → x < 256 → number_from a (uint 8 x ++ rest) ≡ number_from (a * 256 + x) rest
 byte_behind a x rest h = number-append (uint 8 x) rest a ∙ ap (λ (n : ℕ). number_from n rest) (number-uint 8 a x ∙ omega (arith, h))
 

@@ -7,7 +7,7 @@ use Rattle.rtcm_bits.specs.BitLaws.{length-uint}
 use Rattle.rtcm_bits.proofs.BitLemmas.{length-whole, bits_of-push}
 use Rattle.rtcm_bits.proofs.RegisterBits.{uint-split, uint-mod}
 
--- a part behind the k bits of the byte begun
+-- a part after the k bits of the incomplete byte
 pub record Part (k n p b : ℕ) : Type 0 where
   pub whole : p * 2 ^ n % 65536 + b ≡ p * 2 ^ n + b
   pub below : p * 2 ^ n % 65536 + b < 2 ^ (k + n)
@@ -24,7 +24,7 @@ part_is k n p b h f g =
     join : (p a b q : ℕ) → p < a → b < q → p * q + b < a * q
     join p a b q f g = grind arith
 
--- the bits with a part more, where the byte isn't full yet
+-- the bits with a part more, if the byte isn't full yet
 pub part_put : (xs : List ℕ) (k n p b : ℕ) (now : List Bool) → bits_of xs ++ uint k p ≡ now → b < 2 ^ n → Part k n p b
     → bits_of xs ++ uint (k + n) (p * 2 ^ n % 65536 + b) ≡ now ++ uint n b
 part_put xs k n p b now v g t =
@@ -38,7 +38,7 @@ byte_put xs k n p b now e v g t =
     append-nil (bits_of (xs ++ (p * 2 ^ n % 65536 + b) ∷ [])) ∙ bits_of-push xs (p * 2 ^ n % 65536 + b)
     ∙ ap (λ w. bits_of xs ++ uint w (p * 2 ^ n % 65536 + b)) (sym e) ∙ part_put xs k n p b now v g t
 
--- how many bits are begun
+-- the number of bits of the incomplete byte
 pub begun_is : (xs : List ℕ) (k p : ℕ) (now : List Bool) → bits_of xs ++ uint k p ≡ now → 8 * length xs + k ≡ length now
 begun_is xs k p now v = sym (length-whole xs k p) ∙ ap length v
 
@@ -52,7 +52,7 @@ first_part left n value h =
     ∙ ap (λ r. uint n (value / 2 ^ (left - n)) ++ r) (sym (uint-mod (left - n) (left - n) value (omega arith)))
     ∙ sym s ∙ ap (uint (n + (left - n))) (div-add-mod' value (2 ^ (left - n))) ∙ ap (λ w. uint w value) e
 
--- so many bits as before
+-- the same number of bits
 pub lengths : (now old : List Bool) (left width value : ℕ) → now ++ uint left value ≡ old ++ uint width value → length now + left ≡ length old + width
 lengths now old left width value e = omega (arith, length-append now (uint left value), length-append old (uint width value), length-uint left value, length-uint width value, ap length e)
 

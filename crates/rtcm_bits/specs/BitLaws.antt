@@ -1,4 +1,4 @@
--- What follows from the words of Bits for numbers of w bits, lists of bits and two's complements.
+-- Laws of the definitions of Bits: numbers of w bits, lists of bits and two's complements.
 use Rattle.std.proofs.Common.{ℕ, zero, suc, ℤ, pos, negsuc, ◌≡◌, ◌+◌, ◌-◌, ◌*◌, ◌/◌, ◌%◌, ◌^◌, ◌<◌, ◌≤◌, Bool, true, false, List, [], ◌∷◌, ◌++◌, length, take, refl, sym, ap, ◌∙◌, arith, append_assoc, length-append, subst, ◌⊎◌, inl, inr, add_comm}
 use Rattle.std.proofs.lemmas.Nat.{mod-pow-add, shr_high, pow_pos}
 use Rattle.std.proofs.Math.Nat.{add-mul-div_right, mod-eq_of_lt, pow-le-pow_right}
@@ -38,7 +38,7 @@ number-uint zero a n = omega arith
 number-uint (suc w) a n =
     number-uint w (2 * a + bit (odd (n / 2 ^ w))) n ∙ rw (mod-suc w n, bit_odd (n / 2 ^ w)) (horner a (n / 2 ^ w % 2) (2 ^ w) (n % 2 ^ w) (2 ^ suc w) (pow-double w))
 
--- a number is spelled by its bits
+-- a number is encoded by its bits
 pub number_of-uint : (w n : ℕ) → n < 2 ^ w → number (uint w n) ≡ n
 number_of-uint w n h = number-uint w 0 n ∙ rw (mod-eq_of_lt h) (omega arith)
 

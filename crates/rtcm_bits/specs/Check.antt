@@ -18,7 +18,7 @@ add_front (a ∷ g) (c ∷ p) = plus a c ∷ add_front g p
 unfoldable pub generator : List Bool
 generator = uint 25 0x1864CFB
 
--- long division by the generator, while the quotient has n more coefficients: where the first coefficient
+-- long division by the generator, while the quotient has n more coefficients: if the first coefficient
 -- of the dividend is 1, the generator is taken away below it, and that coefficient goes
 unfoldable pub remainder : ℕ → List Bool → List Bool
 remainder zero p = p

@@ -1,4 +1,4 @@
-//! A buffer in front of a writer, so that many small writes make few calls of a device.
+//! A buffer before a writer, so that many small writes make few calls of a device.
 ghost use Rattle.std.specs.Prelude.{◌≡◌, ◌+◌, ◌-◌, ◌<◌, ◌≤◌, [], ◌++◌, true, false, length, min, take, Ok, OnOk, OnErr, IfOk, IsErr, vec_len, vec_capacity};
 ghost use Rattle.std.specs.Io.{WritesAtMost};
 ghost use Rattle.std.specs.Io.KnownBytes.{Keeps, Appends, WriteAppends};
@@ -9,17 +9,18 @@ use std::io;
 use std::io::{ErrorKind, Write};
 use std::marker::Model;
 
-/// So many bytes wait at most: what a pipe holds.
+/// Capacity of the buffer, in bytes: that of a pipe.
 const BUFFER_BYTES: usize = 65_536;
 
-/// A writer that keeps up to 65,536 bytes back, and hands them on to a device many at a time.
-/// Nothing is tried again: once the device has failed, it is never called again, and each call
-/// fails. A drop hands nothing on, only `flush` does.
+/// A writer with a buffer of 65,536 bytes before a device.
+///
+/// The buffer is written when it is full, and by `flush`; a drop writes nothing. No call is
+/// repeated: once the device has failed, it isn't called again, and every call fails.
 #[derive(Drop)]
 pub struct Buffered<W> {
     device: W,
     bytes: Vec<u8>,
-    /// How many of these bytes the device took.
+    /// The number of these bytes that the device accepted.
     sent: usize,
     failed: bool,
 }
@@ -36,7 +37,10 @@ impl<W> Model for Buffered<W> {
 }
 
 impl<W> Buffered<W> {
-    /// A device behind which nothing waits. Where there is no memory, it is dropped.
+    /// Returns the device with an empty buffer.
+    ///
+    /// # Errors
+    /// `AllocError` if there is no memory for the buffer. The device is then dropped.
     pub fn new(alloc: Global, device: W) -> Result<Buffered<W>, AllocError>
     where
         W: Drop,
@@ -53,7 +57,7 @@ impl<W> Buffered<W> {
         })
     }
 
-    /// The device. What waits is given up.
+    /// Returns the device. Bytes in the buffer are lost.
     pub fn into_inner(self) -> W
         ensures { result ≡ self.device }
     {
@@ -62,7 +66,7 @@ impl<W> Buffered<W> {
 }
 
 impl<W: Write> Buffered<W> {
-    /// Hands on what waits, up to a failure.
+    /// Writes the bytes in the buffer, up to a failure.
     fn send(&mut self) -> io::Result<()>
         requires { self.old.has_failed ≡ false }
         ensures bytes { Keeps (contents_of W.contents self.old) (contents_of W.contents self.new) }
@@ -122,7 +126,7 @@ impl<W: Write> Write for Buffered<W> {
     }
 }
 
-/// Writes bytes up to a failure, and answers how many went out, and the failure.
+/// Writes bytes up to a failure, and returns the number written and the failure.
 fn write_out<W: Write>(bytes: &[u8], device: &mut W) -> (usize, io::Result<()>)
     ensures bound { result.0 ≤ length bytes.now }
     ensures all { OnOk result.1 (result.0 ≡ length bytes.now) }
@@ -139,7 +143,7 @@ fn write_out<W: Write>(bytes: &[u8], device: &mut W) -> (usize, io::Result<()>)
     (sent, Ok(()))
 }
 
-/// Puts bytes behind those that wait, where there is room.
+/// Appends bytes to those in the buffer, for which there is room.
 fn append(waiting: &mut Vec<u8>, bytes: &[u8])
     requires { vec_len waiting.old + length bytes.now ≤ vec_capacity waiting.old }
     ensures items { waiting.new.items ≡ waiting.old.items ++ bytes.now }

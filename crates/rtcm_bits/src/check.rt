@@ -1,5 +1,5 @@
-//! The check of a frame, CRC-24Q (RTCM 10403.3, transport layer): the generator is 0x1864CFB, the
-//! register begins at 0, the most significant bit goes first, and nothing is changed at the end.
+//! The CRC of a frame, CRC-24Q (RTCM 10403.3, transport layer): generator 0x1864CFB, initial value
+//! 0, most significant bit first, no final exclusive or.
 ghost use Rattle.std.specs.Prelude.{◌≡◌, ◌^◌, ◌<◌, List, ℕ, [], ◌∷◌, ◌++◌, length};
 ghost use Rattle.rtcm_bits.specs.Bits.{uint, bits_of};
 ghost use Rattle.rtcm_bits.specs.Check.{check};
@@ -8,7 +8,7 @@ ghost use Rattle.rtcm_bits.specs.Register.{after_bits};
 use crate::tables::entry;
 use std::marker::Model;
 
-/// The check of the bytes that were taken since it was made.
+/// The CRC-24Q of the bytes that it was given.
 #[derive(Drop)]
 pub struct CheckRegister {
     register: u32,
@@ -23,28 +23,28 @@ impl Model for CheckRegister {
 }
 
 impl CheckRegister {
-    /// A register that has taken no byte.
+    /// Returns a register that was given no byte.
     pub fn new() -> CheckRegister
         ensures { result ≡ check [] }
     {
         CheckRegister { register: 0 }
     }
 
-    /// Takes one more byte.
+    /// Processes one more byte.
     pub fn take(&mut self, byte: u8)
         ensures { (bytes : List ℕ) → self.old ≡ check bytes → self.new ≡ check (bytes ++ byte ∷ []) }
     {
         self.register = by_table(self.register, byte);
     }
 
-    /// Takes these bytes, one after the other.
+    /// Processes these bytes, one after the other.
     pub fn take_all(&mut self, bytes: &[u8])
         ensures { (front : List ℕ) → self.old ≡ check front → self.new ≡ check (front ++ bytes.now) }
     {
         self.register = after_all(self.register, bytes);
     }
 
-    /// The check of the bytes taken, 24 bits.
+    /// Returns the CRC-24Q of the bytes processed, 24 bits.
     pub fn value(&self) -> u32
         ensures value { result ≡ self.now }
         ensures bound { result < 2 ^ 24 }
@@ -53,7 +53,7 @@ impl CheckRegister {
     }
 }
 
-/// The check of these bytes, 24 bits.
+/// Returns the CRC-24Q of these bytes, 24 bits.
 pub fn crc24q(bytes: &[u8]) -> u32
     ensures value { result ≡ check bytes.now }
     ensures bound { result < 2 ^ 24 }
@@ -63,7 +63,7 @@ pub fn crc24q(bytes: &[u8]) -> u32
     register.value()
 }
 
-/// The register after these bytes, of which it takes eight at a time as long as there are so many.
+/// The register after these bytes, which are processed eight at a time except for the last ones.
 fn after_all(register: u32, bytes: &[u8]) -> u32
     requires { register < 2 ^ 24 }
     ensures bound { result < 2 ^ 24 }
@@ -91,8 +91,8 @@ fn after_each(register: u32, bytes: &[u8]) -> u32
     after
 }
 
-/// The register after eight bytes. It is added to the first three, and then each byte gives its
-/// part by a table of its own.
+/// The register after eight bytes. It is added to the first three, and then the entries of the bytes,
+/// each in a table of its own, are added.
 fn after_eight(register: u32, bytes: &[u8]) -> u32
     requires below { register < 2 ^ 24 }
     requires eight { length bytes.now ≡ 8 }

@@ -5,16 +5,16 @@ ghost use Rattle.std.specs.Prelude.{◌≡◌, ◌<◌, Some, IfOk};
 use std::io;
 use std::io::{ErrorKind, Read, Write};
 
-/// What a reader does once it has given all its bytes.
+/// What a reader does after its last byte.
 #[derive(Clone, Copy, Debug)]
 pub enum ReadEnd {
-    /// Each further read gives nothing.
+    /// Each further read returns 0 bytes.
     Ends,
-    /// Each further read fails so.
+    /// Each further read fails with this error.
     Fails(ErrorKind),
 }
 
-/// Gives stated bytes in stated pieces, and keeps the size that it was last asked for.
+/// Reads stated bytes in stated pieces, and keeps the size of the last buffer.
 #[derive(Drop)]
 pub struct PieceReader<'a> {
     rest: &'a [u8],
@@ -25,8 +25,8 @@ pub struct PieceReader<'a> {
 }
 
 impl<'a> PieceReader<'a> {
-    /// A reader of these bytes in pieces of these sizes, of which the last is repeated. With no
-    /// size all bytes are one piece. A size of 0 counts as 1, since a read that gives nothing is
+    /// Returns a reader of these bytes in pieces of these sizes, of which the last is repeated.
+    /// Without a size all bytes are one piece. A size of 0 counts as 1, since a read of 0 bytes is
     /// the end.
     pub fn new(bytes: &'a [u8], sizes: &'a [usize], end: ReadEnd) -> PieceReader<'a> {
         PieceReader {
@@ -38,12 +38,12 @@ impl<'a> PieceReader<'a> {
         }
     }
 
-    /// The size of the buffer that was handed to the last read, in bytes; 0 before the first.
+    /// Returns the size of the buffer of the last read, in bytes; 0 before the first.
     pub fn asked(&self) -> usize {
         self.asked
     }
 
-    /// How many bytes the piece has left, the next one where there is none.
+    /// The number of bytes left of the piece, or of the next one if there are none.
     fn piece_left(&mut self) -> usize
         ensures some { 0 < result }
         ensures left { self.new.left ≡ result }
@@ -82,18 +82,18 @@ impl<'a> Read for PieceReader<'a> {
     }
 }
 
-/// What a writer does once it has taken all the bytes that it takes.
+/// What a writer does after the last byte that it accepts.
 #[derive(Clone, Copy, Debug)]
 pub enum WriteEnd {
-    /// Each further write fails so.
+    /// Each further write fails with this error.
     Fails(ErrorKind),
-    /// Each further write takes nothing.
+    /// Each further write accepts nothing.
     TakesNone,
-    /// The next write fails so, and each one behind it takes nothing.
+    /// The next write fails with this error, and each one after it accepts nothing.
     FailsOnce(ErrorKind),
 }
 
-/// Hands bytes on to another writer: at most a stated number in each write, and in all.
+/// Passes bytes to another writer: at most a stated number in each write, and in all.
 #[derive(Drop)]
 pub struct ShortWriter<W> {
     inner: W,
@@ -103,8 +103,8 @@ pub struct ShortWriter<W> {
 }
 
 impl<W> ShortWriter<W> {
-    /// A writer that hands at most `most` bytes a write on to `inner`, `total` in all, and then
-    /// ends so.
+    /// Returns a writer that passes at most `most` bytes of a write to `inner`, `total` in all, and
+    /// then does as `end` says.
     pub fn new(inner: W, most: usize, total: usize, end: WriteEnd) -> ShortWriter<W> {
         ShortWriter {
             inner,
@@ -114,12 +114,12 @@ impl<W> ShortWriter<W> {
         }
     }
 
-    /// The writer that took the bytes.
+    /// Returns the writer with the accepted bytes.
     pub fn into_inner(self) -> W {
         self.inner
     }
 
-    /// The answer to a write where no more bytes are taken.
+    /// The result of a write after the last accepted byte.
     fn refuse(&mut self) -> io::Result<usize>
         ensures none { IfOk result (λ n. n ≡ 0) }
         ensures inner { self.new.inner ≡ self.old.inner }

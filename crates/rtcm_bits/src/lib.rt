@@ -1,4 +1,5 @@
-//! The check, the bits and the window of RTCM 3 frames, and devices that are counted or buffered.
+//! The CRC, the bit fields and the window of undecided bytes of RTCM 3 frames, and counted and
+//! buffered devices.
 #![tactic(auto)]
 
 mod buffered;

@@ -6,8 +6,8 @@ ghost use Rattle.rtcm_bits.specs.Window.{looked_through, counts_alone};
 use crate::framing::LONGEST_FRAME;
 use circular_buffer::HeapCircularBuffer;
 
-/// Adds one look to each of the n counts from start on, up to 65,535, and answers the greatest of
-/// them and of the count that was the greatest.
+/// Adds one look, up to 65,535, to each of the `n` counts from index `start` on, and returns the
+/// greatest of them and of `greatest`.
 pub(crate) fn look_at_each(counts: &mut [u16], start: usize, n: usize, greatest: u16) -> u16
     requires { start + n ≤ length counts.old }
     ensures counts { counts.new ≡ (looked_through (counts_alone counts.old greatest) start n).looks }
@@ -22,8 +22,8 @@ pub(crate) fn look_at_each(counts: &mut [u16], start: usize, n: usize, greatest:
     most
 }
 
-/// Sees that the counts lie in one slice, for `make_contiguous` moves wrapped items one by one and
-/// leaves them at the end of the room, where the next ones wrap round again.
+/// Moves the counts into one slice: `make_contiguous` moves wrapped items one by one, and leaves
+/// them at the end of the ring, so that the next ones wrap round again.
 pub(crate) fn unwrap_counts(counts: &mut HeapCircularBuffer<u16>)
     requires few { length counts.old.items ≤ longest_frame }
     requires room { longest_frame ≤ counts.old.capacity }
@@ -35,7 +35,7 @@ pub(crate) fn unwrap_counts(counts: &mut HeapCircularBuffer<u16>)
     }
 }
 
-/// As `move_through`, with room of its own, which most looks needn't make.
+/// `move_through` with a buffer of its own, which most looks don't need.
 #[inline(never)]
 fn begin_anew(counts: &mut HeapCircularBuffer<u16>)
     requires few { length counts.old.items ≤ longest_frame }
@@ -46,7 +46,7 @@ fn begin_anew(counts: &mut HeapCircularBuffer<u16>)
     move_through(counts, &mut spare);
 }
 
-/// Takes all counts out and puts them back: they then begin where they ended before.
+/// Takes all counts out and puts them back, so that they begin where they ended.
 fn move_through(counts: &mut HeapCircularBuffer<u16>, spare: &mut [u16])
     requires few { length counts.old.items ≤ length spare.old }
     requires room { length spare.old ≤ counts.old.capacity }
@@ -56,8 +56,8 @@ fn move_through(counts: &mut HeapCircularBuffer<u16>, spare: &mut [u16])
     counts.extend_from_slice(&spare[..n]);
 }
 
-/// Raises the greatest count where this one is above it. It stores nothing otherwise, so that a
-/// look needn't wait for the look before it.
+/// Raises the greatest count if this one is above it. It stores nothing otherwise, so that a look
+/// doesn't wait for the look before it.
 pub(crate) fn raise(greatest: &mut u16, looks: u16)
     ensures { greatest.new ≡ max greatest.old looks }
 {
@@ -66,7 +66,7 @@ pub(crate) fn raise(greatest: &mut u16, looks: u16)
     }
 }
 
-/// The n bytes from start on of two slices that stand one behind the other.
+/// The `n` bytes from index `start` on of two consecutive slices.
 pub(crate) fn part_of<'a>(
     front: &'a [u8],
     back: &'a [u8],
@@ -82,8 +82,7 @@ pub(crate) fn part_of<'a>(
     (&front[from..to], &back[start - from..start + n - to])
 }
 
-/// How many bytes of two slices that stand one behind the other stand before the first that is this
-/// one.
+/// The number of bytes of two consecutive slices before the first one that is equal to `byte`.
 pub(crate) fn others_in(front: &[u8], back: &[u8], byte: u8) -> usize
     ensures within { result ≤ length front.now + length back.now }
     ensures others { (i : ℕ) → i < result → slice_index (front.now ++ back.now) i ≢ byte }
@@ -97,7 +96,7 @@ pub(crate) fn others_in(front: &[u8], back: &[u8], byte: u8) -> usize
     }
 }
 
-/// How many bytes stand before the first that is this one.
+/// The number of bytes before the first one that is equal to `byte`.
 fn others_before(bytes: &[u8], byte: u8) -> usize
     ensures within { result ≤ length bytes.now }
     ensures others { (i : ℕ) → i < result → slice_index bytes.now i ≢ byte }

@@ -1,9 +1,8 @@
-//! The tables of the check: what each byte gives, by how many bytes follow it.
+//! The tables of CRC-24Q: the part of each byte, by the number of bytes that follow it.
 ghost use Rattle.std.specs.Prelude.{◌≡◌, ◌^◌, ◌<◌, ◌∷◌, replicate};
 ghost use Rattle.rtcm_bits.specs.Check.{check};
 
-/// Eight tables, one behind the other: the checks of each byte with none to seven bytes of 0 behind
-/// it.
+/// Eight consecutive tables: the CRC of each byte followed by 0 to 7 bytes of 0.
 const TABLES: [u32; 2048] = [
     0x000000, 0x864CFB, 0x8AD50D, 0x0C99F6, 0x93E6E1, 0x15AA1A, 0x1933EC, 0x9F7F17, 0xA18139,
     0x27CDC2, 0x2B5434, 0xAD18CF, 0x3267D8, 0xB42B23, 0xB8B2D5, 0x3EFE2E, 0xC54E89, 0x430272,
@@ -235,7 +234,7 @@ const TABLES: [u32; 2048] = [
     0x5D5F82, 0x1CB8C2, 0xE9B36D, 0x70E367, 0x85E8C8,
 ];
 
-/// The check of one byte with bytes of 0 behind it.
+/// The CRC of one byte followed by bytes of 0.
 pub(crate) fn entry(zeros: usize, byte: u8) -> u32
     requires { zeros < 8 }
     ensures value { result ≡ check (byte ∷ replicate zeros 0) }
