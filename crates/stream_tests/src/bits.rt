@@ -1,5 +1,4 @@
-//! What no clause says: published vectors, that a call can succeed, and what fails on the way to a
-//! device.
+//! What no clause states: published vectors, that a call can succeed, and failures of devices.
 
 mod buffered;
 
@@ -20,8 +19,8 @@ const STATION_FRAME: [u8; 25] = [
     0xAC, 0x09, 0x41, 0x98, 0x6F, 0x33, 0x36, 0x0B, 0x98,
 ];
 
-// Each call with clauses stands behind a function without one, so that no test carries them. It
-// answers None or false where the call may not be made.
+// Each call with clauses has a function without one, so that no test carries the clauses. It
+// returns None or false if the condition of the call isn't met.
 
 fn push_all(window: &mut Window, bytes: &[u8]) -> bool {
     let has_room = bytes.len() <= LONGEST_FRAME - window.held();
@@ -66,7 +65,7 @@ fn check_range(window: &mut Window, start: usize, size: usize) -> Option<u32> {
     Some(register.value())
 }
 
-/// Whether the bytes that are handed over are these.
+/// Whether the bytes that are passed on are these.
 fn hands_over(window: &mut Window, start: usize, want: &[u8]) -> bool {
     let size = want.len();
     if start > LONGEST_FRAME || size > LONGEST_MESSAGE || start + size > window.held() {
@@ -89,12 +88,12 @@ fn drop_others(window: &mut Window, byte: u8) -> usize {
     window.drop_others(byte)
 }
 
-/// How many bytes the window holds, how many looks there were, and the most of one byte.
+/// The numbers of bytes of the window, of all looks, and of those at one byte.
 fn counts(window: &Window) -> (usize, u64, u16) {
     (window.held(), window.examined(), window.most())
 }
 
-/// Whether five bytes are taken, some of them looked at, and the first dropped, each with its looks.
+/// Whether five bytes are pushed, some looked at, and the first one dropped, each with its looks.
 fn counts_looks(window: &mut Window) -> bool {
     push_each(window, &[10, 11, 12, 13, 14])
         && counts(window) == (5, 0, 0)
@@ -113,7 +112,7 @@ fn window_counts_looks(rt: HostRuntime) -> Result<(), Fail> {
     Ok(())
 }
 
-/// Whether a frame is taken, checked, handed over and dropped, each byte with its looks.
+/// Whether a frame is pushed, checked, passed on and dropped, each byte with its looks.
 fn passes_on(window: &mut Window) -> bool {
     window.held() == 0
         && push_all(window, &STATION_FRAME)
@@ -123,7 +122,7 @@ fn passes_on(window: &mut Window) -> bool {
         && drop_front(window, 25)
 }
 
-/// How many of a hundred frames are passed on. Their bytes wrap round in their room now and then.
+/// The number of frames of a hundred that are passed on. Their bytes wrap round at times.
 fn passed_on(window: &mut Window) -> usize {
     for round in 0..100 {
         if !passes_on(window) {
@@ -142,7 +141,7 @@ fn ranges_of_a_window(rt: HostRuntime) -> Result<(), Fail> {
 }
 
 /// Whether bytes other than one are dropped, up to it and up to the end, with a look at each and at
-/// the one where it stops.
+/// the byte where it stops.
 fn drops_others(window: &mut Window) -> bool {
     window.held() == 0
         && push_all(window, &[7, 8, 0xD3, 9, 0xD3])
@@ -153,8 +152,8 @@ fn drops_others(window: &mut Window) -> bool {
         && (drop_others(window, 0xD4), counts(window)) == (0, (0, 7, 3))
 }
 
-/// The first of many rounds in which other bytes aren't dropped with a look at each. The bytes begin
-/// at another place of their room in each round, and some lie over its end.
+/// The first of many rounds in which other bytes aren't dropped with a look at each. The bytes
+/// begin at another position of the ring in each round, and some wrap round.
 fn first_wrong_round(window: &mut Window) -> Option<usize> {
     for round in 0..2 * LONGEST_FRAME {
         let dropped = push_all(window, &[1, 2, 3, 0xD3])
@@ -176,7 +175,7 @@ fn others_are_dropped(rt: HostRuntime) -> Result<(), Fail> {
     Ok(())
 }
 
-/// The check of bytes that come one by one.
+/// The CRC of bytes processed one by one.
 fn check_of_each(bytes: &[u8]) -> u32 {
     let mut register = CheckRegister::new();
     for byte in bytes {
@@ -185,7 +184,7 @@ fn check_of_each(bytes: &[u8]) -> u32 {
     register.value()
 }
 
-/// The check of bytes that come in two pieces.
+/// The CRC of bytes processed in two pieces.
 fn check_of_two(front: &[u8], back: &[u8]) -> u32 {
     let mut register = CheckRegister::new();
     register.take_all(front);
@@ -207,7 +206,7 @@ fn check_of_a_frame(rt: HostRuntime) {
     }
 }
 
-/// Whether the frame of the message is this one, in a buffer that had another byte.
+/// Whether this is the frame of the message, in a buffer that had another byte.
 fn is_framed_as(message: &[u8], want: &[u8]) -> bool {
     if message.len() > LONGEST_MESSAGE {
         return false;
@@ -218,7 +217,7 @@ fn is_framed_as(message: &[u8], want: &[u8]) -> bool {
     frame.as_slice() == want
 }
 
-/// The size of a message's frame, and the check of all its bytes.
+/// The size of the frame of a message, and the CRC of all its bytes.
 fn size_and_check(message: &[u8; LONGEST_MESSAGE]) -> (usize, u32) {
     let mut frame = ArrayVec::new();
     frame_of(message, &mut frame);
@@ -246,7 +245,7 @@ fn signed(reader: &mut BitReader, width: u32) -> Option<i64> {
     reader.signed(width)
 }
 
-/// Writes 5 in three bits and -11 in five. The room before and behind them, in bits.
+/// Writes 5 in three bits and -11 in five. Returns the room before and after it, in bits.
 fn put_eight_bits(bytes: &mut ArrayVec<u8, 1023>) -> (usize, usize) {
     let mut writer = BitWriter::new();
     let before = writer.bits_left();
@@ -257,7 +256,7 @@ fn put_eight_bits(bytes: &mut ArrayVec<u8, 1023>) -> (usize, usize) {
     (before, behind)
 }
 
-/// The fields of a byte of three bits, five with a sign, and one more, and where the reader stands.
+/// The fields of a byte of three bits, five with a sign, and one more, and the bits read.
 fn eight_bits() -> (Option<u64>, Option<i64>, Option<u64>, usize) {
     let mut reader = BitReader::new(&[0xB5]);
     (
@@ -288,8 +287,8 @@ fn put_seventy_bits(bytes: &mut ArrayVec<u8, 1023>) {
 
 static SEVENTY_TWO_BITS: [u8; 9] = [0x12, 0x34, 0x56, 0x78, 0x9A, 0xBC, 0xDE, 0xF0, 0x0F];
 
-/// Its fields of 4 and 64 bits, one of 5 for which bits are missing, where the reader stands then,
-/// and one of 4.
+/// Its fields of 4 and 64 bits, one of 5 for which bits are missing, the bits read then, and one of
+/// 4.
 fn seventy_two_bits() -> ([Option<u64>; 2], Option<i64>, usize, Option<i64>) {
     let mut reader = BitReader::new(&SEVENTY_TWO_BITS);
     (
@@ -309,7 +308,7 @@ fn bits_across_bytes(rt: HostRuntime) {
     assert!(rt; written.as_slice() == [0x18, 0, 0, 0, 0, 0, 0, 0, 0x0C].as_slice());
 }
 
-/// What one call answers, with how often the device has failed by then.
+/// The result of a call, with the number of failures counted by then.
 type Answer = (Result<usize, ErrorKind>, u64);
 
 fn answer(outcome: io::Result<usize>, failures: u64) -> Answer {
@@ -324,7 +323,7 @@ fn read(reader: &mut Counted<PieceReader>, buf: &mut [u8]) -> Answer {
     answer(outcome, reader.failures())
 }
 
-/// Room for a read, and its answer.
+/// The size of a buffer for a read, and its result.
 static READS: [(usize, Answer); 7] = [
     (10, (Ok(4), 0)),
     (10, (Ok(1), 0)),
@@ -335,7 +334,7 @@ static READS: [(usize, Answer); 7] = [
     (7, (Err(ErrorKind::Interrupted), 2)),
 ];
 
-/// How many of these reads are answered so, and the front of the last bytes.
+/// The number of these reads with their results, and the start of the last bytes.
 fn answered(reader: &mut Counted<PieceReader>) -> (usize, [u8; 2]) {
     let mut buf = [0u8; 10];
     let mut right = 0usize;
@@ -349,8 +348,8 @@ fn answered(reader: &mut Counted<PieceReader>) -> (usize, [u8; 2]) {
     (right, [buf[0], buf[1]])
 }
 
-/// How many reads of the frame in pieces are answered so with its last bytes, how wide the widest
-/// was at first and behind them, and how many the device was asked for.
+/// The number of reads of the frame in pieces with their results and its last bytes, the sizes of
+/// the largest buffer before and after them, and that of the last buffer of the device.
 fn counted_reads() -> ((usize, [u8; 2]), [usize; 2], usize) {
     let end = ReadEnd::Fails(ErrorKind::Interrupted);
     let mut reader = Counted::new(PieceReader::new(&STATION_FRAME, &[4, 0, 25], end));
@@ -365,10 +364,10 @@ fn reads_are_counted(rt: HostRuntime) {
     assert!(rt; counted_reads() == ((7, [0x0B, 0x98]), [0, 10], 7));
 }
 
-/// A writer of eight bytes at most that takes two of them at a time.
+/// A writer of at most eight bytes that accepts two of them at a time.
 type Pairs = Counted<ShortWriter<ArrayVec<u8, 8>>>;
 
-/// A writer that takes so many bytes, and then ends so.
+/// A writer that accepts this number of bytes, and then does this.
 fn pairs(total: usize, end: WriteEnd) -> Pairs {
     Counted::new(ShortWriter::new(ArrayVec::new(), 2, total, end))
 }
@@ -378,18 +377,18 @@ fn write(writer: &mut Pairs, bytes: &[u8]) -> Answer {
     answer(outcome, writer.failures())
 }
 
-/// Whether all bytes are written, with how often the device has failed by then.
+/// Whether all bytes are written, with the number of failures counted by then.
 fn write_whole(writer: &mut Pairs, bytes: &[u8]) -> (bool, u64) {
     let is_whole = writer.write_whole(bytes).is_ok();
     (is_whole, writer.failures())
 }
 
-/// Whether the writer has taken these bytes.
+/// Whether the writer has accepted these bytes.
 fn has_taken(writer: Pairs, want: &[u8]) -> bool {
     writer.into_inner().into_inner().as_slice() == want
 }
 
-/// Whether a device that fails once behind three bytes is told as failed from then on.
+/// Whether a device that fails once after three bytes is counted as failed from then on.
 fn fails_on(writer: &mut Pairs) -> bool {
     write_whole(writer, &[1, 2, 3]) == (true, 0)
         && write(writer, &[4, 5, 6]) == (Err(ErrorKind::Other), 1)
@@ -408,7 +407,7 @@ fn writes_are_counted(rt: HostRuntime) {
     assert!(rt; three_are_taken());
 }
 
-/// Whether five bytes of seven are taken, and one failure is counted.
+/// Whether five bytes of seven are accepted, and one failure is counted.
 fn five_are_taken(end: WriteEnd) -> bool {
     let mut writer = pairs(5, end);
     write_whole(&mut writer, &[1, 2, 3, 4, 5, 6, 7]) == (false, 1)
@@ -421,8 +420,8 @@ fn whole_writes_stop_at_a_failure(rt: HostRuntime) {
     assert!(rt; five_are_taken(WriteEnd::Fails(ErrorKind::Interrupted)));
 }
 
-/// Whether two bytes are written, whether they are flushed, how often the device has failed by
-/// then, and how many calls it had.
+/// Whether two bytes are written, whether they are flushed, and the numbers of failures and of
+/// calls of the device.
 fn write_and_flush(device: Stumbles) -> (bool, bool, u64, usize) {
     let mut writer = Counted::new(ShortWriter::new(device, 9, 9, WriteEnd::TakesNone));
     let is_written = writer.write_whole(&[1, 2]).is_ok();

@@ -1,7 +1,7 @@
-//! What the contracts can't say: that the calls succeed, and values from outside.
+//! What the contracts can't state: that the calls succeed, and values from outside.
 //!
-//! A test of a gatherer is a list of steps: what is done with it, and what is to come of that. One
-//! function alone owns a gatherer and goes through them, since each owner is dear to prove.
+//! A test of a gatherer is a list of steps, each a call and its expected outcome. Only one function
+//! owns a gatherer and runs the steps, since owners of one take long to prove.
 mod cells;
 mod census;
 mod dates;
@@ -20,41 +20,41 @@ use std::test::*;
 
 const WEEK: u64 = 604_800_000;
 
-/// The time of the messages at 1,000, where week 2,300 is the first.
+/// The time of the messages at 1,000 if week 2,300 is the first.
 const FIRST: u64 = 2_300 * WEEK + 1_000;
 
 /// Every signal of either system.
 const ALL: (&str, &str) = ("all", "all");
 
-/// What is done with a gatherer or looked up there, and what is to come of it.
+/// A call of a gatherer, and its expected outcome.
 #[derive(Clone, Copy)]
 enum Step {
-    /// A message is taken: what becomes of it, and whether an epoch is closed.
+    /// A message is processed: its outcome, and whether an epoch is closed.
     Takes(Heard, Kind, bool),
-    /// A message is taken: how many of its cells are kept, repeated and crowded, and whether an epoch
-    /// is closed.
+    /// A message is processed: the numbers of its cells that are kept, repeated and crowded, and
+    /// whether an epoch is closed.
     Keeps(Heard, (usize, usize, usize), bool),
     /// It ends: whether an epoch is closed.
     Ends(bool),
     /// It has ended.
     HasEnded,
-    /// How many GPS signals are planned.
+    /// The number of planned GPS signals.
     Plans(usize),
-    /// How many GPS cells are held.
+    /// The number of GPS cells held.
     Holds(usize),
-    /// How many lock records are held.
+    /// The number of lock records held.
     Locks(usize),
     /// The station values, and those of the epoch that was closed.
     Values(StationValues),
     /// The time of the epoch that was closed, in milliseconds, its satellites and its GPS cells.
     Closed(Option<(u64, usize, usize)>),
-    /// Of its GPS cell at this place the satellite's number and the signal's code.
+    /// The satellite and the code of its GPS cell at this index.
     Of(usize, u8, [u8; 2]),
     /// Its first GPS cell has a pseudorange and no Doppler shift.
     HasNoDoppler,
     /// The indicator of its first GPS cell.
     Lli(u8),
-    /// The satellite's number and the indicator of its last Galileo cell.
+    /// The satellite and the indicator of its last Galileo cell.
     LastLli(u8, u8),
 }
 
@@ -63,7 +63,7 @@ use Step::{
     Values,
 };
 
-// Each call with large clauses stands behind a function without one, so that no test carries them.
+// Each call with large clauses has a function without one, so that no test carries the clauses.
 
 fn parse(alloc: Global, gps: &str, galileo: &str) -> Result<Plan, PlanFault> {
     Plan::parse(alloc, gps, galileo)
@@ -79,7 +79,7 @@ fn gatherer(
     Gatherer::new(alloc, parse(alloc, plan.0, plan.1)?, week, station, gather)
 }
 
-/// What a gatherer that goes on makes of a message.
+/// The outcome of a message for a gatherer that hasn't ended.
 fn take(g: &mut Gatherer, message: &Message) -> Taken {
     if g.ended() {
         return Taken {
@@ -150,7 +150,7 @@ fn has_lli(cell: Option<&Cell>, lli: u8) -> bool {
     }
 }
 
-/// Whether a step goes as told.
+/// Whether a step has its expected outcome.
 fn goes(g: &mut Gatherer, step: Step) -> bool {
     match step {
         Takes(heard, kind, closed) => take(g, &message(heard)) == Taken { kind, closed },
@@ -172,7 +172,7 @@ fn goes(g: &mut Gatherer, step: Step) -> bool {
     }
 }
 
-/// How many steps go as told, up to the first that doesn't.
+/// The number of steps with their expected outcomes, up to the first with another one.
 fn go_through(g: &mut Gatherer, steps: &[Step]) -> usize {
     for place in 0..steps.len() {
         if !goes(g, steps[place]) {
@@ -182,7 +182,7 @@ fn go_through(g: &mut Gatherer, steps: &[Step]) -> usize {
     steps.len()
 }
 
-/// How many steps of a gatherer go as told.
+/// The number of steps of a gatherer with their expected outcomes.
 fn run(
     alloc: Global,
     plan: (&str, &str),
@@ -197,8 +197,8 @@ fn run(
     }
 }
 
-/// A gatherer of station 7 goes through all the steps as told. How many do is printed here alone,
-/// since each place that prints is dear to prove.
+/// Asserts the expected outcomes of all steps of a gatherer of station 7. Their number is printed
+/// only here, since each place that prints takes long to prove.
 fn goes_as_told(
     rt: &impl Abort,
     alloc: Global,
@@ -355,7 +355,7 @@ fn a_lock_without_a_phase_is_passed_over(rt: HostRuntime) {
     goes_by_bit(&rt, rt.alloc(), &STEPS);
 }
 
-/// What the station's message tells.
+/// The values of the station message.
 const TOLD: StationValues = StationValues {
     x: 1,
     y: -2,
@@ -375,7 +375,7 @@ fn a_message_past_the_weeks_closes_nothing(rt: HostRuntime) {
     goes_as_told(&rt, rt.alloc(), ALL, 99_999, Gather::Bit, &STEPS);
 }
 
-/// How a gatherer of 1C alone is set up.
+/// The fault of a setup with 1C alone.
 fn set_up(alloc: Global, week: u32, station: Option<u16>, gather: Gather) -> Option<PlanFault> {
     match run(alloc, ("1C", "none"), week, station, gather, &[Plans(1)]) {
         Ok(1) => None,

@@ -1,4 +1,4 @@
-//! The tests of the crates from a stream's bytes to its epochs: what no contract says of them.
+//! Tests of the crates from the bytes of a stream to its epochs, for what no contract states.
 #![tactic(auto)]
 
 #[cfg(test)]

@@ -47,7 +47,7 @@ const EMPTY: [u8; 22] = [
     0x00, 0x00, 0x00, 0x00, 0x00, 0x00,
 ];
 
-/// Message 1077 with 9 satellites and 8 signals, cut behind these masks.
+/// Message 1077 with 9 satellites and 8 signals, truncated after these masks.
 const MANY: [u8; 22] = [
     0x43, 0x57, 0xD3, 0x00, 0x00, 0x0F, 0xA0, 0x00, 0x00, 0x7F, 0xC0, 0x00, 0x00, 0x00, 0x00, 0x00,
     0x00, 0x7F, 0x80, 0x00, 0x00, 0x51,
@@ -100,7 +100,7 @@ pub const CELL: Cell7 = Cell7 {
     rate: 0,
 };
 
-/// The first bytes of a message, as many as are said, with other bytes at some places.
+/// The first bytes of a message, with some of them replaced.
 struct Sent(&'static [u8], usize, &'static [(usize, u8)]);
 
 const ALL: usize = 36;
@@ -128,7 +128,7 @@ impl Sent {
     }
 }
 
-/// Whether the message that is read is written as these bytes.
+/// Whether the message decoded from bytes is encoded as these bytes.
 fn is_written_as(bytes: &[u8], want: &[u8]) -> bool {
     match decode(bytes) {
         Ok(message) => writes(&message, want),
@@ -136,7 +136,7 @@ fn is_written_as(bytes: &[u8], want: &[u8]) -> bool {
     }
 }
 
-/// Whether the message is written as these bytes; not where it is of a number that is not read.
+/// Whether the message is encoded as these bytes; false if it is of a number that is not read.
 fn writes(message: &Message, want: &[u8]) -> bool {
     let mut out = ArrayVec::new();
     if !message.is_other() {
@@ -158,7 +158,7 @@ fn messages_are_written_back(rt: HostRuntime) {
     }
 }
 
-/// The parts of a station message that is looked at.
+/// The parts of a station message.
 fn parts_of(sent: &Sent) -> Option<StationParts> {
     match look(&sent.bytes()[..sent.size()]) {
         Ok(View::Station(station)) => Some(station.parts()),
@@ -185,11 +185,11 @@ fn stations_are_read(rt: HostRuntime) {
     assert!(rt; is_written_as(&STATIONS[2].0.bytes()[..19], &STATION));
 }
 
-/// What the head of a multiple signal message says: its number, whether it is of Galileo, its
-/// header, the three masks, and how many satellites and cells it has.
+/// The head of a multiple signal message: its number, whether it is of Galileo, its header, the
+/// three masks, and the numbers of satellites and cells.
 type Head = (u16, bool, MsmHeader, (u64, u32, u64), (usize, usize));
 
-/// The form and the head of a multiple signal message that is looked at.
+/// The form and the head of a multiple signal message.
 fn head_of(sent: &Sent) -> Option<(Form, Head)> {
     match look(&sent.bytes()[..sent.size()]) {
         Ok(View::Msm(msm)) => {
@@ -218,8 +218,8 @@ static HEADS: [(Sent, Form, u16, bool); 3] = [
     (Sent(&GALILEO, 30, &[]), Form::Msm4, 1094, true),
 ];
 
-/// What a message of a fine grid that is read says: its number, whether it is of Galileo, its
-/// header, and the data of its first satellite and cell.
+/// A message of a fine grid: its number, whether it is of Galileo, its header, and the data of its
+/// first satellite and cell.
 type Data = (u16, bool, MsmHeader, Satellite7, Cell7);
 
 fn data_of(msm: &Msm<Grid7>) -> Option<Data> {
@@ -260,7 +260,7 @@ fn heads_are_read(rt: HostRuntime) {
     assert!(rt; matches!(look(&FINE[..35]), Err(MsgFault::Short(271))));
 }
 
-/// The number of a multiple signal message that is read, and what its first cell says.
+/// The number of a multiple signal message, and its first cell.
 fn first_entry(sent: &Sent) -> Option<(u16, Entry)> {
     match decode(&sent.bytes()[..sent.size()]) {
         Ok(Message::Msm4(msm)) => told(msm.number(), entries(&msm).as_slice()),
@@ -359,7 +359,7 @@ static FIELDS: [(&[u8], &[usize]); 4] = [
     ),
 ];
 
-/// The bits before the first field that does not end within so many bits.
+/// The number of bits before the first field that does not end within `bits` bits.
 fn first_unended(widths: &[usize], bits: usize) -> Option<usize> {
     let mut place = 0usize;
     for width in widths {
@@ -405,7 +405,7 @@ static FAULTS: [(Sent, Option<MsgFault>); 11] = [
     (Sent(&STATION, 18, &[]), Some(MsgFault::Short(114))),
     (Sent(&FINE, 35, &[]), Some(MsgFault::Short(271))),
     (Sent(&STATION, 1, &[]), Some(MsgFault::Short(0))),
-    // The time is judged when it was read, and not before.
+    // The time is judged when it is read, and not before.
     (Sent(&LATE, 7, &[]), Some(MsgFault::BadTime)),
     (Sent(&LATE, 6, &[]), Some(MsgFault::Short(24))),
     // 604,800,000 ms, and the last millisecond of the week
@@ -424,7 +424,7 @@ static FAULTS: [(Sent, Option<MsgFault>); 11] = [
         Sent(&MANY, 22, &[(3, 0x90), (4, 0x32), (5, 0x10), (6, 0x00)]),
         Some(MsgFault::BadTime),
     ),
-    // 8 satellites and 8 signals, whose cell mask is cut
+    // 8 satellites and 8 signals, with a truncated cell mask
     (Sent(&MANY, 22, &[(10, 0x80)]), Some(MsgFault::Short(169))),
 ];
 

@@ -1,10 +1,10 @@
-//! Values from outside: the tables' lines, and fractions worked out by hand.
+//! Values from outside: the rows of the tables, and fractions computed by hand.
 use gnss_obs::{
     Lock, Sat, Signal, System, Thousandths, doppler, is_lost, phase, pseudorange, strength,
     strength_digit,
 };
 
-// Each call with clauses stands behind a function without one, so that no test carries them.
+// Each call with clauses has a function without one, so that no test carries the clauses.
 
 static NUMBERS: [(System, u8, bool); 7] = [
     (System::Gps, 0, false),
@@ -33,7 +33,7 @@ fn numbers_satellites(rt: HostRuntime) {
     assert!(rt; counts == (32, 36));
 }
 
-/// The ID of a signal, its code, its place and its carrier.
+/// The ID of a signal, its code, its index and its carrier frequency.
 type Listed = (System, u8, &'static str, usize, u32);
 
 static SIGNALS: [Listed; 9] = [
@@ -48,7 +48,7 @@ static SIGNALS: [Listed; 9] = [
     (System::Galileo, 24, "5X", 18, 1_176_450_000),
 ];
 
-/// Whether the signal is in this line.
+/// Whether the signal has this row.
 fn tells(signal: Signal, listed: &Listed) -> bool {
     let (system, _, code, index, hertz) = *listed;
     signal.system() == system
@@ -57,7 +57,7 @@ fn tells(signal: Signal, listed: &Listed) -> bool {
         && signal.code().as_slice() == code.as_bytes()
 }
 
-/// Whether the ID, the place and the code of a line are those of its signal.
+/// Whether the ID, the index and the code of a row are those of its signal.
 fn is_listed(listed: &Listed) -> bool {
     let (system, id, code, index, _) = *listed;
     match Signal::from_id(system, id) {
@@ -79,13 +79,13 @@ fn lists_signals(rt: HostRuntime) {
     assert!(rt; counts == (15, 19));
 }
 
-/// Whether an ID has the signal of this code, or no signal where the code is `--`.
+/// Whether an ID has the signal of this code, or no signal if the code is `--`.
 fn is_code_of_id(system: System, id: u8, code: &str) -> bool {
     let listed = Signal::from_id(system, id);
     listed == Signal::from_code(system, code) && listed.is_none() == (code == "--")
 }
 
-/// How many codes at the front are those of the IDs from 1 on.
+/// The number of codes that are those of the IDs from 1 on.
 fn right_codes(system: System, codes: &str) -> usize {
     let mut right = 0;
     for code in codes.split(' ') {
@@ -97,8 +97,8 @@ fn right_codes(system: System, codes: &str) -> usize {
     right
 }
 
-/// The 32 places of the signal mask DF395, in order, `--` where none of the signals read has its
-/// place.
+/// The codes of the 32 positions of the signal mask DF395, in order, `--` if no signal has the
+/// position.
 #[test]
 fn fills_the_signal_masks(rt: HostRuntime) {
     let gps = right_codes(
@@ -165,7 +165,7 @@ static RANGES: [(i64, i64); 3] = [
     (150_323_855_356, 20_985_472_059),
 ];
 
-/// The last is a tie below zero, which goes away from it.
+/// The last is a tie below zero, which is rounded away from it.
 static PHASES: [(i64, i64); 3] = [
     (150_323_855_360, 110_279_400_000),
     (150_323_855_361, 110_279_400_001),
@@ -246,7 +246,7 @@ fn rounds_rates_and_strengths(rt: HostRuntime) {
     assert!(rt; Thousandths::new(-1).value() == -1);
 }
 
-/// Whether what is absent stays so: a range, its phase, a rate and a strength.
+/// Whether absent values remain absent: a range, its phase, a rate and a strength.
 fn are_absent(signal: Signal) -> [bool; 4] {
     [
         pseudorange(None).is_none(),
@@ -303,14 +303,14 @@ fn reads_lock_times(rt: HostRuntime) {
 }
 
 static LOSSES: [(Indicator, Indicator, u64, bool); 8] = [
-    // the time went back
+    // the lock time decreased
     (Indicator::Df402(15), Indicator::Df402(14), 1_000, true),
     (Indicator::Df402(8), Indicator::Df402(7), 2_000, true),
-    // it is younger than the time between, or just as old
+    // the lock is younger than the time between, or exactly as old
     (Indicator::Df407(0), Indicator::Df407(0), 1_000, true),
     (Indicator::Df407(63), Indicator::Df407(63), 64, true),
     (Indicator::Df407(63), Indicator::Df407(63), 63, false),
-    // it goes on without an upper time
+    // there is no upper time
     (
         Indicator::Df407(704),
         Indicator::Df407(704),

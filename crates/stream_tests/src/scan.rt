@@ -1,4 +1,4 @@
-//! What no clause says: worked streams, and that each call can succeed.
+//! What no clause states: worked streams, and that each call can succeed.
 mod by_definition;
 
 ghost use Rattle.std.specs.Prelude.{◌<◌};
@@ -9,7 +9,7 @@ use rtcm_scan::{Framer, Frames, MOST_BYTES, ScanFault};
 use std::alloc::{AllocError, Global};
 use std::test::Fail;
 
-/// The frames of a message 1005, 1006, 1077 and 1074 of station 2003, one behind the other.
+/// The frames of a message 1005, 1006, 1077 and 1074 of station 2003, one after the other.
 const FOUR_FRAMES: [u8; 130] = [
     0xD3, 0x00, 0x13, 0x3E, 0xD7, 0xD3, 0x02, 0x02, 0x98, 0x0E, 0xDE, 0xEF, 0x34, 0xB4, 0xBD, 0x62,
     0xAC, 0x09, 0x41, 0x98, 0x6F, 0x33, 0x36, 0x0B, 0x98, 0xD3, 0x00, 0x15, 0x3E, 0xE7, 0xD3, 0x02,
@@ -22,7 +22,7 @@ const FOUR_FRAMES: [u8; 130] = [
     0x03, 0x60,
 ];
 
-/// The frame of the message 1005 behind three bytes that claim a longest message.
+/// The frame of the message 1005 after three bytes that claim a longest message.
 const BEHIND_A_CLAIM: [u8; 28] = [
     0xD3, 0xFF, 0xFF, 0xD3, 0x00, 0x13, 0x3E, 0xD7, 0xD3, 0x02, 0x02, 0x98, 0x0E, 0xDE, 0xEF, 0x34,
     0xB4, 0xBD, 0x62, 0xAC, 0x09, 0x41, 0x98, 0x6F, 0x33, 0x36, 0x0B, 0x98,
@@ -37,28 +37,28 @@ const RESERVED_SET: [u8; 25] = [
 /// The frame of the empty message.
 const EMPTY_MESSAGE: [u8; 6] = [0xD3, 0x00, 0x00, 0x47, 0xEA, 0x4B];
 
-/// That of the empty message behind one preamble more, which claims 768 bytes of message.
+/// That of the empty message after another preamble, which claims 768 bytes of message.
 const LATE_FRAME: [u8; 7] = [0xD3, 0xD3, 0x00, 0x00, 0x47, 0xEA, 0x4B];
 
-/// That frame inside a candidate whose check is wrong.
+/// That frame inside a candidate with an invalid CRC.
 const INNER_FRAME: [u8; 12] = [
     0xD3, 0x00, 0x06, 0xD3, 0x00, 0x00, 0x47, 0xEA, 0x4B, 0x00, 0x00, 0x00,
 ];
 
-/// The longest claim, at each place anew.
+/// The longest claim at every byte.
 const PREAMBLES: [u8; 2_000] = [0xD3; 2_000];
 
-/// The bytes in no frame, all looks, and the most at one byte.
+/// The number of bytes in no frame, of all looks, and of those at one byte.
 type Counts = (u64, u64, u16);
 
-/// The first bytes of a stream, and what they give.
+/// The first bytes of a stream, with their frames and counts.
 #[derive(Drop)]
 struct Stream<'a> {
     bytes: &'a [u8],
     size: usize,
-    /// The place of each frame, and the bytes of its message.
+    /// The offset of each frame, and the size of its message.
     frames: &'a [(usize, usize)],
-    /// Before the end: frames and held bytes.
+    /// Before the end: the numbers of frames and of held bytes.
     before: (usize, usize, Counts),
     behind: Counts,
 }
@@ -157,8 +157,8 @@ static STREAMS: [Stream<'static>; 13] = [
     },
 ];
 
-/// Each place before 1,016 is looked through to the end of its claim, and each other to the end of
-/// the stream.
+/// Each candidate before 1,016 is examined to the end of its claim, and each other one to the end
+/// of the stream.
 static CLAIMS: Stream<'static> = Stream {
     bytes: &PREAMBLES,
     size: 2_000,
@@ -172,7 +172,7 @@ impl<'a> Stream<'a> {
         &self.bytes[..self.size.min(self.bytes.len())]
     }
 
-    /// Whether this is its frame of that number.
+    /// Whether this is its frame with that number.
     fn has(&self, number: usize, offset: u64, message: &[u8]) -> bool {
         match self.frames.get(number) {
             Some((place, size)) => {
@@ -188,13 +188,13 @@ impl<'a> Stream<'a> {
     }
 }
 
-// Each call with large clauses stands behind a function without one, so that no test carries them.
+// Each call with large clauses has a function without one, so that no test carries the clauses.
 
 fn refused(alloc: Global, limit: u64) -> Option<ScanFault> {
     Framer::new(alloc, limit).err()
 }
 
-/// None where the framer isn't ready for a byte.
+/// Pushes a byte. None if the framer isn't ready for it.
 fn push(framer: &mut Framer, byte: u8) -> Option<Result<(), ScanFault>> {
     if framer.ready() {
         Some(framer.push(byte))
@@ -203,7 +203,7 @@ fn push(framer: &mut Framer, byte: u8) -> Option<Result<(), ScanFault>> {
     }
 }
 
-/// None where the framer isn't ready, or a frame has no room for so many bytes more.
+/// Pushes a block. None if the framer isn't ready, or has no room for it.
 fn push_all(framer: &mut Framer, block: &[u8]) -> Option<Result<(), ScanFault>> {
     if framer.ready() && block.len() <= LONGEST_FRAME - framer.held() {
         Some(framer.push_all(block))
@@ -212,7 +212,7 @@ fn push_all(framer: &mut Framer, block: &[u8]) -> Option<Result<(), ScanFault>> 
     }
 }
 
-/// Whether a block is taken, one byte alone by its own call.
+/// Whether a block is accepted, a single byte by its own call.
 fn takes(framer: &mut Framer, block: &[u8]) -> bool {
     match block.first() {
         Some(byte) if block.len() == 1 => push(framer, *byte) == Some(Ok(())),
@@ -220,7 +220,7 @@ fn takes(framer: &mut Framer, block: &[u8]) -> bool {
     }
 }
 
-/// Whether a frame is due; None where it isn't the stream's of that number.
+/// Whether there is a frame; None if it isn't that of the stream with this number.
 fn is_next(framer: &mut Framer, stream: &Stream, number: usize) -> Option<bool> {
     match framer.next() {
         Some(frame) => {
@@ -234,8 +234,8 @@ fn is_next(framer: &mut Framer, stream: &Stream, number: usize) -> Option<bool> 
     }
 }
 
-/// Takes the frames that are decided. How many the stream has given then, `before` by earlier
-/// calls; None where one isn't the stream's.
+/// Returns the number of frames after the decided ones, with `before` from earlier calls; None if
+/// one isn't that of the stream.
 fn drain(framer: &mut Framer, stream: &Stream, before: usize) -> Option<usize> {
     for number in before..=stream.frames.len() {
         if !is_next(framer, stream, number)? {
@@ -245,15 +245,15 @@ fn drain(framer: &mut Framer, stream: &Stream, before: usize) -> Option<usize> {
     None
 }
 
-/// What a framer tells before the end of a stream, and behind it.
+/// The counts of a framer before the end of a stream and after it.
 type Told = ((usize, usize, Counts), Counts);
 
 fn counts(framer: &Framer) -> Counts {
     (framer.skipped(), framer.examined(), framer.most())
 }
 
-/// Hands these bytes of the stream on in blocks of a size. How many frames it has given then,
-/// `before` by earlier calls; None where the framer refuses a block, or gives other frames.
+/// Pushes these bytes of the stream in blocks of a size. Returns the number of frames, including
+/// `before` of earlier calls; None if the framer refuses a block, or returns other frames.
 fn hand_on(
     framer: &mut Framer,
     stream: &Stream,
@@ -273,8 +273,8 @@ fn hand_on(
     Some(frames)
 }
 
-/// What the framer tells, where the stream's bytes up to a cut and those behind it come in blocks of
-/// a size.
+/// The counts of the framer if the bytes of the stream up to a cut, and those after it, are pushed
+/// in blocks of a size.
 fn told(framer: &mut Framer, stream: &Stream, cut: usize, size: usize) -> Option<Told>
     requires { 0 < size }
 {
@@ -291,7 +291,7 @@ fn told(framer: &mut Framer, stream: &Stream, cut: usize, size: usize) -> Option
     Some((before, counts(framer)))
 }
 
-/// What a framer tells of the stream, cut there and in blocks of a size.
+/// The counts of a new framer for the stream, cut there and in blocks of a size.
 fn told_by(alloc: Global, stream: &Stream, cut: usize, size: usize) -> Option<Told>
     requires { 0 < size }
 {
@@ -311,7 +311,7 @@ fn is_told(alloc: Global, stream: &Stream, cut: usize, size: usize) -> bool
     told_by(alloc, stream, cut, size) == Some((stream.before, stream.behind))
 }
 
-/// The first size of blocks in which the stream doesn't give its frames and counts.
+/// The first size of blocks in which the stream doesn't have its frames and counts.
 fn first_wrong_size(alloc: Global, stream: &Stream) -> Option<usize> {
     for size in 1..=stream.size.max(1) {
         if !is_told(alloc, stream, 0, size) {
@@ -321,7 +321,7 @@ fn first_wrong_size(alloc: Global, stream: &Stream) -> Option<usize> {
     None
 }
 
-/// The first place at which the stream, cut in two there, doesn't give its frames and counts.
+/// The first cut with which the stream doesn't have its frames and counts.
 fn first_wrong_cut(alloc: Global, stream: &Stream) -> Option<usize> {
     for cut in 0..=stream.size {
         if !is_told(alloc, stream, cut, stream.size.max(1)) {
@@ -331,7 +331,7 @@ fn first_wrong_cut(alloc: Global, stream: &Stream) -> Option<usize> {
     None
 }
 
-/// Whether the stream has these frames as a slice too.
+/// Whether the stream has its frames as a slice too.
 fn is_listed(stream: &Stream) -> bool {
     let mut listed = 0usize;
     for frame in Frames::new(stream.taken()) {
@@ -361,8 +361,8 @@ fn worked_streams(rt: HostRuntime) {
     assert!(rt; is_listed(&CLAIMS));
 }
 
-/// A byte 0, the frame of a longest message, of 1,023 bytes, and that of one of 958, as the longest
-/// MSM has.
+/// A byte 0, the frame of a longest message, of 1,023 bytes, and that of a message of 958 bytes,
+/// the size of the longest MSM.
 fn longest_frames() -> ArrayVec<u8, 2_048> {
     let mut frame = ArrayVec::new();
     let mut frames = ArrayVec::new();
@@ -374,7 +374,7 @@ fn longest_frames() -> ArrayVec<u8, 2_048> {
     frames
 }
 
-// Blocks of two come to the end of the first frame with the byte before it, the longest without.
+// Blocks of two end with the first frame if a byte precedes it, the longest block if none does.
 #[test]
 fn longest_messages(rt: HostRuntime) {
     let frames = longest_frames();
@@ -401,8 +401,8 @@ fn longest_messages(rt: HostRuntime) {
     assert_eq!(rt; (by_size, as_slices), ((true, true, true), (true, true)));
 }
 
-/// What a framer answers that has reached its limit: its room, a byte, a block, how many bytes it
-/// holds, and behind its end a byte.
+/// A framer at its limit: its room, the results of pushing a byte and a block, the number of bytes
+/// held, and the result of pushing a byte after its end.
 type Answers = (
     usize,
     Option<Result<(), ScanFault>>,
@@ -420,7 +420,7 @@ fn answers(framer: &mut Framer) -> Answers {
     (room, byte, block, held, push(framer, 0xD3))
 }
 
-/// What a framer of this limit answers that took as many preambles; None where one is refused.
+/// The results of a framer with this limit after as many preambles; None if one is refused.
 fn at_limit(framer: &mut Framer, limit: usize) -> Option<Answers> {
     for _ in 0..limit {
         if push(framer, 0xD3) != Some(Ok(())) || framer.next().is_some() {
@@ -437,7 +437,7 @@ fn limited(alloc: Global, limit: usize) -> Option<Answers> {
     }
 }
 
-/// What a framer that has room answers to a byte behind its end.
+/// The result of pushing a byte to a framer with room after its end.
 fn behind_end(alloc: Global) -> Option<Result<(), ScanFault>> {
     match Framer::new(alloc, MOST_BYTES) {
         Ok(mut framer) => {

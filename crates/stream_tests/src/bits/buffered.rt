@@ -1,11 +1,11 @@
-//! What a buffer asks of its device.
+//! The calls that a buffer makes of its device.
 use rtcm_bits::Buffered;
 use std::alloc::{AllocError, Global};
 use std::io;
 use std::io::{ErrorKind, Write};
 
-/// A device that fails in one of its calls, counted from 1, and is good in each other. It counts
-/// the bytes that it took.
+/// A device that fails in one of its calls, counted from 1, and in no other. It counts the bytes
+/// that it accepted.
 #[derive(Drop)]
 pub struct Stumbles {
     fails_at: usize,
@@ -22,7 +22,7 @@ impl Stumbles {
         }
     }
 
-    /// Whether one call more is good.
+    /// Whether the next call succeeds.
     fn is_good(&mut self) -> bool {
         self.calls = self.calls.saturating_add(1);
         self.calls != self.fails_at
@@ -57,8 +57,7 @@ fn write_lines(buffer: &mut Buffered<Stumbles>) -> io::Result<()> {
     buffer.flush()
 }
 
-/// Whether the lines are written and flushed, and of the device behind the buffer the calls and
-/// the bytes.
+/// Whether the lines are written and flushed, and the numbers of calls and of bytes of the device.
 fn behind_lines(alloc: Global) -> Result<(bool, usize, usize), AllocError> {
     let mut buffer = Buffered::new(alloc, Stumbles::new(0))?;
     let are_written = write_lines(&mut buffer).is_ok();
@@ -66,7 +65,7 @@ fn behind_lines(alloc: Global) -> Result<(bool, usize, usize), AllocError> {
     Ok((are_written, device.calls, device.taken))
 }
 
-// Bytes go out when the buffer is full, or at a flush.
+// Bytes are written when the buffer is full, and at a flush.
 #[test]
 fn bytes_go_out_many_at_a_time(rt: HostRuntime) {
     // One write of 65,536 bytes, one of the rest, and a flush.
@@ -83,7 +82,7 @@ fn flush(buffer: &mut Buffered<&mut Stumbles>) -> bool {
     buffer.flush().is_ok()
 }
 
-/// Whether each call is good: a write that fills the buffer, one behind it, a flush, and both once
+/// Whether each call succeeds: a write that fills the buffer, one after it, a flush, and both once
 /// more.
 fn are_good(buffer: &mut Buffered<&mut Stumbles>) -> [bool; 5] {
     [
@@ -95,10 +94,11 @@ fn are_good(buffer: &mut Buffered<&mut Stumbles>) -> [bool; 5] {
     ]
 }
 
-/// Which calls of a buffer are good, and behind its drop the calls of the device and the bytes.
+/// The calls of a buffer that succeed, and after its drop the numbers of calls and of bytes of the
+/// device.
 type Outcome = ([bool; 5], usize, usize);
 
-/// What comes of a buffer whose device fails in this call.
+/// The outcome of a buffer whose device fails in this call.
 fn behind_failure(alloc: Global, fails_at: usize) -> Result<Outcome, AllocError> {
     let mut device = Stumbles::new(fails_at);
     let good = {
@@ -122,7 +122,7 @@ static OUTCOMES: [Outcome; 3] = [
     ([true, true, false, false, false], 3, 65_537),
 ];
 
-// After a failure nothing more goes out: not by a write, not by a flush, and not by the drop.
+// After a failure nothing more is written: not by a write, not by a flush, and not by the drop.
 #[test]
 fn nothing_is_tried_again(rt: HostRuntime) {
     assert_eq!(rt; behind_each_failure(rt.alloc()), Ok(OUTCOMES));

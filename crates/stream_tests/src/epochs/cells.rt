@@ -1,4 +1,4 @@
-//! Which cells of an epoch are kept, and how they stand.
+//! The cells of an epoch that are kept, and their order.
 use super::messages::Heard;
 use super::{
     Closed, Ends, FIRST, HasNoDoppler, Holds, KEPT, Keeps, Locks, Of, Step, Takes, goes_as_told,

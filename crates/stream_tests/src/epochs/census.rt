@@ -1,11 +1,11 @@
-//! How many cells of a signal are counted.
+//! The number of counted cells of a signal.
 use super::messages::{Heard, message};
 use gnss_obs::System;
 use obs_epoch::Census;
 use std::test::*;
 
-/// How many GPS cells of 1C a message of station 7 with one of them adds, and whether there is a
-/// cell of any signal, where this station is wanted.
+/// The number of GPS cells of 1C that a message of station 7 with one of them adds, and whether
+/// there is a cell of any signal, if this station is wanted.
 fn counted(wanted: Option<u16>) -> (u64, bool) {
     let mut census = Census::new();
     census.count_message(wanted, &message(Heard::Long(1_000, false, 64)));

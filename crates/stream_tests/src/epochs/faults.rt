@@ -26,7 +26,7 @@ fn says(alloc: Global, fault: PlanFault, text: &str) -> bool {
     }
 }
 
-/// How many faults have their text, up to the first that doesn't.
+/// The number of faults with their texts, up to the first with another one.
 fn said(alloc: Global) -> usize {
     for i in 0..TEXTS.len() {
         if !says(alloc, TEXTS[i].0, TEXTS[i].1) {

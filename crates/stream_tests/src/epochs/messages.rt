@@ -1,4 +1,4 @@
-//! The messages that a gatherer of the tests hears.
+//! The messages of the tests of a gatherer.
 use rtcm_msg::{
     Cell4, Cell7, Masks, Message, Msm, MsmHeader, Satellite4, Satellite7, Station, StationParts,
 };
@@ -6,22 +6,23 @@ use rtcm_msg::{
 /// A message of station 7, with its time in milliseconds of the week and its multiple message bit.
 #[derive(Clone, Copy)]
 pub enum Heard {
-    /// The long form of GPS 5 with the signal 1C, and the lock's code.
+    /// The long form of GPS 5 with the signal 1C, and the lock time indicator.
     Long(u32, bool, u16),
     /// The same of a Galileo satellite.
     Galileo(u32, bool, u16),
-    /// The short form of GPS 5, with or without a phase, and the lock's code.
+    /// The short form of GPS 5, with or without a phase, and the lock time indicator.
     Short(u32, bool, bool, u8),
     /// The long form of several GPS satellites and signals, by their masks, at 1,000.
     Wide(bool, u64, u32),
-    /// The long form of all listed satellites of GPS, or of Galileo, and the signals of a mask, with
-    /// its time and bit.
+    /// The long form of all listed satellites of GPS or of Galileo, with the signals of a mask, a
+    /// time and the multiple message bit.
     All(bool, u32, bool, u32),
-    /// The long form of the last satellite of Galileo with its last signal, and the lock's code.
+    /// The long form of the last satellite of Galileo with its last signal, and the lock time
+    /// indicator.
     Last(u32, u16),
-    /// Of a number that isn't read, whose station (here any) and bit are.
+    /// A message of a number that isn't read, of which only station (here any) and bit are.
     Unread(u16, bool),
-    /// Where the station stands.
+    /// The position of the station.
     Station,
 }
 

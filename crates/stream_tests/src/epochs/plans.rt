@@ -5,7 +5,7 @@ use obs_epoch::{Plan, PlanFault};
 use std::alloc::Global;
 use std::test::*;
 
-/// How many signals of GPS and of Galileo are planned, and at which place the GPS signal 1C.
+/// The numbers of planned signals of GPS and of Galileo, and the index of the GPS signal 1C.
 type Planned = Result<(usize, usize, Option<usize>), PlanFault>;
 
 fn look(plan: &Plan) -> (usize, usize, Option<usize>) {
@@ -53,7 +53,7 @@ static TEXTS: [(&str, &str, Planned); 10] = [
     ("1C,", "none", Err(PlanFault::UnknownCode(System::Gps, 1))),
 ];
 
-/// How many texts plan what they are to, up to the first that doesn't.
+/// The number of texts with their expected plans, up to the first with another one.
 fn read(alloc: Global) -> usize {
     for i in 0..TEXTS.len() {
         if planned(parse(alloc, TEXTS[i].0, TEXTS[i].1)) != TEXTS[i].2 {
@@ -72,8 +72,8 @@ fn from_signals(alloc: Global, gps: &[Signal], galileo: &[Signal]) -> Result<Pla
     Plan::from_signals(alloc, gps, galileo)
 }
 
-/// What the two GPS signals of these codes plan: so many of the first handed in as those of GPS,
-/// and so many as Galileo's.
+/// The plan of the two GPS signals of these codes, the first `gps` of them passed as those of GPS,
+/// and the first `galileo` as those of Galileo.
 fn made(alloc: Global, codes: (&str, &str), gps: usize, galileo: usize) -> Planned {
     if gps > 2 || galileo > 2 {
         return Err(PlanFault::Memory);

@@ -6,9 +6,9 @@ use rtcm_msg::{
 };
 use std::test::*;
 
-// Each call with large clauses stands behind a function without one, so that no test carries them.
+// Each call with large clauses has a function without one, so that no test carries the clauses.
 
-/// Why the parts with this number and this X are no station.
+/// The fault of the parts of a station with this number and this X.
 fn station_fault(station: u16, x: i64) -> Option<ValueFault> {
     Station::new(StationParts {
         station,
@@ -57,7 +57,7 @@ fn masks_are_judged(rt: HostRuntime) {
     assert!(rt; faults == want);
 }
 
-/// Why these parts are no message with one satellite and one cell, whose masks have both.
+/// The fault of these parts of a message whose masks have one satellite and one cell.
 fn msm_fault<G: Grid>(
     time: u32,
     satellites: &[G::Satellite],
@@ -124,7 +124,7 @@ fn write(
     }
 }
 
-/// How many bytes the message of 64 satellites with one signal has, and whether it is written back.
+/// The size of the message of 64 satellites with one signal, and whether it is written back.
 fn largest() -> (usize, bool) {
     let mut bytes = ArrayVec::new();
     write(

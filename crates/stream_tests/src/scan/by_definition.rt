@@ -1,14 +1,14 @@
-//! Streams cut and damaged at each place, framed by the definitions, as slow as they are.
+//! Streams truncated and damaged at each byte, framed slowly, as the definitions state it.
 use super::{Counts, FOUR_FRAMES, Stream, is_listed, told_by};
 use rtcm_bits::crc24q;
 use std::alloc::Global;
 
 const SIZE: usize = FOUR_FRAMES.len();
 
-/// More frames than fit in so many bytes.
+/// More frames than fit in `SIZE` bytes.
 const MOST_FRAMES: usize = 24;
 
-/// The frames of a stream, and how often each of its bytes is looked at.
+/// The frames of a stream, and the number of looks at each of its bytes.
 #[derive(Drop)]
 struct Slow {
     frames: [(usize, usize); MOST_FRAMES],
@@ -16,7 +16,7 @@ struct Slow {
     looks: [u16; SIZE],
 }
 
-/// How many bytes a place claims: those of the frame that its first three bytes begin, or one.
+/// The number of bytes claimed: those of the frame that the first three bytes begin, or one.
 fn claimed(rest: &[u8]) -> usize {
     if rest.first() != Some(&0xD3) {
         return 1;
@@ -27,7 +27,7 @@ fn claimed(rest: &[u8]) -> usize {
     }
 }
 
-/// Whether a whole frame of so many bytes begins there.
+/// Whether a whole frame of `size` bytes begins there.
 fn is_frame(rest: &[u8], size: usize) -> bool {
     if size < 6 || rest.len() < size {
         return false;
@@ -37,7 +37,7 @@ fn is_frame(rest: &[u8], size: usize) -> bool {
 }
 
 impl Slow {
-    /// One more look at each of these bytes.
+    /// Counts one more look at each of these bytes.
     fn look_at(&mut self, from: usize, to: usize) {
         for place in from..to.min(SIZE) {
             self.looks[place] = self.looks[place].saturating_add(1);
@@ -51,7 +51,7 @@ impl Slow {
         }
     }
 
-    /// Tries the candidate at a place. Where the next one stands.
+    /// Tries the candidate at a byte, and returns the next candidate.
     fn try_at(&mut self, bytes: &[u8], place: usize) -> usize {
         let rest = &bytes[place.min(bytes.len())..];
         let claim = claimed(rest);
@@ -67,7 +67,7 @@ impl Slow {
         end
     }
 
-    /// The counts of a stream of so many bytes.
+    /// The counts of a stream of `size` bytes.
     fn counts(&self, size: usize) -> Counts {
         let mut skipped = size as u64;
         for (_, message) in self.frames.iter().take(self.count) {
@@ -99,8 +99,8 @@ fn slowly(bytes: &[u8]) -> Slow {
     slow
 }
 
-/// Whether a framer and the slice give what the definitions give, the framer by one byte at a time
-/// and by two.
+/// Whether a framer and the slice agree with the definitions, the framer in blocks of one byte and
+/// of two.
 fn agrees(alloc: Global, bytes: &[u8]) -> bool {
     let slow = slowly(bytes);
     let stream = Stream {
@@ -113,7 +113,7 @@ fn agrees(alloc: Global, bytes: &[u8]) -> bool {
     is_listed(&stream) && is_counted(alloc, &stream, 1) && is_counted(alloc, &stream, 2)
 }
 
-/// Whether a framer that takes so many bytes at a time gives these frames and counts.
+/// Whether a framer with blocks of `size` bytes has these frames and counts.
 fn is_counted(alloc: Global, stream: &Stream, size: usize) -> bool {
     match told_by(alloc, stream, 0, size.max(1)) {
         Some((_, behind)) => behind == stream.behind,
@@ -121,7 +121,7 @@ fn is_counted(alloc: Global, stream: &Stream, size: usize) -> bool {
     }
 }
 
-/// The end of the first stream from a place that is cut and doesn't agree.
+/// The end of the first truncated stream that doesn't agree.
 fn first_wrong_end(alloc: Global, from: usize) -> Option<usize> {
     for end in from..=SIZE {
         if !agrees(alloc, &FOUR_FRAMES[from..end]) {
@@ -131,7 +131,7 @@ fn first_wrong_end(alloc: Global, from: usize) -> Option<usize> {
     None
 }
 
-/// Whether the streams agree in which this byte is damaged, and that of the third frame.
+/// Whether the stream with this byte damaged agrees, and its third frame alone.
 fn agrees_damaged(alloc: Global, place: usize) -> bool {
     let mut damaged = FOUR_FRAMES;
     if place < SIZE {
