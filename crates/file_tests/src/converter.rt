@@ -1,5 +1,5 @@
-//! What no clause says: a worked stream and its file, that each call can succeed, and what goes out
-//! where a device fails.
+//! What no clause states: a worked stream and its file, that each call can succeed, and the output
+//! if a device fails.
 mod faults;
 mod hostile;
 mod script;
@@ -121,7 +121,7 @@ static FILES: [Script; 7] = [
         sent: 1_236,
         ..IDLE
     },
-    // An epoch goes out as it is closed.
+    // An epoch is written when it is closed.
     Script {
         way: Way::Calls(&[
             (Call::Feed(0, 41), FED),
@@ -134,7 +134,7 @@ static FILES: [Script; 7] = [
         sent: 1_236,
         ..IDLE
     },
-    // A cut frame behind the first changes nothing of the file.
+    // A truncated frame after the first one changes nothing of the file.
     Script {
         frames: &[&FULL, &POINT],
         way: Way::Calls(&[
@@ -145,7 +145,7 @@ static FILES: [Script; 7] = [
         sent: 1_236,
         ..IDLE
     },
-    // Of a frame that is claimed to be of 1,029 bytes no more is read than there is room for.
+    // Of a frame that claims 1,029 bytes, no more is read than there is room for.
     Script {
         frames: &[&[0xD3, 0x03, 0xFF]],
         given: 1_000,

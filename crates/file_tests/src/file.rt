@@ -1,8 +1,7 @@
-//! What no clause says: published lines, that a call can succeed, and what fails on the way to a
-//! writer.
+//! What no clause states: published lines, that a call can succeed, and failures of writers.
 //!
-//! A test hands on what to do, and is told in a few numbers what came of it: one function alone
-//! owns a gatherer, one a writer, one a file, since each owner is dear to prove.
+//! A test passes its input and gets a few numbers back: only one function owns a gatherer, one a
+//! writer and one a file, since owners of these take long to prove.
 mod events;
 mod faults;
 mod long;
@@ -41,7 +40,7 @@ static EPOCH: [&str; 2] = [
     "G05  20985472.060 7 110279400.000 7      -525.504          45.063",
 ];
 
-/// The values of a station that was told.
+/// The values of a station.
 const VALUES: StationValues = StationValues {
     x: 11_141_045_999,
     y: -48_507_297_108,
@@ -68,7 +67,7 @@ fn texts() -> Texts<'static> {
 /// The text of a small file, or of a part of it.
 type Text = ArrayVec<u8, 4096>;
 
-/// The lines of these parts, one behind the other.
+/// The lines of these parts, one after the other.
 fn joined(parts: &[&[&str]]) -> Text {
     let mut text = ArrayVec::new();
     for part in parts {
@@ -84,7 +83,7 @@ fn put_lines(text: &mut Text, lines: &[&str]) {
     }
 }
 
-/// The first place at which bytes aren't the first ones of these lines, so many of them.
+/// The first offset at which the bytes differ from the first `most` bytes of these lines.
 fn difference(bytes: &[u8], lines: &[&[&str]], most: usize) -> Option<usize> {
     let text = joined(lines);
     place_of_difference(bytes, &text.as_slice()[..most.min(text.len())])
@@ -99,7 +98,7 @@ fn place_of_difference(a: &[u8], b: &[u8]) -> Option<usize> {
     None
 }
 
-/// How a writer over memory takes bytes: how many in a write and in all, and what it does then.
+/// The largest numbers of bytes that a writer accepts in a write and in all, and what it does then.
 #[derive(Clone, Copy)]
 struct Takes {
     each: usize,
@@ -107,7 +106,7 @@ struct Takes {
     end: WriteEnd,
 }
 
-/// It takes all.
+/// It accepts all.
 const ALL: Takes = Takes {
     each: 4096,
     all: 4096,
@@ -120,7 +119,7 @@ fn writer(takes: Takes) -> Writer {
     Counted::new(ShortWriter::new(Text::new(), takes.each, takes.all, takes.end))
 }
 
-/// The first place at which what a writer took isn't what it had to take of these lines.
+/// The first offset at which the bytes of a writer differ from those expected of these lines.
 fn written_otherwise(writer: Writer, takes: Takes, lines: &[&[&str]]) -> Option<usize> {
     difference(
         writer.into_inner().into_inner().as_slice(),
@@ -129,10 +128,10 @@ fn written_otherwise(writer: Writer, takes: Takes, lines: &[&[&str]]) -> Option<
     )
 }
 
-/// What came of writing: the answer, and the first place at which the bytes are others than wanted.
+/// The outcome of writing: the result, and the first offset at which the bytes differ.
 type Outcome = (Result<(), HeadFault>, Option<usize>);
 
-/// The lines of a header, one after the other, where each has 81 bytes.
+/// The lines of a header, one after the other, if each has 81 bytes.
 fn header_of(head: &Head) -> Option<Text> {
     let mut lines = ArrayVec::new();
     for line in header_lines(head) {
@@ -153,7 +152,7 @@ fn has_line(text: &[u8], number: usize, line: &str) -> bool {
     }
 }
 
-/// The number of the first of these lines that isn't there.
+/// The number of the first of these lines that is missing.
 fn missing(text: &[u8], wanted: &[(usize, &str)]) -> Option<usize> {
     for (number, line) in wanted {
         if !has_line(text, *number, line) {
@@ -171,7 +170,7 @@ fn header_otherwise(head: &Head, wanted: &[(usize, &str)]) -> Option<(usize, Opt
     }
 }
 
-/// The same of the header of this plan, at a station that was told.
+/// The same of the header with this plan and the station values.
 fn header_under(plan: &Plan, wanted: &[(usize, &str)]) -> Option<(usize, Option<usize>)> {
     let first = GpsTime::new(2303 * 604_800_000 + 345_600_000)?;
     match HeaderTexts::new(&texts()) {
@@ -188,7 +187,7 @@ fn header_under(plan: &Plan, wanted: &[(usize, &str)]) -> Option<(usize, Option<
     }
 }
 
-/// The same of the header of every signal.
+/// The same of the header with every signal.
 fn full_header(alloc: Global, wanted: &[(usize, &str)]) -> Option<(usize, Option<usize>)> {
     match Plan::parse(alloc, "all", "all") {
         Ok(plan) => header_under(&plan, wanted),
@@ -196,7 +195,7 @@ fn full_header(alloc: Global, wanted: &[(usize, &str)]) -> Option<(usize, Option
     }
 }
 
-/// Lines of the header of every signal, each with its number from 0.
+/// Lines of the header with every signal, each with its number from 0.
 static FULL_HEADER: [(usize, &str); 8] = [
     (
         0,
@@ -240,7 +239,7 @@ fn a_header_shows_plan_and_station(rt: HostRuntime) {
     );
 }
 
-/// The fault of the texts with this date and this name of the marker.
+/// The fault of the texts with this date and this marker.
 fn refused(date: &str, marker: &str) -> Option<HeadFault> {
     let texts = Texts {
         date,

@@ -1,4 +1,4 @@
-//! The tests of observation files and of the converter: what no contract says of them.
+//! Tests of observation files and of the converter, for what no contract states.
 #![tactic(auto)]
 
 #[cfg(test)]

@@ -6,7 +6,7 @@ use rtcm_scan::MOST_BYTES;
 use std::alloc::Global;
 use std::io::ErrorKind;
 
-/// A stream without an epoch, here of no byte.
+/// A stream without an epoch, here an empty one.
 const EMPTY: Script = Script {
     way: Way::Calls(&[
         (Call::Feed(0, 0), FED),
@@ -51,7 +51,7 @@ static STREAMS: [Script; 12] = [
         ]),
         ..EMPTY
     },
-    // Of a frame that is cut.
+    // Of a truncated frame.
     Script {
         way: Way::Calls(&[
             (Call::Feed(0, 39), FED),
@@ -132,7 +132,7 @@ const WRITER: Script = Script {
     ..IDLE
 };
 
-/// A reader that fails within the first message or behind it.
+/// A reader that fails within the first message or after it.
 const READER: Script = Script {
     then: ReadEnd::Fails(ErrorKind::Other),
     way: Way::Calls(&[

@@ -1,5 +1,5 @@
-//! Streams cut and damaged at each place: what a converter writes, reports, holds and looks at, before
-//! the end of a stream and after it, is what the definitions say.
+//! Streams truncated and damaged at each byte: file, report, held bytes and looks of a converter,
+//! before the end of a stream and after it, agree with the definitions.
 use super::script::{Answer, Good, TOLD, converter, feed, finish, looks};
 use super::slow::{FOUR_FRAMES, SIZE, Slow, Text, slowly};
 use super::{FED, FILE, ONE};
@@ -8,7 +8,7 @@ use rtcm_bits::devices::{ShortWriter, WriteEnd};
 use rtcm_convert::{Converter, Fault, Report};
 use std::alloc::Global;
 
-/// The last answer, the counts, and whether the file is the expected one.
+/// The last result, the counts, and whether the file is the expected one.
 type Comes = (Answer, Good, bool);
 
 /// Feeds the bytes in pieces of a size, and ends the stream or not.
@@ -61,7 +61,7 @@ fn wanted(slow: &Slow, size: usize, ends: bool) -> Comes {
     (answer, slow.counts(size), true)
 }
 
-/// Whether a stream is taken so, a byte at a time and two, before its end and with it.
+/// Whether a stream agrees in pieces of one byte and of two, before its end and after it.
 fn agrees(alloc: Global, bytes: &[u8]) -> bool {
     for ends in [false, true] {
         let slow = slowly(bytes, ends);
@@ -76,7 +76,7 @@ fn agrees(alloc: Global, bytes: &[u8]) -> bool {
     true
 }
 
-/// The end of the first stream from a place that is cut and not taken so.
+/// The end of the first truncated stream that doesn't agree.
 fn first_wrong_end(alloc: Global, from: usize) -> Option<usize> {
     for end in from..=SIZE {
         if !agrees(alloc, FOUR_FRAMES.get(from..end).unwrap_or(&[])) {
@@ -86,7 +86,7 @@ fn first_wrong_end(alloc: Global, from: usize) -> Option<usize> {
     None
 }
 
-/// Whether the stream is taken so in which this byte is damaged, and its third frame alone.
+/// Whether the stream with this byte damaged agrees, and its third frame alone.
 fn agrees_damaged(alloc: Global, place: usize) -> bool {
     let mut damaged = FOUR_FRAMES;
     if let Some(byte) = damaged.get_mut(place) {
@@ -114,8 +114,8 @@ const FOUR: Report = Report {
     ..ONE
 };
 
-/// What the definitions say of the first bytes from a place: the counts, the answer, and the length
-/// of the file.
+/// The counts, the result and the length of the file of a part of the four frames by the
+/// definitions.
 fn said(from: usize, to: usize, has_ended: bool) -> (Good, Answer, usize) {
     let bytes = FOUR_FRAMES.get(from..to).unwrap_or(&[]);
     let slow = slowly(bytes, has_ended);
@@ -127,7 +127,7 @@ fn said(from: usize, to: usize, has_ended: bool) -> (Good, Answer, usize) {
     )
 }
 
-// The definitions themselves, by numbers that were counted by hand.
+// The definitions themselves, by numbers counted by hand.
 #[test]
 fn the_slow_definitions_are_right(rt: HostRuntime) {
     let none: Answer = Err(Fault::NoEpoch);

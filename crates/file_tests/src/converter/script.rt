@@ -1,7 +1,7 @@
-//! Scripts: the calls of a converter over devices that may fail, and what has to come of them.
+//! Scripts: calls of a converter over devices that can fail, and their expected outcomes.
 //!
-//! A proof over a value that has to be dropped is dear, and a converter is one, as is a device. So
-//! one function makes each and lets it go, and a test is a table of scripts.
+//! Values with a destructor, such as a converter or a device, make proofs slow. So one function
+//! makes and drops each of them, and a test is a table of scripts.
 use super::{FILE, FULL};
 use arrayvec::ArrayVec;
 use gnss_obs::System;
@@ -14,7 +14,7 @@ use rtcm_scan::MOST_BYTES;
 use std::alloc::{AllocError, Global};
 use std::io::{Read, Write};
 
-/// What differs between the setups of the tests.
+/// The parts in which the setups of the tests differ.
 #[derive(Clone, Copy)]
 pub struct Told {
     pub limit: u64,
@@ -46,18 +46,18 @@ const TEXTS: Texts<'static> = Texts {
 /// A call of a converter.
 #[derive(Clone, Copy)]
 pub enum Call {
-    /// Takes the bytes of the stream from one place to another.
+    /// Feeds the bytes of the stream from one offset to another.
     Feed(usize, usize),
     /// Reads to the end.
     Run,
     Finish,
-    /// The bytes held, and the looks in all and at one byte.
+    /// The numbers of bytes held, of all looks, and of those at one byte.
     Looks,
-    /// The cells of GPS and of Galileo that are held, and the lock records.
+    /// The numbers of cells of GPS and of Galileo that are held, and of lock records.
     Kept,
 }
 
-/// What a call answers where all is well.
+/// The result of a successful call.
 #[derive(Clone, Copy, Debug, PartialEq, Eq)]
 pub enum Good {
     Fed,
@@ -67,40 +67,40 @@ pub enum Good {
 
 pub type Answer = Result<Good, Fault>;
 
-/// What makes a file.
+/// The calls that make a file.
 #[derive(Clone, Copy)]
 pub enum Way {
-    /// A converter, by these calls with these answers.
+    /// A converter, by these calls with these results.
     Calls(&'static [(Call, Answer)]),
     Stream(Answer),
-    /// In pieces, of as many bytes of the stream as the reader gives.
+    /// In pieces, of the bytes of the stream that the reader has.
     Pieces(Answer),
 }
 
-/// What is called, over which devices, and what has to come.
+/// The calls, the devices, and the expected outcome.
 #[derive(Clone, Copy)]
 pub struct Script {
     pub told: Told,
-    /// What the stream begins with; zeros stand behind.
+    /// The start of the stream, which zeros follow.
     pub frames: &'static [&'static [u8]],
-    /// How many bytes of the stream the reader gives, and what it does then.
+    /// The number of bytes of the stream that the reader has, and what it does then.
     pub given: usize,
     pub then: ReadEnd,
-    /// How many bytes the writer takes, seven at a time, and what it does then.
+    /// The number of bytes that the writer accepts, seven at a time, and what it does then.
     pub room: usize,
     pub full: WriteEnd,
     pub way: Way,
-    /// Where there is no converter: why.
+    /// The fault of the setup, if there is no converter.
     pub fault: Option<Fault>,
     /// The failures of reader and writer.
     pub failures: (u64, u64),
-    /// The size of the last read, and of the widest.
+    /// The size of the last buffer of a read, and of the largest one.
     pub asked: (usize, usize),
-    /// How many bytes of the file go out.
+    /// The number of bytes of the file that are written.
     pub sent: usize,
 }
 
-/// Nothing is called, and no device fails.
+/// No call, and no failure of a device.
 pub const IDLE: Script = Script {
     told: TOLD,
     frames: &[&FULL],
@@ -115,15 +115,15 @@ pub const IDLE: Script = Script {
     sent: 0,
 };
 
-/// The place of the first call that is answered otherwise, with its answer.
+/// The index of the first call with another result, and that result.
 type Broken = Option<(usize, Answer)>;
 
-/// The failures of reader and writer, the sizes of the last read and of the widest, how many bytes
-/// went out, and whether they begin the file.
+/// The failures of reader and writer, the sizes of the last and the largest buffer of a read, the
+/// number of bytes written, and whether they are a prefix of the file.
 type Left = ((u64, u64), (usize, usize), usize, bool);
 
-/// Of the scripts, in pieces of one byte, of two, and whole: the place of the first of which another
-/// thing comes, with the size of the pieces and what comes.
+/// The index of the first script with another outcome, in pieces of one byte, of two, or whole,
+/// with the size of the pieces and the outcome.
 pub fn first_broken(alloc: Global, scripts: &[Script]) -> Option<(usize, usize, (Broken, Left))> {
     for (place, script) in scripts.iter().enumerate() {
         for size in [1, 2, 1_000] {
@@ -144,7 +144,7 @@ fn wanted(script: &Script) -> (Broken, Left) {
     (broken, (script.failures, script.asked, script.sent, true))
 }
 
-/// Makes the devices, takes the script over them, and lets them go.
+/// Makes the devices, runs the script over them, and drops them.
 fn comes_of(alloc: Global, script: &Script, size: usize) -> (Broken, Left) {
     let stream = stream_of(script.frames);
     let bytes = stream.get(..script.given).unwrap_or(&[]);
@@ -163,7 +163,7 @@ fn comes_of(alloc: Global, script: &Script, size: usize) -> (Broken, Left) {
     (broken, (failures, asked, length, begins))
 }
 
-/// These bytes, one behind the other, and zeros behind them.
+/// These bytes, one after the other, followed by zeros.
 fn stream_of(frames: &[&[u8]]) -> [u8; 1_000] {
     let mut stream = [0; 1_000];
     let mut from: usize = 0;
@@ -209,7 +209,7 @@ fn differs(made: Result<Report, Fault>, want: Answer) -> Broken {
     Some((0, got))
 }
 
-/// Makes a converter, and takes the calls.
+/// Makes a converter, and runs the calls.
 fn follow<R: Read, W: Write>(
     alloc: Global,
     told: Told,
@@ -294,7 +294,7 @@ fn run<R: Read, W: Write>(
     converter.run(reader, writer)
 }
 
-/// Says that no byte follows.
+/// Ends the stream.
 pub fn finish<W: Write>(
     converter: &mut Converter,
     writer: &mut Counted<W>,
@@ -375,7 +375,7 @@ fn add_piece(alloc: Global, piece: &[u8], pieces: &mut Vec<Vec<u8>>) -> Result<(
     Ok(())
 }
 
-/// Signal 1C of GPS. Where that can't be had, the fault is `Memory`.
+/// Signal 1C of GPS. If there is no memory for the plan, the fault is `Memory`.
 fn setup(alloc: Global, told: Told) -> Result<Setup, Fault> {
     match Plan::parse(alloc, "1C", "none") {
         Ok(plan) => setup_of(plan, told),

@@ -1,4 +1,4 @@
-//! The definitions of a conversion, as slow as they are, for streams of four known messages: their
+//! A slow conversion, as the definitions state it, for streams of four known messages: their
 //! frames, the looks at each byte, the report and the file.
 use super::FILE;
 use super::script::{Answer, Good};
@@ -21,10 +21,10 @@ pub const FOUR_FRAMES: [u8; SIZE] = [
 
 pub const SIZE: usize = 130;
 
-/// Where each of them begins, and the end.
+/// The offset of each of them, and the end.
 static PLACES: [usize; 5] = [0, 25, 52, 94, SIZE];
 
-/// The lines of the file that give the position, and the height of 1.5 m.
+/// The lines of the file with the position, and with the height of 1.5 m.
 const POSITION: &str =
     "  1114104.5999 -4850729.7108  3975521.4643                  APPROX POSITION XYZ \n";
 
@@ -36,10 +36,10 @@ const COARSE: &str = "G05  20985472.042 7 110279400.00327                       
 
 pub type Text = ArrayVec<u8, 1_500>;
 
-/// What the definitions say of a stream.
+/// A stream by the definitions.
 #[derive(Drop)]
 pub struct Slow {
-    /// Which of the four messages it has.
+    /// The messages of the four that it has.
     has: [bool; 4],
     /// The number of frames, their bytes, and the number of places before the first undecided one.
     frames: u64,
@@ -48,8 +48,7 @@ pub struct Slow {
     looks: [u16; SIZE],
 }
 
-/// The number of bytes that a place claims: those of the frame that its first three bytes begin, or
-/// one.
+/// The number of bytes claimed: those of the frame that the first three bytes begin, or one.
 fn claimed(rest: &[u8]) -> usize {
     if rest.first() != Some(&0xD3) {
         return 1;
@@ -78,7 +77,7 @@ fn is_known(frame: &[u8], number: usize) -> bool {
 }
 
 impl Slow {
-    /// One more look at each of these bytes.
+    /// Counts one more look at each of these bytes.
     fn look_at(&mut self, from: usize, to: usize) {
         for place in from..to.min(SIZE) {
             self.looks[place] = self.looks[place].saturating_add(1);
@@ -95,7 +94,7 @@ impl Slow {
         }
     }
 
-    /// Tries the candidate at a place. Where the next one is; None if bytes may be missing.
+    /// Tries the candidate at a byte, and returns the next one; None if bytes can be missing.
     fn try_at(&mut self, bytes: &[u8], place: usize, has_ended: bool) -> Option<usize> {
         let rest = &bytes[place.min(bytes.len())..];
         let claim = claimed(rest);
@@ -131,7 +130,7 @@ impl Slow {
         self.has[2] || self.has[3]
     }
 
-    /// What the end of the stream gives.
+    /// The result of the end of the stream.
     pub fn answer(&self, size: usize) -> Answer {
         if !self.has_epoch() {
             return Err(Fault::NoEpoch);
@@ -186,7 +185,7 @@ fn put(text: &mut Text, bytes: Option<&[u8]>) {
     let _ = text.try_extend_from_slice(bytes.unwrap_or(&[]));
 }
 
-/// What the definitions say of these bytes, of which no more follow, or more may.
+/// These bytes by the definitions, as a whole stream or as its start.
 pub fn slowly(bytes: &[u8], has_ended: bool) -> Slow {
     let mut slow = Slow {
         has: [false; 4],

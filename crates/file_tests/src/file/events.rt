@@ -1,4 +1,4 @@
-//! Events: written, read back, and refused where they stand or say otherwise.
+//! Events: written, read back, and refused in another place or with other values.
 use super::reading::{NO_VALUES, Told, check, read, told_of};
 use super::{
     ALL, EPOCH, HEADER, Outcome, Takes, Text, VALUES, joined, put_lines, writer, written_otherwise,
@@ -9,14 +9,14 @@ use std::alloc::Global;
 use std::io::ErrorKind;
 use std::test::*;
 
-/// The event of a station, and the epoch behind it.
+/// The event of a station.
 static EVENT: [&str; 3] = [
     ">                              4  2",
     "  1114104.5999 -4850729.7108  3975521.4643                  APPROX POSITION XYZ ",
     "        1.5000        0.0000        0.0000                  ANTENNA: DELTA H/E/N",
 ];
 
-/// A second later.
+/// The epoch one second later.
 static SECOND: [&str; 2] = [
     "> 2024 02 04 00 00  2.0000000  0  1",
     "G05  20985472.060 7 110279400.00017      -525.504          45.063",
@@ -54,14 +54,14 @@ static SPACED: [&str; 3] = [
     "        1.5000        0.0000        0.0000                  ANTENNA: DELTA H/E/N",
 ];
 
-/// An event that tells the header's values.
+/// An event with the values of the header.
 static SAME: [&str; 3] = [
     ">                              4  2",
     "        0.0000        0.0000        0.0000                  APPROX POSITION XYZ ",
     "        0.0000        0.0000        0.0000                  ANTENNA: DELTA H/E/N",
 ];
 
-/// An event that tells the header's height and another position.
+/// An event with the height of the header and another position.
 static MOVED: [&str; 3] = [
     ">                              4  2",
     "  1114104.5999 -4850729.7108  3975521.4643                  APPROX POSITION XYZ ",
@@ -174,14 +174,14 @@ fn an_event_in_the_wrong_place_or_of_the_same_values_is_refused(rt: HostRuntime)
     assert_eq!(rt; fault_otherwise(rt.alloc(), &CASES), None);
 }
 
-/// What comes of writing the event.
+/// The outcome of writing the event.
 fn sent(takes: Takes) -> Outcome {
     let mut writer = writer(takes);
     let answer = write_event(VALUES, &mut writer);
     (answer, written_otherwise(writer, takes, &[&EVENT]))
 }
 
-/// So many bytes, a line in a write.
+/// A writer that accepts `all` bytes, a line in a write.
 fn taking(all: usize, end: WriteEnd) -> Takes {
     Takes { each: 81, all, end }
 }

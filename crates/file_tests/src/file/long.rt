@@ -1,4 +1,4 @@
-//! A file of many epochs, which doesn't fit the room that a reader begins with.
+//! A file of many epochs, which exceeds the initial capacity of its vectors.
 use super::reading::{SMALL, Told, read, told_by};
 use super::{EPOCH, HEADER};
 use arrayvec::ArrayVec;
@@ -6,7 +6,7 @@ use rinex_file::{Counts, ReadFault};
 use std::alloc::Global;
 use std::test::*;
 
-/// How many epochs it has, one a second.
+/// The number of its epochs, one a second.
 const EPOCHS: usize = 300;
 
 /// The text of the file.
@@ -16,7 +16,7 @@ fn put(text: &mut Long, part: &[u8]) {
     let _ = text.try_extend_from_slice(part);
 }
 
-/// Puts two digits, the first one or a blank in place of 0.
+/// Appends two digits, with `blank` in place of a leading 0.
 fn put_two(text: &mut Long, number: usize, blank: u8) {
     let tens = (number / 10 % 10) as u8;
     let ones = (number % 10) as u8;
@@ -26,7 +26,7 @@ fn put_two(text: &mut Long, number: usize, blank: u8) {
     );
 }
 
-/// Puts the epoch so many seconds behind midnight.
+/// Appends the epoch at a second after midnight.
 fn put_epoch(text: &mut Long, second: usize) {
     put(text, b"> 2024 02 04 00 ");
     put_two(text, second / 60, b'0');

@@ -9,8 +9,8 @@ use std::alloc::Global;
 use std::io::ErrorKind;
 use std::test::*;
 
-/// A file of two epochs, of both systems, with a signal on more lines than one, an indicator and
-/// values that aren't observed.
+/// A file of two epochs and both systems, with a signal on two lines, an indicator and blank
+/// values.
 static TWO_SYSTEMS: [&str; 22] = [
     "     3.05           OBSERVATION DATA    M                   RINEX VERSION / TYPE",
     "rtcm2rinex          us                  20240204 000001 UTC PGM / RUN BY / DATE ",
@@ -36,7 +36,7 @@ static TWO_SYSTEMS: [&str; 22] = [
     "G329999999999.999  -999999999.999",
 ];
 
-/// Where no station was told.
+/// The station values of a file without a station message.
 pub const NO_VALUES: StationValues = StationValues {
     x: 0,
     y: 0,
@@ -44,33 +44,33 @@ pub const NO_VALUES: StationValues = StationValues {
     height: 0,
 };
 
-/// What a file tells that was read.
+/// The content of a file that was read.
 #[derive(Clone, Copy, Debug, PartialEq)]
 pub struct Told {
     pub counts: Counts,
     pub values: StationValues,
-    /// How many signals of GPS and of Galileo are planned.
+    /// The numbers of planned signals of GPS and of Galileo.
     pub signals: (usize, usize),
-    /// Whether the marker's name is that of `TWO_SYSTEMS`.
+    /// Whether the marker is that of `TWO_SYSTEMS`.
     pub is_roof: bool,
-    /// The first place at which the bytes of the file are others than those that were read.
+    /// The first offset at which the bytes of the file differ from those that were read.
     pub difference: Option<usize>,
 }
 
-/// Reads bytes that come three at a time.
+/// Reads a file from bytes, three at a time.
 pub fn read(alloc: Global, text: &[u8]) -> Result<ObsFile, ReadFault> {
     let mut reader = Counted::new(PieceReader::new(text, &[3], ReadEnd::Ends));
     read_file(alloc, &mut reader)
 }
 
-/// Counts what lines hold whose bytes come three at a time.
+/// Checks the bytes of lines, three at a time.
 pub fn check(alloc: Global, lines: &[&[&str]]) -> Result<Counts, ReadFault> {
     let text = joined(lines);
     let mut reader = Counted::new(PieceReader::new(text.as_slice(), &[3], ReadEnd::Ends));
     check_file(alloc, &mut reader)
 }
 
-/// The first place at which the bytes of a file are others than these.
+/// The first offset at which the bytes of a file differ from these.
 fn written_otherwise(alloc: Global, file: &ObsFile, text: &[u8]) -> Option<usize> {
     match file_bytes(alloc, file) {
         Ok(bytes) => place_of_difference(bytes.as_slice(), text),
@@ -78,7 +78,7 @@ fn written_otherwise(alloc: Global, file: &ObsFile, text: &[u8]) -> Option<usize
     }
 }
 
-/// What a file tells that was read of these bytes.
+/// The content of a file that was read from these bytes.
 pub fn told_by(alloc: Global, file: &ObsFile, text: &[u8]) -> Told {
     Told {
         counts: Counts {
@@ -96,7 +96,7 @@ pub fn told_by(alloc: Global, file: &ObsFile, text: &[u8]) -> Told {
     }
 }
 
-/// What a file of these lines tells.
+/// The content of a file of these lines.
 pub fn told_of(alloc: Global, lines: &[&[&str]]) -> Result<Told, ReadFault> {
     let text = joined(lines);
     match read(alloc, text.as_slice()) {
@@ -105,15 +105,14 @@ pub fn told_of(alloc: Global, lines: &[&[&str]]) -> Result<Told, ReadFault> {
     }
 }
 
-/// The fault of a file with these lines, and then these bytes.
+/// The fault of a file with these lines, followed by these bytes.
 fn fault(alloc: Global, lines: &[&[&str]], rest: &[u8]) -> Option<ReadFault> {
     let mut text = joined(lines);
     let _ = text.try_extend_from_slice(rest);
     read(alloc, text.as_slice()).err()
 }
 
-/// The fault of reading where the reader fails behind these bytes, and how many failures were
-/// counted.
+/// The fault of reading if the reader fails after these bytes, and the number of failures counted.
 fn read_failing(alloc: Global, text: &[u8]) -> (Option<ReadFault>, u64) {
     let end = ReadEnd::Fails(ErrorKind::Other);
     let mut reader = Counted::new(PieceReader::new(text, &[7], end));
@@ -121,7 +120,7 @@ fn read_failing(alloc: Global, text: &[u8]) -> (Option<ReadFault>, u64) {
     (fault, reader.failures())
 }
 
-/// What checking answers there.
+/// The result of checking with such a reader.
 fn check_failing(alloc: Global, text: &[u8]) -> Result<Counts, ReadFault> {
     let end = ReadEnd::Fails(ErrorKind::Other);
     let mut reader = Counted::new(PieceReader::new(text, &[7], end));
@@ -190,7 +189,7 @@ fn fault_with(alloc: Global, place: usize, line: &str) -> Option<ReadFault> {
     read(alloc, with_line(place, line).as_slice()).err()
 }
 
-/// The first of these lines that has another fault in its place, and that fault.
+/// The first of these lines that has another fault, and that fault.
 fn refused_otherwise(
     alloc: Global,
     cases: &[(usize, &'static str, ReadFault)],
@@ -204,7 +203,7 @@ fn refused_otherwise(
     None
 }
 
-/// Lines in their places of the small file, each spelled otherwise there.
+/// Lines of the small file with their indices, each misspelled.
 static SPELLED_OTHERWISE: [(usize, &str, ReadFault); 11] = [
     (
         1,

@@ -1,4 +1,4 @@
-//! What is written of a gathered message, and where writing stops.
+//! The output of a gathered message, and the end of writing at a failure.
 use super::{ALL, EPOCH, HEADER, Outcome, Takes, Writer, joined, texts, writer, written_otherwise};
 use gnss_obs::{Sat, System};
 use obs_epoch::{Epoch, Gather, Gatherer, GpsTime, Plan};
@@ -23,7 +23,7 @@ static OBSERVED: Row = Row {
     line: "G05  20985472.060 7 110279400.000 7      -525.504          45.063",
 };
 
-/// What a message shows, with the line of its satellite.
+/// The values of a message, with the line of its satellite.
 struct Row {
     what: &'static str,
     message: &'static [u8],
@@ -124,13 +124,13 @@ static ROWS: [Row; 8] = [
     },
 ];
 
-/// What is written of a file.
+/// A part of a file that is written.
 #[derive(Clone, Copy)]
 enum Part {
     Header,
     Epoch,
     Both,
-    /// The line of the epoch and that of GPS 5, twice, each made in place of the one before.
+    /// The line of the epoch and that of GPS 5, twice, each replacing the one before in its buffer.
     Lines,
 }
 
@@ -178,19 +178,19 @@ fn send(gatherer: &Gatherer, part: Part, writer: &mut Writer) -> Result<(), Head
     }
 }
 
-/// What comes of writing a part of the file of what was gathered.
+/// The outcome of writing a part of the file of a gatherer.
 fn sent(gatherer: &Gatherer, part: Part, takes: Takes, wanted: &[&[&str]]) -> Outcome {
     let mut writer = writer(takes);
     let answer = send(gatherer, part, &mut writer);
     (answer, written_otherwise(writer, takes, wanted))
 }
 
-/// The same of what was gathered, which is let go.
+/// The same of a gatherer that is dropped.
 fn sent_of(gatherer: Gatherer, part: Part, takes: Takes, wanted: &[&[&str]]) -> Outcome {
     sent(&gatherer, part, takes, wanted)
 }
 
-/// What comes of writing a part of the file of a message of week 2300, the last of its epoch.
+/// The outcome of writing a part of the file of a message of week 2300, the last of its epoch.
 fn outcome_under(
     alloc: Global,
     plan: Plan,
@@ -208,7 +208,7 @@ fn outcome_under(
     }
 }
 
-/// What comes of writing a part of the file of a row's message.
+/// The outcome of writing a part of the file of the message of a row.
 fn outcome(
     alloc: Global,
     row: &Row,
@@ -258,7 +258,7 @@ fn lines_take_the_place_of_others(rt: HostRuntime) {
     );
 }
 
-/// What comes of writing to a writer that takes so many bytes in a write and in all.
+/// The outcome of writing to a writer that accepts these numbers of bytes in a write and in all.
 fn stopped(
     alloc: Global,
     part: Part,
