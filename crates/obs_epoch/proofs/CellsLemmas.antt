@@ -1,5 +1,5 @@
 -- The kept cells of a list that grows by one cell.
-use Rattle.std.proofs.Common.{◌≡◌, ℕ, zero, suc, ◌-◌, ◌<◌, ◌≤◌, Bool, true, false, not, ◌||◌, ◌&&◌, List, [], ◌∷◌, ◌++◌, refl, sym, ap, ◌∙◌, arith, take, length, filter, append_assoc, append-nil, nat_lt, nat_le, length-append}
+use Rattle.std.proofs.Common.{[], ◌≡◌, ℕ, ◌-◌, ◌<◌, ◌≤◌, Bool, true, false, not, ◌||◌, ◌&&◌, List, ◌∷◌, ◌++◌, refl, sym, ap, ◌∙◌, arith, take, length, filter, append_assoc, append-nil, nat_lt, nat_le, length-append}
 use Rattle.std.specs.Prelude.{if◌then◌else◌, cond}
 use Rattle.std.specs.Cmp.{IsEquivalence}
 use Rattle.std.proofs.lemmas.List.Folds.{list_any-append}
@@ -25,13 +25,6 @@ firsts_after-push earlier (x ∷ xs) y =
 -- one cell more is a first where no cell before has its key
 pub firsts-push : (xs : List HeardCell) (y : HeardCell) → firsts (xs ++ y ∷ []) ≡ firsts xs ++ new_key xs y
 firsts-push xs y = firsts_after-push [] xs y
-
-take_split : {X : Type 0} (n : ℕ) (a b : List X) → take n (a ++ b) ≡ take n a ++ take (n - length a) b
-take_split zero a b = ap (λ k. take k b) (let none : 0 ≡ 0 - length a = omega arith in none)
-take_split (suc n) [] b = ap (λ k. take k b) (let same : suc n ≡ suc n - 0 = omega arith in same)
-take_split (suc n) (x ∷ a) b =
-    ap (λ l. x ∷ l) (take_split n a b)
-    ∙ ap (λ k. (x ∷ take n a) ++ take k b) (let same : n - length a ≡ suc n - length (x ∷ a) = omega arith in same)
 
 -- ---- keys
 

@@ -1,5 +1,5 @@
 -- The cells of one more message, held one by one, are the kept cells of the longer list.
-use Rattle.std.proofs.Common.{◌≡◌, ℕ, suc, Bool, true, false, not, ◌||◌, ◌&&◌, List, [], ◌∷◌, ◌++◌, filter, refl, sym, ap, ap₂, ◌∙◌, arith, length, append_assoc, append-nil, Option, nat_le}
+use Rattle.std.proofs.Common.{[], ◌≡◌, ℕ, suc, Bool, true, false, not, ◌||◌, ◌&&◌, List, ◌∷◌, ◌++◌, filter, refl, sym, ap, ap₂, ◌∙◌, arith, length, append_assoc, append-nil, Option, nat_le}
 use Rattle.std.specs.Prelude.{if◌then◌else◌, cond}
 use Rattle.gnss_obs.specs.declared.system.System.{System}
 use Rattle.gnss_obs.specs.declared.system.System.TheVariants.{Gps, Galileo}
@@ -39,10 +39,6 @@ with_lli_by-insert planned f t (y ∷ xs) x = by (is_before (seat_of planned x) 
 with_lli_by-push : (planned : List ℕ) (f : HeardCell → Option KnownLock) (t : ℕ) (xs : List HeardCell) (x : HeardCell)
     → with_lli_by f t (sorted planned (xs ++ x ∷ [])) ≡ insert_by (cell_seat planned) (kept_cell x (lli_with t x (f x))) (with_lli_by f t (sorted planned xs))
 with_lli_by-push planned f t xs x = ap (with_lli_by f t) (sorted-push planned xs x) ∙ with_lli_by-insert planned f t (sorted planned xs) x
-
-pub with_lli_by-same : (f g : HeardCell → Option KnownLock) (t : ℕ) (xs : List HeardCell) → ((key : HeardCell) → f key ≡ g key) → with_lli_by f t xs ≡ with_lli_by g t xs
-with_lli_by-same f g t [] h = refl
-with_lli_by-same f g t (x ∷ xs) h = ap₂ (λ o l. (kept_cell x (lli_with t x o)) ∷ l) (h x) (with_lli_by-same f g t xs h)
 
 with_lli_by-length : (f : HeardCell → Option KnownLock) (t : ℕ) (xs : List HeardCell) → length (with_lli_by f t xs) ≡ length xs
 with_lli_by-length f t [] = refl

@@ -1,5 +1,5 @@
 -- The lock records: what they say after a closing, and how many they are.
-use Rattle.std.proofs.Common.{◌≡◌, ◌≢◌, ℕ, zero, suc, ◌+◌, ◌-◌, ◌*◌, ◌<◌, ◌≤◌, Bool, true, false, ◌||◌, ◌&&◌, List, [], ◌∷◌, ◌++◌, map, filter, refl, sym, ap, ap₂, ◌∙◌, subst, arith, length, append_assoc, append-nil, length-append, Option, Some, None, is_some, get_or, set, replicate, nat_lt, nat_le}
+use Rattle.std.proofs.Common.{[], ◌≡◌, ◌≢◌, ℕ, zero, suc, ◌+◌, ◌-◌, ◌*◌, ◌<◌, ◌≤◌, Bool, true, false, ◌||◌, ◌&&◌, List, ◌∷◌, ◌++◌, map, filter, refl, sym, ap, ap₂, ◌∙◌, subst, arith, length, append_assoc, append-nil, length-append, Option, Some, None, is_some, get_or, set, replicate, nat_lt, nat_le}
 use Rattle.std.specs.Prelude.{if◌then◌else◌, cond, find, option_and_then}
 use Rattle.std.specs.Option.{option_map_or, option_or}
 use Rattle.std.specs.List.{IsDistinct, AllByRecursion}
@@ -67,9 +67,6 @@ listed_at system id index = nat_lt 0 id && nat_le id (satellites system) && nat_
 
 from_listed : (system : System) (id index : ℕ) → listed_at system id index ≡ true → (0 < id) × (id ≤ satellites system) × (index < length (table system))
 from_listed system id index h = (grind (arith, h), grind (arith, h), grind (arith, h))
-
-to_listed : (system : System) (id index : ℕ) → 0 < id → id ≤ satellites system → index < length (table system) → listed_at system id index ≡ true
-to_listed system id index a b c = grind (arith, a, b, c)
 
 pub entry_below : (x : HeardCell) → has_listed_key x ≡ true → lock_place x < most_locks
 entry_below x h =

@@ -1,8 +1,8 @@
 //! Messages into epochs, with the indicators of lost lock.
-ghost use Rattle.std.specs.Prelude.{◌≡◌, ◌↔◌, ◌⊎◌, ◌<◌, ◌≤◌, [], true, false, length, None, Some, is_some, IfOk, IfErr, IfSome, MatchResult, IsOk, Err, option_map, option_to_list, not, List, Option, All};
+ghost use Rattle.std.specs.Prelude.{[], ◌≡◌, ◌↔◌, ◌⊎◌, ◌<◌, ◌≤◌, true, false, length, None, Some, is_some, IfOk, IfErr, IfSome, MatchResult, IsOk, Err, option_map, option_to_list, not, List, Option, All};
 ghost use Rattle.rtcm_msg.specs.Entries.{IsEntry};
-ghost use Rattle.rtcm_msg.specs.Msm.{most_pairs, week};
-ghost use Rattle.rtcm_msg.specs.Viewed.{viewed_message, lock_field, codes_of};
+ghost use Rattle.rtcm_msg.specs.Msm.{codes_of, most_pairs, week};
+ghost use Rattle.rtcm_msg.specs.Viewed.{viewed_message, lock_field};
 ghost use Rattle.obs_epoch.specs.Weeks.{weeks};
 ghost use Rattle.obs_epoch.specs.Clock.{HasHeardMessages};
 ghost use Rattle.obs_epoch.specs.Heard.{GatherSetup, Heard, heard, heard_summary, system_of};
@@ -14,7 +14,7 @@ ghost use Rattle.obs_epoch.specs.Held.{count_in, most_locks, no_locks, recorded}
 ghost use Rattle.obs_epoch.specs.Step.{answer_by, closed_by as closes};
 ghost use Rattle.obs_epoch.specs.Standing.{HasTakenMessages};
 ghost use Rattle.obs_epoch.specs.Values.{Closed, cells_of, most_cells, planned_of};
-ghost use Rattle.obs_epoch.specs.Kinds.{is_close_first, kind_by, is_no_station, setup_at, setup_of, IsUnfitSetup};
+ghost use Rattle.obs_epoch.specs.Kinds.{kind_by, is_no_station, setup_at, setup_of, IsUnfitSetup};
 ghost use Rattle.obs_epoch.specs.Gathering.{HasGatheredEpochs, closed_by, closed_in, plan_in};
 ghost use Rattle.obs_epoch.specs.Calls.{TakesMessage, EndsPendingEpoch, StaysEnded, HoldsCells, HoldsLockedKeys};
 ghost use Rattle.obs_epoch.specs.declared.fault.PlanFault.{PlanFault};

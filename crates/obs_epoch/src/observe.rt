@@ -1,7 +1,7 @@
 //! The cells of a message in thousandths, where their satellite and signal are listed.
 ghost use Rattle.std.specs.Prelude.{◌≡◌, ◌<◌, IfSome};
 ghost use Rattle.rtcm_msg.specs.Entries.{IsEntry};
-ghost use Rattle.rtcm_msg.specs.Viewed.{codes_of};
+ghost use Rattle.rtcm_msg.specs.Msm.{codes_of};
 ghost use Rattle.std.specs.Prelude.{option_and_then};
 ghost use Rattle.obs_epoch.specs.Heard.{seen_in, observed, lock_by, kept_cell, heard_of, IsObserved};
 ghost use Rattle.obs_epoch.specs.Gather.{planned_cell};

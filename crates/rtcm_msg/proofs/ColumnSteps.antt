@@ -1,23 +1,12 @@
 -- How far the numbers in columns reach.
-use Rattle.std.proofs.Common.{ℕ, zero, suc, subst, ◌≡◌, ◌+◌, ◌-◌, ◌*◌, ◌%◌, ◌^◌, ◌<◌, ◌≤◌, List, [], ◌∷◌, length, drop, get_or, Ok, refl, sym, ap, ◌∙◌, arith, add-one, add-zero, zero-add, add_assoc, replicate}
+use Rattle.std.proofs.Common.{[], ℕ, zero, suc, subst, ◌≡◌, ◌+◌, ◌-◌, ◌*◌, ◌^◌, ◌<◌, List, ◌∷◌, length, drop, get_or, Ok, refl, ap, arith, add-one, add-zero, zero-add, add_assoc, replicate}
 use Rattle.std.proofs.Math.Seq.{drop-cons}
-use Rattle.std.proofs.lemmas.Nat.{one_shl, pow-add, pow_pos}
+use Rattle.std.proofs.lemmas.Nat.{pow-add, pow_pos}
 use Rattle.rtcm_bits.specs.Reading.{Cursor}
 use Rattle.rtcm_msg.specs.Fields.{number_at}
 use Rattle.rtcm_msg.specs.Packed.{total_width}
 use Rattle.rtcm_msg.proofs.Binds.{bind_ok, ok_inj, number_took}
 use Rattle.rtcm_msg.specs.Columns.{column_at, columns_at, EachBelow}
-
--- room for one field more
-pub column_room : (w p n : ℕ) → w ≤ 64 → p < 2 ^ (128 - w) → n < 2 ^ w → p * ((1 * 2 ^ w) % 2 ^ 128) + n < 2 ^ 128
-column_room w p n few a b =
-    let shift : (1 * 2 ^ w) % 2 ^ 128 ≡ 2 ^ w = one_shl w 128 (omega arith) in
-    let sum : 128 - w + w ≡ 128 = omega arith in
-    let whole : 2 ^ 128 ≡ 2 ^ (128 - w) * 2 ^ w = ap (λ k. 2 ^ k) (sym sum) ∙ pow-add 2 (128 - w) w in
-    rw shift (rw whole (below p n (2 ^ (128 - w)) (2 ^ w) a b))
-  where
-    below : (p n q r : ℕ) → p < q → n < r → p * r + n < q * r
-    below p n q r a b = grind arith
 
 -- a field more in each
 column_below : (w a : ℕ) (ps : List ℕ) (c : Cursor) (x : List ℕ × Cursor) → column_at w ps c ≡ Ok x → EachBelow a ps → EachBelow (a + w) x.0

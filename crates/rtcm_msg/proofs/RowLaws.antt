@@ -1,10 +1,9 @@
 -- Data that are read where they lie are those that are read in order.
-use Rattle.std.proofs.Common.{ℕ, zero, suc, ◌≡◌, ◌+◌, ◌*◌, ◌-◌, ◌%◌, ◌^◌, ◌<◌, ◌≤◌, nat_lt, Bool, true, false, List, [], ◌∷◌, length, drop, get_or, Result, Ok, Err, refl, sym, ap, ◌∙◌, arith, add-one, replicate, inl, inr}
+use Rattle.std.proofs.Common.{[], ℕ, zero, suc, ◌≡◌, ◌+◌, ◌*◌, ◌-◌, ◌%◌, ◌^◌, ◌<◌, ◌≤◌, nat_lt, Bool, true, false, List, ◌∷◌, length, drop, get_or, Result, Ok, Err, refl, sym, ap, ◌∙◌, arith, add-one, replicate, inl, inr}
 use Rattle.std.proofs.Math.Seq.{drop-cons, drop-length}
 use Rattle.std.proofs.Math.Nat.{mod-eq_of_lt, add-mod_right}
 use Rattle.std.proofs.lemmas.Bool.{cases_lt}
 use Rattle.std.proofs.lemmas.List.{length-replicate, length-drop, get_or-replicate}
-use Rattle.std.proofs.lemmas.Nat.{one_shl, pow-add}
 use Rattle.rtcm_bits.specs.Reading.{Cursor}
 use Rattle.rtcm_msg.specs.declared.fault.MsgFault.{MsgFault}
 use Rattle.rtcm_msg.specs.declared.fault.MsgFault.TheVariants.{Short}
@@ -29,25 +28,6 @@ end_short k ws n len p h few = let less : nat_lt len (p + n * get_or ws k 0) ≡
 pub end_over : (k : ℕ) (ws : List ℕ) (n len p : ℕ) → k ≡ length ws → end_of_rows (drop k ws) n len p ≡ Ok p
 unfolding end_of_rows
 end_over k ws n len p h = rw (h, drop-length ws) refl
-
-pub row_step : (k : ℕ) (ws : List ℕ) (n : ℕ) (bits : List Bool) (p i m field : ℕ) → k < length ws → get_or ws k 0 ≤ 64 → field ≡ field_at bits (p + i * get_or ws k 0) (get_or ws k 0)
-    → row_at (drop k ws) n bits p i m ≡ row_at (drop (k + 1) ws) n bits (p + n * get_or ws k 0) i (m * ((1 * 2 ^ get_or ws k 0) % 2 ^ 128) + field)
-unfolding row_at
-row_step k ws n bits p i m field h few e = rw (add-one k, drop-cons ws k 0 h, one_shl (get_or ws k 0) 128 (omega arith), e) refl
-
-pub row_over : (k : ℕ) (ws : List ℕ) (n : ℕ) (bits : List Bool) (p i m : ℕ) → k ≡ length ws → row_at (drop k ws) n bits p i m ≡ m
-unfolding row_at
-row_over k ws n bits p i m h = rw (h, drop-length ws) refl
-
--- room for one field more
-pub row_room : (w t m field : ℕ) → w ≤ 64 → w + t ≤ 128 → m < 2 ^ (128 - (w + t)) → field < 2 ^ w → m * ((1 * 2 ^ w) % 2 ^ 128) + field < 2 ^ (128 - t)
-row_room w t m field few h a b =
-    let sum : 128 - (w + t) + w ≡ 128 - t = omega (arith, h) in
-    let whole : 2 ^ (128 - t) ≡ 2 ^ (128 - (w + t)) * 2 ^ w = ap (λ k. 2 ^ k) (sym sum) ∙ pow-add 2 (128 - (w + t)) w in
-    rw (one_shl w 128 (omega arith), whole) (below m field (2 ^ (128 - (w + t))) (2 ^ w) a b)
-  where
-    below : (p n q r : ℕ) → p < q → n < r → p * r + n < q * r
-    below p n q r a b = grind arith
 
 -- ---- one column
 

@@ -1,9 +1,11 @@
 -- The values of multiple signal messages.
-use Rattle.std.specs.Prelude.{◌≡◌, ℕ, ◌*◌, ◌^◌, ◌<◌, ◌≤◌, nat_lt, nat_le, if◌then◌else◌, Bool, List, [], ◌∷◌, ◌++◌, length, Result, Ok, Err, replicate, count_ones}
+use Rattle.std.specs.Prelude.{[], ◌≡◌, ℕ, ◌*◌, ◌^◌, ◌<◌, ◌≤◌, nat_lt, nat_le, if◌then◌else◌, Bool, List, ◌∷◌, ◌++◌, length, Result, Ok, Err, replicate, count_ones}
 use Rattle.rtcm_bits.specs.Reading.{Cursor}
 use Rattle.rtcm_msg.specs.declared.fault.MsgFault.{MsgFault}
 use Rattle.rtcm_msg.specs.declared.fault.MsgFault.TheVariants.{TooManyCells, BadTime}
 use Rattle.rtcm_msg.specs.declared.header.MsmHeader.{MsmHeader}
+use Rattle.rtcm_msg.specs.declared.entry.LockField.{LockField}
+use Rattle.rtcm_msg.specs.declared.entry.LockField.TheVariants.{Df402, Df407}
 use Rattle.rtcm_msg.specs.Fields.{spelled, reading, ◌>>=◌}
 use Rattle.rtcm_msg.specs.Layout.{Table, Uint, Flag, Reserved, Contents, fields_of, ◌▸◌, number_table}
 use Rattle.rtcm_msg.specs.Packed.{total_width, columns}
@@ -25,9 +27,10 @@ signal_mask_bits = 32
 abbrev pub most_pairs : ℕ
 most_pairs = 64
 
--- how many lock time indicators there are: DF407 of MSM7, DF402 of MSM4
-abbrev pub lock_codes : Bool → ℕ
-lock_codes is_msm7 = if is_msm7 then 1024 else 16
+-- the number of lock time indicators
+abbrev pub codes_of : LockField → ℕ
+codes_of Df402 = 16
+codes_of Df407 = 1024
 
 -- The satellites, the signals, and the pairs of one of each that have a cell. The highest bit of the
 -- first two is ID 1, and the highest of the last is the first pair.

@@ -24,11 +24,6 @@ abbrev pub lock_field : Form → LockField
 lock_field forms.Msm4 = Df402
 lock_field forms.Msm7 = Df407
 
--- the number of lock time indicators
-abbrev pub codes_of : LockField → ℕ
-codes_of Df402 = 16
-codes_of Df407 = 1024
-
 -- the data of a cell, by the form of its message
 abbrev pub entry_in : Form → MsmValue → Seat × ℕ → Entry
 entry_in forms.Msm4 v = entry4 v

@@ -1,19 +1,14 @@
-ghost use Rattle.std.specs.Prelude.{◌≡◌, ◌<◌, ◌≤◌, ◌^◌, length, slice_index, IfSome, unsigned_abs, map, All};
-ghost use Rattle.std.specs.List.{zip};
-ghost use Rattle.rtcm_msg.specs.Entries.{entry_by_grid, seats, IsEntry};
+ghost use Rattle.std.specs.Prelude.{◌≡◌, ◌<◌, ◌≤◌, ◌^◌, IfSome, unsigned_abs};
 
 use crate::grid::Grid;
-use crate::masks::MOST_PAIRS;
-use crate::msm::Msm;
-use crate::seats::{Seat, Seats};
-use arrayvec::ArrayVec;
+use crate::seats::Seat;
 
-/// What a cell says of its satellite and signal, as exact fractions in either precision.
+/// The data of a cell, as exact fractions in either precision.
 #[derive(Clone, Copy, Debug, PartialEq, Eq, Default)]
 pub struct Entry {
-    /// The satellite's ID, from 1 to 64, by the place of its bit in DF394.
+    /// The satellite's ID, from 1 to 64: the index of its bit in DF394, counted from 1.
     pub satellite: u8,
-    /// The signal's ID, from 1 to 32, by the place of its bit in DF395.
+    /// The signal's ID, from 1 to 32: the index of its bit in DF395, counted from 1.
     pub signal: u8,
     /// The pseudorange in 2^-31 ms: DF397 and DF398 with DF400 or DF405.
     pub range: Option<i64>,
@@ -38,7 +33,7 @@ pub enum LockField {
     Df407,
 }
 
-/// What a cell of this seat says, by its data and those of its satellite.
+/// Returns the entry of a cell from its data and those of its satellite.
 pub(crate) fn entry_of<G: Grid>(seat: Seat, satellite: &G::Satellite, cell: &G::Cell) -> Entry
     requires satellite { G.is_satellite satellite.now }
     requires cell { G.is_cell cell.now }
@@ -68,37 +63,4 @@ pub(crate) fn entry_of<G: Grid>(seat: Seat, satellite: &G::Satellite, cell: &G::
         lock: G::lock_code(cell),
         half_cycle: G::half_cycle(cell),
     }
-}
-
-impl<G: Grid> Msm<G> {
-    /// What cell `i` says, where the seat is that of this cell.
-    pub fn entry(&self, seat: Seat, i: usize) -> Entry
-        requires place { seat.place < length self.now.satellites }
-        requires cell { i < length self.now.cells }
-        ensures value { result ≡ entry_by_grid G.Grid self.now.satellites (seat, slice_index self.now.cells i) }
-        ensures range { IfSome result.range (λ r. unsigned_abs r ≤ 2 ^ 40) }
-        ensures phase { IfSome result.phase (λ r. unsigned_abs r ≤ 2 ^ 40) }
-        ensures rate { IfSome result.rate (λ r. unsigned_abs r ≤ 10 ^ 8) }
-        ensures strength { IfSome result.strength (λ s. s < 2 ^ 10) }
-        ensures lock { result.lock < G.lock_codes }
-    {
-        entry_of::<G>(seat, &self.satellite(seat.place), &self.cell(i))
-    }
-}
-
-/// What all cells say, in the order of the cell mask.
-pub fn entries<G: Grid>(msm: &Msm<G>) -> ArrayVec<Entry, MOST_PAIRS>
-    ensures cells { result.items ≡ map (entry_by_grid G.Grid msm.now.satellites) (zip (seats msm.now.sets) msm.now.cells) }
-    ensures bounds { All (IsEntry G.lock_codes) result.items }
-{
-    let mut walk = Seats::new(msm.masks());
-    let mut all = ArrayVec::new();
-    let _ = msm.satellites();
-    for i in 0..msm.cells() {
-        match walk.next() {
-            Some(seat) => all.push(msm.entry(seat, i)),
-            None => unreachable!(),
-        }
-    }
-    all
 }

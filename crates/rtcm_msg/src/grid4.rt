@@ -1,4 +1,4 @@
-ghost use Rattle.std.specs.Prelude.{◌≡◌, false, ◌^◌, nat_le, not, IfSome, negsuc, unsigned_abs, ◌≤◌};
+ghost use Rattle.std.specs.Prelude.{◌≡◌, ◌^◌, nat_le, not, IfSome, negsuc, unsigned_abs, ◌≤◌};
 ghost use Rattle.rtcm_msg.specs.Fractions.{scaled};
 ghost use Rattle.std.specs.List.{list_any};
 ghost use Rattle.rtcm_msg.specs.Ranges.{fits_int};
@@ -110,6 +110,7 @@ fn fine_phase(cell: &Cell4) -> Option<i64>
 impl Grid for Grid4 {
     ghost use Rattle.rtcm_msg.specs.Grid4 as grid4;
     ghost use Rattle.rtcm_msg.specs.Msm as msm;
+    ghost use Rattle.rtcm_msg.specs.declared.entry.LockField.TheVariants.{Df402};
 
     type Satellite = Satellite4;
 
@@ -179,7 +180,7 @@ impl Grid for Grid4 {
 
     ghost half_cycle_of = { λ c. c.half_cycle };
 
-    ghost lock_codes = { msm.lock_codes false };
+    ghost lock_codes = { msm.codes_of Df402 };
 
     fn range(satellite: &Satellite4, cell: &Cell4) -> Option<i64> {
         range_joined(satellite.whole, satellite.fraction, fine_range(cell))

@@ -1,4 +1,4 @@
-ghost use Rattle.std.specs.Prelude.{◌≡◌, true, ◌^◌, nat_le, not, IfSome, negsuc, unsigned_abs, ◌≤◌};
+ghost use Rattle.std.specs.Prelude.{◌≡◌, ◌^◌, nat_le, not, IfSome, negsuc, unsigned_abs, ◌≤◌};
 ghost use Rattle.rtcm_msg.specs.Fractions.{scaled};
 ghost use Rattle.std.specs.List.{list_any};
 ghost use Rattle.rtcm_msg.specs.Ranges.{fits_int};
@@ -134,6 +134,7 @@ fn fine_phase(cell: &Cell7) -> Option<i64>
 impl Grid for Grid7 {
     ghost use Rattle.rtcm_msg.specs.Grid7 as grid7;
     ghost use Rattle.rtcm_msg.specs.Msm as msm;
+    ghost use Rattle.rtcm_msg.specs.declared.entry.LockField.TheVariants.{Df407};
 
     type Satellite = Satellite7;
 
@@ -212,7 +213,7 @@ impl Grid for Grid7 {
 
     ghost half_cycle_of = { λ c. c.half_cycle };
 
-    ghost lock_codes = { msm.lock_codes true };
+    ghost lock_codes = { msm.codes_of Df407 };
 
     fn range(satellite: &Satellite7, cell: &Cell7) -> Option<i64> {
         range_joined(satellite.whole, satellite.fraction, fine_range(cell))

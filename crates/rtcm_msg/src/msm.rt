@@ -9,7 +9,7 @@ use crate::fault::ValueFault;
 use crate::grid::Grid;
 use crate::header::{MsmHeader, WEEK, header_fault};
 use crate::masks::{MOST_PAIRS, MOST_SATELLITES, Masks};
-use crate::view::{Form, MsmView};
+use crate::view::{Data, Form, MsmView};
 use crate::writing::{write_columns, write_header, write_masks};
 use arrayvec::ArrayVec;
 use rtcm_bits::BitWriter;
@@ -185,14 +185,18 @@ pub(crate) fn view_of<G: Grid>(msm: &Msm<G>, form: Form) -> MsmView<'_>
     requires cells { G.cell_widths ≡ views.cell_widths form }
     ensures { result ≡ record { form = form; msm = msm.now } }
 {
-    MsmView::packed(
+    MsmView {
         form,
-        msm.is_galileo,
-        msm.header,
-        msm.masks,
-        &msm.satellites,
-        &msm.cells,
-    )
+        is_galileo: msm.is_galileo,
+        header: msm.header,
+        masks: msm.masks,
+        satellites: msm.satellites.len(),
+        cells: msm.cells.len(),
+        rows: Data::Packed {
+            satellites: msm.satellites.as_slice(),
+            cells: msm.cells.as_slice(),
+        },
+    }
 }
 
 /// The message that is looked at, where its data are laid out as the grid has them.

@@ -1,11 +1,10 @@
-ghost use Rattle.std.specs.Prelude.{◌≡◌, ◌<◌, ◌≤◌, ◌^◌, length, IfSome, IfNone, ◌∷◌, [], count_ones, ℕ};
+ghost use Rattle.std.specs.Prelude.{[], ◌≡◌, ◌<◌, ◌≤◌, ◌^◌, length, IfSome, IfNone, ◌∷◌, count_ones, ℕ};
 ghost use Rattle.rtcm_bits.specs.Bits.{uint};
 ghost use Rattle.rtcm_msg.specs.Msm.{most_pairs};
 ghost use Rattle.rtcm_msg.specs.Entries.{ids, seats, chosen};
 ghost use Rattle.rtcm_msg.specs.Walks.{pairs_left, IsWalking, ArePlaced, SplitsCells};
 
-use crate::masks::{MOST_PAIRS, Masks, SATELLITE_MASK_BITS, SIGNAL_MASK_BITS};
-use arrayvec::ArrayVec;
+use crate::masks::{Masks, SATELLITE_MASK_BITS, SIGNAL_MASK_BITS};
 use std::marker::Model;
 
 /// The satellite and the signal of a cell.
@@ -160,20 +159,4 @@ impl Seats {
             None => None,
         }
     }
-}
-
-/// The seats of all cells in order.
-pub fn all_seats(masks: Masks) -> ArrayVec<Seat, MOST_PAIRS>
-    ensures { result.items ≡ seats masks }
-{
-    let count = masks.cells().count_ones();
-    let mut walk = Seats::new(masks);
-    let mut all = ArrayVec::new();
-    for _ in 0..count {
-        match walk.next() {
-            Some(seat) => all.push(seat),
-            None => unreachable!(),
-        }
-    }
-    all
 }

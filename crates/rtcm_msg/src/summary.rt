@@ -1,10 +1,9 @@
 ghost use Rattle.std.specs.Prelude.{◌≡◌, ◌<◌};
 ghost use Rattle.std.specs.Option.{ForSome};
 ghost use Rattle.rtcm_msg.specs.Msm.{week};
-ghost use Rattle.rtcm_msg.specs.Summaries.{summary, header_summary};
+ghost use Rattle.rtcm_msg.specs.Summaries.{summary};
 ghost use Rattle.rtcm_msg.specs.Viewed.{viewed_message};
 
-use crate::header::MsmHeader;
 use crate::station::StationParts;
 use crate::view::View;
 
@@ -21,51 +20,36 @@ pub struct Summary {
     pub point: Option<StationParts>,
 }
 
-impl MsmHeader {
-    /// The summary of a message with this header.
-    fn summary(&self) -> Summary
-        ensures { result ≡ header_summary self.now }
-    {
-        Summary {
-            station: Some(self.station),
-            time: Some(self.time),
-            more: Some(self.more),
-            point: None,
-        }
-    }
-}
-
 impl<'a> View<'a> {
-    /// What the message contains beside the data of satellites and cells.
+    /// Returns what the message contains beside the data of satellites and cells.
     pub fn summary(&self) -> Summary
         ensures value { result ≡ summary (viewed_message self.now) }
         ensures time { ForSome result.time (λ time. time < week) }
     {
-        match self {
+        let (station, time, more, point) = match self {
             View::Station(station) => {
                 let parts = station.parts();
-                Summary {
-                    station: Some(parts.station),
-                    time: None,
-                    more: None,
-                    point: Some(parts),
-                }
+                (Some(parts.station), None, None, Some(parts))
             }
-            View::Msm(msm) => msm.header().summary(),
+            View::Msm(msm) => {
+                let header = msm.header();
+                (
+                    Some(header.station),
+                    Some(header.time),
+                    Some(header.more),
+                    None,
+                )
+            }
             View::Other { number: _, set } => match set {
-                None => Summary {
-                    station: None,
-                    time: None,
-                    more: None,
-                    point: None,
-                },
-                Some(set) => Summary {
-                    station: Some(set.0),
-                    time: None,
-                    more: Some(set.1),
-                    point: None,
-                },
+                None => (None, None, None, None),
+                Some(set) => (Some(set.0), None, Some(set.1), None),
             },
+        };
+        Summary {
+            station,
+            time,
+            more,
+            point,
         }
     }
 }

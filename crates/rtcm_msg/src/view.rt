@@ -1,11 +1,11 @@
-ghost use Rattle.std.specs.Prelude.{◌≡◌, ◌*◌, ◌<◌, ◌≤◌, ◌^◌, [], ◌∷◌, All, IfOk, IfSome, IfNone, length, slice_index, count_ones};
+ghost use Rattle.std.specs.Prelude.{[], ◌≡◌, ◌*◌, ◌<◌, ◌≤◌, ◌^◌, ◌∷◌, All, IfOk, IfSome, IfNone, length, slice_index, count_ones};
 ghost use Rattle.rtcm_bits.specs.Bits.{bits_of};
 ghost use Rattle.rtcm_bits.specs.FrameOf.{longest_message};
 ghost use Rattle.rtcm_msg.specs.Fields.{GivesViewed, standing};
-ghost use Rattle.rtcm_msg.specs.Msm.{IsHeader, IsValue, satellite_mask_bits, most_pairs, msm_of_parts};
+ghost use Rattle.rtcm_msg.specs.Msm.{codes_of, IsHeader, IsValue, satellite_mask_bits, most_pairs};
 ghost use Rattle.rtcm_msg.specs.Packed.{total_width};
 ghost use Rattle.rtcm_msg.specs.Reading.{message_at, body_at};
-ghost use Rattle.rtcm_msg.specs.Viewed.{viewed_message, entry_in, lock_field, codes_of};
+ghost use Rattle.rtcm_msg.specs.Viewed.{viewed_message, entry_in, lock_field};
 ghost use Rattle.rtcm_msg.specs.Entries.{IsEntry, entries};
 ghost use Rattle.rtcm_msg.specs.Spelling.{IsMessage};
 ghost use Rattle.rtcm_msg.specs.Views as views;
@@ -17,13 +17,12 @@ use crate::grid::Grid;
 use crate::grid4::Grid4;
 use crate::grid7::Grid7;
 use crate::header::{MsmHeader, read_header};
-use crate::masks::{MOST_PAIRS, MOST_SATELLITES, Masks, read_masks};
+use crate::masks::{Masks, read_masks};
 use crate::message::{Message, front, is_any_msm, read_set};
 use crate::msm::msm_of;
 use crate::rows::end_of_rows;
 use crate::seats::{Seat, Seats};
 use crate::station::{Station, read_station};
-use arrayvec::ArrayVec;
 use rtcm_bits::BitReader;
 use std::marker::Model;
 
@@ -85,7 +84,7 @@ impl Form {
 
 /// Where the data of a message's satellites and cells are.
 #[derive(Clone, Copy)]
-enum Data<'a> {
+pub(crate) enum Data<'a> {
     /// In the bytes of a message: those of the satellites and those of the cells from a bit on.
     Bits {
         bytes: &'a [u8],
@@ -103,13 +102,13 @@ enum Data<'a> {
 /// cells are there, but are read one by one.
 #[derive(Drop)]
 pub struct MsmView<'a> {
-    form: Form,
-    is_galileo: bool,
-    header: MsmHeader,
-    masks: Masks,
-    satellites: usize,
-    cells: usize,
-    rows: Data<'a>,
+    pub(crate) form: Form,
+    pub(crate) is_galileo: bool,
+    pub(crate) header: MsmHeader,
+    pub(crate) masks: Masks,
+    pub(crate) satellites: usize,
+    pub(crate) cells: usize,
+    pub(crate) rows: Data<'a>,
 }
 
 impl<'a> Model for MsmView<'a> {
@@ -141,32 +140,6 @@ impl<'a> Model for MsmView<'a> {
 }
 
 impl<'a> MsmView<'a> {
-    /// A message of these parts, each satellite's and each cell's fields in one number.
-    pub(crate) fn packed(
-        form: Form,
-        is_galileo: bool,
-        header: MsmHeader,
-        masks: Masks,
-        satellites: &'a ArrayVec<u64, MOST_SATELLITES>,
-        cells: &'a ArrayVec<u128, MOST_PAIRS>,
-    ) -> MsmView<'a>
-        requires { IsValue (views.satellite_widths form) (views.cell_widths form) (msm_of_parts is_galileo header masks satellites.now.items cells.now.items) }
-        ensures { result ≡ record { form = form; msm = msm_of_parts is_galileo header masks satellites.now.items cells.now.items } }
-    {
-        MsmView {
-            form,
-            is_galileo,
-            header,
-            masks,
-            satellites: satellites.len(),
-            cells: cells.len(),
-            rows: Data::Packed {
-                satellites: satellites.as_slice(),
-                cells: cells.as_slice(),
-            },
-        }
-    }
-
     /// How its data are laid out.
     pub fn form(&self) -> Form
         ensures form { result ≡ self.now.form }

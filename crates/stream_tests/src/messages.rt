@@ -5,7 +5,7 @@ ghost use Rattle.std.specs.Prelude.{◌≤◌};
 use arrayvec::ArrayVec;
 use rtcm_msg::{
     Cell7, Entry, Field, Form, Grid7, Message, MsgFault, Msm, MsmHeader, Satellite7, StationParts,
-    ValueFault, View, decode, encode, entries, look,
+    ValueFault, View, decode, encode, look,
 };
 use std::alloc::{AllocError, Global};
 use std::test::*;
@@ -262,17 +262,12 @@ fn heads_are_read(rt: HostRuntime) {
 
 /// The number of a multiple signal message, and its first cell.
 fn first_entry(sent: &Sent) -> Option<(u16, Entry)> {
-    match decode(&sent.bytes()[..sent.size()]) {
-        Ok(Message::Msm4(msm)) => told(msm.number(), entries(&msm).as_slice()),
-        Ok(Message::Msm7(msm)) => told(msm.number(), entries(&msm).as_slice()),
+    match look(&sent.bytes()[..sent.size()]) {
+        Ok(View::Msm(msm)) => match msm.entries().next() {
+            Some(entry) => Some((msm.number(), entry)),
+            None => None,
+        },
         _ => None,
-    }
-}
-
-fn told(number: u16, entries: &[Entry]) -> Option<(u16, Entry)> {
-    match entries.first() {
-        Some(entry) => Some((number, *entry)),
-        None => None,
     }
 }
 

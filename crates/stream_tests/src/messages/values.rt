@@ -1,8 +1,8 @@
 use super::{CELL, FINE, HEADER, SATELLITE, STATION_PARTS, is_written_back};
 use arrayvec::ArrayVec;
 use rtcm_msg::{
-    Cell4, Cell7, Entry, Field, Grid, Grid4, Grid7, Masks, Message, Msm, MsmHeader, Satellite4,
-    Satellite7, Seat, Station, StationParts, ValueFault, all_seats, decode, encode, entries,
+    Cell4, Cell7, Entries, Field, Grid, Grid4, Grid7, Masks, Message, Msm, MsmHeader, Satellite4,
+    Satellite7, Station, StationParts, ValueFault, View, encode, look,
 };
 use std::test::*;
 
@@ -148,45 +148,32 @@ fn values_are_written(rt: HostRuntime) {
     assert!(rt; is_known() && largest() == (958, true));
 }
 
-/// Whether the cells of a message 1077 that is read are of these seats.
-fn has_seats(bytes: &[u8], seats: &[Seat]) -> bool {
-    match decode(bytes) {
-        Ok(Message::Msm7(msm)) => {
-            all_seats(msm.masks()).as_slice() == seats && are_of(entries(&msm).as_slice(), seats)
-        }
+/// Whether the cells of a message 1077 that is read are of these satellites and signals.
+fn has_cells(bytes: &[u8], cells: &[(u8, u8)]) -> bool {
+    match look(bytes) {
+        Ok(View::Msm(msm)) => msm.number() == 1077 && are_of(&mut msm.entries(), cells),
         _ => false,
     }
 }
 
-fn are_of(entries: &[Entry], seats: &[Seat]) -> bool {
-    for (entry, seat) in entries.iter().zip(seats) {
-        if (entry.satellite, entry.signal) != (seat.satellite, seat.signal) {
-            return false;
+fn are_of(entries: &mut Entries<'_>, cells: &[(u8, u8)]) -> bool {
+    for cell in cells {
+        match entries.next() {
+            Some(entry) => {
+                if (entry.satellite, entry.signal) != *cell {
+                    return false;
+                }
+            }
+            None => return false,
         }
     }
-    entries.len() == seats.len()
+    entries.next().is_none()
 }
 
 /// Satellites 1 and 64, signals 2 and 32: the first with 32, the second with both.
-static SEATS: [Seat; 3] = [
-    Seat {
-        place: 0,
-        satellite: 1,
-        signal: 32,
-    },
-    Seat {
-        place: 1,
-        satellite: 64,
-        signal: 2,
-    },
-    Seat {
-        place: 1,
-        satellite: 64,
-        signal: 32,
-    },
-];
+static CELLS: [(u8, u8); 3] = [(1, 32), (64, 2), (64, 32)];
 
-fn stand_in_order() -> bool {
+fn are_in_order() -> bool {
     let mut bytes = ArrayVec::new();
     write(
         (1 << 63 | 1, 1 << 30 | 1, 0b0111),
@@ -194,10 +181,10 @@ fn stand_in_order() -> bool {
         &[CELL; 3],
         &mut bytes,
     );
-    has_seats(bytes.as_slice(), &SEATS)
+    has_cells(bytes.as_slice(), &CELLS)
 }
 
 #[test]
-fn cells_stand_in_order(rt: HostRuntime) {
-    assert!(rt; stand_in_order());
+fn cells_are_in_order(rt: HostRuntime) {
+    assert!(rt; are_in_order());
 }
