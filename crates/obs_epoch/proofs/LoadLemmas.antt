@@ -14,7 +14,7 @@ use Rattle.obs_epoch.specs.Order.{insert_by, is_before, seat_of, sorted, cell_se
 use Rattle.obs_epoch.proofs.CellsLemmas.{kept-add}
 use Rattle.obs_epoch.proofs.OrderLemmas.{sorted-push, among-sorted, length-sorted}
 use Rattle.obs_epoch.specs.declared.cell.Cell.{Cell}
-use Rattle.obs_epoch.specs.declared.lli.KnownLock.{KnownLock}
+use Rattle.obs_epoch.specs.declared.locks.KnownLock.{KnownLock}
 use Rattle.obs_epoch.specs.declared.taken.CellCounts.{CellCounts}
 use Rattle.obs_epoch.specs.declared.taken.Fate.{Fate}
 

@@ -16,8 +16,8 @@ use Rattle.gnss_obs.specs.Signals.{table}
 use Rattle.obs_epoch.specs.Loss.{lock_of, is_locked}
 use Rattle.obs_epoch.specs.Held.{lookup, put, note, note_all, lock_place_in, lock_place, most_locks, no_locks, recorded, one_if_new, TracksLocks}
 use Rattle.obs_epoch.proofs.CellsLemmas.{same_key_laws, firsts-push, new_key, among-push}
-use Rattle.obs_epoch.specs.Heard.{HeardCell, IsKey, heard_of}
-use Rattle.obs_epoch.specs.declared.lli.KnownLock.{KnownLock}
+use Rattle.obs_epoch.specs.Heard.{HeardCell, IsKey, heard_cell}
+use Rattle.obs_epoch.specs.declared.locks.KnownLock.{KnownLock}
 use Rattle.obs_epoch.specs.declared.cell.Cell.{Cell}
 
 -- ---- keys and their entries
@@ -161,7 +161,7 @@ note_size t ts x = by (lock_of t x) where
 
 pub note_all_size : (t : ℕ) (ts : List (Option KnownLock)) (ms : List Cell) → length (note_all t ts ms) ≡ length ts
 note_all_size t ts [] = refl
-note_all_size t ts (m ∷ ms) = note_all_size t (note t ts (heard_of m)) ms ∙ note_size t ts (heard_of m)
+note_all_size t ts (m ∷ ms) = note_all_size t (note t ts (heard_cell m)) ms ∙ note_size t ts (heard_cell m)
 
 abbrev pub AllListed : List HeardCell → Type 0
 AllListed xs = AllByRecursion (λ x. has_listed_key x ≡ true) xs
@@ -169,7 +169,7 @@ AllListed xs = AllByRecursion (λ x. has_listed_key x ≡ true) xs
 -- ---- after all cells of an epoch
 
 abbrev pub seens : List Cell → List HeardCell
-seens ms = map (λ (m : Cell). (heard_of m)) ms
+seens ms = map (λ (m : Cell). (heard_cell m)) ms
 
 pub find_none : (key : HeardCell) (xs : List HeardCell) → is_among xs key ≡ false → find (has_same_key key) xs ≡ None
 find_none key [] h = refl
@@ -188,16 +188,16 @@ pub lookup-note_all : (t : ℕ) (ts : List (Option KnownLock)) (ms : List Cell) 
     → lookup (note_all t ts ms) key ≡ option_or (option_and_then (lock_of t) (find (has_same_key key) (seens ms))) (lookup ts key)
 lookup-note_all t ts [] key d k size = refl
 lookup-note_all t ts (m ∷ ms) key d k size =
-    lookup-note_all t (note t ts (heard_of m)) ms key (IsDistinct-tail has_same_key (heard_of m) (seens ms) d) k.1 (note_size t ts (heard_of m) ∙ size)
-    ∙ ap (λ o. option_or (option_and_then (lock_of t) (find (has_same_key key) (seens ms))) o) (lookup-note t ts (heard_of m) key k.0 size)
-    ∙ by (has_same_key key (heard_of m)) refl where
-      by : (b : Bool) → has_same_key key (heard_of m) ≡ b
-          → option_or (option_and_then (lock_of t) (find (has_same_key key) (seens ms))) (option_or (if b then lock_of t (heard_of m) else None) (lookup ts key))
-          ≡ option_or (option_and_then (lock_of t) (if b then Some (heard_of m) else find (has_same_key key) (seens ms))) (lookup ts key)
+    lookup-note_all t (note t ts (heard_cell m)) ms key (IsDistinct-tail has_same_key (heard_cell m) (seens ms) d) k.1 (note_size t ts (heard_cell m) ∙ size)
+    ∙ ap (λ o. option_or (option_and_then (lock_of t) (find (has_same_key key) (seens ms))) o) (lookup-note t ts (heard_cell m) key k.0 size)
+    ∙ by (has_same_key key (heard_cell m)) refl where
+      by : (b : Bool) → has_same_key key (heard_cell m) ≡ b
+          → option_or (option_and_then (lock_of t) (find (has_same_key key) (seens ms))) (option_or (if b then lock_of t (heard_cell m) else None) (lookup ts key))
+          ≡ option_or (option_and_then (lock_of t) (if b then Some (heard_cell m) else find (has_same_key key) (seens ms))) (lookup ts key)
       by true e =
           let none : find (has_same_key key) (seens ms) ≡ None =
-          find_none key (seens ms) (list_any_congr same_key_laws key (heard_of m) (seens ms) e ∙ head_apart (heard_of m) (seens ms) d) in
-          ap (λ o. option_or (option_and_then (lock_of t) o) (option_or (lock_of t (heard_of m)) (lookup ts key))) none
+          find_none key (seens ms) (list_any_congr same_key_laws key (heard_cell m) (seens ms) e ∙ head_apart (heard_cell m) (seens ms) d) in
+          ap (λ o. option_or (option_and_then (lock_of t) o) (option_or (lock_of t (heard_cell m)) (lookup ts key))) none
       by false e = refl
 
 -- ---- how many they are: as many as there are keys among the locked cells noted
@@ -254,9 +254,9 @@ tracks_note t rs noted x k h = by (lock_of t x) (is_some_lock t x) where
 pub tracks_all : (t : ℕ) (rs : List (Option KnownLock)) (noted : List HeardCell) (ms : List Cell) → AllListed (seens ms) → TracksLocks rs noted → TracksLocks (note_all t rs ms) (noted ++ locked (seens ms))
 tracks_all t rs noted [] k h = subst (TracksLocks rs) (sym (append-nil noted)) h
 tracks_all t rs noted (m ∷ ms) k h =
-    subst (TracksLocks (note_all t (note t rs (heard_of m)) ms))
-    (append_assoc noted (locked ((heard_of m) ∷ [])) (locked (seens ms)) ∙ ap (λ l. noted ++ l) (sym (filter-append is_locked ((heard_of m) ∷ []) (seens ms))))
-    (tracks_all t (note t rs (heard_of m)) (noted ++ locked ((heard_of m) ∷ [])) ms k.1 (tracks_note t rs noted (heard_of m) k.0 h))
+    subst (TracksLocks (note_all t (note t rs (heard_cell m)) ms))
+    (append_assoc noted (locked ((heard_cell m) ∷ [])) (locked (seens ms)) ∙ ap (λ l. noted ++ l) (sym (filter-append is_locked ((heard_cell m) ∷ []) (seens ms))))
+    (tracks_all t (note t rs (heard_cell m)) (noted ++ locked ((heard_cell m) ∷ [])) ms k.1 (tracks_note t rs noted (heard_cell m) k.0 h))
 
 -- ---- no records
 

@@ -21,7 +21,7 @@ use Rattle.obs_epoch.specs.Standing.{locked_in, Locked}
 use Rattle.obs_epoch.proofs.CellsLemmas.{kept-add, same_key_laws, among-push, key_system}
 use Rattle.obs_epoch.proofs.LockLemmas.{seens, lookup-note_all, note_all_size, tracks_all, locked, find_none, AllListed}
 use Rattle.obs_epoch.specs.declared.cell.Cell.{Cell}
-use Rattle.obs_epoch.specs.declared.lli.KnownLock.{KnownLock}
+use Rattle.obs_epoch.specs.declared.locks.KnownLock.{KnownLock}
 
 -- ---- the kept cells have different keys, all of one system
 

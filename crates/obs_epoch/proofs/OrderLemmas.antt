@@ -4,7 +4,7 @@ use Rattle.std.specs.Prelude.{if◌then◌else◌, fold}
 use Rattle.std.proofs.lemmas.List.{get_or-map, length-map}
 use Rattle.std.specs.List.{list_any, AllByRecursion, IsDistinct}
 use Rattle.std.proofs.lemmas.Map.Keys.{IsDistinct-head, IsDistinct-tail, IsDistinct-cons}
-use Rattle.obs_epoch.specs.declared.order.Seat.{Seat}
+use Rattle.obs_epoch.specs.declared.epoch.Seat.{Seat}
 use Rattle.obs_epoch.specs.Cells.{has_same_key, is_among}
 use Rattle.obs_epoch.proofs.CellsLemmas.{same_key_laws}
 use Rattle.gnss_obs.specs.declared.system.System.{System}

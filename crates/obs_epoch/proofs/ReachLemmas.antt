@@ -33,7 +33,7 @@ use Rattle.obs_epoch.specs.Gathering.{open_after, before_closing, closed_list_at
 use Rattle.obs_epoch.specs.Reach.{IsStrength, IsHeardCell, IsHeard, IsGathered, same_place, AreGathered, AreToldValues, IsGatheredEpoch, TimesRise, AreGatheredEpochs}
 use Rattle.obs_epoch.proofs.OrderLemmas.{all-sorted, distinct-sorted}
 use Rattle.obs_epoch.proofs.NotingLemmas.{kept_distinct}
-use Rattle.obs_epoch.specs.declared.lli.KnownLock.{KnownLock}
+use Rattle.obs_epoch.specs.declared.locks.KnownLock.{KnownLock}
 
 -- ---- what holds of each
 

@@ -7,12 +7,12 @@ use Rattle.std.proofs.lemmas.List.Quantifiers.{position-Some}
 use Rattle.gnss_obs.specs.declared.system.System.{System}
 use Rattle.gnss_obs.specs.declared.system.System.TheVariants.{Gps, Galileo}
 use Rattle.obs_epoch.specs.declared.cell.Cell.{Cell}
-use Rattle.obs_epoch.specs.declared.order.Seat.{Seat}
+use Rattle.obs_epoch.specs.declared.epoch.Seat.{Seat}
 use Rattle.obs_epoch.specs.Values.{EpochValue, PlanValue, planned_of, cells_of, most_cells, AreHeld, IsHeld}
 use Rattle.obs_epoch.specs.Plans.{place_in}
 use Rattle.gnss_obs.specs.Signals.{table}
 use Rattle.obs_epoch.specs.Cells.{has_same_key, same_key, has_listed_key, is_planned}
-use Rattle.obs_epoch.specs.Heard.{IsKey, IsObserved, GatherSetup, Heard, HeardCell, kept_cell, heard_of}
+use Rattle.obs_epoch.specs.Heard.{IsKey, IsObserved, GatherSetup, Heard, HeardCell, kept_cell, heard_cell}
 use Rattle.obs_epoch.specs.Order.{is_before, SeatsRise, insert_by, spot, seat_of, cell_seat, AreOrderedBy, AreSorted}
 use Rattle.obs_epoch.specs.Held.{is_held, lookup}
 use Rattle.obs_epoch.specs.Gather.{Gathered, with_more_in, more_at, with_more, spot_in, AreInPlanOrder, AreInOrder, fate_in, hold, hold_by}
@@ -154,51 +154,51 @@ others : (system : System) (planned : List ℕ) (x : HeardCell) (ms : List Cell)
     → AllByRecursion (λ (m : Cell). (m.satellite.system ≡ system) × (is_some (place_in m.signal planned) ≡ true)) ms → is_held ms x ≡ false
     → AllByRecursion (λ (m : Cell). seat_of planned x ≡ cell_seat planned m → ⊥) ms
 others system planned x [] a h all none = tt
-others system planned x (m ∷ ms) a h all none = by (has_same_key x (heard_of m)) refl (others system planned x ms a h all.1) where
-  by : (b : Bool) → has_same_key x (heard_of m) ≡ b → (is_held ms x ≡ false → AllByRecursion (λ (n : Cell). seat_of planned x ≡ cell_seat planned n → ⊥) ms)
+others system planned x (m ∷ ms) a h all none = by (has_same_key x (heard_cell m)) refl (others system planned x ms a h all.1) where
+  by : (b : Bool) → has_same_key x (heard_cell m) ≡ b → (is_held ms x ≡ false → AllByRecursion (λ (n : Cell). seat_of planned x ≡ cell_seat planned n → ⊥) ms)
       → AllByRecursion (λ (n : Cell). seat_of planned x ≡ cell_seat planned n → ⊥) (m ∷ ms)
   by true e more = absurd (grind (arith, e, none))
-  by false e more = (other_seat system planned x (heard_of m) a all.0.0 h all.0.1 e, more (ap (λ b. b || is_held ms x) (sym e) ∙ none))
+  by false e more = (other_seat system planned x (heard_cell m) a all.0.0 h all.0.1 e, more (ap (λ b. b || is_held ms x) (sym e) ∙ none))
 
 stand_more : (system : System) (planned : List ℕ) (m : Cell) (ms : List Cell) → m.satellite.system ≡ system → is_some (place_in m.signal planned) ≡ true
-    → AreInPlanOrder system planned ms → is_held ms (heard_of m) ≡ false → AreInPlanOrder system planned (insert_by (cell_seat planned) m ms)
+    → AreInPlanOrder system planned ms → is_held ms (heard_cell m) ≡ false → AreInPlanOrder system planned (insert_by (cell_seat planned) m ms)
 stand_more system planned m ms a h s none = record {
   each = all-insert_by (λ (n : Cell). (n.satellite.system ≡ system) × (is_some (place_in n.signal planned) ≡ true)) (cell_seat planned) m ms (a, h) s.each;
-  rise = rise-insert_by (cell_seat planned) m ms s.rise (others system planned (heard_of m) ms a h s.each none);
+  rise = rise-insert_by (cell_seat planned) m ms s.rise (others system planned (heard_cell m) ms a h s.each none);
 }
 
 -- the epoch with one cell more stands in order
 pub order_more : (p : PlanValue) (e : EpochValue) (m : Cell) → is_some (place_in m.signal (planned_of m.satellite.system p)) ≡ true → AreInOrder p e
-    → is_held (cells_of m.satellite.system e) (heard_of m) ≡ false → AreInOrder p (with_more p e m)
+    → is_held (cells_of m.satellite.system e) (heard_cell m) ≡ false → AreInOrder p (with_more p e m)
 order_more p e m h o none = by m.satellite.system refl where
   by : (system : System) → m.satellite.system ≡ system → AreInOrder p (with_more_in m.satellite.system p e m)
   by Gps f = subst (λ s. AreInOrder p (with_more_in s p e m)) (sym f) (record {
-    gps = stand_more Gps p.gps m e.gps f (ap (λ s. is_some (place_in m.signal (planned_of s p))) (sym f) ∙ h) o.gps (ap (λ s. is_held (cells_of s e) (heard_of m)) (sym f) ∙ none);
+    gps = stand_more Gps p.gps m e.gps f (ap (λ s. is_some (place_in m.signal (planned_of s p))) (sym f) ∙ h) o.gps (ap (λ s. is_held (cells_of s e) (heard_cell m)) (sym f) ∙ none);
     galileo = o.galileo;
   })
   by Galileo f = subst (λ s. AreInOrder p (with_more_in s p e m)) (sym f) (record {
     gps = o.gps;
-    galileo = stand_more Galileo p.galileo m e.galileo f (ap (λ s. is_some (place_in m.signal (planned_of s p))) (sym f) ∙ h) o.galileo (ap (λ s. is_held (cells_of s e) (heard_of m)) (sym f) ∙ none);
+    galileo = stand_more Galileo p.galileo m e.galileo f (ap (λ s. is_some (place_in m.signal (planned_of s p))) (sym f) ∙ h) o.galileo (ap (λ s. is_held (cells_of s e) (heard_cell m)) (sym f) ∙ none);
   })
 
 -- it comes to its spot
-pub more_is : (p : PlanValue) (e : EpochValue) (m : Cell) → more_at m.satellite.system (spot_in p e (heard_of m)) e m ≡ with_more p e m
+pub more_is : (p : PlanValue) (e : EpochValue) (m : Cell) → more_at m.satellite.system (spot_in p e (heard_cell m)) e m ≡ with_more p e m
 more_is p e m = by m.satellite.system where
-  by : (system : System) → more_at system (spot (seat_of (planned_of system p) (heard_of m)) (map (cell_seat (planned_of system p)) (cells_of system e))) e m ≡ with_more_in system p e m
+  by : (system : System) → more_at system (spot (seat_of (planned_of system p) (heard_cell m)) (map (cell_seat (planned_of system p)) (cells_of system e))) e m ≡ with_more_in system p e m
   by Gps = ap (λ l. record e { gps = l }) (insert_spot (cell_seat p.gps) m e.gps)
   by Galileo = ap (λ l. record e { galileo = l }) (insert_spot (cell_seat p.galileo) m e.galileo)
 
 pub sorted_more : (p : PlanValue) (e : EpochValue) (m : Cell) → AreInOrder p (with_more p e m)
-    → AreSorted (insert (cells_of m.satellite.system e) (spot_in p e (heard_of m)) m)
+    → AreSorted (insert (cells_of m.satellite.system e) (spot_in p e (heard_cell m)) m)
 sorted_more p e m o = by m.satellite.system o where
   by : (system : System) → AreInOrder p (with_more_in system p e m)
-      → AreSorted (insert (cells_of system e) (spot (seat_of (planned_of system p) (heard_of m)) (map (cell_seat (planned_of system p)) (cells_of system e))) m)
+      → AreSorted (insert (cells_of system e) (spot (seat_of (planned_of system p) (heard_cell m)) (map (cell_seat (planned_of system p)) (cells_of system e))) m)
   by Gps o = (p.gps, subst (AreOrderedBy p.gps) (sym (insert_spot (cell_seat p.gps) m e.gps)) o.gps.rise)
   by Galileo o = (p.galileo, subst (AreOrderedBy p.galileo) (sym (insert_spot (cell_seat p.galileo) m e.galileo)) o.galileo.rise)
 
 -- one cell more may be held
 pub held_more : (system : System) (cells : List Cell) (at : ℕ) (x : Cell) → AreHeld system cells → at ≤ length cells → length cells < most_cells → x.satellite.system ≡ system
-    → IsObserved (heard_of x) → x.lli < 4 → AreHeld system (insert cells at x)
+    → IsObserved (heard_cell x) → x.lli < 4 → AreHeld system (insert cells at x)
 held_more system cells at x held within room is observed low =
     let one : IsHeld system x = record {
       satellite = is;

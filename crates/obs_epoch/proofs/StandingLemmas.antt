@@ -23,7 +23,7 @@ use Rattle.obs_epoch.proofs.ClosingLemmas.{taken_by}
 use Rattle.obs_epoch.proofs.EpochLemmas.{IsLater, AllLater, all_none, all_below, kept_at-push, times_before, epoch_at-push}
 use Rattle.obs_epoch.proofs.LockLemmas.{none_found, none_recorded}
 use Rattle.obs_epoch.proofs.LoadLemmas.{with_lli_by, epoch_of, load_is, counts_after}
-use Rattle.obs_epoch.specs.declared.lli.KnownLock.{KnownLock}
+use Rattle.obs_epoch.specs.declared.locks.KnownLock.{KnownLock}
 
 -- ---- what was closed stays, whatever comes
 

@@ -70,8 +70,8 @@ kept_cell x lli = record {
 }
 
 -- the cell of a message that a kept cell is
-abbrev pub heard_of : Cell → HeardCell
-heard_of c = record {
+abbrev pub heard_cell : Cell → HeardCell
+heard_cell c = record {
   satellite = c.satellite;
   signal = c.signal;
   c = c.c;

@@ -8,11 +8,11 @@ use Rattle.gnss_obs.specs.Satellites.{satellites}
 use Rattle.gnss_obs.specs.Signals.{table}
 use Rattle.obs_epoch.specs.declared.cell.Cell.{Cell}
 use Rattle.obs_epoch.specs.declared.taken.Fate.TheVariants.{Skipped, Repeated, Crowded, Kept}
-use Rattle.obs_epoch.specs.Heard.{GatherSetup, HeardCell, heard_of}
+use Rattle.obs_epoch.specs.Heard.{GatherSetup, HeardCell, heard_cell}
 use Rattle.obs_epoch.specs.Cells.{is_among, firsts, has_same_key, same_key, is_planned, has_listed_key}
 use Rattle.obs_epoch.specs.Values.{most_cells}
 use Rattle.obs_epoch.specs.Loss.{lock_of}
-use Rattle.obs_epoch.specs.declared.lli.KnownLock.{KnownLock}
+use Rattle.obs_epoch.specs.declared.locks.KnownLock.{KnownLock}
 use Rattle.obs_epoch.specs.declared.taken.CellCounts.{CellCounts}
 use Rattle.obs_epoch.specs.declared.taken.Fate.{Fate}
 
@@ -58,7 +58,7 @@ note t locks x = option_map_or (put locks x) (lock_of t x) locks
 
 abbrev pub note_all : ℕ → List (Option KnownLock) → List Cell → List (Option KnownLock)
 note_all t locks [] = locks
-note_all t locks (m ∷ ms) = note_all t (note t locks (heard_of m)) ms
+note_all t locks (m ∷ ms) = note_all t (note t locks (heard_cell m)) ms
 
 -- the keys of these cells have records, and no others
 pub record TracksLocks (locks : List (Option KnownLock)) (noted : List HeardCell) : Type 0 where
@@ -69,7 +69,7 @@ pub record TracksLocks (locks : List (Option KnownLock)) (noted : List HeardCell
 -- ---- cells: of a key the first, and of these as many as there is room for
 
 abbrev pub is_held : List Cell → HeardCell → Bool
-is_held ms x = list_any (λ m. has_same_key x (heard_of m)) ms
+is_held ms x = list_any (λ m. has_same_key x (heard_cell m)) ms
 
 -- a cell of that key
 abbrev pub is_cell_of : HeardCell → Cell → Bool

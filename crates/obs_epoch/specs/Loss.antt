@@ -5,7 +5,7 @@ use Rattle.gnss_obs.specs.LockTimes.{lost}
 use Rattle.obs_epoch.specs.Heard.{GatherSetup, HeardCell}
 use Rattle.obs_epoch.specs.Times.{Timed}
 use Rattle.obs_epoch.specs.Cells.{has_same_key, kept_at}
-use Rattle.obs_epoch.specs.declared.lli.KnownLock.{KnownLock}
+use Rattle.obs_epoch.specs.declared.locks.KnownLock.{KnownLock}
 
 -- a valid phase, and a known lock
 abbrev pub is_locked : HeardCell → Bool

@@ -6,7 +6,7 @@ use Rattle.gnss_obs.specs.declared.system.System.{System}
 use Rattle.gnss_obs.specs.Satellites.{Satellite}
 use Rattle.gnss_obs.specs.Signals.{SignalAt}
 use Rattle.obs_epoch.specs.declared.cell.Cell.{Cell}
-use Rattle.obs_epoch.specs.declared.order.Seat.{Seat}
+use Rattle.obs_epoch.specs.declared.epoch.Seat.{Seat}
 use Rattle.obs_epoch.specs.Values.{PlanValue, EpochValue, AreHeld, most_cells}
 use Rattle.obs_epoch.specs.Plans.{place_in}
 use Rattle.obs_epoch.specs.Heard.{HeardCell}

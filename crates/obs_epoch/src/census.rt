@@ -7,7 +7,7 @@ ghost use Rattle.obs_epoch.specs.Heard.{heard, seen_in, HeardCell};
 ghost use Rattle.obs_epoch.specs.Census.{brings_value, valued, counted, has_any, counted_of, entry_value, entry_signal, CountsEntries, CountsMessage, IsCensus};
 ghost use Rattle.rtcm_msg.specs.Viewed.{viewed_message};
 
-use crate::hear::system_of;
+use crate::observe::system_of;
 use gnss_obs::{GALILEO_SIGNAL_COUNT, GPS_SIGNAL_COUNT, Sat, Signal, System};
 use rtcm_msg::{Entries, Entry, Message, View};
 use std::marker::Model;
@@ -124,15 +124,11 @@ fn is_wanted(wanted: Option<u16>, station: u16) -> bool
 fn signal_of(system: System, entry: &Entry) -> Option<Signal>
     ensures value { result ≡ entry_signal system entry.now }
 {
-    match Sat::new(system, entry.satellite) {
-        None => None,
-        Some(_) => {
-            if has_value(entry) {
-                Signal::from_id(system, entry.signal)
-            } else {
-                None
-            }
-        }
+    Sat::new(system, entry.satellite)?;
+    if has_value(entry) {
+        Signal::from_id(system, entry.signal)
+    } else {
+        None
     }
 }
 

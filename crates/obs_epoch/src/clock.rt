@@ -24,8 +24,6 @@ pub enum Answer {
     CloseFirst,
 }
 
-ghost use Rattle.obs_epoch.specs.Step.{closed_of as closed_of_lem};
-
 /// The times of the messages of a station.
 #[derive(Drop)]
 pub struct Clock {
@@ -117,7 +115,13 @@ impl Clock {
         let was = self.pending;
         let before = self.latest;
         let answer = self.step(said);
-        (answer, closed_of(answer, is_mark, was, before, self.latest))
+        let closed = match answer {
+            Answer::CloseFirst => before,
+            Answer::Kept if is_mark => self.latest,
+            Answer::Ignored | Answer::Late | Answer::PastWeeks if is_mark && was => self.latest,
+            _ => None,
+        };
+        (answer, closed)
     }
 
     fn step(&mut self, said: &Summary) -> Answer
@@ -173,25 +177,5 @@ impl Clock {
         self.latest = Some(time);
         self.pending = true;
         Answer::Kept
-    }
-}
-
-// What a step closes.
-fn closed_of(
-    answer: Answer,
-    is_mark: bool,
-    was: bool,
-    before: Option<u64>,
-    after: Option<u64>,
-) -> Option<u64>
-    ensures { result ≡ closed_of_lem answer is_mark was before after }
-{
-    match answer {
-        Answer::CloseFirst => before,
-        Answer::OtherStation => None,
-        Answer::Kept => { if is_mark { after } else { None } }
-        Answer::Ignored | Answer::Late | Answer::PastWeeks => {
-            if is_mark && was { after } else { None }
-        }
     }
 }

@@ -1,25 +1,31 @@
 //! An epoch: what was observed at one time.
-ghost use Rattle.std.specs.Prelude.{◌≡◌, ◌+◌, ◌-◌, ◌<◌, ◌≤◌, [], false, length, drop, IfOk, IfSome, Option, Some, None, insert, slice_index_or, if◌then◌else◌};
+ghost use Rattle.std.specs.Prelude.{◌≡◌, ◌+◌, ◌-◌, ◌<◌, ◌≤◌, [], false, length, drop, IfOk, IfSome, Option, Some, None, insert, map, slice_index_or, if◌then◌else◌};
 ghost use Rattle.std.specs.Vec.{vec_len, vec_capacity};
 ghost use Rattle.obs_epoch.specs.declared.cell.Cell.{Cell};
-ghost use Rattle.obs_epoch.specs.Values.{AreHeld, MayBeHeld, cells_of, satellites_written, is_written, written_among, most_cells, most_written, run};
-ghost use Rattle.obs_epoch.specs.Heard.{heard_of, IsKey, IsObserved};
+ghost use Rattle.obs_epoch.specs.Values.{AreHeld, MayBeHeld, cells_of, satellites_written, is_written, written_among, most_cells, most_written, planned_of, run};
+ghost use Rattle.obs_epoch.specs.Heard.{heard_cell, IsKey, IsObserved};
 ghost use Rattle.obs_epoch.specs.Held.{is_held as is_held_lem, is_cell_of, note_all};
 ghost use Rattle.obs_epoch.specs.Gather.{no_epoch, more_at, spot_in, AreInOrder};
-ghost use Rattle.obs_epoch.specs.Order.{AreSorted};
+ghost use Rattle.obs_epoch.specs.Order.{AreSorted, AreOrderedBy, plan_seat, is_before, cell_seat, spot as spot_of};
 ghost use Rattle.gnss_obs.specs.Satellites.{satellites as satellites_in};
 
 use crate::cell::{Cell, StationValues};
-use crate::locks::{Locks, insert_within, is_same_key};
-use crate::order::{seat_at, spot};
+use crate::locks::{Locks, insert_within, is_same_key, push_within};
 use crate::plan::Plan;
 use crate::time::GpsTime;
-use gnss_obs::System;
+use gnss_obs::{Sat, Signal, System};
 use std::alloc::{AllocError, Global};
 use std::marker::Model;
 
 /// Largest number of cells of one system that an epoch keeps.
 pub(crate) const MOST_CELLS: usize = 256;
+
+/// The seat of a key: its satellite's number, and its signal's place in the plan.
+#[derive(Clone, Copy)]
+pub struct Seat {
+    pub satellite: u8,
+    pub place: usize,
+}
 
 /// An epoch: its time, the cells of each system that are kept, and the station values that were
 /// known when it was closed.
@@ -82,10 +88,10 @@ impl Epoch {
 
     // Returns the insertion index of a key, or None if a cell of that key is kept.
     pub(crate) fn seek(&self, plan: &Plan, x: &Cell) -> Option<usize>
-        requires key { IsKey (heard_of x.now) }
+        requires key { IsKey (heard_cell x.now) }
         requires order { AreInOrder plan.now self.now.epoch }
-        ensures at { result ≡ (if is_held_lem (cells_of x.now.satellite.system self.now.epoch) (heard_of x.now) then None
-            else Some (spot_in plan.now self.now.epoch (heard_of x.now))) }
+        ensures at { result ≡ (if is_held_lem (cells_of x.now.satellite.system self.now.epoch) (heard_cell x.now) then None
+            else Some (spot_in plan.now self.now.epoch (heard_cell x.now))) }
         ensures within { IfSome result (λ at. at ≤ length (cells_of x.now.satellite.system self.now.epoch)) }
     {
         let system = x.satellite.system();
@@ -100,7 +106,7 @@ impl Epoch {
 
     // Inserts a cell.
     pub(crate) fn hold(&mut self, at: usize, x: Cell)
-        requires observed { IsObserved (heard_of x) }
+        requires observed { IsObserved (heard_cell x) }
         requires indicator { x.lli < 4 }
         requires room { length (cells_of x.satellite.system self.old.epoch) < most_cells }
         requires within { at ≤ length (cells_of x.satellite.system self.old.epoch) }
@@ -175,6 +181,74 @@ impl Epoch {
     }
 }
 
+/// The seat of a key.
+fn seat_at(plan: &Plan, satellite: Sat, signal: Signal) -> Seat
+    ensures { result ≡ plan_seat (planned_of signal.system plan.now) satellite signal }
+{
+    Seat {
+        satellite: satellite.id(),
+        place: match plan.place(signal) {
+            None => 0,
+            Some(place) => place,
+        },
+    }
+}
+
+/// Whether a seat comes before another: by satellite, and within it by place.
+fn is_before(a: Seat, b: Seat) -> bool
+    ensures { result ≡ is_before a b }
+{
+    if a.satellite == b.satellite {
+        return a.place < b.place;
+    }
+    a.satellite < b.satellite
+}
+
+/// How many of the cells don't stand behind that seat. Most cells come in their order, so the last
+/// is looked at first.
+fn spot(cells: &[Cell], plan: &Plan, x: Seat, system: System) -> usize
+    requires held { AreHeld system cells.now }
+    requires order { AreOrderedBy (planned_of system plan.now) cells.now }
+    ensures spot { result ≡ spot_of x (map (cell_seat (planned_of system plan.now)) cells.now) }
+    ensures bound { result ≤ length cells.now }
+{
+    let end = cells.len();
+    if end == 0 {
+        return 0;
+    }
+    if !is_behind(&cells[end - 1], plan, x) {
+        return end;
+    }
+    spot_by_halves(cells, plan, x, system)
+}
+
+// The same, found by halves.
+fn spot_by_halves(cells: &[Cell], plan: &Plan, x: Seat, system: System) -> usize
+    requires held { AreHeld system cells.now }
+    requires order { AreOrderedBy (planned_of system plan.now) cells.now }
+    ensures spot { result ≡ spot_of x (map (cell_seat (planned_of system plan.now)) cells.now) }
+    ensures bound { result ≤ length cells.now }
+{
+    let mut low = 0;
+    let mut high = cells.len();
+    while low < high {
+        let middle = low + (high - low) / 2;
+        if is_behind(&cells[middle], plan, x) {
+            high = middle;
+        } else {
+            low = middle + 1;
+        }
+    }
+    low
+}
+
+// Whether a cell stands behind that seat.
+fn is_behind(cell: &Cell, plan: &Plan, x: Seat) -> bool
+    ensures { result ≡ is_before x (cell_seat (planned_of cell.now.signal.system plan.now) cell.now) }
+{
+    is_before(x, seat_at(plan, cell.satellite, cell.signal))
+}
+
 /// Where the cells of a satellite end that stand from this place on.
 pub fn end_of(cells: &[Cell], from: usize, id: u8) -> usize
     requires { from ≤ length cells.now }
@@ -237,14 +311,18 @@ fn insert_cell(cells: &mut Vec<Cell>, at: usize, x: Cell)
         lock: x.lock,
         half_cycle: x.half_cycle,
     };
-    insert_within(cells, at, cell);
+    if at == cells.len() {
+        push_within(cells, cell);
+    } else {
+        insert_within(cells, at, cell);
+    }
 }
 
 // Whether the cell before an index has that key.
 fn is_last(cells: &[Cell], at: usize, x: &Cell) -> bool
     requires { at ≤ length cells.now }
     ensures none { at ≡ 0 → result ≡ false }
-    ensures last { (d : Cell) → 0 < at → result ≡ is_cell_of (heard_of x.now) (slice_index_or cells.now (at - 1) d) }
+    ensures last { (d : Cell) → 0 < at → result ≡ is_cell_of (heard_cell x.now) (slice_index_or cells.now (at - 1) d) }
 {
     if at == 0 {
         return false;

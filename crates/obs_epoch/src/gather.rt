@@ -8,7 +8,7 @@ ghost use Rattle.obs_epoch.specs.Clock.{HasHeardMessages};
 ghost use Rattle.obs_epoch.specs.Heard.{GatherSetup, Heard, heard, heard_summary, system_of};
 ghost use Rattle.obs_epoch.specs.Order.{StandByPlan};
 ghost use Rattle.obs_epoch.specs.Plans.{place_in};
-ghost use Rattle.obs_epoch.specs.Heard.{heard_of, IsObserved};
+ghost use Rattle.obs_epoch.specs.Heard.{heard_cell, IsObserved};
 ghost use Rattle.obs_epoch.specs.Epochs.{values_told, values_of};
 ghost use Rattle.obs_epoch.specs.Held.{count_in, most_locks, no_locks, recorded};
 ghost use Rattle.obs_epoch.specs.Step.{answer_by, closed_by as closes};
@@ -18,17 +18,15 @@ ghost use Rattle.obs_epoch.specs.Kinds.{kind_by, is_no_station, setup_at, setup_
 ghost use Rattle.obs_epoch.specs.Gathering.{HasGatheredEpochs, closed_by, closed_in, plan_in};
 ghost use Rattle.obs_epoch.specs.Calls.{TakesMessage, EndsPendingEpoch, StaysEnded, HoldsCells, HoldsLockedKeys};
 ghost use Rattle.obs_epoch.specs.declared.fault.PlanFault.{PlanFault};
-ghost use Rattle.obs_epoch.specs.Gather.{take_step, end_step, loaded_by, load_heard, load_entry, load_entries, epoch_begun, is_same as is_same_lem, no_counts, load, noted, rested, fate_in, hold, no_epoch};
+ghost use Rattle.obs_epoch.specs.Gather.{take_step, end_step, loaded_by, load_heard, load_entry, load_entries, epoch_begun, no_counts, load, noted, rested, fate_in, hold, no_epoch};
 ghost use Rattle.obs_epoch.specs.declared.taken.CellCounts.{CellCounts};
 
 use crate::cell::{Cell, StationValues};
 use crate::clock::{Answer, Clock};
 use crate::epoch::{Epoch, MOST_CELLS};
 use crate::fault::PlanFault;
-use crate::hear::{summary_of, system_of, values_of};
-use crate::lli::lli;
-use crate::locks::Locks;
-use crate::observe::observe;
+use crate::locks::{Locks, lli};
+use crate::observe::{observe, summary_of, system_of, values_of};
 use crate::plan::Plan;
 use crate::taken::{CellCounts, Fate, Gather, Taken, counted, is_no_station, kind_by, no_counts};
 use crate::time::{GpsTime, WEEKS};
@@ -294,7 +292,14 @@ impl Gatherer {
         match answer {
             Answer::Kept => {
                 self.begin(before);
-                self.take_all(view)
+                match view {
+                    View::Msm(m) => self.take_entries(
+                        m.form().lock_field(),
+                        system_of(m.is_galileo()),
+                        &mut m.entries(),
+                    ),
+                    View::Station(_) | View::Other { number: _, set: _ } => no_counts(),
+                }
             }
             Answer::OtherStation
             | Answer::Ignored
@@ -304,37 +309,21 @@ impl Gatherer {
         }
     }
 
-    fn take_all(&mut self, view: &View<'_>) -> CellCounts
-        ensures { record { state = self.new; counts = result } ≡ load_heard (record { state = self.old; counts = no_counts }) (heard (viewed_message view.now)) }
-    {
-        match view {
-            View::Msm(m) => self.take_entries(
-                m.form().lock_field(),
-                system_of(m.is_galileo()),
-                &mut m.entries(),
-            ),
-            View::Station(_) | View::Other { number: _, set: _ } => no_counts(),
-        }
-    }
-
     fn begin(&mut self, before: Option<u64>)
         ensures { self.new ≡ epoch_begun before self.old }
     {
         let latest = self.clock.latest();
-        if !is_same(before, latest) {
-            self.epoch.begin(match latest {
-                None => GpsTime::within(0),
-                Some(time) => GpsTime::within(time),
-            });
+        if before != latest {
+            self.epoch.begin(GpsTime::within(latest.unwrap_or(0)));
         }
     }
 
     // Keeps a cell of a planned signal, unless its key is kept or there is no room.
     fn take_cell(&mut self, x: Cell) -> Fate
-        requires observed { IsObserved (heard_of x) }
+        requires observed { IsObserved (heard_cell x) }
         requires planned { is_some (place_in x.signal (planned_of x.satellite.system self.old.clock.setup.plan)) ≡ true }
-        ensures fate { result ≡ fate_in self.old (heard_of x) }
-        ensures step { self.new ≡ hold self.old (heard_of x) }
+        ensures fate { result ≡ fate_in self.old (heard_cell x) }
+        ensures step { self.new ≡ hold self.old (heard_cell x) }
     {
         match self.epoch.seek(self.clock.plan(), &x) {
             None => Fate::Repeated,
@@ -418,14 +407,4 @@ fn empty(alloc: Global, initial: StationValues) -> Result<(Epoch, Locks), AllocE
     let locks = Locks::new(alloc)?;
     let epoch = Epoch::new(alloc, initial)?;
     Ok((epoch, locks))
-}
-
-fn is_same(a: Option<u64>, b: Option<u64>) -> bool
-    ensures { result ≡ is_same_lem a b }
-{
-    match (a, b) {
-        (None, None) => true,
-        (Some(a), Some(b)) => a == b,
-        _ => false,
-    }
 }

@@ -1,15 +1,15 @@
 //! Lock records: one of a key, for the latest closed epoch in which it had a known lock.
-ghost use Rattle.std.specs.Prelude.{◌≡◌, ◌+◌, ◌<◌, ◌≤◌, [], length, IfOk, ◌++◌, ◌∷◌, insert};
+ghost use Rattle.std.specs.Prelude.{IsTrue, ◌↔◌, ◌≡◌, ◌+◌, ◌<◌, ◌≤◌, [], length, IfOk, ◌++◌, ◌∷◌, insert};
 ghost use Rattle.std.specs.Vec.{vec_len, vec_capacity};
-ghost use Rattle.obs_epoch.specs.Held.{lock_place, lookup, most_locks, no_locks, note, one_if_new, put, recorded};
+ghost use Rattle.obs_epoch.specs.Held.{lock_place, lookup, most_locks, no_locks, note, one_if_new, recorded};
 ghost use Rattle.obs_epoch.specs.Cells.{is_system, same_key};
-ghost use Rattle.obs_epoch.specs.Heard.{IsKey, heard_of};
-ghost use Rattle.obs_epoch.specs.Loss.{lock_of};
+ghost use Rattle.obs_epoch.specs.Heard.{IsKey, heard_cell};
+ghost use Rattle.obs_epoch.specs.Loss.{lli_with, lock_of};
 
 use crate::cell::Cell;
-use crate::lli::KnownLock;
 use gnss_obs::{
-    GALILEO_SATELLITES, GALILEO_SIGNAL_COUNT, GPS_SATELLITES, GPS_SIGNAL_COUNT, Sat, Signal, System,
+    GALILEO_SATELLITES, GALILEO_SIGNAL_COUNT, GPS_SATELLITES, GPS_SIGNAL_COUNT, Lock, Sat, Signal,
+    System, is_lost,
 };
 use std::alloc::{AllocError, Global};
 use std::marker::Model;
@@ -23,6 +23,13 @@ const GALILEO_KEYS: usize = GALILEO_SATELLITES as usize * GALILEO_SIGNAL_COUNT;
 /// So many keys there are.
 pub const MOST_LOCKS: usize = GPS_KEYS + GALILEO_KEYS;
 
+/// A known lock, and the time of its epoch.
+#[derive(Clone, Copy)]
+pub struct KnownLock {
+    pub time: u64,
+    pub lock: Lock,
+}
+
 /// The lock records: an entry for each key, and how many keys have one.
 #[derive(Drop)]
 pub struct Locks {
@@ -32,7 +39,7 @@ pub struct Locks {
 
 impl Model for Locks {
     ghost use Rattle.std.specs.Prelude.{List, Option, ◌≡◌, length};
-    ghost use Rattle.obs_epoch.specs.declared.lli.KnownLock.{KnownLock};
+    ghost use Rattle.obs_epoch.specs.declared.locks.KnownLock.{KnownLock};
     ghost use Rattle.obs_epoch.specs.Held.{most_locks, recorded};
 
     ghost Value = { List (Option KnownLock) };
@@ -62,30 +69,23 @@ impl Locks {
 
     /// What is recorded of that key.
     pub fn latest(&self, x: &Cell) -> Option<KnownLock>
-        requires { IsKey (heard_of x.now) }
-        ensures { result ≡ lookup self.now (heard_of x.now) }
+        requires { IsKey (heard_cell x.now) }
+        ensures { result ≡ lookup self.now (heard_cell x.now) }
     {
         self.entries[lock_place(x)]
     }
 
     /// A kept cell of an epoch that closes: its lock, where it is known.
     pub fn note(&mut self, time: u64, x: &Cell)
-        requires { IsKey (heard_of x.now) }
-        ensures { self.new ≡ note time self.old (heard_of x.now) }
+        requires { IsKey (heard_cell x.now) }
+        ensures { self.new ≡ note time self.old (heard_cell x.now) }
     {
         if let Some(lock) = lock_at(time, x) {
-            self.set(x, lock);
+            let entry = lock_place(x);
+            let count = self.count + one_if_new(self.entries[entry]);
+            self.entries[entry] = Some(lock);
+            self.count = count;
         }
-    }
-
-    fn set(&mut self, x: &Cell, lock: KnownLock)
-        requires { IsKey (heard_of x.now) }
-        ensures { self.new ≡ put self.old (heard_of x.now) lock }
-    {
-        let entry = lock_place(x);
-        let count = self.count + one_if_new(self.entries[entry]);
-        self.entries[entry] = Some(lock);
-        self.count = count;
     }
 }
 
@@ -112,8 +112,8 @@ fn one_if_new(before: Option<KnownLock>) -> usize
 
 // The entry of a key.
 fn lock_place(x: &Cell) -> usize
-    requires { IsKey (heard_of x.now) }
-    ensures entry { result ≡ lock_place (heard_of x.now) }
+    requires { IsKey (heard_cell x.now) }
+    ensures entry { result ≡ lock_place (heard_cell x.now) }
     ensures bound { result < most_locks }
 {
     let id = x.satellite.id() as usize;
@@ -126,7 +126,7 @@ fn lock_place(x: &Cell) -> usize
 
 /// The lock of a cell, where its phase is valid and its lock known.
 pub fn lock_at(time: u64, x: &Cell) -> Option<KnownLock>
-    ensures { result ≡ lock_of time (heard_of x.now) }
+    ensures { result ≡ lock_of time (heard_cell x.now) }
 {
     if x.l.is_some() && x.lock.least().is_some() {
         Some(KnownLock { time, lock: x.lock })
@@ -135,7 +135,25 @@ pub fn lock_at(time: u64, x: &Cell) -> Option<KnownLock>
     }
 }
 
+/// Returns the loss of lock indicator of RINEX for a cell: bit 0 if the latest known lock of its key
+/// was lost since, bit 1 if the phase may be off by half a cycle; 0 without a phase.
+pub fn lli(x: &Cell, time: u64, before: Option<KnownLock>) -> u8
+    ensures value { result ≡ lli_with time (heard_cell x.now) before }
+    ensures bound { result < 4 }
+{
+    if x.l.is_none() {
+        return 0;
+    }
+    let lost = match before {
+        None => false,
+        Some(was) => is_lost(was.lock, x.lock, time.saturating_sub(was.time)),
+    };
+    let half = if x.half_cycle { 2 } else { 0 };
+    if lost { 1 + half } else { half }
+}
+
 /// Appends where there is room, and takes no memory.
+#[inline(always)]
 pub fn push_within<T: Drop>(xs: &mut Vec<T>, x: T)
     requires { vec_len xs.old < vec_capacity xs.old }
     ensures items { xs.new.items ≡ xs.old.items ++ x ∷ [] }
@@ -145,7 +163,9 @@ pub fn push_within<T: Drop>(xs: &mut Vec<T>, x: T)
     let _ = xs.push(x);
 }
 
-/// Inserts where there is room, and takes no memory. Most come behind all others.
+/// Inserts where there is room, and takes no memory. Most cells are appended, so the insertion is
+/// kept out of line.
+#[inline(never)]
 pub fn insert_within<T: Drop>(xs: &mut Vec<T>, at: usize, x: T)
     requires room { vec_len xs.old < vec_capacity xs.old }
     requires within { at ≤ vec_len xs.old }
@@ -153,11 +173,7 @@ pub fn insert_within<T: Drop>(xs: &mut Vec<T>, at: usize, x: T)
     ensures len { vec_len xs.new ≡ vec_len xs.old + 1 }
     ensures room { vec_capacity xs.old ≤ vec_capacity xs.new }
 {
-    if at == xs.len() {
-        push_within(xs, x);
-    } else {
-        let _ = xs.insert(at, x);
-    }
+    let _ = xs.insert(at, x);
 }
 
 /// Whether two satellites and signals are of one system, number and place.
@@ -169,8 +185,10 @@ pub fn is_same_key(satellite: Sat, signal: Signal, other: Sat, other_signal: Sig
         && signal.index() == other_signal.index()
 }
 
-fn is_same_system(a: System, b: System) -> bool
-    ensures { result ≡ is_system a b }
+/// Whether two systems are the same.
+pub fn is_same_system(a: System, b: System) -> bool
+    ensures value { result ≡ is_system a b }
+    ensures exact { IsTrue result ↔ (a ≡ b) }
 {
     match (a, b) {
         (System::Gps, System::Gps) | (System::Galileo, System::Galileo) => true,

@@ -7,6 +7,7 @@ ghost use Rattle.obs_epoch.specs.Plans.{plan_of, signals_of, signals_coded, betw
 ghost use Rattle.obs_epoch.specs.Signals.{indices, IsOf, codes_in, ArePlanned, TakesCode, RefusesCode, IsMemoryFaultOr, IsUnfitBehind, IsUnfit, IsUnplanned, IsPlanOf, ArePlanOf};
 
 use crate::fault::PlanFault;
+use crate::locks::is_same_system;
 use crate::signals::Signals;
 use gnss_obs::{Signal, System};
 use std::alloc::Global;
@@ -170,23 +171,13 @@ fn add_signal(signals: &mut Signals, system: System, signal: Signal) -> Result<(
         (IsMemoryFaultOr (IsUnfitBehind system signals.old signal)) }
 {
     let place = signals.len();
-    if !is_of(signal, system) {
+    if !is_same_system(signal.system(), system) {
         return Err(PlanFault::UnknownCode(system, place));
     }
     match signals.add(signal) {
         Ok(true) => Ok(()),
         Ok(false) => Err(PlanFault::RepeatedCode(system, place)),
         Err(_) => Err(PlanFault::Memory),
-    }
-}
-
-fn is_of(signal: Signal, system: System) -> bool
-    ensures { IsTrue result ↔ (signal.system ≡ system) }
-{
-    match (signal.system(), system) {
-        (System::Gps, System::Gps) => true,
-        (System::Galileo, System::Galileo) => true,
-        _ => false,
     }
 }
 

@@ -3,7 +3,7 @@ ghost use Rattle.std.specs.Prelude.{◌≡◌, ◌+◌, ◌<◌};
 ghost use Rattle.obs_epoch.specs.Heard.{heard_summary};
 ghost use Rattle.obs_epoch.specs.Held.{count_in};
 ghost use Rattle.obs_epoch.specs.Gather.{no_counts};
-ghost use Rattle.obs_epoch.specs.Kinds.{is_close_first, kind_at, station_kind, kind_by, is_by_bit, is_no_station};
+ghost use Rattle.obs_epoch.specs.Kinds.{is_close_first, kind_by, is_by_bit, is_no_station};
 
 use crate::clock::Answer;
 use rtcm_msg::Summary;
@@ -81,51 +81,28 @@ impl Kind {
     {
         matches!(self, Kind::CloseFirst)
     }
-
-    // The kind of a message with observations.
-    pub(crate) fn of_observations(answer: Answer, counts: CellCounts) -> Kind
-        ensures { result ≡ kind_at answer counts }
-    {
-        match answer {
-            Answer::OtherStation => Kind::OtherStation,
-            Answer::Ignored => Kind::Ignored,
-            Answer::Late => Kind::Late,
-            Answer::PastWeeks => Kind::PastWeeks,
-            Answer::CloseFirst => Kind::CloseFirst,
-            Answer::Kept => Kind::Kept {
-                kept: counts.kept,
-                skipped: counts.skipped,
-                repeated: counts.repeated,
-                crowded: counts.crowded,
-            },
-        }
-    }
-
-    // The kind of a station message.
-    pub(crate) fn of_station(answer: Answer) -> Kind
-        ensures { result ≡ station_kind answer }
-    {
-        match answer {
-            Answer::OtherStation => Kind::OtherStation,
-            Answer::Ignored
-            | Answer::Late
-            | Answer::PastWeeks
-            | Answer::CloseFirst
-            | Answer::Kept => Kind::Station,
-        }
-    }
 }
 
-// What became of a message, by its time and its cells.
+// Returns the kind of a message from its outcome and the counts of its cells.
 pub(crate) fn kind_by(said: &Summary, answer: Answer, counts: CellCounts) -> Kind
     ensures { result ≡ kind_by (heard_summary said.now) answer counts }
 {
-    if said.time.is_some() {
-        Kind::of_observations(answer, counts)
-    } else if said.point.is_some() {
-        Kind::of_station(answer)
-    } else {
-        Kind::Ignored
+    if said.time.is_none() && said.point.is_none() {
+        return Kind::Ignored;
+    }
+    match answer {
+        Answer::OtherStation => Kind::OtherStation,
+        _ if said.time.is_none() => Kind::Station,
+        Answer::Ignored => Kind::Ignored,
+        Answer::Late => Kind::Late,
+        Answer::PastWeeks => Kind::PastWeeks,
+        Answer::CloseFirst => Kind::CloseFirst,
+        Answer::Kept => Kind::Kept {
+            kept: counts.kept,
+            skipped: counts.skipped,
+            repeated: counts.repeated,
+            crowded: counts.crowded,
+        },
     }
 }
 

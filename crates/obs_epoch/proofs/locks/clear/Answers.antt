@@ -1,7 +1,7 @@
 use Rattle.std.proofs.Common.{◌≡◌, ◌∙◌, ap, arith, replicate, None, Option}
 use Rattle.obs_epoch.specs.Held.{most_locks}
 use Rattle.obs_epoch.proofs.locks.clear.Goals as goal
-use Rattle.obs_epoch.specs.declared.lli.KnownLock.{KnownLock}
+use Rattle.obs_epoch.specs.declared.locks.KnownLock.{KnownLock}
 
 pub returns : goal.returns
 returns c =

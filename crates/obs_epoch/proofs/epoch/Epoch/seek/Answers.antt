@@ -3,7 +3,7 @@ use Rattle.std.specs.Prelude.{if◌then◌else◌}
 use Rattle.obs_epoch.specs.declared.cell.Cell.{Cell}
 use Rattle.obs_epoch.specs.Values.{cells_of, planned_of}
 use Rattle.obs_epoch.specs.Order.{AreOrderedBy, spot, plan_seat, cell_seat, seat_of}
-use Rattle.obs_epoch.specs.Heard.{heard_of}
+use Rattle.obs_epoch.specs.Heard.{heard_cell}
 use Rattle.obs_epoch.specs.Held.{is_held}
 use Rattle.obs_epoch.specs.Gather.{spot_in}
 use Rattle.obs_epoch.proofs.StandLemmas.{stand_in, held_is_last}
@@ -19,7 +19,7 @@ spot-at-requires-clause-order c =
 
 pub returns-then-is_last-clause-at : goal.returns-then-is_last-clause-at
 returns-then-is_last-clause-at c =
-    let x = heard_of c.args.x.now in
+    let x = heard_cell c.args.x.now in
     let system = x.satellite.system in
     let planned = planned_of system c.args.plan.now in
     let cells = c.cells-cells.ensures.cells ∙ ap (λ s. cells_of s c.args.self.now.epoch) c.system-system.ensures in
@@ -33,7 +33,7 @@ returns-then-is_last-clause-at c =
 
 pub returns-else-is_last-clause-at : goal.returns-else-is_last-clause-at
 returns-else-is_last-clause-at c =
-    let x = heard_of c.args.x.now in
+    let x = heard_cell c.args.x.now in
     let system = x.satellite.system in
     let planned = planned_of system c.args.plan.now in
     let cells = c.cells-cells.ensures.cells ∙ ap (λ s. cells_of s c.args.self.now.epoch) c.system-system.ensures in

@@ -3,7 +3,7 @@ use Rattle.obs_epoch.specs.declared.cell.Cell.{Cell}
 use Rattle.obs_epoch.specs.Order.{cell_seat}
 use Rattle.obs_epoch.specs.Values.{planned_of}
 use Rattle.obs_epoch.proofs.OrderLemmas.{own_seat, spot_behind, spot_within}
-use Rattle.obs_epoch.proofs.order.spot.Goals as goal
+use Rattle.obs_epoch.proofs.epoch.spot.Goals as goal
 
 pub returns-then-not-is_behind-clause-spot : goal.returns-then-not-is_behind-clause-spot
 returns-then-not-is_behind-clause-spot c =

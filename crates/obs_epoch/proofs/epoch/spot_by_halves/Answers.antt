@@ -3,7 +3,7 @@ use Rattle.obs_epoch.specs.declared.cell.Cell.{Cell}
 use Rattle.obs_epoch.specs.Order.{cell_seat}
 use Rattle.obs_epoch.specs.Values.{planned_of}
 use Rattle.obs_epoch.proofs.OrderLemmas.{own_seat, spot_before, spot_behind, spot_within}
-use Rattle.obs_epoch.proofs.order.spot_by_halves.Goals as goal
+use Rattle.obs_epoch.proofs.epoch.spot_by_halves.Goals as goal
 
 pub loop-low-init : goal.loop-low-init
 loop-low-init c =

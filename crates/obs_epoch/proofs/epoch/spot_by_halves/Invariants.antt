@@ -1,7 +1,7 @@
 use Rattle.std.proofs.Common.{◌≤◌, ◌-◌, length, map}
 use Rattle.obs_epoch.specs.Order.{cell_seat, spot}
 use Rattle.obs_epoch.specs.Values.{planned_of}
-use Rattle.obs_epoch.proofs.order.spot_by_halves.Given as goal
+use Rattle.obs_epoch.proofs.epoch.spot_by_halves.Given as goal
 
 -- the spot lies from the low end to the high one
 abbrev pub invariant-loop-low : goal.invariant-loop-low
