@@ -60,11 +60,6 @@ pub values_more : (v : StationValues) (es : List Stamped) (x : Stamped) → valu
 values_more v [] x = refl
 values_more v (e ∷ es) x = values_more (changed_by v e.change) es x
 
--- the first epoch has none
-pub first_midst : (es others : List Stamped) (x : Stamped) → es ≡ [] → IsFirstSame (es ++ x ∷ others) → x.change ≡ None
-first_midst [] others x none h = h
-first_midst (e ∷ es) others x none h = cc
-
 first_more : (es : List Stamped) (x : Stamped) → IsFirstSame es → (es ≡ [] → x.change ≡ None) → IsFirstSame (es ++ x ∷ [])
 first_more [] x h k = k refl
 first_more (e ∷ es) x h k = h

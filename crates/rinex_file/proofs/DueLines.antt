@@ -1,16 +1,16 @@
 -- The lines that were taken are begun, and of which kind the next one is.
-use Rattle.std.proofs.Common.{arith, ◌≡◌, ◌∙◌, sym, ap, subst, refl, ℕ, zero, suc, ◌+◌, ◌<◌, ℤ, pos, List, [], ◌∷◌, ◌++◌, length, Option, IfSome, inl, inr}
-use Rattle.std.specs.Prelude.{◌≢◌, Some}
+use Rattle.std.proofs.Common.{arith, ◌≡◌, sym, ap, subst, refl, ℕ, zero, suc, ◌+◌, ◌<◌, ℤ, pos, List, [], ◌∷◌, length, Option, IfSome, inl, inr}
+use Rattle.std.specs.Prelude.{Some}
 use Rattle.obs_epoch.specs.declared.cell.StationValues.{StationValues}
 use Rattle.rinex_file.specs.declared.read.course.Course.{Course}
 use Rattle.rinex_file.specs.declared.read.due.Due.{Due}
 use Rattle.rinex_file.specs.declared.read.due.Due.TheVariants.{Header, Epoch, EventPosition, EventHeight, EventEpoch, Satellite}
 use Rattle.rinex_file.specs.Numbers.{joined}
 use Rattle.rinex_file.specs.FileValues.{IsCoordinate, IsChange}
-use Rattle.rinex_file.specs.Begun.{AreBegun, IsHeaderBegun}
+use Rattle.rinex_file.specs.Begun.{AreBegun}
 use Rattle.rinex_file.specs.Exact.{AreBefore, IsDueAt}
-use Rattle.rinex_file.specs.Read.Progress.{Progress, IsHeaderLeft, HasHeaderAt, Known, Shown, stamped}
-use Rattle.rinex_file.specs.Read.Sound.{AreRead, IsBegun, IsEventDue, IsSound, IsSoundAt, AreLinesAt, HasReadLines, values_now}
+use Rattle.rinex_file.specs.Read.Progress.{Progress, IsHeaderLeft, Known, Shown, stamped}
+use Rattle.rinex_file.specs.Read.Sound.{IsSound, IsSoundAt, AreLinesAt, values_now}
 use Rattle.rinex_file.specs.Course.{History, FollowsHistory, progress_at}
 use Rattle.rinex_file.specs.Read.Steps.{IsTaken}
 use Rattle.rinex_file.proofs.HeaderRows.{some_left}

@@ -11,10 +11,6 @@ pub few_signals : (s : System) → length (table s) ≤ 19
 few_signals Gps = lit≤ tt
 few_signals Galileo = lit≤ tt
 
-pub no_entry-text : signal_text no_signal_values ≡ replicate 64 32
-unfolding signal_text field
-no_entry-text = refl
-
 pub flat_map-append : {X : Type 0} (f : X → List ℕ) (xs ys : List X) → flat_map f (xs ++ ys) ≡ flat_map f xs ++ flat_map f ys
 flat_map-append f [] ys = refl
 flat_map-append f (x ∷ xs) ys = ap (λ l. f x ++ l) (flat_map-append f xs ys) ∙ sym (append_assoc (f x) (flat_map f xs) (flat_map f ys))

@@ -50,7 +50,3 @@ pub one_text : file_text one ≡ lines (
     ∷ [])
 unfolding digits header_line header_lines row_line epoch_line satellite_line trimmed signal_text field
 one_text = refl
-
-pub one_length : length (file_text one) ≡ 1236
-unfolding digits header_line header_lines row_line epoch_line satellite_line trimmed signal_text field
-one_length = refl

@@ -1,5 +1,5 @@
 -- Texts without a fault fit their columns.
-use Rattle.std.proofs.Common.{arith, ◌≡◌, ◌∙◌, refl, sym, ap, ap₂, subst, ℕ, suc, ◌+◌, ◌<◌, ◌≤◌, ◌≢◌, ◌&&◌, List, [], ◌∷◌, length, drop, get_or, Bool, true, false, Option, Some, None}
+use Rattle.std.proofs.Common.{arith, ◌≡◌, ◌∙◌, refl, sym, ap, ap₂, subst, ℕ, suc, ◌+◌, ◌<◌, ◌≤◌, ◌≢◌, ◌&&◌, List, [], ◌∷◌, length, drop, get_or, Bool, true, false, Some, None}
 use Rattle.std.specs.Prelude.{if◌then◌else◌, nat_lt, ◌==◌, map}
 use Rattle.std.specs.List.{list_all}
 use Rattle.std.proofs.Math.Seq.{drop-cons}
@@ -11,7 +11,7 @@ use Rattle.rinex_file.specs.declared.header.fault.HeadFault.{HeadFault}
 use Rattle.rinex_file.specs.declared.header.fault.HeadFault.TheVariants.{TooLong, NotPrintable}
 use Rattle.rinex_file.specs.declared.header.fault.HeaderField.TheVariants.{AntType}
 use Rattle.rinex_file.specs.Blanks.{trimmed, before_cut}
-use Rattle.rinex_file.specs.Texts.{HeaderLists, text_count, width_of, text_of, field_at, is_printable, fault_of, or_later, first_fault, fields, trimmed_texts}
+use Rattle.rinex_file.specs.Texts.{HeaderLists, text_count, width_of, text_of, field_at, is_printable, fault_of, first_fault, fields, trimmed_texts}
 use Rattle.rinex_file.specs.FileValues.{IsText}
 use Rattle.rinex_file.proofs.HeaderText.{trimmed-trimmed, equal_or}
 use Rattle.rinex_file.proofs.HeaderEnd.{same_lists}

@@ -75,13 +75,6 @@ file_of h epochs = record { texts = h.texts; plan = h.plan; values = h.values; e
 abbrev SameFile : FileValue → FileValue → Type 0
 SameFile v w = v ≡ w
 
--- the same with another time
-abbrev shown_at : Shown → ℕ → Shown
-shown_at h t = record { texts = h.texts; plan = h.plan; values = h.values; first = t }
-
-abbrev SameShown : Shown → Shown → Type 0
-SameShown h k = h ≡ k
-
 module _ (s : Progress) (place : ℕ) (line : List ℕ) (due : s.due ≡ Header place) where
   pub no_header : ((h : Shown) (left : List (List ℕ)) → IsHeaderLeft s.known place h (line ∷ left) → ⊥) → (v : FileValue) (left : List (List ℕ)) → HasLinesLeft s v (line ∷ left) → ⊥
   no_header never v left on = let next = header_next s place v line left due on in never (shown_of v next.first.time) next.lines next.header

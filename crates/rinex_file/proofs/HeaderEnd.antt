@@ -1,9 +1,9 @@
 -- The last line of a header, and the header that was read.
-use Rattle.std.proofs.Common.{arith, ◌≡◌, ◌∙◌, sym, ap, refl, subst, ℕ, ℤ, pos, zero, suc, lit≤, ◌+◌, ◌-◌, ◌<◌, ◌≤◌, List, [], ◌∷◌, length, get_or, take, replicate, None, ◌↔◌, All, nat_eq, Bool, true, false, IsTrue}
+use Rattle.std.proofs.Common.{arith, ◌≡◌, ◌∙◌, sym, ap, refl, subst, ℕ, ℤ, pos, zero, suc, lit≤, ◌+◌, ◌-◌, ◌<◌, ◌≤◌, List, [], ◌∷◌, length, get_or, take, replicate, None, ◌↔◌, All, nat_eq}
 use Rattle.std.specs.List.{IsDistinct}
 use Rattle.std.proofs.lemmas.List.{take_all}
 use Rattle.std.proofs.lemmas.List.Elements.{All-map, All-weaker}
-use Rattle.std.specs.Prelude.{Result, Ok, Err, map}
+use Rattle.std.specs.Prelude.{Result, Ok, Err}
 use Rattle.gnss_obs.specs.Signals.{SignalAt, IsSignal, table}
 use Rattle.gnss_obs.specs.declared.system.System.{System}
 use Rattle.gnss_obs.specs.declared.system.System.TheVariants.{Gps, Galileo}
@@ -14,8 +14,8 @@ use Rattle.rinex_file.specs.Blanks.{trimmed}
 use Rattle.rinex_file.specs.Texts.{HeaderLists, text_count}
 use Rattle.rinex_file.specs.FileValues.{IsText, AreTexts, AreValues, IsPlan, IsTime}
 use Rattle.rinex_file.specs.Header.{row_line, header_lines, end_line, first_types}
-use Rattle.rinex_file.specs.Read.Progress.{Known, Shown, IsShown, KnowsAt, IsHeaderLeft, is_some_planned, plans, signal_count, shown_from, signals_begun}
-use Rattle.rinex_file.specs.Read.HeaderSteps.{IsWholeOf, IsWhole, StepsTo, NoneGoesOn}
+use Rattle.rinex_file.specs.Read.Progress.{Known, Shown, IsShown, KnowsAt, IsHeaderLeft, is_some_planned, plans, signal_count, signals_begun}
+use Rattle.rinex_file.specs.Read.HeaderSteps.{IsWhole, StepsTo, NoneGoesOn}
 use Rattle.obs_epoch.specs.Dates.{civil_of}
 use Rattle.std.proofs.lemmas.Int.{ints}
 use Rattle.obs_epoch.proofs.PlanLemmas.{none_of}

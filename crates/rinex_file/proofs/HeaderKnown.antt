@@ -1,6 +1,6 @@
 -- What is known of a header, from one row to the next.
 use Rattle.std.proofs.Common.{arith, ◌≡◌, ◌≢◌, ◌∙◌, sym, ap, refl, subst, ℕ, zero, suc, ◌+◌, ◌-◌, ◌<◌, ◌≤◌, lit≤, Bool, true, false, ◌==◌, ◌&&◌, ◌||◌, List, [], ◌∷◌, length, take, get_or, ◌↔◌, Option, Some, None}
-use Rattle.std.specs.Prelude.{nat_lt, not}
+use Rattle.std.specs.Prelude.{nat_lt}
 use Rattle.std.proofs.Math.ListN.{get_or-eq_default}
 use Rattle.std.proofs.lemmas.Bool.Decides.{nat_tests}
 use Rattle.std.proofs.lemmas.List.{take_all}
@@ -10,7 +10,7 @@ use Rattle.obs_epoch.specs.Values.{planned_of}
 use Rattle.rinex_file.specs.declared.header.rows.HeaderRow.{HeaderRow}
 use Rattle.rinex_file.specs.declared.header.rows.HeaderRow.TheVariants.{Version, Texts, Position, Delta, Types, StrengthUnit, First, Shift, End}
 use Rattle.rinex_file.specs.Header.{has_line, row_at, row_count, row_place, first_types, type_rows}
-use Rattle.rinex_file.specs.Read.Progress.{Known, Shown, IsShown, KnowsAt, IsHeaderLeft, HasHeaderAt, StaysOpen, plans, signal_count, is_some_planned, shown_line, shown_from, texts_before, signals_begun}
+use Rattle.rinex_file.specs.Read.Progress.{Known, Shown, IsShown, KnowsAt, IsHeaderLeft, StaysOpen, plans, signal_count, is_some_planned, shown_line, shown_from, texts_before, signals_begun}
 use Rattle.rinex_file.specs.Read.HeaderSteps.{IsSole, AreValid, HasShownAt, known_line, SameFrom, StepsTo, NoneGoesOn, LearnsLine, RefusesHeaderLine}
 use Rattle.obs_epoch.specs.Dates.{civil_of}
 use Rattle.rinex_file.proofs.Entries.{few_signals}
@@ -147,10 +147,6 @@ more_planned x xs = grind (arith, nat_tests)
 pub some_planned : (b : Bool) (signals : List ℕ) → b ≡ is_some_planned signals → b ≡ true → 0 < length signals
 some_planned b [] e f = cc
 some_planned b (x ∷ xs) e f = omega arith
-
-none_planned : (b : Bool) (signals : List ℕ) → b ≡ is_some_planned signals → b ≡ false → length signals ≡ 0
-none_planned b [] e f = refl
-none_planned b (x ∷ xs) e f = let m = more_planned x xs in cc
 
 planned_is : (signals : List ℕ) → is_some_planned signals ≡ nat_lt 0 (length signals)
 planned_is [] = refl
@@ -353,14 +349,3 @@ last_at n less at = sym (placed n less) ∙ ap row_place at
 
 pub types_at : (n : ℕ) (s : System) (row : ℕ) → n < row_count → row_at n ≡ Types s row → row < 6
 types_at n s row less at = subst IsRow at (is_row n less)
-
-pub sole_by : (r : HeaderRow) → ((s : System) (row : ℕ) → r ≡ Types s row → ⊥) → (r ≡ End → ⊥) → IsSole r
-sole_by Version types last = tt
-sole_by (Texts r) types last = tt
-sole_by Position types last = tt
-sole_by Delta types last = tt
-sole_by (Types s row) types last = types s row refl
-sole_by StrengthUnit types last = tt
-sole_by First types last = tt
-sole_by (Shift s) types last = tt
-sole_by End types last = last refl

@@ -19,10 +19,10 @@ use Rattle.rinex_file.specs.Numbers.{joined, left, right, fixed}
 use Rattle.rinex_file.specs.Header.{row_line, row_place, text_row_place, start_of, count_of, header_line, lengths, first_line, strength_line, shift_line, version_line}
 use Rattle.rinex_file.specs.Lines.{letter_of}
 use Rattle.rinex_file.specs.Read.Fields.{ReadsExactly}
-use Rattle.rinex_file.specs.Read.Progress.{Known, Shown, IsShown, KnowsAt, plans, signal_count, shown_line, is_some_planned, texts_before, version_with}
-use Rattle.rinex_file.specs.Read.HeaderSteps.{AreValid, HasShownAt, LearnsLine, RefusesHeaderLine, LearnsOrRefuses, ReadsTexts, RefusesTexts, with_texts, with_values, with_first, with_systems}
+use Rattle.rinex_file.specs.Read.Progress.{Known, Shown, IsShown, KnowsAt, plans, shown_line, is_some_planned, texts_before, version_with}
+use Rattle.rinex_file.specs.Read.HeaderSteps.{LearnsLine, RefusesHeaderLine, LearnsOrRefuses, ReadsTexts, RefusesTexts, with_texts, with_values, with_first, with_systems}
 use Rattle.rinex_file.proofs.HeaderText.{same_line, texts_back}
-use Rattle.rinex_file.proofs.HeaderKnown.{both_ways, less_or, KnowsRow, IsOutside, outside_low, outside_high, still_outside, advance, idle}
+use Rattle.rinex_file.proofs.HeaderKnown.{both_ways, KnowsRow, IsOutside, outside_low, outside_high, still_outside, advance, idle}
 use Rattle.rinex_file.proofs.HeaderOpen.{own_next, version_next}
 
 -- ---- a line that is read

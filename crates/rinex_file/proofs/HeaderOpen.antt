@@ -1,5 +1,5 @@
 -- If some header shows what is known before a line, one shows what is known after it.
-use Rattle.std.proofs.Common.{arith, ◌≡◌, ◌≢◌, ◌∙◌, sym, ap, refl, subst, ℕ, zero, suc, ◌+◌, ◌-◌, ◌<◌, ◌≤◌, Bool, true, false, eqb, nat_eq, List, [], ◌∷◌, ◌++◌, length, take, get_or, append_assoc, append-nil, length-append, Option, Some, None, All, ◌↔◌}
+use Rattle.std.proofs.Common.{arith, ◌≡◌, ◌≢◌, ◌∙◌, sym, ap, refl, subst, ℕ, zero, suc, ◌+◌, ◌-◌, ◌<◌, ◌≤◌, Bool, true, false, eqb, nat_eq, List, [], ◌∷◌, ◌++◌, length, take, append_assoc, append-nil, length-append, All, ◌↔◌}
 use Rattle.std.specs.Prelude.{◌||◌, if◌then◌else◌, min}
 use Rattle.std.specs.List.{list_any, IsDistinct, AllByRecursion}
 use Rattle.std.proofs.lemmas.Bool.{eqb-true}
@@ -14,10 +14,10 @@ use Rattle.obs_epoch.specs.Values.{PlanValue, planned_of}
 use Rattle.obs_epoch.specs.Dates.{civil_of}
 use Rattle.rinex_file.specs.FileValues.{IsPlan, AreTexts, AreValues, IsTime}
 use Rattle.rinex_file.specs.Header.{first_types, type_rows, header_lines}
-use Rattle.rinex_file.specs.Read.Progress.{Known, Shown, IsShown, KnowsAt, IsHeaderLeft, HasHeaderAt, plans, signal_count, AreTypes, is_some_planned, signals_begun}
+use Rattle.rinex_file.specs.Read.Progress.{Known, Shown, IsShown, KnowsAt, IsHeaderLeft, HasHeaderAt, plans, AreTypes, is_some_planned, signals_begun}
 use Rattle.rinex_file.specs.Read.HeaderSteps.{AreValid, HasShownAt, plan_with}
 use Rattle.rinex_file.proofs.HeaderEnd.{listed_by}
-use Rattle.rinex_file.proofs.HeaderKnown.{KnowsRow, IsOutside, outside_low, still_outside, advance, more_planned, types_low}
+use Rattle.rinex_file.proofs.HeaderKnown.{KnowsRow, IsOutside, still_outside, advance, more_planned, types_low}
 
 -- ---- numbers below N that a list doesn't have
 

@@ -1,17 +1,16 @@
 -- The rows of a header, one after the other.
-use Rattle.std.proofs.Common.{arith, ◌≡◌, ◌∙◌, sym, ap, refl, subst, ℕ, zero, suc, ◌+◌, ◌-◌, ◌<◌, ◌≤◌, lit≤, Bool, true, false, ◌==◌, List, [], ◌∷◌, ◌++◌, length, drop, take, get_or, Option, Some, None, ◌↔◌}
-use Rattle.std.specs.Prelude.{flat_map, nat_lt, if◌then◌else◌}
+use Rattle.std.proofs.Common.{arith, ◌≡◌, ◌∙◌, sym, ap, refl, subst, ℕ, zero, suc, ◌+◌, ◌-◌, ◌<◌, Bool, true, false, ◌==◌, [], ◌∷◌, ◌++◌, drop}
+use Rattle.std.specs.Prelude.{flat_map, if◌then◌else◌}
 use Rattle.std.proofs.Math.Seq.{drop-cons}
 use Rattle.gnss_obs.proofs.Checked.{passes_at, is_equal}
 use Rattle.obs_epoch.specs.Dates.{civil_of}
 use Rattle.obs_epoch.specs.Values.{PlanValue}
 use Rattle.obs_epoch.specs.declared.cell.StationValues.{StationValues}
 use Rattle.obs_epoch.specs.declared.civil.Civil.{Civil}
-use Rattle.rinex_file.specs.declared.header.rows.HeaderRow.{HeaderRow}
 use Rattle.rinex_file.specs.declared.header.rows.HeaderRow.TheVariants.{End}
 use Rattle.rinex_file.specs.Texts.{HeaderLists}
 use Rattle.rinex_file.specs.Header.{row_line, row_lines, has_line, all_rows, row_count, row_at, row_place, lines_from}
-use Rattle.rinex_file.specs.Read.Progress.{Known, Shown, IsHeaderLeft, shown_from}
+use Rattle.rinex_file.specs.Read.Progress.{Known, Shown, IsHeaderLeft}
 
 -- a row is at its place
 pub placed : (n : ℕ) → n < row_count → row_place (row_at n) ≡ n

@@ -1,6 +1,6 @@
 -- The texts of a header: put in one by one, and had back from the columns of a line.
 use Rattle.std.proofs.Common.{arith, ◌≡◌, ◌≢◌, ◌∙◌, refl, sym, ap, subst, ℕ, zero, suc, ◌+◌, ◌-◌, ◌<◌, ◌≤◌, ◌==◌, Bool, true, false, List, [], ◌∷◌, ◌++◌, length, take, drop, get_or, replicate, append_assoc, append-nil, length-append}
-use Rattle.std.specs.Prelude.{⊤, nat_lt, map}
+use Rattle.std.specs.Prelude.{⊤}
 use Rattle.std.proofs.Math.ListN.{set, length-set}
 use Rattle.std.proofs.lemmas.List.{length-replicate, take_at, drop_at, get_or-set_same, get_or-set_other}
 use Rattle.gnss_obs.proofs.Checked.{is_equal, passes_at}
@@ -12,7 +12,7 @@ use Rattle.rinex_file.specs.Blanks.{trimmed}
 use Rattle.rinex_file.specs.Numbers.{left}
 use Rattle.rinex_file.specs.Texts.{HeaderLists, width_of, column_of, text_of, place_of, field_at, text_count}
 use Rattle.rinex_file.specs.Header.{header_line, text_columns, texts_from, texts_line, front_of, start_of, count_of, label_of}
-use Rattle.rinex_file.specs.Read.HeaderSteps.{text_in, TakesTexts, ReadsTexts, RefusesTexts}
+use Rattle.rinex_file.specs.Read.HeaderSteps.{text_in, TakesTexts, RefusesTexts}
 use Rattle.rinex_file.specs.FileValues.{IsText, AreTexts}
 use Rattle.rinex_file.proofs.Cuts.{filled, trimmed-blank}
 use Rattle.rinex_file.proofs.TypeRows.{content_first}

@@ -1,7 +1,6 @@
 -- The lines of types of a header, as they are read one after the other.
-use Rattle.std.proofs.Common.{arith, ◌≡◌, ◌≢◌, ◌∙◌, sym, ap, refl, subst, ℕ, zero, suc, ◌+◌, ◌-◌, ◌<◌, ◌≤◌, ◌==◌, ◌&&◌, ◌||◌, Bool, true, false, List, [], ◌∷◌, ◌++◌, length, take, min, nat_eq, Option, Some, None, ◌↔◌}
+use Rattle.std.proofs.Common.{arith, ◌≡◌, ◌∙◌, sym, ap, refl, subst, ℕ, suc, ◌+◌, ◌-◌, ◌<◌, ◌≤◌, ◌==◌, ◌&&◌, ◌||◌, Bool, true, false, List, length, take, min, nat_eq, Option, Some, None, ◌↔◌}
 use Rattle.std.specs.Prelude.{Result, Err, nat_lt}
-use Rattle.std.proofs.lemmas.Bool.Decides.{nat_tests}
 use Rattle.std.proofs.lemmas.List.{take-take, take-map, length-take}
 use Rattle.gnss_obs.specs.Signals.{SignalAt, table}
 use Rattle.gnss_obs.specs.declared.system.System.{System}
@@ -11,12 +10,12 @@ use Rattle.obs_epoch.specs.Values.{PlanValue, planned_of}
 use Rattle.obs_epoch.proofs.PlanLemmas.{length_indices}
 use Rattle.rinex_file.specs.declared.header.rows.HeaderRow.TheVariants.{Types}
 use Rattle.rinex_file.specs.Header.{row_line, has_line, first_types, type_rows}
-use Rattle.rinex_file.specs.Read.Progress.{Known, Shown, IsShown, KnowsAt, plans, signal_count, shown_line, AreTypes, types_line, signals_begun, texts_before, is_some_planned}
+use Rattle.rinex_file.specs.Read.Progress.{Known, Shown, IsShown, KnowsAt, plans, signal_count, AreTypes, types_line, signals_begun, texts_before, is_some_planned}
 use Rattle.rinex_file.specs.Read.HeaderSteps.{known_line, AreValid, HasShownAt, LearnsLine, RefusesHeaderLine, AreBegun, CountsDue, ComparesRow, TakesRow, RefusesRow, plan_with, with_signals, with_count}
 use Rattle.std.specs.Prelude.{All}
 use Rattle.std.specs.List.{IsDistinct}
 use Rattle.rinex_file.proofs.HeaderOpen.{own, own_is, all_plan, some_planned_of, Whole, whole_with}
-use Rattle.rinex_file.proofs.HeaderKnown.{IsOutside, still, few_shown, types_low, types_high, all_texts, some_planned, present, same_system}
+use Rattle.rinex_file.proofs.HeaderKnown.{still, few_shown, types_low, types_high, all_texts, some_planned, present}
 
 -- ---- numbers of signals
 

@@ -24,10 +24,6 @@ version_of letter = header_line
 abbrev pub letter_with : Bool → Bool → ℕ
 letter_with gps galileo = if gps then (if galileo then 77 else 71) else 69
 
--- the letter by the systems that are not planned
-abbrev letter_without : Bool → Bool → ℕ
-letter_without gps galileo = if gps then 69 else (if galileo then 71 else 77)
-
 letter_back : (letter : ℕ) → get_or (version_of letter) 40 0 ≡ letter
 unfolding header_line digits
 letter_back letter = refl

@@ -1,7 +1,6 @@
 -- What is known of a file while its lines are read, one after the other, and which files may still follow.
 use Rattle.std.specs.Prelude.{◌≡◌, ℕ, ℤ, ◌+◌, ◌-◌, ◌*◌, ◌/◌, ◌<◌, ◌==◌, not, Bool, List, [], ◌∷◌, ◌++◌, length, take, drop, get_or, map, All, replicate, codes, pos, nat_eq, if◌then◌else◌, flat_map, Option, Some, None, ⊤}
 use Rattle.gnss_obs.specs.declared.system.System.{System}
-use Rattle.gnss_obs.specs.declared.system.System.TheVariants.{Gps, Galileo}
 use Rattle.obs_epoch.specs.declared.cell.StationValues.{StationValues}
 use Rattle.obs_epoch.specs.Values.{PlanValue, planned_of}
 use Rattle.obs_epoch.specs.Dates.{civil_of}

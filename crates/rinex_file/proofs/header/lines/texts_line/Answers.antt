@@ -1,8 +1,8 @@
-use Rattle.std.proofs.Common.{arith, ◌≡◌, ◌∙◌, sym, ap, subst, refl, ℕ, suc, zero, ◌+◌, ◌-◌, ◌*◌, ◌<◌, ◌≤◌, List, [], ◌++◌, length, get_or, append_assoc, append-nil}
+use Rattle.std.proofs.Common.{arith, ◌≡◌, ◌∙◌, sym, ap, subst, ℕ, suc, ◌+◌, ◌-◌, ◌<◌, ◌≤◌, List, [], ◌++◌, get_or, append_assoc, append-nil}
 use Rattle.rinex_file.specs.declared.header.fault.HeaderField.{HeaderField}
 use Rattle.rinex_file.specs.Numbers.{left}
 use Rattle.rinex_file.specs.Texts.{HeaderLists, place_of, text_of, field_at, width_of}
-use Rattle.rinex_file.specs.Header.{header_line, texts_from, text_columns, front_of, start_of, count_of, label_of}
+use Rattle.rinex_file.specs.Header.{header_line, texts_from, text_columns, start_of, count_of, label_of}
 use Rattle.rinex_file.proofs.HeaderText.{place_back, field_back, field_less}
 use Rattle.rinex_file.proofs.Faultless.{few_columns}
 use Rattle.rinex_file.proofs.header.lines.texts_line.Goals as goal

@@ -1,4 +1,4 @@
-use Rattle.std.proofs.Common.{◌≡◌, ◌∙◌, sym, refl, subst, ℕ, List, Bool, true, false, IsTrue, ◌↔◌}
+use Rattle.std.proofs.Common.{◌≡◌, ◌∙◌, sym, refl, ℕ, List, Bool, true, false, IsTrue, ◌↔◌}
 use Rattle.std.specs.Prelude.{MatchBool}
 use Rattle.rinex_file.specs.declared.header.rows.TextRow.{TextRow}
 use Rattle.rinex_file.specs.Texts.{HeaderLists}

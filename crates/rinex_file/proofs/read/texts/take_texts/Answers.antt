@@ -1,4 +1,4 @@
-use Rattle.std.proofs.Common.{arith, ◌≡◌, ◌∙◌, sym, ap, subst, ℕ, ◌+◌, ◌<◌, List, [], get_or}
+use Rattle.std.proofs.Common.{arith, ◌≡◌, ◌∙◌, ap, subst, ℕ, ◌+◌, ◌<◌, List, [], get_or}
 use Rattle.rinex_file.specs.Texts.{width_of, field_at}
 use Rattle.rinex_file.specs.FileValues.{IsText}
 use Rattle.rinex_file.specs.Header.{start_of, count_of}

@@ -1,4 +1,4 @@
-use Rattle.std.proofs.Common.{◌≡◌, ◌≤◌}
+use Rattle.std.proofs.Common.{◌≡◌}
 use Rattle.rinex_file.specs.Header.{start_of, count_of}
 use Rattle.rinex_file.specs.Read.HeaderSteps.{TakesTexts}
 use Rattle.rinex_file.proofs.read.texts.take_texts.Given as goal

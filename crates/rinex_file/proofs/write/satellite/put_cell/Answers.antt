@@ -1,8 +1,8 @@
-use Rattle.std.proofs.Common.{arith, ◌≡◌, ◌∙◌, sym, ap, subst, ◌∷◌, List, slice_set}
+use Rattle.std.proofs.Common.{arith, ◌≡◌, ◌∙◌, sym, ap, ◌∷◌, List, slice_set}
 use Rattle.obs_epoch.specs.Plans.{place_in}
 use Rattle.obs_epoch.specs.Values.{planned_of}
 use Rattle.rinex_file.specs.Value.{SignalValues, signal_values_at, signal_values_of}
-use Rattle.rinex_file.proofs.CellPlaces.{no_place, others_stay, passed_satellite, cell_put}
+use Rattle.rinex_file.proofs.CellPlaces.{no_place, others_stay, cell_put}
 use Rattle.rinex_file.proofs.write.satellite.put_cell.Goals as goal
 
 pub returns-in-None-clause-put : goal.returns-in-None-clause-put

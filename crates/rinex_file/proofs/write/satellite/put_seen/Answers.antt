@@ -1,4 +1,4 @@
-use Rattle.std.proofs.Common.{arith, ◌≡◌, ◌∙◌, sym, ap, subst, ℕ, ◌≤◌, List, length, take, replicate, All}
+use Rattle.std.proofs.Common.{arith, ◌∙◌, sym, ap, subst, ℕ, ◌≤◌, List, length, take, replicate, All}
 use Rattle.gnss_obs.specs.Signals.{table}
 use Rattle.obs_epoch.specs.Values.{planned_of}
 use Rattle.rinex_file.proofs.Entries.{few_signals}

@@ -1,8 +1,6 @@
-use Rattle.std.proofs.Common.{◌∙◌, ◌<◌, sym, subst, ap, [], length, get_or}
+use Rattle.std.proofs.Common.{◌∙◌, ◌<◌, sym, subst, ap, [], get_or}
 use Rattle.std.proofs.lemmas.List.{map-set, get_or-set_same, get_or-set_other}
 use Rattle.std.specs.Prelude.{map}
-use Rattle.std.proofs.Math.ListN.{set}
-use Rattle.rinex_file.specs.Texts.{text_count}
 use Rattle.rinex_file.specs.FileValues.{AreTexts}
 use Rattle.rinex_file.proofs.HeaderText.{set_text}
 use Rattle.rinex_file.proofs.header.texts.HeaderTexts.set.Goals as goal

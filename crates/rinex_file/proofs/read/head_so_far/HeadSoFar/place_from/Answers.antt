@@ -1,4 +1,4 @@
-use Rattle.std.proofs.Common.{arith, ◌∙◌, ◌≡◌, ◌+◌, sym, ap, subst, suc, refl, ℕ, false}
+use Rattle.std.proofs.Common.{arith, ◌∙◌, ◌≡◌, ◌+◌, sym, ap, subst, suc, false}
 use Rattle.rinex_file.specs.Header.{row_at}
 use Rattle.rinex_file.specs.Read.HeaderSteps.{SameFrom, known_line}
 use Rattle.rinex_file.proofs.HeaderKnown.{skipped, same_on, nothing_left}

@@ -1,4 +1,3 @@
-use Rattle.std.proofs.Common.{◌≤◌}
 use Rattle.rinex_file.specs.Read.HeaderSteps.{SameFrom}
 use Rattle.rinex_file.proofs.read.head_so_far.HeadSoFar.place_from.Given as goal
 

@@ -1,4 +1,4 @@
-use Rattle.std.proofs.Common.{◌≡◌, sym, ap, subst, ℕ, List, Bool, true, false}
+use Rattle.std.proofs.Common.{◌≡◌, subst, ℕ, List, Bool, true, false}
 use Rattle.std.specs.Prelude.{MatchBool}
 use Rattle.rinex_file.specs.declared.header.rows.TextRow.{TextRow}
 use Rattle.rinex_file.specs.declared.header.rows.HeaderRow.TheVariants.{Texts}

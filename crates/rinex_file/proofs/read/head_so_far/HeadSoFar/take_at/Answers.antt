@@ -1,15 +1,13 @@
-use Rattle.std.proofs.Common.{◌≡◌, ◌∙◌, sym, ap, subst, refl, true, false, ℕ, List, Bool, Some, None}
+use Rattle.std.proofs.Common.{◌≡◌, ◌∙◌, sym, ap, subst, refl, true, false, ℕ, Bool, Some, None}
 use Rattle.std.specs.Prelude.{MatchBool, Err}
 use Rattle.std.proofs.lemmas.Result.{err_from_is_err_and}
 use Rattle.gnss_obs.specs.declared.system.System.{System}
-use Rattle.rinex_file.specs.declared.header.rows.HeaderRow.{HeaderRow}
 use Rattle.rinex_file.specs.declared.header.rows.HeaderRow.TheVariants.{Types, End}
 use Rattle.rinex_file.specs.Header.{row_at}
-use Rattle.rinex_file.specs.Read.Progress.{Known}
-use Rattle.rinex_file.specs.Read.HeaderSteps.{known_line, LearnsLine, RefusesHeaderLine, LearnsOrRefuses, StepsTo, NoneGoesOn}
+use Rattle.rinex_file.specs.Read.HeaderSteps.{StepsTo, NoneGoesOn}
 use Rattle.rinex_file.proofs.HeaderEnd.{ok_bad}
 use Rattle.rinex_file.proofs.HeaderTypes.{same_refusal}
-use Rattle.rinex_file.proofs.HeaderKnown.{step_at, none_at, last_at, types_at, sole_by}
+use Rattle.rinex_file.proofs.HeaderKnown.{step_at, none_at, last_at, types_at}
 use Rattle.rinex_file.proofs.read.head_so_far.HeadSoFar.take_at.Goals as goal
 
 pub take_types-requires-clause-row : goal.take_types-requires-clause-row
