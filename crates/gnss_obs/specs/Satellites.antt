@@ -33,3 +33,8 @@ satellite_of_id system id =
     if nat_le 1 id && nat_le id (satellites system)
     then Some (record { system = system; id = id })
     else None
+
+-- the letter of a system in RINEX, in ASCII
+abbrev pub letter : System → ℕ
+letter Gps = 71
+letter Galileo = 69

@@ -18,8 +18,18 @@ pub enum System {
 }
 
 impl System {
-    ghost use Rattle.gnss_obs.specs.Satellites.{satellites, most_satellites};
+    ghost use Rattle.gnss_obs.specs.Satellites.{satellites, most_satellites, letter};
     ghost use Rattle.gnss_obs.specs.Signals.{table, signal_count, most_signals};
+
+    /// Returns the letter of the system in RINEX, in ASCII.
+    pub fn letter(self) -> u8
+        ensures { result ≡ letter self }
+    {
+        match self {
+            System::Gps => b'G',
+            System::Galileo => b'E',
+        }
+    }
 
     /// Returns the number of satellites of the system, which are numbered from 1.
     pub fn satellites(self) -> u8
