@@ -5,7 +5,7 @@ ghost use Rattle.rtcm_msg.specs.Fields.{GivesViewed, field_at, number_at};
 use crate::fault::MsgFault;
 use rtcm_bits::{BitReader, number_at, signed_of};
 
-/// The next field.
+/// Reads the next field.
 #[tactic(auto, unfolding(crate::specs::Fields::number_at))]
 pub(crate) fn field(reader: &mut BitReader, width: u32) -> Result<u64, MsgFault>
     requires few { width ≤ 64 }
@@ -19,7 +19,7 @@ pub(crate) fn field(reader: &mut BitReader, width: u32) -> Result<u64, MsgFault>
     }
 }
 
-/// The field from a bit on, in two's complement.
+/// Returns the field that begins at a bit, in two's complement.
 #[inline(always)]
 pub(crate) fn signed_at(bytes: &[u8], place: usize, width: u32) -> i64
     requires some { 0 < width }

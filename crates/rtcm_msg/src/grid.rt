@@ -10,8 +10,8 @@ ghost use Rattle.rtcm_msg.specs.Rows.{row_at};
 
 use crate::fault::Field;
 
-/// One of the two precisions of multiple signal messages: what a satellite and a cell hold, in
-/// which fields, and what it means. Reading and writing are the same in both.
+/// A precision of multiple signal messages: the fields of a satellite and of a cell, and their
+/// meaning. Reading and writing are the same in each.
 pub trait Grid {
     /// The data of a satellite.
     type Satellite: Copy + Drop;
@@ -43,10 +43,10 @@ pub trait Grid {
     /// The cell whose fields are in the number.
     ghost cell_at: { ℕ → Self.Cell };
 
-    /// The message number of GPS, or where it is true of Galileo.
+    /// The message number of GPS, or if true, of Galileo.
     ghost number_of: { Bool → ℕ };
 
-    /// The message number, DF002.
+    /// Returns the message number, DF002.
     fn number_of(is_galileo: bool) -> u16
         ensures value { result ≡ number_of is_galileo }
         ensures bound { result < 2 ^ 12 };
@@ -57,12 +57,14 @@ pub trait Grid {
     /// The first field, in the order of the layout, that some cell does not fit.
     ghost cell_fault_of: { List Self.Cell → Option Field };
 
-    /// The first field, in the order of the layout, that does not fit its bits in some satellite.
+    /// Returns the first field, in the order of the layout, that does not fit its bits in some
+    /// satellite.
     fn satellite_fault(satellites: &[Self::Satellite]) -> Option<Field>
         ensures first { result ≡ satellite_fault_of satellites.now }
         ensures none { IfNone result (All is_satellite satellites.now) };
 
-    /// The first field, in the order of the layout, that does not fit its bits in some cell.
+    /// Returns the first field, in the order of the layout, that does not fit its bits in some
+    /// cell.
     fn cell_fault(cells: &[Self::Cell]) -> Option<Field>
         ensures first { result ≡ cell_fault_of cells.now }
         ensures none { IfNone result (All is_cell cells.now) };
@@ -85,46 +87,46 @@ pub trait Grid {
     /// Whether a half-cycle ambiguity is possible.
     ghost half_cycle_of: { Self.Cell → Bool };
 
-    /// How many lock time indicators there are.
+    /// The number of lock time indicators.
     ghost lock_codes: { ℕ };
 
-    /// The pseudorange in 2^-31 ms: the rough range and the cell's fine pseudorange. None where
-    /// either is invalid.
+    /// Returns the pseudorange in 2^-31 ms: the rough range and the cell's fine pseudorange. `None`
+    /// if either is invalid.
     fn range(satellite: &Self::Satellite, cell: &Self::Cell) -> Option<i64>
         ensures value { result ≡ range_of satellite.now cell.now }
         ensures bound { is_satellite satellite.now → is_cell cell.now → IfSome result (λ r. unsigned_abs r ≤ 2 ^ 40) };
 
-    /// The phase range in 2^-31 ms: the rough range and the cell's fine phase range. None where
-    /// either is invalid.
+    /// Returns the phase range in 2^-31 ms: the rough range and the cell's fine phase range. `None`
+    /// if either is invalid.
     fn phase(satellite: &Self::Satellite, cell: &Self::Cell) -> Option<i64>
         ensures value { result ≡ phase_of satellite.now cell.now }
         ensures bound { is_satellite satellite.now → is_cell cell.now → IfSome result (λ r. unsigned_abs r ≤ 2 ^ 40) };
 
-    /// The phase range rate in 0.0001 m/s. None where its rough or fine part is invalid, and in
-    /// MSM4.
+    /// Returns the phase range rate in 0.0001 m/s. `None` if its rough or fine part is invalid, and
+    /// in MSM4.
     fn rate(satellite: &Self::Satellite, cell: &Self::Cell) -> Option<i32>
         ensures value { result ≡ rate_of satellite.now cell.now }
         ensures bound { is_satellite satellite.now → is_cell cell.now → IfSome result (λ r. unsigned_abs r ≤ 10 ^ 8) };
 
-    /// The carrier to noise ratio in 1/16 dB-Hz. None where it was not computed.
+    /// Returns the carrier to noise ratio in 1/16 dB-Hz. `None` if it was not computed.
     fn strength(cell: &Self::Cell) -> Option<u16>
         ensures value { result ≡ strength_of cell.now }
         ensures bound { is_cell cell.now → IfSome result (λ s. s < 2 ^ 10) };
 
-    /// The lock time indicator, DF402 or DF407.
+    /// Returns the lock time indicator, DF402 or DF407.
     fn lock_code(cell: &Self::Cell) -> u16
         ensures value { result ≡ lock_code_of cell.now }
         ensures bound { is_cell cell.now → result < lock_codes };
 
-    /// Whether a half-cycle ambiguity is possible, DF420.
+    /// Returns whether a half-cycle ambiguity is possible, DF420.
     fn half_cycle(cell: &Self::Cell) -> bool
         ensures { result ≡ half_cycle_of cell.now };
 
-    /// The widths of a satellite's fields, in the order of the layout.
+    /// Returns the widths of a satellite's fields, in the order of the layout.
     fn satellite_widths() -> &'static [u32]
         ensures { result.now ≡ satellite_widths };
 
-    /// The widths of a cell's fields, in the order of the layout.
+    /// Returns the widths of a cell's fields, in the order of the layout.
     fn cell_widths() -> &'static [u32]
         ensures { result.now ≡ cell_widths };
 
@@ -148,7 +150,7 @@ pub trait Grid {
         requires { number < 2 ^ total_width cell_widths }
         ensures { result ≡ cell_at number };
 
-    /// The satellite of place `i`, where the data of `count` satellites begin at bit `place`.
+    /// Reads satellite `i` of `count` satellites, whose data begin at bit `place`.
     fn satellite_in(bytes: &[u8], count: usize, place: usize, i: usize) -> Self::Satellite
         requires there { i < count }
         requires few { count ≤ satellite_mask_bits }
@@ -156,7 +158,7 @@ pub trait Grid {
         requires small { length bytes.now ≤ longest_message }
         ensures { result ≡ satellite_at (row_at satellite_widths count (bits_of bytes.now) place i 0) };
 
-    /// The cell of place `i`, where the data of `count` cells begin at bit `place`.
+    /// Reads cell `i` of `count` cells, whose data begin at bit `place`.
     fn cell_in(bytes: &[u8], count: usize, place: usize, i: usize) -> Self::Cell
         requires there { i < count }
         requires few { count ≤ most_pairs }
@@ -197,10 +199,10 @@ pub trait Grid {
     ghost lock_fits: { (c : Self.Cell) → is_cell c → lock_code_of c < lock_codes };
 }
 
-/// The rough range in whole milliseconds, DF397, that is none.
+/// The value of DF397 for no rough range.
 const INVALID_RANGE: u8 = 255;
 
-/// The rough range in units of 2^-31 ms with a fine part.
+/// Returns the rough range with a fine part, in 2^-31 ms.
 pub(crate) fn range_joined(whole: u8, fraction: u16, fine: Option<i64>) -> Option<i64>
     requires fits { ForSome fine (λ z. unsigned_abs z ≤ 2 ^ 33) }
     ensures value { result ≡ range_joined whole fraction fine }

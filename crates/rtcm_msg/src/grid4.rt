@@ -42,7 +42,7 @@ const SATELLITE_WIDTHS: [u32; 2] = [8, 10];
 /// The widths of DF400, DF401, DF402, DF420 and DF403.
 const CELL_WIDTHS: [u32; 5] = [15, 22, 4, 1, 6];
 
-// The type bounds this part already: the test tells the proof so of each element.
+// The type bounds this part: by the test the prover knows it of each element.
 fn has_bad_range_whole(satellites: &[Satellite4]) -> bool
     ensures { result ≡ list_any (λ x. nat_le (2 ^ 8) x.whole) satellites.now }
 {

@@ -48,7 +48,7 @@ const SATELLITE_WIDTHS: [u32; 4] = [8, 4, 10, 14];
 /// The widths of DF405, DF406, DF407, DF420, DF408 and DF404.
 const CELL_WIDTHS: [u32; 6] = [20, 24, 10, 1, 10, 15];
 
-// The type bounds this part already: the test tells the proof so of each element.
+// The type bounds this part: by the test the prover knows it of each element.
 fn has_bad_range_whole(satellites: &[Satellite7]) -> bool
     ensures { result ≡ list_any (λ x. nat_le (2 ^ 8) x.whole) satellites.now }
 {

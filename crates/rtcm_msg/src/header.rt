@@ -7,10 +7,10 @@ use crate::fault::{Field, MsgFault};
 use crate::field::field;
 use rtcm_bits::BitReader;
 
-/// The milliseconds of a week.
+/// Number of milliseconds of a week.
 pub const WEEK: u32 = 604_800_000;
 
-/// The fields at the head of a multiple signal message (MSM), behind its number.
+/// The header fields of a multiple signal message (MSM) after its number.
 #[derive(Clone, Copy, Debug, PartialEq, Eq)]
 pub struct MsmHeader {
     /// Reference station ID, DF003: 12 bits.
@@ -31,8 +31,8 @@ pub struct MsmHeader {
     pub interval: u8,
 }
 
-/// Reads the head of an MSM behind its number. A time of a week or more is a fault as soon as it
-/// was read.
+/// Reads the header of an MSM after its number. A time of a week or more is a fault as soon as it
+/// is read.
 #[tactic(auto, unfolding(crate::specs::Msm::header_at))]
 pub(crate) fn read_header(reader: &mut BitReader) -> Result<MsmHeader, MsgFault>
     ensures read { GivesViewed (λ h. (h, reader.new)) result (header_at reader.old) }
@@ -46,7 +46,7 @@ pub(crate) fn read_header(reader: &mut BitReader) -> Result<MsmHeader, MsgFault>
     read_behind_time(reader, station, time)
 }
 
-// Reads what stands behind the time.
+// Reads the fields after the time.
 fn read_behind_time(reader: &mut BitReader, station: u16, time: u32) -> Result<MsmHeader, MsgFault>
     requires station { station < 2 ^ 12 }
     requires time { time < week }
@@ -72,8 +72,8 @@ fn read_behind_time(reader: &mut BitReader, station: u16, time: u32) -> Result<M
     })
 }
 
-/// The first field, in the order of the layout, that does not fit its bits. The time is judged
-/// before.
+/// Returns the first field, in the order of the layout, that does not fit its bits. The time was
+/// checked before.
 pub(crate) fn header_fault(header: &MsmHeader) -> Option<Field>
     ensures first { result ≡ header_fault header.now }
     ensures none { header.now.time < 604800000 → IfNone result (IsHeader header.now) }

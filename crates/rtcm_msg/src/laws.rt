@@ -10,8 +10,8 @@ ghost use Rattle.rtcm_msg.specs.Reach.{EntriesAreMeasured, PointsAreTold};
 ghost use Rattle.rtcm_msg.specs.Msm.{MsmValue, MasksValue, IsValue, satellite_mask_bits};
 ghost use Rattle.rtcm_msg.specs.Meaning.{Meaning, IsMeaning, meaning, pair_number, cell_pairs, first_pair, last_pair, keys};
 
-/// What is spelled with zero for the reserved bits, and filled up with zero bits to a byte, is read
-/// back.
+/// A message encoded with zero for the reserved bits, and filled up with zero bits to a byte, is
+/// decoded again.
 pub fn read_back()
     ensures spelled { (v : Message) → IsMessage v → is_other v ≡ false → ReadsMessage (filled (message_bits v 0)) v }
     ensures read { (v : Message) (bytes : List ℕ) → IsMessage v → is_other v ≡ false → IsEncoding bytes v → message_at bytes ≡ Ok v }
@@ -32,8 +32,8 @@ pub fn masks_are_sets()
     ensures all { (w : ℕ) (xs : List ℕ) → Rising 1 w xs → (m : ℕ) × (m < 2 ^ w) × (ids w m ≡ xs) }
 {}
 
-/// A value is what it means: a header, the satellites and the signals, a map from satellites to
-/// their data, and a map from pairs of a satellite and a signal to cells, where the pairs rise.
+/// A value is its meaning: a header, the satellites and the signals, a map from satellites to their
+/// data, and a map from pairs of a satellite and a signal, in rising order, to cells.
 pub fn values_are_maps()
     ensures satellites { (sw cw : List ℕ) (v : MsmValue) → IsValue sw cw v → keys (meaning v).satellites ≡ ids satellite_mask_bits v.sets.satellites }
     ensures cells { (sw cw : List ℕ) (v : MsmValue) → IsValue sw cw v → keys (meaning v).cells ≡ cell_pairs v.sets }
@@ -42,11 +42,11 @@ pub fn values_are_maps()
     ensures all { (sw cw : List ℕ) (m : Meaning) → IsMeaning sw cw m → (v : MsmValue) × IsValue sw cw v × (meaning v ≡ m) }
 {}
 
-/// How far the numbers of a message reach.
+/// Bounds of the numbers of a message.
 pub fn measures()
     // What is read is a value: each field within its bits.
     ensures value { (bytes : List ℕ) (m : Message) → message_at bytes ≡ Ok m → IsMessage m }
-    // And what a cell says is within the bounds of its fractions.
+    // The fractions of a cell are within their bounds.
     ensures cells { EntriesAreMeasured }
     ensures points { PointsAreTold }
 {}

@@ -8,19 +8,19 @@ use crate::field::field;
 use rtcm_bits::BitReader;
 use std::marker::Model;
 
-/// The bits of the satellite mask, DF394.
+/// Number of bits of the satellite mask, DF394.
 pub(crate) const SATELLITE_MASK_BITS: u32 = 64;
 
-/// The bits of the signal mask, DF395.
+/// Number of bits of the signal mask, DF395.
 pub(crate) const SIGNAL_MASK_BITS: u32 = 32;
 
-/// The most bits of the cell mask, DF396.
+/// Largest number of bits of the cell mask, DF396.
 const MOST_CELL_MASK_BITS: u32 = 64;
 
-/// The most satellites of a message, one for each bit of the satellite mask.
+/// Largest number of satellites of a message, one for each bit of the satellite mask.
 pub const MOST_SATELLITES: usize = SATELLITE_MASK_BITS as usize;
 
-/// The most pairs of a satellite and a signal, and so the most cells of a message.
+/// Largest number of pairs of a satellite and a signal, and so of cells of a message.
 pub const MOST_PAIRS: usize = MOST_CELL_MASK_BITS as usize;
 
 /// The satellites, the signals, and the pairs of both that have a cell: at most 64 pairs.
@@ -44,14 +44,15 @@ impl Model for Masks {
 }
 
 impl Masks {
-    /// The masks of an MSM: satellites DF394, signals DF395, cells DF396. The most significant bit
-    /// of the first two is ID 1. The cell mask has a bit for each pair, by satellite and within it
-    /// by signal, and is taken as a number, the first pair in its most significant bit.
+    /// Returns the masks of an MSM: satellites DF394, signals DF395, cells DF396. The most
+    /// significant bit of the first two is ID 1. The cell mask has a bit for each pair, by
+    /// satellite and within it by signal, as a number with the first pair in its most significant
+    /// bit.
     ///
     /// # Errors
     ///
-    /// `TooManyCells` where there are more than 64 pairs of a satellite and a signal, else
-    /// `OutOfRange(Field::Cells)` where the cell mask has more bits than there are pairs.
+    /// `TooManyCells` if there are more than 64 pairs of a satellite and a signal, else
+    /// `OutOfRange(Field::Cells)` if the cell mask has more bits than there are pairs.
     pub fn new(satellites: u64, signals: u32, cells: u64) -> Result<Masks, ValueFault>
         ensures { result ≡ masks_of satellites signals cells }
     {
@@ -69,21 +70,21 @@ impl Masks {
         })
     }
 
-    /// The satellite mask, DF394.
+    /// Returns the satellite mask, DF394.
     pub fn satellites(&self) -> u64
         ensures { result ≡ self.now.satellites }
     {
         self.satellites
     }
 
-    /// The signal mask, DF395.
+    /// Returns the signal mask, DF395.
     pub fn signals(&self) -> u32
         ensures { result ≡ self.now.signals }
     {
         self.signals
     }
 
-    /// The cell mask, DF396, as a number.
+    /// Returns the cell mask, DF396, as a number.
     pub fn cells(&self) -> u64
         ensures value { result ≡ self.now.cells }
         ensures sets { AreMasks self.now }
@@ -92,7 +93,7 @@ impl Masks {
     }
 }
 
-/// Reads the masks. More than 64 pairs are a fault as soon as the first two masks were read.
+/// Reads the masks. More than 64 pairs are a fault as soon as the first two masks are read.
 #[tactic(auto, unfolding(crate::specs::Msm::masks_at))]
 pub(crate) fn read_masks(reader: &mut BitReader) -> Result<Masks, MsgFault>
     ensures { GivesViewed (λ m. (m, reader.new)) result (masks_at reader.old) }

@@ -28,16 +28,15 @@ pub enum Message {
     Msm4(Msm<Grid4>),
     /// Message 1077 or 1097.
     Msm7(Msm<Grid7>),
-    /// A message of another number, DF002. Of a multiple signal message from 1071 to 1127, of
-    /// whatever type, that is long enough for them, `set` has the station, DF003, and the multiple
-    /// message bit, DF393.
+    /// A message of another number, DF002. For a multiple signal message of any type, 1071 to 1127,
+    /// `set` is its station, DF003, and its multiple message bit, DF393, if it contains them.
     Other {
         number: u16,
         set: Option<(u16, bool)>,
     },
 }
 
-/// The station and DF393 of a multiple signal message behind its number, if they are there.
+/// Reads the station and DF393 of a multiple signal message after its number, if it contains them.
 pub(crate) fn read_set(reader: &mut BitReader) -> Option<(u16, bool)>
     ensures { result ≡ set_at reader.old }
 {
@@ -47,14 +46,14 @@ pub(crate) fn read_set(reader: &mut BitReader) -> Option<(u16, bool)>
     Some((station, more))
 }
 
-/// Whether a message of this number is a multiple signal message from 1071 to 1127, of whatever type.
+/// Returns whether a message of this number is a multiple signal message of any type, 1071 to 1127.
 pub(crate) fn is_any_msm(number: u16) -> bool
     ensures { result ≡ is_any_msm number }
 {
     number >= 1071 && number <= 1127 && number % 10 >= 1 && number % 10 <= 7
 }
 
-/// Reads the message that is looked at.
+/// Reads a message through its view.
 fn read_message(bytes: &[u8]) -> Result<Message, MsgFault>
     ensures { GivesViewed (λ m. m) result (message_at bytes.now) }
 {
@@ -64,7 +63,7 @@ fn read_message(bytes: &[u8]) -> Result<Message, MsgFault>
     }
 }
 
-/// As many bytes as the longest message has, behind which no field ends.
+/// Returns the bytes up to the length of the longest message, after which no field ends.
 pub(crate) fn front(bytes: &[u8]) -> &[u8]
     ensures few { length result.now ≤ longest_message }
     ensures same { message_at result.now ≡ message_at bytes.now }
@@ -76,18 +75,18 @@ pub(crate) fn front(bytes: &[u8]) -> &[u8]
     }
 }
 
-/// Reads a message. Reserved bits and what stands behind the last field may be anything. A number
-/// other than the six that are read gives `Message::Other`.
+/// Reads a message. Reserved bits and bits after the last field are ignored. A number other than
+/// the six that are read gives `Message::Other`.
 ///
 /// # Errors
 ///
 /// The first fault in the order of the fields: `Short` with the number of bits before the first
 /// field that does not end within the message, `BadTime` for an epoch time of a week or more as
-/// soon as it was read, `TooManyCells` for more than 64 pairs of a satellite and a signal as soon
-/// as both masks were read.
+/// soon as it is read, `TooManyCells` for more than 64 pairs of a satellite and a signal as soon
+/// as both masks are read.
 pub fn decode(bytes: &[u8]) -> Result<Message, MsgFault>
     ensures exact { GivesViewed (λ m. m) result (message_at bytes.now) }
-    // What is spelled is read, whatever the reserved bits are and whatever follows.
+    // An encoding is read with any reserved bits, and with any bits after it.
     ensures only { (v : Message) → ReadsMessage (bits_of bytes.now) v → result ≡ Ok v }
     ensures found { IfOk result (λ v. IsMessage v × ReadsMessage (bits_of bytes.now) v) }
     ensures fault { IfErr result (IsFault (bits_of bytes.now)) }
@@ -97,7 +96,7 @@ pub fn decode(bytes: &[u8]) -> Result<Message, MsgFault>
 }
 
 impl Message {
-    /// The message as a view.
+    /// Returns the message as a view.
     pub fn view(&self) -> View<'_>
         ensures { viewed_message result ≡ self.now }
     {
@@ -112,7 +111,7 @@ impl Message {
         }
     }
 
-    /// Whether the message is of a number that is not read.
+    /// Returns whether the message is of a number that is not read.
     pub fn is_other(&self) -> bool
         ensures { result ≡ is_other self.now }
     {
@@ -136,7 +135,7 @@ fn write_message(writer: &mut BitWriter, message: &Message)
 }
 
 /// Replaces the bytes by the message, with zero for the reserved bits, and filled up with zero bits
-/// to a byte. `decode` gives the message back.
+/// to a byte. `decode` returns the same message.
 pub fn encode(message: &Message, bytes: &mut ArrayVec<u8, LONGEST_MESSAGE>)
     requires { is_other message.now ≡ false }
     ensures bits { IsEncoding bytes.new.items message.now }

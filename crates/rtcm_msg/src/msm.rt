@@ -18,7 +18,7 @@ use std::marker::{Model, PhantomData};
 /// A multiple signal message of GPS or Galileo, in the precision of the grid: a header, the
 /// satellites and signals that the masks name, data for each satellite, and a cell for each pair
 /// that has one.
-// The data stand packed, each satellite's or cell's fields in one number.
+// The fields of each satellite and of each cell are packed into one number.
 #[derive(Drop)]
 pub struct Msm<G: Grid> {
     is_galileo: bool,
@@ -41,14 +41,14 @@ impl<G: Grid> Model for Msm<G> {
 }
 
 impl<G: Grid> Msm<G> {
-    /// A message of these parts. The satellites stand in rising order of their IDs, the cells in
-    /// the order of the cell mask.
+    /// Returns the message of these parts. The satellites are in rising order of their IDs, the
+    /// cells in the order of the cell mask.
     ///
     /// # Errors
     ///
-    /// In this order: `BadTime` where the time is a week or more, `CellCount` where there are more
-    /// or fewer satellites or cells than the masks have, `OutOfRange` with the first field, in the
-    /// order of the layout, that does not fit its bits somewhere.
+    /// In this order: `BadTime` if the time is a week or more, `CellCount` if the number of
+    /// satellites or cells isn't that of the masks, `OutOfRange` with the first field, in the order
+    /// of the layout, that does not fit its bits in some satellite or cell.
     pub fn new(
         is_galileo: bool,
         header: MsmHeader,
@@ -90,14 +90,14 @@ impl<G: Grid> Msm<G> {
         })
     }
 
-    /// Whether the satellites are Galileo's; else they are GPS satellites.
+    /// Returns whether the satellites are those of Galileo, not of GPS.
     pub fn is_galileo(&self) -> bool
         ensures { result ≡ self.now.is_galileo }
     {
         self.is_galileo
     }
 
-    /// The message number, DF002: 1074 or 1094 in MSM4, 1077 or 1097 in MSM7.
+    /// Returns the message number, DF002: 1074 or 1094 in MSM4, 1077 or 1097 in MSM7.
     pub fn number(&self) -> u16
         ensures value { result ≡ G.number_of self.now.is_galileo }
         ensures bound { result < 2 ^ 12 }
@@ -105,7 +105,7 @@ impl<G: Grid> Msm<G> {
         G::number_of(self.is_galileo)
     }
 
-    /// The fields at the head of the message.
+    /// Returns the header fields.
     pub fn header(&self) -> MsmHeader
         ensures value { result ≡ self.now.header }
         ensures in_range { IsHeader result }
@@ -113,14 +113,14 @@ impl<G: Grid> Msm<G> {
         self.header
     }
 
-    /// The satellites, signals and pairs that the message has data of.
+    /// Returns the satellites, signals and pairs of both that the message has data of.
     pub fn masks(&self) -> Masks
         ensures { result ≡ self.now.sets }
     {
         self.masks
     }
 
-    /// How many satellites there are.
+    /// Returns the number of satellites.
     pub fn satellites(&self) -> usize
         ensures count { result ≡ length self.now.satellites }
         ensures set { result ≡ count_ones self.now.sets.satellites }
@@ -128,7 +128,7 @@ impl<G: Grid> Msm<G> {
         self.satellites.len()
     }
 
-    /// How many cells there are.
+    /// Returns the number of cells.
     pub fn cells(&self) -> usize
         ensures count { result ≡ length self.now.cells }
         ensures set { result ≡ count_ones self.now.sets.cells }
@@ -136,7 +136,7 @@ impl<G: Grid> Msm<G> {
         self.cells.len()
     }
 
-    /// The data of a satellite, in rising order of the IDs.
+    /// Returns the data of a satellite, by its index in rising order of the IDs.
     pub fn satellite(&self, i: usize) -> G::Satellite
         requires { i < length self.now.satellites }
         ensures value { result ≡ G.satellite_at (slice_index self.now.satellites i) }
@@ -145,7 +145,7 @@ impl<G: Grid> Msm<G> {
         G::satellite_of(self.satellites[i])
     }
 
-    /// The data of a cell, in the order of the cell mask.
+    /// Returns the data of a cell, by its index in the order of the cell mask.
     pub fn cell(&self, i: usize) -> G::Cell
         requires { i < length self.now.cells }
         ensures value { result ≡ G.cell_at (slice_index self.now.cells i) }
@@ -155,7 +155,7 @@ impl<G: Grid> Msm<G> {
     }
 }
 
-/// The satellites of a view, each one's fields in one number.
+/// Returns the satellites of a view, the fields of each in one number.
 fn satellites_of<G: Grid>(view: &MsmView<'_>) -> ArrayVec<u64, MOST_SATELLITES>
     requires { G.satellite_widths ≡ views.satellite_widths view.now.form }
     ensures { result.items ≡ view.now.msm.satellites }
@@ -167,7 +167,7 @@ fn satellites_of<G: Grid>(view: &MsmView<'_>) -> ArrayVec<u64, MOST_SATELLITES>
     satellites
 }
 
-/// The cells of a view, each one's fields in one number.
+/// Returns the cells of a view, the fields of each in one number.
 fn cells_of<G: Grid>(view: &MsmView<'_>) -> ArrayVec<u128, MOST_PAIRS>
     requires { G.cell_widths ≡ views.cell_widths view.now.form }
     ensures { result.items ≡ view.now.msm.cells }
@@ -179,7 +179,7 @@ fn cells_of<G: Grid>(view: &MsmView<'_>) -> ArrayVec<u128, MOST_PAIRS>
     cells
 }
 
-/// The message as a view.
+/// Returns the message as a view.
 pub(crate) fn view_of<G: Grid>(msm: &Msm<G>, form: Form) -> MsmView<'_>
     requires satellites { G.satellite_widths ≡ views.satellite_widths form }
     requires cells { G.cell_widths ≡ views.cell_widths form }
@@ -199,7 +199,7 @@ pub(crate) fn view_of<G: Grid>(msm: &Msm<G>, form: Form) -> MsmView<'_>
     }
 }
 
-/// The message that is looked at, where its data are laid out as the grid has them.
+/// Returns the message of a view in the precision of the grid.
 pub(crate) fn msm_of<G: Grid>(view: &MsmView<'_>) -> Msm<G>
     requires satellites { G.satellite_widths ≡ views.satellite_widths view.now.form }
     requires cells { G.cell_widths ≡ views.cell_widths view.now.form }
@@ -216,7 +216,7 @@ pub(crate) fn msm_of<G: Grid>(view: &MsmView<'_>) -> Msm<G>
     }
 }
 
-/// The numbers in 128 bits.
+/// Returns the numbers in 128 bits.
 fn widen(numbers: &ArrayVec<u64, MOST_SATELLITES>) -> ArrayVec<u128, MOST_PAIRS>
     ensures { result.items ≡ numbers.now.items }
 {
@@ -243,7 +243,7 @@ pub(crate) fn write_msm<G: Grid>(writer: &mut BitWriter, msm: &Msm<G>)
     write_columns(writer, G::cell_widths(), msm.cells.as_slice());
 }
 
-/// Each satellite's fields in one number.
+/// Packs the fields of each satellite into one number.
 fn pack_satellites<G: Grid>(satellites: &[G::Satellite]) -> ArrayVec<u64, MOST_SATELLITES>
     requires few { length satellites.now ≤ satellite_mask_bits }
     requires in_range { All G.is_satellite satellites.now }
@@ -257,7 +257,7 @@ fn pack_satellites<G: Grid>(satellites: &[G::Satellite]) -> ArrayVec<u64, MOST_S
     packed
 }
 
-/// Each cell's fields in one number.
+/// Packs the fields of each cell into one number.
 fn pack_cells<G: Grid>(cells: &[G::Cell]) -> ArrayVec<u128, MOST_PAIRS>
     requires few { length cells.now ≤ most_pairs }
     requires in_range { All G.is_cell cells.now }

@@ -5,7 +5,7 @@ ghost use Rattle.rtcm_msg.specs.Rows as rows;
 
 use crate::fault::MsgFault;
 
-/// The place behind the data of so many satellites or cells, whose fields have these widths.
+/// Returns the end of the data of `count` satellites or cells, whose fields have these widths.
 pub(crate) fn end_of_rows(
     bits: usize,
     widths: &[u32],

@@ -10,7 +10,7 @@ use std::marker::Model;
 /// The satellite and the signal of a cell.
 #[derive(Clone, Copy, Debug, PartialEq, Eq, Default)]
 pub struct Seat {
-    /// The place of the satellite among the message's satellites, from 0.
+    /// The index of the satellite among the message's satellites.
     pub place: usize,
     /// The satellite's ID, from 1 to 64.
     pub satellite: u8,
@@ -18,7 +18,7 @@ pub struct Seat {
     pub signal: u8,
 }
 
-/// The first ID of a set of IDs from 1 to `width`, and the set without it.
+/// Returns the first ID of a set of IDs from 1 to `width`, and the set without it.
 fn split_first(mask: u64, width: u32) -> (u8, u64)
     requires some { 0 < mask }
     requires within { mask < 2 ^ width }
@@ -30,19 +30,19 @@ fn split_first(mask: u64, width: u32) -> (u8, u64)
     ((width - top) as u8, mask - (1 << top))
 }
 
-/// Pairs of a satellite and a signal from one pair on: those of the first satellite with the
-/// signals that are left, and those of the satellites behind it with all signals. Sets of IDs,
-/// whose first is the highest bit.
+/// The pairs of a satellite and a signal that are left: those of the first satellite with the
+/// signals that are left, and those of the following satellites with all signals. In a set of IDs
+/// the highest bit is the first ID.
 #[derive(Clone, Copy)]
 struct Pairs {
-    /// The place of the first satellite in the message.
+    /// The index of the first satellite in the message.
     place: usize,
     satellites: u64,
     signals: u64,
     all: u64,
 }
 
-/// The same pairs, from a satellite on of which a signal is left.
+/// Returns the same pairs, beginning with a satellite of which a signal is left.
 fn with_signals(pairs: Pairs) -> Pairs
     requires some { 0 < length (pairs_left pairs) }
     requires walking { IsWalking pairs }
@@ -62,7 +62,7 @@ fn with_signals(pairs: Pairs) -> Pairs
     }
 }
 
-/// The first pair, and those behind it.
+/// Returns the first pair, and the others.
 fn split_pairs(pairs: Pairs) -> (Seat, Pairs)
     requires some { 0 < length (pairs_left pairs) }
     requires walking { IsWalking pairs }
@@ -79,8 +79,8 @@ fn split_pairs(pairs: Pairs) -> (Seat, Pairs)
     (seat, Pairs { signals, ..pairs })
 }
 
-/// The first cell of so many pairs that are left, of which the low bits of the number say which
-/// ones have a cell, and the pairs behind it.
+/// Returns the first of the pairs that are left that has a cell, and the pairs after it. The low
+/// `left` bits of the cell mask are those of the pairs that are left.
 fn split_cells(pairs: Pairs, cells: u64, left: u32) -> Option<(Seat, Pairs, u32)>
     requires few { left ≤ most_pairs }
     requires count { length (pairs_left pairs) ≡ left }
@@ -102,8 +102,7 @@ fn split_cells(pairs: Pairs, cells: u64, left: u32) -> Option<(Seat, Pairs, u32)
     None
 }
 
-/// Goes over the satellites and signals of a message's cells, in the order of the cell mask. It
-/// takes no memory.
+/// Iterates over the satellites and signals of a message's cells, in the order of the cell mask.
 #[derive(Drop)]
 pub struct Seats {
     masks: Masks,
@@ -125,7 +124,7 @@ impl Model for Seats {
 }
 
 impl Seats {
-    /// The walk at its start.
+    /// Returns the iterator before the first cell.
     pub fn new(masks: Masks) -> Seats
         ensures all { result ≡ record { sets = masks; left = seats masks } }
         ensures count { length (seats masks) ≡ count_ones masks.cells }
@@ -144,7 +143,7 @@ impl Seats {
         }
     }
 
-    /// The satellite and signal of the next cell.
+    /// Returns the satellite and signal of the next cell.
     pub fn next(&mut self) -> Option<Seat>
         ensures some { IfSome result (λ x. (self.old.left ≡ x ∷ self.new.left) × (x.place < count_ones self.old.sets.satellites)) }
         ensures none { IfNone result ((self.old.left ≡ []) × (self.new.left ≡ [])) }

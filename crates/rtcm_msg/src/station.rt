@@ -10,19 +10,18 @@ use crate::field::field;
 use rtcm_bits::{BitReader, signed_of};
 use std::marker::Model;
 
-/// What a station message says of the antenna reference point. With a height it is message 1006,
-/// with none message 1005.
+/// The fields of a station message. With a height it is message 1006, without one message 1005.
 #[derive(Clone, Copy, Debug, PartialEq, Eq)]
 pub struct StationParts {
     /// Reference station ID, DF003: 12 bits.
     pub station: u16,
     /// ITRF realization year, DF021: 6 bits.
     pub realization: u8,
-    /// Whether the station gives GPS, DF022.
+    /// GPS indicator, DF022.
     pub gps: bool,
-    /// Whether the station gives GLONASS, DF023.
+    /// GLONASS indicator, DF023.
     pub glonass: bool,
-    /// Whether the station gives Galileo, DF024.
+    /// Galileo indicator, DF024.
     pub galileo: bool,
     /// Reference station indicator, DF141: whether the station is not a physical one.
     pub reference: bool,
@@ -59,7 +58,7 @@ impl Model for Station {
 }
 
 impl Station {
-    /// A station of these parts.
+    /// Returns the station message of these parts.
     ///
     /// # Errors
     ///
@@ -89,7 +88,7 @@ impl Station {
         Ok(Station { parts })
     }
 
-    /// The parts that it was made of.
+    /// Returns its parts.
     pub fn parts(&self) -> StationParts
         ensures value { result ≡ self.now }
         ensures in_range { InRange result }
@@ -98,7 +97,7 @@ impl Station {
     }
 }
 
-/// The same message.
+/// Returns a copy of the message.
 pub(crate) fn copy_of(station: &Station) -> Station
     ensures { result ≡ station.now }
 {
@@ -107,7 +106,7 @@ pub(crate) fn copy_of(station: &Station) -> Station
     }
 }
 
-/// Whether a coordinate fits 38 bits with a sign.
+/// Returns whether a coordinate fits 38 bits with a sign.
 fn fits_coordinate(z: i64) -> bool
     ensures value { result ≡ fits_int 38 z }
     ensures fits { IsTrue result ↔ FitsInt 38 z }
@@ -115,7 +114,7 @@ fn fits_coordinate(z: i64) -> bool
     z >= -(1 << 37) && z < 1 << 37
 }
 
-// The fields in front of the coordinates.
+// The fields before the coordinates.
 #[derive(Clone, Copy)]
 pub(crate) struct Heading {
     station: u16,
@@ -126,7 +125,7 @@ pub(crate) struct Heading {
     reference: bool,
 }
 
-// The antenna reference point, with the indicators that stand between its coordinates.
+// The antenna reference point, with the indicators between its coordinates.
 #[derive(Clone, Copy)]
 pub(crate) struct Position {
     x: i64,
@@ -181,7 +180,7 @@ fn read_height(reader: &mut BitReader, has_height: bool) -> Result<Option<u16>, 
     }
 }
 
-/// Reads the fields behind the message number, in the order of the table.
+/// Reads the fields after the message number, in the order of the table.
 #[tactic(auto, unfolding(crate::specs::Station::parts_at))]
 fn read_parts(reader: &mut BitReader, has_height: bool) -> Result<StationParts, MsgFault>
     ensures read { GivesViewed (λ parts. (parts, reader.new)) result (parts_at has_height reader.old) }
@@ -206,7 +205,7 @@ fn read_parts(reader: &mut BitReader, has_height: bool) -> Result<StationParts, 
     })
 }
 
-/// Reads a station message behind its number.
+/// Reads a station message after its number.
 pub(crate) fn read_station(reader: &mut BitReader, has_height: bool) -> Result<Station, MsgFault>
     ensures { GivesViewed (λ s. (s, reader.new)) result (station_at has_height reader.old) }
 {

@@ -26,7 +26,7 @@ use crate::station::{Station, read_station};
 use rtcm_bits::BitReader;
 use std::marker::Model;
 
-/// How a multiple signal message lays out its data, and how fine they are.
+/// The layout and precision of a multiple signal message.
 #[derive(Clone, Copy, Debug, PartialEq, Eq)]
 pub enum Form {
     /// Messages 1074 and 1094.
@@ -36,7 +36,7 @@ pub enum Form {
 }
 
 impl Form {
-    /// The field of the lock time indicators.
+    /// Returns the field of the lock time indicators.
     pub fn lock_field(self) -> LockField
         ensures { result ≡ lock_field self }
     {
@@ -46,7 +46,7 @@ impl Form {
         }
     }
 
-    /// The message number, DF002.
+    /// Returns the message number, DF002.
     fn number(self, is_galileo: bool) -> u16
         ensures value { result ≡ views.message_number self is_galileo }
         ensures bound { result < 2 ^ 12 }
@@ -57,7 +57,7 @@ impl Form {
         }
     }
 
-    /// The widths of a satellite's fields, in the order of the layout.
+    /// Returns the widths of a satellite's fields, in the order of the layout.
     fn satellite_widths(self) -> &'static [u32]
         ensures value { result.now ≡ views.satellite_widths self }
         ensures narrow { All (λ w. w ≤ 64) result.now }
@@ -69,7 +69,7 @@ impl Form {
         }
     }
 
-    /// The widths of a cell's fields, in the order of the layout.
+    /// Returns the widths of a cell's fields, in the order of the layout.
     fn cell_widths(self) -> &'static [u32]
         ensures value { result.now ≡ views.cell_widths self }
         ensures narrow { All (λ w. w ≤ 64) result.now }
@@ -82,10 +82,11 @@ impl Form {
     }
 }
 
-/// Where the data of a message's satellites and cells are.
+/// The data of a message's satellites and cells.
 #[derive(Clone, Copy)]
 pub(crate) enum Data<'a> {
-    /// In the bytes of a message: those of the satellites and those of the cells from a bit on.
+    /// In the bytes of a message, from a bit on those of the satellites, from another those of the
+    /// cells.
     Bits {
         bytes: &'a [u8],
         satellites_at: usize,
@@ -98,8 +99,8 @@ pub(crate) enum Data<'a> {
     },
 }
 
-/// A multiple signal message whose header and masks were read, and whose data of satellites and
-/// cells are there, but are read one by one.
+/// A multiple signal message whose header and masks are read. It contains the data of its
+/// satellites and cells, which are read one by one.
 #[derive(Drop)]
 pub struct MsmView<'a> {
     pub(crate) form: Form,
@@ -140,7 +141,7 @@ impl<'a> Model for MsmView<'a> {
 }
 
 impl<'a> MsmView<'a> {
-    /// How its data are laid out.
+    /// Returns its layout.
     pub fn form(&self) -> Form
         ensures form { result ≡ self.now.form }
         ensures value { IsValue (views.satellite_widths self.now.form) (views.cell_widths self.now.form) self.now.msm }
@@ -148,14 +149,14 @@ impl<'a> MsmView<'a> {
         self.form
     }
 
-    /// Whether the satellites are Galileo's; else they are GPS satellites.
+    /// Returns whether the satellites are those of Galileo, not of GPS.
     pub fn is_galileo(&self) -> bool
         ensures { result ≡ self.now.msm.is_galileo }
     {
         self.is_galileo
     }
 
-    /// The message number, DF002.
+    /// Returns the message number, DF002.
     pub fn number(&self) -> u16
         ensures value { result ≡ views.message_number self.now.form self.now.msm.is_galileo }
         ensures bound { result < 2 ^ 12 }
@@ -163,7 +164,7 @@ impl<'a> MsmView<'a> {
         self.form.number(self.is_galileo)
     }
 
-    /// The fields at the head of the message.
+    /// Returns the header fields.
     pub fn header(&self) -> MsmHeader
         ensures value { result ≡ self.now.msm.header }
         ensures in_range { IsHeader result }
@@ -171,14 +172,14 @@ impl<'a> MsmView<'a> {
         self.header
     }
 
-    /// The satellites, signals and pairs that the message has data of.
+    /// Returns the satellites, signals and pairs of both that the message has data of.
     pub fn masks(&self) -> Masks
         ensures { result ≡ self.now.msm.sets }
     {
         self.masks
     }
 
-    /// How many satellites there are.
+    /// Returns the number of satellites.
     pub fn satellites(&self) -> usize
         ensures count { result ≡ length self.now.msm.satellites }
         ensures set { result ≡ count_ones self.now.msm.sets.satellites }
@@ -187,7 +188,7 @@ impl<'a> MsmView<'a> {
         self.satellites
     }
 
-    /// How many cells there are.
+    /// Returns the number of cells.
     pub fn cells(&self) -> usize
         ensures count { result ≡ length self.now.msm.cells }
         ensures set { result ≡ count_ones self.now.msm.sets.cells }
@@ -196,7 +197,7 @@ impl<'a> MsmView<'a> {
         self.cells
     }
 
-    /// The data of a satellite, in rising order of the IDs.
+    /// Returns the data of a satellite, by its index in rising order of the IDs.
     #[inline(always)]
     pub(crate) fn satellite<G: Grid>(&self, i: usize) -> G::Satellite
         requires there { i < length self.now.msm.satellites }
@@ -218,7 +219,7 @@ impl<'a> MsmView<'a> {
         }
     }
 
-    /// The data of a cell, in the order of the cell mask.
+    /// Returns the data of a cell, by its index in the order of the cell mask.
     #[inline(always)]
     pub(crate) fn cell<G: Grid>(&self, i: usize) -> G::Cell
         requires there { i < length self.now.msm.cells }
@@ -240,7 +241,7 @@ impl<'a> MsmView<'a> {
         }
     }
 
-    /// The entry of cell `i`, whose satellite and signal the seat is.
+    /// Returns the entry of cell `i`, of this satellite and signal.
     fn entry(&self, seat: Seat, i: usize) -> Entry
         requires place { seat.place < length self.now.msm.satellites }
         requires cell { i < length self.now.msm.cells }
@@ -261,7 +262,7 @@ impl<'a> MsmView<'a> {
         }
     }
 
-    /// Its cells, one by one.
+    /// Returns an iterator over its cells.
     pub fn entries(&self) -> Entries<'_>
         ensures all { result ≡ record { form = self.now.form; left = entries (views.formed self.now) } }
         ensures few { length result.left ≤ most_pairs }
@@ -285,7 +286,7 @@ impl<'a> MsmView<'a> {
     }
 }
 
-/// Reads the cells of a message one by one where their data lie, in the order of the cell mask.
+/// Reads the cells of a message one by one from its bytes, in the order of the cell mask.
 #[derive(Drop)]
 pub struct Entries<'a> {
     view: &'a MsmView<'a>,
@@ -310,7 +311,7 @@ impl<'a> Model for Entries<'a> {
 }
 
 impl<'a> Entries<'a> {
-    /// What the next cell says.
+    /// Returns the next cell.
     pub fn next(&mut self) -> Option<Entry>
         ensures some { IfSome result (λ e. (self.old.left ≡ e ∷ self.new.left) × IsEntry (codes_of (lock_field self.old.form)) e) }
         ensures none { IfNone result ((self.old.left ≡ []) × (self.new.left ≡ [])) }
@@ -328,7 +329,7 @@ impl<'a> Entries<'a> {
     }
 }
 
-/// A message of RTCM 10403.3 that is read where its bytes lie.
+/// A message of RTCM 10403.3 that is read from its bytes.
 #[derive(Drop)]
 pub enum View<'a> {
     /// Message 1005 or 1006.
@@ -355,7 +356,7 @@ impl<'a> View<'a> {
     }
 }
 
-/// Looks at an MSM, behind whose number the reader stands.
+/// Reads the header and masks of an MSM after its number.
 #[tactic(auto, unfolding(crate::specs::Msm::msm_at))]
 fn view_msm<'a>(
     bytes: &'a [u8],
@@ -391,7 +392,7 @@ fn view_msm<'a>(
     }))
 }
 
-/// Looks at what stands behind the message number.
+/// Reads a message after its number.
 #[tactic(auto, unfolding(crate::specs::Reading::body_at))]
 fn view_body<'a>(number: u16, bytes: &'a [u8], reader: &mut BitReader) -> Result<View<'a>, MsgFault>
     requires small { length bytes.now ≤ longest_message }
@@ -417,7 +418,7 @@ fn view_body<'a>(number: u16, bytes: &'a [u8], reader: &mut BitReader) -> Result
     }
 }
 
-/// Looks at a message that is no longer than the longest.
+/// Reads a message of at most the greatest length.
 #[tactic(auto, unfolding(crate::specs::Reading::message_of))]
 fn view_message(bytes: &[u8]) -> Result<View<'_>, MsgFault>
     requires { length bytes.now ≤ longest_message }
@@ -428,8 +429,8 @@ fn view_message(bytes: &[u8]) -> Result<View<'_>, MsgFault>
     view_body(number, bytes, &mut reader)
 }
 
-/// Looks at a message where its bytes lie: what `decode` answers, but nothing of the satellites'
-/// and cells' data is read yet.
+/// Reads a message as `decode` does, but the data of satellites and cells only when the view is
+/// asked for them.
 ///
 /// # Errors
 ///

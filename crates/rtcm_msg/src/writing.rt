@@ -24,7 +24,7 @@ fn write_fields(writer: &mut BitWriter, fields: &[(u32, u64)])
     }
 }
 
-/// Writes the fields that messages 1005 and 1006 have both.
+/// Writes the fields that messages 1005 and 1006 share.
 fn write_common(writer: &mut BitWriter, number: u16, parts: &StationParts)
     requires room { length writer.old + 152 ≤ longest_message_bits }
     requires in_range { InRange parts.now }
@@ -69,7 +69,7 @@ pub(crate) fn write_station(writer: &mut BitWriter, parts: &StationParts)
     }
 }
 
-/// Writes the head of an MSM with its number.
+/// Writes the header of an MSM with its number.
 pub(crate) fn write_header(writer: &mut BitWriter, number: u16, header: &MsmHeader)
     requires { length writer.old + 73 ≤ longest_message_bits }
     ensures bits { writer.new ≡ writer.old ++ spelled (header_fields number header.now 0) }
@@ -110,7 +110,7 @@ pub(crate) fn write_masks(writer: &mut BitWriter, masks: &Masks)
     );
 }
 
-/// Writes one field of each.
+/// Writes one field of each satellite or cell.
 fn write_column(writer: &mut BitWriter, shift: u32, width: u32, numbers: &[u128])
     requires few { width ≤ 64 }
     requires shift { shift < 128 }
@@ -123,7 +123,7 @@ fn write_column(writer: &mut BitWriter, shift: u32, width: u32, numbers: &[u128]
     }
 }
 
-/// Writes one field of all after the other.
+/// Writes the fields of all satellites or cells, field by field.
 pub(crate) fn write_columns(writer: &mut BitWriter, widths: &[u32], numbers: &[u128])
     requires few { All (λ w. w ≤ 64) widths.now }
     requires wide { total_width widths.now < 128 }
@@ -138,7 +138,7 @@ pub(crate) fn write_columns(writer: &mut BitWriter, widths: &[u32], numbers: &[u
     }
 }
 
-/// The widths together.
+/// Returns the sum of the widths.
 fn total_width(widths: &[u32]) -> u32
     requires { total_width widths.now ≤ 128 }
     ensures { result ≡ total_width widths.now }
