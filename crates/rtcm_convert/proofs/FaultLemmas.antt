@@ -1,4 +1,4 @@
--- What an answer says of the devices, handed on from call to call.
+-- What a result says of the devices, passed on from call to call.
 use Rattle.std.proofs.Common.{◌≡◌, ◌≤◌, ℕ, max, refl, sym, ap, subst, ◌∙◌, arith, inl, inr, Bool, true, false, Option, Some, None, Result, Ok, Err, IfErr, true≢false}
 use Rattle.std.specs.Prelude.{if◌then◌else◌, IsErrOf}
 use Rattle.rtcm_bits.specs.Device.{Device}
@@ -57,7 +57,7 @@ refused false false fault e = absurd cc
 pub of_refusal : (v : Conversion) (fault : Fault) → Some fault ≡ refusal v → IsOfNone fault
 of_refusal v fault e = refused v.has_ended v.has_failed fault e
 
--- ---- which faults a refusal, a setup, and bytes that are handed in, have
+-- ---- which faults a refusal, a setup, and bytes that are fed, have
 
 abbrev pub is_refusal : Fault → Bool
 is_refusal Failed = true

@@ -70,6 +70,6 @@ prefix-refl xs = ([], sym (append-nil xs))
 pub prefix-trans : {A : Type 0} (xs ys zs : List A) → IsPrefix xs ys → IsPrefix ys zs → IsPrefix xs zs
 prefix-trans xs ys zs p q = (p.0 ++ q.0, q.1 ∙ ap (λ l. l ++ q.0) p.1 ∙ append_assoc xs p.0 q.0)
 
--- the fault of a call, handed on as the fault of another
+-- the fault of a call, passed on as the fault of another
 pub same_fault : {T U E : Type 0} (x e : E) → IsErrOf {T = T} {E = E} (Err x) e → IsErrOf {T = U} {E = E} (Err x) e
 same_fault x e h = let same : x ≡ e = cc in ap Err same

@@ -1,4 +1,4 @@
--- One message handed to the gatherer, and what that adds to the file.
+-- One message passed to the gatherer, and what that adds to the file.
 use Rattle.std.proofs.Common.{◌≡◌, ℕ, List, [], ◌∷◌, ◌++◌, Bool, true, false, append-nil, sym, ap, subst, ◌∙◌, Option, Some, None, inl, inr}
 use Rattle.std.specs.Prelude.{option_to_list}
 use Rattle.std.specs.Io.KnownBytes.{Appends}
@@ -18,7 +18,7 @@ use Rattle.rtcm_convert.specs.declared.file_writer.FileWriter.{FileWriter}
 use Rattle.rtcm_convert.proofs.PartLemmas.{goes_on-by, breaks_off-by, breaks_off-before}
 use Rattle.rtcm_convert.proofs.TextLemmas.{last, text-closed, count-closed, last-closed, text-more}
 
--- what the gatherer says of a message that it was handed
+-- what the gatherer says of a message that was passed to it
 pub record Took (old new : Gathered) (kind : Kind) (m : Heard) : Type 0 where
   pub first : (s : GatherSetup) (ms : List Heard) (es : List Closed) → HasGatheredEpochs old s ms es None → is_close_first kind ≡ true
       → HasGatheredEpochs new s ms (es ++ closed_by (closed_in new) new.values) (Some m)
@@ -60,7 +60,7 @@ front g s ms es again going x = (x.plan, subst (λ (e : Bool). IsPrefix es (know
 front_none : (g : Gathered) (s : GatherSetup) (ms : List Heard) (es : List Closed) → g.has_ended ≡ false → HasGatheredEpochs g s ms es None → Front g s ms es
 front_none g s ms es going x = subst (λ (l : List Heard). Front g s l es) (append-nil ms) (front g s ms es None going x)
 
--- what was closed stands among the epochs that the message closes
+-- what was closed is among the epochs that the message closes
 closed_front : (v g : Gathered) (k : Kind) (m : Heard) (s : GatherSetup) (ms : List Heard) (es : List Closed) (again : Option Heard)
     → Took v g k m → IsAwaited again m → HasGatheredEpochs v s ms es again → Front g s (ms ++ m ∷ []) (es ++ closed_by (closed_in g) g.values)
 closed_front v g k m s ms es None t f x = elim (cases_Bool (is_close_first k)) [

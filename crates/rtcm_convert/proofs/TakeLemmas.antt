@@ -190,7 +190,7 @@ file_part v g a b p over t s fs x =
     let out : AppendsPrefix a b (added s.texts s.gather.plan (last es) (closed_in g) g.values) = part_of v g a b s ms es None x.settled now.plan p in
     subst (λ (all : List Closed). AppendsPrefixBetween a b (so_far s fs) (text_with s all)) e (breaks_off-by a b _ _ _ (text-closed s es (closed_in g) g.values) out)
 
--- a message that was handed in twice
+-- a message that was passed twice
 pub taken_again : {E : Type 0} (v w x : FileWriter) (m : Heard) (a b c : Option (List ℕ)) (r : Result Kind E) → x.gatherer.has_ended ≡ false
     → ((s : SetupValue) (ms : List Heard) (es : List Closed) → HasFiledEpochs v s ms es None → Written w s ms (Some m) a b es)
     → IfOk r (λ k. is_close_first k ≡ false → (s : SetupValue) (ms : List Heard) (es : List Closed) (again : Option Heard) → IsAwaited again m → HasFiledEpochs w s ms es again → Written x s (ms ++ m ∷ []) None b c es)

@@ -36,7 +36,7 @@ same_self v = rw (int_eq_equiv.refl v.x, int_eq_equiv.refl v.y, int_eq_equiv.ref
   nat_self : (n : ℕ) → (n == n) ≡ true
   nat_self n = grind arith
 
--- no event stands where they are the same
+-- no event is written if they are the same
 no_change : (v : StationValues) → change_text v v ≡ []
 no_change v = ap (λ (b : Bool). if b then [] else event_text v) (same_self v)
 
@@ -50,7 +50,7 @@ closed_text-append p v (c ∷ cs) ds =
     ∙ ap (λ l. change_text v c.values ++ l) (sym (append_assoc (epoch_text p c.epoch) (closed_text p c.values cs) rest))
     ∙ sym (append_assoc (change_text v c.values) (epoch_text p c.epoch ++ closed_text p c.values cs) rest)
 
--- more epochs go behind a file with one, and make one where there is none
+-- more epochs go after a file with one, and make one if there is none
 pub text_of-append : (t : HeaderLists) (p : PlanValue) (es fs : List Closed) → IsPrefix (text_of_epochs t p es) (text_of_epochs t p (es ++ fs))
 unfolding text_of_epochs
 text_of-append t p [] fs = (text_of_epochs t p fs, refl)
@@ -121,7 +121,7 @@ count-closed es (Some e) v = rw filter-append (count-maybe (written_epochs es) (
 pub text-more : (s : SetupValue) (es fs : List Closed) → IsPrefix es fs → IsPrefix (text_with s es) (text_with s fs)
 text-more s es fs p = rw (p.1, filter-append) (text_of-append s.texts s.gather.plan (written_epochs es) (written_epochs p.0))
 
--- what is closed stays so, and stands among all epochs in the end
+-- what is closed stays so, and is among all epochs in the end
 abbrev pub ClosedStay : Type 0
 ClosedStay = (s : GatherSetup) (ms more : List Heard) → IsPrefix (closed_epochs s ms) (closed_epochs s (ms ++ more))
 
@@ -166,7 +166,7 @@ whole_epoch a b c t p q n k o e v is count none same first x =
     let y : Appends b c (epoch_text p e) = subst (λ (r : PlanValue). Appends b c (epoch_text r e)) same x in
     subst (λ (l : List ℕ). Appends a c l) (sym (added_is t p n k o e v is count none)) (Appends-trans a b c (opening t p n e v) (epoch_text p e) first y)
 
--- the writer failed in what stands before the epoch
+-- the writer failed in the text before the epoch
 part_open : (a b : Option (List ℕ)) (t : HeaderLists) (p : PlanValue) (n : Option StationValues) (k : ℕ) (o : Option EpochValue) (e : EpochValue) (v : StationValues) → Some e ≡ o → k ≡ satellites_written e → (k ≡ 0 → ⊥)
     → AppendsPrefix a b (opening t p n e v) → AppendsPrefix a b (added t p n o v)
 part_open a b t p n k o e v is count none x = rw (added_is t p n k o e v is count none) (prefix_more a b (opening t p n e v) (epoch_text p e) x)

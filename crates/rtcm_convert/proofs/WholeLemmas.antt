@@ -29,7 +29,7 @@ some_weaker : (o : Option (List ℕ)) (P Q : List ℕ → Type 0) → ((x : List
 some_weaker None P Q f h = h
 some_weaker (Some x) P Q f h = f x h
 
--- where all was taken within the limit that a setup says
+-- all was taken within the limit that a setup says
 same_limit : (v w : Conversion) (n limit : ℕ) → n ≤ w.scan.limit → w.scan.limit ≡ v.scan.limit → v.scan.limit ≡ limit → n ≤ limit
 same_limit v w n limit le same e = subst (λ (k : ℕ). n ≤ k) (same ∙ e) le
 

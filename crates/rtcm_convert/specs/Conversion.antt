@@ -1,4 +1,4 @@
--- What a contract sees of a converter, and the bytes that it stands for.
+-- What a contract sees of a converter, and the bytes that it may have accepted.
 use Rattle.std.specs.Prelude.{◌≡◌, ◌⊎◌, ℕ, ◌+◌, ◌-◌, ◌<◌, ◌≤◌, List, ◌++◌, take, length}
 use Rattle.std.specs.Prelude.{Bool, true, false, Option, Some, None, IfSome, if◌then◌else◌, Result, IfErr}
 use Rattle.std.specs.Io.KnownBytes.{Consumes, IsAtEnd}
@@ -35,7 +35,7 @@ pub record IsGoing (v : Conversion) : Type 0 where
   pub fine : v.has_failed ≡ false
   pub more : v.has_ended ≡ false
 
--- a converter that goes on can take bytes; the framer stands for some bytes at every moment
+-- a converter that goes on can take bytes; the framer has accepted some bytes at every moment
 pub record IsFit (v : Conversion) : Type 0 where
   pub going : IsGoing v → v.file_writer.gatherer.has_ended ≡ false
   pub listening : IsGoing v → v.scan.has_ended ≡ false

@@ -10,7 +10,7 @@ use Rattle.rtcm_scan.proofs.ScanLemmas.{scanned_all}
 use Rattle.rtcm_scan.proofs.DecidedLemmas.{decided_is, decided_frames_are}
 use Rattle.rtcm_scan.proofs.SkippedLemmas.{given_up_is}
 
--- all is decided where nothing is held, and where what is held is open
+-- all is decided if nothing is held, and if what is held is open
 pub drained_ended : (v : FramerValue) (b : List ℕ) (fs : List Framed) → v.has_ended ≡ true → v.held ≡ [] → HasFramed v b fs → IsDrained v b fs
 drained_ended v b fs e h s =
     let l : length v.held ≡ 0 = ap length h in

@@ -52,7 +52,7 @@ frame_message m rest h =
     ∙ ap (λ x. take (length m) (drop 3 x)) (spread m rest)
     ∙ take_at m (three_bytes (check (frame_header m ++ m)) ++ rest) (length m) refl
 
--- ---- a list of frames behind bytes
+-- ---- a list of frames after bytes
 length-frame : (m : List ℕ) → length (frame_bytes m) ≡ length m + 6
 length-frame m = length-append (frame_header m ++ m) (three_bytes (check (frame_header m ++ m))) ∙ (omega arith)
 
@@ -74,7 +74,7 @@ scanned_list pre (m ∷ ms) b p n e q r a =
       scanned_list (pre ++ frame_bytes m) ms b (p + (length m + 6)) n (e ∙ sym (append_assoc pre (frame_bytes m) (flat_map frame_bytes ms))) l r (All-tail (λ x. length x ≤ 1023) m ms a),
     )
 
--- a scan can be cut where no frame lies across
+-- a scan can be cut if no frame lies across
 scanned_cut : (b : List ℕ) (from x n : ℕ) (fs : List Framed) → from ≤ x → x ≤ n → ((f : Framed) → IsFrameOf b f → f.offset < x → x < frame_end f → ⊥) → Scanned true b from n fs
     → (front : List Framed) × (rest : List Framed) × (fs ≡ front ++ rest) × Scanned true b x n rest
 scanned_cut b from x n [] h k c s = ([], [], refl, (k, λ q i j. s.1 q (omega arith) j))
@@ -138,7 +138,7 @@ frame_ends bytes ms i k h l =
     close : (x y u w r m : ℕ) → x ≡ y + u → u ≡ w + r → w ≡ m + 6 → y + (m + 6) ≤ x
     close x y u w r m a b c = omega arith
 
--- no frame lies across the beginning of a frame that is far enough behind the bytes
+-- no frame lies across the beginning of a frame that is far enough after the bytes
 none_across : (bytes : List ℕ) (ms : List (List ℕ)) (k : ℕ) → All (λ m. length m ≤ 1023) ms → k < length ms → length bytes + 1028 ≤ frame_place bytes ms k → IsQuiet bytes ms k
     → (f : Framed) → IsFrameOf (stream_behind bytes ms) f → f.offset < frame_place bytes ms k → frame_place bytes ms k < frame_end f → ⊥
 none_across bytes ms k a l far quiet f v h c = ⊎_elim

@@ -18,7 +18,7 @@ use Rattle.rtcm_scan.specs.Drained.{IsDrained}
 use Rattle.rtcm_scan.proofs.StandsLemmas.{stands_give_up, stands_take, stands_ready}
 use Rattle.rtcm_scan.proofs.DrainedLemmas.{drained_ended, drained_waiting}
 
--- other counts change nothing of what a framer stands for
+-- other counts change nothing of what a framer has accepted
 pub stands_looks : (v : FramerValue) (w : WindowValue) (t : ℕ) (b : List ℕ) (fs : List Framed) → HasFramed v b fs → HasFramed (with_looks v w t) b fs
 stands_looks v w t b fs s = record { taken = s.taken; held = s.held; fits = s.fits; scanned = s.scanned; first = s.first; skipped = s.skipped }
 
@@ -39,7 +39,7 @@ pub counts_passed : (v u w : FramerValue) (b : List ℕ) (fs : List Framed) → 
     → HasExamined v b fs → HasExamined w b fs
 counts_passed v u w b fs e f h p t x = rw (f, e) (step_give_up (with_candidate_examined v) b fs h refl p (step_examined v b fs t x))
 
--- where a frame stands at the front
+-- if a frame begins at the front
 pub found_begins : (v u : FramerValue) (size : ℕ) → u ≡ with_candidate_examined v → (begins_frame v.held ≡ true) × (size ≡ frame_length v.held)
     → (begins_frame u.held ≡ true) × (size ≡ frame_length u.held) × (u.tried ≡ asked u.held)
 found_begins v u size e f = rw e (f.0, f.1, refl)

@@ -16,7 +16,7 @@ use Rattle.rtcm_scan.proofs.NextLemmas.{passed, step_passed, counts_passed, stan
 use Rattle.rtcm_scan.proofs.StandsLemmas.{view_dropped}
 use Rattle.rtcm_scan.proofs.StepLemmas.{looked_bytes, step_examined_to}
 
--- looks behind the first byte, where that is dropped
+-- looks after the first byte, if that is dropped
 set_behind : (l : List ℕ) (i x : ℕ) → slice_set (drop 1 l) i x ≡ drop 1 (slice_set l (i + 1) x)
 set_behind [] i x = refl
 set_behind (y ∷ l) i x = let e : i + 1 ≡ suc i = omega arith in rw e refl
@@ -88,7 +88,7 @@ over_counts v (suc n) b fs e l o s =
     rw (one_more v n e h k) (over_counts (passed (with_candidate_examined v)) n b fs refl (omega (arith, l, d)) o'
     (counts_passed v (with_candidate_examined v) (passed (with_candidate_examined v)) b fs refl refl k (all_passed v.held v.has_ended h) t s))
 
--- looks at bytes behind others that are dropped
+-- looks at bytes after others that are dropped
 behind_others : (w : WindowValue) (n start k : ℕ) → looked_through (without_front w n) start k ≡ without_front (looked_through w (n + start) k) n
 behind_others w zero start k = let z : start ≡ 0 + start = omega arith in ap (λ (q : ℕ). without_front (looked_through w q k) 0) z
 behind_others w (suc n) start k =
@@ -137,7 +137,7 @@ view_passed v limit place skipped tried n k w w' ended ready e f h =
     ∙ ap (λ (bs : List ℕ). let r : FramerValue = record (scan_of limit (place + n) (looked_through u 0 k) ended ready (skipped + n) k) { taken = place + n + length bs; held = bs } in r) (looked_bytes u 0 k)
     ∙ ap (λ (y : FramerValue). with_looks y (looked_through (window_of y) 0 k) k) (view_over v limit place skipped tried n w ended ready e h)
 
--- what stands in the window is what the framer holds
+-- the content of the window is what the framer holds
 pub others_held : (v : FramerValue) (bytes : List ℕ) (n : ℕ) → bytes ≡ v.held → n ≤ length bytes → ((i : ℕ) → i < n → slice_index bytes i ≢ 0xD3) → (n ≤ length v.held) × ((i : ℕ) → i < n → slice_index v.held i ≢ 0xD3)
 others_held v bytes n e l o = rw (← e) (l, o)
 
@@ -145,14 +145,14 @@ others_held v bytes n e l o = rw (← e) (l, o)
 pub taken_nothing : (c : Candidate) (s : List ℕ) → c.count ≡ 0 → HasTaken c (take c.count s) → HasTaken c []
 taken_nothing c s e h = let a : take c.count s ≡ [] = ap (λ (k : ℕ). take k s) e in rw a at h
 
--- what is left behind the bytes that are dropped
+-- what is left after the bytes that are dropped
 behind_bytes : (w w' : WindowValue) (n m : ℕ) → w' ≡ without_front (looked_through w 0 m) n → w'.bytes ≡ drop n w.bytes
 behind_bytes w w' n m f = ap (λ (y : WindowValue). y.bytes) f ∙ ap (drop n) (looked_bytes w 0 m)
 
 pub behind_length : (w w' : WindowValue) (n m : ℕ) → w' ≡ without_front (looked_through w 0 m) n → length w'.bytes ≡ length w.bytes - n
 behind_length w w' n m f = ap length (behind_bytes w w' n m f) ∙ length-drop n w.bytes
 
--- a candidate that has taken the preamble behind them
+-- a candidate that has taken the preamble after them
 pub taken_preamble : (c : Candidate) (w w' : WindowValue) (n m : ℕ) → w' ≡ without_front (looked_through w 0 m) n → n < length w.bytes → slice_index w.bytes n ≡ 0xD3 → c.count ≡ 1
     → HasTaken c (0xD3 ∷ []) → HasTaken c (take c.count w'.bytes)
 taken_preamble c w w' n m f l e k t =

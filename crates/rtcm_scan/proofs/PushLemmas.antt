@@ -1,4 +1,4 @@
--- What a framer stands for after many bytes.
+-- What a framer has accepted after many bytes.
 use Rattle.std.proofs.Common.{ℕ, ◌≡◌, ◌+◌, ◌<◌, ◌≤◌, Bool, false, List, [], ◌∷◌, ◌++◌, length, replicate, refl, ap, arith, suc, length-append}
 use Rattle.std.proofs.lemmas.List.{append-nil, append_assoc}
 use Rattle.rtcm_bits.specs.Window.{WindowValue, pushed_all}
@@ -12,7 +12,7 @@ use Rattle.rtcm_scan.proofs.StepLemmas.{step_push}
 abbrev pub with_byte : FramerValue → ℕ → FramerValue
 with_byte v x = record v { taken = v.taken + 1; held = v.held ++ x ∷ []; looks = v.looks ++ 0 ∷ []; is_ready = false }
 
--- none, and then one byte more and those behind it
+-- none, and then one byte more and those after it
 with_none : (v : FramerValue) → with_bytes v [] ≡ record v { is_ready = false }
 with_none v =
     let z : v.taken + 0 ≡ v.taken = omega arith in

@@ -1,4 +1,4 @@
--- What a framer stands for after each of its steps.
+-- What a framer has accepted after each of its steps.
 use Rattle.std.proofs.Common.{ℕ, ◌≡◌, ◌+◌, ◌-◌, ◌<◌, ◌≤◌, Bool, true, false, List, [], ◌∷◌, ◌++◌, length, drop, refl, ap, ◌∙◌, arith, length-append, sum_by}
 use Rattle.std.proofs.lemmas.List.{drop-append-le, length-drop, drop-drop}
 use Rattle.std.proofs.lemmas.List.Sums.{sum_by_push}

@@ -73,7 +73,7 @@ pub looked_length : (w : WindowValue) (start m : ℕ) → length (looked_through
 looked_length w start zero = refl
 looked_length w start (suc m) = length-set (looked_through w start m).looks (start + m) _ ∙ looked_length w start m
 
--- one look, where no count is full
+-- one look, if no count is full
 counts_looked : (xs : List Span) (q k p n j : ℕ) (w : WindowValue) → q + k ≡ p + j → j < length w.looks → p + j < n → Fit (xs ++ span q (k + 1) ∷ [])
     → Counted (xs ++ span q k ∷ []) p n w → Counted (xs ++ span q (k + 1) ∷ []) p n (looked w j)
 counts_looked xs q k p n j w e l h f c =
@@ -201,7 +201,7 @@ all_empty xs p = let a : all_looks (xs ++ span p 0 ∷ []) ≡ all_looks xs + 0 
     join : (u x : ℕ) → u ≡ x + 0 → u ≡ x
     join u x e = omega arith
 
--- a frame is handed over
+-- a frame is passed on
 pub step_take : (v : FramerValue) (b : List ℕ) (fs : List Framed) → begins_frame v.held ≡ true → v.tried ≡ asked v.held → HasExamined v b fs
     → HasExamined (with_window v (without_front (looked_through (window_of v) 3 (message_length v.held)) (frame_length v.held)) 0) b (fs ++ record { offset = first_held v; message = framed_message v.held } ∷ [])
 step_take v b fs h a x =

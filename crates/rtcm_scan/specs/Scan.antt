@@ -1,4 +1,4 @@
--- What a contract sees of a framer, and the streams that it stands for.
+-- What a contract sees of a framer, and the streams that it may have accepted.
 use Rattle.std.specs.Prelude.{◌≡◌, ℕ, ◌+◌, ◌-◌, ◌^◌, ◌<◌, ◌≤◌, Bool, false, List, [], ◌∷◌, ◌++◌, length, drop, replicate}
 use Rattle.std.specs.List.{sum_by}
 use Rattle.rtcm_scan.specs.Frame.{begins_frame, is_open}
@@ -67,7 +67,7 @@ with_bytes v bytes = record v { taken = v.taken + length bytes; held = v.held ++
 abbrev pub first_held : FramerValue → ℕ
 first_held v = v.taken - length v.held
 
--- no frame stands at the front, and before the end none can come to stand there
+-- no frame begins at the front, and before the end none can
 pub record IsPassed (has_ended : Bool) (s : List ℕ) : Type 0 where
   pub none : begins_frame s ≡ false
   pub closed : has_ended ≡ false → is_open s ≡ false
@@ -80,7 +80,7 @@ abbrev pub Scanned : Bool → List ℕ → ℕ → ℕ → List Framed → Type 
 Scanned has_ended b from to [] = (from ≤ to) × AllPassed has_ended b from to
 Scanned has_ended b from to (f ∷ fs) = (from ≤ f.offset) × AllPassed has_ended b from f.offset × IsFrameOf b f × Scanned has_ended b (frame_end f) to fs
 
--- the framer has taken b, and handed out these frames of it, the first of those that are known
+-- the framer has accepted b, and returned these frames of it, the first of those that are known
 pub record HasFramed (v : FramerValue) (b : List ℕ) (fs : List Framed) : Type 0 where
   pub taken : v.taken ≡ length b
   pub held : v.held ≡ drop (first_held v) b
@@ -89,7 +89,7 @@ pub record HasFramed (v : FramerValue) (b : List ℕ) (fs : List Framed) : Type 
   pub first : IsPrefix fs (known_frames v.has_ended b)
   pub skipped : v.skipped + sum_by (λ f. length f.message + 6) fs ≡ first_held v
 
--- whatever the framer stood for, it stands for that with this frame handed out too
+-- for all bytes and frames before, it has returned this frame after them
 abbrev pub HandsOut : FramerValue → FramerValue → Framed → Type 0
 HandsOut old new f = (b : List ℕ) (fs : List Framed) → HasFramed old b fs → HasFramed new b (fs ++ f ∷ [])
 
