@@ -1,11 +1,9 @@
 -- Messages 1005 and 1006.
-use Rattle.std.specs.Prelude.{ℕ, ◌^◌, ◌<◌, if◌then◌else◌, Bool, true, false, List, [], ◌∷◌, ◌++◌, take, drop, Option, Some, None, Result, Ok, is_some, IfSome}
+use Rattle.std.specs.Prelude.{ℕ, ◌^◌, ◌<◌, if◌then◌else◌, Bool, true, false, List, [], ◌∷◌, ◌++◌, Option, Some, None, Result, Ok, is_some, IfSome}
 use Rattle.rtcm_bits.specs.Bits.{FitsInt}
 use Rattle.rtcm_bits.specs.Reading.{Cursor}
 use Rattle.rtcm_msg.specs.declared.fault.MsgFault.{MsgFault}
 use Rattle.rtcm_msg.specs.declared.station.StationParts.{StationParts}
-use Rattle.rtcm_msg.specs.declared.station.Heading.{Heading}
-use Rattle.rtcm_msg.specs.declared.station.Position.{Position}
 use Rattle.rtcm_msg.specs.Layout.{Table, Uint, Int, Flag, Reserved, Contents, fields_of, ◌▸◌, number_table}
 use Rattle.rtcm_msg.specs.Fields.{reading, ◌>>=◌}
 
@@ -71,25 +69,3 @@ height_at true c = reading height_table c (λ h. Ok (Some h.0.0, h.1))
 
 unfoldable pub station_at : Bool → Cursor → Result (StationParts × Cursor) MsgFault
 station_at has_height c = reading station_table c (λ s. height_at has_height s.1 >>= λ h. Ok (station_parts s.0 h.0, h.1))
-
--- ---- the same in three parts: what stands in front of the coordinates, these, and the height
-
-abbrev pub heading_of : Contents (take 6 station_table) → Heading
-heading_of (station, (realization, (gps, (glonass, (galileo, (reference, end)))))) =
-    record { station = station; realization = realization; gps = gps; glonass = glonass; galileo = galileo; reference = reference }
-
-abbrev pub heading_at : Cursor → Result (Heading × Cursor) MsgFault
-heading_at c = reading (take 6 station_table) c (λ s. Ok (heading_of s.0, s.1))
-
-abbrev pub position_of : Contents (drop 6 station_table) → Position
-position_of (x, (oscillator, (reserved, (y, (quarter, (z, end)))))) = record { x = x; oscillator = oscillator; y = y; quarter = quarter; z = z }
-
-abbrev pub position_at : Cursor → Result (Position × Cursor) MsgFault
-position_at c = reading (drop 6 station_table) c (λ s. Ok (position_of s.0, s.1))
-
-abbrev pub joined : Heading → Position → Option ℕ → StationParts
-joined h p height =
-    record { station = h.station; realization = h.realization; gps = h.gps; glonass = h.glonass; galileo = h.galileo; reference = h.reference; x = p.x; oscillator = p.oscillator; y = p.y; quarter = p.quarter; z = p.z; height = height }
-
-unfoldable pub parts_at : Bool → Cursor → Result (StationParts × Cursor) MsgFault
-parts_at has_height c = heading_at c >>= λ a. position_at a.1 >>= λ b. height_at has_height b.1 >>= λ h. Ok (joined a.0 b.0 h.0, h.1)

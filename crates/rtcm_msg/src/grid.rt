@@ -1,6 +1,6 @@
 ghost use Rattle.std.specs.Prelude.{◌≡◌, All, Bool, length, ◌+◌, ◌*◌, ℕ, ℤ, List, ◌^◌, ◌<◌, ◌≤◌, Option, IfNone, IfSome, unsigned_abs};
 ghost use Rattle.std.specs.Option.{ForSome};
-ghost use Rattle.rtcm_msg.specs.Fractions.{range_joined};
+ghost use Rattle.rtcm_msg.specs.Fractions.{range_joined, scaled};
 ghost use Rattle.rtcm_msg.specs.Packed.{total_width};
 ghost use Rattle.rtcm_msg.specs.declared.fault.Field.{Field};
 ghost use Rattle.rtcm_bits.specs.Bits.{bits_of};
@@ -197,6 +197,20 @@ pub trait Grid {
 
     // A lock time indicator is one of these.
     ghost lock_fits: { (c : Self.Cell) → is_cell c → lock_code_of c < lock_codes };
+}
+
+/// Returns a fine part in 2^-31 ms from its number of units, or `None` for the invalid number.
+pub(crate) fn scaled(number: i32, invalid: i32, unit: u32) -> Option<i64>
+    requires few { unit ≤ 128 }
+    ensures value { result ≡ scaled invalid unit number }
+    ensures fits { unsigned_abs number * unit ≤ 2 ^ 33 → IfSome result (λ z. unsigned_abs z ≤ 2 ^ 33) }
+    ensures small { unsigned_abs number * unit ≤ 2 ^ 26 → IfSome result (λ z. unsigned_abs z ≤ 2 ^ 26) }
+{
+    if number == invalid {
+        None
+    } else {
+        Some(number as i64 * unit as i64)
+    }
 }
 
 /// The value of DF397 for no rough range.

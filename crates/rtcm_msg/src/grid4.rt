@@ -1,12 +1,11 @@
-ghost use Rattle.std.specs.Prelude.{◌≡◌, ◌^◌, nat_le, not, IfSome, negsuc, unsigned_abs, ◌≤◌};
-ghost use Rattle.rtcm_msg.specs.Fractions.{scaled};
+ghost use Rattle.std.specs.Prelude.{◌≡◌, ◌^◌, nat_le, not};
 ghost use Rattle.std.specs.List.{list_any};
 ghost use Rattle.rtcm_msg.specs.Ranges.{fits_int};
 ghost use Rattle.rtcm_msg.specs.Grid4 as grid4;
 
 use crate::fault::Field;
 use crate::field::signed_at;
-use crate::grid::{Grid, range_joined};
+use crate::grid::{Grid, range_joined, scaled};
 use rtcm_bits::{number_at, raw_of, signed_of};
 
 /// The data of a satellite in MSM4.
@@ -79,32 +78,6 @@ fn has_bad_strength(cells: &[Cell4]) -> bool
     ensures { result ≡ list_any (λ x. nat_le (2 ^ 6) x.strength) cells.now }
 {
     cells.iter().any(|x| x.strength >= 64)
-}
-
-/// The fine pseudorange in 2^-31 ms.
-fn fine_range(cell: &Cell4) -> Option<i64>
-    ensures value { result ≡ scaled (negsuc 16383) 128 cell.now.range }
-    ensures fits { IfSome result (λ z. unsigned_abs z ≤ 2 ^ 33) }
-    ensures small { grid4.IsCellData cell.now → IfSome result (λ z. unsigned_abs z ≤ 2 ^ 26) }
-{
-    if cell.range == -16384 {
-        None
-    } else {
-        Some(cell.range as i64 * 128)
-    }
-}
-
-/// The fine phase range in 2^-31 ms.
-fn fine_phase(cell: &Cell4) -> Option<i64>
-    ensures value { result ≡ scaled (negsuc 2097151) 4 cell.now.phase }
-    ensures fits { IfSome result (λ z. unsigned_abs z ≤ 2 ^ 33) }
-    ensures small { grid4.IsCellData cell.now → IfSome result (λ z. unsigned_abs z ≤ 2 ^ 26) }
-{
-    if cell.phase == -2097152 {
-        None
-    } else {
-        Some(cell.phase as i64 * 4)
-    }
 }
 
 impl Grid for Grid4 {
@@ -183,11 +156,19 @@ impl Grid for Grid4 {
     ghost lock_codes = { msm.codes_of Df402 };
 
     fn range(satellite: &Satellite4, cell: &Cell4) -> Option<i64> {
-        range_joined(satellite.whole, satellite.fraction, fine_range(cell))
+        range_joined(
+            satellite.whole,
+            satellite.fraction,
+            scaled(cell.range as i32, -16384, 128),
+        )
     }
 
     fn phase(satellite: &Satellite4, cell: &Cell4) -> Option<i64> {
-        range_joined(satellite.whole, satellite.fraction, fine_phase(cell))
+        range_joined(
+            satellite.whole,
+            satellite.fraction,
+            scaled(cell.phase, -2097152, 4),
+        )
     }
 
     fn rate(_satellite: &Satellite4, _cell: &Cell4) -> Option<i32> {

@@ -1,12 +1,11 @@
-ghost use Rattle.std.specs.Prelude.{◌≡◌, ◌^◌, nat_le, not, IfSome, negsuc, unsigned_abs, ◌≤◌};
-ghost use Rattle.rtcm_msg.specs.Fractions.{scaled};
+ghost use Rattle.std.specs.Prelude.{◌≡◌, ◌^◌, nat_le, not};
 ghost use Rattle.std.specs.List.{list_any};
 ghost use Rattle.rtcm_msg.specs.Ranges.{fits_int};
 ghost use Rattle.rtcm_msg.specs.Grid7 as grid7;
 
 use crate::fault::Field;
 use crate::field::signed_at;
-use crate::grid::{Grid, range_joined};
+use crate::grid::{Grid, range_joined, scaled};
 use rtcm_bits::{number_at, raw_of, signed_of};
 
 /// The data of a satellite in MSM7.
@@ -105,32 +104,6 @@ fn has_bad_fine_rate(cells: &[Cell7]) -> bool
     cells.iter().any(|x| x.rate < -16384 || x.rate >= 16384)
 }
 
-/// The fine pseudorange in 2^-31 ms.
-fn fine_range(cell: &Cell7) -> Option<i64>
-    ensures value { result ≡ scaled (negsuc 524287) 4 cell.now.range }
-    ensures fits { IfSome result (λ z. unsigned_abs z ≤ 2 ^ 33) }
-    ensures small { grid7.IsCellData cell.now → IfSome result (λ z. unsigned_abs z ≤ 2 ^ 26) }
-{
-    if cell.range == -524288 {
-        None
-    } else {
-        Some(cell.range as i64 * 4)
-    }
-}
-
-/// The fine phase range in 2^-31 ms.
-fn fine_phase(cell: &Cell7) -> Option<i64>
-    ensures value { result ≡ scaled (negsuc 8388607) 1 cell.now.phase }
-    ensures fits { IfSome result (λ z. unsigned_abs z ≤ 2 ^ 33) }
-    ensures small { grid7.IsCellData cell.now → IfSome result (λ z. unsigned_abs z ≤ 2 ^ 26) }
-{
-    if cell.phase == -8388608 {
-        None
-    } else {
-        Some(cell.phase as i64)
-    }
-}
-
 impl Grid for Grid7 {
     ghost use Rattle.rtcm_msg.specs.Grid7 as grid7;
     ghost use Rattle.rtcm_msg.specs.Msm as msm;
@@ -216,11 +189,19 @@ impl Grid for Grid7 {
     ghost lock_codes = { msm.codes_of Df407 };
 
     fn range(satellite: &Satellite7, cell: &Cell7) -> Option<i64> {
-        range_joined(satellite.whole, satellite.fraction, fine_range(cell))
+        range_joined(
+            satellite.whole,
+            satellite.fraction,
+            scaled(cell.range as i32, -524288, 4),
+        )
     }
 
     fn phase(satellite: &Satellite7, cell: &Cell7) -> Option<i64> {
-        range_joined(satellite.whole, satellite.fraction, fine_phase(cell))
+        range_joined(
+            satellite.whole,
+            satellite.fraction,
+            scaled(cell.phase, -8388608, 1),
+        )
     }
 
     fn rate(satellite: &Satellite7, cell: &Cell7) -> Option<i32> {

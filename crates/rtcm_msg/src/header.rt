@@ -33,7 +33,7 @@ pub struct MsmHeader {
 
 /// Reads the header of an MSM after its number. A time of a week or more is a fault as soon as it
 /// is read.
-#[tactic(auto, unfolding(crate::specs::Msm::header_at))]
+#[tactic(auto, unfolding(crate::specs::Msm::header_at, crate::specs::Msm::behind_time_at))]
 pub(crate) fn read_header(reader: &mut BitReader) -> Result<MsmHeader, MsgFault>
     ensures read { GivesViewed (λ h. (h, reader.new)) result (header_at reader.old) }
     ensures is_header { IfOk result IsHeader }
@@ -43,16 +43,6 @@ pub(crate) fn read_header(reader: &mut BitReader) -> Result<MsmHeader, MsgFault>
     if time >= WEEK {
         return Err(MsgFault::BadTime);
     }
-    read_behind_time(reader, station, time)
-}
-
-// Reads the fields after the time.
-fn read_behind_time(reader: &mut BitReader, station: u16, time: u32) -> Result<MsmHeader, MsgFault>
-    requires station { station < 2 ^ 12 }
-    requires time { time < week }
-    ensures read { GivesViewed (λ h. (h, reader.new)) result (behind_time_at station time reader.old) }
-    ensures is_header { IfOk result IsHeader }
-{
     let more = field(reader, 1)? == 1;
     let iods = field(reader, 3)? as u8;
     let _reserved = field(reader, 7)?;

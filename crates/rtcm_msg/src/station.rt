@@ -2,7 +2,7 @@ ghost use Rattle.std.specs.Prelude.{◌≡◌, ◌^◌, ◌<◌, IfOk, IfSome, I
 ghost use Rattle.rtcm_msg.specs.Fields.{GivesViewed};
 ghost use Rattle.rtcm_bits.specs.Bits.{FitsInt};
 ghost use Rattle.rtcm_msg.specs.Ranges.{fits_int};
-ghost use Rattle.rtcm_msg.specs.Station.{InRange, heading_at, height_at, parts_at, position_at, station_at};
+ghost use Rattle.rtcm_msg.specs.Station.{InRange, height_at, station_at};
 ghost use Rattle.rtcm_msg.specs.Refusals.{station_made, station_fault};
 
 use crate::fault::{Field, MsgFault, ValueFault};
@@ -114,60 +114,6 @@ fn fits_coordinate(z: i64) -> bool
     z >= -(1 << 37) && z < 1 << 37
 }
 
-// The fields before the coordinates.
-#[derive(Clone, Copy)]
-pub(crate) struct Heading {
-    station: u16,
-    realization: u8,
-    gps: bool,
-    glonass: bool,
-    galileo: bool,
-    reference: bool,
-}
-
-// The antenna reference point, with the indicators between its coordinates.
-#[derive(Clone, Copy)]
-pub(crate) struct Position {
-    x: i64,
-    oscillator: bool,
-    y: i64,
-    quarter: u8,
-    z: i64,
-}
-
-fn read_heading(reader: &mut BitReader) -> Result<Heading, MsgFault>
-    ensures read { GivesViewed (λ h. (h, reader.new)) result (heading_at reader.old) }
-    ensures in_range { IfOk result (λ h. (h.station < 2 ^ 12) × (h.realization < 2 ^ 6)) }
-{
-    Ok(Heading {
-        station: field(reader, 12)? as u16,
-        realization: field(reader, 6)? as u8,
-        gps: field(reader, 1)? == 1,
-        glonass: field(reader, 1)? == 1,
-        galileo: field(reader, 1)? == 1,
-        reference: field(reader, 1)? == 1,
-    })
-}
-
-fn read_position(reader: &mut BitReader) -> Result<Position, MsgFault>
-    ensures read { GivesViewed (λ p. (p, reader.new)) result (position_at reader.old) }
-    ensures in_range { IfOk result (λ p. FitsInt 38 p.x × FitsInt 38 p.y × (p.quarter < 2 ^ 2) × FitsInt 38 p.z) }
-{
-    let x = signed_of(field(reader, 38)?, 38);
-    let oscillator = field(reader, 1)? == 1;
-    let _reserved = field(reader, 1)?;
-    let y = signed_of(field(reader, 38)?, 38);
-    let quarter = field(reader, 2)? as u8;
-    let z = signed_of(field(reader, 38)?, 38);
-    Ok(Position {
-        x,
-        oscillator,
-        y,
-        quarter,
-        z,
-    })
-}
-
 fn read_height(reader: &mut BitReader, has_height: bool) -> Result<Option<u16>, MsgFault>
     ensures read { GivesViewed (λ h. (h, reader.new)) result (height_at has_height reader.old) }
     ensures in_range { IfOk result (λ h. IfSome h (λ n. n < 2 ^ 16)) }
@@ -180,37 +126,37 @@ fn read_height(reader: &mut BitReader, has_height: bool) -> Result<Option<u16>, 
     }
 }
 
-/// Reads the fields after the message number, in the order of the table.
-#[tactic(auto, unfolding(crate::specs::Station::parts_at))]
-fn read_parts(reader: &mut BitReader, has_height: bool) -> Result<StationParts, MsgFault>
-    ensures read { GivesViewed (λ parts. (parts, reader.new)) result (parts_at has_height reader.old) }
-    ensures in_range { IfOk result InRange }
-{
-    let heading = read_heading(reader)?;
-    let position = read_position(reader)?;
-    let height = read_height(reader, has_height)?;
-    Ok(StationParts {
-        station: heading.station,
-        realization: heading.realization,
-        gps: heading.gps,
-        glonass: heading.glonass,
-        galileo: heading.galileo,
-        reference: heading.reference,
-        x: position.x,
-        oscillator: position.oscillator,
-        y: position.y,
-        quarter: position.quarter,
-        z: position.z,
-        height,
-    })
-}
-
-/// Reads a station message after its number.
+/// Reads a station message after its number, field by field in the order of the table.
+#[tactic(auto, unfolding(crate::specs::Station::station_at))]
 pub(crate) fn read_station(reader: &mut BitReader, has_height: bool) -> Result<Station, MsgFault>
     ensures { GivesViewed (λ s. (s, reader.new)) result (station_at has_height reader.old) }
 {
-    match read_parts(reader, has_height) {
-        Ok(parts) => Ok(Station { parts }),
-        Err(fault) => Err(fault),
-    }
+    let station = field(reader, 12)? as u16;
+    let realization = field(reader, 6)? as u8;
+    let gps = field(reader, 1)? == 1;
+    let glonass = field(reader, 1)? == 1;
+    let galileo = field(reader, 1)? == 1;
+    let reference = field(reader, 1)? == 1;
+    let x = signed_of(field(reader, 38)?, 38);
+    let oscillator = field(reader, 1)? == 1;
+    let _reserved = field(reader, 1)?;
+    let y = signed_of(field(reader, 38)?, 38);
+    let quarter = field(reader, 2)? as u8;
+    let z = signed_of(field(reader, 38)?, 38);
+    let height = read_height(reader, has_height)?;
+    let parts = StationParts {
+        station,
+        realization,
+        gps,
+        glonass,
+        galileo,
+        reference,
+        x,
+        oscillator,
+        y,
+        quarter,
+        z,
+        height,
+    };
+    Ok(Station { parts })
 }
