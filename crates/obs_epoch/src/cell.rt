@@ -1,10 +1,10 @@
-//! What is kept of a message: cells, and where the station stands.
+//! What is kept of messages: cells, and the position of the station.
 ghost use Rattle.std.specs.Prelude.{◌≡◌, ◌↔◌, IsTrue};
 ghost use Rattle.rtcm_msg.specs.Reach.{IsCoordinate};
 
 use gnss_obs::{Lock, Sat, Signal, Thousandths};
 
-/// What was observed of one signal of one satellite.
+/// The observations of one signal of one satellite.
 #[derive(Clone, Copy, Debug, PartialEq, Eq)]
 pub struct Cell {
     /// The satellite.
@@ -19,16 +19,17 @@ pub struct Cell {
     pub d: Option<Thousandths>,
     /// The strength in thousandths of a dB-Hz.
     pub s: Option<Thousandths>,
-    /// RINEX's loss of lock indicator: bit 0 where lock was lost since the latest epoch with a
-    /// phase of this key, bit 1 where the phase may be off by half a cycle (DF420); 0 without a
-    /// phase.
+    /// RINEX's loss of lock indicator. Bit 0: lock was lost since the latest earlier cell of this
+    /// satellite and signal that has a phase and a known lock time. Bit 1: the phase may be off by
+    /// half a cycle (DF420). 0 without a phase.
     pub lli: u8,
     // How the phase is tracked: its lock, and whether it may be off by half a cycle (DF420).
     pub(crate) lock: Lock,
     pub(crate) half_cycle: bool,
 }
 
-/// Where the station's antenna stands, by the last messages that told it; 0 where none did.
+/// The antenna reference point and the antenna height in the last messages that contain them; 0
+/// before the first.
 #[derive(Clone, Copy, Debug, PartialEq, Eq)]
 pub struct StationValues {
     /// DF025 of the last 1005 or 1006, in 0.0001 m, as y and z are.
@@ -44,7 +45,7 @@ pub struct StationValues {
 impl Cell {
     ghost use Rattle.obs_epoch.specs.Values.{has_value};
 
-    /// Whether it has a pseudorange, a phase, a Doppler shift or a strength.
+    /// Returns whether it has a pseudorange, a phase, a Doppler shift or a strength.
     pub fn has_value(&self) -> bool
         ensures { result ≡ has_value self.now }
     {

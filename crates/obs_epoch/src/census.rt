@@ -1,4 +1,4 @@
-//! How many cells with a value messages have of each signal.
+//! The number of cells with a value of each signal.
 ghost use Rattle.std.specs.Prelude.{◌≡◌, ◌==◌, ◌+◌, ◌<◌, ◌≤◌, ◌^◌, ◌++◌, [], true, Bool, List, length, nat_lt, filter, filter_map};
 ghost use Rattle.std.specs.List.{list_any};
 ghost use Rattle.std.specs.Option.{option_map_or};
@@ -12,7 +12,7 @@ use gnss_obs::{GALILEO_SIGNAL_COUNT, GPS_SIGNAL_COUNT, Sat, Signal, System};
 use rtcm_msg::{Entries, Entry, Message, View};
 use std::marker::Model;
 
-/// For each signal of the tables, how many cells with a value there are.
+/// The number of cells with a value, for each signal of the tables.
 #[derive(Drop)]
 pub struct Census {
     gps: [u64; GPS_SIGNAL_COUNT],
@@ -28,7 +28,7 @@ impl Model for Census {
 }
 
 impl Census {
-    /// No cell.
+    /// Returns the counts of no cell.
     pub fn new() -> Census
         ensures { IsCensus result [] }
     {
@@ -38,7 +38,7 @@ impl Census {
         }
     }
 
-    /// How many cells there are of the signal at a place of a system's table.
+    /// Returns the number of cells of the signal at an index of a system's table.
     pub fn count(&self, system: System, index: usize) -> u64
         requires { index < length (table system) }
         ensures { result ≡ counted self.now system index }
@@ -49,7 +49,7 @@ impl Census {
         }
     }
 
-    /// Whether there is a cell of any signal.
+    /// Returns whether there is a cell of any signal.
     pub fn has_any(&self) -> bool
         ensures { result ≡ has_any self.now }
     {
@@ -59,15 +59,14 @@ impl Census {
         is_any_positive(self.galileo.as_slice())
     }
 
-    /// Counts the cells of a message of the station that is wanted; if none is given, of every
-    /// station.
+    /// Counts the cells of a message, if it is of this station; with `None`, of any station.
     pub fn count_message(&mut self, station: Option<u16>, message: &Message)
         ensures { CountsMessage self.old self.new station (heard message.now) }
     {
         self.count_view(station, &message.view());
     }
 
-    /// Counts as `count_message` does, and reads the cells where their data are.
+    /// Counts as `count_message` does, and reads the cells from the bytes of the message.
     pub fn count_view(&mut self, station: Option<u16>, view: &View<'_>)
         ensures { CountsMessage self.old self.new station (heard (viewed_message view.now)) }
     {
@@ -92,7 +91,7 @@ impl Census {
         }
     }
 
-    /// One cell more of a signal.
+    // Counts one cell of a signal.
     fn add(&mut self, signal: Signal)
         ensures { self.new ≡ counted_of self.old signal }
     {
@@ -110,7 +109,7 @@ fn is_any_positive(counts: &[u64]) -> bool
     counts.iter().any(|n| *n > 0)
 }
 
-/// Whether a station is the one that is wanted; where none is told, each is.
+// Returns whether a station is the wanted one. Each is, if none is given.
 fn is_wanted(wanted: Option<u16>, station: u16) -> bool
     ensures { result ≡ option_map_or (λ n. station == n) wanted true }
 {
@@ -120,7 +119,7 @@ fn is_wanted(wanted: Option<u16>, station: u16) -> bool
     }
 }
 
-/// The signal of a cell of a listed satellite and signal that has a value.
+// Returns the signal of a cell, if its satellite and signal are listed and it has a value.
 fn signal_of(system: System, entry: &Entry) -> Option<Signal>
     ensures value { result ≡ entry_signal system entry.now }
 {
@@ -132,7 +131,7 @@ fn signal_of(system: System, entry: &Entry) -> Option<Signal>
     }
 }
 
-/// Whether a cell has a pseudorange, a phase, a Doppler shift or a strength.
+// Returns whether a cell has a pseudorange, a phase, a Doppler shift or a strength.
 fn has_value(entry: &Entry) -> bool
     ensures { result ≡ entry_value entry.now }
 {

@@ -13,7 +13,7 @@ use jiff::civil::DateTime;
 /// has 60,000 milliseconds.
 #[derive(Clone, Copy, Debug, PartialEq, Eq)]
 pub struct Civil {
-    /// The year, 1980 to 3896 where it is that of a `GpsTime`.
+    /// The year, 1980 to 3896 if it is that of a `GpsTime`.
     pub year: u16,
     /// The month, 1 to 12.
     pub month: u8,
@@ -27,7 +27,7 @@ pub struct Civil {
     pub millisecond: u16,
 }
 
-// 1980-01-06 00:00:00, where GPS time begins.
+// Returns 1980-01-06 00:00:00, the beginning of GPS time.
 fn beginning() -> DateTime
     ensures { civil_nanos result ≡ pos 3657 *ℤ pos 86_400_000_000_000 }
 {
@@ -38,7 +38,7 @@ fn beginning() -> DateTime
 }
 
 impl GpsTime {
-    /// The date and the time of day.
+    /// Returns the date and the time of day.
     pub fn civil(self) -> Civil
         ensures relation { IsCivilOf self result }
         ensures walk { result ≡ civil_of self }
@@ -57,7 +57,7 @@ impl GpsTime {
         }
     }
 
-    /// The time that has this date and time of day, or None where no time before week 100,000 has
+    /// Returns the time of this date and time of day, or `None` if no time before week 100,000 has
     /// it.
     pub fn from_civil(civil: &Civil) -> Option<GpsTime>
         ensures some { IfSome result (λ t. IsCivilOf t civil.now) }
@@ -72,7 +72,7 @@ impl GpsTime {
     }
 }
 
-// The date and time of day in the calendar, or None where it has none such.
+// Returns the date and time of day of the calendar, or `None` if there is none.
 fn at_of(civil: &Civil) -> Option<DateTime>
     ensures some { IfSome result (λ at. IsCivil civil.now × (civil_nanos at ≡ nanoseconds_of civil.now)) }
     ensures none { IfNone result (¬ IsCivil civil.now) }

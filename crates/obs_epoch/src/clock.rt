@@ -13,7 +13,7 @@ use crate::time::{WEEK, WEEKS};
 use rtcm_msg::Summary;
 use std::marker::Model;
 
-/// What becomes of a message by its station and time.
+/// The outcome of a message by its station and time.
 #[derive(Clone, Copy, PartialEq, Eq)]
 pub enum Answer {
     OtherStation,
@@ -56,7 +56,7 @@ impl Clock {
     ghost use Rattle.obs_epoch.specs.Step.{answer_by, step_by, answer_at, step_at, is_told_own, closed_by};
     ghost use Rattle.obs_epoch.specs.declared.clock.Answer.{Answer};
 
-    /// No message was taken.
+    /// Returns the clock before the first message.
     pub fn new(
         plan: Plan,
         start_week: u32,
@@ -79,14 +79,14 @@ impl Clock {
         }
     }
 
-    /// The signals that are wanted.
+    /// Returns the signals that are wanted.
     pub fn plan(&self) -> &Plan
         ensures { result.now ≡ self.now.setup.plan }
     {
         &self.plan
     }
 
-    /// No message follows: whether an epoch was pending.
+    /// Ends the messages, and returns whether an epoch was pending.
     pub fn end(&mut self) -> bool
         ensures was { result ≡ self.old.pending }
         ensures step { self.new ≡ record self.old { pending = false } }
@@ -96,7 +96,7 @@ impl Clock {
         was
     }
 
-    /// The greatest time.
+    /// Returns the greatest time.
     pub fn latest(&self) -> Option<u64>
         ensures value { result ≡ self.now.latest }
         ensures bound { ForSome result (λ t. t < weeks * week) }
@@ -104,7 +104,7 @@ impl Clock {
         self.latest
     }
 
-    /// A message comes: what becomes of it, and the time of the epoch that it closes.
+    /// Steps to a message, and returns its outcome and the time of the epoch that it closes.
     pub fn step_closing(&mut self, said: &Summary) -> (Answer, Option<u64>)
         requires { ForSome said.now.time (λ tow. tow < week) }
         ensures answer { result.0 ≡ answer_by self.old (heard_summary said.now) }
@@ -153,7 +153,7 @@ impl Clock {
         }
     }
 
-    // A message with observations at this time of week.
+    // Steps to observations of this time of week.
     fn place(&mut self, tow: u32) -> Answer
         requires { tow < week }
         ensures answer { result ≡ answer_at self.old tow }

@@ -1,4 +1,4 @@
-//! An epoch: what was observed at one time.
+//! An epoch: the observations of one time.
 ghost use Rattle.std.specs.Prelude.{◌≡◌, ◌+◌, ◌-◌, ◌<◌, ◌≤◌, [], false, length, drop, IfOk, IfSome, Option, Some, None, insert, map, slice_index_or, if◌then◌else◌};
 ghost use Rattle.std.specs.Vec.{vec_len, vec_capacity};
 ghost use Rattle.obs_epoch.specs.declared.cell.Cell.{Cell};
@@ -20,7 +20,7 @@ use std::marker::Model;
 /// Largest number of cells of one system that an epoch keeps.
 pub(crate) const MOST_CELLS: usize = 256;
 
-/// The seat of a key: its satellite's number, and its signal's place in the plan.
+/// The sort key of a cell: the number of its satellite, and the index of its signal in the plan.
 #[derive(Clone, Copy)]
 pub struct Seat {
     pub satellite: u8,
@@ -35,7 +35,7 @@ pub struct Epoch {
     gps: Vec<Cell>,
     galileo: Vec<Cell>,
     values: StationValues,
-    // How many satellites are to be written, once they were counted.
+    // Number of satellites to write, once counted.
     counted: Option<usize>,
 }
 
@@ -54,7 +54,7 @@ impl Model for Epoch {
 }
 
 impl Epoch {
-    // No cell, and these station values; there is room for as many cells as are kept.
+    // Returns an epoch without a cell, with room for all cells that are kept.
     pub(crate) fn new(alloc: Global, values: StationValues) -> Result<Epoch, AllocError>
         ensures { IfOk result (λ e. e ≡ record { epoch = record { time = 0; gps = []; galileo = [] }; values = values }) }
     {
@@ -132,22 +132,22 @@ impl Epoch {
         note_cells(locks, time, self.galileo.as_slice());
     }
 
-    /// Its time.
+    /// Returns its time.
     pub fn time(&self) -> GpsTime
         ensures { result ≡ self.now.epoch.time }
     {
         self.time
     }
 
-    /// The station values that were known when it was closed.
+    /// Returns the station values that were known when it was closed.
     pub fn station_values(&self) -> StationValues
         ensures { result ≡ self.now.values }
     {
         self.values
     }
 
-    /// The kept cells of a system, at most 256, by satellite and within it by the plan, no two of
-    /// one key: each of a listed satellite and signal of that system.
+    /// Returns the kept cells of a system, at most 256, by satellite and within it by the plan, no
+    /// two of one satellite and signal. Each is of a listed satellite and signal of that system.
     pub fn cells(&self, system: System) -> &[Cell]
         ensures cells { result.now ≡ cells_of system self.now.epoch }
         ensures held { AreHeld system result.now }
@@ -159,8 +159,8 @@ impl Epoch {
         }
     }
 
-    /// How many satellites are to be written: those with a cell that has a pseudorange, a phase, a
-    /// Doppler shift or a strength.
+    /// Returns the number of satellites to write: those with a cell that has a pseudorange, a
+    /// phase, a Doppler shift or a strength.
     pub fn satellites(&self) -> usize
         ensures count { result ≡ satellites_written self.now.epoch }
         ensures bound { result ≤ most_written }
@@ -171,7 +171,7 @@ impl Epoch {
         }
     }
 
-    // The same, by a walk over the cells.
+    // Counts the satellites to write.
     fn count(&self) -> usize
         ensures count { result ≡ satellites_written self.now.epoch }
         ensures bound { result ≤ most_written }
@@ -181,7 +181,7 @@ impl Epoch {
     }
 }
 
-/// The seat of a key.
+// Returns the sort key of a satellite and signal.
 fn seat_at(plan: &Plan, satellite: Sat, signal: Signal) -> Seat
     ensures { result ≡ plan_seat (planned_of signal.system plan.now) satellite signal }
 {
@@ -194,7 +194,7 @@ fn seat_at(plan: &Plan, satellite: Sat, signal: Signal) -> Seat
     }
 }
 
-/// Whether a seat comes before another: by satellite, and within it by place.
+// Returns whether a sort key is less than another: by satellite, and within it by index.
 fn is_before(a: Seat, b: Seat) -> bool
     ensures { result ≡ is_before a b }
 {
@@ -204,8 +204,8 @@ fn is_before(a: Seat, b: Seat) -> bool
     a.satellite < b.satellite
 }
 
-/// How many of the cells don't stand behind that seat. Most cells come in their order, so the last
-/// is looked at first.
+// Returns the number of cells whose sort key isn't greater. Cells are sent in this order, so the
+// last is compared first.
 fn spot(cells: &[Cell], plan: &Plan, x: Seat, system: System) -> usize
     requires held { AreHeld system cells.now }
     requires order { AreOrderedBy (planned_of system plan.now) cells.now }
@@ -222,7 +222,7 @@ fn spot(cells: &[Cell], plan: &Plan, x: Seat, system: System) -> usize
     spot_by_halves(cells, plan, x, system)
 }
 
-// The same, found by halves.
+// Returns the same by bisection.
 fn spot_by_halves(cells: &[Cell], plan: &Plan, x: Seat, system: System) -> usize
     requires held { AreHeld system cells.now }
     requires order { AreOrderedBy (planned_of system plan.now) cells.now }
@@ -242,14 +242,14 @@ fn spot_by_halves(cells: &[Cell], plan: &Plan, x: Seat, system: System) -> usize
     low
 }
 
-// Whether a cell stands behind that seat.
+// Returns whether a cell has a greater sort key.
 fn is_behind(cell: &Cell, plan: &Plan, x: Seat) -> bool
     ensures { result ≡ is_before x (cell_seat (planned_of cell.now.signal.system plan.now) cell.now) }
 {
     is_before(x, seat_at(plan, cell.satellite, cell.signal))
 }
 
-/// Where the cells of a satellite end that stand from this place on.
+/// Returns the end of the run of cells of a satellite that begins at this index.
 pub fn end_of(cells: &[Cell], from: usize, id: u8) -> usize
     requires { from ≤ length cells.now }
     ensures end { result ≡ from + run id (drop from cells.now) }
@@ -263,7 +263,7 @@ pub fn end_of(cells: &[Cell], from: usize, id: u8) -> usize
     cells.len()
 }
 
-/// Whether the satellite of a number is to be written: one of its cells has a value.
+/// Returns whether the satellite of this number is to be written: one of its cells has a value.
 pub fn is_written(cells: &[Cell], id: u8) -> bool
     ensures { result ≡ is_written cells.now id }
 {
@@ -272,7 +272,7 @@ pub fn is_written(cells: &[Cell], id: u8) -> bool
         .any(|cell| cell.satellite.id() == id && cell.has_value())
 }
 
-// Of a system's satellites, how many have a cell that says something.
+// Counts the satellites of a system that have a cell with a value.
 #[tactic(auto, unfolding(crate::specs::Values::written_among))]
 fn written(cells: &[Cell], system: System) -> usize
     requires held { AreHeld system cells.now }
@@ -318,7 +318,7 @@ fn insert_cell(cells: &mut Vec<Cell>, at: usize, x: Cell)
     }
 }
 
-// Whether the cell before an index has that key.
+// Returns whether the cell before an index is of the same satellite and signal.
 fn is_last(cells: &[Cell], at: usize, x: &Cell) -> bool
     requires { at ≤ length cells.now }
     ensures none { at ≡ 0 → result ≡ false }

@@ -5,10 +5,10 @@ use thiserror::Error;
 /// Why a plan or a gatherer is refused.
 #[derive(Clone, Copy, Debug, PartialEq, Eq, Error)]
 pub enum PlanFault {
-    /// The code at this place of the system's text, counted from 0, is none of the system's table.
+    /// The code of the system's text at this index isn't in the system's table.
     #[error("unknown code at place {1}")]
     UnknownCode(System, usize),
-    /// The code at this place of the system's text, counted from 0, came before.
+    /// The code of the system's text at this index is repeated.
     #[error("repeated code at place {1}")]
     RepeatedCode(System, usize),
     /// No signal of any system is wanted.
@@ -20,7 +20,7 @@ pub enum PlanFault {
     /// The station's number is over 4,095.
     #[error("the station is over 4,095")]
     BadStation,
-    /// There is no memory.
+    /// Memory allocation failed.
     #[error("no memory")]
     Memory,
 }

@@ -1,4 +1,4 @@
-//! Messages into epochs, with the indicators of lost lock.
+//! Gathers messages into epochs, with loss of lock indicators.
 ghost use Rattle.std.specs.Prelude.{[], ◌≡◌, ◌↔◌, ◌⊎◌, ◌<◌, ◌≤◌, true, false, length, None, Some, is_some, IfOk, IfErr, IfSome, MatchResult, IsOk, Err, option_map, option_to_list, not, List, Option, All};
 ghost use Rattle.rtcm_msg.specs.Entries.{IsEntry};
 ghost use Rattle.rtcm_msg.specs.Msm.{codes_of, most_pairs, week};
@@ -66,9 +66,13 @@ impl Model for Gatherer {
 impl Gatherer {
     ghost use Rattle.obs_epoch.specs.declared.clock.Answer.{Answer};
 
-    /// Gathers the messages of a station, or of every station as those of one where none is told.
-    /// The first time lies in the starting week. Refused are a week over 99,999, and then a station
-    /// over 4,095. All room is reserved here: no other call takes memory.
+    /// Returns a gatherer of the messages of a station, or with `None` of all stations as those of
+    /// one. The first time lies in the starting week. No other call takes memory.
+    ///
+    /// # Errors
+    ///
+    /// `BadWeek` for a week over 99,999, else `BadStation` for a station over 4,095, else `Memory`
+    /// if an allocation failed.
     pub fn new(
         alloc: Global,
         plan: Plan,
@@ -128,7 +132,7 @@ impl Gatherer {
         }
     }
 
-    // No message was taken.
+    // Returns a gatherer before the first message.
     fn made(clock: Clock, epoch: Epoch, locks: Locks) -> Gatherer
         requires stands { HasHeardMessages clock clock.setup [] false }
         requires epoch { epoch ≡ record { epoch = no_epoch; values = clock.setup.initial } }
@@ -155,7 +159,7 @@ impl Gatherer {
         self.take_view(&m.view())
     }
 
-    /// Takes a message as `take` does, and reads its cells where their data are.
+    /// Takes a message as `take` does, and reads its cells from the bytes of the message.
     pub fn take_view(&mut self, view: &View<'_>) -> Taken
         requires { self.old.has_ended ≡ false }
         ensures { TakesMessage self.old self.new (heard (viewed_message view.now)) result }
@@ -163,7 +167,7 @@ impl Gatherer {
         self.step(view)
     }
 
-    /// No message follows: closes the pending epoch, and says whether there was one. After the
+    /// Ends the messages: closes the pending epoch, and returns whether there was one. After the
     /// first `end` there is none.
     pub fn end(&mut self) -> bool
         ensures closes { EndsPendingEpoch self.old self.new result }
@@ -179,26 +183,26 @@ impl Gatherer {
         self.finish()
     }
 
-    /// The epoch that the last `take` or `end` closed, or None where that call closed none, and
+    /// Returns the epoch that the last `take` or `end` closed. `None` if that call closed none, and
     /// before the first call.
     pub fn closed(&self) -> Option<&Epoch>
         ensures order { IfSome (option_map (λ e. e.now.epoch) result) (StandByPlan (plan_in self.now)) }
-        // It is the last of those that were handed out, with the station values that were known
-        // when it was closed.
+        // It is the last of those returned, with the station values that were known when it was
+        // closed.
         ensures closed { option_to_list (option_map (λ e. e.now) result) ≡ closed_by (closed_in self.now) self.now.values }
     {
         if self.handed { Some(&self.epoch) } else { None }
     }
 
-    /// Whether `end` was called.
+    /// Returns whether `end` was called.
     pub fn ended(&self) -> bool
         ensures { result ≡ self.now.has_ended }
     {
         self.has_ended
     }
 
-    /// How many cells of a system are held: those of the pending epoch or, where none is pending,
-    /// of the one last closed.
+    /// Returns the number of cells of a system that are held: those of the pending epoch or, if
+    /// none is pending, of the one last closed.
     pub fn cells(&self, system: System) -> usize
         ensures count { result ≡ length (cells_of system self.now.epoch) }
         ensures held { HoldsCells self.now system result }
@@ -207,8 +211,8 @@ impl Gatherer {
         self.epoch.cells(system).len()
     }
 
-    /// How many lock records are held: one for each satellite and signal of which a closed epoch
-    /// has a kept cell with a valid phase and a known lock.
+    /// Returns the number of lock records: one for each satellite and signal of which a closed
+    /// epoch has a kept cell with a valid phase and a known lock.
     pub fn locks(&self) -> usize
         ensures count { result ≡ recorded self.now.locks }
         ensures keys { HoldsLockedKeys self.now result }
@@ -217,7 +221,7 @@ impl Gatherer {
         self.locks.len()
     }
 
-    /// The station values so far.
+    /// Returns the station values so far.
     pub fn station_values(&self) -> StationValues
         ensures now { result ≡ self.now.values }
         ensures told { (s : GatherSetup) (ms : List Heard) (es : List Closed) (again : Option Heard) → HasGatheredEpochs self.now s ms es again
@@ -226,7 +230,7 @@ impl Gatherer {
         self.epoch.station_values()
     }
 
-    /// The signals that are wanted.
+    /// Returns the signals that are wanted.
     pub fn plan(&self) -> &Plan
         ensures { result.now ≡ plan_in self.now }
     {
@@ -269,7 +273,7 @@ impl Gatherer {
         was
     }
 
-    // The station values after a message.
+    // Returns the station values after a message.
     fn values_after(&self, said: &Summary) -> StationValues
         ensures { result ≡ values_told self.now.clock.setup self.now.values (heard_summary said.now) }
     {
@@ -357,7 +361,7 @@ impl Gatherer {
         counts
     }
 
-    // A cell of the message that is taken.
+    // Takes a cell of a message.
     fn take_entry(&mut self, field: LockField, system: System, entry: &Entry) -> Fate
         requires { IsEntry (codes_of field) entry.now }
         ensures { (n : CellCounts) → record { state = self.new; counts = count_in result n }
@@ -369,7 +373,7 @@ impl Gatherer {
         }
     }
 
-    // The pending epoch closes.
+    // Closes the pending epoch.
     fn close_pending(&mut self)
         ensures { self.new ≡ noted self.old }
     {
@@ -377,7 +381,8 @@ impl Gatherer {
     }
 }
 
-// Room for the cells of an epoch, and for the lock records. Week and station are looked at first.
+// Reserves room for the cells of an epoch and for the lock records, after the checks of week and
+// station.
 fn reserved(
     alloc: Global,
     start_week: u32,
@@ -400,7 +405,7 @@ fn reserved(
     }
 }
 
-// No cell and no lock record.
+// Returns an epoch without a cell, and no lock record.
 fn empty(alloc: Global, initial: StationValues) -> Result<(Epoch, Locks), AllocError>
     ensures { IfOk result (λ r. (r.0 ≡ record { epoch = no_epoch; values = initial }) × (r.1 ≡ no_locks)) }
 {

@@ -7,14 +7,14 @@ ghost use Rattle.obs_epoch.specs.Epochs.{no_values};
 ghost use Rattle.obs_epoch.specs.Laws.{ClosedStay, ClosedComeFirst, NoneClosed, NeverFirst, CodesAreSpelled};
 ghost use Rattle.obs_epoch.specs.Reach.{AreToldValues, MessagesAreHeard, EpochsAreGathered};
 
-/// Whatever messages follow, the epochs that are closed stay the first ones.
+/// Messages that follow don't change the epochs that are closed.
 pub fn closed_stay()
     ensures stay { ClosedStay }
     ensures first { ClosedComeFirst }
     ensures none { NoneClosed }
 {}
 
-/// Over a list of messages none is answered to come again: that message is taken at once.
+/// Over a list of messages no outcome is `CloseFirst`: such a message is passed again at once.
 pub fn kinds()
     ensures { NeverFirst }
 {}

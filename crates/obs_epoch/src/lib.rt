@@ -1,8 +1,8 @@
 //! Observations of a station, gathered from its messages into epochs.
 //!
-//! A [`Plan`] says which signals are wanted. A [`GpsTime`] counts milliseconds and has a date. A
-//! [`Gatherer`] takes the messages of a station one by one and hands out each [`Epoch`] as soon as
-//! it is closed. A [`Census`] counts the cells of messages, signal by signal.
+//! A [`Plan`] is the list of wanted signals. A [`GpsTime`] counts milliseconds and has a date. A
+//! [`Gatherer`] takes the messages of a station one by one and returns each [`Epoch`] as soon as it
+//! is closed. A [`Census`] counts the cells of messages, signal by signal.
 #![tactic(auto)]
 
 mod cell;

@@ -1,4 +1,5 @@
-//! Lock records: one of a key, for the latest closed epoch in which it had a known lock.
+//! Lock records, one for each satellite and signal: the latest known lock in a closed epoch. They
+//! give the loss of lock indicators of the next epoch.
 ghost use Rattle.std.specs.Prelude.{IsTrue, ◌↔◌, ◌≡◌, ◌+◌, ◌<◌, ◌≤◌, [], length, IfOk, ◌++◌, ◌∷◌, insert};
 ghost use Rattle.std.specs.Vec.{vec_len, vec_capacity};
 ghost use Rattle.obs_epoch.specs.Held.{lock_place, lookup, most_locks, no_locks, note, one_if_new, recorded};
@@ -14,13 +15,13 @@ use gnss_obs::{
 use std::alloc::{AllocError, Global};
 use std::marker::Model;
 
-/// So many keys GPS has: each of its satellites with each signal of its table.
+/// Number of keys of GPS: each of its satellites with each signal of its table.
 const GPS_KEYS: usize = GPS_SATELLITES as usize * GPS_SIGNAL_COUNT;
 
-/// So many keys Galileo has.
+/// Number of keys of Galileo.
 const GALILEO_KEYS: usize = GALILEO_SATELLITES as usize * GALILEO_SIGNAL_COUNT;
 
-/// So many keys there are.
+/// Number of keys.
 pub const MOST_LOCKS: usize = GPS_KEYS + GALILEO_KEYS;
 
 /// A known lock, and the time of its epoch.
@@ -30,7 +31,7 @@ pub struct KnownLock {
     pub lock: Lock,
 }
 
-/// The lock records: an entry for each key, and how many keys have one.
+/// The lock records: an entry for each key, and the number of keys that have one.
 #[derive(Drop)]
 pub struct Locks {
     entries: Vec<Option<KnownLock>>,
@@ -50,7 +51,7 @@ impl Model for Locks {
 }
 
 impl Locks {
-    /// No lock is recorded; there is room for one of each key.
+    /// Returns no lock record, with room for one of each key.
     pub fn new(alloc: Global) -> Result<Locks, AllocError>
         ensures { IfOk result (λ l. l ≡ no_locks) }
     {
@@ -59,7 +60,7 @@ impl Locks {
         Ok(Locks { entries, count: 0 })
     }
 
-    /// How many are recorded.
+    /// Returns the number of records.
     pub fn len(&self) -> usize
         ensures count { result ≡ recorded self.now }
         ensures bound { result ≤ most_locks }
@@ -67,7 +68,7 @@ impl Locks {
         self.count
     }
 
-    /// What is recorded of that key.
+    /// Returns the record of that key.
     pub fn latest(&self, x: &Cell) -> Option<KnownLock>
         requires { IsKey (heard_cell x.now) }
         ensures { result ≡ lookup self.now (heard_cell x.now) }
@@ -75,7 +76,7 @@ impl Locks {
         self.entries[lock_place(x)]
     }
 
-    /// A kept cell of an epoch that closes: its lock, where it is known.
+    /// Records the lock of a kept cell of an epoch that closes, if it is known.
     pub fn note(&mut self, time: u64, x: &Cell)
         requires { IsKey (heard_cell x.now) }
         ensures { self.new ≡ note time self.old (heard_cell x.now) }
@@ -89,7 +90,7 @@ impl Locks {
     }
 }
 
-// An entry for each key, with no record.
+// Appends an entry without a record for each key.
 fn clear(entries: &mut Vec<Option<KnownLock>>)
     requires empty { entries.old.items ≡ [] }
     requires room { MOST_LOCKS ≤ vec_capacity entries.old }
@@ -100,7 +101,7 @@ fn clear(entries: &mut Vec<Option<KnownLock>>)
     }
 }
 
-// A key without a record adds one.
+// Returns 1 if a key had no record.
 fn one_if_new(before: Option<KnownLock>) -> usize
     ensures { result ≡ one_if_new before }
 {
@@ -110,7 +111,7 @@ fn one_if_new(before: Option<KnownLock>) -> usize
     }
 }
 
-// The entry of a key.
+// Returns the index of the entry of a key.
 fn lock_place(x: &Cell) -> usize
     requires { IsKey (heard_cell x.now) }
     ensures entry { result ≡ lock_place (heard_cell x.now) }
@@ -124,7 +125,7 @@ fn lock_place(x: &Cell) -> usize
     }
 }
 
-/// The lock of a cell, where its phase is valid and its lock known.
+/// Returns the lock of a cell, if its phase is valid and its lock is known.
 pub fn lock_at(time: u64, x: &Cell) -> Option<KnownLock>
     ensures { result ≡ lock_of time (heard_cell x.now) }
 {
@@ -135,8 +136,8 @@ pub fn lock_at(time: u64, x: &Cell) -> Option<KnownLock>
     }
 }
 
-/// Returns the loss of lock indicator of RINEX for a cell: bit 0 if the latest known lock of its key
-/// was lost since, bit 1 if the phase may be off by half a cycle; 0 without a phase.
+/// Returns the loss of lock indicator of RINEX for a cell: bit 0 if the latest known lock of its
+/// key was lost since, bit 1 if the phase may be off by half a cycle; 0 without a phase.
 pub fn lli(x: &Cell, time: u64, before: Option<KnownLock>) -> u8
     ensures value { result ≡ lli_with time (heard_cell x.now) before }
     ensures bound { result < 4 }
@@ -152,7 +153,7 @@ pub fn lli(x: &Cell, time: u64, before: Option<KnownLock>) -> u8
     if lost { 1 + half } else { half }
 }
 
-/// Appends where there is room, and takes no memory.
+/// Appends within the capacity, without allocation.
 #[inline(always)]
 pub fn push_within<T: Drop>(xs: &mut Vec<T>, x: T)
     requires { vec_len xs.old < vec_capacity xs.old }
@@ -163,8 +164,8 @@ pub fn push_within<T: Drop>(xs: &mut Vec<T>, x: T)
     let _ = xs.push(x);
 }
 
-/// Inserts where there is room, and takes no memory. Most cells are appended, so the insertion is
-/// kept out of line.
+/// Inserts within the capacity, without allocation. Most cells are appended, so this is kept out
+/// of line.
 #[inline(never)]
 pub fn insert_within<T: Drop>(xs: &mut Vec<T>, at: usize, x: T)
     requires room { vec_len xs.old < vec_capacity xs.old }
@@ -176,7 +177,7 @@ pub fn insert_within<T: Drop>(xs: &mut Vec<T>, at: usize, x: T)
     let _ = xs.insert(at, x);
 }
 
-/// Whether two satellites and signals are of one system, number and place.
+/// Returns whether two satellites and signals are the same.
 pub fn is_same_key(satellite: Sat, signal: Signal, other: Sat, other_signal: Signal) -> bool
     ensures { result ≡ same_key satellite signal other other_signal }
 {
@@ -185,7 +186,7 @@ pub fn is_same_key(satellite: Sat, signal: Signal, other: Sat, other_signal: Sig
         && signal.index() == other_signal.index()
 }
 
-/// Whether two systems are the same.
+/// Returns whether two systems are the same.
 pub fn is_same_system(a: System, b: System) -> bool
     ensures value { result ≡ is_system a b }
     ensures exact { IsTrue result ↔ (a ≡ b) }

@@ -1,4 +1,4 @@
-//! The cells of a message in thousandths, where their satellite and signal are listed.
+//! What is read of a message: its cells in thousandths, and its station values.
 ghost use Rattle.std.specs.Prelude.{◌≡◌, ◌<◌, IfSome};
 ghost use Rattle.rtcm_msg.specs.Entries.{IsEntry};
 ghost use Rattle.rtcm_msg.specs.Msm.{codes_of};
@@ -29,14 +29,14 @@ pub fn observe(plan: &Plan, field: LockField, system: System, entry: &Entry) -> 
     Some(cell(field, entry, satellite, signal))
 }
 
-// The values of a cell; it has no loss of lock indicator yet.
+// Returns a cell with its values, without a loss of lock indicator.
 fn cell(field: LockField, entry: &Entry, satellite: Sat, signal: Signal) -> Cell
     requires entry { IsEntry (codes_of field) entry.now }
     requires same { signal.system ≡ satellite.system }
     ensures value { result ≡ kept_cell (observed (lock_by field entry.now.lock) entry.now satellite signal) 0 }
     ensures observed { IsObserved (heard_cell result) }
 {
-    // These two calls tell the prover that the satellite and the signal are listed.
+    // By these two calls the prover knows that the satellite and the signal are listed.
     let _ = satellite.id();
     let _ = signal.index();
     Cell {
@@ -52,7 +52,7 @@ fn cell(field: LockField, entry: &Entry, satellite: Sat, signal: Signal) -> Cell
     }
 }
 
-// The lock of an indicator.
+// Returns the lock of an indicator.
 fn lock_of(field: LockField, code: u16) -> Lock
     requires { code < codes_of field }
     ensures { result ≡ lock_by field code }
@@ -72,7 +72,7 @@ pub fn summary_of(view: &View<'_>) -> Summary
     view.summary()
 }
 
-/// The system of a message with observations.
+/// Returns the system of a message with observations.
 pub fn system_of(is_galileo: bool) -> System
     ensures { result ≡ system_of is_galileo }
 {
@@ -83,7 +83,7 @@ pub fn system_of(is_galileo: bool) -> System
     }
 }
 
-/// The station values of a station message; its height is that before, where it tells none.
+/// Returns the station values of a station message, with this height if it has none.
 pub fn values_of(parts: &StationParts, height: u16) -> StationValues
     ensures { result ≡ values_by parts.now height }
 {

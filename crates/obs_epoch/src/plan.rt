@@ -34,9 +34,9 @@ impl Model for Plan {
 }
 
 impl Plan {
-    /// The signals that two texts want. Each text is `all` for the table's order, `none`, or codes
-    /// with single commas between them, as `1C,2W`. The GPS text is read first, from the left; an
-    /// empty text is one unknown code.
+    /// Returns the plan of two texts. Each is `all` for all signals in the table's order, `none`,
+    /// or codes with single commas between them, as `1C,2W`. The GPS text is read first, from the
+    /// left; an empty text is one unknown code.
     pub fn parse(alloc: Global, gps: &str, galileo: &str) -> Result<Plan, PlanFault>
         ensures { MatchResult result
             (λ p. plan_of gps.now galileo.now ≡ Ok p)
@@ -57,9 +57,13 @@ impl Plan {
         }
     }
 
-    /// The plan of these signals in this order. A signal of another system and one that came before
-    /// are refused, those of GPS first and from the left, and so is no signal at all; and want of
-    /// memory, where a growth was refused.
+    /// Returns the plan of these signals in this order.
+    ///
+    /// # Errors
+    ///
+    /// `UnknownCode` for a signal of another system and `RepeatedCode` for a repeated one, those
+    /// of GPS first and from the left, `NothingPlanned` for no signal, `Memory` if an allocation
+    /// failed.
     pub fn from_signals(
         alloc: Global,
         gps: &[Signal],
@@ -86,7 +90,7 @@ impl Plan {
         }
     }
 
-    /// How many signals of a system are wanted.
+    /// Returns the number of signals of a system that are wanted.
     pub fn signals(&self, system: System) -> usize
         ensures count { result ≡ length (planned_of system self.now) }
         ensures bound { result ≤ length (table system) }
@@ -94,7 +98,7 @@ impl Plan {
         self.of(system).len()
     }
 
-    /// The signals of a system that are wanted, in their order.
+    /// Returns the signals of a system that are wanted, in their order.
     pub fn of(&self, system: System) -> &[Signal]
         ensures indices { indices result.now ≡ planned_of system self.now }
         ensures system { IsOf system result.now }
@@ -105,7 +109,7 @@ impl Plan {
         }
     }
 
-    /// A signal of a system that is wanted, by its place from 0.
+    /// Returns a signal of a system that is wanted, by its index.
     pub fn signal(&self, system: System, place: usize) -> Signal
         requires { place < length (planned_of system self.now) }
         ensures index { result.index ≡ slice_index (planned_of system self.now) place }
@@ -114,7 +118,7 @@ impl Plan {
         self.of(system)[place]
     }
 
-    /// The place of a signal among those of its system that are wanted, from 0, or None where it
+    /// Returns the index of a signal among those of its system that are wanted, or `None` if it
     /// isn't wanted.
     pub fn place(&self, signal: Signal) -> Option<usize>
         ensures place { result ≡ place_in signal (planned_of signal.system self.now) }
@@ -126,10 +130,9 @@ impl Plan {
     }
 }
 
-// Nothing that has to be let go is held where a fault can come: what is read goes into lists that
-// the caller owns.
+// The functions that can fail append to lists of the caller, so that none of them has to free one.
 
-// The signals of both systems, at least one in all.
+// Appends the signals of both systems, at least one in all.
 fn add_both(
     gps: &mut Signals,
     galileo: &mut Signals,
@@ -150,7 +153,7 @@ fn add_both(
     add_signals(galileo, System::Galileo, galileo_signals)
 }
 
-// These signals of a system, where none of them is of another and none stands twice.
+// Appends these signals of a system: none of another system, none twice.
 fn add_signals(added: &mut Signals, system: System, signals: &[Signal]) -> Result<(), PlanFault>
     requires { added.old ≡ [] }
     ensures { MatchResult result
@@ -163,7 +166,7 @@ fn add_signals(added: &mut Signals, system: System, signals: &[Signal]) -> Resul
     Ok(())
 }
 
-// One signal more.
+// Appends a signal.
 fn add_signal(signals: &mut Signals, system: System, signal: Signal) -> Result<(), PlanFault>
     requires { IsOf system signals.old }
     ensures { MatchResult result
@@ -181,7 +184,7 @@ fn add_signal(signals: &mut Signals, system: System, signal: Signal) -> Result<(
     }
 }
 
-// The signals of both systems that two texts want, at least one in all.
+// Appends the signals of two texts, at least one in all.
 fn read_both(
     gps: &mut Signals,
     galileo: &mut Signals,
@@ -201,7 +204,7 @@ fn read_both(
     Ok(())
 }
 
-// The signals of a system that a text wants.
+// Appends the signals of a text.
 fn read_signals(signals: &mut Signals, system: System, text: &str) -> Result<(), PlanFault>
     requires { signals.old ≡ [] }
     ensures { MatchResult result
@@ -217,7 +220,7 @@ fn read_signals(signals: &mut Signals, system: System, text: &str) -> Result<(),
     read_codes(signals, system, text)
 }
 
-// The signals of a table in its order.
+// Appends the signals of a table in its order.
 fn add_every(signals: &mut Signals, system: System) -> Result<(), PlanFault>
     requires { signals.old ≡ [] }
     ensures { MatchResult result
@@ -237,7 +240,7 @@ fn add_every(signals: &mut Signals, system: System) -> Result<(), PlanFault>
     Ok(())
 }
 
-// The signals of codes with commas between them.
+// Appends the signals of codes with commas between them.
 fn read_codes(signals: &mut Signals, system: System, text: &str) -> Result<(), PlanFault>
     requires { signals.old ≡ [] }
     ensures { MatchResult result
@@ -253,7 +256,7 @@ fn read_codes(signals: &mut Signals, system: System, text: &str) -> Result<(), P
     Ok(())
 }
 
-// The first code of some, and those behind its comma.
+// Returns the first code, and the text after its comma.
 fn first_code(codes: &str) -> (&str, Option<&str>)
     ensures first { between_commas codes.now ≡ result.0.now ∷ codes_in (option_map (λ r. r.now) result.1) }
     ensures fewer { IfSome result.1 (λ r. length r.now < length codes.now) }
@@ -264,7 +267,7 @@ fn first_code(codes: &str) -> (&str, Option<&str>)
     }
 }
 
-// One code more.
+// Appends the signal of a code.
 fn add_code(signals: &mut Signals, system: System, code: &str) -> Result<(), PlanFault>
     requires { IsOf system signals.old }
     ensures { MatchResult result

@@ -14,8 +14,8 @@ use std::marker::Model;
 #[derive(Drop)]
 pub struct Signals {
     order: IndexSet<Signal>,
-    // For each signal of the table, by its place there: its place in the order. Galileo has the
-    // longest table.
+    // The index of each signal in the order, by its index in the table. Galileo has the longest
+    // table.
     places: [Option<usize>; GALILEO_SIGNAL_COUNT],
 }
 
@@ -32,7 +32,7 @@ impl Model for Signals {
 }
 
 impl Signals {
-    /// No signal.
+    /// Returns no signal.
     pub fn new(alloc: Global) -> Signals
         ensures { result ≡ [] }
     {
@@ -42,7 +42,7 @@ impl Signals {
         }
     }
 
-    /// Adds a signal of the same system as those before it, and says whether it wasn't there.
+    /// Adds a signal of the same system as those before it, and returns whether it is new.
     pub fn add(&mut self, signal: Signal) -> Result<bool, AllocError>
         requires { IsOf signal.system self.old }
         ensures new { result ≡ Ok true → IsAdded self.old signal self.new }
@@ -60,28 +60,28 @@ impl Signals {
         }
     }
 
-    /// How many there are.
+    /// Returns their number.
     pub fn len(&self) -> usize
         ensures { result ≡ length self.now }
     {
         self.as_slice().len()
     }
 
-    /// Whether there is none.
+    /// Returns whether there is none.
     pub fn is_empty(&self) -> bool
         ensures { IsTrue result ↔ (self.now ≡ []) }
     {
         self.as_slice().is_empty()
     }
 
-    /// All of them in their order.
+    /// Returns all of them in their order.
     pub fn as_slice(&self) -> &[Signal]
         ensures { result.now ≡ self.now }
     {
         self.order.as_slice()
     }
 
-    /// The place of a signal of their system, from 0, or None where it isn't there.
+    /// Returns the index of a signal of their system, or `None` if it isn't there.
     pub fn place(&self, signal: Signal) -> Option<usize>
         ensures { result ≡ place_in signal (indices self.now) }
     {

@@ -1,4 +1,4 @@
-//! What becomes of a message.
+//! The outcome of a message.
 ghost use Rattle.std.specs.Prelude.{◌≡◌, ◌+◌, ◌<◌};
 ghost use Rattle.obs_epoch.specs.Heard.{heard_summary};
 ghost use Rattle.obs_epoch.specs.Held.{count_in};
@@ -18,20 +18,20 @@ pub enum Gather {
     Time,
 }
 
-/// What became of a message.
+/// The outcome of a message.
 #[derive(Clone, Copy, Debug, PartialEq, Eq)]
 pub enum Kind {
-    /// A message of another number than 1005, 1006, 1074, 1077, 1094 and 1097, of whatever station.
+    /// A message of another number than 1005, 1006, 1074, 1077, 1094 and 1097, of any station.
     Ignored,
     /// A station message, 1005 or 1006.
     Station,
     /// A message of another station.
     OtherStation,
-    /// Observations of a time that lies back, or of an epoch that is closed.
+    /// Observations older than the current epoch, or of an epoch already closed.
     Late,
     /// Observations of week 100,000 or later.
     PastWeeks,
-    /// Observations that were taken, and what became of their cells.
+    /// Observations that were taken, with the outcomes of their cells.
     Kept {
         /// Cells that were kept.
         kept: usize,
@@ -39,15 +39,15 @@ pub enum Kind {
         skipped: usize,
         /// Cells of a satellite and signal of which the epoch has one already.
         repeated: usize,
-        /// Cells that came when 256 of their system were kept.
+        /// Cells after 256 of their system were kept.
         crowded: usize,
     },
-    /// Observations of a later epoch: the pending epoch was closed, and the message is to be handed
-    /// in again.
+    /// Observations of a later epoch: the pending epoch was closed, and the message is to be passed
+    /// again.
     CloseFirst,
 }
 
-/// What became of the cells of a message.
+/// The number of cells of a message with each outcome.
 #[derive(Clone, Copy)]
 pub struct CellCounts {
     pub kept: usize,
@@ -56,7 +56,7 @@ pub struct CellCounts {
     pub crowded: usize,
 }
 
-/// What became of a cell.
+/// The outcome of a cell.
 #[derive(Clone, Copy)]
 pub enum Fate {
     Skipped,
@@ -65,17 +65,17 @@ pub enum Fate {
     Kept,
 }
 
-/// What became of a message, and whether an epoch was closed.
+/// The outcome of a message, and whether an epoch was closed.
 #[derive(Clone, Copy, Debug, PartialEq, Eq)]
 pub struct Taken {
-    /// What became of it.
+    /// The outcome of the message.
     pub kind: Kind,
-    /// Whether the call closed an epoch: `Gatherer::closed` lends it.
+    /// Whether the call closed an epoch: `Gatherer::closed` returns it.
     pub closed: bool,
 }
 
 impl Kind {
-    /// Whether the message is to be handed in again.
+    /// Returns whether the message is to be passed again.
     pub fn is_close_first(self) -> bool
         ensures { result ≡ is_close_first self }
     {
@@ -112,7 +112,7 @@ pub(crate) fn is_by_bit(gather: Gather) -> bool
     matches!(gather, Gather::Bit)
 }
 
-// No station has this number: it has more than 12 bits.
+// Returns whether a number has more than 12 bits, so that no station has it.
 pub(crate) fn is_no_station(station: Option<u16>) -> bool
     ensures { result ≡ is_no_station station }
 {

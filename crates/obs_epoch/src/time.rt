@@ -5,10 +5,10 @@ ghost use Rattle.obs_epoch.specs.Weeks.{weeks};
 
 use std::marker::Model;
 
-/// The milliseconds of a week.
+/// Number of milliseconds of a week.
 pub(crate) const WEEK: u64 = 604_800_000;
 
-/// So many weeks have a number: 0 to 99,999.
+/// Number of weeks: 0 to 99,999.
 pub(crate) const WEEKS: u64 = 100_000;
 
 /// A time: milliseconds since 1980-01-06 00:00:00 GPS time, in the weeks 0 to 99,999. There are no
@@ -33,7 +33,8 @@ impl Model for GpsTime {
 }
 
 impl GpsTime {
-    /// The time so many milliseconds after 1980-01-06 00:00:00, or None from week 100,000 on.
+    /// Returns the time this many milliseconds after 1980-01-06 00:00:00, or `None` from week
+    /// 100,000 on.
     pub fn new(milliseconds: u64) -> Option<GpsTime>
         ensures some { IsSome result ↔ (milliseconds < weeks * week) }
         ensures value { IfSome result (λ t. t ≡ milliseconds) }
@@ -45,7 +46,7 @@ impl GpsTime {
         }
     }
 
-    // The time of a number that is known to lie within the weeks.
+    // Returns the time of a number that is known to lie within the weeks.
     pub(crate) fn within(milliseconds: u64) -> GpsTime
         requires { milliseconds < weeks * week }
         ensures { result ≡ milliseconds }
@@ -53,7 +54,7 @@ impl GpsTime {
         GpsTime { milliseconds }
     }
 
-    /// The milliseconds since 1980-01-06 00:00:00.
+    /// Returns the milliseconds since 1980-01-06 00:00:00.
     pub fn milliseconds(self) -> u64
         ensures value { result ≡ self }
         ensures bound { result < weeks * week }
