@@ -187,10 +187,7 @@ fn seat_at(plan: &Plan, satellite: Sat, signal: Signal) -> Seat
 {
     Seat {
         satellite: satellite.id(),
-        place: match plan.place(signal) {
-            None => 0,
-            Some(place) => place,
-        },
+        place: plan.place(signal).unwrap_or(0),
     }
 }
 

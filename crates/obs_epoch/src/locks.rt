@@ -191,8 +191,8 @@ pub fn is_same_system(a: System, b: System) -> bool
     ensures value { result ≡ is_system a b }
     ensures exact { IsTrue result ↔ (a ≡ b) }
 {
-    match (a, b) {
-        (System::Gps, System::Gps) | (System::Galileo, System::Galileo) => true,
-        _ => false,
-    }
+    matches!(
+        (a, b),
+        (System::Gps, System::Gps) | (System::Galileo, System::Galileo)
+    )
 }

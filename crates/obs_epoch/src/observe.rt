@@ -91,9 +91,6 @@ pub fn values_of(parts: &StationParts, height: u16) -> StationValues
         x: parts.x,
         y: parts.y,
         z: parts.z,
-        height: match parts.height {
-            None => height,
-            Some(height) => height,
-        },
+        height: parts.height.unwrap_or(height),
     }
 }

@@ -116,10 +116,7 @@ pub(crate) fn is_by_bit(gather: Gather) -> bool
 pub(crate) fn is_no_station(station: Option<u16>) -> bool
     ensures { result ≡ is_no_station station }
 {
-    match station {
-        None => false,
-        Some(station) => station > 4_095,
-    }
+    matches!(station, Some(station) if station > 4_095)
 }
 
 /// Returns the counts of no cell.
