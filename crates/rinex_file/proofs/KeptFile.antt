@@ -1,30 +1,19 @@
--- The text of a file whose epochs are kept in lists.
-use Rattle.std.proofs.Common.{arith, ◌≡◌, ◌∙◌, sym, ap, subst, ℕ, ◌+◌, ◌-◌, ◌<◌, ◌≤◌, List, [], ◌∷◌, ◌++◌, length, take, drop, get_or}
-use Rattle.std.specs.Prelude.{All, flat_map}
-use Rattle.std.proofs.lemmas.List.{take-append-drop, length-drop}
-use Rattle.std.proofs.lemmas.List.Elements.{All-head, All-tail, All-append}
-use Rattle.std.proofs.lemmas.List.Sums.{sum_by-cons}
+-- The text of a file that is kept in memory.
+use Rattle.std.proofs.Common.{arith, ◌≡◌, ◌∙◌, sym, ap, refl, subst, ℕ, ◌<◌, ◌≤◌, List, [], ◌∷◌, ◌++◌, length, get_or, append_assoc, Result, Ok, Err, OnOk}
+use Rattle.std.specs.Prelude.{All, map, flat_map}
 use Rattle.gnss_obs.specs.declared.system.System.{System}
 use Rattle.gnss_obs.specs.declared.system.System.TheVariants.{Gps, Galileo}
 use Rattle.gnss_obs.specs.Satellites.{satellites}
-use Rattle.obs_epoch.specs.declared.cell.StationValues.{StationValues}
-use Rattle.obs_epoch.specs.Values.{PlanValue}
 use Rattle.obs_epoch.specs.Dates.{civil_of}
-use Rattle.rinex_file.specs.Texts.{HeaderLists}
-use Rattle.rinex_file.specs.declared.values.kept.KeptRow.{KeptRow}
-use Rattle.rinex_file.specs.declared.values.kept.KeptEpoch.{KeptEpoch}
-use Rattle.rinex_file.specs.Value.{SignalValues, SatelliteRow, Stamped, FileValue, file_with}
-use Rattle.rinex_file.specs.FileValues.{IsSatelliteRow, IsStamped, IsFileValue, of_system}
+use Rattle.rinex_file.specs.Value.{SatelliteRow, Stamped, FileValue}
+use Rattle.rinex_file.specs.FileValues.{IsSatelliteRow, IsFileValue, of_system}
 use Rattle.rinex_file.specs.Header.{header_lines}
 use Rattle.rinex_file.specs.Numbers.{joined}
-use Rattle.rinex_file.specs.File.{header_text, stamped_lines, file_text}
-use Rattle.rinex_file.specs.Course.{stamped_at}
-use Rattle.rinex_file.specs.Read.Kept.{rows_of, change_at, changes_after, epochs_with, epochs_of, row_count, AreKept, HasRoom}
+use Rattle.rinex_file.specs.Lines.{epoch_line, satellite_line}
+use Rattle.rinex_file.specs.File.{header_text, change_lines, stamped_lines, file_text, lines_of_parts}
+use Rattle.rinex_file.specs.Read.Keeping.{HasRoom, HaveRowsRoom, stamped_text}
 use Rattle.rinex_file.proofs.PlainHeader.{few_signals_of}
-use Rattle.rinex_file.proofs.KeptRows.{length-rows_of}
 use Rattle.rinex_file.proofs.Sent.{joined-append}
-
--- ---- each line has room
 
 few_satellites : (s : System) → satellites s < 100
 few_satellites Gps = omega arith
@@ -42,47 +31,56 @@ has_room gps galileo s g e is =
     let whole = is.row.whole in
     (omega (arith, few, most), is.row.entries, omega (arith, signals, whole))
 
-have_room : (gps galileo : ℕ) (epochs : List KeptEpoch) (changes : List StationValues) (rows : List SatelliteRow) → gps ≤ 19 → galileo ≤ 19 → row_count epochs ≡ length rows
-    → All (IsStamped gps galileo) (epochs_with epochs changes rows) → All HasRoom rows
-have_room gps galileo [] changes rows g e size are = λ k d less. absurd (omega (arith, size, less))
-have_room gps galileo (x ∷ xs) changes rows g e size are =
-    let c = change_at x.changed changes in
-    let cs = changes_after x.changed changes in
-    let own = take x.rows rows in
-    let rest = drop x.rows rows in
-    let sum : row_count (x ∷ xs) ≡ x.rows + row_count xs = sum_by-cons (λ (y : KeptEpoch). y.rows) x xs in
-    let left : length rest ≡ length rows - x.rows = length-drop x.rows rows in
-    let one = All-head (IsStamped gps galileo) (stamped_at c x.time own) (epochs_with xs cs rest) are in
-    let more = All-tail (IsStamped gps galileo) (stamped_at c x.time own) (epochs_with xs cs rest) are in
-    subst (All HasRoom) (take-append-drop x.rows rows)
-    (All-append HasRoom own rest (λ k d less. has_room gps galileo (get_or own k d) g e (one.rows.each k d less)) (have_room gps galileo xs cs rest g e (omega (arith, size, sum, left)) more))
+-- each line has room for its satellite
+pub lines_have_room : (v : FileValue) → IsFileValue v → All HaveRowsRoom v.epochs
+lines_have_room v is =
+    λ i d less k x here. has_room (length v.plan.gps) (length v.plan.galileo) (get_or (get_or v.epochs i d).rows k x) (few_signals_of v.plan is.plan Gps) (few_signals_of v.plan is.plan Galileo)
+    ((is.epochs i d less).rows.each k x here)
 
-pub lines_have_room : (v : FileValue) (epochs : List KeptEpoch) (changes : List StationValues) (rows : List KeptRow) (all : List SignalValues) → IsFileValue v → AreKept epochs changes rows all 0
-    → v.epochs ≡ epochs_of epochs changes rows all → All HasRoom (rows_of rows all)
-lines_have_room v epochs changes rows all is kept same =
-    let gps = length v.plan.gps in
-    let galileo = length v.plan.galileo in
-    let long = length-rows_of rows all in
-    let counted = kept.counted in
-    have_room gps galileo epochs changes (rows_of rows all) (few_signals_of v.plan is.plan Gps) (few_signals_of v.plan is.plan Galileo) (omega (arith, long, counted))
-    (subst (All (IsStamped gps galileo)) same is.epochs)
+-- the same satellites have room
+pub same_room : (e : Stamped) (rows : List SatelliteRow) → rows ≡ e.rows → HaveRowsRoom e → All HasRoom rows
+same_room e rows same room = subst (All HasRoom) (sym same) room
 
--- ---- header and epochs
+joined_map : {X : Type 0} (f : X → List ℕ) (xs : List X) → joined (map f xs) ≡ flat_map f xs
+joined_map f [] = refl
+joined_map f (x ∷ xs) = ap (λ l. f x ++ l) (joined_map f xs)
 
-parts : (t : HeaderLists) (p : PlanValue) (x : StationValues) (epochs : List KeptEpoch) (changes : List StationValues) (rows : List KeptRow) (all : List SignalValues) (first : KeptEpoch) → 0 < length (epochs_of epochs changes rows all)
-    → first ≡ get_or epochs 0 first → header_text t p x first.time ++ joined (flat_map stamped_lines (epochs_of epochs changes rows all)) ≡ file_text (file_with t p x (epochs_of epochs changes rows all))
+joined_parts : (es : List Stamped) → joined (flat_map stamped_lines es) ≡ flat_map stamped_text es
+unfolding stamped_text
+joined_parts [] = refl
+joined_parts (e ∷ es) = joined-append (stamped_lines e) (flat_map stamped_lines es) ∙ ap (λ l. joined (stamped_lines e) ++ l) (joined_parts es)
+
+-- change, epoch line and satellites were appended
+pub epoch_whole : (v e : Stamped) (rows : List SatelliteRow) (old mid line text new : List ℕ) → v ≡ e → rows ≡ v.rows → mid ≡ old ++ joined (change_lines v.change) → line ≡ epoch_line (civil_of v.time) (length rows)
+    → text ≡ mid ++ line → new ≡ text ++ flat_map satellite_line rows → new ≡ old ++ stamped_text e
+unfolding stamped_text
+epoch_whole v e rows old mid line text new is same changed begun more last =
+    let own : joined (epoch_line (civil_of v.time) (length v.rows) ∷ map satellite_line v.rows) ≡ epoch_line (civil_of v.time) (length v.rows) ++ flat_map satellite_line v.rows =
+    ap (λ l. epoch_line (civil_of v.time) (length v.rows) ++ l) (joined_map satellite_line v.rows) in
+    last ∙ ap (λ l. l ++ flat_map satellite_line rows) (more ∙ ap (λ l. mid ++ l) begun ∙ ap (λ l. l ++ epoch_line (civil_of v.time) (length rows)) changed)
+    ∙ ap (λ (r : List SatelliteRow). ((old ++ joined (change_lines v.change)) ++ epoch_line (civil_of v.time) (length r)) ++ flat_map satellite_line r) same
+    ∙ append_assoc (old ++ joined (change_lines v.change)) (epoch_line (civil_of v.time) (length v.rows)) (flat_map satellite_line v.rows)
+    ∙ append_assoc old (joined (change_lines v.change)) (epoch_line (civil_of v.time) (length v.rows) ++ flat_map satellite_line v.rows)
+    ∙ ap (λ l. old ++ l) (ap (λ l. joined (change_lines v.change) ++ l) (sym own) ∙ sym (joined-append (change_lines v.change) (epoch_line (civil_of v.time) (length v.rows) ∷ map satellite_line v.rows)))
+    ∙ ap (λ (x : Stamped). old ++ joined (stamped_lines x)) is
+
+pub on_ok : {A E : Type 0} (r : Result A E) (P Q : Type 0) → (P → Q) → OnOk r P → OnOk r Q
+on_ok (Ok x) P Q f h = f h
+on_ok (Err e) P Q f h = tt
+
+parts : (v : FileValue) (first : Stamped) (es : List Stamped) → 0 < length es → first ≡ get_or es 0 first
+    → header_text v.texts v.plan v.values first.time ++ joined (flat_map stamped_lines es) ≡ joined (lines_of_parts v.texts v.plan v.values es)
 unfolding header_text
-parts t p x [] changes rows all first some is = absurd (omega (arith, some))
-parts t p x (e ∷ es) changes rows all first some is =
-    ap (λ (f : KeptEpoch). joined (header_lines t p x (civil_of f.time)) ++ joined (flat_map stamped_lines (epochs_of (e ∷ es) changes rows all))) is
-    ∙ sym (joined-append (header_lines t p x (civil_of e.time)) (flat_map stamped_lines (epochs_of (e ∷ es) changes rows all)))
+parts v first [] some at = absurd (omega (arith, some))
+parts v first (e ∷ es) some at =
+    ap (λ (f : Stamped). joined (header_lines v.texts v.plan v.values (civil_of f.time)) ++ joined (flat_map stamped_lines (e ∷ es))) at
+    ∙ sym (joined-append (header_lines v.texts v.plan v.values (civil_of e.time)) (flat_map stamped_lines (e ∷ es)))
 
 -- header and epochs were appended to nothing
-pub all_appended : (v f : FileValue) (epochs : List KeptEpoch) (changes : List StationValues) (rows : List KeptRow) (all : List SignalValues) (first : KeptEpoch) (old text new : List ℕ) → f ≡ v → f.epochs ≡ epochs_of epochs changes rows all
-    → f ≡ file_with f.texts f.plan f.values (epochs_of epochs changes rows all) → IsFileValue f → first ≡ get_or epochs 0 first → old ≡ [] → text ≡ old ++ header_text v.texts v.plan v.values first.time
-    → new ≡ text ++ joined (flat_map stamped_lines (epochs_of epochs changes rows all)) → new ≡ file_text v
-all_appended v f epochs changes rows all first old text new view same by is at none grown more =
-    let some : 0 < length (epochs_of epochs changes rows all) = subst (λ (l : List Stamped). 0 < length l) same is.some in
-    let header : text ≡ header_text f.texts f.plan f.values first.time =
-    grown ∙ ap (λ l. l ++ header_text v.texts v.plan v.values first.time) none ∙ ap (λ (w : FileValue). header_text w.texts w.plan w.values first.time) (sym view) in
-    more ∙ ap (λ l. l ++ joined (flat_map stamped_lines (epochs_of epochs changes rows all))) header ∙ parts f.texts f.plan f.values epochs changes rows all first some at ∙ ap file_text (sym by) ∙ ap file_text view
+pub all_appended : (v w : FileValue) (first : Stamped) (old text new : List ℕ) → v ≡ w → IsFileValue v → first ≡ get_or v.epochs 0 first → old ≡ [] → text ≡ old ++ header_text w.texts w.plan w.values first.time
+    → new ≡ text ++ flat_map stamped_text v.epochs → new ≡ file_text w
+all_appended v w first old text new same is at none grown more =
+    more ∙ ap (λ l. text ++ l) (sym (joined_parts v.epochs))
+    ∙ ap (λ l. l ++ joined (flat_map stamped_lines v.epochs))
+    (grown ∙ ap (λ l. l ++ header_text w.texts w.plan w.values first.time) none ∙ ap (λ (x : FileValue). header_text x.texts x.plan x.values first.time) (sym same))
+    ∙ parts v first v.epochs is.some at ∙ ap file_text same

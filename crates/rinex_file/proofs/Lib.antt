@@ -15,7 +15,6 @@ mod Faultless
 mod FileText
 mod Examples
 mod Ahead
-mod KeptRows
 mod KeptFile
 mod ReadWhole
 mod Judged

@@ -6,5 +6,4 @@ pub mod HeaderSteps
 pub mod Progress
 pub mod Sound
 pub mod Steps
-pub mod Kept
 pub mod Keeping

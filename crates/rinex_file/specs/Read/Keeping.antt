@@ -1,11 +1,24 @@
--- The history that is kept.
+-- What is kept of the epochs of a file.
+use Rattle.std.specs.Prelude.{ℕ, ◌<◌, ◌≤◌, List, length, All}
 use Rattle.rinex_file.specs.declared.read.keeper.Keeper.{Keeper}
+use Rattle.rinex_file.specs.Value.{SatelliteRow, Stamped}
+use Rattle.rinex_file.specs.FileValues.{AreSignalValues}
 use Rattle.rinex_file.specs.Course.{History}
-use Rattle.rinex_file.specs.Read.Kept.{kept_history, AreKept}
+use Rattle.rinex_file.specs.Numbers.{joined}
+use Rattle.rinex_file.specs.File.{stamped_lines}
+use Rattle.rinex_file.specs.Limits.{most_signals}
 
+-- the history that is kept
 abbrev pub history_of : Keeper → History
-history_of k = kept_history k.epochs.items k.changes.items k.rows.items k.entries.items
+history_of k = record { epochs = k.epochs.items; rows = k.rows.items }
 
--- so many satellites belong to no epoch yet
-abbrev pub IsKept : Keeper → Type 0
-IsKept k = AreKept k.epochs.items k.changes.items k.rows.items k.entries.items k.begun
+-- a line has room for a satellite
+abbrev pub HasRoom : SatelliteRow → Type 0
+HasRoom s = (s.row.satellite < 100) × All AreSignalValues s.row.entries × (length s.row.entries ≤ most_signals)
+
+abbrev pub HaveRowsRoom : Stamped → Type 0
+HaveRowsRoom e = All HasRoom e.rows
+
+-- the text of an epoch
+unfoldable pub stamped_text : Stamped → List ℕ
+stamped_text e = joined (stamped_lines e)

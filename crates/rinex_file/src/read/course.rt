@@ -13,7 +13,6 @@ ghost use Rattle.rinex_file.specs.Limits.{most_line};
 
 use crate::read::due::{Added, Due, Refusal};
 use crate::read::epoch::read_epoch_line;
-use crate::read::head_parts::HeadParts;
 use crate::read::head_so_far::HeadSoFar;
 use crate::read::row::read_seen;
 use crate::read::station::{read_delta, read_position};

@@ -90,7 +90,7 @@ pub fn read_file<R: Read>(alloc: Global, reader: &mut Counted<R>) -> Result<ObsF
                 }
             },
             Ok(None) => {
-                return match keeper.finish(alloc, reading.course) {
+                return match keeper.finish(reading.course) {
                     Ok(file) => Ok(file),
                     Err(_) => Err(ReadFault::Memory),
                 };

@@ -6,7 +6,7 @@ ghost use Rattle.rinex_file.specs.FileValues.{has_some_value};
 use crate::write::numbers::MOST_SIGNALS;
 use arrayvec::ArrayVec;
 use gnss_obs::{System, Thousandths};
-use obs_epoch::{Cell, GpsTime};
+use obs_epoch::{Cell, GpsTime, StationValues};
 use std::marker::Model;
 
 /// What a line shows of a signal: pseudorange (0.001 m), phase (0.001 cycles), Doppler (0.001 Hz)
@@ -93,19 +93,34 @@ impl Model for KeptSatellite {
     ghost view = { λ s. record { system = s.system; row = record { satellite = s.satellite; entries = s.entries.items } } };
 }
 
-/// A satellite of a system, with the number of its entries among those kept of all.
-#[derive(Clone, Copy, Drop)]
+/// A satellite of a system, with an entry for each planned signal, as it is kept in memory.
+#[derive(Drop)]
 pub(crate) struct KeptRow {
     pub(crate) system: System,
     pub(crate) satellite: u8,
-    pub(crate) entries: usize,
+    pub(crate) entries: Vec<SignalValues>,
 }
 
-/// An epoch, with the number of its satellites among those kept of all, and whether it has the next
-/// of the changes of station values.
-#[derive(Clone, Copy, Drop)]
+impl Model for KeptRow {
+    ghost use Rattle.rinex_file.specs.Value.{SatelliteRow};
+
+    ghost Value = { SatelliteRow };
+
+    ghost view = { λ s. record { system = s.system; row = record { satellite = s.satellite; entries = s.entries.items } } };
+}
+
+/// An epoch with its satellites, and the station values that change with it.
+#[derive(Drop)]
 pub(crate) struct KeptEpoch {
+    pub(crate) change: Option<StationValues>,
     pub(crate) time: GpsTime,
-    pub(crate) rows: usize,
-    pub(crate) changed: bool,
+    pub(crate) rows: Vec<KeptRow>,
+}
+
+impl Model for KeptEpoch {
+    ghost use Rattle.rinex_file.specs.Value.{Stamped};
+
+    ghost Value = { Stamped };
+
+    ghost view = { λ e. record { change = e.change; time = e.time; rows = e.rows.items } };
 }

@@ -4,7 +4,7 @@ ghost use Rattle.std.specs.List.{sum_by};
 ghost use Rattle.rinex_file.specs.Course.{events_in};
 
 use crate::header::texts::HeaderTexts;
-use crate::values::kept::{KeptEpoch, KeptRow, SignalValues};
+use crate::values::kept::KeptEpoch;
 use obs_epoch::{Plan, StationValues};
 use std::marker::Model;
 
@@ -15,25 +15,22 @@ pub struct ObsFile {
     pub(crate) plan: Plan,
     pub(crate) values: StationValues,
     pub(crate) epochs: Vec<KeptEpoch>,
-    pub(crate) changes: Vec<StationValues>,
-    pub(crate) rows: Vec<KeptRow>,
-    pub(crate) entries: Vec<SignalValues>,
+    pub(crate) satellites: u64,
+    pub(crate) events: u64,
 }
 
 impl Model for ObsFile {
-    ghost use Rattle.std.specs.Prelude.{◌≡◌, length};
+    ghost use Rattle.std.specs.Prelude.{◌≡◌};
     ghost use Rattle.rinex_file.specs.Value.{FileValue, file_with};
     ghost use Rattle.rinex_file.specs.FileValues.{IsFileValue};
-    ghost use Rattle.rinex_file.specs.Read.Kept.{epochs_of, AreKept};
+    ghost use Rattle.rinex_file.specs.Course.{rows_in, events_in};
 
     ghost Value = { FileValue };
 
-    ghost view = { λ f. file_with f.texts f.plan f.values (epochs_of f.epochs.items f.changes.items f.rows.items f.entries.items) };
+    ghost view = { λ f. file_with f.texts f.plan f.values f.epochs.items };
 
-    // It is a file's value, and no change, no row and no entry is left over.
-    ghost invariant = { λ f.
-        IsFileValue (file_with f.texts f.plan f.values (epochs_of f.epochs.items f.changes.items f.rows.items f.entries.items))
-        × AreKept f.epochs.items f.changes.items f.rows.items f.entries.items 0 };
+    ghost invariant = { λ f. IsFileValue (file_with f.texts f.plan f.values f.epochs.items)
+        × (f.satellites ≡ rows_in f.epochs.items) × (f.events ≡ events_in f.epochs.items) };
 }
 
 impl ObsFile {
@@ -69,13 +66,13 @@ impl ObsFile {
     pub fn events(&self) -> usize
         ensures { result ≡ events_in self.now.epochs }
     {
-        self.changes.as_slice().len()
+        self.events as usize
     }
 
     /// The number of lines of satellites, those of all epochs together.
     pub fn satellites(&self) -> usize
         ensures { result ≡ sum_by (λ e. length e.rows) self.now.epochs }
     {
-        self.rows.as_slice().len()
+        self.satellites as usize
     }
 }

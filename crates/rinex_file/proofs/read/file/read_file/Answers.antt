@@ -9,8 +9,7 @@ use Rattle.rinex_file.proofs.read.file.read_file.Goals as goal
 
 pub loop-added-init : goal.loop-added-init
 loop-added-init g c = record {
-  read = kept_read c.new-reading.result _ (history_of c.new-keeper.result) _ _ c.new-keeper.ensures.none (c.new-reading.ensures.read _);
-  kept = c.new-keeper.ensures.kept;
+  read = kept_read c.new-reading.result _ (history_of c.new-keeper.result) _ _ c.new-keeper.ensures (c.new-reading.ensures.read _);
   within = c.new-reading.ensures.within;
   left = leaves_all _;
   same = refl;
@@ -22,8 +21,7 @@ loop-added-preserved g c =
     let goes = one_more c.next.new.self (history_of c.loop-added.keeper) _ _ c.in-Ok-Some.field-0 c.in-Ok-Some.added c.in-Ok-Some.field-0-is
     (c.in-Ok-Some.ensures.goes (history_of c.loop-added.keeper) _ inv.read) in
     record {
-      read = kept_read c.next.new.self _ (history_of c.keep.new.self) _ _ c.in-Ok.ensures.added goes;
-      kept = c.in-Ok.ensures.kept;
+      read = kept_read c.next.new.self _ (history_of c.keep.new.self) _ _ c.in-Ok.ensures goes;
       within = c.in-Ok-Some.ensures.within;
       left = leaves_more _ _ _ inv.left c.in-Ok-Some.ensures.left;
       same = c.in-Ok-Some.ensures.same (λ e. cc) ∙ inv.same;
@@ -44,6 +42,11 @@ pub finish-requires-clause-value : goal.finish-requires-clause-value
 finish-requires-clause-value g c =
     (the_end c.next.new.self (history_of c.loop-added.keeper) _ _ c.in-Ok-None.field-0 c.in-Ok-None.field-0-is
     (c.in-Ok-None.ensures.goes (history_of c.loop-added.keeper) _ c.loop-added.invariant.read)).is
+
+pub finish-requires-clause-stands : goal.finish-requires-clause-stands
+finish-requires-clause-stands g c =
+    (the_end c.next.new.self (history_of c.loop-added.keeper) _ _ c.in-Ok-None.field-0 c.in-Ok-None.field-0-is
+    (c.in-Ok-None.ensures.goes (history_of c.loop-added.keeper) _ c.loop-added.invariant.read)).stands
 
 pub returns-in-Ok-finish-clause-found : goal.returns-in-Ok-finish-clause-found
 returns-in-Ok-finish-clause-found g c =

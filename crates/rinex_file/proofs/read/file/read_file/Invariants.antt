@@ -1,7 +1,7 @@
 use Rattle.std.proofs.Common.{◌≡◌, ◌-◌, ◌+◌}
 use Rattle.rinex_file.specs.Blocks.{LeavesRest}
 use Rattle.rinex_file.specs.Exact.{most_lines}
-use Rattle.rinex_file.specs.Read.Keeping.{history_of, IsKept}
+use Rattle.rinex_file.specs.Read.Keeping.{history_of}
 use Rattle.rinex_file.specs.Read.Steps.{HasRead, MayBeCounted}
 use Rattle.rinex_file.proofs.read.file.read_file.Given as goal
 
@@ -11,7 +11,6 @@ invariant-loop-added g l =
     let remaining = g.R.Read.remaining in
     record {
       read : HasRead l.reading (history_of l.keeper) (remaining l.fn.reader.inner) (remaining l.reader.inner);
-      kept : IsKept l.keeper;
       within : MayBeCounted l.reading;
       left : LeavesRest (remaining l.fn.reader.inner) (remaining l.reader.inner);
       same : l.reader.failures ≡ l.fn.reader.failures;
