@@ -1,5 +1,7 @@
 """The commands: the lines printed for the bytes of a stream."""
-from .epochs import Gathered, Plan, Setup
+import re
+
+from .epochs import Gathered, Plan, Setup, StationValues
 from .frames import frames_of
 from .lines import epoch_lines, event_lines, fixed, has_value, header
 from .messages import SIGNALS, Msm, Refused, Station, decode, number_of
@@ -53,10 +55,27 @@ def count_lines(counts: dict[tuple[str, str], int]) -> list[str]:
     return [f"{system} {code} {count}" for (system, code), count in counts.items()]
 
 
-def option_line(counts: dict[tuple[str, str], int]) -> str:
-    """Returns the options of `convert` that plan these signals."""
+def first_station(data: bytes, station: int | None) -> Station | None:
+    """Returns the first station message of this station, or of any."""
+    for _, message in frames_of(data):
+        try:
+            read = decode(message)
+        except Refused:
+            continue
+        if isinstance(read, Station) and station in (None, read.station):
+            return read
+    return None
+
+
+def option_line(counts: dict[tuple[str, str], int], first: Station | None) -> str:
+    """Returns the options of `convert` that fit a stream with these signals and this first station message."""
     names = {system: ",".join(code for at, code in counts if at == system) or "none" for system in SIGNALS}
-    return f"--gps {names['G']} --galileo {names['E']}"
+    words = [f"--gps {names['G']} --galileo {names['E']}"]
+    if first:
+        words.append("--position=" + ",".join(fixed(value, 4) for value in first.coordinates))
+    if first and first.height is not None:
+        words.append(f"--antenna-height {fixed(first.height, 4)}")
+    return " ".join(words)
 
 
 def convert(
@@ -99,6 +118,26 @@ def check_line(data: bytes) -> str:
 
 def report_line(report: Report) -> str:
     return " ".join(f"{name} {count}" for name, count in report.items())
+
+
+def length_of(text: str) -> int:
+    """Returns a length in units of 0.0001 m, from a text in metres."""
+    found = re.fullmatch(r"(-?)(\d{1,8})(?:\.(\d{1,4}))?", text, re.ASCII)
+    if found is None:
+        raise ValueError(text)
+    sign, whole, decimals = found.groups("")
+    size = int(whole) * 10_000 + int(decimals.ljust(4, "0"))
+    return -size if sign else size
+
+
+def station_values(position: str, height: str) -> StationValues:
+    """Returns the values of the options `--position` and `--antenna-height`."""
+    lengths = [length_of(text) for text in position.split(",")]
+    if len(lengths) != 3 or any(not -(1 << 37) <= length < 1 << 37 for length in lengths):
+        raise ValueError(position)
+    if height.startswith("-") or length_of(height) >= 1 << 16:
+        raise ValueError(height)
+    return (lengths[0], lengths[1], lengths[2]), length_of(height)
 
 
 def plan_of(gps: str, galileo: str) -> Plan:

@@ -11,12 +11,17 @@ Plan = dict[str, list[str]]
 StationValues = tuple[tuple[int, int, int], int]
 
 
+NO_VALUES: StationValues = ((0, 0, 0), 0)
+
+
 @dataclass
 class Setup:
     week: int
     station: int | None
     by_bit: bool
     plan: Plan
+    # until a station message has others
+    initial: StationValues = NO_VALUES
 
 
 class Gathered:
@@ -110,7 +115,7 @@ class Gathered:
 
     def station_values(self, time: int) -> StationValues:
         """Returns the coordinates and the antenna height known when the epoch is closed."""
-        coordinates, height = (0, 0, 0), 0
+        coordinates, height = self.setup.initial
         for place in range(self.closing(time)):
             message = self.messages[place]
             if self.kinds[place] == "station":

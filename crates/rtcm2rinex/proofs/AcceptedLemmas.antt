@@ -222,7 +222,13 @@ of_each : (names : Bor (List (Bor Text))) (name : Text) → bytes_eq name (codes
 unfolding Answers Each
 of_each names name isnt = (
   λ t. inl refl,
-  (λ t. inr (inl refl), (λ t. inr (inr (inl refl)), (λ t. inr (inr (inr (inl refl))), (λ t. inr (inr (inr (inr refl))), (λ t. absurd (isnt_answered name isnt t), tt))))),
+  (
+    λ t. inr (inl refl),
+    (
+      λ t. inr (inr (inl refl)),
+      (λ t. inr (inr (inr (inl refl))), (λ t. inr (inr (inr (inr (inl refl)))), (λ t. inr (inr (inr (inr (inr refl)))), (λ t. absurd (isnt_answered name isnt t), tt)))),
+    ),
+  ),
 )
 
 pub command_asked : (a : App) (words : List Text) → IsProgram a → fault_of a words ≡ []

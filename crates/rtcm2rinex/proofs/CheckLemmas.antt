@@ -1,5 +1,5 @@
 -- How a check of a file ends.
-use Rattle.std.proofs.Common.{◌≡◌, refl, sym, subst, true, ℕ, List, Option, Some, None, Result, Ok, Err, IfSome}
+use Rattle.std.proofs.Common.{◌≡◌, refl, sym, subst, ℕ, List, Option, Some, None, Result, Ok, Err, IfSome}
 use Rattle.rtcm_bits.specs.Device.{Device, HasFailed}
 use Rattle.rinex_file.specs.Exact.{IsNoFault}
 use Rattle.rinex_file.specs.Value.{FileValue}

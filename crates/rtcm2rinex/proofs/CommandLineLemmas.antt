@@ -12,8 +12,8 @@ use Rattle.std.specs.Borrow.{Bor}
 use Rattle.rtcm2rinex.specs.declared.commands.CommandRow.{CommandRow}
 use Rattle.rtcm2rinex.specs.declared.commands.OptionRow.{OptionRow}
 use Rattle.rtcm2rinex.specs.declared.commands.Reading.{Reading}
-use Rattle.rtcm2rinex.specs.declared.commands.Reading.TheVariants.{Flag, Told, Or, Among, Week, Station, Bytes}
-use Rattle.rtcm2rinex.specs.CommandLine.{AddsCommand, AddsOption, IsAnswered, RefusesWords, command_told, flag, option, option_told, program, read_so, told, with_commands, with_options}
+use Rattle.rtcm2rinex.specs.declared.commands.Reading.TheVariants.{Told, Or, Among, Week, Station, Bytes}
+use Rattle.rtcm2rinex.specs.CommandLine.{AddsCommand, AddsOption, IsAnswered, RefusesWords, command_told, option, option_told, program, read_so, with_commands, with_options}
 use Rattle.clap.specs.Values.{kind_of}
 use Rattle.clap.specs.declared.error.kind.ErrorKind.TheVariants as kind
 use Rattle.clap.specs.declared.builder.arg.Arg.{Arg}
@@ -72,9 +72,8 @@ with_option old (Err e) app r added was simple = tt
 with_option old (Ok new) app r (command, a, same, is, added) was simple =
     added.shape (local a r is simple) ∙ ap₂ with_rule (subst (λ c. Reads c app) same was) is
 
-simple : (name : Text) (reading : Reading) → (told name reading).is_simple ≡ true
-unfolding told read_so
-simple name Flag = refl
+simple : (name : Text) (reading : Reading) → (read_so reading (option name)).is_simple ≡ true
+unfolding read_so
 simple name Told = refl
 simple name (Or default) = refl
 simple name (Among words default) = refl
@@ -85,17 +84,6 @@ simple name Bytes = refl
 -- a reading that is known
 pub read_as_told : (reading known : Reading) (a b : Rule) → reading ≡ known → b ≡ read_so known a → b ≡ read_so reading a
 read_as_told reading known a b is so = so ∙ ap (λ (r : Reading). read_so r a) (sym is)
-
--- but for a flag, an option of a row is one with a value that is read so
-pub valued : (name : Text) (reading : Reading) → (reading ≡ Flag → ⊥) → read_so reading (option name) ≡ told name reading
-unfolding told
-valued name Flag not = absurd (not refl)
-valued name Told not = refl
-valued name (Or default) not = refl
-valued name (Among words default) not = refl
-valued name Week not = refl
-valued name Station not = refl
-valued name Bytes not = refl
 
 -- an option of a row is read by clap's definitions
 pub simple_told : (row : OptionRow) → (option_told row).is_simple ≡ true
@@ -109,15 +97,6 @@ plain a (r ∷ rs) = plain (with_rule a r) rs
 -- nor does the command of a row say more of itself than its name
 pub plain_told : (row : CommandRow) → (command_told row).top.is_plain ≡ true
 plain_told row = plain (new_app row.name.now) (map option_told row.options.now)
-
--- the option of a row whose value is read so, once it is known to have one
-pub told_valued : (a b : Arg) (name : Text) (reading : Reading) → (reading ≡ Flag → ⊥) → rule_of a ≡ option name → rule_of b ≡ read_so reading (rule_of a)
-    → rule_of b ≡ told name reading
-told_valued a b name reading not is so = so ∙ ap (read_so reading) is ∙ valued name reading not
-
-pub told_flag : (a : Arg) (name : Text) (reading : Reading) → reading ≡ Flag → rule_of a ≡ flag name → rule_of a ≡ told name reading
-unfolding told
-told_flag a name reading is so = so ∙ ap (told name) (sym is)
 
 -- one command more, of which this much is known
 pub with_command : {E : Type 0} (old sub new : Result Command E) (P Q R : App → Type 0) → AddsCommand old sub new → IfOk old (λ c. P (app_of c)) → IfOk sub (λ c. Q (app_of c))
@@ -154,7 +133,7 @@ nothing = record { ref_ptr = (0, 0); now = [] }
 
 -- what stands behind the last row
 abbrev pub no_option : OptionRow
-no_option = record { name = nothing; value = nothing; help = nothing; reading = Flag }
+no_option = record { name = nothing; value = nothing; help = nothing; reading = Told }
 
 abbrev pub no_command : CommandRow
 no_command = record { name = nothing; help = record { about = nothing; examples = nothing }; options = record { ref_ptr = (0, 0); now = [] } }

@@ -1,5 +1,5 @@
--- A counter of cells as a consumer of frames.
-use Rattle.std.proofs.Common.{◌≡◌, ◌∙◌, ◌+◌, ◌*◌, ◌<◌, ◌≤◌, ◌^◌, sym, subst, arith, Bool, true, ℕ, List, [], ◌∷◌, ◌++◌, Option, Result, Ok, Err, length, length-append, refl}
+-- A survey as a consumer of frames.
+use Rattle.std.proofs.Common.{◌≡◌, ◌∙◌, ap, ◌+◌, ◌*◌, ◌<◌, ◌≤◌, ◌^◌, sym, subst, arith, Bool, true, ℕ, List, [], ◌∷◌, ◌++◌, Option, Some, None, IfSome, Result, Ok, Err, length, length-append, refl}
 use Rattle.rtcm_scan.specs.Frames.{Framed, frames_of}
 use Rattle.rtcm_scan.specs.Known.{known_frames}
 use Rattle.rtcm_bits.specs.Device.{Device, HasFailed}
@@ -10,48 +10,78 @@ use Rattle.std.specs.Io.KnownBytes.{Consumes, IsAtEnd}
 use Rattle.rtcm_scan.specs.declared.framer.ScanFault.TheVariants as scan
 use Rattle.rtcm2rinex.specs.declared.fault.ToolFault.{ToolFault}
 use Rattle.rtcm2rinex.specs.declared.fault.ToolFault.TheVariants as faults
-use Rattle.rtcm2rinex.specs.declared.signals.SignalsForm.{SignalsForm}
 use Rattle.rtcm2rinex.specs.Printing.{EndsPrinting}
 use Rattle.rtcm2rinex.specs.Devices.{Ends, HaveFailedBy, ReadFailures, stream_fault}
 use Rattle.rtcm_scan.specs.Passing.{AtFault, Passes, BreaksReading, HasPassedAll, PassesAll, PassesToLimit, Reads}
 use Rattle.rtcm_scan.specs.Scan.{FramerValue}
-use Rattle.obs_epoch.specs.Census.{CensusValue, IsCensus}
-use Rattle.rtcm2rinex.specs.Signals.{ReadsTooMuch, StopsSignals, TellsSignals, signals_text, valued_in}
-use Rattle.rtcm2rinex.specs.Counting.{Counts, StopsCounting, HasCounted, IsCounted, NeverFails}
-use Rattle.rtcm2rinex.specs.declared.signals.SignalCounter.{SignalCounter}
+use Rattle.obs_epoch.specs.Census.{IsCensus}
+use Rattle.rtcm2rinex.specs.Signals.{valued_in}
+use Rattle.rtcm2rinex.specs.Surveying.{PrintsSurvey, ReadsTooMuch, StopsSurvey, SurveyText}
+use Rattle.rtcm2rinex.specs.Counting.{Counts, StopsCounting, HasCounted, IsCounted, IsSurvey, NeverFails}
+use Rattle.rtcm2rinex.specs.Fitting.{first_station, station_of}
+use Rattle.rtcm_msg.specs.Station.{InRange}
+use Rattle.rtcm_msg.specs.declared.station.StationParts.{StationParts}
+use Rattle.std.specs.Option.{option_or}
+use Rattle.rtcm2rinex.specs.declared.survey.Survey.{Survey}
 
--- no frame was counted
-pub none_counted : (c : CensusValue) (wanted : Option ℕ) → IsCensus c [] → IsCounted c wanted []
-none_counted c wanted census = record { census = census; few = omega arith }
+-- the first station message of one frame more
+or_more : (a b c : Option StationParts) → option_or a (option_or b c) ≡ option_or (option_or a b) c
+or_more None b c = refl
+or_more (Some x) b c = refl
 
-pub new_counter : (c : SignalCounter) → Counts c tt [] c tt []
-new_counter c = record { same = refl; counts = λ few begun. begun }
+or_none : (a : Option StationParts) → option_or a None ≡ a
+or_none None = refl
+or_none (Some x) = refl
 
--- a frame's cells were counted
-pub one_more_counted : (c0 c c2 : SignalCounter) (ps fs : List Framed) (f : Framed) → c2.station ≡ c.station
+first_more : (wanted : Option ℕ) (fs : List Framed) (f : Framed) → first_station wanted (fs ++ f ∷ []) ≡ option_or (first_station wanted fs) (station_of wanted f)
+first_more wanted [] f = or_none (station_of wanted f)
+first_more wanted (g ∷ fs) f =
+    ap (option_or (station_of wanted g)) (first_more wanted fs f) ∙ or_more (station_of wanted g) (first_station wanted fs) (station_of wanted f)
+
+-- no frame was surveyed
+pub none_surveyed : (c : Survey) (wanted : Option ℕ) → IsCensus c.census [] → c.first ≡ None → IsSurvey c wanted []
+none_surveyed c wanted census none = record {
+  counted = record { census = census; few = omega arith };
+  first = none;
+  in_range = subst (λ (o : Option StationParts). IfSome o InRange) (sym none) tt;
+}
+
+pub new_survey : (c : Survey) → Counts c tt [] c tt []
+new_survey c = record { same = refl; surveys = λ few begun. begun }
+
+-- one frame more was surveyed
+pub one_more_surveyed : (c0 c c2 : Survey) (ps fs : List Framed) (f : Framed) → c2.station ≡ c.station
     → ((gs : List Framed) → length gs < 2 ^ 56 → IsCounted c.census c.station gs → IsCounted c2.census c.station (gs ++ f ∷ []))
+    → c2.first ≡ option_or c.first (station_of c.station f) → (IfSome c.first InRange → IfSome c2.first InRange)
     → Counts c0 tt ps c tt fs → Counts c0 tt ps c2 tt (fs ++ f ∷ [])
-one_more_counted c0 c c2 ps fs f kept step s = record {
+one_more_surveyed c0 c c2 ps fs f kept step first range s = record {
   same = kept ∙ s.same;
-  counts = λ few begun.
+  surveys = λ few begun.
       let fewer : length fs < 2 ^ 56 = join (length fs) (length (fs ++ f ∷ [])) (length-append fs (f ∷ [])) few in
-      subst (λ (wanted : Option ℕ). IsCounted c2.census wanted (fs ++ f ∷ [])) s.same
-      (step fs fewer (subst (λ (wanted : Option ℕ). IsCounted c.census wanted fs) (sym s.same) (s.counts fewer begun)));
+      let before : IsSurvey c c.station fs = subst (λ (wanted : Option ℕ). IsSurvey c wanted fs) (sym s.same) (s.surveys fewer begun) in
+      subst (λ (wanted : Option ℕ). IsSurvey c2 wanted (fs ++ f ∷ [])) s.same (after before fewer);
 }
   where
     join : (n m : ℕ) → m ≡ n + 1 → m < 2 ^ 56 → n < 2 ^ 56
     join n m e h = omega (arith, e, h)
 
--- ---- a stream that is counted from its start
+    after : IsSurvey c c.station fs → length fs < 2 ^ 56 → IsSurvey c2 c.station (fs ++ f ∷ [])
+    after h fewer = record {
+      counted = step fs fewer h.counted;
+      first = first ∙ ap (λ (o : Option StationParts). option_or o (station_of c.station f)) h.first ∙ sym (first_more c.station fs f);
+      in_range = range h.in_range;
+    }
 
-module _ (v v2 : FramerValue) (c c2 : SignalCounter) (r r2 : Option (List ℕ)) (new : HasPassedAll Counts v c tt [] c tt []) where
+-- ---- a stream that is surveyed from its start
+
+module _ (v v2 : FramerValue) (c c2 : Survey) (r r2 : Option (List ℕ)) (new : HasPassedAll Counts v c tt [] c tt []) where
   -- to its end
-  pub counted_all : v2.has_ended ≡ true → IsCounted c.census c.station [] → ((b : List ℕ) → 6 * length (frames_of b) ≤ length b)
-      → PassesAll Counts v c tt v2 c2 tt r r2 → HasCounted c2.census c.station r r2
+  pub counted_all : v2.has_ended ≡ true → IsSurvey c c.station [] → ((b : List ℕ) → 6 * length (frames_of b) ≤ length b)
+      → PassesAll Counts v c tt v2 c2 tt r r2 → HasCounted c2 c.station r r2
   counted_all ended begun law p =
       let b : List ℕ = p.0.0 in
       let all = p.0.2 c tt [] [] new in
-      let counts = subst (λ (e : Bool). length (known_frames e b) < 2 ^ 56 → IsCounted c.census c.station [] → IsCounted c2.census c.station (known_frames e b)) ended all.passed.taken.counts in
+      let counts = subst (λ (e : Bool). length (known_frames e b) < 2 ^ 56 → IsSurvey c c.station [] → IsSurvey c2 c.station (known_frames e b)) ended all.passed.taken.surveys in
       let few = join (length (frames_of b)) (length b) v2.taken v2.limit (law b) all.passed.framer.stands.taken all.passed.framer.within all.passed.framer.limit in
       (b, p.0.1, p.1, counts few begun)
     where
@@ -68,7 +98,7 @@ module _ (v v2 : FramerValue) (c c2 : SignalCounter) (r r2 : Option (List ℕ)) 
   counter_fails p = (p.breaks c tt [] [] new).broken
 
 -- how a fault stops it
-pub counting_stopped : {R F : Type 0} (left : R → Option (List ℕ)) (v v2 : FramerValue) (c c2 : SignalCounter) (rd rd2 : Device R) (n limit : ℕ) (fault : StreamFault F) → v.limit ≡ limit → v.taken ≡ 0
+pub counting_stopped : {R F : Type 0} (left : R → Option (List ℕ)) (v v2 : FramerValue) (c c2 : Survey) (rd rd2 : Device R) (n limit : ℕ) (fault : StreamFault F) → v.limit ≡ limit → v.taken ≡ 0
     → HasPassedAll Counts v c tt [] c tt []
     → AtFault fault (Reads (left rd.inner) (left rd2.inner) (Passes Counts v c tt v2 c2 tt)) (Reads (left rd.inner) (left rd2.inner) (PassesToLimit Counts v c tt v2 c2 tt))
     (BreaksReading Counts NeverFails v c tt c2 tt n (left rd.inner) (left rd2.inner))
@@ -83,27 +113,27 @@ counted_reads stream.TooLong before after h = h
 counted_reads (stream.Sink fault) before after h = h
 
 -- a fault of counting is one of the command, at which nothing was written
-pub signals_stopped : {R W : Type 0} (left : R → Option (List ℕ)) (held : W → Option (List ℕ)) (form : SignalsForm) (wanted : Option ℕ) (r r2 : Device R) (w : Device W) (fault : ToolFault)
-    → ReadFailures fault r.failures r2.failures → StopsCounting (2 ^ 48) left r r2 fault → HaveFailedBy fault r r2 w w × StopsSignals form wanted left r r2 held w w fault
-signals_stopped left held form wanted r r2 w faults.Read reads stops = ((reads, refl), refl)
-signals_stopped left held form wanted r r2 w (faults.Scan scan.TooLong) reads stops = ((reads, refl), (stops, refl))
-signals_stopped left held form wanted r r2 w (faults.Scan scan.Memory) reads stops = ((reads, refl), (stops, refl))
-signals_stopped left held form wanted r r2 w (faults.Scan scan.BadLimit) reads stops = absurd stops
-signals_stopped left held form wanted r r2 w (faults.Scan scan.Ended) reads stops = absurd stops
-signals_stopped left held form wanted r r2 w faults.Memory reads stops = absurd stops
-signals_stopped left held form wanted r r2 w faults.Write reads stops = absurd stops
-signals_stopped left held form wanted r r2 w (faults.Header e) reads stops = absurd stops
-signals_stopped left held form wanted r r2 w (faults.Plan e) reads stops = absurd stops
-signals_stopped left held form wanted r r2 w (faults.Convert e) reads stops = absurd stops
-signals_stopped left held form wanted r r2 w (faults.Check e) reads stops = absurd stops
-signals_stopped left held form wanted r r2 w faults.NoSignal reads stops = absurd stops
+pub survey_stopped : {R W : Type 0} (left : R → Option (List ℕ)) (held : W → Option (List ℕ)) (text : SurveyText) (wanted : Option ℕ) (r r2 : Device R) (w : Device W) (fault : ToolFault)
+    → ReadFailures fault r.failures r2.failures → StopsCounting (2 ^ 48) left r r2 fault → HaveFailedBy fault r r2 w w × StopsSurvey text wanted left r r2 held w w fault
+survey_stopped left held text wanted r r2 w faults.Read reads stops = ((reads, refl), refl)
+survey_stopped left held text wanted r r2 w (faults.Scan scan.TooLong) reads stops = ((reads, refl), (stops, refl))
+survey_stopped left held text wanted r r2 w (faults.Scan scan.Memory) reads stops = ((reads, refl), (stops, refl))
+survey_stopped left held text wanted r r2 w (faults.Scan scan.BadLimit) reads stops = absurd stops
+survey_stopped left held text wanted r r2 w (faults.Scan scan.Ended) reads stops = absurd stops
+survey_stopped left held text wanted r r2 w faults.Memory reads stops = absurd stops
+survey_stopped left held text wanted r r2 w faults.Write reads stops = absurd stops
+survey_stopped left held text wanted r r2 w (faults.Header e) reads stops = absurd stops
+survey_stopped left held text wanted r r2 w (faults.Plan e) reads stops = absurd stops
+survey_stopped left held text wanted r r2 w (faults.Convert e) reads stops = absurd stops
+survey_stopped left held text wanted r r2 w (faults.Check e) reads stops = absurd stops
+survey_stopped left held text wanted r r2 w faults.NoSignal reads stops = absurd stops
 
 -- the signals of a stream were printed, or a part of their text
-pub signals_printed : {R W : Type 0} (left : R → Option (List ℕ)) (held : W → Option (List ℕ)) (form : SignalsForm) (wanted : Option ℕ) (r r2 : Device R) (w w2 : Device W) (ended : Result ⊤ ToolFault)
+pub survey_printed : {R W : Type 0} (left : R → Option (List ℕ)) (held : W → Option (List ℕ)) (text : SurveyText) (wanted : Option ℕ) (r r2 : Device R) (w w2 : Device W) (ended : Result ⊤ ToolFault)
     (b : List ℕ) → Consumes (left r.inner) (left r2.inner) b → IsAtEnd (left r2.inner) → 0 < length (valued_in wanted (frames_of b)) → r2.failures ≡ r.failures
-    → EndsPrinting ended held w w2 (signals_text form (valued_in wanted (frames_of b)))
-    → Ends ended r r2 w w2 (λ _. TellsSignals form wanted (left r.inner) (left r2.inner) (held w.inner) (held w2.inner)) (StopsSignals form wanted left r r2 held w w2)
-signals_printed left held form wanted r r2 w w2 (Ok u) b read end some same p = ((same, p.0, p.1), (b, read, end, some, p.2))
-signals_printed left held form wanted r r2 w w2 (Err fault) b read end some same p =
-    subst (λ (f : ToolFault). Ends (Err f) r r2 w w2 (λ (u : ⊤). TellsSignals form wanted (left r.inner) (left r2.inner) (held w.inner) (held w2.inner))
-    (StopsSignals form wanted left r r2 held w w2)) (sym p.0) ((same, p.1.0), (b, read, end, some, p.1.1))
+    → EndsPrinting ended held w w2 (text wanted (frames_of b))
+    → Ends ended r r2 w w2 (λ _. PrintsSurvey text wanted (left r.inner) (left r2.inner) (held w.inner) (held w2.inner)) (StopsSurvey text wanted left r r2 held w w2)
+survey_printed left held text wanted r r2 w w2 (Ok u) b read end some same p = ((same, p.0, p.1), (b, read, end, some, p.2))
+survey_printed left held text wanted r r2 w w2 (Err fault) b read end some same p =
+    subst (λ (f : ToolFault). Ends (Err f) r r2 w w2 (λ (u : ⊤). PrintsSurvey text wanted (left r.inner) (left r2.inner) (held w.inner) (held w2.inner))
+    (StopsSurvey text wanted left r r2 held w w2)) (sym p.0) ((same, p.1.0), (b, read, end, some, p.1.1))

@@ -13,5 +13,6 @@ mod CountingLemmas
 mod SignalLemmas
 mod ValuedLemmas
 mod PlannedLemmas
+mod SkipLemmas
 mod AcceptedLemmas
 mod CommandLemmas

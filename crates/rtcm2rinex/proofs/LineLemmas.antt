@@ -18,3 +18,15 @@ add_word {old} {new} {text} {word} {same} e f g = e ∙ ap (λ (l : List ℕ). l
 -- the line feed
 pub end_line : (first : List ℕ) (words : List (List ℕ)) {text all : List ℕ} → all ≡ text ++ 0x0A ∷ [] → text ≡ with_words first words → all ≡ line (first ∷ words)
 end_line first words {text} {all} e f = e ∙ ap (λ (l : List ℕ). l ++ 0x0A ∷ []) (f ∙ words_joined first words)
+
+-- one text more
+pub add_text : {old new text part same : List ℕ} → new ≡ old ++ part → old ≡ text → part ≡ same → new ≡ text ++ same
+add_text {old} {new} {text} {part} {same} e f g = e ∙ ap (λ (l : List ℕ). l ++ part) f ∙ ap (λ (l : List ℕ). text ++ l) g
+
+-- a word and three texts, the first after a `=` and the others after commas
+pub assigned : (start p x y z : List ℕ) → (((start ++ 0x20 ∷ p) ++ 0x3D ∷ x) ++ 0x2C ∷ y) ++ 0x2C ∷ z ≡ start ++ 0x20 ∷ (p ++ 0x3D ∷ (x ++ 0x2C ∷ (y ++ 0x2C ∷ z)))
+assigned start p x y z =
+    ap (λ (l : List ℕ). (l ++ 0x2C ∷ y) ++ 0x2C ∷ z) (append_assoc start (0x20 ∷ p) (0x3D ∷ x))
+    ∙ ap (λ (l : List ℕ). l ++ 0x2C ∷ z) (append_assoc start (0x20 ∷ (p ++ 0x3D ∷ x)) (0x2C ∷ y))
+    ∙ append_assoc start (0x20 ∷ ((p ++ 0x3D ∷ x) ++ 0x2C ∷ y)) (0x2C ∷ z)
+    ∙ ap (λ (l : List ℕ). start ++ 0x20 ∷ l) (append_assoc (p ++ 0x3D ∷ x) (0x2C ∷ y) (0x2C ∷ z) ∙ append_assoc p (0x3D ∷ x) ((0x2C ∷ y) ++ (0x2C ∷ z)))

@@ -1,13 +1,11 @@
 -- What options tell.
-use Rattle.std.proofs.Common.{◌≡◌, ◌∙◌, Bool, true, false, inl, inr, codes, ℕ, List, [], Option, Some, None, Result, Bor, option_map, unwrap_or, refl, sym, ap, subst}
+use Rattle.std.proofs.Common.{◌≡◌, ◌∙◌, ℕ, List, [], Option, Some, None, Result, Bor, option_map, unwrap_or, refl, sym, ap, subst}
 use Rattle.std.specs.Str.Parse.{ParsesUnsigned}
 use Rattle.clap.specs.Matches.{ReadsOne, first_value, one_text}
 use Rattle.clap.specs.Walk.{one_of, rows_of}
 use Rattle.clap.specs.declared.parser.matches.Found.{Found}
 use Rattle.clap.proofs.WalkLemmas.{first_value-rows, one_text-rows}
 use Rattle.rtcm2rinex.specs.SetupTold.{IsNumberOf, text_told}
-use Rattle.rtcm2rinex.specs.Telling.{IsFormOf}
-use Rattle.rtcm2rinex.specs.declared.signals.SignalsForm.TheVariants.{Options, Counts}
 
 -- what a typed getter gives is the number that the text spells; P and Q say more of it
 number_of : {E : Type 0} (P Q : List ℕ → Result ℕ E → Type 0) (bits : ℕ) (text : Option (List ℕ)) (n : Option ℕ) → (text ≡ None → n ≡ None)
@@ -30,24 +28,3 @@ pub text_is : (f : Found) (id : List ℕ) (r o : Option (Bor (List ℕ))) → op
 text_is f id r o is found =
     ap (λ (x : Option (Bor (List ℕ))). unwrap_or (option_map (λ s. s.now) x) []) (sym found)
     ∙ ap (λ (t : Option (List ℕ)). unwrap_or t []) (is ∙ first_value-rows f id)
-
--- the flag for the counts: what is found of it
-pub counts_told : (f : Found) (r : Bool) → (one_text f (codes "counts") ≡ None → r ≡ false) → (one_text f (codes "counts") ≡ Some (codes "false") → r ≡ false)
-    → r ≡ true → IsFormOf (rows_of f) Counts
-counts_told f r none off asked =
-    let same = one_text-rows f (codes "counts") in
-    record {
-      counts = λ e. refl;
-      otherwise = λ e. elim e [
-        | inl n ↦ let bad : true ≡ false = sym asked ∙ none (same ∙ n) in cc
-        | inr n ↦ let bad : true ≡ false = sym asked ∙ off (same ∙ n) in cc
-      ];
-    }
-
-pub options_told : (f : Found) (r : Bool) → (one_text f (codes "counts") ≡ Some (codes "true") → r ≡ true) → r ≡ false → IsFormOf (rows_of f) Options
-options_told f r on unasked =
-    let same = one_text-rows f (codes "counts") in
-    record {
-      counts = λ e. let bad : false ≡ true = sym unasked ∙ on (same ∙ e) in cc;
-      otherwise = λ e. refl;
-    }

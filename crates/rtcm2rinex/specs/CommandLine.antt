@@ -13,13 +13,13 @@ use Rattle.clap.specs.declared.error.kind.ErrorKind.TheVariants as kind
 use Rattle.clap.specs.declared.parser.matches.ArgMatches.{ArgMatches}
 use Rattle.clap.specs.declared.builder.arg.Arg.{Arg}
 use Rattle.clap.specs.declared.builder.command.Command.{Command}
-use Rattle.clap.specs.declared.builder.action.ArgAction.TheVariants.{Set, SetTrue}
+use Rattle.clap.specs.declared.builder.action.ArgAction.TheVariants.{Set}
 use Rattle.clap.specs.declared.builder.value_parser.ValueParser.{ValueParser}
 use Rattle.clap.specs.declared.builder.value_parser.ValueParser.TheVariants as value
 use Rattle.rtcm2rinex.specs.declared.commands.CommandRow.{CommandRow}
 use Rattle.rtcm2rinex.specs.declared.commands.OptionRow.{OptionRow}
 use Rattle.rtcm2rinex.specs.declared.commands.Reading.{Reading}
-use Rattle.rtcm2rinex.specs.declared.commands.Reading.TheVariants.{Flag, Told, Or, Among, Week, Station, Bytes}
+use Rattle.rtcm2rinex.specs.declared.commands.Reading.TheVariants.{Told, Or, Among, Week, Station, Bytes}
 
 -- ---- options
 
@@ -36,10 +36,6 @@ read_by parser a = record a { parser = Some parser }
 abbrev pub required : Rule → Rule
 required a = record a { required = true }
 
--- `--name`
-abbrev pub flag : Text → Rule
-flag name = record (new_rule name) { long = Some name; action = Some SetTrue }
-
 abbrev pub week : Rule
 week = read_by (value.Signed (pos 0) (pos 99999)) (required (option (codes "week")))
 
@@ -52,9 +48,6 @@ planned name = or_else (codes "all") (option name)
 
 abbrev pub station : Rule
 station = read_by (value.Signed (pos 0) (pos 4095)) (option (codes "station"))
-
-abbrev pub counts : Rule
-counts = flag (codes "counts")
 
 -- the names of the rules of gathering; where they lie is of no account
 abbrev pub AreRules : Bor (List (Bor Text)) → Type 0
@@ -79,7 +72,6 @@ texts =
 
 -- an option whose value is read so
 unfoldable pub read_so : Reading → Rule → Rule
-read_so Flag a = a
 read_so Told a = required a
 read_so (Or default) a = or_else default.now a
 read_so (Among words default) a = read_by (value.Names words) (or_else default.now a)
@@ -87,18 +79,9 @@ read_so Week a = read_by (value.Signed (pos 0) (pos 99999)) (required a)
 read_so Station a = read_by (value.Signed (pos 0) (pos 4095)) a
 read_so Bytes a = read_by (value.Unsigned 0 281474976710656) (or_else (codes "281474976710656") a)
 
-unfoldable pub told : Text → Reading → Rule
-told name Flag = flag name
-told name Told = read_so Told (option name)
-told name (Or default) = read_so (Or default) (option name)
-told name (Among words default) = read_so (Among words default) (option name)
-told name Week = read_so Week (option name)
-told name Station = read_so Station (option name)
-told name Bytes = read_so Bytes (option name)
-
 -- the option of a row
 abbrev pub option_told : OptionRow → Rule
-option_told row = told row.name.now row.reading
+option_told row = read_so row.reading (option row.name.now)
 
 -- ---- commands
 
@@ -112,8 +95,8 @@ command_told row = with_options (new_app row.name.now) (map option_told row.opti
 abbrev pub with_commands : App → List App → App
 with_commands a commands = fold (λ (program : App) (command : App). with_subcommand program command.top) a commands
 
-abbrev pub signals : App
-signals = with_options (new_app (codes "signals")) (station ∷ counts ∷ [])
+abbrev pub of_station : Text → App
+of_station name = with_options (new_app name) (station ∷ [])
 
 abbrev pub convert : Bor (List (Bor Text)) → App
 convert names = with_options (with_options (new_app (codes "convert"))
@@ -125,10 +108,13 @@ abbrev pub start : App
 start = on_top (λ s. record s { subcommand_required = true; has_version = true }) (new_app (codes "rtcm2rinex"))
 
 abbrev pub listings : App
-listings = with_subcommand (with_subcommand (with_subcommand start (new_app (codes "frames")).top) (new_app (codes "show")).top) signals.top
+listings = with_subcommand (with_subcommand start (new_app (codes "frames")).top) (new_app (codes "show")).top
+
+abbrev pub surveys : App
+surveys = with_subcommand (with_subcommand listings (of_station (codes "signals")).top) (of_station (codes "options")).top
 
 abbrev pub program : Bor (List (Bor Text)) → App
-program names = with_subcommand (with_subcommand listings (convert names).top) (new_app (codes "check")).top
+program names = with_subcommand (with_subcommand surveys (convert names).top) (new_app (codes "check")).top
 
 -- these are the commands and options of the program
 abbrev pub IsProgram : App → Type 0
@@ -150,7 +136,8 @@ AddsCommand old below new =
 -- the names of the program's commands
 abbrev pub IsCommand : Text → Type 0
 IsCommand name =
-    (name ≡ codes "frames") ⊎ (name ≡ codes "show") ⊎ (name ≡ codes "signals") ⊎ (name ≡ codes "convert") ⊎ (name ≡ codes "check")
+    (name ≡ codes "frames") ⊎ (name ≡ codes "show") ⊎ (name ≡ codes "signals") ⊎ (name ≡ codes "options") ⊎ (name ≡ codes "convert")
+    ⊎ (name ≡ codes "check")
 
 -- ---- what words ask for, by clap's own definitions
 

@@ -13,20 +13,23 @@ use Rattle.rtcm2rinex.specs.ShowLines.{show_lines}
 use Rattle.rtcm2rinex.specs.Listing.{ListsAll, StopsListing}
 use Rattle.rtcm2rinex.specs.Converting.{IsConverted, StopsConverting}
 use Rattle.rtcm2rinex.specs.Checking.{ChecksFile, StopsChecking}
-use Rattle.rtcm2rinex.specs.Telling.{HasToldSignals, StopsTelling}
+use Rattle.rtcm2rinex.specs.Surveying.{PrintsAsked, StopsAsked}
+use Rattle.rtcm2rinex.specs.Signals.{signals_text}
+use Rattle.rtcm2rinex.specs.Fitting.{options_text}
 use Rattle.rtcm2rinex.specs.CommandLine.{Asks, IsAnswered, IsCommand}
 use Rattle.rtcm2rinex.specs.Printing.{PrintsText, PrintsPart}
 use Rattle.rtcm2rinex.specs.Devices.{AreFine, Ends, HaveFailedBy}
 use Rattle.rtcm2rinex.specs.declared.fault.ToolFault.{ToolFault}
 use Rattle.rtcm2rinex.specs.declared.cli.TheConstants.{VERSION}
 
--- The command of this name did what it is for, with these options: the stream was read to its end and listed, its signals were told, or its
--- file was written and has an epoch; or a file was read back.
+-- The command of this name did what it is for, with these options: the stream was read to its end and listed, its signals or options were
+-- printed, or its file was written and has an epoch; or a file was read back.
 abbrev pub HasDone : {R W : Type 0} → (R → Option (List ℕ)) → (r r' : Device R) → (W → Option (List ℕ)) → (w w' : Device W) → Text → List Row → Type 0
 HasDone left r r' held w w' name options =
     ((name ≡ codes "frames") × Moves left r r' held w w' (ListsAll frame_lines))
     ⊎ ((name ≡ codes "show") × Moves left r r' held w w' (ListsAll show_lines))
-    ⊎ ((name ≡ codes "signals") × Moves left r r' held w w' (HasToldSignals options))
+    ⊎ ((name ≡ codes "signals") × Moves left r r' held w w' (PrintsAsked signals_text options))
+    ⊎ ((name ≡ codes "options") × Moves left r r' held w w' (PrintsAsked options_text options))
     ⊎ ((name ≡ codes "convert") × IsConverted options (left r.inner) (held w.inner) (held w'.inner))
     ⊎ ((name ≡ codes "check") × ChecksFile (left r.inner) (held w.inner) (held w'.inner))
 
@@ -35,7 +38,8 @@ abbrev pub HasStopped : {R W : Type 0} → (R → Option (List ℕ)) → (r r' :
 HasStopped left r r' held w w' name options fault =
     ((name ≡ codes "frames") × StopsListing (2 ^ 48) frame_lines left r r' held w w' fault)
     ⊎ ((name ≡ codes "show") × StopsListing (2 ^ 48) show_lines left r r' held w w' fault)
-    ⊎ ((name ≡ codes "signals") × StopsTelling options left r r' held w w' fault)
+    ⊎ ((name ≡ codes "signals") × StopsAsked signals_text options left r r' held w w' fault)
+    ⊎ ((name ≡ codes "options") × StopsAsked options_text options left r r' held w w' fault)
     ⊎ ((name ≡ codes "convert") × StopsConverting options left r r' held w w' fault)
     ⊎ ((name ≡ codes "check") × StopsChecking left r r' held w w' fault)
 

@@ -10,8 +10,9 @@ pub mod Converting
 pub mod ReadBack
 pub mod Checking
 pub mod Signals
+pub mod Fitting
 pub mod Counting
-pub mod Telling
+pub mod Surveying
 pub mod Printing
 pub mod Commands
 pub mod SignalLaws

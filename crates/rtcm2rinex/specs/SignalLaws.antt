@@ -1,12 +1,21 @@
--- What the signals that are told of a stream are good for.
-use Rattle.std.specs.Prelude.{◌≡◌, ℕ, ◌<◌, true, List, length, Option, Ok}
-use Rattle.std.specs.List.{All}
+-- What the signals that are printed of a stream are good for.
+use Rattle.std.specs.Prelude.{◌≡◌, ℕ, ◌+◌, ◌<◌, ◌≤◌, true, not, List, length, Option, Some, Ok}
+use Rattle.std.specs.List.{All, count_by}
 use Rattle.gnss_obs.specs.declared.system.System.TheVariants.{Gps, Galileo}
 use Rattle.rtcm_scan.specs.Frames.{Framed}
 use Rattle.obs_epoch.specs.Cells.{is_planned}
-use Rattle.obs_epoch.specs.Heard.{GatherSetup}
+use Rattle.obs_epoch.specs.Census.{brings_value}
+use Rattle.obs_epoch.specs.Heard.{GatherSetup, Heard}
+use Rattle.obs_epoch.specs.Standing.{counts_of_message}
+use Rattle.obs_epoch.specs.Times.{Timed}
+use Rattle.rtcm_convert.specs.Converted.{heard_in}
 use Rattle.obs_epoch.specs.Plans.{plan_of}
 use Rattle.rtcm2rinex.specs.Signals.{valued_in, had, plan_had, codes_word}
+
+-- what is counted as skipped of the message of a frame after these has no value, or an unlisted satellite or signal
+abbrev pub SkipsOnly : GatherSetup → List Timed → Framed → Type 0
+SkipsOnly s earlier f =
+    (m : Heard) → heard_in f ≡ Some m → (counts_of_message s earlier m).skipped ≤ m.unlisted + count_by (λ x. not (brings_value x)) m.cells
 
 -- a conversion with this plan has a column for each value of the frames' cells of listed satellites and signals
 abbrev pub LeavesNoneOut : Type 0
@@ -16,3 +25,8 @@ LeavesNoneOut = (s : GatherSetup) (fs : List Framed) → s.plan ≡ plan_had (va
 abbrev pub AreReadAsPlan : Type 0
 AreReadAsPlan = (wanted : Option ℕ) (fs : List Framed) → 0 < length (valued_in wanted fs)
     → plan_of (codes_word Gps (had (valued_in wanted fs) Gps)) (codes_word Galileo (had (valued_in wanted fs) Galileo)) ≡ Ok (plan_had (valued_in wanted fs))
+
+-- Of a message of these frames, a conversion with this plan counts as skipped only cells of unlisted satellites or signals and cells without a
+-- value, whatever messages came before.
+abbrev pub SkipsNoValue : Type 0
+SkipsNoValue = (s : GatherSetup) (fs : List Framed) → s.plan ≡ plan_had (valued_in s.station fs) → (earlier : List Timed) → All (SkipsOnly s earlier) fs

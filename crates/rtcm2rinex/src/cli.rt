@@ -121,10 +121,10 @@ fn option<'a>(alloc: Global, row: &OptionRow<'a>) -> Arg<'a>
     ensures { rule_of result ≡ option_told row.now }
 {
     let option = Arg::new(alloc, row.name).long(row.name).help(row.help);
-    match row.reading {
-        Reading::Flag => option.action(ArgAction::SetTrue),
-        reading => read_by(option.action(ArgAction::Set).value_name(row.value), reading),
-    }
+    read_by(
+        option.action(ArgAction::Set).value_name(row.value),
+        row.reading,
+    )
 }
 
 /// An option whose value is read so.
@@ -132,7 +132,6 @@ fn read_by<'a>(option: Arg<'a>, reading: Reading<'a>) -> Arg<'a>
     ensures { rule_of result ≡ line.read_so reading.entry (rule_of option.entry) }
 {
     match reading {
-        Reading::Flag => option,
         Reading::Told => option.required(true),
         Reading::Or(without) => option.default_value(without),
         Reading::Among(words, without) => option.default_value(without).value_parser(words),

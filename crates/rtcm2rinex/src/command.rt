@@ -19,7 +19,8 @@ use crate::convert::{print_report, run_convert};
 use crate::fault::ToolFault;
 use crate::line::print_text;
 use crate::listing::{run_frames, run_show};
-use crate::options::{form_of, setup_of, station_of};
+use crate::options::{setup_of, station_of};
+use crate::plan::run_options;
 use crate::signals::run_signals;
 use clap::ArgMatches;
 use clap::error::ErrorKind;
@@ -92,7 +93,8 @@ fn run<R: Read, W: Write, E: Write>(
     match name {
         "frames" => run_frames(alloc, reader, writer),
         "show" => run_show(alloc, reader, writer),
-        "signals" => run_signals(alloc, station_of(options), form_of(options), reader, writer),
+        "signals" => run_signals(alloc, station_of(options), reader, writer),
+        "options" => run_options(alloc, station_of(options), reader, writer),
         "convert" => convert(alloc, options, reader, writer, faults),
         "check" => run_check(alloc, reader, writer),
         _ => unreachable!(),

@@ -14,24 +14,22 @@ pub struct CommandRow<'a> {
 #[derive(Clone, Copy)]
 pub struct OptionRow<'a> {
     pub name: &'a str,
-    /// What help calls its value; of a flag nothing.
+    /// What help calls its value.
     pub value: &'a str,
     pub help: &'a str,
     pub reading: Reading<'a>,
 }
 
-/// How the value of an option is read, and what stands where none is told.
+/// How the value of an option is read, and its default.
 #[derive(Clone, Copy)]
 pub enum Reading<'a> {
-    /// It has no value, and is told or not.
-    Flag,
-    /// A text, which has to be told.
+    /// A required text.
     Told,
     /// A text, or this.
     Or(&'a str),
     /// One of these words, or this.
     Among(&'a [&'a str], &'a str),
-    /// A GPS week, which has to be told.
+    /// A required GPS week.
     Week,
     /// A reference station (DF003), or none.
     Station,
@@ -39,7 +37,7 @@ pub enum Reading<'a> {
     Bytes,
 }
 
-pub const COMMANDS: [CommandRow<'static>; 5] = [
+pub const COMMANDS: [CommandRow<'static>; 6] = [
     CommandRow {
         name: "frames",
         help: help::FRAMES,
@@ -53,7 +51,12 @@ pub const COMMANDS: [CommandRow<'static>; 5] = [
     CommandRow {
         name: "signals",
         help: help::SIGNALS,
-        options: &SIGNALS,
+        options: &[STATION],
+    },
+    CommandRow {
+        name: "options",
+        help: help::OPTIONS,
+        options: &[STATION],
     },
     CommandRow {
         name: "convert",
@@ -67,20 +70,12 @@ pub const COMMANDS: [CommandRow<'static>; 5] = [
     },
 ];
 
-const SIGNALS: [OptionRow<'static>; 2] = [
-    OptionRow {
-        name: "station",
-        value: "NUMBER",
-        help: "Reference station (DF003) whose messages count; without it those of every station",
-        reading: Reading::Station,
-    },
-    OptionRow {
-        name: "counts",
-        value: "",
-        help: "Print a line for each signal with its number of cells, in place of the options",
-        reading: Reading::Flag,
-    },
-];
+const STATION: OptionRow<'static> = OptionRow {
+    name: "station",
+    value: "NUMBER",
+    help: "Reference station (DF003) whose messages count; without it those of every station",
+    reading: Reading::Station,
+};
 
 const CONVERT: [OptionRow<'static>; 17] = [
     OptionRow {
@@ -107,12 +102,7 @@ const CONVERT: [OptionRow<'static>; 17] = [
         help: "Galileo signals in the file's order: all, none, or codes as 1C,5Q",
         reading: Reading::Or("all"),
     },
-    OptionRow {
-        name: "station",
-        value: "NUMBER",
-        help: "Reference station (DF003) whose messages count; without it those of every station",
-        reading: Reading::Station,
-    },
+    STATION,
     OptionRow {
         name: "gather",
         value: "RULE",

@@ -35,13 +35,19 @@ pub const SHOW: Help = Help {
 };
 
 pub const SIGNALS: Help = Help {
-    about: "Names the signals that the stream has, as the options of convert that plan them",
-    examples: "Example: rtcm2rinex convert --week 2300 --date \"20240204 000001 UTC\" \
-               $(rtcm2rinex signals < stream.rtcm3) < stream.rtcm3 > station.obs\n\
-               A line as '--gps 1C,2W --galileo 1C,5Q' has every signal with a pseudorange, a \
-               phase, a Doppler shift or a strength.\n\
-               With --counts a line as 'G 1C 3042' is a signal: its system, its code, and how \
-               many cells have such a value.",
+    about: "Prints a table of the signals of the stream",
+    examples: "Example: rtcm2rinex signals < stream.rtcm3\n\
+               A line as 'G 1C 3042' is a signal: its system, its code, and the number of its \
+               cells with a pseudorange, a phase, a Doppler shift or a strength.",
+};
+
+pub const OPTIONS: Help = Help {
+    about: "Prints the options of convert that fit the stream",
+    examples: "Example: plan=$(rtcm2rinex options < stream.rtcm3) && rtcm2rinex convert --week 2300 \
+               --date \"20240204 000001 UTC\" $plan < stream.rtcm3 > station.obs\n\
+               A line as '--gps 1C,2W --galileo none --position=1.0000,-2.0000,3.0000' has every \
+               signal with a pseudorange, a phase, a Doppler shift or a strength, and the \
+               position of the first message 1005 or 1006.",
 };
 
 pub const CONVERT: Help = Help {

@@ -2,7 +2,7 @@
 ghost use Rattle.std.specs.Prelude.{List, ℕ};
 ghost use Rattle.rtcm_msg.specs.declared.message.Message.{Message};
 ghost use Rattle.rtcm2rinex.specs.ReadBack.{AreKnown, AreEncoded, ReadsBack};
-ghost use Rattle.rtcm2rinex.specs.SignalLaws.{LeavesNoneOut, AreReadAsPlan};
+ghost use Rattle.rtcm2rinex.specs.SignalLaws.{LeavesNoneOut, AreReadAsPlan, SkipsNoValue};
 
 /// For every list of messages of known layouts: they have encodings, and whatever these are, their
 /// frames, joined, have exactly these frames, and are read back as that list.
@@ -18,11 +18,13 @@ pub fn read_back()
     rtcm_msg::laws::one_value();
 }
 
-/// The line that `signals` prints is read as the plan of the signals that it names, and a
-/// conversion with this plan leaves no value of the stream out for want of a column.
+/// The lists that `options` prints are read as the plan of the signals that they name. A conversion
+/// with this plan has a column for each value of a listed satellite and signal, and counts as
+/// `skipped` only unlisted cells and cells without a value.
 pub fn signals()
     ensures columns { LeavesNoneOut }
     ensures read { AreReadAsPlan }
+    ensures skips { SkipsNoValue }
 {
     gnss_obs::laws::signal_tables();
 }

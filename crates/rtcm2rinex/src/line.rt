@@ -10,13 +10,10 @@ use rtcm_bits::Counted;
 use std::io::Write;
 use std::marker::Model;
 
-/// The most bytes of a line, its line feed included.
-pub const LINE_BYTES: usize = 256;
-
 /// A line that is made word by word, with single blanks between the words.
 #[derive(Drop)]
 pub struct Line {
-    text: ArrayVec<u8, 256>,
+    text: ArrayVec<u8, 320>,
 }
 
 impl Model for Line {
@@ -26,7 +23,7 @@ impl Model for Line {
 
     ghost view = { λ l. l.text.items };
 
-    ghost invariant = { λ l. length l.text.items ≤ 256 };
+    ghost invariant = { λ l. length l.text.items ≤ 320 };
 }
 
 impl Line {
@@ -44,7 +41,7 @@ impl Line {
 
     /// A line with this first word.
     pub fn starting_with_word(word: &str) -> Line
-        requires { length word.now ≤ 256 }
+        requires { length word.now ≤ 320 }
         ensures text { result ≡ word.now }
     {
         let mut line = Line {
@@ -66,7 +63,7 @@ impl Line {
 
     /// One more word.
     pub fn add_word(&mut self, word: &str)
-        requires { length self.old + length word.now + 1 ≤ 256 }
+        requires { length self.old + length word.now + 1 ≤ 320 }
         ensures text { self.new ≡ self.old ++ 0x20 ∷ word.now }
         ensures short { length self.new ≡ length self.old + length word.now + 1 }
     {
@@ -76,7 +73,7 @@ impl Line {
 
     /// A byte that parts, and a text behind it.
     pub fn add_part(&mut self, separator: u8, part: &[u8])
-        requires { length self.old + length part.now + 1 ≤ 256 }
+        requires { length self.old + length part.now + 1 ≤ 320 }
         ensures text { self.new ≡ self.old ++ separator ∷ part.now }
         ensures short { length self.new ≡ length self.old + length part.now + 1 }
     {
@@ -84,19 +81,19 @@ impl Line {
         self.put(part);
     }
 
-    /// One more word, a length in units of 0.0001 m, which is written in metres with four digits
-    /// behind the point.
-    pub fn add_metres(&mut self, value: i64)
-        requires { length self.old ≤ 229 }
-        ensures text { self.new ≡ self.old ++ 0x20 ∷ metres value }
+    /// Adds a separator and a length in units of 0.0001 m, in metres with four decimals.
+    pub fn add_metres(&mut self, separator: u8, value: i64)
+        requires { length self.old ≤ 293 }
+        ensures text { self.new ≡ self.old ++ separator ∷ metres value }
         ensures short { length self.new ≤ length self.old + 27 }
     {
-        self.put(if value < 0 { b" -" } else { b" " });
+        self.put(&[separator]);
+        self.put(if value < 0 { b"-" } else { b"" });
         self.put_size(value.unsigned_abs());
     }
 
     fn put_size(&mut self, size: u64)
-        requires { length self.old ≤ 231 }
+        requires { length self.old ≤ 295 }
         ensures text { self.new ≡ self.old ++ size_text size }
         ensures short { length self.new ≤ length self.old + 25 }
     {
@@ -113,7 +110,7 @@ impl Line {
 
     /// The line feed behind the last word.
     pub fn finish(&mut self)
-        requires { length self.old < 256 }
+        requires { length self.old < 320 }
         ensures { self.new ≡ self.old ++ 0x0A ∷ [] }
     {
         self.put(b"\n");
@@ -122,13 +119,13 @@ impl Line {
     /// The line's bytes.
     pub fn as_bytes(&self) -> &[u8]
         ensures text { result.now ≡ self.now }
-        ensures short { length result.now ≤ 256 }
+        ensures short { length result.now ≤ 320 }
     {
         self.text.as_slice()
     }
 
     fn put(&mut self, bytes: &[u8])
-        requires { length self.old + length bytes.now ≤ 256 }
+        requires { length self.old + length bytes.now ≤ 320 }
         ensures { self.new ≡ self.old ++ bytes.now }
     {
         self.text.try_extend_from_slice(bytes).unwrap();

@@ -14,8 +14,10 @@ pub mod laws;
 mod line;
 mod listing;
 mod options;
+mod plan;
 mod show;
 mod signals;
+mod survey;
 #[cfg(test)]
 mod tests;
 

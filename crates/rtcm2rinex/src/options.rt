@@ -4,11 +4,9 @@ ghost use Rattle.clap.specs.Walk.{one_of};
 ghost use Rattle.std.specs.Str.{bytes_eq};
 ghost use Rattle.obs_epoch.specs.Kinds.{is_by_bit};
 ghost use Rattle.rinex_file.specs.TextsOf.{lists_of};
-ghost use Rattle.rtcm2rinex.specs.Telling.{IsFormOf};
 ghost use Rattle.rtcm2rinex.specs.SetupTold.{IsNumberOf, IsSetupOf, IsSetupRefused, options_of, text_told, texts_told};
 
 use crate::fault::ToolFault;
-use crate::signals::SignalsForm;
 use clap::ArgMatches;
 use obs_epoch::{Gather, Plan};
 use rinex_file::{HeaderTexts, Texts};
@@ -76,15 +74,4 @@ pub fn station_of(options: &ArgMatches) -> Option<u16>
     ensures { IsNumberOf 16 (one_of (codes "station") (options_of options.now)) result }
 {
     options.get_one::<u16>("station")
-}
-
-/// What is to be printed of signals.
-pub fn form_of(options: &ArgMatches) -> SignalsForm
-    ensures { IsFormOf (options_of options.now) result }
-{
-    if options.get_flag("counts") {
-        SignalsForm::Counts
-    } else {
-        SignalsForm::Options
-    }
 }

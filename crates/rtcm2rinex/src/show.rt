@@ -58,9 +58,9 @@ fn station_line(offset: u64, station: StationParts) -> Line
     let mut line = Line::starting_with(offset);
     line.add_number(station_number(station.height));
     line.add_number(u64::from(station.station));
-    line.add_metres(station.x);
-    line.add_metres(station.y);
-    line.add_metres(station.z);
+    line.add_metres(b' ', station.x);
+    line.add_metres(b' ', station.y);
+    line.add_metres(b' ', station.z);
     add_height(&mut line, station.height);
     line.finish();
     line
@@ -73,7 +73,7 @@ fn add_height(line: &mut Line, height: Option<u16>)
     ensures short { length line.new ≤ length line.old + 27 }
 {
     match height {
-        Some(height) => line.add_metres(i64::from(height)),
+        Some(height) => line.add_metres(b' ', i64::from(height)),
         None => {}
     }
 }

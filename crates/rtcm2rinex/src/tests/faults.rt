@@ -86,7 +86,7 @@ type Written<'a> = (&'a [&'a str], Text<'a>, usize, Text<'a>);
 static WRITTEN: [Written; 4] = [
     (&OPTIONS, ONE_FRAME, 50, FINE_FILE),
     (&OPTIONS, WITH_EVENT, 1000, EVENT_FILE),
-    (&SIGNALS, ONE_FRAME, 3, Lines("--gps 1C --galileo none\n")),
+    (&SIGNALS, ONE_FRAME, 3, Lines("G 1C 1\n")),
     (
         &CHECK,
         FINE_FILE,
@@ -106,15 +106,7 @@ fn a_writer_may_fail_behind_each_byte(rt: HostRuntime) {
 /// The largest numbers of bytes of a write and of all writes, and a case with such an output.
 static FILLED: [(usize, usize, Case); 2] = [
     (1, 1236, (&OPTIONS, ONE_FRAME, Good(FINE_FILE, REPORT))),
-    (
-        3,
-        24,
-        (
-            &SIGNALS,
-            ONE_FRAME,
-            Good(Lines("--gps 1C --galileo none\n"), ""),
-        ),
-    ),
+    (3, 7, (&SIGNALS, ONE_FRAME, Good(Lines("G 1C 1\n"), ""))),
 ];
 
 // The device would fail after the last byte of the output.
@@ -155,7 +147,7 @@ static FLUSHED: [Read; 5] = [
     (&FRAMES, ONE_FRAME, Lines("0 ")),
     (&SHOW, ONE_FRAME, Lines("0 ")),
     (&OPTIONS, ONE_FRAME, Lines("  ")),
-    (&SIGNALS, ONE_FRAME, Lines("--")),
+    (&SIGNALS, ONE_FRAME, Lines("G ")),
     (&CHECK, FINE_FILE, Lines("ep")),
 ];
 

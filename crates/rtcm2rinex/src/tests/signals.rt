@@ -12,26 +12,21 @@ pub const SIGNALS: [&str; 2] = ["rtcm2rinex", "signals"];
 /// is 2W.
 const OF_THREE: Text = Stream(&[Fine(&[]), Framed(&COARSE), Fine(&[(17, 0x00), (18, 0x20)])]);
 
-static TOLD: [Case; 3] = [
-    (
-        &[],
-        OF_THREE,
-        Good(Lines("--gps 1C,2W --galileo none\n"), ""),
-    ),
+static TABLES: [Case; 2] = [
+    (&[], OF_THREE, Good(Lines("G 1C 2\nG 2W 1\n"), "")),
     (
         &["--station", "2003"],
         OF_THREE,
-        Good(Lines("--gps 1C,2W --galileo none\n"), ""),
+        Good(Lines("G 1C 2\nG 2W 1\n"), ""),
     ),
-    (&["--counts"], OF_THREE, Good(Lines("G 1C 2\nG 2W 1\n"), "")),
 ];
 
 #[test]
-fn signals_are_told_as_options_and_counted(rt: HostRuntime) {
+fn signals_are_listed_with_their_cells(rt: HostRuntime) {
     let setting = Setting {
         words: &SIGNALS,
         sizes: &[&[1], &[7], &[]],
         ..FAULTLESS
     };
-    assert_come(&rt, rt.alloc(), &setting, &TOLD);
+    assert_come(&rt, rt.alloc(), &setting, &TABLES);
 }

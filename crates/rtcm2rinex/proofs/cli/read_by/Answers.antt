@@ -1,13 +1,9 @@
-use Rattle.std.proofs.Common.{◌≡◌, ap, refl, rules, pos, codes}
+use Rattle.std.proofs.Common.{◌≡◌, ap, rules, pos, codes}
 use Rattle.clap.specs.Walk.{rule_of}
 use Rattle.clap.specs.declared.builder.value_parser.ValueParser.TheVariants as value
 use Rattle.rtcm2rinex.specs.CommandLine as line
 use Rattle.rtcm2rinex.proofs.CommandLineLemmas.{read_as_told}
 use Rattle.rtcm2rinex.proofs.cli.read_by.Goals as goal
-
-pub returns-in-Flag : goal.returns-in-Flag
-unfolding line.read_so
-returns-in-Flag c = read_as_told _ _ _ _ c.in-Flag.is refl
 
 pub returns-in-Told : goal.returns-in-Told
 unfolding line.read_so

@@ -11,13 +11,19 @@ returns-in-show g c = ends_so c.run_show.result _ _ _ _ _ _ _ _ (λ x h. inr (in
 pub returns-in-signals : goal.returns-in-signals
 returns-in-signals g c =
     ends_so c.run_signals.result _ _ _ _ _ _ _ _
-    (λ x h. inr (inr (inl (c.in-signals.is, (c.form_of.result, c.station_of.result, c.form_of.ensures, c.station_of.ensures, h)))))
-    (λ f h. inr (inr (inl (c.in-signals.is, (c.form_of.result, c.station_of.result, c.form_of.ensures, c.station_of.ensures, h))))) c.run_signals.ensures
+    (λ x h. inr (inr (inl (c.in-signals.is, (c.station_of.result, c.station_of.ensures, h)))))
+    (λ f h. inr (inr (inl (c.in-signals.is, (c.station_of.result, c.station_of.ensures, h))))) c.run_signals.ensures
+
+pub returns-in-options : goal.returns-in-options
+returns-in-options g c =
+    ends_so c.run_options.result _ _ _ _ _ _ _ _
+    (λ x h. inr (inr (inr (inl (c.in-options.is, (c.station_of-in-options.result, c.station_of-in-options.ensures, h))))))
+    (λ f h. inr (inr (inr (inl (c.in-options.is, (c.station_of-in-options.result, c.station_of-in-options.ensures, h)))))) c.run_options.ensures
 
 pub returns-in-convert : goal.returns-in-convert
 returns-in-convert g c =
-    ends_so c.convert.result _ _ _ _ _ _ _ _ (λ x h. inr (inr (inr (inl (c.in-convert.is, h))))) (λ f h. inr (inr (inr (inl (c.in-convert.is, h))))) c.convert.ensures
+    ends_so c.convert.result _ _ _ _ _ _ _ _ (λ x h. inr (inr (inr (inr (inl (c.in-convert.is, h)))))) (λ f h. inr (inr (inr (inr (inl (c.in-convert.is, h)))))) c.convert.ensures
 
 pub returns-in-check : goal.returns-in-check
 returns-in-check g c =
-    ends_so c.run_check.result _ _ _ _ _ _ _ _ (λ x h. inr (inr (inr (inr (c.in-check.is, h))))) (λ f h. inr (inr (inr (inr (c.in-check.is, h))))) c.run_check.ensures.ends
+    ends_so c.run_check.result _ _ _ _ _ _ _ _ (λ x h. inr (inr (inr (inr (inr (c.in-check.is, h)))))) (λ f h. inr (inr (inr (inr (inr (c.in-check.is, h)))))) c.run_check.ensures.ends

@@ -2,8 +2,8 @@ use Rattle.std.proofs.Common.{◌≡◌, ◌∙◌, ◌+◌, ◌*◌, ◌≤◌,
 use Rattle.gnss_obs.specs.Signals.{table}
 use Rattle.rtcm2rinex.specs.Signals.{had_below}
 use Rattle.rtcm2rinex.proofs.SignalLemmas.{partly_more, had_one, had_none, word_some, word_none, at_end}
-use Rattle.rtcm2rinex.proofs.signals.add_codes.Goals as goal
-use Rattle.rtcm2rinex.proofs.signals.add_codes.Goals.{then-count-gt0, else-count-gt0}
+use Rattle.rtcm2rinex.proofs.plan.add_codes.Goals as goal
+use Rattle.rtcm2rinex.proofs.plan.add_codes.Goals.{then-count-gt0, else-count-gt0}
 
 within : (i n m : ℕ) → i < n → n ≡ m → i < m
 within i n m a b = omega (arith, a, b)

@@ -2,7 +2,7 @@ use Rattle.std.proofs.Common.{◌+◌, ◌*◌, ◌≤◌, List, length}
 use Rattle.rtcm2rinex.specs.Signals.{had_below}
 use Rattle.obs_epoch.specs.Census.{IsCensus}
 use Rattle.rtcm2rinex.proofs.SignalLemmas.{IsPartly}
-use Rattle.rtcm2rinex.proofs.signals.add_codes.Given as goal
+use Rattle.rtcm2rinex.proofs.plan.add_codes.Given as goal
 use Rattle.obs_epoch.specs.Heard.{HeardCell}
 
 abbrev pub invariant-loop-index : goal.invariant-loop-index

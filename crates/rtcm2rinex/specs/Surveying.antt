@@ -1,0 +1,59 @@
+-- What the commands `signals` and `options` have read and written. The reader had r left and now has r', and the writer held w and now holds
+-- w'. `text` is what is printed of the frames of a stream, for a station or for every one.
+use Rattle.std.specs.Prelude.{◌≡◌, ℕ, ◌<◌, ◌^◌, List, [], length, Option, codes}
+use Rattle.std.specs.Io.KnownBytes.{Appends, Consumes, IsAtEnd}
+use Rattle.clap.specs.Walk.{Row, one_of}
+use Rattle.rtcm_bits.specs.Device.{AppendsPrefix, Device}
+use Rattle.rtcm_scan.specs.Frames.{Framed, frames_of}
+use Rattle.rtcm_scan.specs.declared.framer.ScanFault.TheVariants as scan
+use Rattle.rtcm_convert.specs.Faults.{IsUntouched}
+use Rattle.rtcm_convert.specs.Moves.{Moves}
+use Rattle.rtcm2rinex.specs.declared.fault.ToolFault.{ToolFault}
+use Rattle.rtcm2rinex.specs.declared.fault.ToolFault.TheVariants as faults
+use Rattle.rtcm2rinex.specs.SetupTold.{IsNumberOf}
+use Rattle.rtcm2rinex.specs.Signals.{valued_in}
+
+abbrev pub SurveyText : Type 0
+SurveyText = Option ℕ → List Framed → List ℕ
+
+-- The stream was read to its end and has a cell with a value.
+abbrev pub ReadsCells : Option ℕ → (r r' : Option (List ℕ)) → (List Framed → Type 0) → Type 0
+ReadsCells wanted r r' Does = (b : List ℕ) × Consumes r r' b × IsAtEnd r' × (0 < length (valued_in wanted (frames_of b))) × Does (frames_of b)
+
+-- the text of its frames was written
+abbrev pub PrintsSurvey : SurveyText → Option ℕ → (r r' w w' : Option (List ℕ)) → Type 0
+PrintsSurvey text wanted r r' w w' = ReadsCells wanted r r' (λ fs. Appends w w' (text wanted fs))
+
+-- a prefix of it was
+abbrev pub PrintsSurveyPart : SurveyText → Option ℕ → (r r' w w' : Option (List ℕ)) → Type 0
+PrintsSurveyPart text wanted r r' w w' = ReadsCells wanted r r' (λ fs. AppendsPrefix w w' (text wanted fs))
+
+-- the stream was read to its end and has no such cell
+abbrev pub HasNoSignal : Option ℕ → (r r' : Option (List ℕ)) → Type 0
+HasNoSignal wanted r r' = (b : List ℕ) × Consumes r r' b × IsAtEnd r' × (valued_in wanted (frames_of b) ≡ [])
+
+-- more bytes were read than the limit allows
+abbrev pub ReadsTooMuch : ℕ → (r r' : Option (List ℕ)) → Type 0
+ReadsTooMuch limit r r' = (b : List ℕ) × Consumes r r' b × (limit < length b)
+
+-- What was read and written at a fault: anything was written only at `Write`.
+abbrev pub StopsSurvey : {R W : Type 0} → SurveyText → Option ℕ → (R → Option (List ℕ)) → (r r' : Device R) → (W → Option (List ℕ)) → (w w' : Device W) → ToolFault → Type 0
+StopsSurvey text wanted left r r' held w w' faults.Read = w' ≡ w
+StopsSurvey text wanted left r r' held w w' faults.Write = Moves left r r' held w w' (PrintsSurveyPart text wanted)
+StopsSurvey text wanted left r r' held w w' faults.NoSignal = HasNoSignal wanted (left r.inner) (left r'.inner) × (w' ≡ w)
+StopsSurvey text wanted left r r' held w w' (faults.Scan scan.TooLong) = ReadsTooMuch (2 ^ 48) (left r.inner) (left r'.inner) × (w' ≡ w)
+StopsSurvey text wanted left r r' held w w' (faults.Scan scan.Memory) = IsUntouched r r' w w'
+StopsSurvey text wanted left r r' held w w' other = ⊥
+
+-- ---- as options ask for it
+
+abbrev pub OfStation : List Row → (Option ℕ → Type 0) → Type 0
+OfStation options Does = (wanted : Option ℕ) × IsNumberOf 16 (one_of (codes "station") options) wanted × Does wanted
+
+-- of the station that these options name, or of every station, the text was printed
+abbrev pub PrintsAsked : SurveyText → List Row → (r r' w w' : Option (List ℕ)) → Type 0
+PrintsAsked text options r r' w w' = OfStation options (λ wanted. PrintsSurvey text wanted r r' w w')
+
+-- a fault stopped that
+abbrev pub StopsAsked : {R W : Type 0} → SurveyText → List Row → (R → Option (List ℕ)) → (r r' : Device R) → (W → Option (List ℕ)) → (w w' : Device W) → ToolFault → Type 0
+StopsAsked text options left r r' held w w' fault = OfStation options (λ wanted. StopsSurvey text wanted left r r' held w w' fault)
