@@ -1,5 +1,6 @@
 # make build      proves and builds the program, crates/rtcm2rinex/out/rtcm2rinex
-# make run        builds it, converts a recording, prints the start of the file and the report, and checks the file
+# make run        builds it, converts a recording with the options that fit it, prints the start of the file and the
+#                 report, and checks the file
 # make install    builds it if it is missing, and installs program and manual page to PREFIX (/usr/local)
 # make read-back  builds it, and has RTKLIB read back the converted recordings
 # make test       runs the gate: documents, all proofs, must-fail mutants, tests, stored cases, fault injection (docs/GATE.md)
@@ -7,7 +8,7 @@
 PROGRAM := crates/rtcm2rinex/out/rtcm2rinex
 SAMPLE := samples/zed-f9t-2019-10-17
 MADE := out/zed-f9t-2019-10-17
-OPTIONS := --week 2075 --date "20240204 000001 UTC" --gps 1C,2W,2X,2L,5X --galileo 1X,1C,7X,7Q,5X
+OPTIONS := --week 2075 --date "20240204 000001 UTC"
 
 PREFIX ?= /usr/local
 
@@ -21,8 +22,9 @@ build:
 
 run: build
 	@mkdir -p out
-	$(PROGRAM) convert $(OPTIONS) < $(SAMPLE).rtcm3 > $(MADE).obs 2> $(MADE).report
-	@head -n 22 $(MADE).obs
+	plan=$$($(PROGRAM) options < $(SAMPLE).rtcm3) && echo "$$plan" && \
+	    $(PROGRAM) convert $(OPTIONS) $$plan < $(SAMPLE).rtcm3 > $(MADE).obs 2> $(MADE).report
+	@head -n 20 $(MADE).obs
 	@echo ".. $$(wc -l < $(MADE).obs) lines in $(MADE).obs, and the report:"
 	@cat $(MADE).report
 	@cmp $(MADE).obs $(SAMPLE).obs && cmp $(MADE).report $(SAMPLE).report && echo "both as stored in samples/"

@@ -1,5 +1,5 @@
 -- What the exit status says.
-use Rattle.std.proofs.Common.{◌≡◌, ◌∙◌, inl, inr, sym, ap, ap₂, option_map, ℕ, List, Option, Some, None, Result, Ok, Err, arith}
+use Rattle.std.proofs.Common.{◌≡◌, ◌∙◌, inl, inr, sym, subst, codes, ap, ap₂, option_map, ℕ, List, Option, Some, None, Result, Ok, Err, arith}
 use Rattle.std.specs.Prelude.{⊤, ◌≢◌}
 use Rattle.std.specs.Box.{box_value}
 use Rattle.std.specs.Option.{option_map_or}
@@ -14,11 +14,36 @@ use Rattle.clap.specs.declared.error.Error.{Error}
 use Rattle.clap.specs.declared.error.kind.ErrorKind.TheVariants as kind
 use Rattle.clap.specs.declared.parser.matches.ArgMatches.{ArgMatches}
 use Rattle.rtcm_bits.specs.Device.{Device}
-use Rattle.rtcm2rinex.specs.CommandLine.{AreRefused, Asks, IsFoundIn, RefusesWords}
-use Rattle.rtcm2rinex.specs.Commands.{EndsFound, HasCommand, HasFailedToServe, HasServed, StopsAnswering, status_of}
+use Rattle.rtcm2rinex.specs.CommandLine.{Asks, IsFoundIn, RefusesWords}
+use Rattle.rtcm2rinex.specs.Commands.{AreRefused, EndsFound, HasCommand, HasFailedToServe, HasServed, HasStopped, StopsAnswering, fault_status, status_of}
+use Rattle.rtcm2rinex.specs.SetupTold.{IsSetupRefused}
+use Rattle.rtcm_convert.specs.Faults.{IsUntouched}
 use Rattle.rtcm2rinex.specs.Devices.{Ends}
 use Rattle.rtcm2rinex.specs.declared.fault.ToolFault.{ToolFault}
+use Rattle.rtcm2rinex.specs.declared.fault.ToolFault.TheVariants as faults
 use Rattle.rtcm2rinex.proofs.CommandLineLemmas.{is_version}
+
+one_two : 1 ≡ 2 → ⊥
+one_two e = omega (arith, e)
+
+one_zero : 1 ≡ 0 → ⊥
+one_zero e = omega (arith, e)
+
+two_zero : 2 ≡ 0 → ⊥
+two_zero e = omega (arith, e)
+
+never_zero : (fault : ToolFault) → fault_status fault ≡ 0 → ⊥
+never_zero faults.BadPosition e = two_zero e
+never_zero faults.BadHeight e = two_zero e
+never_zero faults.Memory e = one_zero e
+never_zero faults.Read e = one_zero e
+never_zero faults.Write e = one_zero e
+never_zero (faults.Scan f) e = one_zero e
+never_zero (faults.Header f) e = one_zero e
+never_zero (faults.Plan f) e = one_zero e
+never_zero (faults.Convert f) e = one_zero e
+never_zero (faults.Check f) e = one_zero e
+never_zero faults.NoSignal e = one_zero e
 
 -- a command ended so, in other words
 pub ends_so : {A R W : Type 0} (ended : Result A ToolFault) (r r2 : Device R) (w w2 : Device W) (P Q : A → Type 0) (S T : ToolFault → Type 0)
@@ -51,7 +76,7 @@ module _ {R W : Type 0} (left : R → Option (List ℕ)) (held : W → Option (L
       → EndsFound ended left r r2 held w w2 (subcommand_rows_of m) → status ≡ 0 → HasServed left r r2 held w w2 words
   served m (Ok u) status is found end zero =
       inl (end.0, end.1, asked words (subcommand_rows_of m) found.0 end.0 found.1 end.1 found.3 end.2 found.4, end.3.0, end.3.1)
-  served m (Err fault) status is found end zero = absurd (let bad : 1 ≡ 0 = sym is ∙ zero in omega (arith, bad))
+  served m (Err fault) status is found end zero = absurd (never_zero fault (sym is ∙ zero))
 
   pub failed_to_serve : (m : ArgMatches) (ended : Result ⊤ ToolFault) (status : ℕ) → status ≡ status_of ended → IsFoundIn words m
       → EndsFound ended left r r2 held w w2 (subcommand_rows_of m) → status ≡ 1 → HasFailedToServe left r r2 held w w2 words
@@ -63,10 +88,51 @@ module _ {R W : Type 0} (left : R → Option (List ℕ)) (held : W → Option (L
   answered_in_part e refused (inl same) unread = inr (inr (unread, same))
   answered_in_part e refused (inr part) unread = inr (inl (is_version words e refused part.0, unread, part.1))
 
-pub not_two : (ended : Result ⊤ ToolFault) (status : ℕ) → status ≡ status_of ended → status ≡ 2 → ⊥
-not_two (Ok u) status is two = let bad : 0 ≡ 2 = sym is ∙ two in omega (arith, bad)
-not_two (Err fault) status is two = let bad : 1 ≡ 2 = sym is ∙ two in omega (arith, bad)
+-- a command at status 2 is a conversion that is refused before anything is read
+abbrev IsRefusedBy : {R W : Type 0} → (r r2 : Device R) → (w w2 : Device W) → Text → List Row → ToolFault → Type 0
+IsRefusedBy r r2 w w2 name options fault = (name ≡ codes "convert") × IsSetupRefused options fault × IsUntouched r r2 w w2
+
+module _ {R W : Type 0} (left : R → Option (List ℕ)) (held : W → Option (List ℕ)) (r r2 : Device R) (w w2 : Device W) (name : Text) (options : List Row) where
+  bad_position : HasStopped left r r2 held w w2 name options faults.BadPosition → IsRefusedBy r r2 w w2 name options faults.BadPosition
+  bad_position (inl (n, stops)) = absurd stops
+  bad_position (inr (inl (n, stops))) = absurd stops
+  bad_position (inr (inr (inl (n, (wanted, number, stops))))) = absurd stops
+  bad_position (inr (inr (inr (inl (n, (wanted, number, stops)))))) = absurd stops
+  bad_position (inr (inr (inr (inr (inl (n, inl (refused, untouched))))))) = (n, refused, untouched)
+  bad_position (inr (inr (inr (inr (inl (n, inr (x, start, stops))))))) = absurd stops
+  bad_position (inr (inr (inr (inr (inr (n, stops)))))) = absurd stops
+
+  bad_height : HasStopped left r r2 held w w2 name options faults.BadHeight → IsRefusedBy r r2 w w2 name options faults.BadHeight
+  bad_height (inl (n, stops)) = absurd stops
+  bad_height (inr (inl (n, stops))) = absurd stops
+  bad_height (inr (inr (inl (n, (wanted, number, stops))))) = absurd stops
+  bad_height (inr (inr (inr (inl (n, (wanted, number, stops)))))) = absurd stops
+  bad_height (inr (inr (inr (inr (inl (n, inl (refused, untouched))))))) = (n, refused, untouched)
+  bad_height (inr (inr (inr (inr (inl (n, inr (x, start, stops))))))) = absurd stops
+  bad_height (inr (inr (inr (inr (inr (n, stops)))))) = absurd stops
+
+  refused_by : (fault : ToolFault) → fault_status fault ≡ 2 → HasStopped left r r2 held w w2 name options fault → IsRefusedBy r r2 w w2 name options fault
+  refused_by faults.BadPosition two stopped = bad_position stopped
+  refused_by faults.BadHeight two stopped = bad_height stopped
+  refused_by faults.Memory two stopped = absurd (one_two two)
+  refused_by faults.Read two stopped = absurd (one_two two)
+  refused_by faults.Write two stopped = absurd (one_two two)
+  refused_by (faults.Scan e) two stopped = absurd (one_two two)
+  refused_by (faults.Header e) two stopped = absurd (one_two two)
+  refused_by (faults.Plan e) two stopped = absurd (one_two two)
+  refused_by (faults.Convert e) two stopped = absurd (one_two two)
+  refused_by (faults.Check e) two stopped = absurd (one_two two)
+  refused_by faults.NoSignal two stopped = absurd (one_two two)
+
+pub refused_at_two : {R W : Type 0} (left : R → Option (List ℕ)) (held : W → Option (List ℕ)) (r r2 : Device R) (w w2 : Device W) (words : List Text) (m : ArgMatches) (ended : Result ⊤ ToolFault) (status : ℕ)
+    → status ≡ status_of ended → IsFoundIn words m → EndsFound ended left r r2 held w w2 (subcommand_rows_of m) → status ≡ 2 → AreRefused words × IsUntouched r r2 w w2
+refused_at_two left held r r2 w w2 words m (Ok u) status is found end two = absurd (let bad : 0 ≡ 2 = sym is ∙ two in omega (arith, bad))
+refused_at_two left held r r2 w w2 words m (Err fault) status is found end two =
+    let same : fault_status fault ≡ 2 = sym is ∙ two in
+    let refused = refused_by left held r r2 w w2 end.0 end.1 fault same end.3.1 in
+    let asks : Asks words end.0 end.1 = asked words (subcommand_rows_of m) found.0 end.0 found.1 end.1 found.3 end.2 found.4 in
+    (inr (end.1, fault, subst (λ (n : Text). Asks words n end.1) refused.0 asks, refused.1, same), refused.2)
 
 pub refused_words : (words : List Text) (e : Error) → RefusesWords words e → (kind_of e ≢ kind.DisplayVersion) → (kind_of e ≢ kind.OutOfMemory) → AreRefused words
 refused_words words e (inl memory) version some = absurd (some memory)
-refused_words words e (inr answered) version some = (kind_of e, answered, version)
+refused_words words e (inr answered) version some = inl (kind_of e, answered, version)

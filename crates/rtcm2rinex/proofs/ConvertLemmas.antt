@@ -1,28 +1,33 @@
 -- How a fault stops a conversion.
-use Rattle.std.proofs.Common.{◌≡◌, refl, ℕ, List, Option, Result, Err, IsErrOf, IfSome, inl, inr}
-use Rattle.std.specs.Prelude.{◌≢◌, ◌↔◌}
+use Rattle.std.proofs.Common.{◌≡◌, ◌∙◌, ap, sym, subst, refl, ℕ, ℤ, List, Option, Some, None, Result, Ok, Err, IsErrOf, IfSome, inl, inr}
+use Rattle.std.specs.Prelude.{◌≢◌, ◌↔◌, ◌⊎◌}
 use Rattle.rtcm_bits.specs.Device.{Device}
 use Rattle.rtcm_convert.specs.Faults.{FailsWithReader, FailsWithWriter, IsSentAfter, IsSetupFault, IsUntouched}
 use Rattle.rtcm_convert.specs.Made.{IsMadeEmpty, IsMadeSoFar, IsMadeInPart, IsMadeToLimit}
-use Rattle.rtcm_convert.specs.SetupValues.{IsBad, start_zero}
+use Rattle.rtcm_convert.specs.SetupValues.{Start}
 use Rattle.rtcm_convert.specs.declared.fault.Fault.{Fault}
 use Rattle.rtcm_convert.specs.declared.fault.Fault.TheVariants.{Memory, BadSetup, TooLong, Read, Write, Failed, Finished, NoEpoch}
 use Rattle.rtcm_convert.specs.declared.report.Report.{Report}
-use Rattle.rtcm_convert.specs.declared.setup.Setup.{Setup}
-use Rattle.rtcm2rinex.specs.Converting.{StopsConversion}
+use Rattle.rtcm2rinex.specs.declared.fault.ToolFault.{ToolFault}
+use Rattle.rtcm2rinex.specs.declared.fault.ToolFault.TheVariants as faults
+use Rattle.clap.specs.Walk.{Row}
+use Rattle.obs_epoch.specs.declared.cell.StationValues.{StationValues}
+use Rattle.rtcm2rinex.specs.Lengths.{values_by}
+use Rattle.rtcm2rinex.specs.SetupTold.{values_told}
+use Rattle.rtcm2rinex.specs.Converting.{StopsConversion, StopsConverting}
 use Rattle.rtcm2rinex.specs.Devices.{HaveFailedBy, fault_told}
 
-module _ {R W : Type 0} (left : R → Option (List ℕ)) (held : W → Option (List ℕ)) (x : Setup) (rd rd2 : Device R) (o o2 : Device W) where
+module _ {R W : Type 0} (left : R → Option (List ℕ)) (held : W → Option (List ℕ)) (Bad : Type 0) (x : Start) (rd rd2 : Device R) (o o2 : Device W) where
   abbrev Result-of : Fault → Result Report Fault
   Result-of fault = Err fault
 
   pub conversion_stopped : (fault : Fault) → FailsWithReader (Result-of fault) rd rd2 → FailsWithWriter (Result-of fault) o o2 → IsSentAfter (Result-of fault) o.is_sent o2.is_sent
-      → (IsErrOf (Result-of fault) NoEpoch → IfSome (left rd.inner) (IsMadeEmpty (start_zero x) (held o.inner) (held o2.inner)))
-      → (IsErrOf (Result-of fault) TooLong → IsMadeToLimit (start_zero x) (left rd.inner) (left rd2.inner) (held o.inner) (held o2.inner))
-      → (IsErrOf (Result-of fault) Read → IsMadeSoFar (start_zero x) (left rd.inner) (left rd2.inner) (held o.inner) (held o2.inner))
-      → (IsErrOf (Result-of fault) Write → IsMadeInPart (start_zero x) (left rd.inner) (left rd2.inner) (held o.inner) (held o2.inner))
-      → (Result-of fault ≡ Err BadSetup ↔ IsBad x) → (IsSetupFault fault → IsUntouched rd rd2 o o2) → (Result-of fault ≢ Err Failed) × (Result-of fault ≢ Err Finished)
-      → HaveFailedBy (fault_told fault) rd rd2 o o2 × StopsConversion x left rd rd2 held o o2 (fault_told fault)
+      → (IsErrOf (Result-of fault) NoEpoch → IfSome (left rd.inner) (IsMadeEmpty x (held o.inner) (held o2.inner)))
+      → (IsErrOf (Result-of fault) TooLong → IsMadeToLimit x (left rd.inner) (left rd2.inner) (held o.inner) (held o2.inner))
+      → (IsErrOf (Result-of fault) Read → IsMadeSoFar x (left rd.inner) (left rd2.inner) (held o.inner) (held o2.inner))
+      → (IsErrOf (Result-of fault) Write → IsMadeInPart x (left rd.inner) (left rd2.inner) (held o.inner) (held o2.inner))
+      → (Result-of fault ≡ Err BadSetup ↔ Bad) → (IsSetupFault fault → IsUntouched rd rd2 o o2) → (Result-of fault ≢ Err Failed) × (Result-of fault ≢ Err Finished)
+      → HaveFailedBy (fault_told fault) rd rd2 o o2 × StopsConversion Bad x left rd rd2 held o o2 (fault_told fault)
   conversion_stopped Memory reader writer sent none long read write bad untouched only = ((reader.0, writer.0), untouched (inr refl))
   conversion_stopped BadSetup reader writer sent none long read write bad untouched only = ((reader.0, writer.0), (bad.0 refl, untouched (inl refl)))
   conversion_stopped TooLong reader writer sent none long read write bad untouched only = ((reader.0, writer.0), (long refl, sent))
@@ -31,3 +36,60 @@ module _ {R W : Type 0} (left : R → Option (List ℕ)) (held : W → Option (L
   conversion_stopped Failed reader writer sent none long read write bad untouched only = absurd (only.0 refl)
   conversion_stopped Finished reader writer sent none long read write bad untouched only = absurd (only.1 refl)
   conversion_stopped NoEpoch reader writer sent none long read write bad untouched only = ((reader.0, writer.0), (none refl, sent))
+
+bad_only : (fault : Fault) → ◌≡◌ {A = Result Report ToolFault} (Err (fault_told fault)) (Err (faults.Convert BadSetup)) → ◌≡◌ {A = Result Report Fault} (Err fault) (Err BadSetup)
+bad_only BadSetup h = refl
+bad_only Memory h = cc
+bad_only TooLong h = cc
+bad_only Read h = cc
+bad_only Write h = cc
+bad_only Failed h = cc
+bad_only Finished h = cc
+bad_only NoEpoch h = cc
+
+bad_back : (fault : Fault) → ◌≡◌ {A = Result Report Fault} (Err fault) (Err BadSetup) → ◌≡◌ {A = Result Report ToolFault} (Err (fault_told fault)) (Err (faults.Convert BadSetup))
+bad_back BadSetup h = refl
+bad_back Memory h = cc
+bad_back TooLong h = cc
+bad_back Read h = cc
+bad_back Write h = cc
+bad_back Failed h = cc
+bad_back Finished h = cc
+bad_back NoEpoch h = cc
+
+-- a bad start is the fault of the conversion and of the command
+pub told_bad : (fault : Fault) (e : ToolFault) (Bad : Type 0) → e ≡ fault_told fault → (◌≡◌ {A = Result Report Fault} (Err fault) (Err BadSetup) ↔ Bad)
+    → (◌≡◌ {A = Result Report ToolFault} (Err e) (Err (faults.Convert BadSetup)) ↔ Bad)
+told_bad fault e Bad is bad = (
+  λ h. bad.0 (bad_only fault (ap (λ (f : ToolFault). Err f) (sym is) ∙ h)),
+  λ b. ap (λ (f : ToolFault). Err f) is ∙ bad_back fault (bad.1 b),
+)
+
+-- ---- what options give
+
+err_of : Result StationValues ToolFault → ToolFault
+err_of (Ok v) = faults.BadPosition
+err_of (Err e) = e
+
+only_two : (p : Option (ℤ × ℤ × ℤ)) (h : Option ℕ) (e : ToolFault) → values_by p h ≡ Err e → (e ≡ faults.BadPosition) ⊎ (e ≡ faults.BadHeight)
+unfolding err_of
+only_two None h e is = inl (sym (ap err_of is))
+only_two (Some (x, y, z)) None e is = inr (sym (ap err_of is))
+only_two (Some (x, y, z)) (Some h) e is = cc
+
+module _ {R W : Type 0} (left : R → Option (List ℕ)) (held : W → Option (List ℕ)) (options : List Row) (rd : Device R) (o : Device W) where
+  abbrev Refuses : ToolFault → Type 0
+  Refuses e = HaveFailedBy e rd rd o o × StopsConverting options left rd rd held o o e
+
+  by_two : (e : ToolFault) → (e ≡ faults.BadPosition) ⊎ (e ≡ faults.BadHeight) → values_told options ≡ Err e → Refuses e
+  by_two e (inl is) h = subst Refuses (sym is) ((refl, refl), inl (h ∙ ap (λ (f : ToolFault). Err f) is, (refl, refl)))
+  by_two e (inr is) h = subst Refuses (sym is) ((refl, refl), inl (h ∙ ap (λ (f : ToolFault). Err f) is, (refl, refl)))
+
+  -- a position or a height that is none
+  pub values_refused : (e : ToolFault) → values_told options ≡ Err e → Refuses e
+  values_refused e h = by_two e (only_two _ _ e h) h
+
+-- a file that was made, without its report
+pub file_made : (P Q : List ℕ → Type 0) (input : Option (List ℕ)) → IfSome input (λ b. P b × Q b) → IfSome input P
+file_made P Q None h = tt
+file_made P Q (Some b) h = h.0

@@ -122,6 +122,8 @@ survey_stopped left held text wanted r r2 w (faults.Scan scan.BadLimit) reads st
 survey_stopped left held text wanted r r2 w (faults.Scan scan.Ended) reads stops = absurd stops
 survey_stopped left held text wanted r r2 w faults.Memory reads stops = absurd stops
 survey_stopped left held text wanted r r2 w faults.Write reads stops = absurd stops
+survey_stopped left held text wanted r r2 w faults.BadPosition reads stops = absurd stops
+survey_stopped left held text wanted r r2 w faults.BadHeight reads stops = absurd stops
 survey_stopped left held text wanted r r2 w (faults.Header e) reads stops = absurd stops
 survey_stopped left held text wanted r r2 w (faults.Plan e) reads stops = absurd stops
 survey_stopped left held text wanted r r2 w (faults.Convert e) reads stops = absurd stops

@@ -49,6 +49,13 @@ planned name = or_else (codes "all") (option name)
 abbrev pub station : Rule
 station = read_by (value.Signed (pos 0) (pos 4095)) (option (codes "station"))
 
+-- the station values until a message has others
+abbrev pub position : Rule
+position = or_else (codes "0,0,0") (option (codes "position"))
+
+abbrev pub height : Rule
+height = or_else (codes "0") (option (codes "antenna-height"))
+
 -- the names of the rules of gathering; where they lie is of no account
 abbrev pub AreRules : Bor (List (Bor Text)) → Type 0
 AreRules names = map (λ s. s.now) names.now ≡ codes "bit" ∷ codes "time" ∷ []
@@ -100,7 +107,7 @@ of_station name = with_options (new_app name) (station ∷ [])
 
 abbrev pub convert : Bor (List (Bor Text)) → App
 convert names = with_options (with_options (new_app (codes "convert"))
-    (week ∷ date ∷ planned (codes "gps") ∷ planned (codes "galileo") ∷ station ∷ gather names ∷ limit ∷ []))
+    (week ∷ date ∷ planned (codes "gps") ∷ planned (codes "galileo") ∷ station ∷ position ∷ height ∷ gather names ∷ limit ∷ []))
     texts
 
 -- a command is wanted, and `--version` is known
@@ -156,7 +163,3 @@ IsFoundIn words m = (name : Text) × (options : List Row) × IsCommand name × (
 -- why nothing was found in them: memory ran out, or the words themselves
 abbrev pub RefusesWords : List Text → Error → Type 0
 RefusesWords words e = (kind_of e ≡ kind.OutOfMemory) ⊎ IsAnswered words (kind_of e)
-
--- an error that isn't the version's text answers them
-abbrev pub AreRefused : List Text → Type 0
-AreRefused words = (k : ErrorKind) × IsAnswered words k × (k ≡ kind.DisplayVersion → ⊥)

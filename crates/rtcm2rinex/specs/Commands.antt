@@ -19,7 +19,9 @@ use Rattle.rtcm2rinex.specs.Fitting.{options_text}
 use Rattle.rtcm2rinex.specs.CommandLine.{Asks, IsAnswered, IsCommand}
 use Rattle.rtcm2rinex.specs.Printing.{PrintsText, PrintsPart}
 use Rattle.rtcm2rinex.specs.Devices.{AreFine, Ends, HaveFailedBy}
+use Rattle.rtcm2rinex.specs.SetupTold.{IsSetupRefused}
 use Rattle.rtcm2rinex.specs.declared.fault.ToolFault.{ToolFault}
+use Rattle.rtcm2rinex.specs.declared.fault.ToolFault.TheVariants as faults
 use Rattle.rtcm2rinex.specs.declared.cli.TheConstants.{VERSION}
 
 -- The command of this name did what it is for, with these options: the stream was read to its end and listed, its signals or options were
@@ -78,7 +80,19 @@ HasFailedToServe left r r' held w w' words =
 abbrev pub StopsAnswering : {W : Type 0} → ErrorKind → (W → Option (List ℕ)) → (w w' : Device W) → Type 0
 StopsAnswering k held w w' = (w' ≡ w) ⊎ ((k ≡ DisplayVersion) × PrintsPart held w w' VERSION.now)
 
--- good, or a fault
+-- 2 for an option of another form
+abbrev pub fault_status : ToolFault → ℕ
+fault_status faults.BadPosition = 2
+fault_status faults.BadHeight = 2
+fault_status other = 1
+
+-- the status of a command that ended so
 abbrev pub status_of : {A : Type 0} → Result A ToolFault → ℕ
 status_of (Ok x) = 0
-status_of (Err fault) = 1
+status_of (Err fault) = fault_status fault
+
+-- An error that isn't the version's text answers the words; or they ask for a conversion whose position or antenna height is none.
+abbrev pub AreRefused : List Text → Type 0
+AreRefused words =
+    ((k : ErrorKind) × IsAnswered words k × (k ≡ DisplayVersion → ⊥))
+    ⊎ ((options : List Row) × (fault : ToolFault) × Asks words (codes "convert") options × IsSetupRefused options fault × (fault_status fault ≡ 2))

@@ -1,38 +1,37 @@
 -- What the command `convert` has read and written.
 use Rattle.std.specs.Prelude.{◌≡◌, ◌⊎◌, true, ℕ, List, Option, IfSome}
-use Rattle.rtcm_convert.specs.SetupValues.{IsBad, start_zero}
+use Rattle.rtcm_convert.specs.SetupValues.{Start, IsBadAt}
 use Rattle.rtcm_convert.specs.Made.{IsMade, IsMadeEmpty, IsMadeToLimit, IsMadeSoFar, IsMadeInPart}
 use Rattle.rtcm_convert.specs.Faults.{IsUntouched}
 use Rattle.rtcm_convert.specs.Moves.{Moves}
 use Rattle.rtcm_bits.specs.Device.{Device}
-use Rattle.rtcm_convert.specs.declared.setup.Setup.{Setup}
 use Rattle.rtcm_convert.specs.declared.fault.Fault.TheVariants as convert
 use Rattle.clap.specs.Walk.{Row}
 use Rattle.rtcm2rinex.specs.declared.fault.ToolFault.{ToolFault}
 use Rattle.rtcm2rinex.specs.declared.fault.ToolFault.TheVariants as faults
-use Rattle.rtcm2rinex.specs.SetupTold.{IsSetupOf, IsSetupRefused}
+use Rattle.rtcm2rinex.specs.SetupTold.{IsStartOf, IsSetupRefused}
 
--- Told what these options say, which isn't out of range, a conversion read all that the reader had, and wrote the file of its frames,
+-- Started as these options ask for, which isn't out of range, a conversion read all that the reader had, and wrote the file of its frames,
 -- which has an epoch.
 abbrev pub IsConverted : List Row → (r w w' : Option (List ℕ)) → Type 0
-IsConverted options r w w' = (x : Setup) × IsSetupOf options x × (IsBad x → ⊥) × IfSome r (IsMade (start_zero x) w w')
+IsConverted options r w w' = (x : Start) × IsStartOf options x × (IsBadAt x → ⊥) × IfSome r (IsMade x w w')
 
--- No epoch stands in the file of what the reader had left, and that file was written: it is empty.
-abbrev pub MakesNoEpoch : Setup → (r r' w w' : Option (List ℕ)) → Type 0
-MakesNoEpoch x r r' w w' = IfSome r (IsMadeEmpty (start_zero x) w w')
+-- the file of what the reader had left has no epoch, and was written: it is empty
+abbrev pub MakesNoEpoch : Start → (r r' w w' : Option (List ℕ)) → Type 0
+MakesNoEpoch x r r' w w' = IfSome r (IsMadeEmpty x w w')
 
--- What a conversion with this setup has read and written at a fault: at `Read` the file of the epochs that the bytes before close, at
--- `Write` a part of the file, and after the limit the file of the epochs that the bytes up to it close.
-abbrev pub StopsConversion : {R W : Type 0} → Setup → (R → Option (List ℕ)) → (r r' : Device R) → (W → Option (List ℕ)) → (w w' : Device W) → ToolFault → Type 0
-StopsConversion x left r r' held w w' faults.Read = Moves left r r' held w w' (IsMadeSoFar (start_zero x)) × (w.is_sent ≡ true → w'.is_sent ≡ true)
-StopsConversion x left r r' held w w' faults.Write = Moves left r r' held w w' (IsMadeInPart (start_zero x))
-StopsConversion x left r r' held w w' (faults.Convert convert.TooLong) = Moves left r r' held w w' (IsMadeToLimit (start_zero x)) × (w'.is_sent ≡ true)
-StopsConversion x left r r' held w w' (faults.Convert convert.NoEpoch) = Moves left r r' held w w' (MakesNoEpoch x) × (w'.is_sent ≡ true)
-StopsConversion x left r r' held w w' (faults.Convert convert.BadSetup) = IsBad x × IsUntouched r r' w w'
-StopsConversion x left r r' held w w' (faults.Convert convert.Memory) = IsUntouched r r' w w'
-StopsConversion x left r r' held w w' other = ⊥
+-- What a conversion with this start, which is bad if Bad holds, has read and written at a fault: at `Read` the file of the epochs that the
+-- bytes before close, at `Write` a part of the file, and after the limit the file of the epochs that the bytes up to it close.
+abbrev pub StopsConversion : {R W : Type 0} → Type 0 → Start → (R → Option (List ℕ)) → (r r' : Device R) → (W → Option (List ℕ)) → (w w' : Device W) → ToolFault → Type 0
+StopsConversion Bad x left r r' held w w' faults.Read = Moves left r r' held w w' (IsMadeSoFar x) × (w.is_sent ≡ true → w'.is_sent ≡ true)
+StopsConversion Bad x left r r' held w w' faults.Write = Moves left r r' held w w' (IsMadeInPart x)
+StopsConversion Bad x left r r' held w w' (faults.Convert convert.TooLong) = Moves left r r' held w w' (IsMadeToLimit x) × (w'.is_sent ≡ true)
+StopsConversion Bad x left r r' held w w' (faults.Convert convert.NoEpoch) = Moves left r r' held w w' (MakesNoEpoch x) × (w'.is_sent ≡ true)
+StopsConversion Bad x left r r' held w w' (faults.Convert convert.BadSetup) = Bad × IsUntouched r r' w w'
+StopsConversion Bad x left r r' held w w' (faults.Convert convert.Memory) = IsUntouched r r' w w'
+StopsConversion Bad x left r r' held w w' other = ⊥
 
 -- A text or the plan of these options is refused, and nothing was read or written; or the conversion that they ask for was stopped.
 abbrev pub StopsConverting : {R W : Type 0} → List Row → (R → Option (List ℕ)) → (r r' : Device R) → (W → Option (List ℕ)) → (w w' : Device W) → ToolFault → Type 0
 StopsConverting options left r r' held w w' fault =
-    (IsSetupRefused options fault × IsUntouched r r' w w') ⊎ ((x : Setup) × IsSetupOf options x × StopsConversion x left r r' held w w' fault)
+    (IsSetupRefused options fault × IsUntouched r r' w w') ⊎ ((x : Start) × IsStartOf options x × StopsConversion (IsBadAt x) x left r r' held w w' fault)

@@ -3,6 +3,7 @@ pub mod Metres
 pub mod FrameLines
 pub mod ShowLines
 pub mod Listing
+pub mod Lengths
 pub mod SetupTold
 pub mod CommandLine
 pub mod Devices

@@ -1,5 +1,5 @@
 -- What the options of `convert` tell a conversion.
-use Rattle.std.specs.Prelude.{◌≡◌, ◌<◌, ◌^◌, ℕ, List, [], ◌∷◌, map, Option, Some, None, Ok, Err, codes, unwrap_or, not, ◌⊎◌}
+use Rattle.std.specs.Prelude.{◌≡◌, ◌<◌, ◌^◌, ℕ, List, [], ◌∷◌, map, Option, Some, None, Result, Ok, Err, codes, unwrap_or, not, ◌⊎◌}
 use Rattle.std.specs.Str.{bytes_eq}
 use Rattle.std.specs.Str.Parse.{IsNumeral, digits_value, without_leading_plus}
 use Rattle.clap.specs.Walk.{Row, first_of, one_of, rows_of}
@@ -9,7 +9,10 @@ use Rattle.obs_epoch.specs.Kinds.{is_by_bit}
 use Rattle.obs_epoch.specs.Plans.{plan_of}
 use Rattle.obs_epoch.specs.declared.fault.PlanFault.TheVariants as plans
 use Rattle.rinex_file.specs.Texts.{HeaderLists, trimmed_texts, first_fault, fields}
+use Rattle.obs_epoch.specs.declared.cell.StationValues.{StationValues}
+use Rattle.rtcm_convert.specs.SetupValues.{Start}
 use Rattle.rtcm_convert.specs.declared.setup.Setup.{Setup}
+use Rattle.rtcm2rinex.specs.Lengths.{values_in}
 use Rattle.rtcm2rinex.specs.declared.fault.ToolFault.{ToolFault}
 use Rattle.rtcm2rinex.specs.declared.fault.ToolFault.TheVariants as faults
 
@@ -51,8 +54,19 @@ pub record IsSetupOf (options : List Row) (x : Setup) : Type 0 where
   pub gather : is_by_bit x.gather ≡ not (bytes_eq (text_told options (codes "gather")) (codes "time"))
   pub limit : IsNumberOr 64 (2 ^ 48) (one_of (codes "limit") options) x.limit
 
--- Nothing can be converted so: a text of the header has this fault, or all are good and the plan has, or memory ran out for it.
+-- the station values that the options give, or which of the two isn't one
+abbrev pub values_told : List Row → Result StationValues ToolFault
+values_told options = values_in (text_told options (codes "position")) (text_told options (codes "antenna-height"))
+
+-- what the options start a conversion with
+abbrev pub IsStartOf : List Row → Start → Type 0
+IsStartOf options x = IsSetupOf options x.setup × (values_told options ≡ Ok x.initial)
+
+-- Nothing can be converted with these options: the position or the height is none; or a text of the header has this fault; or all of these are
+-- good and the plan has, or memory ran out for it.
 abbrev pub IsSetupRefused : List Row → ToolFault → Type 0
+IsSetupRefused options faults.BadPosition = values_told options ≡ Err faults.BadPosition
+IsSetupRefused options faults.BadHeight = values_told options ≡ Err faults.BadHeight
 IsSetupRefused options (faults.Header e) = first_fault (texts_told options) None fields ≡ Some e
 IsSetupRefused options (faults.Plan e) = (first_fault (texts_told options) None fields ≡ None)
     × ((e ≡ plans.Memory) ⊎ (plan_of (text_told options (codes "gps")) (text_told options (codes "galileo")) ≡ Err e))

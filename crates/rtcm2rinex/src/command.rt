@@ -5,8 +5,8 @@ ghost use Rattle.clap.specs.Walk.{texts};
 ghost use Rattle.rtcm_convert.specs.Faults.{IsUntouched};
 ghost use Rattle.clap.specs.Values.{kind_of};
 ghost use Rattle.clap.specs.declared.error.kind.ErrorKind.TheVariants.{DisplayVersion, OutOfMemory};
-ghost use Rattle.rtcm2rinex.specs.CommandLine.{AreRefused, IsCommand};
-ghost use Rattle.rtcm2rinex.specs.Commands.{EndsCommand, EndsFound, HasCommand, HasFailedToServe, HasServed, StopsAnswering, status_of};
+ghost use Rattle.rtcm2rinex.specs.CommandLine.{IsCommand};
+ghost use Rattle.rtcm2rinex.specs.Commands.{AreRefused, EndsCommand, EndsFound, HasCommand, HasFailedToServe, HasServed, StopsAnswering, fault_status, status_of};
 ghost use Rattle.rtcm2rinex.specs.Printing.{PrintsText};
 ghost use Rattle.rtcm2rinex.specs.declared.cli.TheConstants.{VERSION};
 ghost use Rattle.rtcm2rinex.specs.Converting.{IsConverted, StopsConverting};
@@ -15,11 +15,11 @@ ghost use Rattle.rtcm2rinex.specs.SetupTold.{options_of};
 
 use crate::check::run_check;
 use crate::cli::{VERSION, parse};
-use crate::convert::{print_report, run_convert};
+use crate::convert::{print_report, run_convert_at};
 use crate::fault::ToolFault;
 use crate::line::print_text;
 use crate::listing::{run_frames, run_show};
-use crate::options::{setup_of, station_of};
+use crate::options::{setup_of, station_of, values_of};
 use crate::plan::run_options;
 use crate::signals::run_signals;
 use clap::ArgMatches;
@@ -48,7 +48,8 @@ pub fn command<R: Read, W: Write, E: Write>(
     // They ask for a command that this fault stopped.
     ensures stopped { result ≡ 1 → HasFailedToServe R.remaining reader.old reader.new W.contents writer.old writer.new (texts words.now) }
 
-    // They have a fault, or ask for help. Nothing was read, and nothing written to the output.
+    // They have a fault, or ask for help, or to convert with a position or height that is none.
+    // Nothing was read, and nothing written to the output.
     ensures refused { result ≡ 2 → AreRefused (texts words.now) × IsUntouched reader.old reader.new writer.old writer.new }
 {
     match parse(alloc, words) {
@@ -113,11 +114,15 @@ fn convert<R: Read, W: Write, E: Write>(
         (λ _. IsConverted (options_of options.now) (R.remaining reader.old.inner) (W.contents writer.old.inner) (W.contents writer.new.inner))
         (StopsConverting (options_of options.now) R.remaining reader.old reader.new W.contents writer.old writer.new) }
 {
+    let initial = match values_of(options) {
+        Ok(initial) => initial,
+        Err(refusal) => return Err(refusal),
+    };
     let setup = match setup_of(alloc, options) {
         Ok(setup) => setup,
         Err(fault) => return Err(fault),
     };
-    match run_convert(alloc, setup, reader, writer) {
+    match run_convert_at(alloc, setup, initial, reader, writer) {
         Ok(report) => {
             print_report(&report, faults);
             Ok(())
@@ -156,16 +161,28 @@ pub fn refuse_words<E: Write>(error: &io::Error, faults: &mut E) -> u8
     2
 }
 
-/// The exit status of a command that ended so, after a fault was printed on one line. A failure of
-/// this writer is ignored.
+/// The exit status of a command that ended so, after a fault was printed on one line: 2 if an option
+/// has another form. A failure of this writer is ignored.
 fn exit_status<E: Write>(ended: Result<(), ToolFault>, faults: &mut E) -> u8
-    ensures { result ≡ status_of ended }
+    ensures value { result ≡ status_of ended }
+    ensures range { result ≤ 2 }
 {
     match ended {
         Ok(()) => 0,
         Err(fault) => {
             let _ = writeln!(faults, "rtcm2rinex: {fault}");
-            1
+            fault_status(fault)
         }
+    }
+}
+
+/// The exit status of a fault.
+fn fault_status(fault: ToolFault) -> u8
+    ensures value { result ≡ fault_status fault }
+    ensures range { (1 ≤ result) × (result ≤ 2) }
+{
+    match fault {
+        ToolFault::BadPosition | ToolFault::BadHeight => 2,
+        _ => 1,
     }
 }

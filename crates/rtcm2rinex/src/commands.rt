@@ -77,7 +77,7 @@ const STATION: OptionRow<'static> = OptionRow {
     reading: Reading::Station,
 };
 
-const CONVERT: [OptionRow<'static>; 17] = [
+const CONVERT: [OptionRow<'static>; 19] = [
     OptionRow {
         name: "week",
         value: "WEEK",
@@ -103,6 +103,18 @@ const CONVERT: [OptionRow<'static>; 17] = [
         reading: Reading::Or("all"),
     },
     STATION,
+    OptionRow {
+        name: "position",
+        value: "X,Y,Z",
+        help: "Position in metres until a message 1005 or 1006; write --position=X,Y,Z if X is negative",
+        reading: Reading::Or("0,0,0"),
+    },
+    OptionRow {
+        name: "antenna-height",
+        value: "HEIGHT",
+        help: "Antenna height in metres until a message 1006, 0 to 6.5535",
+        reading: Reading::Or("0"),
+    },
     OptionRow {
         name: "gather",
         value: "RULE",

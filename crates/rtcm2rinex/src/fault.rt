@@ -23,6 +23,10 @@ pub enum ToolFault {
     Write,
     /// The framer refused.
     Scan(ScanFault),
+    /// The text of `--position` is no position.
+    BadPosition,
+    /// The text of `--antenna-height` is no height.
+    BadHeight,
     /// A text of the header was refused.
     Header(HeadFault),
     /// The plan of signals was refused.
@@ -98,6 +102,13 @@ impl fmt::Display for ToolFault {
             ToolFault::Read => f.write_str("Read"),
             ToolFault::Write => f.write_str("Write"),
             ToolFault::Scan(fault) => write!(f, "{fault:?}"),
+            ToolFault::BadPosition => f.write_str(
+                "BadPosition --position X,Y,Z: metres, up to 8 digits and 4 decimals each, \
+                 -13743895.3472 to 13743895.3471",
+            ),
+            ToolFault::BadHeight => f.write_str(
+                "BadHeight --antenna-height HEIGHT: metres, up to 4 decimals, 0 to 6.5535",
+            ),
             ToolFault::Header(fault) => show_head_fault(fault, f),
             ToolFault::Plan(fault) => show_plan_fault(fault, f),
             ToolFault::Convert(fault) => write!(f, "{fault:?}"),

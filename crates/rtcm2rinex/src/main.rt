@@ -13,6 +13,7 @@ mod help;
 pub mod laws;
 mod line;
 mod listing;
+mod metres;
 mod options;
 mod plan;
 mod show;

@@ -4,11 +4,12 @@ ghost use Rattle.clap.specs.Walk.{one_of};
 ghost use Rattle.std.specs.Str.{bytes_eq};
 ghost use Rattle.obs_epoch.specs.Kinds.{is_by_bit};
 ghost use Rattle.rinex_file.specs.TextsOf.{lists_of};
-ghost use Rattle.rtcm2rinex.specs.SetupTold.{IsNumberOf, IsSetupOf, IsSetupRefused, options_of, text_told, texts_told};
+ghost use Rattle.rtcm2rinex.specs.SetupTold.{IsNumberOf, IsSetupOf, IsSetupRefused, options_of, text_told, texts_told, values_told};
 
 use crate::fault::ToolFault;
+use crate::metres::values_in;
 use clap::ArgMatches;
-use obs_epoch::{Gather, Plan};
+use obs_epoch::{Gather, Plan, StationValues};
 use rinex_file::{HeaderTexts, Texts};
 use rtcm_convert::Setup;
 use rtcm_scan::MOST_BYTES;
@@ -74,4 +75,11 @@ pub fn station_of(options: &ArgMatches) -> Option<u16>
     ensures { IsNumberOf 16 (one_of (codes "station") (options_of options.now)) result }
 {
     options.get_one::<u16>("station")
+}
+
+/// The station values that are given.
+pub fn values_of(options: &ArgMatches) -> Result<StationValues, ToolFault>
+    ensures { result ≡ values_told (options_of options.now) }
+{
+    values_in(text(options, "position"), text(options, "antenna-height"))
 }

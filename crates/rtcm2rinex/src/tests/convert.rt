@@ -1,6 +1,6 @@
 //! Streams that are converted in pieces of any size: their files and reports.
 use super::messages::HEIGHT;
-use super::scenario::Comes::{Good, Unread};
+use super::scenario::Comes::{Good, Refused, Unread};
 use super::scenario::{Case, FAULTLESS, Setting, assert_come};
 use super::texts::Line::{Above, NextTime, NextValues, Position, Time, TwoLines, Values};
 use super::texts::Piece::{Fine, Framed};
@@ -61,7 +61,7 @@ const DATED: [&str; 6] = [
 ];
 
 /// Options that are refused: a code of no signal, no signal at all, and 61 letters for 60 columns.
-static REFUSED: [Case; 3] = [
+static UNFIT: [Case; 3] = [
     (
         &["--gps", "1c"],
         IN_ONE,
@@ -82,11 +82,65 @@ static REFUSED: [Case; 3] = [
     ),
 ];
 
+const FILE_AT: Text = File(&[(7, &[Position]), (8, &[Above])], &[Time, Values]);
+
+/// The station values of `HEIGHT`, given before any message.
+const GIVEN: [&str; 3] = [
+    "--position=1114104.5999,-4850729.7108,3975521.4643",
+    "--antenna-height",
+    "1.5",
+];
+
+/// A position in the header, and the same values in a message, which are no event.
+static PLACED: [Case; 2] = [
+    (&GIVEN, Stream(&[Fine(&[])]), Good(FILE_AT, REPORT)),
+    (
+        &GIVEN,
+        Stream(&[Fine(&[]), Framed(&HEIGHT), Fine(&[(5, 0x1F), (6, 0x40)])]),
+        Good(
+            File(
+                &[(7, &[Position]), (8, &[Above])],
+                &[Time, Values, NextTime, NextValues],
+            ),
+            "bytes 111 skipped_bytes 0 frames 3 faulty 0 station 1 other 0 ignored 0 late 0 past 0 \
+             taken 2 skipped 0 repeated 0 crowded 0 epochs 2\n",
+        ),
+    ),
+];
+
+#[test]
+fn given_station_values_are_in_the_header(rt: HostRuntime) {
+    let setting = Setting {
+        words: &OPTIONS,
+        sizes: &[&[7], &[]],
+        ..FAULTLESS
+    };
+    assert_come(&rt, rt.alloc(), &setting, &PLACED);
+}
+
+/// A missing coordinate, five decimals, a letter, 38 bits exceeded, and a height of 17 bits.
+static NOT_LENGTHS: [Case; 5] = [
+    (&["--position=1,2"], IN_ONE, Refused),
+    (&["--position=1.00000,2,3"], IN_ONE, Refused),
+    (&["--position=1,x,3"], IN_ONE, Refused),
+    (&["--position=13743895.3472,0,0"], IN_ONE, Refused),
+    (&["--antenna-height=6.5536"], IN_ONE, Refused),
+];
+
+#[test]
+fn texts_that_are_no_lengths_read_nothing(rt: HostRuntime) {
+    let setting = Setting {
+        words: &OPTIONS,
+        ..FAULTLESS
+    };
+    assert_come(&rt, rt.alloc(), &setting, &NOT_LENGTHS);
+}
+
 #[test]
 fn refused_options_read_nothing(rt: HostRuntime) {
     let setting = Setting {
         words: &DATED,
         ..FAULTLESS
     };
-    assert_come(&rt, rt.alloc(), &setting, &REFUSED);
+    assert_come(&rt, rt.alloc(), &setting, &UNFIT);
 }

@@ -1,5 +1,5 @@
 //! The signals of streams.
-use super::messages::COARSE;
+use super::messages::{COARSE, HEIGHT};
 use super::scenario::Comes::Good;
 use super::scenario::{Case, FAULTLESS, Setting, assert_come};
 use super::texts::Piece::{Fine, Framed};
@@ -29,4 +29,35 @@ fn signals_are_listed_with_their_cells(rt: HostRuntime) {
         ..FAULTLESS
     };
     assert_come(&rt, rt.alloc(), &setting, &TABLES);
+}
+
+pub const PLAN: [&str; 2] = ["rtcm2rinex", "options"];
+
+static PLANS: [Case; 2] = [
+    (
+        &[],
+        OF_THREE,
+        Good(Lines("--gps 1C,2W --galileo none\n"), ""),
+    ),
+    (
+        &[],
+        Stream(&[Fine(&[]), Framed(&HEIGHT)]),
+        Good(
+            Lines(
+                "--gps 1C --galileo none --position=1114104.5999,-4850729.7108,3975521.4643 \
+                 --antenna-height 1.5000\n",
+            ),
+            "",
+        ),
+    ),
+];
+
+#[test]
+fn options_fit_a_stream(rt: HostRuntime) {
+    let setting = Setting {
+        words: &PLAN,
+        sizes: &[&[7], &[]],
+        ..FAULTLESS
+    };
+    assert_come(&rt, rt.alloc(), &setting, &PLANS);
 }

@@ -1,7 +1,7 @@
 use Rattle.std.proofs.Common.{inr, refl}
 use Rattle.clap.specs.Walk.{texts}
 use Rattle.rtcm2rinex.proofs.CommandLineLemmas.{is_version}
-use Rattle.rtcm2rinex.proofs.CommandLemmas.{answered_in_part, failed_to_serve, has_command, not_two, refused_words, served}
+use Rattle.rtcm2rinex.proofs.CommandLemmas.{answered_in_part, failed_to_serve, has_command, refused_at_two, refused_words, served}
 use Rattle.rtcm2rinex.proofs.command.command.Goals as goal
 
 pub run_found-ended-requires : goal.run_found-ended-requires
@@ -10,15 +10,17 @@ run_found-ended-requires g c = has_command (texts c.args.words.now) c.in-Ok.matc
 pub returns-in-Ok-clause-good : goal.returns-in-Ok-clause-good
 returns-in-Ok-clause-good g c =
     served g.R.Read.remaining g.W.Write.contents c.args.reader.now c.run_found-ended.new.reader c.args.writer.now c.run_found-ended.new.writer (texts c.args.words.now)
-    c.in-Ok.matches c.run_found-ended.result c.exit_status.result c.exit_status.ensures c.in-Ok.ensures.asked c.run_found-ended.ensures
+    c.in-Ok.matches c.run_found-ended.result c.exit_status.result c.exit_status.ensures.value c.in-Ok.ensures.asked c.run_found-ended.ensures
 
 pub returns-in-Ok-clause-stopped : goal.returns-in-Ok-clause-stopped
 returns-in-Ok-clause-stopped g c =
     failed_to_serve g.R.Read.remaining g.W.Write.contents c.args.reader.now c.run_found-ended.new.reader c.args.writer.now c.run_found-ended.new.writer (texts c.args.words.now)
-    c.in-Ok.matches c.run_found-ended.result c.exit_status.result c.exit_status.ensures c.in-Ok.ensures.asked c.run_found-ended.ensures
+    c.in-Ok.matches c.run_found-ended.result c.exit_status.result c.exit_status.ensures.value c.in-Ok.ensures.asked c.run_found-ended.ensures
 
 pub returns-in-Ok-clause-refused : goal.returns-in-Ok-clause-refused
-returns-in-Ok-clause-refused g c = λ two. absurd (not_two c.run_found-ended.result c.exit_status.result c.exit_status.ensures two)
+returns-in-Ok-clause-refused g c =
+    refused_at_two g.R.Read.remaining g.W.Write.contents c.args.reader.now c.run_found-ended.new.reader c.args.writer.now c.run_found-ended.new.writer (texts c.args.words.now)
+    c.in-Ok.matches c.run_found-ended.result c.exit_status.result c.exit_status.ensures.value c.in-Ok.ensures.asked c.run_found-ended.ensures
 
 pub returns-in-Err-clause-good : goal.returns-in-Err-clause-good
 returns-in-Err-clause-good g c = λ e. (let good = c.answer.ensures.good e in

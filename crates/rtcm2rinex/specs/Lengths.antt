@@ -1,0 +1,56 @@
+-- Lengths in metres, read from text in units of 0.0001 m.
+use Rattle.std.specs.Prelude.{ℕ, ℤ, pos, neg_ℤ, nat_le, nat_lt, ◌+◌, ◌-◌, ◌*◌, ◌^◌, ◌==◌, ◌&&◌, Bool, List, take, drop, length, Option, Some, None, Result, Ok, Err, option_map, option_and_then, position, if◌then◌else◌}
+use Rattle.std.specs.List.{list_all}
+use Rattle.clap.specs.Lexer.{is_digit, strip_byte}
+use Rattle.rinex_file.specs.Read.Fields.{digits_in}
+use Rattle.obs_epoch.specs.declared.cell.StationValues.{StationValues}
+use Rattle.rtcm2rinex.specs.declared.fault.ToolFault.{ToolFault}
+use Rattle.rtcm2rinex.specs.declared.fault.ToolFault.TheVariants.{BadPosition, BadHeight}
+
+-- the number of one to `most` digits
+abbrev pub number_of : ℕ → List ℕ → Option ℕ
+number_of most text = if nat_le 1 (length text) && nat_le (length text) most && list_all is_digit text then Some (digits_in text) else None
+
+-- the texts before and after the first of these bytes, if there is one
+abbrev pub cut : ℕ → List ℕ → Option (List ℕ × List ℕ)
+cut separator text = option_map (λ i. (take i text, drop (i + 1) text)) (position (λ b. b == separator) text)
+
+-- one to four decimals
+abbrev pub decimals_of : List ℕ → Option ℕ
+decimals_of text = option_map (λ n. n * 10 ^ (4 - length text)) (number_of 4 text)
+
+-- one to eight digits, and decimals after a point (0x2E), if there is one
+abbrev pub length_by : List ℕ → Option (List ℕ × List ℕ) → Option ℕ
+length_by text None = option_map (λ n. n * 10000) (number_of 8 text)
+length_by text (Some p) = option_and_then (λ n. option_map (λ d. n * 10000 + d) (decimals_of p.1)) (number_of 8 p.0)
+
+abbrev pub length_of : List ℕ → Option ℕ
+length_of text = length_by text (cut 0x2E text)
+
+-- a length below a bound
+abbrev pub length_below : ℕ → List ℕ → Option ℕ
+length_below bound text = option_and_then (λ n. if nat_lt n bound then Some n else None) (length_of text)
+
+-- a length of 38 bits, after a minus sign (0x2D), if there is one
+abbrev pub coordinate_by : List ℕ → Option (List ℕ) → Option ℤ
+coordinate_by text None = option_map pos (length_below (2 ^ 37) text)
+coordinate_by text (Some size) = option_map (λ n. neg_ℤ (pos n)) (length_below (2 ^ 37 + 1) size)
+
+abbrev pub coordinate_of : List ℕ → Option ℤ
+coordinate_of text = coordinate_by text (strip_byte 0x2D text)
+
+-- X, Y and Z, separated by commas (0x2C)
+abbrev pub position_of : List ℕ → Option (ℤ × ℤ × ℤ)
+position_of text =
+    option_and_then (λ p. option_and_then (λ q.
+    option_and_then (λ x. option_and_then (λ y. option_map (λ z. (x, y, z)) (coordinate_of q.1)) (coordinate_of q.0)) (coordinate_of p.0))
+    (cut 0x2C p.1)) (cut 0x2C text)
+
+-- the station values of a position and an antenna height, or which of the two texts isn't one
+abbrev pub values_by : Option (ℤ × ℤ × ℤ) → Option ℕ → Result StationValues ToolFault
+values_by None height = Err BadPosition
+values_by (Some p) None = Err BadHeight
+values_by (Some (x, y, z)) (Some h) = Ok (record { x = x; y = y; z = z; height = h })
+
+abbrev pub values_in : (position height : List ℕ) → Result StationValues ToolFault
+values_in position height = values_by (position_of position) (length_below (2 ^ 16) height)
