@@ -1,7 +1,8 @@
-//! Tests of observation files and of the converter, for what no contract states.
+//! Tests of observation files and of the converter, for what no contract states. Each module is
+//! named for the crate that it tests.
 #![tactic(auto)]
 
 #[cfg(test)]
-mod converter;
+mod rinex_file;
 #[cfg(test)]
-mod file;
+mod rtcm_convert;

@@ -153,9 +153,27 @@ const LARGE: Told = Told {
     difference: None,
 };
 
+/// The lines of the header with station values, and the small file with them.
+static STATION: [&str; 2] = [
+    "  1114104.5999 -4850729.7108  3975521.4643                  APPROX POSITION XYZ ",
+    "        1.5000        0.0000        0.0000                  ANTENNA: DELTA H/E/N",
+];
+
+const WITH_STATION: Told = Told {
+    values: VALUES,
+    ..SMALL
+};
+
 #[test]
 fn a_file_is_read_and_written_back(rt: HostRuntime) {
-    assert_eq!(rt; told_of(rt.alloc(), &[&HEADER, &EPOCH]), Ok(SMALL));
+    let with_station: [&[&str]; 4] = [&HEADER[..7], &STATION, &HEADER[9..], &EPOCH];
+    assert_eq!(rt;
+        [
+            told_of(rt.alloc(), &[&HEADER, &EPOCH]),
+            told_of(rt.alloc(), &with_station),
+        ],
+        [Ok(SMALL), Ok(WITH_STATION)]
+    );
 }
 
 #[test]
