@@ -1,13 +1,14 @@
-//! Tests of the crates from the bytes of a stream to its epochs, for what no contract states.
+//! Tests of the crates from the bytes of a stream to its epochs, for what no contract states. Each
+//! module is named for the crate that it tests.
 #![tactic(auto)]
 
 #[cfg(test)]
-mod bits;
+mod gnss_obs;
 #[cfg(test)]
-mod epochs;
+mod obs_epoch;
 #[cfg(test)]
-mod messages;
+mod rtcm_bits;
 #[cfg(test)]
-mod observables;
+mod rtcm_msg;
 #[cfg(test)]
-mod scan;
+mod rtcm_scan;
