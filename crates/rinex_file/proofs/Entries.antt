@@ -1,11 +1,9 @@
 -- The columns of a satellite's signals, one after the other.
-use Rattle.std.proofs.Common.{lit≤, ◌≡◌, ◌∙◌, sym, ap, refl, ℕ, ◌≤◌, List, [], ◌∷◌, ◌++◌, length, replicate, append_assoc}
+use Rattle.std.proofs.Common.{lit≤, ◌≡◌, ◌∙◌, sym, ap, refl, ℕ, ◌≤◌, List, [], ◌∷◌, ◌++◌, length, append_assoc}
 use Rattle.std.specs.Prelude.{flat_map}
 use Rattle.gnss_obs.specs.Signals.{table}
 use Rattle.gnss_obs.specs.declared.system.System.{System}
 use Rattle.gnss_obs.specs.declared.system.System.TheVariants.{Gps, Galileo}
-use Rattle.rinex_file.specs.Value.{no_signal_values}
-use Rattle.rinex_file.specs.Lines.{signal_text, field}
 
 pub few_signals : (s : System) → length (table s) ≤ 19
 few_signals Gps = lit≤ tt

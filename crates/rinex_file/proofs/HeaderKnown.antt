@@ -11,7 +11,7 @@ use Rattle.rinex_file.specs.declared.header.rows.HeaderRow.{HeaderRow}
 use Rattle.rinex_file.specs.declared.header.rows.HeaderRow.TheVariants.{Version, Texts, Position, Delta, Types, StrengthUnit, First, Shift, End}
 use Rattle.rinex_file.specs.Header.{has_line, row_at, row_count, row_place, first_types, type_rows}
 use Rattle.rinex_file.specs.Read.Progress.{Known, Shown, IsShown, KnowsAt, IsHeaderLeft, StaysOpen, plans, signal_count, is_some_planned, shown_line, shown_from, texts_before, signals_begun}
-use Rattle.rinex_file.specs.Read.HeaderSteps.{IsSole, AreValid, HasShownAt, known_line, SameFrom, StepsTo, NoneGoesOn, LearnsLine, RefusesHeaderLine}
+use Rattle.rinex_file.specs.Read.HeaderSteps.{AreValid, HasShownAt, known_line, SameFrom, StepsTo, NoneGoesOn, LearnsLine, RefusesHeaderLine}
 use Rattle.obs_epoch.specs.Dates.{civil_of}
 use Rattle.rinex_file.proofs.Entries.{few_signals}
 use Rattle.rinex_file.proofs.FewRows.{few_planned}

@@ -3,7 +3,6 @@ use Rattle.std.specs.Prelude.{MatchBool, Err}
 use Rattle.std.proofs.lemmas.Result.{err_from_is_err_and}
 use Rattle.gnss_obs.specs.declared.system.System.{System}
 use Rattle.rinex_file.specs.declared.header.rows.HeaderRow.TheVariants.{Types, End}
-use Rattle.rinex_file.specs.Header.{row_at}
 use Rattle.rinex_file.specs.Read.HeaderSteps.{StepsTo, NoneGoesOn}
 use Rattle.rinex_file.proofs.HeaderEnd.{ok_bad}
 use Rattle.rinex_file.proofs.HeaderTypes.{same_refusal}
