@@ -7,7 +7,6 @@ pub(crate) mod epoch;
 pub(crate) mod fault;
 pub(crate) mod file;
 pub(crate) mod head_lines;
-pub(crate) mod head_parts;
 pub(crate) mod head_so_far;
 pub(crate) mod keeper;
 pub(crate) mod lines;

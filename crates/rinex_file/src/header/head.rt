@@ -37,7 +37,7 @@ fn has_line(plan: &Plan, row: HeaderRow) -> bool
     ensures { result ≡ has_line plan.now row }
 {
     match row {
-        HeaderRow::Types(system, row) => row < type_rows(plan, system),
+        HeaderRow::Types(system, row) => row < type_rows(plan.signals(system)),
         HeaderRow::Shift(system) => plan.signals(system) > 0,
         _ => true,
     }

@@ -18,11 +18,12 @@ use obs_epoch::Plan;
 /// The number of types in a line.
 pub(crate) const TYPES_IN_LINE: usize = 13;
 
-/// The number of lines that the types of a system need.
-pub(crate) fn type_rows(plan: &Plan, system: System) -> usize
-    ensures { result ≡ type_rows (length (planned_of system plan.now)) }
+/// The number of lines that the types of a number of signals need.
+pub(crate) fn type_rows(signals: usize) -> usize
+    requires { signals ≤ 1000 }
+    ensures { result ≡ type_rows signals }
 {
-    (4 * plan.signals(system) + TYPES_IN_LINE - 1) / TYPES_IN_LINE
+    (4 * signals + TYPES_IN_LINE - 1) / TYPES_IN_LINE
 }
 
 // Appends the front of a line of types.

@@ -14,10 +14,11 @@ ghost use Rattle.rinex_file.specs.Limits.{most_line};
 use crate::read::due::{Added, Due, Refusal};
 use crate::read::epoch::read_epoch_line;
 use crate::read::head_so_far::HeadSoFar;
+use crate::read::numbers::is_same;
 use crate::read::row::read_seen;
 use crate::read::station::{read_delta, read_position};
 use crate::values::kept::KeptSatellite;
-use crate::write::event::is_event_line;
+use crate::write::event::event_line;
 use crate::write::numbers::Line;
 use arrayvec::ArrayVec;
 use gnss_obs::System;
@@ -213,7 +214,7 @@ impl Course {
     fn begins_event(&self, line: &[u8]) -> bool
         ensures { IsTrue result ↔ ((0 < self.now.epochs) × (line.now ≡ event_line)) }
     {
-        self.epochs > 0 && is_event_line(line)
+        self.epochs > 0 && is_same(line, event_line())
     }
 
     // Takes the line of an epoch or of an event.

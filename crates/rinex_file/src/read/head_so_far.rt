@@ -6,12 +6,11 @@ ghost use Rattle.obs_epoch.specs.Values.{planned_of};
 ghost use Rattle.rinex_file.specs.Header.{type_rows, row_at, row_count};
 ghost use Rattle.rinex_file.specs.Read.Progress.{Shown, IsShown, IsHeaderLeft, AreHeaderLines, HasHeaderAt, StaysOpen, plans, signal_count};
 ghost use Rattle.rinex_file.specs.Read.HeaderSteps.{AreValid, known_line, LearnsLine, RefusesHeaderLine, IsWholeOf, IsWhole, SameFrom, StepsTo, NoneGoesOn, CountsDue, TakesRow, RefusesRow, with_signals, with_count};
-ghost use Rattle.rinex_file.specs.Limits.{most_signals};
 
 use crate::header::labels;
 use crate::header::rows::{HeaderRow, ROW_COUNT, row_at};
 use crate::header::texts::HeaderTexts;
-use crate::header::types::TYPES_IN_LINE;
+use crate::header::types::type_rows;
 use crate::read::due::Refusal;
 use crate::read::station::is_header_line;
 use crate::read::types::{read_count, read_types, signals_begun};
@@ -55,14 +54,6 @@ impl Model for HeadSoFar {
 
     ghost invariant = { λ h. IsOf Gps h.gps.items × IsOf Galileo h.galileo.items × AreValues h.values × IsTime h.first
         × (h.gps_count ≤ length (table Gps)) × (h.galileo_count ≤ length (table Galileo)) };
-}
-
-// The number of lines that the types of a number of signals need.
-fn rows_of(signals: usize) -> usize
-    requires { signals ≤ most_signals }
-    ensures { result ≡ type_rows signals }
-{
-    (4 * signals + TYPES_IN_LINE - 1) / TYPES_IN_LINE
 }
 
 // Takes the signals whose types begin in a line, after those of the lines before.
@@ -121,6 +112,30 @@ impl HeadSoFar {
         head
     }
 
+    /// How many signals of a system were read.
+    pub(crate) fn planned(&self, system: System) -> usize
+        ensures { result ≡ length (planned_of system self.now.shown.plan) }
+    {
+        match system {
+            System::Gps => self.gps.len(),
+            System::Galileo => self.galileo.len(),
+        }
+    }
+
+    /// The station values, as they were read.
+    pub(crate) fn values(&self) -> StationValues
+        ensures { result ≡ self.now.shown.values }
+    {
+        self.values
+    }
+
+    /// The time of the first epoch, as it was read.
+    pub(crate) fn first(&self) -> GpsTime
+        ensures { result ≡ self.now.shown.first }
+    {
+        self.first
+    }
+
     // Shows that each part that was read is one of a header.
     fn are_valid(&self)
         ensures { AreValid self.now }
@@ -157,7 +172,7 @@ impl HeadSoFar {
         if !self.plans(system) {
             return false;
         }
-        row == 0 || row < rows_of(self.signal_count(system))
+        row == 0 || row < type_rows(self.signal_count(system))
     }
 
     // Whether a row has a line, as far as the lines before say.
@@ -233,7 +248,7 @@ impl HeadSoFar {
             return read_count(line, system);
         }
         let count = self.signal_count(system);
-        if row >= rows_of(count) {
+        if row >= type_rows(count) {
             return None;
         }
         Some(count)

@@ -1,6 +1,6 @@
 //! Numbers in the columns of a line, read without judging them: whoever reads writes them again,
 //! and compares.
-ghost use Rattle.std.specs.Prelude.{◌≡◌, ◌↔◌, IsTrue, ◌^◌, ◌≤◌, ◌<◌, length, unsigned_abs, pos, neg_ℤ, if◌then◌else◌};
+ghost use Rattle.std.specs.Prelude.{◌≡◌, ◌↔◌, IsTrue, ◌^◌, ◌≤◌, ◌<◌, length, pos, neg_ℤ, if◌then◌else◌};
 ghost use Rattle.rinex_file.specs.Read.Fields.{digits_in, number_in, has};
 
 /// Whether two texts are the same bytes.
@@ -24,16 +24,6 @@ pub(crate) fn digits_in(text: &[u8]) -> u64
         }
     }
     number
-}
-
-/// The digits of a text as one number, negative if there is a minus.
-pub(crate) fn number_in(text: &[u8]) -> i64
-    requires { length text.now ≤ 18 }
-    ensures value { result ≡ number_in text.now }
-    ensures bound { unsigned_abs result < 10 ^ 18 }
-{
-    let size = digits_in(text) as i64;
-    if text.contains(&b'-') { -size } else { size }
 }
 
 /// What the columns of a number show.
@@ -81,4 +71,12 @@ pub(crate) fn number_text(text: &[u8]) -> NumberText
         has_minus,
         has_point,
     }
+}
+
+/// The digits of a text as one number, negative if there is a minus.
+pub(crate) fn number_in(text: &[u8]) -> i64
+    requires { length text.now ≤ 18 }
+    ensures { result ≡ number_in text.now }
+{
+    number_text(text).value()
 }

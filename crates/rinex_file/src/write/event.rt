@@ -1,9 +1,7 @@
 //! Event records: RINEX 3.05, table A3, event flag 4. One precedes an epoch whose station
 //! values are no longer those before.
-ghost use Rattle.std.specs.Prelude.{◌≡◌, ◌↔◌, IsTrue};
+ghost use Rattle.std.specs.Prelude.{◌≡◌};
 ghost use Rattle.rinex_file.specs.File.{event_line};
-
-use crate::read::numbers::is_same;
 
 /// The line that an event begins with: flag 4 without a time, and the number of header lines that
 /// follow.
@@ -12,11 +10,4 @@ pub(crate) fn event_line() -> &'static [u8]
     ensures { result.now ≡ event_line }
 {
     b">                              4  2\n"
-}
-
-/// Whether an event begins with this line.
-pub(crate) fn is_event_line(line: &[u8]) -> bool
-    ensures { IsTrue result ↔ (line.now ≡ event_line) }
-{
-    is_same(line, event_line())
 }
