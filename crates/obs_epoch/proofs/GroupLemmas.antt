@@ -87,7 +87,7 @@ pub parted : (n id : ℕ) (cells : List Cell) → id ≡ suc n → Climb cells �
 parted n id [] is up h = record { group = refl; above = tt; rest = λ later l. refl }
 parted n id (c ∷ cells) is up h = parted_by n id c cells (is_of_satellite id c) refl h.0 is up.0 (parted n id cells is up.1 h.1)
 
--- whether it is written is told by its own cells
+-- whether it is written follows from its own cells
 pub any_from : (id : ℕ) (cells : List Cell) → is_written (filter (is_of_satellite id) cells) id ≡ is_written cells id
 any_from id [] = refl
 any_from id (c ∷ cells) = by (c.satellite.id == id) refl (any_from id cells) where

@@ -112,7 +112,7 @@ same_seat planned x c h = by x.satellite.system c.satellite.system refl refl whe
   by Gps Galileo p q = absurd (grind (arith, p, q, h))
   by Galileo Gps p q = absurd (grind (arith, p, q, h))
 
--- whether a key is held is told by the last cell before its spot
+-- whether a key is held follows from the last cell before its spot
 pub held_is_last : (planned : List ℕ) (x : HeardCell) (cells : List Cell) (at : ℕ) (r : Bool) → AreOrderedBy planned cells → at ≡ spot (seat_of planned x) (map (cell_seat planned) cells)
     → (at ≡ 0 → r ≡ false)
     → ((d : Cell) → 0 < at → r ≡ same_key x.satellite x.signal (get_or cells (at - 1) d).satellite (get_or cells (at - 1) d).signal)

@@ -65,7 +65,7 @@ assemble g s ms shut ts (Some t) h at closed = record {
   values = h.values;
 }
 
--- what a call closes that isn't told to come again is of the time that is the greatest then
+-- what a call closes that isn't passed again is of the time that is the greatest then
 after_closed : (k : Answer) (b p : Bool) (before after : Option ℕ) (t : ℕ) → (k ≡ answers.CloseFirst → ⊥) → closed_of k b p before after ≡ Some t → after ≡ Some t
 after_closed answers.CloseFirst b p before after t unlike e = absurd (unlike refl)
 after_closed answers.OtherStation b p before after t unlike e = grind (arith, e)
@@ -274,7 +274,7 @@ pending_taken g s ms m shut h early none t e =
       left_true true b e = refl
       left_true false b e = grind (arith, e)
 
--- a message that tells a point has neither a time nor says whether its epoch ends
+-- a message with a point has neither a time nor a multiple message bit
 abbrev pub IsTold : Heard → Type 0
 IsTold m = (m.point ≡ None) ⊎ ((m.tow ≡ None) × (m.more ≡ None))
 
@@ -428,7 +428,7 @@ ended g s ms false h = by g.clock.pending refl where
   by true f = ended_some g s ms h f
   by false f = ended_none g s ms false h f
 
--- a message with a time tells no point
+-- a message with a time has no point
 pub no_point : (s : GatherSetup) (xs : List Timed) (m : Message) → closes_first s xs (heard m) ≡ true → (heard m).point ≡ None
 no_point s xs (message.Station p) h = absurd (grind (arith, h))
 no_point s xs (message.Msm4 m) h = refl

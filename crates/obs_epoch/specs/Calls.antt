@@ -1,4 +1,4 @@
--- What a call of a gatherer comes to, whatever the gatherer was told, took and handed out before.
+-- The result of a call of a gatherer, for every setup and history.
 use Rattle.std.specs.Prelude.{ℕ, ◌≡◌, Bool, true, false, List, [], ◌∷◌, ◌++◌, length, Option, Some, None, is_some}
 use Rattle.gnss_obs.specs.declared.system.System.{System}
 use Rattle.obs_epoch.specs.declared.taken.Kind.{Kind}
@@ -14,7 +14,7 @@ use Rattle.obs_epoch.specs.Standing.{held_at, locked_in}
 use Rattle.obs_epoch.specs.Kinds.{is_close_first, kind_of}
 use Rattle.obs_epoch.specs.Gathering.{HasGatheredEpochs, IsAwaited, handed_over, closed_in, is_done}
 
--- the kind tells whether the pending epoch is closed first: exactly where the message's time is greater and within the weeks
+-- by the kind the pending epoch is closed first exactly if the message's time is greater and within the weeks
 abbrev pub TellsClosingFirst : Gathered → Heard → Kind → Type 0
 TellsClosingFirst old m kind =
     (s : GatherSetup) (ms : List Heard) (es : List Closed) → HasGatheredEpochs old s ms es None
@@ -55,7 +55,7 @@ pub record TakesMessage (old new : Gathered) (m : Heard) (answer : Taken) : Type
   pub closed : answer.closed ≡ is_some (closed_in new)
   pub going : new.has_ended ≡ false
 
--- the end hands out the pending epoch, and tells whether there was one
+-- the end returns the pending epoch, and whether there was one
 abbrev pub EndsPendingEpoch : Gathered → Gathered → Bool → Type 0
 EndsPendingEpoch old new was =
     (s : GatherSetup) (ms : List Heard) (es : List Closed) → HasGatheredEpochs old s ms es None → old.has_ended ≡ false

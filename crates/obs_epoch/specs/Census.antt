@@ -17,7 +17,7 @@ use Rattle.obs_epoch.specs.Cells.{is_system}
 abbrev pub brings_value : HeardCell → Bool
 brings_value x = is_some x.c || is_some x.l || is_some x.d || is_some x.s
 
--- a message of the station that is wanted; where none is told, of whatever station
+-- a message of the given station, or of any station if none is given
 abbrev pub is_of_station : Option ℕ → Heard → Bool
 is_of_station wanted m = option_map_or (λ n. option_map_or (λ from. from == n) m.station false) wanted true
 

@@ -8,7 +8,7 @@ use Rattle.rtcm_msg.specs.Msm.{week}
 use Rattle.obs_epoch.specs.Weeks.{weeks}
 use Rattle.obs_epoch.specs.Times.{Timed, greatest_time, is_closed, is_late, is_past, time_of, timed}
 
--- what a clock is seen as: what it was told at first, the greatest time, and whether the epoch of that time is pending
+-- the value of a clock: its setup, the greatest time, and whether the epoch of that time is pending
 pub record State : Type 0 where
   pub setup : GatherSetup
   pub latest : Option ℕ

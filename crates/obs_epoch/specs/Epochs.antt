@@ -35,7 +35,7 @@ is_shut s xs t = is_closed s t xs || option_map_or (λ u. nat_lt t u) (greatest_
 abbrev pub closed_epochs : GatherSetup → List Timed → List EpochValue
 closed_epochs s xs = map (epoch_at s xs) (filter (is_shut s xs) (times xs))
 
--- the point that a station message tells; the height stays where it tells none
+-- the point of a station message; the height stays if it has none
 abbrev pub values_by : StationParts → ℕ → StationValues
 values_by p height = record { x = p.x; y = p.y; z = p.z; height = option_map_or (λ h. h) p.height height }
 

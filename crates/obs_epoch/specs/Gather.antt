@@ -135,7 +135,7 @@ abbrev pub loaded_by : Answer → Option ℕ → Gathered → Heard → Loaded
 loaded_by answers.Kept before g m = load_heard (record { state = epoch_begun before g; counts = no_counts }) m
 loaded_by _ before g m = record { state = g; counts = no_counts }
 
--- the clock and the station values are told of the message
+-- the clock and the station values process the message
 abbrev pub ticked : Gathered → Heard → Gathered
 ticked g m = record g { clock = step_by g.clock m; values = values_told g.clock.setup g.values m; handed = is_some (closed_by g.clock m) }
 

@@ -44,7 +44,7 @@ known_epochs has_ended s ms = if has_ended then all_epochs s ms else closed_epoc
 
 -- ---- the gatherer
 
--- the signals that a gatherer was told to want
+-- the planned signals of a gatherer
 abbrev pub plan_in : Gathered → PlanValue
 plan_in v = v.clock.setup.plan
 

@@ -1,4 +1,4 @@
--- What a gatherer is told at first, and what it hears of a message.
+-- The setup of a gatherer, and what it uses of a message.
 use Rattle.std.specs.Prelude.{ℕ, ℤ, ◌≡◌, IfSome, ◌==◌, ◌&&◌, Bool, true, false, not, List, [], ◌∷◌, if◌then◌else◌, Option, Some, None, option_map, option_and_then, filter_map, ◌+◌, is_some}
 use Rattle.std.specs.Option.{option_map_or}
 use Rattle.gnss_obs.specs.declared.system.System.{System}
@@ -82,9 +82,9 @@ heard_cell c = record {
   half_cycle = c.half_cycle;
 }
 
--- what a gatherer needs of a message: the station where it tells one, the time of week where it has observations,
--- whether more of the same time follow where it tells that, its cells of listed satellites and signals in order, how many
--- others it has, and the point that it tells
+-- what a gatherer needs of a message: the station if it has one, the time of week if it has observations,
+-- whether more of the same time follow if it says so, its cells of listed satellites and signals in order, how many
+-- others it has, and its point
 pub record Heard : Type 0 where
   pub station : Option ℕ
   pub tow : Option ℕ

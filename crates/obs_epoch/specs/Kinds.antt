@@ -38,7 +38,7 @@ abbrev pub station_kind : Answer → Kind
 station_kind answers.OtherStation = kinds.OtherStation
 station_kind _ = kinds.Station
 
--- of a message that tells a time of week, that tells a point, or that tells neither
+-- of a message with a time of week, with a point, or with neither
 abbrev pub kind_by : Heard → Answer → CellCounts → Kind
 kind_by m answer n =
     if is_some m.tow then kind_at answer n else (if is_some m.point then station_kind answer else kinds.Ignored)

@@ -123,7 +123,7 @@ is_failed Failed = true
 differ : false ≡ true → ⊥
 differ e = cc
 
--- what was found tells that the reader didn't fail
+-- if something was found, the reader didn't fail
 pub not_failed : (found : Found) (P : Type 0) → is_failed found ≡ false → found ≡ Failed → P
 not_failed found P isnt e = absurd (differ (sym isnt ∙ ap is_failed e))
 

@@ -19,7 +19,7 @@ header_text texts plan values first = joined (header_lines texts plan values (ci
 unfoldable pub event_line : List ℕ
 event_line = codes ">" ++ (replicate 30 32 ++ codes "4  2\n")
 
--- an event that tells station values
+-- an event with station values
 abbrev pub event_lines : StationValues → List (List ℕ)
 event_lines v = event_line ∷ position_line v ∷ delta_line v ∷ []
 

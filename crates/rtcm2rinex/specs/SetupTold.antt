@@ -45,7 +45,7 @@ IsNumberOf bits (Some text) (Some n) = SpellsNumber bits text × (n ≡ digits_v
 abbrev pub IsNumberOr : ℕ → ℕ → Option (List ℕ) → ℕ → Type 0
 IsNumberOr bits otherwise text n = (found : Option ℕ) × IsNumberOf bits text found × (n ≡ unwrap_or found otherwise)
 
--- A conversion is told what the options say, each by its name.
+-- The setup of a conversion has the value of each option, by its name.
 pub record IsSetupOf (options : List Row) (x : Setup) : Type 0 where
   pub texts : x.texts ≡ trimmed_texts (texts_told options)
   pub plan : plan_of (text_told options (codes "gps")) (text_told options (codes "galileo")) ≡ Ok x.plan

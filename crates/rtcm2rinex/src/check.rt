@@ -30,7 +30,7 @@ fn check_line(counts: Counts) -> Line
 }
 
 /// Reads a file to its end and writes how many epochs, satellites and events it has. It is accepted
-/// exactly where it is spelled as `convert` spells files; else a line that isn't is told.
+/// exactly if it is encoded as `convert` encodes files; otherwise the error names a line that isn't.
 pub fn run_check<R: Read, W: Write>(
     alloc: Global,
     reader: &mut Counted<R>,

@@ -15,7 +15,7 @@ use rtcm_convert::Setup;
 use rtcm_scan::MOST_BYTES;
 use std::alloc::Global;
 
-/// What a conversion is told at first. The texts of the header are judged before the plan.
+/// Returns what a conversion begins with. The texts of the header are judged before the plan.
 pub fn setup_of(alloc: Global, options: &ArgMatches) -> Result<Setup, ToolFault>
     ensures { MatchResult result (IsSetupOf (options_of options.now)) (IsSetupRefused (options_of options.now)) }
 {

@@ -1,9 +1,9 @@
-//! What a conversion is told at first.
+//! What a conversion begins with.
 
 use obs_epoch::{Gather, Plan};
 use rinex_file::HeaderTexts;
 
-/// What a conversion is told at first.
+/// What a conversion begins with.
 #[derive(Drop)]
 pub struct Setup {
     /// The signals to be written.

@@ -22,7 +22,7 @@ EntriesAreMeasured = (m : Message) → AllByRecursion IsMeasured (entries m)
 abbrev pub IsCoordinate : ℤ → Type 0
 IsCoordinate z = (neg_ℤ (pos 137_438_953_472) ≤ℤ z) × (z ≤ℤ pos 137_438_953_471)
 
--- the point that a station message tells, and the antenna's height
+-- the point of a station message, and the antenna's height
 pub record IsPoint (p : StationParts) : Type 0 where
   pub x : IsCoordinate p.x
   pub y : IsCoordinate p.y
