@@ -23,13 +23,13 @@ use Rattle.rtcm2rinex.specs.declared.fault.ToolFault.{ToolFault}
 use Rattle.rtcm2rinex.specs.declared.fault.ToolFault.TheVariants as faults
 use Rattle.rtcm2rinex.proofs.CommandLineLemmas.{is_version}
 
-one_two : 1 ≡ 2 → ⊥
+one_two : ◌≡◌ {A = ℕ} 1 2 → ⊥
 one_two e = omega (arith, e)
 
-one_zero : 1 ≡ 0 → ⊥
+one_zero : ◌≡◌ {A = ℕ} 1 0 → ⊥
 one_zero e = omega (arith, e)
 
-two_zero : 2 ≡ 0 → ⊥
+two_zero : ◌≡◌ {A = ℕ} 2 0 → ⊥
 two_zero e = omega (arith, e)
 
 never_zero : (fault : ToolFault) → fault_status fault ≡ 0 → ⊥

@@ -48,6 +48,7 @@ pub fn run_convert_at<R: Read, W: Write>(
         (λ report. IfSome (R.remaining reader.old.inner) (IsMadeWith (start_at setup initial) report (W.contents writer.old.inner) (W.contents writer.new.inner)))
         (StopsConversion (IsBadAt (start_at setup initial)) (start_at setup initial) R.remaining reader.old reader.new W.contents writer.old writer.new) }
     ensures bad_setup { result ≡ Err (ToolFault.Convert Fault.BadSetup) ↔ IsBadAt (start_at setup initial) }
+    ensures widest { reader.new.widest ≤ max reader.old.widest longest_frame }
 {
     match convert_stream_at(alloc, setup, initial, reader, writer) {
         Ok(counts) => Ok(counts),
