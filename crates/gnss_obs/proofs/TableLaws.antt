@@ -5,7 +5,7 @@ use Rattle.std.specs.Option.{unwrap_or, option_copied, is_some, IfSome}
 use Rattle.std.proofs.lemmas.Option.{slice_get_past, slice_get_read}
 use Rattle.gnss_obs.specs.declared.system.System.{System}
 use Rattle.gnss_obs.specs.declared.system.System.TheVariants.{Gps, Galileo}
-use Rattle.gnss_obs.specs.Signals.{SignalAt, IsSignal, behind, id_of, table}
+use Rattle.gnss_obs.specs.Signals.{SignalAt, IsSignal, after, id_of, table}
 use Rattle.gnss_obs.specs.SignalRows.{rows}
 use Rattle.gnss_obs.proofs.Checked.{passes_at, is_less, is_equal, both_first, both_second}
 
@@ -13,7 +13,7 @@ use Rattle.gnss_obs.proofs.Checked.{passes_at, is_less, is_equal, both_first, bo
 abbrev rises_at : System → ℕ → Bool
 rises_at system i = nat_lt (id_of (record { system = system; index = i })) (id_of (record { system = system; index = i + 1 }))
 
-pub ids_rise : (s : SignalAt) → IsSignal (behind s) → id_of s < id_of (behind s)
+pub ids_rise : (s : SignalAt) → IsSignal (after s) → id_of s < id_of (after s)
 ids_rise s listed = is_less _ _ (line s.system s.index listed)
   where
     line : (system : System) (i : ℕ) → i + 1 < length (table system) → rises_at system i ≡ true

@@ -37,8 +37,8 @@ abbrev pub IsSignal : SignalAt → Type 0
 IsSignal s = s.index < length (table s.system)
 
 -- the next index
-abbrev pub behind : SignalAt → SignalAt
-behind s = record { system = s.system; index = s.index + 1 }
+abbrev pub after : SignalAt → SignalAt
+after s = record { system = s.system; index = s.index + 1 }
 
 -- the signal at an index, if there is one
 abbrev pub signal_at : System → ℕ → Option SignalAt

@@ -3,7 +3,7 @@ ghost use Rattle.std.specs.Prelude.{◌≡◌, ◌+◌, ◌*◌, ◌^◌, ◌<�
 ghost use Rattle.gnss_obs.specs.LockTimes.{last4, last7, least4, least7};
 ghost use Rattle.gnss_obs.specs.Rounding.{IsNearest, nearest};
 ghost use Rattle.gnss_obs.specs.Observables.{nearest_pseudorange, nearest_phase, nearest_doppler, nearest_strength};
-ghost use Rattle.gnss_obs.specs.Signals.{SignalAt, IsSignal, greatest_signal_id, behind, id_of, code_of, hertz_of, signal_of_id, signal_of_code};
+ghost use Rattle.gnss_obs.specs.Signals.{SignalAt, IsSignal, greatest_signal_id, after, id_of, code_of, hertz_of, signal_of_id, signal_of_code};
 
 /// Exactly one whole number is nearest to a fraction, and `nearest` computes it.
 pub fn one_nearest()
@@ -15,7 +15,7 @@ pub fn one_nearest()
 /// found by its ID and by its code, so that no two signals of a system share an ID or a code.
 pub fn signal_tables()
     ensures ids { (s : SignalAt) → IsSignal s → (1 ≤ id_of s) × (id_of s ≤ greatest_signal_id) }
-    ensures rising { (s : SignalAt) → IsSignal (behind s) → id_of s < id_of (behind s) }
+    ensures rising { (s : SignalAt) → IsSignal (after s) → id_of s < id_of (after s) }
     ensures id_reads_back { (s : SignalAt) → IsSignal s → signal_of_id s.system (id_of s) ≡ Some s }
     ensures code_reads_back { (s : SignalAt) → IsSignal s → signal_of_code s.system (code_of s) ≡ Some s }
 {}

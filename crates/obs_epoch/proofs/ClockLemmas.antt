@@ -93,10 +93,10 @@ ended-is : (b : Bool) (s : GatherSetup) (latest : Option ℕ) (pending : Bool)
 ended-is true s latest pending = ap (λ x. record { setup = s; latest = latest; pending = x }) (and_false pending)
 ended-is false s latest pending = ap (λ x. record { setup = s; latest = latest; pending = x }) (and_true pending)
 
-abbrev pub tells_end : GatherSetup → Heard → Bool
-tells_end s m = s.by_bit && option_map_or not m.more false
+abbrev pub ends_epoch_by : GatherSetup → Heard → Bool
+ends_epoch_by s m = s.by_bit && option_map_or not m.more false
 
-pub own_mark : (s : GatherSetup) (m : Heard) → is_own s m ≡ true → ends_epoch s m ≡ tells_end s m
+pub own_mark : (s : GatherSetup) (m : Heard) → is_own s m ≡ true → ends_epoch s m ≡ ends_epoch_by s m
 own_mark s m own = grind (arith, own)
 
 abbrev state : GatherSetup → Option ℕ → Bool → State
@@ -109,9 +109,9 @@ same_fields s a b p q e f = ap₂ (state s) e f
 ended_to : (s : GatherSetup) (xs : List Timed) (m : Heard) (latest : Option ℕ) (pending : Bool) → is_own s m ≡ true
     → greatest_time (xs ++ next s xs m ∷ []) ≡ latest
     → is_pending s (xs ++ next s xs m ∷ []) ≡ (pending && not (ends_epoch s m))
-    → ended_where (tells_end s m) (record { setup = s; latest = latest; pending = pending }) ≡ standing s (xs ++ next s xs m ∷ []) false
+    → ended_where (ends_epoch_by s m) (record { setup = s; latest = latest; pending = pending }) ≡ standing s (xs ++ next s xs m ∷ []) false
 ended_to s xs m latest pending own at is =
-    ended-is (tells_end s m) s latest pending
+    ended-is (ends_epoch_by s m) s latest pending
     ∙ same_fields s _ _ _ _ (sym at) (ap (λ b. pending && not b) (sym (own_mark s m own)) ∙ sym is ∙ and_true _)
 
 -- an own message of no time
@@ -122,7 +122,7 @@ no_time s xs m shut own none closes =
     let untaken : taken_at s xs m ≡ None = grind (arith, own, none) in
     let same = same_time s xs (next s xs m) untaken in
     let open_still : shut ≡ false = grind (arith, own, none) in
-    let step : step_by (standing s xs shut) m ≡ ended_where (tells_end s m) (record { setup = s; latest = greatest_time xs; pending = is_pending s xs }) =
+    let step : step_by (standing s xs shut) m ≡ ended_where (ends_epoch_by s m) (record { setup = s; latest = greatest_time xs; pending = is_pending s xs }) =
     grind (arith, own, none, open_still, and_true) in
     (grind (arith, own, none), step ∙ ended_to s xs m (greatest_time xs) (is_pending s xs) own same.0 same.1)
 
@@ -152,7 +152,7 @@ not_taken s xs m tow shut own some closes bad =
     let same = same_time s xs (next s xs m) untaken in
     let open_still : shut ≡ false = grind (arith, own, some, bad) in
     let late = late_same s xs m tow shut some closes in
-    let step : step_by (standing s xs shut) m ≡ ended_where (tells_end s m) (record { setup = s; latest = greatest_time xs; pending = is_pending s xs }) =
+    let step : step_by (standing s xs shut) m ≡ ended_where (ends_epoch_by s m) (record { setup = s; latest = greatest_time xs; pending = is_pending s xs }) =
     grind (arith, own, some, open_still, and_true, late, bad) in
     (grind (arith, own, some, late, bad), step ∙ ended_to s xs m (greatest_time xs) (is_pending s xs) own same.0 same.1)
 
@@ -185,7 +185,7 @@ is_taken s xs m tow shut own some closes early within =
     let new = new_time s xs (next s xs m) u taken (follows s xs tow early) in
     let late = late_same s xs m tow shut some closes in
     let none_first = no_first s xs m tow shut own some closes early within in
-    let step : step_by (standing s xs shut) m ≡ ended_where (tells_end s m) (record { setup = s; latest = Some u; pending = true }) =
+    let step : step_by (standing s xs shut) m ≡ ended_where (ends_epoch_by s m) (record { setup = s; latest = Some u; pending = true }) =
     grind (arith, own, some, late, early, within, none_first) in
     (grind (arith, own, some, late, early, within, none_first), step ∙ ended_to s xs m (Some u) true own new.0 new.1)
 
@@ -221,10 +221,10 @@ closes s xs m h = by_tow m.tow refl where
       let pending : is_pending s xs ≡ true = grind (arith, h, own, some, at) in
       let ahead_of : (ahead t tow == 0) ≡ false = grind (arith, h, own, some, at) in
       let late_now : is_late_at (standing s xs false) tow ≡ false = grind (arith, own, some, at, early, pending, ahead_of) in
-      let step : step_by (standing s xs false) m ≡ ended_where (tells_end s m) (state s (greatest_time xs) false) =
+      let step : step_by (standing s xs false) m ≡ ended_where (ends_epoch_by s m) (state s (greatest_time xs) false) =
       grind (arith, own, some, at, late_now, within, pending, ahead_of) in (
         grind (arith, own, some, at, early, within, pending, ahead_of),
-        step ∙ ended-is (tells_end s m) s (greatest_time xs) false ∙ same_fields s _ _ _ _ refl (and_false (is_pending s xs)),
+        step ∙ ended-is (ends_epoch_by s m) s (greatest_time xs) false ∙ same_fields s _ _ _ _ refl (and_false (is_pending s xs)),
       )
 
   by_tow : (tow : Option ℕ) → m.tow ≡ tow → (answer_by (standing s xs false) m ≡ CloseFirst) × (step_by (standing s xs false) m ≡ standing s xs true)

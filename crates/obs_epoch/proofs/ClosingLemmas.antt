@@ -10,7 +10,7 @@ use Rattle.obs_epoch.specs.Clock.{State, is_pending, closes_first, answer_of}
 use Rattle.obs_epoch.specs.Step.{closed_of, closed_by}
 use Rattle.obs_epoch.specs.Epochs.{closed_times, closed_so_far}
 use Rattle.obs_epoch.proofs.TimesLemmas.{next}
-use Rattle.obs_epoch.proofs.ClockLemmas.{standing, takes, tells_end, own_mark, same_time, Follows, first, greater, equal, new_time}
+use Rattle.obs_epoch.proofs.ClockLemmas.{standing, takes, ends_epoch_by, own_mark, same_time, Follows, first, greater, equal, new_time}
 use Rattle.obs_epoch.proofs.ClosedLemmas.{when, no_greatest, taken_follows, closed-push_none, closed-push_greater, closed-push_same, closed-push_first}
 
 either : (m c : Bool) (g : ℕ) → when (not c && m) g ≡ option_to_list (if m && not c then Some g else None)
@@ -98,12 +98,12 @@ taken_by s xs m u own some (greater t e lt) shut h =
 
 -- what a step closes, in the words of the list
 abbrev closed_in : GatherSetup → List Timed → Heard → Bool → Option ℕ
-closed_in s xs m shut = closed_of (answer_of s xs m) (tells_end s m) (is_pending s xs && not shut) (greatest_time xs) (greatest_time (xs ++ next s xs m ∷ []))
+closed_in s xs m shut = closed_of (answer_of s xs m) (ends_epoch_by s m) (is_pending s xs && not shut) (greatest_time xs) (greatest_time (xs ++ next s xs m ∷ []))
 
 closed_in_is : (s : GatherSetup) (xs : List Timed) (m : Heard) (shut : Bool) → closes_first s xs m ≡ shut → closed_by (standing s xs shut) m ≡ closed_in s xs m shut
 closed_in_is s xs m shut h =
     let step = takes s xs m shut h in
-    ap₂ (λ k (g : State). closed_of k (tells_end s m) (is_pending s xs && not shut) (greatest_time xs) g.latest) step.0 step.1
+    ap₂ (λ k (g : State). closed_of k (ends_epoch_by s m) (is_pending s xs && not shut) (greatest_time xs) g.latest) step.0 step.1
 
 -- a message that isn't taken
 closing_none : (s : GatherSetup) (xs : List Timed) (m : Heard) (shut : Bool) → taken_at s xs m ≡ None → closes_first s xs m ≡ shut
@@ -125,14 +125,14 @@ closing_none s xs m shut none h =
           let kind : answer_of s xs m ≡ OtherStation = grind (arith, own) in
           let not_last : ends_epoch s m ≡ false = grind (arith, own) in
           ap (λ b. if b && is_pending s xs then greatest_time xs else None) not_last
-          ∙ ap (λ k. closed_of k (tells_end s m) (is_pending s xs && not shut) (greatest_time xs) (greatest_time (xs ++ next s xs m ∷ []))) (sym kind)
+          ∙ ap (λ k. closed_of k (ends_epoch_by s m) (is_pending s xs && not shut) (greatest_time xs) (greatest_time (xs ++ next s xs m ∷ []))) (sym kind)
 
       closed : (own : Bool) → is_own s m ≡ own → (if ends_epoch s m && is_pending s xs then greatest_time xs else None) ≡ closed_in s xs m shut
       closed false own = other own
       closed true own =
-          known (tells_end s m) (is_pending s xs) shut (ends_epoch s m) false (greatest_time xs) open_still (own_mark s m own)
-          ∙ ap (λ g. if tells_end s m && (is_pending s xs && not shut) then g else None) (sym same)
-          ∙ sym (untaken_kind (answer_of s xs m) true (tells_end s m) (is_pending s xs && not shut) (greatest_time xs) _ refl
+          known (ends_epoch_by s m) (is_pending s xs) shut (ends_epoch s m) false (greatest_time xs) open_still (own_mark s m own)
+          ∙ ap (λ g. if ends_epoch_by s m && (is_pending s xs && not shut) then g else None) (sym same)
+          ∙ sym (untaken_kind (answer_of s xs m) true (ends_epoch_by s m) (is_pending s xs && not shut) (greatest_time xs) _ refl
           (λ e. grind (arith, own, e)) (λ e. grind (arith, own, e)) (λ e. grind (arith, own, e, none)))
 
 closing_some : (s : GatherSetup) (xs : List Timed) (m : Heard) (u : ℕ) (shut : Bool) → taken_at s xs m ≡ Some u → closes_first s xs m ≡ shut
@@ -144,8 +144,8 @@ closing_some s xs m u shut some h =
     let tow = p.some in let early = p.early in let within = p.within in
     let kind : answer_of s xs m ≡ Kept = grind (arith, own, tow, early, within) in
     let closed : when (ends_epoch s m) u ≡ option_to_list (closed_in s xs m shut) =
-    ap (λ b. when b u) (own_mark s m own) ∙ kept_text (tells_end s m) u
-    ∙ ap₂ (λ k g. option_to_list (closed_of k (tells_end s m) (is_pending s xs && not shut) (greatest_time xs) g)) (sym kind) (sym new.0) in
+    ap (λ b. when b u) (own_mark s m own) ∙ kept_text (ends_epoch_by s m) u
+    ∙ ap₂ (λ k g. option_to_list (closed_of k (ends_epoch_by s m) (is_pending s xs && not shut) (greatest_time xs) g)) (sym kind) (sym new.0) in
     plain s (xs ++ next s xs m ∷ []) ∙ taken_by s xs m u own some (taken_follows s xs m u some) shut h ∙ ap (λ l. closed_so_far s xs shut ++ l) closed where
       own_of : (own : Bool) → is_own s m ≡ own → is_own s m ≡ true
       own_of true e = e

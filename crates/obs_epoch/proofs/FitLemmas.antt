@@ -8,7 +8,7 @@ use Rattle.gnss_obs.specs.declared.system.System.{System}
 use Rattle.gnss_obs.specs.Signals.{SignalAt, IsSignal}
 use Rattle.obs_epoch.specs.declared.fault.PlanFault.{PlanFault}
 use Rattle.obs_epoch.specs.declared.fault.PlanFault.TheVariants.{UnknownCode, RepeatedCode, NothingPlanned, BadWeek, BadStation, Memory}
-use Rattle.obs_epoch.specs.Signals.{indices, IsOf, IsUnfitBehind, IsUnfit}
+use Rattle.obs_epoch.specs.Signals.{indices, IsOf, IsUnfitAfter, IsUnfit}
 
 -- a place within signals parts them
 pub parted : (ss : List SignalAt) (k : ℕ) (s : SignalAt) → k < length ss → s ≡ get_or ss k s → ss ≡ take k ss ++ s ∷ drop (k + 1) ss
@@ -24,7 +24,7 @@ next_of ss k s less is = take_more ss k s less ∙ ap (λ x. take k ss ++ x ∷ 
 
 -- the first signal that doesn't fit
 pub unfit_at : (system : System) (ss before : List SignalAt) (k : ℕ) (s : SignalAt) (fault : PlanFault) → k < length ss → s ≡ get_or ss k s → before ≡ take k ss
-    → IsOf system (take k ss) → (fault ≡ Memory) ⊎ IsUnfitBehind system before s fault → (fault ≡ Memory) ⊎ IsUnfit system ss fault
+    → IsOf system (take k ss) → (fault ≡ Memory) ⊎ IsUnfitAfter system before s fault → (fault ≡ Memory) ⊎ IsUnfit system ss fault
 unfit_at system ss before k s fault less is taken fits (inl e) = inl e
 unfit_at system ss before k s fault less is taken fits (inr u) = inr (record {
   before = take k ss;
@@ -32,7 +32,7 @@ unfit_at system ss before k s fault less is taken fits (inr u) = inr (record {
   rest = drop (k + 1) ss;
   split = parted ss k s less is;
   fits = fits;
-  unfit = subst (λ (l : List SignalAt). IsUnfitBehind system l s fault) taken u;
+  unfit = subst (λ (l : List SignalAt). IsUnfitAfter system l s fault) taken u;
 })
 
 middle : (before rest : List SignalAt) (s : SignalAt) → get_or (indices (before ++ s ∷ rest)) (length before) 0 ≡ s.index
@@ -63,7 +63,7 @@ of_system system (x ∷ before) rest s h = of_system system before rest s (All-t
 not_both : (b : Bool) → b ≡ true → b ≡ false → ⊥
 not_both b h k = grind (arith, h, k)
 
-by_fault : (system : System) (before rest : List SignalAt) (s : SignalAt) (fault : PlanFault) → IsUnfitBehind system before s fault → IsOf system (before ++ s ∷ rest) → ⊥
+by_fault : (system : System) (before rest : List SignalAt) (s : SignalAt) (fault : PlanFault) → IsUnfitAfter system before s fault → IsOf system (before ++ s ∷ rest) → ⊥
 by_fault system before rest s (UnknownCode named place) u is = u.2 (of_system system before rest s is.each)
 by_fault system before rest s (RepeatedCode named place) u is = not_both _ u.3 (not_before before rest s is.apart)
 by_fault system before rest s NothingPlanned u is = u
@@ -75,7 +75,7 @@ by_fault system before rest s Memory u is = u
 pub unfit_not_of : (system : System) (ss : List SignalAt) (fault : PlanFault) → IsUnfit system ss fault → IsOf system ss → ⊥
 unfit_not_of system ss fault u is = by_fault system u.before u.rest u.signal fault u.unfit (subst (IsOf system) u.split is)
 
--- where signals are those of a system, nothing but want of memory is answered
+-- where signals are those of a system, nothing but lack of memory is answered
 pub memory_alone : (system : System) (ss : List SignalAt) (fault : PlanFault) → (fault ≡ Memory) ⊎ IsUnfit system ss fault → IsOf system ss → fault ≡ Memory
 memory_alone system ss fault (inl e) is = e
 memory_alone system ss fault (inr u) is = absurd (unfit_not_of system ss fault u is)

@@ -1,4 +1,4 @@
--- A call of the gatherer hands out what the longer list has closed since.
+-- A call of the gatherer returns what the longer list has closed since.
 use Rattle.std.proofs.Common.{◌≡◌, ℕ, ◌<◌, Bool, true, false, ◌||◌, ◌&&◌, List, [], ◌∷◌, ◌++◌, refl, sym, ap, ap₂, ◌∙◌, subst, arith, Option, Some, None, is_some, nat_lt, append-nil}
 use Rattle.std.specs.Prelude.{if◌then◌else◌, option_to_list}
 use Rattle.std.specs.Option.{option_map_or}
@@ -20,7 +20,7 @@ use Rattle.obs_epoch.proofs.ClockLemmas.{Follows, first, greater, equal, new_tim
 use Rattle.obs_epoch.proofs.ClosedLemmas.{taken_follows}
 use Rattle.obs_epoch.proofs.ClosingLemmas.{closing}
 use Rattle.obs_epoch.proofs.StandingLemmas.{closed_later}
-use Rattle.obs_epoch.proofs.TakeLemmas.{taken, closes_it, ended, Ended, times_taken, time_taken, pending_taken, IsTold, no_point_told, same_values, handed_is, ended_is}
+use Rattle.obs_epoch.proofs.TakeLemmas.{taken, closes_it, ended, Ended, times_taken, time_taken, pending_taken, IsSet, no_point_given, same_values, handed_is, ended_is}
 use Rattle.obs_epoch.proofs.GatheringLemmas.{Each, each_filter, each_front, each_back, list-push, before_all, before-push, pending_open, with_pending, prefix_self}
 
 -- ---- which epoch is new
@@ -68,7 +68,7 @@ new_open g s ms m shut h early t e = by (taken_at s xs m) refl where
       let is : u ≡ t = some_is u t (sym (new_time s xs (next s xs m) u some follow).0 ∙ ap greatest_time (sym (timed-push s ms m)) ∙ now) in
       subst (λ v. is_shut s xs v ≡ false) is (open_follows s xs u follow)
 
--- ---- the list that was handed out
+-- ---- the list that was returned
 
 -- what was closed before stays
 pub keeps : (s : GatherSetup) (ms : List Heard) (m : Heard) (shut : Bool) (o : Option ℕ) → closes_first s (timed s ms) m ≡ shut
@@ -88,12 +88,12 @@ shut_new s ys before t grown =
     let all : closed_times s ys ≡ before ++ t ∷ [] = sym (append-nil (closed_times s ys)) ∙ grown in
     (each_back (is_shut s ys) before (t ∷ []) (subst (Each (is_shut s ys)) all (each_filter (is_shut s ys) (times ys)))).0
 
--- the epoch that a step closes, as it is handed out
-new_closed : (g : Gathered) (s : GatherSetup) (ms : List Heard) (m : Heard) (shut : Bool) → HasTakenMessages g s ms shut → closes_first s (timed s ms) m ≡ shut → IsTold m
+-- the epoch that a step closes, as it is returned
+new_closed : (g : Gathered) (s : GatherSetup) (ms : List Heard) (m : Heard) (shut : Bool) → HasTakenMessages g s ms shut → closes_first s (timed s ms) m ≡ shut → IsSet m
     → (o : Option ℕ) → closes g.clock m ≡ o → (take_step g m).state.handed ≡ is_some o
     → handed_over (take_step g m).state ≡ closed_list_at s (ms ++ m ∷ []) (option_to_list o)
-new_closed g s ms m shut h early told None e has = let v = (take_step g m).state in ap (λ b. closed_by (if b then Some (v.epoch) else None) v.values) has
-new_closed g s ms m shut h early told (Some t) e has =
+new_closed g s ms m shut h early given None e has = let v = (take_step g m).state in ap (λ b. closed_by (if b then Some (v.epoch) else None) v.values) has
+new_closed g s ms m shut h early given (Some t) e has =
     let v = (take_step g m).state in
     let ns = ms ++ m ∷ [] in
     let ys = timed s ns in
@@ -103,11 +103,11 @@ new_closed g s ms m shut h early told (Some t) e has =
     let closed_now = shut_new s ys (closed_so_far s (timed s ms) shut) t (times_taken g s ms m shut h early ∙ ap (λ o. closed_so_far s (timed s ms) shut ++ option_to_list o) e) in
     let epoch : v.epoch ≡ epoch_at s ys t = t1.after.epoch ∙ ap (λ o. option_map_or (epoch_at s ys) o no_epoch) now in
     let values : v.values ≡ values_of s (before_closing s t ns) =
-    t1.after.values ∙ same_values s ms m (no_point_told g.clock m t told e) ∙ ap (values_of s) (sym (before-push s t ms m closed_now ∙ before_all s t ms open_still)) in
+    t1.after.values ∙ same_values s ms m (no_point_given g.clock m t given e) ∙ ap (values_of s) (sym (before-push s t ms m closed_now ∙ before_all s t ms open_still)) in
     ap (λ b. closed_by (if b then Some (v.epoch) else None) v.values) has
     ∙ ap₂ (λ (a : EpochValue) w. record { epoch = a; values = w } ∷ []) epoch values
 
--- the pending epoch, as it is handed out
+-- the pending epoch, as it is returned
 pending_closed : (v : Gathered) (s : GatherSetup) (ms : List Heard) (t : ℕ) → greatest_time (timed s ms) ≡ Some t → is_pending s (timed s ms) ≡ true
     → v.epoch ≡ held_at s (timed s ms) → v.values ≡ values_of s ms → v.handed ≡ true → handed_over v ≡ closed_list_at s ms (option_to_list (greatest_time (timed s ms)))
 pending_closed v s ms t e p epoch values has =
@@ -132,8 +132,8 @@ not_done v s ms again going = or_and (is_some again) v.has_ended (is_pending s (
 
 -- a message is taken
 pub gathers_taken : (g : Gathered) (s : GatherSetup) (ms : List Heard) (es : List Closed) (again : Option Heard) (m : Heard) → HasGatheredEpochs g s ms es again → g.has_ended ≡ false
-    → closes_first s (timed s ms) m ≡ is_some again → IsTold m → HasGatheredEpochs (take_step g m).state s (ms ++ m ∷ []) (es ++ handed_over (take_step g m).state) None
-gathers_taken g s ms es again m h going early told =
+    → closes_first s (timed s ms) m ≡ is_some again → IsSet m → HasGatheredEpochs (take_step g m).state s (ms ++ m ∷ []) (es ++ handed_over (take_step g m).state) None
+gathers_taken g s ms es again m h going early given =
     let v = (take_step g m).state in
     let ns = ms ++ m ∷ [] in
     let shut = is_some again in
@@ -143,7 +143,7 @@ gathers_taken g s ms es again m h going early told =
     let o = closes g.clock m in
     let grown = times_taken g s ms m shut standing early in
     let handed : es ++ handed_over v ≡ closed_list_at s ns (closed_so_far s (timed s ns) false) =
-    ap₂ (λ a b. a ++ b) was (new_closed g s ms m shut standing early told o refl (handed_is g m)) ∙ sym (keeps s ms m shut o early grown) in
+    ap₂ (λ a b. a ++ b) was (new_closed g s ms m shut standing early given o refl (handed_is g m)) ∙ sym (keeps s ms m shut o early grown) in
     let epochs : es ++ handed_over v ≡ known_epochs v.has_ended s ns =
     handed ∙ ap (closed_list_at s ns) (append-nil (closed_times s (timed s ns))) ∙ ap (λ b. known_epochs b s ns) (sym goes) in
     record {

@@ -25,5 +25,5 @@ mod OrderLemmas
 mod StandLemmas
 pub mod GroupLemmas
 mod ReachLemmas
-mod CensusLemmas
+mod SignalCountsLemmas
 pub mod ViewLemmas

@@ -117,9 +117,9 @@ spot_most s (t ∷ ts) = by (is_before s t) (spot_most s ts) where
   by false h = omega (arith, h)
 
 spot_upper : (s : Seat) (ts : List Seat) (k : ℕ) (d : Seat) → k < length ts → is_before s (get_or ts k d) ≡ true → spot s ts ≤ k
-spot_upper s [] k d h behind = absurd (omega (arith, h))
-spot_upper s (t ∷ ts) zero d h behind = let e : spot s (t ∷ ts) ≡ 0 = ap (λ b. if b then 0 else suc (spot s ts)) behind in omega (arith, e)
-spot_upper s (t ∷ ts) (suc k) d h behind = by (is_before s t) (spot_upper s ts k d (omega (arith, h)) behind) where
+spot_upper s [] k d h after = absurd (omega (arith, h))
+spot_upper s (t ∷ ts) zero d h after = let e : spot s (t ∷ ts) ≡ 0 = ap (λ b. if b then 0 else suc (spot s ts)) after in omega (arith, e)
+spot_upper s (t ∷ ts) (suc k) d h after = by (is_before s t) (spot_upper s ts k d (omega (arith, h)) after) where
   by : (b : Bool) → spot s ts ≤ k → (if b then 0 else suc (spot s ts)) ≤ suc k
   by true h = omega arith
   by false h = omega (arith, h)
@@ -140,12 +140,12 @@ module _ {X : Type 0} (s : Seat) (f : X → Seat) (xs : List X) (k : ℕ) (x : X
   within : k < length (map f xs)
   within = subst (λ n. k < n) (sym (length-map xs f)) less
 
-  -- an item that stands behind that seat, and one that doesn't
+  -- an item that stands after that seat, and one that doesn't
   pub spot_before : is_before s (f x) ≡ true → spot s (map f xs) ≤ k
-  spot_before behind = spot_upper s (map f xs) k (f x) within (ap (is_before s) here ∙ behind)
+  spot_before after = spot_upper s (map f xs) k (f x) within (ap (is_before s) here ∙ after)
 
-  pub spot_behind : SeatsRise (map f xs) → is_before s (f x) ≡ false → k + 1 ≤ spot s (map f xs)
-  spot_behind r front = let h = spot_lower s (map f xs) k (f x) r within (ap (is_before s) here ∙ front) in omega (arith, h)
+  pub spot_after : SeatsRise (map f xs) → is_before s (f x) ≡ false → k + 1 ≤ spot s (map f xs)
+  spot_after r front = let h = spot_lower s (map f xs) k (f x) r within (ap (is_before s) here ∙ front) in omega (arith, h)
 
 pub spot_within : {X : Type 0} (s : Seat) (f : X → Seat) (xs : List X) → spot s (map f xs) ≤ length xs
 spot_within s f xs = let h = spot_most s (map f xs) in let n = length-map xs f in omega (arith, h, n)

@@ -170,7 +170,7 @@ one_index system i s ss new so of is e =
           (any_index s.index ss ∙ ap₂ (λ n l. list_any (nat_eq n) l) at.2 (sym so) ∙ none_below i i (omega arith))),
     )
 
--- a signal of a table is new behind all before it
+-- a signal of a table is new after all before it
 pub index_added : {E : Type 0} (system : System) (i : ℕ) (s : SignalAt) (ss new : List SignalAt) (r : Result Bool E) (b : Bool) → r ≡ Ok b → below i ≡ indices ss → IsOf system ss
     → signal_at system i ≡ Some s → (r ≡ Ok true → (new ≡ ss ++ s ∷ []) × (list_any (λ (q : SignalAt). s.index == q.index) ss ≡ false) × IsOf s.system new)
     → (r ≡ Ok false → (new ≡ ss) × (list_any (λ (q : SignalAt). s.index == q.index) ss ≡ true)) → (below (i + 1) ≡ indices new) × IsOf system new

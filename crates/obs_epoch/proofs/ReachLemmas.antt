@@ -17,7 +17,7 @@ use Rattle.rtcm_msg.specs.declared.entry.Entry.{Entry}
 use Rattle.rtcm_msg.specs.declared.message.Message.{Message}
 use Rattle.rtcm_msg.specs.declared.message.Message.TheVariants.{Station, Msm4, Msm7, Other}
 use Rattle.rtcm_msg.specs.Spelling.{IsMessage}
-use Rattle.rtcm_msg.specs.Reach.{IsMeasured, EntriesAreMeasured, IsCoordinate, IsPoint, PointsAreTold}
+use Rattle.rtcm_msg.specs.Reach.{IsMeasured, EntriesAreMeasured, IsCoordinate, IsPoint, PointsAreInRange}
 use Rattle.rtcm_msg.specs.Entries.{entries}
 use Rattle.obs_epoch.specs.declared.cell.StationValues.{StationValues}
 use Rattle.rtcm_msg.specs.Msm.{week}
@@ -28,9 +28,9 @@ use Rattle.obs_epoch.specs.Heard.{GatherSetup, Heard, heard, observed, seen_in, 
 use Rattle.obs_epoch.specs.Times.{Timed, is_at, timed, timed_after, taken_at, is_late, is_past, time_of}
 use Rattle.obs_epoch.specs.Cells.{is_of_system, is_system, is_planned, has_listed_key, is_among, has_same_key, offered, firsts_after, firsts, kept, kept_at}
 use Rattle.obs_epoch.specs.Loss.{times, lli_with, lli_of, has_lost, previous}
-use Rattle.obs_epoch.specs.Epochs.{cells_with_lli, epoch_at, values_told, no_values, is_shut}
+use Rattle.obs_epoch.specs.Epochs.{cells_with_lli, epoch_at, values_by_message, no_values, is_shut}
 use Rattle.obs_epoch.specs.Gathering.{open_after, before_closing, closed_list_at, all_epochs}
-use Rattle.obs_epoch.specs.Reach.{IsStrength, IsHeardCell, IsHeard, IsGathered, same_place, AreGathered, AreToldValues, IsGatheredEpoch, TimesRise, AreGatheredEpochs}
+use Rattle.obs_epoch.specs.Reach.{IsStrength, IsHeardCell, IsHeard, IsGathered, same_place, AreGathered, AreStationValues, IsGatheredEpoch, TimesRise, AreGatheredEpochs}
 use Rattle.obs_epoch.proofs.OrderLemmas.{all-sorted, distinct-sorted}
 use Rattle.obs_epoch.proofs.NotingLemmas.{kept_distinct}
 use Rattle.obs_epoch.specs.declared.locks.KnownLock.{KnownLock}
@@ -74,32 +74,32 @@ mapped : {A B : Type 0} (f : A → B) (P : A → Type 0) (Q : B → Type 0) → 
 mapped f P Q h None k = tt
 mapped f P Q h (Some x) k = h x k
 
-observed_told : AreSizes → (lock : LockTime) (e : Entry) (satellite : Satellite) (signal : SignalAt) → IsMeasured e → IsHeardCell (observed lock e satellite signal)
-observed_told z lock e satellite signal h = record {
+observed_given : AreSizes → (lock : LockTime) (e : Entry) (satellite : Satellite) (signal : SignalAt) → IsMeasured e → IsHeardCell (observed lock e satellite signal)
+observed_given z lock e satellite signal h = record {
   c = mapped nearest_pseudorange (λ r. unsigned_abs r ≤ 2 ^ 40) HasTwelveDigits z.metres e.range h.range;
   l = mapped (nearest_phase (hertz_of signal)) (λ r. unsigned_abs r ≤ 2 ^ 40) HasTwelveDigits (z.cycles signal) e.phase h.phase;
   d = mapped (nearest_doppler (hertz_of signal)) (λ v. unsigned_abs v ≤ 10 ^ 8) HasTwelveDigits (z.shift signal) e.rate h.rate;
   s = mapped nearest_strength (λ (s : ℕ). (0 < s) × (s < 1024)) IsStrength (λ s k. z.decibels s k.0 k.1) e.strength h.strength;
 }
 
-seen_told : AreSizes → (field : LockField) (system : System) (e : Entry) → IsMeasured e → IfSome (seen_in field system e) IsHeardCell
-seen_told z field system e h = by (satellite_of_id system e.satellite) (signal_of_id system e.signal) where
+seen_given : AreSizes → (field : LockField) (system : System) (e : Entry) → IsMeasured e → IfSome (seen_in field system e) IsHeardCell
+seen_given z field system e h = by (satellite_of_id system e.satellite) (signal_of_id system e.signal) where
   by : (a : Option Satellite) (b : Option SignalAt) → IfSome (option_and_then (λ satellite. option_map (observed (lock_by field e.lock) e satellite) b) a) IsHeardCell
   by None b = tt
   by (Some satellite) None = tt
-  by (Some satellite) (Some signal) = observed_told z (lock_by field e.lock) e satellite signal h
+  by (Some satellite) (Some signal) = observed_given z (lock_by field e.lock) e satellite signal h
 
-cells_told : AreSizes → (field : LockField) (system : System) (es : List Entry) → AllByRecursion IsMeasured es → AllByRecursion IsHeardCell (filter_map (seen_in field system) es)
-cells_told z field system [] h = tt
-cells_told z field system (e ∷ es) h = by (seen_in field system e) (seen_told z field system e h.0) (cells_told z field system es h.1) where
+cells_given : AreSizes → (field : LockField) (system : System) (es : List Entry) → AllByRecursion IsMeasured es → AllByRecursion IsHeardCell (filter_map (seen_in field system) es)
+cells_given z field system [] h = tt
+cells_given z field system (e ∷ es) h = by (seen_in field system e) (seen_given z field system e h.0) (cells_given z field system es h.1) where
   by : (o : Option HeardCell) → IfSome o IsHeardCell → AllByRecursion IsHeardCell (filter_map (seen_in field system) es) → AllByRecursion IsHeardCell (cons_option o (filter_map (seen_in field system) es))
   by None k l = l
   by (Some x) k l = (k, l)
 
-pub message_heard : AreSizes → EntriesAreMeasured → PointsAreTold → (m : Message) → IsMessage m → IsHeard (heard m)
+pub message_heard : AreSizes → EntriesAreMeasured → PointsAreInRange → (m : Message) → IsMessage m → IsHeard (heard m)
 message_heard z all points (Station p) h = record { cells = tt; point = points p h }
-message_heard z all points (Msm4 m) h = record { cells = cells_told z Df402 _ (entries (Msm4 m)) (all (Msm4 m)); point = tt }
-message_heard z all points (Msm7 m) h = record { cells = cells_told z Df407 _ (entries (Msm7 m)) (all (Msm7 m)); point = tt }
+message_heard z all points (Msm4 m) h = record { cells = cells_given z Df402 _ (entries (Msm4 m)) (all (Msm4 m)); point = tt }
+message_heard z all points (Msm7 m) h = record { cells = cells_given z Df407 _ (entries (Msm7 m)) (all (Msm7 m)); point = tt }
 message_heard z all points (Other n set) h = record { cells = tt; point = tt }
 
 -- ---- times
@@ -134,7 +134,7 @@ timed_more s earlier (m ∷ ms) h k =
 timed_all : (s : GatherSetup) (ms : List Heard) → AllByRecursion IsHeard ms → AllByRecursion IsTimed (timed s ms)
 timed_all s ms h = timed_more s [] ms tt h
 
--- each before all behind it
+-- each before all after it
 abbrev Rise : List ℕ → Type 0
 Rise [] = Unit {0}
 Rise (t ∷ ts) = AllByRecursion (λ u. t < u) ts × Rise ts
@@ -294,24 +294,24 @@ height_within : (h : Option ℕ) (before : ℕ) → IfSome h (λ n. n < 2 ^ 16) 
 height_within None before k l = l
 height_within (Some n) before k l = k
 
-point_told : (v : StationValues) (o : Option StationParts) → IfSome o IsPoint → AreToldValues v
-    → AreToldValues (option_map_or (λ (p : StationParts). record { x = p.x; y = p.y; z = p.z; height = option_map_or (λ h. h) p.height v.height }) o v)
-point_told v None k h = h
-point_told v (Some p) k h = record { x = k.x; y = k.y; z = k.z; height = height_within p.height v.height k.height h.height }
+point_in_range : (v : StationValues) (o : Option StationParts) → IfSome o IsPoint → AreStationValues v
+    → AreStationValues (option_map_or (λ (p : StationParts). record { x = p.x; y = p.y; z = p.z; height = option_map_or (λ h. h) p.height v.height }) o v)
+point_in_range v None k h = h
+point_in_range v (Some p) k h = record { x = k.x; y = k.y; z = k.z; height = height_within p.height v.height k.height h.height }
 
-told_values : (s : GatherSetup) (v : StationValues) (m : Heard) → IsHeard m → AreToldValues v → AreToldValues (values_told s v m)
-told_values s v m k h = by (is_own s m) where
+values_in_range : (s : GatherSetup) (v : StationValues) (m : Heard) → IsHeard m → AreStationValues v → AreStationValues (values_by_message s v m)
+values_in_range s v m k h = by (is_own s m) where
   by : (b : Bool)
-      → AreToldValues (if b then option_map_or (λ (p : StationParts). record { x = p.x; y = p.y; z = p.z; height = option_map_or (λ h. h) p.height v.height }) m.point v else v)
-  by true = point_told v m.point k.point h
+      → AreStationValues (if b then option_map_or (λ (p : StationParts). record { x = p.x; y = p.y; z = p.z; height = option_map_or (λ h. h) p.height v.height }) m.point v else v)
+  by true = point_in_range v m.point k.point h
   by false = h
 
-values_from : (s : GatherSetup) (v : StationValues) (ms : List Heard) → AllByRecursion IsHeard ms → AreToldValues v → AreToldValues (fold (values_told s) v ms)
+values_from : (s : GatherSetup) (v : StationValues) (ms : List Heard) → AllByRecursion IsHeard ms → AreStationValues v → AreStationValues (fold (values_by_message s) v ms)
 values_from s v [] k h = h
-values_from s v (m ∷ ms) k h = values_from s (values_told s v m) ms k.1 (told_values s v m k.0 h)
+values_from s v (m ∷ ms) k h = values_from s (values_by_message s v m) ms k.1 (values_in_range s v m k.0 h)
 
-pub none_told : AreToldValues no_values
-none_told = record { x = zero_between; y = zero_between; z = zero_between; height = lit< tt } where
+pub zero_in_range : AreStationValues no_values
+zero_in_range = record { x = zero_between; y = zero_between; z = zero_between; height = lit< tt } where
   zero_between : IsCoordinate (pos 0)
   zero_between = (omega (arith, ints), omega (arith, ints))
 
@@ -325,7 +325,7 @@ open_heard s t earlier (m ∷ ms) h k =
 
 -- ---- epochs
 
-each_epoch : (s : GatherSetup) (ms : List Heard) (ts : List ℕ) → AreToldValues s.initial → AllByRecursion IsHeard ms → AllByRecursion IsWithin ts → AllByRecursion (IsGatheredEpoch s.plan) (closed_list_at s ms ts)
+each_epoch : (s : GatherSetup) (ms : List Heard) (ts : List ℕ) → AreStationValues s.initial → AllByRecursion IsHeard ms → AllByRecursion IsWithin ts → AllByRecursion (IsGatheredEpoch s.plan) (closed_list_at s ms ts)
 each_epoch s ms [] v h w = tt
 each_epoch s ms (t ∷ ts) v h w = (
   record {
@@ -344,7 +344,7 @@ epochs_rise : (s : GatherSetup) (ms : List Heard) (ts : List ℕ) → Rise ts �
 epochs_rise s ms [] h = tt
 epochs_rise s ms (t ∷ ts) h = (all_later s ms t ts h.0, epochs_rise s ms ts h.1)
 
-pub epochs_gathered : (s : GatherSetup) (ms : List Heard) → AreToldValues s.initial → AllByRecursion IsHeard ms → AreGatheredEpochs s.plan (all_epochs s ms)
+pub epochs_gathered : (s : GatherSetup) (ms : List Heard) → AreStationValues s.initial → AllByRecursion IsHeard ms → AreGatheredEpochs s.plan (all_epochs s ms)
 epochs_gathered s ms v h = record {
   each = each_epoch s ms (times (timed s ms)) v h (times_within (timed s ms) (timed_all s ms h));
   rise = epochs_rise s ms (times (timed s ms)) (times_rise (timed s ms));

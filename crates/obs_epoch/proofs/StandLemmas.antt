@@ -18,7 +18,7 @@ use Rattle.obs_epoch.specs.Held.{is_held, lookup}
 use Rattle.obs_epoch.specs.Gather.{Gathered, with_more_in, more_at, with_more, spot_in, AreInPlanOrder, AreInOrder, fate_in, hold, hold_by}
 use Rattle.obs_epoch.specs.declared.taken.Fate.TheVariants.{Kept, Skipped, Repeated, Crowded}
 use Rattle.obs_epoch.specs.Clock.{State}
-use Rattle.obs_epoch.specs.Step.{step_by, step_at, ended_where, is_told_own, is_late_at, is_first_at, time_at}
+use Rattle.obs_epoch.specs.Step.{step_by, step_at, ended_where, is_own_summary, is_late_at, is_first_at, time_at}
 use Rattle.obs_epoch.specs.Times.{is_past}
 use Rattle.obs_epoch.specs.Loss.{lli_with}
 use Rattle.obs_epoch.proofs.OrderLemmas.{before_self, before_all, Before, get_before, insert_spot, rise-insert_by, all-insert_by}
@@ -260,7 +260,7 @@ step_at_setup g tow = by (is_late_at g tow) (is_past (time_at g tow)) (is_first_
   by false false false = refl
 
 pub step_setup : (g : State) (m : Heard) → (step_by g m).setup ≡ g.setup
-step_setup g m = by (is_told_own g m.station) (g.setup.by_bit && option_map_or not m.more false) m.tow where
+step_setup g m = by (is_own_summary g m.station) (g.setup.by_bit && option_map_or not m.more false) m.tow where
   by : (a b : Bool) (tow : Option ℕ) → (if a then ended_where b (option_map_or (step_at g) tow g) else g).setup ≡ g.setup
   by false b tow = refl
   by true true None = refl

@@ -11,7 +11,7 @@ use Rattle.obs_epoch.specs.declared.clock.Answer.TheVariants as answers
 use Rattle.obs_epoch.specs.Heard.{GatherSetup, Heard, heard, is_own, HeardCell}
 use Rattle.obs_epoch.specs.Times.{Timed, greatest_time, taken_at, timed, is_late, is_past, time_of}
 use Rattle.obs_epoch.specs.Cells.{with_skipped, offered, counts_of}
-use Rattle.obs_epoch.specs.Epochs.{epoch_at, closed_so_far, closed_times, values_of, values_told}
+use Rattle.obs_epoch.specs.Epochs.{epoch_at, closed_so_far, closed_times, values_of, values_by_message}
 use Rattle.obs_epoch.specs.Clock.{State, HasHeardMessages, is_pending, closes_first, answer_of}
 use Rattle.obs_epoch.specs.Step.{answer_by, step_by, closed_by, closed_of}
 use Rattle.obs_epoch.specs.Gather.{with_unlisted, Gathered, Loaded, no_epoch, no_counts, noted, load, loaded_by, epoch_begun, is_same, fate_in, load_one, ticked, closed_if, take_step, end_step}
@@ -37,8 +37,8 @@ clock_stands g s ms xs shut same e = record {
   pending = ap (λ (x : State). x.pending) e ∙ ap (λ ys. is_pending s ys && not shut) (sym same);
 }
 
-values-push : (s : GatherSetup) (ms : List Heard) (m : Heard) → values_of s (ms ++ m ∷ []) ≡ values_told s (values_of s ms) m
-values-push s ms m = fold-append (values_told s) s.initial ms (m ∷ [])
+values-push : (s : GatherSetup) (ms : List Heard) (m : Heard) → values_of s (ms ++ m ∷ []) ≡ values_by_message s (values_of s ms) m
+values-push s ms m = fold-append (values_by_message s) s.initial ms (m ∷ [])
 
 -- before the closing
 pub record Mid (g : Gathered) (s : GatherSetup) (ms : List Heard) (shut : Bool) (ts : List ℕ) : Type 0 where
@@ -136,7 +136,7 @@ reached g s ms m shut h early = by (taken_at s xs m) refl where
   answer = ap (λ c. answer_by c m) was ∙ (takes s xs m shut early).0
 
   values : (ticked g m).values ≡ values_of s (ms ++ m ∷ [])
-  values = ap₂ (λ c v. values_told c v m) h.clock.setup h.values ∙ sym (values-push s ms m)
+  values = ap₂ (λ c v. values_by_message c v m) h.clock.setup h.values ∙ sym (values-push s ms m)
 
   locks : Locked (ticked g m) s (xs ++ next s xs m ∷ []) (closed_so_far s xs shut)
   locks =
@@ -173,7 +173,7 @@ reached g s ms m shut h early = by (taken_at s xs m) refl where
         counts = ap (with_skipped m.unlisted) (counts_are s (offered s u xs) m.cells) ∙ ap (λ o. option_map_or (λ v. with_skipped m.unlisted (counts_of s (offered s v xs) m.cells)) o no_counts) (sym some);
       })
 
--- the list of closed epochs grows by what is handed out
+-- the list of closed epochs grows by what is returned
 grown : (s : GatherSetup) (ms : List Heard) (m : Heard) (shut : Bool) (o : Option ℕ) (e : EpochValue) → closes_first s (timed s ms) m ≡ shut
     → closed_so_far s (timed s (ms ++ m ∷ [])) false ≡ closed_so_far s (timed s ms) shut ++ option_to_list o
     → e ≡ held_at s (timed s (ms ++ m ∷ [])) → ((t : ℕ) → o ≡ Some t → greatest_time (timed s (ms ++ m ∷ [])) ≡ Some t)
@@ -275,21 +275,21 @@ pending_taken g s ms m shut h early none t e =
       left_true false b e = grind (arith, e)
 
 -- a message with a point has neither a time nor a multiple message bit
-abbrev pub IsTold : Heard → Type 0
-IsTold m = (m.point ≡ None) ⊎ ((m.tow ≡ None) × (m.more ≡ None))
+abbrev pub IsSet : Heard → Type 0
+IsSet m = (m.point ≡ None) ⊎ ((m.tow ≡ None) × (m.more ≡ None))
 
-pub told_alone : (m : Message) → IsTold (heard m)
-told_alone (message.Station p) = inr (refl, refl)
-told_alone (message.Msm4 m) = inl refl
-told_alone (message.Msm7 m) = inl refl
-told_alone (message.Other number set) = inl refl
+pub given_alone : (m : Message) → IsSet (heard m)
+given_alone (message.Station p) = inr (refl, refl)
+given_alone (message.Msm4 m) = inl refl
+given_alone (message.Msm7 m) = inl refl
+given_alone (message.Other number set) = inl refl
 
 closes_none : (g : State) (m : Heard) → m.tow ≡ None → m.more ≡ None → closed_by g m ≡ None
 closes_none g m tow more = grind (arith, tow, more)
 
-pub no_point_told : (g : State) (m : Heard) (t : ℕ) → IsTold m → closed_by g m ≡ Some t → m.point ≡ None
-no_point_told g m t (inl none) e = none
-no_point_told g m t (inr both) e = absurd (unlike (closes_none g m both.0 both.1) e) where
+pub no_point_given : (g : State) (m : Heard) (t : ℕ) → IsSet m → closed_by g m ≡ Some t → m.point ≡ None
+no_point_given g m t (inl none) e = none
+no_point_given g m t (inr both) e = absurd (unlike (closes_none g m both.0 both.1) e) where
   unlike : {o : Option ℕ} → o ≡ None → o ≡ Some t → ⊥
   unlike {o} a b = grind (arith, a, b)
 
@@ -324,7 +324,7 @@ closes_it g s ms m h early none = by (greatest_time (timed s ms)) refl where
   handed : closed_by g.clock m ≡ greatest_time xs
   handed = ap (λ k. closed_of k (g.clock.setup.by_bit && option_map_or not m.more false) g.clock.pending g.clock.latest (step_by g.clock m).latest) answer ∙ ap (λ (c : State). c.latest) was
 
-  unchanged : values_told g.clock.setup g.values m ≡ values_of s ms
+  unchanged : values_by_message g.clock.setup g.values m ≡ values_of s ms
   unchanged = by_own (is_own g.clock.setup m) ∙ h.values where
     by_own : (b : Bool) → (if b then option_map_or (λ p. record { x = p.x; y = p.y; z = p.z; height = option_map_or (λ h. h) p.height g.values.height }) m.point g.values else g.values) ≡ g.values
     by_own true = grind (arith, none)
@@ -435,7 +435,7 @@ no_point s xs (message.Msm4 m) h = refl
 no_point s xs (message.Msm7 m) h = refl
 no_point s xs (message.Other number set) h = refl
 
--- ---- what was handed out
+-- ---- what was returned
 
 load_handed : (l : Loaded) (xs : List HeardCell) → (load l xs).state.handed ≡ l.state.handed
 load_handed l [] = refl

@@ -20,19 +20,19 @@ TellsClosingFirst old m kind =
     (s : GatherSetup) (ms : List Heard) (es : List Closed) → HasGatheredEpochs old s ms es None
     → is_close_first kind ≡ closes_first s (timed s ms) m
 
--- where the pending epoch is closed first, it is handed out, and the message is to come again
+-- where the pending epoch is closed first, it is returned, and the message is to come again
 abbrev pub AwaitsMessage : Gathered → Gathered → Heard → Kind → Type 0
 AwaitsMessage old new m kind =
     (s : GatherSetup) (ms : List Heard) (es : List Closed) → HasGatheredEpochs old s ms es None
     → is_close_first kind ≡ true → HasGatheredEpochs new s ms (es ++ handed_over new) (Some m)
 
--- where the message is taken, it comes behind the others, and the epoch that it closes is handed out behind the others
+-- where the message is taken, it comes after the others, and the epoch that it closes is returned after the others
 abbrev pub GathersMessage : Gathered → Gathered → Heard → Kind → Type 0
 GathersMessage old new m kind =
     (s : GatherSetup) (ms : List Heard) (es : List Closed) (again : Option Heard) → HasGatheredEpochs old s ms es again
     → IsAwaited again m → is_close_first kind ≡ false → HasGatheredEpochs new s (ms ++ m ∷ []) (es ++ handed_over new) None
 
--- where the message is taken, the kind is what becomes of it behind the others
+-- where the message is taken, the kind is what becomes of it after the others
 abbrev pub TellsKindOfTaken : Gathered → Heard → Kind → Type 0
 TellsKindOfTaken old m kind =
     (s : GatherSetup) (ms : List Heard) (es : List Closed) (again : Option Heard) → HasGatheredEpochs old s ms es again
@@ -45,7 +45,7 @@ TakesAwaited old m kind =
 
 -- what a call with a message comes to: the pending epoch is closed first exactly if the message's time is greater and
 -- within the weeks, and the message is then to come again; every other message is taken, and the epoch that it closes is
--- handed out
+-- returned
 pub record TakesMessage (old new : Gathered) (m : Heard) (answer : Taken) : Type 0 where
   pub exactly : TellsClosingFirst old m answer.kind
   pub first : AwaitsMessage old new m answer.kind

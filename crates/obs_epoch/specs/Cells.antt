@@ -72,7 +72,7 @@ kept_at s t xs system = sorted (planned_of system s.plan) (kept system (offered 
 abbrev pub kept_of_both : List HeardCell → List HeardCell
 kept_of_both xs = kept Gps xs ++ kept Galileo xs
 
--- of the cells that a message brings behind those before it: how many were kept, weren't planned, are repeated, are one too many
+-- of the cells that a message brings after those before it: how many were kept, weren't planned, are repeated, are one too many
 abbrev pub counts_of : GatherSetup → List HeardCell → List HeardCell → CellCounts
 counts_of s before cells =
     let planned = filter (is_planned s) cells in

@@ -39,15 +39,15 @@ closed_epochs s xs = map (epoch_at s xs) (filter (is_shut s xs) (times xs))
 abbrev pub values_by : StationParts → ℕ → StationValues
 values_by p height = record { x = p.x; y = p.y; z = p.z; height = option_map_or (λ h. h) p.height height }
 
-abbrev pub values_told : GatherSetup → StationValues → Heard → StationValues
-values_told s v m = if is_own s m then option_map_or (λ p. values_by p v.height) m.point v else v
+abbrev pub values_by_message : GatherSetup → StationValues → Heard → StationValues
+values_by_message s v m = if is_own s m then option_map_or (λ p. values_by p v.height) m.point v else v
 
 abbrev pub no_values : StationValues
 no_values = record { x = pos 0; y = pos 0; z = pos 0; height = 0 }
 
 -- the point of the last own message that has one, and the last height; the initial values until then
 abbrev pub values_of : GatherSetup → List Heard → StationValues
-values_of s ms = fold (values_told s) s.initial ms
+values_of s ms = fold (values_by_message s) s.initial ms
 
 -- the times of the epochs that are closed within the list
 abbrev pub closed_times : GatherSetup → List Timed → List ℕ

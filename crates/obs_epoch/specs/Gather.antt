@@ -16,7 +16,7 @@ use Rattle.obs_epoch.specs.Values.{PlanValue, planned_of, EpochValue, cells_of}
 use Rattle.obs_epoch.specs.Plans.{place_in}
 use Rattle.obs_epoch.specs.Order.{SeatsRise, insert_by, spot, seat_of, cell_seat}
 use Rattle.obs_epoch.specs.Loss.{lli_with}
-use Rattle.obs_epoch.specs.Epochs.{values_told}
+use Rattle.obs_epoch.specs.Epochs.{values_by_message}
 use Rattle.obs_epoch.specs.Held.{lookup, note_all, fate_of, count_in}
 use Rattle.obs_epoch.specs.Clock.{State}
 use Rattle.obs_epoch.specs.Step.{answer_by, step_by, closed_by}
@@ -38,12 +38,12 @@ with_more_in Galileo p e m = record e { galileo = insert_by (cell_seat p.galileo
 abbrev pub with_more : PlanValue → EpochValue → Cell → EpochValue
 with_more p e m = with_more_in m.satellite.system p e m
 
--- one cell more, behind so many of its system
+-- one cell more, after so many of its system
 abbrev pub more_at : System → ℕ → EpochValue → Cell → EpochValue
 more_at Gps at e m = record e { gps = insert e.gps at m }
 more_at Galileo at e m = record e { galileo = insert e.galileo at m }
 
--- how many cells don't stand behind a cell of that key
+-- how many cells don't stand after a cell of that key
 abbrev pub spot_in : PlanValue → EpochValue → HeardCell → ℕ
 spot_in p e x =
     let planned = planned_of x.satellite.system p in
@@ -137,7 +137,7 @@ loaded_by _ before g m = record { state = g; counts = no_counts }
 
 -- the clock and the station values process the message
 abbrev pub ticked : Gathered → Heard → Gathered
-ticked g m = record g { clock = step_by g.clock m; values = values_told g.clock.setup g.values m; handed = is_some (closed_by g.clock m) }
+ticked g m = record g { clock = step_by g.clock m; values = values_by_message g.clock.setup g.values m; handed = is_some (closed_by g.clock m) }
 
 abbrev pub closed_if : Bool → Loaded → Loaded
 closed_if b l = record { state = if b then noted l.state else l.state; counts = l.counts }

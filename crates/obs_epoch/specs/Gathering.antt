@@ -1,4 +1,4 @@
--- What a gatherer stands for: its messages, the epochs that it handed out, and a message that is to come again.
+-- What a gatherer stands for: its messages, the epochs that it returned, and a message that is to come again.
 use Rattle.std.specs.Prelude.{ℕ, ◌≡◌, ◌&&◌, ◌||◌, Bool, true, List, [], ◌∷◌, ◌++◌, map, if◌then◌else◌, Option, Some, None, is_some, option_to_list}
 use Rattle.std.specs.Option.{IfSome, option_map_or}
 use Rattle.rtcm_bits.specs.Prefix.{IsPrefix}
@@ -56,7 +56,7 @@ closed_in v = if v.handed then Some (v.epoch) else None
 abbrev pub closed_by : Option EpochValue → StationValues → List Closed
 closed_by e values = option_map_or (λ epoch. record { epoch = epoch; values = values } ∷ []) e []
 
--- what the last call handed out
+-- what the last call returned
 abbrev pub handed_over : Gathered → List Closed
 handed_over v = closed_by (closed_in v) v.values
 
@@ -68,7 +68,7 @@ is_done v s ms again = is_some again || (v.has_ended && is_pending s (timed s ms
 abbrev pub IsAwaited : Option Heard → Heard → Type 0
 IsAwaited again m = IfSome again (λ awaited. m ≡ awaited)
 
--- the gatherer stands for these messages, handed out these epochs, and waits for a message to come again where there is one
+-- the gatherer stands for these messages, returned these epochs, and waits for a message to come again where there is one
 pub record HasGatheredEpochs (v : Gathered) (s : GatherSetup) (ms : List Heard) (es : List Closed) (again : Option Heard) : Type 0 where
   pub standing : HasTakenMessages v s ms (is_done v s ms again)
   pub handed : es ≡ closed_list_at s ms (closed_so_far s (timed s ms) (is_done v s ms again))

@@ -19,4 +19,4 @@ pub mod Gathering
 pub mod Calls
 pub mod Laws
 pub mod Reach
-pub mod Census
+pub mod SignalCounts

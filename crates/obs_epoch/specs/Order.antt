@@ -19,17 +19,17 @@ plan_seat planned satellite signal = record { satellite = satellite.id; place = 
 abbrev pub is_before : Seat → Seat → Bool
 is_before a b = nat_lt a.satellite b.satellite || ((a.satellite == b.satellite) && nat_lt a.place b.place)
 
--- each before all behind it
+-- each before all after it
 abbrev pub SeatsRise : List Seat → Type 0
 SeatsRise [] = ⊤
 SeatsRise (s ∷ ss) = AllByRecursion (λ t. is_before s t ≡ true) ss × SeatsRise ss
 
--- before the first that stands behind it
+-- before the first that stands after it
 abbrev pub insert_by : {X : Type 0} → (X → Seat) → X → List X → List X
 insert_by at x [] = x ∷ []
 insert_by at x (y ∷ ys) = if is_before (at x) (at y) then x ∷ y ∷ ys else y ∷ insert_by at x ys
 
--- how many don't stand behind that seat
+-- how many don't stand after that seat
 abbrev pub spot : Seat → List Seat → ℕ
 spot s [] = 0
 spot s (t ∷ ts) = if is_before s t then 0 else suc (spot s ts)

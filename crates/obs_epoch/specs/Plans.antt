@@ -30,7 +30,7 @@ one_signal_more system earlier (Some s) rest =
     then Err (RepeatedCode system (length earlier))
     else rest (earlier ++ s.index ∷ [])
 
--- a code's signal is taken behind these, and the signals are then those
+-- a code's signal is taken after these, and the signals are then those
 abbrev pub IsTaken : System → List ℕ → Option SignalAt → List ℕ → Type 0
 IsTaken system earlier s now = (rest : List ℕ → Result (List ℕ) PlanFault) → one_signal_more system earlier s rest ≡ rest now
 
@@ -38,7 +38,7 @@ IsTaken system earlier s now = (rest : List ℕ → Result (List ℕ) PlanFault)
 abbrev pub IsRefused : System → List ℕ → Option SignalAt → PlanFault → Type 0
 IsRefused system earlier s fault = (rest : List ℕ → Result (List ℕ) PlanFault) → one_signal_more system earlier s rest ≡ Err fault
 
--- the signals that codes plan, behind those of the codes before them: from the left the first code that the table doesn't
+-- the signals that codes plan, after those of the codes before them: from the left the first code that the table doesn't
 -- have, or whose signal came before, is the fault, with its place from 0
 abbrev pub signals_after : System → List ℕ → List (List ℕ) → Result (List ℕ) PlanFault
 signals_after system earlier [] = Ok earlier

@@ -56,7 +56,7 @@ pub record AreGathered (system : System) (signals : List ℕ) (cells : List Cell
   pub apart : IsDistinct same_place cells
 
 -- station values of a message, or none
-pub record AreToldValues (v : StationValues) : Type 0 where
+pub record AreStationValues (v : StationValues) : Type 0 where
   pub x : IsCoordinate v.x
   pub y : IsCoordinate v.y
   pub z : IsCoordinate v.z
@@ -66,9 +66,9 @@ pub record AreToldValues (v : StationValues) : Type 0 where
 pub record IsGatheredEpoch (plan : PlanValue) (e : Closed) : Type 0 where
   pub time : e.epoch.time < weeks * week
   pub cells : (system : System) → AreGathered system (planned_of system plan) (cells_of system e.epoch)
-  pub values : AreToldValues e.values
+  pub values : AreStationValues e.values
 
--- each time is before all behind it
+-- each time is before all after it
 abbrev pub TimesRise : List Closed → Type 0
 TimesRise [] = ⊤
 TimesRise (e ∷ es) = AllByRecursion (λ f. e.epoch.time < f.epoch.time) es × TimesRise es
@@ -83,4 +83,4 @@ abbrev pub MessagesAreHeard : Type 0
 MessagesAreHeard = (m : Message) → IsMessage m → IsHeard (heard m)
 
 abbrev pub EpochsAreGathered : Type 0
-EpochsAreGathered = (s : GatherSetup) (ms : List Heard) → AreToldValues s.initial → AllByRecursion IsHeard ms → AreGatheredEpochs s.plan (all_epochs s ms)
+EpochsAreGathered = (s : GatherSetup) (ms : List Heard) → AreStationValues s.initial → AllByRecursion IsHeard ms → AreGatheredEpochs s.plan (all_epochs s ms)

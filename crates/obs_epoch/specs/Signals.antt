@@ -36,24 +36,24 @@ codes_in (Some text) = between_commas text
 abbrev pub ArePlanned : System → Result (List ℕ) PlanFault → List SignalAt → Type 0
 ArePlanned system planned ss = (planned ≡ Ok (indices ss)) × IsOf system ss
 
--- a code's signal is taken behind signals of its system
+-- a code's signal is taken after signals of its system
 abbrev pub TakesCode : System → List ℕ → List SignalAt → List SignalAt → Type 0
 TakesCode system code before after = IsTaken system (indices before) (signal_of_code system code) (indices after) × IsOf system after
 
--- a code's signal is refused behind signals of its system
+-- a code's signal is refused after signals of its system
 abbrev pub RefusesCode : System → List ℕ → List SignalAt → PlanFault → Type 0
 RefusesCode system code before fault = IsRefused system (indices before) (signal_of_code system code) fault
 
--- the fault is want of memory, or such a one
+-- the fault is lack of memory, or such a one
 abbrev pub IsMemoryFaultOr : (PlanFault → Type 0) → PlanFault → Type 0
 IsMemoryFaultOr P fault = (fault ≡ Memory) ⊎ P fault
 
--- a signal of another system, or one that came before, behind signals of a system
-abbrev pub IsUnfitBehind : System → List SignalAt → SignalAt → PlanFault → Type 0
-IsUnfitBehind system before s (UnknownCode named place) = (named ≡ system) × (place ≡ length before) × (s.system ≡ system → ⊥)
-IsUnfitBehind system before s (RepeatedCode named place) =
+-- a signal of another system, or one that came before, after signals of a system
+abbrev pub IsUnfitAfter : System → List SignalAt → SignalAt → PlanFault → Type 0
+IsUnfitAfter system before s (UnknownCode named place) = (named ≡ system) × (place ≡ length before) × (s.system ≡ system → ⊥)
+IsUnfitAfter system before s (RepeatedCode named place) =
     (named ≡ system) × (place ≡ length before) × (s.system ≡ system) × (list_any (λ r. s.index == r.index) before ≡ true)
-IsUnfitBehind system before s other = ⊥
+IsUnfitAfter system before s other = ⊥
 
 -- the first of the signals that a plan can't have
 pub record IsUnfit (system : System) (ss : List SignalAt) (fault : PlanFault) : Type 0 where
@@ -62,7 +62,7 @@ pub record IsUnfit (system : System) (ss : List SignalAt) (fault : PlanFault) : 
   pub rest : List SignalAt
   pub split : ss ≡ before ++ signal ∷ rest
   pub fits : IsOf system before
-  pub unfit : IsUnfitBehind system before signal fault
+  pub unfit : IsUnfitAfter system before signal fault
 
 -- why signals are none of a plan: those of GPS come first
 abbrev pub IsUnplanned : List SignalAt → List SignalAt → PlanFault → Type 0

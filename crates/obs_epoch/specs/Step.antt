@@ -8,8 +8,8 @@ use Rattle.rtcm_msg.specs.Msm.{week}
 use Rattle.obs_epoch.specs.Times.{ahead, is_past}
 use Rattle.obs_epoch.specs.Clock.{State}
 
-abbrev pub is_told_own : State → Option ℕ → Bool
-is_told_own g station = option_map_or (λ from. option_map_or (λ wanted. from == wanted) g.setup.station true) station false
+abbrev pub is_own_summary : State → Option ℕ → Bool
+is_own_summary g station = option_map_or (λ from. option_map_or (λ wanted. from == wanted) g.setup.station true) station false
 
 abbrev pub time_at : State → ℕ → ℕ
 time_at g tow = option_map_or (λ t. t + ahead t tow) g.latest (g.setup.start_week * week + tow)
@@ -35,14 +35,14 @@ is_first CloseFirst = true
 is_first _ = false
 
 abbrev pub answer_by : State → Heard → Answer
-answer_by g m = if is_told_own g m.station then option_map_or (answer_at g) m.tow Ignored else OtherStation
+answer_by g m = if is_own_summary g m.station then option_map_or (answer_at g) m.tow Ignored else OtherStation
 
 abbrev pub ended_where : Bool → State → State
 ended_where ends_epoch g = if ends_epoch then record g { pending = false } else g
 
 abbrev pub step_by : State → Heard → State
 step_by g m =
-    if is_told_own g m.station
+    if is_own_summary g m.station
     then ended_where (g.setup.by_bit && option_map_or not m.more false) (option_map_or (step_at g) m.tow g)
     else g
 

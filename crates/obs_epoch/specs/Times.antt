@@ -43,7 +43,7 @@ ahead t tow = (tow + (week - t % week)) % week
 abbrev pub time_of : GatherSetup → List Timed → ℕ → ℕ
 time_of s earlier tow = option_map_or (λ t. t + ahead t tow) (greatest_time earlier) (s.start_week * week + tow)
 
--- more than half a week ahead, so behind; or of the greatest time, where that is closed
+-- more than half a week ahead, so after; or of the greatest time, where that is closed
 abbrev pub is_late : GatherSetup → List Timed → ℕ → Bool
 is_late s earlier tow =
     option_map_or (λ t. nat_lt 302_400_000 (ahead t tow) || ((ahead t tow == 0) && is_closed s t earlier)) (greatest_time earlier) false

@@ -62,7 +62,7 @@ fn is_coordinate(v: &i64) -> bool
 
 impl StationValues {
     ghost use Rattle.obs_epoch.specs.Epochs.{no_values};
-    ghost use Rattle.obs_epoch.specs.Reach.{AreToldValues};
+    ghost use Rattle.obs_epoch.specs.Reach.{AreStationValues};
     ghost use Rattle.obs_epoch.specs.Values.{same_values};
 
     /// Returns values of 0: those of a station of which nothing is known.
@@ -79,7 +79,7 @@ impl StationValues {
 
     /// Returns whether a 1005 or 1006 can contain these values: coordinates of 38 bits.
     pub fn fits_message(self) -> bool
-        ensures { IsTrue result ↔ AreToldValues self }
+        ensures { IsTrue result ↔ AreStationValues self }
     {
         is_coordinate(&self.x) && is_coordinate(&self.y) && is_coordinate(&self.z)
     }

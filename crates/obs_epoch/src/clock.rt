@@ -53,7 +53,7 @@ impl Model for Clock {
 
 impl Clock {
     ghost use Rattle.obs_epoch.specs.Clock.{HasHeardMessages};
-    ghost use Rattle.obs_epoch.specs.Step.{answer_by, step_by, answer_at, step_at, is_told_own, closed_by};
+    ghost use Rattle.obs_epoch.specs.Step.{answer_by, step_by, answer_at, step_at, is_own_summary, closed_by};
     ghost use Rattle.obs_epoch.specs.declared.clock.Answer.{Answer};
 
     /// Returns the clock before the first message.
@@ -144,7 +144,7 @@ impl Clock {
     }
 
     pub fn is_own(&self, station: Option<u16>) -> bool
-        ensures { result ≡ is_told_own self.now station }
+        ensures { result ≡ is_own_summary self.now station }
     {
         match (station, self.station) {
             (None, _) => false,

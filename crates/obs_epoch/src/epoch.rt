@@ -80,7 +80,7 @@ impl Epoch {
     }
 
     // Sets the station values.
-    pub(crate) fn tell(&mut self, values: StationValues)
+    pub(crate) fn set_values(&mut self, values: StationValues)
         ensures { self.new ≡ record { epoch = self.old.epoch; values = values } }
     {
         self.values = values;
@@ -213,7 +213,7 @@ fn spot(cells: &[Cell], plan: &Plan, x: Seat, system: System) -> usize
     if end == 0 {
         return 0;
     }
-    if !is_behind(&cells[end - 1], plan, x) {
+    if !is_after(&cells[end - 1], plan, x) {
         return end;
     }
     spot_by_halves(cells, plan, x, system)
@@ -230,7 +230,7 @@ fn spot_by_halves(cells: &[Cell], plan: &Plan, x: Seat, system: System) -> usize
     let mut high = cells.len();
     while low < high {
         let middle = low + (high - low) / 2;
-        if is_behind(&cells[middle], plan, x) {
+        if is_after(&cells[middle], plan, x) {
             high = middle;
         } else {
             low = middle + 1;
@@ -240,7 +240,7 @@ fn spot_by_halves(cells: &[Cell], plan: &Plan, x: Seat, system: System) -> usize
 }
 
 // Returns whether a cell has a greater sort key.
-fn is_behind(cell: &Cell, plan: &Plan, x: Seat) -> bool
+fn is_after(cell: &Cell, plan: &Plan, x: Seat) -> bool
     ensures { result ≡ is_before x (cell_seat (planned_of cell.now.signal.system plan.now) cell.now) }
 {
     is_before(x, seat_at(plan, cell.satellite, cell.signal))

@@ -9,7 +9,7 @@ ghost use Rattle.obs_epoch.specs.Heard.{GatherSetup, Heard, heard, heard_summary
 ghost use Rattle.obs_epoch.specs.Order.{StandByPlan};
 ghost use Rattle.obs_epoch.specs.Plans.{place_in};
 ghost use Rattle.obs_epoch.specs.Heard.{heard_cell, IsObserved};
-ghost use Rattle.obs_epoch.specs.Epochs.{values_told, values_of};
+ghost use Rattle.obs_epoch.specs.Epochs.{values_by_message, values_of};
 ghost use Rattle.obs_epoch.specs.Held.{count_in, most_locks, no_locks, recorded};
 ghost use Rattle.obs_epoch.specs.Step.{answer_by, closed_by as closes};
 ghost use Rattle.obs_epoch.specs.Standing.{HasTakenMessages};
@@ -224,7 +224,7 @@ impl Gatherer {
     /// Returns the station values so far.
     pub fn station_values(&self) -> StationValues
         ensures now { result ≡ self.now.values }
-        ensures told { (s : GatherSetup) (ms : List Heard) (es : List Closed) (again : Option Heard) → HasGatheredEpochs self.now s ms es again
+        ensures given { (s : GatherSetup) (ms : List Heard) (es : List Closed) (again : Option Heard) → HasGatheredEpochs self.now s ms es again
             → result ≡ values_of s ms }
     {
         self.epoch.station_values()
@@ -246,7 +246,7 @@ impl Gatherer {
         let before = self.clock.latest();
         let said = summary_of(view);
         let values = self.values_after(&said);
-        self.epoch.tell(values);
+        self.epoch.set_values(values);
         let (answer, closed) = self.clock.step_closing(&said);
         self.handed = closed.is_some();
         let counts = self.load(answer, before, view);
@@ -275,7 +275,7 @@ impl Gatherer {
 
     // Returns the station values after a message.
     fn values_after(&self, said: &Summary) -> StationValues
-        ensures { result ≡ values_told self.now.clock.setup self.now.values (heard_summary said.now) }
+        ensures { result ≡ values_by_message self.now.clock.setup self.now.values (heard_summary said.now) }
     {
         let values = self.epoch.station_values();
         match said.point {

@@ -5,7 +5,7 @@ ghost use Rattle.obs_epoch.specs.Weeks.{weeks};
 ghost use Rattle.obs_epoch.specs.Dates.{IsCivilOf, civil_of};
 ghost use Rattle.obs_epoch.specs.Epochs.{no_values};
 ghost use Rattle.obs_epoch.specs.Laws.{ClosedStay, ClosedComeFirst, NoneClosed, NeverFirst, CodesAreSpelled};
-ghost use Rattle.obs_epoch.specs.Reach.{AreToldValues, MessagesAreHeard, EpochsAreGathered};
+ghost use Rattle.obs_epoch.specs.Reach.{AreStationValues, MessagesAreHeard, EpochsAreGathered};
 
 /// Messages that follow don't change the epochs that are closed.
 pub fn closed_stay()
@@ -35,7 +35,7 @@ pub fn calendar()
 pub fn gathered()
     ensures heard { MessagesAreHeard }
     ensures epochs { EpochsAreGathered }
-    ensures zero { AreToldValues no_values }
+    ensures zero { AreStationValues no_values }
 {
     gnss_obs::laws::sizes();
     rtcm_msg::laws::measures();

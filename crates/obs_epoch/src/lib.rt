@@ -6,7 +6,6 @@
 #![tactic(auto)]
 
 mod cell;
-mod census;
 mod civil;
 mod clock;
 mod epoch;
@@ -16,16 +15,17 @@ pub mod laws;
 mod locks;
 mod observe;
 mod plan;
+mod signal_counts;
 mod signals;
 mod taken;
 mod time;
 
 pub use cell::{Cell, StationValues};
-pub use census::Census;
 pub use civil::Civil;
 pub use epoch::{Epoch, end_of, is_written};
 pub use fault::PlanFault;
 pub use gather::Gatherer;
 pub use plan::Plan;
+pub use signal_counts::SignalCounts;
 pub use taken::{Gather, Kind, Taken};
 pub use time::GpsTime;

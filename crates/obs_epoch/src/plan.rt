@@ -4,7 +4,7 @@ ghost use Rattle.gnss_obs.specs.declared.system.System.TheVariants.{Gps, Galileo
 ghost use Rattle.gnss_obs.specs.Signals.{table};
 ghost use Rattle.obs_epoch.specs.Values.{planned_of};
 ghost use Rattle.obs_epoch.specs.Plans.{plan_of, signals_of, signals_coded, between_commas, below, place_in};
-ghost use Rattle.obs_epoch.specs.Signals.{indices, IsOf, codes_in, ArePlanned, TakesCode, RefusesCode, IsMemoryFaultOr, IsUnfitBehind, IsUnfit, IsUnplanned, IsPlanOf, ArePlanOf};
+ghost use Rattle.obs_epoch.specs.Signals.{indices, IsOf, codes_in, ArePlanned, TakesCode, RefusesCode, IsMemoryFaultOr, IsUnfitAfter, IsUnfit, IsUnplanned, IsPlanOf, ArePlanOf};
 
 use crate::fault::PlanFault;
 use crate::locks::is_same_system;
@@ -171,7 +171,7 @@ fn add_signal(signals: &mut Signals, system: System, signal: Signal) -> Result<(
     requires { IsOf system signals.old }
     ensures { MatchResult result
         (λ _. (signals.new ≡ signals.old ++ signal ∷ []) × IsOf system signals.new)
-        (IsMemoryFaultOr (IsUnfitBehind system signals.old signal)) }
+        (IsMemoryFaultOr (IsUnfitAfter system signals.old signal)) }
 {
     let place = signals.len();
     if !is_same_system(signal.system(), system) {
@@ -249,9 +249,9 @@ fn read_codes(signals: &mut Signals, system: System, text: &str) -> Result<(), P
 {
     let mut rest = Some(text);
     while let Some(codes) = rest {
-        let (code, behind) = first_code(codes);
+        let (code, after) = first_code(codes);
         add_code(signals, system, code)?;
-        rest = behind;
+        rest = after;
     }
     Ok(())
 }
@@ -262,7 +262,7 @@ fn first_code(codes: &str) -> (&str, Option<&str>)
     ensures fewer { IfSome result.1 (λ r. length r.now < length codes.now) }
 {
     match codes.split_once(',') {
-        Some((code, behind)) => (code, Some(behind)),
+        Some((code, after)) => (code, Some(after)),
         None => (codes, None),
     }
 }

@@ -6,15 +6,15 @@ use Rattle.std.proofs.lemmas.List.{map-append}
 use Rattle.std.proofs.lemmas.List.Elements.{All-head, All-tail, All-nil, All-push}
 use Rattle.obs_epoch.specs.Dates.{civil_of}
 use Rattle.obs_epoch.specs.declared.cell.StationValues.{StationValues}
-use Rattle.rinex_file.specs.declared.read.due.Due.TheVariants.{Epoch, EventEpoch, Satellite}
+use Rattle.rinex_file.specs.declared.read.expected.Expected.TheVariants.{Epoch, EventEpoch, Satellite}
 use Rattle.rinex_file.specs.Value.{SatelliteRow, Stamped, FileValue}
-use Rattle.rinex_file.specs.FileValues.{IsFileValue, IsStamped, IsSatelliteRow, AreSatelliteRows, IsTime, IsChange, AreChanges, IsFirstSame, changed_by, values_behind, time_stamped, rank_of, most_rows}
+use Rattle.rinex_file.specs.FileValues.{IsFileValue, IsStamped, IsSatelliteRow, AreSatelliteRows, IsTime, IsChange, AreChanges, IsFirstSame, changed_by, values_following, time_stamped, rank_of, most_rows}
 use Rattle.rinex_file.specs.Lines.{epoch_line, satellite_line}
 use Rattle.rinex_file.specs.File.{stamped_lines, change_lines, event_line}
 use Rattle.rinex_file.specs.Read.Progress.{Progress, file_with, stamped, StartsAt, IsAt, IsBetween, IsInEvent, IsInEpoch, HasLinesLeft, begun_at, with_row, with_epoch}
-use Rattle.rinex_file.specs.Read.Sound.{AreRead, IsBegun, IsEventDue, IsSoundAt, IsSound, MayBegin, values_now, AreLinesAt}
+use Rattle.rinex_file.specs.Read.Sound.{AreRead, IsBegun, IsEventExpected, IsSoundAt, IsSound, MayBegin, values_now, AreLinesAt}
 use Rattle.rinex_file.specs.Begun.{lines_of_header, whole_lines, part_lines}
-use Rattle.rinex_file.specs.Course.{GoesOnWithLine, ShowsLine}
+use Rattle.rinex_file.specs.ParserState.{GoesOnWithLine, ShowsLine}
 use Rattle.std.proofs.lemmas.List.Concat.{flat_map-append}
 use Rattle.rinex_file.proofs.FewRows.{few_rows, few_planned}
 use Rattle.rinex_file.proofs.Entries.{few_signals}
@@ -40,7 +40,7 @@ All-midst P (x ∷ xs) ys y h = All-midst P xs ys y (All-tail P x (xs ++ y ∷ y
 
 -- ---- station values that change
 
--- the lines of an epoch behind this change of station values
+-- the lines of an epoch after this change of station values
 abbrev pub lines_with : Option StationValues → Stamped → List (List ℕ)
 lines_with c e = change_lines c ++ (epoch_line (civil_of e.time) (length e.rows) ∷ map satellite_line e.rows)
 
@@ -48,15 +48,15 @@ pub lines_are : (e : Stamped) (c : Option StationValues) → e.change ≡ c → 
 lines_are e c h = ap (λ x. lines_with x e) h
 
 -- the change of an epoch is one of the station values before it
-pub changes_midst : (v : StationValues) (es others : List Stamped) (x : Stamped) → AreChanges v (es ++ x ∷ others) → IsChange (values_behind v es) x.change
+pub changes_midst : (v : StationValues) (es others : List Stamped) (x : Stamped) → AreChanges v (es ++ x ∷ others) → IsChange (values_following v es) x.change
 changes_midst v [] others x h = h.0
 changes_midst v (e ∷ es) others x h = changes_midst (changed_by v e.change) es others x h.1
 
-changes_more : (v : StationValues) (es : List Stamped) (x : Stamped) → AreChanges v es → IsChange (values_behind v es) x.change → AreChanges v (es ++ x ∷ [])
+changes_more : (v : StationValues) (es : List Stamped) (x : Stamped) → AreChanges v es → IsChange (values_following v es) x.change → AreChanges v (es ++ x ∷ [])
 changes_more v [] x h k = (k, tt)
 changes_more v (e ∷ es) x h k = (h.0, changes_more (changed_by v e.change) es x h.1 k)
 
-pub values_more : (v : StationValues) (es : List Stamped) (x : Stamped) → values_behind v (es ++ x ∷ []) ≡ changed_by (values_behind v es) x.change
+pub values_more : (v : StationValues) (es : List Stamped) (x : Stamped) → values_following v (es ++ x ∷ []) ≡ changed_by (values_following v es) x.change
 values_more v [] x = refl
 values_more v (e ∷ es) x = values_more (changed_by v e.change) es x
 
@@ -66,7 +66,7 @@ first_more (e ∷ es) x h k = h
 
 -- ---- the line of an epoch
 
--- an epoch behind this change, at this time, with these satellites
+-- an epoch after this change, at this time, with these satellites
 abbrev pub at_time : Option StationValues → ℕ → List SatelliteRow → Stamped
 at_time c t rows = record { change = c; time = t; rows = rows }
 
@@ -83,7 +83,7 @@ same_epoch e c t h k = made e.change c e.time t e.rows h k
 abbrev SameLine : ℕ → ℕ → ℕ → ℕ → Type 0
 SameLine u m t n = ◌≡◌ {A = ℕ × ℕ} (u, m) (t, n)
 
--- what follows where the line of an epoch does, behind this change of station values
+-- what follows where the line of an epoch does, after this change of station values
 pub record EpochNext (s : Progress) (c : Option StationValues) (v : FileValue) (line : List ℕ) (left : List (List ℕ)) : Type 0 where
   pub e : Stamped
   pub es : List Stamped
@@ -131,16 +131,16 @@ from_others s v line left (e ∷ es) never is value starts rest = by e.change re
       let text : line ∷ left ≡ lines_with (Some w) e ++ flat_map stamped_lines es = rest ∙ ap (λ l. l ++ flat_map stamped_lines es) (lines_are e (Some w) h) in
       absurd (never (some_epochs s.epochs es e w valid.first h, (cons_parts _ _ _ _ text).0))
 
-pub plain_next : (s : Progress) (v : FileValue) (line : List ℕ) (left : List (List ℕ)) → s.due ≡ Epoch → NoEvent s line → HasLinesLeft s v (line ∷ left) → EpochNext s None v line left
+pub plain_next : (s : Progress) (v : FileValue) (line : List ℕ) (left : List (List ℕ)) → s.expected ≡ Epoch → NoEvent s line → HasLinesLeft s v (line ∷ left) → EpochNext s None v line left
 unfolding HasLinesLeft
-plain_next s v line left due never (is, at) =
-    let here : IsBetween s v (line ∷ left) = subst (λ d. IsAt s d v (line ∷ left)) due at in
+plain_next s v line left expected never (is, at) =
+    let here : IsBetween s v (line ∷ left) = subst (λ d. IsAt s d v (line ∷ left)) expected at in
     from_others s v line left here.others never is here.value here.starts here.rest
 
-pub changed_next : (s : Progress) (w : StationValues) (v : FileValue) (line : List ℕ) (left : List (List ℕ)) → s.due ≡ EventEpoch w → HasLinesLeft s v (line ∷ left) → EpochNext s (Some w) v line left
+pub changed_next : (s : Progress) (w : StationValues) (v : FileValue) (line : List ℕ) (left : List (List ℕ)) → s.expected ≡ EventEpoch w → HasLinesLeft s v (line ∷ left) → EpochNext s (Some w) v line left
 unfolding HasLinesLeft
-changed_next s w v line left due (is, at) =
-    let here : IsInEvent s 3 (λ x. x ≡ w) v (line ∷ left) = subst (λ d. IsAt s d v (line ∷ left)) due at in
+changed_next s w v line left expected (is, at) =
+    let here : IsInEvent s 3 (λ x. x ≡ w) v (line ∷ left) = subst (λ d. IsAt s d v (line ∷ left)) expected at in
     let change : here.next.change ≡ Some w = here.change ∙ ap Some here.shown in
     next_with s (Some w) v line left here.next here.others is here.value here.starts change
     (here.rest ∙ ap (λ l. drop 3 l ++ flat_map stamped_lines here.others) (lines_are here.next (Some w) change))
@@ -181,11 +181,11 @@ begin_line w = epoch_line (civil_of w.0) w.1
 no_begin : (s : Progress) (c : Option StationValues) (v : FileValue) (line : List ℕ) (left : List (List ℕ)) → ((w : ℕ × ℕ) → Begins s w → line ≡ begin_line w → ⊥) → EpochNext s c v line left → ⊥
 no_begin s c v line left none next = none (next.e.time, length next.e.rows) (may_begin s c v line left next) next.shown
 
-pub no_plain : (s : Progress) (line : List ℕ) → s.due ≡ Epoch → NoEvent s line → ((w : ℕ × ℕ) → Begins s w → line ≡ begin_line w → ⊥) → (v : FileValue) (left : List (List ℕ)) → HasLinesLeft s v (line ∷ left) → ⊥
-no_plain s line due never none v left on = no_begin s None v line left none (plain_next s v line left due never on)
+pub no_plain : (s : Progress) (line : List ℕ) → s.expected ≡ Epoch → NoEvent s line → ((w : ℕ × ℕ) → Begins s w → line ≡ begin_line w → ⊥) → (v : FileValue) (left : List (List ℕ)) → HasLinesLeft s v (line ∷ left) → ⊥
+no_plain s line expected never none v left on = no_begin s None v line left none (plain_next s v line left expected never on)
 
-pub no_changed : (s : Progress) (w : StationValues) (line : List ℕ) → s.due ≡ EventEpoch w → ((w : ℕ × ℕ) → Begins s w → line ≡ begin_line w → ⊥) → (v : FileValue) (left : List (List ℕ)) → HasLinesLeft s v (line ∷ left) → ⊥
-no_changed s w line due none v left on = no_begin s (Some w) v line left none (changed_next s w v line left due on)
+pub no_changed : (s : Progress) (w : StationValues) (line : List ℕ) → s.expected ≡ EventEpoch w → ((w : ℕ × ℕ) → Begins s w → line ≡ begin_line w → ⊥) → (v : FileValue) (left : List (List ℕ)) → HasLinesLeft s v (line ∷ left) → ⊥
+no_changed s w line expected none v left on = no_begin s (Some w) v line left none (changed_next s w v line left expected on)
 
 module _ (s : Progress) (c : Option StationValues) (t n : ℕ) (line : List ℕ) (none : s.rows ≡ []) (shown : line ≡ epoch_line (civil_of t) n)
     (only : (w : ℕ × ℕ) → Begins s w → line ≡ begin_line w → w ≡ (t, n)) where
@@ -205,16 +205,16 @@ module _ (s : Progress) (c : Option StationValues) (t n : ℕ) (line : List ℕ)
       }
 
 -- the line of an epoch with the station values before
-pub plain_taken : (s : Progress) (t n : ℕ) (line : List ℕ) → s.due ≡ Epoch → NoEvent s line → s.rows ≡ [] → line ≡ epoch_line (civil_of t) n
+pub plain_taken : (s : Progress) (t n : ℕ) (line : List ℕ) → s.expected ≡ Epoch → NoEvent s line → s.rows ≡ [] → line ≡ epoch_line (civil_of t) n
     → ((w : ℕ × ℕ) → Begins s w → line ≡ begin_line w → w ≡ (t, n)) → GoesOnWithLine s (begun_at s None t n) line
 unfolding HasLinesLeft
-plain_taken s t n line due never none shown only v left on = (on.0, to_within s None t n line none shown only v left (plain_next s v line left due never on))
+plain_taken s t n line expected never none shown only v left on = (on.0, to_within s None t n line none shown only v left (plain_next s v line left expected never on))
 
--- the line of an epoch behind an event
-pub changed_taken : (s : Progress) (w : StationValues) (t n : ℕ) (line : List ℕ) → s.due ≡ EventEpoch w → s.rows ≡ [] → line ≡ epoch_line (civil_of t) n
+-- the line of an epoch after an event
+pub changed_taken : (s : Progress) (w : StationValues) (t n : ℕ) (line : List ℕ) → s.expected ≡ EventEpoch w → s.rows ≡ [] → line ≡ epoch_line (civil_of t) n
     → ((w : ℕ × ℕ) → Begins s w → line ≡ begin_line w → w ≡ (t, n)) → GoesOnWithLine s (begun_at s (Some w) t n) line
 unfolding HasLinesLeft
-changed_taken s w t n line due none shown only v left on = (on.0, to_within s (Some w) t n line none shown only v left (changed_next s w v line left due on))
+changed_taken s w t n line expected none shown only v left on = (on.0, to_within s (Some w) t n line none shown only v left (changed_next s w v line left expected on))
 
 -- the lines with that of an epoch
 begun_lines : (whole taken before : List (List ℕ)) (line : List ℕ) (t n : ℕ) (c : Option StationValues) (rows : List SatelliteRow) → rows ≡ [] → taken ≡ whole ++ before → before ≡ change_lines c
@@ -223,26 +223,26 @@ begun_lines whole taken before line t n c rows none e same shown =
     ap (λ l. l ++ line ∷ []) e ∙ append_assoc whole before (line ∷ []) ∙ ap (λ l. whole ++ (l ++ line ∷ [])) same ∙ ap (λ l. whole ++ (change_lines c ++ l ∷ [])) shown
     ∙ ap (λ (k : ℕ). whole ++ part_lines (at_time c t []) k) (sym (zero-add n)) ∙ sym (ap (λ (r : List SatelliteRow). whole ++ part_lines (at_time c t r) (length r + n)) none)
 
-pub plain_shows : (s : Progress) (t n : ℕ) (line : List ℕ) → s.due ≡ Epoch → s.rows ≡ [] → line ≡ epoch_line (civil_of t) n → ShowsLine s (begun_at s None t n) line
-plain_shows s t n line due none shown taken are =
+pub plain_shows : (s : Progress) (t n : ℕ) (line : List ℕ) → s.expected ≡ Epoch → s.rows ≡ [] → line ≡ epoch_line (civil_of t) n → ShowsLine s (begun_at s None t n) line
+plain_shows s t n line expected none shown taken are =
     let whole = whole_lines s.known.shown s.epochs in
-    let here : taken ≡ whole = subst (λ d. AreLinesAt s d taken) due are in
+    let here : taken ≡ whole = subst (λ d. AreLinesAt s d taken) expected are in
     begun_lines whole taken [] line t n None s.rows none (here ∙ sym (append-nil whole)) refl shown
 
-pub changed_shows : (s : Progress) (w : StationValues) (t n : ℕ) (line : List ℕ) → s.due ≡ EventEpoch w → s.rows ≡ [] → line ≡ epoch_line (civil_of t) n → ShowsLine s (begun_at s (Some w) t n) line
-changed_shows s w t n line due none shown taken are =
-    begun_lines (whole_lines s.known.shown s.epochs) taken (change_lines (Some w)) line t n (Some w) s.rows none (subst (λ d. AreLinesAt s d taken) due are) refl shown
+pub changed_shows : (s : Progress) (w : StationValues) (t n : ℕ) (line : List ℕ) → s.expected ≡ EventEpoch w → s.rows ≡ [] → line ≡ epoch_line (civil_of t) n → ShowsLine s (begun_at s (Some w) t n) line
+changed_shows s w t n line expected none shown taken are =
+    begun_lines (whole_lines s.known.shown s.epochs) taken (change_lines (Some w)) line t n (Some w) s.rows none (subst (λ d. AreLinesAt s d taken) expected are) refl shown
 
 -- ---- what holds where the line of an epoch is taken
 
 no_rows : (gps galileo : ℕ) → AreSatelliteRows gps galileo []
 no_rows gps galileo = record { each = All-nil (IsSatelliteRow gps galileo); rise = λ k h. absurd (omega (arith, h)) }
 
-pub sound_between : (s : Progress) → s.due ≡ Epoch → IsSound s → AreRead s × (s.rows ≡ [])
-sound_between s due sound = subst (λ d. IsSoundAt s d) due sound
+pub sound_between : (s : Progress) → s.expected ≡ Epoch → IsSound s → AreRead s × (s.rows ≡ [])
+sound_between s expected sound = subst (λ d. IsSoundAt s d) expected sound
 
-pub sound_changed : (s : Progress) (w : StationValues) → s.due ≡ EventEpoch w → IsSound s → IsEventDue s × IsChange (values_now s) (Some w)
-sound_changed s w due sound = subst (λ d. IsSoundAt s d) due sound
+pub sound_changed : (s : Progress) (w : StationValues) → s.expected ≡ EventEpoch w → IsSound s → IsEventExpected s × IsChange (values_now s) (Some w)
+sound_changed s w expected sound = subst (λ d. IsSoundAt s d) expected sound
 
 room_left : (rows : List SatelliteRow) (n most : ℕ) → rows ≡ [] → n ≤ most → length rows + n ≤ most
 room_left rows n most none room = let size : length rows ≡ 0 = ap length none in omega (arith, size, room)
@@ -299,21 +299,21 @@ from_more s n v line left (m ∷ ms) others is count value starts rest =
       rest = (cons_parts _ _ _ _ rest).1;
     }
 
-pub row_next : (s : Progress) (n : ℕ) (v : FileValue) (line : List ℕ) (left : List (List ℕ)) → s.due ≡ Satellite (suc n) → HasLinesLeft s v (line ∷ left) → RowNext s n v line left
+pub row_next : (s : Progress) (n : ℕ) (v : FileValue) (line : List ℕ) (left : List (List ℕ)) → s.expected ≡ Satellite (suc n) → HasLinesLeft s v (line ∷ left) → RowNext s n v line left
 unfolding HasLinesLeft
-row_next s n v line left due (is, at) =
-    let here : IsInEpoch s (suc n) v (line ∷ left) = subst (λ d. IsAt s d v (line ∷ left)) due at in
+row_next s n v line left expected (is, at) =
+    let here : IsInEpoch s (suc n) v (line ∷ left) = subst (λ d. IsAt s d v (line ∷ left)) expected at in
     from_more s n v line left here.more here.others is here.count here.value here.starts here.rest
 
-module _ (s : Progress) (n : ℕ) (line : List ℕ) (due : s.due ≡ Satellite (suc n)) where
+module _ (s : Progress) (n : ℕ) (line : List ℕ) (expected : s.expected ≡ Satellite (suc n)) where
   pub no_row : ((w : SatelliteRow) → IsSatelliteRow (length s.known.shown.plan.gps) (length s.known.shown.plan.galileo) w → line ≡ satellite_line w → ⊥)
       → (v : FileValue) (left : List (List ℕ)) → HasLinesLeft s v (line ∷ left) → ⊥
-  no_row none v left on = let next = row_next s n v line left due on in none next.seen next.is next.shown
+  no_row none v left on = let next = row_next s n v line left expected on in none next.seen next.is next.shown
 
   pub bad_row : (seen : SatelliteRow) → ((w : SatelliteRow) → IsSatelliteRow (length s.known.shown.plan.gps) (length s.known.shown.plan.galileo) w → line ≡ satellite_line w → w ≡ seen)
       → (IsStrictlyIncreasing (map rank_of s.rows ++ rank_of seen ∷ []) → ⊥) → (v : FileValue) (left : List (List ℕ)) → HasLinesLeft s v (line ∷ left) → ⊥
   bad_row seen only never v left on =
-      let next = row_next s n v line left due on in
+      let next = row_next s n v line left expected on in
       let same : next.seen ≡ seen = only next.seen next.is next.shown in
       let rise : IsStrictlyIncreasing (map rank_of s.rows ++ rank_of next.seen ∷ []) =
       rise_front (map rank_of s.rows ++ rank_of next.seen ∷ []) (map rank_of next.more)
@@ -324,7 +324,7 @@ module _ (s : Progress) (n : ℕ) (line : List ℕ) (due : s.due ≡ Satellite (
       → GoesOnWithLine s (with_row s seen n) line
   unfolding HasLinesLeft
   row_taken seen shown only v left on =
-      let next = row_next s n v line left due on in
+      let next = row_next s n v line left expected on in
       let same : next.seen ≡ seen = only next.seen next.is next.shown in
       let rows : s.rows ++ next.seen ∷ next.more ≡ (s.rows ++ seen ∷ []) ++ next.more =
       ap (λ w. s.rows ++ w ∷ next.more) same ∙ sym (append_assoc s.rows (seen ∷ []) next.more) in (
@@ -352,16 +352,16 @@ row_lines whole taken line c t k n rows seen e shown same =
 one_fewer : (rows : List SatelliteRow) (seen : SatelliteRow) (n : ℕ) → length rows + suc n ≡ length (rows ++ seen ∷ []) + n
 one_fewer rows seen n = let size : length (rows ++ seen ∷ []) ≡ length rows + 1 = length-append rows (seen ∷ []) in omega (arith, size)
 
-pub row_shows : (s : Progress) (n : ℕ) (line : List ℕ) → s.due ≡ Satellite (suc n) → (seen : SatelliteRow) → line ≡ satellite_line seen → ShowsLine s (with_row s seen n) line
-row_shows s n line due seen shown taken are =
-    row_lines (whole_lines s.known.shown s.epochs) taken line s.change s.time (length s.rows + suc n) (length (s.rows ++ seen ∷ []) + n) s.rows seen (subst (λ d. AreLinesAt s d taken) due are) shown
+pub row_shows : (s : Progress) (n : ℕ) (line : List ℕ) → s.expected ≡ Satellite (suc n) → (seen : SatelliteRow) → line ≡ satellite_line seen → ShowsLine s (with_row s seen n) line
+row_shows s n line expected seen shown taken are =
+    row_lines (whole_lines s.known.shown s.epochs) taken line s.change s.time (length s.rows + suc n) (length (s.rows ++ seen ∷ []) + n) s.rows seen (subst (λ d. AreLinesAt s d taken) expected are) shown
     (one_fewer s.rows seen n)
 
 -- the last satellite makes the epoch whole
-pub last_shows : (s : Progress) (line : List ℕ) → s.due ≡ Satellite 1 → (seen : SatelliteRow) → line ≡ satellite_line seen → ShowsLine s (with_epoch (with_row s seen 0)) line
-last_shows s line due seen shown taken are =
+pub last_shows : (s : Progress) (line : List ℕ) → s.expected ≡ Satellite 1 → (seen : SatelliteRow) → line ≡ satellite_line seen → ShowsLine s (with_epoch (with_row s seen 0)) line
+last_shows s line expected seen shown taken are =
     let e = stamped s (s.rows ++ seen ∷ []) in
-    let all = row_shows s 0 line due seen shown taken are in
+    let all = row_shows s 0 line expected seen shown taken are in
     let n : length (s.rows ++ seen ∷ []) + 0 ≡ length (s.rows ++ seen ∷ []) = omega arith in
     let head = lines_of_header s.known.shown in
     all ∙ ap (λ (m : ℕ). whole_lines s.known.shown s.epochs ++ part_lines e m) n ∙ append_assoc head (flat_map stamped_lines s.epochs) (stamped_lines e)
@@ -384,12 +384,12 @@ from_none s v left [] others count value starts rest =
 
 -- ---- what holds where the line of a satellite is taken
 
-pub sound_open : (s : Progress) (n : ℕ) → s.due ≡ Satellite n → IsSound s → AreRead s × IsBegun s × (0 < n) × (length s.rows + n ≤ most_rows (length s.known.shown.plan.gps) (length s.known.shown.plan.galileo))
-sound_open s n due sound = subst (λ d. IsSoundAt s d) due sound
+pub sound_open : (s : Progress) (n : ℕ) → s.expected ≡ Satellite n → IsSound s → AreRead s × IsBegun s × (0 < n) × (length s.rows + n ≤ most_rows (length s.known.shown.plan.gps) (length s.known.shown.plan.galileo))
+sound_open s n expected sound = subst (λ d. IsSoundAt s d) expected sound
 
-pub few_at : (s : Progress) (n : ℕ) → s.due ≡ Satellite n → IsSound s → (length s.known.shown.plan.gps ≤ 19) × (length s.known.shown.plan.galileo ≤ 19)
-few_at s n due sound =
-    let plan = (sound_open s n due sound).0.shown.plan in
+pub few_at : (s : Progress) (n : ℕ) → s.expected ≡ Satellite n → IsSound s → (length s.known.shown.plan.gps ≤ 19) × (length s.known.shown.plan.galileo ≤ 19)
+few_at s n expected sound =
+    let plan = (sound_open s n expected sound).0.shown.plan in
     let gps = few_planned s.known.shown.plan plan Gps in
     let galileo = few_planned s.known.shown.plan plan Galileo in
     let g = few_signals Gps in
@@ -408,14 +408,14 @@ starts_more : (first : ℕ) (es : List Stamped) (x : Stamped) → StartsAt first
 starts_more first [] x starts none = none refl
 starts_more first (e ∷ es) x starts none = starts
 
-module _ (s : Progress) (n left : ℕ) (due : s.due ≡ Satellite left) (sound : IsSound s) (seen : SatelliteRow)
+module _ (s : Progress) (n left : ℕ) (expected : s.expected ≡ Satellite left) (sound : IsSound s) (seen : SatelliteRow)
     (is : IsSatelliteRow (length s.known.shown.plan.gps) (length s.known.shown.plan.galileo) seen) (rise : IsStrictlyIncreasing (map rank_of s.rows ++ rank_of seen ∷ [])) where
   rows_more : AreSatelliteRows (length s.known.shown.plan.gps) (length s.known.shown.plan.galileo) (s.rows ++ seen ∷ [])
-  rows_more = seen_more (length s.known.shown.plan.gps) (length s.known.shown.plan.galileo) s.rows seen (sound_open s left due sound).1.rows is rise
+  rows_more = seen_more (length s.known.shown.plan.gps) (length s.known.shown.plan.galileo) s.rows seen (sound_open s left expected sound).1.rows is rise
 
   pub sound_row : 0 < n → left ≡ suc n → IsSound (with_row s seen n)
   sound_row some one =
-      let (read, begun, all, room) = sound_open s left due sound in
+      let (read, begun, all, room) = sound_open s left expected sound in
       let size : length s.rows + left ≡ length (s.rows ++ seen ∷ []) + n = ap (λ (k : ℕ). length s.rows + k) one ∙ one_fewer s.rows seen n in (
         read,
         record { time = begun.time; later = begun.later; rows = rows_more; first = begun.first; change = begun.change; same = begun.same },
@@ -425,7 +425,7 @@ module _ (s : Progress) (n left : ℕ) (due : s.due ≡ Satellite left) (sound :
 
   pub sound_closed : IsSound (with_epoch (with_row s seen n))
   sound_closed =
-      let (read, begun, all, room) = sound_open s left due sound in
+      let (read, begun, all, room) = sound_open s left expected sound in
       let size : length (s.rows ++ seen ∷ []) ≡ length s.rows + 1 = length-append s.rows (seen ∷ []) in (
         record {
           shown = read.shown;
@@ -443,10 +443,10 @@ module _ (s : Progress) (n left : ℕ) (due : s.due ≡ Satellite left) (sound :
       )
 
 -- the last line of an epoch's satellites
-pub last_taken : (s : Progress) (line : List ℕ) → s.due ≡ Satellite 1 → (seen : SatelliteRow) → line ≡ satellite_line seen
+pub last_taken : (s : Progress) (line : List ℕ) → s.expected ≡ Satellite 1 → (seen : SatelliteRow) → line ≡ satellite_line seen
     → ((w : SatelliteRow) → IsSatelliteRow (length s.known.shown.plan.gps) (length s.known.shown.plan.galileo) w → line ≡ satellite_line w → w ≡ seen)
     → GoesOnWithLine s (with_epoch (with_row s seen 0)) line
 unfolding HasLinesLeft
-last_taken s line due seen shown only v left on =
-    let here : IsInEpoch (with_row s seen 0) 0 v left = (row_taken s 0 line due seen shown only v left on).1 in
+last_taken s line expected seen shown only v left on =
+    let here : IsInEpoch (with_row s seen 0) 0 v left = (row_taken s 0 line expected seen shown only v left on).1 in
     (on.0, from_none (with_row s seen 0) v left here.more here.others here.count here.value here.starts here.rest)

@@ -27,7 +27,7 @@ put_last : (front rest new : List ℕ) (n k : ℕ) → length front ≡ n → le
 put_last front rest new n k l few =
     put_more front rest new n k l ∙ ap (λ t. (front ++ new) ++ t) (drop_all k rest few) ∙ append-nil (front ++ new)
 
--- the second, the third and the last sixteen columns behind the first
+-- the second, the third and the last sixteen columns after the first
 pub put_four : (a b c d rest : List ℕ) (k : ℕ) → length a ≡ 16 → length b ≡ 16 → length c ≡ 16 → length rest ≡ 48
     → (two three : List ℕ) → two ≡ take 16 (a ++ rest) ++ (b ++ drop 16 (drop 16 (a ++ rest))) → three ≡ take 32 two ++ (c ++ drop 16 (drop 32 two))
     → k ≡ length three - 48 → take 48 three ++ (d ++ drop k (drop 48 three)) ≡ a ++ (b ++ (c ++ d))

@@ -67,20 +67,20 @@ padded-two p h =
           ap (λ n. replicate (2 - n) 48 ++ decimal p) (ap length d) ∙ d
     ]
 
--- ---- digits in front of a point
+-- ---- digits before a point
 
 split_blanks : (r k : ℕ) → r + k ≡ 10 → replicate {A = ℕ} 10 32 ≡ replicate r 32 ++ replicate k 32
 split_blanks r k e = ap (λ n. replicate {A = ℕ} n 32) (sym e) ∙ sym (replicate-append-replicate {A = ℕ} r k 32)
 
--- digits were put in front of what stands behind ten blanks
+-- digits were put before what stands after ten blanks
 pub put_in : (old new d tail : List ℕ) (r : ℕ) → old ≡ replicate 10 32 ++ tail → r + length d ≡ 10 → drop r new ≡ d ++ drop 10 old → take r new ≡ take r old
     → new ≡ replicate r 32 ++ (d ++ tail)
-put_in old new d tail r begun there behind before =
+put_in old new d tail r begun there after before =
     let rest : drop 10 old ≡ tail = ap (drop 10) begun in
     let shape : old ≡ replicate r 32 ++ (replicate (length d) 32 ++ tail) =
     begun ∙ ap (λ t. t ++ tail) (split_blanks r (length d) there) ∙ append_assoc (replicate r 32) (replicate (length d) 32) tail in
     let front : take r old ≡ replicate r 32 = ap (take r) shape ∙ take_at (replicate r 32) (replicate (length d) 32 ++ tail) r (length-replicate r 32) in
-    sym (take-append-drop r new) ∙ ap (λ t. t ++ drop r new) (before ∙ front) ∙ ap (λ t. replicate r 32 ++ t) (behind ∙ ap (λ t. d ++ t) rest)
+    sym (take-append-drop r new) ∙ ap (λ t. t ++ drop r new) (before ∙ front) ∙ ap (λ t. replicate r 32 ++ t) (after ∙ ap (λ t. d ++ t) rest)
 
 three_parts : (d p : List ℕ) (sign : List ℕ) (r n : ℕ) → r + length d ≡ 10 → length p ≡ 3 → length sign ≡ n → 14 - length ((sign ++ d) ++ 46 ∷ p) ≡ r - n
 three_parts d p sign r n e k l = simp length-append (omega (arith, e, k, l))
@@ -116,7 +116,7 @@ columns-signed d p a b r e some k =
 pub length-three : (p : ℕ) → p < 1000 → length (padded 3 p) ≡ 3
 length-three p h = ap length (padded-three p h)
 
--- ten digits in front of the point
+-- ten digits before the point
 pub ten_digits : (n : ℕ) → n ≤ 9_999_999_999_999 → length (decimal (n / 1000)) ≤ 10
 ten_digits n h =
     let small : n / 1000 < 10 ^ 10 = omega (arith, h) in

@@ -28,7 +28,7 @@ pub digits_from-zeros : (k n : ℕ) → digits_from n (replicate k 48) ≡ n * 1
 digits_from-zeros zero n = omega arith
 digits_from-zeros (suc k) n = digits_from-zeros k (next_digit n 48) ∙ shift n (10 ^ k) ∙ ap (λ p. n * p) (sym (pow-suc 10 k))
 
--- the digits of n behind a number
+-- the digits of n after a number
 abbrev Reads : ℕ → List ℕ → Type 0
 Reads n ds = (m : ℕ) → digits_from m ds ≡ m * 10 ^ length ds + n
 
@@ -92,7 +92,7 @@ digits_in-sign : (b : Bool) (text : List ℕ) → digits_in (sign_text b ++ text
 digits_in-sign true text = refl
 digits_in-sign false text = refl
 
--- the whole part, a point and the digits behind it
+-- the whole part, a point and the digits after it
 whole_and_part : (places n : ℕ) → 0 < places → n < 2 ^ 64 → digits_in (decimal (n / 10 ^ places) ++ 46 ∷ padded places (n % 10 ^ places)) ≡ n
 whole_and_part places n some fits =
     let whole = n / 10 ^ places in

@@ -15,7 +15,7 @@ use Rattle.rinex_file.specs.Lines.{epoch_fields, epoch_line}
 use Rattle.rinex_file.specs.Header.{header_line, first_line}
 use Rattle.rinex_file.proofs.Digits.{length-right, length-padded, length-fixed, not_negative, digits_in-right, digits_in-fixed, digits_in-padded, digits_in-whole}
 
--- ---- fields of stated widths, one behind the other
+-- ---- fields of stated widths, one after the other
 
 -- where a field begins
 abbrev start_of : List ℕ → ℕ → ℕ
@@ -172,8 +172,8 @@ begins : (content label : List ℕ) → (tail : List ℕ) × (header_line conten
 unfolding header_line
 begins content label =
     let blanks = replicate (60 - length content) 32 in
-    let behind = left 20 label ++ (10 ∷ []) in
-    (blanks ++ behind, append_assoc content blanks behind)
+    let after = left 20 label ++ (10 ∷ []) in
+    (blanks ++ after, append_assoc content blanks after)
 
 pub first_shown : (t : Civil) (line : List ℕ) → HasColumns t → line ≡ first_line t → ShowFirst t line
 first_shown t line is e =

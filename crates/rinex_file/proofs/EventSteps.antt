@@ -6,8 +6,8 @@ use Rattle.std.specs.Fmt.{sign_text}
 use Rattle.obs_epoch.specs.Dates.{civil_of}
 use Rattle.obs_epoch.specs.declared.civil.Civil.{Civil}
 use Rattle.obs_epoch.specs.declared.cell.StationValues.{StationValues}
-use Rattle.rinex_file.specs.declared.read.due.Due.{Due}
-use Rattle.rinex_file.specs.declared.read.due.Due.TheVariants.{Epoch, EventPosition, EventHeight, EventEpoch}
+use Rattle.rinex_file.specs.declared.read.expected.Expected.{Expected}
+use Rattle.rinex_file.specs.declared.read.expected.Expected.TheVariants.{Epoch, EventPosition, EventHeight, EventEpoch}
 use Rattle.rinex_file.specs.Value.{Stamped, FileValue}
 use Rattle.rinex_file.specs.FileValues.{IsFileValue, AreValues, IsChange, IsCoordinate}
 use Rattle.rinex_file.specs.Header.{header_line, lengths, position_line, delta_line}
@@ -16,17 +16,17 @@ use Rattle.rinex_file.specs.Numbers.{joined, padded, fixed}
 use Rattle.rinex_file.specs.Read.Fields.{has}
 use Rattle.rinex_file.specs.File.{stamped_lines, event_line, event_lines}
 use Rattle.rinex_file.specs.Begun.{whole_lines}
-use Rattle.rinex_file.specs.Course.{GoesOnWithLine, ShowsLine}
-use Rattle.rinex_file.specs.Read.Progress.{Progress, file_with, StartsAt, IsAt, IsBetween, IsInEvent, HasPosition, HasLinesLeft, due_next}
-use Rattle.rinex_file.specs.Read.Sound.{IsEventDue, IsSoundAt, IsSound, AreLinesAt, at_position, values_now}
+use Rattle.rinex_file.specs.ParserState.{GoesOnWithLine, ShowsLine}
+use Rattle.rinex_file.specs.Read.Progress.{Progress, file_with, StartsAt, IsAt, IsBetween, IsInEvent, HasPosition, HasLinesLeft, expected_next}
+use Rattle.rinex_file.specs.Read.Sound.{IsEventExpected, IsSoundAt, IsSound, AreLinesAt, at_position, values_now}
 use Rattle.rinex_file.proofs.Digits.{has-append}
 use Rattle.rinex_file.proofs.HeaderLearned.{coordinate_same}
 use Rattle.rinex_file.proofs.BodySteps.{lines_with, lines_are, changes_midst, sound_between}
 
 -- ---- an event's line isn't that of an epoch, which has a point
 
-has_behind : (a b : List ℕ) → has 46 b ≡ true → has 46 (a ++ b) ≡ true
-has_behind a b h = has-append 46 a b ∙ ap (λ x. has 46 a || x) h ∙ always (has 46 a) where
+has_after : (a b : List ℕ) → has 46 b ≡ true → has 46 (a ++ b) ≡ true
+has_after a b h = has-append 46 a b ∙ ap (λ x. has 46 a || x) h ∙ always (has 46 a) where
   always : (x : Bool) → (x || true) ≡ true
   always true = refl
   always false = refl
@@ -37,16 +37,16 @@ has_front a b h = has-append 46 a b ∙ ap (λ x. x || has 46 b) h
 has_field : (fs : List (List ℕ)) (k : ℕ) → k < length fs → has 46 (get_or fs k []) ≡ true → has 46 (joined fs) ≡ true
 has_field [] k less h = absurd (omega (arith, less))
 has_field (f ∷ fs) zero less h = has_front f (joined fs) h
-has_field (f ∷ fs) (suc k) less h = has_behind f (joined fs) (has_field fs k (omega (arith, less)) h)
+has_field (f ∷ fs) (suc k) less h = has_after f (joined fs) (has_field fs k (omega (arith, less)) h)
 
 fixed_point : (z : ℤ) → has 46 (fixed 7 z) ≡ true
-fixed_point z = has_behind (sign_text (is_negative z) ++ decimal (unsigned_abs z / 10 ^ 7)) (46 ∷ padded 7 (unsigned_abs z % 10 ^ 7)) refl
+fixed_point z = has_after (sign_text (is_negative z) ++ decimal (unsigned_abs z / 10 ^ 7)) (46 ∷ padded 7 (unsigned_abs z % 10 ^ 7)) refl
 
 has_point : (t : Civil) (n : ℕ) → has 46 (epoch_line t n) ≡ true
 unfolding epoch_line
 has_point t n =
     let second = fixed 7 (pos (t.millisecond * 10_000)) in
-    has_field (epoch_fields t n) 10 (lit< tt) (has_behind (replicate (11 - length second) 32) second (fixed_point (pos (t.millisecond * 10_000))))
+    has_field (epoch_fields t n) 10 (lit< tt) (has_after (replicate (11 - length second) 32) second (fixed_point (pos (t.millisecond * 10_000))))
 
 no_point : has 46 event_line ≡ false
 unfolding event_line
@@ -74,7 +74,7 @@ event_begins s v line left (e ∷ es) shown value starts rest = by e.change refl
       absurd (not_epoch (civil_of e.time) (length e.rows) (sym shown ∙ same))
   by (Some w) h =
       let text : line ∷ left ≡ lines_with (Some w) e ++ Others es = rest ∙ ap (λ l. l ++ Others es) (lines_are e (Some w) h) in
-      let behind : left ≡ drop 1 (lines_with (Some w) e) ++ Others es = ap (drop 1) text in
+      let after : left ≡ drop 1 (lines_with (Some w) e) ++ Others es = ap (drop 1) text in
       record {
         next = e;
         values = w;
@@ -83,11 +83,11 @@ event_begins s v line left (e ∷ es) shown value starts rest = by e.change refl
         starts = starts;
         change = h;
         shown = tt;
-        rest = behind ∙ ap (λ l. drop 1 l ++ Others es) (sym (lines_are e (Some w) h));
+        rest = after ∙ ap (λ l. drop 1 l ++ Others es) (sym (lines_are e (Some w) h));
       }
 
 -- the same of what was read where another line is due
-to_next : (s : Progress) (d : Due) (k : ℕ) (Show : StationValues → Type 0) (v : FileValue) (left : List (List ℕ)) → IsInEvent s k Show v left → IsInEvent (due_next s d) k Show v left
+to_next : (s : Progress) (d : Expected) (k : ℕ) (Show : StationValues → Type 0) (v : FileValue) (left : List (List ℕ)) → IsInEvent s k Show v left → IsInEvent (expected_next s d) k Show v left
 to_next s d k Show v left h = record {
   next = h.next;
   values = h.values;
@@ -99,16 +99,16 @@ to_next s d k Show v left h = record {
   rest = h.rest;
 }
 
-pub event_taken : (s : Progress) (line : List ℕ) → s.due ≡ Epoch → line ≡ event_line → GoesOnWithLine s (due_next s EventPosition) line
+pub event_taken : (s : Progress) (line : List ℕ) → s.expected ≡ Epoch → line ≡ event_line → GoesOnWithLine s (expected_next s EventPosition) line
 unfolding HasLinesLeft
-event_taken s line due shown v left on =
-    let here : IsBetween s v (line ∷ left) = subst (λ d. IsAt s d v (line ∷ left)) due on.1 in
+event_taken s line expected shown v left on =
+    let here : IsBetween s v (line ∷ left) = subst (λ d. IsAt s d v (line ∷ left)) expected on.1 in
     let event = event_begins s v line left here.others shown here.value here.starts here.rest in
     (on.0, to_next s EventPosition 1 (λ w. ⊤) v left event)
 
-pub event_shows : (s : Progress) (line : List ℕ) → s.due ≡ Epoch → line ≡ event_line → ShowsLine s (due_next s EventPosition) line
-event_shows s line due shown taken are =
-    let here : taken ≡ whole_lines s.known.shown s.epochs = subst (λ d. AreLinesAt s d taken) due are in
+pub event_shows : (s : Progress) (line : List ℕ) → s.expected ≡ Epoch → line ≡ event_line → ShowsLine s (expected_next s EventPosition) line
+event_shows s line expected shown taken are =
+    let here : taken ≡ whole_lines s.known.shown s.epochs = subst (λ d. AreLinesAt s d taken) expected are in
     ap (λ l. l ++ line ∷ []) here ∙ ap (λ l. whole_lines s.known.shown s.epochs ++ l ∷ []) shown
 
 -- the lines with another one
@@ -116,9 +116,9 @@ lines_more : (whole taken before : List (List ℕ)) (line shown : List ℕ) → 
 lines_more whole taken before line shown e same = ap (λ l. l ++ line ∷ []) e ∙ append_assoc whole before (line ∷ []) ∙ ap (λ l. whole ++ (before ++ l ∷ [])) same
 
 -- the station values of an event are other ones than those before
-told_values : (s : Progress) (v : FileValue) (e : Stamped) (others : List Stamped) (w : StationValues) → IsFileValue v → v ≡ file_with s (s.epochs ++ e ∷ others) → e.change ≡ Some w
+values_in_range : (s : Progress) (v : FileValue) (e : Stamped) (others : List Stamped) (w : StationValues) → IsFileValue v → v ≡ file_with s (s.epochs ++ e ∷ others) → e.change ≡ Some w
     → IsChange (values_now s) (Some w)
-told_values s v e others w is value change =
+values_in_range s v e others w is value change =
     let valid : IsFileValue (file_with s (s.epochs ++ e ∷ others)) = subst IsFileValue value is in
     subst (IsChange (values_now s)) change (changes_midst s.known.shown.values s.epochs others e valid.changes)
 
@@ -138,13 +138,13 @@ record PositionNext (s : Progress) (v : FileValue) (line : List ℕ) (left : Lis
   pub event : IsInEvent s 2 (λ w. line ≡ position_line w) v left
   pub are : AreValues event.values
 
-position_next : (s : Progress) (v : FileValue) (line : List ℕ) (left : List (List ℕ)) → s.due ≡ EventPosition → HasLinesLeft s v (line ∷ left) → PositionNext s v line left
+position_next : (s : Progress) (v : FileValue) (line : List ℕ) (left : List (List ℕ)) → s.expected ≡ EventPosition → HasLinesLeft s v (line ∷ left) → PositionNext s v line left
 unfolding HasLinesLeft
-position_next s v line left due (is, at) =
-    let here : IsInEvent s 1 (λ w. ⊤) v (line ∷ left) = subst (λ d. IsAt s d v (line ∷ left)) due at in
+position_next s v line left expected (is, at) =
+    let here : IsInEvent s 1 (λ w. ⊤) v (line ∷ left) = subst (λ d. IsAt s d v (line ∷ left)) expected at in
     let lines = lines_are here.next (Some here.values) here.change in
     let text : line ∷ left ≡ drop 1 (lines_with (Some here.values) here.next) ++ Others here.others = here.rest ∙ ap (λ l. drop 1 l ++ Others here.others) lines in
-    let behind : left ≡ drop 2 (lines_with (Some here.values) here.next) ++ Others here.others = ap (drop 1) text in
+    let after : left ≡ drop 2 (lines_with (Some here.values) here.next) ++ Others here.others = ap (drop 1) text in
     record {
       event = record {
         next = here.next;
@@ -154,9 +154,9 @@ position_next s v line left due (is, at) =
         starts = here.starts;
         change = here.change;
         shown = cc;
-        rest = behind ∙ ap (λ l. drop 2 l ++ Others here.others) (sym lines);
+        rest = after ∙ ap (λ l. drop 2 l ++ Others here.others) (sym lines);
       };
-      are = (told_values s v here.next here.others here.values is here.value here.change).0;
+      are = (values_in_range s v here.next here.others here.values is here.value here.change).0;
     }
 
 -- what a number is after its bits
@@ -167,20 +167,20 @@ pub position_back : (p : ℤ × ℤ × ℤ) → IsPosition p → SamePosition (b
 position_back p is =
     ap (λ t. (t, back p.1, back p.2)) (coordinate_same p.0 is.0) ∙ ap (λ t. (p.0, t, back p.2)) (coordinate_same p.1 is.1) ∙ ap (λ t. (p.0, p.1, t)) (coordinate_same p.2 is.2)
 
-pub no_position : (s : Progress) (line : List ℕ) → s.due ≡ EventPosition → ((p : ℤ × ℤ × ℤ) → IsPosition p → line ≡ position_text p → ⊥) → (v : FileValue) (left : List (List ℕ)) → HasLinesLeft s v (line ∷ left) → ⊥
-no_position s line due none v left on =
-    let next = position_next s v line left due on in
+pub no_position : (s : Progress) (line : List ℕ) → s.expected ≡ EventPosition → ((p : ℤ × ℤ × ℤ) → IsPosition p → line ≡ position_text p → ⊥) → (v : FileValue) (left : List (List ℕ)) → HasLinesLeft s v (line ∷ left) → ⊥
+no_position s line expected none v left on =
+    let next = position_next s v line left expected on in
     let w = next.event.values in
     none (w.x, w.y, w.z) (next.are.x, next.are.y, next.are.z) next.event.shown
 
-pub position_taken : (s : Progress) (x y z : ℤ) (line : List ℕ) → s.due ≡ EventPosition → ((p : ℤ × ℤ × ℤ) → IsPosition p → line ≡ position_text p → p ≡ (x, y, z))
-    → GoesOnWithLine s (due_next s (EventHeight x y z)) line
+pub position_taken : (s : Progress) (x y z : ℤ) (line : List ℕ) → s.expected ≡ EventPosition → ((p : ℤ × ℤ × ℤ) → IsPosition p → line ≡ position_text p → p ≡ (x, y, z))
+    → GoesOnWithLine s (expected_next s (EventHeight x y z)) line
 unfolding HasLinesLeft
-position_taken s x y z line due only v left on =
-    let next = position_next s v line left due on in
+position_taken s x y z line expected only v left on =
+    let next = position_next s v line left expected on in
     let here = next.event in
     let same : SamePosition (here.values.x, here.values.y, here.values.z) (x, y, z) = only (here.values.x, here.values.y, here.values.z) (next.are.x, next.are.y, next.are.z) here.shown in
-    let event : IsInEvent (due_next s (EventHeight x y z)) 2 (HasPosition x y z) v left = record {
+    let event : IsInEvent (expected_next s (EventHeight x y z)) 2 (HasPosition x y z) v left = record {
       next = here.next;
       values = here.values;
       others = here.others;
@@ -192,9 +192,9 @@ position_taken s x y z line due only v left on =
     } in
     (on.0, event)
 
-pub position_shows : (s : Progress) (x y z : ℤ) (line : List ℕ) → s.due ≡ EventPosition → line ≡ position_text (x, y, z) → ShowsLine s (due_next s (EventHeight x y z)) line
-position_shows s x y z line due shown taken are =
-    lines_more (whole_lines s.known.shown s.epochs) taken (event_line ∷ []) line (position_text (x, y, z)) (subst (λ d. AreLinesAt s d taken) due are) shown
+pub position_shows : (s : Progress) (x y z : ℤ) (line : List ℕ) → s.expected ≡ EventPosition → line ≡ position_text (x, y, z) → ShowsLine s (expected_next s (EventHeight x y z)) line
+position_shows s x y z line expected shown taken are =
+    lines_more (whole_lines s.known.shown s.epochs) taken (event_line ∷ []) line (position_text (x, y, z)) (subst (λ d. AreLinesAt s d taken) expected are) shown
 
 -- ---- the height
 
@@ -217,14 +217,14 @@ record HeightNext (s : Progress) (x y z : ℤ) (v : FileValue) (line : List ℕ)
   pub are : AreValues event.values
   pub other : event.values ≢ values_now s
 
-height_next : (s : Progress) (x y z : ℤ) (v : FileValue) (line : List ℕ) (left : List (List ℕ)) → s.due ≡ EventHeight x y z → HasLinesLeft s v (line ∷ left) → HeightNext s x y z v line left
+height_next : (s : Progress) (x y z : ℤ) (v : FileValue) (line : List ℕ) (left : List (List ℕ)) → s.expected ≡ EventHeight x y z → HasLinesLeft s v (line ∷ left) → HeightNext s x y z v line left
 unfolding HasLinesLeft
-height_next s x y z v line left due (is, at) =
-    let here : IsInEvent s 2 (HasPosition x y z) v (line ∷ left) = subst (λ d. IsAt s d v (line ∷ left)) due at in
+height_next s x y z v line left expected (is, at) =
+    let here : IsInEvent s 2 (HasPosition x y z) v (line ∷ left) = subst (λ d. IsAt s d v (line ∷ left)) expected at in
     let lines = lines_are here.next (Some here.values) here.change in
     let text : line ∷ left ≡ drop 2 (lines_with (Some here.values) here.next) ++ Others here.others = here.rest ∙ ap (λ l. drop 2 l ++ Others here.others) lines in
-    let behind : left ≡ drop 3 (lines_with (Some here.values) here.next) ++ Others here.others = ap (drop 1) text in
-    let told = told_values s v here.next here.others here.values is here.value here.change in
+    let after : left ≡ drop 3 (lines_with (Some here.values) here.next) ++ Others here.others = ap (drop 1) text in
+    let given = values_in_range s v here.next here.others here.values is here.value here.change in
     record {
       event = record {
         next = here.next;
@@ -234,17 +234,17 @@ height_next s x y z v line left due (is, at) =
         starts = here.starts;
         change = here.change;
         shown = here.shown;
-        rest = behind ∙ ap (λ l. drop 3 l ++ Others here.others) (sym lines);
+        rest = after ∙ ap (λ l. drop 3 l ++ Others here.others) (sym lines);
       };
       shown = cc;
-      are = told.0;
-      other = told.1;
+      are = given.0;
+      other = given.1;
     }
 
-module _ (s : Progress) (x y z : ℤ) (line : List ℕ) (due : s.due ≡ EventHeight x y z) where
+module _ (s : Progress) (x y z : ℤ) (line : List ℕ) (expected : s.expected ≡ EventHeight x y z) where
   pub no_height : ((h : ℕ) → h < 2 ^ 16 → line ≡ height_text h → ⊥) → (v : FileValue) (left : List (List ℕ)) → HasLinesLeft s v (line ∷ left) → ⊥
   no_height none v left on =
-      let next = height_next s x y z v line left due on in
+      let next = height_next s x y z v line left expected on in
       none next.event.values.height next.are.height next.shown
 
   module _ (h : ℕ) (only : (k : ℕ) → k < 2 ^ 16 → line ≡ height_text k → k ≡ h) where
@@ -256,15 +256,15 @@ module _ (s : Progress) (x y z : ℤ) (line : List ℕ) (due : s.due ≡ EventHe
     -- the station values are those before
     pub same_height : values_with x y z h ≡ values_now s → (v : FileValue) (left : List (List ℕ)) → HasLinesLeft s v (line ∷ left) → ⊥
     same_height same v left on =
-        let next = height_next s x y z v line left due on in
+        let next = height_next s x y z v line left expected on in
         next.other (same_next v left next ∙ same)
 
-    pub height_taken : (w : StationValues) → w ≡ values_with x y z h → GoesOnWithLine s (due_next s (EventEpoch w)) line
+    pub height_taken : (w : StationValues) → w ≡ values_with x y z h → GoesOnWithLine s (expected_next s (EventEpoch w)) line
     unfolding HasLinesLeft
     height_taken w named v left on =
-        let next = height_next s x y z v line left due on in
+        let next = height_next s x y z v line left expected on in
         let here = next.event in
-        let event : IsInEvent (due_next s (EventEpoch w)) 3 (λ u. u ≡ w) v left = record {
+        let event : IsInEvent (expected_next s (EventEpoch w)) 3 (λ u. u ≡ w) v left = record {
           next = here.next;
           values = here.values;
           others = here.others;
@@ -276,10 +276,10 @@ module _ (s : Progress) (x y z : ℤ) (line : List ℕ) (due : s.due ≡ EventHe
         } in
         (on.0, event)
 
-pub height_shows : (s : Progress) (x y z : ℤ) (h : ℕ) (w : StationValues) (line : List ℕ) → s.due ≡ EventHeight x y z → line ≡ height_text h → w ≡ values_with x y z h → ShowsLine s (due_next s (EventEpoch w)) line
-height_shows s x y z h w line due shown named taken are =
+pub height_shows : (s : Progress) (x y z : ℤ) (h : ℕ) (w : StationValues) (line : List ℕ) → s.expected ≡ EventHeight x y z → line ≡ height_text h → w ≡ values_with x y z h → ShowsLine s (expected_next s (EventEpoch w)) line
+height_shows s x y z h w line expected shown named taken are =
     let whole = whole_lines s.known.shown s.epochs in
-    lines_more whole taken (event_line ∷ position_line (at_position x y z) ∷ []) line (height_text h) (subst (λ d. AreLinesAt s d taken) due are) shown
+    lines_more whole taken (event_line ∷ position_line (at_position x y z) ∷ []) line (height_text h) (subst (λ d. AreLinesAt s d taken) expected are) shown
     ∙ ap (λ (u : StationValues). whole ++ event_lines u) (sym named)
 
 -- ---- what holds where a line of an event is taken
@@ -287,17 +287,17 @@ height_shows s x y z h w line due shown named taken are =
 some_read : (es : List Stamped) → 0 < length es → es ≢ []
 some_read es some none = let size : length es ≡ 0 = ap length none in omega (arith, size, some)
 
-pub sound_event : (s : Progress) → s.due ≡ Epoch → IsSound s → 0 < length s.epochs → IsSound (due_next s EventPosition)
-sound_event s due sound some =
-    let (read, rows) = sound_between s due sound in
+pub sound_event : (s : Progress) → s.expected ≡ Epoch → IsSound s → 0 < length s.epochs → IsSound (expected_next s EventPosition)
+sound_event s expected sound some =
+    let (read, rows) = sound_between s expected sound in
     (read, rows, some_read s.epochs some)
 
-pub sound_position : (s : Progress) (x y z : ℤ) → s.due ≡ EventPosition → IsSound s → IsPosition (x, y, z) → IsSound (due_next s (EventHeight x y z))
-sound_position s x y z due sound is =
-    let at : IsEventDue s = subst (λ d. IsSoundAt s d) due sound in
+pub sound_position : (s : Progress) (x y z : ℤ) → s.expected ≡ EventPosition → IsSound s → IsPosition (x, y, z) → IsSound (expected_next s (EventHeight x y z))
+sound_position s x y z expected sound is =
+    let at : IsEventExpected s = subst (λ d. IsSoundAt s d) expected sound in
     (at, is)
 
-pub sound_height : (s : Progress) (x y z : ℤ) (h : ℕ) → s.due ≡ EventHeight x y z → IsSound s → h < 2 ^ 16 → (values_with x y z h ≡ values_now s → ⊥) → IsSound (due_next s (EventEpoch (values_with x y z h)))
-sound_height s x y z h due sound small other =
-    let at : IsEventDue s × (IsCoordinate x × IsCoordinate y × IsCoordinate z) = subst (λ d. IsSoundAt s d) due sound in
+pub sound_height : (s : Progress) (x y z : ℤ) (h : ℕ) → s.expected ≡ EventHeight x y z → IsSound s → h < 2 ^ 16 → (values_with x y z h ≡ values_now s → ⊥) → IsSound (expected_next s (EventEpoch (values_with x y z h)))
+sound_height s x y z h expected sound small other =
+    let at : IsEventExpected s × (IsCoordinate x × IsCoordinate y × IsCoordinate z) = subst (λ d. IsSoundAt s d) expected sound in
     (at.0, (record { x = at.1.0; y = at.1.1; z = at.1.2; height = small }, other))

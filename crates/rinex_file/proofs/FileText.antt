@@ -6,13 +6,13 @@ use Rattle.obs_epoch.specs.Dates.{civil_of}
 use Rattle.obs_epoch.specs.Values.{PlanValue, Closed, same_values}
 use Rattle.rinex_file.specs.Numbers.{joined, left}
 use Rattle.rinex_file.specs.Texts.{HeaderLists}
-use Rattle.rinex_file.specs.Value.{stamped_of, stamped_behind, all_stamped}
+use Rattle.rinex_file.specs.Value.{stamped_of, stamped_after, all_stamped}
 use Rattle.rinex_file.specs.Header.{header_line, header_lines, row_line, version_line}
 use Rattle.rinex_file.specs.File.{header_text, epoch_text, event_text, event_lines, change_lines, change_text, closed_text, stamped_lines, file_text, gathered}
 use Rattle.rinex_file.proofs.Sent.{joined-append}
 
--- the lines of an epoch that was closed behind others
-stamped_text : (p : PlanValue) (v : StationValues) (c : Closed) → joined (stamped_lines (stamped_behind p v c)) ≡ change_text v c.values ++ epoch_text p c.epoch
+-- the lines of an epoch that was closed after others
+stamped_text : (p : PlanValue) (v : StationValues) (c : Closed) → joined (stamped_lines (stamped_after p v c)) ≡ change_text v c.values ++ epoch_text p c.epoch
 unfolding epoch_text event_text
 stamped_text p v c = by (same_values v c.values) where
   by : (b : Bool) → joined (change_lines (if b then None else Some c.values) ++ stamped_lines (stamped_of p c.epoch)) ≡ (if b then [] else event_text c.values) ++ joined (stamped_lines (stamped_of p c.epoch))
@@ -22,7 +22,7 @@ stamped_text p v c = by (same_values v c.values) where
 epochs_text : (p : PlanValue) (v : StationValues) (cs : List Closed) → joined (flat_map stamped_lines (all_stamped p v cs)) ≡ closed_text p v cs
 epochs_text p v [] = refl
 epochs_text p v (c ∷ cs) =
-    joined-append (stamped_lines (stamped_behind p v c)) (flat_map stamped_lines (all_stamped p c.values cs))
+    joined-append (stamped_lines (stamped_after p v c)) (flat_map stamped_lines (all_stamped p c.values cs))
     ∙ ap₂ (λ (a b : List ℕ). a ++ b) (stamped_text p v c) (epochs_text p c.values cs)
     ∙ append_assoc (change_text v c.values) (epoch_text p c.epoch) (closed_text p c.values cs)
 

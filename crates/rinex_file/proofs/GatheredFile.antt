@@ -13,12 +13,12 @@ use Rattle.gnss_obs.specs.Satellites.{satellites as satellites_in}
 use Rattle.obs_epoch.specs.declared.cell.Cell.{Cell}
 use Rattle.obs_epoch.specs.Values.{PlanValue, EpochValue, Closed, same_values, cells_of, planned_of, has_value, is_written}
 use Rattle.obs_epoch.specs.Plans.{place_in}
-use Rattle.obs_epoch.specs.Reach.{IsGathered, AreGathered, IsGatheredEpoch, AreGatheredEpochs, TimesRise, AreToldValues, same_place}
+use Rattle.obs_epoch.specs.Reach.{IsGathered, AreGathered, IsGatheredEpoch, AreGatheredEpochs, TimesRise, AreStationValues, same_place}
 use Rattle.std.specs.Ordering.{int_eq}
 use Rattle.std.proofs.lemmas.Bool.Decides.{Decides-int_eq}
 use Rattle.obs_epoch.specs.declared.cell.StationValues.{StationValues}
 use Rattle.rinex_file.specs.Texts.{HeaderLists}
-use Rattle.rinex_file.specs.Value.{SatelliteRow, numbers, written_satellites, no_signal_values, signal_values_of, is_of_key, signal_values_at, row_of, row_among, row_in_epoch, rows_of, change_from, stamped_behind, all_stamped}
+use Rattle.rinex_file.specs.Value.{SatelliteRow, numbers, written_satellites, no_signal_values, signal_values_of, is_of_key, signal_values_at, row_of, row_among, row_in_epoch, rows_of, change_from, stamped_after, all_stamped}
 use Rattle.rinex_file.specs.FileValues.{AreTexts, AreValues, has_some_value, AreSignalValues, IsRow, of_system, rank_of, IsSatelliteRow, IsStamped, IsChange, AreChanges, changed_by, time_stamped, IsFileValue}
 use Rattle.rinex_file.specs.File.{gathered}
 use Rattle.rinex_file.specs.Gathered.{AreSignals, HasSatellite}
@@ -44,7 +44,7 @@ all_map f P Q h (x ∷ xs) k = (h x k.0, all_map f P Q h xs k.1)
 
 -- ---- numbers that rise
 
--- each before all behind it
+-- each before all after it
 abbrev Rise : List ℕ → Type 0
 Rise [] = Unit {0}
 Rise (x ∷ xs) = AllByRecursion (λ y. x < y) xs × Rise xs
@@ -157,8 +157,8 @@ at_head P c cells id p h =
       found = ap₂ (λ a b. if a && b then Some c else find (is_of_key id c.signal.index) cells) two.0 self;
     }
 
-behind : (P : Cell → Type 0) (c : Cell) (cells : List Cell) (id : ℕ) → IsFoundIn (λ d. P d × (same_place c d ≡ false)) cells id → IsFoundIn P (c ∷ cells) id
-behind P c cells id f = record { cell = f.cell; own = f.own; says = f.says; is = f.is.0; found = by (c.satellite.id == id) (c.signal.index == f.cell.signal.index) refl refl } where
+after : (P : Cell → Type 0) (c : Cell) (cells : List Cell) (id : ℕ) → IsFoundIn (λ d. P d × (same_place c d ≡ false)) cells id → IsFoundIn P (c ∷ cells) id
+after P c cells id f = record { cell = f.cell; own = f.own; says = f.says; is = f.is.0; found = by (c.satellite.id == id) (c.signal.index == f.cell.signal.index) refl refl } where
   by : (a b : Bool) → (c.satellite.id == id) ≡ a → (c.signal.index == f.cell.signal.index) ≡ b
       → (if a && b then Some c else find (is_of_key id f.cell.signal.index) cells) ≡ Some f.cell
   by false b e g = f.found
@@ -176,7 +176,7 @@ speaker P (c ∷ cells) id h d e =
       by : (b : Bool) → ((c.satellite.id == id) && has_value c) ≡ b → (is_written cells id ≡ true → IsFoundIn (λ x. P x × (same_place c x ≡ false)) cells id)
           → IsFoundIn P (c ∷ cells) id
       by true f next = at_head P c cells id h.0 f
-      by false f next = behind P c cells id (next (sym (ap (λ b. b || is_written cells id) f) ∙ e))
+      by false f next = after P c cells id (next (sym (ap (λ b. b || is_written cells id) f) ∙ e))
 
 -- ---- rows
 
@@ -271,7 +271,7 @@ ranks_rise plan e =
 
 -- ---- epochs
 
-epoch_is : (plan : PlanValue) (v : StationValues) (c : Closed) → IsGatheredEpoch plan c → HasSatellite c → IsStamped (length plan.gps) (length plan.galileo) (stamped_behind plan v c)
+epoch_is : (plan : PlanValue) (v : StationValues) (c : Closed) → IsGatheredEpoch plan c → HasSatellite c → IsStamped (length plan.gps) (length plan.galileo) (stamped_after plan v c)
 epoch_is plan v c h some = record {
   time = h.time;
   rows = record {
@@ -321,10 +321,10 @@ same_are v w h =
     let both_x = both (int_eq v.x w.x) (int_eq v.y w.y) both_y.0 in
     all_same v.x w.x v.y w.y v.z w.z v.height w.height (int_same v.x w.x both_x.0) (int_same v.y w.y both_x.1) (int_same v.z w.z both_y.1) (same_index v.height w.height both_z.1)
 
-values_fit : (v : StationValues) → AreToldValues v → AreValues v
+values_fit : (v : StationValues) → AreStationValues v → AreValues v
 values_fit v h = record { x = h.x; y = h.y; z = h.z; height = h.height }
 
-changes : (v w : StationValues) → AreToldValues w → IsChange v (change_from v w) × (changed_by v (change_from v w) ≡ w)
+changes : (v w : StationValues) → AreStationValues w → IsChange v (change_from v w) × (changed_by v (change_from v w) ≡ w)
 changes v w h = by (same_values v w) refl where
   by : (b : Bool) → same_values v w ≡ b → IsChange v (if b then None else Some w) × (changed_by v (if b then None else Some w) ≡ w)
   by true e = (tt, same_are v w e)

@@ -2,7 +2,7 @@
 use Rattle.std.proofs.Common.{◌≡◌, ◌∙◌, sym, ap, ℕ, List, [], ◌∷◌, ◌++◌, append_assoc, append-nil}
 use Rattle.rinex_file.specs.Numbers.{joined}
 
--- y is x with these parts behind it, one after the other
+-- y is x with these parts after it, one after the other
 abbrev pub Grows : List ℕ → List (List ℕ) → List ℕ → Type 0
 Grows x [] y = y ≡ x
 Grows x (p ∷ ps) y = (w : List ℕ) × (w ≡ x ++ p) × Grows w ps y

@@ -5,8 +5,8 @@ use Rattle.std.proofs.lemmas.List.Elements.{All-head, All-nil}
 use Rattle.std.proofs.lemmas.List.{length-map}
 use Rattle.obs_epoch.specs.Dates.{civil_of}
 use Rattle.obs_epoch.specs.declared.cell.StationValues.{StationValues}
-use Rattle.rinex_file.specs.declared.read.due.Due.{Due}
-use Rattle.rinex_file.specs.declared.read.due.Due.TheVariants.{Header, Epoch, EventPosition, EventHeight, EventEpoch, Satellite}
+use Rattle.rinex_file.specs.declared.read.expected.Expected.{Expected}
+use Rattle.rinex_file.specs.declared.read.expected.Expected.TheVariants.{Header, Epoch, EventPosition, EventHeight, EventEpoch, Satellite}
 use Rattle.rinex_file.specs.Value.{SatelliteRow, Stamped, FileValue}
 use Rattle.rinex_file.specs.FileValues.{IsFileValue, IsStamped, AreChanges, IsFirstSame, time_stamped}
 use Rattle.rinex_file.specs.Header.{header_lines}
@@ -15,8 +15,8 @@ use Rattle.rinex_file.specs.File.{stamped_lines, file_lines, lines_of_parts}
 use Rattle.rinex_file.specs.Read.Progress.{Progress, Known, Shown, IsShown, shown_of, IsHeaderLeft, IsHeaderRead, HasHeaderAt, file_with, StartsAt, IsInHeader, IsAt, IsBetween, IsInEvent, HasPosition, IsInEpoch, HasLinesLeft}
 use Rattle.rinex_file.specs.Read.Sound.{AreRead, IsSoundAt, IsSound, AreLinesAt, AreLinesOf}
 use Rattle.rinex_file.specs.Begun.{lines_of_header, whole_lines}
-use Rattle.rinex_file.specs.declared.read.course.Course.{Course}
-use Rattle.rinex_file.specs.Course.{History, FollowsHistory, progress_at, GoesOnWithLine, ShowsLine}
+use Rattle.rinex_file.specs.declared.read.parser_state.ParserState.{ParserState}
+use Rattle.rinex_file.specs.ParserState.{History, FollowsHistory, progress_at, GoesOnWithLine, ShowsLine}
 use Rattle.rinex_file.proofs.HeaderRows.{some_left}
 use Rattle.rinex_file.proofs.BodySteps.{lines_with, lines_are, sound_open, sound_between}
 
@@ -34,8 +34,8 @@ lines_by_first v e es same = ap (Rattle.rinex_file.specs.File.lines_of_parts v.t
 -- ---- a line of the header
 
 -- what was read, with another header and another line due
-abbrev pub known_as : Progress → Known → Due → Progress
-known_as s k due = record { due = due; known = k; epochs = s.epochs; change = s.change; time = s.time; rows = s.rows }
+abbrev pub known_as : Progress → Known → Expected → Progress
+known_as s k expected = record { expected = expected; known = k; epochs = s.epochs; change = s.change; time = s.time; rows = s.rows }
 
 -- what follows where a line of the header is due and a line does
 pub record HeaderNext (s : Progress) (place : ℕ) (v : FileValue) (line : List ℕ) (left : List (List ℕ)) : Type 0 where
@@ -61,11 +61,11 @@ from_lines s place v line left first others (l ∷ ls) epochs header rest =
       rest = cc;
     }
 
-header_next : (s : Progress) (place : ℕ) (v : FileValue) (line : List ℕ) (left : List (List ℕ)) → s.due ≡ Header place → HasLinesLeft s v (line ∷ left)
+header_next : (s : Progress) (place : ℕ) (v : FileValue) (line : List ℕ) (left : List (List ℕ)) → s.expected ≡ Header place → HasLinesLeft s v (line ∷ left)
     → HeaderNext s place v line left
 unfolding HasLinesLeft
-header_next s place v line left due (is, at) =
-    let here : IsInHeader s place v (line ∷ left) = subst (λ d. IsAt s d v (line ∷ left)) due at in
+header_next s place v line left expected (is, at) =
+    let here : IsInHeader s place v (line ∷ left) = subst (λ d. IsAt s d v (line ∷ left)) expected at in
     from_lines s place v line left here.first here.others here.lines here.epochs here.header here.rest
 
 -- a file made of what a header shows
@@ -75,16 +75,16 @@ file_of h epochs = record { texts = h.texts; plan = h.plan; values = h.values; e
 abbrev SameFile : FileValue → FileValue → Type 0
 SameFile v w = v ≡ w
 
-module _ (s : Progress) (place : ℕ) (line : List ℕ) (due : s.due ≡ Header place) where
+module _ (s : Progress) (place : ℕ) (line : List ℕ) (expected : s.expected ≡ Header place) where
   pub no_header : ((h : Shown) (left : List (List ℕ)) → IsHeaderLeft s.known place h (line ∷ left) → ⊥) → (v : FileValue) (left : List (List ℕ)) → HasLinesLeft s v (line ∷ left) → ⊥
-  no_header never v left on = let next = header_next s place v line left due on in never (shown_of v next.first.time) next.lines next.header
+  no_header never v left on = let next = header_next s place v line left expected on in never (shown_of v next.first.time) next.lines next.header
 
   module _ (k : Known) (place' : ℕ)
       (step : (h : Shown) (left : List (List ℕ)) → IsHeaderLeft s.known place h (line ∷ left) ↔ IsHeaderLeft k place' h left) where
     pub header_taken : GoesOnWithLine s (known_as s k (Header place')) line
     unfolding HasLinesLeft
     header_taken v left on =
-        let next = header_next s place v line left due on in (
+        let next = header_next s place v line left expected on in (
           on.0,
           record {
             first = next.first;
@@ -98,7 +98,7 @@ module _ (s : Progress) (place : ℕ) (line : List ℕ) (due : s.due ≡ Header 
 
     pub header_shows : ShowsLine s (known_as s k (Header place')) line
     header_shows taken are h left at =
-        subst (λ d. AreLinesAt s d taken) due are h (line ∷ left) ((step h left).1 at) ∙ sym (append_assoc taken (line ∷ []) left)
+        subst (λ d. AreLinesAt s d taken) expected are h (line ∷ left) ((step h left).1 at) ∙ sym (append_assoc taken (line ∷ []) left)
 
   module _ (k : Known) (none : s.epochs ≡ [])
       (step : (h : Shown) (left : List (List ℕ)) → IsHeaderLeft s.known place h (line ∷ left) ↔ IsHeaderRead k h left) where
@@ -118,13 +118,13 @@ module _ (s : Progress) (place : ℕ) (line : List ℕ) (due : s.due ≡ Header 
 
     pub header_ended : GoesOnWithLine s (known_as s k Epoch) line
     unfolding HasLinesLeft
-    header_ended v left on = (on.0, ended v left (header_next s place v line left due on))
+    header_ended v left on = (on.0, ended v left (header_next s place v line left expected on))
 
     pub ended_shows : IsShown k.shown → ShowsLine s (known_as s k Epoch) line
     ended_shows is taken are =
         let head = lines_of_header k.shown in
         let at = (step k.shown []).1 (record { is = is; same = refl; lines = refl }) in
-        let all : head ≡ taken ++ line ∷ [] = subst (λ d. AreLinesAt s d taken) due are k.shown (line ∷ []) at in
+        let all : head ≡ taken ++ line ∷ [] = subst (λ d. AreLinesAt s d taken) expected are k.shown (line ∷ []) at in
         sym all ∙ sym (append-nil head) ∙ ap (λ (es : List Stamped). whole_lines k.shown es) (sym none)
 
 -- the header was read, and nothing more
@@ -139,12 +139,12 @@ sound_start s k shown none =
       changes = subst (AreChanges k.shown.values) (sym none) tt;
     }
 
-pub sound_header : (s : Progress) (place : ℕ) → s.due ≡ Header place → IsSound s → (s.epochs ≡ []) × (s.rows ≡ []) × HasHeaderAt s.known place
-sound_header s place due sound = subst (λ d. IsSoundAt s d) due sound
+pub sound_header : (s : Progress) (place : ℕ) → s.expected ≡ Header place → IsSound s → (s.epochs ≡ []) × (s.rows ≡ []) × HasHeaderAt s.known place
+sound_header s place expected sound = subst (λ d. IsSoundAt s d) expected sound
 
 -- ---- the first line
 
-module _ (s : Progress) (due : s.due ≡ Header 0)
+module _ (s : Progress) (expected : s.expected ≡ Header 0)
     (step : (h : Shown) (left : List (List ℕ)) → IsHeaderLeft s.known 0 h left ↔ (IsShown h × (left ≡ header_lines h.texts h.plan h.values (civil_of h.first)))) where
   from_first : (v : FileValue) (left : List (List ℕ)) (epochs : List Stamped) → v.epochs ≡ epochs → IsFileValue v → left ≡ file_lines v → IsInHeader s 0 v left
   from_first v left [] epochs is lines =
@@ -163,7 +163,7 @@ module _ (s : Progress) (due : s.due ≡ Header 0)
 
   pub header_starts : (v : FileValue) → IsFileValue v → HasLinesLeft s v (file_lines v)
   unfolding HasLinesLeft
-  header_starts v is = (is, subst (λ d. IsAt s d v (file_lines v)) (sym due) (from_first v (file_lines v) v.epochs refl is refl))
+  header_starts v is = (is, subst (λ d. IsAt s d v (file_lines v)) (sym expected) (from_first v (file_lines v) v.epochs refl is refl))
 
 -- ---- the end
 
@@ -172,33 +172,33 @@ none_begins : (s : Progress) (place : ℕ) (v : FileValue) (first : Stamped) (ot
 none_begins s place v first others [] header rest = some_left s.known place (shown_of v first.time) header
 none_begins s place v first others (l ∷ ls) header rest = cc
 
-pub header_unfinished : (s : Progress) (place : ℕ) → s.due ≡ Header place → (v : FileValue) → HasLinesLeft s v [] → ⊥
+pub header_unfinished : (s : Progress) (place : ℕ) → s.expected ≡ Header place → (v : FileValue) → HasLinesLeft s v [] → ⊥
 unfolding HasLinesLeft
-header_unfinished s place due v (is, at) =
-    let here : IsInHeader s place v [] = subst (λ d. IsAt s d v []) due at in
+header_unfinished s place expected v (is, at) =
+    let here : IsInHeader s place v [] = subst (λ d. IsAt s d v []) expected at in
     none_begins s place v here.first here.others here.lines here.header here.rest
 
 no_rows_left : (n : ℕ) (more : List SatelliteRow) (others : List Stamped) → 0 < n → length more ≡ n → [] ≡ map satellite_line more ++ flat_map stamped_lines others → ⊥
 no_rows_left n [] others some count rest = omega (arith, some, count)
 no_rows_left n (m ∷ ms) others some count rest = cc
 
-pub epoch_unfinished : (s : Progress) (n : ℕ) → s.due ≡ Satellite n → IsSound s → (v : FileValue) → HasLinesLeft s v [] → ⊥
+pub epoch_unfinished : (s : Progress) (n : ℕ) → s.expected ≡ Satellite n → IsSound s → (v : FileValue) → HasLinesLeft s v [] → ⊥
 unfolding HasLinesLeft
-epoch_unfinished s n due sound v (is, at) =
-    let here : IsInEpoch s n v [] = subst (λ d. IsAt s d v []) due at in
-    let all : 0 < n = (sound_open s n due sound).2 in
+epoch_unfinished s n expected sound v (is, at) =
+    let here : IsInEpoch s n v [] = subst (λ d. IsAt s d v []) expected at in
+    let all : 0 < n = (sound_open s n expected sound).2 in
     no_rows_left n here.more here.others all here.count here.rest
 
 -- a line of an event or of its epoch is missing
 pub event_unfinished : (s : Progress) (k : ℕ) (Show : StationValues → Type 0) → k < 4 → (v : FileValue) → IsInEvent s k Show v [] → ⊥
 event_unfinished s k Show few v here =
-    none_behind k here.next here.values (flat_map stamped_lines here.others) few (here.rest ∙ ap (λ l. drop k l ++ flat_map stamped_lines here.others) (lines_are here.next (Some here.values) here.change)) where
-      none_behind : (k : ℕ) (e : Stamped) (w : StationValues) (others : List (List ℕ)) → k < 4 → [] ≡ drop k (lines_with (Some w) e) ++ others → ⊥
-      none_behind zero e w others few h = cc
-      none_behind (suc zero) e w others few h = cc
-      none_behind (suc (suc zero)) e w others few h = cc
-      none_behind (suc (suc (suc zero))) e w others few h = cc
-      none_behind (suc (suc (suc (suc k)))) e w others few h = omega (arith, few)
+    none_after k here.next here.values (flat_map stamped_lines here.others) few (here.rest ∙ ap (λ l. drop k l ++ flat_map stamped_lines here.others) (lines_are here.next (Some here.values) here.change)) where
+      none_after : (k : ℕ) (e : Stamped) (w : StationValues) (others : List (List ℕ)) → k < 4 → [] ≡ drop k (lines_with (Some w) e) ++ others → ⊥
+      none_after zero e w others few h = cc
+      none_after (suc zero) e w others few h = cc
+      none_after (suc (suc zero)) e w others few h = cc
+      none_after (suc (suc (suc zero))) e w others few h = cc
+      none_after (suc (suc (suc (suc k)))) e w others few h = omega (arith, few)
 
 -- no epoch is left where no line is
 none_left : (s : Progress) (v : FileValue) (others : List Stamped) → IsFileValue v → v ≡ file_with s (s.epochs ++ others) → [] ≡ flat_map stamped_lines others → others ≡ []
@@ -209,10 +209,10 @@ none_left s v (e ∷ es) is value rest = absurd (by e.change refl) where
   by (Some w) h = let text : [] ≡ lines_with (Some w) e ++ flat_map stamped_lines es = rest ∙ ap (λ l. l ++ flat_map stamped_lines es) (lines_are e (Some w) h) in cc
 
 -- what was read whole is the only file that goes on without a line
-pub only_file : (s : Progress) → s.due ≡ Epoch → (v : FileValue) → HasLinesLeft s v [] → v ≡ file_with s s.epochs
+pub only_file : (s : Progress) → s.expected ≡ Epoch → (v : FileValue) → HasLinesLeft s v [] → v ≡ file_with s s.epochs
 unfolding HasLinesLeft
-only_file s due v (is, at) =
-    let here : IsBetween s v [] = subst (λ d. IsAt s d v []) due at in
+only_file s expected v (is, at) =
+    let here : IsBetween s v [] = subst (λ d. IsAt s d v []) expected at in
     let none = none_left s v here.others is here.value here.rest in
     here.value ∙ ap (file_with s) (ap (λ x. s.epochs ++ x) none ∙ append-nil s.epochs)
 
@@ -220,18 +220,18 @@ file_value : (s : Progress) (v : FileValue) (left : List (List ℕ)) → HasLine
 unfolding HasLinesLeft
 file_value s v left on = on.0
 
-pub no_file : (s : Progress) → s.due ≡ Epoch → s.epochs ≡ [] → (v : FileValue) → HasLinesLeft s v [] → ⊥
-no_file s due none v on =
-    let value = only_file s due v on in
+pub no_file : (s : Progress) → s.expected ≡ Epoch → s.epochs ≡ [] → (v : FileValue) → HasLinesLeft s v [] → ⊥
+no_file s expected none v on =
+    let value = only_file s expected v on in
     let is : IsFileValue v = file_value s v [] on in
     let epochs : v.epochs ≡ [] = ap (λ w. w.epochs) value ∙ none in
     let size = ap length epochs in
     let some = is.some in
     omega (arith, size, some)
 
-pub file_read : (s : Progress) → s.due ≡ Epoch → IsSound s → 0 < length s.epochs → IsFileValue (file_with s s.epochs)
-file_read s due sound some =
-    let read : AreRead s × (s.rows ≡ []) = subst (λ d. IsSoundAt s d) due sound in
+pub file_read : (s : Progress) → s.expected ≡ Epoch → IsSound s → 0 < length s.epochs → IsFileValue (file_with s s.epochs)
+file_read s expected sound some =
+    let read : AreRead s × (s.rows ≡ []) = subst (λ d. IsSoundAt s d) expected sound in
     record {
       texts = read.0.shown.texts;
       plan = read.0.shown.plan;
@@ -248,9 +248,9 @@ pub lines_read : (h : Shown) (es : List Stamped) → 0 < length es → StartsAt 
 lines_read h [] some starts = absurd (omega (arith, some))
 lines_read h (e ∷ es) some starts = ap (λ (t : ℕ). header_lines h.texts h.plan h.values (civil_of t) ++ flat_map stamped_lines (e ∷ es)) (sym starts)
 
-pub file_shown : (s : Progress) (taken : List (List ℕ)) → s.due ≡ Epoch → IsSound s → 0 < length s.epochs → AreLinesOf s taken → file_lines (file_with s s.epochs) ≡ taken
-file_shown s taken due sound some are =
-    lines_read s.known.shown s.epochs some (sound_between s due sound).0.starts ∙ sym (subst (λ d. AreLinesAt s d taken) due are)
+pub file_shown : (s : Progress) (taken : List (List ℕ)) → s.expected ≡ Epoch → IsSound s → 0 < length s.epochs → AreLinesOf s taken → file_lines (file_with s s.epochs) ≡ taken
+file_shown s taken expected sound some are =
+    lines_read s.known.shown s.epochs some (sound_between s expected sound).0.starts ∙ sym (subst (λ d. AreLinesAt s d taken) expected are)
 
 -- ---- where a course may not end
 
@@ -258,24 +258,24 @@ no_epochs : (es : List Stamped) (n : ℕ) → n ≡ length es → (0 < n → ⊥
 no_epochs [] n size never = refl
 no_epochs (e ∷ es) n size never = absurd (never (omega (arith, size)))
 
-at_due : (s : Progress) (d : Due) → s.due ≡ d → (v : FileValue) (left : List (List ℕ)) → HasLinesLeft s v left → IsAt s d v left
+at_expected : (s : Progress) (d : Expected) → s.expected ≡ d → (v : FileValue) (left : List (List ℕ)) → HasLinesLeft s v left → IsAt s d v left
 unfolding HasLinesLeft
-at_due s d due v left on = subst (λ d. IsAt s d v left) due on.1
+at_expected s d expected v left on = subst (λ d. IsAt s d v left) expected on.1
 
-unfinished_at : (c : Course) (h : History) (due : Due) → c.due ≡ due → FollowsHistory c h → ((due ≡ Epoch) × (0 < c.epochs) → ⊥) → (v : FileValue) → HasLinesLeft (progress_at c h) v [] → ⊥
+unfinished_at : (c : ParserState) (h : History) (expected : Expected) → c.expected ≡ expected → FollowsHistory c h → ((expected ≡ Epoch) × (0 < c.epochs) → ⊥) → (v : FileValue) → HasLinesLeft (progress_at c h) v [] → ⊥
 unfinished_at c h (Header place) same stands never v on = header_unfinished (progress_at c h) place same v on
 unfinished_at c h Epoch same stands never v on = no_file (progress_at c h) same (no_epochs h.epochs c.epochs stands.epochs (λ some. never (refl, some))) v on
-unfinished_at c h EventPosition same stands never v on = event_unfinished (progress_at c h) 1 (λ w. ⊤) (lit< tt) v (at_due (progress_at c h) EventPosition same v [] on)
-unfinished_at c h (EventHeight x y z) same stands never v on = event_unfinished (progress_at c h) 2 (HasPosition x y z) (lit< tt) v (at_due (progress_at c h) (EventHeight x y z) same v [] on)
-unfinished_at c h (EventEpoch w) same stands never v on = event_unfinished (progress_at c h) 3 (λ x. x ≡ w) (lit< tt) v (at_due (progress_at c h) (EventEpoch w) same v [] on)
+unfinished_at c h EventPosition same stands never v on = event_unfinished (progress_at c h) 1 (λ w. ⊤) (lit< tt) v (at_expected (progress_at c h) EventPosition same v [] on)
+unfinished_at c h (EventHeight x y z) same stands never v on = event_unfinished (progress_at c h) 2 (HasPosition x y z) (lit< tt) v (at_expected (progress_at c h) (EventHeight x y z) same v [] on)
+unfinished_at c h (EventEpoch w) same stands never v on = event_unfinished (progress_at c h) 3 (λ x. x ≡ w) (lit< tt) v (at_expected (progress_at c h) (EventEpoch w) same v [] on)
 unfinished_at c h (Satellite n) same stands never v on = epoch_unfinished (progress_at c h) n same stands.sound v on
 
 -- lines are missing
-pub unfinished : (c : Course) (h : History) → FollowsHistory c h → ((c.due ≡ Epoch) × (0 < c.epochs) → ⊥) → (v : FileValue) → HasLinesLeft (progress_at c h) v [] → ⊥
-unfinished c h stands never v on = unfinished_at c h c.due refl stands never v on
+pub unfinished : (c : ParserState) (h : History) → FollowsHistory c h → ((c.expected ≡ Epoch) × (0 < c.epochs) → ⊥) → (v : FileValue) → HasLinesLeft (progress_at c h) v [] → ⊥
+unfinished c h stands never v on = unfinished_at c h c.expected refl stands never v on
 
 -- no satellite is read where an epoch is due
-pub sound_rows : (s : Progress) → s.due ≡ Epoch → IsSound s → s.rows ≡ []
-sound_rows s due sound =
-    let both : AreRead s × (s.rows ≡ []) = subst (λ d. IsSoundAt s d) due sound in
+pub sound_rows : (s : Progress) → s.expected ≡ Epoch → IsSound s → s.rows ≡ []
+sound_rows s expected sound =
+    let both : AreRead s × (s.rows ≡ []) = subst (λ d. IsSoundAt s d) expected sound in
     both.1

@@ -120,7 +120,7 @@ end_steps k line e count whole h left = (
       record {
         is = r.is;
         before = subst (λ g. KnowsAt 25 k g) (sym r.same) (said_of_itself k is whole);
-        due = lit≤ tt;
+        expected = lit≤ tt;
         lines = ap (λ l. l ∷ left) e ∙ ap (λ l. end_line ∷ l) r.lines;
       },
 )
@@ -171,7 +171,7 @@ begins_header k gps galileo h left = (
       signals = λ t. none t ∙ sym (none_begun (planned_of t h.plan) (first_types t));
       first = λ l. absurd (omega (arith, l));
     };
-    due = lit≤ tt;
+    expected = lit≤ tt;
     lines = s.1;
   },
 ) where

@@ -158,7 +158,7 @@ types_there row count zero b planned counted = grind (arith, nat_tests, planned)
 types_there zero count (suc n) b planned counted = grind (arith, nat_tests, planned)
 types_there (suc row) count (suc n) b planned counted = let e = counted (omega arith) (omega arith) in grind (arith, nat_tests, planned, e)
 
--- whether a row has a line is known before it and behind it
+-- whether a row has a line is known before it and after it
 pub present : (r : HeaderRow) (m : ℕ) (k : Known) (h : Shown) → row_place r ≤ m → KnowsAt m k h → has_line h.plan r ≡ known_line k r
 present Version m k h far a = refl
 present (Texts r) m k h far a = refl
@@ -262,10 +262,10 @@ skipped n k less lacks h left =
     let lines : has_line h.plan (row_at n) ≡ false → _ ≡ _ = line_none h.texts h.plan h.values (civil_of h.first) n less in (
       λ i.
           let none : has_line h.plan (row_at n) ≡ false = present (row_at n) n k h (omega (arith, at)) i.before ∙ lacks in
-          record { is = i.is; before = (step i.is none).0 i.before; due = not_last n k less lacks; lines = i.lines ∙ lines none },
+          record { is = i.is; before = (step i.is none).0 i.before; expected = not_last n k less lacks; lines = i.lines ∙ lines none },
       λ i.
           let none : has_line h.plan (row_at n) ≡ false = present (row_at n) (suc n) k h (omega (arith, at)) i.before ∙ lacks in
-          record { is = i.is; before = (step i.is none).1 i.before; due = less; lines = i.lines ∙ sym (lines none) },
+          record { is = i.is; before = (step i.is none).1 i.before; expected = less; lines = i.lines ∙ sym (lines none) },
     )
 
 -- a header that goes on from a place goes on from a later one
@@ -279,9 +279,9 @@ steps_from k new a b line next same steps h left = both_ways (same h (line ∷ l
 pub same_on : (k : Known) (a b c : ℕ) → SameFrom k a b → SameFrom k b c → SameFrom k a c
 same_on k a b c p q h left = both_ways (p h left) (q h left)
 
--- behind the last row there is no line
+-- after the last row there is no line
 pub nothing_left : (k : Known) (a b : ℕ) → SameFrom k a b → row_count ≤ b → (h : Shown) (left : List (List ℕ)) → IsHeaderLeft k a h left → ⊥
-nothing_left k a b same far h left i = let due = ((same h left).0 i).due in omega (arith, due, far)
+nothing_left k a b same far h left i = let expected = ((same h left).0 i).expected in omega (arith, expected, far)
 
 -- ---- a row with a line
 
@@ -301,13 +301,13 @@ module _ (n : ℕ) (line : List ℕ) (old : Known) (less : n < row_count) (has :
       let learn = λ (is : IsShown h). subst (λ m. (KnowsAt m old h × (shown_line h (row_at n) ≡ line)) ↔ KnowsAt (suc m) new h) at (learned.says h is) in (
         λ i.
             let both = parts h left i in
-            record { is = i.is; before = (learn i.is).0 (i.before, both.0); due = more; lines = both.1 },
+            record { is = i.is; before = (learn i.is).0 (i.before, both.0); expected = more; lines = both.1 },
         λ i.
             let before = (learn i.is).1 i.before in
             record {
               is = i.is;
               before = before.0;
-              due = less;
+              expected = less;
               lines = ap (λ l. l ∷ left) (sym before.1) ∙ ap (λ l. shown_line h (row_at n) ∷ l) i.lines ∙ sym (line_next h.texts h.plan h.values (civil_of h.first) n less (here h before.0));
             },
       )
@@ -317,7 +317,7 @@ module _ (n : ℕ) (line : List ℕ) (old : Known) (less : n < row_count) (has :
       let at = placed n less in
       let step = subst (λ m. HasShownAt m old → HasShownAt (suc m) new) at (learned.stays valid) in
       let next = step (record { h = has_header.h; is = has_header.at.is; knows = has_header.at.before }) in
-      record { h = next.h; left = shown_from next.h (suc n); at = record { is = next.is; before = next.knows; due = more; lines = refl } }
+      record { h = next.h; left = shown_from next.h (suc n); at = record { is = next.is; before = next.knows; expected = more; lines = refl } }
 
   pub none_on : RefusesHeaderLine (row_at n) line old → NoneGoesOn old n line
   none_on refuses h left i =

@@ -55,7 +55,7 @@ same_triple a d b e c f = (
 pub put : (r : HeaderRow) (line : List ℕ) (old k new : Known) → k ≡ old → LearnsLine r line k new → LearnsLine r line old new
 put r line old k new e l = subst (λ o. LearnsLine r line o new) e l
 
--- what a line says, in front of what follows
+-- what a line says, before what follows
 learn : (r : HeaderRow) (line : List ℕ) (old new : Known) → IsOutside (row_place r) → row_place r ≢ 0 → ((h : Shown) → KnowsAt (row_place r) old h → KnowsAt (row_place r) new h)
     → ((h : Shown) → IsShown h → (KnowsAt (row_place r) old h × (shown_line h r ≡ line)) ↔ (KnowsAt (row_place r) new h × KnowsRow (row_place r) new h)) → LearnsLine r line old new
 learn r line old new out far frame same = record {
@@ -77,7 +77,7 @@ row_by n k h out none systems position height first = record {
   first = first;
 }
 
--- what is known in front of a row, with that row's part in place of another
+-- what is known before a row, with that row's part in place of another
 values_at : (n : ℕ) (k : Known) (v : StationValues) (h : Shown) → n ≤ 7 → KnowsAt n k h → KnowsAt n (with_values k v) h
 values_at n k v h few a = record {
   systems = a.systems;

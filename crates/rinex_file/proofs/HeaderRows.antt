@@ -44,5 +44,5 @@ last_line x p v t (suc k) n e none = ends x p v t n (has_line p (row_at n)) (ome
 
 pub some_left : (k : Known) (place : ℕ) (h : Shown) → IsHeaderLeft k place h [] → ⊥
 some_left k place h left =
-    let due = left.due in
-    last_line h.texts h.plan h.values (civil_of h.first) (25 - place) place (omega (arith, due)) (sym left.lines)
+    let expected = left.expected in
+    last_line h.texts h.plan h.values (civil_of h.first) (25 - place) place (omega (arith, expected)) (sym left.lines)

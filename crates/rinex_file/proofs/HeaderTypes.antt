@@ -11,7 +11,7 @@ use Rattle.obs_epoch.proofs.PlanLemmas.{length_indices}
 use Rattle.rinex_file.specs.declared.header.rows.HeaderRow.TheVariants.{Types}
 use Rattle.rinex_file.specs.Header.{row_line, has_line, first_types, type_rows}
 use Rattle.rinex_file.specs.Read.Progress.{Known, Shown, IsShown, KnowsAt, plans, signal_count, AreTypes, types_line, signals_begun, texts_before, is_some_planned}
-use Rattle.rinex_file.specs.Read.HeaderSteps.{known_line, AreValid, HasShownAt, LearnsLine, RefusesHeaderLine, AreBegun, CountsDue, ComparesRow, TakesRow, RefusesRow, plan_with, with_signals, with_count}
+use Rattle.rinex_file.specs.Read.HeaderSteps.{known_line, AreValid, HasShownAt, LearnsLine, RefusesHeaderLine, AreBegun, CountsExpected, ComparesRow, TakesRow, RefusesRow, plan_with, with_signals, with_count}
 use Rattle.std.specs.Prelude.{All}
 use Rattle.std.specs.List.{IsDistinct}
 use Rattle.rinex_file.proofs.HeaderOpen.{own, own_is, all_plan, some_planned_of, Whole, whole_with}
@@ -44,19 +44,19 @@ row_taken system count row line old new grows before size taken = record { taken
         ((b.0, begins), (taken all are (b.0, begins)).1 b.1),
   )
 
--- so many signals were taken in front of a line that is due
+-- so many signals were taken before a line that is due
 begun_within : (row count : ℕ) → row < type_rows count → signals_begun row ≤ count
-begun_within row count due = omega (arith, due)
+begun_within row count expected = omega (arith, expected)
 
 least_of : (a b n : ℕ) → a ≤ b → n ≡ min a b → n ≡ a
 least_of a b n less is = omega (arith, less, is)
 
 pub begun_size : (old all : List ℕ) (row count : ℕ) → row < type_rows count → AreBegun count row old all → length old ≡ signals_begun row
-begun_size old all row count due begun =
-    least_of (signals_begun row) count (length old) (begun_within row count due)
+begun_size old all row count expected begun =
+    least_of (signals_begun row) count (length old) (begun_within row count expected)
     (ap length begun.1 ∙ length-take (signals_begun row) all ∙ ap (min (signals_begun row)) begun.0)
 
--- and behind it
+-- and after it
 pub begun_next_size : (new all : List ℕ) (row count : ℕ) → length all ≡ count → new ≡ take (signals_begun (row + 1)) all → length new ≡ min (signals_begun (row + 1)) count
 begun_next_size new all row count size is = ap length is ∙ length-take (signals_begun (row + 1)) all ∙ ap (min (signals_begun (row + 1))) size
 
@@ -93,7 +93,7 @@ far_other : (s : System) (row : ℕ) → row < 6 → first_types (other s) ≤ f
 far_other Gps row less more few = omega (arith, less, more)
 far_other Galileo row less more few = omega (arith, less, few)
 
--- where the rows of the other are not behind, they are before or behind all of these
+-- where the rows of the other are not after, they are before or after all of these
 not_next : (s : System) (row : ℕ) → row < 6 → first_types (other s) < suc (first_types s + row) → first_types (other s) < first_types s + row
 not_next Gps row less more = absurd (omega (arith, less, more))
 not_next Galileo row less more = omega (arith, less)
@@ -126,7 +126,7 @@ row_number b row = omega arith
 next_number : (b row : ℕ) → suc (b + row) - b ≡ row + 1
 next_number b row = omega arith
 
-module _ (k : Known) (s : System) (row : ℕ) (line : List ℕ) (r : Option ℕ) (few : row < 6) (has : known_line k (Types s row) ≡ true) (due : CountsDue k s row line r) where
+module _ (k : Known) (s : System) (row : ℕ) (line : List ℕ) (r : Option ℕ) (few : row < 6) (has : known_line k (Types s row) ≡ true) (expected : CountsExpected k s row line r) where
   -- what a header shows that has the line
   record IsAtRow (h : Shown) : Type 0 where
     are : AreTypes s (planned_of s h.plan)
@@ -144,12 +144,12 @@ module _ (k : Known) (s : System) (row : ℕ) (line : List ℕ) (r : Option ℕ)
       record {
         are = are;
         begins = a.signals s ∙ ap (λ n. take (signals_begun n) all) (row_number (first_types s) row);
-        found = due all are (λ far. a.counts s (omega (arith, far)) some) less (sym e);
+        found = expected all are (λ far. a.counts s (omega (arith, far)) some) less (sym e);
       }
 
-  pub none_due : r ≡ None → RefusesHeaderLine (Types s row) line k
+  pub none_expected : r ≡ None → RefusesHeaderLine (Types s row) line k
   unfolding row_line
-  none_due none h is a e = no_some (length (planned_of s h.plan)) (sym (at_row h is a e).found ∙ none) where
+  none_expected none h is a e = no_some (length (planned_of s h.plan)) (sym (at_row h is a e).found ∙ none) where
     no_some : (n : ℕ) → Some n ≡ None → ⊥
     no_some n e = cc
 

@@ -36,6 +36,6 @@ mod HeaderEnd
 mod HeaderOpen
 mod HeaderTypes
 mod Groups
-mod DueLines
+mod ExpectedLines
 mod GatheredFile
 mod CellPlaces

@@ -15,7 +15,7 @@ use Rattle.rinex_file.specs.Exact.{IsLine, NoFileBegins, IsCutShort, IsTooLong, 
 use Rattle.rinex_file.specs.Begun.{AreBegun}
 use Rattle.rinex_file.specs.Read.Progress.{Progress, HasLinesLeft}
 use Rattle.rinex_file.specs.Read.Sound.{AreLinesOf, HasReadLines}
-use Rattle.rinex_file.specs.Course.{GoesOnWithLine, ShowsLine, RefusesLine}
+use Rattle.rinex_file.specs.ParserState.{GoesOnWithLine, ShowsLine, RefusesLine}
 use Rattle.rinex_file.specs.Read.Steps.{IsTaken, IsTextOfOnly}
 use Rattle.rinex_file.proofs.Sent.{joined-append}
 use Rattle.rinex_file.proofs.Splits.{splits, or_false, has-line}
@@ -51,18 +51,18 @@ not_within (a ∷ us) x (b ∷ bs) rest endless less e =
     let tail : us ++ 10 ∷ x ≡ bs ++ rest = cc in
     not_within us x bs rest (or_false (b == 10) (has 10 bs) endless).1 (omega (arith, less)) tail
 
--- ---- lines behind lines
+-- ---- lines after lines
 
-behind_are : (lines more : List (List ℕ)) → All IsLine (lines ++ more) → All IsLine more
-behind_are [] more are = are
-behind_are (l ∷ ls) more are = behind_are ls more (All-tail IsLine l (ls ++ more) are)
+after_are : (lines more : List (List ℕ)) → All IsLine (lines ++ more) → All IsLine more
+after_are [] more are = are
+after_are (l ∷ ls) more are = after_are ls more (All-tail IsLine l (ls ++ more) are)
 
 abbrev IsShort : List ℕ → Type 0
 IsShort l = length l ≤ 1220
 
-behind_short : (lines more : List (List ℕ)) → All IsShort (lines ++ more) → All IsShort more
-behind_short [] more short = short
-behind_short (l ∷ ls) more short = behind_short ls more (All-tail IsShort l (ls ++ more) short)
+after_short : (lines more : List (List ℕ)) → All IsShort (lines ++ more) → All IsShort more
+after_short [] more short = short
+after_short (l ∷ ls) more short = after_short ls more (All-tail IsShort l (ls ++ more) short)
 
 not_front : (m x long rest : List ℕ) → IsLine m → IsShort m → length long ≡ 1220 → has 10 long ≡ false → m ++ x ≡ long ++ rest → ⊥
 not_front m x long rest (body, e, endless) short size none same =
@@ -78,7 +78,7 @@ not_first [] long rest are short size endless e =
 not_first (m ∷ ms) long rest are short size endless e =
     not_front m (joined ms) long rest (All-head IsLine m ms are) (All-head IsShort m ms short) size endless (sym e)
 
--- some bytes behind as many lines are one line more
+-- some bytes after as many lines are one line more
 no_more : (lines more all : List (List ℕ)) (rest : List ℕ) → all ≡ lines ++ more → rest ≡ joined more → length lines ≡ most_lines → length all ≤ most_lines → 0 < length rest → ⊥
 no_more lines [] all rest split text many few some =
     let empty : length rest ≡ 0 = ap length text in
@@ -185,11 +185,11 @@ module _ (are_lines : (v : FileValue) → IsFileValue v → All IsLine (file_lin
         none = refuted s t.lines line all t.stands bad;
       }))
 
-  -- the lines of a file behind those that were taken
-  behind : (v : FileValue) (taken : List (List ℕ)) (bytes : List ℕ) → IsFileValue v → All IsLine taken → joined taken ++ bytes ≡ file_text v → has 10 bytes ≡ false → file_lines v ≡ taken
-  behind v taken bytes is are e endless =
+  -- the lines of a file after those that were taken
+  after : (v : FileValue) (taken : List (List ℕ)) (bytes : List ℕ) → IsFileValue v → All IsLine taken → joined taken ++ bytes ≡ file_text v → has 10 bytes ≡ false → file_lines v ≡ taken
+  after v taken bytes is are e endless =
       let (more, lines, text) = splits (file_lines v) taken bytes (are_lines v is) are (sym e) in
-      let none : more ≡ [] = endless_lines more bytes (behind_are taken more (subst (All IsLine) lines (are_lines v is))) endless text in
+      let none : more ≡ [] = endless_lines more bytes (after_are taken more (subst (All IsLine) lines (are_lines v is))) endless text in
       lines ∙ ap (λ l. taken ++ l) none ∙ append-nil taken
 
   -- the input ends within a line
@@ -203,13 +203,13 @@ module _ (are_lines : (v : FileValue) → IsFileValue v → All IsLine (file_lin
         count = ap (λ (k : ℕ). k + 1) t.many;
         endless = endless;
         begun = begun;
-        none = λ v is e. no_bytes (joined t.lines) bytes some (e ∙ ap joined (behind v t.lines bytes is t.are e endless));
+        none = λ v is e. no_bytes (joined t.lines) bytes some (e ∙ ap joined (after v t.lines bytes is t.are e endless));
       })
 
-  -- the input ends behind a line, where more lines are due
-  pub cut_behind : (s : Progress) (n : ℕ) (a b c : Option (List ℕ)) (bytes : List ℕ) (t : IsTaken s n a b) → AreBegun t.lines → bytes ≡ [] → IsAtEnd c → Consumes b c bytes
+  -- the input ends after a line, where more lines are due
+  pub cut_after : (s : Progress) (n : ℕ) (a b c : Option (List ℕ)) (bytes : List ℕ) (t : IsTaken s n a b) → AreBegun t.lines → bytes ≡ [] → IsAtEnd c → Consumes b c bytes
       → ((v : FileValue) → HasLinesLeft s v [] → ⊥) → IfSome a (λ input. IsCutShort input (n + 1))
-  cut_behind s n a b c bytes t begun none end next never =
+  cut_after s n a b c bytes t begun none end next never =
       let endless : has 10 bytes ≡ false = ap (has 10) none in
       consumed_all a c (joined t.lines ++ bytes) (λ input. IsCutShort input (n + 1)) (Consumes-trans a b c (joined t.lines) bytes t.taken next) end (record {
         lines = t.lines;
@@ -218,7 +218,7 @@ module _ (are_lines : (v : FileValue) → IsFileValue v → All IsLine (file_lin
         count = ap (λ (k : ℕ). k + 1) t.many;
         endless = endless;
         begun = begun;
-        none = λ v is e. never v (t.stands.goes v [] is (behind v t.lines bytes is t.are e endless ∙ sym (append-nil t.lines)));
+        none = λ v is e. never v (t.stands.goes v [] is (after v t.lines bytes is t.are e endless ∙ sym (append-nil t.lines)));
       })
 
   -- the input is the text of the file that was read
@@ -228,18 +228,18 @@ module _ (are_lines : (v : FileValue) → IsFileValue v → All IsLine (file_lin
       let endless : has 10 bytes ≡ false = ap (has 10) none in
       consumed_all a c (joined t.lines ++ bytes) (IsTextOfOnly f) (Consumes-trans a b c (joined t.lines) bytes t.taken next) end (record {
         same = ap (λ l. joined t.lines ++ l) none ∙ append-nil (joined t.lines) ∙ sym (ap joined lines);
-        only = λ v also e. only v (t.stands.goes v [] also (behind v t.lines bytes also t.are e endless ∙ sym (append-nil t.lines)));
+        only = λ v also e. only v (t.stands.goes v [] also (after v t.lines bytes also t.are e endless ∙ sym (append-nil t.lines)));
       })
 
   -- ---- a text of a file is no fault
 
   module _ (are_short : (v : FileValue) → IsFileValue v → All (λ l. length l ≤ 1220) (file_lines v)) where
-    -- the lines behind those that were taken are short, too
+    -- the lines after those that were taken are short, too
     not_long : (v : FileValue) (lines : List (List ℕ)) (long rest : List ℕ) → IsFileValue v → All IsLine lines → length long ≡ 1220 → has 10 long ≡ false
         → file_text v ≡ joined lines ++ (long ++ rest) → ⊥
     not_long v lines long rest is are size endless e =
         let (more, split, text) = splits (file_lines v) lines (long ++ rest) (are_lines v is) are e in
-        not_first more long rest (behind_are lines more (subst (All IsLine) split (are_lines v is))) (behind_short lines more (subst (All (λ l. length l ≤ 1220)) split (are_short v is)))
+        not_first more long rest (after_are lines more (subst (All IsLine) split (are_lines v is))) (after_short lines more (subst (All (λ l. length l ≤ 1220)) split (are_short v is)))
         size endless text
 
     not_many : (v : FileValue) (lines : List (List ℕ)) (rest : List ℕ) → IsFileValue v → All IsLine lines → length lines ≡ most_lines → 0 < length rest → length (file_lines v) ≤ most_lines
@@ -268,10 +268,10 @@ module _ (are_lines : (v : FileValue) → IsFileValue v → All IsLine (file_lin
     only_faults None fault v why is few = tt
     only_faults (Some input) fault v why is few = not_explained v input fault is few why
 
--- the fault where something stands behind so many lines
-pub behind_fault : (s : Progress) (n : ℕ) (a b c : Option (List ℕ)) (bytes : List ℕ) (fault result : ReadFault) → IsTaken s n a b → 0 < length bytes → Consumes b c bytes
+-- the fault where something stands after so many lines
+pub after_fault : (s : Progress) (n : ℕ) (a b c : Option (List ℕ)) (bytes : List ℕ) (fault result : ReadFault) → IsTaken s n a b → 0 < length bytes → Consumes b c bytes
     → result ≡ (if n == most_lines then TooLong else fault) → IfSome a (λ input. ExplainsFault input fault) → IfSome a (λ input. ExplainsFault input result)
-behind_fault s n a b c bytes fault result t some next is why =
+after_fault s n a b c bytes fault result t some next is why =
     elim (n == most_lines) as (λ most. (n == most_lines) ≡ most → result ≡ (if most then TooLong else fault) → IfSome a (λ input. ExplainsFault input result)) [
       | true ↦ λ most same. subst (λ f. IfSome a (λ input. ExplainsFault input f)) (sym same) (too_long s n a b c bytes t (same_number n most_lines most) some next)
       | false ↦ λ most same. subst (λ f. IfSome a (λ input. ExplainsFault input f)) (sym same) why
@@ -334,9 +334,9 @@ not_read r P isnt e = absurd (differ (sym isnt ∙ ap is_read e))
 pub other_fault : {A : Type 0} (fault : ReadFault) (P : Type 0) → (fault ≡ Read → ⊥) → result_of A fault ≡ Err Read → P
 other_fault fault P other e = absurd (other (ap fault_in e))
 
-pub other_behind : {A : Type 0} (most : Bool) (fault result : ReadFault) (P : Type 0) → result ≡ (if most then TooLong else fault) → (fault ≡ Read → ⊥) → result_of A result ≡ Err Read → P
-other_behind true fault result P is other e = not_read (Err TooLong) P refl (sym (ap Err is) ∙ e)
-other_behind false fault result P is other e = other_fault fault P other (sym (ap Err is) ∙ e)
+pub other_after : {A : Type 0} (most : Bool) (fault result : ReadFault) (P : Type 0) → result ≡ (if most then TooLong else fault) → (fault ≡ Read → ⊥) → result_of A result ≡ Err Read → P
+other_after true fault result P is other e = not_read (Err TooLong) P refl (sym (ap Err is) ∙ e)
+other_after false fault result P is other e = other_fault fault P other (sym (ap Err is) ∙ e)
 
 pub not_cut : (n : ℕ) → CutShort n ≡ Read → ⊥
 not_cut n e = cc

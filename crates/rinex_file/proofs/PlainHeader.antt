@@ -38,7 +38,7 @@ pub record IsFileLine (l : List ℕ) : Type 0 where
   pub line : IsLine l
   pub short : length l ≤ 1220
 
--- what a text without a line feed makes with one behind it
+-- what a text without a line feed makes with one after it
 pub as_line : (n : ℕ) (body : List ℕ) → IsPlain n body → n ≤ 1219 → IsFileLine (body ++ 10 ∷ [])
 as_line n body is few = record {
   line = (body, refl, is.clean);

@@ -83,7 +83,7 @@ plain-padded places n h = record { clean = clean-padded places n h; short = leng
 pub plain-fixed : (places : ℕ) (z : ℤ) → unsigned_abs z < 2 ^ 64 → IsPlain (places + 42) (fixed places z)
 plain-fixed places z h = record { clean = clean-fixed places z h; short = length-fixed-le places z h }
 
--- ---- fields, one behind the other
+-- ---- fields, one after the other
 
 abbrev pub ArePlain : ℕ → List (List ℕ) → Type 0
 ArePlain n [] = ⊤

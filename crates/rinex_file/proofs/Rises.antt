@@ -1,4 +1,4 @@
--- Numbers that rise, and one more behind them.
+-- Numbers that rise, and one more after them.
 use Rattle.std.proofs.Common.{arith, ◌≡◌, refl, ℕ, ◌+◌, ◌<◌, List, [], ◌∷◌, ◌++◌, length, get_or, map, length-append}
 use Rattle.std.specs.List.Sorted.{IsStrictlyIncreasing}
 use Rattle.std.proofs.lemmas.List.{get_or_append_left}
@@ -19,11 +19,11 @@ rise_front xs ys rise k h =
 pub rise_alone : (xs : List ℕ) (next : ℕ) → xs ≡ [] → IsStrictlyIncreasing (xs ++ next ∷ [])
 rise_alone xs next none = grind (arith, common_steps)
 
--- a number above the last of rising numbers rises behind them
-pub rise_behind : (xs front : List ℕ) (x next : ℕ) → xs ≡ front ++ x ∷ [] → IsStrictlyIncreasing xs → x < next → IsStrictlyIncreasing (xs ++ next ∷ [])
-rise_behind xs front x next ends rise less = grind (arith, common_steps)
+-- a number above the last of rising numbers rises after them
+pub rise_after : (xs front : List ℕ) (x next : ℕ) → xs ≡ front ++ x ∷ [] → IsStrictlyIncreasing xs → x < next → IsStrictlyIncreasing (xs ++ next ∷ [])
+rise_after xs front x next ends rise less = grind (arith, common_steps)
 
--- a number that rises behind others is above the last of them
+-- a number that rises after others is above the last of them
 pub rise_last : (xs front : List ℕ) (x next : ℕ) → xs ≡ front ++ x ∷ [] → IsStrictlyIncreasing (xs ++ next ∷ []) → x < next
 rise_last xs front x next ends rise = let k = rise (length front) in grind (arith, common_steps)
 

@@ -87,7 +87,7 @@ fourth x a b c d e is l m n =
     let shape : x ≡ (a ++ (b ++ c)) ++ (d ++ e) = is ∙ simp append_assoc in
     ap (drop 48) shape ∙ drop_at (a ++ (b ++ c)) (d ++ e) 48 (simp length-append (omega (arith, l, m, n)))
 
--- what stands behind a value, where there is one
+-- what stands after a value, where there is one
 abbrev shown : Option ℤ → ℕ → ℕ
 shown None b = 32
 shown (Some v) b = b

@@ -19,9 +19,9 @@ use Rattle.rinex_file.specs.Header.{position_line, delta_line}
 use Rattle.rinex_file.specs.File.{event_line, event_text, line_among, line_or_none, lines_up_to, epoch_text}
 use Rattle.rinex_file.proofs.Entries.{flat_map-append}
 
--- behind what went out, a part of what follows
-pub part_behind : (a b c : Option (List ℕ)) (text done next rest : List ℕ) → text ≡ done ++ (next ++ rest) → Appends a b done → AppendsPrefix b c next → AppendsPrefix a c text
-part_behind a b c text done next rest is out (left, (sent, split, more)) = (
+-- after what went out, a part of what follows
+pub part_after : (a b c : Option (List ℕ)) (text done next rest : List ℕ) → text ≡ done ++ (next ++ rest) → Appends a b done → AppendsPrefix b c next → AppendsPrefix a c text
+part_after a b c text done next rest is out (left, (sent, split, more)) = (
   left ++ rest,
   (
     done ++ sent,
@@ -32,7 +32,7 @@ part_behind a b c text done next rest is out (left, (sent, split, more)) = (
 
 -- a part of the first is a part of both
 pub part_first : (a c : Option (List ℕ)) (text next rest : List ℕ) → text ≡ next ++ rest → AppendsPrefix a c next → AppendsPrefix a c text
-part_first a c text next rest is part = part_behind a a c text [] next rest is (Appends-nil a) part
+part_first a c text next rest is part = part_after a a c text [] next rest is (Appends-nil a) part
 
 pub filter-append : {X : Type 0} (test : X → Bool) (xs ys : List X) → filter test (xs ++ ys) ≡ filter test xs ++ filter test ys
 filter-append test [] ys = refl
@@ -51,17 +51,17 @@ pub event_parts : (v : StationValues) → event_text v ≡ event_line ++ (positi
 unfolding event_text
 event_parts v = refl
 
--- its lines, one behind the other
+-- its lines, one after the other
 module _ (v : StationValues) (a b c d : Option (List ℕ)) where
   pub event_first : AppendsPrefix a b event_line → AppendsPrefix a b (event_text v)
   event_first part = part_first a b (event_text v) event_line (position_line v ++ (delta_line v ++ [])) (event_parts v) part
 
   pub event_second : Appends a b event_line → AppendsPrefix b c (position_line v) → AppendsPrefix a c (event_text v)
-  event_second first part = part_behind a b c (event_text v) event_line (position_line v) (delta_line v ++ []) (event_parts v) first part
+  event_second first part = part_after a b c (event_text v) event_line (position_line v) (delta_line v ++ []) (event_parts v) first part
 
   pub event_third : Appends a b event_line → Appends b c (position_line v) → AppendsPrefix c d (delta_line v) → AppendsPrefix a d (event_text v)
   event_third first second part =
-      part_behind a c d (event_text v) (event_line ++ position_line v) (delta_line v) [] (event_parts v ∙ sym (append_assoc event_line (position_line v) (delta_line v ++ [])))
+      part_after a c d (event_text v) (event_line ++ position_line v) (delta_line v) [] (event_parts v ∙ sym (append_assoc event_line (position_line v) (delta_line v ++ [])))
       (Appends-trans a b c event_line (position_line v) first second) part
 
   pub event_whole : Appends a b event_line → Appends b c (position_line v) → Appends c d (delta_line v) → Appends a d (event_text v)
@@ -129,7 +129,7 @@ pub part_lines : (a b c : Option (List ℕ)) (p : PlanValue) (e : EpochValue) (s
     → AppendsPrefix b c (line_or_none p e s m) → AppendsPrefix a c (lines_up_to p e s most)
 part_lines a b c p e s n m most is h out part =
     let (rest, split) = lines_rest p e s m (most - m) most (omega (arith, h)) in
-    part_behind a b c (lines_up_to p e s most) (lines_up_to p e s n) (line_or_none p e s m) rest
+    part_after a b c (lines_up_to p e s most) (lines_up_to p e s n) (line_or_none p e s m) rest
     (split ∙ ap (λ l. l ++ rest) (lines_more p e s n m is) ∙ append_assoc (lines_up_to p e s n) (line_or_none p e s m) rest) out part
 
 -- ---- an epoch

@@ -11,7 +11,7 @@ pub or_false : (a b : Bool) → (a || b) ≡ false → (a ≡ false) × (b ≡ f
 or_false true b h = cc
 or_false false b h = (refl, h)
 
--- two bodies without line feeds, each with a line feed behind it
+-- two bodies without line feeds, each with a line feed after it
 abbrev SameFront : List ℕ → List ℕ → List ℕ → List ℕ → Type 0
 SameFront a b x y = (a ≡ b) × (x ≡ y)
 

@@ -73,7 +73,7 @@ length-column z h =
 number_back : (z : ℤ) → Fits14 z → number_in (right 14 (fixed 4 z)) ≡ z
 number_back z h = number_in-fixed 14 4 z (omega arith) (fits_64 (unsigned_abs z) h)
 
--- three fields in front of what stands behind
+-- three fields before what stands after
 begins : (f g h label : List ℕ) → (rest : List ℕ) × (header_line (joined (f ∷ g ∷ h ∷ [])) label ≡ f ++ (g ++ (h ++ rest)))
 unfolding header_line
 begins f g h label =

@@ -23,10 +23,10 @@ use Rattle.rinex_file.proofs.TypeCodes.{length-code}
 
 -- ---- a line begins with its content
 
-abbrev Behind : List ℕ → List ℕ → Type 0
-Behind content line = (rest : List ℕ) × (line ≡ content ++ rest)
+abbrev After : List ℕ → List ℕ → Type 0
+After content line = (rest : List ℕ) × (line ≡ content ++ rest)
 
-pub content_first : (content label : List ℕ) → Behind content (header_line content label)
+pub content_first : (content label : List ℕ) → After content (header_line content label)
 unfolding header_line
 content_first content label = (
   replicate (60 - length content) 32 ++ joined (left 20 label ∷ (10 ∷ []) ∷ []),
@@ -52,9 +52,9 @@ column_at (t ∷ ts) (suc q) rest three less =
     let wide : length t ≡ 3 = three 0 (omega arith) in
     let one : length (32 ∷ t) ≡ 4 = omega (arith, wide) in
     let steps : 4 * suc q ≡ 4 + 4 * q = omega arith in
-    let behind : drop 4 (columns (t ∷ ts) ++ rest) ≡ columns ts ++ rest = ap (drop 4) (append_assoc (32 ∷ t) (columns ts) rest) ∙ drop_at (32 ∷ t) (columns ts ++ rest) 4 one in
+    let after : drop 4 (columns (t ∷ ts) ++ rest) ≡ columns ts ++ rest = ap (drop 4) (append_assoc (32 ∷ t) (columns ts) rest) ∙ drop_at (32 ∷ t) (columns ts ++ rest) 4 one in
     let more = column_at ts q rest (λ i h. three (suc i) (omega (arith, h))) (omega (arith, less)) in
-    (more.0, ap (λ n. drop n (columns (t ∷ ts) ++ rest)) steps ∙ sym (drop-drop (4 * q) 4 (columns (t ∷ ts) ++ rest)) ∙ ap (drop (4 * q)) behind ∙ more.1)
+    (more.0, ap (λ n. drop n (columns (t ∷ ts) ++ rest)) steps ∙ sym (drop-drop (4 * q) 4 (columns (t ∷ ts) ++ rest)) ∙ ap (drop (4 * q)) after ∙ more.1)
 
 -- ---- the types of a line
 

@@ -5,7 +5,7 @@ use Rattle.std.specs.List.Sorted.{IsStrictlyIncreasing}
 use Rattle.obs_epoch.specs.declared.cell.StationValues.{StationValues}
 use Rattle.obs_epoch.specs.Dates.{civil_of}
 use Rattle.rinex_file.specs.Value.{Stamped}
-use Rattle.rinex_file.specs.FileValues.{IsTime, IsStamped, AreSatelliteRows, IsChange, AreChanges, IsFirstSame, values_behind, time_stamped, most_rows}
+use Rattle.rinex_file.specs.FileValues.{IsTime, IsStamped, AreSatelliteRows, IsChange, AreChanges, IsFirstSame, values_following, time_stamped, most_rows}
 use Rattle.rinex_file.specs.Header.{header_lines}
 use Rattle.rinex_file.specs.Lines.{epoch_line, satellite_line}
 use Rattle.rinex_file.specs.File.{stamped_lines, change_lines, event_lines}
@@ -26,7 +26,7 @@ pub record IsPartOfNext (h : Shown) (es : List Stamped) (e : Stamped) : Type 0 w
   pub later : IsStrictlyIncreasing (map time_stamped es ++ e.time ∷ [])
   pub rows : AreSatelliteRows (length h.plan.gps) (length h.plan.galileo) e.rows
   pub first : es ≡ [] → h.first ≡ e.time
-  pub change : IsChange (values_behind h.values es) e.change
+  pub change : IsChange (values_following h.values es) e.change
   pub same : es ≡ [] → e.change ≡ None
 
 abbrev pub lines_of_header : Shown → List (List ℕ)
@@ -61,7 +61,7 @@ pub record IsEventBegun (k : ℕ) (lines : List (List ℕ)) : Type 0 where
   pub values : StationValues
   pub whole : AreWhole h es
   pub some : es ≢ []
-  pub change : IsChange (values_behind h.values es) (Some values)
+  pub change : IsChange (values_following h.values es) (Some values)
   pub are : lines ≡ whole_lines h es ++ take k (event_lines values)
 
 -- and the line of an epoch of n satellites, with fewer of them

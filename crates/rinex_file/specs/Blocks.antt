@@ -4,7 +4,7 @@ use Rattle.std.specs.Io.KnownBytes.{Consumes}
 use Rattle.rinex_file.specs.Read.Fields.{has}
 use Rattle.rinex_file.specs.Limits.{most_line}
 
--- what is left is behind some of the bytes that were there
+-- what is left is after some of the bytes that were there
 abbrev pub LeavesRest : Option (List ℕ) → Option (List ℕ) → Type 0
 LeavesRest old new = (bytes : List ℕ) × Consumes old new bytes
 
@@ -13,7 +13,7 @@ abbrev pub AreMoved : Bool → List ℕ → Type 0
 AreMoved true bytes = (body : List ℕ) × (bytes ≡ body ++ 10 ∷ []) × (has 10 body ≡ false)
 AreMoved false bytes = has 10 bytes ≡ false
 
--- the first bytes of `old` were moved behind those of the line
+-- the first bytes of `old` were moved after those of the line
 pub record MovesBytes (whole : Bool) (old new line line' : List ℕ) : Type 0 where
   pub bytes : List ℕ
   pub from : old ≡ bytes ++ new

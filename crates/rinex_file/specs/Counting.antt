@@ -6,7 +6,7 @@ use Rattle.rinex_file.specs.Value.{FileValue}
 use Rattle.rinex_file.specs.FileValues.{IsFileValue}
 use Rattle.rinex_file.specs.File.{file_text, file_lines}
 use Rattle.rinex_file.specs.Exact.{IsNoFault, most_lines}
-use Rattle.rinex_file.specs.Course.{rows_in, events_in}
+use Rattle.rinex_file.specs.ParserState.{rows_in, events_in}
 
 -- these are the numbers of the file's epochs, of the lines of satellites, and of the events
 pub record AreCounts (n : Counts) (v : FileValue) : Type 0 where
@@ -22,7 +22,7 @@ pub record IsTextWith (n : Counts) (input : Option (List ℕ)) : Type 0 where
   pub text : IfSome input (λ bytes. bytes ≡ file_text v)
   pub counted : AreCounts n v
 
--- this file's counts, or want of memory, or a failed reader
+-- this file's counts, or lack of memory, or a failed reader
 abbrev pub IsCountedOr : FileValue → Result Counts ReadFault → Type 0
 IsCountedOr v (Ok n) = AreCounts n v
 IsCountedOr v (Err fault) = IsNoFault fault

@@ -5,8 +5,8 @@ use Rattle.rinex_file.specs.declared.read.lines.Found.{Found}
 use Rattle.rinex_file.specs.declared.read.lines.Found.TheVariants.{Line, End, Cut, Long, Failed}
 use Rattle.rinex_file.specs.declared.read.fault.ReadFault.{ReadFault}
 use Rattle.rinex_file.specs.declared.read.fault.ReadFault.TheVariants.{Memory, Read, BadHeader, BadEpoch, BadEvent, BadSatellite, CutShort, TooLong}
-use Rattle.rinex_file.specs.declared.read.due.Due.{Due}
-use Rattle.rinex_file.specs.declared.read.due.Due.TheVariants.{Header, Epoch, EventPosition, EventHeight, EventEpoch, Satellite}
+use Rattle.rinex_file.specs.declared.read.expected.Expected.{Expected}
+use Rattle.rinex_file.specs.declared.read.expected.Expected.TheVariants.{Header, Epoch, EventPosition, EventHeight, EventEpoch, Satellite}
 use Rattle.rinex_file.specs.Read.Fields.{has}
 use Rattle.rinex_file.specs.Numbers.{joined}
 use Rattle.rinex_file.specs.Value.{FileValue}
@@ -75,7 +75,7 @@ pub record IsAfter (Are : List (List ℕ) → Type 0) (input : List ℕ) (k : �
   pub are : Are lines
 
 -- the lines before one of this kind
-abbrev pub AreBefore : Due → List (List ℕ) → Type 0
+abbrev pub AreBefore : Expected → List (List ℕ) → Type 0
 AreBefore (Header place) lines = IsHeaderBegun lines
 AreBefore Epoch lines = IsBetweenEpochs lines
 AreBefore EventPosition lines = IsEventBegun 1 lines
@@ -83,8 +83,8 @@ AreBefore (EventHeight x y z) lines = IsEventBegun 2 lines
 AreBefore (EventEpoch values) lines = IsEventBegun 3 lines
 AreBefore (Satellite n) lines = IsEpochBegun lines
 
-abbrev pub IsDueAt : Due → List ℕ → ℕ → Type 0
-IsDueAt due input k = IsAfter (AreBefore due) input k
+abbrev pub IsExpectedAt : Expected → List ℕ → ℕ → Type 0
+IsExpectedAt expected input k = IsAfter (AreBefore expected) input k
 
 -- ---- faults
 
@@ -96,7 +96,7 @@ IsFaulty input k = IsRefuted input k ⊎ IsOverLong input k
 abbrev pub most_lines : ℕ
 most_lines = 2 ^ 32
 
--- a byte stands behind as many lines as have a number
+-- a byte stands after as many lines as have a number
 pub record IsTooLong (input : List ℕ) : Type 0 where
   pub lines : List (List ℕ)
   pub rest : List ℕ
@@ -115,7 +115,7 @@ ExplainsFault input (BadSatellite k) = IsFaulty input k × IsAfter IsEpochBegun 
 ExplainsFault input (CutShort k) = IsCutShort input k
 ExplainsFault input TooLong = IsTooLong input
 
--- want of memory, or a failed reader
+-- lack of memory, or a failed reader
 abbrev pub IsNoFault : ReadFault → Type 0
 IsNoFault Memory = ⊤
 IsNoFault Read = ⊤
@@ -132,7 +132,7 @@ pub record IsTextOf (v : FileValue) (input : Option (List ℕ)) : Type 0 where
   pub few : length (file_lines v) ≤ most_lines
   pub text : IfSome input (λ bytes. bytes ≡ file_text v)
 
--- this value, or want of memory, or a failed reader
+-- this value, or lack of memory, or a failed reader
 abbrev pub IsReadOr : FileValue → Result FileValue ReadFault → Type 0
 IsReadOr v (Ok f) = f ≡ v
 IsReadOr v (Err fault) = IsNoFault fault

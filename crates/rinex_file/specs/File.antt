@@ -23,7 +23,7 @@ event_line = codes ">" ++ (replicate 30 32 ++ codes "4  2\n")
 abbrev pub event_lines : StationValues → List (List ℕ)
 event_lines v = event_line ∷ position_line v ∷ delta_line v ∷ []
 
--- what stands in front of an epoch: an event where the station values change
+-- what stands before an epoch: an event where the station values change
 abbrev pub change_lines : Option StationValues → List (List ℕ)
 change_lines None = []
 change_lines (Some v) = event_lines v
@@ -69,7 +69,7 @@ file_text v = joined (file_lines v)
 abbrev pub change_text : StationValues → StationValues → List ℕ
 change_text before now = if same_values before now then [] else event_text now
 
--- epochs that were closed behind others, the last of which has these station values
+-- epochs that were closed after others, the last of which has these station values
 abbrev pub closed_text : PlanValue → StationValues → List Closed → List ℕ
 closed_text plan before [] = []
 closed_text plan before (c ∷ cs) = change_text before c.values ++ (epoch_text plan c.epoch ++ closed_text plan c.values cs)
@@ -78,7 +78,7 @@ closed_text plan before (c ∷ cs) = change_text before c.values ++ (epoch_text 
 abbrev pub gathered : HeaderLists → PlanValue → StationValues → List Closed → FileValue
 gathered texts plan values epochs = record { texts = texts; plan = plan; values = values; epochs = all_stamped plan values epochs }
 
--- The header of the first epoch, and what is written of each epoch behind it, are the text of the file of these epochs.
+-- The header of the first epoch, and what is written of each epoch after it, are the text of the file of these epochs.
 abbrev pub IsTextInParts : HeaderLists → PlanValue → StationValues → Closed → List Closed → Type 0
 IsTextInParts texts plan values c cs =
     header_text texts plan values c.epoch.time ++ closed_text plan values (c ∷ cs) ≡ file_text (gathered texts plan values (c ∷ cs))

@@ -133,10 +133,10 @@ abbrev pub AreChanges : StationValues → List Stamped → Type 0
 AreChanges v [] = ⊤
 AreChanges v (e ∷ es) = IsChange v e.change × AreChanges (changed_by v e.change) es
 
--- the station values behind these epochs
-abbrev pub values_behind : StationValues → List Stamped → StationValues
-values_behind v [] = v
-values_behind v (e ∷ es) = values_behind (changed_by v e.change) es
+-- the station values after these epochs
+abbrev pub values_following : StationValues → List Stamped → StationValues
+values_following v [] = v
+values_following v (e ∷ es) = values_following (changed_by v e.change) es
 
 -- the first epoch has the station values of the header
 abbrev pub IsFirstSame : List Stamped → Type 0

@@ -11,7 +11,7 @@ pub mod TextsOf
 pub mod FileValues
 pub mod Begun
 pub mod Exact
-pub mod Course
+pub mod ParserState
 pub mod Blocks
 pub mod Counting
 pub mod Gathered

@@ -1,7 +1,7 @@
 -- How long a line of a file is at most, and what stands in it.
 use Rattle.std.specs.Prelude.{ℕ}
 
--- a value: 14 columns, and two behind them
+-- a value: 14 columns, and two after them
 abbrev pub value_columns : ℕ
 value_columns = 16
 
@@ -13,7 +13,7 @@ signal_columns = 64
 abbrev pub most_signals : ℕ
 most_signals = 19
 
--- a header line: its content, and its label behind it
+-- a header line: its content, and its label after it
 abbrev pub content_columns : ℕ
 content_columns = 60
 

@@ -98,11 +98,11 @@ stamped_of plan epoch = record { change = None; time = epoch.time; rows = rows_o
 abbrev pub change_from : StationValues → StationValues → Option StationValues
 change_from before now = if same_values before now then None else Some now
 
--- an epoch that was closed behind others, the last of which has these station values
-abbrev pub stamped_behind : PlanValue → StationValues → Closed → Stamped
-stamped_behind plan before c = record (stamped_of plan c.epoch) { change = change_from before c.values }
+-- an epoch that was closed after others, the last of which has these station values
+abbrev pub stamped_after : PlanValue → StationValues → Closed → Stamped
+stamped_after plan before c = record (stamped_of plan c.epoch) { change = change_from before c.values }
 
--- epochs that were closed behind others, the last of which has these station values
+-- epochs that were closed after others, the last of which has these station values
 abbrev pub all_stamped : PlanValue → StationValues → List Closed → List Stamped
 all_stamped plan before [] = []
-all_stamped plan before (c ∷ cs) = stamped_behind plan before c ∷ all_stamped plan c.values cs
+all_stamped plan before (c ∷ cs) = stamped_after plan before c ∷ all_stamped plan c.values cs

@@ -12,7 +12,7 @@ use gnss_obs::System;
 use obs_epoch::Plan;
 
 /// What the writers send is the text of a file value: the header of the first epoch, and then each
-/// epoch in turn, behind an event where its station values are no longer those before.
+/// epoch in turn, after an event where its station values are no longer those before.
 pub fn file()
     // The file of epochs that were gathered under a plan is that of the value that they make.
     ensures text { (texts : HeaderLists) (plan : PlanValue) (values : StationValues) (c : Closed) (cs : List Closed)

@@ -1,16 +1,16 @@
 //! Reading a file line by line: whatever a line shows is read without judging it, written again,
 //! and compared.
 pub(crate) mod block;
-pub(crate) mod course;
-pub(crate) mod due;
 pub(crate) mod epoch;
+pub(crate) mod expected;
 pub(crate) mod fault;
 pub(crate) mod file;
+pub(crate) mod file_builder;
 pub(crate) mod head_lines;
 pub(crate) mod head_so_far;
-pub(crate) mod keeper;
 pub(crate) mod lines;
 pub(crate) mod numbers;
+pub(crate) mod parser_state;
 pub(crate) mod reading;
 pub(crate) mod row;
 pub(crate) mod station;

@@ -139,7 +139,7 @@ turn_name s names w word p free none fault stops =
     (first_none _ _ (subst (λ (o : Option (Text × List Text)). TurnFault s names w word o ≡ []) none fault))
     (subst (λ (o : Option (Text × List Text)). (walked_from s.rules names o w word).stopped ≡ Some p) none stops)
 
--- behind a subcommand the walk keeps its name
+-- after a subcommand the walk keeps its name
 kept_name : (s : Shape) (names : Names) (words : List Text) (w : Walk) (q p : Text × List Text) → w.stopped ≡ Some q
     → (fold (walked s.rules names) w words).stopped ≡ Some p → q.0 ≡ p.0
 unfolding walked

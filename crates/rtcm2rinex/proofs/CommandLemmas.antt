@@ -16,7 +16,7 @@ use Rattle.clap.specs.declared.parser.matches.ArgMatches.{ArgMatches}
 use Rattle.rtcm_bits.specs.Device.{Device}
 use Rattle.rtcm2rinex.specs.CommandLine.{Asks, IsFoundIn, RefusesWords}
 use Rattle.rtcm2rinex.specs.Commands.{AreRefused, EndsFound, HasCommand, HasFailedToServe, HasServed, HasStopped, StopsAnswering, fault_status, status_of}
-use Rattle.rtcm2rinex.specs.SetupTold.{IsSetupRefused}
+use Rattle.rtcm2rinex.specs.SetupOptions.{IsSetupRefused}
 use Rattle.rtcm_convert.specs.Faults.{IsUntouched}
 use Rattle.rtcm2rinex.specs.Devices.{Ends}
 use Rattle.rtcm2rinex.specs.declared.fault.ToolFault.{ToolFault}

@@ -12,8 +12,8 @@ use Rattle.std.specs.Borrow.{Bor}
 use Rattle.rtcm2rinex.specs.declared.commands.CommandRow.{CommandRow}
 use Rattle.rtcm2rinex.specs.declared.commands.OptionRow.{OptionRow}
 use Rattle.rtcm2rinex.specs.declared.commands.Reading.{Reading}
-use Rattle.rtcm2rinex.specs.declared.commands.Reading.TheVariants.{Told, Or, Among, Week, Station, Bytes}
-use Rattle.rtcm2rinex.specs.CommandLine.{AddsCommand, AddsOption, IsAnswered, RefusesWords, command_told, option, option_told, program, read_so, with_commands, with_options}
+use Rattle.rtcm2rinex.specs.declared.commands.Reading.TheVariants.{Given, Or, Among, Week, Station, Bytes}
+use Rattle.rtcm2rinex.specs.CommandLine.{AddsCommand, AddsOption, IsAnswered, RefusesWords, command_set, option, option_set, program, read_so, with_commands, with_options}
 use Rattle.clap.specs.Values.{kind_of}
 use Rattle.clap.specs.declared.error.kind.ErrorKind.TheVariants as kind
 use Rattle.clap.specs.declared.builder.arg.Arg.{Arg}
@@ -74,7 +74,7 @@ with_option old (Ok new) app r (command, a, same, is, added) was simple =
 
 simple : (name : Text) (reading : Reading) → (read_so reading (option name)).is_simple ≡ true
 unfolding read_so
-simple name Told = refl
+simple name Given = refl
 simple name (Or default) = refl
 simple name (Among words default) = refl
 simple name Week = refl
@@ -82,12 +82,12 @@ simple name Station = refl
 simple name Bytes = refl
 
 -- a reading that is known
-pub read_as_told : (reading known : Reading) (a b : Rule) → reading ≡ known → b ≡ read_so known a → b ≡ read_so reading a
-read_as_told reading known a b is so = so ∙ ap (λ (r : Reading). read_so r a) (sym is)
+pub read_as_given : (reading known : Reading) (a b : Rule) → reading ≡ known → b ≡ read_so known a → b ≡ read_so reading a
+read_as_given reading known a b is so = so ∙ ap (λ (r : Reading). read_so r a) (sym is)
 
 -- an option of a row is read by clap's definitions
-pub simple_told : (row : OptionRow) → (option_told row).is_simple ≡ true
-simple_told row = simple row.name.now row.reading
+pub simple_given : (row : OptionRow) → (option_set row).is_simple ≡ true
+simple_given row = simple row.name.now row.reading
 
 -- the options of a command say nothing of the command itself
 pub plain : (a : App) (rs : List Rule) → (with_options a rs).top.is_plain ≡ a.top.is_plain
@@ -95,8 +95,8 @@ plain a [] = refl
 plain a (r ∷ rs) = plain (with_rule a r) rs
 
 -- nor does the command of a row say more of itself than its name
-pub plain_told : (row : CommandRow) → (command_told row).top.is_plain ≡ true
-plain_told row = plain (new_app row.name.now) (map option_told row.options.now)
+pub plain_given : (row : CommandRow) → (command_set row).top.is_plain ≡ true
+plain_given row = plain (new_app row.name.now) (map option_set row.options.now)
 
 -- one command more, of which this much is known
 pub with_command : {E : Type 0} (old sub new : Result Command E) (P Q R : App → Type 0) → AddsCommand old sub new → IfOk old (λ c. P (app_of c)) → IfOk sub (λ c. Q (app_of c))
@@ -131,25 +131,25 @@ why kinds (Err e) h = h
 abbrev nothing : Bor (List ℕ)
 nothing = record { ref_ptr = (0, 0); now = [] }
 
--- what stands behind the last row
+-- what stands after the last row
 abbrev pub no_option : OptionRow
-no_option = record { name = nothing; value = nothing; help = nothing; reading = Told }
+no_option = record { name = nothing; value = nothing; help = nothing; reading = Given }
 
 abbrev pub no_command : CommandRow
 no_command = record { name = nothing; help = record { about = nothing; examples = nothing }; options = record { ref_ptr = (0, 0); now = [] } }
 
 -- one option of the rows more
 pub one_option_more : (a : App) (rows : List OptionRow) (n : ℕ) (d : OptionRow) → n < length rows
-    → with_rule (with_options a (map option_told (take n rows))) (option_told (get_or rows n d)) ≡ with_options a (map option_told (take (n + 1) rows))
+    → with_rule (with_options a (map option_set (take n rows))) (option_set (get_or rows n d)) ≡ with_options a (map option_set (take (n + 1) rows))
 one_option_more a rows n d lt =
-    sym (ap (with_options a) (map_more option_told rows n d lt) ∙ fold-append with_rule a (map option_told (take n rows)) (option_told (get_or rows n d) ∷ []))
+    sym (ap (with_options a) (map_more option_set rows n d lt) ∙ fold-append with_rule a (map option_set (take n rows)) (option_set (get_or rows n d) ∷ []))
 
 -- one command of the rows more
 pub one_command_more : (a : App) (rows : List CommandRow) (n : ℕ) (d : CommandRow) → n < length rows
-    → with_subcommand (with_commands a (map command_told (take n rows))) (command_told (get_or rows n d)).top
-    ≡ with_commands a (map command_told (take (n + 1) rows))
+    → with_subcommand (with_commands a (map command_set (take n rows))) (command_set (get_or rows n d)).top
+    ≡ with_commands a (map command_set (take (n + 1) rows))
 one_command_more a rows n d lt =
-    sym (ap (with_commands a) (map_more command_told rows n d lt) ∙ fold-append _ a (map command_told (take n rows)) (command_told (get_or rows n d) ∷ []))
+    sym (ap (with_commands a) (map_more command_set rows n d lt) ∙ fold-append _ a (map command_set (take n rows)) (command_set (get_or rows n d) ∷ []))
 
 -- an answer to the words by the version's text is what they ask for
 pub is_version : (words : List Text) (e : Error) → RefusesWords words e → kind_of e ≡ kind.DisplayVersion → IsAnswered words kind.DisplayVersion

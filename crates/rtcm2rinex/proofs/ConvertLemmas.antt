@@ -13,9 +13,9 @@ use Rattle.rtcm2rinex.specs.declared.fault.ToolFault.TheVariants as faults
 use Rattle.clap.specs.Walk.{Row}
 use Rattle.obs_epoch.specs.declared.cell.StationValues.{StationValues}
 use Rattle.rtcm2rinex.specs.Lengths.{values_by}
-use Rattle.rtcm2rinex.specs.SetupTold.{values_told}
+use Rattle.rtcm2rinex.specs.SetupOptions.{values_by_message}
 use Rattle.rtcm2rinex.specs.Converting.{StopsConversion, StopsConverting}
-use Rattle.rtcm2rinex.specs.Devices.{HaveFailedBy, fault_told}
+use Rattle.rtcm2rinex.specs.Devices.{HaveFailedBy, tool_fault_of}
 
 module _ {R W : Type 0} (left : R → Option (List ℕ)) (held : W → Option (List ℕ)) (Bad : Type 0) (x : Start) (rd rd2 : Device R) (o o2 : Device W) where
   abbrev Result-of : Fault → Result Report Fault
@@ -27,7 +27,7 @@ module _ {R W : Type 0} (left : R → Option (List ℕ)) (held : W → Option (L
       → (IsErrOf (Result-of fault) Read → IsMadeSoFar x (left rd.inner) (left rd2.inner) (held o.inner) (held o2.inner))
       → (IsErrOf (Result-of fault) Write → IsMadeInPart x (left rd.inner) (left rd2.inner) (held o.inner) (held o2.inner))
       → (Result-of fault ≡ Err BadSetup ↔ Bad) → (IsSetupFault fault → IsUntouched rd rd2 o o2) → (Result-of fault ≢ Err Failed) × (Result-of fault ≢ Err Finished)
-      → HaveFailedBy (fault_told fault) rd rd2 o o2 × StopsConversion Bad x left rd rd2 held o o2 (fault_told fault)
+      → HaveFailedBy (tool_fault_of fault) rd rd2 o o2 × StopsConversion Bad x left rd rd2 held o o2 (tool_fault_of fault)
   conversion_stopped Memory reader writer sent none long read write bad untouched only = ((reader.0, writer.0), untouched (inr refl))
   conversion_stopped BadSetup reader writer sent none long read write bad untouched only = ((reader.0, writer.0), (bad.0 refl, untouched (inl refl)))
   conversion_stopped TooLong reader writer sent none long read write bad untouched only = ((reader.0, writer.0), (long refl, sent))
@@ -37,7 +37,7 @@ module _ {R W : Type 0} (left : R → Option (List ℕ)) (held : W → Option (L
   conversion_stopped Finished reader writer sent none long read write bad untouched only = absurd (only.1 refl)
   conversion_stopped NoEpoch reader writer sent none long read write bad untouched only = ((reader.0, writer.0), (none refl, sent))
 
-bad_only : (fault : Fault) → ◌≡◌ {A = Result Report ToolFault} (Err (fault_told fault)) (Err (faults.Convert BadSetup)) → ◌≡◌ {A = Result Report Fault} (Err fault) (Err BadSetup)
+bad_only : (fault : Fault) → ◌≡◌ {A = Result Report ToolFault} (Err (tool_fault_of fault)) (Err (faults.Convert BadSetup)) → ◌≡◌ {A = Result Report Fault} (Err fault) (Err BadSetup)
 bad_only BadSetup h = refl
 bad_only Memory h = cc
 bad_only TooLong h = cc
@@ -47,7 +47,7 @@ bad_only Failed h = cc
 bad_only Finished h = cc
 bad_only NoEpoch h = cc
 
-bad_back : (fault : Fault) → ◌≡◌ {A = Result Report Fault} (Err fault) (Err BadSetup) → ◌≡◌ {A = Result Report ToolFault} (Err (fault_told fault)) (Err (faults.Convert BadSetup))
+bad_back : (fault : Fault) → ◌≡◌ {A = Result Report Fault} (Err fault) (Err BadSetup) → ◌≡◌ {A = Result Report ToolFault} (Err (tool_fault_of fault)) (Err (faults.Convert BadSetup))
 bad_back BadSetup h = refl
 bad_back Memory h = cc
 bad_back TooLong h = cc
@@ -58,9 +58,9 @@ bad_back Finished h = cc
 bad_back NoEpoch h = cc
 
 -- a bad start is the fault of the conversion and of the command
-pub told_bad : (fault : Fault) (e : ToolFault) (Bad : Type 0) → e ≡ fault_told fault → (◌≡◌ {A = Result Report Fault} (Err fault) (Err BadSetup) ↔ Bad)
+pub given_bad : (fault : Fault) (e : ToolFault) (Bad : Type 0) → e ≡ tool_fault_of fault → (◌≡◌ {A = Result Report Fault} (Err fault) (Err BadSetup) ↔ Bad)
     → (◌≡◌ {A = Result Report ToolFault} (Err e) (Err (faults.Convert BadSetup)) ↔ Bad)
-told_bad fault e Bad is bad = (
+given_bad fault e Bad is bad = (
   λ h. bad.0 (bad_only fault (ap (λ (f : ToolFault). Err f) (sym is) ∙ h)),
   λ b. ap (λ (f : ToolFault). Err f) is ∙ bad_back fault (bad.1 b),
 )
@@ -81,12 +81,12 @@ module _ {R W : Type 0} (left : R → Option (List ℕ)) (held : W → Option (L
   abbrev Refuses : ToolFault → Type 0
   Refuses e = HaveFailedBy e rd rd o o × StopsConverting options left rd rd held o o e
 
-  by_two : (e : ToolFault) → (e ≡ faults.BadPosition) ⊎ (e ≡ faults.BadHeight) → values_told options ≡ Err e → Refuses e
+  by_two : (e : ToolFault) → (e ≡ faults.BadPosition) ⊎ (e ≡ faults.BadHeight) → values_by_message options ≡ Err e → Refuses e
   by_two e (inl is) h = subst Refuses (sym is) ((refl, refl), inl (h ∙ ap (λ (f : ToolFault). Err f) is, (refl, refl)))
   by_two e (inr is) h = subst Refuses (sym is) ((refl, refl), inl (h ∙ ap (λ (f : ToolFault). Err f) is, (refl, refl)))
 
   -- a position or a height that is none
-  pub values_refused : (e : ToolFault) → values_told options ≡ Err e → Refuses e
+  pub values_refused : (e : ToolFault) → values_by_message options ≡ Err e → Refuses e
   values_refused e h = by_two e (only_two _ _ e h) h
 
 -- a file that was made, without its report

@@ -14,7 +14,7 @@ use Rattle.rtcm2rinex.specs.Printing.{EndsPrinting}
 use Rattle.rtcm2rinex.specs.Devices.{Ends, HaveFailedBy, ReadFailures, stream_fault}
 use Rattle.rtcm_scan.specs.Passing.{AtFault, Passes, BreaksReading, HasPassedAll, PassesAll, PassesToLimit, Reads}
 use Rattle.rtcm_scan.specs.Scan.{FramerValue}
-use Rattle.obs_epoch.specs.Census.{IsCensus}
+use Rattle.obs_epoch.specs.SignalCounts.{AreSignalCounts}
 use Rattle.rtcm2rinex.specs.Signals.{valued_in}
 use Rattle.rtcm2rinex.specs.Surveying.{PrintsSurvey, ReadsTooMuch, StopsSurvey, SurveyText}
 use Rattle.rtcm2rinex.specs.Counting.{Counts, StopsCounting, HasCounted, IsCounted, IsSurvey, NeverFails}
@@ -39,9 +39,9 @@ first_more wanted (g ∷ fs) f =
     ap (option_or (station_of wanted g)) (first_more wanted fs f) ∙ or_more (station_of wanted g) (first_station wanted fs) (station_of wanted f)
 
 -- no frame was surveyed
-pub none_surveyed : (c : Survey) (wanted : Option ℕ) → IsCensus c.census [] → c.first ≡ None → IsSurvey c wanted []
-none_surveyed c wanted census none = record {
-  counted = record { census = census; few = omega arith };
+pub none_surveyed : (c : Survey) (wanted : Option ℕ) → AreSignalCounts c.signal_counts [] → c.first ≡ None → IsSurvey c wanted []
+none_surveyed c wanted signal_counts none = record {
+  counted = record { signal_counts = signal_counts; few = omega arith };
   first = none;
   in_range = subst (λ (o : Option StationParts). IfSome o InRange) (sym none) tt;
 }
@@ -51,7 +51,7 @@ new_survey c = record { same = refl; surveys = λ few begun. begun }
 
 -- one frame more was surveyed
 pub one_more_surveyed : (c0 c c2 : Survey) (ps fs : List Framed) (f : Framed) → c2.station ≡ c.station
-    → ((gs : List Framed) → length gs < 2 ^ 56 → IsCounted c.census c.station gs → IsCounted c2.census c.station (gs ++ f ∷ []))
+    → ((gs : List Framed) → length gs < 2 ^ 56 → IsCounted c.signal_counts c.station gs → IsCounted c2.signal_counts c.station (gs ++ f ∷ []))
     → c2.first ≡ option_or c.first (station_of c.station f) → (IfSome c.first InRange → IfSome c2.first InRange)
     → Counts c0 tt ps c tt fs → Counts c0 tt ps c2 tt (fs ++ f ∷ [])
 one_more_surveyed c0 c c2 ps fs f kept step first range s = record {

@@ -3,7 +3,7 @@ mod LineLemmas
 mod StreamLemmas
 mod ListingLemmas
 mod ShowLemmas
-mod ToldLemmas
+mod OptionLemmas
 mod CommandLineLemmas
 mod ReadBackLemmas
 mod CheckLemmas

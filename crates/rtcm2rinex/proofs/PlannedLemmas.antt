@@ -14,7 +14,7 @@ use Rattle.obs_epoch.specs.Cells.{is_planned, has_listed_key}
 use Rattle.obs_epoch.specs.Heard.{GatherSetup, HeardCell, IsKey}
 use Rattle.obs_epoch.specs.Plans.{below, place_in, between_commas, onto_first, one_signal_more, signals_after, signals_of, plan_of}
 use Rattle.obs_epoch.specs.Values.{planned_of}
-use Rattle.obs_epoch.specs.Census.{is_of_signal, count_of, signal_in}
+use Rattle.obs_epoch.specs.SignalCounts.{is_of_signal, count_of, signal_in}
 use Rattle.rtcm2rinex.specs.Signals.{had, plan_had, code_list, codes_word}
 use Rattle.rtcm2rinex.proofs.SignalLemmas.{own_signal}
 

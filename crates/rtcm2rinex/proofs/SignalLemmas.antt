@@ -11,7 +11,7 @@ use Rattle.std.specs.List.{flat_map, join_with_byte}
 use Rattle.gnss_obs.specs.declared.system.System.{System}
 use Rattle.gnss_obs.specs.Signals.{table, code_of}
 use Rattle.obs_epoch.specs.Plans.{below}
-use Rattle.obs_epoch.specs.Census.{CensusValue, IsCensus, counted, has_any, signal_in, count_of, is_of_signal}
+use Rattle.obs_epoch.specs.SignalCounts.{SignalCountsValue, AreSignalCounts, counted, has_any, signal_in, count_of, is_of_signal}
 use Rattle.rtcm2rinex.specs.Signals.{had_below, had, code_list, codes_word, count_line, lines_below}
 use Rattle.obs_epoch.specs.Heard.{IsKey, HeardCell}
 
@@ -19,7 +19,7 @@ below-more : (i : ℕ) → below (i + 1) ≡ below i ++ i ∷ []
 below-more i = let e : i + 1 ≡ suc i = omega arith in rw e refl
 
 -- one signal more of the table: it is there where it has cells
-had_more : (c : CensusValue) (cells : List HeardCell) (system : System) (i n : ℕ) → IsCensus c cells → i < length (table system) → n ≡ counted c system i
+had_more : (c : SignalCountsValue) (cells : List HeardCell) (system : System) (i n : ℕ) → AreSignalCounts c cells → i < length (table system) → n ≡ counted c system i
     → had_below cells system (i + 1) ≡ had_below cells system i ++ cond (nat_lt 0 n) (i ∷ []) []
 had_more c cells system i n h within is =
     ap (filter (λ i. nat_lt 0 (count_of (signal_in system i) cells))) (below-more i) ∙ filter-append (λ i. nat_lt 0 (count_of (signal_in system i) cells)) (below i) (i ∷ [])
@@ -31,18 +31,18 @@ positive n h = grind (arith, h)
 zero_count : (n : ℕ) → n ≤ 0 → nat_lt 0 n ≡ false
 zero_count n h = grind (arith, h)
 
-pub had_one : (c : CensusValue) (cells : List HeardCell) (system : System) (i n : ℕ) → IsCensus c cells → i < length (table system) → n ≡ counted c system i → 0 < n
+pub had_one : (c : SignalCountsValue) (cells : List HeardCell) (system : System) (i n : ℕ) → AreSignalCounts c cells → i < length (table system) → n ≡ counted c system i → 0 < n
     → had_below cells system (i + 1) ≡ had_below cells system i ++ i ∷ []
 had_one c cells system i n h within is some = had_more c cells system i n h within is ∙ ap (λ (b : Bool). had_below cells system i ++ cond b (i ∷ []) []) (positive n some)
 
-pub had_none : (c : CensusValue) (cells : List HeardCell) (system : System) (i n : ℕ) → IsCensus c cells → i < length (table system) → n ≡ counted c system i → n ≤ 0
+pub had_none : (c : SignalCountsValue) (cells : List HeardCell) (system : System) (i n : ℕ) → AreSignalCounts c cells → i < length (table system) → n ≡ counted c system i → n ≤ 0
     → had_below cells system (i + 1) ≡ had_below cells system i
 had_none c cells system i n h within is none =
     had_more c cells system i n h within is ∙ ap (λ (b : Bool). had_below cells system i ++ cond b (i ∷ []) []) (zero_count n none) ∙ append-nil (had_below cells system i)
 
 -- ---- the codes of a system
 
--- behind a start: nothing, or a blank and codes with commas between them
+-- after a start: nothing, or a blank and codes with commas between them
 abbrev pub IsPartly : (start text : List ℕ) (separator : ℕ) (system : System) → List ℕ → Type 0
 IsPartly start text separator system [] = (text ≡ start) × (separator ≡ 0x20)
 IsPartly start text separator system (i ∷ is) = (text ≡ start ++ 0x20 ∷ code_list system (i ∷ is)) × (separator ≡ 0x2C)
@@ -83,7 +83,7 @@ lines-append : (f : ℕ → List ℕ) (is js : List ℕ) → flat_map f (is ++ j
 lines-append f [] js = refl
 lines-append f (i ∷ is) js = ap (λ (l : List ℕ). f i ++ l) (lines-append f is js) ∙ sym (append_assoc (f i) (flat_map f is) (flat_map f js))
 
-pub lines_one : (c : CensusValue) (cells : List HeardCell) (system : System) (i n : ℕ) (start text more line : List ℕ) → IsCensus c cells → i < length (table system) → n ≡ counted c system i → 0 < n
+pub lines_one : (c : SignalCountsValue) (cells : List HeardCell) (system : System) (i n : ℕ) (start text more line : List ℕ) → AreSignalCounts c cells → i < length (table system) → n ≡ counted c system i → 0 < n
     → text ≡ start ++ lines_below cells system i → more ≡ text ++ line → line ≡ count_line (signal_in system i) n → more ≡ start ++ lines_below cells system (i + 1)
 lines_one c cells system i n start text more line h within is some before e same =
     let f = λ (i : ℕ). count_line (signal_in system i) (count_of (signal_in system i) cells) in
@@ -91,7 +91,7 @@ lines_one c cells system i n start text more line h within is some before e same
     e ∙ ap₂ (λ (a b : List ℕ). a ++ b) before last ∙ append_assoc start (lines_below cells system i) (f i ++ [])
     ∙ ap (λ (l : List ℕ). start ++ l) (sym (lines-append f (had_below cells system i) (i ∷ [])) ∙ ap (flat_map f) (sym (had_one c cells system i n h within is some)))
 
-pub lines_none : (c : CensusValue) (cells : List HeardCell) (system : System) (i n : ℕ) (start text : List ℕ) → IsCensus c cells → i < length (table system) → n ≡ counted c system i → n ≤ 0
+pub lines_none : (c : SignalCountsValue) (cells : List HeardCell) (system : System) (i n : ℕ) (start text : List ℕ) → AreSignalCounts c cells → i < length (table system) → n ≡ counted c system i → n ≤ 0
     → text ≡ start ++ lines_below cells system i → text ≡ start ++ lines_below cells system (i + 1)
 lines_none c cells system i n start text h within is none before =
     before ∙ ap (λ (l : List ℕ). start ++ flat_map (λ (i : ℕ). count_line (signal_in system i) (count_of (signal_in system i) cells)) l) (sym (had_none c cells system i n h within is none))
@@ -122,7 +122,7 @@ any_none (x ∷ xs) h i = by (nat_lt 0 x) refl h (λ rest i. any_none xs rest i)
   by false t h more (suc i) = more h i
 
 -- a cell of some signal is a cell
-pub some_cells : (c : CensusValue) (cells : List HeardCell) → IsCensus c cells → has_any c ≡ true → 0 < length cells
+pub some_cells : (c : SignalCountsValue) (cells : List HeardCell) → AreSignalCounts c cells → has_any c ≡ true → 0 < length cells
 some_cells c cells h any = by (list_any (λ n. nat_lt 0 n) c.gps) refl any where
   found : (system : System) (i : ℕ) → i < length (table system) → 0 < counted c system i → 0 < length cells
   found system i within some = omega (arith, h.each system i within, some, length-filter (is_of_signal (signal_in system i)) cells, count_by-le-length (is_of_signal (signal_in system i)) cells)
@@ -141,7 +141,7 @@ own_signal x = by x.signal.system where
   by Galileo = same x.signal.index
 
 -- where there is none of any signal, there is no cell
-pub no_cells : (c : CensusValue) (cells : List HeardCell) → IsCensus c cells → All IsKey cells → has_any c ≡ false → cells ≡ []
+pub no_cells : (c : SignalCountsValue) (cells : List HeardCell) → AreSignalCounts c cells → All IsKey cells → has_any c ≡ false → cells ≡ []
 no_cells c [] h keys none = refl
 no_cells c (x ∷ xs) h keys none = by (list_any (λ n. nat_lt 0 n) c.gps) refl none where
   key : IsKey x

@@ -7,7 +7,7 @@ use Rattle.std.proofs.lemmas.List.Elements.{All-nil, All-cons, All-head, All-tai
 use Rattle.std.proofs.lemmas.List.Sums.{sum_by-cons}
 use Rattle.rtcm_scan.specs.Frames.{Framed}
 use Rattle.obs_epoch.specs.Cells.{counts_of, is_planned, offered, with_skipped}
-use Rattle.obs_epoch.specs.Census.{brings_value, is_of_station, valued}
+use Rattle.obs_epoch.specs.SignalCounts.{brings_value, is_of_station, valued}
 use Rattle.obs_epoch.specs.Gather.{no_counts}
 use Rattle.obs_epoch.specs.Heard.{GatherSetup, Heard, HeardCell, is_own}
 use Rattle.obs_epoch.specs.Standing.{counts_of_message}

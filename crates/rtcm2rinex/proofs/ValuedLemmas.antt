@@ -19,7 +19,7 @@ use Rattle.rtcm_msg.specs.Reading.{message_at}
 use Rattle.rtcm_scan.specs.Frames.{Framed}
 use Rattle.obs_epoch.specs.Heard.{Heard, heard, seen_in, lock_by, observed, system_of, HeardCell, IsKey}
 use Rattle.rtcm_convert.specs.Converted.{heard_of}
-use Rattle.obs_epoch.specs.Census.{brings_value, is_of_station, valued, signal_in}
+use Rattle.obs_epoch.specs.SignalCounts.{brings_value, is_of_station, valued, signal_in}
 use Rattle.rtcm2rinex.specs.Signals.{valued_of, valued_in}
 
 some_same : {X : Type 0} (x y : X) → Some x ≡ Some y → x ≡ y

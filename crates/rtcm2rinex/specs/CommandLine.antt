@@ -19,7 +19,7 @@ use Rattle.clap.specs.declared.builder.value_parser.ValueParser.TheVariants as v
 use Rattle.rtcm2rinex.specs.declared.commands.CommandRow.{CommandRow}
 use Rattle.rtcm2rinex.specs.declared.commands.OptionRow.{OptionRow}
 use Rattle.rtcm2rinex.specs.declared.commands.Reading.{Reading}
-use Rattle.rtcm2rinex.specs.declared.commands.Reading.TheVariants.{Told, Or, Among, Week, Station, Bytes}
+use Rattle.rtcm2rinex.specs.declared.commands.Reading.TheVariants.{Given, Or, Among, Week, Station, Bytes}
 
 -- ---- options
 
@@ -79,7 +79,7 @@ texts =
 
 -- an option whose value is read so
 unfoldable pub read_so : Reading → Rule → Rule
-read_so Told a = required a
+read_so Given a = required a
 read_so (Or default) a = or_else default.now a
 read_so (Among words default) a = read_by (value.Names words) (or_else default.now a)
 read_so Week a = read_by (value.Signed (pos 0) (pos 99999)) (required a)
@@ -87,8 +87,8 @@ read_so Station a = read_by (value.Signed (pos 0) (pos 4095)) a
 read_so Bytes a = read_by (value.Unsigned 0 281474976710656) (or_else (codes "281474976710656") a)
 
 -- the option of a row
-abbrev pub option_told : OptionRow → Rule
-option_told row = read_so row.reading (option row.name.now)
+abbrev pub option_set : OptionRow → Rule
+option_set row = read_so row.reading (option row.name.now)
 
 -- ---- commands
 
@@ -96,8 +96,8 @@ abbrev pub with_options : App → List Rule → App
 with_options a rules = fold with_rule a rules
 
 -- the command of a row
-abbrev pub command_told : CommandRow → App
-command_told row = with_options (new_app row.name.now) (map option_told row.options.now)
+abbrev pub command_set : CommandRow → App
+command_set row = with_options (new_app row.name.now) (map option_set row.options.now)
 
 abbrev pub with_commands : App → List App → App
 with_commands a commands = fold (λ (program : App) (command : App). with_subcommand program command.top) a commands
@@ -129,9 +129,9 @@ IsProgram a = (names : Bor (List (Bor Text))) × AreRules names × (a ≡ progra
 
 -- the rows of the program's commands
 abbrev pub AreCommands : List CommandRow → Type 0
-AreCommands rows = IsProgram (with_commands start (map command_told rows))
+AreCommands rows = IsProgram (with_commands start (map command_set rows))
 
--- What was made is a command that was there and one option or one command more; want of memory makes none.
+-- What was made is a command that was there and one option or one command more; lack of memory makes none.
 abbrev pub AddsOption : {E : Type 0} → Result Command E → Rule → Result Command E → Type 0
 AddsOption old rule new =
     IfOk new (λ made. (command : Command) × (option : Arg) × (old ≡ Ok command) × (rule_of option ≡ rule) × AddsArg command option made)

@@ -19,7 +19,7 @@ use Rattle.rtcm2rinex.specs.Fitting.{options_text}
 use Rattle.rtcm2rinex.specs.CommandLine.{Asks, IsAnswered, IsCommand}
 use Rattle.rtcm2rinex.specs.Printing.{PrintsText, PrintsPart}
 use Rattle.rtcm2rinex.specs.Devices.{AreFine, Ends, HaveFailedBy}
-use Rattle.rtcm2rinex.specs.SetupTold.{IsSetupRefused}
+use Rattle.rtcm2rinex.specs.SetupOptions.{IsSetupRefused}
 use Rattle.rtcm2rinex.specs.declared.fault.ToolFault.{ToolFault}
 use Rattle.rtcm2rinex.specs.declared.fault.ToolFault.TheVariants as faults
 use Rattle.rtcm2rinex.specs.declared.cli.TheConstants.{VERSION}
@@ -76,7 +76,7 @@ HasFailedToServe left r r' held w w' words =
     ⊎ (IsAnswered words DisplayVersion × (r' ≡ r) × PrintsPart held w w' VERSION.now)
     ⊎ IsUntouched r r' w w'
 
--- Nothing was written for want of memory, or the version's text in part.
+-- Nothing was written for lack of memory, or the version's text in part.
 abbrev pub StopsAnswering : {W : Type 0} → ErrorKind → (W → Option (List ℕ)) → (w w' : Device W) → Type 0
 StopsAnswering k held w w' = (w' ≡ w) ⊎ ((k ≡ DisplayVersion) × PrintsPart held w w' VERSION.now)
 

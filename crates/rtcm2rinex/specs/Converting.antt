@@ -9,7 +9,7 @@ use Rattle.rtcm_convert.specs.declared.fault.Fault.TheVariants as convert
 use Rattle.clap.specs.Walk.{Row}
 use Rattle.rtcm2rinex.specs.declared.fault.ToolFault.{ToolFault}
 use Rattle.rtcm2rinex.specs.declared.fault.ToolFault.TheVariants as faults
-use Rattle.rtcm2rinex.specs.SetupTold.{IsStartOf, IsSetupRefused}
+use Rattle.rtcm2rinex.specs.SetupOptions.{IsStartOf, IsSetupRefused}
 
 -- Started as these options ask for, which isn't out of range, a conversion read all that the reader had, and wrote the file of its frames,
 -- which has an epoch.

@@ -4,7 +4,7 @@ use Rattle.std.specs.Io.KnownBytes.{Consumes, IsAtEnd}
 use Rattle.rtcm_bits.specs.Device.{Device}
 use Rattle.rtcm_scan.specs.Frames.{Framed, frames_of}
 use Rattle.rtcm_scan.specs.declared.framer.ScanFault.TheVariants as scan
-use Rattle.obs_epoch.specs.Census.{CensusValue, IsCensus}
+use Rattle.obs_epoch.specs.SignalCounts.{SignalCountsValue, AreSignalCounts}
 use Rattle.rtcm_msg.specs.Station.{InRange}
 use Rattle.rtcm2rinex.specs.Fitting.{first_station}
 use Rattle.rtcm2rinex.specs.Signals.{valued_in}
@@ -14,13 +14,13 @@ use Rattle.rtcm2rinex.specs.declared.fault.ToolFault.TheVariants as faults
 use Rattle.rtcm2rinex.specs.declared.survey.Survey.{Survey}
 
 -- the counts are those of the cells of these frames, of which each has at most 64
-pub record IsCounted (c : CensusValue) (wanted : Option ℕ) (fs : List Framed) : Type 0 where
-  pub census : IsCensus c (valued_in wanted fs)
+pub record IsCounted (c : SignalCountsValue) (wanted : Option ℕ) (fs : List Framed) : Type 0 where
+  pub signal_counts : AreSignalCounts c (valued_in wanted fs)
   pub few : length (valued_in wanted fs) ≤ 64 * length fs
 
 -- a survey of these frames
 pub record IsSurvey (s : Survey) (wanted : Option ℕ) (fs : List Framed) : Type 0 where
-  pub counted : IsCounted s.census wanted fs
+  pub counted : IsCounted s.signal_counts wanted fs
   pub first : s.first ≡ first_station wanted fs
   pub in_range : IfSome s.first InRange
 

@@ -11,10 +11,10 @@ use Rattle.rtcm2rinex.specs.declared.fault.ToolFault.{ToolFault}
 use Rattle.rtcm2rinex.specs.declared.fault.ToolFault.TheVariants as faults
 
 -- a fault of a conversion: one of a device is that of any command
-abbrev pub fault_told : Fault → ToolFault
-fault_told convert.Read = faults.Read
-fault_told convert.Write = faults.Write
-fault_told refusal = faults.Convert refusal
+abbrev pub tool_fault_of : Fault → ToolFault
+tool_fault_of convert.Read = faults.Read
+tool_fault_of convert.Write = faults.Write
+tool_fault_of refusal = faults.Convert refusal
 
 -- a fault of a stream whose frames go to a device
 abbrev pub stream_fault : {F : Type 0} → StreamFault F → ToolFault

@@ -5,7 +5,7 @@ use Rattle.std.specs.Option.{option_map_or, option_or}
 use Rattle.gnss_obs.specs.declared.system.System.TheVariants.{Gps, Galileo}
 use Rattle.rtcm_msg.specs.declared.station.StationParts.{StationParts}
 use Rattle.rtcm_scan.specs.Frames.{Framed}
-use Rattle.obs_epoch.specs.Census.{is_of_station}
+use Rattle.obs_epoch.specs.SignalCounts.{is_of_station}
 use Rattle.obs_epoch.specs.Heard.{Heard}
 use Rattle.obs_epoch.specs.Values.{PlanValue}
 use Rattle.rtcm_convert.specs.Converted.{heard_in}

@@ -4,7 +4,7 @@ pub mod FrameLines
 pub mod ShowLines
 pub mod Listing
 pub mod Lengths
-pub mod SetupTold
+pub mod SetupOptions
 pub mod CommandLine
 pub mod Devices
 pub mod Converting

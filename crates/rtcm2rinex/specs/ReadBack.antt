@@ -31,7 +31,7 @@ AreReadAs [] (v ∷ vs) = ⊥
 AreReadAs (f ∷ fs) [] = ⊥
 AreReadAs (f ∷ fs) (v ∷ vs) = IsReadAs f.message v × AreReadAs fs vs
 
--- The frames of encoded messages, joined, have exactly these frames, one behind the other from place 0 on, with the
+-- The frames of encoded messages, joined, have exactly these frames, one after the other from place 0 on, with the
 -- encodings as their messages; and these are read back as the messages.
 abbrev pub ReadsBack : List (List ℕ) → List Message → Type 0
 ReadsBack es vs = AreFrames (flat_map frame_bytes es) (placed 0 es) × (map (λ f. f.message) (placed 0 es) ≡ es) × AreReadAs (placed 0 es) vs

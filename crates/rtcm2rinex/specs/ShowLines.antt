@@ -53,6 +53,6 @@ read_line f (Err fault) = fault_line f.offset f.message fault
 unfoldable pub show_line : Framed → List ℕ
 show_line f = read_line f (message_at f.message)
 
--- those of frames, one behind the other
+-- those of frames, one after the other
 abbrev pub show_lines : List Framed → List ℕ
 show_lines fs = flat_map show_line fs

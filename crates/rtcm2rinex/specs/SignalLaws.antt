@@ -4,7 +4,7 @@ use Rattle.std.specs.List.{All, count_by}
 use Rattle.gnss_obs.specs.declared.system.System.TheVariants.{Gps, Galileo}
 use Rattle.rtcm_scan.specs.Frames.{Framed}
 use Rattle.obs_epoch.specs.Cells.{is_planned}
-use Rattle.obs_epoch.specs.Census.{brings_value}
+use Rattle.obs_epoch.specs.SignalCounts.{brings_value}
 use Rattle.obs_epoch.specs.Heard.{GatherSetup, Heard}
 use Rattle.obs_epoch.specs.Standing.{counts_of_message}
 use Rattle.obs_epoch.specs.Times.{Timed}

@@ -6,7 +6,7 @@ use Rattle.rtcm_scan.specs.Frames.{Framed}
 use Rattle.gnss_obs.specs.declared.system.System.{System}
 use Rattle.gnss_obs.specs.declared.system.System.TheVariants.{Gps, Galileo}
 use Rattle.gnss_obs.specs.Signals.{SignalAt, table, code_of}
-use Rattle.obs_epoch.specs.Census.{valued, count_of, signal_in}
+use Rattle.obs_epoch.specs.SignalCounts.{valued, count_of, signal_in}
 use Rattle.obs_epoch.specs.Plans.{below}
 use Rattle.obs_epoch.specs.Values.{PlanValue}
 use Rattle.rtcm_convert.specs.Converted.{heard_in}

@@ -10,7 +10,7 @@ use Rattle.rtcm_convert.specs.Faults.{IsUntouched}
 use Rattle.rtcm_convert.specs.Moves.{Moves}
 use Rattle.rtcm2rinex.specs.declared.fault.ToolFault.{ToolFault}
 use Rattle.rtcm2rinex.specs.declared.fault.ToolFault.TheVariants as faults
-use Rattle.rtcm2rinex.specs.SetupTold.{IsNumberOf}
+use Rattle.rtcm2rinex.specs.SetupOptions.{IsNumberOf}
 use Rattle.rtcm2rinex.specs.Signals.{valued_in}
 
 abbrev pub SurveyText : Type 0

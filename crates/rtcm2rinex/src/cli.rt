@@ -2,7 +2,7 @@
 ghost use Rattle.std.specs.Prelude.{◌≡◌, IfOk, IfErr, map};
 ghost use Rattle.clap.specs.Walk.{rule_of, texts};
 ghost use Rattle.clap.specs.Simple.{app_of, new_app};
-ghost use Rattle.rtcm2rinex.specs.CommandLine.{IsFoundIn, IsProgram, RefusesWords, command_told, option_told};
+ghost use Rattle.rtcm2rinex.specs.CommandLine.{IsFoundIn, IsProgram, RefusesWords, command_set, option_set};
 ghost use Rattle.rtcm2rinex.specs.CommandLine as line;
 
 use crate::commands::{COMMANDS, CommandRow, OptionRow, Reading};
@@ -40,7 +40,7 @@ fn with_commands<'a>(
     program: Command<'a>,
     rows: &[CommandRow<'a>],
 ) -> Result<Command<'a>, AllocError>
-    ensures { IfOk result (λ c. app_of c ≡ line.with_commands (app_of program.entry) (map command_told rows.now)) }
+    ensures { IfOk result (λ c. app_of c ≡ line.with_commands (app_of program.entry) (map command_set rows.now)) }
 {
     let mut program = Ok(program);
     for row in rows {
@@ -51,7 +51,7 @@ fn with_commands<'a>(
 
 /// A command with its help and its options.
 fn command<'a>(alloc: Global, row: &CommandRow<'a>) -> Result<Command<'a>, AllocError>
-    ensures { IfOk result (λ c. app_of c ≡ command_told row.now) }
+    ensures { IfOk result (λ c. app_of c ≡ command_set row.now) }
 {
     with_options(alloc, described(alloc, row.name, &row.help), row.options)
 }
@@ -62,7 +62,7 @@ fn with_options<'a>(
     command: Command<'a>,
     rows: &[OptionRow<'a>],
 ) -> Result<Command<'a>, AllocError>
-    ensures { IfOk result (λ c. app_of c ≡ line.with_options (app_of command.entry) (map option_told rows.now)) }
+    ensures { IfOk result (λ c. app_of c ≡ line.with_options (app_of command.entry) (map option_set rows.now)) }
 {
     let mut command = Ok(command);
     for row in rows {
@@ -102,7 +102,7 @@ fn with_option<'a>(
     command: Result<Command<'a>, AllocError>,
     row: &OptionRow<'a>,
 ) -> Result<Command<'a>, AllocError>
-    ensures { line.AddsOption command.entry (option_told row.now) result }
+    ensures { line.AddsOption command.entry (option_set row.now) result }
 {
     command?.arg(option(alloc, row))
 }
@@ -118,7 +118,7 @@ fn described<'a>(alloc: Global, name: &'a str, help: &Help) -> Command<'a>
 
 /// An option with its help, as its value is read.
 fn option<'a>(alloc: Global, row: &OptionRow<'a>) -> Arg<'a>
-    ensures { rule_of result ≡ option_told row.now }
+    ensures { rule_of result ≡ option_set row.now }
 {
     let option = Arg::new(alloc, row.name).long(row.name).help(row.help);
     read_by(
@@ -132,7 +132,7 @@ fn read_by<'a>(option: Arg<'a>, reading: Reading<'a>) -> Arg<'a>
     ensures { rule_of result ≡ line.read_so reading.entry (rule_of option.entry) }
 {
     match reading {
-        Reading::Told => option.required(true),
+        Reading::Given => option.required(true),
         Reading::Or(without) => option.default_value(without),
         Reading::Among(words, without) => option.default_value(without).value_parser(words),
         Reading::Week => option

@@ -11,7 +11,7 @@ ghost use Rattle.rtcm2rinex.specs.Printing.{PrintsText};
 ghost use Rattle.rtcm2rinex.specs.declared.cli.TheConstants.{VERSION};
 ghost use Rattle.rtcm2rinex.specs.Converting.{IsConverted, StopsConverting};
 ghost use Rattle.rtcm2rinex.specs.Devices.{Ends};
-ghost use Rattle.rtcm2rinex.specs.SetupTold.{options_of};
+ghost use Rattle.rtcm2rinex.specs.SetupOptions.{options_of};
 
 use crate::check::run_check;
 use crate::cli::{VERSION, parse};

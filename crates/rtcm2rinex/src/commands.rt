@@ -24,7 +24,7 @@ pub struct OptionRow<'a> {
 #[derive(Clone, Copy)]
 pub enum Reading<'a> {
     /// A required text.
-    Told,
+    Given,
     /// A text, or this.
     Or(&'a str),
     /// One of these words, or this.
@@ -88,7 +88,7 @@ const CONVERT: [OptionRow<'static>; 19] = [
         name: "date",
         value: "TEXT",
         help: "Date of the run, in RINEX's form 'yyyymmdd hhmmss UTC'",
-        reading: Reading::Told,
+        reading: Reading::Given,
     },
     OptionRow {
         name: "gps",

@@ -1,6 +1,6 @@
 //! Why a command stopped.
 ghost use Rattle.std.specs.Prelude.{◌≡◌};
-ghost use Rattle.rtcm2rinex.specs.Devices.{fault_told, stream_fault};
+ghost use Rattle.rtcm2rinex.specs.Devices.{tool_fault_of, stream_fault};
 ghost use Rattle.rtcm2rinex.specs.declared.fault.ToolFault.TheVariants as faults;
 
 use gnss_obs::System;
@@ -11,7 +11,7 @@ use rtcm_convert::Fault;
 use rtcm_scan::{ScanFault, StreamFault};
 use std::fmt;
 
-/// Why a command stopped. It is shown as the fault's own name, and behind it each thing that the
+/// Why a command stopped. It is shown as the fault's own name, and after it each thing that the
 /// fault carries.
 #[derive(Clone, Copy, Drop)]
 pub enum ToolFault {
@@ -76,7 +76,7 @@ impl From<PlanFault> for ToolFault {
 }
 
 impl From<Fault> for ToolFault {
-    ghost from_gives = { λ conversion fault. fault ≡ fault_told conversion };
+    ghost from_gives = { λ conversion fault. fault ≡ tool_fault_of conversion };
 
     fn from(conversion: Fault) -> ToolFault {
         match conversion {

@@ -62,6 +62,6 @@ pub const CHECK: Help = Help {
     about: "Checks that standard input is an observation file just as convert writes it",
     examples: "Example: rtcm2rinex check < station.obs\n\
                A line as 'epochs 2 satellites 17 events 0' counts the epochs, the lines of \
-               satellites, and the events that tell other station values. Of any other file the \
-               first line that is wrong is told on standard error, as 'rtcm2rinex: BadHeader 2'.",
+               satellites, and the events that set_values other station values. Of any other file the \
+               first line that is wrong is given on standard error, as 'rtcm2rinex: BadHeader 2'.",
 };

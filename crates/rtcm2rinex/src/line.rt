@@ -71,7 +71,7 @@ impl Line {
         self.put(word.as_bytes());
     }
 
-    /// A byte that parts, and a text behind it.
+    /// A byte that parts, and a text after it.
     pub fn add_part(&mut self, separator: u8, part: &[u8])
         requires { length self.old + length part.now + 1 ≤ 320 }
         ensures text { self.new ≡ self.old ++ separator ∷ part.now }
@@ -108,7 +108,7 @@ impl Line {
         self.put(decimals.as_slice());
     }
 
-    /// The line feed behind the last word.
+    /// The line feed after the last word.
     pub fn finish(&mut self)
         requires { length self.old < 320 }
         ensures { self.new ≡ self.old ++ 0x0A ∷ [] }

@@ -110,7 +110,7 @@ pub fn list<R: Read, W: Write>(
         (λ _. Moves R.remaining reader.old reader.new W.contents writer.old writer.new (ListsAll (listing_lines listing)))
         (StopsListing limit (listing_lines listing) R.remaining reader.old reader.new W.contents writer.old writer.new) }
 {
-    // The limit is valid, so a framer is refused for want of memory alone.
+    // The limit is valid, so a framer is refused for lack of memory alone.
     let Ok(mut framer) = Framer::new(alloc, limit) else {
         return Err(ToolFault::Scan(ScanFault::Memory));
     };

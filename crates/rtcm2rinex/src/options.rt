@@ -4,7 +4,7 @@ ghost use Rattle.clap.specs.Walk.{one_of};
 ghost use Rattle.std.specs.Str.{bytes_eq};
 ghost use Rattle.obs_epoch.specs.Kinds.{is_by_bit};
 ghost use Rattle.rinex_file.specs.TextsOf.{lists_of};
-ghost use Rattle.rtcm2rinex.specs.SetupTold.{IsNumberOf, IsSetupOf, IsSetupRefused, options_of, text_told, texts_told, values_told};
+ghost use Rattle.rtcm2rinex.specs.SetupOptions.{IsNumberOf, IsSetupOf, IsSetupRefused, options_of, text_set, texts_set, values_by_message};
 
 use crate::fault::ToolFault;
 use crate::metres::values_in;
@@ -33,7 +33,7 @@ pub fn setup_of(alloc: Global, options: &ArgMatches) -> Result<Setup, ToolFault>
 
 /// The texts of the header.
 fn texts_of<'a>(options: &ArgMatches<'a>) -> Texts<'a>
-    ensures { lists_of result ≡ texts_told (options_of options.now) }
+    ensures { lists_of result ≡ texts_set (options_of options.now) }
 {
     Texts {
         run_by: text(options, "run-by"),
@@ -62,7 +62,7 @@ fn gather_of(name: &str) -> Gather
 
 /// The value of an option: each that is asked for is required or has a default.
 fn text<'a>(options: &ArgMatches<'a>, name: &str) -> &'a str
-    ensures { result.now ≡ text_told (options_of options.now) name.now }
+    ensures { result.now ≡ text_set (options_of options.now) name.now }
 {
     match options.get_str(name) {
         Some(text) => text,
@@ -79,7 +79,7 @@ pub fn station_of(options: &ArgMatches) -> Option<u16>
 
 /// The station values that are given.
 pub fn values_of(options: &ArgMatches) -> Result<StationValues, ToolFault>
-    ensures { result ≡ values_told (options_of options.now) }
+    ensures { result ≡ values_by_message (options_of options.now) }
 {
     values_in(text(options, "position"), text(options, "antenna-height"))
 }

@@ -2,7 +2,7 @@
 ghost use Rattle.std.specs.Prelude.{◌≡◌, ◌+◌, ◌≤◌, ◌++◌, ◌∷◌, List, IfSome, length};
 ghost use Rattle.rtcm_msg.specs.Station.{InRange};
 ghost use Rattle.obs_epoch.specs.Heard.{HeardCell};
-ghost use Rattle.obs_epoch.specs.Census.{IsCensus};
+ghost use Rattle.obs_epoch.specs.SignalCounts.{AreSignalCounts};
 ghost use Rattle.rtcm_convert.specs.Moves.{Moves};
 ghost use Rattle.rtcm2rinex.specs.Devices.{Ends};
 ghost use Rattle.rtcm2rinex.specs.Fitting.{antenna_words, options_line, options_text, station_words};
@@ -15,7 +15,7 @@ use crate::line::{Line, print_text};
 use crate::signals::code_at;
 use crate::survey::{Survey, survey_stream};
 use gnss_obs::System;
-use obs_epoch::Census;
+use obs_epoch::SignalCounts;
 use rtcm_bits::Counted;
 use rtcm_msg::StationParts;
 use rtcm_scan::MOST_BYTES;
@@ -39,7 +39,7 @@ pub fn run_options<R: Read, W: Write>(
         Ok(survey) => survey,
         Err(fault) => return Err(fault),
     };
-    if !survey.census.has_any() {
+    if !survey.signal_counts.has_any() {
         return Err(ToolFault::NoSignal);
     }
     print_text(options_line(&survey).as_bytes(), writer)
@@ -48,12 +48,12 @@ pub fn run_options<R: Read, W: Write>(
 /// The options that plan the signals counted, and those of the station message.
 fn options_line(survey: &Survey) -> Line
     requires { IfSome survey.now.first InRange }
-    ensures { (cells : List HeardCell) → IsCensus survey.now.census cells → result ≡ options_line (plan_had cells) survey.now.first }
+    ensures { (cells : List HeardCell) → AreSignalCounts survey.now.signal_counts cells → result ≡ options_line (plan_had cells) survey.now.first }
 {
     let mut line = Line::starting_with_word("--gps");
-    add_codes(&mut line, &survey.census, System::Gps);
+    add_codes(&mut line, &survey.signal_counts, System::Gps);
     line.add_word("--galileo");
-    add_codes(&mut line, &survey.census, System::Galileo);
+    add_codes(&mut line, &survey.signal_counts, System::Galileo);
     add_station(&mut line, survey.first);
     line.finish();
     line
@@ -61,14 +61,14 @@ fn options_line(survey: &Survey) -> Line
 
 /// Adds a word, the codes of the signals of a system that have a cell, separated by commas, or
 /// `none`.
-fn add_codes(line: &mut Line, census: &Census, system: System)
+fn add_codes(line: &mut Line, signal_counts: &SignalCounts, system: System)
     requires { length line.old ≤ 150 }
-    ensures text { (cells : List HeardCell) → IsCensus census.now cells → line.new ≡ line.old ++ 0x20 ∷ codes_word system (had cells system) }
+    ensures text { (cells : List HeardCell) → AreSignalCounts signal_counts.now cells → line.new ≡ line.old ++ 0x20 ∷ codes_word system (had cells system) }
     ensures short { length line.new ≤ length line.old + 62 }
 {
     let mut separator = b' ';
     for index in 0..system.signals() {
-        if census.count(system, index) > 0 {
+        if signal_counts.count(system, index) > 0 {
             line.add_part(separator, code_at(system, index).as_slice());
             separator = b',';
         }

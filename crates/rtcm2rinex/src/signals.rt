@@ -3,7 +3,7 @@ ghost use Rattle.std.specs.Prelude.{◌≡◌, ◌+◌, ◌≤◌, ◌<◌, ◌+
 ghost use Rattle.gnss_obs.specs.Signals.{table, code_of};
 ghost use Rattle.gnss_obs.specs.declared.system.System.TheVariants.{Gps, Galileo};
 ghost use Rattle.obs_epoch.specs.Heard.{HeardCell};
-ghost use Rattle.obs_epoch.specs.Census.{signal_in, IsCensus};
+ghost use Rattle.obs_epoch.specs.SignalCounts.{signal_in, AreSignalCounts};
 ghost use Rattle.rtcm_convert.specs.Moves.{Moves};
 ghost use Rattle.rtcm2rinex.specs.Devices.{Ends};
 ghost use Rattle.rtcm2rinex.specs.Signals.{count_line, count_lines, letter, signals_text};
@@ -14,7 +14,7 @@ use crate::line::{Line, print_text};
 use crate::survey::survey_stream;
 use arrayvec::ArrayVec;
 use gnss_obs::{Signal, System};
-use obs_epoch::Census;
+use obs_epoch::SignalCounts;
 use rtcm_bits::Counted;
 use rtcm_scan::MOST_BYTES;
 use std::alloc::Global;
@@ -39,10 +39,10 @@ pub fn run_signals<R: Read, W: Write>(
         Ok(survey) => survey,
         Err(fault) => return Err(fault),
     };
-    if !survey.census.has_any() {
+    if !survey.signal_counts.has_any() {
         return Err(ToolFault::NoSignal);
     }
-    print_text(count_lines(&survey.census).as_slice(), writer)
+    print_text(count_lines(&survey.signal_counts).as_slice(), writer)
 }
 
 /// The code of the signal at a place of a system's table.
@@ -58,23 +58,23 @@ pub fn code_at(system: System, index: usize) -> [u8; 2]
 }
 
 /// A line for each signal that has a cell.
-fn count_lines(census: &Census) -> ArrayVec<u8, TEXT_BYTES>
-    ensures { (cells : List HeardCell) → IsCensus census.now cells → result.items ≡ count_lines cells Gps ++ count_lines cells Galileo }
+fn count_lines(signal_counts: &SignalCounts) -> ArrayVec<u8, TEXT_BYTES>
+    ensures { (cells : List HeardCell) → AreSignalCounts signal_counts.now cells → result.items ≡ count_lines cells Gps ++ count_lines cells Galileo }
 {
     let mut text = ArrayVec::new();
-    add_lines(&mut text, census, System::Gps);
-    add_lines(&mut text, census, System::Galileo);
+    add_lines(&mut text, signal_counts, System::Gps);
+    add_lines(&mut text, signal_counts, System::Galileo);
     text
 }
 
 /// Adds a line for each signal of a system that has a cell.
-fn add_lines(text: &mut ArrayVec<u8, TEXT_BYTES>, census: &Census, system: System)
+fn add_lines(text: &mut ArrayVec<u8, TEXT_BYTES>, signal_counts: &SignalCounts, system: System)
     requires { length text.old.items ≤ 512 }
-    ensures text { (cells : List HeardCell) → IsCensus census.now cells → text.new.items ≡ text.old.items ++ count_lines cells system }
+    ensures text { (cells : List HeardCell) → AreSignalCounts signal_counts.now cells → text.new.items ≡ text.old.items ++ count_lines cells system }
     ensures short { length text.new.items ≤ length text.old.items + 26 * length (table system) }
 {
     for index in 0..system.signals() {
-        let count = census.count(system, index);
+        let count = signal_counts.count(system, index);
         if count > 0 {
             let line = count_line(system, index, count);
             text.try_extend_from_slice(line.as_bytes()).unwrap();

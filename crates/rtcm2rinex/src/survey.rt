@@ -12,7 +12,7 @@ ghost use Rattle.rtcm2rinex.specs.Fitting.{point_of, station_of};
 
 use crate::fault::ToolFault;
 use crate::listing::PIECE_BYTES;
-use obs_epoch::Census;
+use obs_epoch::SignalCounts;
 use rtcm_bits::{Counted, DeviceFailed};
 use rtcm_msg::{StationParts, View, look};
 use rtcm_scan::{Frame, FrameSink, Framer, ScanFault, laws};
@@ -24,7 +24,7 @@ use std::io::Read;
 pub struct Survey {
     /// The station whose messages count; `None` counts those of every station.
     pub station: Option<u16>,
-    pub census: Census,
+    pub signal_counts: SignalCounts,
     /// The content of the first station message.
     pub first: Option<StationParts>,
 }
@@ -39,7 +39,12 @@ impl FrameSink<()> for Survey {
     ghost broke = { NeverFails };
 
     fn take(&mut self, frame: &Frame, _out: &mut ()) -> Result<(), DeviceFailed> {
-        survey_frame(self.station, &mut self.census, &mut self.first, frame);
+        survey_frame(
+            self.station,
+            &mut self.signal_counts,
+            &mut self.first,
+            frame,
+        );
         Ok(())
     }
 
@@ -52,17 +57,17 @@ impl FrameSink<()> for Survey {
 /// refused has none.
 fn survey_frame(
     station: Option<u16>,
-    census: &mut Census,
+    signal_counts: &mut SignalCounts,
     first: &mut Option<StationParts>,
     frame: &Frame,
 )
-    ensures counts { (fs : List Framed) → length fs < 2 ^ 56 → IsCounted census.old station fs → IsCounted census.new station (fs ++ framed frame.now ∷ []) }
+    ensures counts { (fs : List Framed) → length fs < 2 ^ 56 → IsCounted signal_counts.old station fs → IsCounted signal_counts.new station (fs ++ framed frame.now ∷ []) }
     ensures first { first.new ≡ option_or first.old (station_of station (framed frame.now)) }
     ensures in_range { IfSome first.old InRange → IfSome first.new InRange }
 {
     match look(frame.message.as_slice()) {
         Ok(view) => {
-            census.count_view(station, &view);
+            signal_counts.count_view(station, &view);
             *first = first_of(*first, station, &view);
         }
         Err(_) => {}
@@ -130,7 +135,7 @@ pub fn survey_stream<R: Read>(
     };
     let mut survey = Survey {
         station,
-        census: Census::new(),
+        signal_counts: SignalCounts::new(),
         first: None,
     };
     let mut buffer = [0; PIECE_BYTES];

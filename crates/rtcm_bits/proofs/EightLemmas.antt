@@ -113,8 +113,8 @@ entry_after j h =
     sym (get_or-drop 256 TABLES j 0) ∙ ap (λ (t : List ℕ). get_or t j 0) tables_go_on ∙ get_or-map next_entry (take 1792 TABLES) j 0 0 (omega (arith, h, length-take-le 1792 TABLES (lit≤ tt)))
     ∙ ap next_entry (get_or-take 1792 TABLES j 0 h)
 
-zero_behind : (m : List ℕ) → next_entry (check m) ≡ check (m ++ 0 ∷ [])
-zero_behind m =
+zero_after : (m : List ℕ) → next_entry (check m) ≡ check (m ++ 0 ∷ [])
+zero_after m =
     let x : ℕ = check m in
     let t : ℕ = get_or TABLES (check m / 65536) 0 in
     let b : check m < 2 ^ 24 = check_below m in
@@ -131,7 +131,7 @@ entry_right zero i h l = let z : 0 * 256 + i ≡ i = omega arith in ap (λ (n : 
 entry_right (suc k) i h l =
     let z : suc k * 256 + i ≡ 256 + (k * 256 + i) = omega arith in
     let y : k + 1 ≡ suc k = omega arith in
-    ap (λ (n : ℕ). get_or TABLES n 0) z ∙ entry_after (k * 256 + i) (omega (arith, h, l)) ∙ ap next_entry (entry_right k i h (omega (arith, l))) ∙ zero_behind (i ∷ replicate k 0)
+    ap (λ (n : ℕ). get_or TABLES n 0) z ∙ entry_after (k * 256 + i) (omega (arith, h, l)) ∙ ap next_entry (entry_right k i h (omega (arith, l))) ∙ zero_after (i ∷ replicate k 0)
     ∙ ap (λ (t : List ℕ). check (i ∷ t)) (replicate-append-replicate k 1 0 ∙ ap (λ (n : ℕ). replicate n 0) y)
 
 -- the sum of the entries

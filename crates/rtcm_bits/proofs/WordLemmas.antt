@@ -23,18 +23,18 @@ part_of_a_word word skip width h =
     ∙ sym (rw e at p)
 
 -- the bits of a byte after those of a number
-byte_behind : (a x : ℕ) (rest : List Bool) → x < 256 → number_from a (uint 8 x ++ rest) ≡ number_from (a * 256 + x) rest
-byte_behind a x rest h = number-append (uint 8 x) rest a ∙ ap (λ (n : ℕ). number_from n rest) (number-uint 8 a x ∙ omega (arith, h))
+byte_after : (a x : ℕ) (rest : List Bool) → x < 256 → number_from a (uint 8 x ++ rest) ≡ number_from (a * 256 + x) rest
+byte_after a x rest h = number-append (uint 8 x) rest a ∙ ap (λ (n : ℕ). number_from n rest) (number-uint 8 a x ∙ omega (arith, h))
 
-nothing_behind : (a : ℕ) → number_from a [] ≡ a
+nothing_after : (a : ℕ) → number_from a [] ≡ a
 unfolding number_from
-nothing_behind a = refl
+nothing_after a = refl
 
 number_of_eight : (a b c d e f g h : ℕ) → a < 256 → b < 256 → c < 256 → d < 256 → e < 256 → f < 256 → g < 256 → h < 256
     → number (bits_of (a ∷ b ∷ c ∷ d ∷ e ∷ f ∷ g ∷ h ∷ [])) ≡ from_be_bytes w64 (a ∷ b ∷ c ∷ d ∷ e ∷ f ∷ g ∷ h ∷ [])
 unfolding bits_of
 number_of_eight a b c d e f g h i j k l m n o p =
-    byte_behind 0 a _ i ∙ byte_behind _ b _ j ∙ byte_behind _ c _ k ∙ byte_behind _ d _ l ∙ byte_behind _ e _ m ∙ byte_behind _ f _ n ∙ byte_behind _ g _ o ∙ byte_behind _ h [] p ∙ nothing_behind _ ∙ omega arith
+    byte_after 0 a _ i ∙ byte_after _ b _ j ∙ byte_after _ c _ k ∙ byte_after _ d _ l ∙ byte_after _ e _ m ∙ byte_after _ f _ n ∙ byte_after _ g _ o ∙ byte_after _ h [] p ∙ nothing_after _ ∙ omega arith
 
 -- eight bytes, as one number
 word_bits : (xs : List ℕ) (n : ℕ) → length xs ≡ 8 → ((i : ℕ) → i < 8 → get_or xs i 0 < 256)

@@ -16,7 +16,7 @@ use Rattle.rinex_file.specs.Texts.{HeaderLists}
 use Rattle.rinex_file.specs.File.{header_text, epoch_text, event_text, change_text, closed_text, file_text, gathered}
 use Rattle.rtcm_convert.specs.Converted.{SetupValue, messages_of, written_epochs, text_of_epochs, text_with, so_far, file}
 use Rattle.rtcm_convert.specs.Outcomes.{capped}
-use Rattle.rtcm_convert.specs.Filed.{opening, added, epochs_after, values_after, values_behind_closed, last_values}
+use Rattle.rtcm_convert.specs.Filed.{opening, added, epochs_after, values_after, values_following_closed, last_values}
 use Rattle.rtcm_convert.proofs.PartLemmas.{prefix_more, prefix_after}
 
 -- a count that is capped, and counts on
@@ -42,10 +42,10 @@ no_change v = ap (λ (b : Bool). if b then [] else event_text v) (same_self v)
 
 -- ---- more epochs
 
-closed_text-append : (p : PlanValue) (v : StationValues) (cs ds : List Closed) → closed_text p v (cs ++ ds) ≡ closed_text p v cs ++ closed_text p (values_behind_closed v cs) ds
+closed_text-append : (p : PlanValue) (v : StationValues) (cs ds : List Closed) → closed_text p v (cs ++ ds) ≡ closed_text p v cs ++ closed_text p (values_following_closed v cs) ds
 closed_text-append p v [] ds = refl
 closed_text-append p v (c ∷ cs) ds =
-    let rest = closed_text p (values_behind_closed c.values cs) ds in
+    let rest = closed_text p (values_following_closed c.values cs) ds in
     ap (λ l. change_text v c.values ++ (epoch_text p c.epoch ++ l)) (closed_text-append p c.values cs ds)
     ∙ ap (λ l. change_text v c.values ++ l) (sym (append_assoc (epoch_text p c.epoch) (closed_text p c.values cs) rest))
     ∙ sym (append_assoc (change_text v c.values) (epoch_text p c.epoch ++ closed_text p c.values cs) rest)
@@ -55,9 +55,9 @@ pub text_of-append : (t : HeaderLists) (p : PlanValue) (es fs : List Closed) →
 unfolding text_of_epochs
 text_of-append t p [] fs = (text_of_epochs t p fs, refl)
 text_of-append t p (e ∷ es) fs = (
-  closed_text p (values_behind_closed e.values (e ∷ es)) fs,
+  closed_text p (values_following_closed e.values (e ∷ es)) fs,
   ap (λ l. header_text t p e.values e.epoch.time ++ l) (closed_text-append p e.values (e ∷ es) fs)
-      ∙ sym (append_assoc (header_text t p e.values e.epoch.time) (closed_text p e.values (e ∷ es)) (closed_text p (values_behind_closed e.values (e ∷ es)) fs)),
+      ∙ sym (append_assoc (header_text t p e.values e.epoch.time) (closed_text p e.values (e ∷ es)) (closed_text p (values_following_closed e.values (e ∷ es)) fs)),
 )
 
 -- one epoch more
@@ -68,7 +68,7 @@ text_of-one t p [] c =
     ap (λ l. header_text t p c.values c.epoch.time ++ (l ++ (epoch_text p c.epoch ++ []))) (no_change c.values)
     ∙ ap (λ l. header_text t p c.values c.epoch.time ++ l) (append-nil (epoch_text p c.epoch))
 text_of-one t p (e ∷ es) c =
-    let before = values_behind_closed e.values es in
+    let before = values_following_closed e.values es in
     let last = change_text before c.values ++ epoch_text p c.epoch in
     ap (λ l. header_text t p e.values e.epoch.time ++ l) (closed_text-append p e.values (e ∷ es) (c ∷ []) ∙ ap (λ l. closed_text p e.values (e ∷ es) ++ (change_text before c.values ++ l)) (append-nil (epoch_text p c.epoch)))
     ∙ sym (append_assoc (header_text t p e.values e.epoch.time) (closed_text p e.values (e ∷ es)) last)
@@ -79,13 +79,13 @@ text_of-maybe : (t : HeaderLists) (p : PlanValue) (es : List Closed) (c : Closed
 text_of-maybe t p es c true = text_of-one t p es c
 text_of-maybe t p es c false = ap (text_of_epochs t p) (append-nil es) ∙ sym (append-nil (text_of_epochs t p es))
 
-values_behind-one : (v : StationValues) (es : List Closed) (c : Closed) → values_behind_closed v (es ++ c ∷ []) ≡ c.values
-values_behind-one v [] c = refl
-values_behind-one v (e ∷ es) c = values_behind-one e.values es c
+values_following-one : (v : StationValues) (es : List Closed) (c : Closed) → values_following_closed v (es ++ c ∷ []) ≡ c.values
+values_following-one v [] c = refl
+values_following-one v (e ∷ es) c = values_following-one e.values es c
 
 last_values-one : (es : List Closed) (c : Closed) → last_values (es ++ c ∷ []) ≡ Some c.values
 last_values-one [] c = refl
-last_values-one (e ∷ es) c = ap Some (values_behind-one e.values es c)
+last_values-one (e ∷ es) c = ap Some (values_following-one e.values es c)
 
 last_values-maybe : (es : List Closed) (c : Closed) (b : Bool) → last_values (es ++ (if b then c ∷ [] else [])) ≡ (if b then Some c.values else last_values es)
 last_values-maybe es c true = last_values-one es c

@@ -40,18 +40,18 @@ abbrev pub added_by : FileWriter → List ℕ
 added_by v = added v.texts (plan_in v.gatherer) v.values (closed_in v.gatherer) v.gatherer.values
 
 -- the file_writer has counted the epoch that its gatherer closed last, and remembers the station values that were written last
-abbrev pub StandsBehindClosed : FileWriter → FileWriter → Type 0
-StandsBehindClosed v w = (w.epochs ≡ epochs_after v.epochs (closed_in v.gatherer)) × (w.values ≡ values_after v.values (closed_in v.gatherer) v.gatherer.values)
+abbrev pub StandsAfterClosed : FileWriter → FileWriter → Type 0
+StandsAfterClosed v w = (w.epochs ≡ epochs_after v.epochs (closed_in v.gatherer)) × (w.values ≡ values_after v.values (closed_in v.gatherer) v.gatherer.values)
 
 -- the station values after these epochs, if these were written before them
-abbrev pub values_behind_closed : StationValues → List Closed → StationValues
-values_behind_closed v [] = v
-values_behind_closed v (c ∷ cs) = values_behind_closed c.values cs
+abbrev pub values_following_closed : StationValues → List Closed → StationValues
+values_following_closed v [] = v
+values_following_closed v (c ∷ cs) = values_following_closed c.values cs
 
 -- the station values that were written last in a file of these epochs
 abbrev pub last_values : List Closed → Option StationValues
 last_values [] = None
-last_values (c ∷ cs) = Some (values_behind_closed c.values cs)
+last_values (c ∷ cs) = Some (values_following_closed c.values cs)
 
 -- the file_writer took these messages and wrote these epochs; if `again` is a message, it is to be passed again
 pub record HasFiledEpochs (v : FileWriter) (s : SetupValue) (ms : List Heard) (es : List Closed) (again : Option Heard) : Type 0 where

@@ -1,7 +1,7 @@
 -- What is written is read back: it is the text of a file value, which `rinex_file::read_file` accepts.
 use Rattle.std.specs.Prelude.{◌≡◌, ℕ, ◌<◌, ◌⊎◌, List, []}
 use Rattle.rtcm_scan.specs.Frames.{Framed}
-use Rattle.obs_epoch.specs.Reach.{AreToldValues}
+use Rattle.obs_epoch.specs.Reach.{AreStationValues}
 use Rattle.rinex_file.specs.Value.{FileValue}
 use Rattle.rinex_file.specs.FileValues.{AreTexts, IsFileValue}
 use Rattle.rinex_file.specs.Gathered.{AreSignals}
@@ -24,7 +24,7 @@ IsReadable text = (text ≡ []) ⊎ HasValue text
 pub record AreSound (s : SetupValue) : Type 0 where
   pub texts : AreTexts s.texts
   pub plan : AreSignals s.gather.plan
-  pub initial : AreToldValues s.gather.initial
+  pub initial : AreStationValues s.gather.initial
 
 -- the file that frames make, and what is written of it so far
 abbrev pub FilesAreReadable : Type 0

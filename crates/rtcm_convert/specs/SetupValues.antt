@@ -3,7 +3,7 @@ use Rattle.std.specs.Prelude.{◌≡◌, ◌^◌, ◌<◌, ◌≤◌, ◌⊎◌,
 use Rattle.obs_epoch.specs.Weeks.{weeks}
 use Rattle.obs_epoch.specs.Epochs.{no_values}
 use Rattle.obs_epoch.specs.Kinds.{setup_at, is_no_station}
-use Rattle.obs_epoch.specs.Reach.{AreToldValues}
+use Rattle.obs_epoch.specs.Reach.{AreStationValues}
 use Rattle.obs_epoch.specs.declared.cell.StationValues.{StationValues}
 use Rattle.rtcm_convert.specs.declared.setup.Setup.{Setup}
 use Rattle.rtcm_convert.specs.Converted.{SetupValue}
@@ -40,4 +40,4 @@ start_value x = setup_value_at x.setup x.initial
 
 -- or station values that no message can have
 abbrev pub IsBadAt : Start → Type 0
-IsBadAt x = (AreToldValues x.initial → ⊥) ⊎ IsBad x.setup
+IsBadAt x = (AreStationValues x.initial → ⊥) ⊎ IsBad x.setup

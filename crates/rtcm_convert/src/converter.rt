@@ -1,7 +1,7 @@
 //! The converter: it accepts a stream piece by piece, and writes its observation file.
 ghost use Rattle.std.specs.Prelude.{◌≡◌, ◌<◌, ◌≤◌, ◌+◌, ◌*◌, ◌↔◌, [], List, ℕ, true, false, length, drop};
 ghost use Rattle.std.specs.Prelude.{Err, OnOk, IfOk, IfErr, IfSome, IsErrOf};
-ghost use Rattle.obs_epoch.specs.Reach.{AreToldValues};
+ghost use Rattle.obs_epoch.specs.Reach.{AreStationValues};
 ghost use Rattle.std.specs.Io.KnownBytes.{Keeps};
 ghost use Rattle.rtcm_scan.specs.Frames.{frames_of};
 ghost use Rattle.rtcm_scan.specs.Decided.{decided, decided_frames, most_undecided};
@@ -83,7 +83,7 @@ impl Converter {
         ensures stands { IfOk result (λ c. HasConverted c (setup_value_at setup initial) []) }
         ensures fresh { IfOk result (λ c. (c.scan.limit ≡ setup.limit) × (c.scan.taken ≡ 0)) }
         ensures bad { result ≡ Err Fault.BadSetup ↔ IsBadAt (start_at setup initial) }
-        ensures fits { IfOk result (λ c. AreToldValues initial) }
+        ensures fits { IfOk result (λ c. AreStationValues initial) }
         ensures only { IfErr result IsSetupFault }
     {
         if setup.limit > MOST_BYTES || !initial.fits_message() {

@@ -8,7 +8,7 @@ ghost use Rattle.rtcm_msg.specs.Viewed.{viewed_message};
 ghost use Rattle.obs_epoch.specs.Heard.{heard};
 ghost use Rattle.rtcm_convert.specs.Faults.{FailsToWrite, IsSetupFault};
 ghost use Rattle.rtcm_convert.specs.SetupValues.{setup_value_at, IsBadStart};
-ghost use Rattle.rtcm_convert.specs.Filed.{HasFiledFrames, opening_of, added_by, StandsBehindClosed};
+ghost use Rattle.rtcm_convert.specs.Filed.{HasFiledFrames, opening_of, added_by, StandsAfterClosed};
 ghost use Rattle.rtcm_convert.specs.Steps.{IsCloseFirst, IsFinalKind, WritesFirst, TakesMessage, IsTakenAgain, IsKindOf, BreaksInMessage, TakesNext, IsKindOfNext, BreaksInNext};
 ghost use Rattle.rtcm_convert.specs.Steps.{TakesFrame, BreaksInFrame, WritesRest, BreaksInRest, CountsEpochs, GathersAll};
 
@@ -110,7 +110,7 @@ impl FileWriter {
         ensures whole { OnOk result (Appends (W.contents writer.old.inner) (W.contents writer.new.inner) (added_by self.old)) }
         ensures part { OnErr result (AppendsPrefix (W.contents writer.old.inner) (W.contents writer.new.inner) (added_by self.old)) }
         ensures device { FailsToWrite result writer.old writer.new }
-        ensures now { OnOk result (StandsBehindClosed self.old self.new) }
+        ensures now { OnOk result (StandsAfterClosed self.old self.new) }
         ensures same { (self.new.gatherer ≡ self.old.gatherer) × (self.new.texts ≡ self.old.texts) × (self.new.tally ≡ self.old.tally) }
     {
         let Some(epoch) = self.gatherer.closed() else {

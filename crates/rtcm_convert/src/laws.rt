@@ -6,7 +6,7 @@ ghost use Rattle.rtcm_scan.specs.Decided.{decided_frames};
 ghost use Rattle.rtcm_convert.specs.Converted.{so_far, file, epochs_in};
 ghost use Rattle.rtcm_convert.specs.SetupValues.{setup_value_at};
 ghost use Rattle.obs_epoch.specs.Epochs.{no_values};
-ghost use Rattle.obs_epoch.specs.Reach.{AreToldValues};
+ghost use Rattle.obs_epoch.specs.Reach.{AreStationValues};
 ghost use Rattle.obs_epoch.specs.declared.cell.StationValues.{StationValues};
 ghost use Rattle.rtcm_convert.specs.Readable.{FilesAreReadable, FilesHaveValues, SoFarIsReadable, IsReadable, HasValue};
 
@@ -52,7 +52,7 @@ pub fn readable()
     ensures file { FilesAreReadable }
     ensures some { FilesHaveValues }
     ensures so_far { SoFarIsReadable }
-    ensures zero { AreToldValues no_values }
+    ensures zero { AreStationValues no_values }
 {
     rtcm_msg::laws::measures();
     obs_epoch::laws::gathered();
@@ -64,11 +64,11 @@ pub fn readable()
 /// For every setup, initial station values and stream: what is written is empty or the text of a
 /// file value, which [`read_file`](rinex_file::read_file) reads as that value.
 pub fn read_back(setup: &Setup)
-    ensures file { (v : StationValues) → AreToldValues v → (b : List ℕ) → IsReadable (file (setup_value_at setup.now v) (frames_of b)) }
-    ensures some { (v : StationValues) → AreToldValues v → (b : List ℕ) → 0 < epochs_in (setup_value_at setup.now v) (frames_of b)
+    ensures file { (v : StationValues) → AreStationValues v → (b : List ℕ) → IsReadable (file (setup_value_at setup.now v) (frames_of b)) }
+    ensures some { (v : StationValues) → AreStationValues v → (b : List ℕ) → 0 < epochs_in (setup_value_at setup.now v) (frames_of b)
         → HasValue (file (setup_value_at setup.now v) (frames_of b)) }
-    ensures so_far { (v : StationValues) → AreToldValues v → (b : List ℕ) → IsReadable (so_far (setup_value_at setup.now v) (decided_frames b)) }
-    ensures zero { AreToldValues no_values }
+    ensures so_far { (v : StationValues) → AreStationValues v → (b : List ℕ) → IsReadable (so_far (setup_value_at setup.now v) (decided_frames b)) }
+    ensures zero { AreStationValues no_values }
 {
     readable();
     rinex_file::laws::head(&setup.texts, &setup.plan);

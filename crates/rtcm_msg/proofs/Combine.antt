@@ -37,13 +37,13 @@ pub number_again : (w n place : ℕ) (rest : List Bool) → n < 2 ^ w → number
 number_again w n place rest h =
     let len = length-uint w n in
     let room : w ≤ length (uint w n ++ rest) = omega (arith, length-append (uint w n) rest, len) in
-    number_there w (cursor place (uint w n ++ rest)) room ∙ rw (front w n rest, behind w n rest, value w n h) refl
+    number_there w (cursor place (uint w n ++ rest)) room ∙ rw (front w n rest, after w n rest, value w n h) refl
   where
     front : (w n : ℕ) (rest : List Bool) → take w (uint w n ++ rest) ≡ uint w n
     front w n rest = let P : ℕ → Type 0 = λ k. take k (uint w n ++ rest) ≡ uint w n in subst P (length-uint w n) (take_front (uint w n) rest)
 
-    behind : (w n : ℕ) (rest : List Bool) → drop w (uint w n ++ rest) ≡ rest
-    behind w n rest = let P : ℕ → Type 0 = λ k. drop k (uint w n ++ rest) ≡ rest in subst P (length-uint w n) (drop_front (uint w n) rest)
+    after : (w n : ℕ) (rest : List Bool) → drop w (uint w n ++ rest) ≡ rest
+    after w n rest = let P : ℕ → Type 0 = λ k. drop k (uint w n ++ rest) ≡ rest in subst P (length-uint w n) (drop_front (uint w n) rest)
 
     value : (w n : ℕ) → n < 2 ^ w → number (uint w n) ≡ n
     value w n h =

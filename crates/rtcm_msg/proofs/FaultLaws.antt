@@ -11,7 +11,7 @@ use Rattle.rtcm_msg.specs.Packed.{total_width}
 use Rattle.rtcm_msg.specs.Columns.{column_at, columns_at}
 use Rattle.rtcm_msg.specs.Spelling.{repeated}
 use Rattle.rtcm_msg.specs.Msm.{time_table, header_table, mask_table, header_of, header_at, masks_at, msm_at, week, MsmValue, MasksValue, pairs}
-use Rattle.rtcm_msg.proofs.FieldLaws.{contents_at, fields_at, standing, field_at, number_there_at, ShortAt, short_at_more, short_at_behind, fields_read, past_none, past_through}
+use Rattle.rtcm_msg.proofs.FieldLaws.{contents_at, fields_at, standing, field_at, number_there_at, ShortAt, short_at_more, short_at_after, fields_read, past_none, past_through}
 use Rattle.rtcm_msg.proofs.Binds.{number_short, ok_inj}
 use Rattle.rtcm_msg.proofs.Combine.{past_here, past_next, ok_err}
 use Rattle.rtcm_msg.proofs.MsmLaws.{head_widths, tail_widths, mask_widths, header_chain, header_rest_is, in_time, too_late, sets_chain, few_rest, many_rest}
@@ -66,7 +66,7 @@ columns_read (w ∷ ws) count ps bits place len h = elim (column_read w ps bits 
       let read : column_at w ps (standing bits place) ≡ Ok (here.0, standing bits (place + w * count)) = rw len at here.1 in
       let width : total_width (replicate count w) ≡ w * count = total-replicate count w in
       elim (columns_read ws count here.0 bits (place + w * count) (here.2 ∙ len) all) [
-        | inl rest ↦ inl (rest.0, rw (read, rest.1) refl, short_at_behind (replicate count w) (repeated count ws) bits place rest.0 (rw width all) (rw width rest.2))
+        | inl rest ↦ inl (rest.0, rw (read, rest.1) refl, short_at_after (replicate count w) (repeated count ws) bits place rest.0 (rw width all) (rw width rest.2))
         | inr rest ↦ inr (rest.0, rw (read, rest.1, two_more place w (total_width ws) count) refl, rw (two_more place w (total_width ws) count) at rest.2)
       ]
 ]
@@ -76,7 +76,7 @@ columns_read (w ∷ ws) count ps bits place len h = elim (column_read w ps bits 
 
 -- ---- a multiple signal message, whose number stands before
 
--- the widths behind the message number
+-- the widths after the message number
 abbrev pub msm_widths : List ℕ → List ℕ → List Bool → List ℕ
 msm_widths sw cw bits =
     let width = pairs (field_at bits 73 64) (field_at bits 137 32) in
@@ -109,7 +109,7 @@ header_end bits h = elim (fields_read time_table bits 12 h) [
     | inl early ↦
         let chain : header_at (standing bits 12) ≡ (fields_at header_table (standing bits 54) >>= λ m. Ok (header_of (field_at bits 12 12) (field_at bits 24 30) m.0, m.1)) = header_chain (standing bits 12) ∙ rw (there.1, in_time (field_at bits 24 30) (standing bits 54) early, header_rest_is (field_at bits 12 12) (field_at bits 24 30) (standing bits 54)) refl in
         elim (fields_read header_table bits 54 there.0) [
-          | inl few ↦ short few.1.0 early few.0 (short_at_behind head_widths tail_widths bits 12 few.1.0 there.0 few.1.2) (chain ∙ rw few.1.1 refl)
+          | inl few ↦ short few.1.0 early few.0 (short_at_after head_widths tail_widths bits 12 few.1.0 there.0 few.1.2) (chain ∙ rw few.1.1 refl)
           | inr all ↦ good (header_of (field_at bits 12 12) (field_at bits 24 30) (contents_at header_table bits 54)) early all.0 (chain ∙ rw all.1 refl)
         ]
   ]
@@ -133,13 +133,13 @@ sets_end bits h = elim (fields_read mask_table bits 73 h) [
         | inr few ↦
             let chain : masks_at (standing bits 73) ≡ (number_at p c >>= λ cells. Ok (record { satellites = field_at bits 73 64; signals = field_at bits 137 32; cells = cells.0 }, cells.1)) = sets_chain (standing bits 73) ∙ rw (there.1, few_rest (field_at bits 73 64) (field_at bits 137 32) c few) refl in
             elim (cases_lt (length bits) (169 + p)) [
-              | inl less ↦ short (Short 169) few (short_at_behind mask_widths (p ∷ []) bits 73 (Short 169) there.0 (record { first = 169; is = refl; past = past_here p [] (length bits) 169 less })) (chain ∙ rw (number_short p c (omega (arith, length-drop 169 bits))) refl)
+              | inl less ↦ short (Short 169) few (short_at_after mask_widths (p ∷ []) bits 73 (Short 169) there.0 (record { first = 169; is = refl; past = past_here p [] (length bits) 169 less })) (chain ∙ rw (number_short p c (omega (arith, length-drop 169 bits))) refl)
               | inr all ↦ good few all (chain ∙ rw (number_there_at p bits 169 all) refl)
             ]
       ]
 ]
 
--- where the reader stands behind the header and behind the masks
+-- where the reader stands after the header and after the masks
 pub record Stands (bits : List Bool) (c : Cursor) : Type 0 where
   pub is : c ≡ standing bits c.place
   pub there : c.place ≤ length bits
@@ -184,7 +184,7 @@ data_end sw cw satellites cells bits place h = elim (columns_read sw satellites 
       let next = place + total_width sw * satellites in
       let width = total-repeated satellites sw in
       elim (columns_read cw cells (replicate cells 0) bits next (length-replicate cells 0) one.2) [
-        | inl few ↦ short few.0 (short_at_behind (repeated satellites sw) (repeated cells cw) bits place few.0 (rw width one.2) (rw width few.2)) (λ f. rw (one.1, few.1) refl)
+        | inl few ↦ short few.0 (short_at_after (repeated satellites sw) (repeated cells cw) bits place few.0 (rw width one.2) (rw width few.2)) (λ f. rw (one.1, few.1) refl)
         | inr two ↦ good one.0 (two.0, standing bits (next + total_width cw * cells)) (room place (repeated satellites sw) (repeated cells cw) _ _ _ width (total-repeated cells cw) two.2) (λ f. rw (one.1, two.1) refl)
       ]
 ]
@@ -213,16 +213,16 @@ msm_end sw cw g bits h = by_header (header_end bits h)
 
     by_data : (v : MsmHeader) → field_at bits 24 30 < week → header_at (standing bits 12) ≡ Ok (v, standing bits 73) → 73 ≤ length bits → p ≤ 64 → 169 + p ≤ length bits
         → masks_at (standing bits 73) ≡ Ok (record { satellites = field_at bits 73 64; signals = field_at bits 137 32; cells = field_at bits 169 p }, standing bits (169 + p)) → DataEnd sw cw (count_ones (field_at bits 73 64)) (count_ones (field_at bits 169 p)) bits (169 + p) → MsmEnd sw cw g bits
-    by_data v early header room few there sets (short e s is) = short e early few (short_at_behind (header_widths ++ (64 ∷ 32 ∷ p ∷ [])) data_widths bits 12 e (long p there) (rw (place p) s))
+    by_data v early header room few there sets (short e s is) = short e early few (short_at_after (header_widths ++ (64 ∷ 32 ∷ p ∷ [])) data_widths bits 12 e (long p there) (rw (place p) s))
         (rw (header, sets) (is (λ s c. Ok (record { is_galileo = g; header = v; sets = record { satellites = field_at bits 73 64; signals = field_at bits 137 32; cells = field_at bits 169 p }; satellites = s; cells = c.0 }, c.1))))
     by_data v early header room few there sets (good s c all is) = good (record { is_galileo = g; header = v; sets = record { satellites = field_at bits 73 64; signals = field_at bits 137 32; cells = field_at bits 169 p }; satellites = s; cells = c.0 }, c.1) early few
         (past_through (header_widths ++ (64 ∷ 32 ∷ p ∷ [])) data_widths (length bits) 12 (long p there) ∙ past_none data_widths (length bits) (12 + total_width (header_widths ++ (64 ∷ 32 ∷ p ∷ []))) (rw (place p) all))
         (rw (header, sets) (is (λ s c. Ok (record { is_galileo = g; header = v; sets = record { satellites = field_at bits 73 64; signals = field_at bits 137 32; cells = field_at bits 169 p }; satellites = s; cells = c.0 }, c.1))))
 
     by_sets : (v : MsmHeader) → field_at bits 24 30 < week → header_at (standing bits 12) ≡ Ok (v, standing bits 73) → 73 ≤ length bits → SetsEnd bits → MsmEnd sw cw g bits
-    by_sets v early header room (no_masks e few s is) = no_masks e early few (short_at_behind header_widths (mask_widths ++ (p ∷ data_widths)) bits 12 e room (short_at_more mask_widths (p ∷ data_widths) bits 73 e s)) (rw (header, is) refl)
+    by_sets v early header room (no_masks e few s is) = no_masks e early few (short_at_after header_widths (mask_widths ++ (p ∷ data_widths)) bits 12 e room (short_at_more mask_widths (p ∷ data_widths) bits 73 e s)) (rw (header, is) refl)
     by_sets v early header room (many there over is) = many early there over (rw (header, is) refl)
-    by_sets v early header room (short e few s is) = short e early few (short_at_behind header_widths ((64 ∷ 32 ∷ p ∷ []) ++ data_widths) bits 12 e room (short_at_more (64 ∷ 32 ∷ p ∷ []) data_widths bits 73 e s)) (rw (header, is) refl)
+    by_sets v early header room (short e few s is) = short e early few (short_at_after header_widths ((64 ∷ 32 ∷ p ∷ []) ++ data_widths) bits 12 e room (short_at_more (64 ∷ 32 ∷ p ∷ []) data_widths bits 73 e s)) (rw (header, is) refl)
     by_sets v early header room (good few there is) = by_data v early header room few there is (data_end sw cw (count_ones (field_at bits 73 64)) (count_ones (field_at bits 169 p)) bits (169 + p) there)
 
     by_header : HeaderEnd bits → MsmEnd sw cw g bits

@@ -35,23 +35,23 @@ abbrev pub values : (t : Table) → Cursor → Contents t
 values [] c = tt
 values (f ∷ fs) c = (content f.1 (unsigned_at (width f.1) c), values fs (advanced c (width f.1)))
 
-abbrev pub behind : Table → Cursor → Cursor
-behind [] c = c
-behind (f ∷ fs) c = behind fs (advanced c (width f.1))
+abbrev pub after : Table → Cursor → Cursor
+after [] c = c
+after (f ∷ fs) c = after fs (advanced c (width f.1))
 
 pub record FieldsTook (t : Table) (c : Cursor) (x : Contents t × Cursor) : Type 0 where
   pub room : total_width (widths t) ≤ length c.rest
   pub fit : FitAll t x.0
   pub bits : c.rest ≡ spelled (fields_of t x.0) ++ x.1.rest
 
-fields_there : (t : Table) (c : Cursor) → total_width (widths t) ≤ length c.rest → fields_at t c ≡ Ok (values t c, behind t c)
+fields_there : (t : Table) (c : Cursor) → total_width (widths t) ≤ length c.rest → fields_at t c ≡ Ok (values t c, after t c)
 fields_there [] c room = refl
 fields_there (f ∷ fs) c room =
     let here = number_there (width f.1) c (omega arith) in
     let others = fields_there fs (advanced c (width f.1)) (omega (arith, length-drop (width f.1) c.rest)) in
     rw (here, others) refl
 
-values_took : (t : Table) (c : Cursor) → have_signs t ≡ true → total_width (widths t) ≤ length c.rest → FieldsTook t c (values t c, behind t c)
+values_took : (t : Table) (c : Cursor) → have_signs t ≡ true → total_width (widths t) ≤ length c.rest → FieldsTook t c (values t c, after t c)
 unfolding spelled
 values_took [] c signs room = record { room = room; fit = tt; bits = refl }
 values_took (f ∷ fs) c signs room =
@@ -64,7 +64,7 @@ values_took (f ∷ fs) c signs room =
     record {
       room = room;
       fit = (content_fits f.1 n sign took.fits, rest.fit);
-      bits = took.bits ∙ (ap (λ t. uint w n ++ t) rest.bits ∙ (sym (append_assoc (uint w n) tail (behind fs (advanced c w)).rest) ∙ ap (λ (k : ℕ). (uint w k ++ tail) ++ (behind fs (advanced c w)).rest) (sym (number-content f.1 n sign took.fits))));
+      bits = took.bits ∙ (ap (λ t. uint w n ++ t) rest.bits ∙ (sym (append_assoc (uint w n) tail (after fs (advanced c w)).rest) ∙ ap (λ (k : ℕ). (uint w k ++ tail) ++ (after fs (advanced c w)).rest) (sym (number-content f.1 n sign took.fits))));
     }
 
 pub fields_short : (t : Table) (c : Cursor) → length c.rest < total_width (widths t) → (k : ℕ) × (fields_at t c ≡ Err (Short k)) × (first_past (c.place + length c.rest) c.place (widths t) ≡ Some k)
@@ -81,7 +81,7 @@ fields_short (f ∷ fs) c h = elim (cases_lt (length c.rest) (width f.1)) [
 pub fields_ok : (t : Table) (c : Cursor) (x : Contents t × Cursor) → have_signs t ≡ true → fields_at t c ≡ Ok x → FieldsTook t c x
 fields_ok t c x signs e = elim (cases_lt (length c.rest) (total_width (widths t))) [
   | inl short ↦ let s = fields_short t c short in absurd (ok_err x (Short s.0) (fields_at t c) e s.1)
-  | inr there ↦ subst (FieldsTook t c) (ok_inj (values t c, behind t c) x (fields_at t c) (fields_there t c there) e) (values_took t c signs there)
+  | inr there ↦ subst (FieldsTook t c) (ok_inj (values t c, after t c) x (fields_at t c) (fields_there t c there) e) (values_took t c signs there)
 ]
 
 -- ---- what is read again
@@ -137,8 +137,8 @@ pub record ShortAt (bits : List Bool) (place : ℕ) (ws : List ℕ) (e : MsgFaul
 pub short_at_more : (ws vs : List ℕ) (bits : List Bool) (place : ℕ) (e : MsgFault) → ShortAt bits place ws e → ShortAt bits place (ws ++ vs) e
 short_at_more ws vs bits place e s = record { first = s.first; is = s.is; past = past_more ws vs (length bits) place s.first s.past }
 
-pub short_at_behind : (ws vs : List ℕ) (bits : List Bool) (place : ℕ) (e : MsgFault) → place + total_width ws ≤ length bits → ShortAt bits (place + total_width ws) vs e → ShortAt bits place (ws ++ vs) e
-short_at_behind ws vs bits place e room s = record { first = s.first; is = s.is; past = past_through ws vs (length bits) place room ∙ s.past }
+pub short_at_after : (ws vs : List ℕ) (bits : List Bool) (place : ℕ) (e : MsgFault) → place + total_width ws ≤ length bits → ShortAt bits (place + total_width ws) vs e → ShortAt bits place (ws ++ vs) e
+short_at_after ws vs bits place e room s = record { first = s.first; is = s.is; past = past_through ws vs (length bits) place room ∙ s.past }
 
 -- either they are there, or one of them is the first that is not
 abbrev pub FieldsRead : Table → List Bool → ℕ → Type 0

@@ -1,4 +1,4 @@
--- Nothing that is read ends behind the first 8,184 bits.
+-- Nothing that is read ends after the first 8,184 bits.
 use Rattle.std.proofs.Common.{ℕ, ◌≡◌, ◌+◌, ◌*◌, ◌≤◌, Bool, true, false, List, ◌∷◌, ◌++◌, length, take, drop, Result, Ok, Err, Option, refl, sym, ap, ◌∙◌, arith, lit≤, inl, inr, append_assoc, nat_lt, nat_le, count_ones, length-append}
 use Rattle.std.proofs.lemmas.Bool.{cases_lt}
 use Rattle.std.proofs.lemmas.Nat.{ones-le, mul-le}

@@ -16,7 +16,7 @@ use Rattle.rtcm_msg.proofs.SeatLaws.{ids_count, pairs_count, seats_count}
 abbrev pub key : Seat → ℕ
 key x = pair_number (pair x)
 
--- a rising list in front of one that begins above it
+-- a rising list before one that begins above it
 rising-append : (low middle high : ℕ) (xs ys : List ℕ) → low ≤ middle + 1 → middle ≤ high → Rising low middle xs → Rising (middle + 1) high ys → Rising low high (xs ++ ys)
 rising-append low middle high [] ys h k r s = weaken low (middle + 1) high ys h s
 rising-append low middle high (x ∷ xs) ys h k r s = (r.0, omega (arith, k, r.1), rising-append (x + 1) middle high xs ys (omega (arith, r.1)) k r.2 s)

@@ -19,7 +19,7 @@ use Rattle.rtcm_msg.proofs.Binds.{bind_ok, ok_inj, of_read, number_took, number_
 use Rattle.rtcm_msg.proofs.Combine.{cursor, number_again, ok_err, past_here, past_next}
 use Rattle.rtcm_msg.proofs.StationLaws.{station_again, station_took, station_tail, station_widths, height_widths, station_chain, IsRead}
 use Rattle.rtcm_msg.proofs.MsmLaws.{msm_took, msm_again, msm_tail, header_tail, IsMsmRead}
-use Rattle.rtcm_msg.proofs.FieldLaws.{contents_at, fields_at, standing, field_at, ShortAt, fields_read, number_there_at, short_at_more, short_at_behind, past_none}
+use Rattle.rtcm_msg.proofs.FieldLaws.{contents_at, fields_at, standing, field_at, ShortAt, fields_read, number_there_at, short_at_more, short_at_after, past_none}
 use Rattle.rtcm_msg.proofs.FaultLaws.{MsmEnd, no_time, late, no_masks, many, short, good, msm_end, msm_widths, pairs_of}
 use Rattle.rtcm_msg.specs.declared.message.Message.TheVariants as messages
 use Rattle.rtcm_msg.specs.Grid4 as grid4
@@ -110,7 +110,7 @@ other_is bits h = rw (other_set bits h) refl
 
 -- ---- what is read again
 
--- a message of this number whose bits stand behind it
+-- a message of this number whose bits stand after it
 again : (bits : List Bool) (n : ℕ) (tail rest : List Bool) → n < 2 ^ 12 → bits ≡ (uint 12 n ++ tail) ++ rest → message_of bits ≡ body_at n (cursor 12 (tail ++ rest))
 unfolding message_of
 again bits n tail rest small is = rw (is, append_assoc (uint 12 n) tail rest, number_again 12 n 0 (tail ++ rest) small) refl
@@ -168,14 +168,14 @@ pub record Found (bits : List Bool) (v : Message) : Type 0 where
   pub is_message : IsMessage v
   pub reads : ReadsMessage bits v
 
--- the message number and what stands behind it
+-- the message number and what stands after it
 in_front : (bits : List Bool) → 12 ≤ length bits → bits ≡ uint 12 (number_of bits) ++ drop 12 bits
 in_front bits h = (number_took 12 (start bits) (number_of bits, standing bits 12) (number_there_at 12 bits 0 h)).bits
 
 begins : (bits : List Bool) (v : Message) (reserved : ℕ) (rest : List Bool) → IsMessage v → is_other v ≡ false → reserved < 2 ^ reserved_width v → bits ≡ message_bits v reserved ++ rest → Found bits v
 begins bits v reserved rest h known small is = record { is_message = h; reads = inl (record { is_value = h; known = known; front = message_bits v reserved; rest = rest; joined = is; spells = record { reserved = reserved; fits = small; bits_are = refl } }) }
 
--- a number, and a tail behind it
+-- a number, and a tail after it
 with_number : (bits : List Bool) (n : ℕ) (tail rest : List Bool) → bits ≡ uint 12 n ++ drop 12 bits → drop 12 bits ≡ tail ++ rest → bits ≡ (uint 12 n ++ tail) ++ rest
 with_number bits n tail rest e f = e ∙ (ap (λ t. uint 12 n ++ t) f ∙ sym (append_assoc (uint 12 n) tail rest))
 
@@ -298,7 +298,7 @@ station_end bits has h = elim (fields_read station_table bits 12 h) [
         → ((e : MsgFault) × (station_at has (standing bits 12) ≡ Err e) × ShortAt bits 12 (station_widths ++ height_widths has) e) ⊎ ((v : StationParts × Cursor) × (station_at has (standing bits 12) ≡ Ok v) × (first_past (length bits) 12 (station_widths ++ height_widths has) ≡ None))
     by_height false room read = inr ((station_parts (contents_at station_table bits 12) None, standing bits 152), station_chain false (standing bits 12) ∙ rw read refl, past_none (station_widths ++ []) (length bits) 12 room)
     by_height true room read = elim (cases_lt (length bits) 168) [
-      | inl few ↦ inl (Short 152, station_chain true (standing bits 12) ∙ rw (read, number_short 16 (standing bits 152) (omega (arith, length-drop 152 bits))) refl, short_at_behind station_widths (16 ∷ []) bits 12 (Short 152) room (record { first = 152; is = refl; past = past_here 16 [] (length bits) 152 few }))
+      | inl few ↦ inl (Short 152, station_chain true (standing bits 12) ∙ rw (read, number_short 16 (standing bits 152) (omega (arith, length-drop 152 bits))) refl, short_at_after station_widths (16 ∷ []) bits 12 (Short 152) room (record { first = 152; is = refl; past = past_here 16 [] (length bits) 152 few }))
       | inr all ↦ inr ((station_parts (contents_at station_table bits 12) (Some (field_at bits 152 16)), standing bits 168), station_chain true (standing bits 12) ∙ rw (read, number_there_at 16 bits 152 all) refl, past_none (station_widths ++ (16 ∷ [])) (length bits) 12 all)
     ]
 

@@ -10,7 +10,7 @@ use Rattle.rtcm_msg.specs.declared.header.MsmHeader.{MsmHeader}
 use Rattle.rtcm_msg.specs.Fields.{number_at, reading, ◌>>=◌, spelled}
 use Rattle.rtcm_msg.specs.Packed.{total_width, columns}
 use Rattle.rtcm_msg.specs.Columns.{columns_at, EachBelow}
-use Rattle.rtcm_msg.specs.Msm.{masks_behind, header_at, masks_at, msm_at, timely, week, IsHeader, AreMasks, IsValue, MasksValue, MsmValue, pairs, mask_fields, time_table, header_table, mask_table, time_contents, header_contents, header_of}
+use Rattle.rtcm_msg.specs.Msm.{masks_after, header_at, masks_at, msm_at, timely, week, IsHeader, AreMasks, IsValue, MasksValue, MsmValue, pairs, mask_fields, time_table, header_table, mask_table, time_contents, header_contents, header_of}
 use Rattle.rtcm_msg.proofs.Binds.{of_read, bind_ok, number_took}
 use Rattle.rtcm_msg.proofs.Combine.{ok_err, cursor, number_again}
 use Rattle.rtcm_msg.proofs.WritingSteps.{spelled-append}
@@ -21,7 +21,7 @@ use Rattle.rtcm_msg.proofs.ColumnLaws.{ColumnsTook, columns_took, columns_again,
 
 -- ---- the parts
 
--- the fields behind the message number, up to the time, and those behind the time
+-- the fields after the message number, up to the time, and those after the time
 abbrev pub head_widths : List ℕ
 head_widths = widths time_table
 
@@ -31,7 +31,7 @@ tail_widths = widths header_table
 abbrev pub mask_widths : List ℕ
 mask_widths = widths mask_table
 
--- the fields of a header behind the message number
+-- the fields of a header after the message number
 abbrev pub header_tail : MsmHeader → ℕ → List (ℕ × ℕ)
 header_tail h reserved = fields_of time_table (time_contents h) ++ fields_of header_table (header_contents h reserved)
 
@@ -45,7 +45,7 @@ pub header_chain : (c : Cursor) → header_at c ≡ (fields_at time_table c >>= 
 unfolding header_at
 header_chain c = reading_is time_table c (λ n. timely n.0.1.0 n.1 >>= λ t. header_rest n.0.0 t.0 t.1)
 
--- two runs of fields, one behind the other
+-- two runs of fields, one after the other
 pub both : (fs gs : List (ℕ × ℕ)) (a b d : List Bool) → a ≡ spelled fs ++ b → b ≡ spelled gs ++ d → a ≡ spelled (fs ++ gs) ++ d
 both fs gs a b d e f = e ∙ (ap (λ t. spelled fs ++ t) f ∙ (sym (append_assoc (spelled fs) (spelled gs) d) ∙ ap (λ t. t ++ d) (sym (spelled-append fs gs))))
 
@@ -100,14 +100,14 @@ header_again v reserved place rest h small =
 
 -- ---- sets
 
-pub sets_chain : (c : Cursor) → masks_at c ≡ (fields_at mask_table c >>= λ n. masks_behind n.0.0 n.0.1.0 n.1)
+pub sets_chain : (c : Cursor) → masks_at c ≡ (fields_at mask_table c >>= λ n. masks_after n.0.0 n.0.1.0 n.1)
 unfolding masks_at
-sets_chain c = reading_is mask_table c (λ n. masks_behind n.0.0 n.0.1.0 n.1)
+sets_chain c = reading_is mask_table c (λ n. masks_after n.0.0 n.0.1.0 n.1)
 
-pub few_rest : (satellites signals : ℕ) (c : Cursor) → pairs satellites signals ≤ 64 → masks_behind satellites signals c ≡ (number_at (pairs satellites signals) c >>= λ cells. Ok (record { satellites = satellites; signals = signals; cells = cells.0 }, cells.1))
+pub few_rest : (satellites signals : ℕ) (c : Cursor) → pairs satellites signals ≤ 64 → masks_after satellites signals c ≡ (number_at (pairs satellites signals) c >>= λ cells. Ok (record { satellites = satellites; signals = signals; cells = cells.0 }, cells.1))
 few_rest a b c h = grind arith
 
-pub many_rest : (satellites signals : ℕ) (c : Cursor) → 64 < pairs satellites signals → masks_behind satellites signals c ≡ Err TooManyCells
+pub many_rest : (satellites signals : ℕ) (c : Cursor) → 64 < pairs satellites signals → masks_after satellites signals c ≡ Err TooManyCells
 many_rest a b c h = grind arith
 
 pub record AreSetsRead (v : MasksValue) (c d : Cursor) : Type 0 where
@@ -150,7 +150,7 @@ sets_again v place rest h =
 
 -- ---- the whole
 
--- the bits behind the message number
+-- the bits after the message number
 abbrev pub msm_tail : List ℕ → List ℕ → MsmValue → ℕ → List Bool
 msm_tail sw cw v reserved = spelled (header_tail v.header reserved) ++ (spelled (mask_fields v.sets) ++ (columns sw v.satellites ++ columns cw v.cells))
 

@@ -123,5 +123,5 @@ coordinate : (z : ℤ) → FitsInt 38 z → IsCoordinate z
 coordinate (pos n) h = (omega (arith, ints, h), omega (arith, ints, h))
 coordinate (negsuc n) h = (omega (arith, ints, h), omega (arith, ints, h))
 
-pub point_told : (p : StationParts) → InRange p → IsPoint p
-point_told p h = record { x = coordinate p.x h.x; y = coordinate p.y h.y; z = coordinate p.z h.z; height = h.height }
+pub point_in_range : (p : StationParts) → InRange p → IsPoint p
+point_in_range p h = record { x = coordinate p.x h.x; y = coordinate p.y h.y; z = coordinate p.z h.z; height = h.height }

@@ -50,7 +50,7 @@ column_short w (p ∷ ps) bits place h few = elim (cases_lt (length bits) (place
 ]
 
 pub record ColumnRow (w : ℕ) (ps : List ℕ) (bits : List Bool) (place : ℕ) (x : List ℕ × Cursor) : Type 0 where
-  pub behind : x.1 ≡ standing bits (place + length ps * w)
+  pub after : x.1 ≡ standing bits (place + length ps * w)
   pub len : length x.0 ≡ length ps
   pub row : (i : ℕ) → i < length ps → get_or x.0 i 0 ≡ get_or ps i 0 * 2 ^ w + field_at bits (place + i * w) w
 
@@ -58,7 +58,7 @@ column_row : (w : ℕ) (ps : List ℕ) (bits : List Bool) (place : ℕ) → plac
 unfolding column_at
 column_row w [] bits place h =
     let e : place ≡ place + 0 * w = omega arith in
-    (([], standing bits place), refl, record { behind = ap (standing bits) e; len = refl; row = λ i h. absurd (omega (arith, h)) })
+    (([], standing bits place), refl, record { after = ap (standing bits) e; len = refl; row = λ i h. absurd (omega (arith, h)) })
 column_row w (p ∷ ps) bits place h =
     let more : place + w + length ps * w ≤ length bits = rw (one_more place (length ps) w) h in
     let here = number_there_at w bits place (omega (arith, more)) in
@@ -69,7 +69,7 @@ column_row w (p ∷ ps) bits place h =
     first p xs = let e : place ≡ place + 0 * w = omega arith in ap (λ (k : ℕ). p * 2 ^ w + field_at bits k w) e
 
     join : (p : ℕ) (x : List ℕ × Cursor) → ColumnRow w ps bits (place + w) x → ColumnRow w (p ∷ ps) bits place ((p * 2 ^ w + field_at bits place w) ∷ x.0, x.1)
-    join p x r = record { behind = r.behind ∙ ap (standing bits) (one_more place (length ps) w); len = ap suc r.len; row = each }
+    join p x r = record { after = r.after ∙ ap (standing bits) (one_more place (length ps) w); len = ap suc r.len; row = each }
       where
         each : (i : ℕ) → i < length (p ∷ ps) → get_or ((p * 2 ^ w + field_at bits place w) ∷ x.0) i 0 ≡ get_or (p ∷ ps) i 0 * 2 ^ w + field_at bits (place + i * w) w
         each zero h = first p x.0
@@ -80,7 +80,7 @@ column_row w (p ∷ ps) bits place h =
 two_more : (place n w t : ℕ) → place + n * w + n * t ≡ place + n * (w + t)
 two_more place n w t = omega arith
 
--- what the place behind says of the data
+-- what the place after says of the data
 abbrev pub Ends : List Bool → Result ℕ MsgFault → Result (List ℕ × Cursor) MsgFault → Type 0
 Ends bits (Ok e) read = read ≡ Ok (numbers_in read, standing bits e)
 Ends bits (Err f) read = read ≡ Err f
@@ -95,8 +95,8 @@ columns_end (w ∷ ws) ps bits n place len h = elim (cases_lt (length bits) (pla
   | inr there ↦
       let more : nat_lt (length bits) (place + n * w) ≡ false = grind (arith, there) in
       let read = column_row w ps bits place (rw len there) in
-      let behind : read.0.1 ≡ standing bits (place + n * w) = rw len at read.2.behind in
-      rw (more, read.1, behind) (columns_end ws read.0.0 bits n (place + n * w) (read.2.len ∙ len) there)
+      let after : read.0.1 ≡ standing bits (place + n * w) = rw len at read.2.after in
+      rw (more, read.1, after) (columns_end ws read.0.0 bits n (place + n * w) (read.2.len ∙ len) there)
 ]
 
 pub rows_end : (ws : List ℕ) (bits : List Bool) (n place : ℕ) → place ≤ length bits → Ends bits (end_of_rows ws n (length bits) place) (columns_at ws (replicate n 0) (standing bits place))
@@ -118,8 +118,8 @@ columns_next w ws ps xs c d e = rw e refl
 -- the first column was read
 first_read : (w : ℕ) (ws ps : List ℕ) (bits : List Bool) (n place : ℕ) → length ps ≡ n → (x : (r : List ℕ × Cursor) × (column_at w ps (standing bits place) ≡ Ok r) × ColumnRow w ps bits place r) → columns_at (w ∷ ws) ps (standing bits place) ≡ columns_at ws x.0.0 (standing bits (place + n * w))
 first_read w ws ps bits n place len x =
-    let behind : x.0.1 ≡ standing bits (place + n * w) = rw len at x.2.behind in
-    columns_next w ws ps x.0.0 (standing bits place) x.0.1 x.1 ∙ ap (columns_at ws x.0.0) behind
+    let after : x.0.1 ≡ standing bits (place + n * w) = rw len at x.2.after in
+    columns_next w ws ps x.0.0 (standing bits place) x.0.1 x.1 ∙ ap (columns_at ws x.0.0) after
 
 columns_row : (ws ps : List ℕ) (bits : List Bool) (n place i : ℕ) → length ps ≡ n → place + n * total_width ws ≤ length bits → i < n → get_or (numbers_in (columns_at ws ps (standing bits place))) i 0 ≡ row_at ws n bits place i (get_or ps i 0)
 unfolding columns_at row_at

@@ -13,7 +13,7 @@ use Rattle.rtcm_msg.proofs.FieldLaws.{fields_at, reading_is, fields_ok, fields_a
 use Rattle.rtcm_msg.specs.Layout.{widths, Contents, fields_of}
 use Rattle.rtcm_msg.specs.LayoutLaws.{FitAll}
 
--- the fields behind the message number, up to the height
+-- the fields after the message number, up to the height
 abbrev pub station_widths : List ℕ
 station_widths = widths station_table
 
@@ -21,7 +21,7 @@ abbrev pub height_widths : Bool → List ℕ
 height_widths false = []
 height_widths true = widths height_table
 
--- the fields of a station message behind its number
+-- the fields of a station message after its number
 abbrev pub station_tail : StationParts → ℕ → List (ℕ × ℕ)
 station_tail s reserved = fields_of station_table (station_contents s reserved) ++ height_fields s.height
 

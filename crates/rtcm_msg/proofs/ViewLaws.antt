@@ -67,7 +67,7 @@ second_short form g bits c0 c1 c2 h s n m at x e f stands there same same2 first
 pub moved : (r : Result ℕ MsgFault) (vs ws : List ℕ) (n a b p q : ℕ) → r ≡ end_of_rows vs n a p → vs ≡ ws → a ≡ b → p ≡ q → r ≡ end_of_rows ws n b q
 moved r vs ws n a b p q e f g h = e ∙ rw (f, g, h) refl
 
--- where the reader stands behind the number, and behind the masks
+-- where the reader stands after the number, and after the masks
 pub number_stands : (bytes : List ℕ) (r c : Cursor) (n : ℕ) → r ≡ record { place = 0; rest = bits_of bytes } → number_at 12 r ≡ Ok (n, c) → (12 ≤ 8 * length bytes) × (c ≡ standing (bits_of bytes) 12)
 number_stands bytes r c n is e =
     let read : number_at 12 (record { place = 0; rest = bits_of bytes }) ≡ Ok (n, c) = ap (number_at 12) (sym is) ∙ e in

@@ -44,7 +44,7 @@ abbrev pub GivesViewed : {X Y : Type 0} → (X → Y) → Result X MsgFault → 
 GivesViewed view (Ok x) read = read ≡ Ok (view x)
 GivesViewed view (Err e) read = read ≡ Err e
 
--- one field: the number and the cursor behind it
+-- one field: the number and the cursor after it
 unfoldable pub number_at : ℕ → Cursor → Result (ℕ × Cursor) MsgFault
 number_at w c = if nat_lt (length c.rest) w then Err (Short c.place) else Ok (unsigned_at w c, advanced c w)
 

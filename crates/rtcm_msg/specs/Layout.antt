@@ -35,7 +35,7 @@ abbrev pub Contents : Table → Type 0
 Contents [] = Unit {0}
 Contents (f ∷ fs) = Content f.1 × Contents fs
 
--- one field's content, and the contents behind it
+-- one field's content, and the contents after it
 infixr 5 ◌▸◌
 abbrev pub ◌▸◌ : {A B : Type 0} → A → B → A × B
 a ▸ b = (a, b)

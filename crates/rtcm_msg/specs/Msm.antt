@@ -81,7 +81,7 @@ pub record IsValue (satellite_widths cell_widths : List ℕ) (v : MsmValue) : Ty
 
 -- ---- the layout
 
--- the head of a multiple signal message, behind the message number
+-- the head of a multiple signal message, after the message number
 abbrev pub time_table : Table
 time_table =
     (3, Uint 12)  -- reference station ID
@@ -128,12 +128,12 @@ header_fields number h reserved =
 abbrev pub mask_fields : MasksValue → List (ℕ × ℕ)
 mask_fields s = fields_of mask_table (s.satellites ▸ s.signals ▸ tt) ++ fields_of (cell_mask_table (pairs s.satellites s.signals)) (s.cells ▸ tt)
 
--- all bits of a message of this number: behind the masks a field of all satellites, then the next, then a field of all cells
+-- all bits of a message of this number: after the masks a field of all satellites, then the next, then a field of all cells
 abbrev pub msm_bits : List ℕ → List ℕ → ℕ → MsmValue → ℕ → List Bool
 msm_bits satellite_widths cell_widths number v reserved =
     spelled (header_fields number v.header reserved) ++ (spelled (mask_fields v.sets) ++ (columns satellite_widths v.satellites ++ columns cell_widths v.cells))
 
--- ---- reading, behind the message number
+-- ---- reading, after the message number
 
 -- a time is judged as soon as it was read
 abbrev pub timely : ℕ → Cursor → Result (ℕ × Cursor) MsgFault
@@ -144,20 +144,20 @@ header_of station time (more, (iods, (reserved, (steering, (clock, (smoothing, (
     record { station = station; time = time; more = more; iods = iods; steering = steering; clock = clock; smoothing = smoothing; interval = interval }
 
 -- the header of this station and time
-abbrev pub behind_time_at : ℕ → ℕ → Cursor → Result (MsmHeader × Cursor) MsgFault
-behind_time_at station time c = reading header_table c (λ m. Ok (header_of station time m.0, m.1))
+abbrev pub after_time_at : ℕ → ℕ → Cursor → Result (MsmHeader × Cursor) MsgFault
+after_time_at station time c = reading header_table c (λ m. Ok (header_of station time m.0, m.1))
 
 unfoldable pub header_at : Cursor → Result (MsmHeader × Cursor) MsgFault
-header_at c = reading time_table c (λ n. timely n.0.1.0 n.1 >>= λ time. behind_time_at n.0.0 time.0 time.1)
+header_at c = reading time_table c (λ n. timely n.0.1.0 n.1 >>= λ time. after_time_at n.0.0 time.0 time.1)
 
 -- the pairs are counted as soon as both masks were read
-abbrev pub masks_behind : ℕ → ℕ → Cursor → Result (MasksValue × Cursor) MsgFault
-masks_behind satellites signals c =
+abbrev pub masks_after : ℕ → ℕ → Cursor → Result (MasksValue × Cursor) MsgFault
+masks_after satellites signals c =
     if nat_lt most_pairs (pairs satellites signals) then Err TooManyCells
     else reading (cell_mask_table (pairs satellites signals)) c (λ cells. Ok (record { satellites = satellites; signals = signals; cells = cells.0.0 }, cells.1))
 
 unfoldable pub masks_at : Cursor → Result (MasksValue × Cursor) MsgFault
-masks_at c = reading mask_table c (λ m. masks_behind m.0.0 m.0.1.0 m.1)
+masks_at c = reading mask_table c (λ m. masks_after m.0.0 m.0.1.0 m.1)
 
 unfoldable pub msm_at : List ℕ → List ℕ → Bool → Cursor → Result (MsmValue × Cursor) MsgFault
 msm_at satellite_widths cell_widths is_galileo c = do

@@ -29,5 +29,5 @@ pub record IsPoint (p : StationParts) : Type 0 where
   pub z : IsCoordinate p.z
   pub height : IfSome p.height (λ h. h < 2 ^ 16)
 
-abbrev pub PointsAreTold : Type 0
-PointsAreTold = (p : StationParts) → InRange p → IsPoint p
+abbrev pub PointsAreInRange : Type 0
+PointsAreInRange = (p : StationParts) → InRange p → IsPoint p

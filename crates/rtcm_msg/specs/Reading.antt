@@ -15,7 +15,7 @@ use Rattle.rtcm_msg.specs.Grid7 as grid7
 abbrev pub is_any_msm : ℕ → Bool
 is_any_msm n = nat_le 1071 n && nat_le n 1127 && nat_le 1 (n % 10) && nat_le (n % 10) 7
 
--- the station and DF393 of a listed message, behind its number
+-- the station and DF393 of a listed message, after its number
 abbrev pub set_at : Cursor → Option (ℕ × Bool)
 set_at c = if nat_lt (length c.rest) 43 then None else Some (unsigned_at 12 c, unsigned_at 1 (advanced (advanced c 12) 30) == 1)
 
@@ -25,7 +25,7 @@ other_at n c = messages.Other n (if is_any_msm n then set_at c else None)
 abbrev pub start : List Bool → Cursor
 start bits = record { place = 0; rest = bits }
 
--- the value, behind the message number n
+-- the value, after the message number n
 unfoldable pub body_at : ℕ → Cursor → Result Message MsgFault
 body_at n c =
     if n == 1005 then (station_at false c >>= λ s. Ok (messages.Station s.0))

@@ -15,7 +15,7 @@ numbers_in (Err e) = []
 abbrev pub rows_at : List ℕ → ℕ → List Bool → ℕ → List ℕ
 rows_at widths count bits place = numbers_in (columns_at widths (replicate count 0) (standing bits place))
 
--- the place behind so many of them in so many bits, or else the first field that isn't there whole
+-- the place after so many of them in so many bits, or else the first field that isn't there whole
 unfoldable pub end_of_rows : List ℕ → ℕ → ℕ → ℕ → Result ℕ MsgFault
 end_of_rows [] count len place = Ok place
 end_of_rows (w ∷ ws) count len place =

@@ -7,7 +7,7 @@ use Rattle.rtcm_msg.specs.declared.station.StationParts.{StationParts}
 use Rattle.rtcm_msg.specs.Layout.{Table, Uint, Int, Flag, Reserved, Contents, fields_of, ◌▸◌, number_table}
 use Rattle.rtcm_msg.specs.Fields.{reading, ◌>>=◌}
 
--- the fields of message 1005, behind the message number
+-- the fields of message 1005, after the message number
 abbrev pub station_table : Table
 station_table =
     (3, Uint 12)  -- reference station ID
@@ -61,7 +61,7 @@ pub record InRange (s : StationParts) : Type 0 where
   pub z : FitsInt 38 s.z
   pub height : IfSome s.height (λ h. h < 2 ^ 16)
 
--- ---- reading, behind the message number
+-- ---- reading, after the message number
 
 abbrev pub height_at : Bool → Cursor → Result (Option ℕ × Cursor) MsgFault
 height_at false c = Ok (None, c)

@@ -44,7 +44,7 @@ pub record FormedMsm : Type 0 where
 abbrev pub formed : FormedMsm → Message
 formed m = message_in m.form m.msm
 
--- what is read behind the message number
+-- what is read after the message number
 abbrev pub formed_at : Form → Bool → Cursor → Result Message MsgFault
 formed_at form is_galileo c = msm_at (satellite_widths form) (cell_widths form) is_galileo c >>= λ m. Ok (message_in form m.0)
 

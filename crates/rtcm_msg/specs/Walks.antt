@@ -35,8 +35,8 @@ ArePlaced n (x ∷ xs) = (x.place < n) × ArePlaced n xs
 abbrev pub AreLeft : ℕ → ℕ → Pairs → Type 0
 AreLeft satellites left p = (length (pairs_left p) ≡ left) × (left ≤ most_pairs) × IsWalking p × ArePlaced satellites (pairs_left p)
 
--- of the pairs that are left, those that the low bits of the number choose begin with this seat, and so many are behind it
+-- of the pairs that are left, those that the low bits of the number choose begin with this seat, and so many are after it
 abbrev pub SplitsCells : ℕ → ℕ → Pairs → Seat → Pairs → ℕ → Type 0
-SplitsCells left cells pairs seat behind after =
-    (chosen (uint left cells) (pairs_left pairs) ≡ seat ∷ chosen (uint after cells) (pairs_left behind))
-    × (length (pairs_left behind) ≡ after) × (after ≤ most_pairs) × IsWalking behind
+SplitsCells left cells pairs seat rest after =
+    (chosen (uint left cells) (pairs_left pairs) ≡ seat ∷ chosen (uint after cells) (pairs_left rest))
+    × (length (pairs_left rest) ≡ after) × (after ≤ most_pairs) × IsWalking rest

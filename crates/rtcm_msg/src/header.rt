@@ -1,7 +1,7 @@
 ghost use Rattle.std.specs.Prelude.{◌≡◌, ◌^◌, ◌<◌, IfOk, IfNone};
 ghost use Rattle.rtcm_msg.specs.Fields.{GivesViewed};
 ghost use Rattle.rtcm_msg.specs.Refusals.{header_fault};
-ghost use Rattle.rtcm_msg.specs.Msm.{behind_time_at, header_at, IsHeader, week};
+ghost use Rattle.rtcm_msg.specs.Msm.{after_time_at, header_at, IsHeader, week};
 
 use crate::fault::{Field, MsgFault};
 use crate::field::field;
@@ -33,7 +33,7 @@ pub struct MsmHeader {
 
 /// Reads the header of an MSM after its number. A time of a week or more is a fault as soon as it
 /// is read.
-#[tactic(auto, unfolding(crate::specs::Msm::header_at, crate::specs::Msm::behind_time_at))]
+#[tactic(auto, unfolding(crate::specs::Msm::header_at, crate::specs::Msm::after_time_at))]
 pub(crate) fn read_header(reader: &mut BitReader) -> Result<MsmHeader, MsgFault>
     ensures read { GivesViewed (λ h. (h, reader.new)) result (header_at reader.old) }
     ensures is_header { IfOk result IsHeader }

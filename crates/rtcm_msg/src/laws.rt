@@ -6,7 +6,7 @@ ghost use Rattle.rtcm_bits.specs.FrameOf.{longest_message_bits};
 ghost use Rattle.rtcm_msg.specs.declared.message.Message.{Message};
 ghost use Rattle.rtcm_msg.specs.Spelling.{message_bits, is_other, ReadsMessage, IsMessage, IsEncoding};
 ghost use Rattle.rtcm_msg.specs.Reading.{message_at};
-ghost use Rattle.rtcm_msg.specs.Reach.{EntriesAreMeasured, PointsAreTold};
+ghost use Rattle.rtcm_msg.specs.Reach.{EntriesAreMeasured, PointsAreInRange};
 ghost use Rattle.rtcm_msg.specs.Msm.{MsmValue, MasksValue, IsValue, satellite_mask_bits};
 ghost use Rattle.rtcm_msg.specs.Meaning.{Meaning, IsMeaning, meaning, pair_number, cell_pairs, first_pair, last_pair, keys};
 
@@ -48,5 +48,5 @@ pub fn measures()
     ensures value { (bytes : List ℕ) (m : Message) → message_at bytes ≡ Ok m → IsMessage m }
     // The fractions of a cell are within their bounds.
     ensures cells { EntriesAreMeasured }
-    ensures points { PointsAreTold }
+    ensures points { PointsAreInRange }
 {}

@@ -93,8 +93,8 @@ fn split_cells(pairs: Pairs, cells: u64, left: u32) -> Option<(Seat, Pairs, u32)
     let mut left = left;
     while left > 0 {
         left -= 1;
-        let (seat, behind) = split_pairs(pairs);
-        pairs = behind;
+        let (seat, after) = split_pairs(pairs);
+        pairs = after;
         if (cells >> left) % 2 == 1 {
             return Some((seat, pairs, left));
         }

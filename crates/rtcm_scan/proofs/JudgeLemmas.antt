@@ -53,7 +53,7 @@ take_three s n h =
     ∙ ap (λ q. q ++ get_or s (n + 3 + 2) 0 ∷ []) (append_assoc (take (n + 3) s) (get_or s (n + 3) 0 ∷ []) (get_or s (n + 3 + 1) 0 ∷ []))
     ∙ append_assoc (take (n + 3) s) (get_or s (n + 3) 0 ∷ get_or s (n + 3 + 1) 0 ∷ []) (get_or s (n + 3 + 2) 0 ∷ [])
 
--- a whole candidate whose check is 0 has the right check
+-- a whole candidate whose check is 0 has the valid CRC
 right_check : Residue → (s : List ℕ) → AreBytes s → frame_length s ≤ length s → check (take (frame_length s) s) ≡ 0 → sent_check s (message_length s + 3) ≡ check (take (message_length s + 3) s)
 right_check law s b h e =
     let n = message_length s in

@@ -9,7 +9,7 @@ use Rattle.rtcm_bits.specs.Check.{check}
 use Rattle.rtcm_bits.specs.FrameOf.{frame_bytes, frame_header, three_bytes}
 use Rattle.rtcm_scan.specs.Frame.{begins_frame, message_length, frame_length, sent_check, framed_message}
 use Rattle.rtcm_scan.specs.Frames.{Framed, IsFrameOf, frame_end, frames_from, frames_of}
-use Rattle.rtcm_scan.specs.Local.{stream_behind, frame_place, IsQuiet, StaysLocal, placed}
+use Rattle.rtcm_scan.specs.Local.{stream_after, frame_place, IsQuiet, StaysLocal, placed}
 use Rattle.rtcm_scan.specs.Scan.{Scanned}
 use Rattle.rtcm_scan.proofs.ScanLemmas.{scanned_frames, scanned_all}
 use Rattle.rtcm_scan.proofs.FrameLemmas.{length-message}
@@ -109,21 +109,21 @@ list_contains p (suc i) (m ∷ ms) h =
     get_same xs f m k x y e h = subst (λ (z : ℕ). get_or xs k (record { offset = z; message = m }) ≡ record { offset = z; message = m }) e h
 
 -- the stream is cut at a frame
-cut_at : (bytes : List ℕ) (ms : List (List ℕ)) (k : ℕ) → stream_behind bytes ms ≡ stream_behind bytes (take k ms) ++ flat_map frame_bytes (drop k ms)
+cut_at : (bytes : List ℕ) (ms : List (List ℕ)) (k : ℕ) → stream_after bytes ms ≡ stream_after bytes (take k ms) ++ flat_map frame_bytes (drop k ms)
 cut_at bytes ms k =
-    ap (stream_behind bytes) (sym (take-append-drop k ms)) ∙ ap (λ x. bytes ++ x) (flat_map-append frame_bytes (take k ms) (drop k ms)) ∙ sym (append_assoc bytes (flat_map frame_bytes (take k ms)) (flat_map frame_bytes (drop k ms)))
+    ap (stream_after bytes) (sym (take-append-drop k ms)) ∙ ap (λ x. bytes ++ x) (flat_map-append frame_bytes (take k ms) (drop k ms)) ∙ sym (append_assoc bytes (flat_map frame_bytes (take k ms)) (flat_map frame_bytes (drop k ms)))
 
 place_split : (bytes : List ℕ) (ms : List (List ℕ)) (k d : ℕ) → frame_place bytes ms (k + d) ≡ frame_place bytes ms k + length (flat_map frame_bytes (take d (drop k ms)))
 place_split bytes ms k d =
-    ap (λ x. length (stream_behind bytes x)) (take-add k d ms) ∙ ap (λ x. length (bytes ++ x)) (flat_map-append frame_bytes (take k ms) (take d (drop k ms)))
-    ∙ ap length (sym (append_assoc bytes (flat_map frame_bytes (take k ms)) (flat_map frame_bytes (take d (drop k ms))))) ∙ length-append (stream_behind bytes (take k ms)) (flat_map frame_bytes (take d (drop k ms)))
+    ap (λ x. length (stream_after bytes x)) (take-add k d ms) ∙ ap (λ x. length (bytes ++ x)) (flat_map-append frame_bytes (take k ms) (take d (drop k ms)))
+    ∙ ap length (sym (append_assoc bytes (flat_map frame_bytes (take k ms)) (flat_map frame_bytes (take d (drop k ms))))) ∙ length-append (stream_after bytes (take k ms)) (flat_map frame_bytes (take d (drop k ms)))
 
 -- the frame with number i
-frame_number : (bytes : List ℕ) (ms : List (List ℕ)) (i : ℕ) → i < length ms → All (λ m. length m ≤ 1023) ms → IsFrameOf (stream_behind bytes ms) (record { offset = frame_place bytes ms i; message = get_or ms i [] })
+frame_number : (bytes : List ℕ) (ms : List (List ℕ)) (i : ℕ) → i < length ms → All (λ m. length m ≤ 1023) ms → IsFrameOf (stream_after bytes ms) (record { offset = frame_place bytes ms i; message = get_or ms i [] })
 frame_number bytes ms i h a =
     let d : drop i ms ≡ get_or ms i [] ∷ drop (i + 1) ms = drop_more ms i [] h in
-    let e : stream_behind bytes ms ≡ stream_behind bytes (take i ms) ++ (frame_bytes (get_or ms i []) ++ flat_map frame_bytes (drop (i + 1) ms)) = cut_at bytes ms i ∙ ap (λ x. stream_behind bytes (take i ms) ++ flat_map frame_bytes x) d in
-    subst (λ (x : List ℕ). IsFrameOf x (record { offset = frame_place bytes ms i; message = get_or ms i [] })) (sym e) (frame_here (stream_behind bytes (take i ms)) (get_or ms i []) (flat_map frame_bytes (drop (i + 1) ms)) (a i [] h))
+    let e : stream_after bytes ms ≡ stream_after bytes (take i ms) ++ (frame_bytes (get_or ms i []) ++ flat_map frame_bytes (drop (i + 1) ms)) = cut_at bytes ms i ∙ ap (λ x. stream_after bytes (take i ms) ++ flat_map frame_bytes x) d in
+    subst (λ (x : List ℕ). IsFrameOf x (record { offset = frame_place bytes ms i; message = get_or ms i [] })) (sym e) (frame_here (stream_after bytes (take i ms)) (get_or ms i []) (flat_map frame_bytes (drop (i + 1) ms)) (a i [] h))
 
 -- it ends where the next begins, and so before each later one begins
 frame_ends : (bytes : List ℕ) (ms : List (List ℕ)) (i k : ℕ) → i < k → k < length ms → frame_place bytes ms i + (length (get_or ms i []) + 6) ≤ frame_place bytes ms k
@@ -140,16 +140,16 @@ frame_ends bytes ms i k h l =
 
 -- no frame lies across the beginning of a frame that is far enough after the bytes
 none_across : (bytes : List ℕ) (ms : List (List ℕ)) (k : ℕ) → All (λ m. length m ≤ 1023) ms → k < length ms → length bytes + 1028 ≤ frame_place bytes ms k → IsQuiet bytes ms k
-    → (f : Framed) → IsFrameOf (stream_behind bytes ms) f → f.offset < frame_place bytes ms k → frame_place bytes ms k < frame_end f → ⊥
+    → (f : Framed) → IsFrameOf (stream_after bytes ms) f → f.offset < frame_place bytes ms k → frame_place bytes ms k < frame_end f → ⊥
 none_across bytes ms k a l far quiet f v h c = ⊎_elim
     (λ (x : f.offset < length bytes).
-    let m : length f.message ≡ message_length (drop f.offset (stream_behind bytes ms)) = ap length v.message ∙ length-message (drop f.offset (stream_behind bytes ms)) v.begins in
-    let n : frame_length (drop f.offset (stream_behind bytes ms)) ≤ 1029 = frame_length_bound (drop f.offset (stream_behind bytes ms)) in
+    let m : length f.message ≡ message_length (drop f.offset (stream_after bytes ms)) = ap length v.message ∙ length-message (drop f.offset (stream_after bytes ms)) v.begins in
+    let n : frame_length (drop f.offset (stream_after bytes ms)) ≤ 1029 = frame_length_bound (drop f.offset (stream_after bytes ms)) in
     short _ _ _ (length bytes) (frame_place bytes ms k) m n x far c)
     (λ (x : length bytes ≤ f.offset).
     let w = quiet f.offset x h v.begins in
     let g = frame_number bytes ms w.0 (omega (arith, w.1, l)) a in
-    let s : f ≡ record { offset = frame_place bytes ms w.0; message = get_or ms w.0 [] } = same_frame (stream_behind bytes ms) f (record { offset = frame_place bytes ms w.0; message = get_or ms w.0 [] }) v g w.2 in
+    let s : f ≡ record { offset = frame_place bytes ms w.0; message = get_or ms w.0 [] } = same_frame (stream_after bytes ms) f (record { offset = frame_place bytes ms w.0; message = get_or ms w.0 [] }) v g w.2 in
     let t : frame_end f ≡ frame_place bytes ms w.0 + (length (get_or ms w.0 []) + 6) = ap frame_end s in
     crossing _ _ _ t (frame_ends bytes ms w.0 k w.1 l) c)
     (cases_lt f.offset (length bytes))
@@ -163,14 +163,14 @@ none_across bytes ms k a l far quiet f v h c = ⊎_elim
 pub stays_local : (bytes : List ℕ) (ms : List (List ℕ)) (k : ℕ) → StaysLocal bytes ms k
 unfolding frames_of
 stays_local bytes ms k a l far quiet i hi li =
-    let b : List ℕ = stream_behind bytes ms in
+    let b : List ℕ = stream_after bytes ms in
     let x : ℕ = frame_place bytes ms k in
-    let e : stream_behind bytes ms ≡ stream_behind bytes (take k ms) ++ flat_map frame_bytes (drop k ms) = cut_at bytes ms k in
-    let within : frame_place bytes ms k ≤ length (stream_behind bytes ms) = (let y : length (stream_behind bytes ms) ≡ length (stream_behind bytes (take k ms)) + length (flat_map frame_bytes (drop k ms)) = ap length e ∙ length-append (stream_behind bytes (take k ms)) (flat_map frame_bytes (drop k ms)) in ends_within _ _ _ y) in
+    let e : stream_after bytes ms ≡ stream_after bytes (take k ms) ++ flat_map frame_bytes (drop k ms) = cut_at bytes ms k in
+    let within : frame_place bytes ms k ≤ length (stream_after bytes ms) = (let y : length (stream_after bytes ms) ≡ length (stream_after bytes (take k ms)) + length (flat_map frame_bytes (drop k ms)) = ap length e ∙ length-append (stream_after bytes (take k ms)) (flat_map frame_bytes (drop k ms)) in ends_within _ _ _ y) in
     let s : Scanned true b 0 (length b) (frames_from 0 0 b) = frames_scanned (length b) b 0 (omega arith) (omega arith) in
     let c = scanned_cut b 0 (frame_place bytes ms k) (length b) (frames_from 0 0 b) (omega arith) within (none_across bytes ms k a l far quiet) s in
     let t : Scanned true b (frame_place bytes ms k) (length b) (placed (frame_place bytes ms k) (drop k ms)) =
-    scanned_list (stream_behind bytes (take k ms)) (drop k ms) b (frame_place bytes ms k) (length b) e refl refl (All-drop (λ m. length m ≤ 1023) k ms a) in
+    scanned_list (stream_after bytes (take k ms)) (drop k ms) b (frame_place bytes ms k) (length b) e refl refl (All-drop (λ m. length m ≤ 1023) k ms a) in
     let r : c.1 ≡ placed (frame_place bytes ms k) (drop k ms) = scanned_one b (frame_place bytes ms k) c.1 (placed (frame_place bytes ms k) (drop k ms)) c.3 t in
     let z : k + (i - k) ≡ i = omega arith in
     let o : frame_place bytes ms k + length (flat_map frame_bytes (take (i - k) (drop k ms))) ≡ frame_place bytes ms i = sym (place_split bytes ms k (i - k)) ∙ ap (frame_place bytes ms) z in

@@ -17,19 +17,19 @@ use Rattle.rtcm_scan.proofs.StandsLemmas.{view_dropped}
 use Rattle.rtcm_scan.proofs.StepLemmas.{looked_bytes, step_examined_to}
 
 -- looks after the first byte, if that is dropped
-set_behind : (l : List ℕ) (i x : ℕ) → slice_set (drop 1 l) i x ≡ drop 1 (slice_set l (i + 1) x)
-set_behind [] i x = refl
-set_behind (y ∷ l) i x = let e : i + 1 ≡ suc i = omega arith in rw e refl
+set_after : (l : List ℕ) (i x : ℕ) → slice_set (drop 1 l) i x ≡ drop 1 (slice_set l (i + 1) x)
+set_after [] i x = refl
+set_after (y ∷ l) i x = let e : i + 1 ≡ suc i = omega arith in rw e refl
 
-looked_behind : (w : WindowValue) (i j : ℕ) → j ≡ i + 1 → looked (without_front w 1) i ≡ without_front (looked w j) 1
-looked_behind w i j e =
+looked_after : (w : WindowValue) (i j : ℕ) → j ≡ i + 1 → looked (without_front w 1) i ≡ without_front (looked w j) 1
+looked_after w i j e =
     let a : 1 + i ≡ i + 1 = omega arith in
     let c : slice_index (drop 1 w.looks) i ≡ slice_index w.looks (i + 1) = get_or-drop 1 w.looks i 0 ∙ ap (λ (k : ℕ). get_or w.looks k 0) a in
-    rw (e, c, set_behind w.looks i (min (slice_index w.looks (i + 1) + 1) (2 ^ 16 - 1))) refl
+    rw (e, c, set_after w.looks i (min (slice_index w.looks (i + 1) + 1) (2 ^ 16 - 1))) refl
 
-through_behind : (w : WindowValue) (start n : ℕ) → looked_through (without_front w 1) start n ≡ without_front (looked_through w (start + 1) n) 1
-through_behind w start zero = refl
-through_behind w start (suc n) = ap (λ (u : WindowValue). looked u (start + n)) (through_behind w start n) ∙ looked_behind (looked_through w (start + 1) n) (start + n) (start + 1 + n) (omega arith)
+through_after : (w : WindowValue) (start n : ℕ) → looked_through (without_front w 1) start n ≡ without_front (looked_through w (start + 1) n) 1
+through_after w start zero = refl
+through_after w start (suc n) = ap (λ (u : WindowValue). looked u (start + n)) (through_after w start n) ∙ looked_after (looked_through w (start + 1) n) (start + n) (start + 1 + n) (omega arith)
 
 -- the first of them by itself, and then the others
 front_once : (w : WindowValue) (n : ℕ) → without_front (looked_through w 0 (suc n)) (suc n) ≡ without_front (looked_through (without_front (looked_through w 0 1) 1) 0 n) n
@@ -38,7 +38,7 @@ front_once w n =
     let u : WindowValue = looked_through (looked_through w 0 1) 1 n in
     let d : without_front (without_front u 1) n ≡ without_front u (1 + n) = rw (drop-drop n 1 u.bytes, drop-drop n 1 u.looks) refl in
     ap (λ (k : ℕ). without_front (looked_through w 0 k) k) (sym a) ∙ ap (λ (v : WindowValue). without_front v (1 + n)) (sym (looked_twice w 0 1 n)) ∙ sym d
-    ∙ ap (λ (v : WindowValue). without_front v n) (sym (through_behind (looked_through w 0 1) 0 n))
+    ∙ ap (λ (v : WindowValue). without_front v n) (sym (through_after (looked_through w 0 1) 0 n))
 
 -- a framer whose first n bytes were looked at once and given up
 abbrev with_given_up : FramerValue → WindowValue → ℕ → FramerValue
@@ -89,18 +89,18 @@ over_counts v (suc n) b fs e l o s =
     (counts_passed v (with_candidate_examined v) (passed (with_candidate_examined v)) b fs refl refl k (all_passed v.held v.has_ended h) t s))
 
 -- looks at bytes after others that are dropped
-behind_others : (w : WindowValue) (n start k : ℕ) → looked_through (without_front w n) start k ≡ without_front (looked_through w (n + start) k) n
-behind_others w zero start k = let z : start ≡ 0 + start = omega arith in ap (λ (q : ℕ). without_front (looked_through w q k) 0) z
-behind_others w (suc n) start k =
+after_others : (w : WindowValue) (n start k : ℕ) → looked_through (without_front w n) start k ≡ without_front (looked_through w (n + start) k) n
+after_others w zero start k = let z : start ≡ 0 + start = omega arith in ap (λ (q : ℕ). without_front (looked_through w q k) 0) z
+after_others w (suc n) start k =
     let d : (u : WindowValue) → without_front u (suc n) ≡ without_front (without_front u n) 1 = (λ u. let a : n + 1 ≡ suc n = omega arith in rw (drop-drop 1 n u.bytes, drop-drop 1 n u.looks, a) refl) in
     let e : n + (start + 1) ≡ suc n + start = omega arith in
-    ap (λ (u : WindowValue). looked_through u start k) (d w) ∙ through_behind (without_front w n) start k ∙ ap (λ (u : WindowValue). without_front u 1) (behind_others w n (start + 1) k)
+    ap (λ (u : WindowValue). looked_through u start k) (d w) ∙ through_after (without_front w n) start k ∙ ap (λ (u : WindowValue). without_front u 1) (after_others w n (start + 1) k)
     ∙ sym (d (looked_through w (n + (start + 1)) k)) ∙ ap (λ (q : ℕ). without_front (looked_through w q k) (suc n)) e
 
 through_others : (w : WindowValue) (n k : ℕ) → looked_through (without_front (looked_through w 0 n) n) 0 k ≡ without_front (looked_through w 0 (n + k)) n
 through_others w n k =
     let a : n + 0 ≡ 0 + n = omega arith in
-    behind_others (looked_through w 0 n) n 0 k ∙ ap (λ (q : ℕ). without_front (looked_through (looked_through w 0 n) q k) n) a ∙ ap (λ (u : WindowValue). without_front u n) (looked_twice w 0 n k)
+    after_others (looked_through w 0 n) n 0 k ∙ ap (λ (q : ℕ). without_front (looked_through (looked_through w 0 n) q k) n) a ∙ ap (λ (u : WindowValue). without_front u n) (looked_twice w 0 n k)
 
 -- a framer that went on over n bytes, and whose next candidate was examined up to k bytes
 abbrev pub passed_to : FramerValue → ℕ → ℕ → FramerValue
@@ -146,17 +146,17 @@ pub taken_nothing : (c : Candidate) (s : List ℕ) → c.count ≡ 0 → HasTake
 taken_nothing c s e h = let a : take c.count s ≡ [] = ap (λ (k : ℕ). take k s) e in rw a at h
 
 -- what is left after the bytes that are dropped
-behind_bytes : (w w' : WindowValue) (n m : ℕ) → w' ≡ without_front (looked_through w 0 m) n → w'.bytes ≡ drop n w.bytes
-behind_bytes w w' n m f = ap (λ (y : WindowValue). y.bytes) f ∙ ap (drop n) (looked_bytes w 0 m)
+after_bytes : (w w' : WindowValue) (n m : ℕ) → w' ≡ without_front (looked_through w 0 m) n → w'.bytes ≡ drop n w.bytes
+after_bytes w w' n m f = ap (λ (y : WindowValue). y.bytes) f ∙ ap (drop n) (looked_bytes w 0 m)
 
-pub behind_length : (w w' : WindowValue) (n m : ℕ) → w' ≡ without_front (looked_through w 0 m) n → length w'.bytes ≡ length w.bytes - n
-behind_length w w' n m f = ap length (behind_bytes w w' n m f) ∙ length-drop n w.bytes
+pub after_length : (w w' : WindowValue) (n m : ℕ) → w' ≡ without_front (looked_through w 0 m) n → length w'.bytes ≡ length w.bytes - n
+after_length w w' n m f = ap length (after_bytes w w' n m f) ∙ length-drop n w.bytes
 
 -- a candidate that has taken the preamble after them
 pub taken_preamble : (c : Candidate) (w w' : WindowValue) (n m : ℕ) → w' ≡ without_front (looked_through w 0 m) n → n < length w.bytes → slice_index w.bytes n ≡ 0xD3 → c.count ≡ 1
     → HasTaken c (0xD3 ∷ []) → HasTaken c (take c.count w'.bytes)
 taken_preamble c w w' n m f l e k t =
-    let d : length w'.bytes ≡ length w.bytes - n = behind_length w w' n m f in
+    let d : length w'.bytes ≡ length w.bytes - n = after_length w w' n m f in
     let z : n + 0 ≡ n = omega arith in
-    let x : 0xD3 ≡ get_or w'.bytes 0 0 = sym (ap (λ (s : List ℕ). get_or s 0 0) (behind_bytes w w' n m f) ∙ get_or-drop n w.bytes 0 0 ∙ ap (λ (i : ℕ). get_or w.bytes i 0) z ∙ e) in
+    let x : 0xD3 ≡ get_or w'.bytes 0 0 = sym (ap (λ (s : List ℕ). get_or s 0 0) (after_bytes w w' n m f) ∙ get_or-drop n w.bytes 0 0 ∙ ap (λ (i : ℕ). get_or w.bytes i 0) z ∙ e) in
     taken_more c w'.bytes 0 0xD3 t k (omega (arith, d, l)) x

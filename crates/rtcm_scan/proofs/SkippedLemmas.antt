@@ -52,9 +52,9 @@ none_from q p zero (x ∷ s) h =
     ]
 
 -- how the two counts go on over one frame
-over_frame : (before ahead inside behind all bytes from offset size to : ℕ) → ahead ≡ before + (offset - from) → inside ≡ ahead → behind + bytes ≡ inside + (to - (offset + size))
-    → all ≡ size + bytes → from ≤ offset → offset + size ≤ to → behind + all ≡ before + (to - from)
-over_frame before ahead inside behind all bytes from offset size to a b c d e f = omega arith
+over_frame : (before ahead inside after all bytes from offset size to : ℕ) → ahead ≡ before + (offset - from) → inside ≡ ahead → after + bytes ≡ inside + (to - (offset + size))
+    → all ≡ size + bytes → from ≤ offset → offset + size ≤ to → after + all ≡ before + (to - from)
+over_frame before ahead inside after all bytes from offset size to a b c d e f = omega arith
 
 -- between two places, those in none of the frames there
 count_left : (e : Bool) (b : List ℕ) (from to : ℕ) (fs : List Framed) (t : ℕ → Bool) → Scanned e b from to fs → ((q : ℕ) → from ≤ q → q < to → t q ≡ not (list_any (is_within q) fs))

@@ -7,12 +7,12 @@ use Rattle.rtcm_scan.specs.Frames.{Framed, frames_of}
 use Rattle.rtcm_scan.specs.Decided.{most_undecided}
 
 -- any bytes, and the frames of these messages after them
-abbrev pub stream_behind : List ℕ → List (List ℕ) → List ℕ
-stream_behind bytes messages = bytes ++ flat_map frame_bytes messages
+abbrev pub stream_after : List ℕ → List (List ℕ) → List ℕ
+stream_after bytes messages = bytes ++ flat_map frame_bytes messages
 
 -- the place at which the frame of the message with number k begins
 abbrev pub frame_place : List ℕ → List (List ℕ) → ℕ → ℕ
-frame_place bytes messages k = length (stream_behind bytes (take k messages))
+frame_place bytes messages k = length (stream_after bytes (take k messages))
 
 -- each message fits a frame
 abbrev pub FitFrames : List (List ℕ) → Type 0
@@ -20,14 +20,14 @@ FitFrames messages = All (λ m. length m ≤ longest_message) messages
 
 -- after the bytes and before the frame with number k, nothing looks like a frame but these frames themselves
 abbrev pub IsQuiet : List ℕ → List (List ℕ) → ℕ → Type 0
-IsQuiet bytes messages k = (q : ℕ) → length bytes ≤ q → q < frame_place bytes messages k → begins_frame (drop q (stream_behind bytes messages)) ≡ true
+IsQuiet bytes messages k = (q : ℕ) → length bytes ≤ q → q < frame_place bytes messages k → begins_frame (drop q (stream_after bytes messages)) ≡ true
     → (i : ℕ) × (i < k) × (q ≡ frame_place bytes messages i)
 
 -- from the frame with number k on, which begins at least the largest number of undecided bytes after these, all frames are found
 abbrev pub StaysLocal : List ℕ → List (List ℕ) → ℕ → Type 0
 StaysLocal bytes messages k = FitFrames messages → k < length messages → length bytes + most_undecided ≤ frame_place bytes messages k → IsQuiet bytes messages k
     → (i : ℕ) → k ≤ i → i < length messages
-    → Contains (frames_of (stream_behind bytes messages)) (record { offset = frame_place bytes messages i; message = slice_index_or messages i [] })
+    → Contains (frames_of (stream_after bytes messages)) (record { offset = frame_place bytes messages i; message = slice_index_or messages i [] })
 
 -- the frames of these messages, each after the one before, from a place on
 abbrev pub placed : ℕ → List (List ℕ) → List Framed

@@ -49,7 +49,7 @@ static SIGNALS: [Listed; 9] = [
 ];
 
 /// Whether the signal has this row.
-fn tells(signal: Signal, listed: &Listed) -> bool {
+fn gives(signal: Signal, listed: &Listed) -> bool {
     let (system, _, code, index, hertz) = *listed;
     signal.system() == system
         && signal.index() == index
@@ -62,7 +62,7 @@ fn is_listed(listed: &Listed) -> bool {
     let (system, id, code, index, _) = *listed;
     match Signal::from_id(system, id) {
         Some(signal) => {
-            tells(signal, listed)
+            gives(signal, listed)
                 && Signal::from_index(system, index) == Some(signal)
                 && Signal::from_code(system, code) == Some(signal)
         }

@@ -3,12 +3,12 @@
 //! A test of a gatherer is a list of steps, each a call and its expected outcome. Only one function
 //! owns a gatherer and runs the steps, since owners of one take long to prove.
 mod cells;
-mod census;
 mod dates;
 mod faults;
 mod locks;
 mod messages;
 mod plans;
+mod signal_counts;
 
 use gnss_obs::System;
 use messages::{Heard, message};
@@ -199,7 +199,7 @@ fn run(
 
 /// Asserts the expected outcomes of all steps of a gatherer of station 7. Their number is printed
 /// only here, since each place that prints takes long to prove.
-fn goes_as_told(
+fn goes_as_given(
     rt: &impl Abort,
     alloc: Global,
     plan: (&str, &str),
@@ -215,7 +215,7 @@ fn goes_as_told(
 
 /// The same with every signal planned, from week 2,300 on and by the bit.
 fn goes_by_bit(rt: &impl Abort, alloc: Global, steps: &[Step]) {
-    goes_as_told(rt, alloc, ALL, 2_300, Gather::Bit, steps);
+    goes_as_given(rt, alloc, ALL, 2_300, Gather::Bit, steps);
 }
 
 fn counts(kept: usize, repeated: usize, crowded: usize) -> Kind {
@@ -295,7 +295,7 @@ fn by_time_alone_no_bit_closes(rt: HostRuntime) {
         Keeps(Heard::Galileo(1_000, true, 64), (0, 1, 0), false),
         Ends(true),
     ];
-    goes_as_told(&rt, rt.alloc(), ALL, 2_300, Gather::Time, &STEPS);
+    goes_as_given(&rt, rt.alloc(), ALL, 2_300, Gather::Time, &STEPS);
 }
 
 #[test]
@@ -312,7 +312,7 @@ fn galileo_may_come_first(rt: HostRuntime) {
         Ends(true),
         Closed(Some((FIRST, 2, 1))),
     ];
-    goes_as_told(&rt, rt.alloc(), ALL, 2_300, Gather::Time, &BY_TIME);
+    goes_as_given(&rt, rt.alloc(), ALL, 2_300, Gather::Time, &BY_TIME);
 }
 
 #[test]
@@ -372,7 +372,7 @@ fn a_message_past_the_weeks_closes_nothing(rt: HostRuntime) {
         Ends(true),
         Values(TOLD),
     ];
-    goes_as_told(&rt, rt.alloc(), ALL, 99_999, Gather::Bit, &STEPS);
+    goes_as_given(&rt, rt.alloc(), ALL, 99_999, Gather::Bit, &STEPS);
 }
 
 /// The fault of a setup with 1C alone.

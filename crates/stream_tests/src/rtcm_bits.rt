@@ -135,8 +135,8 @@ fn passed_on(window: &mut Window) -> usize {
 #[test]
 fn ranges_of_a_window(rt: HostRuntime) -> Result<(), Fail> {
     let mut window = Window::new(rt.alloc())?;
-    let told = (passed_on(&mut window), counts(&window));
-    assert_eq!(rt; told, (100, (0, 4_100, 2)));
+    let given = (passed_on(&mut window), counts(&window));
+    assert_eq!(rt; given, (100, (0, 4_100, 2)));
     Ok(())
 }
 
@@ -251,9 +251,9 @@ fn put_eight_bits(bytes: &mut ArrayVec<u8, 1023>) -> (usize, usize) {
     let before = writer.bits_left();
     writer.put(5, 3);
     writer.put_signed(-11, 5);
-    let behind = writer.bits_left();
+    let after = writer.bits_left();
     writer.finish(bytes);
-    (before, behind)
+    (before, after)
 }
 
 /// The fields of a byte of three bits, five with a sign, and one more, and the bits read.

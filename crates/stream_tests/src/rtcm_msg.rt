@@ -459,7 +459,7 @@ static OTHERS: [(&[u8], u16, Option<(u16, bool)>); 7] = [
 ];
 
 #[test]
-fn other_messages_are_told(rt: HostRuntime) {
+fn other_messages_are_given(rt: HostRuntime) {
     for (message, number, set) in &OTHERS {
         assert!(rt; other_of(message) == Some((*number, *set)));
     }

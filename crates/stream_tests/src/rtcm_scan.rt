@@ -60,7 +60,7 @@ struct Stream<'a> {
     frames: &'a [(usize, usize)],
     /// Before the end: the numbers of frames and of held bytes.
     before: (usize, usize, Counts),
-    behind: Counts,
+    after: Counts,
 }
 
 static STREAMS: [Stream<'static>; 13] = [
@@ -69,91 +69,91 @@ static STREAMS: [Stream<'static>; 13] = [
         size: 25,
         frames: &[(0, 19)],
         before: (1, 0, (0, 44, 2)),
-        behind: (0, 44, 2),
+        after: (0, 44, 2),
     },
     Stream {
         bytes: &FOUR_FRAMES,
         size: 0,
         frames: &[],
         before: (0, 0, (0, 0, 0)),
-        behind: (0, 0, 0),
+        after: (0, 0, 0),
     },
     Stream {
         bytes: &EMPTY_MESSAGE,
         size: 6,
         frames: &[(0, 0)],
         before: (1, 0, (0, 6, 1)),
-        behind: (0, 6, 1),
+        after: (0, 6, 1),
     },
     Stream {
         bytes: &LATE_FRAME,
         size: 7,
         frames: &[(1, 0)],
         before: (0, 7, (0, 7, 1)),
-        behind: (1, 13, 2),
+        after: (1, 13, 2),
     },
     Stream {
         bytes: &PREAMBLES,
         size: 10,
         frames: &[],
         before: (0, 10, (0, 10, 1)),
-        behind: (10, 55, 10),
+        after: (10, 55, 10),
     },
     Stream {
         bytes: &FOUR_FRAMES,
         size: 24,
         frames: &[],
         before: (0, 24, (0, 24, 1)),
-        behind: (24, 65, 3),
+        after: (24, 65, 3),
     },
     Stream {
         bytes: &INNER_FRAME,
         size: 12,
         frames: &[(3, 0)],
         before: (1, 0, (6, 23, 2)),
-        behind: (6, 23, 2),
+        after: (6, 23, 2),
     },
     Stream {
         bytes: &BEHIND_A_CLAIM,
         size: 28,
         frames: &[(3, 19)],
         before: (0, 28, (0, 28, 1)),
-        behind: (3, 74, 3),
+        after: (3, 74, 3),
     },
     Stream {
         bytes: &FOUR_FRAMES,
         size: 91,
         frames: &[(0, 19), (25, 21)],
         before: (2, 39, (0, 131, 2)),
-        behind: (39, 174, 3),
+        after: (39, 174, 3),
     },
     Stream {
         bytes: &RESERVED_SET,
         size: 25,
         frames: &[(0, 19)],
         before: (1, 0, (0, 44, 2)),
-        behind: (0, 44, 2),
+        after: (0, 44, 2),
     },
     Stream {
         bytes: &FOUR_FRAMES,
         size: 52,
         frames: &[(0, 19), (25, 21)],
         before: (2, 0, (0, 92, 2)),
-        behind: (0, 92, 2),
+        after: (0, 92, 2),
     },
     Stream {
         bytes: &FOUR_FRAMES,
         size: 94,
         frames: &[(0, 19), (25, 21), (52, 36)],
         before: (3, 0, (0, 170, 2)),
-        behind: (0, 170, 2),
+        after: (0, 170, 2),
     },
     Stream {
         bytes: &FOUR_FRAMES,
         size: 130,
         frames: &[(0, 19), (25, 21), (52, 36), (94, 30)],
         before: (4, 0, (0, 236, 2)),
-        behind: (0, 236, 2),
+        after: (0, 236, 2),
     },
 ];
 
@@ -164,7 +164,7 @@ static CLAIMS: Stream<'static> = Stream {
     size: 2_000,
     frames: &[],
     before: (0, 984, (1_016, 1_001_744, 985)),
-    behind: (2_000, 1_485_380, 985),
+    after: (2_000, 1_485_380, 985),
 };
 
 impl<'a> Stream<'a> {
@@ -246,7 +246,7 @@ fn drain(framer: &mut Framer, stream: &Stream, before: usize) -> Option<usize> {
 }
 
 /// The counts of a framer before the end of a stream and after it.
-type Told = ((usize, usize, Counts), Counts);
+type Given = ((usize, usize, Counts), Counts);
 
 fn counts(framer: &Framer) -> Counts {
     (framer.skipped(), framer.examined(), framer.most())
@@ -275,7 +275,7 @@ fn hand_on(
 
 /// The counts of the framer if the bytes of the stream up to a cut, and those after it, are pushed
 /// in blocks of a size.
-fn told(framer: &mut Framer, stream: &Stream, cut: usize, size: usize) -> Option<Told>
+fn given(framer: &mut Framer, stream: &Stream, cut: usize, size: usize) -> Option<Given>
     requires { 0 < size }
 {
     let bytes = stream.taken();
@@ -292,29 +292,29 @@ fn told(framer: &mut Framer, stream: &Stream, cut: usize, size: usize) -> Option
 }
 
 /// The counts of a new framer for the stream, cut there and in blocks of a size.
-fn told_by(alloc: Global, stream: &Stream, cut: usize, size: usize) -> Option<Told>
+fn given_by(alloc: Global, stream: &Stream, cut: usize, size: usize) -> Option<Given>
     requires { 0 < size }
 {
     match Framer::new(alloc, MOST_BYTES) {
         Ok(mut framer) => {
-            let told = told(&mut framer, stream, cut, size);
+            let given = given(&mut framer, stream, cut, size);
             drop(framer);
-            told
+            given
         }
         Err(_) => None,
     }
 }
 
-fn is_told(alloc: Global, stream: &Stream, cut: usize, size: usize) -> bool
+fn is_set(alloc: Global, stream: &Stream, cut: usize, size: usize) -> bool
     requires { 0 < size }
 {
-    told_by(alloc, stream, cut, size) == Some((stream.before, stream.behind))
+    given_by(alloc, stream, cut, size) == Some((stream.before, stream.after))
 }
 
 /// The first size of blocks in which the stream doesn't have its frames and counts.
 fn first_wrong_size(alloc: Global, stream: &Stream) -> Option<usize> {
     for size in 1..=stream.size.max(1) {
-        if !is_told(alloc, stream, 0, size) {
+        if !is_set(alloc, stream, 0, size) {
             return Some(size);
         }
     }
@@ -324,7 +324,7 @@ fn first_wrong_size(alloc: Global, stream: &Stream) -> Option<usize> {
 /// The first cut with which the stream doesn't have its frames and counts.
 fn first_wrong_cut(alloc: Global, stream: &Stream) -> Option<usize> {
     for cut in 0..=stream.size {
-        if !is_told(alloc, stream, cut, stream.size.max(1)) {
+        if !is_set(alloc, stream, cut, stream.size.max(1)) {
             return Some(cut);
         }
     }
@@ -354,10 +354,10 @@ fn worked_streams(rt: HostRuntime) {
             (wrong, is_listed(stream)),
             ((None, None), true),
             "{:?}",
-            stream.behind
+            stream.after
         );
     }
-    assert!(rt; is_told(rt.alloc(), &CLAIMS, 0, 1));
+    assert!(rt; is_set(rt.alloc(), &CLAIMS, 0, 1));
     assert!(rt; is_listed(&CLAIMS));
 }
 
@@ -383,19 +383,19 @@ fn longest_messages(rt: HostRuntime) {
         size: 1_994,
         frames: &[(1, 1_023), (1_030, 958)],
         before: (2, 0, (1, 3_975, 2)),
-        behind: (1, 3_975, 2),
+        after: (1, 3_975, 2),
     };
     let frames_alone = Stream {
         bytes: frames.as_slice().get(1..).unwrap_or(&[]),
         size: 1_993,
         frames: &[(0, 1_023), (1_029, 958)],
         before: (2, 0, (0, 3_974, 2)),
-        behind: (0, 3_974, 2),
+        after: (0, 3_974, 2),
     };
     let by_size = (
-        is_told(rt.alloc(), &with_byte, 0, 1),
-        is_told(rt.alloc(), &with_byte, 0, 2),
-        is_told(rt.alloc(), &frames_alone, 0, LONGEST_FRAME),
+        is_set(rt.alloc(), &with_byte, 0, 1),
+        is_set(rt.alloc(), &with_byte, 0, 2),
+        is_set(rt.alloc(), &frames_alone, 0, LONGEST_FRAME),
     );
     let as_slices = (is_listed(&with_byte), is_listed(&frames_alone));
     assert_eq!(rt; (by_size, as_slices), ((true, true, true), (true, true)));
@@ -438,7 +438,7 @@ fn limited(alloc: Global, limit: usize) -> Option<Answers> {
 }
 
 /// The result of pushing a byte to a framer with room after its end.
-fn behind_end(alloc: Global) -> Option<Result<(), ScanFault>> {
+fn after_end(alloc: Global) -> Option<Result<(), ScanFault>> {
     match Framer::new(alloc, MOST_BYTES) {
         Ok(mut framer) => {
             framer.end();
@@ -450,7 +450,7 @@ fn behind_end(alloc: Global) -> Option<Result<(), ScanFault>> {
 
 #[test]
 fn limits(rt: HostRuntime) {
-    assert!(rt; behind_end(rt.alloc()) == Some(Err(ScanFault::Ended)));
+    assert!(rt; after_end(rt.alloc()) == Some(Err(ScanFault::Ended)));
     assert!(rt; refused(rt.alloc(), MOST_BYTES + 1) == Some(ScanFault::BadLimit));
     let long = Some(Err(ScanFault::TooLong));
     for limit in [0, 10] {

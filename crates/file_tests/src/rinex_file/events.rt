@@ -1,5 +1,5 @@
 //! Events: written, read back, and refused in another place or with other values.
-use super::reading::{NO_VALUES, Told, check, read, told_of};
+use super::reading::{NO_VALUES, Options, check, read, timing_of};
 use super::{
     ALL, EPOCH, HEADER, Outcome, Takes, Text, VALUES, joined, put_lines, writer, written_otherwise,
 };
@@ -30,7 +30,7 @@ fn a_file_with_an_event_is_read_and_written_back(rt: HostRuntime) {
         satellites: 2,
         events: 1,
     };
-    let wanted = Told {
+    let wanted = Options {
         counts,
         values: NO_VALUES,
         signals: (1, 0),
@@ -40,7 +40,7 @@ fn a_file_with_an_event_is_read_and_written_back(rt: HostRuntime) {
     assert_eq!(rt;
         (
             joined(&lines).len(),
-            told_of(rt.alloc(), &lines),
+            timing_of(rt.alloc(), &lines),
             check(rt.alloc(), &lines)
         ),
         (1536, Ok(wanted), Ok(counts))

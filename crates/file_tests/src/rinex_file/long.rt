@@ -1,5 +1,5 @@
 //! A file of many epochs, which exceeds the initial capacity of its vectors.
-use super::reading::{SMALL, Told, read, told_by};
+use super::reading::{Options, SMALL, given_by, read};
 use super::{EPOCH, HEADER};
 use arrayvec::ArrayVec;
 use rinex_file::{Counts, ReadFault};
@@ -53,10 +53,10 @@ fn long_text() -> Long {
     text
 }
 
-fn told(alloc: Global) -> Result<Told, ReadFault> {
+fn options(alloc: Global) -> Result<Options, ReadFault> {
     let text = long_text();
     match read(alloc, text.as_slice()) {
-        Ok(file) => Ok(told_by(alloc, &file, text.as_slice())),
+        Ok(file) => Ok(given_by(alloc, &file, text.as_slice())),
         Err(fault) => Err(fault),
     }
 }
@@ -68,5 +68,5 @@ fn a_file_of_many_epochs_is_read_and_written_back(rt: HostRuntime) {
         satellites: 300,
         events: 0,
     };
-    assert_eq!(rt; told(rt.alloc()), Ok(Told { counts, ..SMALL }));
+    assert_eq!(rt; options(rt.alloc()), Ok(Options { counts, ..SMALL }));
 }

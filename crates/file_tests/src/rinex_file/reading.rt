@@ -46,7 +46,7 @@ pub const NO_VALUES: StationValues = StationValues {
 
 /// The content of a file that was read.
 #[derive(Clone, Copy, Debug, PartialEq)]
-pub struct Told {
+pub struct Options {
     pub counts: Counts,
     pub values: StationValues,
     /// The numbers of planned signals of GPS and of Galileo.
@@ -79,8 +79,8 @@ fn written_otherwise(alloc: Global, file: &ObsFile, text: &[u8]) -> Option<usize
 }
 
 /// The content of a file that was read from these bytes.
-pub fn told_by(alloc: Global, file: &ObsFile, text: &[u8]) -> Told {
-    Told {
+pub fn given_by(alloc: Global, file: &ObsFile, text: &[u8]) -> Options {
+    Options {
         counts: Counts {
             epochs: file.epochs() as u64,
             satellites: file.satellites() as u64,
@@ -97,10 +97,10 @@ pub fn told_by(alloc: Global, file: &ObsFile, text: &[u8]) -> Told {
 }
 
 /// The content of a file of these lines.
-pub fn told_of(alloc: Global, lines: &[&[&str]]) -> Result<Told, ReadFault> {
+pub fn timing_of(alloc: Global, lines: &[&[&str]]) -> Result<Options, ReadFault> {
     let text = joined(lines);
     match read(alloc, text.as_slice()) {
-        Ok(file) => Ok(told_by(alloc, &file, text.as_slice())),
+        Ok(file) => Ok(given_by(alloc, &file, text.as_slice())),
         Err(fault) => Err(fault),
     }
 }
@@ -128,7 +128,7 @@ fn check_failing(alloc: Global, text: &[u8]) -> Result<Counts, ReadFault> {
 }
 
 /// The small file, of one epoch.
-pub const SMALL: Told = Told {
+pub const SMALL: Options = Options {
     counts: Counts {
         epochs: 1,
         satellites: 1,
@@ -141,7 +141,7 @@ pub const SMALL: Told = Told {
 };
 
 /// The file of two epochs.
-const LARGE: Told = Told {
+const LARGE: Options = Options {
     counts: Counts {
         epochs: 2,
         satellites: 3,
@@ -159,7 +159,7 @@ static STATION: [&str; 2] = [
     "        1.5000        0.0000        0.0000                  ANTENNA: DELTA H/E/N",
 ];
 
-const WITH_STATION: Told = Told {
+const WITH_STATION: Options = Options {
     values: VALUES,
     ..SMALL
 };
@@ -169,8 +169,8 @@ fn a_file_is_read_and_written_back(rt: HostRuntime) {
     let with_station: [&[&str]; 4] = [&HEADER[..7], &STATION, &HEADER[9..], &EPOCH];
     assert_eq!(rt;
         [
-            told_of(rt.alloc(), &[&HEADER, &EPOCH]),
-            told_of(rt.alloc(), &with_station),
+            timing_of(rt.alloc(), &[&HEADER, &EPOCH]),
+            timing_of(rt.alloc(), &with_station),
         ],
         [Ok(SMALL), Ok(WITH_STATION)]
     );
@@ -188,8 +188,8 @@ fn a_file_is_counted(rt: HostRuntime) {
 }
 
 #[test]
-fn a_file_tells_its_parts(rt: HostRuntime) {
-    assert_eq!(rt; told_of(rt.alloc(), &[&TWO_SYSTEMS]), Ok(LARGE));
+fn a_file_gives_its_parts(rt: HostRuntime) {
+    assert_eq!(rt; timing_of(rt.alloc(), &[&TWO_SYSTEMS]), Ok(LARGE));
 }
 
 /// The lines of the small file, with another in place of one.
@@ -329,7 +329,7 @@ fn a_file_that_ends_too_soon_is_refused(rt: HostRuntime) {
 }
 
 #[test]
-fn a_reader_that_fails_is_told(rt: HostRuntime) {
+fn a_reader_that_fails_is_given(rt: HostRuntime) {
     let text = joined(&[&HEADER]);
     assert!(rt; read_failing(rt.alloc(), text.as_slice()) == (Some(ReadFault::Read), 1));
     assert!(rt; check_failing(rt.alloc(), text.as_slice()) == Err(ReadFault::Read));

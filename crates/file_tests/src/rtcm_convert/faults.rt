@@ -1,4 +1,4 @@
-use super::script::{Call, Good, IDLE, Script, TOLD, Told, Way, first_broken};
+use super::script::{Call, Good, IDLE, OPTIONS, Options, Script, Way, first_broken};
 use super::{FED, POINT};
 use rtcm_bits::devices::{ReadEnd, WriteEnd};
 use rtcm_convert::Fault;
@@ -29,9 +29,9 @@ const LIMITED: Script = Script {
 
 /// A setup that is out of range.
 const BAD: Script = Script {
-    told: Told {
+    options: Options {
         limit: MOST_BYTES + 1,
-        ..TOLD
+        ..OPTIONS
     },
     fault: Some(Fault::BadSetup),
     ..IDLE
@@ -70,7 +70,10 @@ static STREAMS: [Script; 12] = [
         ..IDLE
     },
     Script {
-        told: Told { limit: 10, ..TOLD },
+        options: Options {
+            limit: 10,
+            ..OPTIONS
+        },
         frames: &[],
         way: Way::Calls(&[
             (Call::Feed(0, 11), Err(Fault::TooLong)),
@@ -80,26 +83,32 @@ static STREAMS: [Script; 12] = [
         ..LIMITED
     },
     Script {
-        told: Told { limit: 41, ..TOLD },
+        options: Options {
+            limit: 41,
+            ..OPTIONS
+        },
         ..LIMITED
     },
     Script {
-        told: Told { limit: 42, ..TOLD },
+        options: Options {
+            limit: 42,
+            ..OPTIONS
+        },
         sent: 1_236,
         ..LIMITED
     },
     BAD,
     Script {
-        told: Told {
+        options: Options {
             week: 100_000,
-            ..TOLD
+            ..OPTIONS
         },
         ..BAD
     },
     Script {
-        told: Told {
+        options: Options {
             station: Some(4_096),
-            ..TOLD
+            ..OPTIONS
         },
         ..BAD
     },

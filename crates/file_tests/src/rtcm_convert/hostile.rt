@@ -1,6 +1,6 @@
 //! Streams truncated and damaged at each byte: file, report, held bytes and looks of a converter,
 //! before the end of a stream and after it, agree with the definitions.
-use super::script::{Answer, Good, TOLD, converter, feed, finish, looks};
+use super::script::{Answer, Good, OPTIONS, converter, feed, finish, looks};
 use super::slow::{FOUR_FRAMES, SIZE, Slow, Text, slowly};
 use super::{FED, FILE, ONE};
 use rtcm_bits::Counted;
@@ -46,7 +46,7 @@ fn by_converter(
     ends: bool,
     file: &Text,
 ) -> Option<Comes> {
-    match converter(alloc, TOLD) {
+    match converter(alloc, OPTIONS) {
         Ok(mut converter) => {
             let comes = comes_of(&mut converter, bytes, size, ends, file);
             drop(converter);

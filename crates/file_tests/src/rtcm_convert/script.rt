@@ -16,14 +16,14 @@ use std::io::{Read, Write};
 
 /// The parts in which the setups of the tests differ.
 #[derive(Clone, Copy)]
-pub struct Told {
+pub struct Options {
     pub limit: u64,
     pub week: u32,
     pub station: Option<u16>,
 }
 
 /// Every station from week 2300 on, without a limit of its own.
-pub const TOLD: Told = Told {
+pub const OPTIONS: Options = Options {
     limit: MOST_BYTES,
     week: 2_300,
     station: None,
@@ -80,7 +80,7 @@ pub enum Way {
 /// The calls, the devices, and the expected outcome.
 #[derive(Clone, Copy)]
 pub struct Script {
-    pub told: Told,
+    pub options: Options,
     /// The start of the stream, which zeros follow.
     pub frames: &'static [&'static [u8]],
     /// The number of bytes of the stream that the reader has, and what it does then.
@@ -102,7 +102,7 @@ pub struct Script {
 
 /// No call, and no failure of a device.
 pub const IDLE: Script = Script {
-    told: TOLD,
+    options: OPTIONS,
     frames: &[&FULL],
     given: 0,
     then: ReadEnd::Ends,
@@ -192,11 +192,11 @@ fn take<R: Read, W: Write>(
     writer: &mut Counted<W>,
 ) -> Broken {
     match script.way {
-        Way::Calls(calls) => follow(alloc, script.told, calls, stream, size, reader, writer),
-        Way::Stream(want) => differs(convert(alloc, script.told, reader, writer), want),
+        Way::Calls(calls) => follow(alloc, script.options, calls, stream, size, reader, writer),
+        Way::Stream(want) => differs(convert(alloc, script.options, reader, writer), want),
         Way::Pieces(want) => {
             let bytes = stream.get(..script.given).unwrap_or(&[]);
-            differs(pieces(alloc, script.told, bytes, size, writer), want)
+            differs(pieces(alloc, script.options, bytes, size, writer), want)
         }
     }
 }
@@ -212,14 +212,14 @@ fn differs(made: Result<Report, Fault>, want: Answer) -> Broken {
 /// Makes a converter, and runs the calls.
 fn follow<R: Read, W: Write>(
     alloc: Global,
-    told: Told,
+    options: Options,
     calls: &[(Call, Answer)],
     stream: &[u8],
     size: usize,
     reader: &mut Counted<R>,
     writer: &mut Counted<W>,
 ) -> Broken {
-    match converter(alloc, told) {
+    match converter(alloc, options) {
         Ok(mut converter) => {
             let broken = take_all(&mut converter, calls, stream, size, reader, writer);
             drop(converter);
@@ -320,29 +320,29 @@ fn kept(converter: &Converter) -> Good {
 }
 
 /// A converter of this setup.
-pub fn converter(alloc: Global, told: Told) -> Result<Converter, Fault> {
-    Converter::new(alloc, setup(alloc, told)?)
+pub fn converter(alloc: Global, options: Options) -> Result<Converter, Fault> {
+    Converter::new(alloc, setup(alloc, options)?)
 }
 
 fn convert<R: Read, W: Write>(
     alloc: Global,
-    told: Told,
+    options: Options,
     reader: &mut Counted<R>,
     writer: &mut Counted<W>,
 ) -> Result<Report, Fault> {
-    convert_stream(alloc, setup(alloc, told)?, reader, writer)
+    convert_stream(alloc, setup(alloc, options)?, reader, writer)
 }
 
 fn pieces<W: Write>(
     alloc: Global,
-    told: Told,
+    options: Options,
     bytes: &[u8],
     size: usize,
     writer: &mut Counted<W>,
 ) -> Result<Report, Fault> {
     match cut(alloc, bytes, size) {
         Ok(pieces) => {
-            let made = join(alloc, told, &pieces, writer);
+            let made = join(alloc, options, &pieces, writer);
             drop(pieces);
             made
         }
@@ -352,11 +352,11 @@ fn pieces<W: Write>(
 
 fn join<W: Write>(
     alloc: Global,
-    told: Told,
+    options: Options,
     pieces: &[Vec<u8>],
     writer: &mut Counted<W>,
 ) -> Result<Report, Fault> {
-    convert_pieces(alloc, setup(alloc, told)?, pieces, writer)
+    convert_pieces(alloc, setup(alloc, options)?, pieces, writer)
 }
 
 fn cut(alloc: Global, bytes: &[u8], size: usize) -> Result<Vec<Vec<u8>>, AllocError> {
@@ -376,22 +376,22 @@ fn add_piece(alloc: Global, piece: &[u8], pieces: &mut Vec<Vec<u8>>) -> Result<(
 }
 
 /// Signal 1C of GPS. If there is no memory for the plan, the fault is `Memory`.
-fn setup(alloc: Global, told: Told) -> Result<Setup, Fault> {
+fn setup(alloc: Global, options: Options) -> Result<Setup, Fault> {
     match Plan::parse(alloc, "1C", "none") {
-        Ok(plan) => setup_of(plan, told),
+        Ok(plan) => setup_of(plan, options),
         Err(_) => Err(Fault::Memory),
     }
 }
 
-fn setup_of(plan: Plan, told: Told) -> Result<Setup, Fault> {
+fn setup_of(plan: Plan, options: Options) -> Result<Setup, Fault> {
     match HeaderTexts::new(&TEXTS) {
         Ok(texts) => Ok(Setup {
             plan,
             texts,
-            start_week: told.week,
-            station: told.station,
+            start_week: options.week,
+            station: options.station,
             gather: Gather::Bit,
-            limit: told.limit,
+            limit: options.limit,
         }),
         Err(_) => {
             drop(plan);

@@ -155,22 +155,22 @@ with_count system k count = record {
 
 -- ---- lines of types
 
--- so many signals are all, and these are those that begin in the lines in front of one
+-- so many signals are all, and these are those that begin in the lines before one
 abbrev pub AreBegun : ℕ → ℕ → List ℕ → List ℕ → Type 0
 AreBegun count row signals all = (length all ≡ count) × (signals ≡ take (signals_begun row) all)
 
--- the signals that begin in a line were taken behind those of the lines before
+-- the signals that begin in a line were taken after those of the lines before
 pub record TakesRow (system : System) (count row : ℕ) (line old new : List ℕ) : Type 0 where
   pub taken : (all : List ℕ) → AreTypes system all → (AreBegun count row old all × (line ≡ types_line system all row)) ↔ AreBegun count (row + 1) new all
   pub size : length new ≡ min (signals_begun (row + 1)) count
 
 -- the types of so many signals are those that a line shows, where it is due
-abbrev pub CountsDue : Known → System → ℕ → List ℕ → Option ℕ → Type 0
-CountsDue k system row line count =
+abbrev pub CountsExpected : Known → System → ℕ → List ℕ → Option ℕ → Type 0
+CountsExpected k system row line count =
     (all : List ℕ) → AreTypes system all → (0 < row → signal_count k system ≡ length all) → row < type_rows (length all)
     → line ≡ types_line system all row → count ≡ Some (length all)
 
--- where the line is that of these types, the signals that begin in it were taken behind those of the lines before
+-- where the line is that of these types, the signals that begin in it were taken after those of the lines before
 abbrev pub ReadsRow : System → ℕ → ℕ → List ℕ → List ℕ → List ℕ → Type 0
 ReadsRow system count row line old new =
     (all : List ℕ) → AreTypes system all → AreBegun count row old all → line ≡ types_line system all row → new ≡ take (signals_begun (row + 1)) all
@@ -184,6 +184,6 @@ ComparesRow system count row line old new =
 abbrev pub HasSignalAt : System → List ℕ → ℕ → SignalAt → Type 0
 HasSignalAt system line column s = IsSignal s × (s.system ≡ system) × (take 2 (drop column line) ≡ code_of s)
 
--- the line is no line of types behind these signals
+-- the line is no line of types after these signals
 abbrev pub RefusesRow : System → ℕ → ℕ → List ℕ → List ℕ → Type 0
 RefusesRow system count row line old = (all : List ℕ) → AreTypes system all → AreBegun count row old all → line ≡ types_line system all row → ⊥

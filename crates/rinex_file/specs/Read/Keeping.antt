@@ -1,15 +1,15 @@
 -- What is kept of the epochs of a file.
 use Rattle.std.specs.Prelude.{ℕ, ◌<◌, ◌≤◌, List, length, All}
-use Rattle.rinex_file.specs.declared.read.keeper.Keeper.{Keeper}
+use Rattle.rinex_file.specs.declared.read.file_builder.FileBuilder.{FileBuilder}
 use Rattle.rinex_file.specs.Value.{SatelliteRow, Stamped}
 use Rattle.rinex_file.specs.FileValues.{AreSignalValues}
-use Rattle.rinex_file.specs.Course.{History}
+use Rattle.rinex_file.specs.ParserState.{History}
 use Rattle.rinex_file.specs.Numbers.{joined}
 use Rattle.rinex_file.specs.File.{stamped_lines}
 use Rattle.rinex_file.specs.Limits.{most_signals}
 
 -- the history that is kept
-abbrev pub history_of : Keeper → History
+abbrev pub history_of : FileBuilder → History
 history_of k = record { epochs = k.epochs.items; rows = k.rows.items }
 
 -- a line has room for a satellite

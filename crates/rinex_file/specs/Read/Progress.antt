@@ -5,8 +5,8 @@ use Rattle.obs_epoch.specs.declared.cell.StationValues.{StationValues}
 use Rattle.obs_epoch.specs.Values.{PlanValue, planned_of}
 use Rattle.obs_epoch.specs.Dates.{civil_of}
 use Rattle.rinex_file.specs.declared.header.rows.HeaderRow.{HeaderRow}
-use Rattle.rinex_file.specs.declared.read.due.Due.{Due}
-use Rattle.rinex_file.specs.declared.read.due.Due.TheVariants.{Header, Epoch, EventPosition, EventHeight, EventEpoch, Satellite}
+use Rattle.rinex_file.specs.declared.read.expected.Expected.{Expected}
+use Rattle.rinex_file.specs.declared.read.expected.Expected.TheVariants.{Header, Epoch, EventPosition, EventHeight, EventEpoch, Satellite}
 use Rattle.rinex_file.specs.Texts.{HeaderLists, text_count}
 use Rattle.rinex_file.specs.Value.{SatelliteRow, Stamped, FileValue}
 use Rattle.rinex_file.specs.FileValues.{AreTexts, IsPlan, AreValues, IsTime, IsFileValue, of_system}
@@ -82,7 +82,7 @@ pub record AreTypes (system : System) (all : List ℕ) : Type 0 where
 abbrev pub types_line : System → List ℕ → ℕ → List ℕ
 types_line system all row = type_line (letter_of system) (types_of (codes_of system all)) row
 
--- so many signals begin in the lines in front of a line of types
+-- so many signals begin in the lines before a line of types
 abbrev pub signals_begun : ℕ → ℕ
 signals_begun row = (types_in_line * row + 3) / 4
 
@@ -106,7 +106,7 @@ pub record KnowsAt (place : ℕ) (k : Known) (h : Shown) : Type 0 where
 pub record IsHeaderLeft (k : Known) (place : ℕ) (h : Shown) (left : List (List ℕ)) : Type 0 where
   pub is : IsShown h
   pub before : KnowsAt place k h
-  pub due : place < row_count
+  pub expected : place < row_count
   pub lines : left ≡ shown_from h place
 
 -- some header goes on from a place
@@ -136,7 +136,7 @@ StaysOpen old place new (Some next) = HasHeaderAt old place → HasHeaderAt new 
 -- what was read of a file: header and epochs, and, where satellites are due, an epoch's change of station values, its time and
 -- its satellites so far
 pub record Progress : Type 0 where
-  pub due : Due
+  pub expected : Expected
   pub known : Known
   pub epochs : List Stamped
   pub change : Option StationValues
@@ -200,7 +200,7 @@ pub record IsInEpoch (s : Progress) (satellites : ℕ) (v : FileValue) (left : L
   pub starts : StartsAt s.known.shown.first (s.epochs ++ stamped s (s.rows ++ more) ∷ others)
   pub rest : left ≡ map satellite_line more ++ flat_map stamped_lines others
 
-abbrev pub IsAt : Progress → Due → FileValue → List (List ℕ) → Type 0
+abbrev pub IsAt : Progress → Expected → FileValue → List (List ℕ) → Type 0
 IsAt s (Header place) v left = IsInHeader s place v left
 IsAt s Epoch v left = IsBetween s v left
 IsAt s EventPosition v left = IsInEvent s 1 (λ w. ⊤) v left
@@ -210,20 +210,20 @@ IsAt s (Satellite n) v left = IsInEpoch s n v left
 
 -- the file value goes on with these lines where so much was read
 unfoldable pub HasLinesLeft : Progress → FileValue → List (List ℕ) → Type 0
-HasLinesLeft s v left = IsFileValue v × IsAt s s.due v left
+HasLinesLeft s v left = IsFileValue v × IsAt s s.expected v left
 
 -- the same where another line is due
-abbrev pub due_next : Progress → Due → Progress
-due_next s due = record { due = due; known = s.known; epochs = s.epochs; change = s.change; time = s.time; rows = s.rows }
+abbrev pub expected_next : Progress → Expected → Progress
+expected_next s expected = record { expected = expected; known = s.known; epochs = s.epochs; change = s.change; time = s.time; rows = s.rows }
 
--- what was read where the line of an epoch was taken, with this change of station values in front of it
+-- what was read where the line of an epoch was taken, with this change of station values before it
 abbrev pub begun_at : Progress → Option StationValues → ℕ → ℕ → Progress
-begun_at s c t n = record { due = Satellite n; known = s.known; epochs = s.epochs; change = c; time = t; rows = s.rows }
+begun_at s c t n = record { expected = Satellite n; known = s.known; epochs = s.epochs; change = c; time = t; rows = s.rows }
 
 -- what was read where the line of a satellite was taken, and so many are left
 abbrev pub with_row : Progress → SatelliteRow → ℕ → Progress
-with_row s seen n = record { due = Satellite n; known = s.known; epochs = s.epochs; change = s.change; time = s.time; rows = s.rows ++ seen ∷ [] }
+with_row s seen n = record { expected = Satellite n; known = s.known; epochs = s.epochs; change = s.change; time = s.time; rows = s.rows ++ seen ∷ [] }
 
 -- what was read where the last line of an epoch's satellites was taken
 abbrev pub with_epoch : Progress → Progress
-with_epoch s = record { due = Epoch; known = s.known; epochs = s.epochs ++ stamped s s.rows ∷ []; change = s.change; time = s.time; rows = [] }
+with_epoch s = record { expected = Epoch; known = s.known; epochs = s.epochs ++ stamped s s.rows ∷ []; change = s.change; time = s.time; rows = [] }

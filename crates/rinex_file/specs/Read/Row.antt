@@ -9,7 +9,7 @@ use Rattle.rinex_file.specs.Limits.{signal_columns}
 unfoldable pub value_in : List ℕ → Option ℤ
 value_in text = if has 46 (take 14 text) then Some (number_in (take 14 text)) else None
 
--- the entry of a signal: four fields, and the loss-of-lock indicator behind the phase
+-- the entry of a signal: four fields, and the loss-of-lock indicator after the phase
 unfoldable pub signal_values_in : List ℕ → SignalValues
 signal_values_in text = record {
   c = value_in text;

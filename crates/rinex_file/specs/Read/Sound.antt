@@ -1,14 +1,14 @@
 -- What holds of all that was read of a file, wherever its reading stands.
 use Rattle.std.specs.Prelude.{◌≡◌, ◌≢◌, Option, Some, ℕ, ℤ, ◌+◌, ◌<◌, ◌≤◌, List, [], ◌∷◌, ◌++◌, length, map}
 use Rattle.std.specs.List.Sorted.{IsStrictlyIncreasing}
-use Rattle.rinex_file.specs.declared.read.due.Due.{Due}
-use Rattle.rinex_file.specs.declared.read.due.Due.TheVariants.{Header, Epoch, EventPosition, EventHeight, EventEpoch, Satellite}
+use Rattle.rinex_file.specs.declared.read.expected.Expected.{Expected}
+use Rattle.rinex_file.specs.declared.read.expected.Expected.TheVariants.{Header, Epoch, EventPosition, EventHeight, EventEpoch, Satellite}
 use Rattle.obs_epoch.specs.declared.cell.StationValues.{StationValues}
 use Rattle.rinex_file.specs.Value.{Stamped}
 use Rattle.obs_epoch.specs.Dates.{civil_of}
 use Rattle.rinex_file.specs.Lines.{epoch_line}
 use Rattle.rinex_file.specs.Read.Fields.{ReadsExactly}
-use Rattle.rinex_file.specs.FileValues.{IsTime, IsChange, values_behind, time_stamped, most_rows, IsCoordinate}
+use Rattle.rinex_file.specs.FileValues.{IsTime, IsChange, values_following, time_stamped, most_rows, IsCoordinate}
 use Rattle.rinex_file.specs.Begun.{AreWhole, IsPartOfNext, whole_lines, part_lines, lines_of_header}
 use Rattle.rinex_file.specs.File.{file_lines, event_line, event_lines}
 use Rattle.rinex_file.specs.Header.{position_line}
@@ -20,32 +20,32 @@ use Rattle.rinex_file.specs.Read.Progress.{Progress, Shown, stamped, HasLinesLef
 abbrev pub AreRead : Progress → Type 0
 AreRead s = AreWhole s.known.shown s.epochs
 
--- the station values behind the epochs that were read
+-- the station values after the epochs that were read
 abbrev pub values_now : Progress → StationValues
-values_now s = values_behind s.known.shown.values s.epochs
+values_now s = values_following s.known.shown.values s.epochs
 
 -- an epoch after these was begun
 abbrev pub IsBegun : Progress → Type 0
 IsBegun s = IsPartOfNext s.known.shown s.epochs (stamped s s.rows)
 
--- an event may stand behind the epochs that were read
-abbrev pub IsEventDue : Progress → Type 0
-IsEventDue s = AreRead s × (s.rows ≡ []) × (s.epochs ≢ [])
+-- an event may stand after the epochs that were read
+abbrev pub IsEventExpected : Progress → Type 0
+IsEventExpected s = AreRead s × (s.rows ≡ []) × (s.epochs ≢ [])
 
-abbrev pub IsSoundAt : Progress → Due → Type 0
+abbrev pub IsSoundAt : Progress → Expected → Type 0
 IsSoundAt s (Header place) = (s.epochs ≡ []) × (s.rows ≡ []) × HasHeaderAt s.known place
 IsSoundAt s Epoch = AreRead s × (s.rows ≡ [])
-IsSoundAt s EventPosition = IsEventDue s
-IsSoundAt s (EventHeight x y z) = IsEventDue s × (IsCoordinate x × IsCoordinate y × IsCoordinate z)
-IsSoundAt s (EventEpoch values) = IsEventDue s × IsChange (values_now s) (Some values)
+IsSoundAt s EventPosition = IsEventExpected s
+IsSoundAt s (EventHeight x y z) = IsEventExpected s × (IsCoordinate x × IsCoordinate y × IsCoordinate z)
+IsSoundAt s (EventEpoch values) = IsEventExpected s × IsChange (values_now s) (Some values)
 IsSoundAt s (Satellite n) = AreRead s × IsBegun s × (0 < n) × (length s.rows + n ≤ most_rows (length s.known.shown.plan.gps) (length s.known.shown.plan.galileo))
 
 abbrev pub IsSound : Progress → Type 0
-IsSound s = IsSoundAt s s.due
+IsSound s = IsSoundAt s s.expected
 
--- an epoch at this time stands behind these epochs, in a file that begins at this first time
-abbrev pub IsTimeBehind : List Stamped → ℕ → ℕ → Type 0
-IsTimeBehind es first t = IsStrictlyIncreasing (map time_stamped es ++ t ∷ []) × (es ≡ [] → first ≡ t)
+-- an epoch at this time stands after these epochs, in a file that begins at this first time
+abbrev pub IsTimeAfter : List Stamped → ℕ → ℕ → Type 0
+IsTimeAfter es first t = IsStrictlyIncreasing (map time_stamped es ++ t ∷ []) × (es ≡ [] → first ≡ t)
 
 -- the line of an epoch is read exactly, where time and number of satellites are such
 abbrev pub ReadsEpochLine : (ℕ → ℕ → Type 0) → List ℕ → Option (ℕ × ℕ) → Type 0
@@ -66,7 +66,7 @@ abbrev pub at_position : ℤ → ℤ → ℤ → StationValues
 at_position x y z = record { x = x; y = y; z = z; height = 0 }
 
 -- these are the lines of what was read
-abbrev pub AreLinesAt : Progress → Due → List (List ℕ) → Type 0
+abbrev pub AreLinesAt : Progress → Expected → List (List ℕ) → Type 0
 AreLinesAt s (Header place) lines = (h : Shown) (left : List (List ℕ)) → IsHeaderLeft s.known place h left → lines_of_header h ≡ lines ++ left
 AreLinesAt s Epoch lines = lines ≡ whole_lines s.known.shown s.epochs
 AreLinesAt s EventPosition lines = lines ≡ whole_lines s.known.shown s.epochs ++ event_line ∷ []
@@ -75,7 +75,7 @@ AreLinesAt s (EventEpoch values) lines = lines ≡ whole_lines s.known.shown s.e
 AreLinesAt s (Satellite n) lines = lines ≡ whole_lines s.known.shown s.epochs ++ part_lines (stamped s s.rows) (length s.rows + n)
 
 abbrev pub AreLinesOf : Progress → List (List ℕ) → Type 0
-AreLinesOf s lines = AreLinesAt s s.due lines
+AreLinesOf s lines = AreLinesAt s s.expected lines
 
 -- what was read stands for the lines that were taken: these are its lines, and the file values that begin with them go on
 pub record HasReadLines (s : Progress) (taken : List (List ℕ)) : Type 0 where

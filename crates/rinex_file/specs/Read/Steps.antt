@@ -1,10 +1,10 @@
 -- What a reading says of all the lines that it took, one after the other.
 use Rattle.std.specs.Prelude.{◌≡◌, ℕ, ◌+◌, ◌≤◌, List, [], length, All, Option, Some, None, Result, Ok, Err, IfSome}
 use Rattle.std.specs.Io.KnownBytes.{Consumes, prepend_known}
-use Rattle.rinex_file.specs.declared.read.due.Added.{Added}
+use Rattle.rinex_file.specs.declared.read.expected.Added.{Added}
 use Rattle.rinex_file.specs.declared.read.fault.ReadFault.{ReadFault}
 use Rattle.rinex_file.specs.declared.read.reading.Reading.{Reading}
-use Rattle.rinex_file.specs.declared.read.course.Course.{Course}
+use Rattle.rinex_file.specs.declared.read.parser_state.ParserState.{ParserState}
 use Rattle.rinex_file.specs.Numbers.{joined}
 use Rattle.rinex_file.specs.Value.{FileValue}
 use Rattle.rinex_file.specs.FileValues.{IsFileValue}
@@ -12,7 +12,7 @@ use Rattle.rinex_file.specs.File.{file_text, file_lines}
 use Rattle.rinex_file.specs.Exact.{IsLine, ExplainsFault, most_lines}
 use Rattle.rinex_file.specs.Read.Progress.{Progress, file_with}
 use Rattle.rinex_file.specs.Read.Sound.{HasReadLines}
-use Rattle.rinex_file.specs.Course.{History, FollowsHistory, HasRoom, progress_at, with_line}
+use Rattle.rinex_file.specs.ParserState.{History, FollowsHistory, HasRoom, progress_at, with_line}
 
 -- some lines were taken, so many, and what was read stands for them
 pub record IsTaken (s : Progress) (count : ℕ) (input left : Option (List ℕ)) : Type 0 where
@@ -24,15 +24,15 @@ pub record IsTaken (s : Progress) (count : ℕ) (input left : Option (List ℕ))
 
 -- what may be counted
 abbrev pub MayBeCounted : Reading → Type 0
-MayBeCounted r = HasRoom r.course r.count × (r.count ≤ most_lines)
+MayBeCounted r = HasRoom r.parser_state r.count × (r.count ≤ most_lines)
 
--- a history was read of the input, and this is left of it behind what was read ahead
+-- a history was read of the input, and this is left of it after what was read ahead
 pub record HasRead (r : Reading) (h : History) (input left : Option (List ℕ)) : Type 0 where
-  pub taken : IsTaken (progress_at r.course h) r.count input (prepend_known r.block left)
-  pub stands : FollowsHistory r.course h
+  pub taken : IsTaken (progress_at r.parser_state h) r.count input (prepend_known r.block left)
+  pub stands : FollowsHistory r.parser_state h
 
 -- the file of a history
-abbrev pub file_at : Course → History → FileValue
+abbrev pub file_at : ParserState → History → FileValue
 file_at c h = file_with (progress_at c h) h.epochs
 
 -- the input is the text of a file value, and of no other
@@ -41,7 +41,7 @@ pub record IsTextOfOnly (f : FileValue) (input : List ℕ) : Type 0 where
   pub only : (v : FileValue) → IsFileValue v → input ≡ file_text v → v ≡ f
 
 -- the file of a history was read whole
-pub record IsWhole (c : Course) (h : History) (input : Option (List ℕ)) : Type 0 where
+pub record IsWhole (c : ParserState) (h : History) (input : Option (List ℕ)) : Type 0 where
   pub is : IsFileValue (file_at c h)
   pub few : length (file_lines (file_at c h)) ≤ most_lines
   pub text : IfSome input (IsTextOfOnly (file_at c h))
@@ -50,8 +50,8 @@ pub record IsWhole (c : Course) (h : History) (input : Option (List ℕ)) : Type
 
 -- where a reading goes with the next line: to a history with what the line adds, to the end, or to a fault
 abbrev pub ReadsNextLine : Reading → History → Option (List ℕ) → Option (List ℕ) → Result (Option Added) ReadFault → Type 0
-ReadsNextLine new h input left (Ok (Some added)) = HasRead new (with_line added new.course h) input left
-ReadsNextLine new h input left (Ok None) = IsWhole new.course h input
+ReadsNextLine new h input left (Ok (Some added)) = HasRead new (with_line added new.parser_state h) input left
+ReadsNextLine new h input left (Ok None) = IsWhole new.parser_state h input
 ReadsNextLine new h input left (Err fault) = IfSome input (λ bytes. ExplainsFault bytes fault)
 
 -- wherever a reading stands, it goes on with the next line
@@ -61,5 +61,5 @@ GoesOnReading old before new after result = (h : History) (input : Option (List 
 -- a line more was taken
 abbrev pub CountsLine : Reading → Reading → Result (Option Added) ReadFault → Type 0
 CountsLine old new (Ok (Some added)) = new.count ≡ old.count + 1
-CountsLine old new (Ok None) = new.course ≡ old.course
+CountsLine old new (Ok None) = new.parser_state ≡ old.parser_state
 CountsLine old new (Err fault) = old.count ≡ old.count

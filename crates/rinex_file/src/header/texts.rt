@@ -9,7 +9,7 @@ ghost use Rattle.rinex_file.specs.FileValues.{AreTexts, IsText};
 
 use crate::header::fault::{HeadFault, HeaderField};
 use crate::write::numbers::put;
-use crate::write::satellite::cut_length;
+use crate::write::satellite::trimmed_len;
 use arrayvec::ArrayVec;
 use std::marker::Model;
 
@@ -75,7 +75,7 @@ fn fault_of(field: HeaderField, text: &[u8]) -> Option<HeadFault>
     if !is_printable(text) {
         return Some(HeadFault::NotPrintable(field));
     }
-    if cut_length(text) > field.width() {
+    if trimmed_len(text) > field.width() {
         return Some(HeadFault::TooLong(field));
     }
     None
@@ -87,7 +87,7 @@ fn cut(text: &[u8]) -> Text
     ensures { result.items ≡ trimmed text.now }
 {
     let mut taken = ArrayVec::new();
-    put(&mut taken, &text[..cut_length(text)]);
+    put(&mut taken, &text[..trimmed_len(text)]);
     taken
 }
 

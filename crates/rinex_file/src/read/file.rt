@@ -6,7 +6,7 @@ ghost use Rattle.rinex_file.specs.Blocks.{LeavesRest};
 ghost use Rattle.rinex_file.specs.Counting.{IsTextWith, IsCountedOr};
 
 use crate::read::fault::ReadFault;
-use crate::read::keeper::Keeper;
+use crate::read::file_builder::FileBuilder;
 use crate::read::reading::Reading;
 use crate::values::obs_file::ObsFile;
 use rtcm_bits::Counted;
@@ -45,9 +45,9 @@ pub fn check_file<R: Read>(alloc: Global, reader: &mut Counted<R>) -> Result<Cou
             Ok(Some(_)) => {}
             Ok(None) => {
                 let counts = Counts {
-                    epochs: reading.course.epochs,
-                    satellites: reading.course.satellites,
-                    events: reading.course.events,
+                    epochs: reading.parser_state.epochs,
+                    satellites: reading.parser_state.satellites,
+                    events: reading.parser_state.events,
                 };
                 drop(reading);
                 return Ok(counts);
@@ -78,25 +78,25 @@ pub fn read_file<R: Read>(alloc: Global, reader: &mut Counted<R>) -> Result<ObsF
     ensures left { LeavesRest (R.remaining reader.old.inner) (R.remaining reader.new.inner) }
 {
     let mut reading = Reading::new(alloc);
-    let mut keeper = Keeper::new(alloc);
+    let mut file_builder = FileBuilder::new(alloc);
     loop {
         match reading.next(reader) {
-            Ok(Some(added)) => match keeper.keep(added, &reading.course) {
+            Ok(Some(added)) => match file_builder.keep(added, &reading.parser_state) {
                 Ok(()) => {}
                 Err(_) => {
-                    drop(keeper);
+                    drop(file_builder);
                     drop(reading);
                     return Err(ReadFault::Memory);
                 }
             },
             Ok(None) => {
-                return match keeper.finish(reading.course) {
+                return match file_builder.finish(reading.parser_state) {
                     Ok(file) => Ok(file),
                     Err(_) => Err(ReadFault::Memory),
                 };
             }
             Err(fault) => {
-                drop(keeper);
+                drop(file_builder);
                 drop(reading);
                 return Err(fault);
             }

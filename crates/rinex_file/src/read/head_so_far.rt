@@ -5,13 +5,13 @@ ghost use Rattle.obs_epoch.specs.Signals.{indices, IsOf};
 ghost use Rattle.obs_epoch.specs.Values.{planned_of};
 ghost use Rattle.rinex_file.specs.Header.{type_rows, row_at, row_count};
 ghost use Rattle.rinex_file.specs.Read.Progress.{Shown, IsShown, IsHeaderLeft, AreHeaderLines, HasHeaderAt, StaysOpen, plans, signal_count};
-ghost use Rattle.rinex_file.specs.Read.HeaderSteps.{AreValid, known_line, LearnsLine, RefusesHeaderLine, IsWholeOf, IsWhole, SameFrom, StepsTo, NoneGoesOn, CountsDue, TakesRow, RefusesRow, with_signals, with_count};
+ghost use Rattle.rinex_file.specs.Read.HeaderSteps.{AreValid, known_line, LearnsLine, RefusesHeaderLine, IsWholeOf, IsWhole, SameFrom, StepsTo, NoneGoesOn, CountsExpected, TakesRow, RefusesRow, with_signals, with_count};
 
 use crate::header::labels;
 use crate::header::rows::{HeaderRow, ROW_COUNT, row_at};
 use crate::header::texts::HeaderTexts;
 use crate::header::types::type_rows;
-use crate::read::due::Refusal;
+use crate::read::expected::Refusal;
 use crate::read::station::is_header_line;
 use crate::read::types::{read_count, read_types, signals_begun};
 use crate::write::numbers::Line;
@@ -238,11 +238,11 @@ impl HeadSoFar {
     }
 
     // The number of signals of a system that is planned, when this line of its types is expected.
-    fn count_due(&self, system: System, row: usize, line: &[u8]) -> Option<usize>
+    fn count_expected(&self, system: System, row: usize, line: &[u8]) -> Option<usize>
         ensures bound { IfSome result (λ n. n ≤ length (table system)) }
         ensures rows { IfSome result (λ n. row < type_rows n) }
         ensures later { IfSome result (λ n. 0 < row → signal_count self.now system ≡ n) }
-        ensures due { CountsDue self.now system row line.now result }
+        ensures expected { CountsExpected self.now system row line.now result }
     {
         if row == 0 {
             return read_count(line, system);
@@ -306,7 +306,7 @@ impl HeadSoFar {
         ensures taken { OnOk result (LearnsLine (HeaderRow.Types system row) line.now self.old self.new) }
         ensures bad { result ≡ Err Refusal.Bad → RefusesHeaderLine (HeaderRow.Types system row) line.now self.old }
     {
-        let Some(count) = self.count_due(system, row, line) else {
+        let Some(count) = self.count_expected(system, row, line) else {
             return Err(Refusal::Bad);
         };
         self.take_signals(system, count, row, line, again)?;

@@ -1,16 +1,16 @@
 //! The reading of a file, line by line.
 ghost use Rattle.std.specs.Prelude.{◌≡◌, ◌==◌, ℕ, List, Option, Err, OnOk, if◌then◌else◌};
 ghost use Rattle.rtcm_bits.specs.Device.{HasFailed};
-ghost use Rattle.rinex_file.specs.Exact.{ExplainsFault, IsFaulty, IsDueAt, most_lines};
+ghost use Rattle.rinex_file.specs.Exact.{ExplainsFault, IsFaulty, IsExpectedAt, most_lines};
 ghost use Rattle.rinex_file.specs.Blocks.{LeavesRest};
-ghost use Rattle.rinex_file.specs.Course.{History, FollowsHistory, nothing};
+ghost use Rattle.rinex_file.specs.ParserState.{History, FollowsHistory, nothing};
 ghost use Rattle.rinex_file.specs.Read.Steps.{GoesOnReading, HasRead, CountsLine, MayBeCounted};
 
 use crate::read::block::Block;
-use crate::read::course::Course;
-use crate::read::due::{Added, Due, Refusal};
+use crate::read::expected::{Added, Expected, Refusal};
 use crate::read::fault::ReadFault;
 use crate::read::lines::{Found, next_line};
+use crate::read::parser_state::ParserState;
 use crate::write::numbers::Line;
 use rtcm_bits::Counted;
 use std::alloc::Global;
@@ -22,7 +22,7 @@ const MOST_LINES: u64 = 1 << 32;
 /// The reading of a file: how far it is, the lines that were taken, and buffers.
 #[derive(Drop)]
 pub(crate) struct Reading {
-    pub(crate) course: Course,
+    pub(crate) parser_state: ParserState,
     pub(crate) count: u64,
     pub(crate) block: Block,
     line: Line,
@@ -30,22 +30,22 @@ pub(crate) struct Reading {
 }
 
 // The fault of a line that isn't of the kind that was expected.
-fn fault_at(due: Due, number: u64) -> ReadFault
-    ensures faulty { (input : List ℕ) → IsFaulty input number → IsDueAt due input number → ExplainsFault input result }
+fn fault_at(expected: Expected, number: u64) -> ReadFault
+    ensures faulty { (input : List ℕ) → IsFaulty input number → IsExpectedAt expected input number → ExplainsFault input result }
     ensures other { result ≡ ReadFault.Read → ⊥ }
 {
-    match due {
-        Due::Header(_) => ReadFault::BadHeader(number),
-        Due::Epoch => ReadFault::BadEpoch(number),
-        Due::EventPosition => ReadFault::BadEvent(number),
-        Due::EventHeight(_, _, _) => ReadFault::BadEvent(number),
-        Due::EventEpoch(_) => ReadFault::BadEpoch(number),
-        Due::Satellite(_) => ReadFault::BadSatellite(number),
+    match expected {
+        Expected::Header(_) => ReadFault::BadHeader(number),
+        Expected::Epoch => ReadFault::BadEpoch(number),
+        Expected::EventPosition => ReadFault::BadEvent(number),
+        Expected::EventHeight(_, _, _) => ReadFault::BadEvent(number),
+        Expected::EventEpoch(_) => ReadFault::BadEpoch(number),
+        Expected::Satellite(_) => ReadFault::BadSatellite(number),
     }
 }
 
 // The fault if something follows this number of lines, which may be the largest.
-fn fault_behind(lines: u64, fault: ReadFault) -> ReadFault
+fn fault_after(lines: u64, fault: ReadFault) -> ReadFault
     ensures { result ≡ (if lines == most_lines then ReadFault.TooLong else fault) }
 {
     if lines == MOST_LINES {
@@ -62,7 +62,7 @@ impl Reading {
         ensures within { MayBeCounted result }
     {
         Reading {
-            course: Course::new(alloc),
+            parser_state: ParserState::new(alloc),
             count: 0,
             block: Block::new(),
             line: Line::new(),
@@ -75,7 +75,7 @@ impl Reading {
         &mut self,
         reader: &mut Counted<R>,
     ) -> Result<Option<Added>, ReadFault>
-        requires stands { (h : History) × FollowsHistory self.old.course h }
+        requires stands { (h : History) × FollowsHistory self.old.parser_state h }
         requires within { MayBeCounted self.old }
         ensures goes { GoesOnReading self.old (R.remaining reader.old.inner) self.new (R.remaining reader.new.inner) result }
         ensures within { OnOk result (MayBeCounted self.new) }
@@ -87,29 +87,32 @@ impl Reading {
         let number = self.count + 1;
         match next_line(reader, &mut self.block, &mut self.line) {
             Found::Line => {}
-            Found::End => return if self.course.may_end() {
+            Found::End => return if self.parser_state.may_end() {
                 Ok(None)
             } else {
                 Err(ReadFault::CutShort(number))
             },
-            Found::Cut => return Err(fault_behind(self.count, ReadFault::CutShort(number))),
-            Found::Long => return Err(fault_behind(
+            Found::Cut => return Err(fault_after(self.count, ReadFault::CutShort(number))),
+            Found::Long => return Err(fault_after(
                 self.count,
-                fault_at(self.course.due(), number),
+                fault_at(self.parser_state.expected(), number),
             )),
             Found::Failed => return Err(ReadFault::Read),
         }
         if self.count == MOST_LINES {
             return Err(ReadFault::TooLong);
         }
-        let due = self.course.due();
-        match self.course.take(self.line.as_slice(), &mut self.again) {
+        let expected = self.parser_state.expected();
+        match self
+            .parser_state
+            .take(self.line.as_slice(), &mut self.again)
+        {
             Ok(added) => {
                 self.count = number;
                 Ok(Some(added))
             }
             Err(Refusal::Memory) => Err(ReadFault::Memory),
-            Err(Refusal::Bad) => Err(fault_at(due, number)),
+            Err(Refusal::Bad) => Err(fault_at(expected, number)),
         }
     }
 }

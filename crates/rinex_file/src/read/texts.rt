@@ -11,7 +11,7 @@ use crate::header::rows::TextRow;
 use crate::header::texts::{HeaderTexts, Text, is_printable};
 use crate::read::numbers::is_same;
 use crate::write::numbers::put;
-use crate::write::satellite::cut_length;
+use crate::write::satellite::trimmed_len;
 use arrayvec::ArrayVec;
 
 /// Returns `width` columns of a line, or as many as there are, from `from` on, counted from 0.
@@ -32,7 +32,7 @@ fn text_in(line: &[u8], place: usize) -> Option<Text>
 {
     let field = HeaderField::at(place);
     let field = columns(line, field.column(), field.width());
-    let cut = &field[..cut_length(field)];
+    let cut = &field[..trimmed_len(field)];
     if !is_printable(cut) {
         return None;
     }

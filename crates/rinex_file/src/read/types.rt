@@ -9,7 +9,7 @@ ghost use Rattle.rinex_file.specs.Read.HeaderSteps.{ReadsRow, ComparesRow, Refus
 
 use crate::header::labels;
 use crate::header::types::{TYPES_IN_LINE, put_row};
-use crate::read::due::Refusal;
+use crate::read::expected::Refusal;
 use crate::read::numbers::digits_in;
 use crate::read::station::is_header_line;
 use crate::write::numbers::Line;
@@ -28,7 +28,7 @@ pub(crate) fn read_count(line: &[u8], system: System) -> Option<usize>
     Some(count)
 }
 
-/// Takes the signals whose types begin in a line, behind those of the lines before, where so many
+/// Takes the signals whose types begin in a line, after those of the lines before, where so many
 /// are planned.
 pub(crate) fn read_types(
     signals: &mut Vec<Signal>,

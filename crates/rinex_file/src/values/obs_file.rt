@@ -1,7 +1,7 @@
 //! A file that was read.
 ghost use Rattle.std.specs.Prelude.{◌≡◌, length};
 ghost use Rattle.std.specs.List.{sum_by};
-ghost use Rattle.rinex_file.specs.Course.{events_in};
+ghost use Rattle.rinex_file.specs.ParserState.{events_in};
 
 use crate::header::texts::HeaderTexts;
 use crate::values::kept::KeptEpoch;
@@ -23,7 +23,7 @@ impl Model for ObsFile {
     ghost use Rattle.std.specs.Prelude.{◌≡◌};
     ghost use Rattle.rinex_file.specs.Value.{FileValue, file_with};
     ghost use Rattle.rinex_file.specs.FileValues.{IsFileValue};
-    ghost use Rattle.rinex_file.specs.Course.{rows_in, events_in};
+    ghost use Rattle.rinex_file.specs.ParserState.{rows_in, events_in};
 
     ghost Value = { FileValue };
 

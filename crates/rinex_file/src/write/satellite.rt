@@ -19,7 +19,7 @@ use obs_epoch::{Cell, Epoch, Plan};
 
 // What follows the whole part of a value in its columns: a point, thousandths, and two
 // columns more.
-fn behind_whole(part: u64, lost: u8, strength: u8) -> [u8; VALUE_COLUMNS]
+fn after_whole(part: u64, lost: u8, strength: u8) -> [u8; VALUE_COLUMNS]
     requires { part < 1000 }
     ensures { result ≡ replicate 10 32 ++ (46 ∷ padded 3 part ++ lost ∷ strength ∷ []) }
 {
@@ -40,7 +40,7 @@ pub(crate) fn columns_of(value: i64, lost: u8, strength: u8) -> [u8; VALUE_COLUM
     ensures { result ≡ field (Some value) lost strength }
 {
     let size = value.unsigned_abs();
-    let mut columns = behind_whole(size % 1000, lost, strength);
+    let mut columns = after_whole(size % 1000, lost, strength);
     let start = write_digits(size / 1000, &mut columns, 10);
     if value < 0 {
         columns[start - 1] = b'-';
@@ -146,7 +146,7 @@ fn shown_signals(values: &[SignalValues]) -> usize
 }
 
 // How much of the text is left without the blanks at its end.
-pub(crate) fn cut_length(text: &[u8]) -> usize
+pub(crate) fn trimmed_len(text: &[u8]) -> usize
     ensures text { take result text.now ≡ trimmed text.now }
     ensures bound { result ≤ length text.now }
 {
@@ -180,7 +180,7 @@ pub(crate) fn satellite_text(line: &mut Line, system: System, id: u8, values: &[
     line.push(b'0' + id / 10);
     line.push(b'0' + id % 10);
     add_signals(line, &values[..shown_signals(values)]);
-    let end = cut_length(line.as_slice());
+    let end = trimmed_len(line.as_slice());
     line.truncate(end);
     line.push(b'\n');
 }

@@ -59,7 +59,7 @@ fn untold_write(
     for total in 0..output.len() {
         let end = WriteEnd::Fails(ErrorKind::Other);
         let room = Room { most, total, end };
-        if !is_write_told(alloc, words, input, room, front(output, total)) {
+        if !is_write_given(alloc, words, input, room, front(output, total)) {
             return Some(total);
         }
     }
@@ -67,7 +67,7 @@ fn untold_write(
 }
 
 /// Whether a writer with this room is reported as failed, and has these bytes.
-fn is_write_told(alloc: Global, words: &[&str], input: &[u8], room: Room, taken: &[u8]) -> bool {
+fn is_write_given(alloc: Global, words: &[&str], input: &[u8], room: Room, taken: &[u8]) -> bool {
     let setting = Setting {
         words,
         room,
@@ -91,7 +91,7 @@ fn untold_read_fault(
 fn untold_read(alloc: Global, words: &[&str], input: &[u8], output: &[u8]) -> Option<usize> {
     for given in 0..=input.len() {
         let written = if given == input.len() { output } else { &[] };
-        if !is_read_told(alloc, words, front(input, given), written) {
+        if !is_read_given(alloc, words, front(input, given), written) {
             return Some(given);
         }
     }
@@ -99,7 +99,7 @@ fn untold_read(alloc: Global, words: &[&str], input: &[u8], output: &[u8]) -> Op
 }
 
 /// Whether a reader that fails after these bytes is reported, and this was written.
-fn is_read_told(alloc: Global, words: &[&str], given: &[u8], written: &[u8]) -> bool {
+fn is_read_given(alloc: Global, words: &[&str], given: &[u8], written: &[u8]) -> bool {
     let setting = Setting {
         words,
         end: ReadEnd::Fails(ErrorKind::Other),
@@ -110,7 +110,7 @@ fn is_read_told(alloc: Global, words: &[&str], given: &[u8], written: &[u8]) -> 
 
 /// Whether a buffer whose device accepts two bytes, which are these, and then fails once is
 /// reported as a failed writer.
-pub fn is_told_behind_buffer(
+pub fn is_given_after_buffer(
     alloc: Global,
     words: &[&str],
     input: Text<'_>,
@@ -118,10 +118,10 @@ pub fn is_told_behind_buffer(
 ) -> Result<bool, AllocError> {
     let input = input.bytes(alloc)?;
     let output = output.bytes(alloc)?;
-    is_told_behind(alloc, words, input.as_slice(), output.as_slice())
+    is_given_after(alloc, words, input.as_slice(), output.as_slice())
 }
 
-fn is_told_behind(
+fn is_given_after(
     alloc: Global,
     words: &[&str],
     input: &[u8],

@@ -1,6 +1,6 @@
 //! Devices that fail.
 use super::broken::{
-    assert_read_faults, assert_write_faults, is_sent_before_fault, is_told_behind_buffer, untold,
+    assert_read_faults, assert_write_faults, is_given_after_buffer, is_sent_before_fault, untold,
 };
 use super::check::CHECK;
 use super::convert::OPTIONS;
@@ -37,7 +37,7 @@ static CUT_OFF: [Case; 2] = [
 ];
 
 #[test]
-fn a_reader_that_fails_is_told(rt: HostRuntime) {
+fn a_reader_that_fails_is_given(rt: HostRuntime) {
     let setting = Setting {
         sizes: &[&[5]],
         end: ReadEnd::Fails(ErrorKind::Other),
@@ -52,7 +52,7 @@ static TWO_BYTES_WRITTEN: [Case; 2] = [
 ];
 
 #[test]
-fn a_writer_that_fails_is_told(rt: HostRuntime) {
+fn a_writer_that_fails_is_given(rt: HostRuntime) {
     for end in [
         WriteEnd::Fails(ErrorKind::Interrupted),
         WriteEnd::TakesNone,
@@ -97,7 +97,7 @@ static WRITTEN: [Written; 4] = [
 
 // The bytes that a device accepted before it failed are a prefix of the whole output.
 #[test]
-fn a_writer_may_fail_behind_each_byte(rt: HostRuntime) {
+fn a_writer_may_fail_after_each_byte(rt: HostRuntime) {
     for (words, input, most, output) in &WRITTEN {
         assert_write_faults(&rt, rt.alloc(), words, *input, *most, *output);
     }
@@ -137,7 +137,7 @@ static READS: [Read; 3] = [
 // The file of the epochs that the bytes before close is written: of one message after its last
 // byte.
 #[test]
-fn a_reader_may_fail_behind_each_byte(rt: HostRuntime) {
+fn a_reader_may_fail_after_each_byte(rt: HostRuntime) {
     for (words, input, output) in &READS {
         assert_read_faults(&rt, rt.alloc(), words, *input, *output);
     }
@@ -153,9 +153,9 @@ static FLUSHED: [Read; 5] = [
 
 // A buffer accepts every line, and its device fails when they are written.
 #[test]
-fn a_flush_that_fails_is_told(rt: HostRuntime) -> Result<(), Fail> {
+fn a_flush_that_fails_is_given(rt: HostRuntime) -> Result<(), Fail> {
     for (words, input, output) in &FLUSHED {
-        assert!(rt; is_told_behind_buffer(rt.alloc(), words, *input, *output)?);
+        assert!(rt; is_given_after_buffer(rt.alloc(), words, *input, *output)?);
     }
     Ok(())
 }

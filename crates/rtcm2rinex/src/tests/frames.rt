@@ -60,7 +60,7 @@ fn lists(alloc: Global, stream: &[u8], limit: u16, is_refused: bool, lines: &[u8
 
 // The output that the bytes up to the limit decide is written.
 #[test]
-fn a_long_stream_is_told(rt: HostRuntime) -> Result<(), Fail> {
+fn a_long_stream_is_given(rt: HostRuntime) -> Result<(), Fail> {
     let stream = Stream(&[Framed(&STATION), Framed(&STATION)]).bytes(rt.alloc())?;
     let rows: [(u16, bool, &[u8]); 4] = [
         (24, true, b""),

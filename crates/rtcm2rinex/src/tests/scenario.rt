@@ -99,9 +99,9 @@ impl<'a> Comes<'a> {
     /// Whether it is this outcome, with this output.
     fn is(&self, outcome: &Outcome, output: &[u8]) -> bool {
         match self {
-            Comes::Good(_, told) => outcome.is(0, output, told.as_bytes()),
-            Comes::Fault(_, told) => outcome.is(1, output, told.as_bytes()),
-            Comes::Unread(told) => outcome.is(1, &[], told.as_bytes()) && !outcome.has_read,
+            Comes::Good(_, given) => outcome.is(0, output, given.as_bytes()),
+            Comes::Fault(_, given) => outcome.is(1, output, given.as_bytes()),
+            Comes::Unread(given) => outcome.is(1, &[], given.as_bytes()) && !outcome.has_read,
             Comes::Refused => outcome.is_refused(),
         }
     }

@@ -33,7 +33,7 @@ fn are_refused(alloc: Global, kind: ErrorKind, status: u8, text: &[u8]) -> bool 
 }
 
 #[test]
-fn words_that_cannot_be_had_are_told(rt: HostRuntime) {
+fn words_that_cannot_be_had_are_given(rt: HostRuntime) {
     let unspelled = b"error: a word of the command line isn't UTF-8\n";
     let rows: [(ErrorKind, u8, &[u8]); 2] = [
         (ErrorKind::OutOfMemory, 1, b"rtcm2rinex: Memory\n"),

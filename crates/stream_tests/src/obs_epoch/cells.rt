@@ -1,7 +1,7 @@
 //! The cells of an epoch that are kept, and their order.
 use super::messages::Heard;
 use super::{
-    Closed, Ends, FIRST, HasNoDoppler, Holds, KEPT, Keeps, Locks, Of, Step, Takes, goes_as_told,
+    Closed, Ends, FIRST, HasNoDoppler, Holds, KEPT, Keeps, Locks, Of, Step, Takes, goes_as_given,
     goes_by_bit,
 };
 use obs_epoch::Gather;
@@ -89,7 +89,7 @@ fn cells_stand_by_satellite_and_plan(rt: HostRuntime) {
         Of(4, 3, *b"2W"),
         Of(5, 3, *b"1C"),
     ];
-    goes_as_told(
+    goes_as_given(
         &rt,
         rt.alloc(),
         ("5X,2W,1C", "none"),

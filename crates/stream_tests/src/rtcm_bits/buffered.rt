@@ -58,7 +58,7 @@ fn write_lines(buffer: &mut Buffered<Stumbles>) -> io::Result<()> {
 }
 
 /// Whether the lines are written and flushed, and the numbers of calls and of bytes of the device.
-fn behind_lines(alloc: Global) -> Result<(bool, usize, usize), AllocError> {
+fn after_lines(alloc: Global) -> Result<(bool, usize, usize), AllocError> {
     let mut buffer = Buffered::new(alloc, Stumbles::new(0))?;
     let are_written = write_lines(&mut buffer).is_ok();
     let device = buffer.into_inner();
@@ -69,7 +69,7 @@ fn behind_lines(alloc: Global) -> Result<(bool, usize, usize), AllocError> {
 #[test]
 fn bytes_go_out_many_at_a_time(rt: HostRuntime) {
     // One write of 65,536 bytes, one of the rest, and a flush.
-    assert_eq!(rt; behind_lines(rt.alloc()), Ok((true, 3, 100_000)));
+    assert_eq!(rt; after_lines(rt.alloc()), Ok((true, 3, 100_000)));
 }
 
 static BLOCK: [u8; 65_536] = [b'x'; 65_536];
@@ -99,7 +99,7 @@ fn are_good(buffer: &mut Buffered<&mut Stumbles>) -> [bool; 5] {
 type Outcome = ([bool; 5], usize, usize);
 
 /// The outcome of a buffer whose device fails in this call.
-fn behind_failure(alloc: Global, fails_at: usize) -> Result<Outcome, AllocError> {
+fn after_failure(alloc: Global, fails_at: usize) -> Result<Outcome, AllocError> {
     let mut device = Stumbles::new(fails_at);
     let good = {
         let mut buffer = Buffered::new(alloc, &mut device)?;
@@ -108,11 +108,11 @@ fn behind_failure(alloc: Global, fails_at: usize) -> Result<Outcome, AllocError>
     Ok((good, device.calls, device.taken))
 }
 
-fn behind_each_failure(alloc: Global) -> Result<[Outcome; 3], AllocError> {
+fn after_each_failure(alloc: Global) -> Result<[Outcome; 3], AllocError> {
     Ok([
-        behind_failure(alloc, 1)?,
-        behind_failure(alloc, 2)?,
-        behind_failure(alloc, 3)?,
+        after_failure(alloc, 1)?,
+        after_failure(alloc, 2)?,
+        after_failure(alloc, 3)?,
     ])
 }
 
@@ -125,5 +125,5 @@ static OUTCOMES: [Outcome; 3] = [
 // After a failure nothing more is written: not by a write, not by a flush, and not by the drop.
 #[test]
 fn nothing_is_tried_again(rt: HostRuntime) {
-    assert_eq!(rt; behind_each_failure(rt.alloc()), Ok(OUTCOMES));
+    assert_eq!(rt; after_each_failure(rt.alloc()), Ok(OUTCOMES));
 }

@@ -1,5 +1,5 @@
 //! Streams truncated and damaged at each byte, framed slowly, as the definitions state it.
-use super::{Counts, FOUR_FRAMES, Stream, is_listed, told_by};
+use super::{Counts, FOUR_FRAMES, Stream, given_by, is_listed};
 use rtcm_bits::crc24q;
 use std::alloc::Global;
 
@@ -108,15 +108,15 @@ fn agrees(alloc: Global, bytes: &[u8]) -> bool {
         size: bytes.len(),
         frames: &slow.frames[..slow.count.min(MOST_FRAMES)],
         before: (0, 0, (0, 0, 0)),
-        behind: slow.counts(bytes.len()),
+        after: slow.counts(bytes.len()),
     };
     is_listed(&stream) && is_counted(alloc, &stream, 1) && is_counted(alloc, &stream, 2)
 }
 
 /// Whether a framer with blocks of `size` bytes has these frames and counts.
 fn is_counted(alloc: Global, stream: &Stream, size: usize) -> bool {
-    match told_by(alloc, stream, 0, size.max(1)) {
-        Some((_, behind)) => behind == stream.behind,
+    match given_by(alloc, stream, 0, size.max(1)) {
+        Some((_, after)) => after == stream.after,
         None => false,
     }
 }

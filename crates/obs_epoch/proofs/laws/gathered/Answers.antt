@@ -1,4 +1,4 @@
-use Rattle.obs_epoch.proofs.ReachLemmas.{message_heard, epochs_gathered, none_told}
+use Rattle.obs_epoch.proofs.ReachLemmas.{message_heard, epochs_gathered, zero_in_range}
 use Rattle.obs_epoch.proofs.laws.gathered.Goals as goal
 
 pub returns-clause-heard : goal.returns-clause-heard
@@ -13,4 +13,4 @@ pub returns-clause-epochs : goal.returns-clause-epochs
 returns-clause-epochs c = epochs_gathered
 
 pub returns-clause-zero : goal.returns-clause-zero
-returns-clause-zero c = none_told
+returns-clause-zero c = zero_in_range

@@ -9,7 +9,7 @@ use Rattle.obs_epoch.specs.Values.{satellites_written}
 use Rattle.rinex_file.specs.Lines.{epoch_line}
 use Rattle.rinex_file.specs.File.{lines_up_to, epoch_text}
 use Rattle.rinex_file.proofs.Appended.{failed}
-use Rattle.rinex_file.proofs.Sent.{epoch_parts, part_first, part_behind, where_failed}
+use Rattle.rinex_file.proofs.Sent.{epoch_parts, part_first, part_after, where_failed}
 use Rattle.rinex_file.proofs.write.write_epoch.Goals as goal
 
 pub returns-in_err-write_whole-clause-part : goal.returns-in_err-write_whole-clause-part
@@ -40,7 +40,7 @@ returns-in_err-write_system-clause-part g c =
     let b = contents c.write_whole.new.self.inner in
     let d = contents c.write_system.new.writer.inner in
     let out = subst (λ l. Appends a b l) line c.in_ok-write_whole.ensures.whole in
-    where_failed c.from_residual-in_err-write_system.result _ (part_behind a b d (epoch_text p e) own gps galileo (epoch_parts p e) out c.in_err-write_system.ensures.part)
+    where_failed c.from_residual-in_err-write_system.result _ (part_after a b d (epoch_text p e) own gps galileo (epoch_parts p e) out c.in_err-write_system.ensures.part)
 
 pub returns-clause-whole : goal.returns-clause-whole
 returns-clause-whole g c =
@@ -79,7 +79,7 @@ returns-in_err-write_system-2-clause-part g c =
     let text : epoch_text p e ≡ (own ++ gps) ++ (galileo ++ []) =
     epoch_parts p e ∙ sym (append_assoc own gps galileo) ∙ ap (λ l. (own ++ gps) ++ l) (sym (append-nil galileo)) in
     where_failed c.from_residual-in_err-write_system-2.result _
-    (part_behind a d f (epoch_text p e) (own ++ gps) galileo [] text both c.in_err-write_system-2.ensures.part)
+    (part_after a d f (epoch_text p e) (own ++ gps) galileo [] text both c.in_err-write_system-2.ensures.part)
 
 pub returns-in_err-write_whole-clause-whole : goal.returns-in_err-write_whole-clause-whole
 returns-in_err-write_whole-clause-whole g c = failed _ c.from_residual.result _ c.from_residual.ensures.1

@@ -6,7 +6,7 @@ use Rattle.rtcm_bits.specs.Device.{AppendsPrefix, HasFailed}
 use Rattle.rinex_file.specs.Numbers.{joined}
 use Rattle.rinex_file.specs.File.{header_text}
 use Rattle.rinex_file.proofs.Appended.{failed}
-use Rattle.rinex_file.proofs.Sent.{part_behind, where_failed}
+use Rattle.rinex_file.proofs.Sent.{part_after, where_failed}
 use Rattle.rinex_file.proofs.write.write_header.Goals as goal
 
 pub loop-line-init : goal.loop-line-init
@@ -42,14 +42,14 @@ returns-in_err-write_whole-clause-part g c =
     let b = contents c.loop-line.writer.inner in
     let d = contents c.write_whole.new.self.inner in
     where_failed c.from_residual.result _
-    (part_behind a b d (header_text h.texts.now h.plan.now h.values h.first) done line (joined c.next.new.self)
+    (part_after a b d (header_text h.texts.now h.plan.now h.values h.first) done line (joined c.next.new.self)
     (text ∙ ap (λ l. done ++ joined l) c.in-Some.ensures.steps) out (subst (λ l. AppendsPrefix b d l) c.as_slice.ensures.value c.in_err-write_whole.ensures.part))
 
 pub returns-in_err-write_whole-clause-device : goal.returns-in_err-write_whole-clause-device
 returns-in_err-write_whole-clause-device g c =
     let (can, ends, out, fine, widest) = c.loop-line.invariant in
-    let told = err_from_is_err_and c.from_residual.result c.from_residual.ensures.1 in
-    rw told.1 (subst (λ n. HasFailed n c.write_whole.new.self.failures) fine c.in_err-write_whole.ensures.device.0, tt, c.in_err-write_whole.ensures.device.2 ∙ widest)
+    let given = err_from_is_err_and c.from_residual.result c.from_residual.ensures.1 in
+    rw given.1 (subst (λ n. HasFailed n c.write_whole.new.self.failures) fine c.in_err-write_whole.ensures.device.0, tt, c.in_err-write_whole.ensures.device.2 ∙ widest)
 
 pub returns-clause-whole : goal.returns-clause-whole
 returns-clause-whole g c =

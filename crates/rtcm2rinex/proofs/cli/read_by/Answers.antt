@@ -2,33 +2,33 @@ use Rattle.std.proofs.Common.{◌≡◌, ap, rules, pos, codes}
 use Rattle.clap.specs.Walk.{rule_of}
 use Rattle.clap.specs.declared.builder.value_parser.ValueParser.TheVariants as value
 use Rattle.rtcm2rinex.specs.CommandLine as line
-use Rattle.rtcm2rinex.proofs.CommandLineLemmas.{read_as_told}
+use Rattle.rtcm2rinex.proofs.CommandLineLemmas.{read_as_given}
 use Rattle.rtcm2rinex.proofs.cli.read_by.Goals as goal
 
-pub returns-in-Told : goal.returns-in-Told
+pub returns-in-Given : goal.returns-in-Given
 unfolding line.read_so
-returns-in-Told c = read_as_told _ _ _ _ c.in-Told.is (ap rule_of c.required.ensures)
+returns-in-Given c = read_as_given _ _ _ _ c.in-Given.is (ap rule_of c.required.ensures)
 
 pub returns-in-Or : goal.returns-in-Or
 unfolding line.read_so
-returns-in-Or c = read_as_told _ _ _ _ c.in-Or.is (ap rule_of c.default_value.ensures)
+returns-in-Or c = read_as_given _ _ _ _ c.in-Or.is (ap rule_of c.default_value.ensures)
 
 pub returns-in-Among : goal.returns-in-Among
 unfolding line.read_so
-returns-in-Among c = read_as_told _ _ _ _ c.in-Among.is
+returns-in-Among c = read_as_given _ _ _ _ c.in-Among.is
     (let is : rule_of c.value_parser.result ≡ line.read_by (value.Names c.in-Among.words) (line.or_else c.in-Among.without.now (rule_of c.args.option)) = search rules in is)
 
 pub returns-in-Week : goal.returns-in-Week
 unfolding line.read_so
-returns-in-Week c = read_as_told _ _ _ _ c.in-Week.is
+returns-in-Week c = read_as_given _ _ _ _ c.in-Week.is
     (let is : rule_of c.value_parser-in-Week-2.result ≡ line.read_by (value.Signed (pos 0) (pos 99999)) (line.required (rule_of c.args.option)) = search rules in is)
 
 pub returns-in-Station : goal.returns-in-Station
 unfolding line.read_so
-returns-in-Station c = read_as_told _ _ _ _ c.in-Station.is
+returns-in-Station c = read_as_given _ _ _ _ c.in-Station.is
     (let is : rule_of c.value_parser-in-Station-2.result ≡ line.read_by (value.Signed (pos 0) (pos 4095)) (rule_of c.args.option) = search rules in is)
 
 pub returns-in-Bytes : goal.returns-in-Bytes
 unfolding line.read_so
-returns-in-Bytes c = read_as_told _ _ _ _ c.in-Bytes.is
+returns-in-Bytes c = read_as_given _ _ _ _ c.in-Bytes.is
     (let is : rule_of c.value_parser-in-Bytes-2.result ≡ line.read_by (value.Unsigned 0 281474976710656) (line.or_else (codes "281474976710656") (rule_of c.args.option)) = search rules in is)

@@ -2,7 +2,7 @@ use Rattle.std.proofs.Common.{◌≡◌, ◌∙◌, sym, inr, Result, Ok, Err}
 use Rattle.rtcm_convert.specs.SetupValues.{start_at}
 use Rattle.rtcm_convert.specs.declared.fault.Fault.TheVariants.{BadSetup}
 use Rattle.rtcm_convert.specs.declared.report.Report.{Report}
-use Rattle.rtcm2rinex.specs.SetupTold.{options_of}
+use Rattle.rtcm2rinex.specs.SetupOptions.{options_of}
 use Rattle.rtcm2rinex.specs.declared.fault.ToolFault.{ToolFault}
 use Rattle.rtcm2rinex.specs.declared.fault.ToolFault.TheVariants as faults
 use Rattle.rtcm2rinex.proofs.ConvertLemmas.{file_made, values_refused}

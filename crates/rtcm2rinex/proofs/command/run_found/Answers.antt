@@ -1,4 +1,4 @@
-use Rattle.rtcm2rinex.specs.SetupTold.{options_of}
+use Rattle.rtcm2rinex.specs.SetupOptions.{options_of}
 use Rattle.rtcm2rinex.proofs.CommandLemmas.{found_rows}
 use Rattle.rtcm2rinex.proofs.command.run_found.Goals as goal
 

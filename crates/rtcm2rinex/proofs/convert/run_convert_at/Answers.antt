@@ -3,7 +3,7 @@ use Rattle.rtcm_convert.specs.SetupValues.{IsBadAt, start_at}
 use Rattle.rtcm2rinex.specs.Converting.{StopsConversion}
 use Rattle.rtcm2rinex.specs.Devices.{HaveFailedBy}
 use Rattle.rtcm2rinex.specs.declared.fault.ToolFault.{ToolFault}
-use Rattle.rtcm2rinex.proofs.ConvertLemmas.{conversion_stopped, told_bad}
+use Rattle.rtcm2rinex.proofs.ConvertLemmas.{conversion_stopped, given_bad}
 use Rattle.rtcm2rinex.proofs.convert.run_convert_at.Goals as goal
 
 pub returns-in-Ok-clause-ends : goal.returns-in-Ok-clause-ends
@@ -22,4 +22,4 @@ returns-in-Err-clause-ends g c =
     end.devices.0 end.devices.1 end.sent end.no_epoch end.long end.read end.write end.bad_setup end.untouched end.only)
 
 pub returns-in-Err-clause-bad_setup : goal.returns-in-Err-clause-bad_setup
-returns-in-Err-clause-bad_setup g c = told_bad c.in-Err.refusal c.from.result (IsBadAt (start_at c.args.setup c.args.initial)) c.from.ensures c.in-Err.ensures.bad_setup
+returns-in-Err-clause-bad_setup g c = given_bad c.in-Err.refusal c.from.result (IsBadAt (start_at c.args.setup c.args.initial)) c.from.ensures c.in-Err.ensures.bad_setup

@@ -1,7 +1,7 @@
 use Rattle.std.proofs.Common.{codes, rules}
 use Rattle.std.specs.Str.Parse.{HasUnsignedDigitsIfOk, ExplainsUnsignedError}
 use Rattle.clap.specs.Matches.{found_of}
-use Rattle.rtcm2rinex.proofs.ToldLemmas.{number_told}
+use Rattle.rtcm2rinex.proofs.OptionLemmas.{number_given}
 use Rattle.rtcm2rinex.proofs.options.setup_of.Goals as goal
 
 pub returns : goal.returns
@@ -12,14 +12,14 @@ returns c =
       plan = search rules;
       week = (
         c.get_one.result,
-        number_told (ExplainsUnsignedError 10) HasUnsignedDigitsIfOk 32 f (codes "week") _ c.get_one.ensures.none c.get_one.ensures.value,
+        number_given (ExplainsUnsignedError 10) HasUnsignedDigitsIfOk 32 f (codes "week") _ c.get_one.ensures.none c.get_one.ensures.value,
         search rules,
       );
       station = c.station_of.ensures;
       gather = search rules;
       limit = (
         c.get_one-2.result,
-        number_told (ExplainsUnsignedError 10) HasUnsignedDigitsIfOk 64 f (codes "limit") _ c.get_one-2.ensures.none c.get_one-2.ensures.value,
+        number_given (ExplainsUnsignedError 10) HasUnsignedDigitsIfOk 64 f (codes "limit") _ c.get_one-2.ensures.none c.get_one-2.ensures.value,
         search rules,
       );
     }

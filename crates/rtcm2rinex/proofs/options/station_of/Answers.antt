@@ -1,8 +1,8 @@
 use Rattle.std.specs.Str.Parse.{HasUnsignedDigitsIfOk, ExplainsUnsignedError}
 use Rattle.std.proofs.Common.{codes}
 use Rattle.clap.specs.Matches.{found_of}
-use Rattle.rtcm2rinex.proofs.ToldLemmas.{number_told}
+use Rattle.rtcm2rinex.proofs.OptionLemmas.{number_given}
 use Rattle.rtcm2rinex.proofs.options.station_of.Goals as goal
 
 pub returns : goal.returns
-returns c = number_told (ExplainsUnsignedError 10) HasUnsignedDigitsIfOk 16 (found_of c.args.options.now) (codes "station") _ c.get_one.ensures.none c.get_one.ensures.value
+returns c = number_given (ExplainsUnsignedError 10) HasUnsignedDigitsIfOk 16 (found_of c.args.options.now) (codes "station") _ c.get_one.ensures.none c.get_one.ensures.value

@@ -1,5 +1,5 @@
 use Rattle.clap.specs.Matches.{found_of}
-use Rattle.rtcm2rinex.proofs.ToldLemmas.{text_is}
+use Rattle.rtcm2rinex.proofs.OptionLemmas.{text_is}
 use Rattle.rtcm2rinex.proofs.options.text.Goals as goal
 
 pub returns-in-Some : goal.returns-in-Some

@@ -24,8 +24,8 @@ loop-index-preserved c =
       text = λ cells h. elim c.if-count-gt0.branch [
         | then-count-gt0 w ↦ (let more = partly_more start c.loop-index.line w.add_part.new.self w.as_slice.result.now c.loop-index.separator system (had_below cells system i) i (c.loop-index.invariant.text cells h)
             w.add_part.ensures.text (w.as_slice.ensures ∙ w.code_at.ensures.value) in
-            rw (w.line-is, w.separator-is, had_one c.args.census.now cells system i c.count.result h there c.count.ensures w.if-count-gt0.true) more)
-        | else-count-gt0 w ↦ rw (w.line-is, w.separator-is, had_none c.args.census.now cells system i c.count.result h there c.count.ensures w.if-count-gt0.false) (c.loop-index.invariant.text cells h)
+            rw (w.line-is, w.separator-is, had_one c.args.signal_counts.now cells system i c.count.result h there c.count.ensures w.if-count-gt0.true) more)
+        | else-count-gt0 w ↦ rw (w.line-is, w.separator-is, had_none c.args.signal_counts.now cells system i c.count.result h there c.count.ensures w.if-count-gt0.false) (c.loop-index.invariant.text cells h)
       ];
       short = elim c.if-count-gt0.branch [
         | then-count-gt0 w ↦ rw w.line-is (longer (length w.add_part.new.self) (length c.loop-index.line) (length w.as_slice.result.now) (length start) i w.add_part.ensures.short

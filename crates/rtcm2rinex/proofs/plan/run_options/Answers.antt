@@ -15,15 +15,15 @@ pub returns-then-not-has_any : goal.returns-then-not-has_any
 returns-then-not-has_any g c =
     let s = c.in-Ok.ensures.whole in
     let cells = valued_in c.args.station (frames_of s.0) in
-    ((c.in-Ok.ensures.reader, refl), ((s.0, s.1, s.2, no_cells c.in-Ok.survey.census cells s.3.counted.census (valued_keys c.args.station (frames_of s.0)) (sym c.has_any.ensures ∙ c.if-not-has_any.true)), refl))
+    ((c.in-Ok.ensures.reader, refl), ((s.0, s.1, s.2, no_cells c.in-Ok.survey.signal_counts cells s.3.counted.signal_counts (valued_keys c.args.station (frames_of s.0)) (sym c.has_any.ensures ∙ c.if-not-has_any.true)), refl))
 
 pub returns : goal.returns
 returns g c =
     let s = c.in-Ok.ensures.whole in
     let cells = valued_in c.args.station (frames_of s.0) in
     survey_printed g.R.Read.remaining g.W.Write.contents options_text c.args.station c.args.reader.now c.survey_stream.new.reader c.args.writer.now c.print_text.new.writer c.print_text.result
-    s.0 s.1 s.2 (some_cells c.in-Ok.survey.census cells s.3.counted.census (sym c.has_any.ensures ∙ c.if-not-has_any.false)) c.in-Ok.ensures.reader
-    (same_text c.print_text.result g.W.Write.contents c.args.writer.now c.print_text.new.writer _ _ (c.as_bytes.ensures.text ∙ c.options_line.ensures cells s.3.counted.census ∙ ap (options_line (plan_had cells)) s.3.first) c.print_text.ensures)
+    s.0 s.1 s.2 (some_cells c.in-Ok.survey.signal_counts cells s.3.counted.signal_counts (sym c.has_any.ensures ∙ c.if-not-has_any.false)) c.in-Ok.ensures.reader
+    (same_text c.print_text.result g.W.Write.contents c.args.writer.now c.print_text.new.writer _ _ (c.as_bytes.ensures.text ∙ c.options_line.ensures cells s.3.counted.signal_counts ∙ ap (options_line (plan_had cells)) s.3.first) c.print_text.ensures)
 
 pub returns-in-Err : goal.returns-in-Err
 returns-in-Err g c = survey_stopped g.R.Read.remaining g.W.Write.contents options_text c.args.station c.args.reader.now c.survey_stream.new.reader c.args.writer.now c.in-Err.fault c.in-Err.ensures.reader c.in-Err.ensures.fault

@@ -21,10 +21,10 @@ loop-index-preserved c =
     let there : i < length (table system) = within i c.signals-index-end.result (length (table system)) c.loop-index-test.true c.signals-index-end.ensures.value in
     record {
       text = λ cells h. elim c.if-count-gt0.branch [
-        | then-count-gt0 w ↦ rw w.text-is (lines_one c.args.census.now cells system i c.count-count.result start c.loop-index.text.items w.try_extend_from_slice.new.self.items w.as_bytes.result.now h there
+        | then-count-gt0 w ↦ rw w.text-is (lines_one c.args.signal_counts.now cells system i c.count-count.result start c.loop-index.text.items w.try_extend_from_slice.new.self.items w.as_bytes.result.now h there
             c.count-count.ensures w.if-count-gt0.true (c.loop-index.invariant.text cells h) (of_ok w.try_extend_from_slice.result w.unwrap.result _ w.unwrap.ensures w.try_extend_from_slice.ensures.ok)
             (w.as_bytes.ensures.text ∙ w.count_line-line.ensures.text))
-        | else-count-gt0 w ↦ rw w.text-is (lines_none c.args.census.now cells system i c.count-count.result start c.loop-index.text.items h there c.count-count.ensures w.if-count-gt0.false (c.loop-index.invariant.text cells h))
+        | else-count-gt0 w ↦ rw w.text-is (lines_none c.args.signal_counts.now cells system i c.count-count.result start c.loop-index.text.items h there c.count-count.ensures w.if-count-gt0.false (c.loop-index.invariant.text cells h))
       ];
       short = elim c.if-count-gt0.branch [
         | then-count-gt0 w ↦ rw w.text-is (longer (length w.try_extend_from_slice.new.self.items) (length c.loop-index.text.items) (length w.as_bytes.result.now) (length w.count_line-line.result) (length start) i

@@ -1,6 +1,6 @@
 use Rattle.std.proofs.Common.{◌∙◌, [], ◌∷◌, refl, decimal}
 use Rattle.gnss_obs.specs.Signals.{code_of}
-use Rattle.obs_epoch.specs.Census.{signal_in}
+use Rattle.obs_epoch.specs.SignalCounts.{signal_in}
 use Rattle.rtcm2rinex.specs.Signals.{count_line, letter}
 use Rattle.rtcm2rinex.proofs.LineLemmas.{add_word, end_line}
 use Rattle.rtcm2rinex.proofs.signals.count_line.Goals as goal

@@ -11,7 +11,7 @@ use Rattle.rtcm2rinex.proofs.survey.survey_stream.Goals as goal
 pub returns-in-Ok-read-clause-whole : goal.returns-in-Ok-read-clause-whole
 returns-in-Ok-read-clause-whole g c =
     let v = c.in-Ok.framer in
-    let survey : Survey = record { station = c.args.station; census = c.new-2.result; first = None } in
+    let survey : Survey = record { station = c.args.station; signal_counts = c.new-2.result; first = None } in
     let going = ap (λ (f : FramerValue). f.has_ended) c.in-Ok.ensures.new in
     let new = started Counts v survey tt going c.prefix.ensures.empty c.in-Ok.ensures.counts c.in-Ok.ensures.drained c.in-Ok.ensures.counted (new_survey survey) in
     counted_all v c.read_frames-read.new.self survey c.read_frames-read.new.sink _ _ new c.in-Ok-read.ensures.ended (none_surveyed survey c.args.station c.new-2.ensures refl) c.prefix.ensures.few c.in-Ok-read.ensures.whole
@@ -19,7 +19,7 @@ returns-in-Ok-read-clause-whole g c =
 pub returns-in-Err-clause-fault : goal.returns-in-Err-clause-fault
 returns-in-Err-clause-fault g c =
     let v = c.in-Ok.framer in
-    let survey : Survey = record { station = c.args.station; census = c.new-2.result; first = None } in
+    let survey : Survey = record { station = c.args.station; signal_counts = c.new-2.result; first = None } in
     let going = ap (λ (f : FramerValue). f.has_ended) c.in-Ok.ensures.new in
     let new = started Counts v survey tt going c.prefix.ensures.empty c.in-Ok.ensures.counts c.in-Ok.ensures.drained c.in-Ok.ensures.counted (new_survey survey) in
     subst (StopsCounting c.args.limit g.R.Read.remaining c.args.reader.now c.read_frames-read.new.reader) (sym c.from.ensures)

@@ -1,6 +1,6 @@
 use Rattle.rtcm_bits.specs.Bits.{bits_of}
 use Rattle.rtcm_msg.proofs.MessageLaws.{message_found}
-use Rattle.rtcm_msg.proofs.ReachLaws.{entries_measured, point_told}
+use Rattle.rtcm_msg.proofs.ReachLaws.{entries_measured, point_in_range}
 use Rattle.rtcm_msg.proofs.laws.measures.Goals as goal
 
 pub returns-clause-cells : goal.returns-clause-cells
@@ -10,4 +10,4 @@ pub returns-clause-value : goal.returns-clause-value
 returns-clause-value c = λ bytes m read. (message_found (bits_of bytes) m read).is_message
 
 pub returns-clause-points : goal.returns-clause-points
-returns-clause-points c = point_told
+returns-clause-points c = point_in_range

@@ -6,7 +6,7 @@ use Rattle.obs_epoch.specs.Gather.{Gathered, take_step}
 use Rattle.obs_epoch.specs.Kinds.{is_close_first}
 use Rattle.obs_epoch.specs.Calls.{TellsClosingFirst}
 use Rattle.obs_epoch.specs.Gathering.{HasGatheredEpochs, handed_over}
-use Rattle.obs_epoch.proofs.TakeLemmas.{no_point, told_alone, handed_is, ended_is}
+use Rattle.obs_epoch.proofs.TakeLemmas.{no_point, given_alone, handed_is, ended_is}
 use Rattle.obs_epoch.proofs.HandingLemmas.{gathers_first, gathers_taken, has_closed}
 use Rattle.obs_epoch.proofs.KindLemmas.{exactly_first, again_taken, fits_now, kind_taken}
 use Rattle.obs_epoch.proofs.gather.Gatherer.take_view.Goals as goal
@@ -29,7 +29,7 @@ returns c =
       taken = λ s ms es again h fit other.
           let early = fits_now now s ms es again m (take_step now m).counts h c.requires (no_point s (timed s ms) message) fit (sym same ∙ other) in
           subst (λ (g : Gathered). HasGatheredEpochs g s (ms ++ m ∷ []) (es ++ handed_over g) None) (sym c.step.ensures.step)
-          (gathers_taken now s ms es again m h c.requires early (told_alone message));
+          (gathers_taken now s ms es again m h c.requires early (given_alone message));
       kind = λ s ms es again h fit other.
           let early = fits_now now s ms es again m (take_step now m).counts h c.requires (no_point s (timed s ms) message) fit (sym same ∙ other) in
           c.step.ensures.kind ∙ kind_taken now s ms es again m h c.requires early;

@@ -1,6 +1,6 @@
 use Rattle.std.proofs.Common.{refl, ◌∙◌, subst, ℕ}
 use Rattle.rtcm_bits.specs.Device.{HasFailed}
-use Rattle.rinex_file.specs.Course.{nothing, with_line}
+use Rattle.rinex_file.specs.ParserState.{nothing, with_line}
 use Rattle.rinex_file.proofs.Ahead.{leaves_all, leaves_more}
 use Rattle.rinex_file.proofs.FileLines.{lines_are_lines, lines_are_short}
 use Rattle.rinex_file.proofs.LineByLine.{still_read, only_faults}
@@ -21,7 +21,7 @@ loop-counts-preserved g c =
     let (h, read) = inv.read in
     let goes = one_more c.next.new.self h _ _ c.in-Ok-Some.field-0 c.in-Ok-Some.field-0-0 c.in-Ok-Some.field-0-is (c.in-Ok-Some.ensures.goes h _ read) in
     record {
-      read = (with_line c.in-Ok-Some.field-0-0 c.next.new.self.course h, goes);
+      read = (with_line c.in-Ok-Some.field-0-0 c.next.new.self.parser_state h, goes);
       within = c.in-Ok-Some.ensures.within;
       left = leaves_more _ _ _ inv.left c.in-Ok-Some.ensures.left;
       same = c.in-Ok-Some.ensures.same (λ e. cc) ∙ inv.same;
@@ -30,12 +30,12 @@ loop-counts-preserved g c =
 pub returns-in-Ok-None-clause-found : goal.returns-in-Ok-None-clause-found
 returns-in-Ok-None-clause-found g c =
     let (h, read) = c.loop-counts.invariant.read in
-    counts_found c.next.new.self.course h _ (the_end c.next.new.self h _ _ c.in-Ok-None.field-0 c.in-Ok-None.field-0-is (c.in-Ok-None.ensures.goes h _ read))
+    counts_found c.next.new.self.parser_state h _ (the_end c.next.new.self h _ _ c.in-Ok-None.field-0 c.in-Ok-None.field-0-is (c.in-Ok-None.ensures.goes h _ read))
 
 pub returns-in-Ok-None-clause-only : goal.returns-in-Ok-None-clause-only
 returns-in-Ok-None-clause-only g c = λ v is few.
     let (h, read) = c.loop-counts.invariant.read in
-    counts_only c.next.new.self.course h _ v (the_end c.next.new.self h _ _ c.in-Ok-None.field-0 c.in-Ok-None.field-0-is (c.in-Ok-None.ensures.goes h _ read)) is
+    counts_only c.next.new.self.parser_state h _ v (the_end c.next.new.self h _ _ c.in-Ok-None.field-0 c.in-Ok-None.field-0-is (c.in-Ok-None.ensures.goes h _ read)) is
 
 pub returns-in-Ok-None-clause-left : goal.returns-in-Ok-None-clause-left
 returns-in-Ok-None-clause-left g c = leaves_more _ _ _ c.loop-counts.invariant.left c.in-Ok-None.ensures.left

@@ -1,6 +1,6 @@
 use Rattle.std.proofs.Common.{◌≡◌, ◌-◌, ◌+◌}
 use Rattle.rinex_file.specs.Blocks.{LeavesRest}
-use Rattle.rinex_file.specs.Course.{History}
+use Rattle.rinex_file.specs.ParserState.{History}
 use Rattle.rinex_file.specs.Exact.{most_lines}
 use Rattle.rinex_file.specs.Read.Steps.{HasRead, MayBeCounted}
 use Rattle.rinex_file.proofs.read.file.check_file.Given as goal

@@ -10,7 +10,7 @@ abbrev pub invariant-loop-added : goal.invariant-loop-added
 invariant-loop-added g l =
     let remaining = g.R.Read.remaining in
     record {
-      read : HasRead l.reading (history_of l.keeper) (remaining l.fn.reader.inner) (remaining l.reader.inner);
+      read : HasRead l.reading (history_of l.file_builder) (remaining l.fn.reader.inner) (remaining l.reader.inner);
       within : MayBeCounted l.reading;
       left : LeavesRest (remaining l.fn.reader.inner) (remaining l.reader.inner);
       same : l.reader.failures ≡ l.fn.reader.failures;

@@ -39,15 +39,15 @@ none_some : (s : System) → None ≡ Some s → ⊥
 none_some s e = cc
 
 -- the letter at a line's front
-told : (c : After-system_of) (v : SatelliteRow) → c.args.line.now ≡ satellite_line v → c.system_of.result ≡ Some v.system
-told c v e = c.system_of.ensures v.system (rw e (first_byte v).0) (ap (λ l. get_or l 0 0) e ∙ (first_byte v).1)
+given : (c : After-system_of) (v : SatelliteRow) → c.args.line.now ≡ satellite_line v → c.system_of.result ≡ Some v.system
+given c v e = c.system_of.ensures v.system (rw e (first_byte v).0) (ap (λ l. get_or l 0 0) e ∙ (first_byte v).1)
 
 pub returns-in-None : goal.returns-in-None
-returns-in-None c = λ v is e. none_some v.system (sym c.in-None.is ∙ told ((goal.at.returns-in-None c).After-system_of) v e)
+returns-in-None c = λ v is e. none_some v.system (sym c.in-None.is ∙ given ((goal.at.returns-in-None c).After-system_of) v e)
 
 pub returns-then-signals-eq0 : goal.returns-then-signals-eq0
 returns-then-signals-eq0 c = λ v is e.
-    let system = same_some c.system_of.result c.in-Some.system v.system c.in-Some.is (told ((goal.at.returns-then-signals-eq0 c).After-system_of) v e) in
+    let system = same_some c.system_of.result c.in-Some.system v.system c.in-Some.is (given ((goal.at.returns-then-signals-eq0 c).After-system_of) v e) in
     let count : c.of_system-signals.result ≡ of_system v.system c.args.gps c.args.galileo =
     c.of_system-signals.ensures ∙ ap (λ s. of_system s c.args.gps c.args.galileo) (sym system) in
     let planned = is.planned in
@@ -57,4 +57,4 @@ pub returns : goal.returns
 returns c =
     let some : 0 < c.of_system-signals.result = omega (arith, c.if-signals-eq0.false) in
     of_both c.args.gps c.args.galileo c.of_system-signals.result c.in-Some.system c.args.line.now _ c.of_system-signals.ensures some
-    (λ v e. same_some c.system_of.result c.in-Some.system v.system c.in-Some.is (told ((goal.at.returns c).After-system_of) v e)) c.read_of.ensures
+    (λ v e. same_some c.system_of.result c.in-Some.system v.system c.in-Some.is (given ((goal.at.returns c).After-system_of) v e)) c.read_of.ensures

@@ -23,8 +23,8 @@ returns-clause-some c =
     let columns : field ≡ take (width_of (field_at c.args.place)) (drop (column_of (field_at c.args.place)) c.args.line.now) =
     c.columns-field.ensures.value ∙ ap (λ w. take w (drop c.column.result c.args.line.now)) wide
     ∙ ap (λ f. take (width_of (field_at c.args.place)) (drop f c.args.line.now)) (c.column.ensures ∙ ap column_of at) in
-    let same : c.put.new.line.items ≡ take c.cut_length.result field = c.put.ensures.text ∙ ap (λ l. l ++ take c.cut_length.result field) c.new-text.ensures in
-    let is : c.put.new.line.items ≡ trimmed field = same ∙ c.cut_length.ensures.text in (
+    let same : c.put.new.line.items ≡ take c.trimmed_len.result field = c.put.ensures.text ∙ ap (λ l. l ++ take c.trimmed_len.result field) c.new-text.ensures in
+    let is : c.put.new.line.items ≡ trimmed field = same ∙ c.trimmed_len.ensures.text in (
       is_text (width_of (field_at c.args.place)) field c.put.new.line.items (subst (λ w. length field ≤ w) wide c.columns-field.ensures.bound) is
           (ap (list_all is_printable) same ∙ sym c.is_printable.ensures ∙ c.if-not-is_printable.false),
       is ∙ ap trimmed columns,

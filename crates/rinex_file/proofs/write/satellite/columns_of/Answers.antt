@@ -53,8 +53,8 @@ returns-then-value-lt0 c =
     let size : n ≡ unsigned_abs c.args.value = c.unsigned_abs-size.ensures.value ∙ ap unsigned_abs same in
     let sign : is_negative c.args.value ≡ true = sym (ap is_negative same) ∙ c.if-value-lt0.true in
     let w = c.write_digits-start.ensures in
-    let is = put_in c.behind_whole-columns.result c.write_digits-start.new.buf (decimal (n / 1000)) (46 ∷ padded 3 (n % 1000) ++ c.args.lost ∷ c.args.strength ∷ []) c.write_digits-start.result
-    c.behind_whole-columns.ensures w.start w.written w.before in
+    let is = put_in c.after_whole-columns.result c.write_digits-start.new.buf (decimal (n / 1000)) (46 ∷ padded 3 (n % 1000) ++ c.args.lost ∷ c.args.strength ∷ []) c.write_digits-start.result
+    c.after_whole-columns.ensures w.start w.written w.before in
     let few = nine_digits n (subst (λ k. k < 10 ^ 12) (sym size) (within_signed c.args.value c.requires sign)) in
     let some : 1 ≤ c.write_digits-start.result = omega (arith, few, w.start) in
     signed c.args.value n c.args.lost c.args.strength c.write_digits-start.result c.write_digits-start.new.buf size sign some w.start is
@@ -66,6 +66,6 @@ returns-else-value-lt0 c =
     let size : n ≡ unsigned_abs c.args.value = c.unsigned_abs-size.ensures.value ∙ ap unsigned_abs same in
     let sign : is_negative c.args.value ≡ false = sym (ap is_negative same) ∙ c.if-value-lt0.false in
     let w = c.write_digits-start.ensures in
-    let is = put_in c.behind_whole-columns.result c.write_digits-start.new.buf (decimal (n / 1000)) (46 ∷ padded 3 (n % 1000) ++ c.args.lost ∷ c.args.strength ∷ []) c.write_digits-start.result
-    c.behind_whole-columns.ensures w.start w.written w.before in
+    let is = put_in c.after_whole-columns.result c.write_digits-start.new.buf (decimal (n / 1000)) (46 ∷ padded 3 (n % 1000) ++ c.args.lost ∷ c.args.strength ∷ []) c.write_digits-start.result
+    c.after_whole-columns.ensures w.start w.written w.before in
     plain c.args.value n c.args.lost c.args.strength c.write_digits-start.result c.write_digits-start.new.buf size sign w.start is

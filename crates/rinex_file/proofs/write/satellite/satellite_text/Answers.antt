@@ -18,6 +18,6 @@ returns c =
     let whole : c.add_signals.new.line.items ≡ front ++ flat_map signal_text (take n values) = c.add_signals.ensures.text ∙ ap (λ t. t ++ flat_map signal_text (take n values)) name in
     let same = c.as_slice.ensures.value in
     c.push-4.ensures.items
-    ∙ ap (λ t. t ++ 10 ∷ []) (c.truncate.ensures.items ∙ ap (take c.cut_length-end.result) (sym same) ∙ c.cut_length-end.ensures.text ∙ ap trimmed (same ∙ whole)
+    ∙ ap (λ t. t ++ 10 ∷ []) (c.truncate.ensures.items ∙ ap (take c.trimmed_len-end.result) (sym same) ∙ c.trimmed_len-end.ensures.text ∙ ap trimmed (same ∙ whole)
     ∙ shown_line front values n (64 * (length values - n)) c.shown_signals.ensures.blank
     ∙ ap (λ t. trimmed ((letter_of c.args.system ∷ t) ++ flat_map signal_text values)) (sym (padded-two id c.requires.id)))

@@ -1,6 +1,6 @@
 use Rattle.std.proofs.Common.{ℕ, List, Option}
 use Rattle.std.specs.Prelude.{Result, Ok, Err, IfOk}
-use Rattle.rinex_file.specs.declared.read.due.Refusal.{Refusal}
+use Rattle.rinex_file.specs.declared.read.expected.Refusal.{Refusal}
 use Rattle.rinex_file.specs.Read.Progress.{Known, StaysOpen}
 use Rattle.rinex_file.specs.Read.HeaderSteps.{SameFrom, StepsTo}
 use Rattle.rinex_file.proofs.HeaderKnown.{steps_from, open_on}

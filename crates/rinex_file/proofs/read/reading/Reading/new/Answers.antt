@@ -1,6 +1,6 @@
 use Rattle.std.proofs.Common.{◌≡◌, refl, subst, ap, sym, List, ℕ, [], ◌++◌, Option, Some, None}
 use Rattle.std.specs.Io.KnownBytes.{prepend_known}
-use Rattle.rinex_file.specs.Course.{nothing, progress_at}
+use Rattle.rinex_file.specs.ParserState.{nothing, progress_at}
 use Rattle.rinex_file.specs.Read.Steps.{IsTaken}
 use Rattle.rinex_file.proofs.LineByLine.{start}
 use Rattle.rinex_file.proofs.read.reading.Reading.new.Goals as goal

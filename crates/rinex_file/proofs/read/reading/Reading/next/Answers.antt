@@ -1,15 +1,15 @@
 use Rattle.std.proofs.Common.{arith, ◌≡◌, ◌∙◌, refl, sym, ap, subst, ℕ, List, ◌+◌, ◌^◌, ◌<◌, ◌≤◌, length, Err}
 use Rattle.std.proofs.Math.Nat.{le_trans}
-use Rattle.rinex_file.specs.declared.read.course.Course.{Course}
-use Rattle.rinex_file.specs.declared.read.due.Refusal.{Refusal}
+use Rattle.rinex_file.specs.declared.read.parser_state.ParserState.{ParserState}
+use Rattle.rinex_file.specs.declared.read.expected.Refusal.{Refusal}
 use Rattle.rinex_file.specs.declared.read.fault.ReadFault.TheVariants.{CutShort}
-use Rattle.rinex_file.specs.Exact.{IsFaulty, IsDueAt}
-use Rattle.rinex_file.proofs.DueLines.{begun, due_at}
-use Rattle.rinex_file.specs.Course.{HasRoom, GoesOnWithLine, ShowsLine, RefusesLine, TakesLine, progress_at, with_line}
+use Rattle.rinex_file.specs.Exact.{IsFaulty, IsExpectedAt}
+use Rattle.rinex_file.proofs.ExpectedLines.{begun, expected_at}
+use Rattle.rinex_file.specs.ParserState.{HasRoom, GoesOnWithLine, ShowsLine, RefusesLine, TakesLine, progress_at, with_line}
 use Rattle.rinex_file.proofs.FileLines.{lines_are_lines}
 use Rattle.rinex_file.proofs.Judged.{refused as judged}
 use Rattle.rinex_file.proofs.HeaderBody.{unfinished, file_shown, only_file, file_read, sound_rows}
-use Rattle.rinex_file.proofs.LineByLine.{one_more, refused, over_long, cut_within, cut_behind, whole, behind_fault, both_said, said_of, long_some, too_long, line_some, said_nothing, not_read, other_fault, other_behind, not_cut}
+use Rattle.rinex_file.proofs.LineByLine.{one_more, refused, over_long, cut_within, cut_after, whole, after_fault, both_said, said_of, long_some, too_long, line_some, said_nothing, not_read, other_fault, other_after, not_cut}
 use Rattle.rinex_file.proofs.read.reading.Reading.next.Goals as goal
 
 few_lines : (lines taken : List (List ℕ)) (n : ℕ) → lines ≡ taken → length taken ≡ n → n ≤ 2 ^ 32 → length lines ≤ 2 ^ 32
@@ -17,50 +17,50 @@ few_lines lines taken n same size few = subst (λ (k : ℕ). k ≤ 2 ^ 32) (sym 
 
 pub returns-then-may_end-clause-goes : goal.returns-then-may_end-clause-goes
 returns-then-may_end-clause-goes g c = λ h input read.
-    let course = c.args.self.now.course in
-    let s = progress_at course h in
+    let parser_state = c.args.self.now.parser_state in
+    let s = progress_at parser_state h in
     let end = c.in-End.ensures in
-    let (due, counted) = c.may_end.ensures.0 c.if-may_end.true in
+    let (expected, counted) = c.may_end.ensures.0 c.if-may_end.true in
     let some : 0 < length h.epochs = subst (λ (n : ℕ). 0 < n) read.stands.epochs counted in
-    let lines = file_shown s read.taken.lines due read.stands.sound some read.taken.stands.are in
+    let lines = file_shown s read.taken.lines expected read.stands.sound some read.taken.stands.are in
     record {
-      is = file_read s due read.stands.sound some;
+      is = file_read s expected read.stands.sound some;
       few = few_lines _ read.taken.lines _ lines read.taken.many c.requires.within.1;
-      text = whole lines_are_lines s c.args.self.now.count input _ _ c.next_line.new.line.items _ read.taken lines end.found.0 end.found.1 end.taken (only_file s due);
+      text = whole lines_are_lines s c.args.self.now.count input _ _ c.next_line.new.line.items _ read.taken lines end.found.0 end.found.1 end.taken (only_file s expected);
       stands = read.stands;
-      none = sound_rows s due read.stands.sound;
+      none = sound_rows s expected read.stands.sound;
     }
 
 pub returns-else-may_end-clause-goes : goal.returns-else-may_end-clause-goes
 returns-else-may_end-clause-goes g c = λ h input read.
-    let course = c.args.self.now.course in
+    let parser_state = c.args.self.now.parser_state in
     let end = c.in-End.ensures in
-    cut_behind lines_are_lines (progress_at course h) c.args.self.now.count input _ _ c.next_line.new.line.items read.taken (begun _ _ _ _ read.taken read.stands.sound) end.found.0 end.found.1 end.taken
-    (unfinished course h read.stands (judged c.may_end.result _ c.may_end.ensures c.if-may_end.false))
+    cut_after lines_are_lines (progress_at parser_state h) c.args.self.now.count input _ _ c.next_line.new.line.items read.taken (begun _ _ _ _ read.taken read.stands.sound) end.found.0 end.found.1 end.taken
+    (unfinished parser_state h read.stands (judged c.may_end.result _ c.may_end.ensures c.if-may_end.false))
 
 pub returns-in-Cut-clause-goes : goal.returns-in-Cut-clause-goes
 returns-in-Cut-clause-goes g c = λ h input read.
-    let s = progress_at c.args.self.now.course h in
+    let s = progress_at c.args.self.now.parser_state h in
     let n = c.args.self.now.count in
     let cut = c.in-Cut.ensures in
     let bytes = c.next_line.new.line.items in
-    behind_fault s n input _ _ bytes (CutShort (n + 1)) c.fault_behind.result read.taken cut.found.0 cut.taken c.fault_behind.ensures
+    after_fault s n input _ _ bytes (CutShort (n + 1)) c.fault_after.result read.taken cut.found.0 cut.taken c.fault_after.ensures
     (cut_within lines_are_lines s n input _ _ bytes read.taken (begun _ _ _ _ read.taken read.stands.sound) cut.found.0 cut.found.2 cut.found.3 cut.taken)
 
 pub returns-in-Long-clause-goes : goal.returns-in-Long-clause-goes
 returns-in-Long-clause-goes g c = λ h input read.
-    let s = progress_at c.args.self.now.course h in
+    let s = progress_at c.args.self.now.parser_state h in
     let n = c.args.self.now.count in
     let long = c.in-Long.ensures in
     let bytes = c.next_line.new.line.items in
-    behind_fault s n input _ _ bytes c.fault_at.result c.fault_behind-in-Long.result read.taken (long_some bytes long.found.0) long.taken c.fault_behind-in-Long.ensures
-    (said_of input (λ text. IsFaulty text (n + 1) × IsDueAt c.due.result text (n + 1)) _ (λ text both. c.fault_at.ensures.faulty text both.0 both.1)
-    (both_said input (λ text. IsFaulty text (n + 1)) (λ text. IsDueAt c.due.result text (n + 1)) (over_long s n input _ _ bytes read.taken long.found.0 long.found.1 long.taken)
-    (due_at c.args.self.now.course h c.due.result n input _ read.taken c.due.ensures read.stands)))
+    after_fault s n input _ _ bytes c.fault_at.result c.fault_after-in-Long.result read.taken (long_some bytes long.found.0) long.taken c.fault_after-in-Long.ensures
+    (said_of input (λ text. IsFaulty text (n + 1) × IsExpectedAt c.expected.result text (n + 1)) _ (λ text both. c.fault_at.ensures.faulty text both.0 both.1)
+    (both_said input (λ text. IsFaulty text (n + 1)) (λ text. IsExpectedAt c.expected.result text (n + 1)) (over_long s n input _ _ bytes read.taken long.found.0 long.found.1 long.taken)
+    (expected_at c.args.self.now.parser_state h c.expected.result n input _ read.taken c.expected.ensures read.stands)))
 
 pub returns-in-Ok-clause-goes : goal.returns-in-Ok-clause-goes
 returns-in-Ok-clause-goes g c = λ h input read.
-    let old = progress_at c.args.self.now.course h in
+    let old = progress_at c.args.self.now.parser_state h in
     let new = progress_at c.take.new.self (with_line c.in-Ok.added c.take.new.self h) in
     let line = c.next_line.new.line.items in
     let next = c.in-Ok.ensures.takes h read.stands in
@@ -72,16 +72,16 @@ returns-in-Ok-clause-goes g c = λ h input read.
 
 pub returns-in-Err-Bad-clause-goes : goal.returns-in-Err-Bad-clause-goes
 returns-in-Err-Bad-clause-goes g c = λ h input read.
-    let s = progress_at c.args.self.now.course h in
+    let s = progress_at c.args.self.now.parser_state h in
     let n = c.args.self.now.count in
     let line = c.next_line.new.line.items in
-    let takes = subst (λ (r : Refusal). TakesLine c.args.self.now.course c.take.new.self c.as_slice.result.now (Err r)) c.in-Err-Bad.field-0-is c.in-Err-Bad.ensures.takes in
-    said_of input (λ text. IsFaulty text (n + 1) × IsDueAt c.due-due.result text (n + 1)) _ (λ text both. c.fault_at-in-Err-Bad.ensures.faulty text both.0 both.1)
-    (both_said input (λ text. IsFaulty text (n + 1)) (λ text. IsDueAt c.due-due.result text (n + 1))
+    let takes = subst (λ (r : Refusal). TakesLine c.args.self.now.parser_state c.take.new.self c.as_slice.result.now (Err r)) c.in-Err-Bad.field-0-is c.in-Err-Bad.ensures.takes in
+    said_of input (λ text. IsFaulty text (n + 1) × IsExpectedAt c.expected-expected.result text (n + 1)) _ (λ text both. c.fault_at-in-Err-Bad.ensures.faulty text both.0 both.1)
+    (both_said input (λ text. IsFaulty text (n + 1)) (λ text. IsExpectedAt c.expected-expected.result text (n + 1))
     (refused lines_are_lines s n input _ _ line read.taken c.in-Line.ensures.found c.in-Line.ensures.taken (subst (RefusesLine s) c.as_slice.ensures.value (takes h read.stands)))
-    (due_at c.args.self.now.course h c.due-due.result n input _ read.taken c.due-due.ensures read.stands))
+    (expected_at c.args.self.now.parser_state h c.expected-expected.result n input _ read.taken c.expected-expected.ensures read.stands))
 
-room_more : (c : Course) (n m : ℕ) → HasRoom c n → n ≤ m → HasRoom c m
+room_more : (c : ParserState) (n m : ℕ) → HasRoom c n → n ≤ m → HasRoom c m
 room_more c n m (epochs, satellites, events) more = (le_trans epochs more, le_trans satellites more, le_trans events more)
 
 wide : (n : ℕ) → n ≤ 2 ^ 32 → n ≤ 2 ^ 40
@@ -94,7 +94,7 @@ pub take-requires-clause-stands : goal.take-requires-clause-stands
 take-requires-clause-stands g c = c.requires.stands
 
 pub take-requires-clause-room : goal.take-requires-clause-room
-take-requires-clause-room g c = room_more c.args.self.now.course _ _ c.requires.within.0 (wide _ c.requires.within.1)
+take-requires-clause-room g c = room_more c.args.self.now.parser_state _ _ c.requires.within.0 (wide _ c.requires.within.1)
 
 pub returns-in-Ok-clause-within : goal.returns-in-Ok-clause-within
 returns-in-Ok-clause-within g c = (c.in-Ok.ensures.room _ c.requires.within.0, one_below _ c.requires.within.1 c.if-self-eq-MOST_LINES.false)
@@ -137,7 +137,7 @@ returns-in-Err-Memory-clause-goes g c = λ h input read. said_nothing input
 
 pub returns-then-self-eq-MOST_LINES-clause-goes : goal.returns-then-self-eq-MOST_LINES-clause-goes
 returns-then-self-eq-MOST_LINES-clause-goes g c = λ h input read.
-    too_long (progress_at c.args.self.now.course h) c.args.self.now.count input _ _ c.next_line.new.line.items read.taken c.if-self-eq-MOST_LINES.true
+    too_long (progress_at c.args.self.now.parser_state h) c.args.self.now.count input _ _ c.next_line.new.line.items read.taken c.if-self-eq-MOST_LINES.true
     (line_some c.next_line.new.line.items c.in-Line.ensures.found) c.in-Line.ensures.taken
 
 pub returns-then-may_end-clause-counted : goal.returns-then-may_end-clause-counted
@@ -234,10 +234,10 @@ pub returns-in-Err-Bad-clause-within : goal.returns-in-Err-Bad-clause-within
 returns-in-Err-Bad-clause-within g c = tt
 
 pub returns-in-Cut-clause-failed : goal.returns-in-Cut-clause-failed
-returns-in-Cut-clause-failed g c = other_behind _ _ c.fault_behind.result _ c.fault_behind.ensures (not_cut _)
+returns-in-Cut-clause-failed g c = other_after _ _ c.fault_after.result _ c.fault_after.ensures (not_cut _)
 
 pub returns-in-Long-clause-failed : goal.returns-in-Long-clause-failed
-returns-in-Long-clause-failed g c = other_behind _ c.fault_at.result c.fault_behind-in-Long.result _ c.fault_behind-in-Long.ensures c.fault_at.ensures.other
+returns-in-Long-clause-failed g c = other_after _ c.fault_at.result c.fault_after-in-Long.result _ c.fault_after-in-Long.ensures c.fault_at.ensures.other
 
 pub returns-in-Err-Bad-clause-failed : goal.returns-in-Err-Bad-clause-failed
 returns-in-Err-Bad-clause-failed g c = other_fault c.fault_at-in-Err-Bad.result _ c.fault_at-in-Err-Bad.ensures.other

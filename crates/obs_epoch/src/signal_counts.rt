@@ -1,0 +1,142 @@
+//! The number of cells with a value of each signal.
+ghost use Rattle.std.specs.Prelude.{◌≡◌, ◌==◌, ◌+◌, ◌<◌, ◌≤◌, ◌^◌, ◌++◌, [], true, Bool, List, length, nat_lt, filter, filter_map};
+ghost use Rattle.std.specs.List.{list_any};
+ghost use Rattle.std.specs.Option.{option_map_or};
+ghost use Rattle.gnss_obs.specs.Signals.{table};
+ghost use Rattle.obs_epoch.specs.Heard.{heard, seen_in, HeardCell};
+ghost use Rattle.obs_epoch.specs.SignalCounts.{brings_value, valued, counted, has_any, counted_of, entry_value, entry_signal, CountsEntries, CountsMessage, AreSignalCounts};
+ghost use Rattle.rtcm_msg.specs.Viewed.{viewed_message};
+
+use crate::observe::system_of;
+use gnss_obs::{GALILEO_SIGNAL_COUNT, GPS_SIGNAL_COUNT, Sat, Signal, System};
+use rtcm_msg::{Entries, Entry, Message, View};
+use std::marker::Model;
+
+/// The number of cells with a value, for each signal of the tables.
+#[derive(Drop)]
+pub struct SignalCounts {
+    gps: [u64; GPS_SIGNAL_COUNT],
+    galileo: [u64; GALILEO_SIGNAL_COUNT],
+}
+
+impl Model for SignalCounts {
+    ghost use Rattle.obs_epoch.specs.SignalCounts.{SignalCountsValue};
+
+    ghost Value = { SignalCountsValue };
+
+    ghost view = { λ c. record { gps = c.gps; galileo = c.galileo } };
+}
+
+impl SignalCounts {
+    /// Returns the counts of no cell.
+    pub fn new() -> SignalCounts
+        ensures { AreSignalCounts result [] }
+    {
+        SignalCounts {
+            gps: [0; GPS_SIGNAL_COUNT],
+            galileo: [0; GALILEO_SIGNAL_COUNT],
+        }
+    }
+
+    /// Returns the number of cells of the signal at an index of a system's table.
+    pub fn count(&self, system: System, index: usize) -> u64
+        requires { index < length (table system) }
+        ensures { result ≡ counted self.now system index }
+    {
+        match system {
+            System::Gps => self.gps[index],
+            System::Galileo => self.galileo[index],
+        }
+    }
+
+    /// Returns whether there is a cell of any signal.
+    pub fn has_any(&self) -> bool
+        ensures { result ≡ has_any self.now }
+    {
+        if is_any_positive(self.gps.as_slice()) {
+            return true;
+        }
+        is_any_positive(self.galileo.as_slice())
+    }
+
+    /// Counts the cells of a message, if it is of this station; with `None`, of any station.
+    pub fn count_message(&mut self, station: Option<u16>, message: &Message)
+        ensures { CountsMessage self.old self.new station (heard message.now) }
+    {
+        self.count_view(station, &message.view());
+    }
+
+    /// Counts as `count_message` does, and reads the cells from the bytes of the message.
+    pub fn count_view(&mut self, station: Option<u16>, view: &View<'_>)
+        ensures { CountsMessage self.old self.new station (heard (viewed_message view.now)) }
+    {
+        match view {
+            View::Msm(m) => {
+                if is_wanted(station, m.header().station) {
+                    self.count_entries(system_of(m.is_galileo()), &mut m.entries());
+                }
+            }
+            View::Station(_) | View::Other { number: _, set: _ } => {}
+        }
+    }
+
+    // Counts the cells of listed satellites and signals that have a value.
+    fn count_entries(&mut self, system: System, entries: &mut Entries<'_>)
+        ensures { CountsEntries self.old self.new system entries.old.left }
+    {
+        while let Some(entry) = entries.next() {
+            if let Some(signal) = signal_of(system, &entry) {
+                self.add(signal);
+            }
+        }
+    }
+
+    // Counts one cell of a signal.
+    fn add(&mut self, signal: Signal)
+        ensures { self.new ≡ counted_of self.old signal }
+    {
+        let place = signal.index();
+        match signal.system() {
+            System::Gps => self.gps[place] = self.gps[place].saturating_add(1),
+            System::Galileo => self.galileo[place] = self.galileo[place].saturating_add(1),
+        }
+    }
+}
+
+fn is_any_positive(counts: &[u64]) -> bool
+    ensures { result ≡ list_any (λ n. nat_lt 0 n) counts.now }
+{
+    counts.iter().any(|n| *n > 0)
+}
+
+// Returns whether a station is the wanted one. Each is, if none is given.
+fn is_wanted(wanted: Option<u16>, station: u16) -> bool
+    ensures { result ≡ option_map_or (λ n. station == n) wanted true }
+{
+    match wanted {
+        None => true,
+        Some(wanted) => station == wanted,
+    }
+}
+
+// Returns the signal of a cell, if its satellite and signal are listed and it has a value.
+fn signal_of(system: System, entry: &Entry) -> Option<Signal>
+    ensures value { result ≡ entry_signal system entry.now }
+{
+    Sat::new(system, entry.satellite)?;
+    if has_value(entry) {
+        Signal::from_id(system, entry.signal)
+    } else {
+        None
+    }
+}
+
+// Returns whether a cell has a pseudorange, a phase, a Doppler shift or a strength.
+fn has_value(entry: &Entry) -> bool
+    ensures { result ≡ entry_value entry.now }
+{
+    entry.range.is_some()
+        || entry.phase.is_some()
+        || entry.rate.is_some()
+        || entry.strength.is_some()
+}

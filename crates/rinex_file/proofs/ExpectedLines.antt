@@ -1,0 +1,121 @@
+-- The lines that were taken are begun, and of which kind the next one is.
+use Rattle.std.proofs.Common.{arith, ◌≡◌, sym, ap, subst, refl, ℕ, zero, suc, ◌+◌, ◌<◌, ℤ, pos, List, [], ◌∷◌, length, Option, IfSome, inl, inr}
+use Rattle.std.specs.Prelude.{Some}
+use Rattle.obs_epoch.specs.declared.cell.StationValues.{StationValues}
+use Rattle.rinex_file.specs.declared.read.parser_state.ParserState.{ParserState}
+use Rattle.rinex_file.specs.declared.read.expected.Expected.{Expected}
+use Rattle.rinex_file.specs.declared.read.expected.Expected.TheVariants.{Header, Epoch, EventPosition, EventHeight, EventEpoch, Satellite}
+use Rattle.rinex_file.specs.Numbers.{joined}
+use Rattle.rinex_file.specs.FileValues.{IsCoordinate, IsChange}
+use Rattle.rinex_file.specs.Begun.{AreBegun}
+use Rattle.rinex_file.specs.Exact.{AreBefore, IsExpectedAt}
+use Rattle.rinex_file.specs.Read.Progress.{Progress, IsHeaderLeft, Known, Shown, stamped}
+use Rattle.rinex_file.specs.Read.Sound.{IsSound, IsSoundAt, AreLinesAt, values_now}
+use Rattle.rinex_file.specs.ParserState.{History, FollowsHistory, progress_at}
+use Rattle.rinex_file.specs.Read.Steps.{IsTaken}
+use Rattle.rinex_file.proofs.HeaderRows.{some_left}
+use Rattle.rinex_file.proofs.HeaderEnd.{zero_values}
+use Rattle.rinex_file.proofs.LineByLine.{consumed}
+
+some_lines : (k : Known) (place : ℕ) (h : Shown) (left : List (List ℕ)) → IsHeaderLeft k place h left → 0 < length left
+some_lines k place h [] header = absurd (some_left k place h header)
+some_lines k place h (l ∷ ls) header = omega arith
+
+-- ---- station values of a position that aren't these
+
+abbrev other_height : ℕ → ℕ
+other_height zero = 1
+other_height (suc n) = 0
+
+abbrev other_values : StationValues → ℤ → ℤ → ℤ → StationValues
+other_values v x y z = record { x = x; y = y; z = z; height = other_height v.height }
+
+small_height : (n : ℕ) → other_height n < 65_536
+small_height zero = omega arith
+small_height (suc n) = omega arith
+
+no_height : (n : ℕ) → other_height n ≡ n → ⊥
+no_height zero e = cc
+no_height (suc n) e = cc
+
+is_change : (v : StationValues) (x y z : ℤ) → IsCoordinate x × IsCoordinate y × IsCoordinate z → IsChange v (Some (other_values v x y z))
+is_change v x y z is = (record { x = is.0; y = is.1; z = is.2; height = small_height v.height }, λ e. no_height v.height (ap (λ (w : StationValues). w.height) e))
+
+is_zero : IsCoordinate (pos 0)
+is_zero = zero_values.x
+
+-- ---- the lines before one that is expected
+
+at_zero : IsCoordinate (pos 0) × IsCoordinate (pos 0) × IsCoordinate (pos 0)
+at_zero = (is_zero, is_zero, is_zero)
+
+are_before : (s : Progress) (expected : Expected) (lines : List (List ℕ)) → IsSoundAt s expected → AreLinesAt s expected lines → AreBefore expected lines
+are_before s (Header place) lines sound are = record {
+  h = sound.2.h;
+  left = sound.2.left;
+  is = sound.2.at.is;
+  some = some_lines s.known place sound.2.h sound.2.left sound.2.at;
+  are = are sound.2.h sound.2.left sound.2.at;
+}
+are_before s Epoch lines sound are = record { h = s.known.shown; es = s.epochs; whole = sound.0; are = are }
+are_before s EventPosition lines sound are = record {
+  h = s.known.shown;
+  es = s.epochs;
+  values = other_values (values_now s) (pos 0) (pos 0) (pos 0);
+  whole = sound.0;
+  some = sound.2;
+  change = is_change (values_now s) (pos 0) (pos 0) (pos 0) at_zero;
+  are = are;
+}
+are_before s (EventHeight x y z) lines sound are = record {
+  h = s.known.shown;
+  es = s.epochs;
+  values = other_values (values_now s) x y z;
+  whole = sound.0.0;
+  some = sound.0.2;
+  change = is_change (values_now s) x y z sound.1;
+  are = are;
+}
+are_before s (EventEpoch w) lines sound are = record {
+  h = s.known.shown;
+  es = s.epochs;
+  values = w;
+  whole = sound.0.0;
+  some = sound.0.2;
+  change = sound.1;
+  are = are;
+}
+are_before s (Satellite n) lines sound are =
+    let some : 0 < n = sound.2 in
+    record {
+      h = s.known.shown;
+      es = s.epochs;
+      e = stamped s s.rows;
+      n = length s.rows + n;
+      whole = sound.0;
+      next = sound.1;
+      fewer = omega (arith, some);
+      room = sound.3;
+      are = are;
+    }
+
+are_begun : (expected : Expected) (lines : List (List ℕ)) → AreBefore expected lines → AreBegun lines
+are_begun (Header place) lines h = inl h
+are_begun Epoch lines h = inr (inl h)
+are_begun EventPosition lines h = inr (inr (inl h))
+are_begun (EventHeight x y z) lines h = inr (inr (inr (inl h)))
+are_begun (EventEpoch w) lines h = inr (inr (inr (inr (inl h))))
+are_begun (Satellite n) lines h = inr (inr (inr (inr (inr h))))
+
+pub begun : (s : Progress) (n : ℕ) (a b : Option (List ℕ)) (t : IsTaken s n a b) → IsSound s → AreBegun t.lines
+begun s n a b t sound = are_begun s.expected t.lines (are_before s s.expected t.lines sound t.stands.are)
+
+pub expected_at : (c : ParserState) (h : History) (expected : Expected) (n : ℕ) (a b : Option (List ℕ)) → IsTaken (progress_at c h) n a b → expected ≡ c.expected → FollowsHistory c h → IfSome a (λ input. IsExpectedAt expected input (n + 1))
+expected_at c h expected n a b t same stands =
+    consumed a b (joined t.lines) (λ input. IsExpectedAt expected input (n + 1)) t.taken (λ rest. record {
+      lines = t.lines;
+      rest = rest;
+      first = record { are = t.are; first = refl };
+      count = ap (λ (k : ℕ). k + 1) t.many;
+      are = subst (λ (d : Expected). AreBefore d t.lines) (sym same) (are_before (progress_at c h) c.expected t.lines stands.sound t.stands.are);
+    })

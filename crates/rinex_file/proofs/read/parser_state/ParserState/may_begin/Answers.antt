@@ -1,0 +1,24 @@
+use Rattle.std.proofs.Common.{arith, ◌≡◌, ◌∙◌, sym, subst, ℕ, ◌<◌, ◌≤◌}
+use Rattle.rinex_file.specs.FileValues.{most_rows}
+use Rattle.rinex_file.proofs.read.parser_state.ParserState.may_begin.Goals as goal
+
+within : (g e gps galileo n most : ℕ) → g ≡ gps → e ≡ galileo → most ≡ most_rows g e → n ≤ most → n ≤ most_rows gps galileo
+within g e gps galileo n most a b all few =
+    subst (λ (m : ℕ). n ≤ most_rows gps m) b (subst (λ (m : ℕ). n ≤ most_rows m e) a (subst (λ (m : ℕ). n ≤ m) all few))
+
+not_none : (n : ℕ) → (n ≡ 0 → ⊥) → 0 < n
+not_none n some = omega (arith, some)
+
+pub returns : goal.returns
+returns c = λ h stands.
+    let follow = c.may_follow.ensures h.epochs stands.last (c.requires.between h stands).rising in (
+      λ yes.
+          let after = follow.0 yes in
+          record {
+            later = after.0;
+            first = λ none. sym c.first.ensures ∙ after.1 none;
+            some = not_none c.args.satellites c.if-satellites-eq0.false;
+            room = within _ _ _ _ c.args.satellites c.most_rows-most.result c.planned.ensures c.planned-2.ensures c.most_rows-most.ensures c.if-satellites-most.false;
+          },
+      λ may. follow.1 (may.later, λ none. c.first.ensures ∙ may.first none),
+    )

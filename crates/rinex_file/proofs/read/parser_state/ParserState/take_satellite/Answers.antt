@@ -1,0 +1,129 @@
+use Rattle.std.proofs.Common.{arith, ◌≡◌, ◌∙◌, ◌+◌, ◌-◌, ◌<◌, ◌∷◌, ◌++◌, [], ℕ, suc, List, sym, ap, subst, refl, length, length-append, Bool, true, false, Some}
+use Rattle.std.specs.Prelude.{map}
+use Rattle.std.specs.List.Sorted.{IsStrictlyIncreasing}
+use Rattle.std.proofs.lemmas.List.{map-append}
+use Rattle.std.proofs.lemmas.List.Sums.{sum_by-append}
+use Rattle.rinex_file.specs.declared.read.expected.Expected.TheVariants.{Satellite}
+use Rattle.rinex_file.specs.Value.{SatelliteRow, Stamped}
+use Rattle.obs_epoch.specs.declared.cell.StationValues.{StationValues}
+use Rattle.rinex_file.specs.FileValues.{IsSatelliteRow, changed_by, rank_of, time_stamped}
+use Rattle.rinex_file.specs.Lines.{satellite_line}
+use Rattle.rinex_file.specs.Read.Progress.{Progress}
+use Rattle.rinex_file.specs.Read.Fields.{ReadsExactly, some_if}
+use Rattle.rinex_file.specs.ParserState.{EndsIn, changes_of, stamped_at, events_in, progress_at, rows_in}
+use Rattle.rinex_file.proofs.Judged.{refused}
+use Rattle.rinex_file.proofs.BodySteps.{values_more, row_taken, row_shows, last_shows, no_row, bad_row, last_taken, sound_open, few_at, sound_row, sound_closed}
+use Rattle.rinex_file.proofs.read.parser_state.ParserState.take_satellite.Goals as goal
+
+pub read_seen-requires-clause-few : goal.read_seen-requires-clause-few
+read_seen-requires-clause-few c =
+    let (h, stands) = c.requires.stands in
+    let (gps, galileo) = few_at (progress_at c.args.self.now h) c.args.left c.requires.expected stands.sound in
+    let g = c.planned-gps.ensures in
+    let e = c.planned-galileo.ensures in
+    (omega (arith, gps, g), omega (arith, galileo, e))
+
+-- one of the lines is due at least
+one_expected : (left : ℕ) (s : Progress) → s.expected ≡ Satellite left → 0 < left → s.expected ≡ Satellite (suc (left - 1))
+one_expected left s expected some = let n : left ≡ suc (left - 1) = omega (arith, some) in expected ∙ ap Satellite n
+
+one_left : (left : ℕ) → 0 < left → left ≡ suc (left - 1)
+one_left left some = omega (arith, some)
+
+-- what a line shows, where so many signals are planned
+abbrev Shows : ℕ → ℕ → List ℕ → Bool → SatelliteRow → Type 0
+Shows gps galileo line b seen = ReadsExactly (IsSatelliteRow gps galileo) satellite_line line (some_if b seen)
+
+shows : (g e gps galileo : ℕ) (line : List ℕ) (r b : Bool) (seen : SatelliteRow) → g ≡ gps → e ≡ galileo → r ≡ b → Shows g e line r seen → Shows gps galileo line b seen
+shows g e gps galileo line r b seen x y z h =
+    subst (λ (t : Bool). Shows gps galileo line t seen) z (subst (λ (n : ℕ). Shows gps n line r seen) y (subst (λ (n : ℕ). Shows n e line r seen) x h))
+
+pub returns-then-not-read_seen-clause-takes : goal.returns-then-not-read_seen-clause-takes
+returns-then-not-read_seen-clause-takes c = λ h stands.
+    let s = progress_at c.args.self.now h in
+    let some = (sound_open s c.args.left c.requires.expected stands.sound).2 in
+    no_row s (c.args.left - 1) c.args.line.now (one_expected c.args.left s c.requires.expected some)
+    (shows c.planned-gps.result c.planned-galileo.result _ _ c.args.line.now c.read_seen.result false c.read_seen.new.seen c.planned-gps.ensures c.planned-galileo.ensures c.if-not-read_seen.true c.read_seen.ensures)
+
+pub returns-then-not-is_after-clause-takes : goal.returns-then-not-is_after-clause-takes
+returns-then-not-is_after-clause-takes c = λ h stands.
+    let s = progress_at c.args.self.now h in
+    let (read, begun, some, room) = sound_open s c.args.left c.requires.expected stands.sound in
+    let shown = shows c.planned-gps.result c.planned-galileo.result (length s.known.shown.plan.gps) (length s.known.shown.plan.galileo) c.args.line.now c.read_seen.result true c.read_seen.new.seen
+    c.planned-gps.ensures c.planned-galileo.ensures c.if-not-read_seen.false c.read_seen.ensures in
+    bad_row s (c.args.left - 1) c.args.line.now (one_expected c.args.left s c.requires.expected some) c.read_seen.new.seen shown.2
+    (λ rise. refused c.is_after.result _ (c.is_after.ensures (map rank_of h.rows) stands.rank begun.rows.rise) c.if-not-is_after.true
+    (subst (λ (n : ℕ). IsStrictlyIncreasing (map rank_of h.rows ++ n ∷ [])) (sym c.rank_of-rank.ensures) rise))
+
+rises : (xs : List ℕ) (n k : ℕ) → n ≡ k → IsStrictlyIncreasing (xs ++ n ∷ []) → IsStrictlyIncreasing (xs ++ k ∷ [])
+rises xs n k same rise = subst (λ (m : ℕ). IsStrictlyIncreasing (xs ++ m ∷ [])) same rise
+
+-- the last number of a list with one item more
+ends : {X : Type 0} (f : X → ℕ) (xs : List X) (x : X) (n : ℕ) → n ≡ f x → EndsIn (map f (xs ++ x ∷ [])) (Some n)
+ends f xs x n same = (map f xs, map-append f xs (x ∷ []) ∙ ap (λ m. map f xs ++ m ∷ []) (sym same))
+
+row_counted : (es : List Stamped) (rows : List SatelliteRow) (seen : SatelliteRow) (n : ℕ) → n ≡ rows_in es + length rows → n + 1 ≡ rows_in es + length (rows ++ seen ∷ [])
+row_counted es rows seen n e = let size : length (rows ++ seen ∷ []) ≡ length rows + 1 = length-append rows (seen ∷ []) in omega (arith, e, size)
+
+epoch_counted : (es : List Stamped) (e : Stamped) (rows : List SatelliteRow) (seen : SatelliteRow) (n : ℕ) → e.rows ≡ rows ++ seen ∷ [] → n ≡ rows_in es + length rows → n + 1 ≡ rows_in (es ++ e ∷ []) + 0
+epoch_counted es e rows seen n same all =
+    let size : length e.rows ≡ length rows + 1 = ap length same ∙ length-append rows (seen ∷ []) in
+    let both : rows_in (es ++ e ∷ []) ≡ rows_in es + (0 + length e.rows) = sum_by-append _ es (e ∷ []) in
+    omega (arith, all, size, both)
+
+one_longer : (es : List Stamped) (e : Stamped) (n : ℕ) → n ≡ length es → n + 1 ≡ length (es ++ e ∷ [])
+one_longer es e n all = let size : length (es ++ e ∷ []) ≡ length es + 1 = length-append es (e ∷ []) in omega (arith, all, size)
+
+event_counted : (es : List Stamped) (e : Stamped) (n k : ℕ) → k ≡ changes_of e.change → n ≡ events_in es → n + k ≡ events_in (es ++ e ∷ [])
+event_counted es e n k one all =
+    let both : events_in (es ++ e ∷ []) ≡ events_in es + (0 + changes_of e.change) = sum_by-append _ es (e ∷ []) in
+    omega (arith, all, one, both)
+
+pub returns-then-left-gt1-clause-takes : goal.returns-then-left-gt1-clause-takes
+returns-then-left-gt1-clause-takes c = λ h stands.
+    let s = progress_at c.args.self.now h in
+    let seen = c.read_seen.new.seen in
+    let (read, begun, some, room) = sound_open s c.args.left c.requires.expected stands.sound in
+    let shown = shows c.planned-gps.result c.planned-galileo.result (length s.known.shown.plan.gps) (length s.known.shown.plan.galileo) c.args.line.now c.read_seen.result true seen
+    c.planned-gps.ensures c.planned-galileo.ensures c.if-not-read_seen.false c.read_seen.ensures in
+    let rise = rises (map rank_of h.rows) c.rank_of-rank.result (rank_of seen) c.rank_of-rank.ensures
+    ((c.is_after.ensures (map rank_of h.rows) stands.rank begun.rows.rise).0 c.if-not-is_after.false) in
+    let more : 0 < c.args.left - 1 = let n = c.if-left-gt1.true in omega (arith, n) in
+    record {
+      stands = record {
+        sound = sound_row s (c.args.left - 1) c.args.left c.requires.expected stands.sound seen shown.0 rise more (one_left c.args.left some);
+        last = stands.last;
+        rank = ends rank_of h.rows seen c.rank_of-rank.result c.rank_of-rank.ensures;
+        epochs = stands.epochs;
+        satellites = row_counted h.epochs h.rows seen c.args.self.now.satellites stands.satellites;
+        events = stands.events;
+        values = stands.values;
+      };
+      follows = row_taken s (c.args.left - 1) c.args.line.now (one_expected c.args.left s c.requires.expected some) seen shown.1 shown.2;
+      shows = row_shows s (c.args.left - 1) c.args.line.now (one_expected c.args.left s c.requires.expected some) seen shown.1;
+    }
+
+pub returns-clause-takes : goal.returns-clause-takes
+returns-clause-takes c = λ h stands.
+    let s = progress_at c.args.self.now h in
+    let seen = c.read_seen.new.seen in
+    let (read, begun, some, room) = sound_open s c.args.left c.requires.expected stands.sound in
+    let shown = shows c.planned-gps.result c.planned-galileo.result (length s.known.shown.plan.gps) (length s.known.shown.plan.galileo) c.args.line.now c.read_seen.result true seen
+    c.planned-gps.ensures c.planned-galileo.ensures c.if-not-read_seen.false c.read_seen.ensures in
+    let rise = rises (map rank_of h.rows) c.rank_of-rank.result (rank_of seen) c.rank_of-rank.ensures
+    ((c.is_after.ensures (map rank_of h.rows) stands.rank begun.rows.rise).0 c.if-not-is_after.false) in
+    let last : c.args.left ≡ suc 0 = let n = c.if-left-gt1.false in omega (arith, n, some) in
+    let epoch = stamped_at c.args.self.now.change c.args.self.now.time (h.rows ++ seen ∷ []) in
+    record {
+      stands = record {
+        sound = sound_closed s 0 c.args.left c.requires.expected stands.sound seen shown.0 rise;
+        last = ends time_stamped h.epochs epoch c.milliseconds.result c.milliseconds.ensures.value;
+        rank = refl;
+        epochs = one_longer h.epochs epoch c.args.self.now.epochs stands.epochs;
+        satellites = epoch_counted h.epochs epoch h.rows seen c.args.self.now.satellites refl stands.satellites;
+        events = event_counted h.epochs epoch c.args.self.now.events c.changes_of.result c.changes_of.ensures stands.events;
+        values = λ v. c.changed_by-self.ensures v ∙ ap (λ (w : StationValues). changed_by w c.args.self.now.change) (stands.values v) ∙ sym (values_more v h.epochs epoch);
+      };
+      follows = last_taken s c.args.line.now (c.requires.expected ∙ ap Satellite last) seen shown.1 shown.2;
+      shows = last_shows s c.args.line.now (c.requires.expected ∙ ap Satellite last) seen shown.1;
+    }

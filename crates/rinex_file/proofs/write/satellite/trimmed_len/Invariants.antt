@@ -1,0 +1,10 @@
+use Rattle.std.proofs.Common.{◌≡◌, ◌≤◌, length, take}
+use Rattle.rinex_file.specs.Blanks.{trimmed}
+use Rattle.rinex_file.proofs.write.satellite.trimmed_len.Given as goal
+
+-- what was taken away is cut
+abbrev pub invariant-loop-end : goal.invariant-loop-end
+invariant-loop-end l = record { within : l.end ≤ length l.text; same : trimmed (take l.end l.text) ≡ trimmed l.text }
+
+abbrev pub decreases-loop-end : goal.decreases-loop-end
+decreases-loop-end l = l.end

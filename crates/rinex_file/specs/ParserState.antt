@@ -1,0 +1,98 @@
+-- How far the reading of a file is, and what it says of all that was read.
+use Rattle.std.specs.Prelude.{◌≡◌, ℕ, ◌+◌, ◌≤◌, List, [], ◌∷◌, ◌++◌, length, map, Option, Some, None, Result, Ok, Err, ⊤}
+use Rattle.std.specs.List.{sum_by}
+use Rattle.rinex_file.specs.declared.read.parser_state.ParserState.{ParserState}
+use Rattle.rinex_file.specs.declared.read.expected.Added.{Added}
+use Rattle.rinex_file.specs.declared.read.expected.Added.TheVariants.{NoRow, OneRow, LastRow}
+use Rattle.rinex_file.specs.declared.read.expected.Refusal.{Refusal}
+use Rattle.rinex_file.specs.declared.read.expected.Refusal.TheVariants.{Memory, Bad}
+use Rattle.rinex_file.specs.Value.{SatelliteRow, Stamped, FileValue}
+use Rattle.obs_epoch.specs.declared.cell.StationValues.{StationValues}
+use Rattle.rinex_file.specs.FileValues.{time_stamped, rank_of, changed_by, values_following}
+use Rattle.rinex_file.specs.Read.Progress.{Progress, HasLinesLeft}
+use Rattle.rinex_file.specs.Read.Sound.{IsSound, AreLinesOf}
+
+-- what was read of a file after its header: epochs, and the satellites so far of an epoch that was begun
+pub record History : Type 0 where
+  pub epochs : List Stamped
+  pub rows : List SatelliteRow
+
+abbrev pub nothing : History
+nothing = record { epochs = []; rows = [] }
+
+-- what was read where a course stands after this history
+abbrev pub progress_at : ParserState → History → Progress
+progress_at c h = record { expected = c.expected; known = c.head; epochs = h.epochs; change = c.change; time = c.time; rows = h.rows }
+
+-- this is the last of the numbers, or there is none
+abbrev pub EndsIn : List ℕ → Option ℕ → Type 0
+EndsIn xs None = xs ≡ []
+EndsIn xs (Some x) = (front : List ℕ) × (xs ≡ front ++ x ∷ [])
+
+-- the number of lines of satellites
+abbrev pub rows_in : List Stamped → ℕ
+rows_in epochs = sum_by (λ e. length e.rows) epochs
+
+-- how many of these epochs change the station values
+abbrev pub changes_of : Option StationValues → ℕ
+changes_of None = 0
+changes_of (Some v) = 1
+
+abbrev pub events_in : List Stamped → ℕ
+events_in epochs = sum_by (λ e. changes_of e.change) epochs
+
+-- a course stands after this history
+pub record FollowsHistory (c : ParserState) (h : History) : Type 0 where
+  pub sound : IsSound (progress_at c h)
+  pub last : EndsIn (map time_stamped h.epochs) c.last
+  pub rank : EndsIn (map rank_of h.rows) c.rank
+  pub epochs : c.epochs ≡ length h.epochs
+  pub satellites : c.satellites ≡ rows_in h.epochs + length h.rows
+  pub events : c.events ≡ events_in h.epochs
+  pub values : (v : StationValues) → changed_by v c.values ≡ values_following v h.epochs
+
+-- an epoch after this change of station values
+abbrev pub stamped_at : Option StationValues → ℕ → List SatelliteRow → Stamped
+stamped_at change time rows = record { change = change; time = time; rows = rows }
+
+-- a history with one satellite more
+abbrev pub with_satellite : History → SatelliteRow → History
+with_satellite h seen = record { epochs = h.epochs; rows = h.rows ++ seen ∷ [] }
+
+-- a history where the epoch that was begun, after this change and at this time, has all its satellites
+abbrev pub with_epoch : History → Option StationValues → ℕ → History
+with_epoch h change time = record { epochs = h.epochs ++ stamped_at change time h.rows ∷ []; rows = [] }
+
+-- the history with what a line added, after which the course stands
+abbrev pub with_line : Added → ParserState → History → History
+with_line NoRow c h = h
+with_line OneRow c h = with_satellite h c.seen
+with_line LastRow c h = with_epoch (with_satellite h c.seen) c.change c.time
+
+-- a file that has the line next has these lines left after it
+abbrev pub GoesOnWithLine : Progress → Progress → List ℕ → Type 0
+GoesOnWithLine old new line = (v : FileValue) (left : List (List ℕ)) → HasLinesLeft old v (line ∷ left) → HasLinesLeft new v left
+
+-- the line is that of what was read with it
+abbrev pub ShowsLine : Progress → Progress → List ℕ → Type 0
+ShowsLine old new line = (taken : List (List ℕ)) → AreLinesOf old taken → AreLinesOf new (taken ++ line ∷ [])
+
+-- no file goes on with the line
+abbrev pub RefusesLine : Progress → List ℕ → Type 0
+RefusesLine s line = (v : FileValue) (left : List (List ℕ)) → HasLinesLeft s v (line ∷ left) → ⊥
+
+-- a line was taken: it may follow whatever was read, and the course stands after that and what the line adds
+pub record IsNext (old new : ParserState) (added : Added) (line : List ℕ) (h : History) : Type 0 where
+  pub stands : FollowsHistory new (with_line added new h)
+  pub follows : GoesOnWithLine (progress_at old h) (progress_at new (with_line added new h)) line
+  pub shows : ShowsLine (progress_at old h) (progress_at new (with_line added new h)) line
+
+-- what a course does with a line
+abbrev pub TakesLine : ParserState → ParserState → List ℕ → Result Added Refusal → Type 0
+TakesLine old new line (Ok added) = (h : History) → FollowsHistory old h → IsNext old new added line h
+TakesLine old new line (Err Bad) = (h : History) → FollowsHistory old h → RefusesLine (progress_at old h) line
+TakesLine old new line (Err Memory) = ⊤
+
+-- so many lines hold what was counted
+abbrev pub HasRoom : ParserState → ℕ → Type 0
+HasRoom c lines = (c.epochs ≤ lines) × (c.satellites ≤ lines) × (c.events ≤ lines)

@@ -1,0 +1,104 @@
+//! What is kept of the epochs of a file while it is read.
+ghost use Rattle.std.specs.Prelude.{◌≡◌, OnOk, IfOk, []};
+ghost use Rattle.rinex_file.specs.FileValues.{IsFileValue};
+ghost use Rattle.rinex_file.specs.ParserState.{History, FollowsHistory, nothing, with_epoch, with_line, with_satellite};
+ghost use Rattle.rinex_file.specs.Read.Steps.{file_at};
+ghost use Rattle.rinex_file.specs.Read.Keeping.{history_of};
+
+use crate::read::expected::Added;
+use crate::read::head_so_far::HeadSoFar;
+use crate::read::parser_state::ParserState;
+use crate::values::kept::{KeptEpoch, KeptRow, KeptSatellite};
+use crate::values::obs_file::ObsFile;
+use obs_epoch::{GpsTime, Plan, StationValues};
+use std::alloc::{AllocError, Global};
+use std::mem;
+
+/// The epochs of a file that were read, and the satellites of one that was begun.
+#[derive(Drop)]
+pub(crate) struct FileBuilder {
+    alloc: Global,
+    pub(crate) epochs: Vec<KeptEpoch>,
+    pub(crate) rows: Vec<KeptRow>,
+}
+
+impl FileBuilder {
+    /// Nothing was read.
+    pub(crate) fn new(alloc: Global) -> FileBuilder
+        ensures { history_of result ≡ nothing }
+    {
+        FileBuilder {
+            alloc,
+            epochs: Vec::new(alloc),
+            rows: Vec::new(alloc),
+        }
+    }
+
+    /// Keeps what a line added.
+    pub(crate) fn keep(
+        &mut self,
+        added: Added,
+        parser_state: &ParserState,
+    ) -> Result<(), AllocError>
+        ensures { OnOk result (history_of self.new ≡ with_line added parser_state.now (history_of self.old)) }
+    {
+        match added {
+            Added::NoRow => Ok(()),
+            Added::OneRow => self.keep_row(&parser_state.seen),
+            Added::LastRow => {
+                self.keep_row(&parser_state.seen)?;
+                self.close(parser_state.change, parser_state.time)
+            }
+        }
+    }
+
+    // Keeps a satellite of the epoch that was begun.
+    fn keep_row(&mut self, seen: &KeptSatellite) -> Result<(), AllocError>
+        ensures { OnOk result (history_of self.new ≡ with_satellite (history_of self.old) seen.now) }
+    {
+        let mut entries = Vec::new(self.alloc);
+        entries.extend_from_slice(seen.entries.as_slice())?;
+        self.rows.push(KeptRow {
+            system: seen.system,
+            satellite: seen.satellite,
+            entries,
+        })?;
+        Ok(())
+    }
+
+    // Keeps the epoch that was begun, after this change of station values and at this time.
+    fn close(&mut self, change: Option<StationValues>, time: GpsTime) -> Result<(), AllocError>
+        ensures { OnOk result (history_of self.new ≡ with_epoch (history_of self.old) change time) }
+    {
+        let rows = mem::replace(&mut self.rows, Vec::new(self.alloc));
+        self.epochs.push(KeptEpoch { change, time, rows })?;
+        Ok(())
+    }
+
+    /// The file of what was read, unless there is no memory for its plan.
+    pub(crate) fn finish(self, parser_state: ParserState) -> Result<ObsFile, AllocError>
+        requires none { (history_of self).rows ≡ [] }
+        requires value { IsFileValue (file_at parser_state (history_of self)) }
+        requires stands { FollowsHistory parser_state (history_of self) }
+        ensures { IfOk result (λ f. f ≡ file_at parser_state (history_of self)) }
+    {
+        let HeadSoFar {
+            texts,
+            gps,
+            galileo,
+            values,
+            ..
+        } = parser_state.head;
+        match Plan::from_signals(self.alloc, gps.as_slice(), galileo.as_slice()) {
+            Ok(plan) => Ok(ObsFile {
+                texts,
+                plan,
+                values,
+                epochs: self.epochs,
+                satellites: parser_state.satellites,
+                events: parser_state.events,
+            }),
+            Err(_) => Err(AllocError),
+        }
+    }
+}

@@ -1,0 +1,354 @@
+//! How far the reading of a file is: what the next line has to fit, and two counts. It doesn't grow
+//! with the file.
+ghost use Rattle.std.specs.Prelude.{◌≡◌, ◌<◌, ◌≤◌, ◌+◌, ◌^◌, ◌∷◌, ◌++◌, ◌↔◌, ℕ, [], List, OnOk, IsTrue, map, length};
+ghost use Rattle.std.specs.List.Sorted.{IsStrictlyIncreasing};
+ghost use Rattle.rinex_file.specs.Value.{FileValue, Stamped};
+ghost use Rattle.obs_epoch.specs.declared.cell.StationValues.{StationValues};
+ghost use Rattle.rinex_file.specs.FileValues.{IsFileValue, rank_of, time_stamped, most_rows, changed_by};
+ghost use Rattle.rinex_file.specs.File.{event_line, file_lines};
+ghost use Rattle.rinex_file.specs.Read.Progress.{HasLinesLeft};
+ghost use Rattle.rinex_file.specs.ParserState.{EndsIn, History, HasRoom, FollowsHistory, TakesLine, changes_of, nothing, progress_at};
+ghost use Rattle.rinex_file.specs.Read.Sound.{AreLinesOf, AreRead, IsTimeAfter, MayBegin, ReadsEpochLine};
+ghost use Rattle.rinex_file.specs.Limits.{most_line};
+
+use crate::read::epoch::read_epoch_line;
+use crate::read::expected::{Added, Expected, Refusal};
+use crate::read::head_so_far::HeadSoFar;
+use crate::read::numbers::is_same;
+use crate::read::row::read_seen;
+use crate::read::station::{read_delta, read_position};
+use crate::values::kept::KeptSatellite;
+use crate::write::event::event_line;
+use crate::write::numbers::Line;
+use arrayvec::ArrayVec;
+use gnss_obs::System;
+use obs_epoch::{GpsTime, StationValues};
+use std::alloc::Global;
+
+/// How far the reading of a file is.
+#[derive(Drop)]
+pub(crate) struct ParserState {
+    pub(crate) expected: Expected,
+    pub(crate) head: HeadSoFar,
+    // Of the epoch that was begun: the station values that change with it, and its time.
+    pub(crate) change: Option<StationValues>,
+    pub(crate) time: GpsTime,
+    // Of those before it: the time of the last, and the station values that changed last, where
+    // they did.
+    pub(crate) last: Option<u64>,
+    pub(crate) values: Option<StationValues>,
+    // The satellite that was read last, and its place if it is one of the epoch that was begun.
+    pub(crate) seen: KeptSatellite,
+    pub(crate) rank: Option<u64>,
+    pub(crate) epochs: u64,
+    pub(crate) satellites: u64,
+    pub(crate) events: u64,
+}
+
+// A satellite's place among all: those of GPS come first.
+fn rank_of(seen: &KeptSatellite) -> u64
+    ensures { result ≡ rank_of seen.now }
+{
+    match seen.system {
+        System::Gps => seen.satellite as u64,
+        System::Galileo => 100 + seen.satellite as u64,
+    }
+}
+
+// Whether a number is greater than all of those that rise up to the last.
+fn is_after(last: Option<u64>, next: u64) -> bool
+    ensures { (xs : List ℕ) → EndsIn xs last → IsStrictlyIncreasing xs → IsTrue result ↔ IsStrictlyIncreasing (xs ++ next ∷ []) }
+{
+    match last {
+        None => true,
+        Some(last) => last < next,
+    }
+}
+
+// Whether an epoch may have this time after others that rise up to the last, in a file that begins
+// at this first time.
+fn may_follow(last: Option<u64>, first: GpsTime, time: GpsTime) -> bool
+    ensures { (es : List Stamped) → EndsIn (map time_stamped es) last → IsStrictlyIncreasing (map time_stamped es)
+        → IsTrue result ↔ IsTimeAfter es first time }
+{
+    match last {
+        None => first.milliseconds() == time.milliseconds(),
+        Some(last) => last < time.milliseconds(),
+    }
+}
+
+// Number of satellites of the systems of which some signal is planned.
+fn most_rows(gps: usize, galileo: usize) -> usize
+    ensures { result ≡ most_rows gps galileo }
+{
+    let of_gps = if gps > 0 {
+        System::Gps.satellites() as usize
+    } else {
+        0
+    };
+    let of_galileo = if galileo > 0 {
+        System::Galileo.satellites() as usize
+    } else {
+        0
+    };
+    of_gps + of_galileo
+}
+
+// How many events a change of station values is.
+fn changes_of(change: Option<StationValues>) -> u64
+    ensures { result ≡ changes_of change }
+{
+    match change {
+        None => 0,
+        Some(_) => 1,
+    }
+}
+
+// The station values that changed last, after a change or none.
+fn changed_by(before: Option<StationValues>, change: Option<StationValues>) -> Option<StationValues>
+    ensures { (v : StationValues) → changed_by v result ≡ changed_by (changed_by v before) change }
+{
+    match change {
+        None => before,
+        Some(_) => change,
+    }
+}
+
+impl ParserState {
+    /// Nothing was read.
+    pub(crate) fn new(alloc: Global) -> ParserState
+        ensures stands { FollowsHistory result nothing }
+        ensures starts { (v : FileValue) → IsFileValue v → HasLinesLeft (progress_at result nothing) v (file_lines v) }
+        ensures lines { AreLinesOf (progress_at result nothing) [] }
+        ensures none { HasRoom result 0 }
+    {
+        let head = HeadSoFar::new(alloc);
+        let time = head.first();
+        ParserState {
+            expected: Expected::Header(0),
+            head,
+            change: None,
+            time,
+            last: None,
+            values: None,
+            seen: KeptSatellite {
+                system: System::Gps,
+                satellite: 0,
+                entries: ArrayVec::new(),
+            },
+            rank: None,
+            epochs: 0,
+            satellites: 0,
+            events: 0,
+        }
+    }
+
+    /// Takes the next line; the buffer is for what the line would be.
+    pub(crate) fn take(&mut self, line: &[u8], again: &mut Line) -> Result<Added, Refusal>
+        requires stands { (h : History) × FollowsHistory self.old h }
+        requires room { HasRoom self.old (2 ^ 40) }
+        requires short { length line.now ≤ most_line }
+        ensures takes { TakesLine self.old self.new line.now result }
+        ensures room { (n : ℕ) → HasRoom self.old n → OnOk result (HasRoom self.new (n + 1)) }
+    {
+        match self.expected {
+            Expected::Header(place) => self.take_header(place, line, again),
+            Expected::Epoch => self.take_next(line, again),
+            Expected::EventPosition => self.take_position(line),
+            Expected::EventHeight(x, y, z) => self.take_height(x, y, z, line),
+            Expected::EventEpoch(values) => self.take_changed(values, line, again),
+            Expected::Satellite(left) => self.take_satellite(left, line, again),
+        }
+    }
+
+    // Takes a line of the header.
+    fn take_header(&mut self, place: usize, line: &[u8], again: &mut Line) -> Result<Added, Refusal>
+        requires expected { self.old.expected ≡ Expected.Header place }
+        ensures takes { TakesLine self.old self.new line.now result }
+        ensures room { (n : ℕ) → HasRoom self.old n → OnOk result (HasRoom self.new (n + 1)) }
+    {
+        match self.head.take(place, line, again) {
+            Err(Refusal::Memory) => Err(Refusal::Memory),
+            Err(Refusal::Bad) => Err(Refusal::Bad),
+            Ok(Some(next)) => {
+                self.expected = Expected::Header(next);
+                Ok(Added::NoRow)
+            }
+            Ok(None) => {
+                self.expected = Expected::Epoch;
+                Ok(Added::NoRow)
+            }
+        }
+    }
+
+    // Whether an epoch of this number of satellites may follow at a time.
+    fn may_begin(&self, time: GpsTime, satellites: usize) -> bool
+        requires between { (h : History) → FollowsHistory self.now h → AreRead (progress_at self.now h) }
+        ensures { (h : History) → FollowsHistory self.now h → IsTrue result ↔ MayBegin (progress_at self.now h) time satellites }
+    {
+        let most = most_rows(
+            self.head.planned(System::Gps),
+            self.head.planned(System::Galileo),
+        );
+        if satellites == 0 || satellites > most {
+            return false;
+        }
+        may_follow(self.last, self.head.first(), time)
+    }
+
+    // The time and the number of satellites of an epoch that may follow, by its line.
+    fn read_begun(&self, line: &[u8], again: &mut Line) -> Option<(GpsTime, usize)>
+        requires between { (h : History) → FollowsHistory self.now h → AreRead (progress_at self.now h) }
+        ensures { (h : History) → FollowsHistory self.now h → ReadsEpochLine (MayBegin (progress_at self.now h)) line.now result }
+    {
+        let Some(read) = read_epoch_line(line, again) else {
+            return None;
+        };
+        if !self.may_begin(read.0, read.1) {
+            return None;
+        }
+        Some(read)
+    }
+
+    // Whether an event begins with the line: it may, but before the first epoch.
+    fn begins_event(&self, line: &[u8]) -> bool
+        ensures { IsTrue result ↔ ((0 < self.now.epochs) × (line.now ≡ event_line)) }
+    {
+        self.epochs > 0 && is_same(line, event_line())
+    }
+
+    // Takes the line of an epoch or of an event.
+    fn take_next(&mut self, line: &[u8], again: &mut Line) -> Result<Added, Refusal>
+        requires expected { self.old.expected ≡ Expected.Epoch }
+        ensures takes { TakesLine self.old self.new line.now result }
+        ensures room { (n : ℕ) → HasRoom self.old n → OnOk result (HasRoom self.new (n + 1)) }
+    {
+        if self.begins_event(line) {
+            self.expected = Expected::EventPosition;
+            return Ok(Added::NoRow);
+        }
+        let Some(begun) = self.read_begun(line, again) else {
+            return Err(Refusal::Bad);
+        };
+        self.change = None;
+        self.time = begun.0;
+        self.expected = Expected::Satellite(begun.1);
+        Ok(Added::NoRow)
+    }
+
+    // Takes the position in an event.
+    fn take_position(&mut self, line: &[u8]) -> Result<Added, Refusal>
+        requires expected { self.old.expected ≡ Expected.EventPosition }
+        ensures takes { TakesLine self.old self.new line.now result }
+        ensures room { (n : ℕ) → HasRoom self.old n → OnOk result (HasRoom self.new (n + 1)) }
+    {
+        let Some(position) = read_position(line) else {
+            return Err(Refusal::Bad);
+        };
+        self.expected = Expected::EventHeight(position.0, position.1, position.2);
+        Ok(Added::NoRow)
+    }
+
+    // The station values after the epochs that were read.
+    fn station_values(&self) -> StationValues
+        ensures { result ≡ changed_by self.now.head.shown.values self.now.values }
+    {
+        match self.values {
+            None => self.head.values(),
+            Some(values) => values,
+        }
+    }
+
+    // Takes the height in an event, after this position: they aren't both those that hold
+    // already.
+    fn take_height(&mut self, x: i64, y: i64, z: i64, line: &[u8]) -> Result<Added, Refusal>
+        requires expected { self.old.expected ≡ Expected.EventHeight x y z }
+        ensures takes { TakesLine self.old self.new line.now result }
+        ensures room { (n : ℕ) → HasRoom self.old n → OnOk result (HasRoom self.new (n + 1)) }
+    {
+        let Some(height) = read_delta(line) else {
+            return Err(Refusal::Bad);
+        };
+        let values = StationValues { x, y, z, height };
+        if values.is_same(self.station_values()) {
+            return Err(Refusal::Bad);
+        }
+        self.expected = Expected::EventEpoch(values);
+        Ok(Added::NoRow)
+    }
+
+    // Takes the line of an epoch after an event with these station values.
+    fn take_changed(
+        &mut self,
+        values: StationValues,
+        line: &[u8],
+        again: &mut Line,
+    ) -> Result<Added, Refusal>
+        requires expected { self.old.expected ≡ Expected.EventEpoch values }
+        ensures takes { TakesLine self.old self.new line.now result }
+        ensures room { (n : ℕ) → HasRoom self.old n → OnOk result (HasRoom self.new (n + 1)) }
+    {
+        let Some(begun) = self.read_begun(line, again) else {
+            return Err(Refusal::Bad);
+        };
+        self.change = Some(values);
+        self.time = begun.0;
+        self.expected = Expected::Satellite(begun.1);
+        Ok(Added::NoRow)
+    }
+
+    // Takes the line of a satellite, of which this number is left.
+    fn take_satellite(
+        &mut self,
+        left: usize,
+        line: &[u8],
+        again: &mut Line,
+    ) -> Result<Added, Refusal>
+        requires stands { (h : History) × FollowsHistory self.old h }
+        requires room { HasRoom self.old (2 ^ 40) }
+        requires expected { self.old.expected ≡ Expected.Satellite left }
+        requires short { length line.now ≤ most_line }
+        ensures takes { TakesLine self.old self.new line.now result }
+        ensures room { (n : ℕ) → HasRoom self.old n → OnOk result (HasRoom self.new (n + 1)) }
+    {
+        let gps = self.head.planned(System::Gps);
+        let galileo = self.head.planned(System::Galileo);
+        if !read_seen(line, again, gps, galileo, &mut self.seen) {
+            return Err(Refusal::Bad);
+        }
+        let rank = rank_of(&self.seen);
+        if !is_after(self.rank, rank) {
+            return Err(Refusal::Bad);
+        }
+        self.satellites += 1;
+        if left > 1 {
+            self.rank = Some(rank);
+            self.expected = Expected::Satellite(left - 1);
+            return Ok(Added::OneRow);
+        }
+        self.epochs += 1;
+        self.events += changes_of(self.change);
+        self.values = changed_by(self.values, self.change);
+        self.last = Some(self.time.milliseconds());
+        self.rank = None;
+        self.expected = Expected::Epoch;
+        Ok(Added::LastRow)
+    }
+
+    /// The kind of line that is expected.
+    pub(crate) fn expected(&self) -> Expected
+        ensures { result ≡ self.now.expected }
+    {
+        self.expected
+    }
+
+    /// Whether the file may end here.
+    pub(crate) fn may_end(&self) -> bool
+        ensures { IsTrue result ↔ ((self.now.expected ≡ Expected.Epoch) × (0 < self.now.epochs)) }
+    {
+        match self.expected {
+            Expected::Epoch => self.epochs > 0,
+            _ => false,
+        }
+    }
+}

@@ -1,0 +1,30 @@
+-- What options tell.
+use Rattle.std.proofs.Common.{◌≡◌, ◌∙◌, ℕ, List, [], Option, Some, None, Result, Bor, option_map, unwrap_or, refl, sym, ap, subst}
+use Rattle.std.specs.Str.Parse.{ParsesUnsigned}
+use Rattle.clap.specs.Matches.{ReadsOne, first_value, one_text}
+use Rattle.clap.specs.Walk.{one_of, rows_of}
+use Rattle.clap.specs.declared.parser.matches.Found.{Found}
+use Rattle.clap.proofs.WalkLemmas.{first_value-rows, one_text-rows}
+use Rattle.rtcm2rinex.specs.SetupOptions.{IsNumberOf, text_set}
+
+-- what a typed getter gives is the number that the text spells; P and Q say more of it
+number_of : {E : Type 0} (P Q : List ℕ → Result ℕ E → Type 0) (bits : ℕ) (text : Option (List ℕ)) (n : Option ℕ) → (text ≡ None → n ≡ None)
+    → ((t : List ℕ) → text ≡ Some t → ReadsOne {T = ℕ} {E = E} (λ bs r. ParsesUnsigned bits 10 bs r × P bs r × Q bs r) t n) → IsNumberOf bits text n
+number_of P Q bits (Some t) None none some = (some t refl).1.0
+number_of P Q bits None n none some = none refl
+number_of P Q bits (Some t) (Some n) none some = (some t refl).0
+
+-- and so of the options as clap's definitions list them
+pub number_given : {E : Type 0} (P Q : List ℕ → Result ℕ E → Type 0) (bits : ℕ) (f : Found) (id : List ℕ) (n : Option ℕ)
+    → (one_text f id ≡ None → n ≡ None)
+    → ((t : List ℕ) → one_text f id ≡ Some t → ReadsOne {T = ℕ} {E = E} (λ bs r. ParsesUnsigned bits 10 bs r × P bs r × Q bs r) t n)
+    → IsNumberOf bits (one_of id (rows_of f)) n
+number_given P Q bits f id n none some =
+    subst (λ (t : Option (List ℕ)). IsNumberOf bits t n) (one_text-rows f id) (number_of P Q bits (one_text f id) n none some)
+
+-- the text that an option has, where r is what was found of it
+pub text_is : (f : Found) (id : List ℕ) (r o : Option (Bor (List ℕ))) → option_map (λ s. s.now) r ≡ first_value f id → r ≡ o
+    → unwrap_or (option_map (λ s. s.now) o) [] ≡ text_set (rows_of f) id
+text_is f id r o is found =
+    ap (λ (x : Option (Bor (List ℕ))). unwrap_or (option_map (λ s. s.now) x) []) (sym found)
+    ∙ ap (λ (t : Option (List ℕ)). unwrap_or t []) (is ∙ first_value-rows f id)

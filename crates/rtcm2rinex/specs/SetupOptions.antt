@@ -1,0 +1,73 @@
+-- What the options of `convert` tell a conversion.
+use Rattle.std.specs.Prelude.{◌≡◌, ◌<◌, ◌^◌, ℕ, List, [], ◌∷◌, map, Option, Some, None, Result, Ok, Err, codes, unwrap_or, not, ◌⊎◌}
+use Rattle.std.specs.Str.{bytes_eq}
+use Rattle.std.specs.Str.Parse.{IsNumeral, digits_value, without_leading_plus}
+use Rattle.clap.specs.Walk.{Row, first_of, one_of, rows_of}
+use Rattle.clap.specs.Matches.{found_of}
+use Rattle.clap.specs.declared.parser.matches.ArgMatches.{ArgMatches}
+use Rattle.obs_epoch.specs.Kinds.{is_by_bit}
+use Rattle.obs_epoch.specs.Plans.{plan_of}
+use Rattle.obs_epoch.specs.declared.fault.PlanFault.TheVariants as plans
+use Rattle.rinex_file.specs.Texts.{HeaderLists, trimmed_texts, first_fault, fields}
+use Rattle.obs_epoch.specs.declared.cell.StationValues.{StationValues}
+use Rattle.rtcm_convert.specs.SetupValues.{Start}
+use Rattle.rtcm_convert.specs.declared.setup.Setup.{Setup}
+use Rattle.rtcm2rinex.specs.Lengths.{values_in}
+use Rattle.rtcm2rinex.specs.declared.fault.ToolFault.{ToolFault}
+use Rattle.rtcm2rinex.specs.declared.fault.ToolFault.TheVariants as faults
+
+-- the options of the command line, as clap's definitions list them
+abbrev pub options_of : ArgMatches → List Row
+options_of m = rows_of (found_of m)
+
+-- the text that an option has; an option that has none counts as empty
+abbrev pub text_set : List Row → List ℕ → List ℕ
+text_set options name = unwrap_or (first_of name options) []
+
+-- the texts of the header, each by the option of its name
+abbrev pub texts_set : List Row → HeaderLists
+texts_set options =
+    map (text_set options)
+    (codes "run-by" ∷ codes "date" ∷ codes "marker" ∷ codes "marker-type" ∷ codes "observer" ∷ codes "agency"
+    ∷ codes "rec-number" ∷ codes "rec-type" ∷ codes "rec-version" ∷ codes "ant-number" ∷ codes "ant-type" ∷ [])
+
+-- a text spells a number of so many bits
+abbrev pub SpellsNumber : ℕ → List ℕ → Type 0
+SpellsNumber bits text = IsNumeral 10 (without_leading_plus text) × (digits_value 10 (without_leading_plus text) < 2 ^ bits)
+
+-- the number of so many bits that a text spells, if there is a text and it spells one
+abbrev pub IsNumberOf : ℕ → Option (List ℕ) → Option ℕ → Type 0
+IsNumberOf bits None n = n ≡ None
+IsNumberOf bits (Some text) None = SpellsNumber bits text → ⊥
+IsNumberOf bits (Some text) (Some n) = SpellsNumber bits text × (n ≡ digits_value 10 (without_leading_plus text))
+
+-- an option's number, or another where it has none
+abbrev pub IsNumberOr : ℕ → ℕ → Option (List ℕ) → ℕ → Type 0
+IsNumberOr bits otherwise text n = (found : Option ℕ) × IsNumberOf bits text found × (n ≡ unwrap_or found otherwise)
+
+-- The setup of a conversion has the value of each option, by its name.
+pub record IsSetupOf (options : List Row) (x : Setup) : Type 0 where
+  pub texts : x.texts ≡ trimmed_texts (texts_set options)
+  pub plan : plan_of (text_set options (codes "gps")) (text_set options (codes "galileo")) ≡ Ok x.plan
+  pub week : IsNumberOr 32 0 (one_of (codes "week") options) x.start_week
+  pub station : IsNumberOf 16 (one_of (codes "station") options) x.station
+  pub gather : is_by_bit x.gather ≡ not (bytes_eq (text_set options (codes "gather")) (codes "time"))
+  pub limit : IsNumberOr 64 (2 ^ 48) (one_of (codes "limit") options) x.limit
+
+-- the station values that the options give, or which of the two isn't one
+abbrev pub values_by_message : List Row → Result StationValues ToolFault
+values_by_message options = values_in (text_set options (codes "position")) (text_set options (codes "antenna-height"))
+
+-- what the options start a conversion with
+abbrev pub IsStartOf : List Row → Start → Type 0
+IsStartOf options x = IsSetupOf options x.setup × (values_by_message options ≡ Ok x.initial)
+
+-- Nothing can be converted with these options: the position or the height is none; or a text of the header has this fault; or all of these are
+-- good and the plan has, or memory ran out for it.
+abbrev pub IsSetupRefused : List Row → ToolFault → Type 0
+IsSetupRefused options faults.BadPosition = values_by_message options ≡ Err faults.BadPosition
+IsSetupRefused options faults.BadHeight = values_by_message options ≡ Err faults.BadHeight
+IsSetupRefused options (faults.Header e) = first_fault (texts_set options) None fields ≡ Some e
+IsSetupRefused options (faults.Plan e) = (first_fault (texts_set options) None fields ≡ None)
+    × ((e ≡ plans.Memory) ⊎ (plan_of (text_set options (codes "gps")) (text_set options (codes "galileo")) ≡ Err e))
+IsSetupRefused options other = ⊥
