@@ -37,7 +37,7 @@ count_of g cells = length (filter (is_of_signal g) cells)
 abbrev pub signal_in : System → ℕ → SignalAt
 signal_in system i = record { system = system; index = i }
 
--- ---- what others see of a census: how many cells of each signal were counted, by its place in its system's table
+-- ---- the counts by signal: how many cells of each signal were counted, by its place in its system's table
 
 pub record SignalCountsValue : Type 0 where
   pub gps : List ℕ

@@ -2,7 +2,7 @@
 //!
 //! A [`Plan`] is the list of wanted signals. A [`GpsTime`] counts milliseconds and has a date. A
 //! [`Gatherer`] takes the messages of a station one by one and returns each [`Epoch`] as soon as it
-//! is closed. A [`Census`] counts the cells of messages, signal by signal.
+//! is closed. [`SignalCounts`] are the numbers of cells of messages, signal by signal.
 #![tactic(auto)]
 
 mod cell;

@@ -252,7 +252,7 @@ pub file_shown : (s : Progress) (taken : List (List ℕ)) → s.expected ≡ Epo
 file_shown s taken expected sound some are =
     lines_read s.known.shown s.epochs some (sound_between s expected sound).0.starts ∙ sym (subst (λ d. AreLinesAt s d taken) expected are)
 
--- ---- where a course may not end
+-- ---- when a file may not end
 
 no_epochs : (es : List Stamped) (n : ℕ) → n ≡ length es → (0 < n → ⊥) → es ≡ []
 no_epochs [] n size never = refl

@@ -20,7 +20,7 @@ pub record History : Type 0 where
 abbrev pub nothing : History
 nothing = record { epochs = []; rows = [] }
 
--- what was read where a course stands after this history
+-- what was read if a parser state has this history
 abbrev pub progress_at : ParserState → History → Progress
 progress_at c h = record { expected = c.expected; known = c.head; epochs = h.epochs; change = c.change; time = c.time; rows = h.rows }
 
@@ -41,7 +41,7 @@ changes_of (Some v) = 1
 abbrev pub events_in : List Stamped → ℕ
 events_in epochs = sum_by (λ e. changes_of e.change) epochs
 
--- a course stands after this history
+-- the parser state after this history
 pub record FollowsHistory (c : ParserState) (h : History) : Type 0 where
   pub sound : IsSound (progress_at c h)
   pub last : EndsIn (map time_stamped h.epochs) c.last
@@ -63,7 +63,7 @@ with_satellite h seen = record { epochs = h.epochs; rows = h.rows ++ seen ∷ []
 abbrev pub with_epoch : History → Option StationValues → ℕ → History
 with_epoch h change time = record { epochs = h.epochs ++ stamped_at change time h.rows ∷ []; rows = [] }
 
--- the history with what a line added, after which the course stands
+-- the history with what a line added
 abbrev pub with_line : Added → ParserState → History → History
 with_line NoRow c h = h
 with_line OneRow c h = with_satellite h c.seen
@@ -81,13 +81,13 @@ ShowsLine old new line = (taken : List (List ℕ)) → AreLinesOf old taken → 
 abbrev pub RefusesLine : Progress → List ℕ → Type 0
 RefusesLine s line = (v : FileValue) (left : List (List ℕ)) → HasLinesLeft s v (line ∷ left) → ⊥
 
--- a line was taken: it may follow whatever was read, and the course stands after that and what the line adds
+-- a line was accepted: it may follow what was read, and the state has the history with what the line adds
 pub record IsNext (old new : ParserState) (added : Added) (line : List ℕ) (h : History) : Type 0 where
   pub stands : FollowsHistory new (with_line added new h)
   pub follows : GoesOnWithLine (progress_at old h) (progress_at new (with_line added new h)) line
   pub shows : ShowsLine (progress_at old h) (progress_at new (with_line added new h)) line
 
--- what a course does with a line
+-- the result of a line
 abbrev pub TakesLine : ParserState → ParserState → List ℕ → Result Added Refusal → Type 0
 TakesLine old new line (Ok added) = (h : History) → FollowsHistory old h → IsNext old new added line h
 TakesLine old new line (Err Bad) = (h : History) → FollowsHistory old h → RefusesLine (progress_at old h) line

@@ -13,5 +13,5 @@ pub returns : goal.returns
 returns c =
     let w = c.args.file.now in
     all_appended _ w c.index.result.now c.new-text.result.items c.add_header.new.text.items c.add_epochs.new.text.items c.file.view_is c.file.invariant.0 c.index.ensures c.new-text.ensures.items
-    (c.in_ok-add_header.ensures ∙ ap (λ (f : Stamped). c.new-text.result.items ++ header_text w.texts w.plan w.values f.time) c.after-file.view_is)
+    (c.in_ok-add_header.ensures ∙ ap (λ (f : Stamped). c.new-text.result.items ++ header_text w.texts w.plan w.values f.time) c.behind-file.view_is)
     (c.in_ok-add_epochs.ensures ∙ ap (λ (es : List Stamped). c.add_header.new.text.items ++ flat_map stamped_text es) c.as_slice.ensures.value)
