@@ -3,6 +3,6 @@
 #![tactic(auto)]
 
 #[cfg(test)]
-mod rinex_file;
+mod rinex_file_tests;
 #[cfg(test)]
-mod rtcm_convert;
+mod rtcm_convert_tests;
