@@ -38,7 +38,7 @@ fn add_message_number(line: &mut Line, message: &[u8])
 }
 
 /// Returns the line of a frame's message; one that is neither read nor refused has none.
-// Inlined here and below, each line's buffer would be cleared for every frame.
+// Inlined into the loop of `frames`, its buffers would be cleared for every frame.
 #[inline(never)]
 pub fn message_line(frame: &Frame) -> Option<Line>
     ensures { MatchOption result (show_line (framed frame.now) ≡ []) (λ line. line ≡ show_line (framed frame.now)) }
@@ -53,7 +53,6 @@ pub fn message_line(frame: &Frame) -> Option<Line>
 
 /// The line of a station message: place, number, station, X, Y and Z in metres, and the height of a
 /// 1006.
-#[inline(never)]
 fn station_line(offset: u64, station: StationParts) -> Line
     requires { InRange station }
     ensures { result ≡ station_line offset station }
@@ -93,7 +92,6 @@ fn station_number(height: Option<u16>) -> u64
 
 /// The line of an MSM: place, number, station, time, DF393, and how many satellites, signals and
 /// cells it has.
-#[inline(never)]
 fn msm_line(offset: u64, msm: &MsmView<'_>) -> Line
     ensures { result ≡ msm_line offset (message_number msm.now.form msm.now.msm.is_galileo) msm.now.msm }
 {
@@ -111,7 +109,6 @@ fn msm_line(offset: u64, msm: &MsmView<'_>) -> Line
 }
 
 /// The line of a refused message: place, number and fault.
-#[inline(never)]
 fn fault_line(offset: u64, message: &[u8], fault: MsgFault) -> Line
     requires { length message.now ≤ longest_message }
     ensures { result ≡ fault_line offset message.now fault }
