@@ -66,7 +66,7 @@ moved held near new line line' room feed count is most bound none found e rest p
 pub moved_of : (b : Bool) (held old new line line' : List ℕ) → held ≡ old → MovesBytes b held new line line' → MovesBytes b old new line line'
 moved_of b held old new line line' e m = subst (λ (o : List ℕ). MovesBytes b o new line line') e m
 
--- what is left where some of the bytes were moved
+-- the bytes that are left after some were moved
 pub left_ahead : (bytes : List ℕ) (at end count : ℕ) → count ≤ end - at → take (end - (at + count)) (drop (at + count) bytes) ≡ drop count (take (end - at) (drop at bytes))
 left_ahead bytes at end count few =
     let size : end - at ≡ count + (end - (at + count)) = omega (arith, few) in
@@ -108,7 +108,7 @@ leaves_more a b c (xs, first) (ys, next) = (xs ++ ys, Consumes-trans a b c xs ys
 pub leaves_all : (a : Option (List ℕ)) → LeavesRest a a
 leaves_all a = ([], Consumes-nil a)
 
--- nothing is left ahead, nor of the reader
+-- no byte is left ahead, nor of the reader
 pub at_end : (ahead : List ℕ) (r : Option (List ℕ)) → ahead ≡ [] → IsAtEnd r → IsAtEnd (prepend_known ahead r)
 at_end ahead None none end = tt
 at_end ahead (Some x) none end = ap (λ l. l ++ x) none ∙ end
@@ -127,7 +127,7 @@ differ e = cc
 pub not_failed : (found : Found) (P : Type 0) → is_failed found ≡ false → found ≡ Failed → P
 not_failed found P isnt e = absurd (differ (sym isnt ∙ ap is_failed e))
 
--- ---- what a line holds where no more is read
+-- ---- the bytes of a line if no more is read
 
 pub is_full : (n most : ℕ) → true ≡ nat_eq n most → n ≡ most
 is_full n most same = grind arith

@@ -7,12 +7,12 @@ use Rattle.rinex_file.specs.Value.{FileValue}
 use Rattle.rinex_file.specs.Header.{header_lines}
 use Rattle.rinex_file.specs.File.{header_text}
 
--- a call that failed promises nothing
+-- nothing is promised of a call that failed
 pub failed : {A E : Type 0} (Q : E → Type 0) (r : Result A E) (P : Type 0) → IsErrAnd r Q → OnOk r P
 failed Q (Ok x) P h = absurd h
 failed Q (Err e) P h = tt
 
--- a part went over from what is left to what was appended
+-- a part was moved from what is left to what was appended
 pub passed : (text part rest new whole : List ℕ) → text ++ (part ++ rest) ≡ whole → new ≡ text ++ part → new ++ rest ≡ whole
 passed text part rest new whole before e = ap (λ l. l ++ rest) e ∙ append_assoc text part rest ∙ before
 

@@ -1,4 +1,4 @@
--- Where a reading goes on from one line of an epoch to the next.
+-- The steps of a reading from one line of an epoch to the next.
 use Rattle.std.proofs.Common.{arith, ◌≡◌, ℕ, suc, ◌+◌, ◌<◌, ◌≤◌, List, [], ◌∷◌, ◌++◌, refl, sym, ap, subst, ◌∙◌, length, append_assoc, append-nil, zero-add, length-append, drop, get_or, Option, Some, None, Bool, true, false}
 use Rattle.std.specs.Prelude.{All, map, flat_map, if◌then◌else◌, nat_lt}
 use Rattle.std.specs.List.Sorted.{IsStrictlyIncreasing}
@@ -83,7 +83,7 @@ same_epoch e c t h k = made e.change c e.time t e.rows h k
 abbrev SameLine : ℕ → ℕ → ℕ → ℕ → Type 0
 SameLine u m t n = ◌≡◌ {A = ℕ × ℕ} (u, m) (t, n)
 
--- what follows where the line of an epoch does, after this change of station values
+-- what follows if the first line of an epoch is next, after this change of station values
 pub record EpochNext (s : Progress) (c : Option StationValues) (v : FileValue) (line : List ℕ) (left : List (List ℕ)) : Type 0 where
   pub e : Stamped
   pub es : List Stamped
@@ -116,7 +116,7 @@ some_epochs : (es others : List Stamped) (e : Stamped) (w : StationValues) → I
 some_epochs [] others e w first is = let none : e.change ≡ None = first in cc
 some_epochs (x ∷ xs) others e w first is = omega arith
 
--- no event begins with the line, or none may stand here
+-- no event begins with the line, or none is allowed here
 abbrev pub NoEvent : Progress → List ℕ → Type 0
 NoEvent s line = (0 < length s.epochs) × (line ≡ event_line) → ⊥
 
@@ -170,7 +170,7 @@ may_begin s c v line left next = (
   },
 )
 
--- an epoch's time and the number of its satellites, where it may begin
+-- an epoch's time and the number of its satellites, if it may begin
 abbrev pub Begins : Progress → ℕ × ℕ → Type 0
 Begins s w = IsTime w.0 × MayBegin s w.0 w.1
 
@@ -233,7 +233,7 @@ pub changed_shows : (s : Progress) (w : StationValues) (t n : ℕ) (line : List 
 changed_shows s w t n line expected none shown taken are =
     begun_lines (whole_lines s.known.shown s.epochs) taken (change_lines (Some w)) line t n (Some w) s.rows none (subst (λ d. AreLinesAt s d taken) expected are) refl shown
 
--- ---- what holds where the line of an epoch is taken
+-- ---- what holds after the first line of an epoch is accepted
 
 no_rows : (gps galileo : ℕ) → AreSatelliteRows gps galileo []
 no_rows gps galileo = record { each = All-nil (IsSatelliteRow gps galileo); rise = λ k h. absurd (omega (arith, h)) }
@@ -265,7 +265,7 @@ sound_begun s c t n read none may time change same = (
 
 -- ---- the line of a satellite
 
--- what follows where satellites are due and a line does
+-- what follows if satellites are expected and a line is next
 pub record RowNext (s : Progress) (n : ℕ) (v : FileValue) (line : List ℕ) (left : List (List ℕ)) : Type 0 where
   pub seen : SatelliteRow
   pub more : List SatelliteRow
@@ -382,7 +382,7 @@ from_none s v left [] others count value starts rest =
       rest = rest;
     }
 
--- ---- what holds where the line of a satellite is taken
+-- ---- what holds after the line of a satellite is accepted
 
 pub sound_open : (s : Progress) (n : ℕ) → s.expected ≡ Satellite n → IsSound s → AreRead s × IsBegun s × (0 < n) × (length s.rows + n ≤ most_rows (length s.known.shown.plan.gps) (length s.known.shown.plan.galileo))
 sound_open s n expected sound = subst (λ d. IsSoundAt s d) expected sound

@@ -1,4 +1,4 @@
--- A satellite's cells, each put at its signal's place in the plan.
+-- A satellite's cells, each stored at its signal's index in the plan.
 use Rattle.std.proofs.Common.{arith, ◌≡◌, ◌∙◌, sym, ap, ap₂, refl, subst, ℕ, ℤ, zero, suc, ◌+◌, ◌*◌, ◌-◌, ◌<◌, ◌≤◌, List, [], ◌∷◌, ◌++◌, map, take, drop, length, replicate, get_or, append_assoc, append-nil, length-append, take-append-drop, Bool, true, false, not, ◌==◌, ◌&&◌, Option, Some, None, slice_set}
 use Rattle.std.specs.Prelude.{◌≢◌, ◌||◌, nat_eq, nat_lt, find, flat_map, position, All, is_some, if◌then◌else◌, cond}
 use Rattle.std.specs.Option.{option_map_or}
@@ -17,7 +17,7 @@ use Rattle.rinex_file.specs.Lines.{field, lli_byte, strength_byte, signal_text}
 use Rattle.rinex_file.proofs.HeaderText.{trimmed-blanks}
 use Rattle.rinex_file.proofs.RowText.{if_fits}
 
--- ---- a part of a text is written over
+-- ---- a part of a text is overwritten
 
 pub put_more : (front rest new : List ℕ) (n k : ℕ) → length front ≡ n → take n (front ++ rest) ++ (new ++ drop k (drop n (front ++ rest))) ≡ (front ++ new) ++ drop k rest
 put_more front rest new n k l =
@@ -48,7 +48,7 @@ pub same_text : (e : SignalValues) (a b c d : List ℕ) (lost strength : ℕ) �
 unfolding signal_text
 same_text e a b c d lost strength s l fa fb fc fd = cc
 
--- ---- what a cell in front changes
+-- ---- what a cell before others changes
 
 pub found_first : (c : Cell) (rest : List Cell) (id index : ℕ) → is_of_key id index c ≡ true → signal_values_at (c ∷ rest) id index ≡ signal_values_of c
 found_first c rest id index is = ap (λ b. option_map_or signal_values_of (if b then Some c else find (is_of_key id index) rest) no_signal_values) is
@@ -80,7 +80,7 @@ passed_satellite c rest id (s ∷ signals) apart =
 pub others_stay : (c : Cell) (rest : List Cell) (id other : ℕ) → other ≢ c.signal.index → signal_values_at (c ∷ rest) id other ≡ signal_values_at rest id other
 others_stay c rest id other apart = passed c rest id other (other_signal (c.satellite.id == id) c.signal.index other apart)
 
--- ---- where the signal is planned, and where it isn't
+-- ---- if the signal is planned, and if it isn't
 
 unplanned : (index : ℕ) (signals : List ℕ) (f g : ℕ → SignalValues) → length signals ≤ position_or_len (λ i. i == index) signals → ((other : ℕ) → other ≢ index → f other ≡ g other)
     → map f signals ≡ map g signals
@@ -117,7 +117,7 @@ apart_at s (suc p) (x ∷ signals) all within = apart_at s p signals all.1 (omeg
 differs : (s x y : ℕ) → nat_eq s x ≡ false → x ≡ y → s ≢ y
 differs s x y e f = λ is. grind (arith, e, f, is)
 
--- a list of values with the one at a signal's place replaced
+-- a list of values with the one at a signal's index replaced
 set_place : (p index : ℕ) (signals : List ℕ) (f g : ℕ → SignalValues) → p < length signals → get_or signals p 0 ≡ index → IsDistinct nat_eq signals → ((other : ℕ) → other ≢ index → f other ≡ g other)
     → slice_set (map g signals) p (f index) ≡ map f signals
 unfolding IsDistinct
@@ -130,12 +130,12 @@ set_place (suc p) index (s ∷ signals) f g within here apart same =
 
 -- ---- a satellite's cells
 
--- no cell was put yet
+-- no cell is stored yet
 pub none_put : (id : ℕ) (signals : List ℕ) → map (signal_values_at [] id) signals ≡ replicate (length signals) no_signal_values
 none_put id [] = refl
 none_put id (s ∷ signals) = ap (λ l. no_signal_values ∷ l) (none_put id signals)
 
--- a cell was put at its place
+-- a cell was stored at its index
 pub cell_put : (signals : List ℕ) (id p : ℕ) (c : Cell) (rest : List Cell) → IsDistinct nat_eq signals → position (λ i. i == c.signal.index) signals ≡ Some p → c.satellite.id ≡ id
     → slice_set (map (signal_values_at rest id) signals) p (signal_values_of c) ≡ map (signal_values_at (c ∷ rest) id) signals
 cell_put signals id p c rest apart is own =
@@ -146,7 +146,7 @@ cell_put signals id p c rest apart is own =
       same : (x y : ℕ) → x ≡ y → (x == y) ≡ true
       same x y e = grind (arith, e)
 
--- what cells show fits its columns
+-- the values of cells fit their columns
 none_fit : HaveRoom no_signal_values
 none_fit = record { c = tt; l = tt; d = tt; s = tt; lli = omega arith }
 
@@ -193,7 +193,7 @@ no_value e none =
     let (c, l, d, s) = or_none (is_some e.c) (is_some e.l) (is_some e.d) (is_some e.s) none in
     blank_text e.c e.l e.d e.s (lli_byte e.lli) (strength_byte e.s) (is_none e.c c) (is_none e.l l) (is_none e.d d) (is_none e.s s)
 
--- one signal more without a value
+-- one more signal without a value
 pub blank_more : (values : List SignalValues) (n m : ℕ) (v : SignalValues) → m ≡ n + 1 → n < length values → v ≡ get_or values n v → has_some_value v ≡ false
     → flat_map signal_text (drop m values) ≡ replicate (64 * (length values - m)) 32 → flat_map signal_text (drop n values) ≡ replicate (64 * (length values - n)) 32
 blank_more values n m v next within is none rest =

@@ -72,7 +72,7 @@ padded-two p h =
 split_blanks : (r k : ℕ) → r + k ≡ 10 → replicate {A = ℕ} 10 32 ≡ replicate r 32 ++ replicate k 32
 split_blanks r k e = ap (λ n. replicate {A = ℕ} n 32) (sym e) ∙ sym (replicate-append-replicate {A = ℕ} r k 32)
 
--- digits were put before what stands after ten blanks
+-- digits were written into ten blanks, before the rest
 pub put_in : (old new d tail : List ℕ) (r : ℕ) → old ≡ replicate 10 32 ++ tail → r + length d ≡ 10 → drop r new ≡ d ++ drop 10 old → take r new ≡ take r old
     → new ≡ replicate r 32 ++ (d ++ tail)
 put_in old new d tail r begun there after before =
@@ -122,7 +122,7 @@ ten_digits n h =
     let small : n / 1000 < 10 ^ 10 = omega (arith, h) in
     length-decimal-le 10 (n / 1000) (omega arith) small (omega (arith, small))
 
--- and nine where there is a minus
+-- and nine if there is a minus
 pub nine_digits : (n : ℕ) → n < 10 ^ 12 → length (decimal (n / 1000)) ≤ 9
 nine_digits n h =
     let small : n / 1000 < 10 ^ 9 = omega (arith, h) in

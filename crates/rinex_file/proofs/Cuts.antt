@@ -1,4 +1,4 @@
--- A text whose blanks at the end were cut is had back by filling it up.
+-- A text whose trailing blanks were cut is restored by padding it.
 use Rattle.std.proofs.Common.{arith, ◌≡◌, ℕ, suc, ◌+◌, ◌-◌, ◌<◌, ◌≤◌, List, [], ◌∷◌, ◌++◌, length, replicate, take, get_or, refl, sym, ap, ◌∙◌, true, false, length-append}
 use Rattle.std.specs.Prelude.{◌==◌, if◌then◌else◌}
 use Rattle.std.proofs.lemmas.List.{length-replicate, take_more}
@@ -28,7 +28,7 @@ same_fill part text (k, e) =
     let n : length text - length part ≡ k = omega (arith, l) in
     ap (λ m. part ++ replicate m 32) n ∙ e
 
--- filled up to its whole width, the text is there again
+-- padded to its whole width, the text is restored
 pub fill-trimmed : (width : ℕ) (text : List ℕ) → length text ≡ width → trimmed text ++ replicate (width - length (trimmed text)) 32 ≡ text
 fill-trimmed width text e = ap (λ w. trimmed text ++ replicate (w - length (trimmed text)) 32) (sym e) ∙ same_fill (trimmed text) text (filled text)
 
@@ -38,7 +38,7 @@ length-trimmed text =
     let l : length text ≡ length (trimmed text) + f.0 = ap length (sym f.1) ∙ simp (length-append, length-replicate) in
     omega (arith, l)
 
--- a line has no blank left to cut
+-- a trailing blank is cut
 pub trimmed-blank : (text : List ℕ) → trimmed (text ++ 32 ∷ []) ≡ trimmed text
 unfolding trimmed
 trimmed-blank [] = refl
@@ -51,7 +51,7 @@ keeps b (x ∷ xs) c = refl
 before_cut-other : (b : ℕ) → (b ≡ 32 → ⊥) → before_cut b [] ≡ b ∷ []
 before_cut-other b other = grind arith
 
--- another byte at the end stays
+-- another byte at the end is kept
 pub trimmed-other : (text : List ℕ) (b : ℕ) → (b ≡ 32 → ⊥) → trimmed (text ++ b ∷ []) ≡ text ++ b ∷ []
 unfolding trimmed
 trimmed-other [] b other = before_cut-other b other
@@ -68,7 +68,7 @@ in_front : (b : ℕ) (l : List ℕ) → (b ≡ 32 → ⊥) → before_cut b l �
 in_front b [] other = before_cut-other b other
 in_front b (c ∷ cs) other = refl
 
--- what begins with no blank begins so still
+-- a first byte other than a blank is kept
 pub trimmed-front : (b : ℕ) (bs : List ℕ) → (b ≡ 32 → ⊥) → trimmed (b ∷ bs) ≡ b ∷ trimmed bs
 unfolding trimmed
 trimmed-front b bs other = in_front b (trimmed bs) other

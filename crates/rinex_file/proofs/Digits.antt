@@ -53,7 +53,7 @@ pub ten_pow : (n : ℕ) → 0 < 10 ^ n
 ten_pow zero = omega arith
 ten_pow (suc n) = let h = ten_pow n in rw pow-suc (omega (arith, h))
 
--- ---- a number with zeros in front
+-- ---- a number with leading zeros
 
 pub length-padded : (places n : ℕ) → 0 < places → n < 10 ^ places → n < 2 ^ 64 → length (padded places n) ≡ places
 length-padded places n some small fits =
@@ -123,7 +123,7 @@ or_true : (a : Bool) → (a || true) ≡ true
 or_true true = refl
 or_true false = refl
 
--- a byte in the midst
+-- a byte within a text
 pub has-midst : (c : ℕ) (xs ys : List ℕ) → (c == c) ≡ true → has c (xs ++ c ∷ ys) ≡ true
 has-midst c xs ys same = has-append c xs (c ∷ ys) ∙ ap (λ b. has c xs || (b || has c ys)) same ∙ or_true (has c xs)
 
@@ -189,7 +189,7 @@ length-sign : (b : Bool) → length (sign_text b) ≤ 1
 length-sign true = omega arith
 length-sign false = omega arith
 
--- so many digits before the point
+-- this number of digits before the point
 pub length-fixed : (places digits : ℕ) (z : ℤ) → 0 < places → 0 < digits → unsigned_abs z < 2 ^ 64 → unsigned_abs z / 10 ^ places < 10 ^ digits
     → length (fixed places z) ≤ length (sign_text (is_negative z)) + (digits + (1 + places))
 length-fixed places digits z some any fits bound =

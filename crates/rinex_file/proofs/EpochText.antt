@@ -15,9 +15,9 @@ use Rattle.rinex_file.specs.Lines.{epoch_fields, epoch_line}
 use Rattle.rinex_file.specs.Header.{header_line, first_line}
 use Rattle.rinex_file.proofs.Digits.{length-right, length-padded, length-fixed, not_negative, digits_in-right, digits_in-fixed, digits_in-padded, digits_in-whole}
 
--- ---- fields of stated widths, one after the other
+-- ---- fields of fixed widths, one after the other
 
--- where a field begins
+-- the column at which a field begins
 abbrev start_of : List ℕ → ℕ → ℕ
 start_of ws zero = 0
 start_of [] (suc k) = 0
@@ -30,7 +30,7 @@ total (w ∷ ws) = w + total ws
 skip : (f rest : List ℕ) (w n : ℕ) → length f ≡ w → drop (w + n) (f ++ rest) ≡ drop n rest
 skip f rest w n e = sym (drop-drop n w (f ++ rest)) ∙ ap (drop n) (drop_at f rest w e)
 
--- a field stands in its columns
+-- a field is in its columns
 field_at : (fs : List (List ℕ)) (k : ℕ) (ws tail : List ℕ) → k < length fs → map length fs ≡ ws
     → take (get_or ws k 0) (drop (start_of ws k) (joined fs ++ tail)) ≡ get_or fs k []
 field_at [] k ws tail less e = absurd (omega (arith, less))
@@ -57,7 +57,7 @@ length-joined (f ∷ fs) (w ∷ ws) e =
 
 -- ---- the line of an epoch
 
--- what the columns of a date and time of day have room for
+-- the values that fit the columns of a date and time of day
 pub record HasColumns (t : Civil) : Type 0 where
   pub year : t.year ≤ 9999
   pub month : t.month ≤ 12
@@ -75,7 +75,7 @@ length-two n h = length-padded 2 n (omega arith) (omega (arith, h)) (omega (arit
 two_in : (n : ℕ) → n < 100 → digits_in (padded 2 n) ≡ n
 two_in n h = digits_in-padded 2 n (omega arith) (omega (arith, h)) (omega (arith, h))
 
--- so wide or wider
+-- seconds in 11 columns or more
 length-second : (width s : ℕ) → 11 ≤ width → s < 60_000 → length (right width (fixed 7 (pos (s * 10_000)))) ≡ width
 length-second width s wide h =
     let l = length-fixed 7 2 (pos (s * 10_000)) (omega arith) (omega arith) (omega (arith, h)) (omega (arith, h)) in
@@ -101,7 +101,7 @@ are_wide t n is few =
     (length-two t.month (omega (arith, is.month))) (length-two t.day (omega (arith, is.day))) (length-two t.hour (omega (arith, is.hour))) (length-two t.minute (omega (arith, is.minute)))
     (length-second 11 t.millisecond (omega arith) is.millisecond) (length-whole 3 n (omega arith) (omega (arith, few)) (omega (arith, few)))
 
--- what the columns of an epoch's line show
+-- the values in the columns of an epoch's line
 pub record ShowEpoch (t : Civil) (n : ℕ) (line : List ℕ) : Type 0 where
   pub long : 35 ≤ length line
   pub year : digits_in (take 4 (drop 2 line)) ≡ t.year
@@ -157,7 +157,7 @@ first_wide t is =
 six_in : (n : ℕ) → n < 10_000 → digits_in (right 6 (decimal n)) ≡ n
 six_in n few = digits_in-whole 6 n (omega (arith, few))
 
--- what the columns of this line show
+-- the values in the columns of this line
 pub record ShowFirst (t : Civil) (line : List ℕ) : Type 0 where
   pub long : 43 ≤ length line
   pub year : digits_in (take 6 line) ≡ t.year
@@ -228,7 +228,7 @@ same_civil t u p q r s v w = same_parts t.year t.month t.day t.hour t.minute t.m
 abbrev pub of_numbers : ℕ → ℕ → ℕ → ℕ → ℕ → ℕ → Civil
 of_numbers a b c d e f = record { year = a; month = b; day = c; hour = d; minute = e; millisecond = f }
 
--- numbers are those of a date, as far as their types have room for them
+-- a date is read back although each number is limited to the largest value of its type
 pub are_read : (t : Civil) (a b c d e f year month day hour minute second : ℕ) → HasColumns t
     → a ≡ min year 65_535 → b ≡ min month 255 → c ≡ min day 255 → d ≡ min hour 255 → e ≡ min minute 255 → f ≡ min (second / 10_000) 65_535
     → year ≡ t.year → month ≡ t.month → day ≡ t.day → hour ≡ t.hour → minute ≡ t.minute → second ≡ t.millisecond * 10_000 → of_numbers a b c d e f ≡ t

@@ -1,4 +1,4 @@
--- Where a reading goes on from one line of an event to the next.
+-- The steps of a reading from one line of an event to the next.
 use Rattle.std.proofs.Common.{arith, lit<, ◌≡◌, ◌≢◌, ℕ, zero, suc, ◌<◌, ◌^◌, ◌-◌, ◌*◌, ◌/◌, ◌%◌, unsigned_abs, w64, to_z, of_z, ℤ, pos, get_or, List, [], ◌∷◌, ◌++◌, refl, sym, ap, subst, ◌∙◌, length, drop, append_assoc, replicate, decimal, Option, Some, None, Bool, true, false}
 use Rattle.std.specs.Prelude.{⊤, ◌||◌, flat_map, codes}
 use Rattle.std.specs.Int.{is_negative}
@@ -86,7 +86,7 @@ event_begins s v line left (e ∷ es) shown value starts rest = by e.change refl
         rest = after ∙ ap (λ l. drop 1 l ++ Others es) (sym (lines_are e (Some w) h));
       }
 
--- the same of what was read where another line is due
+-- the same of what was read, with another line expected
 to_next : (s : Progress) (d : Expected) (k : ℕ) (Show : StationValues → Type 0) (v : FileValue) (left : List (List ℕ)) → IsInEvent s k Show v left → IsInEvent (expected_next s d) k Show v left
 to_next s d k Show v left h = record {
   next = h.next;
@@ -115,7 +115,7 @@ event_shows s line expected shown taken are =
 lines_more : (whole taken before : List (List ℕ)) (line shown : List ℕ) → taken ≡ whole ++ before → line ≡ shown → taken ++ line ∷ [] ≡ whole ++ (before ++ shown ∷ [])
 lines_more whole taken before line shown e same = ap (λ l. l ++ line ∷ []) e ∙ append_assoc whole before (line ∷ []) ∙ ap (λ l. whole ++ (before ++ l ∷ [])) same
 
--- the station values of an event are other ones than those before
+-- the station values of an event differ from those before
 values_in_range : (s : Progress) (v : FileValue) (e : Stamped) (others : List Stamped) (w : StationValues) → IsFileValue v → v ≡ file_with s (s.epochs ++ e ∷ others) → e.change ≡ Some w
     → IsChange (values_now s) (Some w)
 values_in_range s v e others w is value change =
@@ -133,7 +133,7 @@ IsPosition p = IsCoordinate p.0 × IsCoordinate p.1 × IsCoordinate p.2
 abbrev SamePosition : ℤ × ℤ × ℤ → ℤ × ℤ × ℤ → Type 0
 SamePosition p q = p ≡ q
 
--- what follows where a line of an event does
+-- what follows if the position of an event is next
 record PositionNext (s : Progress) (v : FileValue) (line : List ℕ) (left : List (List ℕ)) : Type 0 where
   pub event : IsInEvent s 2 (λ w. line ≡ position_line w) v left
   pub are : AreValues event.values
@@ -159,7 +159,7 @@ position_next s v line left expected (is, at) =
       are = (values_in_range s v here.next here.others here.values is here.value here.change).0;
     }
 
--- what a number is after its bits
+-- a number after its conversion to 64 bits and back
 abbrev pub back : ℤ → ℤ
 back z = to_z w64 (of_z w64 z)
 
@@ -282,7 +282,7 @@ height_shows s x y z h w line expected shown named taken are =
     lines_more whole taken (event_line ∷ position_line (at_position x y z) ∷ []) line (height_text h) (subst (λ d. AreLinesAt s d taken) expected are) shown
     ∙ ap (λ (u : StationValues). whole ++ event_lines u) (sym named)
 
--- ---- what holds where a line of an event is taken
+-- ---- what holds after a line of an event is accepted
 
 some_read : (es : List Stamped) → 0 < length es → es ≢ []
 some_read es some none = let size : length es ≡ 0 = ap length none in omega (arith, size, some)

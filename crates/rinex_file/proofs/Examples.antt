@@ -1,4 +1,4 @@
--- The text of a small file, and lines with a value that is missing, negative or at its limit.
+-- The text of a small file, and lines with a value that is absent, negative or at its limit.
 use Rattle.std.proofs.Common.{◌≡◌, ℕ, ◌+◌, ◌*◌, List, [], ◌∷◌, ◌++◌, refl, Some, None, map}
 use Rattle.std.specs.Prelude.{codes, pos, negsuc}
 use Rattle.std.specs.Fmt.{digits}

@@ -1,4 +1,4 @@
--- The lines that were taken are begun, and of which kind the next one is.
+-- Some file may begin with the accepted lines, and the kind of the next line is known.
 use Rattle.std.proofs.Common.{arith, ◌≡◌, sym, ap, subst, refl, ℕ, zero, suc, ◌+◌, ◌<◌, ℤ, pos, List, [], ◌∷◌, length, Option, IfSome, inl, inr}
 use Rattle.std.specs.Prelude.{Some}
 use Rattle.obs_epoch.specs.declared.cell.StationValues.{StationValues}

@@ -29,7 +29,7 @@ not_longer w n e = grind (arith, e)
 pub short : (f : HeaderField) (text : List ℕ) → fault_of f text ≡ None → length (trimmed text) ≤ width_of f
 short f text e = not_longer (width_of f) (length (trimmed text)) (judged f (list_all is_printable text) (nat_lt (width_of f) (length (trimmed text))) e)
 
--- ---- and are printable without a blank at their end
+-- ---- and are printable without trailing blanks
 
 both_hold : (a b : Bool) → (a && b) ≡ true → (a ≡ true) × (b ≡ true)
 both_hold true b h = (refl, h)

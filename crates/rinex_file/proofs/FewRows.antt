@@ -54,7 +54,7 @@ after_galileo false k r n low some high h = omega (arith, low, some, high, h)
 is_planned : (n : ℕ) → 0 < n → nat_lt 0 n ≡ true
 is_planned n h = grind (arith, h)
 
--- a satellite takes one of the ranks that are left
+-- a satellite has one of the ranks that are left
 one_less : (gps galileo k r n : ℕ) (system : System) → 0 < of_system system gps galileo → (1 ≤ r) × (r ≤ satellites system) → k ≤ of_system system r (100 + r)
     → n ≤ room (nat_lt 0 gps) (nat_lt 0 galileo) (of_system system r (100 + r) + 1) → suc n ≤ room (nat_lt 0 gps) (nat_lt 0 galileo) k
 one_less gps galileo k r n Gps planned number low h =
@@ -66,7 +66,7 @@ one_less gps galileo k r n Galileo planned number low h =
     let left : n ≤ room (nat_lt 0 gps) true ((100 + r) + 1) = subst (λ b. n ≤ room (nat_lt 0 gps) b ((100 + r) + 1)) is h in
     subst (λ b. suc n ≤ room (nat_lt 0 gps) b k) (sym is) (after_galileo (nat_lt 0 gps) k r n low number.0 number.1 left)
 
--- the first is not below k
+-- the first number, if there is one, is at least k
 FromFirst : ℕ → List ℕ → Type 0
 FromFirst k xs = 0 < length xs → k ≤ slice_index xs 0
 

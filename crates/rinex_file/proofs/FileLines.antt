@@ -1,4 +1,4 @@
--- The lines of a file value are lines, and none is longer than what is read as one.
+-- The lines of a file value are lines, and none is longer than the largest line that is read.
 use Rattle.std.proofs.Common.{arith, lit≤, ◌≡◌, ◌∙◌, ap, refl, sym, subst, ℕ, suc, ◌+◌, ◌*◌, ◌^◌, ◌<◌, ◌≤◌, ℤ, pos, negsuc, unsigned_abs, Bool, true, false, Option, Some, None, IfSome, List, [], ◌∷◌, ◌++◌, length, replicate, decimal, get_or, append_assoc}
 use Rattle.std.specs.Prelude.{◌==◌, ◌||◌, if◌then◌else◌, nat_lt, map, flat_map, All, codes}
 use Rattle.std.specs.Int.{is_negative}

@@ -1,4 +1,4 @@
--- What was gathered of messages is a file value.
+-- Epochs that were gathered from messages make a file value.
 use Rattle.std.proofs.Common.{◌≡◌, ℕ, zero, suc, ℤ, ◌+◌, ◌<◌, ◌≤◌, ◌==◌, Bool, true, false, ◌||◌, ◌&&◌, List, [], ◌∷◌, ◌++◌, filter, map, length, get_or, refl, sym, ap, ap₂, ◌∙◌, subst, arith, Option, Some, None, is_some}
 use Rattle.std.specs.Prelude.{if◌then◌else◌, cond, find, IsTrue, Any, slice_index}
 use Rattle.std.specs.Option.{option_map_or}
@@ -42,7 +42,7 @@ all_map : {X Y : Type 0} (f : X → Y) (P : X → Type 0) (Q : Y → Type 0) →
 all_map f P Q h [] k = tt
 all_map f P Q h (x ∷ xs) k = (h x k.0, all_map f P Q h xs k.1)
 
--- ---- numbers that rise
+-- ---- numbers in ascending order
 
 -- each before all after it
 abbrev Rise : List ℕ → Type 0
@@ -125,7 +125,7 @@ are_entries : (system : System) (signals ss : List ℕ) (id : ℕ) (cells : List
 are_entries system signals [] id cells h = tt
 are_entries system signals (i ∷ ss) id cells h = (found_entry system signals id i cells h, are_entries system signals ss id cells h)
 
--- ---- a cell that says something is the one that its entry is made of
+-- ---- a cell with a value is the one that its entry is made of
 
 record IsFoundIn (P : Cell → Type 0) (cells : List Cell) (id : ℕ) : Type 0 where
   cell : Cell
@@ -339,7 +339,7 @@ changes_are plan v (e ∷ es) h =
 first_same : (v : StationValues) → change_from v v ≡ None
 first_same v = ap (λ (b : Bool). if b then None else Some v) (same_self v)
 
--- where a satellite is written a signal is planned
+-- if a satellite is written, a signal is planned
 planned_by : (gps galileo : ℕ) (rows : List SatelliteRow) → AllByRecursion (IsSatelliteRow gps galileo) rows → 0 < length rows → 0 < gps + galileo
 planned_by gps galileo [] h some = absurd (omega (arith, some))
 planned_by gps galileo (r ∷ rows) h some = by r.system h.0.planned where

@@ -1,4 +1,4 @@
--- A text that grew part after part.
+-- A text to which parts were appended.
 use Rattle.std.proofs.Common.{◌≡◌, ◌∙◌, sym, ap, ℕ, List, [], ◌∷◌, ◌++◌, append_assoc, append-nil}
 use Rattle.rinex_file.specs.Numbers.{joined}
 

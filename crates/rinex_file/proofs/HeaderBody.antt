@@ -1,4 +1,4 @@
--- Where a reading goes on from the header to the epochs, and where it ends.
+-- The steps of a reading from the header to the epochs, and its end.
 use Rattle.std.proofs.Common.{arith, lit<, ◌≡◌, ◌↔◌, ℕ, zero, suc, ◌<◌, List, [], ◌∷◌, ◌++◌, refl, sym, ap, subst, ◌∙◌, length, drop, append-nil, append_assoc, Option, Some, None}
 use Rattle.std.specs.Prelude.{⊤, All, map, flat_map}
 use Rattle.std.proofs.lemmas.List.Elements.{All-head, All-nil}
@@ -20,7 +20,7 @@ use Rattle.rinex_file.specs.ParserState.{History, FollowsHistory, progress_at, G
 use Rattle.rinex_file.proofs.HeaderRows.{some_left}
 use Rattle.rinex_file.proofs.BodySteps.{lines_with, lines_are, sound_open, sound_between}
 
--- what is shown of a file value may be shown
+-- the header of a file value is a header
 pub shown_is : (v : FileValue) (e : Stamped) (es : List Stamped) → v.epochs ≡ e ∷ es → IsFileValue v → IsShown (shown_of v e.time)
 shown_is v e es same is =
     let all : All (IsStamped (length v.plan.gps) (length v.plan.galileo)) (e ∷ es) = subst (All (IsStamped (length v.plan.gps) (length v.plan.galileo))) same is.epochs in
@@ -33,11 +33,11 @@ lines_by_first v e es same = ap (Rattle.rinex_file.specs.File.lines_of_parts v.t
 
 -- ---- a line of the header
 
--- what was read, with another header and another line due
+-- what was read, with another header and another line expected
 abbrev pub known_as : Progress → Known → Expected → Progress
 known_as s k expected = record { expected = expected; known = k; epochs = s.epochs; change = s.change; time = s.time; rows = s.rows }
 
--- what follows where a line of the header is due and a line does
+-- what follows if a line of the header is expected and a line is next
 pub record HeaderNext (s : Progress) (place : ℕ) (v : FileValue) (line : List ℕ) (left : List (List ℕ)) : Type 0 where
   pub first : Stamped
   pub others : List Stamped
@@ -68,7 +68,7 @@ header_next s place v line left expected (is, at) =
     let here : IsInHeader s place v (line ∷ left) = subst (λ d. IsAt s d v (line ∷ left)) expected at in
     from_lines s place v line left here.first here.others here.lines here.epochs here.header here.rest
 
--- a file made of what a header shows
+-- a file made of the contents of a header
 abbrev file_of : Shown → List Stamped → FileValue
 file_of h epochs = record { texts = h.texts; plan = h.plan; values = h.values; epochs = epochs }
 
@@ -200,7 +200,7 @@ event_unfinished s k Show few v here =
       none_after (suc (suc (suc zero))) e w others few h = cc
       none_after (suc (suc (suc (suc k)))) e w others few h = omega (arith, few)
 
--- no epoch is left where no line is
+-- no epoch is left if no line is
 none_left : (s : Progress) (v : FileValue) (others : List Stamped) → IsFileValue v → v ≡ file_with s (s.epochs ++ others) → [] ≡ flat_map stamped_lines others → others ≡ []
 none_left s v [] is value rest = refl
 none_left s v (e ∷ es) is value rest = absurd (by e.change refl) where
@@ -208,7 +208,7 @@ none_left s v (e ∷ es) is value rest = absurd (by e.change refl) where
   by None h = let text : [] ≡ lines_with None e ++ flat_map stamped_lines es = rest ∙ ap (λ l. l ++ flat_map stamped_lines es) (lines_are e None h) in cc
   by (Some w) h = let text : [] ≡ lines_with (Some w) e ++ flat_map stamped_lines es = rest ∙ ap (λ l. l ++ flat_map stamped_lines es) (lines_are e (Some w) h) in cc
 
--- what was read whole is the only file that goes on without a line
+-- the file that was read whole is the only one that continues without a line
 pub only_file : (s : Progress) → s.expected ≡ Epoch → (v : FileValue) → HasLinesLeft s v [] → v ≡ file_with s s.epochs
 unfolding HasLinesLeft
 only_file s expected v (is, at) =
@@ -274,7 +274,7 @@ unfinished_at c h (Satellite n) same stands never v on = epoch_unfinished (progr
 pub unfinished : (c : ParserState) (h : History) → FollowsHistory c h → ((c.expected ≡ Epoch) × (0 < c.epochs) → ⊥) → (v : FileValue) → HasLinesLeft (progress_at c h) v [] → ⊥
 unfinished c h stands never v on = unfinished_at c h c.expected refl stands never v on
 
--- no satellite is read where an epoch is due
+-- no satellite was read if an epoch is expected
 pub sound_rows : (s : Progress) → s.expected ≡ Epoch → IsSound s → s.rows ≡ []
 sound_rows s expected sound =
     let both : AreRead s × (s.rows ≡ []) = subst (λ d. IsSoundAt s d) expected sound in

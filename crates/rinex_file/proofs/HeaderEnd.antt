@@ -77,7 +77,7 @@ all_said k h is count s =
     (same_values k.shown.values h.values position.0 position.1 position.2 (s.height (lit≤ tt)))
     (s.first (lit≤ tt))
 
--- what a header says of itself
+-- what is known of a whole header is its own content
 said_of_itself : (k : Known) → IsShown k.shown → IsWhole k → KnowsAt 25 k k.shown
 said_of_itself k is whole = record {
   systems = λ s l. (whole.0 s).planned;

@@ -54,7 +54,7 @@ types_high Galileo = lit≤ tt
 pub few_shown : (h : Shown) → IsShown h → (s : System) → length (planned_of s h.plan) ≤ 19
 few_shown h is s = let few = few_planned h.plan is.plan s in let most = few_signals s in omega (arith, few, most)
 
--- the signals that begin before a place are those that begin before the next
+-- the signals that begin before a row are those that begin before the next
 abbrev pub IsStill : ℕ → System → List ℕ → Type 0
 IsStill n s all = take (signals_begun (n - first_types s)) all ≡ take (signals_begun (suc n - first_types s)) all
 
@@ -69,7 +69,7 @@ still n s all few within = less_or (IsStill n s all) n (first_types s)
       grown : (m b : ℕ) → length all ≤ signals_begun (m - b) → length all ≤ signals_begun (suc m - b)
       grown m b fits = omega (arith, fits)
 
--- a place outside the rows of types
+-- an index outside the rows of types
 abbrev pub IsOutside : ℕ → Type 0
 IsOutside n = (s : System) → first_types s ≤ n → n < first_types s + 6 → ⊥
 
@@ -82,9 +82,9 @@ outside_high n far s more few = let high = types_high s in omega (arith, far, fe
 pub still_outside : (n : ℕ) (h : Shown) → IsShown h → IsOutside n → (s : System) → IsStill n s (planned_of s h.plan)
 still_outside n h is out s = still n s (planned_of s h.plan) (few_shown h is s) (λ more few. absurd (out s more few))
 
--- ---- from a place to the next
+-- ---- from a row to the next
 
--- what the row at a place shows is known
+-- the contents of the row at an index are known
 pub record KnowsRow (n : ℕ) (k : Known) (h : Shown) : Type 0 where
   pub systems : n ≡ 0 → (s : System) → plans k s ≡ is_some_planned (planned_of s h.plan)
   pub texts : (i : ℕ) → texts_before n ≤ i → i < texts_before (suc n) → get_or k.shown.texts i [] ≡ get_or h.texts i []
@@ -253,7 +253,7 @@ not_last n k less lacks = less_or (suc n < row_count) n 25 (λ l. omega (arith, 
     let last : known_line k (row_at 25) ≡ false = subst (λ i. known_line k (row_at i) ≡ false) e lacks in
     cc)
 
--- a row without a line is passed over
+-- a row without a line is skipped
 pub skipped : (n : ℕ) (k : Known) → n < row_count → known_line k (row_at n) ≡ false → SameFrom k n (suc n)
 skipped n k less lacks h left =
     let at = placed n less in
@@ -268,7 +268,7 @@ skipped n k less lacks h left =
           record { is = i.is; before = (step i.is none).1 i.before; expected = less; lines = i.lines ∙ sym (lines none) },
     )
 
--- a header that goes on from a place goes on from a later one
+-- a header that continues from a row continues from a later one
 pub open_on : (k new : Known) (a b : ℕ) (next : Option ℕ) → SameFrom k a b → StaysOpen k b new next → StaysOpen k a new next
 open_on k new a b None same stays = tt
 open_on k new a b (Some next) same stays = λ at. stays (record { h = at.h; left = at.left; at = (same at.h at.left).0 at.at })
@@ -343,7 +343,7 @@ step_at n line old new less has r at other learned valid =
 pub none_at : (n : ℕ) (line : List ℕ) (old : Known) → n < row_count → known_line old (row_at n) ≡ true → (r : HeaderRow) → row_at n ≡ r → RefusesHeaderLine r line old → NoneGoesOn old n line
 none_at n line old less has r at refuses = none_on n line old less has (subst (λ q. RefusesHeaderLine q line old) (sym at) refuses)
 
--- the last row is at place 25
+-- the last row is at index 25
 pub last_at : (n : ℕ) → n < row_count → row_at n ≡ End → n ≡ 25
 last_at n less at = sym (placed n less) ∙ ap row_place at
 

@@ -1,4 +1,4 @@
--- What is learned of each line of a header.
+-- What is learned from each line of a header.
 use Rattle.std.proofs.Common.{arith, ◌≡◌, ◌≢◌, ◌∙◌, sym, ap, refl, subst, ℕ, ℤ, pos, zero, suc, lit≤, ◌+◌, ◌-◌, ◌<◌, ◌≤◌, ◌^◌, Bool, true, false, List, [], ◌∷◌, length, get_or, replicate, Option, Some, None, IsTrue, ◌↔◌}
 use Rattle.std.proofs.Common.{w64, to_z, of_z, FitsSigned, neg_ℤ, ◌≤ℤ◌}
 use Rattle.std.proofs.lemmas.Int.{ints, to_z-of_z}
@@ -55,7 +55,7 @@ same_triple a d b e c f = (
 pub put : (r : HeaderRow) (line : List ℕ) (old k new : Known) → k ≡ old → LearnsLine r line k new → LearnsLine r line old new
 put r line old k new e l = subst (λ o. LearnsLine r line o new) e l
 
--- what a line says, before what follows
+-- what is learned from a line: its row, and what was known before it
 learn : (r : HeaderRow) (line : List ℕ) (old new : Known) → IsOutside (row_place r) → row_place r ≢ 0 → ((h : Shown) → KnowsAt (row_place r) old h → KnowsAt (row_place r) new h)
     → ((h : Shown) → IsShown h → (KnowsAt (row_place r) old h × (shown_line h r ≡ line)) ↔ (KnowsAt (row_place r) new h × KnowsRow (row_place r) new h)) → LearnsLine r line old new
 learn r line old new out far frame same = record {
@@ -77,7 +77,7 @@ row_by n k h out none systems position height first = record {
   first = first;
 }
 
--- what is known before a row, with that row's part in place of another
+-- what is known before a row, with that row's part replaced
 values_at : (n : ℕ) (k : Known) (v : StationValues) (h : Shown) → n ≤ 7 → KnowsAt n k h → KnowsAt n (with_values k v) h
 values_at n k v h few a = record {
   systems = a.systems;
@@ -325,7 +325,7 @@ refuse_version k line r h is before e =
     (pair (is_some_planned h.plan.gps) (is_some_planned h.plan.galileo)) r (either_planned (length h.plan.gps) (length h.plan.galileo) is.plan.some)
     (sym (version_same h.plan) ∙ e)
 
--- ---- a coordinate as its bits have it
+-- ---- a coordinate, by its bits
 
 pub coordinate_same : (z : ℤ) → IsCoordinate z → to_z w64 (of_z w64 z) ≡ z
 coordinate_same z is = let fits : FitsSigned w64 z = fits_of z is.0 is.1 in to_z-of_z w64 z fits where

@@ -1,4 +1,4 @@
--- If some header shows what is known before a line, one shows what is known after it.
+-- If some header has what is known before a line, one has what is known after it.
 use Rattle.std.proofs.Common.{arith, ◌≡◌, ◌≢◌, ◌∙◌, sym, ap, refl, subst, ℕ, zero, suc, ◌+◌, ◌-◌, ◌<◌, ◌≤◌, Bool, true, false, eqb, nat_eq, List, [], ◌∷◌, ◌++◌, length, take, append_assoc, append-nil, length-append, All, ◌↔◌}
 use Rattle.std.specs.Prelude.{◌||◌, if◌then◌else◌, min}
 use Rattle.std.specs.List.{list_any, IsDistinct, AllByRecursion}
@@ -260,7 +260,7 @@ all_plan Galileo p all is are = record { listed = listed; apart = apart; some = 
   apart Gps = is.apart Gps
   apart Galileo = are.apart
 
--- as many signals as are said begin with those that were read
+-- the first n signals are those that were read
 begins_all : (n count : ℕ) (signals more : List ℕ) → length signals ≡ min n count → length more ≡ count - length signals → signals ≡ take n (signals ++ more)
 begins_all n count signals [] size rest =
     let low : length signals ≤ n = omega (arith, size) in

@@ -12,11 +12,11 @@ use Rattle.rinex_file.specs.Texts.{HeaderLists}
 use Rattle.rinex_file.specs.Header.{row_line, row_lines, has_line, all_rows, row_count, row_at, row_place, lines_from}
 use Rattle.rinex_file.specs.Read.Progress.{Known, Shown, IsHeaderLeft}
 
--- a row is at its place
+-- a row is at its index
 pub placed : (n : ℕ) → n < row_count → row_place (row_at n) ≡ n
 placed n less = is_equal (row_place (row_at n)) n (passes_at (λ i. row_place (row_at i) == i) 26 n refl less)
 
--- the rows from a place on
+-- the rows from an index on
 rows_next : (n : ℕ) → n < row_count → drop n all_rows ≡ row_at n ∷ drop (suc n) all_rows
 rows_next n less = drop-cons all_rows n End less
 

@@ -1,4 +1,4 @@
--- The texts of a header: put in one by one, and had back from the columns of a line.
+-- The texts of a header: set one by one, and read back from the columns of a line.
 use Rattle.std.proofs.Common.{arith, ◌≡◌, ◌≢◌, ◌∙◌, refl, sym, ap, subst, ℕ, zero, suc, ◌+◌, ◌-◌, ◌<◌, ◌≤◌, ◌==◌, Bool, true, false, List, [], ◌∷◌, ◌++◌, length, take, drop, get_or, replicate, append_assoc, append-nil, length-append}
 use Rattle.std.specs.Prelude.{⊤}
 use Rattle.std.proofs.Math.ListN.{set, length-set}
@@ -22,7 +22,7 @@ trimmed-blanks zero text = ap trimmed (append-nil text)
 trimmed-blanks (suc k) text =
     ap trimmed (sym (append_assoc text (32 ∷ []) (replicate k 32))) ∙ trimmed-blanks k (text ++ 32 ∷ []) ∙ trimmed-blank text
 
--- what was cut is cut
+-- cutting trailing blanks twice is the same as cutting them once
 pub trimmed-trimmed : (text : List ℕ) → trimmed (trimmed text) ≡ trimmed text
 trimmed-trimmed text =
     let f = filled text in
@@ -31,7 +31,7 @@ trimmed-trimmed text =
 length-left : (width : ℕ) (text : List ℕ) → length text ≤ width → length (left width text) ≡ width
 length-left width text short = simp (length-append, length-replicate) (omega (arith, short))
 
--- ---- a text at its place
+-- ---- a text at its index
 
 pub field_back : (field : HeaderField) → field_at (place_of field) ≡ field
 field_back RunBy = refl
@@ -62,11 +62,11 @@ field_less AntType = omega arith
 pub place_back : (i : ℕ) → i < text_count → place_of (field_at i) ≡ i
 place_back i less = is_equal (place_of (field_at i)) i (passes_at (λ j. place_of (field_at j) == j) 11 i refl less)
 
--- the text at a place is a text of its field
+-- the text at an index is a text of its field
 pub text_at : (x : HeaderLists) → AreTexts x → (i : ℕ) → i < text_count → IsText (width_of (field_at i)) (get_or x i [])
 text_at x are i less = subst (λ j. IsText (width_of (field_at i)) (get_or x j [])) (place_back i less) (are.each (field_at i))
 
--- texts by their places
+-- texts by their indices
 pub by_places : (x : HeaderLists) → length x ≡ text_count → ((i : ℕ) → i < text_count → IsText (width_of (field_at i)) (get_or x i [])) → AreTexts x
 by_places x count each = record {
   count = count;
@@ -88,7 +88,7 @@ set_text x place text are less is =
 
 -- ---- the columns of a line
 
--- the columns of texts from a place on begin at this one
+-- the columns of texts from an index on begin at this one
 abbrev AreColumns : ℕ → ℕ → ℕ → Type 0
 AreColumns place zero column = ⊤
 AreColumns place (suc more) column = (column_of (field_at place) ≡ column) × AreColumns (suc place) more (column + width_of (field_at place))

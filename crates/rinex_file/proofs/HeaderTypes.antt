@@ -22,7 +22,7 @@ use Rattle.rinex_file.proofs.HeaderKnown.{still, few_shown, types_low, types_hig
 begun_more : (row : ℕ) → signals_begun row ≤ signals_begun (row + 1)
 begun_more row = omega arith
 
--- what stands in front was taken before
+-- the first of these signals are those that were read before
 pub begun_in_front : (old new all : List ℕ) (row : ℕ) → take (length old) new ≡ old → length old ≡ signals_begun row → new ≡ take (signals_begun (row + 1)) all → old ≡ take (signals_begun row) all
 begun_in_front old new all row grows size is =
     sym grows ∙ ap (λ n. take n new) size ∙ ap (take (signals_begun row)) is ∙ take-take (signals_begun row) (signals_begun (row + 1)) all (begun_more row)
@@ -44,7 +44,7 @@ row_taken system count row line old new grows before size taken = record { taken
         ((b.0, begins), (taken all are (b.0, begins)).1 b.1),
   )
 
--- so many signals were taken before a line that is due
+-- the signals that begin before an expected line are at most all
 begun_within : (row count : ℕ) → row < type_rows count → signals_begun row ≤ count
 begun_within row count expected = omega (arith, expected)
 
@@ -56,7 +56,7 @@ begun_size old all row count expected begun =
     least_of (signals_begun row) count (length old) (begun_within row count expected)
     (ap length begun.1 ∙ length-take (signals_begun row) all ∙ ap (min (signals_begun row)) begun.0)
 
--- and after it
+-- the number of signals that begin in a line and in those before it
 pub begun_next_size : (new all : List ℕ) (row count : ℕ) → length all ≡ count → new ≡ take (signals_begun (row + 1)) all → length new ≡ min (signals_begun (row + 1)) count
 begun_next_size new all row count size is = ap length is ∙ length-take (signals_begun (row + 1)) all ∙ ap (min (signals_begun (row + 1))) size
 
@@ -66,7 +66,7 @@ abbrev other : System → System
 other Gps = Galileo
 other Galileo = Gps
 
--- what holds of a system, and of the other
+-- what holds of a system and of the other holds of every system
 either_system : (P : System → Type 0) (s : System) → P s → P (other s) → (t : System) → P t
 either_system P Gps a b Gps = a
 either_system P Gps a b Galileo = b
@@ -93,7 +93,7 @@ far_other : (s : System) (row : ℕ) → row < 6 → first_types (other s) ≤ f
 far_other Gps row less more few = omega (arith, less, more)
 far_other Galileo row less more few = omega (arith, less, few)
 
--- where the rows of the other are not after, they are before or after all of these
+-- if the other system's rows begin before the next row, they begin before this one
 not_next : (s : System) (row : ℕ) → row < 6 → first_types (other s) < suc (first_types s + row) → first_types (other s) < first_types s + row
 not_next Gps row less more = absurd (omega (arith, less, more))
 not_next Galileo row less more = omega (arith, less)
@@ -127,7 +127,7 @@ next_number : (b row : ℕ) → suc (b + row) - b ≡ row + 1
 next_number b row = omega arith
 
 module _ (k : Known) (s : System) (row : ℕ) (line : List ℕ) (r : Option ℕ) (few : row < 6) (has : known_line k (Types s row) ≡ true) (expected : CountsExpected k s row line r) where
-  -- what a header shows that has the line
+  -- a header that has the line
   record IsAtRow (h : Shown) : Type 0 where
     are : AreTypes s (planned_of s h.plan)
     begins : planned_of s k.shown.plan ≡ take (signals_begun row) (planned_of s h.plan)

@@ -1,4 +1,4 @@
--- The text of a file that is kept in memory.
+-- The text of a file that is stored in memory.
 use Rattle.std.proofs.Common.{arith, ◌≡◌, ◌∙◌, sym, ap, refl, subst, ℕ, ◌<◌, ◌≤◌, List, [], ◌∷◌, ◌++◌, length, get_or, append_assoc, Result, Ok, Err, OnOk}
 use Rattle.std.specs.Prelude.{All, map, flat_map}
 use Rattle.gnss_obs.specs.declared.system.System.{System}

@@ -1,4 +1,4 @@
--- A file that is read line by line: what was read stands for the lines that were taken.
+-- A file that is read line by line: what was read describes the accepted lines.
 use Rattle.std.proofs.Common.{arith, ◌≡◌, ◌∙◌, sym, ap, subst, refl, ℕ, suc, ◌+◌, ◌<◌, ◌≤◌, List, [], ◌∷◌, ◌++◌, length, length-append, append_assoc, append-nil, true, false, Option, Some, None, IfSome, inl, inr}
 use Rattle.std.specs.Prelude.{◌==◌, All, if◌then◌else◌, ⊤, Bool, Result, Ok, Err}
 use Rattle.std.specs.Io.KnownBytes.{Consumes, IsAtEnd}
@@ -31,7 +31,7 @@ are_more taken line are is = All-append IsLine taken (line ∷ []) are (All-cons
 count_more : (taken : List (List ℕ)) (line : List ℕ) (n : ℕ) → length taken ≡ n → length (taken ++ line ∷ []) ≡ n + 1
 count_more taken line n e = simp length-append (omega (arith, e))
 
--- bytes without a line feed that are lines are none
+-- bytes without a line feed contain no line
 endless_lines : (more : List (List ℕ)) (bytes : List ℕ) → All IsLine more → has 10 bytes ≡ false → bytes ≡ joined more → more ≡ []
 endless_lines [] bytes are endless e = refl
 endless_lines (m ∷ ms) bytes are endless e =
@@ -78,7 +78,7 @@ not_first [] long rest are short size endless e =
 not_first (m ∷ ms) long rest are short size endless e =
     not_front m (joined ms) long rest (All-head IsLine m ms are) (All-head IsShort m ms short) size endless (sym e)
 
--- some bytes after as many lines are one line more
+-- bytes after the largest number of lines are no lines of a file
 no_more : (lines more all : List (List ℕ)) (rest : List ℕ) → all ≡ lines ++ more → rest ≡ joined more → length lines ≡ most_lines → length all ≤ most_lines → 0 < length rest → ⊥
 no_more lines [] all rest split text many few some =
     let empty : length rest ≡ 0 = ap length text in
@@ -96,15 +96,15 @@ no_bytes front bytes some e =
 same_number : (n m : ℕ) → (n == m) ≡ true → n ≡ m
 same_number n m e = grind arith
 
--- ---- what a reader gave
+-- ---- what a reader returned
 
--- what holds of all known bytes that are these and some others holds of what a reader had
+-- what holds of these bytes with any rest holds of the input of a reader that returned them
 pub consumed : (a b : Option (List ℕ)) (bytes : List ℕ) (P : List ℕ → Type 0) → Consumes a b bytes → ((rest : List ℕ) → P (bytes ++ rest)) → IfSome a P
 consumed None b bytes P took h = tt
 consumed (Some x) None bytes P took h = absurd took
 consumed (Some x) (Some y) bytes P took h = subst P (sym took) (h y)
 
--- the same where nothing is left
+-- the same if nothing is left
 consumed_all : (a b : Option (List ℕ)) (bytes : List ℕ) (P : List ℕ → Type 0) → Consumes a b bytes → IsAtEnd b → P bytes → IfSome a P
 consumed_all None b bytes P took end h = tt
 consumed_all (Some x) None bytes P took end h = absurd took
@@ -131,7 +131,7 @@ stands_more old new taken line stands more shows = record {
   are = shows taken stands.are;
 }
 
--- one line more was read
+-- one more line was read
 pub one_more : (old new : Progress) (n : ℕ) (a b c : Option (List ℕ)) (line : List ℕ) → IsTaken old n a b → IsLine line → Consumes b c line → GoesOnWithLine old new line → ShowsLine old new line
     → IsTaken new (n + 1) a c
 one_more old new n a b c line t is next more shows = record {
@@ -156,7 +156,7 @@ over_long s n a b c bytes t size endless next =
       endless = endless;
     }))
 
--- something follows as many lines as have a number
+-- a byte follows the largest number of lines
 pub too_long : (s : Progress) (n : ℕ) (a b c : Option (List ℕ)) (bytes : List ℕ) → IsTaken s n a b → n ≡ most_lines → 0 < length bytes → Consumes b c bytes → IfSome a IsTooLong
 too_long s n a b c bytes t most some next =
     consumed a c (joined t.lines ++ bytes) IsTooLong (Consumes-trans a b c (joined t.lines) bytes t.taken next) (λ rest. record {
@@ -185,7 +185,7 @@ module _ (are_lines : (v : FileValue) → IsFileValue v → All IsLine (file_lin
         none = refuted s t.lines line all t.stands bad;
       }))
 
-  -- the lines of a file after those that were taken
+  -- the lines of a file after those that were accepted
   after : (v : FileValue) (taken : List (List ℕ)) (bytes : List ℕ) → IsFileValue v → All IsLine taken → joined taken ++ bytes ≡ file_text v → has 10 bytes ≡ false → file_lines v ≡ taken
   after v taken bytes is are e endless =
       let (more, lines, text) = splits (file_lines v) taken bytes (are_lines v is) are (sym e) in
@@ -206,7 +206,7 @@ module _ (are_lines : (v : FileValue) → IsFileValue v → All IsLine (file_lin
         none = λ v is e. no_bytes (joined t.lines) bytes some (e ∙ ap joined (after v t.lines bytes is t.are e endless));
       })
 
-  -- the input ends after a line, where more lines are due
+  -- the input ends after a line, and more lines are expected
   pub cut_after : (s : Progress) (n : ℕ) (a b c : Option (List ℕ)) (bytes : List ℕ) (t : IsTaken s n a b) → AreBegun t.lines → bytes ≡ [] → IsAtEnd c → Consumes b c bytes
       → ((v : FileValue) → HasLinesLeft s v [] → ⊥) → IfSome a (λ input. IsCutShort input (n + 1))
   cut_after s n a b c bytes t begun none end next never =
@@ -234,7 +234,7 @@ module _ (are_lines : (v : FileValue) → IsFileValue v → All IsLine (file_lin
   -- ---- a text of a file is no fault
 
   module _ (are_short : (v : FileValue) → IsFileValue v → All (λ l. length l ≤ 1220) (file_lines v)) where
-    -- the lines after those that were taken are short, too
+    -- the lines after those that were accepted are short, too
     not_long : (v : FileValue) (lines : List (List ℕ)) (long rest : List ℕ) → IsFileValue v → All IsLine lines → length long ≡ 1220 → has 10 long ≡ false
         → file_text v ≡ joined lines ++ (long ++ rest) → ⊥
     not_long v lines long rest is are size endless e =
@@ -268,7 +268,7 @@ module _ (are_lines : (v : FileValue) → IsFileValue v → All IsLine (file_lin
     only_faults None fault v why is few = tt
     only_faults (Some input) fault v why is few = not_explained v input fault is few why
 
--- the fault where something stands after so many lines
+-- the fault if a byte follows this number of lines
 pub after_fault : (s : Progress) (n : ℕ) (a b c : Option (List ℕ)) (bytes : List ℕ) (fault result : ReadFault) → IsTaken s n a b → 0 < length bytes → Consumes b c bytes
     → result ≡ (if n == most_lines then TooLong else fault) → IfSome a (λ input. ExplainsFault input fault) → IfSome a (λ input. ExplainsFault input result)
 after_fault s n a b c bytes fault result t some next is why =
@@ -277,12 +277,12 @@ after_fault s n a b c bytes fault result t some next is why =
       | false ↦ λ most same. subst (λ f. IfSome a (λ input. ExplainsFault input f)) (sym same) why
     ] refl is
 
--- what is said of all bytes in two ways
+-- two properties of the input, if it is known
 pub both_said : (a : Option (List ℕ)) (P Q : List ℕ → Type 0) → IfSome a P → IfSome a Q → IfSome a (λ input. P input × Q input)
 both_said None P Q p q = tt
 both_said (Some x) P Q p q = (p, q)
 
--- what is said of each faulty line
+-- a property of the input that follows from another
 pub said_of : (a : Option (List ℕ)) (P Q : List ℕ → Type 0) → ((input : List ℕ) → P input → Q input) → IfSome a P → IfSome a Q
 said_of None P Q h p = tt
 said_of (Some x) P Q h p = h x p
@@ -290,7 +290,7 @@ said_of (Some x) P Q h p = h x p
 pub long_some : (bytes : List ℕ) → length bytes ≡ 1220 → 0 < length bytes
 long_some bytes size = omega (arith, size)
 
--- nothing is said of memory
+-- a memory fault has nothing to explain
 pub no_reason : (a : Option (List ℕ)) (v : FileValue) → IfSome a (λ input. input ≡ file_text v → ⊤)
 no_reason None v = tt
 no_reason (Some x) v = λ e. tt
@@ -300,12 +300,12 @@ pub line_some : (bytes : List ℕ) → IsLine bytes → 0 < length bytes
 line_some bytes ([], is, endless) = subst (λ (l : List ℕ). 0 < length l) (sym is) (omega arith)
 line_some bytes (b ∷ body, is, endless) = subst (λ (l : List ℕ). 0 < length l) (sym is) (omega arith)
 
--- where nothing is to be explained
+-- a fault with nothing to explain
 pub said_nothing : (a : Option (List ℕ)) → IfSome a (λ input. ⊤)
 said_nothing None = tt
 said_nothing (Some x) = tt
 
--- ---- where the reader didn't fail
+-- ---- if the reader didn't fail
 
 abbrev pub is_read : {A : Type 0} → Result A ReadFault → Bool
 is_read (Ok a) = false
@@ -341,6 +341,6 @@ other_after false fault result P is other e = other_fault fault P other (sym (ap
 pub not_cut : (n : ℕ) → CutShort n ≡ Read → ⊥
 not_cut n e = cc
 
--- the same fault in place of another value
+-- the same fault in another type of result
 pub still_read : {A B : Type 0} (fault : ReadFault) → result_of A fault ≡ Err Read → result_of B fault ≡ Err Read
 still_read {A} {B} fault e = ap (result_of B) (ap fault_in e)

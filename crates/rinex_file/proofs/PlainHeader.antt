@@ -1,4 +1,4 @@
--- The lines of a header are lines, and none is longer than what is read as one.
+-- The lines of a header are lines, and none is longer than the largest line that is read.
 use Rattle.std.proofs.Common.{arith, lit≤, lit<, ◌≡◌, ap, refl, subst, ℕ, zero, suc, ◌+◌, ◌-◌, ◌*◌, ◌/◌, ◌%◌, ◌^◌, ◌<◌, ◌≤◌, ℤ, pos, negsuc, unsigned_abs, Bool, true, false, List, [], ◌∷◌, ◌++◌, length, replicate, drop, decimal, get_or, append_assoc, length-append}
 use Rattle.std.specs.Prelude.{◌==◌, ◌||◌, ◌&&◌, not, if◌then◌else◌, nat_lt, nat_le, flat_map, All, codes, slice_get}
 use Rattle.std.specs.List.{list_all}
@@ -38,7 +38,7 @@ pub record IsFileLine (l : List ℕ) : Type 0 where
   pub line : IsLine l
   pub short : length l ≤ 1220
 
--- what a text without a line feed makes with one after it
+-- the line that a text without a line feed makes with one after it
 pub as_line : (n : ℕ) (body : List ℕ) → IsPlain n body → n ≤ 1219 → IsFileLine (body ++ 10 ∷ [])
 as_line n body is few = record {
   line = (body, refl, is.clean);
@@ -65,7 +65,7 @@ of_80 n text is h = plain-wider n 80 text h is
 
 -- ---- texts
 
--- a number of texts from a place on
+-- a number of texts from an index on
 plain_texts : (x : HeaderLists) → AreTexts x → (more place : ℕ) → place + more ≤ text_count → IsPlain (more * 120) (texts_from x place more)
 plain_texts x are zero place within = record { clean = refl; short = omega arith }
 plain_texts x are (suc more) place within =
@@ -220,7 +220,7 @@ within_years (suc years) y days year day h l =
     (within_year 11 y 1 days year 12 day (omega (arith, h)) (lit≤ tt) l)
     (within_years years (y + 1) (days - year_length y) year day (omega (arith, h)) (omega (arith, l)))
 
--- each part of a date and time of day has room in 32 bits
+-- each part of a date and time of day fits 32 bits
 pub record IsShort (t : Civil) : Type 0 where
   pub year : t.year < 2 ^ 32
   pub month : t.month < 2 ^ 32

@@ -1,4 +1,4 @@
--- Texts without a line feed, and how long they are at most.
+-- Texts without a line feed, and their largest lengths.
 use Rattle.std.proofs.Common.{arith, ◌≡◌, ◌∙◌, ap, refl, ℕ, zero, suc, ◌+◌, ◌-◌, ◌*◌, ◌/◌, ◌%◌, ◌^◌, ◌<◌, ◌≤◌, ℤ, unsigned_abs, Bool, true, false, List, [], ◌∷◌, ◌++◌, length, replicate, decimal, length-append}
 use Rattle.std.specs.Prelude.{◌==◌, ◌||◌, ◌&&◌, flat_map, take, All, ⊤}
 use Rattle.std.specs.Int.{is_negative}
@@ -47,7 +47,7 @@ clean-fixed places z fits =
 pub clean-right : (width : ℕ) (text : List ℕ) → Clean text → Clean (right width text)
 clean-right width text h = clean-append (replicate (width - length text) 32) text (has-not 10 (width - length text) 32 refl) h
 
--- ---- at most so many bytes as well
+-- ---- at most this number of bytes as well
 
 pub record IsPlain (n : ℕ) (text : List ℕ) : Type 0 where
   pub clean : Clean text
@@ -98,7 +98,7 @@ plain-joined n (t ∷ ts) are =
     plain-wider (n + length ts * n) (suc (length ts) * n) (t ++ joined ts) (let e = one_more n (length ts) in omega (arith, e))
     (plain-append n (length ts * n) t (joined ts) are.0 (plain-joined n ts are.1))
 
--- so many of the types
+-- a number of the types
 pub plain-spaced : (n k : ℕ) (ts : List (List ℕ)) → All (IsPlain n) ts → IsPlain (k * (1 + n)) (flat_map (λ t. 32 ∷ t) (take k ts))
 plain-spaced n zero ts are = record { clean = refl; short = omega arith }
 plain-spaced n (suc k) [] are = record { clean = refl; short = omega arith }

@@ -1,4 +1,4 @@
--- A file that was read whole, and what was counted of it.
+-- A file that was read whole, and its counts.
 use Rattle.std.proofs.Common.{arith, ◌≡◌, ◌∙◌, sym, ap, subst, ℕ, ◌+◌, List, [], length, Option, Some, None, IfSome, Ok}
 use Rattle.rinex_file.specs.declared.read.parser_state.ParserState.{ParserState}
 use Rattle.rinex_file.specs.declared.read.expected.Added.{Added}
@@ -39,7 +39,7 @@ pub counts_only : (c : ParserState) (h : History) (input : Option (List ℕ)) (v
 counts_only c h input v whole is =
     said_of input (IsTextOfOnly (file_at c h)) _ (λ bytes text e. subst (λ (f : FileValue). AreCounts (counts_at c) f) (sym (text.only v is e)) (counted_at c h input whole)) whole.text
 
--- ---- a step by what it answers
+-- ---- a step, by its result
 
 pub one_more : (new : Reading) (h : History) (input left : Option (List ℕ)) (o : Option Added) (added : Added) → o ≡ Some added → ReadsNextLine new h input left (Ok o)
     → HasRead new (with_line added new.parser_state h) input left
@@ -60,6 +60,6 @@ pub file_only : (c : ParserState) (h : History) (input : Option (List ℕ)) (f v
     → IfSome input (λ bytes. bytes ≡ file_text v → f ≡ v)
 file_only c h input f v whole same is = said_of input (IsTextOfOnly (file_at c h)) _ (λ bytes text e. same ∙ sym (text.only v is e)) whole.text
 
--- what is kept is a history that was read
+-- what is stored is a history that was read
 pub kept_read : (r : Reading) (h k : History) (input left : Option (List ℕ)) → k ≡ h → HasRead r h input left → HasRead r k input left
 kept_read r h k input left same read = subst (λ (x : History). HasRead r x input left) (sym same) read

@@ -1,4 +1,4 @@
--- Numbers that rise, and one more after them.
+-- Numbers in ascending order, and one more after them.
 use Rattle.std.proofs.Common.{arith, ◌≡◌, refl, ℕ, ◌+◌, ◌<◌, List, [], ◌∷◌, ◌++◌, length, get_or, map, length-append}
 use Rattle.std.specs.List.Sorted.{IsStrictlyIncreasing}
 use Rattle.std.proofs.lemmas.List.{get_or_append_left}
@@ -6,7 +6,7 @@ use Rattle.std.proofs.lemmas.Grind.{common_steps}
 use Rattle.rinex_file.specs.Value.{Stamped}
 use Rattle.rinex_file.specs.FileValues.{time_stamped}
 
--- the first of rising numbers rise
+-- the first of ascending numbers are ascending
 pub rise_front : (xs ys : List ℕ) → IsStrictlyIncreasing (xs ++ ys) → IsStrictlyIncreasing xs
 rise_front xs ys rise k h =
     let size : length (xs ++ ys) ≡ length xs + length ys = length-append xs ys in
@@ -15,23 +15,23 @@ rise_front xs ys rise k h =
     let less = rise k (omega (arith, h, size)) in
     omega (arith, here, next, less)
 
--- a number alone rises
+-- a single number is ascending
 pub rise_alone : (xs : List ℕ) (next : ℕ) → xs ≡ [] → IsStrictlyIncreasing (xs ++ next ∷ [])
 rise_alone xs next none = grind (arith, common_steps)
 
--- a number above the last of rising numbers rises after them
+-- ascending numbers and a number above their last are ascending
 pub rise_after : (xs front : List ℕ) (x next : ℕ) → xs ≡ front ++ x ∷ [] → IsStrictlyIncreasing xs → x < next → IsStrictlyIncreasing (xs ++ next ∷ [])
 rise_after xs front x next ends rise less = grind (arith, common_steps)
 
--- a number that rises after others is above the last of them
+-- if numbers are ascending, the last is above the one before it
 pub rise_last : (xs front : List ℕ) (x next : ℕ) → xs ≡ front ++ x ∷ [] → IsStrictlyIncreasing (xs ++ next ∷ []) → x < next
 rise_last xs front x next ends rise = let k = rise (length front) in grind (arith, common_steps)
 
--- no epoch has no time
+-- without times there are no epochs
 pub none_stamped : (es : List Stamped) → map time_stamped es ≡ [] → es ≡ []
 none_stamped [] none = refl
 none_stamped (e ∷ es) none = cc
 
--- where a time is the last there is an epoch
+-- if there is a last time, there is an epoch
 pub not_none : (es : List Stamped) (front : List ℕ) (x : ℕ) → map time_stamped es ≡ front ++ x ∷ [] → es ≡ [] → ⊥
 not_none es front x last none = grind (arith, common_steps)

@@ -26,7 +26,7 @@ most n h = let high = h.1 in omega (arith, ints)
 least : (n : ℕ) → FitsColumns (negsuc n) → suc n ≤ 999_999_999_999
 least n h = let low = h.0 in omega (arith, ints)
 
--- what a kept cell has
+-- a value of at most twelve digits fits its columns
 pub if_fits : (o : Option ℤ) → IfSome o HasTwelveDigits → IfSome o FitsColumns
 if_fits None h = tt
 if_fits (Some v) h = (omega (arith, ints, h), omega (arith, ints, h))
@@ -87,12 +87,12 @@ fourth x a b c d e is l m n =
     let shape : x ≡ (a ++ (b ++ c)) ++ (d ++ e) = is ∙ simp append_assoc in
     ap (drop 48) shape ∙ drop_at (a ++ (b ++ c)) (d ++ e) 48 (simp length-append (omega (arith, l, m, n)))
 
--- what stands after a value, where there is one
+-- the byte after a value, if there is one
 abbrev shown : Option ℤ → ℕ → ℕ
 shown None b = 32
 shown (Some v) b = b
 
--- a field is 14 columns, and two more
+-- a field is F14.3 plus the LLI and SSI columns
 abbrev InParts : Option ℤ → ℕ → ℕ → Type 0
 InParts v lost strength = (t : List ℕ) × (length t ≡ 14) × (field v lost strength ≡ t ++ shown v lost ∷ shown v strength ∷ [])
 
@@ -226,13 +226,13 @@ module _ (letter signals : ℕ) (r : Row) (most : ℕ) (is : IsRow most signals 
       (ap digits_in (take_at p f 2 two) ∙ digits_in-padded 2 r.satellite (omega arith) small (omega (arith, small)))
       (ap (signals_in signals) (drop_at p f 2 two) ∙ ap (λ n. signals_in n f) (sym is.whole) ∙ entries_in-text r.entries is.entries)
 
--- a row is read from its line: the line without the line feed, filled up with blanks
+-- a row is read from its line: the line without the line feed, padded with blanks
 pub row_in-line : (letter signals : ℕ) (r : Row) (most : ℕ) → IsRow most signals r → most < 100
     → row_in signals (trimmed (row_text letter r) ++ replicate (3 + 64 * signals - length (trimmed (row_text letter r))) 32) ≡ r
 row_in-line letter signals r most is few =
     ap (row_in signals) (fill-trimmed (3 + 64 * signals) (row_text letter r) (length-row letter signals r most is few)) ∙ row_in-text letter signals r most is few
 
--- ---- the letter in front
+-- ---- the first letter
 
 letter_is : (s : System) → letter_of s ≡ 32 → ⊥
 letter_is Gps e = absurd (omega (arith, e))
@@ -261,7 +261,7 @@ pub same_seen : (s t : SatelliteRow) → s.system ≡ t.system → s.row ≡ t.r
 unfolding made_seen
 same_seen s t e f = same_seen_parts s.system t.system s.row t.row e f
 
--- ---- a satellite is read from its line, filled up with blanks
+-- ---- a satellite is read from its line, padded with blanks
 
 pub seen_in-line : (system : System) (signals : ℕ) (v : SatelliteRow) (line filled : List ℕ) → v.system ≡ system → IsRow (satellites system) signals v.row → line ≡ satellite_line v
     → ((t : List ℕ) → line ≡ t ++ 10 ∷ [] → filled ≡ t ++ replicate (3 + 64 * signals - length t) 32) → satellite_row_in system signals filled ≡ v

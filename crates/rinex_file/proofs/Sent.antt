@@ -1,4 +1,4 @@
--- Lines that went out, and a part of them.
+-- Lines that were written, and a part of them.
 use Rattle.std.proofs.Common.{arith, ◌≡◌, ◌∙◌, sym, ap, refl, subst, ℕ, zero, suc, ◌+◌, ◌-◌, ◌≤◌, List, [], ◌∷◌, ◌++◌, length, append_assoc, append-nil, length-append, Option, Bool, true, false, Result, Ok, Err, OnErr}
 use Rattle.std.specs.Prelude.{map, filter, if◌then◌else◌}
 use Rattle.std.specs.Io.KnownBytes.{Appends}
@@ -19,7 +19,7 @@ use Rattle.rinex_file.specs.Header.{position_line, delta_line}
 use Rattle.rinex_file.specs.File.{event_line, event_text, line_among, line_or_none, lines_up_to, epoch_text}
 use Rattle.rinex_file.proofs.Entries.{flat_map-append}
 
--- after what went out, a part of what follows
+-- a part of the rest, after what was written
 pub part_after : (a b c : Option (List ℕ)) (text done next rest : List ℕ) → text ≡ done ++ (next ++ rest) → Appends a b done → AppendsPrefix b c next → AppendsPrefix a c text
 part_after a b c text done next rest is out (left, (sent, split, more)) = (
   left ++ rest,
@@ -102,7 +102,7 @@ pub is_shown : (p : PlanValue) (s : System) (cells : List Cell) (id : ℕ) → i
 unfolding line_among
 is_shown p s cells id h = ap (λ b. if b then satellite_line (row_among p s cells id) else []) h
 
--- one satellite more went out
+-- one more satellite was written
 pub grown_lines : (a b c : Option (List ℕ)) (p : PlanValue) (e : EpochValue) (s : System) (n m : ℕ) → m ≡ suc n → Appends a b (lines_up_to p e s n) → Appends b c (line_or_none p e s m)
     → Appends a c (lines_up_to p e s m)
 grown_lines a b c p e s n m is out more =
@@ -165,7 +165,7 @@ epoch_parts p e =
     ∙ ap (λ l. epoch_line (civil_of e.time) (satellites_written e) ++ joined l) (map-append satellite_line (rows_of p e Gps) (rows_of p e Galileo))
     ∙ ap (λ l. epoch_line (civil_of e.time) (satellites_written e) ++ l) (joined-append (map satellite_line (rows_of p e Gps)) (map satellite_line (rows_of p e Galileo)))
 
--- ---- a call that failed says this
+-- ---- what holds of a call that failed
 
 pub where_failed : {A E : Type 0} (r : Result A E) (P : Type 0) → P → OnErr r P
 where_failed (Ok x) P p = tt

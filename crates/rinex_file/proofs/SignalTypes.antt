@@ -56,7 +56,7 @@ length-codes : (f : ℕ → List ℕ) (xs : List ℕ) → length (map f xs) ≡ 
 length-codes f [] = refl
 length-codes f (x ∷ xs) = ap suc (length-codes f xs)
 
--- the type at a place of a system's types
+-- the type at an index of a system's types
 pub signal_type : (system : System) (signals : List ℕ) (s : SignalAt) (i : ℕ) → i < 4 * length signals → s.index ≡ slice_index signals (i / 4) → s.system ≡ system
     → type_of (i % 4) (code_of s) ≡ get_or (types_of (codes_of system signals)) i []
 signal_type system signals s i h p q =
@@ -66,7 +66,7 @@ signal_type system signals s i h p q =
     ap (type_of (i % 4)) (same_code s system (slice_index signals (i / 4)) p q ∙ sym (at_code f signals (i / 4) [] (quarter i (length signals) h)))
     ∙ sym (type_here (codes_of system signals) i [] within)
 
--- so many types of all
+-- the number of a system's types
 pub length-system_types : (system : System) (signals : List ℕ) → length (types_of (codes_of system signals)) ≡ 4 * length signals
 length-system_types system signals = length-types_of (codes_of system signals) ∙ ap (λ n. 4 * n) (length-codes (λ index. code_of (record { system = system; index = index })) signals)
 
@@ -79,7 +79,7 @@ place_of start i h = omega (arith, h)
 next_place : (start i : ℕ) → start ≤ i → (i + 1) - start ≡ (i - start) + 1
 next_place start i h = omega (arith, h)
 
--- a type more
+-- one more type
 pub type_more : (types : List (List ℕ)) (start i : ℕ) (x front text new : List ℕ) → start ≤ i → i < length types → x ≡ get_or types i []
     → text ≡ front ++ columns (take (i - start) (drop start types)) → new ≡ text ++ 32 ∷ x
     → new ≡ front ++ columns (take ((i + 1) - start) (drop start types))
@@ -109,13 +109,13 @@ full_or_all types row i low high end =
           ap (λ n. take n (drop (13 * row) types)) count
     ]
 
--- the line is full, or all types stand there
+-- the line is full, or all types are in it
 pub types_done : (types : List (List ℕ)) (row i : ℕ) (front text : List ℕ) → 13 * row ≤ i → i ≤ 13 * row + 13 → (i < 13 * row + 13 → length types ≤ i)
     → text ≡ front ++ columns (take (i - 13 * row) (drop (13 * row) types)) → text ≡ front ++ type_columns types row
 types_done types row i front text low high end is =
     is ∙ ap (λ l. front ++ columns l) (full_or_all types row i low high end)
 
--- ---- signals of a system, at their places
+-- ---- signals of a system, at their indices
 
 pub index_here : (ss : List SignalAt) (k : ℕ) (s : SignalAt) → k < length ss → s ≡ get_or ss k s → s.index ≡ slice_index (indices ss) k
 index_here [] k s less is = absurd (omega (arith, less))

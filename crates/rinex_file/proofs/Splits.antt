@@ -1,4 +1,4 @@
--- A text of lines has no other lines.
+-- A text of lines splits into no other lines.
 use Rattle.std.proofs.Common.{◌≡◌, ℕ, List, [], ◌∷◌, ◌++◌, refl, sym, ap, ◌∙◌, Bool, true, false, append_assoc}
 use Rattle.std.specs.Prelude.{◌==◌, ◌||◌, All}
 use Rattle.std.proofs.lemmas.List.Elements.{All-head, All-tail}
@@ -34,7 +34,7 @@ same_body (a ∷ us) (b ∷ bs) x y h k e =
     let tail : us ≡ bs = more.0 in
     (cc, more.1)
 
--- one line in front
+-- a first line
 abbrev FirstSplit : List ℕ → List ℕ → List ℕ → List ℕ → Type 0
 FirstSplit l m x y = (l ≡ m) × (x ≡ y)
 

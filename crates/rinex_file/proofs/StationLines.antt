@@ -1,4 +1,4 @@
--- The first line of a header says which systems are planned, and the lines of position and height have their numbers back.
+-- The planned systems are read back from the first line of a header, and position and height from their lines.
 use Rattle.std.proofs.Common.{arith, ◌≡◌, ◌∙◌, refl, sym, ap, ℕ, ◌+◌, ◌-◌, ◌/◌, ◌<◌, ◌≤◌, ◌^◌, List, [], ◌∷◌, ◌++◌, length, take, drop, get_or, replicate, append_assoc, append-nil, length-append, Bool, true, false, ℤ, pos, neg_ℤ, ◌≤ℤ◌, unsigned_abs}
 use Rattle.std.specs.Prelude.{◌||◌, ◌==◌, codes, if◌then◌else◌}
 use Rattle.std.specs.Int.{is_negative}
@@ -28,7 +28,7 @@ letter_back : (letter : ℕ) → get_or (version_of letter) 40 0 ≡ letter
 unfolding header_line digits
 letter_back letter = refl
 
--- the systems that a letter stands for
+-- the systems that a letter means
 abbrev planned_by : ℕ → Bool × Bool
 planned_by letter = if letter == 77 then (true, true) else (if letter == 71 then (true, false) else (false, true))
 
@@ -38,7 +38,7 @@ planned_back (true, false) some = refl
 planned_back (false, true) some = refl
 planned_back (false, false) some = cc
 
--- the systems that the first line says are had back
+-- the systems are read back from the first line
 pub version_determines : (line : List ℕ) (p q : Bool × Bool) → (p.0 || p.1) ≡ true → (q.0 || q.1) ≡ true
     → line ≡ version_with p.0 p.1 → line ≡ version_with q.0 q.1 → q ≡ p
 version_determines line p q a b e f =
@@ -52,7 +52,7 @@ length-sign : (b : Bool) → length (sign_text b) ≤ 1
 length-sign true = omega arith
 length-sign false = omega arith
 
--- a number that fourteen columns have room for
+-- a number that fits 14 columns
 abbrev pub Fits14 : ℤ → Type 0
 Fits14 z = unsigned_abs z < 10 ^ 12
 
@@ -73,7 +73,7 @@ length-column z h =
 number_back : (z : ℤ) → Fits14 z → number_in (right 14 (fixed 4 z)) ≡ z
 number_back z h = number_in-fixed 14 4 z (omega arith) (fits_64 (unsigned_abs z) h)
 
--- three fields before what stands after
+-- three fields, and the rest of the line after them
 begins : (f g h label : List ℕ) → (rest : List ℕ) × (header_line (joined (f ∷ g ∷ h ∷ [])) label ≡ f ++ (g ++ (h ++ rest)))
 unfolding header_line
 begins f g h label =
@@ -121,6 +121,6 @@ height-back h y z label small =
 size_within : (z : ℤ) → neg_ℤ (pos 137_438_953_472) ≤ℤ z → z ≤ℤ pos 137_438_953_471 → unsigned_abs z < 10 ^ 12
 size_within z low high = omega (arith, ints)
 
--- the columns have room for a coordinate
+-- a coordinate fits its columns
 pub coordinate-fits : (z : ℤ) → IsCoordinate z → Fits14 z
 coordinate-fits z is = size_within z is.0 is.1

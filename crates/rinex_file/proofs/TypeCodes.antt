@@ -49,7 +49,7 @@ pub code_of_one : (system : System) (s : SignalAt) (code : List ℕ) → IsSigna
 code_of_one system s code listed same is =
     subst (λ (c : System). signal_of_code c code ≡ Some s) same (ap (signal_of_code s.system) is ∙ code_reads_back s listed)
 
--- the line reaches as far as a code in it
+-- the line is at least as long as the end of a code in it
 pub code_within : (line : List ℕ) (column : ℕ) (s : SignalAt) → IsSignal s → take 2 (drop column line) ≡ code_of s → column + 2 ≤ length line
 code_within line column s listed is =
     let two : length (code_of s) ≡ 2 = length-code s.system s.index listed in

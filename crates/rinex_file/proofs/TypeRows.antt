@@ -1,4 +1,4 @@
--- A line of types: the columns of the signals that begin in it, and the signals that it shows.
+-- A line of types: the columns of the signals that begin in it, and the signals that are read from it.
 use Rattle.std.proofs.Common.{arith, ◌≡◌, ◌∙◌, sym, ap, ap₂, refl, subst, ℕ, zero, suc, ◌+◌, ◌-◌, ◌*◌, ◌/◌, ◌%◌, ◌^◌, ◌<◌, ◌≤◌, ◌||◌, ◌==◌, Bool, true, false, min, List, [], ◌∷◌, ◌++◌, length, take, drop, get_or, replicate, decimal, nat_eq, append_assoc, length-take, length-drop}
 use Rattle.std.specs.Prelude.{codes, slice_index, All}
 use Rattle.std.specs.List.{list_any, IsDistinct}
@@ -92,7 +92,7 @@ three_bytes system all row are i less =
     let listed = listed_at system all k are (quarter (13 * row + i) (length all) w.1) in
     ap length (type_in system all row i w.0 w.1) ∙ ap suc (length-code system (slice_index all k) listed)
 
--- the code of a signal stands in the line where its first type does
+-- the code of a signal is in the line in which its types begin
 pub code_in_line : (system : System) (all line : List ℕ) (row q k : ℕ) → AreTypes system all → 4 * length all < 1000 → line ≡ types_line system all row
     → q < 13 → 13 * row + q ≡ 4 * k → k < length all → take 2 (drop (6 + 4 * q + 2) line) ≡ code_of (signal_at system all k)
 code_in_line system all line row q k are few is within place less =
@@ -118,7 +118,7 @@ code_in_line system all line row q k are few is within place less =
       fourth : (k : ℕ) → 4 * k / 4 ≡ k
       fourth k = omega arith
 
--- ---- the signals that a line shows
+-- ---- the signals that are read from a line
 
 types_take : (m : ℕ) (cs : List (List ℕ)) → types_of (take m cs) ≡ take (4 * m) (types_of cs)
 types_take zero cs = refl
@@ -154,7 +154,7 @@ not_before (x ∷ all) (suc k) apart less =
     let other = flip_false x (slice_index all k) (apart_from_distinct nat_eq (x ∷ all) 0 (suc k) 0 apart (omega arith) less) in
     ap₂ (λ a b. a || b) other (not_before all k (IsDistinct-tail nat_eq x all apart) (omega (arith, less)))
 
--- ---- one signal more
+-- ---- one more signal
 
 same_place : (row place : ℕ) → (13 * row + 3) / 4 ≤ place → 13 * row + (4 * place - 13 * row) ≡ 4 * place
 same_place row place low = omega (arith, low)
@@ -162,7 +162,7 @@ same_place row place low = omega (arith, low)
 in_row : (row place : ℕ) → place < (13 * (row + 1) + 3) / 4 → 4 * place - 13 * row < 13
 in_row row place high = omega (arith, high)
 
--- the column of the code of the signal at a place, in a line of types
+-- the column of the code of the signal at an index, in a line of types
 abbrev column_of : ℕ → ℕ → ℕ
 column_of row place = 6 + 4 * (4 * place - 13 * row) + 2
 
@@ -194,7 +194,7 @@ taken_before system all line row place old are few is low high less bad before =
 
 -- ---- the whole line
 
--- a line that shows as many types and the signals so far is that of all
+-- a line with the number of all types and with the types of the signals so far is that of all signals
 pub shown_line : (system : System) (all so_far : List ℕ) (row count : ℕ) → length all ≡ count → so_far ≡ take (signals_begun (row + 1)) all
     → header_line (type_front (letter_of system) (4 * count) row ++ type_columns (types_of (codes_of system so_far)) row) (codes "SYS / # / OBS TYPES") ≡ types_line system all row
 shown_line system all so_far row count size is =
@@ -220,7 +220,7 @@ among_listed most (x ∷ all) listed q found =
 pub few_types : (system : System) (all : List ℕ) → AreTypes system all → length all ≤ length (table system)
 few_types system all are = length-le_from_distinct_below all (length (table system)) are.apart (among_listed (length (table system)) all are.listed)
 
--- the first line shows the number in its columns
+-- the first line has the number in its columns
 pub count_shown : (system : System) (all line : List ℕ) → AreTypes system all → length (table system) ≤ 19 → line ≡ types_line system all 0
     → take 3 (drop 3 line) ≡ right 3 (decimal (4 * length all))
 count_shown system all line are bound is =
@@ -256,7 +256,7 @@ count_within system all line are bound is =
 shorter_still : {X : Type 0} (n : ℕ) (xs : List X) → length (take n xs) ≤ length xs
 shorter_still n xs = simp length-take (omega arith)
 
--- what was read first still stands in front
+-- the items that were read first are still the first
 pub still_grows : {X : Type 0} (old xs ys : List X) → take (length old) xs ≡ old → take (length xs) ys ≡ xs → take (length old) ys ≡ old
 still_grows old xs ys e f =
     let few : length old ≤ length xs = subst (λ n. n ≤ length xs) (ap length e) (shorter_still (length old) xs) in

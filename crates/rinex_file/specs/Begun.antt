@@ -1,5 +1,5 @@
--- Lines that a file may begin with, as far as they go by themselves: a part of a header; or a header, whole epochs, and a part of an
--- event or of an epoch.
+-- Lines that a file may begin with: a part of a header; or a header, whole epochs, and a part of an event or of an
+-- epoch.
 use Rattle.std.specs.Prelude.{◌≡◌, ◌≢◌, ◌⊎◌, ℕ, ◌<◌, ◌≤◌, List, [], ◌∷◌, ◌++◌, length, take, map, flat_map, All, Some, None}
 use Rattle.std.specs.List.Sorted.{IsStrictlyIncreasing}
 use Rattle.obs_epoch.specs.declared.cell.StationValues.{StationValues}
@@ -54,7 +54,7 @@ pub record IsBetweenEpochs (lines : List (List ℕ)) : Type 0 where
   pub whole : AreWhole h es
   pub are : lines ≡ whole_lines h es
 
--- and the first k lines of an event
+-- a header, whole epochs, and the first k lines of an event
 pub record IsEventBegun (k : ℕ) (lines : List (List ℕ)) : Type 0 where
   pub h : Shown
   pub es : List Stamped
@@ -64,7 +64,7 @@ pub record IsEventBegun (k : ℕ) (lines : List (List ℕ)) : Type 0 where
   pub change : IsChange (values_following h.values es) (Some values)
   pub are : lines ≡ whole_lines h es ++ take k (event_lines values)
 
--- and the line of an epoch of n satellites, with fewer of them
+-- a header, whole epochs, and the lines of an epoch of n satellites, with fewer than n of them
 pub record IsEpochBegun (lines : List (List ℕ)) : Type 0 where
   pub h : Shown
   pub es : List Stamped

@@ -4,11 +4,11 @@ use Rattle.std.specs.Io.KnownBytes.{Consumes}
 use Rattle.rinex_file.specs.Read.Fields.{has}
 use Rattle.rinex_file.specs.Limits.{most_line}
 
--- what is left is after some of the bytes that were there
+-- the remaining bytes follow some of the bytes that were there
 abbrev pub LeavesRest : Option (List ℕ) → Option (List ℕ) → Type 0
 LeavesRest old new = (bytes : List ℕ) × Consumes old new bytes
 
--- the bytes that were moved: the line's last, or without a line feed
+-- the bytes that were moved: up to the line feed, or without a line feed
 abbrev pub AreMoved : Bool → List ℕ → Type 0
 AreMoved true bytes = (body : List ℕ) × (bytes ≡ body ++ 10 ∷ []) × (has 10 body ≡ false)
 AreMoved false bytes = has 10 bytes ≡ false

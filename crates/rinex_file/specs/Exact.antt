@@ -1,4 +1,4 @@
--- What is read from bytes that come line by line.
+-- What is read from an input line by line.
 use Rattle.std.specs.Prelude.{◌≡◌, ℕ, ◌+◌, ◌^◌, ◌<◌, ◌≤◌, ◌⊎◌, false, List, [], ◌∷◌, ◌++◌, length, All, Option, Result, Ok, Err, ⊤, IfSome}
 use Rattle.std.specs.Io.KnownBytes.{IsAtEnd}
 use Rattle.rinex_file.specs.declared.read.lines.Found.{Found}
@@ -15,11 +15,11 @@ use Rattle.rinex_file.specs.File.{file_text, file_lines}
 use Rattle.rinex_file.specs.Begun.{IsHeaderBegun, IsBetweenEpochs, IsEventBegun, IsEpochBegun, AreBegun}
 use Rattle.rinex_file.specs.Limits.{most_line}
 
--- a line: bytes that end in the one line feed among them
+-- a line: bytes that end in their only line feed
 abbrev pub IsLine : List ℕ → Type 0
 IsLine line = (body : List ℕ) × (line ≡ body ++ 10 ∷ []) × (has 10 body ≡ false)
 
--- what the bytes are that were taken for a line, where this is left of the input
+-- what the bytes are that were consumed for a line, if `left` is the rest of the input
 abbrev pub IsFound : Found → List ℕ → Option (List ℕ) → Type 0
 IsFound Line bytes left = IsLine bytes
 IsFound End bytes left = (bytes ≡ []) × IsAtEnd left
@@ -32,7 +32,7 @@ pub record AreFirstLines (input : List ℕ) (lines : List (List ℕ)) (rest : Li
   pub are : All IsLine lines
   pub first : input ≡ joined lines ++ rest
 
--- the text of no file value begins with these bytes
+-- no file value's text begins with these bytes
 abbrev pub NoFileBegins : List ℕ → Type 0
 NoFileBegins front = (v : FileValue) (rest : List ℕ) → IsFileValue v → file_text v ≡ front ++ rest → ⊥
 
@@ -54,7 +54,8 @@ pub record IsOverLong (input : List ℕ) (k : ℕ) : Type 0 where
   pub size : length long ≡ most_line
   pub endless : has 10 long ≡ false
 
--- the input ends before the line feed of line k, the lines before it are begun, and it is no file value's text
+-- the input ends before the line feed of line k, some file may begin with the lines before it, and the input is no
+-- file value's text
 pub record IsCutShort (input : List ℕ) (k : ℕ) : Type 0 where
   pub lines : List (List ℕ)
   pub rest : List ℕ
@@ -66,7 +67,7 @@ pub record IsCutShort (input : List ℕ) (k : ℕ) : Type 0 where
 
 -- ---- which kind of line is expected
 
--- the first k - 1 lines of the input are such
+-- `Are` holds of the first k - 1 lines of the input
 pub record IsAfter (Are : List (List ℕ) → Type 0) (input : List ℕ) (k : ℕ) : Type 0 where
   pub lines : List (List ℕ)
   pub rest : List ℕ
@@ -74,7 +75,7 @@ pub record IsAfter (Are : List (List ℕ) → Type 0) (input : List ℕ) (k : �
   pub count : length lines + 1 ≡ k
   pub are : Are lines
 
--- the lines before one of this kind
+-- the lines before a line of the expected kind
 abbrev pub AreBefore : Expected → List (List ℕ) → Type 0
 AreBefore (Header place) lines = IsHeaderBegun lines
 AreBefore Epoch lines = IsBetweenEpochs lines
@@ -92,11 +93,11 @@ IsExpectedAt expected input k = IsAfter (AreBefore expected) input k
 abbrev pub IsFaulty : List ℕ → ℕ → Type 0
 IsFaulty input k = IsRefuted input k ⊎ IsOverLong input k
 
--- so many lines of a file have a number
+-- the largest number of lines of a file
 abbrev pub most_lines : ℕ
 most_lines = 2 ^ 32
 
--- a byte stands after as many lines as have a number
+-- a byte follows `most_lines` lines
 pub record IsTooLong (input : List ℕ) : Type 0 where
   pub lines : List (List ℕ)
   pub rest : List ℕ
@@ -104,7 +105,7 @@ pub record IsTooLong (input : List ℕ) : Type 0 where
   pub count : length lines ≡ most_lines
   pub more : 0 < length rest
 
--- what each fault says of the input
+-- what each fault means for the input
 abbrev pub ExplainsFault : List ℕ → ReadFault → Type 0
 ExplainsFault input Memory = ⊤
 ExplainsFault input Read = ⊤
@@ -115,24 +116,24 @@ ExplainsFault input (BadSatellite k) = IsFaulty input k × IsAfter IsEpochBegun 
 ExplainsFault input (CutShort k) = IsCutShort input k
 ExplainsFault input TooLong = IsTooLong input
 
--- lack of memory, or a failed reader
+-- an allocation failure, or a failed reader
 abbrev pub IsNoFault : ReadFault → Type 0
 IsNoFault Memory = ⊤
 IsNoFault Read = ⊤
 IsNoFault _ = ⊥
 
--- where the input is known to be the text of a file value whose lines all have a number, this holds of the value
+-- if the input is known to be the text of a file value of at most `most_lines` lines, this holds of the value
 abbrev pub IfTextOfFile : Option (List ℕ) → (FileValue → Type 0) → Type 0
 IfTextOfFile input Holds =
     (v : FileValue) → IsFileValue v → length (file_lines v) ≤ most_lines → IfSome input (λ bytes. bytes ≡ file_text v → Holds v)
 
--- the input, where it is known, is the text of this file value, whose lines all have a number
+-- the input, if it is known, is the text of this file value, which has at most `most_lines` lines
 pub record IsTextOf (v : FileValue) (input : Option (List ℕ)) : Type 0 where
   pub is : IsFileValue v
   pub few : length (file_lines v) ≤ most_lines
   pub text : IfSome input (λ bytes. bytes ≡ file_text v)
 
--- this value, or lack of memory, or a failed reader
+-- this value, or an allocation failure, or a failed reader
 abbrev pub IsReadOr : FileValue → Result FileValue ReadFault → Type 0
 IsReadOr v (Ok f) = f ≡ v
 IsReadOr v (Err fault) = IsNoFault fault

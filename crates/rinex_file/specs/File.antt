@@ -15,15 +15,15 @@ use Rattle.rinex_file.specs.Numbers.{joined}
 unfoldable pub header_text : HeaderLists → PlanValue → StationValues → ℕ → List ℕ
 header_text texts plan values first = joined (header_lines texts plan values (civil_of first))
 
--- the line that an event begins with: flag 4 without a time, and two lines of a header follow
+-- the first line of an event: flag 4 without a time, and 2, the number of header lines that follow
 unfoldable pub event_line : List ℕ
 event_line = codes ">" ++ (replicate 30 32 ++ codes "4  2\n")
 
--- an event with station values
+-- the lines of an event with station values
 abbrev pub event_lines : StationValues → List (List ℕ)
 event_lines v = event_line ∷ position_line v ∷ delta_line v ∷ []
 
--- what stands before an epoch: an event where the station values change
+-- the lines before an epoch: an event if the station values change
 abbrev pub change_lines : Option StationValues → List (List ℕ)
 change_lines None = []
 change_lines (Some v) = event_lines v
@@ -35,11 +35,11 @@ event_text v = joined (event_lines v)
 abbrev pub stamped_lines : Stamped → List (List ℕ)
 stamped_lines e = change_lines e.change ++ (epoch_line (civil_of e.time) (length e.rows) ∷ map satellite_line e.rows)
 
--- an epoch that was gathered under a plan
+-- the text of an epoch that was gathered under a plan
 unfoldable pub epoch_text : PlanValue → EpochValue → List ℕ
 epoch_text plan epoch = joined (stamped_lines (stamped_of plan epoch))
 
--- the line of a satellite, where it is written
+-- the line of a satellite, if it is written
 unfoldable pub line_among : PlanValue → System → List Cell → ℕ → List ℕ
 line_among plan system cells id = if is_written cells id then satellite_line (row_among plan system cells id) else []
 
@@ -50,7 +50,7 @@ line_or_none plan epoch system id = line_among plan system (cells_of system epoc
 unfoldable pub lines_up_to : PlanValue → EpochValue → System → ℕ → List ℕ
 lines_up_to plan epoch system most = joined (map satellite_line (map (row_in_epoch plan epoch system) (written_satellites (cells_of system epoch) most)))
 
--- header and epochs; nothing where there is no epoch
+-- header and epochs; nothing if there is no epoch
 abbrev pub lines_of_parts : HeaderLists → PlanValue → StationValues → List Stamped → List (List ℕ)
 lines_of_parts x p v [] = []
 lines_of_parts x p v (e ∷ es) = header_lines x p v (civil_of e.time) ++ flat_map stamped_lines (e ∷ es)
@@ -65,20 +65,20 @@ file_text v = joined (file_lines v)
 
 -- ---- epochs that were gathered under a plan
 
--- an event, where the station values are no longer those before
+-- an event, if the station values differ from those before
 abbrev pub change_text : StationValues → StationValues → List ℕ
 change_text before now = if same_values before now then [] else event_text now
 
--- epochs that were closed after others, the last of which has these station values
+-- the text of epochs that were closed after others, the last of which has these station values
 abbrev pub closed_text : PlanValue → StationValues → List Closed → List ℕ
 closed_text plan before [] = []
 closed_text plan before (c ∷ cs) = change_text before c.values ++ (epoch_text plan c.epoch ++ closed_text plan c.values cs)
 
--- the value of a file of epochs that were closed, the header of which has these station values
+-- the file value of epochs that were closed, with these station values in the header
 abbrev pub gathered : HeaderLists → PlanValue → StationValues → List Closed → FileValue
 gathered texts plan values epochs = record { texts = texts; plan = plan; values = values; epochs = all_stamped plan values epochs }
 
--- The header of the first epoch, and what is written of each epoch after it, are the text of the file of these epochs.
+-- The header of the first epoch and the text of each epoch after it are the text of the file of these epochs.
 abbrev pub IsTextInParts : HeaderLists → PlanValue → StationValues → Closed → List Closed → Type 0
 IsTextInParts texts plan values c cs =
     header_text texts plan values c.epoch.time ++ closed_text plan values (c ∷ cs) ≡ file_text (gathered texts plan values (c ∷ cs))

@@ -1,4 +1,4 @@
--- Which values are those of a file: what its lines have room for, in the order in which they stand.
+-- The values that a file can have: those that its lines have room for, in the order of the file.
 use Rattle.std.specs.Prelude.{◌≡◌, ◌≢◌, ⊤, ℕ, ℤ, pos, neg_ℤ, ◌+◌, ◌*◌, ◌^◌, ◌<◌, ◌≤◌, ◌≤ℤ◌, ◌||◌, Bool, true, List, [], ◌∷◌, length, All, Any, map, Option, Some, None, is_some, nat_eq, nat_lt, if◌then◌else◌, IfSome, IsTrue}
 use Rattle.std.specs.List.{IsDistinct, list_all}
 use Rattle.std.specs.List.Sorted.{IsStrictlyIncreasing}
@@ -16,13 +16,13 @@ use Rattle.rinex_file.specs.Value.{SignalValues, Row, SatelliteRow, Stamped, Fil
 
 -- ---- the header
 
--- printable, within its columns, and no blank at the end
+-- printable, within its columns, and no trailing blank
 pub record IsText (width : ℕ) (text : List ℕ) : Type 0 where
   pub short : length text ≤ width
   pub printable : list_all is_printable text ≡ true
   pub cut : trimmed text ≡ text
 
--- a text for each field
+-- a valid text for each field
 pub record AreTexts (x : HeaderLists) : Type 0 where
   pub count : length x ≡ text_count
   pub each : (field : HeaderField) → IsText (width_of field) (text_of x field)
@@ -37,7 +37,7 @@ pub record IsPlan (p : PlanValue) : Type 0 where
 abbrev pub IsFrom : ℤ → ℤ → ℤ → Type 0
 IsFrom low high z = (low ≤ℤ z) × (z ≤ℤ high)
 
--- a coordinate in units of 0.0001 m, as a station message has room for it: 38 bits with a sign
+-- a coordinate in units of 0.0001 m that fits the field of a station message: 38 bits, signed
 abbrev pub IsCoordinate : ℤ → Type 0
 IsCoordinate z = IsFrom (neg_ℤ (pos 137_438_953_472)) (pos 137_438_953_471) z
 
@@ -52,15 +52,15 @@ IsTime t = t < weeks * week
 
 -- ---- epochs
 
--- it says something
+-- a signal has at least one value
 abbrev pub has_some_value : SignalValues → Bool
 has_some_value e = is_some e.c || is_some e.l || is_some e.d || is_some e.s
 
--- a value that fourteen columns have room for
+-- a value that fits 14 columns
 abbrev pub FitsColumns : ℤ → Type 0
 FitsColumns v = IsFrom (neg_ℤ (pos 999_999_999_999)) (pos 9_999_999_999_999) v
 
--- values that their columns have room for
+-- values that fit their columns
 pub record HaveRoom (e : SignalValues) : Type 0 where
   pub c : IfSome e.c FitsColumns
   pub l : IfSome e.l FitsColumns
@@ -68,7 +68,7 @@ pub record HaveRoom (e : SignalValues) : Type 0 where
   pub s : IfSome e.s FitsColumns
   pub lli : e.lli < 4
 
--- those of a file: a strength of 0.001 to 99.999 dB-Hz, and no loss-of-lock indicator without a phase
+-- values that a file can have: a strength of 0.001 to 99.999 dB-Hz, and no loss-of-lock indicator without a phase
 pub record AreSignalValues (e : SignalValues) : Type 0 where
   pub c : IfSome e.c FitsColumns
   pub l : IfSome e.l FitsColumns
@@ -77,33 +77,33 @@ pub record AreSignalValues (e : SignalValues) : Type 0 where
   pub lli : e.lli < 4
   pub without_phase : e.l ≡ None → e.lli ≡ 0
 
--- a satellite of a system that has so many, of which so many signals are planned
+-- a satellite of a system with `most` satellites and `signals` planned signals
 pub record IsRow (most signals : ℕ) (r : Row) : Type 0 where
   pub satellite : (1 ≤ r.satellite) × (r.satellite ≤ most)
   pub entries : All AreSignalValues r.entries
   pub whole : length r.entries ≡ signals
   pub some : Any (λ e. IsTrue (has_some_value e)) r.entries
 
--- what stands for one system, and for the other
+-- the first value for GPS, the second for Galileo
 abbrev pub of_system : {X : Type 0} → System → X → X → X
 of_system Gps gps galileo = gps
 of_system Galileo gps galileo = galileo
 
--- a satellite's place among all: those of GPS come first
+-- a satellite's rank among all: those of GPS come first
 abbrev pub rank_of : SatelliteRow → ℕ
 rank_of s = of_system s.system s.row.satellite (100 + s.row.satellite)
 
--- a row of a system of which some signal is planned, where so many signals of each are
+-- a row of a system of which some signal is planned, if `gps` and `galileo` signals are planned
 pub record IsSatelliteRow (gps galileo : ℕ) (s : SatelliteRow) : Type 0 where
   pub planned : 0 < of_system s.system gps galileo
   pub row : IsRow (satellites s.system) (of_system s.system gps galileo) s.row
 
--- satellites that rise
+-- satellites in ascending order
 pub record AreSatelliteRows (gps galileo : ℕ) (rows : List SatelliteRow) : Type 0 where
   pub each : All (IsSatelliteRow gps galileo) rows
   pub rise : IsStrictlyIncreasing (map rank_of rows)
 
--- so many satellites have the systems of which some signal is planned
+-- the number of satellites of the systems of which some signal is planned
 abbrev pub most_rows : ℕ → ℕ → ℕ
 most_rows gps galileo = (if nat_lt 0 gps then satellites Gps else 0) + (if nat_lt 0 galileo then satellites Galileo else 0)
 
@@ -118,7 +118,7 @@ time_stamped e = e.time
 
 -- ---- station values that change
 
--- the station values that hold from an epoch on, where these hold before it
+-- the station values that hold from an epoch on, if these hold before it
 abbrev pub changed_by : StationValues → Option StationValues → StationValues
 changed_by v None = v
 changed_by v (Some w) = w

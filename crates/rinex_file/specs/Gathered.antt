@@ -1,4 +1,4 @@
--- When what was gathered of messages is a file value.
+-- When epochs that were gathered from messages make a file value.
 use Rattle.std.specs.Prelude.{◌<◌, List, ◌∷◌, length, All, nat_eq}
 use Rattle.std.specs.List.{AllByRecursion, IsDistinct}
 use Rattle.gnss_obs.specs.declared.system.System.{System}
@@ -18,7 +18,7 @@ pub record AreSignals (p : PlanValue) : Type 0 where
 abbrev pub HasSatellite : Closed → Type 0
 HasSatellite c = 0 < satellites_written c.epoch
 
--- with the texts of a header: epochs of messages that were read, in each of which a satellite is written
+-- with the texts of a header: epochs from messages that were read, in each of which a satellite is written
 abbrev pub IsGatheredFile : Type 0
 IsGatheredFile = (texts : HeaderLists) (plan : PlanValue) (e : Closed) (es : List Closed)
     → AreTexts texts → AreSignals plan → AreGatheredEpochs plan (e ∷ es) → AllByRecursion HasSatellite (e ∷ es)

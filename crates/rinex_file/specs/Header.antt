@@ -19,13 +19,13 @@ use Rattle.rinex_file.specs.Lines.{letter_of}
 unfoldable pub header_line : List ℕ → List ℕ → List ℕ
 header_line content label = joined (left content_columns content ∷ left label_columns label ∷ (10 ∷ []) ∷ [])
 
--- three numbers in 0.0001 m
+-- three lengths, given in 0.0001 m and written as F14.4
 abbrev pub lengths : ℤ → ℤ → ℤ → List ℕ
 lengths a b c = joined (right 14 (fixed 4 a) ∷ right 14 (fixed 4 b) ∷ right 14 (fixed 4 c) ∷ [])
 
 -- ---- version and texts
 
--- G, E, or M where both systems are planned
+-- G, E, or M if both systems are planned
 abbrev pub file_system : PlanValue → ℕ
 file_system p = if length p.gps == 0 then 69 else (if length p.galileo == 0 then 71 else 77)
 
@@ -43,7 +43,7 @@ label_of Observer = codes "OBSERVER / AGENCY"
 label_of Receiver = codes "REC # / TYPE / VERS"
 label_of Antenna = codes "ANT # / TYPE"
 
--- the place of its first text among all
+-- the index of its first text among all
 abbrev pub start_of : TextRow → ℕ
 start_of Program = 0
 start_of Marker = 2
@@ -52,7 +52,7 @@ start_of Observer = 4
 start_of Receiver = 6
 start_of Antenna = 9
 
--- its number of texts
+-- the number of texts of a row
 abbrev pub count_of : TextRow → ℕ
 count_of Program = 2
 count_of Observer = 2
@@ -60,16 +60,16 @@ count_of Receiver = 3
 count_of Antenna = 2
 count_of other = 1
 
--- what is before its texts: the name of the program
+-- the columns before its texts: the name of the program, or nothing
 abbrev pub front_of : TextRow → List ℕ
 front_of Program = left 20 (codes "rtcm2rinex")
 front_of other = []
 
--- the text at a place, in its columns
+-- the text at an index, in its columns
 abbrev pub text_columns : HeaderLists → ℕ → List ℕ
 text_columns x place = left (width_of (field_at place)) (get_or x place [])
 
--- a number of texts from a place on, each in its columns
+-- a number of texts from an index on, each in its columns
 abbrev pub texts_from : HeaderLists → ℕ → ℕ → List ℕ
 texts_from x place zero = []
 texts_from x place (suc more) = text_columns x place ++ texts_from x (suc place) more
@@ -82,7 +82,7 @@ texts_line x row = header_line (front_of row ++ texts_from x (start_of row) (cou
 abbrev pub position_line : StationValues → List ℕ
 position_line v = header_line (lengths v.x v.y v.z) (codes "APPROX POSITION XYZ")
 
--- the height of the antenna, which is neither east nor north of the marker
+-- the height of the antenna; its east and north offsets from the marker are zero
 abbrev pub delta_line : StationValues → List ℕ
 delta_line v = header_line (lengths (pos v.height) (pos 0) (pos 0)) (codes "ANTENNA: DELTA H/E/N")
 
@@ -96,12 +96,12 @@ type_of kind code = (if kind == 0 then 67 else (if kind == 1 then 76 else (if ki
 abbrev pub types_of : List (List ℕ) → List (List ℕ)
 types_of signals = flat_map (λ code. type_of 0 code ∷ type_of 1 code ∷ type_of 2 code ∷ type_of 3 code ∷ []) signals
 
--- the front of a line of types: on the first, the system's letter and the number of types
+-- the columns before the types of a line: on the first, the system's letter and the number of types
 abbrev pub type_front : ℕ → ℕ → ℕ → List ℕ
 type_front letter types zero = letter ∷ 32 ∷ 32 ∷ right 3 (decimal types)
 type_front letter types (suc line) = replicate 6 32
 
--- the types in a line, each after a blank: a full line has the most, and the last what is left
+-- the types in a line, each after a blank: 13 in a full line, and the rest in the last
 abbrev pub type_columns : List (List ℕ) → ℕ → List ℕ
 type_columns types line = flat_map (λ t. 32 ∷ t) (take types_in_line (drop (types_in_line * line) types))
 
@@ -115,7 +115,7 @@ type_rows signals = (4 * signals + 12) / types_in_line
 abbrev pub codes_of : System → List ℕ → List (List ℕ)
 codes_of system signals = map (λ index. code_of (record { system = system; index = index })) signals
 
--- no phase is shifted
+-- the line of a system without phase shifts
 abbrev pub shift_line : System → List ℕ
 shift_line system = header_line (letter_of system ∷ []) (codes "SYS / PHASE SHIFT")
 
@@ -148,7 +148,7 @@ row_line x p v t First = first_line t
 row_line x p v t (Shift system) = shift_line system
 row_line x p v t End = end_line
 
--- it is in the header: types and phase shifts are those of a planned system
+-- whether a row is in the header: types and phase shifts are those of a planned system
 abbrev pub has_line : PlanValue → HeaderRow → Bool
 has_line p (Types system row) = nat_lt row (type_rows (length (planned_of system p)))
 has_line p (Shift system) = nat_lt 0 (length (planned_of system p))
@@ -172,13 +172,13 @@ row_count = 26
 unfoldable pub header_lines : HeaderLists → PlanValue → StationValues → Civil → List (List ℕ)
 header_lines x p v t = flat_map (row_lines x p v t) all_rows
 
--- ---- one line after the other
+-- ---- line by line
 
--- the row at a place
+-- the row at an index
 abbrev pub row_at : ℕ → HeaderRow
 row_at place = get_or all_rows place End
 
--- the place of the first row of a system's types
+-- the index of the first row of a system's types
 abbrev pub first_types : System → ℕ
 first_types Gps = 9
 first_types Galileo = 15
@@ -191,7 +191,7 @@ text_row_place Observer = 4
 text_row_place Receiver = 5
 text_row_place Antenna = 6
 
--- the place of a row
+-- the index of a row
 abbrev pub row_place : HeaderRow → ℕ
 row_place Version = 0
 row_place (Texts row) = text_row_place row
@@ -204,6 +204,6 @@ row_place (Shift Gps) = 23
 row_place (Shift Galileo) = 24
 row_place End = 25
 
--- the lines of the rows from a place on
+-- the lines of the rows from an index on
 abbrev pub lines_from : HeaderLists → PlanValue → StationValues → Civil → ℕ → List (List ℕ)
 lines_from x p v t place = flat_map (row_lines x p v t) (drop place all_rows)

@@ -1,7 +1,7 @@
--- How long a line of a file is at most, and what stands in it.
+-- The largest sizes of a line of a file and of its parts.
 use Rattle.std.specs.Prelude.{ℕ}
 
--- a value: 14 columns, and two after them
+-- a value: F14.3 plus the LLI and SSI columns
 abbrev pub value_columns : ℕ
 value_columns = 16
 
@@ -9,18 +9,18 @@ value_columns = 16
 abbrev pub signal_columns : ℕ
 signal_columns = 64
 
--- the signals of a system: Galileo has the most
+-- the largest number of signals of a system: those of Galileo
 abbrev pub most_signals : ℕ
 most_signals = 19
 
--- a header line: its content, and its label after it
+-- a header line: its content, and the label after it
 abbrev pub content_columns : ℕ
 content_columns = 60
 
 abbrev pub label_columns : ℕ
 label_columns = 20
 
--- the observation types that stand in a header line
+-- the largest number of observation types in a header line
 abbrev pub types_in_line : ℕ
 types_in_line = 13
 

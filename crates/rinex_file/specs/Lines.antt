@@ -10,7 +10,7 @@ use Rattle.rinex_file.specs.Blanks.{trimmed}
 use Rattle.rinex_file.specs.Value.{SignalValues, Row, SatelliteRow}
 use Rattle.rinex_file.specs.Limits.{value_columns}
 
--- the fields of the line that an epoch of so many satellites begins with
+-- the fields of the first line of an epoch with this number of satellites
 abbrev pub epoch_fields : Civil → ℕ → List (List ℕ)
 epoch_fields t satellites =
     codes "> " ∷ right 4 (decimal t.year)
@@ -25,16 +25,16 @@ epoch_fields t satellites =
 unfoldable pub epoch_line : Civil → ℕ → List ℕ
 epoch_line t satellites = joined (epoch_fields t satellites)
 
--- a value with its loss-of-lock and strength columns; 16 blanks where it is missing
+-- a value with its LLI and SSI columns; 16 blanks if it is absent
 unfoldable pub field : Option ℤ → ℕ → ℕ → List ℕ
 field None lost strength = replicate value_columns 32
 field (Some v) lost strength = right 14 (fixed 3 v) ++ lost ∷ strength ∷ []
 
--- the loss-of-lock column of a phase
+-- the LLI column of a phase
 abbrev pub lli_byte : ℕ → ℕ
 lli_byte lli = if lli == 0 then 32 else 48 + lli
 
--- the strength column
+-- the SSI column
 abbrev pub strength_byte : Option ℤ → ℕ
 strength_byte s = option_map_or (λ t. 48 + strength_digit t) s 32
 
@@ -52,6 +52,6 @@ letter_of Galileo = 69
 abbrev pub row_text : ℕ → Row → List ℕ
 row_text letter r = letter ∷ padded 2 r.satellite ++ flat_map signal_text r.entries
 
--- the line of a satellite; blanks at its end are cut
+-- the line of a satellite, without trailing blanks
 unfoldable pub satellite_line : SatelliteRow → List ℕ
 satellite_line s = trimmed (row_text (letter_of s.system) s.row) ++ 10 ∷ []

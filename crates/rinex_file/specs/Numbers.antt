@@ -1,4 +1,4 @@
--- Numbers of stated width, as they stand in the columns of a line.
+-- Numbers of fixed width, as in the columns of a line.
 use Rattle.std.specs.Prelude.{ℕ, ℤ, ◌-◌, ◌/◌, ◌%◌, ◌^◌, List, ◌∷◌, ◌++◌, length, flat_map, replicate, decimal, unsigned_abs}
 use Rattle.std.specs.Int.{is_negative}
 use Rattle.std.specs.Fmt.{sign_text}
@@ -7,19 +7,19 @@ use Rattle.std.specs.Fmt.{sign_text}
 abbrev pub joined : List (List ℕ) → List ℕ
 joined parts = flat_map (λ part. part) parts
 
--- a text left in its columns, with blanks after
+-- a text left-aligned in its columns, with blanks after
 abbrev pub left : ℕ → List ℕ → List ℕ
 left width text = text ++ replicate (width - length text) 32
 
--- a text right in its columns, with blanks in front
+-- a text right-aligned in its columns, with blanks before
 abbrev pub right : ℕ → List ℕ → List ℕ
 right width text = replicate (width - length text) 32 ++ text
 
--- a number with zeros in front, up to so many digits
+-- a number with leading zeros, up to `places` digits
 abbrev pub padded : ℕ → ℕ → List ℕ
 padded places n = replicate (places - length (decimal n)) 48 ++ decimal n
 
--- a whole number z of 10 to the minus `places`: a minus where negative, the whole part, a point and so many digits
+-- z in units of 10 to the minus `places`: a minus if negative, the whole part, a point and `places` digits
 abbrev pub fixed : ℕ → ℤ → List ℕ
 fixed places z =
     sign_text (is_negative z)

@@ -1,4 +1,4 @@
--- How far the reading of a file is, and what it says of all that was read.
+-- The parser state while a file is read, and what it means for all that was read.
 use Rattle.std.specs.Prelude.{◌≡◌, ℕ, ◌+◌, ◌≤◌, List, [], ◌∷◌, ◌++◌, length, map, Option, Some, None, Result, Ok, Err, ⊤}
 use Rattle.std.specs.List.{sum_by}
 use Rattle.rinex_file.specs.declared.read.parser_state.ParserState.{ParserState}
@@ -12,7 +12,7 @@ use Rattle.rinex_file.specs.FileValues.{time_stamped, rank_of, changed_by, value
 use Rattle.rinex_file.specs.Read.Progress.{Progress, HasLinesLeft}
 use Rattle.rinex_file.specs.Read.Sound.{IsSound, AreLinesOf}
 
--- what was read of a file after its header: epochs, and the satellites so far of an epoch that was begun
+-- what was read of a file after its header: epochs, and the satellites of an epoch that was begun
 pub record History : Type 0 where
   pub epochs : List Stamped
   pub rows : List SatelliteRow
@@ -33,7 +33,7 @@ EndsIn xs (Some x) = (front : List ℕ) × (xs ≡ front ++ x ∷ [])
 abbrev pub rows_in : List Stamped → ℕ
 rows_in epochs = sum_by (λ e. length e.rows) epochs
 
--- how many of these epochs change the station values
+-- the number of events of a change of station values
 abbrev pub changes_of : Option StationValues → ℕ
 changes_of None = 0
 changes_of (Some v) = 1
@@ -41,7 +41,7 @@ changes_of (Some v) = 1
 abbrev pub events_in : List Stamped → ℕ
 events_in epochs = sum_by (λ e. changes_of e.change) epochs
 
--- the parser state after this history
+-- this is the parser state after this history
 pub record FollowsHistory (c : ParserState) (h : History) : Type 0 where
   pub sound : IsSound (progress_at c h)
   pub last : EndsIn (map time_stamped h.epochs) c.last
@@ -59,7 +59,7 @@ stamped_at change time rows = record { change = change; time = time; rows = rows
 abbrev pub with_satellite : History → SatelliteRow → History
 with_satellite h seen = record { epochs = h.epochs; rows = h.rows ++ seen ∷ [] }
 
--- a history where the epoch that was begun, after this change and at this time, has all its satellites
+-- a history in which the epoch that was begun, after this change and at this time, has all its satellites
 abbrev pub with_epoch : History → Option StationValues → ℕ → History
 with_epoch h change time = record { epochs = h.epochs ++ stamped_at change time h.rows ∷ []; rows = [] }
 
@@ -73,11 +73,11 @@ with_line LastRow c h = with_epoch (with_satellite h c.seen) c.change c.time
 abbrev pub GoesOnWithLine : Progress → Progress → List ℕ → Type 0
 GoesOnWithLine old new line = (v : FileValue) (left : List (List ℕ)) → HasLinesLeft old v (line ∷ left) → HasLinesLeft new v left
 
--- the line is that of what was read with it
+-- the line is that of what was added to what was read
 abbrev pub ShowsLine : Progress → Progress → List ℕ → Type 0
 ShowsLine old new line = (taken : List (List ℕ)) → AreLinesOf old taken → AreLinesOf new (taken ++ line ∷ [])
 
--- no file goes on with the line
+-- no file continues with the line
 abbrev pub RefusesLine : Progress → List ℕ → Type 0
 RefusesLine s line = (v : FileValue) (left : List (List ℕ)) → HasLinesLeft s v (line ∷ left) → ⊥
 
@@ -93,6 +93,6 @@ TakesLine old new line (Ok added) = (h : History) → FollowsHistory old h → I
 TakesLine old new line (Err Bad) = (h : History) → FollowsHistory old h → RefusesLine (progress_at old h) line
 TakesLine old new line (Err Memory) = ⊤
 
--- so many lines hold what was counted
+-- no count is greater than this number of lines
 abbrev pub HasRoom : ParserState → ℕ → Type 0
 HasRoom c lines = (c.epochs ≤ lines) × (c.satellites ≤ lines) × (c.events ≤ lines)

@@ -1,4 +1,4 @@
--- What the reading of a file says of its lines, one after the other.
+-- The reading of a file, line by line.
 pub mod Fields
 pub mod Texts
 pub mod Row

@@ -14,7 +14,7 @@ HeaderLists = List (List ℕ)
 abbrev pub text_count : ℕ
 text_count = 11
 
--- the place of a field among all
+-- the index of a field among all
 abbrev pub place_of : HeaderField → ℕ
 place_of RunBy = 0
 place_of Date = 1
@@ -48,18 +48,18 @@ column_of other = 0
 abbrev pub text_of : HeaderLists → HeaderField → List ℕ
 text_of t field = get_or t (place_of field) []
 
--- the fields in the order in which they are judged
+-- the fields in the order in which they are validated
 abbrev pub fields : List HeaderField
 fields = RunBy ∷ Date ∷ Marker ∷ MarkerType ∷ Observer ∷ Agency ∷ RecNumber ∷ RecType ∷ RecVersion ∷ AntNumber ∷ AntType ∷ []
 
--- the field at a place
+-- the field at an index
 abbrev pub field_at : ℕ → HeaderField
 field_at place = get_or fields place AntType
 
 abbrev pub is_printable : ℕ → Bool
 is_printable b = nat_le 32 b && nat_le b 126
 
--- what is wrong with the text of a field: an unprintable byte first, then its length without the blanks at the end
+-- the fault of the text of a field: an unprintable byte first, then its length without trailing blanks
 abbrev pub fault_of : HeaderField → List ℕ → Option HeadFault
 fault_of field text =
     if list_all is_printable text
@@ -71,11 +71,11 @@ abbrev pub or_later : Option HeadFault → Option HeadFault → Option HeadFault
 or_later None later = later
 or_later (Some fault) later = Some fault
 
--- the fault that was found, or else the first of these fields
+-- the fault that was found, or else the first fault of these fields
 abbrev pub first_fault : HeaderLists → Option HeadFault → List HeaderField → Option HeadFault
 first_fault t found [] = found
 first_fault t found (field ∷ rest) = first_fault t (or_later found (fault_of field (text_of t field))) rest
 
--- each text without the blanks at its end
+-- each text without trailing blanks
 abbrev pub trimmed_texts : HeaderLists → HeaderLists
 trimmed_texts t = map trimmed t

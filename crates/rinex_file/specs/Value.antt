@@ -1,4 +1,4 @@
--- What a file holds.
+-- The contents of a file.
 use Rattle.std.specs.Prelude.{ℕ, ℤ, ◌==◌, ◌&&◌, Bool, List, [], ◌∷◌, ◌++◌, zero, suc, map, filter, find, if◌then◌else◌, Option, Some, None}
 use Rattle.std.specs.Option.{option_map_or}
 use Rattle.gnss_obs.specs.declared.system.System.{System}
@@ -9,7 +9,7 @@ use Rattle.obs_epoch.specs.declared.cell.StationValues.{StationValues}
 use Rattle.obs_epoch.specs.Values.{EpochValue, PlanValue, Closed, same_values, cells_of, planned_of, is_written}
 use Rattle.rinex_file.specs.Texts.{HeaderLists}
 
--- what was observed of a planned signal: values in thousandths, all absent where nothing was
+-- the observations of a planned signal: values in thousandths, all absent if nothing was observed
 pub record SignalValues : Type 0 where
   pub c : Option ℤ
   pub l : Option ℤ
@@ -17,8 +17,9 @@ pub record SignalValues : Type 0 where
   pub s : Option ℤ
   pub lli : ℕ
 
--- A satellite's entries: a map from the planned signals of its system to values and indicator, as one entry for each signal in
--- the plan's order. An entry without a value and without an indicator stands for a signal that the map doesn't have.
+-- A satellite's entries: a map from the planned signals of its system to values and indicator, as one entry for each
+-- signal in the plan's order. An entry without a value and without an indicator means that the map doesn't have the
+-- signal.
 pub record Row : Type 0 where
   pub satellite : ℕ
   pub entries : List SignalValues
@@ -32,8 +33,8 @@ pub record SatelliteRow : Type 0 where
 abbrev pub satellite_row : System → ℕ → List SignalValues → SatelliteRow
 satellite_row system satellite entries = record { system = system; row = record { satellite = satellite; entries = entries } }
 
--- An epoch: a map from satellites to entries, as a list of rising satellites, those of GPS first. `change` are the station
--- values that hold from this epoch on, where they are no longer those before.
+-- An epoch: a map from satellites to entries, as a list of satellites in ascending order, those of GPS first. `change`
+-- are the station values that hold from this epoch on, if they differ from those before.
 pub record Stamped : Type 0 where
   pub change : Option StationValues
   pub time : ℕ
@@ -66,7 +67,7 @@ no_signal_values = record { c = None; l = None; d = None; s = None; lli = 0 }
 abbrev pub signal_values_of : Cell → SignalValues
 signal_values_of c = record { c = c.c; l = c.l; d = c.d; s = c.s; lli = c.lli }
 
--- a satellite's cell of the signal at this place of its system's table
+-- a satellite's cell of the signal at this index of its system's table
 abbrev pub is_of_key : ℕ → ℕ → Cell → Bool
 is_of_key id index c = (c.satellite.id == id) && (c.signal.index == index)
 
@@ -94,7 +95,7 @@ rows_of plan epoch system = map (row_in_epoch plan epoch system) (written_satell
 abbrev pub stamped_of : PlanValue → EpochValue → Stamped
 stamped_of plan epoch = record { change = None; time = epoch.time; rows = rows_of plan epoch Gps ++ rows_of plan epoch Galileo }
 
--- the station values now, where they are no longer those before
+-- the station values now, if they differ from those before
 abbrev pub change_from : StationValues → StationValues → Option StationValues
 change_from before now = if same_values before now then None else Some now
 

@@ -1,4 +1,4 @@
-//! The header: what it shows, and its lines in their order. RINEX 3.05, table A2.
+//! The header: its contents, and its lines in order. RINEX 3.05, table A2.
 pub(crate) mod fault;
 pub(crate) mod head;
 pub(crate) mod labels;

@@ -11,20 +11,20 @@ use crate::header::texts::HeaderTexts;
 use gnss_obs::System;
 use obs_epoch::Plan;
 
-/// What the writers send is the text of a file value: the header of the first epoch, and then each
-/// epoch in turn, after an event where its station values are no longer those before.
+/// The output of the writers is the text of a file value: the header of the first epoch, and then
+/// each epoch in turn, after an event if its station values differ from those before.
 pub fn file()
-    // The file of epochs that were gathered under a plan is that of the value that they make.
+    // The text of epochs that were gathered under a plan is the text of their file value.
     ensures text { (texts : HeaderLists) (plan : PlanValue) (values : StationValues) (c : Closed) (cs : List Closed)
         → IsTextInParts texts plan values c cs }
-    // Where there is no epoch the file is empty.
+    // Without an epoch the file is empty.
     ensures none { (texts : HeaderLists) (plan : PlanValue) (values : StationValues) → file_text (gathered texts plan values []) ≡ [] }
     // A header isn't empty.
     ensures some { (texts : HeaderLists) (plan : PlanValue) (values : StationValues) (first : ℕ) → header_text texts plan values first ≢ [] }
 {}
 
-/// What is gathered of messages that were read is a file value, so its text is one that is read
-/// back.
+/// Epochs that are gathered from messages that were read make a file value, so their text can be
+/// read back.
 pub fn values()
     ensures { IsGatheredFile }
 {}

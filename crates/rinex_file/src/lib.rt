@@ -1,8 +1,8 @@
 //! Observation files: RINEX 3.05.
 //!
-//! A [`Head`] says what a header shows, with the texts that [`HeaderTexts`] has judged.
+//! A [`Head`] holds the contents of a header; its texts are validated by [`HeaderTexts`].
 //! [`header_lines`], [`epoch_line`] and [`satellite_line`] make lines; [`write_header`],
-//! [`write_event`] and [`write_epoch`] write them. None of these takes memory.
+//! [`write_event`] and [`write_epoch`] write them. None of these allocates memory.
 #![tactic(auto)]
 
 mod header;

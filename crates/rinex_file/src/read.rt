@@ -1,5 +1,5 @@
-//! Reading a file line by line: whatever a line shows is read without judging it, written again,
-//! and compared.
+//! Reading a file line by line: the fields of each line are read leniently, written again, and
+//! compared.
 pub(crate) mod block;
 pub(crate) mod epoch;
 pub(crate) mod expected;

@@ -1,3 +1,3 @@
-//! A file that was read, and how it lies in memory.
+//! A file that was read, as it is stored in memory.
 pub(crate) mod kept;
 pub(crate) mod obs_file;

@@ -27,7 +27,9 @@ use std::io::Write;
 
 /// Writes a header, line by line.
 ///
-/// If the writer fails, what was written is a prefix of the header.
+/// # Errors
+///
+/// [`HeadFault::Write`] if the writer fails; the bytes written are then a prefix of the header.
 #[tactic(auto, unfolding(crate::specs::File::header_text))]
 pub fn write_header<W: Write>(head: &Head, writer: &mut Counted<W>) -> Result<(), HeadFault>
     ensures whole { OnOk result (Appends (W.contents writer.old.inner) (W.contents writer.new.inner) (head_text head.now)) }
@@ -43,7 +45,9 @@ pub fn write_header<W: Write>(head: &Head, writer: &mut Counted<W>) -> Result<()
 
 /// Writes an event with station values: its line, and position and height as in a header.
 ///
-/// If the writer fails, what was written is a prefix of these lines.
+/// # Errors
+///
+/// [`HeadFault::Write`] if the writer fails; the bytes written are then a prefix of these lines.
 #[tactic(auto, unfolding(crate::specs::File::event_text))]
 pub fn write_event<W: Write>(
     values: StationValues,
@@ -106,10 +110,12 @@ fn write_system<W: Write>(
     Ok(())
 }
 
-/// Writes an epoch: its line, and a line for each satellite that has a value, those of GPS first
-/// and by rising number.
+/// Writes an epoch: its line, and a line for each satellite that has a value, GPS first and in
+/// ascending order of the satellites' numbers.
 ///
-/// If the writer fails, what was written is a prefix of these lines.
+/// # Errors
+///
+/// [`HeadFault::Write`] if the writer fails; the bytes written are then a prefix of these lines.
 #[tactic(auto, unfolding(crate::specs::File::epoch_text))]
 pub fn write_epoch<W: Write>(
     epoch: &Epoch,

@@ -1,4 +1,4 @@
--- From one line of a header to the next, as its lines are read.
+-- From one line of a header to the next while its lines are read.
 use Rattle.std.specs.Prelude.{◌≡◌, ℕ, suc, ◌+◌, ◌<◌, ◌==◌, ◌||◌, ◌&&◌, nat_lt, Bool, true, List, [], ◌∷◌, length, get_or, take, drop, min, Option, Some, ⊤, ◌↔◌, MatchBool, All, nat_eq}
 use Rattle.obs_epoch.specs.declared.cell.StationValues.{StationValues}
 use Rattle.gnss_obs.specs.Signals.{SignalAt, IsSignal, code_of, table}
@@ -21,7 +21,7 @@ IsSole (Types system row) = ⊥
 IsSole End = ⊥
 IsSole other = ⊤
 
--- a row has a line, by the first line of the file and a system's first line of types
+-- whether a row has a line, by the first line of the file and a system's first line of types
 abbrev pub known_line : Known → HeaderRow → Bool
 known_line k (Types system row) = plans k system && (row == 0 || nat_lt row (type_rows (signal_count k system)))
 known_line k (Shift system) = plans k system
@@ -35,13 +35,13 @@ pub record AreValid (k : Known) : Type 0 where
   pub values : AreValues k.shown.values
   pub first : IsTime k.shown.first
 
--- some header shows what is known before a place
+-- some header has what is known before a row
 pub record HasShownAt (place : ℕ) (k : Known) : Type 0 where
   pub h : Shown
   pub is : IsShown h
   pub knows : KnowsAt place k h
 
--- What a row's line says is known now, and so is what was known before. Some header still shows it.
+-- The content of a row's line is known now, and so is what was known before. Some header still has it.
 pub record LearnsLine (row : HeaderRow) (line : List ℕ) (old new : Known) : Type 0 where
   pub says : (h : Shown) → IsShown h → (KnowsAt (row_place row) old h × (shown_line h row ≡ line)) ↔ KnowsAt (suc (row_place row)) new h
   pub stays : AreValid new → HasShownAt (row_place row) old → HasShownAt (suc (row_place row)) new
@@ -50,28 +50,28 @@ pub record LearnsLine (row : HeaderRow) (line : List ℕ) (old new : Known) : Ty
 abbrev pub RefusesHeaderLine : HeaderRow → List ℕ → Known → Type 0
 RefusesHeaderLine row line old = (h : Shown) → IsShown h → KnowsAt (row_place row) old h → shown_line h row ≡ line → ⊥
 
--- what was learned of a line, or that it is refused
+-- what was learned from a line, or that it is refused
 abbrev pub LearnsOrRefuses : HeaderRow → List ℕ → Known → Known → Bool → Type 0
 LearnsOrRefuses row line old new taken = MatchBool taken (LearnsLine row line old new) (RefusesHeaderLine row line old)
 
--- signals of a system were read exactly where it is planned, and as many as its first line of types says
+-- signals of a system were read if and only if it is planned, in the number that its first line of types contains
 pub record IsWholeOf (system : System) (k : Known) : Type 0 where
   pub planned : plans k system ≡ is_some_planned (planned_of system k.shown.plan)
   pub count : 0 < length (planned_of system k.shown.plan) → signal_count k system ≡ length (planned_of system k.shown.plan)
 
--- of both systems, and there is a signal
+-- the signals of both systems were read, and there is at least one
 abbrev pub IsWhole : Known → Type 0
 IsWhole k = ((system : System) → IsWholeOf system k) × (0 < length k.shown.plan.gps + length k.shown.plan.galileo)
 
--- the headers that go on from one place are those that go on from another
+-- the headers that continue with the line are those that continue from the next row
 abbrev pub StepsTo : Known → ℕ → List ℕ → Known → Option ℕ → Type 0
 StepsTo old place line new next = (h : Shown) (left : List (List ℕ)) → IsHeaderLeft old place h (line ∷ left) ↔ MayFollow new next h left
 
--- no header goes on with this line
+-- no header continues with this line
 abbrev pub NoneGoesOn : Known → ℕ → List ℕ → Type 0
 NoneGoesOn old place line = (h : Shown) (left : List (List ℕ)) → IsHeaderLeft old place h (line ∷ left) → ⊥
 
--- the headers that go on from a place are those that go on from a later one
+-- the headers that continue from a row are those that continue from a later one
 abbrev pub SameFrom : Known → ℕ → ℕ → Type 0
 SameFrom k place next = (h : Shown) (left : List (List ℕ)) → IsHeaderLeft k place h left ↔ IsHeaderLeft k next h left
 
@@ -81,7 +81,7 @@ SameFrom k place next = (h : Shown) (left : List (List ℕ)) → IsHeaderLeft k 
 abbrev pub text_in : ℕ → List ℕ → List ℕ
 text_in place line = trimmed (take (width_of (field_at place)) (drop (column_of (field_at place)) line))
 
--- the texts of a row were taken from its columns, and those before are as they were
+-- the texts of a row were read from its columns, and those before are unchanged
 pub record TakesTexts (row : TextRow) (count : ℕ) (line : List ℕ) (old new : HeaderLists) : Type 0 where
   pub same : (i : ℕ) → i < start_of row → get_or new i [] ≡ get_or old i []
   pub taken : (i : ℕ) → i < count → get_or new (start_of row + i) [] ≡ text_in (start_of row + i) line
@@ -90,12 +90,12 @@ pub record TakesTexts (row : TextRow) (count : ℕ) (line : List ℕ) (old new :
 abbrev pub RefusesTexts : TextRow → List ℕ → Type 0
 RefusesTexts row line = (x : HeaderLists) → AreTexts x → texts_line x row ≡ line → ⊥
 
--- the texts of a row were read: the line is theirs
+-- the texts of a row were read: the line is that of these texts
 pub record ReadsTexts (row : TextRow) (line : List ℕ) (old new : HeaderLists) : Type 0 where
   pub taken : TakesTexts row (count_of row) line old new
   pub shown : texts_line new row ≡ line
 
--- ---- what was read, with one part put in place of another
+-- ---- what was read, with one part replaced
 
 abbrev pub with_texts : Known → HeaderLists → Known
 with_texts k texts = record {
@@ -124,7 +124,7 @@ with_first k first = record {
   galileo_count = k.galileo_count;
 }
 
--- with what the first line says
+-- what was read, with the systems of the first line
 abbrev pub with_systems : Known → Bool → Bool → Known
 with_systems k gps galileo = record { shown = k.shown; gps = gps; galileo = galileo; gps_count = k.gps_count; galileo_count = k.galileo_count }
 
@@ -133,7 +133,7 @@ abbrev pub plan_with : System → PlanValue → List ℕ → PlanValue
 plan_with Gps p signals = record { gps = signals; galileo = p.galileo }
 plan_with Galileo p signals = record { gps = p.gps; galileo = signals }
 
--- with the signals of a system
+-- what was read, with the signals of a system
 abbrev pub with_signals : System → Known → List ℕ → Known
 with_signals system k signals = record {
   shown = record { texts = k.shown.texts; plan = plan_with system k.shown.plan signals; values = k.shown.values; first = k.shown.first };
@@ -143,7 +143,7 @@ with_signals system k signals = record {
   galileo_count = k.galileo_count;
 }
 
--- with the number of a system's signals
+-- what was read, with the number of a system's signals
 abbrev pub with_count : System → Known → ℕ → Known
 with_count system k count = record {
   shown = k.shown;
@@ -155,32 +155,32 @@ with_count system k count = record {
 
 -- ---- lines of types
 
--- so many signals are all, and these are those that begin in the lines before one
+-- `all` are `count` signals, and `signals` are those of them that begin in the lines before `row`
 abbrev pub AreBegun : ℕ → ℕ → List ℕ → List ℕ → Type 0
 AreBegun count row signals all = (length all ≡ count) × (signals ≡ take (signals_begun row) all)
 
--- the signals that begin in a line were taken after those of the lines before
+-- the signals that begin in a line were appended to those of the lines before
 pub record TakesRow (system : System) (count row : ℕ) (line old new : List ℕ) : Type 0 where
   pub taken : (all : List ℕ) → AreTypes system all → (AreBegun count row old all × (line ≡ types_line system all row)) ↔ AreBegun count (row + 1) new all
   pub size : length new ≡ min (signals_begun (row + 1)) count
 
--- the types of so many signals are those that a line shows, where it is due
+-- the number of signals of a system, if this line of its types is expected
 abbrev pub CountsExpected : Known → System → ℕ → List ℕ → Option ℕ → Type 0
 CountsExpected k system row line count =
     (all : List ℕ) → AreTypes system all → (0 < row → signal_count k system ≡ length all) → row < type_rows (length all)
     → line ≡ types_line system all row → count ≡ Some (length all)
 
--- where the line is that of these types, the signals that begin in it were taken after those of the lines before
+-- if the line is that of these types, the signals that begin in it were appended to those of the lines before
 abbrev pub ReadsRow : System → ℕ → ℕ → List ℕ → List ℕ → List ℕ → Type 0
 ReadsRow system count row line old new =
     (all : List ℕ) → AreTypes system all → AreBegun count row old all → line ≡ types_line system all row → new ≡ take (signals_begun (row + 1)) all
 
--- the line is that of these types exactly where the signals that begin in it were taken
+-- the line is that of these types if and only if the signals that begin in it were appended
 abbrev pub ComparesRow : System → ℕ → ℕ → List ℕ → List ℕ → List ℕ → Type 0
 ComparesRow system count row line old new =
     (all : List ℕ) → AreTypes system all → AreBegun count row old all → (line ≡ types_line system all row) ↔ (new ≡ take (signals_begun (row + 1)) all)
 
--- the code of this signal of a system stands at a column of a line, counted from 0
+-- the code of this signal of a system is at a column of a line, counted from 0
 abbrev pub HasSignalAt : System → List ℕ → ℕ → SignalAt → Type 0
 HasSignalAt system line column s = IsSignal s × (s.system ≡ system) × (take 2 (drop column line) ≡ code_of s)
 

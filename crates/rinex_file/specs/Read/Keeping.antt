@@ -1,4 +1,4 @@
--- What is kept of the epochs of a file.
+-- The epochs of a file that are stored while it is read.
 use Rattle.std.specs.Prelude.{ℕ, ◌<◌, ◌≤◌, List, length, All}
 use Rattle.rinex_file.specs.declared.read.file_builder.FileBuilder.{FileBuilder}
 use Rattle.rinex_file.specs.Value.{SatelliteRow, Stamped}
@@ -8,7 +8,7 @@ use Rattle.rinex_file.specs.Numbers.{joined}
 use Rattle.rinex_file.specs.File.{stamped_lines}
 use Rattle.rinex_file.specs.Limits.{most_signals}
 
--- the history that is kept
+-- the history that is stored
 abbrev pub history_of : FileBuilder → History
 history_of k = record { epochs = k.epochs.items; rows = k.rows.items }
 

@@ -1,4 +1,4 @@
--- What holds of all that was read of a file, wherever its reading stands.
+-- What holds of all that was read of a file, for every kind of expected line.
 use Rattle.std.specs.Prelude.{◌≡◌, ◌≢◌, Option, Some, ℕ, ℤ, ◌+◌, ◌<◌, ◌≤◌, List, [], ◌∷◌, ◌++◌, length, map}
 use Rattle.std.specs.List.Sorted.{IsStrictlyIncreasing}
 use Rattle.rinex_file.specs.declared.read.expected.Expected.{Expected}
@@ -28,7 +28,7 @@ values_now s = values_following s.known.shown.values s.epochs
 abbrev pub IsBegun : Progress → Type 0
 IsBegun s = IsPartOfNext s.known.shown s.epochs (stamped s s.rows)
 
--- an event may stand after the epochs that were read
+-- an event may follow the epochs that were read
 abbrev pub IsEventExpected : Progress → Type 0
 IsEventExpected s = AreRead s × (s.rows ≡ []) × (s.epochs ≢ [])
 
@@ -43,15 +43,15 @@ IsSoundAt s (Satellite n) = AreRead s × IsBegun s × (0 < n) × (length s.rows 
 abbrev pub IsSound : Progress → Type 0
 IsSound s = IsSoundAt s s.expected
 
--- an epoch at this time stands after these epochs, in a file that begins at this first time
+-- an epoch at this time may follow these epochs, in a file that begins at this first time
 abbrev pub IsTimeAfter : List Stamped → ℕ → ℕ → Type 0
 IsTimeAfter es first t = IsStrictlyIncreasing (map time_stamped es ++ t ∷ []) × (es ≡ [] → first ≡ t)
 
--- the line of an epoch is read exactly, where time and number of satellites are such
+-- the first line of an epoch is read exactly, for the times and numbers of satellites that are allowed
 abbrev pub ReadsEpochLine : (ℕ → ℕ → Type 0) → List ℕ → Option (ℕ × ℕ) → Type 0
 ReadsEpochLine MayBe line read = ReadsExactly (λ (e : ℕ × ℕ). IsTime e.0 × MayBe e.0 e.1) (λ (e : ℕ × ℕ). epoch_line (civil_of e.0) e.1) line read
 
--- an epoch of so many satellites may follow at a time: it is later than those before, or the one that the header names, and the
+-- an epoch of n satellites may follow at a time: it is later than those before, or is the time in the header, and the
 -- planned systems have as many satellites
 pub record MayBegin (s : Progress) (t n : ℕ) : Type 0 where
   pub later : IsStrictlyIncreasing (map time_stamped s.epochs ++ t ∷ [])
@@ -77,7 +77,7 @@ AreLinesAt s (Satellite n) lines = lines ≡ whole_lines s.known.shown s.epochs 
 abbrev pub AreLinesOf : Progress → List (List ℕ) → Type 0
 AreLinesOf s lines = AreLinesAt s s.expected lines
 
--- what was read stands for the lines that were taken: these are its lines, and the file values that begin with them go on
+-- what was read describes the accepted lines: these are its lines, and the file values that begin with them continue
 pub record HasReadLines (s : Progress) (taken : List (List ℕ)) : Type 0 where
   pub goes : (v : FileValue) (left : List (List ℕ)) → IsFileValue v → file_lines v ≡ taken ++ left → HasLinesLeft s v left
   pub are : AreLinesOf s taken

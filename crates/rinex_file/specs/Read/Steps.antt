@@ -1,4 +1,4 @@
--- What a reading says of all the lines that it took, one after the other.
+-- What a reading means for all the lines that it accepted.
 use Rattle.std.specs.Prelude.{◌≡◌, ℕ, ◌+◌, ◌≤◌, List, [], length, All, Option, Some, None, Result, Ok, Err, IfSome}
 use Rattle.std.specs.Io.KnownBytes.{Consumes, prepend_known}
 use Rattle.rinex_file.specs.declared.read.expected.Added.{Added}
@@ -14,7 +14,7 @@ use Rattle.rinex_file.specs.Read.Progress.{Progress, file_with}
 use Rattle.rinex_file.specs.Read.Sound.{HasReadLines}
 use Rattle.rinex_file.specs.ParserState.{History, FollowsHistory, HasRoom, progress_at, with_line}
 
--- some lines were taken, so many, and what was read stands for them
+-- `count` lines were accepted, and what was read describes them
 pub record IsTaken (s : Progress) (count : ℕ) (input left : Option (List ℕ)) : Type 0 where
   pub lines : List (List ℕ)
   pub are : All IsLine lines
@@ -22,7 +22,7 @@ pub record IsTaken (s : Progress) (count : ℕ) (input left : Option (List ℕ))
   pub taken : Consumes input left (joined lines)
   pub stands : HasReadLines s lines
 
--- what may be counted
+-- no count is greater than the number of lines, which is at most `most_lines`
 abbrev pub MayBeCounted : Reading → Type 0
 MayBeCounted r = HasRoom r.parser_state r.count × (r.count ≤ most_lines)
 
@@ -48,17 +48,17 @@ pub record IsWhole (c : ParserState) (h : History) (input : Option (List ℕ)) :
   pub stands : FollowsHistory c h
   pub none : h.rows ≡ []
 
--- where a reading goes with the next line: to a history with what the line adds, to the end, or to a fault
+-- the result of the next line: a history with what the line adds, the end, or a fault
 abbrev pub ReadsNextLine : Reading → History → Option (List ℕ) → Option (List ℕ) → Result (Option Added) ReadFault → Type 0
 ReadsNextLine new h input left (Ok (Some added)) = HasRead new (with_line added new.parser_state h) input left
 ReadsNextLine new h input left (Ok None) = IsWhole new.parser_state h input
 ReadsNextLine new h input left (Err fault) = IfSome input (λ bytes. ExplainsFault bytes fault)
 
--- wherever a reading stands, it goes on with the next line
+-- for every history that was read, the reading continues with the next line
 abbrev pub GoesOnReading : Reading → Option (List ℕ) → Reading → Option (List ℕ) → Result (Option Added) ReadFault → Type 0
 GoesOnReading old before new after result = (h : History) (input : Option (List ℕ)) → HasRead old h input before → ReadsNextLine new h input after result
 
--- a line more was taken
+-- one more line was accepted
 abbrev pub CountsLine : Reading → Reading → Result (Option Added) ReadFault → Type 0
 CountsLine old new (Ok (Some added)) = new.count ≡ old.count + 1
 CountsLine old new (Ok None) = new.parser_state ≡ old.parser_state

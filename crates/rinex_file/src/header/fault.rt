@@ -1,4 +1,4 @@
-//! What can be wrong with a header or with writing.
+//! Faults of a header and of writing.
 ghost use Rattle.std.specs.Prelude.{◌≡◌, ◌<◌};
 ghost use Rattle.rinex_file.specs.declared.header.fault.HeadFault.TheVariants as faults;
 
@@ -35,7 +35,7 @@ pub enum HeaderField {
 /// Why a header or an epoch was refused or not written.
 #[derive(Clone, Copy, Debug, PartialEq, Eq, Error)]
 pub enum HeadFault {
-    /// The text has more bytes than columns, blanks at its end apart.
+    /// The text has more bytes than columns, not counting trailing blanks.
     #[error("a text of the header has more bytes than columns")]
     TooLong(HeaderField),
     /// The text has a byte outside 0x20 to 0x7E.
@@ -54,7 +54,7 @@ impl From<DeviceFailed> for HeadFault {
     }
 }
 
-/// What is fixed of a text: its place among all, its first column, its width, and its name.
+/// The fixed properties of a text: its index among all texts, first column, width, and name.
 #[derive(Clone, Copy)]
 struct FieldRow {
     place: usize,
@@ -77,7 +77,7 @@ fn row(place: usize, column: usize, width: usize, name: &'static str) -> FieldRo
 impl HeaderField {
     ghost use Rattle.rinex_file.specs.Texts.{width_of, column_of, place_of, field_at, text_count};
 
-    /// All fields, in the order in which they are judged.
+    /// All fields, in the order in which they are validated.
     pub const ALL: [HeaderField; 11] = [
         HeaderField::RunBy,
         HeaderField::Date,
@@ -92,7 +92,7 @@ impl HeaderField {
         HeaderField::AntType,
     ];
 
-    // The table of the fields.
+    // Returns the field's row of the table of fields.
     fn row(self) -> FieldRow
         ensures place { result.place ≡ place_of self }
         ensures column { result.column ≡ column_of self }
@@ -113,26 +113,26 @@ impl HeaderField {
         }
     }
 
-    /// The number of columns of the text.
+    /// Returns the width of the text, in columns.
     pub fn width(self) -> usize
         ensures { result ≡ width_of self }
     {
         self.row().width
     }
 
-    /// The first column of the text in its line, counted from 0.
+    /// Returns the first column of the text in its line, counted from 0.
     pub(crate) fn column(self) -> usize
         ensures { result ≡ column_of self }
     {
         self.row().column
     }
 
-    /// The name, as that of the field in [`Texts`](crate::Texts).
+    /// Returns the name of the field in [`Texts`](crate::Texts).
     pub fn name(self) -> &'static str {
         self.row().name
     }
 
-    /// The place among all fields, counted from 0.
+    /// Returns the index among all fields, counted from 0.
     pub(crate) fn place(self) -> usize
         ensures place { result ≡ place_of self }
         ensures bound { result < text_count }
@@ -140,7 +140,7 @@ impl HeaderField {
         self.row().place
     }
 
-    /// The field at a place.
+    /// Returns the field at an index, counted from 0.
     pub(crate) fn at(place: usize) -> HeaderField
         requires { place < text_count }
         ensures { result ≡ field_at place }

@@ -1,4 +1,4 @@
-//! A header, line after line.
+//! A header, line by line.
 ghost use Rattle.std.specs.Prelude.{◌≡◌, ◌<◌, [], true, IfNone, IfSome};
 ghost use Rattle.std.specs.Iterator.{YieldsFirstBy, item_count};
 ghost use Rattle.obs_epoch.specs.Dates.{civil_of};
@@ -19,20 +19,20 @@ use crate::write::satellite::letter_of;
 use obs_epoch::{GpsTime, Plan, StationValues};
 use std::marker::Model;
 
-/// What a header shows.
+/// The contents of a header.
 #[derive(Drop)]
 pub struct Head<'a> {
     /// The texts.
     pub texts: &'a HeaderTexts,
     /// The signals whose observations the file has.
     pub plan: &'a Plan,
-    /// Position and height of the antenna.
+    /// Position and height of the antenna, in 0.0001 m.
     pub values: StationValues,
     /// The time of the first epoch in the file.
     pub first: GpsTime,
 }
 
-// Whether a row has a line.
+// Returns whether a row has a line.
 fn has_line(plan: &Plan, row: HeaderRow) -> bool
     ensures { result ≡ has_line plan.now row }
 {
@@ -43,7 +43,7 @@ fn has_line(plan: &Plan, row: HeaderRow) -> bool
     }
 }
 
-// The place of the first row with a line, from a place on.
+// Returns the index of the first row with a line, at `from` or later.
 fn place_from(plan: &Plan, from: usize) -> Option<usize>
     ensures none { IfNone result ((x : HeaderLists) (v : StationValues) (t : Civil) → lines_from x plan.now v t from ≡ []) }
     ensures bound { IfSome result (λ place. place < row_count) }
@@ -59,7 +59,7 @@ fn place_from(plan: &Plan, from: usize) -> Option<usize>
     None
 }
 
-// The line of a row.
+// Returns the line of a row.
 #[tactic(auto, unfolding(crate::specs::Header::row_line))]
 fn line_of(head: &Head, row: HeaderRow) -> Line
     requires { has_line head.now.plan.now row ≡ true }
@@ -78,7 +78,7 @@ fn line_of(head: &Head, row: HeaderRow) -> Line
     }
 }
 
-/// The lines of a header that are left.
+/// Iterator over the lines of a header that are left.
 #[derive(Drop)]
 pub struct HeaderLines<'a> {
     texts: &'a HeaderTexts,
@@ -122,7 +122,7 @@ impl<'a> Iterator for HeaderLines<'a> {
     }
 }
 
-/// The lines of a header, each with its line feed.
+/// Returns the lines of a header in order, each with its line feed.
 pub fn header_lines<'a>(head: &Head<'a>) -> HeaderLines<'a>
     ensures { result ≡ header_lines head.now.texts.now head.now.plan.now head.now.values (civil_of head.now.first) }
 {

@@ -12,7 +12,7 @@ use crate::write::numbers::{Line, put, put_fixed, put_left, put_seconds, put_who
 use gnss_obs::System;
 use obs_epoch::{Civil, GpsTime, Plan, StationValues};
 
-/// Content in columns 1 to 60, the label from column 61 on, and a line feed.
+/// Returns a line: content in columns 1 to 60, the label from column 61 on, and a line feed.
 #[tactic(auto, unfolding(crate::specs::Header::header_line))]
 pub(crate) fn labelled(content: &[u8], label: &[u8]) -> Line
     requires { length content.now + length label.now ≤ 1000 }
@@ -25,7 +25,7 @@ pub(crate) fn labelled(content: &[u8], label: &[u8]) -> Line
     line
 }
 
-/// Three numbers in 0.0001 m, as F14.4 each.
+/// Returns a line with three lengths, which are given in 0.0001 m and written as F14.4.
 pub(crate) fn three_lengths(a: i64, b: i64, c: i64, label: &[u8]) -> Line
     requires { length label.now ≤ 20 }
     ensures { result.items ≡ header_line (lengths a b c) label.now }
@@ -37,7 +37,7 @@ pub(crate) fn three_lengths(a: i64, b: i64, c: i64, label: &[u8]) -> Line
     labelled(content.as_slice(), label)
 }
 
-// The letter of the planned systems: `M` if both are.
+// Returns the letter of the planned systems: `G`, `E`, or `M` if both are.
 fn file_system(gps: bool, galileo: bool) -> u8
     ensures { result ≡ (if gps then (if galileo then 77 else 71) else 69) }
 {
@@ -50,7 +50,8 @@ fn file_system(gps: bool, galileo: bool) -> u8
     b'M'
 }
 
-/// Version 3.05, the file's type and its systems: whether GPS and Galileo are planned.
+/// Returns the line with version 3.05, the file's type and its systems, given whether GPS and
+/// Galileo are planned.
 pub(crate) fn version_with(gps: bool, galileo: bool) -> Line
     ensures { result.items ≡ version_with gps galileo }
 {
@@ -62,7 +63,7 @@ pub(crate) fn version_with(gps: bool, galileo: bool) -> Line
     labelled(content.as_slice(), labels::VERSION)
 }
 
-/// Version 3.05, the file's type and the planned systems.
+/// Returns the line with version 3.05, the file's type and the planned systems.
 pub(crate) fn version_line(plan: &Plan) -> Line
     ensures { result.items ≡ version_line plan.now }
 {
@@ -72,7 +73,7 @@ pub(crate) fn version_line(plan: &Plan) -> Line
     )
 }
 
-/// A row of texts.
+/// Returns the line of a row of texts.
 pub(crate) fn texts_line(texts: &HeaderTexts, row: TextRow) -> Line
     ensures { result.items ≡ texts_line texts.now row }
 {
@@ -85,21 +86,21 @@ pub(crate) fn texts_line(texts: &HeaderTexts, row: TextRow) -> Line
     labelled(content.as_slice(), row.label())
 }
 
-/// The position of the antenna.
+/// Returns the line with the position of the antenna.
 pub(crate) fn position_line(values: &StationValues) -> Line
     ensures { result.items ≡ position_line values.now }
 {
     three_lengths(values.x, values.y, values.z, labels::POSITION)
 }
 
-/// The height of the antenna above the marker.
+/// Returns the line with the height of the antenna above the marker.
 pub(crate) fn delta_line(values: &StationValues) -> Line
     ensures { result.items ≡ delta_line values.now }
 {
     three_lengths(values.height as i64, 0, 0, labels::DELTA)
 }
 
-// The time of the first epoch, by the calendar.
+// Returns the line with the time of the first epoch, given as date and time of day.
 fn civil_line(civil: &Civil) -> Line
     ensures { result.items ≡ first_line civil.now }
 {
@@ -114,7 +115,7 @@ fn civil_line(civil: &Civil) -> Line
     labelled(content.as_slice(), labels::FIRST)
 }
 
-/// The time of the first epoch.
+/// Returns the line with the time of the first epoch.
 pub(crate) fn first_line(time: GpsTime) -> Line
     ensures { result.items ≡ first_line (civil_of time) }
 {

@@ -21,7 +21,7 @@ pub enum TextRow {
     Antenna,
 }
 
-/// What the line of a row shows.
+/// The content of the line of a row.
 #[derive(Clone, Copy)]
 pub enum HeaderRow {
     /// `RINEX VERSION / TYPE`.
@@ -77,7 +77,7 @@ const ROWS: [HeaderRow; ROW_COUNT] = [
     HeaderRow::End,
 ];
 
-/// Returns the row at a place, counted from 0.
+/// Returns the row at an index, counted from 0.
 pub(crate) fn row_at(place: usize) -> HeaderRow
     requires { place < row_count }
     ensures { result ≡ row_at place }
@@ -86,7 +86,7 @@ pub(crate) fn row_at(place: usize) -> HeaderRow
 }
 
 impl TextRow {
-    /// The label, in columns 61 to 80.
+    /// Returns the label, in columns 61 to 80.
     pub(crate) fn label(self) -> &'static [u8]
         ensures text { result.now ≡ label_of self }
         ensures size { length result.now ≤ 20 }
@@ -101,7 +101,7 @@ impl TextRow {
         }
     }
 
-    /// What is before the texts: the name of the program, in 20 columns.
+    /// Returns the columns before the texts: the name of the program in 20 columns, or nothing.
     pub(crate) fn front(self) -> &'static [u8]
         ensures text { result.now ≡ front_of self }
         ensures size { length result.now ≤ 20 }
@@ -112,7 +112,7 @@ impl TextRow {
         }
     }
 
-    /// The place of the first text among all, counted from 0.
+    /// Returns the index of the first text among all, counted from 0.
     pub(crate) fn start(self) -> usize
         ensures place { result ≡ start_of self }
         ensures bound { result ≤ 9 }
@@ -127,7 +127,7 @@ impl TextRow {
         }
     }
 
-    /// The number of texts.
+    /// Returns the number of texts.
     pub(crate) fn count(self) -> usize
         ensures count { result ≡ count_of self }
         ensures bound { result ≤ 3 }

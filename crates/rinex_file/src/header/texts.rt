@@ -13,7 +13,7 @@ use crate::write::satellite::trimmed_len;
 use arrayvec::ArrayVec;
 use std::marker::Model;
 
-/// The texts that a header shows, as the caller passes them. Blanks at the end don't count.
+/// The texts of a header, as the caller passes them. Trailing blanks are ignored.
 #[derive(Clone, Copy)]
 pub struct Texts<'a> {
     /// Who ran the program, at most 20 bytes.
@@ -43,7 +43,7 @@ pub struct Texts<'a> {
 /// The bytes of a text, at most 60.
 pub(crate) type Text = ArrayVec<u8, 60>;
 
-/// The texts of a header: each printable, within its columns, and without blanks at its end.
+/// The texts of a header: each printable, within its columns, and without trailing blanks.
 #[derive(Drop)]
 pub struct HeaderTexts {
     texts: [Text; HeaderField::ALL.len()],
@@ -61,14 +61,14 @@ impl Model for HeaderTexts {
     ghost invariant = { λ t. AreTexts (map (λ text. text.items) t.texts) };
 }
 
-/// Whether all bytes are printable.
+/// Returns whether all bytes are printable.
 pub(crate) fn is_printable(text: &[u8]) -> bool
     ensures { result ≡ list_all is_printable text.now }
 {
     text.iter().all(|b| *b >= 0x20 && *b <= 0x7E)
 }
 
-// What is wrong with the text of a field.
+// Returns the fault of the text of a field, or None if it has none.
 fn fault_of(field: HeaderField, text: &[u8]) -> Option<HeadFault>
     ensures { result ≡ fault_of field text.now }
 {
@@ -81,7 +81,7 @@ fn fault_of(field: HeaderField, text: &[u8]) -> Option<HeadFault>
     None
 }
 
-// The text without the blanks at its end.
+// Returns the text without trailing blanks.
 fn cut(text: &[u8]) -> Text
     requires { length (trimmed text.now) ≤ 60 }
     ensures { result.items ≡ trimmed text.now }
@@ -92,7 +92,7 @@ fn cut(text: &[u8]) -> Text
 }
 
 impl<'a> Texts<'a> {
-    // The text of a field.
+    // Returns the text of a field.
     fn of(&self, field: HeaderField) -> &'a str
         ensures { result.now ≡ text_of (lists_of self.now) field }
     {
@@ -113,12 +113,13 @@ impl<'a> Texts<'a> {
 }
 
 impl HeaderTexts {
-    /// Returns the texts of a header, without the blanks at their ends.
+    /// Returns the texts of a header, without trailing blanks.
     ///
     /// # Errors
     ///
-    /// The first field with a fault, in the order of [`Texts`]: a byte outside 0x20 to 0x7E, then
-    /// more bytes than columns.
+    /// The fault of the first field that has one, in the order of [`Texts`]:
+    /// [`HeadFault::NotPrintable`] if it has a byte outside 0x20 to 0x7E, otherwise
+    /// [`HeadFault::TooLong`] if it has more bytes than columns.
     pub fn new(texts: &Texts) -> Result<HeaderTexts, HeadFault>
         ensures fault { result_err result ≡ first_fault (lists_of texts.now) None fields }
         ensures texts { IfOk result (λ t. t ≡ trimmed_texts (lists_of texts.now)) }
@@ -136,7 +137,7 @@ impl HeaderTexts {
         Ok(taken)
     }
 
-    /// No text at all.
+    /// Returns texts that are all empty.
     pub(crate) fn blank() -> HeaderTexts
         ensures { result ≡ replicate text_count [] }
     {
@@ -157,7 +158,7 @@ impl HeaderTexts {
         }
     }
 
-    /// Puts in the text at a place, counted from 0.
+    /// Sets the text at an index, counted from 0.
     pub(crate) fn set(&mut self, place: usize, text: Text)
         requires place { place < text_count }
         requires text { IsText (width_of (field_at place)) text.items }
@@ -167,15 +168,15 @@ impl HeaderTexts {
         self.texts[place] = text;
     }
 
-    /// Shows that each text is printable, within its columns, and has no blank at its end.
+    /// Shows that each text is printable, within its columns, and has no trailing blank.
     pub(crate) fn are_texts(&self)
         ensures { AreTexts self.now }
     {
-        // For the prover alone: what holds of every value of a type is known once a field is read.
+        // For the prover alone: the invariant of a type is known once a field is read.
         let _ = &self.texts;
     }
 
-    /// Returns the bytes of a text, at most 60, without the blanks at its end.
+    /// Returns the bytes of a text, at most 60, without trailing blanks.
     pub fn text(&self, field: HeaderField) -> &[u8]
         ensures value { result.now ≡ text_of self.now field }
         ensures bound { length result.now ≤ 60 }

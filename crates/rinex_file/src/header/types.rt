@@ -15,10 +15,10 @@ use crate::write::satellite::letter_of;
 use gnss_obs::{Signal, System};
 use obs_epoch::Plan;
 
-/// The number of types in a line.
+/// Largest number of types in a line.
 pub(crate) const TYPES_IN_LINE: usize = 13;
 
-/// The number of lines that the types of a number of signals need.
+/// Returns the number of lines that the types of this number of signals need.
 pub(crate) fn type_rows(signals: usize) -> usize
     requires { signals ≤ 1000 }
     ensures { result ≡ type_rows signals }
@@ -26,7 +26,8 @@ pub(crate) fn type_rows(signals: usize) -> usize
     (4 * signals + TYPES_IN_LINE - 1) / TYPES_IN_LINE
 }
 
-// Appends the front of a line of types.
+// Appends the columns before the types of a line: the system's letter and the number of types on
+// the first line, blanks on the others.
 fn put_front(content: &mut Line, letter: u8, types: usize, row: usize)
     requires room { array_vec_len content.old ≤ 100 }
     requires types { types ≤ 1000 }
@@ -42,7 +43,7 @@ fn put_front(content: &mut Line, letter: u8, types: usize, row: usize)
     }
 }
 
-// Appends a blank and a signal's type: the first is its pseudorange, then come phase, Doppler and
+// Appends a blank and a signal's type: 0 is the pseudorange, 1 the phase, 2 the Doppler and 3 the
 // strength.
 fn put_type(content: &mut Line, signal: Signal, kind: usize)
     requires kind { kind < 4 }
@@ -61,7 +62,7 @@ fn put_type(content: &mut Line, signal: Signal, kind: usize)
     put(content, &signal.code());
 }
 
-// Appends a line's types, as far as the signals go.
+// Appends the types of a line, up to the last type of these signals.
 fn put_types(content: &mut Line, system: System, signals: &[Signal], row: usize)
     requires of { IsOf system signals.now }
     requires row { row ≤ 5 }
@@ -77,8 +78,8 @@ fn put_types(content: &mut Line, system: System, signals: &[Signal], row: usize)
     }
 }
 
-/// Appends the content of a line of a system's types. `count` signals are planned, and these are
-/// the first of them.
+/// Appends the content of a line of a system's types. `count` signals are planned, and `signals`
+/// are the first of them.
 pub(crate) fn put_row(
     content: &mut Line,
     system: System,
@@ -98,7 +99,7 @@ pub(crate) fn put_row(
     put_types(content, system, signals, row);
 }
 
-/// A line of a system's types.
+/// Returns a line of a system's types.
 pub(crate) fn type_line(plan: &Plan, system: System, row: usize) -> Line
     requires { row < type_rows (length (planned_of system plan.now)) }
     ensures { result.items ≡ type_line (letter_of system) (types_of (codes_of system (planned_of system plan.now))) row }

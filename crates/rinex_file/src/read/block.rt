@@ -1,4 +1,4 @@
-//! A block of bytes that were read ahead of the next line.
+//! A block of bytes that were read ahead.
 ghost use Rattle.std.specs.Prelude.{◌≡◌, ◌<◌, ◌≤◌, [], ◌∷◌, take, drop, length, false};
 ghost use Rattle.std.specs.Io.KnownBytes.{Consumes, IsAtEnd, prepend_known};
 ghost use Rattle.arrayvec.specs.ArrayVec.{array_vec_len};
@@ -15,7 +15,7 @@ use std::marker::Model;
 /// Size of a block, in bytes.
 const BLOCK_BYTES: usize = 65_536;
 
-/// Bytes that were read, and of which no line was made.
+/// Bytes that were read and are not yet part of a line.
 #[derive(Drop)]
 pub(crate) struct Block {
     bytes: [u8; BLOCK_BYTES],
@@ -33,10 +33,10 @@ impl Model for Block {
     ghost invariant = { λ b. (b.at ≤ b.end) × (b.end ≤ 65536) };
 }
 
-/// What a block has after it was filled.
+/// The contents of a block after it was filled.
 #[derive(Clone, Copy)]
 pub(crate) enum Filled {
-    /// A byte at least.
+    /// At least one byte.
     Some,
     /// Nothing: the input is at its end.
     End,
@@ -44,7 +44,7 @@ pub(crate) enum Filled {
     Failed,
 }
 
-// The place of the first line feed, or the number of the bytes if there is none.
+// Returns the index of the first line feed, or the number of bytes if there is none.
 fn line_feed(bytes: &[u8]) -> usize
     ensures bound { result ≤ length bytes.now }
     ensures none { has 10 (take result bytes.now) ≡ false }
@@ -58,7 +58,7 @@ fn line_feed(bytes: &[u8]) -> usize
 }
 
 impl Block {
-    /// No byte was read.
+    /// Returns a block without bytes.
     pub(crate) fn new() -> Block
         ensures { result ≡ [] }
     {
@@ -69,7 +69,7 @@ impl Block {
         }
     }
 
-    /// Reads ahead if no byte is left.
+    /// Reads bytes ahead if none is left.
     pub(crate) fn fill<R: Read>(&mut self, reader: &mut Counted<R>) -> Filled
         ensures same { Consumes (prepend_known self.old (R.remaining reader.old.inner)) (prepend_known self.new (R.remaining reader.new.inner)) [] }
         ensures left { LeavesRest (R.remaining reader.old.inner) (R.remaining reader.new.inner) }
@@ -93,8 +93,8 @@ impl Block {
         }
     }
 
-    /// Appends bytes to those of a line, up to its line feed or as many as there are and the line
-    /// has room for. Returns whether the line feed is among them.
+    /// Moves bytes to the end of a line, up to its line feed or as many as are available and fit.
+    /// Returns whether the line feed is among them.
     pub(crate) fn move_to(&mut self, line: &mut Line) -> bool
         requires { array_vec_len line.old ≤ most_line }
         ensures { MovesBytes result self.old self.new line.old.items line.new.items }

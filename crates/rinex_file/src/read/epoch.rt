@@ -1,5 +1,5 @@
-//! The lines that show a date and time of day, read back: what they show is validated, written
-//! again and compared.
+//! The lines with a date and time of day, read back: their fields are validated, written again and
+//! compared.
 ghost use Rattle.std.specs.Prelude.{◌≡◌, ◌≤◌, ℕ, length, min, IfSome, Some};
 ghost use Rattle.obs_epoch.specs.Dates.{civil_of};
 ghost use Rattle.rinex_file.specs.FileValues.{IsTime};
@@ -15,21 +15,21 @@ use crate::write::numbers::Line;
 use obs_epoch::laws::calendar;
 use obs_epoch::{Civil, GpsTime};
 
-// The number, or the greatest of 8 bits if it is greater: no date has that.
+// Returns the number, or 255 if it is greater; no field of a date has that value.
 fn byte_of(number: u64) -> u8
     ensures { result ≡ min number 255 }
 {
     number.min(255) as u8
 }
 
-// The number, or the greatest of 16 bits if it is greater: no date has that.
+// Returns the number, or 65,535 if it is greater; no field of a date has that value.
 fn word_of(number: u64) -> u16
     ensures { result ≡ min number 65_535 }
 {
     number.min(65_535) as u16
 }
 
-// The date and time of day that the header's line of the first epoch shows.
+// Returns the date and time of day in the header's line of the first epoch.
 fn first_in(line: &[u8]) -> Option<Civil>
     ensures { (t : ℕ) → IsTime t → line.now ≡ first_line (civil_of t) → result ≡ Some (civil_of t) }
 {
@@ -47,7 +47,7 @@ fn first_in(line: &[u8]) -> Option<Civil>
     })
 }
 
-// The date and time of day that the line of an epoch shows.
+// Returns the date and time of day in the first line of an epoch.
 fn civil_in(line: &[u8]) -> Option<Civil>
     ensures long { IfSome result (λ _. 35 ≤ length line.now) }
     ensures all { (t n : ℕ) → IsTime t → n ≤ 999 → line.now ≡ epoch_line (civil_of t) n → result ≡ Some (civil_of t) }
@@ -66,7 +66,7 @@ fn civil_in(line: &[u8]) -> Option<Civil>
     })
 }
 
-// The number of satellites that the line of an epoch shows.
+// Returns the number of satellites in the first line of an epoch.
 fn count_in(line: &[u8]) -> usize
     requires { 35 ≤ length line.now }
     ensures all { (t n : ℕ) → IsTime t → n ≤ 999 → line.now ≡ epoch_line (civil_of t) n → result ≡ n }
@@ -76,7 +76,7 @@ fn count_in(line: &[u8]) -> usize
     digits_in(&line[32..35]) as usize
 }
 
-/// The time of the first epoch, by the header.
+/// Returns the time of the first epoch by its line in the header, or None for any other line.
 pub(crate) fn read_first(line: &[u8]) -> Option<GpsTime>
     ensures { ReadsExactly IsTime (λ t. first_line (civil_of t)) line.now result }
 {
@@ -97,7 +97,8 @@ pub(crate) fn read_first(line: &[u8]) -> Option<GpsTime>
     }
 }
 
-/// The time of an epoch and the number of its satellites.
+/// Returns the time of an epoch and the number of its satellites by its first line, or None for any
+/// other line.
 pub(crate) fn read_epoch_line(line: &[u8], again: &mut Line) -> Option<(GpsTime, usize)>
     ensures { ReadsEpochLine (λ t n. n ≤ 999) line.now result }
 {

@@ -1,10 +1,10 @@
 //! The line that is expected when a file is read line by line.
 use obs_epoch::StationValues;
 
-/// What the next line is to be.
+/// The kind of line that is expected next.
 #[derive(Clone, Copy)]
 pub(crate) enum Expected {
-    /// A line of the header, from the row at this place on.
+    /// A line of the header: that of the row at this index or of a later one.
     Header(usize),
     /// The line of an epoch or of an event, or the end.
     Epoch,
@@ -18,16 +18,16 @@ pub(crate) enum Expected {
     Satellite(usize),
 }
 
-/// Why a line isn't taken.
+/// Why a line isn't accepted.
 #[derive(Clone, Copy)]
 pub(crate) enum Refusal {
     /// Memory ran out.
     Memory,
-    /// No file goes on with this line.
+    /// No file continues with this line.
     Bad,
 }
 
-/// What a line that was taken adds to the epochs of a file.
+/// What an accepted line adds to the epochs of a file.
 #[derive(Clone, Copy)]
 pub(crate) enum Added {
     /// Nothing: it is a line of the header or of an event, or begins an epoch.

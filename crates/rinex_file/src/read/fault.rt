@@ -16,17 +16,17 @@ pub enum ReadFault {
     /// The line isn't that of an epoch, or not of one that may follow.
     #[error("the line of an epoch is spelled otherwise")]
     BadEpoch(u64),
-    /// The line isn't one of the two after that of an event, or they have the station values that
+    /// The line isn't one of the two after that of an event, or they repeat the station values that
     /// hold already.
     #[error("a line of an event is spelled otherwise")]
     BadEvent(u64),
     /// The line isn't that of a satellite, or not of one that may follow.
     #[error("the line of a satellite is spelled otherwise")]
     BadSatellite(u64),
-    /// The input ended before the line feed of this line, which was due or begun.
+    /// The input ended before the line feed of this line, which was expected or begun.
     #[error("the file ends too soon")]
     CutShort(u64),
-    /// Something follows 2^32 lines.
+    /// A byte follows 2^32 lines.
     #[error("the file has too many lines")]
     TooLong,
 }

@@ -13,8 +13,8 @@ use rtcm_bits::Counted;
 use std::alloc::Global;
 use std::io::Read;
 
-/// How much a file holds: its epochs, the lines of satellites of all of them, and the events that
-/// tell station values.
+/// Counts of a file: its epochs, the lines of satellites in all epochs, and the events that change
+/// the station values.
 #[derive(Clone, Copy, Debug, PartialEq, Eq)]
 pub struct Counts {
     pub epochs: u64,
@@ -22,14 +22,19 @@ pub struct Counts {
     pub events: u64,
 }
 
-/// Reads a file to its end and counts what it holds. A file is accepted if and only if it is exactly
+/// Reads a file to its end and returns its counts. A file is accepted if and only if it is exactly
 /// what [`write_header`](crate::write_header), [`write_event`](crate::write_event) and
-/// [`write_epoch`](crate::write_epoch) write. Otherwise a fault is returned, with the number of the
-/// first line that can't follow. Memory doesn't grow with the file.
+/// [`write_epoch`](crate::write_epoch) write. Memory doesn't grow with the file.
+///
+/// # Errors
+///
+/// [`ReadFault::Memory`] if memory runs out, and [`ReadFault::Read`] if the reader fails. Otherwise
+/// the fault of the file, with the number of the first line that can't follow;
+/// [`ReadFault::TooLong`] has no number.
 pub fn check_file<R: Read>(alloc: Global, reader: &mut Counted<R>) -> Result<Counts, ReadFault>
-    // What is counted is the file whose text the whole input is.
+    // The counts are those of the file whose text is the whole input.
     ensures found { IfOk result (λ n. IsTextWith n (R.remaining reader.old.inner)) }
-    // Why nothing was counted.
+    // The fault explains why nothing was counted.
     ensures fault { IfErr result (λ e. IfSome (R.remaining reader.old.inner) (λ input. ExplainsFault input e)) }
     // The text of each file value is accepted.
     ensures only { IfTextOfFile (R.remaining reader.old.inner) (λ v. IsCountedOr v result) }
@@ -60,14 +65,19 @@ pub fn check_file<R: Read>(alloc: Global, reader: &mut Counted<R>) -> Result<Cou
     }
 }
 
-/// Reads a file to its end. A file is accepted if and only if it is exactly what
+/// Reads a file to its end and returns it. A file is accepted if and only if it is exactly what
 /// [`write_header`](crate::write_header), [`write_event`](crate::write_event) and
-/// [`write_epoch`](crate::write_epoch) write. Otherwise a fault is returned, with the number of the
-/// first line that can't follow.
+/// [`write_epoch`](crate::write_epoch) write.
+///
+/// # Errors
+///
+/// [`ReadFault::Memory`] if memory runs out, and [`ReadFault::Read`] if the reader fails. Otherwise
+/// the fault of the file, with the number of the first line that can't follow;
+/// [`ReadFault::TooLong`] has no number.
 pub fn read_file<R: Read>(alloc: Global, reader: &mut Counted<R>) -> Result<ObsFile, ReadFault>
-    // The result is the file whose text the whole input is.
+    // The result is the file whose text is the whole input.
     ensures found { IfOk result (λ f. IsTextOf f (R.remaining reader.old.inner)) }
-    // Why nothing was read.
+    // The fault explains why no file was read.
     ensures fault { IfErr result (λ e. IfSome (R.remaining reader.old.inner) (λ input. ExplainsFault input e)) }
     // The text of each file value is read.
     ensures only { IfTextOfFile (R.remaining reader.old.inner) (λ v. IsReadOr v result) }

@@ -1,4 +1,4 @@
-//! What is kept of the epochs of a file while it is read.
+//! The epochs of a file, stored while it is read.
 ghost use Rattle.std.specs.Prelude.{◌≡◌, OnOk, IfOk, []};
 ghost use Rattle.rinex_file.specs.FileValues.{IsFileValue};
 ghost use Rattle.rinex_file.specs.ParserState.{History, FollowsHistory, nothing, with_epoch, with_line, with_satellite};
@@ -23,7 +23,7 @@ pub(crate) struct FileBuilder {
 }
 
 impl FileBuilder {
-    /// Nothing was read.
+    /// Returns a builder without epochs.
     pub(crate) fn new(alloc: Global) -> FileBuilder
         ensures { history_of result ≡ nothing }
     {
@@ -34,7 +34,7 @@ impl FileBuilder {
         }
     }
 
-    /// Keeps what a line added.
+    /// Stores what a line added.
     pub(crate) fn keep(
         &mut self,
         added: Added,
@@ -52,7 +52,7 @@ impl FileBuilder {
         }
     }
 
-    // Keeps a satellite of the epoch that was begun.
+    // Stores a satellite of the epoch that was begun.
     fn keep_row(&mut self, seen: &KeptSatellite) -> Result<(), AllocError>
         ensures { OnOk result (history_of self.new ≡ with_satellite (history_of self.old) seen.now) }
     {
@@ -66,7 +66,7 @@ impl FileBuilder {
         Ok(())
     }
 
-    // Keeps the epoch that was begun, after this change of station values and at this time.
+    // Stores the epoch that was begun, after this change of station values and at this time.
     fn close(&mut self, change: Option<StationValues>, time: GpsTime) -> Result<(), AllocError>
         ensures { OnOk result (history_of self.new ≡ with_epoch (history_of self.old) change time) }
     {
@@ -75,7 +75,7 @@ impl FileBuilder {
         Ok(())
     }
 
-    /// The file of what was read, unless there is no memory for its plan.
+    /// Returns the file that was read, or an error if memory for its plan runs out.
     pub(crate) fn finish(self, parser_state: ParserState) -> Result<ObsFile, AllocError>
         requires none { (history_of self).rows ≡ [] }
         requires value { IsFileValue (file_at parser_state (history_of self)) }

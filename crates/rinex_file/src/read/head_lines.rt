@@ -1,4 +1,4 @@
-//! The rows of a header other than those of types: what a line shows is added to what was read.
+//! The rows of a header other than those of types: the fields of a line are added to what was read.
 ghost use Rattle.rinex_file.specs.Read.HeaderSteps.{IsSole, LearnsOrRefuses};
 
 use crate::header::labels;
@@ -12,7 +12,7 @@ use gnss_obs::System;
 use obs_epoch::StationValues;
 
 impl HeadSoFar {
-    // Version and systems.
+    // Reads the line with version and systems.
     fn read_systems(&mut self, line: &[u8]) -> bool
         ensures { LearnsOrRefuses HeaderRow.Version line.now self.old self.new result }
     {
@@ -26,7 +26,7 @@ impl HeadSoFar {
         }
     }
 
-    // The position of the antenna.
+    // Reads the line with the position of the antenna.
     fn read_position(&mut self, line: &[u8]) -> bool
         ensures { LearnsOrRefuses HeaderRow.Position line.now self.old self.new result }
     {
@@ -40,7 +40,7 @@ impl HeadSoFar {
         }
     }
 
-    // The height of the antenna above the marker.
+    // Reads the line with the height of the antenna above the marker.
     fn read_height(&mut self, line: &[u8]) -> bool
         ensures { LearnsOrRefuses HeaderRow.Delta line.now self.old self.new result }
     {
@@ -53,7 +53,7 @@ impl HeadSoFar {
         }
     }
 
-    // The time of the first epoch.
+    // Reads the line with the time of the first epoch.
     fn read_first_time(&mut self, line: &[u8]) -> bool
         ensures { LearnsOrRefuses HeaderRow.First line.now self.old self.new result }
     {
@@ -66,21 +66,21 @@ impl HeadSoFar {
         }
     }
 
-    // The unit of the strengths.
+    // Returns whether the line is that of the unit of the strengths.
     fn is_unit(&self, line: &[u8]) -> bool
         ensures { LearnsOrRefuses HeaderRow.StrengthUnit line.now self.now self.now result }
     {
         is_header_line(line, labels::UNIT, labels::STRENGTH_UNIT)
     }
 
-    // That no phase of a system is shifted.
+    // Returns whether the line is that of a system without phase shifts.
     fn is_shift(&self, system: System, line: &[u8]) -> bool
         ensures { LearnsOrRefuses (HeaderRow.Shift system) line.now self.now self.now result }
     {
         is_header_line(line, &[letter_of(system)], labels::SHIFT)
     }
 
-    // The texts of a row.
+    // Reads the line of a row of texts.
     fn read_text_row(&mut self, row: TextRow, line: &[u8]) -> bool
         ensures { LearnsOrRefuses (HeaderRow.Texts row) line.now self.old self.new result }
     {

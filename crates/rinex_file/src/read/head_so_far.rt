@@ -56,7 +56,7 @@ impl Model for HeadSoFar {
         × (h.gps_count ≤ length (table Gps)) × (h.galileo_count ≤ length (table Galileo)) };
 }
 
-// Takes the signals whose types begin in a line, after those of the lines before.
+// Appends the signals whose types begin in a line to those of the lines before.
 fn take_row(
     signals: &mut Vec<Signal>,
     system: System,
@@ -83,7 +83,7 @@ fn take_row(
 }
 
 impl HeadSoFar {
-    /// Nothing was read.
+    /// Returns a header of which nothing was read.
     pub(crate) fn new(alloc: Global) -> HeadSoFar
         ensures starts { (h : Shown) (left : List (List ℕ)) → IsHeaderLeft result 0 h left ↔ AreHeaderLines h left }
         ensures left { HasHeaderAt result 0 }
@@ -112,7 +112,7 @@ impl HeadSoFar {
         head
     }
 
-    /// How many signals of a system were read.
+    /// Returns the number of signals of a system that were read.
     pub(crate) fn planned(&self, system: System) -> usize
         ensures { result ≡ length (planned_of system self.now.shown.plan) }
     {
@@ -122,14 +122,14 @@ impl HeadSoFar {
         }
     }
 
-    /// The station values, as they were read.
+    /// Returns the station values, as they were read.
     pub(crate) fn values(&self) -> StationValues
         ensures { result ≡ self.now.shown.values }
     {
         self.values
     }
 
-    /// The time of the first epoch, as it was read.
+    /// Returns the time of the first epoch, as it was read.
     pub(crate) fn first(&self) -> GpsTime
         ensures { result ≡ self.now.shown.first }
     {
@@ -144,7 +144,7 @@ impl HeadSoFar {
         self.texts.are_texts();
     }
 
-    /// Whether signals of a system are planned, by the first line.
+    /// Returns whether signals of a system are planned, by the first line.
     pub(crate) fn plans(&self, system: System) -> bool
         ensures { result ≡ plans self.now system }
     {
@@ -154,7 +154,7 @@ impl HeadSoFar {
         }
     }
 
-    // The number of signals of a system, by its first line of types.
+    // Returns the number of signals of a system, by its first line of types.
     fn signal_count(&self, system: System) -> usize
         ensures count { result ≡ signal_count self.now system }
         ensures bound { result ≤ length (table system) }
@@ -165,7 +165,7 @@ impl HeadSoFar {
         }
     }
 
-    // Whether a system has a line of types with this number, as far as the lines before say.
+    // Returns whether a system has a line of types with this number, by the lines before.
     fn has_types(&self, system: System, row: usize) -> bool
         ensures { result ≡ known_line self.now (HeaderRow.Types system row) }
     {
@@ -175,7 +175,7 @@ impl HeadSoFar {
         row == 0 || row < type_rows(self.signal_count(system))
     }
 
-    // Whether a row has a line, as far as the lines before say.
+    // Returns whether a row has a line, by the lines before.
     fn has_line(&self, row: HeaderRow) -> bool
         ensures { result ≡ known_line self.now row }
     {
@@ -186,7 +186,7 @@ impl HeadSoFar {
         }
     }
 
-    // The place of the first row with a line, from a place on.
+    // Returns the index of the first row with a line, at `from` or later.
     fn place_from(&self, from: usize) -> Option<usize>
         ensures none { IfNone result ((h : Shown) (left : List (List ℕ)) → IsHeaderLeft self.now from h left → ⊥) }
         ensures bound { IfSome result (λ place. place < row_count) }
@@ -201,7 +201,8 @@ impl HeadSoFar {
         None
     }
 
-    // Whether the signals of a system were read, as many as its first line of types says.
+    // Returns whether the signals of a system were read, in the number that its first line of types
+    // contains.
     fn is_whole_of(&self, system: System) -> bool
         ensures { IsTrue result ↔ IsWholeOf system self.now }
     {
@@ -212,7 +213,7 @@ impl HeadSoFar {
         read > 0 && self.signal_count(system) == read
     }
 
-    // Whether the signals of both systems were read, and there is one.
+    // Returns whether the signals of both systems were read, and there is at least one.
     fn is_whole(&self) -> bool
         ensures { IsTrue result ↔ IsWhole self.now }
     {
@@ -225,7 +226,7 @@ impl HeadSoFar {
         self.gps.len() + self.galileo.len() > 0
     }
 
-    // Whether this is the last line of a header.
+    // Returns whether this is the last line of a header.
     fn is_end(&self, line: &[u8]) -> bool
         ensures taken { MatchBool result (StepsTo self.now 25 line.now self.now None) (NoneGoesOn self.now 25 line.now) }
         ensures shown { IsTrue result → IsShown self.now.shown }
@@ -237,7 +238,7 @@ impl HeadSoFar {
         self.is_whole()
     }
 
-    // The number of signals of a system that is planned, when this line of its types is expected.
+    // Returns the number of signals of a planned system, if this line of its types is expected.
     fn count_expected(&self, system: System, row: usize, line: &[u8]) -> Option<usize>
         ensures bound { IfSome result (λ n. n ≤ length (table system)) }
         ensures rows { IfSome result (λ n. row < type_rows n) }
@@ -254,7 +255,7 @@ impl HeadSoFar {
         Some(count)
     }
 
-    // Takes the signals of a system whose types begin in a line.
+    // Appends the signals of a system whose types begin in a line.
     fn take_signals(
         &mut self,
         system: System,
@@ -282,7 +283,7 @@ impl HeadSoFar {
         }
     }
 
-    // Puts in the number of signals of a system.
+    // Sets the number of signals of a system.
     fn set_count(&mut self, system: System, count: usize)
         requires { count ≤ length (table system) }
         ensures { self.new ≡ with_count system self.old count }
@@ -293,7 +294,7 @@ impl HeadSoFar {
         }
     }
 
-    // Takes a line of the types of a system.
+    // Processes a line of the types of a system.
     fn take_types(
         &mut self,
         system: System,
@@ -314,7 +315,7 @@ impl HeadSoFar {
         Ok(())
     }
 
-    // Takes the line of the row at a place.
+    // Processes the line of the row at an index.
     fn take_at(
         &mut self,
         place: usize,
@@ -350,9 +351,9 @@ impl HeadSoFar {
         }
     }
 
-    /// Takes a line that is expected from the row at a place on, and returns the place of the next
-    /// row, or None at the end of the header. What is known then describes the headers that have
-    /// this line next.
+    /// Processes a line, which is expected to be that of row `from` or of a later one. Returns the
+    /// index of the next row, or None at the end of the header. What is known then describes the
+    /// headers that have this line next.
     pub(crate) fn take(
         &mut self,
         from: usize,

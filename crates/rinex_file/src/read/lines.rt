@@ -10,14 +10,14 @@ use crate::write::numbers::Line;
 use rtcm_bits::Counted;
 use std::io::Read;
 
-/// What was found in place of the next line.
+/// What was found when the next line was read.
 #[derive(Clone, Copy)]
 pub(crate) enum Found {
     /// A line with its line feed.
     Line,
-    /// The end of the input, and no byte of a line.
+    /// The end of the input, without a byte of a line.
     End,
-    /// Some bytes of a line, and the end of the input.
+    /// Some bytes of a line, and then the end of the input.
     Cut,
     /// No line feed in 1,220 bytes.
     Long,
@@ -25,7 +25,7 @@ pub(crate) enum Found {
     Failed,
 }
 
-/// Takes the bytes of the next line into the buffer, in place of what it holds.
+/// Reads the bytes of the next line into the buffer, replacing its contents.
 pub(crate) fn next_line<R: Read>(
     reader: &mut Counted<R>,
     block: &mut Block,

@@ -1,16 +1,16 @@
-//! Numbers in the columns of a line, read without judging them: whoever reads writes them again,
-//! and compares.
+//! Numbers in the columns of a line, read without validation: the caller writes them again and
+//! compares.
 ghost use Rattle.std.specs.Prelude.{◌≡◌, ◌↔◌, IsTrue, ◌^◌, ◌≤◌, ◌<◌, length, pos, neg_ℤ, if◌then◌else◌};
 ghost use Rattle.rinex_file.specs.Read.Fields.{digits_in, number_in, has};
 
-/// Whether two texts are the same bytes.
+/// Returns whether two texts are byte-identical.
 pub(crate) fn is_same(a: &[u8], b: &[u8]) -> bool
     ensures { IsTrue result ↔ (a.now ≡ b.now) }
 {
     a == b
 }
 
-/// The digits of a text as one number; other bytes are passed over.
+/// Returns the digits of a text as one number; other bytes are skipped.
 pub(crate) fn digits_in(text: &[u8]) -> u64
     requires { length text.now ≤ 18 }
     ensures value { result ≡ digits_in text.now }
@@ -26,17 +26,17 @@ pub(crate) fn digits_in(text: &[u8]) -> u64
     number
 }
 
-/// What the columns of a number show.
+/// The content of the columns of a number.
 #[derive(Clone, Copy)]
 pub(crate) struct NumberText {
-    /// Its digits as one number; other bytes are passed over.
+    /// Its digits as one number; other bytes are skipped.
     pub(crate) digits: u64,
     pub(crate) has_minus: bool,
     pub(crate) has_point: bool,
 }
 
 impl NumberText {
-    /// The digits as one number, negative if there is a minus.
+    /// Returns the digits as one number, negative if there is a minus.
     pub(crate) fn value(self) -> i64
         requires { self.digits < 10 ^ 18 }
         ensures { result ≡ (if self.has_minus then neg_ℤ (pos self.digits) else pos self.digits) }
@@ -46,7 +46,7 @@ impl NumberText {
     }
 }
 
-/// What the columns of a number show, in one walk.
+/// Returns the content of the columns of a number, read in one pass.
 pub(crate) fn number_text(text: &[u8]) -> NumberText
     requires { length text.now ≤ 18 }
     ensures digits { result.digits ≡ digits_in text.now }
@@ -73,7 +73,7 @@ pub(crate) fn number_text(text: &[u8]) -> NumberText
     }
 }
 
-/// The digits of a text as one number, negative if there is a minus.
+/// Returns the digits of a text as one number, negative if there is a minus.
 pub(crate) fn number_in(text: &[u8]) -> i64
     requires { length text.now ≤ 18 }
     ensures { result ≡ number_in text.now }

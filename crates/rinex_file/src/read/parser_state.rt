@@ -1,4 +1,4 @@
-//! How far the reading of a file is: what the next line has to fit, and two counts. It doesn't grow
+//! The state of the parser of a file: what the next line has to fit, and counts. It doesn't grow
 //! with the file.
 ghost use Rattle.std.specs.Prelude.{◌≡◌, ◌<◌, ◌≤◌, ◌+◌, ◌^◌, ◌∷◌, ◌++◌, ◌↔◌, ℕ, [], List, OnOk, IsTrue, map, length};
 ghost use Rattle.std.specs.List.Sorted.{IsStrictlyIncreasing};
@@ -25,7 +25,7 @@ use gnss_obs::System;
 use obs_epoch::{GpsTime, StationValues};
 use std::alloc::Global;
 
-/// How far the reading of a file is.
+/// The state of the parser of a file.
 #[derive(Drop)]
 pub(crate) struct ParserState {
     pub(crate) expected: Expected,
@@ -33,11 +33,11 @@ pub(crate) struct ParserState {
     // Of the epoch that was begun: the station values that change with it, and its time.
     pub(crate) change: Option<StationValues>,
     pub(crate) time: GpsTime,
-    // Of those before it: the time of the last, and the station values that changed last, where
-    // they did.
+    // Of those before it: the time of the last, and the station values that changed last, if they
+    // did.
     pub(crate) last: Option<u64>,
     pub(crate) values: Option<StationValues>,
-    // The satellite that was read last, and its place if it is one of the epoch that was begun.
+    // The satellite that was read last, and its rank if it is one of the epoch that was begun.
     pub(crate) seen: KeptSatellite,
     pub(crate) rank: Option<u64>,
     pub(crate) epochs: u64,
@@ -45,7 +45,7 @@ pub(crate) struct ParserState {
     pub(crate) events: u64,
 }
 
-// A satellite's place among all: those of GPS come first.
+// Returns a satellite's rank among all: those of GPS come first.
 fn rank_of(seen: &KeptSatellite) -> u64
     ensures { result ≡ rank_of seen.now }
 {
@@ -55,7 +55,7 @@ fn rank_of(seen: &KeptSatellite) -> u64
     }
 }
 
-// Whether a number is greater than all of those that rise up to the last.
+// Returns whether a number is greater than all of an increasing list that ends in the last.
 fn is_after(last: Option<u64>, next: u64) -> bool
     ensures { (xs : List ℕ) → EndsIn xs last → IsStrictlyIncreasing xs → IsTrue result ↔ IsStrictlyIncreasing (xs ++ next ∷ []) }
 {
@@ -65,8 +65,8 @@ fn is_after(last: Option<u64>, next: u64) -> bool
     }
 }
 
-// Whether an epoch may have this time after others that rise up to the last, in a file that begins
-// at this first time.
+// Returns whether an epoch may have this time after epochs of increasing times that end in the
+// last, in a file that begins at this first time.
 fn may_follow(last: Option<u64>, first: GpsTime, time: GpsTime) -> bool
     ensures { (es : List Stamped) → EndsIn (map time_stamped es) last → IsStrictlyIncreasing (map time_stamped es)
         → IsTrue result ↔ IsTimeAfter es first time }
@@ -77,7 +77,7 @@ fn may_follow(last: Option<u64>, first: GpsTime, time: GpsTime) -> bool
     }
 }
 
-// Number of satellites of the systems of which some signal is planned.
+// Returns the number of satellites of the systems of which some signal is planned.
 fn most_rows(gps: usize, galileo: usize) -> usize
     ensures { result ≡ most_rows gps galileo }
 {
@@ -94,7 +94,7 @@ fn most_rows(gps: usize, galileo: usize) -> usize
     of_gps + of_galileo
 }
 
-// How many events a change of station values is.
+// Returns the number of events of a change of station values: one, or zero for no change.
 fn changes_of(change: Option<StationValues>) -> u64
     ensures { result ≡ changes_of change }
 {
@@ -104,7 +104,7 @@ fn changes_of(change: Option<StationValues>) -> u64
     }
 }
 
-// The station values that changed last, after a change or none.
+// Returns the station values that changed last, after a change or none.
 fn changed_by(before: Option<StationValues>, change: Option<StationValues>) -> Option<StationValues>
     ensures { (v : StationValues) → changed_by v result ≡ changed_by (changed_by v before) change }
 {
@@ -115,7 +115,7 @@ fn changed_by(before: Option<StationValues>, change: Option<StationValues>) -> O
 }
 
 impl ParserState {
-    /// Nothing was read.
+    /// Returns the state of a parser that has read nothing.
     pub(crate) fn new(alloc: Global) -> ParserState
         ensures stands { FollowsHistory result nothing }
         ensures starts { (v : FileValue) → IsFileValue v → HasLinesLeft (progress_at result nothing) v (file_lines v) }
@@ -143,7 +143,7 @@ impl ParserState {
         }
     }
 
-    /// Takes the next line; the buffer is for what the line would be.
+    /// Processes the next line; the buffer is for the line as it would be written.
     pub(crate) fn take(&mut self, line: &[u8], again: &mut Line) -> Result<Added, Refusal>
         requires stands { (h : History) × FollowsHistory self.old h }
         requires room { HasRoom self.old (2 ^ 40) }
@@ -161,7 +161,7 @@ impl ParserState {
         }
     }
 
-    // Takes a line of the header.
+    // Processes a line of the header.
     fn take_header(&mut self, place: usize, line: &[u8], again: &mut Line) -> Result<Added, Refusal>
         requires expected { self.old.expected ≡ Expected.Header place }
         ensures takes { TakesLine self.old self.new line.now result }
@@ -181,7 +181,7 @@ impl ParserState {
         }
     }
 
-    // Whether an epoch of this number of satellites may follow at a time.
+    // Returns whether an epoch of this number of satellites may follow at a time.
     fn may_begin(&self, time: GpsTime, satellites: usize) -> bool
         requires between { (h : History) → FollowsHistory self.now h → AreRead (progress_at self.now h) }
         ensures { (h : History) → FollowsHistory self.now h → IsTrue result ↔ MayBegin (progress_at self.now h) time satellites }
@@ -196,7 +196,7 @@ impl ParserState {
         may_follow(self.last, self.head.first(), time)
     }
 
-    // The time and the number of satellites of an epoch that may follow, by its line.
+    // Returns the time and the number of satellites of an epoch that may follow, by its first line.
     fn read_begun(&self, line: &[u8], again: &mut Line) -> Option<(GpsTime, usize)>
         requires between { (h : History) → FollowsHistory self.now h → AreRead (progress_at self.now h) }
         ensures { (h : History) → FollowsHistory self.now h → ReadsEpochLine (MayBegin (progress_at self.now h)) line.now result }
@@ -210,14 +210,14 @@ impl ParserState {
         Some(read)
     }
 
-    // Whether an event begins with the line: it may, but before the first epoch.
+    // Returns whether an event begins with the line; no event precedes the first epoch.
     fn begins_event(&self, line: &[u8]) -> bool
         ensures { IsTrue result ↔ ((0 < self.now.epochs) × (line.now ≡ event_line)) }
     {
         self.epochs > 0 && is_same(line, event_line())
     }
 
-    // Takes the line of an epoch or of an event.
+    // Processes the first line of an epoch or of an event.
     fn take_next(&mut self, line: &[u8], again: &mut Line) -> Result<Added, Refusal>
         requires expected { self.old.expected ≡ Expected.Epoch }
         ensures takes { TakesLine self.old self.new line.now result }
@@ -236,7 +236,7 @@ impl ParserState {
         Ok(Added::NoRow)
     }
 
-    // Takes the position in an event.
+    // Processes the position in an event.
     fn take_position(&mut self, line: &[u8]) -> Result<Added, Refusal>
         requires expected { self.old.expected ≡ Expected.EventPosition }
         ensures takes { TakesLine self.old self.new line.now result }
@@ -249,7 +249,7 @@ impl ParserState {
         Ok(Added::NoRow)
     }
 
-    // The station values after the epochs that were read.
+    // Returns the station values after the epochs that were read.
     fn station_values(&self) -> StationValues
         ensures { result ≡ changed_by self.now.head.shown.values self.now.values }
     {
@@ -259,8 +259,8 @@ impl ParserState {
         }
     }
 
-    // Takes the height in an event, after this position: they aren't both those that hold
-    // already.
+    // Processes the height in an event, after this position. Refuses the line if neither differs
+    // from the current station values.
     fn take_height(&mut self, x: i64, y: i64, z: i64, line: &[u8]) -> Result<Added, Refusal>
         requires expected { self.old.expected ≡ Expected.EventHeight x y z }
         ensures takes { TakesLine self.old self.new line.now result }
@@ -277,7 +277,7 @@ impl ParserState {
         Ok(Added::NoRow)
     }
 
-    // Takes the line of an epoch after an event with these station values.
+    // Processes the first line of an epoch after an event with these station values.
     fn take_changed(
         &mut self,
         values: StationValues,
@@ -297,7 +297,7 @@ impl ParserState {
         Ok(Added::NoRow)
     }
 
-    // Takes the line of a satellite, of which this number is left.
+    // Processes the line of a satellite, of which this number is left.
     fn take_satellite(
         &mut self,
         left: usize,
@@ -335,14 +335,14 @@ impl ParserState {
         Ok(Added::LastRow)
     }
 
-    /// The kind of line that is expected.
+    /// Returns the kind of line that is expected.
     pub(crate) fn expected(&self) -> Expected
         ensures { result ≡ self.now.expected }
     {
         self.expected
     }
 
-    /// Whether the file may end here.
+    /// Returns whether the file may end here.
     pub(crate) fn may_end(&self) -> bool
         ensures { IsTrue result ↔ ((self.now.expected ≡ Expected.Epoch) × (0 < self.now.epochs)) }
     {

@@ -19,7 +19,7 @@ use std::io::Read;
 /// Largest number of lines of a file.
 const MOST_LINES: u64 = 1 << 32;
 
-/// The reading of a file: how far it is, the lines that were taken, and buffers.
+/// The reading of a file: its parser state, the number of lines that were accepted, and buffers.
 #[derive(Drop)]
 pub(crate) struct Reading {
     pub(crate) parser_state: ParserState,
@@ -29,7 +29,7 @@ pub(crate) struct Reading {
     again: Line,
 }
 
-// The fault of a line that isn't of the kind that was expected.
+// Returns the fault of a line that isn't of the kind that was expected.
 fn fault_at(expected: Expected, number: u64) -> ReadFault
     ensures faulty { (input : List ℕ) → IsFaulty input number → IsExpectedAt expected input number → ExplainsFault input result }
     ensures other { result ≡ ReadFault.Read → ⊥ }
@@ -44,7 +44,7 @@ fn fault_at(expected: Expected, number: u64) -> ReadFault
     }
 }
 
-// The fault if something follows this number of lines, which may be the largest.
+// Returns the fault if a byte follows this number of lines: `TooLong` if it is the largest.
 fn fault_after(lines: u64, fault: ReadFault) -> ReadFault
     ensures { result ≡ (if lines == most_lines then ReadFault.TooLong else fault) }
 {
@@ -56,7 +56,7 @@ fn fault_after(lines: u64, fault: ReadFault) -> ReadFault
 }
 
 impl Reading {
-    /// Nothing was read.
+    /// Returns the reading of a file of which nothing was read.
     pub(crate) fn new(alloc: Global) -> Reading
         ensures read { (input : Option (List ℕ)) → HasRead result nothing input input }
         ensures within { MayBeCounted result }

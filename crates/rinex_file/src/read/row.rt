@@ -1,4 +1,4 @@
-//! The line of a satellite, read back: what it shows is validated, written again and compared.
+//! The line of a satellite, read back: its fields are validated, written again and compared.
 ghost use Rattle.std.specs.Prelude.{◌≡◌, ◌↔◌, ℕ, pos, ◌+◌, ◌-◌, ◌*◌, ◌≤◌, ◌<◌, List, [], ◌∷◌, drop, ◌++◌, replicate, length, slice_index, All, Any, Some, IfSome, IsTrue};
 ghost use Rattle.arrayvec.specs.ArrayVec.{array_vec_len};
 ghost use Rattle.gnss_obs.specs.declared.system.System.{System};
@@ -16,7 +16,7 @@ use crate::write::satellite::satellite_text;
 use arrayvec::ArrayVec;
 use gnss_obs::System;
 
-// The value whose columns the text begins with.
+// Returns the value in the first columns of the text, or None if they have no point.
 #[tactic(auto, unfolding(crate::specs::Read::Row::value_in))]
 fn value_in(text: &[u8]) -> Option<i64>
     requires { 14 ≤ length text.now }
@@ -29,7 +29,7 @@ fn value_in(text: &[u8]) -> Option<i64>
     Some(number.value())
 }
 
-// What the 64 columns of a signal show.
+// Returns the values in the 64 columns of a signal.
 #[tactic(auto, unfolding(crate::specs::Read::Row::signal_values_in))]
 fn signal_values_in(text: &[u8]) -> SignalValues
     requires { signal_columns ≤ length text.now }
@@ -44,7 +44,7 @@ fn signal_values_in(text: &[u8]) -> SignalValues
     }
 }
 
-// The entries that the columns of this number of signals show, in place of those before.
+// Reads the entries in the columns of this number of signals, replacing those in the buffer.
 fn put_entries(text: &[u8], signals: usize, entries: &mut ArrayVec<SignalValues, MOST_SIGNALS>)
     requires few { signals ≤ most_signals }
     requires room { 3 + signal_columns * signals ≤ length text.now }
@@ -58,7 +58,7 @@ fn put_entries(text: &[u8], signals: usize, entries: &mut ArrayVec<SignalValues,
     }
 }
 
-// What a line that was filled up with blanks shows of a satellite.
+// Reads the satellite in a line that was padded with blanks.
 fn put_seen_in(system: System, text: &[u8], signals: usize, seen: &mut KeptSatellite)
     requires few { signals ≤ most_signals }
     requires room { 3 + signal_columns * signals ≤ length text.now }
@@ -69,7 +69,7 @@ fn put_seen_in(system: System, text: &[u8], signals: usize, seen: &mut KeptSatel
     put_entries(text, signals, &mut seen.entries);
 }
 
-// Whether a value fits into its columns, or there is none.
+// Returns whether a value fits its columns or is absent.
 fn is_value(value: Option<i64>) -> bool
     ensures { IsTrue result ↔ IfSome value FitsColumns }
 {
@@ -79,7 +79,7 @@ fn is_value(value: Option<i64>) -> bool
     }
 }
 
-// Whether a strength is one that is written, 0.001 to 99.999 dB-Hz, or there is none.
+// Returns whether a strength is one that is written, 0.001 to 99.999 dB-Hz, or is absent.
 fn is_strength(value: Option<i64>) -> bool
     ensures { IsTrue result ↔ IfSome value (IsFrom (pos 1) (pos 99_999)) }
 {
@@ -89,8 +89,8 @@ fn is_strength(value: Option<i64>) -> bool
     }
 }
 
-// Whether values and indicator are those of a signal: a loss-of-lock indicator belongs to a phase
-// alone.
+// Returns whether values and indicator may be those of a signal: only a phase has a loss-of-lock
+// indicator.
 fn is_entry(entry: &SignalValues) -> bool
     ensures { IsTrue result ↔ AreSignalValues entry.now }
 {
@@ -102,22 +102,22 @@ fn is_entry(entry: &SignalValues) -> bool
     c && l && d && s && lli
 }
 
-// Whether each is an entry of a file value.
+// Returns whether each is an entry of a file value.
 fn are_entries(entries: &[SignalValues]) -> bool
     ensures { IsTrue result ↔ All AreSignalValues entries.now }
 {
     entries.iter().all(|e| is_entry(e))
 }
 
-// Whether one of them has a value.
+// Returns whether one of them has a value.
 fn say_something(entries: &[SignalValues]) -> bool
     ensures { IsTrue result ↔ Any (λ e. IsTrue (has_some_value e)) entries.now }
 {
     entries.iter().any(|e| e.has_value())
 }
 
-// Whether a system with this number of satellites and of planned signals can have this
-// row.
+// Returns whether a system with this number of satellites and of planned signals can have
+// this row.
 fn is_row(seen: &KeptSatellite, most: u8, signals: usize) -> bool
     ensures { IsTrue result ↔ IsRow most signals seen.now.row }
 {
@@ -129,7 +129,7 @@ fn is_row(seen: &KeptSatellite, most: u8, signals: usize) -> bool
         && say_something(entries)
 }
 
-// The line without its line feed, filled up with blanks.
+// Writes the line without its line feed, padded with blanks, to the buffer.
 fn fill(text: &[u8], signals: usize, filled: &mut Line)
     requires short { length text.now ≤ most_line }
     requires few { signals ≤ most_signals }
@@ -142,7 +142,7 @@ fn fill(text: &[u8], signals: usize, filled: &mut Line)
     put_times(filled, b' ', blanks);
 }
 
-// The first value for GPS, the second for Galileo.
+// Returns the first value for GPS, the second for Galileo.
 fn of_system(system: System, gps: usize, galileo: usize) -> usize
     ensures { result ≡ of_system system gps galileo }
 {
@@ -152,7 +152,7 @@ fn of_system(system: System, gps: usize, galileo: usize) -> usize
     }
 }
 
-// The system whose letter the line begins with.
+// Returns the system whose letter the line begins with.
 fn system_of(line: &[u8]) -> Option<System>
     ensures { (s : System) → 0 < length line.now → slice_index line.now 0 ≡ letter_of s → result ≡ Some s }
 {
@@ -163,7 +163,7 @@ fn system_of(line: &[u8]) -> Option<System>
     }
 }
 
-// The satellite of this system that a line shows.
+// Reads the satellite of this system in a line. Returns whether the line is that of one.
 fn read_of(
     line: &[u8],
     again: &mut Line,
@@ -184,8 +184,8 @@ fn read_of(
     is_same(again.as_slice(), line)
 }
 
-/// Reads the satellite that a line shows, given the number of planned signals of each system.
-/// Returns whether it shows one.
+/// Reads the satellite in a line, given the number of planned signals of each system. Returns
+/// whether the line is that of a satellite.
 pub(crate) fn read_seen(
     line: &[u8],
     again: &mut Line,

@@ -11,14 +11,15 @@ use crate::header::lines::{labelled, three_lengths, version_with};
 use crate::read::numbers::{digits_in, is_same, number_in};
 use crate::read::texts::columns;
 
-// Whether this is the first line if these systems are planned.
+// Returns whether this is the first line of a file in which these systems are planned.
 fn is_version(line: &[u8], gps: bool, galileo: bool) -> bool
     ensures { IsTrue result ↔ (line.now ≡ version_with gps galileo) }
 {
     is_same(line, version_with(gps, galileo).as_slice())
 }
 
-/// Whether signals of GPS and of Galileo are planned, by the first line.
+/// Returns whether signals of GPS and of Galileo are planned, by the first line, or None for any
+/// other line.
 pub(crate) fn read_version(line: &[u8]) -> Option<(bool, bool)>
     ensures { ReadsExactly (λ (p : Bool × Bool). (p.0 || p.1) ≡ true) (λ (p : Bool × Bool). version_with p.0 p.1) line.now result }
 {
@@ -34,8 +35,8 @@ pub(crate) fn read_version(line: &[u8]) -> Option<(bool, bool)>
     None
 }
 
-// The number in 14 columns of a line that begin at `from`, in 0.0001 m; None if 38 bits don't
-// hold it.
+// Returns the number in the 14 columns of a line that begin at `from`, in 0.0001 m, or None if it
+// doesn't fit 38 bits.
 fn coordinate_in(line: &[u8], from: usize) -> Option<i64>
     ensures some { IfSome result (λ z. IsCoordinate z × (z ≡ number_in (take 14 (drop from line.now)))) }
     ensures none { IfNone result (IsCoordinate (number_in (take 14 (drop from line.now))) → ⊥) }
@@ -47,7 +48,7 @@ fn coordinate_in(line: &[u8], from: usize) -> Option<i64>
     Some(length)
 }
 
-/// The position of the antenna, in 0.0001 m.
+/// Returns the position of the antenna in 0.0001 m by its line, or None for any other line.
 pub(crate) fn read_position(line: &[u8]) -> Option<(i64, i64, i64)>
     ensures { ReadsPosition line.now result }
 {
@@ -61,7 +62,8 @@ pub(crate) fn read_position(line: &[u8]) -> Option<(i64, i64, i64)>
     Some((x, y, z))
 }
 
-/// The height of the antenna above the marker, in 0.0001 m.
+/// Returns the height of the antenna above the marker in 0.0001 m by its line, or None for any
+/// other line.
 pub(crate) fn read_delta(line: &[u8]) -> Option<u16>
     ensures { ReadsExactly (λ h. h < 2 ^ 16) (λ h. header_line (lengths (pos h) (pos 0) (pos 0)) (codes "ANTENNA: DELTA H/E/N")) line.now result }
 {
@@ -73,7 +75,7 @@ pub(crate) fn read_delta(line: &[u8]) -> Option<u16>
     Some(height)
 }
 
-/// Whether the line has this content and this label.
+/// Returns whether the line is that of this content and this label.
 pub(crate) fn is_header_line(line: &[u8], content: &[u8], label: &[u8]) -> bool
     requires { length content.now + length label.now ≤ 1000 }
     ensures { IsTrue result ↔ (line.now ≡ header_line content.now label.now) }

@@ -14,7 +14,7 @@ use crate::write::numbers::put;
 use crate::write::satellite::trimmed_len;
 use arrayvec::ArrayVec;
 
-/// Returns `width` columns of a line, or as many as there are, from `from` on, counted from 0.
+/// Returns up to `width` columns of a line, from column `from` on, counted from 0.
 pub(crate) fn columns(line: &[u8], from: usize, width: usize) -> &[u8]
     ensures value { result.now ≡ take width (drop from line.now) }
     ensures bound { length result.now ≤ width }
@@ -23,8 +23,8 @@ pub(crate) fn columns(line: &[u8], from: usize, width: usize) -> &[u8]
     &rest[..width.min(rest.len())]
 }
 
-// The text in the columns of the field at a place, without the blanks at its end; None if it isn't
-// printable.
+// Returns the text in the columns of the field at an index, without trailing blanks, or None if it
+// isn't printable.
 fn text_in(line: &[u8], place: usize) -> Option<Text>
     requires { place < text_count }
     ensures some { IfSome result (λ t. IsText (width_of (field_at place)) t.items × (t.items ≡ text_in place line.now)) }
@@ -41,7 +41,7 @@ fn text_in(line: &[u8], place: usize) -> Option<Text>
     Some(text)
 }
 
-// Takes the texts in the columns of a row; false if one isn't printable.
+// Reads the texts in the columns of a row. Returns false if one isn't printable.
 fn take_texts(texts: &mut HeaderTexts, row: TextRow, line: &[u8]) -> bool
     ensures { MatchBool result (TakesTexts row (count_of row) line.now texts.old texts.new) (RefusesTexts row line.now) }
 {
@@ -55,7 +55,7 @@ fn take_texts(texts: &mut HeaderTexts, row: TextRow, line: &[u8]) -> bool
     true
 }
 
-/// Takes the texts of a row, and returns whether the line is theirs.
+/// Reads the texts of a row, and returns whether the line is that of these texts.
 pub(crate) fn read_texts(texts: &mut HeaderTexts, row: TextRow, line: &[u8]) -> bool
     ensures { MatchBool result (ReadsTexts row line.now texts.old texts.new) (RefusesTexts row line.now) }
 {

@@ -15,7 +15,7 @@ use crate::read::station::is_header_line;
 use crate::write::numbers::Line;
 use gnss_obs::{Signal, System};
 
-/// The number of planned signals of a system, by its first line of types.
+/// Returns the number of planned signals of a system, by its first line of types.
 pub(crate) fn read_count(line: &[u8], system: System) -> Option<usize>
     ensures some { IfSome result (λ n. (1 ≤ n) × (n ≤ length (table system))) }
     ensures count { (all : List ℕ) → AreTypes system all → line.now ≡ types_line system all 0 → result ≡ Some (length all) }
@@ -28,7 +28,7 @@ pub(crate) fn read_count(line: &[u8], system: System) -> Option<usize>
     Some(count)
 }
 
-/// Takes the signals whose types begin in a line, after those of the lines before, where so many
+/// Appends the signals whose types begin in a line to those of the lines before. `count` signals
 /// are planned.
 pub(crate) fn read_types(
     signals: &mut Vec<Signal>,
@@ -56,7 +56,7 @@ pub(crate) fn read_types(
     }
 }
 
-// Takes the signals of the codes in a line of types that follow a `C`, the letter of a
+// Appends the signals of the codes in a line of types that follow a `C`, the letter of a
 // signal's first type.
 fn take_signals(
     signals: &mut Vec<Signal>,
@@ -81,7 +81,7 @@ fn take_signals(
     Ok(())
 }
 
-/// The number of signals that begin in the lines before one.
+/// Returns the number of signals whose types begin in the lines before `row`.
 pub(crate) fn signals_begun(row: usize) -> usize
     requires { row ≤ 6 }
     ensures { result ≡ signals_begun row }
@@ -89,7 +89,7 @@ pub(crate) fn signals_begun(row: usize) -> usize
     (TYPES_IN_LINE * row + 3) / 4
 }
 
-// Takes the signal whose code is at a column, counted from 0.
+// Appends the signal whose code is at a column, counted from 0.
 fn take_signal(
     signals: &mut Vec<Signal>,
     system: System,
@@ -116,14 +116,14 @@ fn take_signal(
     }
 }
 
-// Whether the signal of this place in its table is among these.
+// Returns whether the signal at this index of its table is among these.
 fn has_signal(signals: &[Signal], index: usize) -> bool
     ensures { result ≡ list_any (λ s. index == s.index) signals.now }
 {
     signals.iter().any(|s| index == s.index())
 }
 
-// The signal whose code is at a column, counted from 0.
+// Returns the signal whose code is at a column, counted from 0.
 fn signal_in(line: &[u8], system: System, column: usize) -> Option<Signal>
     requires { column ≤ 100 }
     ensures system { IfSome result (λ s. (s.system ≡ system) × IsSignal s) }

@@ -1,4 +1,4 @@
-//! What was read of an epoch, as it lies in memory.
+//! An epoch that was read, as it is stored in memory.
 ghost use Rattle.std.specs.Prelude.{◌≡◌};
 ghost use Rattle.rinex_file.specs.Value.{no_signal_values, signal_values_of};
 ghost use Rattle.rinex_file.specs.FileValues.{has_some_value};
@@ -9,9 +9,9 @@ use gnss_obs::{System, Thousandths};
 use obs_epoch::{Cell, GpsTime, StationValues};
 use std::marker::Model;
 
-/// What a line shows of a signal: pseudorange (0.001 m), phase (0.001 cycles), Doppler (0.001 Hz)
-/// and strength (0.001 dB-Hz), and the loss-of-lock indicator of the phase. All are absent if
-/// nothing was observed.
+/// The values of a signal in a line: pseudorange (0.001 m), phase (0.001 cycles), Doppler
+/// (0.001 Hz) and strength (0.001 dB-Hz), and the loss-of-lock indicator of the phase. All are
+/// absent if nothing was observed.
 #[derive(Clone, Copy, Default)]
 pub(crate) struct SignalValues {
     pub(crate) c: Option<i64>,
@@ -31,7 +31,7 @@ impl Model for SignalValues {
     ghost inverse = { λ e. record { c = e.c; l = e.l; d = e.d; s = e.s; lli = e.lli } };
 }
 
-// The number of thousandths.
+// Returns the number of thousandths.
 fn number_of(value: Option<Thousandths>) -> Option<i64>
     ensures { result ≡ value }
 {
@@ -42,7 +42,7 @@ fn number_of(value: Option<Thousandths>) -> Option<i64>
 }
 
 impl SignalValues {
-    /// Nothing was observed.
+    /// Returns the values of a signal of which nothing was observed.
     pub(crate) fn none() -> SignalValues
         ensures { result ≡ no_signal_values }
     {
@@ -55,7 +55,7 @@ impl SignalValues {
         }
     }
 
-    /// The values of a cell.
+    /// Returns the values of a cell.
     pub(crate) fn of(cell: &Cell) -> SignalValues
         ensures { result ≡ signal_values_of cell.now }
     {
@@ -68,7 +68,7 @@ impl SignalValues {
         }
     }
 
-    /// Whether something was observed.
+    /// Returns whether something was observed.
     pub(crate) fn has_value(&self) -> bool
         ensures { result ≡ has_some_value self.now }
     {
@@ -76,8 +76,8 @@ impl SignalValues {
     }
 }
 
-/// A satellite of a system, with an entry for each planned signal in the plan's order, as a line
-/// shows it.
+/// A satellite of a system, with an entry for each planned signal in the plan's order, as it is in
+/// a line.
 #[derive(Drop)]
 pub(crate) struct KeptSatellite {
     pub(crate) system: System,
@@ -93,7 +93,7 @@ impl Model for KeptSatellite {
     ghost view = { λ s. record { system = s.system; row = record { satellite = s.satellite; entries = s.entries.items } } };
 }
 
-/// A satellite of a system, with an entry for each planned signal, as it is kept in memory.
+/// A satellite of a system, with an entry for each planned signal, as it is stored in memory.
 #[derive(Drop)]
 pub(crate) struct KeptRow {
     pub(crate) system: System,

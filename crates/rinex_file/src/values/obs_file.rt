@@ -8,7 +8,7 @@ use crate::values::kept::KeptEpoch;
 use obs_epoch::{Plan, StationValues};
 use std::marker::Model;
 
-/// An observation file that was read, as [`read_file`](crate::read_file) alone makes one.
+/// An observation file that was read; only [`read_file`](crate::read_file) makes one.
 #[derive(Drop)]
 pub struct ObsFile {
     pub(crate) texts: HeaderTexts,
@@ -34,42 +34,42 @@ impl Model for ObsFile {
 }
 
 impl ObsFile {
-    /// The texts of the header.
+    /// Returns the texts of the header.
     pub fn texts(&self) -> &HeaderTexts
         ensures { result.now ≡ self.now.texts }
     {
         &self.texts
     }
 
-    /// The signals whose observations the file has.
+    /// Returns the signals whose observations the file has.
     pub fn plan(&self) -> &Plan
         ensures { result.now ≡ self.now.plan }
     {
         &self.plan
     }
 
-    /// Position and height of the antenna, as in the header.
+    /// Returns position and height of the antenna in 0.0001 m, as in the header.
     pub fn station_values(&self) -> StationValues
         ensures { result ≡ self.now.values }
     {
         self.values
     }
 
-    /// The number of epochs.
+    /// Returns the number of epochs.
     pub fn epochs(&self) -> usize
         ensures { result ≡ length self.now.epochs }
     {
         self.epochs.as_slice().len()
     }
 
-    /// The number of events, each of which changes the station values.
+    /// Returns the number of events, each of which changes the station values.
     pub fn events(&self) -> usize
         ensures { result ≡ events_in self.now.epochs }
     {
         self.events as usize
     }
 
-    /// The number of lines of satellites, those of all epochs together.
+    /// Returns the number of lines of satellites in all epochs.
     pub fn satellites(&self) -> usize
         ensures { result ≡ sum_by (λ e. length e.rows) self.now.epochs }
     {

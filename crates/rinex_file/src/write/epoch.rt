@@ -6,7 +6,7 @@ ghost use Rattle.rinex_file.specs.Lines.{epoch_line};
 use crate::write::numbers::{Line, put, put_digits, put_seconds, put_whole};
 use obs_epoch::{Civil, GpsTime};
 
-// The line of an epoch at a date and time of day.
+// Writes the first line of an epoch at a date and time of day into the empty buffer.
 fn put_epoch(line: &mut Line, civil: &Civil, satellites: usize)
     requires { line.old.items ≡ [] }
     ensures { line.new.items ≡ epoch_line civil.now satellites }
@@ -27,8 +27,8 @@ fn put_epoch(line: &mut Line, civil: &Civil, satellites: usize)
     put(line, b"\n");
 }
 
-/// The line that an epoch begins with, in place of what the buffer holds: date and time of day, the
-/// flag 0 and the number of its satellites, which has three columns.
+/// Writes the first line of an epoch, replacing the contents of the buffer: date and time of day,
+/// the flag 0 and the number of its satellites, which has three columns.
 pub fn epoch_line(time: GpsTime, satellites: usize, line: &mut Line)
     ensures { line.new.items ≡ epoch_line (civil_of time) satellites }
 {

@@ -1,4 +1,4 @@
-//! Writing a file that was read back.
+//! The text of a file that was read.
 ghost use Rattle.std.specs.Prelude.{◌≡◌, ◌++◌, All, OnOk, IfOk, flat_map};
 ghost use Rattle.rinex_file.specs.Numbers.{joined};
 ghost use Rattle.rinex_file.specs.File.{header_text, change_lines, file_text};
@@ -89,7 +89,11 @@ fn add_epochs(text: &mut Vec<u8>, epochs: &[KeptEpoch], line: &mut Line) -> Resu
     Ok(())
 }
 
-/// The text of a file.
+/// Returns the text of a file.
+///
+/// # Errors
+///
+/// [`AllocError`] if memory runs out.
 pub fn file_bytes(alloc: Global, file: &ObsFile) -> Result<Vec<u8>, AllocError>
     ensures { IfOk result (λ text. text.items ≡ file_text file.now) }
 {

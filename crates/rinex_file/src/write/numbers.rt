@@ -1,4 +1,4 @@
-//! Numbers of stated width, as in the columns of a line.
+//! Numbers of fixed width, as in the columns of a line.
 ghost use Rattle.std.specs.Prelude.{◌≡◌, ◌+◌, ◌^◌, ◌≤◌, ◌*◌, ◌++◌, pos, replicate, decimal, length};
 ghost use Rattle.rinex_file.specs.Numbers.{fixed, padded, left, right};
 ghost use Rattle.arrayvec.specs.ArrayVec.{array_vec_len};
@@ -42,7 +42,7 @@ pub(crate) fn put_times<const N: usize>(line: &mut ArrayVec<u8, N>, byte: u8, co
     }
 }
 
-/// Appends a number with leading zeros up to this number of digits.
+/// Appends a number with leading zeros up to `places` digits.
 pub(crate) fn put_padded<const N: usize>(line: &mut ArrayVec<u8, N>, places: usize, number: u64)
     requires { array_vec_len line.old + length (padded places number) ≤ N }
     ensures { line.new.items ≡ line.old.items ++ padded places number }
@@ -53,7 +53,7 @@ pub(crate) fn put_padded<const N: usize>(line: &mut ArrayVec<u8, N>, places: usi
     put(line, digits);
 }
 
-/// Appends a text left in its columns.
+/// Appends a text, left-aligned in `width` columns.
 pub(crate) fn put_left(line: &mut Line, width: usize, text: &[u8])
     requires room { array_vec_len line.old + width + length text.now ≤ most_line }
     ensures text { line.new.items ≡ line.old.items ++ left width text.now }
@@ -63,7 +63,7 @@ pub(crate) fn put_left(line: &mut Line, width: usize, text: &[u8])
     put_times(line, b' ', width.saturating_sub(text.len()));
 }
 
-/// Appends a text right in its columns.
+/// Appends a text, right-aligned in `width` columns.
 fn put_right(line: &mut Line, width: usize, text: &[u8])
     requires room { array_vec_len line.old + width + length text.now ≤ most_line }
     ensures text { line.new.items ≡ line.old.items ++ right width text.now }
@@ -73,7 +73,7 @@ fn put_right(line: &mut Line, width: usize, text: &[u8])
     put(line, text);
 }
 
-/// Appends a whole number right in its columns.
+/// Appends a whole number, right-aligned in `width` columns.
 pub(crate) fn put_whole(line: &mut Line, width: usize, number: u64)
     requires width { width ≤ 20 }
     requires room { array_vec_len line.old + 60 ≤ most_line }
@@ -85,7 +85,7 @@ pub(crate) fn put_whole(line: &mut Line, width: usize, number: u64)
     put_right(line, width, digits);
 }
 
-/// Appends a number with leading zeros up to this number of digits.
+/// Appends a number with leading zeros up to `places` digits.
 pub(crate) fn put_digits(line: &mut Line, places: usize, number: u64)
     requires places { places ≤ 20 }
     requires room { array_vec_len line.old + 60 ≤ most_line }
@@ -95,7 +95,7 @@ pub(crate) fn put_digits(line: &mut Line, places: usize, number: u64)
     put_padded(line, places, number);
 }
 
-/// A number of 10 to the minus `places`.
+/// Returns a number, given in units of 10 to the minus `places`, with a decimal point.
 pub(crate) fn fixed_text(places: usize, scale: u64, value: i64) -> ArrayVec<u8, 64>
     requires places { places ≤ 20 }
     requires scale { scale ≡ 10 ^ places }
@@ -113,7 +113,8 @@ pub(crate) fn fixed_text(places: usize, scale: u64, value: i64) -> ArrayVec<u8, 
     text
 }
 
-/// Appends a number of 10 to the minus `places` right in its columns.
+/// Appends a number, given in units of 10 to the minus `places`, with a decimal point and
+/// right-aligned in `width` columns.
 pub(crate) fn put_fixed(line: &mut Line, width: usize, places: usize, scale: u64, value: i64)
     requires width { width ≤ 20 }
     requires room { array_vec_len line.old + 84 ≤ most_line }
@@ -126,7 +127,8 @@ pub(crate) fn put_fixed(line: &mut Line, width: usize, places: usize, scale: u64
     put_right(line, width, text.as_slice());
 }
 
-/// Appends seconds with seven decimals right in their columns.
+/// Appends seconds, given in milliseconds, with seven decimals and right-aligned in `width`
+/// columns.
 pub(crate) fn put_seconds(line: &mut Line, width: usize, milliseconds: u16)
     requires width { width ≤ 20 }
     requires room { array_vec_len line.old + 84 ≤ most_line }

@@ -17,8 +17,8 @@ use gnss_obs::{Sat, System, Thousandths, strength_digit};
 use itoa::write_digits;
 use obs_epoch::{Cell, Epoch, Plan};
 
-// What follows the whole part of a value in its columns: a point, thousandths, and two
-// columns more.
+// Returns the columns of a value without its whole part: ten blanks, a point, thousandths, and the
+// LLI and SSI columns.
 fn after_whole(part: u64, lost: u8, strength: u8) -> [u8; VALUE_COLUMNS]
     requires { part < 1000 }
     ensures { result ≡ replicate 10 32 ++ (46 ∷ padded 3 part ++ lost ∷ strength ∷ []) }
@@ -32,8 +32,8 @@ fn after_whole(part: u64, lost: u8, strength: u8) -> [u8; VALUE_COLUMNS]
     ]
 }
 
-/// A value as F14.3, with the two columns after it. Its whole part may have ten digits, or nine
-/// and a minus.
+/// Returns a value in thousandths as F14.3, and the LLI and SSI columns after it. Its whole part
+/// may have ten digits, or nine and a minus.
 #[tactic(auto, unfolding(crate::specs::Lines::field))]
 pub(crate) fn columns_of(value: i64, lost: u8, strength: u8) -> [u8; VALUE_COLUMNS]
     requires { FitsColumns value }
@@ -48,7 +48,7 @@ pub(crate) fn columns_of(value: i64, lost: u8, strength: u8) -> [u8; VALUE_COLUM
     columns
 }
 
-// Writes a value in 14 columns and the two columns after it, or 16 blanks.
+// Writes a value as F14.3 and the LLI and SSI columns after it, or 16 blanks if it is absent.
 #[tactic(auto, unfolding(crate::specs::Lines::field))]
 fn put_field(columns: &mut [u8], value: Option<i64>, lost: u8, strength: u8)
     requires fits { IfSome value FitsColumns }
@@ -62,7 +62,7 @@ fn put_field(columns: &mut [u8], value: Option<i64>, lost: u8, strength: u8)
     }
 }
 
-// The strength column.
+// Returns the strength (SSI) column.
 fn strength_column(s: Option<i64>) -> u8
     ensures { result ≡ strength_byte s }
 {
@@ -102,7 +102,7 @@ fn put_signal(columns: &mut [u8], values: &SignalValues)
     put_field(&mut columns[3 * VALUE_COLUMNS..], values.s, b' ', b' ');
 }
 
-// Blank columns of a signal.
+// Returns the columns of a signal, all blank.
 fn blank_columns() -> [u8; SIGNAL_COLUMNS]
     ensures { length result ≡ signal_columns }
 {
@@ -133,7 +133,7 @@ fn add_signals(line: &mut Line, values: &[SignalValues])
     }
 }
 
-// The number of signals up to the last that has a value.
+// Returns the number of signals up to the last that has a value.
 fn shown_signals(values: &[SignalValues]) -> usize
     ensures bound { result ≤ length values.now }
     ensures blank { flat_map signal_text (drop result values.now) ≡ replicate (signal_columns * (length values.now - result)) 32 }
@@ -145,7 +145,7 @@ fn shown_signals(values: &[SignalValues]) -> usize
     end
 }
 
-// How much of the text is left without the blanks at its end.
+// Returns the length of the text without trailing blanks, in bytes.
 pub(crate) fn trimmed_len(text: &[u8]) -> usize
     ensures text { take result text.now ≡ trimmed text.now }
     ensures bound { result ≤ length text.now }
@@ -157,7 +157,7 @@ pub(crate) fn trimmed_len(text: &[u8]) -> usize
     end
 }
 
-/// The letter of a system: `G` or `E`.
+/// Returns the letter of a system: `G` or `E`.
 pub(crate) fn letter_of(system: System) -> u8
     ensures { result ≡ letter_of system }
 {
@@ -167,8 +167,8 @@ pub(crate) fn letter_of(system: System) -> u8
     }
 }
 
-/// Writes the line of a satellite with these values of the planned signals, in place of what the
-/// buffer holds.
+/// Writes the line of a satellite with these values of the planned signals, replacing the contents
+/// of the buffer.
 pub(crate) fn satellite_text(line: &mut Line, system: System, id: u8, values: &[SignalValues])
     requires id { id < 100 }
     requires room { All HaveRoom values.now }
@@ -185,8 +185,8 @@ pub(crate) fn satellite_text(line: &mut Line, system: System, id: u8, values: &[
     line.push(b'\n');
 }
 
-// Puts the values of a cell of this satellite at the place of its signal, if that is planned; any
-// other cell is passed over. A later cell of the signal is replaced.
+// Stores the values of a cell of this satellite at the index of its signal, if that is planned,
+// replacing those of a later cell of the signal. Any other cell is skipped.
 fn put_cell(values: &mut [SignalValues], plan: &Plan, system: System, id: u8, cell: &Cell)
     requires held { IsHeld system cell.now }
     requires apart { IsDistinct nat_eq (planned_of system plan.now) }
@@ -203,15 +203,15 @@ fn put_cell(values: &mut [SignalValues], plan: &Plan, system: System, id: u8, ce
     }
 }
 
-// Puts the values of a satellite's cells at the places of their signals.
+// Stores the values of a satellite's cells at the indices of their signals.
 fn put_cells(values: &mut [SignalValues], cells: &[Cell], plan: &Plan, system: System, id: u8)
     requires none { values.old ≡ replicate (length (planned_of system plan.now)) no_signal_values }
     requires held { AreHeld system cells.now }
     ensures { values.new ≡ entries_of plan.now system id cells.now }
 {
-    // No signal is planned twice, as the contract of `of` says: so each has one place.
+    // By the contract of `of` no signal is planned twice, so each has one index.
     let _ = plan.of(system);
-    // The first cell of a signal is the one that is shown: it is put last.
+    // The first cell of a signal is the one that is written, so it is stored last.
     let mut at = cells.len();
     while at > 0 {
         at -= 1;
@@ -219,7 +219,7 @@ fn put_cells(values: &mut [SignalValues], cells: &[Cell], plan: &Plan, system: S
     }
 }
 
-/// Writes the line of a satellite with these cells, in place of what the buffer holds.
+/// Writes the line of a satellite with these cells, replacing the contents of the buffer.
 pub(crate) fn put_seen(line: &mut Line, cells: &[Cell], plan: &Plan, system: System, id: u8)
     requires held { AreHeld system cells.now }
     requires id { id < 100 }
@@ -231,11 +231,11 @@ pub(crate) fn put_seen(line: &mut Line, cells: &[Cell], plan: &Plan, system: Sys
     satellite_text(line, system, id, planned);
 }
 
-/// The line of a satellite of the epoch, in place of what the buffer holds: its system's letter and
-/// its number in two columns, and for each planned signal pseudorange (m), phase (cycles), Doppler
-/// (Hz) and strength (dB-Hz) as F14.3 with the loss-of-lock and the strength column after each.
-/// What wasn't observed is blank. It is written by [`write_epoch`](crate::write_epoch) if it has
-/// a value.
+/// Writes the line of a satellite of the epoch, replacing the contents of the buffer: its system's
+/// letter and its number in two columns, and for each planned signal pseudorange (m), phase
+/// (cycles), Doppler (Hz) and strength (dB-Hz) as F14.3 with the LLI and SSI columns after each.
+/// Values that weren't observed are blank. [`write_epoch`](crate::write_epoch) writes this line if
+/// it has a value.
 pub fn satellite_line(epoch: &Epoch, plan: &Plan, satellite: Sat, line: &mut Line)
     ensures { line.new.items ≡ satellite_line (row_in_epoch plan.now epoch.now.epoch satellite.system satellite.id) }
 {

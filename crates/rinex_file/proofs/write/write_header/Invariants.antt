@@ -4,7 +4,7 @@ use Rattle.rinex_file.specs.Numbers.{joined}
 use Rattle.rinex_file.specs.File.{header_text}
 use Rattle.rinex_file.proofs.write.write_header.Given as goal
 
--- what went out and what is left are the whole text
+-- what was written and what is left are the whole text
 abbrev pub invariant-loop-line : goal.invariant-loop-line
 invariant-loop-line g l =
     (goal.iterator-loop-line g).can_next l.line-iterator × (goal.iterator-loop-line g).is_finite l.line-iterator

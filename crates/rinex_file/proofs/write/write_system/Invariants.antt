@@ -4,7 +4,7 @@ use Rattle.rinex_file.specs.File.{lines_up_to}
 use Rattle.obs_epoch.proofs.GroupLemmas.{Left}
 use Rattle.rinex_file.proofs.write.write_system.Given as goal
 
--- the lines of the satellites so far went out
+-- the lines of the satellites so far were written
 abbrev pub invariant-loop-before : goal.invariant-loop-before
 invariant-loop-before g l =
     let contents = g.W.Write.contents in

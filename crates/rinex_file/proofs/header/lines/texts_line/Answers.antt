@@ -7,7 +7,7 @@ use Rattle.rinex_file.proofs.HeaderText.{place_back, field_back, field_less}
 use Rattle.rinex_file.proofs.Faultless.{few_columns}
 use Rattle.rinex_file.proofs.header.lines.texts_line.Goals as goal
 
--- one text more
+-- one more text
 one_more : (x : HeaderLists) (start i count : ℕ) (content new whole : List ℕ) → i < count → new ≡ content ++ text_columns x (start + i)
     → content ++ texts_from x (start + i) (count - i) ≡ whole → new ++ texts_from x (start + (i + 1)) (count - (i + 1)) ≡ whole
 one_more x start i count content new whole less put so_far =

@@ -4,7 +4,7 @@ use Rattle.rinex_file.specs.Header.{types_of, codes_of}
 use Rattle.rinex_file.proofs.SignalTypes.{columns}
 use Rattle.rinex_file.proofs.header.types.put_types.Given as goal
 
--- the types so far stand in the line
+-- the types so far are in the line
 abbrev pub invariant-loop-i : goal.invariant-loop-i
 invariant-loop-i l = record {
   from : 13 * l.row ≤ l.i;

@@ -5,7 +5,7 @@ use Rattle.rinex_file.specs.Read.Keeping.{history_of}
 use Rattle.rinex_file.specs.Read.Steps.{HasRead, MayBeCounted}
 use Rattle.rinex_file.proofs.read.file.read_file.Given as goal
 
--- what is kept was read of the input
+-- what is stored was read of the input
 abbrev pub invariant-loop-added : goal.invariant-loop-added
 invariant-loop-added g l =
     let remaining = g.R.Read.remaining in

@@ -4,7 +4,7 @@ use Rattle.rinex_file.specs.Blocks.{LeavesRest}
 use Rattle.rinex_file.specs.Read.Fields.{has}
 use Rattle.rinex_file.proofs.read.lines.next_line.Given as goal
 
--- the bytes so far were taken, no line feed is among them, and no read failed
+-- the bytes so far were consumed, no line feed is among them, and no read failed
 abbrev pub invariant-loop-block : goal.invariant-loop-block
 invariant-loop-block g l =
     let remaining = g.R.Read.remaining in

@@ -2,8 +2,8 @@ use Rattle.std.proofs.Common.{◌≡◌, ◌^◌, ◌<◌, ◌||◌, drop}
 use Rattle.rinex_file.specs.Read.Fields.{digits_from, has}
 use Rattle.rinex_file.proofs.read.numbers.number_text.Given as goal
 
--- what is left to read goes on from the number so far, which has at most a digit for each byte; and a minus and a point were
--- found or are left
+-- the rest of the text continues the number so far, which has at most one digit for each byte; a minus and a point were
+-- found or are in the rest
 abbrev pub invariant-loop-b : goal.invariant-loop-b
 invariant-loop-b l = record {
   same : digits_from l.digits (drop l.b-index l.text) ≡ digits_from 0 l.text;

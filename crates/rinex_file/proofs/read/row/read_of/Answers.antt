@@ -27,7 +27,7 @@ returns-then-not-is_row c = λ v is e.
 abbrev IsOf : System → ℕ → SatelliteRow → Type 0
 IsOf system signals s = (s.system ≡ system) × IsRow (satellites system) signals s.row
 
--- the line is that of a satellite exactly where it is the same as that of what was read
+-- the line is that of a satellite if and only if it is the line of what was read
 compared : (b : Bool) (system : System) (signals : ℕ) (line again : List ℕ) (seen : SatelliteRow) → (IsTrue b ↔ (again ≡ line)) → again ≡ satellite_line seen → IsOf system signals seen
     → ((v : SatelliteRow) → v.system ≡ system → IsRow (satellites system) signals v.row → line ≡ satellite_line v → seen ≡ v) → ReadsExactly (IsOf system signals) satellite_line line (some_if b seen)
 compared true system signals line again seen same text is found = (is, sym (same.0 refl) ∙ text, λ w also e. sym (found w also.0 also.1 e))

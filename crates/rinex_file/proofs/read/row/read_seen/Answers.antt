@@ -25,7 +25,7 @@ is_of gps galileo signals system s e same is =
     let row : IsRow (satellites system) (of_system system gps galileo) s.row = subst (λ x. IsRow (satellites x) (of_system x gps galileo) s.row) same is.row in
     (same, subst (λ n. IsRow (satellites system) n s.row) (sym e) row)
 
--- where the line's letter is that of the system, each satellite is one of this system
+-- if the line's letter is that of the system, each satellite is one of this system
 of_both : (gps galileo signals : ℕ) (system : System) (line : List ℕ) (r : Option SatelliteRow) → signals ≡ of_system system gps galileo → 0 < signals
     → ((v : SatelliteRow) → line ≡ satellite_line v → v.system ≡ system) → ReadsExactly (IsOf system signals) satellite_line line r → ReadsExactly (IsSatelliteRow gps galileo) satellite_line line r
 of_both gps galileo signals system line None count some letter read = λ v is e. read v (is_of gps galileo signals system v count (letter v e) is) e
@@ -38,7 +38,7 @@ same_some x s t e f = cc
 none_some : (s : System) → None ≡ Some s → ⊥
 none_some s e = cc
 
--- the letter at a line's front
+-- the first letter of a line
 given : (c : After-system_of) (v : SatelliteRow) → c.args.line.now ≡ satellite_line v → c.system_of.result ≡ Some v.system
 given c v e = c.system_of.ensures v.system (rw e (first_byte v).0) (ap (λ l. get_or l 0 0) e ∙ (first_byte v).1)
 

@@ -12,14 +12,14 @@ use Rattle.rinex_file.proofs.read.station.read_delta.Goals as goal
 abbrev text : ℕ → List ℕ
 text h = header_line (lengths (pos h) (pos 0) (pos 0)) (codes "ANTENNA: DELTA H/E/N")
 
--- what stands in the first columns of the line of a height is the height
+-- the first columns of the line of a height contain the height
 there : (line : List ℕ) (h : ℕ) → h < 2 ^ 16 → line ≡ text h → digits_in (take 14 (drop 0 line)) ≡ h
 there line h small e = ap (λ l. digits_in (take 14 (drop 0 l))) e ∙ height-back h (pos 0) (pos 0) (codes "ANTENNA: DELTA H/E/N") small
 
 same_some : {X : Type 0} (x y : X) → Some x ≡ Some y → x ≡ y
 same_some x y e = cc
 
--- a number that 16 bits hold, or don't
+-- a number that fits 16 bits, or doesn't
 held : {E : Type 0} (r : Result ℕ E) (n h : ℕ) → OkIff r (n < 2 ^ 16) n → Some h ≡ result_ok r → (h < 2 ^ 16) × (h ≡ n)
 held {E} (Ok x) n h is e =
     let both = OkIff-at_ok {E = E} (Ok x) (n < 2 ^ 16) n x is refl in

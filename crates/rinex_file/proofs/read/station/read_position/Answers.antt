@@ -17,7 +17,7 @@ Are p = IsCoordinate p.0 × IsCoordinate p.1 × IsCoordinate p.2
 abbrev text : ℤ → ℤ → ℤ → List ℕ
 text x y z = header_line (lengths x y z) (codes "APPROX POSITION XYZ")
 
--- what stands in the columns of the line of a position are its numbers
+-- the columns of the line of a position contain its numbers
 there : (line : List ℕ) (w : Three) → IsCoordinate w.0 × IsCoordinate w.1 × IsCoordinate w.2 → line ≡ text w.0 w.1 w.2
     → (number_at 0 line ≡ w.0) × (number_at 14 line ≡ w.1) × (number_at 28 line ≡ w.2)
 there line w is e =
@@ -39,7 +39,7 @@ pub returns-in_err-z : goal.returns-in_err-z
 returns-in_err-z c =
     rw c.from_residual-in_err-z.ensures (λ w is e. c.in_err-z.ensures.none (subst IsCoordinate (sym (there c.args.line.now w is e).2) is.2))
 
--- 64 bits hold a coordinate
+-- a coordinate fits 64 bits
 stays : (z : ℤ) → IsCoordinate z → to_z w64 (of_z w64 z) ≡ z
 stays z is = to_z-of_z w64 z (fits_signed_from_abs w64 z (half (unsigned_abs z) (coordinate-fits z is)))
   where

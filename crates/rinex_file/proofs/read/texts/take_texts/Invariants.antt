@@ -3,7 +3,7 @@ use Rattle.rinex_file.specs.Header.{start_of, count_of}
 use Rattle.rinex_file.specs.Read.HeaderSteps.{TakesTexts}
 use Rattle.rinex_file.proofs.read.texts.take_texts.Given as goal
 
--- the texts so far were taken
+-- the texts so far were read
 abbrev pub invariant-loop-i : goal.invariant-loop-i
 invariant-loop-i l = record {
   start : l.start ≡ start_of l.fn.row;

@@ -7,7 +7,7 @@ use Rattle.rinex_file.proofs.Cuts.{length-trimmed}
 use Rattle.rinex_file.proofs.HeaderText.{trimmed-trimmed}
 use Rattle.rinex_file.proofs.read.texts.text_in.Goals as goal
 
--- a text that was cut from so many columns
+-- a text that was cut from this number of columns
 is_text : (n : ℕ) (columns text : List ℕ) → length columns ≤ n → text ≡ trimmed columns → list_all is_printable text ≡ true → IsText n text
 is_text n columns text few is printable = record {
   short = let l = length-trimmed columns in omega (arith, ap length is, l, few);

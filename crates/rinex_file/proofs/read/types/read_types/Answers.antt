@@ -5,7 +5,7 @@ use Rattle.rinex_file.specs.Header.{header_line}
 use Rattle.rinex_file.proofs.TypeRows.{shown_line}
 use Rattle.rinex_file.proofs.read.types.read_types.Goals as goal
 
--- what was printed again, and whether it is the line
+-- the line that was written again, and whether it is the same
 printed : (slice put old text : List ℕ) → slice ≡ put → put ≡ old ++ text → old ≡ [] → slice ≡ text
 printed slice put old text a b e = a ∙ b ∙ ap (λ l. l ++ text) e
 

@@ -48,7 +48,7 @@ returns-clause-taken c = λ all are begun is.
     inv.read all are begun is
     ∙ whole all c.loop-place.place c.min-end.result c.signals_begun.result (signals_begun (c.args.row + 1)) c.args.count inv.to c.loop-place-test.false c.min-end.ensures c.signals_begun.ensures begun.0
 
--- a place of a line of types is below the most signals of a system
+-- the index of a signal in a line of types is below the largest number of signals of a system
 within : (place end a count most : ℕ) → place < end → end ≡ min a count → count ≤ most → most ≤ 19 → place < 19
 within place end a count most less least few bound = omega (arith, less, least, few, bound)
 

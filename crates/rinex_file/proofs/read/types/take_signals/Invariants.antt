@@ -4,7 +4,7 @@ use Rattle.rinex_file.specs.Read.Progress.{AreTypes, types_line, signals_begun}
 use Rattle.rinex_file.specs.Read.HeaderSteps.{AreBegun}
 use Rattle.rinex_file.proofs.read.types.take_signals.Given as goal
 
--- where the line is that of these signals, those so far were taken
+-- if the line is that of these signals, those so far were appended
 abbrev pub invariant-loop-place : goal.invariant-loop-place
 invariant-loop-place l = record {
   of : IsOf l.fn.system l.signals.items;

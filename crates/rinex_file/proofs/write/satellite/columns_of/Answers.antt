@@ -22,7 +22,7 @@ overflow_sub-columns c =
     let few = nine_digits c.unsigned_abs-size.result (subst (λ n. n < 10 ^ 12) (sym size) (within_signed c.args.value c.requires sign)) in
     omega (arith, few, c.write_digits-start.ensures.start)
 
--- what stands in the columns where the value isn't negative
+-- the content of the columns if the value isn't negative
 plain : (v : ℤ) (n lost strength r : ℕ) (new : List ℕ) → n ≡ unsigned_abs v → is_negative v ≡ false → r + length (decimal (n / 1000)) ≡ 10
     → new ≡ replicate r 32 ++ (decimal (n / 1000) ++ (46 ∷ padded 3 (n % 1000) ++ lost ∷ strength ∷ []))
     → new ≡ field (Some v) lost strength
@@ -34,7 +34,7 @@ plain v n lost strength r new size sign there is =
     is ∙ columns-plain (decimal (n / 1000)) (padded 3 (n % 1000)) lost strength r there (length-three (n % 1000) (omega arith))
     ∙ ap (λ t. right 14 t ++ lost ∷ strength ∷ []) (sym text)
 
--- and where it is
+-- and if it is
 signed : (v : ℤ) (n lost strength r : ℕ) (new : List ℕ) → n ≡ unsigned_abs v → is_negative v ≡ true → 1 ≤ r → r + length (decimal (n / 1000)) ≡ 10
     → new ≡ replicate r 32 ++ (decimal (n / 1000) ++ (46 ∷ padded 3 (n % 1000) ++ lost ∷ strength ∷ []))
     → set new (r - 1) 45 ≡ field (Some v) lost strength

@@ -2,7 +2,7 @@ use Rattle.std.proofs.Common.{◌≡◌, ◌≤◌, length, take}
 use Rattle.rinex_file.specs.Blanks.{trimmed}
 use Rattle.rinex_file.proofs.write.satellite.trimmed_len.Given as goal
 
--- what was taken away is cut
+-- the bytes from `end` on are trailing blanks
 abbrev pub invariant-loop-end : goal.invariant-loop-end
 invariant-loop-end l = record { within : l.end ≤ length l.text; same : trimmed (take l.end l.text) ≡ trimmed l.text }
 

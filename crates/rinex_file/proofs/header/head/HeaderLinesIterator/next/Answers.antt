@@ -10,7 +10,7 @@ returns-in-None-clause-steps c =
     let s = c.self.inside in
     let none = sym c.self.view_is ∙ c.in-None.ensures.none s.texts.now s.values (civil_of s.first) in (none, none)
 
--- the line that was given, and those that are left
+-- the line that was returned, and those that are left
 steps : (c : After-line_of) → let s = c.self.inside in
     c.args.self.now ≡ c.line_of.result.items ∷ lines_from s.texts.now s.plan.now s.values (civil_of s.first) (c.in-Some.place + 1)
 steps c =

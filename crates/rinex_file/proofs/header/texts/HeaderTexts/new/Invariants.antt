@@ -4,7 +4,7 @@ use Rattle.rinex_file.specs.TextsOf.{lists_of}
 use Rattle.rinex_file.proofs.Faultless.{AreCut}
 use Rattle.rinex_file.proofs.header.texts.HeaderTexts.new.Given as goal
 
--- no text so far has a fault, and each was taken
+-- no text so far has a fault, and each was stored
 abbrev pub invariant-loop-place : goal.invariant-loop-place
 invariant-loop-place l = record {
   faultless : first_fault (lists_of l.texts) None fields ≡ first_fault (lists_of l.texts) None (drop l.place fields);

@@ -4,7 +4,7 @@ use Rattle.rinex_file.specs.ParserState.{progress_at}
 use Rattle.rinex_file.proofs.HeaderBody.{no_header, header_taken, header_shows, header_ended, ended_shows, sound_start, sound_header}
 use Rattle.rinex_file.proofs.read.parser_state.ParserState.take_header.Goals as goal
 
--- what follows where the place of the next line is known
+-- what follows if the index of the next row is known
 follows : (old new : Known) (place : ℕ) (line : List ℕ) (next found : Option ℕ) → next ≡ found
     → ((h : Shown) (left : List (List ℕ)) → IsHeaderLeft old place h (line ∷ left) ↔ MayFollow new next h left)
     → (h : Shown) (left : List (List ℕ)) → IsHeaderLeft old place h (line ∷ left) ↔ MayFollow new found h left

@@ -12,7 +12,7 @@ use Rattle.rinex_file.proofs.read.parser_state.ParserState.take_height.Goals as 
 abbrev SameValues : StationValues → StationValues → Type 0
 SameValues v w = v ≡ w
 
--- coordinates are the same after their bits
+-- coordinates are the same after the conversion to bits and back
 same_back : (x y z : ℤ) (h : ℕ) → FitsSigned w64 x → FitsSigned w64 y → FitsSigned w64 z → SameValues (values_with (back x) (back y) (back z) h) (values_with x y z h)
 same_back x y z h a b c =
     ap (λ t. values_with t (back y) (back z) h) (to_z-of_z w64 x a) ∙ ap (λ t. values_with x t (back z) h) (to_z-of_z w64 y b) ∙ ap (λ t. values_with x y t h) (to_z-of_z w64 z c)

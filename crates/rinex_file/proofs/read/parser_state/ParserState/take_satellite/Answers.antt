@@ -23,14 +23,14 @@ read_seen-requires-clause-few c =
     let e = c.planned-galileo.ensures in
     (omega (arith, gps, g), omega (arith, galileo, e))
 
--- one of the lines is due at least
+-- at least one of the lines is expected
 one_expected : (left : ℕ) (s : Progress) → s.expected ≡ Satellite left → 0 < left → s.expected ≡ Satellite (suc (left - 1))
 one_expected left s expected some = let n : left ≡ suc (left - 1) = omega (arith, some) in expected ∙ ap Satellite n
 
 one_left : (left : ℕ) → 0 < left → left ≡ suc (left - 1)
 one_left left some = omega (arith, some)
 
--- what a line shows, where so many signals are planned
+-- the satellite of a line, if these numbers of signals are planned
 abbrev Shows : ℕ → ℕ → List ℕ → Bool → SatelliteRow → Type 0
 Shows gps galileo line b seen = ReadsExactly (IsSatelliteRow gps galileo) satellite_line line (some_if b seen)
 
@@ -58,7 +58,7 @@ returns-then-not-is_after-clause-takes c = λ h stands.
 rises : (xs : List ℕ) (n k : ℕ) → n ≡ k → IsStrictlyIncreasing (xs ++ n ∷ []) → IsStrictlyIncreasing (xs ++ k ∷ [])
 rises xs n k same rise = subst (λ (m : ℕ). IsStrictlyIncreasing (xs ++ m ∷ [])) same rise
 
--- the last number of a list with one item more
+-- the last number of a list with one more item
 ends : {X : Type 0} (f : X → ℕ) (xs : List X) (x : X) (n : ℕ) → n ≡ f x → EndsIn (map f (xs ++ x ∷ [])) (Some n)
 ends f xs x n same = (map f xs, map-append f xs (x ∷ []) ∙ ap (λ m. map f xs ++ m ∷ []) (sym same))
 
