@@ -1,4 +1,4 @@
--- The kept cells of a list that grows by one cell.
+-- The kept cells of a list after one more cell.
 use Rattle.std.proofs.Common.{[], ◌≡◌, ℕ, ◌-◌, ◌<◌, ◌≤◌, Bool, true, false, not, ◌||◌, ◌&&◌, List, ◌∷◌, ◌++◌, refl, sym, ap, ◌∙◌, arith, take, length, filter, append_assoc, append-nil, nat_lt, nat_le, length-append}
 use Rattle.std.specs.Prelude.{if◌then◌else◌, cond}
 use Rattle.std.specs.Cmp.{IsEquivalence}
@@ -22,7 +22,7 @@ firsts_after-push earlier (x ∷ xs) y =
     ap (λ l. new_key earlier x ++ l) (firsts_after-push (earlier ++ x ∷ []) xs y ∙ ap (λ l. firsts_after (earlier ++ x ∷ []) xs ++ new_key l y) (append_assoc earlier (x ∷ []) xs))
     ∙ sym (append_assoc (new_key earlier x) (firsts_after (earlier ++ x ∷ []) xs) (new_key (earlier ++ x ∷ xs) y))
 
--- one cell more is a first where no cell before has its key
+-- One more cell is the first of its key if no earlier cell has its key.
 pub firsts-push : (xs : List HeardCell) (y : HeardCell) → firsts (xs ++ y ∷ []) ≡ firsts xs ++ new_key xs y
 firsts-push xs y = firsts_after-push [] xs y
 
@@ -34,7 +34,7 @@ same_system Gps Galileo = false
 same_system Galileo Gps = false
 same_system Galileo Galileo = true
 
--- of one key
+-- A cell has its own key.
 key_refl : (x : HeardCell) → has_same_key x x ≡ true
 key_refl x = by x.satellite.system refl where
   by : (system : System) → x.satellite.system ≡ system → has_same_key x x ≡ true
@@ -60,7 +60,7 @@ key_congr x y z h = by x.satellite.system y.satellite.system refl refl where
 pub same_key_laws : IsEquivalence has_same_key
 same_key_laws = record { refl = key_refl; symm = key_symm; congr = key_congr }
 
--- of a cell's key, so of its system
+-- Cells of the same key are of the same system.
 pub key_system : (system : System) (x y : HeardCell) → has_same_key x y ≡ true → is_of_system system x ≡ is_of_system system y
 key_system system x y h = by system x.satellite.system y.satellite.system refl refl where
   by : (c a b : System) → x.satellite.system ≡ a → y.satellite.system ≡ b → is_of_system c x ≡ is_of_system c y
@@ -71,7 +71,7 @@ key_system system x y h = by system x.satellite.system y.satellite.system refl r
   by c Gps Galileo e f = absurd (grind (arith, e, f, h))
   by c Galileo Gps e f = absurd (grind (arith, e, f, h))
 
--- ---- the firsts have the keys that there are
+-- ---- the first cells have all keys
 
 pub among-push : (xs : List HeardCell) (x y : HeardCell) → is_among (xs ++ x ∷ []) y ≡ (is_among xs y || has_same_key y x)
 among-push xs x y = list_any-append (has_same_key y) xs (x ∷ []) ∙ ap (λ b. is_among xs y || b) (or_false (has_same_key y x)) where
@@ -109,9 +109,9 @@ firsts_after-among earlier (x ∷ xs) y = among_after earlier xs x y (firsts_aft
 pub firsts-among : (xs : List HeardCell) (y : HeardCell) → is_among (firsts xs) y ≡ is_among xs y
 firsts-among xs y = firsts_after-among [] xs y
 
--- ---- what is kept, cell by cell
+-- ---- the kept cells, cell by cell
 
--- the firsts of a system, kept or not
+-- The first cells of a system, kept or not.
 abbrev pub mine : System → List HeardCell → List HeardCell
 mine system xs = filter (is_of_system system) (firsts xs)
 
@@ -119,7 +119,7 @@ pub mine-among : (system : System) (xs : List HeardCell) (y : HeardCell) → is_
 mine-among system xs y of =
     any-filter_same (has_same_key y) (is_of_system system) true (λ k same. sym (key_system system y k same) ∙ of) (firsts xs) ∙ firsts-among xs y
 
--- the firsts of a system of a list with one more
+-- The first cells of a system after one more cell.
 pub mine-push : (system : System) (xs : List HeardCell) (y : HeardCell) → mine system (xs ++ y ∷ []) ≡ mine system xs ++ (if is_of_system system y && not (is_among xs y) then y ∷ [] else [])
 mine-push system xs y =
     ap (filter (is_of_system system)) (firsts-push xs y) ∙ filter-append (is_of_system system) (firsts xs) (new_key xs y)
@@ -153,7 +153,7 @@ added_to n l y among is = by (nat_lt (length l) n) refl where
       let le : n ≤ length l = grind (arith, e) in
       (full le).0 ∙ sym (full le).1
 
--- what is kept of a list with one more is what was kept, with that one added
+-- The kept cells after one more cell are those before, with that cell added.
 pub kept-add : (system : System) (xs : List HeardCell) (y : HeardCell) → kept system (xs ++ y ∷ []) ≡ add system (kept system xs) y
 kept-add system xs y = ap (take most_cells) (mine-push system xs y) ∙ by (is_of_system system y) refl where
   by : (of : Bool) → is_of_system system y ≡ of

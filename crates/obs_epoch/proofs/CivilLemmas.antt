@@ -1,4 +1,4 @@
--- Dates and times of day, as the calendar's library has them.
+-- Dates and times of day in the calendar of the library.
 use Rattle.std.proofs.Common.{true≢false, ◌≡◌, ◌<◌, ◌≤◌, ◌+◌, ◌*◌, ◌/◌, ◌%◌, ◌∙◌, ℕ, ℤ, pos, negsuc, ◌+ℤ◌, ◌-ℤ◌, ◌*ℤ◌, neg_ℤ, ◌≤ℤ◌, rules, refl, sym, subst, arith, nat_abs, to_z, of_z, to_z-of_z, FitsSigned, w8, w16, w32, w64, ap, ap₂, T, Fits, true, false, Result, Err, IsOk}
 use lib.Signed.{non_neg}
 use Rattle.std.specs.Int.{w128}
@@ -48,9 +48,9 @@ parts_of at t e = days_by (epoch_day at.date) (time_nanos at.time) t (time_below
 days_same : (a b : ℤ) (m n d e : ℕ) → b ≡ a → n ≡ m → e ≡ d → days_from_civil b n e ≡ days_from_civil a m d
 days_same a b m n d e y k l = rw (y, k, l) refl
 
--- ---- a time has its parts
+-- ---- the parts of a time
 
--- a small number, cast to a signed one and back
+-- A small number, cast to a signed number and back.
 pub back : (z : ℤ) (n : ℕ) → z ≡ pos n → n < 128 → nat_abs (to_z w8 (of_z w8 z)) ≡ n
 back z n e small = let fits : FitsSigned w8 (pos n) = omega (arith, signed_arith, small) in rw (e, to_z-of_z fits) refl
 
@@ -93,9 +93,9 @@ day_below d =
     let last = d.day_in.1 in
     omega (arith, most, last)
 
--- ---- the time of its parts
+-- ---- the time of these parts
 
--- the milliseconds of so many days and a time of day
+-- The milliseconds of a number of days and a time of day.
 pub since_of : (w since z : ℤ) (clock : ℕ) → w ≡ (z *ℤ pos day_nanos +ℤ pos (clock * 1_000_000)) -ℤ pos 3657 *ℤ pos day_nanos → since ≡ int_div w (pos 1_000_000)
     → since ≡ (z -ℤ pos 3657) *ℤ pos 86_400_000 +ℤ pos clock
 since_of w since z clock e is = omega (arith, signed_arith, e, is)
@@ -121,7 +121,7 @@ only_one c t since e is =
 
 -- ---- numbers of milliseconds
 
--- the milliseconds from the first time to one that the calendar has
+-- The milliseconds from the first time to a date and time of day of the calendar.
 pub since_range : (at : DateTime) (w since : ℤ) → w ≡ civil_nanos at -ℤ pos 3657 *ℤ pos day_nanos → since ≡ int_div w (pos 1_000_000)
     → (neg_ℤ (pos 1_000_000_000_000_000) ≤ℤ since) × (since ≤ℤ pos 1_000_000_000_000_000)
 unfolding civil_nanos
@@ -133,7 +133,7 @@ since_range at w since e is =
 pub back_wide : (z : ℤ) (n : ℕ) → z ≡ pos n → n ≤ 1_000_000_000_000_000 → to_z w128 (of_z w128 z) ≡ pos n
 back_wide z n e small = let fits : FitsSigned w128 (pos n) = omega (arith, signed_arith, small) in rw (e, to_z-of_z fits) refl
 
--- a number of milliseconds that isn't below 0
+-- A number of milliseconds that isn't negative.
 pub record IsSince (z : ℤ) (n : ℕ) : Type 0 where
   pub is : z ≡ pos n
   pub back : to_z w128 (of_z w128 z) ≡ pos n
@@ -165,14 +165,14 @@ cast_is z n e = rw e refl
 pub small_time : (n : ℕ) → n < 60_480_000_000_000 → to_z w64 n ≡ pos n
 small_time n h = grind arith
 
--- the time so many milliseconds after the first
+-- The date and time of day ms milliseconds after the first time.
 pub moment_of : (v b s : ℤ) (ms t : ℕ) → v ≡ b +ℤ s → b ≡ pos 3657 *ℤ pos day_nanos → s ≡ to_z w64 ms *ℤ pos 1_000_000 → ms < 60_480_000_000_000 → ms ≡ t
     → v ≡ pos 3657 *ℤ pos day_nanos +ℤ pos t *ℤ pos 1_000_000
 moment_of v b s ms t e first more small is = e ∙ ap₂ (λ x y. x +ℤ y) first (more ∙ ap (λ z. z *ℤ pos 1_000_000) (small_time ms small ∙ ap pos is))
 
--- ---- the parts of a date and time of day, handed to the calendar
+-- ---- the parts of a date and time of day, passed to the calendar
 
--- they are no more than the calendar takes
+-- The parts are within the bounds that are checked first.
 pub record IsSmall (c : Civil) : Type 0 where
   pub year : c.year ≤ 9999
   pub month : c.month ≤ 12
@@ -228,7 +228,7 @@ is_at c at small date time =
 dated : (y : ℤ) (m d : ℕ) → IsCivilDate y m d → IsDate y (pos m) (pos d)
 dated y m d is = (is.0, (omega (arith, signed_arith, is.1.0), omega (arith, signed_arith, is.1.1)), (omega (arith, signed_arith, is.2.0), omega (arith, signed_arith, is.2.1)))
 
--- what the calendar and the clock have, the library takes
+-- A valid date is accepted by the library.
 pub is_taken : (c : Civil) → IsSmall c → IsCivil c → IsDate (to_z w16 c.year) (to_z w8 c.month) (to_z w8 c.day)
     × IsTime (to_z w8 c.hour) (to_z w8 c.minute) (to_z w8 (c.millisecond / 1_000)) (to_z w32 (of_z w32 (to_z w32 (c.millisecond % 1_000) *ℤ pos 1_000_000)))
 is_taken c small valid =

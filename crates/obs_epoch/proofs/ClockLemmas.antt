@@ -1,4 +1,4 @@
--- A step of the clock is one more message of the list.
+-- A step of the clock adds one message to the list.
 use Rattle.std.proofs.Common.{◌≡◌, ℕ, zero, suc, ◌+◌, ◌*◌, ◌<◌, Bool, true, false, not, ◌||◌, ◌&&◌, List, [], ◌∷◌, ◌++◌, refl, sym, ap, ap₂, ◌∙◌, subst, arith, Option, Some, None, nat_lt}
 use Rattle.std.specs.Prelude.{◌==◌}
 use Rattle.std.specs.Option.{option_map_or}
@@ -10,12 +10,12 @@ use Rattle.obs_epoch.specs.Clock.{State, is_pending, closes_first, answer_of}
 use Rattle.obs_epoch.specs.Step.{answer_by, step_by, is_late_at, is_first_at, ended_where}
 use Rattle.obs_epoch.proofs.TimesLemmas.{next, greatest-push, greatest-present, greater-absent, none-absent, closed-push, closed-new}
 
--- what is known of the next message's time: it wasn't taken
+-- A message without a time doesn't change the greatest time.
 max_none : (a : Option ℕ) → max_known a None ≡ a
 max_none None = refl
 max_none (Some a) = refl
 
--- a message that isn't taken changes no time, and may close what is pending
+-- A message that isn't accepted changes no time, and may close the pending epoch.
 pub same_time : (s : GatherSetup) (xs : List Timed) (x : Timed) → x.time ≡ None
     → (greatest_time (xs ++ x ∷ []) ≡ greatest_time xs) × (is_pending s (xs ++ x ∷ []) ≡ (is_pending s xs && not (ends_epoch s x.message)))
 same_time s xs x e =
@@ -30,7 +30,7 @@ same_time s xs x e =
       by_greatest None h = refl
       by_greatest (Some t) h = ap not (closed-push s t xs x (greatest-present xs t h)) ∙ not_or _ _
 
--- a taken message of time u is of the greatest time, which isn't closed, or of a greater one
+-- An accepted message of time u is of the greatest time, whose epoch isn't closed, or of a greater time.
 pub data Follows (s : GatherSetup) (xs : List Timed) (u : ℕ) : Type 0 where
   first : greatest_time xs ≡ None → Follows s xs u
   greater : (t : ℕ) → greatest_time xs ≡ Some t → t < u → Follows s xs u
@@ -56,7 +56,7 @@ new_time s xs x u e f = (latest f, ap (λ g. option_map_or (λ t. not (is_closed
   closed (greater t h lt) = closed-new s u xs x (greater-absent xs t u h lt) here
   closed (equal h c) = closed-push s u xs x (greatest-present xs u h) ∙ ap (λ v. v || ends_epoch s x.message) c
 
--- the clock that stands for these
+-- The value of a clock after these messages.
 abbrev pub standing : GatherSetup → List Timed → Bool → State
 standing s xs shut = record { setup = s; latest = greatest_time xs; pending = is_pending s xs && not shut }
 
@@ -66,7 +66,7 @@ same_state g s latest pending a b c =
     ap (λ x. record { setup = x; latest = g.latest; pending = g.pending }) a
     ∙ ap (λ x. record { setup = s; latest = x; pending = g.pending }) b ∙ ap (λ x. record { setup = s; latest = latest; pending = x }) c
 
--- where the message isn't of the station
+-- The message isn't of the station.
 not_own : (s : GatherSetup) (xs : List Timed) (m : Heard) (shut : Bool) → is_own s m ≡ false → closes_first s xs m ≡ shut
     → (answer_by (standing s xs shut) m ≡ answer_of s xs m)
     × (step_by (standing s xs shut) m ≡ standing s (xs ++ next s xs m ∷ []) false)
@@ -87,7 +87,7 @@ and_false : (a : Bool) → false ≡ (a && false)
 and_false true = refl
 and_false false = refl
 
--- a message that ends its epoch closes what is pending
+-- A message that ends its epoch closes the pending epoch.
 ended-is : (b : Bool) (s : GatherSetup) (latest : Option ℕ) (pending : Bool)
     → ended_where b (record { setup = s; latest = latest; pending = pending }) ≡ record { setup = s; latest = latest; pending = pending && not b }
 ended-is true s latest pending = ap (λ x. record { setup = s; latest = latest; pending = x }) (and_false pending)
@@ -105,7 +105,7 @@ state s latest pending = record { setup = s; latest = latest; pending = pending 
 same_fields : (s : GatherSetup) (a b : Option ℕ) (p q : Bool) → a ≡ b → p ≡ q → state s a p ≡ state s b q
 same_fields s a b p q e f = ap₂ (state s) e f
 
--- from the state that the message's time gives to that after a message that ends its epoch
+-- From the value after the message's time to that after a message that ends its epoch.
 ended_to : (s : GatherSetup) (xs : List Timed) (m : Heard) (latest : Option ℕ) (pending : Bool) → is_own s m ≡ true
     → greatest_time (xs ++ next s xs m ∷ []) ≡ latest
     → is_pending s (xs ++ next s xs m ∷ []) ≡ (pending && not (ends_epoch s m))
@@ -114,7 +114,7 @@ ended_to s xs m latest pending own at is =
     ended-is (ends_epoch_by s m) s latest pending
     ∙ same_fields s _ _ _ _ (sym at) (ap (λ b. pending && not b) (sym (own_mark s m own)) ∙ sym is ∙ and_true _)
 
--- an own message of no time
+-- An own message without a time.
 no_time : (s : GatherSetup) (xs : List Timed) (m : Heard) (shut : Bool) → is_own s m ≡ true → m.tow ≡ None → closes_first s xs m ≡ shut
     → (answer_by (standing s xs shut) m ≡ answer_of s xs m)
     × (step_by (standing s xs shut) m ≡ standing s (xs ++ next s xs m ∷ []) false)
@@ -142,7 +142,7 @@ late_same : (s : GatherSetup) (xs : List Timed) (m : Heard) (tow : ℕ) (shut : 
     → is_late_at (standing s xs shut) tow ≡ is_late s xs tow
 late_same s xs m tow shut some closes = late_by s xs m tow shut (greatest_time xs) refl some closes
 
--- an own message that is late or past the weeks
+-- An own message that is late or after the last week.
 not_taken : (s : GatherSetup) (xs : List Timed) (m : Heard) (tow : ℕ) (shut : Bool) → is_own s m ≡ true → m.tow ≡ Some tow → closes_first s xs m ≡ shut
     → (is_late s xs tow || is_past (time_of s xs tow)) ≡ true
     → (answer_by (standing s xs shut) m ≡ answer_of s xs m)
@@ -174,7 +174,7 @@ no_first s xs m tow shut own some closes early within = by (greatest_time xs) re
   by None at = grind arith
   by (Some t) at = grind (arith, own, some, closes, early, within, at)
 
--- an own message that is taken
+-- An own message that is accepted.
 is_taken : (s : GatherSetup) (xs : List Timed) (m : Heard) (tow : ℕ) (shut : Bool) → is_own s m ≡ true → m.tow ≡ Some tow → closes_first s xs m ≡ shut
     → is_late s xs tow ≡ false → is_past (time_of s xs tow) ≡ false
     → (answer_by (standing s xs shut) m ≡ answer_of s xs m)
@@ -189,7 +189,7 @@ is_taken s xs m tow shut own some closes early within =
     grind (arith, own, some, late, early, within, none_first) in
     (grind (arith, own, some, late, early, within, none_first), step ∙ ended_to s xs m (Some u) true own new.0 new.1)
 
--- a message is one more of the list
+-- The message is one more of the list.
 pub takes : (s : GatherSetup) (xs : List Timed) (m : Heard) (shut : Bool) → closes_first s xs m ≡ shut
     → (answer_by (standing s xs shut) m ≡ answer_of s xs m)
     × (step_by (standing s xs shut) m ≡ standing s (xs ++ next s xs m ∷ []) false)
@@ -206,7 +206,7 @@ takes s xs m shut closes = by_own (is_own s m) m.tow refl refl where
   by_own true None own some = no_time s xs m shut own some closes
   by_own true (Some tow) own some = by_bad tow true _ _ own some refl refl
 
--- a message that closes first is not
+-- A message that closes first isn't.
 pub closes : (s : GatherSetup) (xs : List Timed) (m : Heard) → closes_first s xs m ≡ true
     → (answer_by (standing s xs false) m ≡ CloseFirst) × (step_by (standing s xs false) m ≡ standing s xs true)
 closes s xs m h = by_tow m.tow refl where

@@ -1,4 +1,4 @@
--- The closed epochs of a list that grows by one message.
+-- The closed epochs of a list after one more message.
 use Rattle.std.proofs.Common.{◌≡◌, ℕ, ◌<◌, ◌≤◌, ◌⊎◌, inl, inr, Bool, true, false, not, ◌||◌, ◌&&◌, List, [], ◌∷◌, ◌++◌, filter, refl, sym, ap, ap₂, ◌∙◌, subst, arith, Option, Some, None, nat_lt, append_assoc, append-nil}
 use Rattle.std.specs.Prelude.{if◌then◌else◌, cond}
 use Rattle.std.specs.Option.{option_map_or}
@@ -11,7 +11,7 @@ use Rattle.obs_epoch.specs.Epochs.{is_shut, closed_times}
 use Rattle.obs_epoch.proofs.TimesLemmas.{some_eq, greatest-push, max_known-none, greatest-present, greater-absent, none-absent, closed-push, closed-new, next, timed-push}
 use Rattle.obs_epoch.proofs.ClockLemmas.{at_self, Follows, follows, first, greater, equal}
 
--- all below g
+-- All are less than g.
 abbrev pub Below : ℕ → List ℕ → Type 0
 Below g [] = Unit {0}
 Below g (t ∷ ts) = (t < g) × Below g ts
@@ -38,7 +38,7 @@ one_passes p t e = ap (λ b. cond b (t ∷ []) []) e
 pub one_fails : (p : ℕ → Bool) (t : ℕ) → p t ≡ false → filter p (t ∷ []) ≡ []
 one_fails p t e = ap (λ b. cond b (t ∷ []) []) e
 
--- the greatest comes last
+-- The greatest time is the last one.
 pub record Ends (ts : List ℕ) (g : ℕ) : Type 0 where
   pub init : List ℕ
   pub is : ts ≡ init ++ g ∷ []
@@ -98,7 +98,7 @@ pub ends : (xs : List Timed) (g : ℕ) → greatest_time xs ≡ Some g → Ends 
 ends [] g e = absurd (grind arith)
 ends (x ∷ xs) g e = ends_step x.time (greatest_time xs) (times xs) g e (ends xs) (no_times xs)
 
--- ---- one message more
+-- ---- one more message
 
 pub times-push_none : (xs : List Timed) (x : Timed) → x.time ≡ None → times (xs ++ x ∷ []) ≡ times xs
 times-push_none [] x e = ap (λ t. front t []) e
@@ -140,7 +140,7 @@ times-push_same [] x u e h = absurd (grind arith)
 times-push_same (y ∷ ys) x u e h =
     same_step y.time (greatest_time ys) u (times ys) (times (ys ++ x ∷ [])) h (times-push_same ys x u e) (times-push_new ys x u e)
 
--- ---- which of them are closed
+-- ---- which epochs are closed
 
 or_true : (a b : Bool) → b ≡ true → (a || b) ≡ true
 or_true true b h = refl
@@ -159,7 +159,7 @@ shut_at s ys g e = or_false (is_closed s g ys) _ (ap (λ o. option_map_or (λ u.
 abbrev pub when : Bool → ℕ → List ℕ
 when b g = if b then g ∷ [] else []
 
--- the closed ones are all but the last, and the last where it is closed
+-- The closed epochs are all but the last, and the last if it is closed.
 pub closed_is : (s : GatherSetup) (ys : List Timed) (g : ℕ) (init : List ℕ) → greatest_time ys ≡ Some g → times ys ≡ init ++ g ∷ [] → Below g init
     → closed_times s ys ≡ init ++ when (is_closed s g ys) g
 closed_is s ys g init e is below =
@@ -170,7 +170,7 @@ pub Below-more : (u g : ℕ) (ts : List ℕ) → g < u → Below g ts → Below 
 Below-more u g [] lt h = (lt, tt)
 Below-more u g (t ∷ ts) lt h = (omega (arith, lt, h.0), Below-more u g ts lt h.1)
 
--- a message that isn't taken closes what is pending, where it ends its epoch
+-- A message that isn't accepted closes the pending epoch if it ends its epoch.
 pub closed-push_none : (s : GatherSetup) (xs : List Timed) (x : Timed) (g : ℕ) → x.time ≡ None → greatest_time xs ≡ Some g
     → closed_times s (xs ++ x ∷ []) ≡ closed_times s xs ++ when (not (is_closed s g xs) && ends_epoch s x.message) g
 closed-push_none s xs x g none e =
@@ -185,7 +185,7 @@ closed-push_none s xs x g none e =
       either init false true g = ap (λ l. l ++ g ∷ []) (sym (append-nil init))
       either init false false g = sym (append-nil _)
 
--- a taken message of a greater time closes what is pending, and its own epoch where it ends that
+-- An accepted message of a greater time closes the pending epoch, and its own epoch if it ends that.
 pub closed-push_greater : (s : GatherSetup) (xs : List Timed) (x : Timed) (g u : ℕ) → x.time ≡ Some u → greatest_time xs ≡ Some g → g < u
     → closed_times s (xs ++ x ∷ []) ≡ (closed_times s xs ++ when (not (is_closed s g xs)) g) ++ when (ends_epoch s x.message) u
 closed-push_greater s xs x g u some e lt =
@@ -199,7 +199,7 @@ closed-push_greater s xs x g u some e lt =
       all_of init true g = sym (append-nil _)
       all_of init false g = ap (λ l. l ++ g ∷ []) (sym (append-nil init))
 
--- a taken message of the greatest time closes its epoch, where it ends its epoch
+-- An accepted message of the greatest time closes its epoch if it ends its epoch.
 pub closed-push_same : (s : GatherSetup) (xs : List Timed) (x : Timed) (g : ℕ) → x.time ≡ Some g → greatest_time xs ≡ Some g → is_closed s g xs ≡ false
     → closed_times s (xs ++ x ∷ []) ≡ closed_times s xs ++ when (ends_epoch s x.message) g
 closed-push_same s xs x g some e not_closed =
@@ -209,7 +209,7 @@ closed-push_same s xs x g some e not_closed =
     ∙ ap (λ b. last.init ++ when b g) (closed-push s g xs x (greatest-present xs g e) ∙ ap (λ c. c || ends_epoch s x.message) not_closed)
     ∙ ap (λ l. l ++ when (ends_epoch s x.message) g) (sym (append-nil last.init) ∙ ap (λ c. last.init ++ when c g) (sym not_closed) ∙ sym (closed_is s xs g last.init e last.is last.below))
 
--- the first taken message
+-- The first accepted message.
 pub closed-push_first : (s : GatherSetup) (xs : List Timed) (x : Timed) (u : ℕ) → x.time ≡ Some u → greatest_time xs ≡ None
     → closed_times s (xs ++ x ∷ []) ≡ closed_times s xs ++ when (ends_epoch s x.message) u
 closed-push_first s xs x u some e =
@@ -224,7 +224,7 @@ no_greatest s xs x none e =
     ap (filter (is_shut s (xs ++ x ∷ []))) (times-push_none xs x none ∙ no_times xs e)
     ∙ ap (λ l. filter (is_shut s xs) l) (sym (no_times xs e)) ∙ sym (append-nil _)
 
--- whatever comes, what is closed stays, and more may follow
+-- After any message the closed epochs are the same, and more may follow.
 pub grows : (s : GatherSetup) (xs : List Timed) (x : Timed) → ((u : ℕ) → x.time ≡ Some u → Follows s xs u)
     → (more : List ℕ) × (closed_times s (xs ++ x ∷ []) ≡ closed_times s xs ++ more)
 grows s xs x follow = by_time x.time (greatest_time xs) refl refl where
@@ -241,7 +241,7 @@ grows s xs x follow = by_time x.time (greatest_time xs) refl refl where
   by_time None (Some g) none e = (when (not (is_closed s g xs) && ends_epoch s x.message) g, closed-push_none s xs x g none e)
   by_time (Some u) g some e = by_follows u some (follow u some)
 
--- a taken message isn't late
+-- An accepted message isn't late.
 pub taken_follows : (s : GatherSetup) (xs : List Timed) (m : Heard) (u : ℕ) → taken_at s xs m ≡ Some u → Follows s xs u
 taken_follows s xs m u e = by_tow m.tow refl where
   by_late : (tow : ℕ) (late : Bool) → m.tow ≡ Some tow → is_late s xs tow ≡ late → Follows s xs u

@@ -1,4 +1,4 @@
--- What a step closes is what the list has closed since.
+-- The epoch that a step closes is the one that the longer list closes.
 use Rattle.std.proofs.Common.{◌≡◌, ℕ, ◌<◌, Bool, true, false, not, ◌&&◌, List, [], ◌∷◌, ◌++◌, refl, sym, ap, ap₂, ◌∙◌, arith, Option, Some, None, nat_lt, append-nil}
 use Rattle.std.specs.Prelude.{if◌then◌else◌, option_to_list}
 use Rattle.std.specs.Option.{option_map_or}
@@ -23,7 +23,7 @@ neither : (m : Bool) (g : Option ℕ) → [] ≡ option_to_list (if m && false t
 neither true g = refl
 neither false g = refl
 
--- a message that isn't taken: what a message that ends its epoch closes
+-- A message that isn't accepted closes the pending epoch exactly if it ends its epoch.
 pub untaken : (s : GatherSetup) (xs : List Timed) (x : Timed) → x.time ≡ None
     → closed_times s (xs ++ x ∷ []) ≡ closed_times s xs ++ option_to_list (if ends_epoch s x.message && is_pending s xs then greatest_time xs else None)
 untaken s xs x none = by (greatest_time xs) refl where
@@ -32,7 +32,7 @@ untaken s xs x none = by (greatest_time xs) refl where
   by None e = no_greatest s xs x none e ∙ ap (λ l. closed_times s xs ++ l) (neither (ends_epoch s x.message) None)
   by (Some g) e = closed-push_none s xs x g none e ∙ ap (λ l. closed_times s xs ++ l) (either (ends_epoch s x.message) (is_closed s g xs) g)
 
--- the same for the kinds of such a message
+-- The same for the outcomes of such a message.
 untaken_kind : (k : Answer) (own m p : Bool) (before after : Option ℕ) → own ≡ true → (k ≡ CloseFirst → ⊥) → (k ≡ OtherStation → ⊥) → (k ≡ Kept → ⊥)
     → closed_of k m p before after ≡ (if m && p then after else None)
 untaken_kind Ignored own m p before after e a b c = refl
@@ -45,7 +45,7 @@ untaken_kind Kept own m p before after e a b c = absurd (c refl)
 plain : (s : GatherSetup) (ys : List Timed) → closed_so_far s ys false ≡ closed_times s ys
 plain s ys = append-nil (closed_times s ys)
 
--- what is known of a taken message
+-- Properties of an accepted message.
 pub record Parts (s : GatherSetup) (xs : List Timed) (m : Heard) (u : ℕ) : Type 0 where
   pub tow : ℕ
   pub some : m.tow ≡ Some tow
@@ -64,7 +64,7 @@ parts s xs m u e = by_tow m.tow refl where
   by_tow None none = absurd (grind (arith, e, none))
   by_tow (Some tow) some = by_late tow _ _ some refl refl
 
--- where a message is taken, an epoch is closed first exactly where one is pending and its time is less
+-- If a message is accepted, an epoch is closed first exactly if one is pending and its time is less.
 first_is : (s : GatherSetup) (xs : List Timed) (m : Heard) (u t : ℕ) → is_own s m ≡ true → taken_at s xs m ≡ Some u → greatest_time xs ≡ Some t
     → closes_first s xs m ≡ (not (is_closed s t xs) && nat_lt t u)
 first_is s xs m u t own some e =
@@ -81,7 +81,7 @@ not_less c shut u h = grind (arith, h)
 less : (t u : ℕ) → t < u → nat_lt t u ≡ true
 less t u h = grind arith
 
--- a taken message: what it closes of the epoch before, and of its own
+-- An accepted message: whether it closes the epoch before, and its own.
 pub taken_by : (s : GatherSetup) (xs : List Timed) (m : Heard) (u : ℕ) → is_own s m ≡ true → taken_at s xs m ≡ Some u → Follows s xs u
     → (shut : Bool) → closes_first s xs m ≡ shut
     → closed_times s (xs ++ next s xs m ∷ []) ≡ closed_so_far s xs shut ++ when (ends_epoch s m) u
@@ -96,7 +96,7 @@ taken_by s xs m u own some (greater t e lt) shut h =
     shut_text (is_closed s t xs) shut (nat_lt t u) t (greatest_time xs) e (less t u lt) (sym (first_is s xs m u t own some e) ∙ h) in
     closed-push_greater s xs (next s xs m) t u some e lt ∙ ap (λ l. (closed_times s xs ++ l) ++ when (ends_epoch s m) u) same
 
--- what a step closes, in the words of the list
+-- The epoch that a step closes, defined by the list.
 abbrev closed_in : GatherSetup → List Timed → Heard → Bool → Option ℕ
 closed_in s xs m shut = closed_of (answer_of s xs m) (ends_epoch_by s m) (is_pending s xs && not shut) (greatest_time xs) (greatest_time (xs ++ next s xs m ∷ []))
 
@@ -105,7 +105,7 @@ closed_in_is s xs m shut h =
     let step = takes s xs m shut h in
     ap₂ (λ k (g : State). closed_of k (ends_epoch_by s m) (is_pending s xs && not shut) (greatest_time xs) g.latest) step.0 step.1
 
--- a message that isn't taken
+-- A message that isn't accepted.
 closing_none : (s : GatherSetup) (xs : List Timed) (m : Heard) (shut : Bool) → taken_at s xs m ≡ None → closes_first s xs m ≡ shut
     → closed_so_far s (xs ++ next s xs m ∷ []) false ≡ closed_so_far s xs shut ++ option_to_list (closed_in s xs m shut)
 closing_none s xs m shut none h =

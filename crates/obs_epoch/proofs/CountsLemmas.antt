@@ -1,4 +1,4 @@
--- Counting cell by cell gives the counts of the whole.
+-- Counting cell by cell gives the counts of the whole message.
 use Rattle.std.proofs.Common.{◌≡◌, ℕ, ◌+◌, ◌≤◌, Bool, true, false, not, ◌||◌, ◌&&◌, List, [], ◌∷◌, ◌++◌, filter, refl, sym, ap, ap₂, ◌∙◌, subst, arith, length, append_assoc, append-nil, length-append, nat_le}
 use Rattle.std.specs.Prelude.{if◌then◌else◌, cond, count_by}
 use Rattle.std.proofs.lemmas.List.Sums.{sum_by-cons}
@@ -22,7 +22,7 @@ or_false : (a : Bool) → (a || false) ≡ a
 or_false true = refl
 or_false false = refl
 
--- a key is among the kept cells of both where it is among those of its system
+-- A key is among the kept cells of both systems exactly if it is among those of its system.
 both-among : (xs : List HeardCell) (p : HeardCell) → is_among (kept_of_both xs) p ≡ is_among (kept p.satellite.system xs) p
 both-among xs p = list_any-append (has_same_key p) (kept Gps xs) (kept Galileo xs) ∙ by p.satellite.system refl where
   by : (system : System) → p.satellite.system ≡ system → (is_among (kept Gps xs) p || is_among (kept Galileo xs) p) ≡ is_among (kept p.satellite.system xs) p
@@ -35,7 +35,7 @@ own : (system : System) (x : HeardCell) → x.satellite.system ≡ system → is
 own Gps x e = grind (arith, e)
 own Galileo x e = grind (arith, e)
 
--- where there is room, all firsts are kept
+-- If there is room, all first cells are kept.
 all_kept : (system : System) (xs : List HeardCell) → nat_le most_cells (length (kept system xs)) ≡ false → kept system xs ≡ mine system xs
 all_kept system xs h = take_all most_cells (mine system xs) (by (nat_le most_cells (length (mine system xs))) refl) where
   by : (b : Bool) → nat_le most_cells (length (mine system xs)) ≡ b → length (mine system xs) ≤ most_cells
@@ -45,7 +45,7 @@ all_kept system xs h = take_all most_cells (mine system xs) (by (nat_le most_cel
       absurd (grind (arith, h, count))
   by false e = grind (arith, e)
 
--- what was offered before is kept or not, whatever comes
+-- For every next cell, an earlier cell is kept as before.
 known-push : (system : System) (xs : List HeardCell) (y p : HeardCell) → is_of_system system p ≡ true → is_among xs p ≡ true → is_among (kept system (xs ++ y ∷ [])) p ≡ is_among (kept system xs) p
 known-push system xs y p o there = ap (λ l. is_among l p) (kept-add system xs y) ∙ by (is_of_system system y) (is_among (kept system xs) y) (nat_le most_cells (length (kept system xs))) refl refl where
   same_case : (b : Bool) → has_same_key p y ≡ b → is_among (kept system xs) y ≡ false → nat_le most_cells (length (kept system xs)) ≡ false → (is_among (kept system xs) p || b) ≡ is_among (kept system xs) p
@@ -92,7 +92,7 @@ sum_first a b c d k g h = omega (arith, g, h)
 sum_second : (a b c d k : ℕ) → c ≡ d + k → a ≡ b + 0 → a + c ≡ (b + d) + k
 sum_second a b c d k g h = omega (arith, g, h)
 
--- how many are kept after one cell more
+-- The number of kept cells after one more cell.
 both-length : (xs : List HeardCell) (y : HeardCell) (a n : Bool) → is_among (kept y.satellite.system xs) y ≡ a → nat_le most_cells (length (kept y.satellite.system xs)) ≡ n
     → length (kept_of_both (xs ++ y ∷ [])) ≡ length (kept_of_both xs) + (if not (a || n) then 1 else 0)
 both-length xs y a n e f =
@@ -116,7 +116,7 @@ self_system y = by y.satellite.system refl where
   by Gps e = grind (arith, e)
   by Galileo e = grind (arith, e)
 
--- whether the cell that comes is of a kept key then
+-- Whether the key of the new cell is kept then.
 now-among : (xs ys : List HeardCell) (y : HeardCell) (a n : Bool) → is_among (kept y.satellite.system xs) y ≡ a → nat_le most_cells (length (kept y.satellite.system xs)) ≡ n
     → is_among (kept_of_both ((xs ++ y ∷ []) ++ ys)) y ≡ (a || not n)
 now-among xs ys y a n e f =
@@ -135,14 +135,14 @@ now-among xs ys y a n e f =
 
 -- ---- the sums
 
--- N is n with so many more; there were b kept, and are a
+-- N is n plus these counts; before there were b kept cells, and after there are a.
 record Sums (N n : CellCounts) (b a skipped known crowded : ℕ) : Type 0 where
   pub kept : N.kept + b ≡ n.kept + a
   pub skips : N.skipped ≡ n.skipped + skipped
   pub knows : N.repeated + N.kept ≡ (n.repeated + n.kept) + known
   pub crowds : N.crowded ≡ n.crowded + crowded
 
--- numbers that grow by d, of which h has already counted the rest
+-- Numbers that grow by d, of which the rest is counted already.
 more_by : (n m d u N : ℕ) → m ≡ n + d → N ≡ m + u → N ≡ n + (d + u)
 more_by n m d u N g h = omega (arith, g, h)
 
@@ -167,7 +167,7 @@ sum_by_one N n m b b' e k s r c skipped known crowded h g one two three four = r
   crowds = more_by n.crowded m.crowded c crowded N.crowded four h.crowds;
 }
 
--- one cell more in front
+-- One more cell at the beginning.
 one_sum : (N n : CellCounts) (p a f : Bool) (b b' e skipped known crowded : ℕ)
     → Sums N (count_in (if p then (if a then Repeated else (if f then Crowded else Kept)) else Skipped) n) b' e skipped known crowded
     → b' ≡ b + (if p then (if not (a || f) then 1 else 0) else 0)

@@ -1,4 +1,4 @@
--- The days from 1980-01-06 on.
+-- The days since 1980-01-06.
 use Rattle.std.proofs.Common.{◌≡◌, inl, inr, refl, arith, rules, ℤ, pos, negsuc, ◌≤ℤ◌}
 use Rattle.std.proofs.Common.{FitsSigned, Fits, w16, to_z, of_z, to_z-of_z, nat_abs, T}
 use lib.Signed.{non_neg}
@@ -25,7 +25,7 @@ first_date = search rules
 abbrev first : Date
 first = record { year = pos 1980; month = 1; day = 6; year_in = first_year; month_in = first_month; day_in = first_date }
 
--- from that day on the year is 1980 or later
+-- From that day on, the year is 1980 or later.
 pub year_from : (d : Date) → pos 3657 ≤ℤ epoch_day d → pos 1980 ≤ℤ d.year
 year_from d h =
     elim (cases_date d first) [
@@ -35,7 +35,7 @@ year_from d h =
       | inr (inr same) ↦ omega (arith, signed_arith)
     ]
 
--- the year of such a date, cast to a signed number and back
+-- The year of such a date, cast to a signed number and back.
 pub plain_year : (z : ℤ) → pos 1980 ≤ℤ z → z ≤ℤ pos 9999 → pos (nat_abs (to_z w16 (of_z w16 z))) ≡ z
 plain_year (pos n) low high = let fits : FitsSigned w16 (pos n) = omega (arith, signed_arith, high) in rw (to_z-of_z fits) refl
 plain_year (negsuc n) low high = absurd (omega (arith, signed_arith, low))

@@ -1,4 +1,4 @@
--- The cells of a message come one by one: those that are listed, and how many others there are.
+-- The cells of a message, one by one: those that are listed, and the number of others.
 use Rattle.rtcm_msg.specs.declared.entry.LockField.{LockField}
 use Rattle.std.proofs.Common.{◌≡◌, ℕ, ◌+◌, List, [], ◌∷◌, refl, ap, ◌∙◌, arith, Option, Some, None, is_some}
 use Rattle.std.specs.Prelude.{filter_map, cond}

@@ -1,4 +1,4 @@
--- A closed epoch stays as it is, whatever message comes.
+-- A closed epoch is the same after every message.
 use Rattle.std.proofs.Common.{◌≡◌, ℕ, ◌<◌, Bool, true, false, List, [], ◌∷◌, ◌++◌, map, filter, refl, sym, ap, ap₂, ◌∙◌, subst, arith, Option, Some, None, nat_lt, append-nil}
 use Rattle.std.specs.Prelude.{◌==◌, cond, flat_map, filter_map, find, option_and_then}
 use Rattle.std.specs.Option.{option_map_or}
@@ -18,7 +18,7 @@ use Rattle.obs_epoch.specs.Epochs.{is_shut}
 use Rattle.obs_epoch.proofs.ClockLemmas.{Follows, first, greater, equal}
 use Rattle.obs_epoch.proofs.ClosedLemmas.{Below, IsLess, when, one_fails, less_false, times-push_new, times-push_same, times-push_none, no_times, ends, closed_is}
 
--- the message isn't taken, or has a later time
+-- The message isn't accepted, or has a later time.
 abbrev pub IsLater : ℕ → Option ℕ → Type 0
 IsLater t None = Unit {0}
 IsLater t (Some u) = t < u
@@ -72,7 +72,7 @@ with_lli-push s xs x t [] h same = refl
 with_lli-push s xs x t (c ∷ cs) h same =
     ap₂ (λ m l. (kept_cell c m) ∷ l) (lli_of-push s xs x t c h same) (with_lli-push s xs x t cs h same)
 
--- the epoch of time t stays as it is
+-- The epoch of time t doesn't change.
 pub epoch_at-push : (s : GatherSetup) (xs : List Timed) (x : Timed) (t : ℕ) → IsLater t x.time
     → filter (λ u. nat_lt u t) (times (xs ++ x ∷ [])) ≡ filter (λ u. nat_lt u t) (times xs) → epoch_at s (xs ++ x ∷ []) t ≡ epoch_at s xs t
 epoch_at-push s xs x t h same =

@@ -10,7 +10,7 @@ use Rattle.obs_epoch.specs.declared.fault.PlanFault.{PlanFault}
 use Rattle.obs_epoch.specs.declared.fault.PlanFault.TheVariants.{UnknownCode, RepeatedCode, NothingPlanned, BadWeek, BadStation, Memory}
 use Rattle.obs_epoch.specs.Signals.{indices, IsOf, IsUnfitAfter, IsUnfit}
 
--- a place within signals parts them
+-- An index splits a list of signals.
 pub parted : (ss : List SignalAt) (k : ℕ) (s : SignalAt) → k < length ss → s ≡ get_or ss k s → ss ≡ take k ss ++ s ∷ drop (k + 1) ss
 parted [] k s less is = absurd (omega (arith, less))
 parted (x ∷ ss) zero s less is = ap (λ y. y ∷ ss) (sym is)
@@ -18,11 +18,11 @@ parted (x ∷ ss) (suc k) s less is =
     let e : suc k + 1 ≡ suc (k + 1) = omega arith in
     ap (λ l. x ∷ l) (parted ss k s (omega (arith, less)) is) ∙ ap (λ n. x ∷ take k ss ++ s ∷ drop n (x ∷ ss)) (sym e)
 
--- the first signals, and the next
+-- The signals before an index, and the one at it.
 pub next_of : (ss : List SignalAt) (k : ℕ) (s : SignalAt) → k < length ss → s ≡ get_or ss k s → take (k + 1) ss ≡ take k ss ++ s ∷ []
 next_of ss k s less is = take_more ss k s less ∙ ap (λ x. take k ss ++ x ∷ []) (sym is)
 
--- the first signal that doesn't fit
+-- The first signal that doesn't fit.
 pub unfit_at : (system : System) (ss before : List SignalAt) (k : ℕ) (s : SignalAt) (fault : PlanFault) → k < length ss → s ≡ get_or ss k s → before ≡ take k ss
     → IsOf system (take k ss) → (fault ≡ Memory) ⊎ IsUnfitAfter system before s fault → (fault ≡ Memory) ⊎ IsUnfit system ss fault
 unfit_at system ss before k s fault less is taken fits (inl e) = inl e
@@ -71,11 +71,11 @@ by_fault system before rest s BadWeek u is = u
 by_fault system before rest s BadStation u is = u
 by_fault system before rest s Memory u is = u
 
--- what doesn't fit is none of a system's
+-- A list with a signal that doesn't fit is no list of the system's signals.
 pub unfit_not_of : (system : System) (ss : List SignalAt) (fault : PlanFault) → IsUnfit system ss fault → IsOf system ss → ⊥
 unfit_not_of system ss fault u is = by_fault system u.before u.rest u.signal fault u.unfit (subst (IsOf system) u.split is)
 
--- where signals are those of a system, nothing but lack of memory is answered
+-- If signals are those of a system, the only fault is `Memory`.
 pub memory_alone : (system : System) (ss : List SignalAt) (fault : PlanFault) → (fault ≡ Memory) ⊎ IsUnfit system ss fault → IsOf system ss → fault ≡ Memory
 memory_alone system ss fault (inl e) is = e
 memory_alone system ss fault (inr u) is = absurd (unfit_not_of system ss fault u is)

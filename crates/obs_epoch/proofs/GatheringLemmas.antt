@@ -1,4 +1,4 @@
--- The epochs of a list that grows by one message, with their station values.
+-- The epochs of a list after one more message, with their station values.
 use Rattle.std.proofs.Common.{◌≡◌, ℕ, Bool, true, false, not, ◌||◌, List, [], ◌∷◌, ◌++◌, filter, refl, sym, ap, ap₂, ◌∙◌, subst, arith, Option, Some, None, nat_lt, append_assoc, append-nil}
 use Rattle.std.specs.Prelude.{if◌then◌else◌, cond, option_to_list}
 use Rattle.std.specs.Option.{option_map_or}
@@ -16,7 +16,7 @@ use Rattle.obs_epoch.proofs.ClosedLemmas.{ends, no_times, closed_is, when, taken
 use Rattle.obs_epoch.proofs.EpochLemmas.{AllLater, IsLater, epoch_at-push, times_before, all_later}
 use Rattle.obs_epoch.specs.Values.{EpochValue}
 
--- ---- what is closed stays closed
+-- ---- a closed epoch stays closed
 
 any-more : (s : GatherSetup) (ys : List Timed) (x : Timed) → list_any (λ (y : Timed). ends_epoch s y.message) ys ≡ true → list_any (λ (y : Timed). ends_epoch s y.message) (ys ++ x ∷ []) ≡ true
 any-more s [] x h = absurd (grind (arith, h))
@@ -76,7 +76,7 @@ still_open s t ms more h = by (is_shut s (timed s ms) t) refl where
   by true e = absurd (not_both _ (shut-append s t ms more e) h)
   by false e = refl
 
--- where it isn't closed: all of them
+-- If the epoch isn't closed: all messages.
 open_all : (s : GatherSetup) (t : ℕ) (earlier ms : List Heard) → is_shut s (timed s (earlier ++ ms)) t ≡ false → open_after s t earlier ms ≡ earlier ++ ms
 open_all s t earlier [] h = sym (append-nil earlier)
 open_all s t earlier (m ∷ ms) h =
@@ -85,7 +85,7 @@ open_all s t earlier (m ∷ ms) h =
     ap (λ b. if b then earlier else open_after s t (earlier ++ m ∷ []) ms) (still_open s t (earlier ++ m ∷ []) ms h2)
     ∙ open_all s t (earlier ++ m ∷ []) ms h2 ∙ same
 
--- where the last message closes it: all but that
+-- If the last message closes the epoch: all messages but that.
 open_last : (s : GatherSetup) (t : ℕ) (earlier ms : List Heard) (m : Heard) → is_shut s (timed s (earlier ++ ms)) t ≡ false → is_shut s (timed s ((earlier ++ ms) ++ m ∷ [])) t ≡ true
     → open_after s t earlier (ms ++ m ∷ []) ≡ earlier ++ ms
 open_last s t earlier [] m h k =
@@ -98,7 +98,7 @@ open_last s t earlier (n ∷ ms) m h k =
     ap (λ b. if b then earlier else open_after s t (earlier ++ n ∷ []) (ms ++ m ∷ [])) (still_open s t (earlier ++ n ∷ []) ms h2)
     ∙ open_last s t (earlier ++ n ∷ []) ms m h2 k2 ∙ same
 
--- where it was closed before: as they were
+-- If the epoch was closed before: the same messages as before.
 open_same : (s : GatherSetup) (t : ℕ) (earlier ms : List Heard) (m : Heard) → is_shut s (timed s earlier) t ≡ false → is_shut s (timed s (earlier ++ ms)) t ≡ true
     → open_after s t earlier (ms ++ m ∷ []) ≡ open_after s t earlier ms
 open_same s t earlier [] m h k = absurd (not_both _ (ap (λ l. is_shut s (timed s l) t) (sym (append-nil earlier)) ∙ k) h)
@@ -181,13 +181,13 @@ epochs-more s ms [] = subst (λ l. IsPrefix (closed_epochs s ms) (closed_epochs 
 epochs-more s ms (m ∷ more) =
     prefix_trans _ _ _ (epochs-push s ms m) (subst (λ l. IsPrefix (closed_epochs s (ms ++ m ∷ [])) (closed_epochs s l)) (append_assoc ms (m ∷ []) more) (epochs-more s (ms ++ m ∷ []) more))
 
--- ---- with the pending one they are all
+-- ---- with the pending epoch, these are all epochs
 
 when_not : (c : Bool) (g : ℕ) (init : List ℕ) → (init ++ when c g) ++ when (not c) g ≡ init ++ g ∷ []
 when_not true g init = append-nil (init ++ g ∷ [])
 when_not false g init = ap (λ l. l ++ g ∷ []) (append-nil init)
 
--- the pending epoch's time
+-- The time of the pending epoch.
 abbrev pub pending_in : GatherSetup → List Timed → List ℕ
 pending_in s xs = if is_pending s xs then option_to_list (greatest_time xs) else []
 

@@ -1,4 +1,4 @@
--- The cells of one satellite, among cells that stand by satellite.
+-- The cells of one satellite, in a list in the order of satellites.
 use Rattle.std.proofs.Common.{◌≡◌, ℕ, zero, suc, ◌+◌, ◌-◌, ◌<◌, ◌≤◌, ◌==◌, Bool, true, false, ◌||◌, ◌&&◌, List, [], ◌∷◌, map, filter, take, drop, refl, sym, ap, ap₂, ◌∙◌, subst, arith, length, nat_lt, All}
 use Rattle.std.specs.Prelude.{if◌then◌else◌, cond}
 use Rattle.std.specs.List.{AllByRecursion}
@@ -9,9 +9,9 @@ use Rattle.obs_epoch.specs.declared.cell.Cell.{Cell}
 use Rattle.obs_epoch.specs.Values.{IsHeld, AreHeld, has_value, is_written, written_among, is_of_satellite, run}
 use Rattle.obs_epoch.specs.Order.{is_before, SeatsRise, cell_seat, AreSorted}
 
--- ---- cells that stand by satellite
+-- ---- cells in the order of satellites
 
--- no cell stands before one of a lower number
+-- No cell is before one of a lower number.
 abbrev pub Climb : List Cell → Type 0
 Climb [] = Unit {0}
 Climb (c ∷ cells) = AllByRecursion (λ (d : Cell). c.satellite.id ≤ d.satellite.id) cells × Climb cells
@@ -35,7 +35,7 @@ climb-drop zero cells h = h
 climb-drop (suc n) [] h = tt
 climb-drop (suc n) (c ∷ cells) h = climb-drop n cells h.1
 
--- ---- the first group of them
+-- ---- the first group of cells
 
 abbrev pub Above : ℕ → List Cell → Type 0
 Above n cells = AllByRecursion (λ (c : Cell). n < c.satellite.id) cells
@@ -82,12 +82,12 @@ parted_by n id c cells false e lt is up h = record {
   all : Above id (c ∷ cells)
   all = (over, all_above id c.satellite.id cells over up)
 
--- the cells of a satellite stand in front where none of a lower number does
+-- The cells of a satellite come first if no cell of a lower number does.
 pub parted : (n id : ℕ) (cells : List Cell) → id ≡ suc n → Climb cells → Above n cells → Parted id cells
 parted n id [] is up h = record { group = refl; above = tt; rest = λ later l. refl }
 parted n id (c ∷ cells) is up h = parted_by n id c cells (is_of_satellite id c) refl h.0 is up.0 (parted n id cells is up.1 h.1)
 
--- whether it is written follows from its own cells
+-- Whether a satellite is written depends on its own cells only.
 pub any_from : (id : ℕ) (cells : List Cell) → is_written (filter (is_of_satellite id) cells) id ≡ is_written cells id
 any_from id [] = refl
 any_from id (c ∷ cells) = by (c.satellite.id == id) refl (any_from id cells) where
@@ -96,14 +96,14 @@ any_from id (c ∷ cells) = by (c.satellite.id == id) refl (any_from id cells) w
   by true e h = ap₂ (λ v w. (v && has_value c) || w) e h
   by false e h = h
 
--- ---- some of the cells that are held
+-- ---- some of the kept cells
 
--- ---- as the code has them
+-- ---- the terms of the code
 
 drop_plus : (a b : ℕ) (cells : List Cell) → drop b (drop a cells) ≡ drop (a + b) cells
 drop_plus a b cells = drop-drop b a cells
 
--- what is left of the cells of later satellites is all that there is of them
+-- The cells of later satellites that are left are all cells of these satellites.
 pub record Left (n from : ℕ) (cells : List Cell) : Type 0 where
   pub within : from ≤ length cells
   pub above : Above n (drop from cells)
@@ -119,7 +119,7 @@ left_all system cells h = record {
   listed [] h = tt
   listed (c ∷ cells) h = (let one = All-head (IsHeld system) c cells h in omega (arith, one.number.0), listed cells (All-tail (IsHeld system) c cells h))
 
--- one satellite further
+-- One more satellite.
 pub record Further (n from to id : ℕ) (cells : List Cell) : Type 0 where
   pub group : filter (is_of_satellite id) cells ≡ take (to - from) (drop from cells)
   pub left : Left id to cells
@@ -139,7 +139,7 @@ further n from to id cells is at within climb h =
       };
     }
 
--- one satellite more is counted where it is written
+-- One more satellite is counted if it is written.
 pub count_more : (cells : List Cell) (n m count new : ℕ) (b : Bool) → m ≡ suc n → is_written cells m ≡ b → count ≡ written_among cells n → new ≡ count + (if b then 1 else 0)
     → new ≡ written_among cells m
 unfolding written_among

@@ -1,4 +1,4 @@
--- A call of the gatherer returns what the longer list has closed since.
+-- A call of the gatherer returns the epoch that the longer list closes.
 use Rattle.std.proofs.Common.{◌≡◌, ℕ, ◌<◌, Bool, true, false, ◌||◌, ◌&&◌, List, [], ◌∷◌, ◌++◌, refl, sym, ap, ap₂, ◌∙◌, subst, arith, Option, Some, None, is_some, nat_lt, append-nil}
 use Rattle.std.specs.Prelude.{if◌then◌else◌, option_to_list}
 use Rattle.std.specs.Option.{option_map_or}
@@ -49,7 +49,7 @@ open_follows s xs u (equal e c) = open_by s xs u c (ap (λ o. option_map_or (λ 
 some_is : (a b : ℕ) → Some a ≡ Some b → a ≡ b
 some_is a b e = grind (arith, e)
 
--- what a step closes wasn't closed before
+-- An epoch that a step closes wasn't closed before.
 new_open : (g : Gathered) (s : GatherSetup) (ms : List Heard) (m : Heard) (shut : Bool) → HasTakenMessages g s ms shut → closes_first s (timed s ms) m ≡ shut
     → (t : ℕ) → closes g.clock m ≡ Some t → is_shut s (timed s ms) t ≡ false
 new_open g s ms m shut h early t e = by (taken_at s xs m) refl where
@@ -70,7 +70,7 @@ new_open g s ms m shut h early t e = by (taken_at s xs m) refl where
 
 -- ---- the list that was returned
 
--- what was closed before stays
+-- The epochs that were closed before are the same.
 pub keeps : (s : GatherSetup) (ms : List Heard) (m : Heard) (shut : Bool) (o : Option ℕ) → closes_first s (timed s ms) m ≡ shut
     → closed_so_far s (timed s (ms ++ m ∷ [])) false ≡ closed_so_far s (timed s ms) shut ++ option_to_list o
     → closed_list_at s (ms ++ m ∷ []) (closed_so_far s (timed s (ms ++ m ∷ [])) false) ≡ closed_list_at s ms (closed_so_far s (timed s ms) shut) ++ closed_list_at s (ms ++ m ∷ []) (option_to_list o)
@@ -88,7 +88,7 @@ shut_new s ys before t grown =
     let all : closed_times s ys ≡ before ++ t ∷ [] = sym (append-nil (closed_times s ys)) ∙ grown in
     (each_back (is_shut s ys) before (t ∷ []) (subst (Each (is_shut s ys)) all (each_filter (is_shut s ys) (times ys)))).0
 
--- the epoch that a step closes, as it is returned
+-- The epoch that a step closes, as it is returned.
 new_closed : (g : Gathered) (s : GatherSetup) (ms : List Heard) (m : Heard) (shut : Bool) → HasTakenMessages g s ms shut → closes_first s (timed s ms) m ≡ shut → IsSet m
     → (o : Option ℕ) → closes g.clock m ≡ o → (take_step g m).state.handed ≡ is_some o
     → handed_over (take_step g m).state ≡ closed_list_at s (ms ++ m ∷ []) (option_to_list o)
@@ -107,7 +107,7 @@ new_closed g s ms m shut h early given (Some t) e has =
     ap (λ b. closed_by (if b then Some (v.epoch) else None) v.values) has
     ∙ ap₂ (λ (a : EpochValue) w. record { epoch = a; values = w } ∷ []) epoch values
 
--- the pending epoch, as it is returned
+-- The pending epoch, as it is returned.
 pending_closed : (v : Gathered) (s : GatherSetup) (ms : List Heard) (t : ℕ) → greatest_time (timed s ms) ≡ Some t → is_pending s (timed s ms) ≡ true
     → v.epoch ≡ held_at s (timed s ms) → v.values ≡ values_of s ms → v.handed ≡ true → handed_over v ≡ closed_list_at s ms (option_to_list (greatest_time (timed s ms)))
 pending_closed v s ms t e p epoch values has =
@@ -130,7 +130,7 @@ or_and false a p e = and_false a p e
 pub not_done : (v : Gathered) (s : GatherSetup) (ms : List Heard) (again : Option Heard) → v.has_ended ≡ false → is_done v s ms again ≡ is_some again
 not_done v s ms again going = or_and (is_some again) v.has_ended (is_pending s (timed s ms)) going
 
--- a message is taken
+-- A message is processed.
 pub gathers_taken : (g : Gathered) (s : GatherSetup) (ms : List Heard) (es : List Closed) (again : Option Heard) (m : Heard) → HasGatheredEpochs g s ms es again → g.has_ended ≡ false
     → closes_first s (timed s ms) m ≡ is_some again → IsSet m → HasGatheredEpochs (take_step g m).state s (ms ++ m ∷ []) (es ++ handed_over (take_step g m).state) None
 gathers_taken g s ms es again m h going early given =
@@ -155,7 +155,7 @@ gathers_taken g s ms es again m h going early given =
       plan = ap (λ (u : GatherSetup). u.plan) (taken g s ms m shut standing early).after.clock.setup;
     }
 
--- the pending epoch is closed first
+-- The pending epoch is closed first.
 pub gathers_first : (g : Gathered) (s : GatherSetup) (ms : List Heard) (es : List Closed) (m : Heard) → HasGatheredEpochs g s ms es None → g.has_ended ≡ false
     → closes_first s (timed s ms) m ≡ true → m.point ≡ None → HasGatheredEpochs (take_step g m).state s ms (es ++ handed_over (take_step g m).state) (Some m)
 gathers_first g s ms es m h going early point = by (greatest_time (timed s ms)) refl where
@@ -222,7 +222,7 @@ and_true : (a : Bool) → (a && true) ≡ a
 and_true true = refl
 and_true false = refl
 
--- no message follows
+-- No message follows.
 pub gathers_ended : (g : Gathered) (s : GatherSetup) (ms : List Heard) (es : List Closed) → HasGatheredEpochs g s ms es None → g.has_ended ≡ false
     → (g.clock.pending ≡ is_pending s (timed s ms)) × HasGatheredEpochs (end_step g) s ms (es ++ handed_over (end_step g)) None
 gathers_ended g s ms es h going = (

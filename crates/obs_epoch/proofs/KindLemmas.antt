@@ -1,4 +1,4 @@
--- The kind of a message: whether it is to come again.
+-- The outcome of a message: whether it is expected again.
 use Rattle.std.proofs.Common.{◌≡◌, ℕ, Bool, true, false, List, refl, sym, ap, ap₂, ◌∙◌, subst, arith, Option, Some, None, is_some}
 use Rattle.std.specs.Prelude.{if◌then◌else◌}
 use Rattle.obs_epoch.specs.declared.taken.Kind.TheVariants as kinds
@@ -49,7 +49,7 @@ kind_first s xs m k n early e = ap (λ v. is_close_first (kind_by m v n)) e ∙ 
 standing_of : (g : Gathered) (s : GatherSetup) (ms : List Heard) (es : List Closed) (again : Option Heard) → HasGatheredEpochs g s ms es again → g.has_ended ≡ false → HasTakenMessages g s ms (is_some again)
 standing_of g s ms es again h going = subst (HasTakenMessages g s ms) (not_done g s ms again going) h.standing
 
--- which message is to come again
+-- The message is expected again exactly if it closes an epoch first.
 pub exactly_first : (g : Gathered) (s : GatherSetup) (ms : List Heard) (es : List Closed) (m : Heard) (n : CellCounts) → HasGatheredEpochs g s ms es None → g.has_ended ≡ false
     → (closes_first s (timed s ms) m ≡ true → m.point ≡ None) → is_close_first (kind_by m (answer_by g.clock m) n) ≡ closes_first s (timed s ms) m
 exactly_first g s ms es m n h going point = by (closes_first s (timed s ms) m) refl where
@@ -57,13 +57,13 @@ exactly_first g s ms es m n h going point = by (closes_first s (timed s ms) m) r
   by true e = kind_first s (timed s ms) m _ n e (closes_it g s ms m (standing_of g s ms es None h going) e (point e)).kind
   by false e = kind_other m _ n (λ f. not_first s (timed s ms) m (sym (taken g s ms m false (standing_of g s ms es None h going) e).kind ∙ f))
 
--- a message that comes again is taken
+-- A message that is expected again is processed.
 pub again_taken : (g : Gathered) (s : GatherSetup) (ms : List Heard) (es : List Closed) (m : Heard) (n : CellCounts) → HasGatheredEpochs g s ms es (Some m) → g.has_ended ≡ false
     → is_close_first (kind_by m (answer_by g.clock m) n) ≡ false
 again_taken g s ms es m n h going =
     kind_other m _ n (λ f. not_first s (timed s ms) m (sym (taken g s ms m true (standing_of g s ms es (Some m) h going) h.fits).kind ∙ f))
 
--- a message that is taken is the awaited one, or closes nothing first
+-- A message that is processed is the one expected again, or closes no epoch first.
 pub fits_now : (g : Gathered) (s : GatherSetup) (ms : List Heard) (es : List Closed) (again : Option Heard) (m : Heard) (n : CellCounts) → HasGatheredEpochs g s ms es again → g.has_ended ≡ false
     → (closes_first s (timed s ms) m ≡ true → m.point ≡ None) → IsAwaited again m → is_close_first (kind_by m (answer_by g.clock m) n) ≡ false
     → closes_first s (timed s ms) m ≡ is_some again
@@ -76,6 +76,6 @@ kind_taken g s ms es again m h going early =
     let t = taken g s ms m (is_some again) (standing_of g s ms es again h going) early in
     ap₂ (kind_by m) t.kind t.counts
 
--- what becomes of a message never is that it is to come again
+-- The outcome of a message of a list is never `CloseFirst`.
 pub never_first : (s : GatherSetup) (ms : List Heard) (m : Heard) → is_close_first (kind_of s ms m) ≡ false
 never_first s ms m = kind_other m _ _ (not_first s (timed s ms) m)

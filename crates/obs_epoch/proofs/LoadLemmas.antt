@@ -1,4 +1,4 @@
--- The cells of one more message, held one by one, are the kept cells of the longer list.
+-- The cells of one more message, kept one by one, are the kept cells of the longer list.
 use Rattle.std.proofs.Common.{[], ◌≡◌, ℕ, suc, Bool, true, false, not, ◌||◌, ◌&&◌, List, ◌∷◌, ◌++◌, filter, refl, sym, ap, ap₂, ◌∙◌, arith, length, append_assoc, append-nil, Option, nat_le}
 use Rattle.std.specs.Prelude.{if◌then◌else◌, cond}
 use Rattle.gnss_obs.specs.declared.system.System.{System}
@@ -18,7 +18,7 @@ use Rattle.obs_epoch.specs.declared.locks.KnownLock.{KnownLock}
 use Rattle.obs_epoch.specs.declared.taken.CellCounts.{CellCounts}
 use Rattle.obs_epoch.specs.declared.taken.Fate.{Fate}
 
--- cells with their loss-of-lock indicators, where the locks of their keys before are known
+-- Cells with their loss of lock indicators, from the earlier locks of their keys.
 abbrev pub with_lli_by : (HeardCell → Option KnownLock) → ℕ → List HeardCell → List Cell
 with_lli_by f t [] = []
 with_lli_by f t (x ∷ xs) = kept_cell x (lli_with t x (f x)) ∷ with_lli_by f t xs
@@ -35,7 +35,7 @@ with_lli_by-insert planned f t (y ∷ xs) x = by (is_before (seat_of planned x) 
   by true e = refl
   by false e = ap (λ l. one y ∷ l) e
 
--- a kept cell comes to its place in the order
+-- A kept cell is inserted at its index in the order.
 with_lli_by-push : (planned : List ℕ) (f : HeardCell → Option KnownLock) (t : ℕ) (xs : List HeardCell) (x : HeardCell)
     → with_lli_by f t (sorted planned (xs ++ x ∷ [])) ≡ insert_by (cell_seat planned) (kept_cell x (lli_with t x (f x))) (with_lli_by f t (sorted planned xs))
 with_lli_by-push planned f t xs x = ap (with_lli_by f t) (sorted-push planned xs x) ∙ with_lli_by-insert planned f t (sorted planned xs) x
@@ -48,11 +48,11 @@ with_lli_by-held : (f : HeardCell → Option KnownLock) (t : ℕ) (xs : List Hea
 with_lli_by-held f t [] y = refl
 with_lli_by-held f t (x ∷ xs) y = ap (λ b. has_same_key y x || b) (with_lli_by-held f t xs y)
 
--- the epoch of time t in which these cells were offered
+-- The epoch of time t after these cells.
 abbrev pub epoch_of : PlanValue → (HeardCell → Option KnownLock) → ℕ → List HeardCell → EpochValue
 epoch_of p f t xs = record { time = t; gps = with_lli_by f t (sorted p.gps (kept Gps xs)); galileo = with_lli_by f t (sorted p.galileo (kept Galileo xs)) }
 
--- what becomes of a cell after these
+-- The outcome of a cell after these cells.
 abbrev pub fate_after : GatherSetup → List HeardCell → HeardCell → Fate
 fate_after s xs x =
     if is_planned s x then (if is_among (kept x.satellite.system xs) x then Repeated else (if nat_le most_cells (length (kept x.satellite.system xs)) then Crowded else Kept)) else Skipped
@@ -73,7 +73,7 @@ fate_is s f t xs x =
       planned : List ℕ
       planned = planned_of x.satellite.system s.plan
 
--- the other system's cells stay
+-- The cells of the other system don't change.
 add_other : (system : System) (ks : List HeardCell) (x : HeardCell) → is_of_system system x ≡ false → add system ks x ≡ ks
 add_other system ks x h = ap (λ b. if b && not (is_among ks x || nat_le most_cells (length ks)) then ks ++ x ∷ [] else ks) h
 
@@ -88,7 +88,7 @@ abbrev pub epoch_by : PlanValue → Fate → (HeardCell → Option KnownLock) �
 epoch_by p Kept f e x = with_more p e (kept_cell x (lli_with e.time x (f x)))
 epoch_by p _ f e x = e
 
--- a cell of GPS
+-- A cell of GPS.
 one_gps : (s : GatherSetup) (f : HeardCell → Option KnownLock) (t : ℕ) (xs : List HeardCell) (x : HeardCell) (p a n : Bool) → x.satellite.system ≡ Gps
     → is_planned s x ≡ p → is_among (kept Gps xs) x ≡ a → nat_le most_cells (length (kept Gps xs)) ≡ n
     → epoch_by s.plan (if p then (if a then Repeated else (if n then Crowded else Kept)) else Skipped) f (epoch_of s.plan f t xs) x ≡ epoch_of s.plan f t (xs ++ (if p then x ∷ [] else []))
@@ -115,7 +115,7 @@ one_gps s f t xs x true a n g e h k = by a n h k where
   by false true h k = same (own ∙ ap₂ (λ b c. if b || c then kept Gps xs else kept Gps xs ++ x ∷ []) h k)
   by false false h k = more (own ∙ ap₂ (λ b c. if b || c then kept Gps xs else kept Gps xs ++ x ∷ []) h k)
 
--- a cell of Galileo
+-- A cell of Galileo.
 one_galileo : (s : GatherSetup) (f : HeardCell → Option KnownLock) (t : ℕ) (xs : List HeardCell) (x : HeardCell) (p a n : Bool) → x.satellite.system ≡ Galileo
     → is_planned s x ≡ p → is_among (kept Galileo xs) x ≡ a → nat_le most_cells (length (kept Galileo xs)) ≡ n
     → epoch_by s.plan (if p then (if a then Repeated else (if n then Crowded else Kept)) else Skipped) f (epoch_of s.plan f t xs) x ≡ epoch_of s.plan f t (xs ++ (if p then x ∷ [] else []))
@@ -142,7 +142,7 @@ one_galileo s f t xs x true a n g e h k = by a n h k where
   by false true h k = same (own ∙ ap₂ (λ b c. if b || c then kept Galileo xs else kept Galileo xs ++ x ∷ []) h k)
   by false false h k = more (own ∙ ap₂ (λ b c. if b || c then kept Galileo xs else kept Galileo xs ++ x ∷ []) h k)
 
--- a cell more: the held epoch is that of the longer list
+-- After one more cell, the kept epoch is that of the longer list.
 one_more : (s : GatherSetup) (f : HeardCell → Option KnownLock) (t : ℕ) (xs : List HeardCell) (x : HeardCell)
     → epoch_by s.plan (fate_after s xs x) f (epoch_of s.plan f t xs) x ≡ epoch_of s.plan f t (xs ++ planned_one s x)
 one_more s f t xs x = by x.satellite.system refl where
@@ -156,7 +156,7 @@ one_more s f t xs x = by x.satellite.system refl where
       ap (λ c. epoch_by s.plan (if is_planned s x then (if is_among (kept c xs) x then Repeated else (if nat_le most_cells (length (kept c xs)) then Crowded else Kept)) else Skipped) f (epoch_of s.plan f t xs) x) g
       ∙ one_galileo s f t xs x _ _ _ g refl refl refl
 
--- counts of cells that come after these, one by one
+-- The counts after these cells, one by one.
 abbrev pub counts_after : GatherSetup → List HeardCell → CellCounts → List HeardCell → CellCounts
 counts_after s xs n [] = n
 counts_after s xs n (y ∷ ys) = counts_after s (xs ++ planned_one s y) (count_in (fate_after s xs y) n) ys
@@ -167,7 +167,7 @@ hold_is Skipped g x = refl
 hold_is Repeated g x = refl
 hold_is Crowded g x = refl
 
--- the cells of a message, held one by one
+-- The cells of a message, kept one by one.
 pub load_is : (g : Gathered) (n : CellCounts) (t : ℕ) (xs ys : List HeardCell) → g.epoch ≡ epoch_of g.clock.setup.plan (lookup g.locks) t xs
     → load (record { state = g; counts = n }) ys
     ≡ record { state = record g { epoch = epoch_of g.clock.setup.plan (lookup g.locks) t (xs ++ filter (is_planned g.clock.setup) ys) }; counts = counts_after g.clock.setup xs n ys }

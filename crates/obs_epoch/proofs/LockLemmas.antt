@@ -1,4 +1,4 @@
--- The lock records: what they say after a closing, and how many they are.
+-- The lock records: their values after a closing, and their number.
 use Rattle.std.proofs.Common.{[], ◌≡◌, ◌≢◌, ℕ, zero, suc, ◌+◌, ◌-◌, ◌*◌, ◌<◌, ◌≤◌, Bool, true, false, ◌||◌, ◌&&◌, List, ◌∷◌, ◌++◌, map, filter, refl, sym, ap, ap₂, ◌∙◌, subst, arith, length, append_assoc, append-nil, length-append, Option, Some, None, is_some, get_or, set, replicate, nat_lt, nat_le}
 use Rattle.std.specs.Prelude.{if◌then◌else◌, cond, find, option_and_then}
 use Rattle.std.specs.Option.{option_map_or, option_or}
@@ -22,7 +22,7 @@ use Rattle.obs_epoch.specs.declared.cell.Cell.{Cell}
 
 -- ---- keys and their entries
 
--- in numbers: 15 entries for each of 32 satellites, and 19 for each of 36
+-- The index of an entry in numbers: 15 entries for each of 32 satellites, and 19 for each of 36.
 below_gps : (s i : ℕ) → 0 < s → s ≤ 32 → i < 15 → 15 * (s - 1) + i < 480
 below_gps s i a b c = omega (arith, a, b, c)
 
@@ -42,7 +42,7 @@ differs_galileo s i t j p q li lj e = (omega (arith, p, q, li, lj, e), omega (ar
 apart : (s i k : ℕ) → 0 < s → s ≤ 32 → i < 15 → 15 * (s - 1) + i ≡ 480 + k → ⊥
 apart s i k p l li e = absurd (omega (arith, below_gps s i p l li, e))
 
--- where a key is another, its place is
+-- Different keys have different indices.
 place_differs : (a b : System) (s i t j : ℕ) → 0 < s → 0 < t → s ≤ satellites a → t ≤ satellites b → i < length (table a) → j < length (table b)
     → lock_place_in a s i ≡ lock_place_in b t j → (s ≡ t) × (i ≡ j) × (a ≡ b)
 place_differs Gps Gps s i t j p q ls lt li lj e = (let d = differs_gps s i t j p q li lj e in (d.0, d.1, refl))
@@ -73,7 +73,7 @@ entry_below x h =
     let l = from_listed x.satellite.system x.satellite.id x.signal.index h in
     below_place x.satellite.system x.satellite.id x.signal.index l.0 l.1 l.2
 
--- cells of one key
+-- Cells of the same key.
 record SameParts (x y : HeardCell) : Type 0 where
   system : x.satellite.system ≡ y.satellite.system
   id : x.satellite.id ≡ y.satellite.id
@@ -113,7 +113,7 @@ other_entry x y l m h e =
     let same = of_parts x y (record { system = p.2; id = p.0; index = p.1 }) in
     grind (arith, same, h)
 
--- ---- what is found after a record is put
+-- ---- the records after one is set
 
 abbrev answer : Bool → KnownLock → Option KnownLock → Option KnownLock
 answer same l o = if same then Some l else o
@@ -137,7 +137,7 @@ lookup-put ts x key l k size = by (has_listed_key key) (has_same_key key x) refl
 abbrev lock_for : HeardCell → ℕ → HeardCell → Option KnownLock
 lock_for key t x = if has_same_key key x then lock_of t x else None
 
--- what is found after a cell is noted
+-- The records after a cell is recorded.
 pub lookup-note : (t : ℕ) (ts : List (Option KnownLock)) (x key : HeardCell) → has_listed_key x ≡ true → length ts ≡ most_locks
     → lookup (note t ts x) key ≡ option_or (lock_for key t x) (lookup ts key)
 lookup-note t ts x key k size = by (lock_of t x) where
@@ -200,7 +200,7 @@ lookup-note_all t ts (m ∷ ms) key d k size =
           ap (λ o. option_or (option_and_then (lock_of t) o) (option_or (lock_of t (heard_cell m)) (lookup ts key))) none
       by false e = refl
 
--- ---- how many they are: as many as there are keys among the locked cells noted
+-- ---- the number of records: that of the keys of the recorded locked cells
 
 pub recorded-set : (ts : List (Option KnownLock)) (i : ℕ) (l : KnownLock) → i < length ts → recorded (set ts i (Some l)) ≡ recorded ts + one_if_new (get_or ts i None)
 recorded-set ts i l h = by (get_or ts i None) (sum_by-set (λ o. cond (is_some {T = KnownLock} o) 1 0) ts i (Some l) None h) where
@@ -235,7 +235,7 @@ tracks_put ts noted x l k h = record {
   by false o true e = e
   by false o false e = e
 
--- the cells of these that are locked
+-- The locked ones of these cells.
 abbrev pub locked : List HeardCell → List HeardCell
 locked xs = filter is_locked xs
 

@@ -1,4 +1,4 @@
--- A closing: the locks of the held epoch are noted.
+-- A closing: the locks of the kept epoch are recorded.
 use Rattle.std.proofs.Common.{◌≡◌, ℕ, Bool, true, false, not, ◌||◌, ◌&&◌, List, [], ◌∷◌, ◌++◌, filter, refl, sym, ap, ap₂, ◌∙◌, subst, arith, length, append_assoc, append-nil, Option, Some, None, nat_le}
 use Rattle.std.specs.Prelude.{if◌then◌else◌, cond, flat_map, find, option_and_then, filter_map, unwrap_or}
 use Rattle.std.specs.Option.{option_or}
@@ -66,7 +66,7 @@ apart_more system xs (y ∷ ys) key o h =
 pub kept_apart : (system : System) (xs : List HeardCell) (key : HeardCell) → is_of_system system key ≡ false → is_among (kept system xs) key ≡ false
 kept_apart system xs key o = apart_more system [] xs key o (ap (λ l. is_among l key) (kept_none system))
 
--- the same in their order
+-- The same in the order of the plan.
 at_distinct : (s : GatherSetup) (t : ℕ) (xs : List Timed) (system : System) → IsDistinct has_same_key (kept_at s t xs system)
 at_distinct s t xs system = distinct-sorted (planned_of system s.plan) (kept system (offered s t xs)) (kept_distinct system (offered s t xs))
 
@@ -105,7 +105,7 @@ listed_more system xs (y ∷ ys) l d =
 kept_listed : (s : GatherSetup) (t : ℕ) (xs : List Timed) (system : System) → AllListed (kept_at s t xs system)
 kept_listed s t xs system = all-sorted (λ x. has_listed_key x ≡ true) (planned_of system s.plan) (kept system (offered s t xs)) (listed_more system [] (offered s t xs) (listed_offered s (filter (is_at t) xs)) (subst AllListed (sym (kept_none system)) tt))
 
--- ---- one epoch more
+-- ---- one more epoch
 
 last_push : (xs : List KnownLock) (o : Option KnownLock) → last_of (xs ++ cons_option o []) ≡ option_or o (last_of xs)
 last_push [] None = refl
@@ -128,7 +128,7 @@ seens_with_lli : (s : GatherSetup) (xs : List Timed) (t : ℕ) (ks : List HeardC
 seens_with_lli s xs t [] = refl
 seens_with_lli s xs t (k ∷ ks) = ap (λ l. k ∷ l) (seens_with_lli s xs t ks)
 
--- what is found after an epoch is noted
+-- The records after an epoch is recorded.
 noted_found : (s : GatherSetup) (xs : List Timed) (ts : List ℕ) (t : ℕ) (rs : List (Option KnownLock)) (key : HeardCell) → length rs ≡ most_locks → lookup rs key ≡ latest_in s xs ts key
     → lookup (note_all t (note_all t rs (cells_with_lli s xs t (kept_at s t xs Gps))) (cells_with_lli s xs t (kept_at s t xs Galileo))) key ≡ latest_in s xs (ts ++ t ∷ []) key
 noted_found s xs ts t rs key size h =
@@ -172,7 +172,7 @@ noted_tracks s xs ts t rs h =
     ∙ sym (flat_map-append (λ u. filter is_locked (kept_at s u xs Gps ++ kept_at s u xs Galileo)) ts (t ∷ [])) in
     subst (TracksLocks (note_all t (note_all t rs (cells_with_lli s xs t gps)) (cells_with_lli s xs t galileo))) is second
 
--- the held epoch closes
+-- The kept epoch is closed.
 pub noted_locked : (g : Gathered) (s : GatherSetup) (xs : List Timed) (ts : List ℕ) (t : ℕ) → g.epoch ≡ epoch_at s xs t → Locked g s xs ts → Locked (noted g) s xs (ts ++ t ∷ [])
 noted_locked g s xs ts t e h =
     let is : (noted g).locks ≡ note_all t (note_all t g.locks (cells_with_lli s xs t (kept_at s t xs Gps))) (cells_with_lli s xs t (kept_at s t xs Galileo)) =

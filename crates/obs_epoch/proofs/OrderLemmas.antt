@@ -1,4 +1,4 @@
--- Cells that stand in order, and one more of them.
+-- Cells in order, and one more cell.
 use Rattle.std.proofs.Common.{◌≡◌, ℕ, zero, suc, ◌+◌, ◌<◌, ◌≤◌, Bool, true, false, ◌||◌, List, [], ◌∷◌, ◌++◌, map, refl, sym, ap, ap₂, ◌∙◌, subst, arith, length, get_or, insert}
 use Rattle.std.specs.Prelude.{if◌then◌else◌, fold}
 use Rattle.std.proofs.lemmas.List.{get_or-map, length-map}
@@ -13,7 +13,7 @@ use Rattle.obs_epoch.specs.Values.{PlanValue, planned_of}
 use Rattle.obs_epoch.specs.Order.{is_before, SeatsRise, insert_by, spot, cell_seat, seat_of, sorted}
 use Rattle.obs_epoch.specs.Heard.{HeardCell}
 
--- ---- seats
+-- ---- sort keys
 
 pub before_self : (a : Seat) → is_before a a ≡ false
 before_self a = grind arith
@@ -37,7 +37,7 @@ pub before_all : (a b : Seat) (ts : List Seat) → is_before a b ≡ true → Be
 before_all a b [] h k = tt
 before_all a b (t ∷ ts) h k = (before_trans a b t h k.0, before_all a b ts h k.1)
 
--- ---- one more
+-- ---- one more item
 
 pub length-insert_by : {X : Type 0} (at : X → Seat) (x : X) (ys : List X) → length (insert_by at x ys) ≡ suc (length ys)
 length-insert_by at x [] = refl
@@ -77,7 +77,7 @@ map-insert_by f at to same x (y ∷ ys) =
       by true e = refl
       by false e = ap (λ l. f y ∷ l) e
 
--- it goes to its spot
+-- The item is inserted at its index.
 pub insert_spot : {X : Type 0} (at : X → Seat) (x : X) (ys : List X) → insert ys (spot (at x) (map at ys)) x ≡ insert_by at x ys
 insert_spot at x [] = refl
 insert_spot at x (y ∷ ys) = by (is_before (at x) (at y)) (insert_spot at x ys) where
@@ -96,7 +96,7 @@ rise-insert_by at x (y ∷ ys) r other = by (is_before (at x) (at y)) refl (rise
       let all : Before (at y) (insert_by (λ (s : Seat). s) (at x) (map at ys)) = all-insert_by (λ t. is_before (at y) t ≡ true) (λ (s : Seat). s) (at x) (map at ys) first r.0 in
       (subst (Before (at y)) (sym (map-insert_by at at (λ (s : Seat). s) (λ z. refl) x ys)) all, h)
 
--- ---- where it is sought
+-- ---- the search for the index
 
 not_before : (s a b : Seat) → is_before a b ≡ true → is_before s b ≡ false → is_before s a ≡ false
 not_before s a b h k = by (is_before s a) refl where
@@ -140,7 +140,7 @@ module _ {X : Type 0} (s : Seat) (f : X → Seat) (xs : List X) (k : ℕ) (x : X
   within : k < length (map f xs)
   within = subst (λ n. k < n) (sym (length-map xs f)) less
 
-  -- an item that stands after that seat, and one that doesn't
+  -- An item with a greater sort key, and one without.
   pub spot_before : is_before s (f x) ≡ true → spot s (map f xs) ≤ k
   spot_before after = spot_upper s (map f xs) k (f x) within (ap (is_before s) here ∙ after)
 
@@ -150,7 +150,7 @@ module _ {X : Type 0} (s : Seat) (f : X → Seat) (xs : List X) (k : ℕ) (x : X
 pub spot_within : {X : Type 0} (s : Seat) (f : X → Seat) (xs : List X) → spot s (map f xs) ≤ length xs
 spot_within s f xs = let h = spot_most s (map f xs) in let n = length-map xs f in omega (arith, h, n)
 
--- the seat of a cell of a system, by its signal's own system
+-- The sort key of a cell of a system, by the system of its signal.
 pub own_seat : (system : System) (p : PlanValue) (x : Seat) (cell : Cell) (b v : Bool) → cell.signal.system ≡ system → b ≡ is_before x (cell_seat (planned_of cell.signal.system p) cell) → b ≡ v
     → is_before x (cell_seat (planned_of system p) cell) ≡ v
 own_seat system p x cell b v same is e = ap (λ s. is_before x (cell_seat (planned_of s p) cell)) (sym same) ∙ sym is ∙ e

@@ -1,4 +1,4 @@
--- Codes between commas, and the signals of a plan.
+-- Codes separated by commas, and the signals of a plan.
 use Rattle.std.proofs.Common.{◌≡◌, ℕ, suc, zero, ◌+◌, ◌<◌, ◌≤◌, ◌==◌, ◌||◌, Bool, true, false, not, List, [], ◌∷◌, ◌++◌, length, take, drop, All, nat_eq, nat_lt, refl, sym, ap, ap₂, ◌∙◌, subst, arith, Option, Some, None, Result, Ok, Err, rules}
 use Rattle.std.specs.Prelude.{cond, if◌then◌else◌, option_map, unwrap_or, codes}
 use Rattle.std.specs.Str.{bytes_eq}
@@ -95,7 +95,7 @@ is_of-push system ss s h same listed new = record {
   apart = subst (IsDistinct nat_eq) (sym (indices-push ss s)) (IsDistinct-push nat_eq_equiv (indices ss) s.index h.apart (sym (any_index s.index ss) ∙ new));
 }
 
--- ---- one code more
+-- ---- one more code
 
 pub has_now : (b v : Bool) (n : ℕ) (s : SignalAt) (slice : List SignalAt) → (b ≡ list_any (λ (r : SignalAt). n == r.index) slice) → n ≡ s.index → {ss : List SignalAt} → slice ≡ ss → b ≡ v
     → list_any (λ (r : SignalAt). s.index == r.index) ss ≡ v
@@ -125,7 +125,7 @@ some_same {x} {y} e = ap (λ o. unwrap_or o x) e
 test_lt : (a b : ℕ) → nat_lt a b ≡ true → a < b
 test_lt a b e = grind (arith, e)
 
--- a signal of a code is one of the system's table
+-- The signal of a code is one of the system's table.
 pub of_where : (system : System) (test : ListedSignal → Bool) (s : SignalAt) → signal_where system test ≡ Some s → (s.system ≡ system) × IsSignal s
 of_where system test s h = by (nat_lt (position_or_len test (table system)) (length (table system))) refl h where
   by : (b : Bool) → nat_lt (position_or_len test (table system)) (length (table system)) ≡ b
@@ -170,7 +170,7 @@ one_index system i s ss new so of is e =
           (any_index s.index ss ∙ ap₂ (λ n l. list_any (nat_eq n) l) at.2 (sym so) ∙ none_below i i (omega arith))),
     )
 
--- a signal of a table is new after all before it
+-- The next signal of a table is not among the earlier ones.
 pub index_added : {E : Type 0} (system : System) (i : ℕ) (s : SignalAt) (ss new : List SignalAt) (r : Result Bool E) (b : Bool) → r ≡ Ok b → below i ≡ indices ss → IsOf system ss
     → signal_at system i ≡ Some s → (r ≡ Ok true → (new ≡ ss ++ s ∷ []) × (list_any (λ (q : SignalAt). s.index == q.index) ss ≡ false) × IsOf s.system new)
     → (r ≡ Ok false → (new ≡ ss) × (list_any (λ (q : SignalAt). s.index == q.index) ss ≡ true)) → (below (i + 1) ≡ indices new) × IsOf system new

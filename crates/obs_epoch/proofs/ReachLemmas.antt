@@ -1,4 +1,4 @@
--- How far the values of epochs reach.
+-- Bounds of the values of epochs.
 use Rattle.rtcm_msg.specs.declared.entry.LockField.{LockField}
 use Rattle.rtcm_msg.specs.declared.entry.LockField.TheVariants.{Df402, Df407}
 use Rattle.std.proofs.Common.{◌≡◌, ℕ, zero, suc, ℤ, pos, ◌+◌, ◌*◌, ◌^◌, ◌<◌, ◌≤◌, ◌≤ℤ◌, ◌==◌, Bool, true, false, ◌||◌, ◌&&◌, List, [], ◌∷◌, ◌++◌, filter, take, refl, sym, ap, ◌∙◌, subst, arith, Option, Some, None, nat_lt, nat_le, is_some, unsigned_abs, lit<}
@@ -35,7 +35,7 @@ use Rattle.obs_epoch.proofs.OrderLemmas.{all-sorted, distinct-sorted}
 use Rattle.obs_epoch.proofs.NotingLemmas.{kept_distinct}
 use Rattle.obs_epoch.specs.declared.locks.KnownLock.{KnownLock}
 
--- ---- what holds of each
+-- ---- properties of each item
 
 all_append : {X : Type 0} (P : X → Type 0) (xs ys : List X) → AllByRecursion P xs → AllByRecursion P ys → AllByRecursion P (xs ++ ys)
 all_append P [] ys h k = k
@@ -48,7 +48,7 @@ all_filter P p (x ∷ xs) h = by (p x) (all_filter P p xs h.1) where
   by true k = (h.0, k)
   by false k = k
 
--- and it passes the test
+-- Each item of a filtered list passes the test.
 all_passed : {X : Type 0} (P : X → Type 0) (p : X → Bool) (xs : List X) → AllByRecursion P xs → AllByRecursion (λ x. P x × (p x ≡ true)) (filter p xs)
 all_passed P p [] h = tt
 all_passed P p (x ∷ xs) h = by (p x) refl (all_passed P p xs h.1) where
@@ -61,9 +61,9 @@ all_take P zero xs h = tt
 all_take P (suc n) [] h = tt
 all_take P (suc n) (x ∷ xs) h = (h.0, all_take P n xs h.1)
 
--- ---- what is heard of a message
+-- ---- the parts of a message
 
--- the values of measured cells are within their bounds
+-- The values of measured cells are within their bounds.
 pub record AreSizes : Type 0 where
   pub metres : (r : ℤ) → unsigned_abs r ≤ 2 ^ 40 → unsigned_abs (nearest_pseudorange r) < 10 ^ 12
   pub cycles : (s : SignalAt) (p : ℤ) → unsigned_abs p ≤ 2 ^ 40 → unsigned_abs (nearest_phase (hertz_of s) p) < 10 ^ 12
@@ -107,7 +107,7 @@ message_heard z all points (Other n set) h = record { cells = tt; point = tt }
 abbrev IsWithin : ℕ → Type 0
 IsWithin t = t < weeks * week
 
--- a message that was read, whose time is within the weeks where it was taken
+-- A decoded message, whose time is within the weeks if it was accepted.
 record IsTimed (x : Timed) : Type 0 where
   heard : IsHeard x.message
   time : IfSome x.time IsWithin
@@ -134,7 +134,7 @@ timed_more s earlier (m ∷ ms) h k =
 timed_all : (s : GatherSetup) (ms : List Heard) → AllByRecursion IsHeard ms → AllByRecursion IsTimed (timed s ms)
 timed_all s ms h = timed_more s [] ms tt h
 
--- each before all after it
+-- Each is less than all after it.
 abbrev Rise : List ℕ → Type 0
 Rise [] = Unit {0}
 Rise (t ∷ ts) = AllByRecursion (λ u. t < u) ts × Rise ts
@@ -170,7 +170,7 @@ times_within (x ∷ xs) h = by x.time h.0.time (times_within xs h.1) where
 
 -- ---- cells
 
--- a cell of a message that was read, planned
+-- A planned cell of a decoded message.
 abbrev IsOffered : GatherSetup → HeardCell → Type 0
 IsOffered s x = IsHeardCell x × (is_planned s x ≡ true)
 
@@ -185,7 +185,7 @@ all_firsts P earlier (x ∷ xs) h = by (is_among earlier x) (all_firsts P (earli
   by true k = k
   by false k = (h.0, k)
 
--- and of a system
+-- The same, of a system.
 abbrev IsKept : GatherSetup → System → HeardCell → Type 0
 IsKept s system x = IsOffered s x × (is_of_system system x ≡ true)
 

@@ -1,4 +1,4 @@
--- The definitions on small lists: they compute.
+-- The definitions computed on small lists.
 use Rattle.std.proofs.Common.{◌≡◌, ℕ, ◌+◌, ◌*◌, Bool, true, false, List, [], ◌∷◌, map, refl, Option, Some, None}
 use Rattle.std.specs.Prelude.{pos, ℤ}
 use Rattle.gnss_obs.specs.declared.system.System.TheVariants.{Gps}
@@ -19,7 +19,7 @@ observed tow more cells = record { station = Some 7; tow = Some tow; more = Some
 abbrev other : Bool → Heard
 other more = record { station = Some 7; tow = None; more = Some more; cells = []; unlisted = 0; point = None }
 
--- two weeks, exactly half a week on, and too far
+-- Two weeks, exactly half a week ahead, and more than that.
 abbrev four : List Heard
 four = observed 604_799_000 false [] ∷ observed 0 false [] ∷ observed 302_400_000 false [] ∷ observed 1 false [] ∷ []
 
@@ -27,7 +27,7 @@ pub four_times : map (λ x. x.time) (timed setup four)
     ≡ Some (2300 * week + 604_799_000) ∷ Some (2301 * week) ∷ Some (2301 * week + 302_400_000) ∷ None ∷ []
 four_times = refl
 
--- an unsupported message closes, and the last comes too late
+-- An unsupported message closes the epoch, and the last message is late.
 abbrev closing : List Heard
 closing = observed 5 true [] ∷ observed 5 true [] ∷ other false ∷ observed 5 true [] ∷ []
 
@@ -53,7 +53,7 @@ cell l least = record {
 abbrev small_lli : List EpochValue → List (List ℕ)
 small_lli es = map (λ (e : EpochValue). map (λ (m : Cell). m.lli) e.gps) es
 
--- a lock of 4,096 ms, then an invalid phase, then a lock of 2,048 ms
+-- A lock of 4,096 ms, then an invalid phase, then a lock of 2,048 ms.
 abbrev three : List Heard
 three =
     observed 1000 false (cell (Some (pos 1)) (Some 4096) ∷ []) ∷ observed 2000 false (cell None (Some 0) ∷ [])

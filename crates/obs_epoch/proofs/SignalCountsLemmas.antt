@@ -19,7 +19,7 @@ use Rattle.obs_epoch.specs.Heard.{Heard, seen_in, lock_by, observed, HeardCell}
 use Rattle.obs_epoch.specs.Cells.{is_system}
 use Rattle.obs_epoch.specs.SignalCounts.{SignalCountsValue, brings_value, is_of_station, valued, is_of_signal, count_of, signal_in, AreSignalCounts, counted, counted_of, CountsEntries, counted_in, one_up, entry_signal, entry_value}
 
--- ---- what filters leave is no more
+-- ---- a filtered list is not longer
 
 few_passed : {X : Type 0} (p : X → Bool) (xs : List X) → length (filter p xs) ≤ length xs
 few_passed p xs = omega (arith, length-filter p xs, count_by-le-length p xs)
@@ -31,7 +31,7 @@ length-filter_map f (x ∷ xs) = by (f x) (length-filter_map f xs) where
   by None h = omega (arith, h)
   by (Some z) h = omega (arith, h)
 
--- ---- one cell more
+-- ---- one more cell
 
 abbrev here : SignalAt → SignalAt → Bool
 here g s = is_system g.system s.system && (s.index == g.index)
@@ -67,7 +67,7 @@ one_up_at xs g i within few = by (g == i) refl where
       subst (λ (k : ℕ). get_or (one_up xs g) k 0 ≡ get_or xs k 0 + 1) e (get_or-set_same xs g (min (get_or xs g 0 + 1) (2 ^ 64 - 1)) 0 within ∙ up (get_or xs g 0) few)
   by false h = get_or-set_other xs g i (min (get_or xs g 0 + 1) (2 ^ 64 - 1)) 0 (other g i h) ∙ none (get_or xs i 0)
 
--- a cell more of a signal of the tables
+-- One more cell of a signal of the tables.
 signal_counts_more : (c : SignalCountsValue) (cells : List HeardCell) (x : HeardCell) → AreSignalCounts c cells → length cells < 2 ^ 64 - 1 → IsSignal x.signal → AreSignalCounts (counted_of c x.signal) (cells ++ x ∷ [])
 signal_counts_more c cells x h few listed = record {
   gps = long_gps x.signal.system;
@@ -128,7 +128,7 @@ value_same : (lock : LockTime) (e : Entry) (s : Satellite) (g : SignalAt) → br
 value_same lock e s g =
     ap₂ (λ a b. a || b) (ap₂ (λ a b. a || b) (ap₂ (λ a b. a || b) (is_some-map nearest_pseudorange e.range) (is_some-map (nearest_phase (hertz_of g)) e.phase)) (is_some-map (nearest_doppler (hertz_of g)) e.rate)) (is_some-map nearest_strength e.strength)
 
--- an entry is counted where its cell is one that counts
+-- An entry is counted if its cell has a value.
 entry_counted : (field : LockField) (system : System) (e : Entry) (o : Option SignalAt) (c after : SignalCountsValue) (cells : List HeardCell) → o ≡ entry_signal system e → after ≡ option_map_or (counted_of c) o c
     → length cells < 2 ^ 64 - 1 → AreSignalCounts c cells → AreSignalCounts after (cells ++ filter brings_value (cons_option (seen_in field system e) []))
 entry_counted field system e o c after cells is made few h =
@@ -162,7 +162,7 @@ entry_counted field system e o c after cells is made few h =
     by (Some s) None listed = neither (entry_value e)
     by (Some s) (Some g) listed = both s g (listed g refl)
 
--- the cells of one entry and of those after it
+-- The cells of one entry and of the entries after it.
 one_first : (o : Option HeardCell) (xs : List HeardCell) → filter brings_value (cons_option o []) ++ filter brings_value xs ≡ filter brings_value (cons_option o xs)
 one_first None xs = refl
 one_first (Some x) xs = by (brings_value x) where
@@ -177,7 +177,7 @@ one_most (Some x) = by (brings_value x) where
   by true = omega arith
   by false = omega arith
 
--- one entry is counted, and then those after it
+-- One entry is counted, then the entries after it.
 pub entry_more : (system : System) (e : Entry) (es : List Entry) (o : Option SignalAt) (c next last : SignalCountsValue) → o ≡ entry_signal system e → next ≡ option_map_or (counted_of c) o c
     → CountsEntries next last system es → CountsEntries c last system (e ∷ es)
 entry_more system e es o c next last is made more = λ field cells few h.
@@ -197,7 +197,7 @@ none_more c system = λ field cells few h. subst (AreSignalCounts c) (sym (appen
 
 -- ---- the cells of a message
 
--- all cells of a message that is wanted
+-- All cells of a message of the wanted station.
 pub wanted_cells : (wanted : Option ℕ) (station : ℕ) (m : Heard) (w : Bool) → m.station ≡ Some station → w ≡ option_map_or (λ n. station == n) wanted true → w ≡ true
     → valued wanted m ≡ filter brings_value m.cells
 wanted_cells wanted station m w at is holds =

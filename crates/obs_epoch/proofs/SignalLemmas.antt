@@ -1,4 +1,4 @@
--- Signals in a set, and the places of a table's signals among them.
+-- Signals in a set, and the indices of a table's signals in it.
 use Rattle.std.proofs.Common.{◌≡◌, ◌≢◌, ℕ, suc, ◌+◌, ◌<◌, ◌≤◌, ◌==◌, ◌||◌, Bool, true, false, not, List, [], ◌∷◌, ◌++◌, length, All, set, get_or, nat_eq, nat_lt, refl, sym, ap, ap₂, ◌∙◌, subst, arith, Option, Some, None, if◌then◌else◌}
 use Rattle.std.specs.Prelude.{cond, position}
 use Rattle.std.proofs.lemmas.List.{get_or-set_other, length_push}
@@ -26,9 +26,9 @@ not_false : (b : Bool) → not b ≡ false → b ≡ true
 not_false true e = refl
 not_false false e = grind (arith, e)
 
--- ---- signals of one system are the same where their places in its table are
+-- ---- signals of one system are the same if their indices in its table are
 
--- what a set answers of a signal, whose system is that of those before it
+-- The result of a set for a signal of the same system as the others.
 module _ (eq : SignalAt → SignalAt → Bool) (same : (a b : SignalAt) → a.system ≡ b.system → eq a b ≡ (a.index == b.index)) (s : SignalAt) where
   any_same : (ss : List SignalAt) → All (λ (r : SignalAt). (r.system ≡ s.system) × IsSignal r) ss → list_any (eq s) ss ≡ list_any (λ (r : SignalAt). s.index == r.index) ss
   any_same [] h = refl
@@ -51,9 +51,9 @@ module _ (eq : SignalAt → SignalAt → Bool) (same : (a b : SignalAt) → a.sy
       let there : list_any (eq s) ss ≡ true = not_false (list_any (eq s) ss) (sym added ∙ is) in
       (keys ∙ ap (λ b. if b then ss else ss ++ s ∷ []) there, sym (any_same ss of.each) ∙ there)
 
--- ---- a number more
+-- ---- one more number
 
--- the first place of a longer list
+-- The first index in a longer list.
 longer : (k n next long : ℕ) → k ≤ n → next ≡ cond (nat_eq k n) (n + 1) k → long ≡ n + 1 → cond (nat_lt next long) (Some next) None ≡ cond (nat_lt k n) (Some k) None
 longer k n next long le is len = by (nat_eq k n) refl is where
   by : (b : Bool) → nat_eq k n ≡ b → next ≡ cond b (n + 1) k → cond (nat_lt next long) (Some next) None ≡ cond (nat_lt k n) (Some k) None

@@ -1,4 +1,4 @@
--- The order in which an epoch's cells stand, and one more of them.
+-- The order of an epoch's cells, and one more cell.
 use Rattle.std.proofs.Common.{◌+◌, take, drop, ◌≡◌, ℕ, zero, suc, ◌-◌, ◌<◌, ◌≤◌, ◌==◌, Bool, true, false, ◌||◌, ◌&&◌, List, [], ◌∷◌, map, refl, sym, ap, ap₂, ◌∙◌, subst, arith, length, get_or, insert, Option, Some, None, is_some, nat_le, not}
 use Rattle.std.specs.Prelude.{if◌then◌else◌, position}
 use Rattle.std.specs.Option.{option_map_or}
@@ -31,7 +31,7 @@ pub stand_in : (system : System) (p : PlanValue) (e : EpochValue) → AreInOrder
 stand_in Gps p e h = h.gps
 stand_in Galileo p e h = h.galileo
 
--- ---- the last before the spot
+-- ---- the last cell before the index
 
 spot_below : (s : Seat) (ts : List Seat) → spot s ts ≤ length ts
 spot_below s [] = omega arith
@@ -100,7 +100,7 @@ pub any_last : {X : Type 0} (p : X → Bool) (f : X → Seat) (s : Seat) → Agr
 any_last p f s a [] n d r e = absurd (omega (arith, e))
 any_last p f s a (x ∷ xs) n d r e = any_by p f s a x xs n d r (λ m g. any_last p f s a xs m d r.1 g) (is_before s (f x)) e
 
--- a key's cell has the key's seat
+-- A cell of a key has the sort key of that key.
 same_seat : (planned : List ℕ) (x : HeardCell) (c : Cell) → same_key x.satellite x.signal c.satellite c.signal ≡ true → cell_seat planned c ≡ seat_of planned x
 same_seat planned x c h = by x.satellite.system c.satellite.system refl refl where
   of : x.satellite.id ≡ c.satellite.id → x.signal.index ≡ c.signal.index → cell_seat planned c ≡ seat_of planned x
@@ -112,7 +112,7 @@ same_seat planned x c h = by x.satellite.system c.satellite.system refl refl whe
   by Gps Galileo p q = absurd (grind (arith, p, q, h))
   by Galileo Gps p q = absurd (grind (arith, p, q, h))
 
--- whether a key is held follows from the last cell before its spot
+-- A key is kept exactly if the last cell before its index is of that key.
 pub held_is_last : (planned : List ℕ) (x : HeardCell) (cells : List Cell) (at : ℕ) (r : Bool) → AreOrderedBy planned cells → at ≡ spot (seat_of planned x) (map (cell_seat planned) cells)
     → (at ≡ 0 → r ≡ false)
     → ((d : Cell) → 0 < at → r ≡ same_key x.satellite x.signal (get_or cells (at - 1) d).satellite (get_or cells (at - 1) d).signal)
@@ -127,7 +127,7 @@ held_is_last planned x (c ∷ cells) at r rise e none last = by at refl where
       last c (omega (arith, f)) ∙ ap (λ k. same_key x.satellite x.signal (get_or (c ∷ cells) k c).satellite (get_or (c ∷ cells) k c).signal) one
       ∙ sym (any_last (λ d. same_key x.satellite x.signal d.satellite d.signal) (cell_seat planned) (seat_of planned x) (same_seat planned x) (c ∷ cells) n c rise (sym e ∙ f))
 
--- ---- one more
+-- ---- one more cell
 
 of_place : (planned : List ℕ) (i j : ℕ) (a b : Option ℕ) → position (λ k. k == i) planned ≡ a → position (λ k. k == j) planned ≡ b → is_some a ≡ true → is_some b ≡ true
     → option_map_or (λ q. q) a 0 ≡ option_map_or (λ q. q) b 0 → i ≡ j
@@ -167,7 +167,7 @@ stand_more system planned m ms a h s none = record {
   rise = rise-insert_by (cell_seat planned) m ms s.rise (others system planned (heard_cell m) ms a h s.each none);
 }
 
--- the epoch with one cell more stands in order
+-- The epoch with one more cell is in order.
 pub order_more : (p : PlanValue) (e : EpochValue) (m : Cell) → is_some (place_in m.signal (planned_of m.satellite.system p)) ≡ true → AreInOrder p e
     → is_held (cells_of m.satellite.system e) (heard_cell m) ≡ false → AreInOrder p (with_more p e m)
 order_more p e m h o none = by m.satellite.system refl where
@@ -181,7 +181,7 @@ order_more p e m h o none = by m.satellite.system refl where
     galileo = stand_more Galileo p.galileo m e.galileo f (ap (λ s. is_some (place_in m.signal (planned_of s p))) (sym f) ∙ h) o.galileo (ap (λ s. is_held (cells_of s e) (heard_cell m)) (sym f) ∙ none);
   })
 
--- it comes to its spot
+-- The cell is inserted at its index.
 pub more_is : (p : PlanValue) (e : EpochValue) (m : Cell) → more_at m.satellite.system (spot_in p e (heard_cell m)) e m ≡ with_more p e m
 more_is p e m = by m.satellite.system where
   by : (system : System) → more_at system (spot (seat_of (planned_of system p) (heard_cell m)) (map (cell_seat (planned_of system p)) (cells_of system e))) e m ≡ with_more_in system p e m
@@ -196,7 +196,7 @@ sorted_more p e m o = by m.satellite.system o where
   by Gps o = (p.gps, subst (AreOrderedBy p.gps) (sym (insert_spot (cell_seat p.gps) m e.gps)) o.gps.rise)
   by Galileo o = (p.galileo, subst (AreOrderedBy p.galileo) (sym (insert_spot (cell_seat p.galileo) m e.galileo)) o.galileo.rise)
 
--- one cell more may be held
+-- One more cell may be kept.
 pub held_more : (system : System) (cells : List Cell) (at : ℕ) (x : Cell) → AreHeld system cells → at ≤ length cells → length cells < most_cells → x.satellite.system ≡ system
     → IsObserved (heard_cell x) → x.lli < 4 → AreHeld system (insert cells at x)
 held_more system cells at x held within room is observed low =
@@ -218,7 +218,7 @@ held_more system cells at x held within room is observed low =
       few = subst (λ n. n ≤ most_cells) (sym count) (omega (arith, room));
     }
 
--- a listed cell of a signal that has a place in the plan is planned
+-- A listed cell of a signal that has an index in the plan is planned.
 pub planned_is : (s : GatherSetup) (x : HeardCell) → IsKey x → is_some (place_in x.signal (planned_of x.satellite.system s.plan)) ≡ true → is_planned s x ≡ true
 planned_is s x key h =
     let id = key.satellite in
@@ -226,7 +226,7 @@ planned_is s x key h =
     let listed : has_listed_key x ≡ true = grind (arith, id, index) in
     ap₂ (λ a b. a && b) listed h
 
--- the answer of a search for a free key
+-- The result of a search for the index of a key that isn't kept.
 pub free_spot : (n : ℕ) (b : Bool) (m : ℕ) → Some n ≡ (if b then None else Some m) → (b ≡ false) × (n ≡ m)
 free_spot n true m e = absurd (grind (arith, e))
 free_spot n false m e = (refl, grind (arith, e))
@@ -235,14 +235,14 @@ pub no_spot : (b : Bool) (m : ℕ) → None ≡ (if b then None else Some m) →
 no_spot true m e = refl
 no_spot false m e = absurd (grind (arith, e))
 
--- what becomes of a planned cell
+-- The outcome of a planned cell.
 pub fate_by : (g : Gathered) (x : HeardCell) (held full : Bool) → is_planned g.clock.setup x ≡ true → is_held (cells_of x.satellite.system g.epoch) x ≡ held
     → nat_le most_cells (length (cells_of x.satellite.system g.epoch)) ≡ full → fate_in g x ≡ (if held then Repeated else (if full then Crowded else Kept))
 fate_by g x held full planned h f =
     ap (λ b. if b then (if is_held (cells_of x.satellite.system g.epoch) x then Repeated else (if nat_le most_cells (length (cells_of x.satellite.system g.epoch)) then Crowded else Kept)) else Skipped) planned
     ∙ ap₂ (λ b c. if b then Repeated else (if c then Crowded else Kept)) h f
 
--- a cell that is kept comes into the held epoch
+-- A cell that is kept is inserted in the kept epoch.
 pub kept_is : (g : Gathered) (x : HeardCell) (at lli : ℕ) (e : EpochValue) → fate_in g x ≡ Kept → lli ≡ lli_with g.epoch.time x (lookup g.locks x)
     → at ≡ spot_in g.clock.setup.plan g.epoch x → e ≡ more_at x.satellite.system at g.epoch (kept_cell x lli) → record g { epoch = e } ≡ hold g x
 kept_is g x at lli e fate mark_is at_is e_is =
@@ -250,7 +250,7 @@ kept_is g x at lli e fate mark_is at_is e_is =
     ap (λ v. record g { epoch = v }) (e_is ∙ ap₂ (λ i n. more_at x.satellite.system i g.epoch (kept_cell x n)) at_is mark_is ∙ more_is g.clock.setup.plan g.epoch m)
     ∙ ap (λ k. hold_by k g x) (sym fate)
 
--- a step of the clock leaves the plan
+-- A step of the clock doesn't change the plan.
 step_at_setup : (g : State) (tow : ℕ) → (step_at g tow).setup ≡ g.setup
 step_at_setup g tow = by (is_late_at g tow) (is_past (time_at g tow)) (is_first_at g tow) where
   by : (a b c : Bool) → (if a then g else (if b then g else (if c then record g { pending = false } else record g { latest = Some (time_at g tow); pending = true }))).setup ≡ g.setup

@@ -1,4 +1,4 @@
--- A step of the gatherer is one more message of the list.
+-- A step of the gatherer adds one message to the list.
 use Rattle.std.proofs.Common.{◌≡◌, ℕ, zero, suc, replicate, is_some, ◌-◌, ◌<◌, Bool, true, false, not, ◌||◌, List, [], ◌∷◌, ◌++◌, filter, take, refl, sym, ap, ap₂, ◌∙◌, subst, arith, length, append-nil, length-append, Option, Some, None, nat_lt}
 use Rattle.std.specs.Prelude.{if◌then◌else◌, cond, filter_map, flat_map, option_and_then, find}
 use Rattle.std.specs.Option.{option_map_or}
@@ -25,7 +25,7 @@ use Rattle.obs_epoch.proofs.LockLemmas.{none_found, none_recorded}
 use Rattle.obs_epoch.proofs.LoadLemmas.{with_lli_by, epoch_of, load_is, counts_after}
 use Rattle.obs_epoch.specs.declared.locks.KnownLock.{KnownLock}
 
--- ---- what was closed stays, whatever comes
+-- ---- after every message, a closed epoch is the same
 
 latest-push : (s : GatherSetup) (xs : List Timed) (x : Timed) (ts : List ℕ) (key : HeardCell) → AllLater x.time ts → filter_map (locked_at s (xs ++ x ∷ []) key) ts ≡ filter_map (locked_at s xs key) ts
 latest-push s xs x [] key h = refl
@@ -43,7 +43,7 @@ locked-push g s xs x ts later h = record {
   tracks = subst (TracksLocks g.locks) (sym (locked_in-push s xs x ts later)) h.tracks;
 }
 
--- ---- a taken message: what was closed is what comes before its time
+-- ---- an accepted message: the closed epochs are those before its time
 
 cancel : (a b : List ℕ) (u : ℕ) → a ++ u ∷ [] ≡ b ++ u ∷ [] → a ≡ b
 cancel a b u e =
@@ -66,7 +66,7 @@ own_of s xs m u some = by (is_own s m) refl where
   by true e = refl
   by false e = absurd (grind (arith, e, some))
 
--- the times before that of a taken message are those that were closed
+-- The times before that of an accepted message are those of the closed epochs.
 pub before_taken : (s : GatherSetup) (xs : List Timed) (m : Heard) (u : ℕ) (shut : Bool) → taken_at s xs m ≡ Some u → closes_first s xs m ≡ shut
     → (filter (λ v. nat_lt v u) (times (xs ++ next s xs m ∷ [])) ≡ closed_so_far s xs shut) × Below u (closed_so_far s xs shut)
 before_taken s xs m u shut some h =
@@ -86,14 +86,14 @@ before_taken s xs m u shut some h =
       subst (Below u) same last.below,
     )
 
--- all that was closed comes before the next message's time, where it has one
+-- All closed epochs are before the next message's time, if it has one.
 pub closed_later : (s : GatherSetup) (xs : List Timed) (m : Heard) (shut : Bool) → closes_first s xs m ≡ shut → AllLater (taken_at s xs m) (closed_so_far s xs shut)
 closed_later s xs m shut h = by (taken_at s xs m) refl where
   by : (o : Option ℕ) → taken_at s xs m ≡ o → AllLater o (closed_so_far s xs shut)
   by None e = all_none (closed_so_far s xs shut)
   by (Some u) e = all_below u (closed_so_far s xs shut) (before_taken s xs m u shut e h).1
 
--- ---- indicators by the lock records
+-- ---- loss of lock indicators from the lock records
 
 with_lli_is : (s : GatherSetup) (xs : List Timed) (f : HeardCell → Option KnownLock) (t : ℕ) (ks : List HeardCell) → ((key : HeardCell) → f key ≡ previous s xs t key) → with_lli_by f t ks ≡ cells_with_lli s xs t ks
 with_lli_is s xs f t [] h = refl
@@ -124,7 +124,7 @@ same_known u = grind arith
 not_known : (t u : ℕ) → t < u → is_same (Some t) (Some u) ≡ false
 not_known t u h = grind arith
 
--- the epoch that a taken message's cells come into
+-- The epoch in which the cells of an accepted message are kept.
 begun_is : (g : Gathered) (s : GatherSetup) (xs : List Timed) (m : Heard) (u : ℕ) (shut : Bool) → taken_at s xs m ≡ Some u → closes_first s xs m ≡ shut
     → g.epoch ≡ held_at s xs → Locked g s xs (closed_so_far s xs shut) → g.clock.latest ≡ Some u
     → epoch_begun (greatest_time xs) g ≡ record g { epoch = epoch_of s.plan (lookup g.locks) u (offered s u xs) }
@@ -149,9 +149,9 @@ begun_is g s xs m u shut some h held locks now = ap (λ o. begun_to (greatest_ti
       ap (λ b. if b then g else record g { epoch = record { time = u; gps = []; galileo = [] } }) same
       ∙ ap (λ v. record g { epoch = v }) (held ∙ ap (λ o. option_map_or (epoch_at s xs) o no_epoch) e ∙ sym (epoch_is s xs (lookup g.locks) u known))
 
--- ---- what the step leaves before the closing
+-- ---- the value after the step, before the closing
 
--- a taken message
+-- An accepted message.
 pub loaded_taken : (g : Gathered) (s : GatherSetup) (xs : List Timed) (m : Heard) (u : ℕ) (shut : Bool) → taken_at s xs m ≡ Some u → closes_first s xs m ≡ shut
     → g.epoch ≡ held_at s xs → Locked g s xs (closed_so_far s xs shut) → g.clock ≡ standing s (xs ++ next s xs m ∷ []) false
     → load (record { state = epoch_begun (greatest_time xs) g; counts = no_counts }) m.cells
@@ -172,7 +172,7 @@ loaded_taken g s xs m u shut some h held locks clock =
     ∙ ap (λ l. record { state = record g { epoch = epoch_of s.plan f u l }; counts = counts_after s (offered s u xs) no_counts m.cells }) (sym (offered-more s xs m u some))
     ∙ ap (λ e. record { state = record g { epoch = e }; counts = counts_after s (offered s u xs) no_counts m.cells }) (epoch_is s ys f u known)
 
--- a message that isn't taken leaves the epoch
+-- A message that isn't accepted doesn't change the epoch.
 pub held_same : (s : GatherSetup) (xs : List Timed) (m : Heard) → taken_at s xs m ≡ None → held_at s (xs ++ next s xs m ∷ []) ≡ held_at s xs
 held_same s xs m none =
     ap (λ o. option_map_or (epoch_at s (xs ++ next s xs m ∷ [])) o no_epoch) (same_time s xs (next s xs m) none).0 ∙ by (greatest_time xs) where

@@ -1,4 +1,4 @@
--- The whole step: what stands before stands after, for one message more.
+-- The whole step: a property of the list before holds for the list after one more message.
 use Rattle.std.proofs.Common.{◌≡◌, ℕ, Bool, true, false, not, ◌||◌, ◌&&◌, List, [], ◌∷◌, ◌++◌, map, refl, sym, ap, ap₂, ◌∙◌, subst, arith, append-nil, Option, Some, None, is_some, ◌⊎◌, inl, inr}
 use Rattle.std.specs.Prelude.{if◌then◌else◌, option_to_list}
 use Rattle.std.specs.Option.{option_map_or}
@@ -40,14 +40,14 @@ clock_stands g s ms xs shut same e = record {
 values-push : (s : GatherSetup) (ms : List Heard) (m : Heard) → values_of s (ms ++ m ∷ []) ≡ values_by_message s (values_of s ms) m
 values-push s ms m = fold-append (values_by_message s) s.initial ms (m ∷ [])
 
--- before the closing
+-- Before the closing.
 pub record Mid (g : Gathered) (s : GatherSetup) (ms : List Heard) (shut : Bool) (ts : List ℕ) : Type 0 where
   pub clock : HasHeardMessages g.clock s ms shut
   pub epoch : g.epoch ≡ held_at s (timed s ms)
   pub locks : Locked g s (timed s ms) ts
   pub values : g.values ≡ values_of s ms
 
--- after it
+-- After the closing.
 pub assemble : (g : Gathered) (s : GatherSetup) (ms : List Heard) (shut : Bool) (ts : List ℕ) (o : Option ℕ) → Mid g s ms shut ts
     → ((t : ℕ) → o ≡ Some t → greatest_time (timed s ms) ≡ Some t) → closed_so_far s (timed s ms) shut ≡ ts ++ option_to_list o
     → HasTakenMessages (if is_some o then noted g else g) s ms shut
@@ -65,7 +65,7 @@ assemble g s ms shut ts (Some t) h at closed = record {
   values = h.values;
 }
 
--- what a call closes that isn't passed again is of the time that is the greatest then
+-- An epoch that is closed by a message that isn't passed again is of the greatest time then.
 after_closed : (k : Answer) (b p : Bool) (before after : Option ℕ) (t : ℕ) → (k ≡ answers.CloseFirst → ⊥) → closed_of k b p before after ≡ Some t → after ≡ Some t
 after_closed answers.CloseFirst b p before after t unlike e = absurd (unlike refl)
 after_closed answers.OtherStation b p before after t unlike e = grind (arith, e)
@@ -93,7 +93,7 @@ not_first s xs m e = by (is_own s m) m.tow refl refl where
   by true None p q = grind (arith, e, p, q)
   by true (Some tow) p q = late tow _ _ p q refl refl
 
--- a message of another kind brings no cells
+-- A message of another outcome adds no cells.
 others : (k : Answer) (before : Option ℕ) (g : Gathered) (m : Heard) → (k ≡ answers.Kept → ⊥) → loaded_by k before g m ≡ record { state = g; counts = no_counts }
 others answers.Kept before g m unlike = absurd (unlike refl)
 others answers.OtherStation before g m unlike = refl
@@ -112,7 +112,7 @@ kept_kind s xs m u some =
 other_kind : (s : GatherSetup) (xs : List Timed) (m : Heard) → taken_at s xs m ≡ None → answer_of s xs m ≡ answers.Kept → ⊥
 other_kind s xs m none e = grind (arith, none, e)
 
--- what is left before the closing, and the counts
+-- The value before the closing, and the counts.
 pub record Reached (l : Loaded) (s : GatherSetup) (ms : List Heard) (m : Heard) (shut : Bool) : Type 0 where
   pub mid : Mid l.state s (ms ++ m ∷ []) false (closed_so_far s (timed s ms) shut)
   pub counts : l.counts ≡ counts_of_message s (timed s ms) m
@@ -173,7 +173,7 @@ reached g s ms m shut h early = by (taken_at s xs m) refl where
         counts = ap (with_skipped m.unlisted) (counts_are s (offered s u xs) m.cells) ∙ ap (λ o. option_map_or (λ v. with_skipped m.unlisted (counts_of s (offered s v xs) m.cells)) o no_counts) (sym some);
       })
 
--- the list of closed epochs grows by what is returned
+-- The list of closed epochs grows by the epoch that is returned.
 grown : (s : GatherSetup) (ms : List Heard) (m : Heard) (shut : Bool) (o : Option ℕ) (e : EpochValue) → closes_first s (timed s ms) m ≡ shut
     → closed_so_far s (timed s (ms ++ m ∷ [])) false ≡ closed_so_far s (timed s ms) shut ++ option_to_list o
     → e ≡ held_at s (timed s (ms ++ m ∷ [])) → ((t : ℕ) → o ≡ Some t → greatest_time (timed s (ms ++ m ∷ [])) ≡ Some t)
@@ -206,7 +206,7 @@ pub record Taken (g : Gathered) (s : GatherSetup) (ms : List Heard) (m : Heard) 
   pub after : HasTakenMessages (take_step g m).state s (ms ++ m ∷ []) false
   pub closed : closed_list s (timed s (ms ++ m ∷ [])) false ≡ closed_list s (timed s ms) shut ++ handed_out (is_some (closed_by g.clock m)) (take_step g m).state.epoch
 
--- a message is taken
+-- A message is processed.
 pub taken : (g : Gathered) (s : GatherSetup) (ms : List Heard) (m : Heard) (shut : Bool) → HasTakenMessages g s ms shut → closes_first s (timed s ms) m ≡ shut → Taken g s ms m shut
 taken g s ms m shut h early =
     let xs = timed s ms in
@@ -228,7 +228,7 @@ taken g s ms m shut h early =
       closed = grown s ms m shut o (take_step g m).state.epoch early closed (epoch_stays (is_some o) l.state ∙ r.mid.epoch) at;
     }
 
--- the times of the closed epochs grow by what the step closes
+-- The times of the closed epochs grow by that of the epoch that the step closes.
 pub times_taken : (g : Gathered) (s : GatherSetup) (ms : List Heard) (m : Heard) (shut : Bool) → HasTakenMessages g s ms shut → closes_first s (timed s ms) m ≡ shut
     → closed_so_far s (timed s (ms ++ m ∷ [])) false ≡ closed_so_far s (timed s ms) shut ++ option_to_list (closed_by g.clock m)
 times_taken g s ms m shut h early =
@@ -236,7 +236,7 @@ times_taken g s ms m shut h early =
     let was = clock_is g.clock s ms shut h.clock in
     ap (λ l. closed_so_far s l false) (timed-push s ms m) ∙ closing s xs m shut early ∙ ap (λ c. closed_so_far s xs shut ++ option_to_list (closed_by c m)) (sym was)
 
--- that is the greatest time then
+-- That time is the greatest then.
 pub time_taken : (g : Gathered) (s : GatherSetup) (ms : List Heard) (m : Heard) (shut : Bool) → HasTakenMessages g s ms shut → closes_first s (timed s ms) m ≡ shut
     → (t : ℕ) → closed_by g.clock m ≡ Some t → greatest_time (timed s (ms ++ m ∷ [])) ≡ Some t
 time_taken g s ms m shut h early t e =
@@ -247,7 +247,7 @@ time_taken g s ms m shut h early t e =
     ap greatest_time (timed-push s ms m) ∙ ap (λ (c : State). c.latest) (sym now)
     ∙ after_closed (answer_by g.clock m) _ _ _ _ t (λ f. not_first s xs m (sym answer ∙ f)) e
 
--- what a message that isn't taken closes was pending
+-- An epoch that a message closes that isn't accepted was pending.
 was_pending : (k : Answer) (b p : Bool) (before after : Option ℕ) (t : ℕ) → (k ≡ answers.CloseFirst → ⊥) → (k ≡ answers.Kept → ⊥) → closed_of k b p before after ≡ Some t → p ≡ true
 was_pending answers.CloseFirst b p before after t unlike untaken e = absurd (unlike refl)
 was_pending answers.Kept b p before after t unlike untaken e = absurd (untaken refl)
@@ -274,7 +274,7 @@ pending_taken g s ms m shut h early none t e =
       left_true true b e = refl
       left_true false b e = grind (arith, e)
 
--- a message with a point has neither a time nor a multiple message bit
+-- A message with a point has neither a time nor a multiple message bit.
 abbrev pub IsSet : Heard → Type 0
 IsSet m = (m.point ≡ None) ⊎ ((m.tow ≡ None) × (m.more ≡ None))
 
@@ -293,7 +293,7 @@ no_point_given g m t (inr both) e = absurd (unlike (closes_none g m both.0 both.
   unlike : {o : Option ℕ} → o ≡ None → o ≡ Some t → ⊥
   unlike {o} a b = grind (arith, a, b)
 
--- such a message leaves the station values
+-- A message without a point doesn't change the station values.
 pub same_values : (s : GatherSetup) (ms : List Heard) (m : Heard) → m.point ≡ None → values_of s (ms ++ m ∷ []) ≡ values_of s ms
 same_values s ms m none = values-push s ms m ∙ by (is_own s m) where
   by : (b : Bool) → (if b then option_map_or (λ p. record { x = p.x; y = p.y; z = p.z; height = option_map_or (λ h. h) p.height (values_of s ms).height }) m.point (values_of s ms) else values_of s ms) ≡ values_of s ms
@@ -306,7 +306,7 @@ pub record First (g : Gathered) (s : GatherSetup) (ms : List Heard) (m : Heard) 
   pub after : HasTakenMessages (take_step g m).state s ms true
   pub closed : closed_list s (timed s ms) true ≡ closed_list s (timed s ms) false ++ (take_step g m).state.epoch ∷ []
 
--- a message that closes first isn't
+-- A message that closes first isn't processed.
 pub closes_it : (g : Gathered) (s : GatherSetup) (ms : List Heard) (m : Heard) → HasTakenMessages g s ms false → closes_first s (timed s ms) m ≡ true → m.point ≡ None → First g s ms m
 closes_it g s ms m h early none = by (greatest_time (timed s ms)) refl where
   xs : List Timed
@@ -379,7 +379,7 @@ or_none : (b : Bool) → (b || false) ≡ b
 or_none true = refl
 or_none false = refl
 
--- nothing was pending
+-- No epoch was pending.
 ended_none : (g : Gathered) (s : GatherSetup) (ms : List Heard) (shut : Bool) → HasTakenMessages g s ms shut → g.clock.pending ≡ false → Ended g s ms shut
 ended_none g s ms shut h f =
     ended_by g s ms shut false f h.clock.pending
@@ -395,7 +395,7 @@ and_not_true : (b : Bool) → false ≡ (b && not true)
 and_not_true true = refl
 and_not_true false = refl
 
--- the pending epoch closes
+-- The pending epoch is closed.
 ended_some : (g : Gathered) (s : GatherSetup) (ms : List Heard) → HasTakenMessages g s ms false → g.clock.pending ≡ true → Ended g s ms false
 ended_some g s ms h f = by (greatest_time (timed s ms)) refl where
   xs : List Timed
@@ -417,7 +417,7 @@ ended_some g s ms h f = by (greatest_time (timed s ms)) refl where
       (assemble (stopping g) s ms true (closed_so_far s xs false) (Some t) mid (λ u q. e ∙ q) more)
       (ap (map (epoch_at s xs)) more ∙ map-append (epoch_at s xs) (closed_so_far s xs false) (t ∷ []) ∙ ap (λ v. closed_list s xs false ++ v ∷ []) (sym held))
 
--- no message follows
+-- No message follows.
 pub ended : (g : Gathered) (s : GatherSetup) (ms : List Heard) (shut : Bool) → HasTakenMessages g s ms shut → Ended g s ms shut
 ended g s ms true h = by g.clock.pending refl where
   by : (p : Bool) → g.clock.pending ≡ p → Ended g s ms true
@@ -428,14 +428,14 @@ ended g s ms false h = by g.clock.pending refl where
   by true f = ended_some g s ms h f
   by false f = ended_none g s ms false h f
 
--- a message with a time has no point
+-- A message with a time has no point.
 pub no_point : (s : GatherSetup) (xs : List Timed) (m : Message) → closes_first s xs (heard m) ≡ true → (heard m).point ≡ None
 no_point s xs (message.Station p) h = absurd (grind (arith, h))
 no_point s xs (message.Msm4 m) h = refl
 no_point s xs (message.Msm7 m) h = refl
 no_point s xs (message.Other number set) h = refl
 
--- ---- what was returned
+-- ---- the epochs that were returned
 
 load_handed : (l : Loaded) (xs : List HeardCell) → (load l xs).state.handed ≡ l.state.handed
 load_handed l [] = refl

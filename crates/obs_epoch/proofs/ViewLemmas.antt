@@ -1,4 +1,4 @@
--- A view and the message that it is of.
+-- A view and its message.
 use Rattle.std.proofs.Common.{◌≡◌, refl}
 use Rattle.rtcm_msg.specs.declared.message.Message.{Message}
 use Rattle.rtcm_msg.specs.declared.message.Message.TheVariants.{Station, Msm4, Msm7, Other}

@@ -1,4 +1,4 @@
--- The walk from 1980 on comes to the date that the calendar has.
+-- The walk from 1980 on reaches the date of the calendar.
 use Rattle.std.proofs.Common.{◌≡◌, ℕ, zero, suc, ◌+◌, ◌-◌, ◌*◌, ◌/◌, ◌%◌, ◌<◌, ◌≤◌, Bool, true, false, nat_lt, refl, arith, ℤ, pos, ◌+ℤ◌, ◌-ℤ◌, if◌then◌else◌}
 use Rattle.jiff_core.specs.Calendar.{IsCivilDate, days_from_civil, day_count, days_in_year}
 use Rattle.jiff_core.specs.declared.civil.date.Date.{Date}
@@ -10,7 +10,7 @@ use Rattle.rtcm_msg.specs.Msm.{week}
 use Rattle.obs_epoch.specs.Weeks.{weeks}
 use Rattle.obs_epoch.specs.Dates.{YearMonthDay, month_on, year_on, month_length, year_length, date_of, civil_of, IsCivil, IsCivilOf, clock_of}
 
--- a date that the calendar has, so many days after 1 January of the year -10000
+-- A date of the calendar, a number of days after 1 January of the year -10000.
 record IsOn (d : YearMonthDay) (count : ℕ) : Type 0 where
   pub valid : IsCivilDate (pos d.year) d.month d.day
   pub here : day_count (pos d.year) d.month d.day ≡ count
@@ -42,7 +42,7 @@ last_month y m days count twelve e bound =
     let lt : days < 31 = omega (arith, e12, bound, day_count-last_of_year (pos y), day_count-day (pos y) 12 1 31 (omega arith) (omega arith)) in
     rw twelve lt
 
--- in the months that are left of a year
+-- The date is in the months of the year that are left.
 month_on_is : (months y m days count : ℕ) → y ≤ 9999 → 1 ≤ m → m + months ≡ 12 → day_count (pos y) m 1 + days ≡ count
     → count < day_count (pos y) 1 1 + days_in_year (pos y) → IsOn (month_on months y m days) count
 month_on_is zero y m days count year low whole e bound =
@@ -79,11 +79,11 @@ year_on_is (suc years) y days count year lt e =
 abbrev date : (y : ℤ) (m d : ℕ) → IsCivilDate y m d → Date
 date y m d v = record { year = y; month = m; day = d; year_in = v.0; month_in = v.1; day_in = v.2 }
 
--- two dates of one day are one
+-- Two dates with the same number of days are the same.
 same_date : (y z : ℤ) (m n d e : ℕ) → IsCivilDate y m d → IsCivilDate z n e → days_from_civil y m d ≡ days_from_civil z n e → (y ≡ z) × (m ≡ n) × (d ≡ e)
 same_date y z m n d e a b same = epoch_day_injective (date y m d a) (date z n e b) same
 
--- so many days after 1980-01-06
+-- The date a number of days after 1980-01-06.
 pub date_of_is : (days : ℕ) → days < 700_000
     → IsCivilDate (pos (date_of days).year) (date_of days).month (date_of days).day
     × (days_from_civil (pos (date_of days).year) (date_of days).month (date_of days).day -ℤ days_from_civil (pos 1980) 1 6 ≡ pos days)
@@ -105,7 +105,7 @@ date_of_is days lt =
 same_civil : (c d : Civil) → c.year ≡ d.year → c.month ≡ d.month → c.day ≡ d.day → c.hour ≡ d.hour → c.minute ≡ d.minute → c.millisecond ≡ d.millisecond → c ≡ d
 same_civil c d year month day hour minute millisecond = rw (year, month, day, hour, minute, millisecond)
 
--- what the calendar has is what the walk comes to
+-- The date and time of day of the calendar are those of the walk.
 pub walk_is : (t : ℕ) (c : Civil) → t < weeks * week → IsCivilOf t c → c ≡ civil_of t
 walk_is t c lt is =
     let there = date_of_is (t / 86_400_000) (omega (arith, lt)) in

@@ -14,38 +14,38 @@ use Rattle.obs_epoch.specs.Standing.{held_at, locked_in}
 use Rattle.obs_epoch.specs.Kinds.{is_close_first, kind_of}
 use Rattle.obs_epoch.specs.Gathering.{HasGatheredEpochs, IsAwaited, handed_over, closed_in, is_done}
 
--- by the kind the pending epoch is closed first exactly if the message's time is greater and within the weeks
+-- The kind is `CloseFirst` exactly if an epoch is pending and the message's time is greater and within the weeks.
 abbrev pub TellsClosingFirst : Gathered → Heard → Kind → Type 0
 TellsClosingFirst old m kind =
     (s : GatherSetup) (ms : List Heard) (es : List Closed) → HasGatheredEpochs old s ms es None
     → is_close_first kind ≡ closes_first s (timed s ms) m
 
--- where the pending epoch is closed first, it is returned, and the message is to come again
+-- If the pending epoch is closed first, it is returned, and the message is expected again.
 abbrev pub AwaitsMessage : Gathered → Gathered → Heard → Kind → Type 0
 AwaitsMessage old new m kind =
     (s : GatherSetup) (ms : List Heard) (es : List Closed) → HasGatheredEpochs old s ms es None
     → is_close_first kind ≡ true → HasGatheredEpochs new s ms (es ++ handed_over new) (Some m)
 
--- where the message is taken, it comes after the others, and the epoch that it closes is returned after the others
+-- If the message is processed, it comes after the others, and the epoch that it closes is returned after the others.
 abbrev pub GathersMessage : Gathered → Gathered → Heard → Kind → Type 0
 GathersMessage old new m kind =
     (s : GatherSetup) (ms : List Heard) (es : List Closed) (again : Option Heard) → HasGatheredEpochs old s ms es again
     → IsAwaited again m → is_close_first kind ≡ false → HasGatheredEpochs new s (ms ++ m ∷ []) (es ++ handed_over new) None
 
--- where the message is taken, the kind is what becomes of it after the others
+-- If the message is processed, the kind is its outcome after the others.
 abbrev pub TellsKindOfTaken : Gathered → Heard → Kind → Type 0
 TellsKindOfTaken old m kind =
     (s : GatherSetup) (ms : List Heard) (es : List Closed) (again : Option Heard) → HasGatheredEpochs old s ms es again
     → IsAwaited again m → is_close_first kind ≡ false → kind ≡ kind_of s ms m
 
--- a message that comes again is taken
+-- A message that is expected again is processed.
 abbrev pub TakesAwaited : Gathered → Heard → Kind → Type 0
 TakesAwaited old m kind =
     (s : GatherSetup) (ms : List Heard) (es : List Closed) → HasGatheredEpochs old s ms es (Some m) → is_close_first kind ≡ false
 
--- what a call with a message comes to: the pending epoch is closed first exactly if the message's time is greater and
--- within the weeks, and the message is then to come again; every other message is taken, and the epoch that it closes is
--- returned
+-- The result of a call with a message: the pending epoch is closed first exactly if the message's time is greater and
+-- within the weeks, and then the message is expected again; every other message is processed, and the epoch that it
+-- closes is returned.
 pub record TakesMessage (old new : Gathered) (m : Heard) (answer : Taken) : Type 0 where
   pub exactly : TellsClosingFirst old m answer.kind
   pub first : AwaitsMessage old new m answer.kind
@@ -55,25 +55,25 @@ pub record TakesMessage (old new : Gathered) (m : Heard) (answer : Taken) : Type
   pub closed : answer.closed ≡ is_some (closed_in new)
   pub going : new.has_ended ≡ false
 
--- the end returns the pending epoch, and whether there was one
+-- `end` closes the pending epoch, and returns whether there was one.
 abbrev pub EndsPendingEpoch : Gathered → Gathered → Bool → Type 0
 EndsPendingEpoch old new was =
     (s : GatherSetup) (ms : List Heard) (es : List Closed) → HasGatheredEpochs old s ms es None → old.has_ended ≡ false
     → (was ≡ is_pending s (timed s ms)) × HasGatheredEpochs new s ms (es ++ handed_over new) None
 
--- a gatherer that has ended stands for the same messages and epochs as before
+-- A gatherer that has ended keeps its messages and epochs.
 abbrev pub StaysEnded : Gathered → Gathered → Type 0
 StaysEnded old new =
     (s : GatherSetup) (ms : List Heard) (es : List Closed) (again : Option Heard) → HasGatheredEpochs old s ms es again
     → old.has_ended ≡ true → HasGatheredEpochs new s ms es again
 
--- so many cells of the system has the epoch of the greatest time
+-- The number of kept cells of the system in the epoch of the greatest time.
 abbrev pub HoldsCells : Gathered → System → ℕ → Type 0
 HoldsCells now system count =
     (s : GatherSetup) (ms : List Heard) (es : List Closed) (again : Option Heard) → HasGatheredEpochs now s ms es again
     → count ≡ length (cells_of system (held_at s (timed s ms)))
 
--- so many keys have the locked cells of the closed epochs
+-- The number of keys of the locked cells of the closed epochs.
 abbrev pub HoldsLockedKeys : Gathered → ℕ → Type 0
 HoldsLockedKeys now count =
     (s : GatherSetup) (ms : List Heard) (es : List Closed) (again : Option Heard) → HasGatheredEpochs now s ms es again

@@ -1,4 +1,4 @@
--- The cells of an epoch: of each key the first, and of these the first of a system, as many as are kept.
+-- The cells of an epoch: the first of each key, and of these the first ones of each system, up to the largest number.
 use Rattle.std.specs.Prelude.{ℕ, ◌+◌, ◌-◌, ◌==◌, ◌&&◌, ◌||◌, Bool, true, false, not, nat_le, nat_lt, List, [], ◌∷◌, ◌++◌, filter, flat_map, take, length, count_by, is_some, if◌then◌else◌}
 use Rattle.std.specs.List.{list_any}
 use Rattle.gnss_obs.specs.declared.system.System.{System}
@@ -23,7 +23,7 @@ is_system Galileo s = not (is_gps s)
 abbrev pub is_of_system : System → HeardCell → Bool
 is_of_system system x = is_system system x.satellite.system
 
--- of one system, satellite and signal
+-- The same system, satellite and signal.
 abbrev pub same_key : Satellite → SignalAt → Satellite → SignalAt → Bool
 same_key satellite signal other_satellite other_signal =
     is_system satellite.system other_satellite.system && (satellite.id == other_satellite.id) && (signal.index == other_signal.index)
@@ -31,48 +31,48 @@ same_key satellite signal other_satellite other_signal =
 abbrev pub has_same_key : HeardCell → HeardCell → Bool
 has_same_key a b = same_key a.satellite a.signal b.satellite b.signal
 
--- its satellite is one of its system, and its signal stands in that system's table
+-- The satellite is one of its system, and the signal is in that system's table.
 abbrev pub has_listed_key : HeardCell → Bool
 has_listed_key x =
     nat_lt 0 x.satellite.id && nat_le x.satellite.id (satellites x.satellite.system) && nat_lt x.signal.index (length (table x.satellite.system))
 
--- satellite and signal are listed, and the signal is planned
+-- The satellite and the signal are listed, and the signal is planned.
 abbrev pub is_planned : GatherSetup → HeardCell → Bool
 is_planned s x = has_listed_key x && is_some (place_in x.signal (planned_of x.satellite.system s.plan))
 
--- the planned cells of the taken messages of time t, in order
+-- The planned cells of the accepted messages of time t, in order.
 abbrev pub offered : GatherSetup → ℕ → List Timed → List HeardCell
 offered s t xs = flat_map (λ x. filter (is_planned s) x.message.cells) (filter (is_at t) xs)
 
 abbrev pub is_among : List HeardCell → HeardCell → Bool
 is_among xs x = list_any (has_same_key x) xs
 
--- of these, after the earlier ones, those whose key none before has
+-- The cells whose key no earlier cell has.
 abbrev pub firsts_after : List HeardCell → List HeardCell → List HeardCell
 firsts_after earlier [] = []
 firsts_after earlier (x ∷ xs) =
     (if is_among earlier x then [] else x ∷ []) ++ firsts_after (earlier ++ x ∷ []) xs
 
--- the first of each key
+-- The first cell of each key.
 abbrev pub firsts : List HeardCell → List HeardCell
 firsts xs = firsts_after [] xs
 
--- those that are kept of a system
+-- The kept cells of a system.
 abbrev pub kept : System → List HeardCell → List HeardCell
 kept system xs = take most_cells (filter (is_of_system system) (firsts xs))
 
--- one cell more: it is kept where it is of the system, where none of its key is kept, and where there is room
+-- One more cell: it is kept if it is of the system, if no cell of its key is kept, and if there is room.
 abbrev pub add : System → List HeardCell → HeardCell → List HeardCell
 add system ks y = if is_of_system system y && not (is_among ks y || nat_le most_cells (length ks)) then ks ++ y ∷ [] else ks
 
--- the kept cells of the epoch of time t, of a system, by satellite and within it by the plan
+-- The kept cells of a system in the epoch of time t, by satellite, then by the order of the plan.
 abbrev pub kept_at : GatherSetup → ℕ → List Timed → System → List HeardCell
 kept_at s t xs system = sorted (planned_of system s.plan) (kept system (offered s t xs))
 
 abbrev pub kept_of_both : List HeardCell → List HeardCell
 kept_of_both xs = kept Gps xs ++ kept Galileo xs
 
--- of the cells that a message brings after those before it: how many were kept, weren't planned, are repeated, are one too many
+-- The outcomes of a message's cells after the earlier cells: the kept, unplanned, repeated and surplus ones.
 abbrev pub counts_of : GatherSetup → List HeardCell → List HeardCell → CellCounts
 counts_of s before cells =
     let planned = filter (is_planned s) cells in
@@ -85,6 +85,6 @@ counts_of s before cells =
       crowded = count_by (λ x. not (is_among all x)) planned;
     }
 
--- and of so many more that neither satellite nor signal lists
+-- The same with n more cells of an unlisted satellite or signal.
 abbrev pub with_skipped : ℕ → CellCounts → CellCounts
 with_skipped n c = record c { skipped = c.skipped + n }

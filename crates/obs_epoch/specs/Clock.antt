@@ -1,4 +1,4 @@
--- What a clock stands for, and what became of a message.
+-- The value of a clock, and the outcome of a message.
 use Rattle.std.specs.Prelude.{ℕ, ◌≡◌, ◌*◌, ◌<◌, ◌&&◌, Bool, false, not, nat_lt, List, Option, if◌then◌else◌}
 use Rattle.std.specs.Option.{option_map_or, ForSome}
 use Rattle.obs_epoch.specs.declared.clock.Answer.{Answer}
@@ -8,36 +8,36 @@ use Rattle.rtcm_msg.specs.Msm.{week}
 use Rattle.obs_epoch.specs.Weeks.{weeks}
 use Rattle.obs_epoch.specs.Times.{Timed, greatest_time, is_closed, is_late, is_past, time_of, timed}
 
--- the value of a clock: its setup, the greatest time, and whether the epoch of that time is pending
+-- The value of a clock: its setup, the greatest time, and whether the epoch of that time is pending.
 pub record State : Type 0 where
   pub setup : GatherSetup
   pub latest : Option ℕ
   pub pending : Bool
 
--- the weeks that there are
+-- The start week and the greatest time are within the weeks.
 pub record IsWithinWeeks (start_week : ℕ) (latest : Option ℕ) : Type 0 where
   pub start : start_week < weeks
   pub time : ForSome latest (λ t. t < weeks * week)
 
--- the epoch of the greatest time is not closed
+-- The epoch of the greatest time is not closed.
 abbrev pub is_pending : GatherSetup → List Timed → Bool
 is_pending s xs = option_map_or (λ t. not (is_closed s t xs)) (greatest_time xs) false
 
--- an epoch is pending, and this message's time is greater and within the weeks
+-- An epoch is pending, and the message's time is greater and within the weeks.
 abbrev pub closes_first : GatherSetup → List Timed → Heard → Bool
 closes_first s xs m =
     is_pending s xs && is_own s m
     && option_map_or (λ tow. not (is_late s xs tow) && not (is_past (time_of s xs tow))
     && option_map_or (λ t. nat_lt t (time_of s xs tow)) (greatest_time xs) false) m.tow false
 
--- what becomes of a message after these
+-- The outcome of a message after these messages.
 abbrev pub answer_of : GatherSetup → List Timed → Heard → Answer
 answer_of s xs m =
     if is_own s m
     then option_map_or (λ tow. if is_late s xs tow then Late else (if is_past (time_of s xs tow) then PastWeeks else Kept)) m.tow Ignored
     else OtherStation
 
--- the clock stands for these messages, and for a pending epoch that was closed since then where `shut` holds
+-- The clock has processed these messages; if `shut`, the pending epoch was closed after the last of them.
 pub record HasHeardMessages (g : State) (s : GatherSetup) (ms : List Heard) (shut : Bool) : Type 0 where
   pub setup : g.setup ≡ s
   pub latest : g.latest ≡ greatest_time (timed s ms)

@@ -15,7 +15,7 @@ abbrev pub cells_with_lli : GatherSetup → List Timed → ℕ → List HeardCel
 cells_with_lli s xs t [] = []
 cells_with_lli s xs t (c ∷ cs) = kept_cell c (lli_of s xs t c) ∷ cells_with_lli s xs t cs
 
--- the epoch of time t
+-- The epoch of time t.
 abbrev pub epoch_at : GatherSetup → List Timed → ℕ → EpochValue
 epoch_at s xs t = record {
   time = t;
@@ -23,19 +23,19 @@ epoch_at s xs t = record {
   galileo = cells_with_lli s xs t (kept_at s t xs Galileo);
 }
 
--- all epochs, closed or not
+-- All epochs, closed or not.
 abbrev pub epochs : GatherSetup → List Timed → List EpochValue
 epochs s xs = map (epoch_at s xs) (times xs)
 
--- closed within the list: by a message that ends it, or by a taken message of a greater time
+-- Closed within the list: by a message that ends the epoch, or by an accepted message of a greater time.
 abbrev pub is_shut : GatherSetup → List Timed → ℕ → Bool
 is_shut s xs t = is_closed s t xs || option_map_or (λ u. nat_lt t u) (greatest_time xs) false
 
--- the epochs that are closed within the list
+-- The epochs that are closed within the list.
 abbrev pub closed_epochs : GatherSetup → List Timed → List EpochValue
 closed_epochs s xs = map (epoch_at s xs) (filter (is_shut s xs) (times xs))
 
--- the point of a station message; the height stays if it has none
+-- The point of a station message; the height is kept if the message has none.
 abbrev pub values_by : StationParts → ℕ → StationValues
 values_by p height = record { x = p.x; y = p.y; z = p.z; height = option_map_or (λ h. h) p.height height }
 
@@ -45,14 +45,14 @@ values_by_message s v m = if is_own s m then option_map_or (λ p. values_by p v.
 abbrev pub no_values : StationValues
 no_values = record { x = pos 0; y = pos 0; z = pos 0; height = 0 }
 
--- the point of the last own message that has one, and the last height; the initial values until then
+-- The point of the last own message that has one, and the last height; the initial values before.
 abbrev pub values_of : GatherSetup → List Heard → StationValues
 values_of s ms = fold (values_by_message s) s.initial ms
 
--- the times of the epochs that are closed within the list
+-- The times of the epochs that are closed within the list.
 abbrev pub closed_times : GatherSetup → List Timed → List ℕ
 closed_times s xs = filter (is_shut s xs) (times xs)
 
--- the times of the epochs that are closed, and of the pending one where `shut` says that it was closed since
+-- The times of the closed epochs; if `shut`, also the time of the pending epoch, which was closed after the list.
 abbrev pub closed_so_far : GatherSetup → List Timed → Bool → List ℕ
 closed_so_far s xs shut = closed_times s xs ++ (if shut then option_to_list (greatest_time xs) else [])

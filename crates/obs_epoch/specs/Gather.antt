@@ -1,4 +1,4 @@
--- What a gatherer is seen as, and its steps by its parts.
+-- The value of a gatherer, and its steps in parts.
 use Rattle.std.specs.Prelude.{ℕ, ◌≡◌, ◌==◌, Bool, true, false, List, [], ◌∷◌, map, insert, if◌then◌else◌, Option, Some, None, is_some}
 use Rattle.std.specs.Option.{option_map_or}
 use Rattle.gnss_obs.specs.declared.system.System.{System}
@@ -25,12 +25,12 @@ use Rattle.obs_epoch.specs.declared.locks.KnownLock.{KnownLock}
 use Rattle.obs_epoch.specs.declared.taken.CellCounts.{CellCounts}
 use Rattle.obs_epoch.specs.declared.taken.Fate.{Fate}
 
--- ---- the epoch that is held
+-- ---- the kept epoch
 
 abbrev pub no_epoch : EpochValue
 no_epoch = record { time = 0; gps = []; galileo = [] }
 
--- one cell more, at its place in the order of a plan
+-- One more cell, inserted in the order of a plan.
 abbrev pub with_more_in : System → PlanValue → EpochValue → Cell → EpochValue
 with_more_in Gps p e m = record e { gps = insert_by (cell_seat p.gps) m e.gps }
 with_more_in Galileo p e m = record e { galileo = insert_by (cell_seat p.galileo) m e.galileo }
@@ -38,18 +38,18 @@ with_more_in Galileo p e m = record e { galileo = insert_by (cell_seat p.galileo
 abbrev pub with_more : PlanValue → EpochValue → Cell → EpochValue
 with_more p e m = with_more_in m.satellite.system p e m
 
--- one cell more, after so many of its system
+-- One more cell, inserted at this index among those of its system.
 abbrev pub more_at : System → ℕ → EpochValue → Cell → EpochValue
 more_at Gps at e m = record e { gps = insert e.gps at m }
 more_at Galileo at e m = record e { galileo = insert e.galileo at m }
 
--- how many cells don't stand after a cell of that key
+-- The number of cells that are not after a cell of that key.
 abbrev pub spot_in : PlanValue → EpochValue → HeardCell → ℕ
 spot_in p e x =
     let planned = planned_of x.satellite.system p in
     spot (seat_of planned x) (map (cell_seat planned) (cells_of x.satellite.system e))
 
--- planned cells of a system stand in the order of a plan
+-- Planned cells of a system in the order of a plan.
 pub record AreInPlanOrder (system : System) (planned : List ℕ) (ms : List Cell) : Type 0 where
   pub each : AllByRecursion (λ m. (m.satellite.system ≡ system) × (is_some (place_in m.signal planned) ≡ true)) ms
   pub rise : SeatsRise (map (cell_seat planned) ms)
@@ -68,7 +68,7 @@ pub record Gathered : Type 0 where
   pub handed : Bool
   pub has_ended : Bool
 
--- a cell of a planned signal, before it is kept
+-- A cell of a planned signal, before it is kept.
 abbrev pub planned_cell : PlanValue → HeardCell → Option Cell
 planned_cell p x = if is_some (place_in x.signal (planned_of x.satellite.system p)) then Some (kept_cell x 0) else None
 
@@ -79,7 +79,7 @@ abbrev pub hold_by : Fate → Gathered → HeardCell → Gathered
 hold_by Kept g x = record g { epoch = with_more g.clock.setup.plan g.epoch (kept_cell x (lli_with g.epoch.time x (lookup g.locks x))) }
 hold_by _ g x = g
 
--- a cell comes
+-- One more cell.
 abbrev pub hold : Gathered → HeardCell → Gathered
 hold g x = hold_by (fate_in g x) g x
 
@@ -93,28 +93,28 @@ no_counts = record { kept = 0; skipped = 0; repeated = 0; crowded = 0 }
 abbrev pub load_one : Loaded → HeardCell → Loaded
 load_one l x = record { state = hold l.state x; counts = count_in (fate_in l.state x) l.counts }
 
--- cells come, one by one
+-- More cells, one by one.
 abbrev pub load : Loaded → List HeardCell → Loaded
 load l [] = l
 load l (x ∷ xs) = load (load_one l x) xs
 
--- so many more cells were skipped
+-- Counts n more skipped cells.
 abbrev pub with_unlisted : ℕ → Loaded → Loaded
 with_unlisted n l = record { state = l.state; counts = with_skipped n l.counts }
 
 abbrev pub load_entry : LockField → System → Loaded → Entry → Loaded
 load_entry field system l e = option_map_or (load_one l) (seen_in field system e) (with_unlisted 1 l)
 
--- the cells of a message come, one by one
+-- The entries of a message, one by one.
 abbrev pub load_entries : LockField → System → Loaded → List Entry → Loaded
 load_entries field system l [] = l
 load_entries field system l (e ∷ es) = load_entries field system (load_entry field system l e) es
 
--- the cells of a message
+-- The cells of a message.
 abbrev pub load_heard : Loaded → Heard → Loaded
 load_heard l m = with_unlisted m.unlisted (load l m.cells)
 
--- the locks of the held epoch are noted
+-- The locks of the kept epoch are recorded.
 abbrev pub noted : Gathered → Gathered
 noted g = record g { locks = note_all g.epoch.time (note_all g.epoch.time g.locks g.epoch.gps) g.epoch.galileo }
 
@@ -126,7 +126,7 @@ is_same None (Some b) = false
 is_same (Some a) None = false
 is_same (Some a) (Some b) = a == b
 
--- the epoch of the greatest time, with no cell yet where that time is new
+-- The epoch of the greatest time, without cells if that time is new.
 abbrev pub epoch_begun : Option ℕ → Gathered → Gathered
 epoch_begun before g =
     if is_same before g.clock.latest then g else record g { epoch = record { time = option_map_or (λ t. t) g.clock.latest 0; gps = []; galileo = [] } }
@@ -135,7 +135,7 @@ abbrev pub loaded_by : Answer → Option ℕ → Gathered → Heard → Loaded
 loaded_by answers.Kept before g m = load_heard (record { state = epoch_begun before g; counts = no_counts }) m
 loaded_by _ before g m = record { state = g; counts = no_counts }
 
--- the clock and the station values process the message
+-- The clock and the station values process the message.
 abbrev pub ticked : Gathered → Heard → Gathered
 ticked g m = record g { clock = step_by g.clock m; values = values_by_message g.clock.setup g.values m; handed = is_some (closed_by g.clock m) }
 
@@ -145,14 +145,14 @@ closed_if b l = record { state = if b then noted l.state else l.state; counts = 
 abbrev pub take_step : Gathered → Heard → Loaded
 take_step g m = closed_if (is_some (closed_by g.clock m)) (loaded_by (answer_by g.clock m) g.clock.latest (ticked g m) m)
 
--- the last call closed no epoch
+-- The last call closed no epoch.
 abbrev pub rested : Gathered → Gathered
 rested g = record g { handed = false }
 
 abbrev pub stopped : State → State
 stopped c = record c { pending = false }
 
--- no message follows
+-- The step of `end`: no message follows.
 abbrev pub end_step : Gathered → Gathered
 end_step g =
     let h = record g { clock = stopped g.clock; handed = g.clock.pending; has_ended = true } in

@@ -1,4 +1,4 @@
--- What a gatherer stands for: its messages, the epochs that it returned, and a message that is to come again.
+-- The history of a gatherer: its messages, the epochs that it returned, and a message that is expected again.
 use Rattle.std.specs.Prelude.{ℕ, ◌≡◌, ◌&&◌, ◌||◌, Bool, true, List, [], ◌∷◌, ◌++◌, map, if◌then◌else◌, Option, Some, None, is_some, option_to_list}
 use Rattle.std.specs.Option.{IfSome, option_map_or}
 use Rattle.rtcm_bits.specs.Prefix.{IsPrefix}
@@ -14,28 +14,28 @@ use Rattle.obs_epoch.specs.Standing.{HasTakenMessages}
 
 -- ---- the epochs of a list of messages
 
--- the earlier messages and those of the later ones that come before the closing of time t
+-- The earlier messages, and the later ones before the message that closes the epoch of time t.
 abbrev pub open_after : GatherSetup → ℕ → List Heard → List Heard → List Heard
 open_after s t earlier [] = earlier
 open_after s t earlier (m ∷ ms) =
     if is_shut s (timed s (earlier ++ m ∷ [])) t then earlier else open_after s t (earlier ++ m ∷ []) ms
 
--- the messages before the closing of time t
+-- The messages before the one that closes the epoch of time t.
 abbrev pub before_closing : GatherSetup → ℕ → List Heard → List Heard
 before_closing s t ms = open_after s t [] ms
 
--- the epoch of time t, with the station values that were known when it was closed
+-- The epoch of time t, with the station values that were known when it was closed.
 abbrev pub closed_at : GatherSetup → List Heard → ℕ → Closed
 closed_at s ms t = record { epoch = (epoch_at s (timed s ms) t); values = values_of s (before_closing s t ms) }
 
 abbrev pub closed_list_at : GatherSetup → List Heard → List ℕ → List Closed
 closed_list_at s ms ts = map (closed_at s ms) ts
 
--- the epochs that are closed within the list
+-- The epochs that are closed within the list.
 abbrev pub closed_epochs : GatherSetup → List Heard → List Closed
 closed_epochs s ms = closed_list_at s ms (closed_times s (timed s ms))
 
--- all epochs of a list that has ended
+-- All epochs of a list, when its end closed the last one.
 abbrev pub all_epochs : GatherSetup → List Heard → List Closed
 all_epochs s ms = closed_list_at s ms (times (timed s ms))
 
@@ -44,31 +44,31 @@ known_epochs has_ended s ms = if has_ended then all_epochs s ms else closed_epoc
 
 -- ---- the gatherer
 
--- the planned signals of a gatherer
+-- The planned signals of a gatherer.
 abbrev pub plan_in : Gathered → PlanValue
 plan_in v = v.clock.setup.plan
 
--- the epoch that the last call closed, as others see it
+-- The epoch that the last call closed.
 abbrev pub closed_in : Gathered → Option EpochValue
 closed_in v = if v.handed then Some (v.epoch) else None
 
--- a closed epoch with the station values that are known, where there is one
+-- The epoch with these station values, if there is one.
 abbrev pub closed_by : Option EpochValue → StationValues → List Closed
 closed_by e values = option_map_or (λ epoch. record { epoch = epoch; values = values } ∷ []) e []
 
--- what the last call returned
+-- The epoch that the last call returned, if any.
 abbrev pub handed_over : Gathered → List Closed
 handed_over v = closed_by (closed_in v) v.values
 
--- the pending epoch was closed since the last message: for a message that is to come again, or by the end
+-- The pending epoch was closed after the last message: for a message that is expected again, or by `end`.
 abbrev pub is_done : Gathered → GatherSetup → List Heard → Option Heard → Bool
 is_done v s ms again = is_some again || (v.has_ended && is_pending s (timed s ms))
 
--- the message that is to come again, where there is one
+-- The message is the one that is expected again, if there is one.
 abbrev pub IsAwaited : Option Heard → Heard → Type 0
 IsAwaited again m = IfSome again (λ awaited. m ≡ awaited)
 
--- the gatherer stands for these messages, returned these epochs, and waits for a message to come again where there is one
+-- The gatherer has processed these messages, has returned these epochs, and expects the message `again`, if any.
 pub record HasGatheredEpochs (v : Gathered) (s : GatherSetup) (ms : List Heard) (es : List Closed) (again : Option Heard) : Type 0 where
   pub standing : HasTakenMessages v s ms (is_done v s ms again)
   pub handed : es ≡ closed_list_at s ms (closed_so_far s (timed s ms) (is_done v s ms again))

@@ -1,4 +1,4 @@
--- The setup of a gatherer, and what it uses of a message.
+-- The setup of a gatherer, and the parts of a message that it uses.
 use Rattle.std.specs.Prelude.{ℕ, ℤ, ◌≡◌, IfSome, ◌==◌, ◌&&◌, Bool, true, false, not, List, [], ◌∷◌, if◌then◌else◌, Option, Some, None, option_map, option_and_then, filter_map, ◌+◌, is_some}
 use Rattle.std.specs.Option.{option_map_or}
 use Rattle.gnss_obs.specs.declared.system.System.{System}
@@ -20,8 +20,8 @@ use Rattle.obs_epoch.specs.Values.{PlanValue, HasTwelveDigits}
 use Rattle.obs_epoch.specs.declared.cell.Cell.{Cell}
 use Rattle.obs_epoch.specs.declared.cell.StationValues.{StationValues}
 
--- what a gatherer begins with: the planned signals, the week of the first time, the station (none: the messages of every
--- station are those of one station), whether a message may close an epoch, and the station values before any message
+-- The setup of a gatherer: the planned signals, the week of the first time, the station (none: the messages of all
+-- stations as if they were one), whether a message may close an epoch, and the station values before any message.
 pub record GatherSetup : Type 0 where
   pub plan : PlanValue
   pub start_week : ℕ
@@ -29,8 +29,8 @@ pub record GatherSetup : Type 0 where
   pub by_bit : Bool
   pub initial : StationValues
 
--- a cell of a message, of a listed satellite and signal: its values in thousandths, the lock of its phase, and whether
--- the phase may be off by half a cycle (DF420)
+-- A cell of a message, of a listed satellite and signal: its values in thousandths, the lock of its phase, and whether
+-- the phase may be off by half a cycle (DF420).
 pub record HeardCell : Type 0 where
   pub satellite : Satellite
   pub signal : SignalAt
@@ -41,13 +41,13 @@ pub record HeardCell : Type 0 where
   pub lock : LockTime
   pub half_cycle : Bool
 
--- a listed satellite and a listed signal of one system
+-- A listed satellite and a listed signal of one system.
 pub record IsKey (x : HeardCell) : Type 0 where
   pub satellite : IsSatellite x.satellite
   pub signal : IsSignal x.signal
   pub same : x.signal.system ≡ x.satellite.system
 
--- a cell of a listed satellite and signal of one system, with values of a bounded size
+-- A cell of a listed satellite and signal of one system, with bounded values.
 pub record IsObserved (x : HeardCell) : Type 0 where
   pub key : IsKey x
   pub c : IfSome x.c HasTwelveDigits
@@ -55,7 +55,7 @@ pub record IsObserved (x : HeardCell) : Type 0 where
   pub d : IfSome x.d HasTwelveDigits
   pub s : IfSome x.s HasTwelveDigits
 
--- the same cell kept in an epoch, with its loss-of-lock indicator
+-- The kept cell of an epoch with this loss of lock indicator.
 abbrev pub kept_cell : HeardCell → ℕ → Cell
 kept_cell x lli = record {
   satellite = x.satellite;
@@ -69,7 +69,7 @@ kept_cell x lli = record {
   half_cycle = x.half_cycle;
 }
 
--- the cell of a message that a kept cell is
+-- The cell of a message of which this is the kept cell.
 abbrev pub heard_cell : Cell → HeardCell
 heard_cell c = record {
   satellite = c.satellite;
@@ -82,9 +82,9 @@ heard_cell c = record {
   half_cycle = c.half_cycle;
 }
 
--- what a gatherer needs of a message: the station if it has one, the time of week if it has observations,
--- whether more of the same time follow if it says so, its cells of listed satellites and signals in order, how many
--- others it has, and its point
+-- The parts of a message that a gatherer uses: the station, if the message has one; the time of week, if it has
+-- observations; whether more messages of the same time follow, if it contains DF393; its cells of listed satellites and
+-- signals in order; the number of its other cells; and its point.
 pub record Heard : Type 0 where
   pub station : Option ℕ
   pub tow : Option ℕ
@@ -93,7 +93,7 @@ pub record Heard : Type 0 where
   pub unlisted : ℕ
   pub point : Option StationParts
 
--- the values of a cell in thousandths, and its lock
+-- The values of a cell in thousandths, and its lock.
 abbrev pub observed : LockTime → Entry → Satellite → SignalAt → HeardCell
 observed lock e satellite signal = record {
   satellite = satellite;
@@ -106,7 +106,7 @@ observed lock e satellite signal = record {
   half_cycle = e.half_cycle;
 }
 
--- a cell of a message, where its satellite and its signal are listed
+-- A cell of a message, if its satellite and its signal are listed.
 abbrev pub seen_by : LockTime → System → Entry → Option HeardCell
 seen_by lock system e =
     option_and_then (λ satellite. option_map (observed lock e satellite) (signal_of_id system e.signal)) (satellite_of_id system e.satellite)
@@ -114,16 +114,16 @@ seen_by lock system e =
 abbrev pub system_of : Bool → System
 system_of is_galileo = if is_galileo then Galileo else Gps
 
--- the lock of an indicator of a field
+-- The lock of a lock time indicator of this field.
 abbrev pub lock_by : LockField → ℕ → LockTime
 lock_by Df402 code = times4 code
 lock_by Df407 code = times7 code
 
--- a cell of a message of this lock field and system
+-- A cell of a message of this lock field and system.
 abbrev pub seen_in : LockField → System → Entry → Option HeardCell
 seen_in field system e = seen_by (lock_by field e.lock) system e
 
--- how many cells are of another satellite or signal
+-- The number of cells of an unlisted satellite or signal.
 abbrev pub unlisted_in : LockField → System → List Entry → ℕ
 unlisted_in field system [] = 0
 unlisted_in field system (e ∷ es) = (if is_some (seen_in field system e) then 0 else 1) + unlisted_in field system es
@@ -145,18 +145,18 @@ heard (message.Msm7 m) = heard_msm Df407 m (entries (message.Msm7 m))
 heard (message.Other number set) =
     record { station = option_map (λ p. p.0) set; tow = None; more = option_map (λ p. p.1) set; cells = []; unlisted = 0; point = None }
 
--- a message without its cells
+-- A message without its cells.
 abbrev pub without_cells : Heard → Heard
 without_cells m = record m { cells = []; unlisted = 0 }
 
--- the same from what the message contains beside them
+-- The same, computed from the summary of the message.
 abbrev pub heard_summary : Summary → Heard
 heard_summary m = record { station = m.station; tow = m.time; more = m.more; cells = []; unlisted = 0; point = m.point }
 
--- a message of the station that is wanted
+-- A message of the wanted station.
 abbrev pub is_own : GatherSetup → Heard → Bool
 is_own s m = option_map_or (λ from. option_map_or (λ wanted. from == wanted) s.station true) m.station false
 
--- an own message after which no more of its time follow, where that counts
+-- An own message after which no more messages of its time follow, if the multiple message bit is used.
 abbrev pub ends_epoch : GatherSetup → Heard → Bool
 ends_epoch s m = s.by_bit && is_own s m && option_map_or not m.more false

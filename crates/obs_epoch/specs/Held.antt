@@ -1,4 +1,4 @@
--- Cells and lock records as they are held, and one step of each.
+-- The kept cells and the lock records, and one step of each.
 use Rattle.std.specs.Prelude.{[], ℕ, ◌+◌, ◌-◌, ◌*◌, ◌≡◌, Bool, nat_le, List, ◌∷◌, length, get_or, set, replicate, count_by, if◌then◌else◌, Option, Some, None, is_some}
 use Rattle.std.specs.Option.{option_map_or}
 use Rattle.std.specs.List.{list_any}
@@ -16,20 +16,20 @@ use Rattle.obs_epoch.specs.declared.locks.KnownLock.{KnownLock}
 use Rattle.obs_epoch.specs.declared.taken.CellCounts.{CellCounts}
 use Rattle.obs_epoch.specs.declared.taken.Fate.{Fate}
 
--- ---- lock records: an entry for each key that there is, those of GPS first
+-- ---- lock records: an entry for each key, those of GPS first
 
--- so many keys a system has: each of its satellites with each signal of its table
+-- The number of keys of a system: one for each of its satellites with each signal of its table.
 abbrev pub keys_of : System → ℕ
 keys_of system = satellites system * length (table system)
 
 abbrev pub most_locks : ℕ
 most_locks = keys_of Gps + keys_of Galileo
 
--- no key has a record
+-- No key has a record.
 abbrev pub no_locks : List (Option KnownLock)
 no_locks = replicate most_locks None
 
--- the entry of a key
+-- The index of the entry of a key.
 abbrev pub lock_place_in : System → ℕ → ℕ → ℕ
 lock_place_in Gps id index = length (table Gps) * (id - 1) + index
 lock_place_in Galileo id index = keys_of Gps + (length (table Galileo) * (id - 1) + index)
@@ -37,22 +37,22 @@ lock_place_in Galileo id index = keys_of Gps + (length (table Galileo) * (id - 1
 abbrev pub lock_place : HeardCell → ℕ
 lock_place x = lock_place_in x.satellite.system x.satellite.id x.signal.index
 
--- what is recorded of a key
+-- The record of a key.
 abbrev pub lookup : List (Option KnownLock) → HeardCell → Option KnownLock
 lookup locks key = if has_listed_key key then get_or locks (lock_place key) None else None
 
--- how many keys have a record
+-- The number of keys that have a record.
 abbrev pub recorded : List (Option KnownLock) → ℕ
 recorded locks = count_by is_some locks
 
--- a key without a record adds one
+-- The number of records that are added by a key with this entry.
 abbrev pub one_if_new : Option KnownLock → ℕ
 one_if_new before = if is_some before then 0 else 1
 
 abbrev pub put : List (Option KnownLock) → HeardCell → KnownLock → List (Option KnownLock)
 put locks x l = set locks (lock_place x) (Some l)
 
--- a kept cell of time t is noted, where it is locked
+-- Records the lock of a kept cell of time t, if it is locked.
 abbrev pub note : ℕ → List (Option KnownLock) → HeardCell → List (Option KnownLock)
 note t locks x = option_map_or (put locks x) (lock_of t x) locks
 
@@ -60,18 +60,18 @@ abbrev pub note_all : ℕ → List (Option KnownLock) → List Cell → List (Op
 note_all t locks [] = locks
 note_all t locks (m ∷ ms) = note_all t (note t locks (heard_cell m)) ms
 
--- the keys of these cells have records, and no others
+-- Exactly the keys of these cells have records.
 pub record TracksLocks (locks : List (Option KnownLock)) (noted : List HeardCell) : Type 0 where
   pub has : (key : HeardCell) → is_some (lookup locks key) ≡ is_among noted key
   pub count : recorded locks ≡ length (firsts noted)
   pub size : length locks ≡ most_locks
 
--- ---- cells: of a key the first, and of these as many as there is room for
+-- ---- cells: the first of each key, up to the largest number of kept cells
 
 abbrev pub is_held : List Cell → HeardCell → Bool
 is_held ms x = list_any (λ m. has_same_key x (heard_cell m)) ms
 
--- a cell of that key
+-- A cell of the same key.
 abbrev pub is_cell_of : HeardCell → Cell → Bool
 is_cell_of x c = same_key x.satellite x.signal c.satellite c.signal
 

@@ -1,4 +1,4 @@
--- What becomes of a message.
+-- The outcome of a message.
 use Rattle.std.specs.Prelude.{◌≡◌, ◌<◌, ◌≤◌, ℕ, Bool, true, false, List, Option, is_some, if◌then◌else◌}
 use Rattle.obs_epoch.specs.declared.clock.Answer.{Answer}
 use Rattle.obs_epoch.specs.declared.clock.Answer.TheVariants as answers
@@ -24,7 +24,7 @@ abbrev pub is_close_first : Kind → Bool
 is_close_first kinds.CloseFirst = true
 is_close_first _ = false
 
--- of observations: by their time
+-- The outcome of observations.
 abbrev pub kind_at : Answer → CellCounts → Kind
 kind_at answers.OtherStation n = kinds.OtherStation
 kind_at answers.Ignored n = kinds.Ignored
@@ -33,39 +33,39 @@ kind_at answers.PastWeeks n = kinds.PastWeeks
 kind_at answers.CloseFirst n = kinds.CloseFirst
 kind_at answers.Kept n = kinds.Kept n.kept n.skipped n.repeated n.crowded
 
--- of a station message: by its station
+-- The outcome of a station message.
 abbrev pub station_kind : Answer → Kind
 station_kind answers.OtherStation = kinds.OtherStation
 station_kind _ = kinds.Station
 
--- of a message with a time of week, with a point, or with neither
+-- The outcome of a message: of observations if it has a time of week, else of a station message if it has a point.
 abbrev pub kind_by : Heard → Answer → CellCounts → Kind
 kind_by m answer n =
     if is_some m.tow then kind_at answer n else (if is_some m.point then station_kind answer else kinds.Ignored)
 
--- what becomes of a message after these
+-- The outcome of a message after these messages.
 abbrev pub kind_of : GatherSetup → List Heard → Heard → Kind
 kind_of s ms m = kind_by m (answer_of s (timed s ms) m) (counts_of_message s (timed s ms) m)
 
--- a message may close an epoch by its bit
+-- The multiple message bit may close an epoch.
 abbrev pub is_by_bit : Gather → Bool
 is_by_bit gathers.Bit = true
 is_by_bit gathers.Time = false
 
--- what a gatherer begins with
+-- The setup of a gatherer with these arguments.
 abbrev pub setup_at : PlanValue → ℕ → Option ℕ → Gather → StationValues → GatherSetup
 setup_at plan start_week station gather initial =
     record { plan = plan; start_week = start_week; station = station; by_bit = is_by_bit gather; initial = initial }
 
--- with station values of 0
+-- The same setup with station values of 0.
 abbrev pub setup_of : PlanValue → ℕ → Option ℕ → Gather → GatherSetup
 setup_of plan start_week station gather = setup_at plan start_week station gather no_values
 
--- no station has this number
+-- The number of the station does not fit the 12 bits of DF003.
 abbrev pub is_no_station : Option ℕ → Bool
 is_no_station station = option_map_or (λ n. nat_lt 4_095 n) station false
 
--- why a gatherer of this week and station is refused
+-- The fault for which a gatherer of this week and station is refused.
 abbrev pub IsUnfitSetup : ℕ → Option ℕ → PlanFault → Type 0
 IsUnfitSetup week station faults.BadWeek = weeks ≤ week
 IsUnfitSetup week station faults.BadStation = (week < weeks) × (is_no_station station ≡ true)

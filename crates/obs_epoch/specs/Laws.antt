@@ -9,30 +9,30 @@ use Rattle.obs_epoch.specs.Kinds.{is_close_first, kind_of}
 use Rattle.rtcm_bits.specs.Prefix.{IsPrefix}
 use Rattle.obs_epoch.specs.Gathering.{closed_epochs, all_epochs}
 
--- whatever messages follow, the closed epochs stay as they are, and are the first ones
+-- For every list of later messages, the closed epochs don't change and stay the first ones.
 abbrev pub ClosedStay : Type 0
 ClosedStay = (s : GatherSetup) (ms more : List Heard) → IsPrefix (closed_epochs s ms) (closed_epochs s (ms ++ more))
 
--- and the first of all that there are in the end
+-- They are also the first of all epochs at the end.
 abbrev pub ClosedComeFirst : Type 0
 ClosedComeFirst = (s : GatherSetup) (ms more : List Heard) → IsPrefix (closed_epochs s ms) (all_epochs s (ms ++ more))
 
--- no messages have no epoch
+-- A list without messages has no closed epoch.
 abbrev pub NoneClosed : Type 0
 NoneClosed = (s : GatherSetup) → closed_epochs s [] ≡ []
 
--- over a list no message is to come again
+-- No message of a list is expected again.
 abbrev pub NeverFirst : Type 0
 NeverFirst = (s : GatherSetup) (ms : List Heard) (m : Heard) → is_close_first (kind_of s ms m) ≡ false
 
--- the codes name these signals of a system, one by one
+-- These are the signals of the codes of a system, one by one.
 abbrev pub CodesNameSignals : System → List (List ℕ) → List ℕ → Type 0
 CodesNameSignals system [] [] = Unit {0}
 CodesNameSignals system [] (i ∷ signals) = ⊥
 CodesNameSignals system (code ∷ codes) [] = ⊥
 CodesNameSignals system (code ∷ codes) (i ∷ signals) = (signal_of_code system code ≡ Some (record { system = system; index = i })) × CodesNameSignals system codes signals
 
--- where codes are no fault, they name their signals, and no two of these are the same
+-- If codes have no fault, the signals are those of the codes, and no two are the same.
 abbrev pub CodesAreSpelled : Type 0
 CodesAreSpelled = (system : System) (codes : List (List ℕ)) (signals : List ℕ) → signals_after system [] codes ≡ Ok signals
     → CodesNameSignals system codes signals × IsDistinct nat_eq signals

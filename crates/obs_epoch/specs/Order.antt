@@ -1,4 +1,4 @@
--- The order in which kept cells stand: by satellite, and within it by the plan.
+-- The order of kept cells: by satellite, then by the order of the plan.
 use Rattle.std.specs.Prelude.{ℕ, suc, ◌≡◌, ◌≤◌, ◌==◌, ◌&&◌, ◌||◌, ⊤, Bool, true, nat_lt, List, [], ◌∷◌, fold, map, if◌then◌else◌}
 use Rattle.std.specs.Option.{option_map_or}
 use Rattle.std.specs.List.{AllByRecursion}
@@ -11,25 +11,25 @@ use Rattle.obs_epoch.specs.Values.{PlanValue, EpochValue, AreHeld, most_cells}
 use Rattle.obs_epoch.specs.Plans.{place_in}
 use Rattle.obs_epoch.specs.Heard.{HeardCell}
 
--- the seat of a key: its satellite's number, and its signal's place among those that are planned
+-- The sort key of a satellite and signal: the satellite's number, and the index of the signal among the planned ones.
 abbrev pub plan_seat : List ℕ → Satellite → SignalAt → Seat
 plan_seat planned satellite signal = record { satellite = satellite.id; place = option_map_or (λ p. p) (place_in signal planned) 0 }
 
--- by satellite, and within it by place
+-- By satellite, then by index.
 abbrev pub is_before : Seat → Seat → Bool
 is_before a b = nat_lt a.satellite b.satellite || ((a.satellite == b.satellite) && nat_lt a.place b.place)
 
--- each before all after it
+-- Each sort key is less than all after it.
 abbrev pub SeatsRise : List Seat → Type 0
 SeatsRise [] = ⊤
 SeatsRise (s ∷ ss) = AllByRecursion (λ t. is_before s t ≡ true) ss × SeatsRise ss
 
--- before the first that stands after it
+-- Inserts an item before the first one with a greater sort key.
 abbrev pub insert_by : {X : Type 0} → (X → Seat) → X → List X → List X
 insert_by at x [] = x ∷ []
 insert_by at x (y ∷ ys) = if is_before (at x) (at y) then x ∷ y ∷ ys else y ∷ insert_by at x ys
 
--- how many don't stand after that seat
+-- The number of sort keys before the first one that is greater.
 abbrev pub spot : Seat → List Seat → ℕ
 spot s [] = 0
 spot s (t ∷ ts) = if is_before s t then 0 else suc (spot s ts)
@@ -42,22 +42,22 @@ seat_of planned x = plan_seat planned x.satellite x.signal
 abbrev pub cell_seat : List ℕ → Cell → Seat
 cell_seat planned c = plan_seat planned c.satellite c.signal
 
--- cells in the order of their seats
+-- The cells sorted by their sort keys.
 abbrev pub sorted : List ℕ → List HeardCell → List HeardCell
 sorted planned xs = fold (λ ys x. insert_by (seat_of planned) x ys) [] xs
 
--- cells stand by satellite, and within it by the place of their signals among these; no two have one seat
+-- Cells in the order of satellites, then of the indices of their signals in the list; no two have the same sort key.
 abbrev pub AreOrderedBy : List ℕ → List Cell → Type 0
 AreOrderedBy planned cells = SeatsRise (map (cell_seat planned) cells)
 
--- the cells of each system stand by the plan
+-- The cells of each system are in the order of the plan.
 abbrev pub StandByPlan : PlanValue → EpochValue → Type 0
 StandByPlan p e = AreOrderedBy p.gps e.gps × AreOrderedBy p.galileo e.galileo
 
--- cells stand by satellite, and within it in some order of signals
+-- Cells in the order of satellites, then in some order of signals.
 abbrev pub AreSorted : List Cell → Type 0
 AreSorted cells = (planned : List ℕ) × AreOrderedBy planned cells
 
--- the cells that an epoch holds of a system, in a list with so much room that none of them takes memory
+-- The kept cells of a system, in a list with room for all that an epoch can keep.
 abbrev pub AreHeldIn : System → ℕ → List Cell → Type 0
 AreHeldIn system room cells = AreHeld system cells × AreSorted cells × (most_cells ≤ room)

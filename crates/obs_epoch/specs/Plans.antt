@@ -1,4 +1,4 @@
--- The signals that texts plan.
+-- The plan of two texts.
 use Rattle.std.specs.Prelude.{◌≡◌, ℕ, zero, suc, ◌==◌, List, [], ◌∷◌, ◌++◌, length, codes, nat_eq, if◌then◌else◌, Option, Some, None, Result, Ok, Err, position}
 use Rattle.std.specs.List.{list_any}
 use Rattle.std.specs.Str.{bytes_eq}
@@ -9,11 +9,11 @@ use Rattle.obs_epoch.specs.Values.{PlanValue}
 use Rattle.obs_epoch.specs.declared.fault.PlanFault.{PlanFault}
 use Rattle.obs_epoch.specs.declared.fault.PlanFault.TheVariants.{UnknownCode, RepeatedCode, NothingPlanned}
 
--- the place of a signal among those that are planned of its system
+-- The index of a signal among the planned signals of its system.
 abbrev pub place_in : SignalAt → List ℕ → Option ℕ
 place_in signal planned = position (λ i. i == signal.index) planned
 
--- the texts between commas; an empty text is one empty code
+-- The texts between commas; an empty text is one empty code.
 abbrev pub onto_first : ℕ → List (List ℕ) → List (List ℕ)
 onto_first b [] = (b ∷ []) ∷ []
 onto_first b (x ∷ xs) = (b ∷ x) ∷ xs
@@ -22,7 +22,7 @@ abbrev pub between_commas : List ℕ → List (List ℕ)
 between_commas [] = [] ∷ []
 between_commas (b ∷ bs) = if b == 44 then [] ∷ between_commas bs else onto_first b (between_commas bs)
 
--- one signal more, and what follows it; or its fault
+-- The signals after one more signal, passed to `rest`; or the fault of that signal.
 abbrev pub one_signal_more : System → List ℕ → Option SignalAt → (List ℕ → Result (List ℕ) PlanFault) → Result (List ℕ) PlanFault
 one_signal_more system earlier None rest = Err (UnknownCode system (length earlier))
 one_signal_more system earlier (Some s) rest =
@@ -30,31 +30,31 @@ one_signal_more system earlier (Some s) rest =
     then Err (RepeatedCode system (length earlier))
     else rest (earlier ++ s.index ∷ [])
 
--- a code's signal is taken after these, and the signals are then those
+-- A code's signal is accepted after these signals, and the result is those.
 abbrev pub IsTaken : System → List ℕ → Option SignalAt → List ℕ → Type 0
 IsTaken system earlier s now = (rest : List ℕ → Result (List ℕ) PlanFault) → one_signal_more system earlier s rest ≡ rest now
 
--- it is refused by that fault
+-- A code's signal is refused with that fault.
 abbrev pub IsRefused : System → List ℕ → Option SignalAt → PlanFault → Type 0
 IsRefused system earlier s fault = (rest : List ℕ → Result (List ℕ) PlanFault) → one_signal_more system earlier s rest ≡ Err fault
 
--- the signals that codes plan, after those of the codes before them: from the left the first code that the table doesn't
--- have, or whose signal came before, is the fault, with its place from 0
+-- The signals of codes, after those of the earlier codes. The first code from the left that isn't in the table, or
+-- whose signal came before, is the fault, with its index counted from 0.
 abbrev pub signals_after : System → List ℕ → List (List ℕ) → Result (List ℕ) PlanFault
 signals_after system earlier [] = Ok earlier
 signals_after system earlier (code ∷ rest) =
     one_signal_more system earlier (signal_of_code system code) (λ signals. signals_after system signals rest)
 
--- the signals of codes with commas between them
+-- The signals of codes separated by commas.
 abbrev pub signals_coded : System → List ℕ → Result (List ℕ) PlanFault
 signals_coded system text = signals_after system [] (between_commas text)
 
--- the numbers below n, rising
+-- The numbers below n, rising.
 abbrev pub below : ℕ → List ℕ
 below zero = []
 below (suc n) = below n ++ n ∷ []
 
--- the signals of a system that a text plans: all of its table, none, or those of its codes
+-- The signals of a text: all of the system's table, none, or those of its codes.
 abbrev pub signals_of : System → List ℕ → Result (List ℕ) PlanFault
 signals_of system text =
     if bytes_eq text (codes "all") then Ok (below (length (table system)))
@@ -74,6 +74,6 @@ abbrev with_gps : Result (List ℕ) PlanFault → Result (List ℕ) PlanFault �
 with_gps (Err e) galileo = Err e
 with_gps (Ok gps) galileo = with_galileo gps galileo
 
--- the plan of two texts, or the first fault of theirs
+-- The plan of two texts, or their first fault.
 abbrev pub plan_of : List ℕ → List ℕ → Result PlanValue PlanFault
 plan_of gps galileo = with_gps (signals_of Gps gps) (signals_of Galileo galileo)

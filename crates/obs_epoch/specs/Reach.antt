@@ -1,4 +1,4 @@
--- How far the values of epochs reach that are gathered from messages that were read.
+-- Bounds of the values in the epochs of decoded messages.
 use Rattle.std.specs.Prelude.{◌≡◌, ℕ, ℤ, pos, ◌*◌, ◌^◌, ◌<◌, ◌≤◌, ◌≤ℤ◌, ◌==◌, ◌&&◌, Bool, true, List, [], ◌∷◌, IfSome, None, is_some, ⊤}
 use Rattle.std.specs.List.{AllByRecursion, IsDistinct}
 use Rattle.gnss_obs.specs.declared.system.System.{System}
@@ -17,25 +17,25 @@ use Rattle.obs_epoch.specs.Gathering.{all_epochs}
 
 -- ---- messages
 
--- a strength in thousandths of a dB-Hz
+-- A strength in thousandths of a dB-Hz.
 abbrev pub IsStrength : ℤ → Type 0
 IsStrength s = (pos 1 ≤ℤ s) × (s ≤ℤ pos 99_999)
 
--- the values of a cell of a message that was read
+-- The values of a cell of a decoded message are within their bounds.
 pub record IsHeardCell (x : HeardCell) : Type 0 where
   pub c : IfSome x.c HasTwelveDigits
   pub l : IfSome x.l HasTwelveDigits
   pub d : IfSome x.d HasTwelveDigits
   pub s : IfSome x.s IsStrength
 
--- what is heard of a message that was read
+-- The parts of a decoded message are within their bounds.
 pub record IsHeard (m : Heard) : Type 0 where
   pub cells : AllByRecursion IsHeardCell m.cells
   pub point : IfSome m.point IsPoint
 
 -- ---- epochs
 
--- a kept cell of a system of which these signals are planned
+-- A kept cell of a system with these planned signals, with bounded values.
 pub record IsGathered (system : System) (signals : List ℕ) (x : Cell) : Type 0 where
   pub number : (1 ≤ x.satellite.id) × (x.satellite.id ≤ satellites system)
   pub planned : is_some (place_in x.signal signals) ≡ true
@@ -46,29 +46,29 @@ pub record IsGathered (system : System) (signals : List ℕ) (x : Cell) : Type 0
   pub lli : x.lli < 4
   pub without_phase : x.l ≡ None → x.lli ≡ 0
 
--- of one satellite and signal
+-- Of the same satellite and signal.
 abbrev pub same_place : Cell → Cell → Bool
 same_place a b = (a.satellite.id == b.satellite.id) && (a.signal.index == b.signal.index)
 
--- kept cells of a system, no two of one satellite and signal
+-- Kept cells of a system, no two of the same satellite and signal.
 pub record AreGathered (system : System) (signals : List ℕ) (cells : List Cell) : Type 0 where
   pub each : AllByRecursion (IsGathered system signals) cells
   pub apart : IsDistinct same_place cells
 
--- station values of a message, or none
+-- Station values that messages 1005 and 1006 can contain.
 pub record AreStationValues (v : StationValues) : Type 0 where
   pub x : IsCoordinate v.x
   pub y : IsCoordinate v.y
   pub z : IsCoordinate v.z
   pub height : v.height < 2 ^ 16
 
--- a closed epoch of a plan
+-- A closed epoch of a plan.
 pub record IsGatheredEpoch (plan : PlanValue) (e : Closed) : Type 0 where
   pub time : e.epoch.time < weeks * week
   pub cells : (system : System) → AreGathered system (planned_of system plan) (cells_of system e.epoch)
   pub values : AreStationValues e.values
 
--- each time is before all after it
+-- Each time is less than all after it.
 abbrev pub TimesRise : List Closed → Type 0
 TimesRise [] = ⊤
 TimesRise (e ∷ es) = AllByRecursion (λ f. e.epoch.time < f.epoch.time) es × TimesRise es

@@ -1,4 +1,4 @@
--- What a gatherer stands for.
+-- The value of a gatherer after a list of messages.
 use Rattle.std.specs.Prelude.{ℕ, ◌≡◌, Bool, List, [], ◌∷◌, ◌++◌, filter, flat_map, map, if◌then◌else◌}
 use Rattle.std.specs.Option.{option_map_or}
 use Rattle.gnss_obs.specs.declared.system.System.TheVariants.{Gps, Galileo}
@@ -13,34 +13,34 @@ use Rattle.obs_epoch.specs.Gather.{Gathered, no_epoch, no_counts}
 use Rattle.obs_epoch.specs.declared.taken.CellCounts.{CellCounts}
 use Rattle.obs_epoch.specs.Values.{EpochValue}
 
--- the locked cells of the epochs of these times
+-- The locked cells of the epochs of these times.
 abbrev pub locked_in : GatherSetup → List Timed → List ℕ → List HeardCell
 locked_in s xs ts = flat_map (λ t. filter is_locked (kept_at s t xs Gps ++ kept_at s t xs Galileo)) ts
 
--- the epoch of the greatest time
+-- The epoch of the greatest time.
 abbrev pub held_at : GatherSetup → List Timed → EpochValue
 held_at s xs = option_map_or (epoch_at s xs) (greatest_time xs) no_epoch
 
--- the locks are the latest of their keys in the epochs of these times, one record of each key
+-- The lock records are the latest locks of their keys in the epochs of these times, one record for each key.
 pub record Locked (g : Gathered) (s : GatherSetup) (xs : List Timed) (ts : List ℕ) : Type 0 where
   pub found : (key : HeardCell) → lookup g.locks key ≡ latest_in s xs ts key
   pub tracks : TracksLocks g.locks (locked_in s xs ts)
 
--- the gatherer stands for these messages, and for a pending epoch that was closed since then where `shut` holds
+-- The gatherer has processed these messages; if `shut`, the pending epoch was closed after the last of them.
 pub record HasTakenMessages (g : Gathered) (s : GatherSetup) (ms : List Heard) (shut : Bool) : Type 0 where
   pub clock : HasHeardMessages g.clock s ms shut
   pub epoch : g.epoch ≡ held_at s (timed s ms)
   pub locks : Locked g s (timed s ms) (closed_so_far s (timed s ms) shut)
   pub values : g.values ≡ values_of s ms
 
--- the epochs that are closed, with the pending one where `shut` says that it was closed since
+-- The closed epochs; if `shut`, also the pending epoch, which was closed after the list.
 abbrev pub closed_list : GatherSetup → List Timed → Bool → List EpochValue
 closed_list s xs shut = map (epoch_at s xs) (closed_so_far s xs shut)
 
--- what becomes of the cells of a message after these
+-- The outcomes of the cells of a message after these messages.
 abbrev pub counts_of_message : GatherSetup → List Timed → Heard → CellCounts
 counts_of_message s xs m = option_map_or (λ u. with_skipped m.unlisted (counts_of s (offered s u xs) m.cells)) (taken_at s xs m) no_counts
 
--- the epoch that a call closed, where it closed one
+-- The epoch, if the call closed one.
 abbrev pub handed_out : Bool → EpochValue → List EpochValue
 handed_out closed e = if closed then e ∷ [] else []

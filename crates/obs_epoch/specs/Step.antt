@@ -1,4 +1,4 @@
--- One step of the clock, by its fields.
+-- One step of the clock, computed from its fields.
 use Rattle.std.specs.Prelude.{ℕ, ◌+◌, ◌*◌, ◌==◌, ◌&&◌, ◌||◌, Bool, true, false, not, nat_lt, Option, Some, None, if◌then◌else◌}
 use Rattle.std.specs.Option.{option_map_or}
 use Rattle.obs_epoch.specs.declared.clock.Answer.{Answer}
@@ -46,7 +46,8 @@ step_by g m =
     then ended_where (g.setup.by_bit && option_map_or not m.more false) (option_map_or (step_at g) m.tow g)
     else g
 
--- what a step closes, by its kind, whether the message ends its epoch, and what was pending and known before and after
+-- The time of the epoch that a step closes, from the outcome, whether the message ends its epoch, whether an epoch was
+-- pending, and the greatest times before and after.
 abbrev pub closed_of : Answer → Bool → Bool → Option ℕ → Option ℕ → Option ℕ
 closed_of CloseFirst ends_epoch was before after = before
 closed_of OtherStation ends_epoch was before after = None

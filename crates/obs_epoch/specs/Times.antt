@@ -1,4 +1,4 @@
--- The time of each message, and which are taken.
+-- The time of each message, and which messages are accepted.
 use Rattle.std.specs.Prelude.{ℕ, ◌+◌, ◌-◌, ◌*◌, ◌%◌, ◌==◌, ◌&&◌, ◌||◌, Bool, false, not, max, nat_lt, List, [], ◌∷◌, ◌++◌, if◌then◌else◌, Option, Some, None, option_and_then}
 use Rattle.std.specs.Option.{option_map_or}
 use Rattle.std.specs.List.{list_any}
@@ -6,64 +6,64 @@ use Rattle.rtcm_msg.specs.Msm.{week}
 use Rattle.obs_epoch.specs.Weeks.{weeks}
 use Rattle.obs_epoch.specs.Heard.{GatherSetup, Heard, is_own, ends_epoch}
 
--- a message with its time, where it was taken
+-- A message, with its time if it was accepted.
 pub record Timed : Type 0 where
   pub message : Heard
   pub time : Option ℕ
 
--- it was taken, and its time is t
+-- The message was accepted, and its time is t.
 abbrev pub is_at : ℕ → Timed → Bool
 is_at t x = option_map_or (λ u. u == t) x.time false
 
--- the greater of two, where they are known
+-- The greater of two times; if only one is known, that one.
 abbrev pub max_known : Option ℕ → Option ℕ → Option ℕ
 max_known None b = b
 max_known (Some a) None = Some a
 max_known (Some a) (Some b) = Some (max a b)
 
--- the greatest time of those that were taken
+-- The greatest time of the accepted messages.
 abbrev pub greatest_time : List Timed → Option ℕ
 greatest_time [] = None
 greatest_time (x ∷ xs) = max_known x.time (greatest_time xs)
 
--- what comes from the first taken message of time t on, that message included
+-- The messages from the first accepted message of time t on.
 abbrev pub from_first : ℕ → List Timed → List Timed
 from_first t [] = []
 from_first t (x ∷ xs) = if is_at t x then x ∷ xs else from_first t xs
 
--- a message that ends its epoch stands at or after the first taken message of time t
+-- A message that ends its epoch is at or after the first accepted message of time t.
 abbrev pub is_closed : GatherSetup → ℕ → List Timed → Bool
 is_closed s t xs = list_any (λ x. ends_epoch s x.message) (from_first t xs)
 
--- how far a time of week lies ahead of time t, less than a week
+-- The milliseconds from time t to the next time with this time of week, less than a week.
 abbrev pub ahead : ℕ → ℕ → ℕ
 ahead t tow = (tow + (week - t % week)) % week
 
--- the time that a time of week stands for
+-- The time of a message with this time of week.
 abbrev pub time_of : GatherSetup → List Timed → ℕ → ℕ
 time_of s earlier tow = option_map_or (λ t. t + ahead t tow) (greatest_time earlier) (s.start_week * week + tow)
 
--- more than half a week ahead, so after; or of the greatest time, where that is closed
+-- More than half a week ahead, so before the greatest time; or equal to the greatest time, if its epoch is closed.
 abbrev pub is_late : GatherSetup → List Timed → ℕ → Bool
 is_late s earlier tow =
     option_map_or (λ t. nat_lt 302_400_000 (ahead t tow) || ((ahead t tow == 0) && is_closed s t earlier)) (greatest_time earlier) false
 
--- past the weeks that there are
+-- After the last week.
 abbrev pub is_past : ℕ → Bool
 is_past t = not (nat_lt t (weeks * week))
 
--- the time of a message after these, where it is taken
+-- The time of a message after these, if it is accepted.
 abbrev pub taken_at : GatherSetup → List Timed → Heard → Option ℕ
 taken_at s earlier m =
     if is_own s m
     then option_and_then (λ tow. if is_late s earlier tow || is_past (time_of s earlier tow) then None else Some (time_of s earlier tow)) m.tow
     else None
 
--- the earlier messages, and then these with their times: a time hangs on the earlier ones
+-- The earlier messages, and then these with their times: a time depends on the earlier messages.
 abbrev pub timed_after : GatherSetup → List Timed → List Heard → List Timed
 timed_after s earlier [] = earlier
 timed_after s earlier (m ∷ ms) = timed_after s (earlier ++ record { message = m; time = taken_at s earlier m } ∷ []) ms
 
--- all messages of a list, with their times
+-- All messages of a list, with their times.
 abbrev pub timed : GatherSetup → List Heard → List Timed
 timed s ms = timed_after s [] ms

@@ -1,4 +1,4 @@
--- What others see of plans, cells and epochs.
+-- The values of plans, cells and epochs.
 use Rattle.std.specs.Prelude.{◌≡◌, ℕ, zero, suc, ℤ, ◌+◌, ◌<◌, ◌≤◌, ◌^◌, ◌==◌, ◌&&◌, ◌||◌, Bool, List, [], ◌∷◌, length, All, IfSome, is_some, Option, unsigned_abs, if◌then◌else◌}
 use Rattle.std.specs.Ordering.{int_eq}
 use Rattle.std.specs.List.{list_any}
@@ -9,7 +9,7 @@ use Rattle.gnss_obs.specs.declared.system.System.TheVariants.{Gps, Galileo}
 use Rattle.obs_epoch.specs.declared.cell.Cell.{Cell}
 use Rattle.obs_epoch.specs.declared.cell.StationValues.{StationValues}
 
--- ---- plans: the signals that are wanted of each system, in order, by their places in the system's table
+-- ---- plans: the wanted signals of each system, in order, by their indices in the system's table
 
 pub record PlanValue : Type 0 where
   pub gps : List ℕ
@@ -30,15 +30,15 @@ abbrev pub cells_of : System → EpochValue → List Cell
 cells_of Gps e = e.gps
 cells_of Galileo e = e.galileo
 
--- so many cells of a system are kept
+-- The largest number of kept cells of a system.
 abbrev pub most_cells : ℕ
 most_cells = 256
 
--- a value that fourteen columns have room for
+-- A value that fits a field of fourteen columns, F14.3.
 abbrev pub HasTwelveDigits : ℤ → Type 0
 HasTwelveDigits v = unsigned_abs v < 10 ^ 12
 
--- a kept cell of a system
+-- A kept cell of a system.
 pub record IsHeld (system : System) (cell : Cell) : Type 0 where
   pub satellite : cell.satellite.system ≡ system
   pub signal : cell.signal.system ≡ system
@@ -54,49 +54,49 @@ pub record AreHeld (system : System) (cells : List Cell) : Type 0 where
   pub each : All (IsHeld system) cells
   pub few : length cells ≤ most_cells
 
--- the cells of either system that may be held
+-- Cells of any system that may be kept.
 abbrev pub MayBeHeld : List Cell → Type 0
 MayBeHeld cells = All (λ c. IsHeld c.satellite.system c) cells
 
--- a cell that says something
+-- The cell has a value.
 abbrev pub has_value : Cell → Bool
 has_value c = is_some c.c || is_some c.l || is_some c.d || is_some c.s
 
--- a cell of the satellite of this number says something
+-- A cell of satellite `id` has a value.
 abbrev pub is_written : List Cell → ℕ → Bool
 is_written cells id = list_any (λ c. (c.satellite.id == id) && has_value c) cells
 
--- a cell of the satellite of this number
+-- A cell of satellite `id`.
 abbrev pub is_of_satellite : ℕ → Cell → Bool
 is_of_satellite id c = c.satellite.id == id
 
--- how many cells of the satellite of this number stand in front
+-- The number of cells of satellite `id` at the beginning of the list.
 abbrev pub run : ℕ → List Cell → ℕ
 run id [] = 0
 run id (c ∷ cells) = if is_of_satellite id c then suc (run id cells) else 0
 
--- of the first n satellites so many are to be written
+-- The number of satellites to write among the first n.
 unfoldable pub written_among : List Cell → ℕ → ℕ
 written_among cells zero = 0
 written_among cells (suc n) = written_among cells n + (if is_written cells (suc n) then 1 else 0)
 
--- the satellites that are to be written: those with a cell that says something
+-- The number of satellites to write: those with a cell that has a value.
 abbrev pub satellites_written : EpochValue → ℕ
 satellites_written e = written_among e.gps (satellites_in Gps) + written_among e.galileo (satellites_in Galileo)
 
--- at most so many are written
+-- The largest number of satellites to write.
 abbrev pub most_written : ℕ
 most_written = satellites_in Gps + satellites_in Galileo
 
--- how many are to be written, where they were counted
+-- The number of satellites to write, if it was counted.
 abbrev pub IsCount : Option ℕ → EpochValue → Type 0
 IsCount counted e = IfSome counted (λ n. (n ≡ satellites_written e) × (n ≤ most_written))
 
--- the same in all four numbers
+-- All four values are equal.
 abbrev pub same_values : StationValues → StationValues → Bool
 same_values v w = int_eq v.x w.x && int_eq v.y w.y && int_eq v.z w.z && (v.height == w.height)
 
--- an epoch with the station values that are known: of one that was closed, those that were known then
+-- An epoch, with the station values that were known when it was closed.
 pub record Closed : Type 0 where
   pub epoch : EpochValue
   pub values : StationValues

@@ -1,14 +1,14 @@
--- How time is counted: in milliseconds, week after week.
+-- Units of time in milliseconds, and the number of weeks.
 use Rattle.std.specs.Prelude.{ℕ}
 
--- a week in milliseconds
+-- A week in milliseconds.
 abbrev pub week : ℕ
 week = 604_800_000
 
--- the weeks that have a number, from 0 on
+-- The number of weeks, numbered from 0.
 abbrev pub weeks : ℕ
 weeks = 100_000
 
--- a day in milliseconds
+-- A day in milliseconds.
 abbrev pub day : ℕ
 day = 86_400_000

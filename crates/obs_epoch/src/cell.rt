@@ -1,4 +1,4 @@
-//! What is kept of messages: cells, and the position of the station.
+//! Data kept from messages: cells, and the station values.
 ghost use Rattle.std.specs.Prelude.{◌≡◌, ◌↔◌, IsTrue};
 ghost use Rattle.rtcm_msg.specs.Reach.{IsCoordinate};
 
@@ -11,19 +11,19 @@ pub struct Cell {
     pub satellite: Sat,
     /// The signal, of the satellite's system.
     pub signal: Signal,
-    /// The pseudorange in thousandths of a metre.
+    /// The pseudorange in thousandths of a metre; `None` if absent.
     pub c: Option<Thousandths>,
-    /// The carrier phase in thousandths of a cycle.
+    /// The carrier phase in thousandths of a cycle; `None` if absent.
     pub l: Option<Thousandths>,
-    /// The Doppler shift in thousandths of a hertz.
+    /// The Doppler shift in thousandths of a hertz; `None` if absent.
     pub d: Option<Thousandths>,
-    /// The strength in thousandths of a dB-Hz.
+    /// The signal strength in thousandths of a dB-Hz; `None` if absent.
     pub s: Option<Thousandths>,
-    /// RINEX's loss of lock indicator. Bit 0: lock was lost since the latest earlier cell of this
-    /// satellite and signal that has a phase and a known lock time. Bit 1: the phase may be off by
-    /// half a cycle (DF420). 0 without a phase.
+    /// The loss of lock indicator (LLI) of RINEX. Bit 0: lock was lost since the latest earlier
+    /// cell of this satellite and signal with a phase and a known lock time. Bit 1: the phase may
+    /// be off by half a cycle (DF420). 0 without a phase.
     pub lli: u8,
-    // How the phase is tracked: its lock, and whether it may be off by half a cycle (DF420).
+    // The lock of the phase, and whether the phase may be off by half a cycle (DF420).
     pub(crate) lock: Lock,
     pub(crate) half_cycle: bool,
 }
@@ -32,20 +32,20 @@ pub struct Cell {
 /// before the first.
 #[derive(Clone, Copy, Debug, PartialEq, Eq)]
 pub struct StationValues {
-    /// DF025 of the last 1005 or 1006, in 0.0001 m, as y and z are.
+    /// Antenna reference point ECEF-X of the last message 1005 or 1006, in 0.0001 m (DF025).
     pub x: i64,
-    /// DF026.
+    /// Antenna reference point ECEF-Y of the same message, in 0.0001 m (DF026).
     pub y: i64,
-    /// DF027.
+    /// Antenna reference point ECEF-Z of the same message, in 0.0001 m (DF027).
     pub z: i64,
-    /// DF028 of the last 1006, in 0.0001 m.
+    /// Antenna height of the last message 1006, in 0.0001 m (DF028).
     pub height: u16,
 }
 
 impl Cell {
     ghost use Rattle.obs_epoch.specs.Values.{has_value};
 
-    /// Returns whether it has a pseudorange, a phase, a Doppler shift or a strength.
+    /// Returns whether the cell has a pseudorange, a phase, a Doppler shift or a strength.
     pub fn has_value(&self) -> bool
         ensures { result ≡ has_value self.now }
     {
@@ -53,7 +53,7 @@ impl Cell {
     }
 }
 
-/// Returns whether a number fits the 38 bits of a coordinate (DF025 to DF027).
+/// Returns whether a number fits 38 bits with a sign, the width of a coordinate (DF025 to DF027).
 fn is_coordinate(v: &i64) -> bool
     ensures { IsTrue result ↔ IsCoordinate v.now }
 {
@@ -65,7 +65,7 @@ impl StationValues {
     ghost use Rattle.obs_epoch.specs.Reach.{AreStationValues};
     ghost use Rattle.obs_epoch.specs.Values.{same_values};
 
-    /// Returns values of 0: those of a station of which nothing is known.
+    /// Returns values that are all 0, for a station of unknown position.
     pub fn zero() -> StationValues
         ensures { result ≡ no_values }
     {
@@ -77,14 +77,15 @@ impl StationValues {
         }
     }
 
-    /// Returns whether a 1005 or 1006 can contain these values: coordinates of 38 bits.
+    /// Returns whether message 1005 or 1006 can contain these values: each coordinate fits 38 bits
+    /// with a sign.
     pub fn fits_message(self) -> bool
         ensures { IsTrue result ↔ AreStationValues self }
     {
         is_coordinate(&self.x) && is_coordinate(&self.y) && is_coordinate(&self.z)
     }
 
-    /// Returns whether all four numbers are the same.
+    /// Returns whether all four values are equal.
     pub fn is_same(self, other: StationValues) -> bool
         ensures value { result ≡ same_values self other }
         ensures exact { IsTrue result ↔ (self ≡ other) }

@@ -1,4 +1,4 @@
-//! GPS time as a date and a time of day.
+//! GPS time as a calendar date and a time of day.
 ghost use Rattle.std.specs.Prelude.{◌≡◌, ◌<◌, ◌*◌, ◌+◌, ℕ, IfSome, IfNone, pos, ◌*ℤ◌};
 ghost use Rattle.rtcm_msg.specs.Msm.{week};
 ghost use Rattle.obs_epoch.specs.Weeks.{weeks};
@@ -13,7 +13,7 @@ use jiff::civil::DateTime;
 /// has 60,000 milliseconds.
 #[derive(Clone, Copy, Debug, PartialEq, Eq)]
 pub struct Civil {
-    /// The year, 1980 to 3896 if it is that of a `GpsTime`.
+    /// The year: 1980 to 3896 for the date of a `GpsTime`.
     pub year: u16,
     /// The month, 1 to 12.
     pub month: u8,
@@ -23,11 +23,11 @@ pub struct Civil {
     pub hour: u8,
     /// The minute, 0 to 59.
     pub minute: u8,
-    /// The millisecond of the minute, 0 to 59,999.
+    /// The millisecond of the minute, 0 to 59,999: seconds and milliseconds in one number.
     pub millisecond: u16,
 }
 
-// Returns 1980-01-06 00:00:00, the beginning of GPS time.
+// Returns 1980-01-06 00:00:00, the origin of GPS time.
 fn beginning() -> DateTime
     ensures { civil_nanos result ≡ pos 3657 *ℤ pos 86_400_000_000_000 }
 {
@@ -38,7 +38,7 @@ fn beginning() -> DateTime
 }
 
 impl GpsTime {
-    /// Returns the date and the time of day.
+    /// Returns the calendar date and the time of day.
     pub fn civil(self) -> Civil
         ensures relation { IsCivilOf self result }
         ensures walk { result ≡ civil_of self }
@@ -57,8 +57,8 @@ impl GpsTime {
         }
     }
 
-    /// Returns the time of this date and time of day, or `None` if no time before week 100,000 has
-    /// it.
+    /// Returns the time with this date and time of day. `None` if they are not valid, before
+    /// 1980-01-06 00:00:00, and from week 100,000 on.
     pub fn from_civil(civil: &Civil) -> Option<GpsTime>
         ensures some { IfSome result (λ t. IsCivilOf t civil.now) }
         ensures walk { IfSome result (λ t. civil.now ≡ civil_of t) }
@@ -72,7 +72,7 @@ impl GpsTime {
     }
 }
 
-// Returns the date and time of day of the calendar, or `None` if there is none.
+// Returns the date and time of day as a `DateTime`, or `None` if they are not valid.
 fn at_of(civil: &Civil) -> Option<DateTime>
     ensures some { IfSome result (λ at. IsCivil civil.now × (civil_nanos at ≡ nanoseconds_of civil.now)) }
     ensures none { IfNone result (¬ IsCivil civil.now) }

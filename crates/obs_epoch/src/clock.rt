@@ -1,4 +1,4 @@
-//! The time of each message.
+//! The times of messages.
 ghost use Rattle.std.specs.Prelude.{◌==◌, ◌≡◌, ◌<◌, ◌*◌, [], true, false};
 ghost use Rattle.std.specs.Option.{ForSome};
 ghost use Rattle.rtcm_msg.specs.Msm.{week};
@@ -13,7 +13,7 @@ use crate::time::{WEEK, WEEKS};
 use rtcm_msg::Summary;
 use std::marker::Model;
 
-/// The outcome of a message by its station and time.
+/// The outcome of a message, determined by its station and time.
 #[derive(Clone, Copy, PartialEq, Eq)]
 pub enum Answer {
     OtherStation,
@@ -24,7 +24,7 @@ pub enum Answer {
     CloseFirst,
 }
 
-/// The times of the messages of a station.
+/// The times of a station's messages: the greatest so far, and whether its epoch is pending.
 #[derive(Drop)]
 pub struct Clock {
     plan: Plan,
@@ -79,7 +79,7 @@ impl Clock {
         }
     }
 
-    /// Returns the signals that are wanted.
+    /// Returns the wanted signals.
     pub fn plan(&self) -> &Plan
         ensures { result.now ≡ self.now.setup.plan }
     {
@@ -96,7 +96,7 @@ impl Clock {
         was
     }
 
-    /// Returns the greatest time.
+    /// Returns the greatest time so far, in milliseconds since 1980-01-06 00:00:00.
     pub fn latest(&self) -> Option<u64>
         ensures value { result ≡ self.now.latest }
         ensures bound { ForSome result (λ t. t < weeks * week) }
@@ -104,7 +104,7 @@ impl Clock {
         self.latest
     }
 
-    /// Steps to a message, and returns its outcome and the time of the epoch that it closes.
+    /// Processes a message, and returns its outcome and the time of the epoch that it closes.
     pub fn step_closing(&mut self, said: &Summary) -> (Answer, Option<u64>)
         requires { ForSome said.now.time (λ tow. tow < week) }
         ensures answer { result.0 ≡ answer_by self.old (heard_summary said.now) }
@@ -153,7 +153,7 @@ impl Clock {
         }
     }
 
-    // Steps to observations of this time of week.
+    // Processes observations of this time of week in milliseconds.
     fn place(&mut self, tow: u32) -> Answer
         requires { tow < week }
         ensures answer { result ≡ answer_at self.old tow }

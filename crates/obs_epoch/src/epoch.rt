@@ -1,4 +1,4 @@
-//! An epoch: the observations of one time.
+//! Epochs: the observations of one time.
 ghost use Rattle.std.specs.Prelude.{◌≡◌, ◌+◌, ◌-◌, ◌<◌, ◌≤◌, [], false, length, drop, IfOk, IfSome, Option, Some, None, insert, map, slice_index_or, if◌then◌else◌};
 ghost use Rattle.std.specs.Vec.{vec_len, vec_capacity};
 ghost use Rattle.obs_epoch.specs.declared.cell.Cell.{Cell};
@@ -27,15 +27,15 @@ pub struct Seat {
     pub place: usize,
 }
 
-/// An epoch: its time, the cells of each system that are kept, and the station values that were
-/// known when it was closed.
+/// An epoch: its time, the kept cells of each system, and the station values that were known when
+/// it was closed.
 #[derive(Drop)]
 pub struct Epoch {
     time: GpsTime,
     gps: Vec<Cell>,
     galileo: Vec<Cell>,
     values: StationValues,
-    // Number of satellites to write, once counted.
+    // Number of satellites to write, if it was counted.
     counted: Option<usize>,
 }
 
@@ -54,7 +54,7 @@ impl Model for Epoch {
 }
 
 impl Epoch {
-    // Returns an epoch without a cell, with room for all cells that are kept.
+    // Returns an epoch without cells, with room for all cells that it can keep.
     pub(crate) fn new(alloc: Global, values: StationValues) -> Result<Epoch, AllocError>
         ensures { IfOk result (λ e. e ≡ record { epoch = record { time = 0; gps = []; galileo = [] }; values = values }) }
     {
@@ -69,7 +69,7 @@ impl Epoch {
         })
     }
 
-    // Begins the epoch of another time, with no cell.
+    // Begins the epoch of another time, without cells.
     pub(crate) fn begin(&mut self, time: GpsTime)
         ensures { self.new ≡ record { epoch = record { time = time; gps = []; galileo = [] }; values = self.old.values } }
     {
@@ -86,7 +86,7 @@ impl Epoch {
         self.values = values;
     }
 
-    // Returns the insertion index of a key, or None if a cell of that key is kept.
+    // Returns the insertion index of the key of a cell, or `None` if a cell of that key is kept.
     pub(crate) fn seek(&self, plan: &Plan, x: &Cell) -> Option<usize>
         requires key { IsKey (heard_cell x.now) }
         requires order { AreInOrder plan.now self.now.epoch }
@@ -104,7 +104,7 @@ impl Epoch {
         }
     }
 
-    // Inserts a cell.
+    // Inserts a cell at an index.
     pub(crate) fn hold(&mut self, at: usize, x: Cell)
         requires observed { IsObserved (heard_cell x) }
         requires indicator { x.lli < 4 }
@@ -120,7 +120,7 @@ impl Epoch {
         }
     }
 
-    // Closes the epoch: counts its satellites, once for every caller, and notes its locks.
+    // Closes the epoch: counts its satellites once for all callers, and records its locks.
     pub(crate) fn close(&mut self, locks: &mut Locks)
         ensures same { self.new ≡ self.old }
         ensures noted { locks.new ≡ note_all self.old.epoch.time (note_all self.old.epoch.time locks.old self.old.epoch.gps) self.old.epoch.galileo }
@@ -132,22 +132,23 @@ impl Epoch {
         note_cells(locks, time, self.galileo.as_slice());
     }
 
-    /// Returns its time.
+    /// Returns the time of the epoch.
     pub fn time(&self) -> GpsTime
         ensures { result ≡ self.now.epoch.time }
     {
         self.time
     }
 
-    /// Returns the station values that were known when it was closed.
+    /// Returns the station values that were known when the epoch was closed.
     pub fn station_values(&self) -> StationValues
         ensures { result ≡ self.now.values }
     {
         self.values
     }
 
-    /// Returns the kept cells of a system, at most 256, by satellite and within it by the plan, no
-    /// two of one satellite and signal. Each is of a listed satellite and signal of that system.
+    /// Returns the kept cells of a system, at most 256, sorted by satellite and then by the order
+    /// of the plan. Each is of a listed satellite and signal of the system, and no two are of the
+    /// same satellite and signal.
     pub fn cells(&self, system: System) -> &[Cell]
         ensures cells { result.now ≡ cells_of system self.now.epoch }
         ensures held { AreHeld system result.now }
@@ -191,7 +192,7 @@ fn seat_at(plan: &Plan, satellite: Sat, signal: Signal) -> Seat
     }
 }
 
-// Returns whether a sort key is less than another: by satellite, and within it by index.
+// Returns whether a sort key is less than another: by satellite, then by index in the plan.
 fn is_before(a: Seat, b: Seat) -> bool
     ensures { result ≡ is_before a b }
 {
@@ -201,8 +202,8 @@ fn is_before(a: Seat, b: Seat) -> bool
     a.satellite < b.satellite
 }
 
-// Returns the number of cells whose sort key isn't greater. Cells are sent in this order, so the
-// last is compared first.
+// Returns the number of cells whose sort key isn't greater. Cells usually arrive in this order, so
+// the last cell is compared first.
 fn spot(cells: &[Cell], plan: &Plan, x: Seat, system: System) -> usize
     requires held { AreHeld system cells.now }
     requires order { AreOrderedBy (planned_of system plan.now) cells.now }
@@ -219,7 +220,7 @@ fn spot(cells: &[Cell], plan: &Plan, x: Seat, system: System) -> usize
     spot_by_halves(cells, plan, x, system)
 }
 
-// Returns the same by bisection.
+// Returns the same number, found by bisection.
 fn spot_by_halves(cells: &[Cell], plan: &Plan, x: Seat, system: System) -> usize
     requires held { AreHeld system cells.now }
     requires order { AreOrderedBy (planned_of system plan.now) cells.now }
@@ -239,7 +240,7 @@ fn spot_by_halves(cells: &[Cell], plan: &Plan, x: Seat, system: System) -> usize
     low
 }
 
-// Returns whether a cell has a greater sort key.
+// Returns whether the sort key of a cell is greater than this one.
 fn is_after(cell: &Cell, plan: &Plan, x: Seat) -> bool
     ensures { result ≡ is_before x (cell_seat (planned_of cell.now.signal.system plan.now) cell.now) }
 {
@@ -260,7 +261,7 @@ pub fn end_of(cells: &[Cell], from: usize, id: u8) -> usize
     cells.len()
 }
 
-/// Returns whether the satellite of this number is to be written: one of its cells has a value.
+/// Returns whether satellite `id` is to be written: whether one of its cells has a value.
 pub fn is_written(cells: &[Cell], id: u8) -> bool
     ensures { result ≡ is_written cells.now id }
 {
@@ -269,7 +270,7 @@ pub fn is_written(cells: &[Cell], id: u8) -> bool
         .any(|cell| cell.satellite.id() == id && cell.has_value())
 }
 
-// Counts the satellites of a system that have a cell with a value.
+// Returns the number of satellites of a system that have a cell with a value.
 #[tactic(auto, unfolding(crate::specs::Values::written_among))]
 fn written(cells: &[Cell], system: System) -> usize
     requires held { AreHeld system cells.now }

@@ -66,13 +66,13 @@ impl Model for Gatherer {
 impl Gatherer {
     ghost use Rattle.obs_epoch.specs.declared.clock.Answer.{Answer};
 
-    /// Returns a gatherer of the messages of a station, or with `None` of all stations as those of
-    /// one. The first time lies in the starting week. No other call takes memory.
+    /// Returns a gatherer of the messages of one station; with `None`, of all stations as if they
+    /// were one. The first time is in the start week. No other call allocates memory.
     ///
     /// # Errors
     ///
-    /// `BadWeek` for a week over 99,999, else `BadStation` for a station over 4,095, else `Memory`
-    /// if an allocation failed.
+    /// `BadWeek` for a week greater than 99,999, else `BadStation` for a station greater than
+    /// 4,095, else `Memory` if an allocation failed.
     pub fn new(
         alloc: Global,
         plan: Plan,
@@ -98,8 +98,8 @@ impl Gatherer {
         )
     }
 
-    /// Returns a gatherer as `new` does, whose station values are `initial` until a station message
-    /// has others.
+    /// Returns a gatherer as `new` does, with `initial` as the station values until a station
+    /// message contains others.
     ///
     /// # Errors
     ///
@@ -150,8 +150,9 @@ impl Gatherer {
         }
     }
 
-    /// Takes a message of any kind; `end` must not have been called. If the kind is `CloseFirst`,
-    /// the pending epoch was closed and the message was not taken: pass it again at once.
+    /// Processes a message of any kind; `end` must not have been called. If the kind is
+    /// `CloseFirst`, the pending epoch was closed and the message was not processed: pass it again
+    /// at once.
     pub fn take(&mut self, m: &Message) -> Taken
         requires { self.old.has_ended ≡ false }
         ensures { TakesMessage self.old self.new (heard m.now) result }
@@ -159,7 +160,7 @@ impl Gatherer {
         self.take_view(&m.view())
     }
 
-    /// Takes a message as `take` does, and reads its cells from the bytes of the message.
+    /// Processes a message as `take` does, but reads its cells from the bytes of the message.
     pub fn take_view(&mut self, view: &View<'_>) -> Taken
         requires { self.old.has_ended ≡ false }
         ensures { TakesMessage self.old self.new (heard (viewed_message view.now)) result }
@@ -167,8 +168,8 @@ impl Gatherer {
         self.step(view)
     }
 
-    /// Ends the messages: closes the pending epoch, and returns whether there was one. After the
-    /// first `end` there is none.
+    /// Closes the pending epoch after the last message, and returns whether there was one. After
+    /// the first call it returns `false`.
     pub fn end(&mut self) -> bool
         ensures closes { EndsPendingEpoch self.old self.new result }
         ensures closed { result ≡ is_some (closed_in self.new) }
@@ -183,12 +184,11 @@ impl Gatherer {
         self.finish()
     }
 
-    /// Returns the epoch that the last `take` or `end` closed. `None` if that call closed none, and
-    /// before the first call.
+    /// Returns the epoch that the last call of `take` or `end` closed. `None` if that call closed
+    /// no epoch, and before the first call.
     pub fn closed(&self) -> Option<&Epoch>
         ensures order { IfSome (option_map (λ e. e.now.epoch) result) (StandByPlan (plan_in self.now)) }
-        // It is the last of those returned, with the station values that were known when it was
-        // closed.
+        // The last epoch returned, with the station values that were known when it was closed.
         ensures closed { option_to_list (option_map (λ e. e.now) result) ≡ closed_by (closed_in self.now) self.now.values }
     {
         if self.handed { Some(&self.epoch) } else { None }
@@ -201,8 +201,8 @@ impl Gatherer {
         self.has_ended
     }
 
-    /// Returns the number of cells of a system that are held: those of the pending epoch or, if
-    /// none is pending, of the one last closed.
+    /// Returns the number of kept cells of a system: those of the pending epoch or, if none is
+    /// pending, of the epoch closed last.
     pub fn cells(&self, system: System) -> usize
         ensures count { result ≡ length (cells_of system self.now.epoch) }
         ensures held { HoldsCells self.now system result }
@@ -221,7 +221,7 @@ impl Gatherer {
         self.locks.len()
     }
 
-    /// Returns the station values so far.
+    /// Returns the current station values.
     pub fn station_values(&self) -> StationValues
         ensures now { result ≡ self.now.values }
         ensures given { (s : GatherSetup) (ms : List Heard) (es : List Closed) (again : Option Heard) → HasGatheredEpochs self.now s ms es again
@@ -230,7 +230,7 @@ impl Gatherer {
         self.epoch.station_values()
     }
 
-    /// Returns the signals that are wanted.
+    /// Returns the wanted signals.
     pub fn plan(&self) -> &Plan
         ensures { result.now ≡ plan_in self.now }
     {
@@ -322,7 +322,7 @@ impl Gatherer {
         }
     }
 
-    // Keeps a cell of a planned signal, unless its key is kept or there is no room.
+    // Keeps a cell of a planned signal, unless a cell of its key is kept or there is no room.
     fn take_cell(&mut self, x: Cell) -> Fate
         requires observed { IsObserved (heard_cell x) }
         requires planned { is_some (place_in x.signal (planned_of x.satellite.system self.old.clock.setup.plan)) ≡ true }
@@ -343,7 +343,7 @@ impl Gatherer {
         }
     }
 
-    // Takes the cells of a message.
+    // Processes the cells of a message, and returns their outcomes.
     fn take_entries(
         &mut self,
         field: LockField,
@@ -361,7 +361,7 @@ impl Gatherer {
         counts
     }
 
-    // Takes a cell of a message.
+    // Processes a cell of a message, and returns its outcome.
     fn take_entry(&mut self, field: LockField, system: System, entry: &Entry) -> Fate
         requires { IsEntry (codes_of field) entry.now }
         ensures { (n : CellCounts) → record { state = self.new; counts = count_in result n }
@@ -381,8 +381,7 @@ impl Gatherer {
     }
 }
 
-// Reserves room for the cells of an epoch and for the lock records, after the checks of week and
-// station.
+// Checks the week and the station, then allocates room for an epoch and the lock records.
 fn reserved(
     alloc: Global,
     start_week: u32,
@@ -405,7 +404,7 @@ fn reserved(
     }
 }
 
-// Returns an epoch without a cell, and no lock record.
+// Returns an epoch without cells, and no lock record.
 fn empty(alloc: Global, initial: StationValues) -> Result<(Epoch, Locks), AllocError>
     ensures { IfOk result (λ r. (r.0 ≡ record { epoch = no_epoch; values = initial }) × (r.1 ≡ no_locks)) }
 {

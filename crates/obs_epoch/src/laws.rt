@@ -7,31 +7,32 @@ ghost use Rattle.obs_epoch.specs.Epochs.{no_values};
 ghost use Rattle.obs_epoch.specs.Laws.{ClosedStay, ClosedComeFirst, NoneClosed, NeverFirst, CodesAreSpelled};
 ghost use Rattle.obs_epoch.specs.Reach.{AreStationValues, MessagesAreHeard, EpochsAreGathered};
 
-/// Messages that follow don't change the epochs that are closed.
+/// Later messages don't change the epochs that are closed.
 pub fn closed_stay()
     ensures stay { ClosedStay }
     ensures first { ClosedComeFirst }
     ensures none { NoneClosed }
 {}
 
-/// Over a list of messages no outcome is `CloseFirst`: such a message is passed again at once.
+/// No message of a list has the outcome `CloseFirst`: such a message is passed again at once.
 pub fn kinds()
     ensures { NeverFirst }
 {}
 
-/// The signals of codes are those that the codes name, one by one, and no two are the same.
+/// A list of codes gives the signals of these codes, one by one, and no two are the same.
 pub fn plans()
     ensures { CodesAreSpelled }
 {}
 
-/// Each time has its date and time of day.
+/// Each time has a date and a time of day.
 pub fn calendar()
     ensures civil { (t : ℕ) → t < weeks * week → IsCivilOf t (civil_of t) }
     ensures small { (t : ℕ) → t < weeks * week → ((civil_of t).year ≤ 9999) × ((civil_of t).month ≤ 12) × ((civil_of t).day ≤ 31) }
 {}
 
-/// The epochs of messages that were read: their times rise and are within the weeks, their cells
-/// are of planned signals and have values within their bounds, no two of one satellite and signal.
+/// The epochs of decoded messages: their times rise and are within the weeks, their cells are of
+/// planned signals with values within their bounds, and no two cells of a system are of the same
+/// satellite and signal.
 pub fn gathered()
     ensures heard { MessagesAreHeard }
     ensures epochs { EpochsAreGathered }

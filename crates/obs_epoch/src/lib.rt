@@ -1,8 +1,8 @@
 //! Observations of a station, gathered from its messages into epochs.
 //!
-//! A [`Plan`] is the list of wanted signals. A [`GpsTime`] counts milliseconds and has a date. A
-//! [`Gatherer`] takes the messages of a station one by one and returns each [`Epoch`] as soon as it
-//! is closed. [`SignalCounts`] are the numbers of cells of messages, signal by signal.
+//! A [`Plan`] lists the wanted signals. A [`GpsTime`] counts milliseconds of GPS time and converts
+//! to and from a [`Civil`] date. A [`Gatherer`] processes the messages of a station one by one and
+//! returns each [`Epoch`] when it is closed. [`SignalCounts`] count cells by signal.
 #![tactic(auto)]
 
 mod cell;

@@ -1,5 +1,5 @@
-//! Lock records, one for each satellite and signal: the latest known lock in a closed epoch. They
-//! give the loss of lock indicators of the next epoch.
+//! Lock records: for each satellite and signal, the latest known lock in a closed epoch. The loss
+//! of lock indicators of the next epoch are computed from them.
 ghost use Rattle.std.specs.Prelude.{IsTrue, ◌↔◌, ◌≡◌, ◌+◌, ◌<◌, ◌≤◌, [], length, IfOk, ◌++◌, ◌∷◌, insert};
 ghost use Rattle.std.specs.Vec.{vec_len, vec_capacity};
 ghost use Rattle.obs_epoch.specs.Held.{lock_place, lookup, most_locks, no_locks, note, one_if_new, recorded};
@@ -15,23 +15,23 @@ use gnss_obs::{
 use std::alloc::{AllocError, Global};
 use std::marker::Model;
 
-/// Number of keys of GPS: each of its satellites with each signal of its table.
+/// Number of keys of GPS: one for each pair of a satellite and a signal of the table.
 const GPS_KEYS: usize = GPS_SATELLITES as usize * GPS_SIGNAL_COUNT;
 
-/// Number of keys of Galileo.
+/// Number of keys of Galileo: one for each pair of a satellite and a signal of the table.
 const GALILEO_KEYS: usize = GALILEO_SATELLITES as usize * GALILEO_SIGNAL_COUNT;
 
-/// Number of keys.
+/// Largest number of lock records: one for each key of both systems.
 pub const MOST_LOCKS: usize = GPS_KEYS + GALILEO_KEYS;
 
-/// A known lock, and the time of its epoch.
+/// A known lock, and the time of its epoch in milliseconds since 1980-01-06 00:00:00.
 #[derive(Clone, Copy)]
 pub struct KnownLock {
     pub time: u64,
     pub lock: Lock,
 }
 
-/// The lock records: an entry for each key, and the number of keys that have one.
+/// The lock records: an entry for each key, and the number of keys that have a record.
 #[derive(Drop)]
 pub struct Locks {
     entries: Vec<Option<KnownLock>>,
@@ -51,7 +51,11 @@ impl Model for Locks {
 }
 
 impl Locks {
-    /// Returns no lock record, with room for one of each key.
+    /// Returns an empty set of lock records, with room for one of each key.
+    ///
+    /// # Errors
+    ///
+    /// `AllocError` if the allocation failed.
     pub fn new(alloc: Global) -> Result<Locks, AllocError>
         ensures { IfOk result (λ l. l ≡ no_locks) }
     {
@@ -60,7 +64,7 @@ impl Locks {
         Ok(Locks { entries, count: 0 })
     }
 
-    /// Returns the number of records.
+    /// Returns the number of lock records.
     pub fn len(&self) -> usize
         ensures count { result ≡ recorded self.now }
         ensures bound { result ≤ most_locks }
@@ -68,7 +72,7 @@ impl Locks {
         self.count
     }
 
-    /// Returns the record of that key.
+    /// Returns the record of the key of a cell: its satellite and signal.
     pub fn latest(&self, x: &Cell) -> Option<KnownLock>
         requires { IsKey (heard_cell x.now) }
         ensures { result ≡ lookup self.now (heard_cell x.now) }
@@ -76,7 +80,7 @@ impl Locks {
         self.entries[lock_place(x)]
     }
 
-    /// Records the lock of a kept cell of an epoch that closes, if it is known.
+    /// Records the lock of a kept cell, if it is known, when its epoch of this time is closed.
     pub fn note(&mut self, time: u64, x: &Cell)
         requires { IsKey (heard_cell x.now) }
         ensures { self.new ≡ note time self.old (heard_cell x.now) }
@@ -90,7 +94,7 @@ impl Locks {
     }
 }
 
-// Appends an entry without a record for each key.
+// Appends an empty entry for each key.
 fn clear(entries: &mut Vec<Option<KnownLock>>)
     requires empty { entries.old.items ≡ [] }
     requires room { MOST_LOCKS ≤ vec_capacity entries.old }
@@ -101,7 +105,7 @@ fn clear(entries: &mut Vec<Option<KnownLock>>)
     }
 }
 
-// Returns 1 if a key had no record.
+// Returns 1 if a key had no record, else 0.
 fn one_if_new(before: Option<KnownLock>) -> usize
     ensures { result ≡ one_if_new before }
 {
@@ -111,7 +115,7 @@ fn one_if_new(before: Option<KnownLock>) -> usize
     }
 }
 
-// Returns the index of the entry of a key.
+// Returns the index of the entry of the key of a cell.
 fn lock_place(x: &Cell) -> usize
     requires { IsKey (heard_cell x.now) }
     ensures entry { result ≡ lock_place (heard_cell x.now) }
@@ -125,7 +129,8 @@ fn lock_place(x: &Cell) -> usize
     }
 }
 
-/// Returns the lock of a cell, if its phase is valid and its lock is known.
+/// Returns the lock of a cell of an epoch of this time. `None` without a valid phase and a known
+/// lock.
 pub fn lock_at(time: u64, x: &Cell) -> Option<KnownLock>
     ensures { result ≡ lock_of time (heard_cell x.now) }
 {
@@ -136,8 +141,9 @@ pub fn lock_at(time: u64, x: &Cell) -> Option<KnownLock>
     }
 }
 
-/// Returns the loss of lock indicator of RINEX for a cell: bit 0 if the latest known lock of its
-/// key was lost since, bit 1 if the phase may be off by half a cycle; 0 without a phase.
+/// Returns the loss of lock indicator (LLI) of RINEX for a cell: bit 0 if lock was lost since
+/// `before`, the latest known lock of its key; bit 1 if the phase may be off by half a cycle; 0
+/// without a phase.
 pub fn lli(x: &Cell, time: u64, before: Option<KnownLock>) -> u8
     ensures value { result ≡ lli_with time (heard_cell x.now) before }
     ensures bound { result < 4 }
@@ -153,7 +159,7 @@ pub fn lli(x: &Cell, time: u64, before: Option<KnownLock>) -> u8
     if lost { 1 + half } else { half }
 }
 
-/// Appends within the capacity, without allocation.
+/// Appends an item within the capacity, without allocation.
 #[inline(always)]
 pub fn push_within<T: Drop>(xs: &mut Vec<T>, x: T)
     requires { vec_len xs.old < vec_capacity xs.old }
@@ -164,8 +170,8 @@ pub fn push_within<T: Drop>(xs: &mut Vec<T>, x: T)
     let _ = xs.push(x);
 }
 
-/// Inserts within the capacity, without allocation. Most cells are appended, so this is kept out
-/// of line.
+/// Inserts an item within the capacity, without allocation. Most cells are appended, so this
+/// function is not inlined.
 #[inline(never)]
 pub fn insert_within<T: Drop>(xs: &mut Vec<T>, at: usize, x: T)
     requires room { vec_len xs.old < vec_capacity xs.old }
@@ -177,7 +183,7 @@ pub fn insert_within<T: Drop>(xs: &mut Vec<T>, at: usize, x: T)
     let _ = xs.insert(at, x);
 }
 
-/// Returns whether two satellites and signals are the same.
+/// Returns whether two pairs of a satellite and a signal are the same.
 pub fn is_same_key(satellite: Sat, signal: Signal, other: Sat, other_signal: Signal) -> bool
     ensures { result ≡ same_key satellite signal other other_signal }
 {

@@ -1,4 +1,4 @@
-//! What is read of a message: its cells in thousandths, and its station values.
+//! Reads the cells of a message in thousandths, and its station values.
 ghost use Rattle.std.specs.Prelude.{◌≡◌, ◌<◌, IfSome};
 ghost use Rattle.rtcm_msg.specs.Entries.{IsEntry};
 ghost use Rattle.rtcm_msg.specs.Msm.{codes_of};
@@ -16,8 +16,8 @@ use crate::plan::Plan;
 use gnss_obs::{Lock, Sat, Signal, System, doppler, phase, pseudorange, strength};
 use rtcm_msg::{Entry, LockField, StationParts, Summary, View};
 
-/// Returns a cell of a message, if its satellite is listed and its signal is planned. Values are
-/// computed only then.
+/// Returns the cell of an entry if its satellite is listed and its signal is planned, else `None`.
+/// Values are computed only for such an entry.
 pub fn observe(plan: &Plan, field: LockField, system: System, entry: &Entry) -> Option<Cell>
     requires { IsEntry (codes_of field) entry.now }
     ensures value { result ≡ option_and_then (planned_cell plan.now) (seen_in field system entry.now) }
@@ -29,14 +29,14 @@ pub fn observe(plan: &Plan, field: LockField, system: System, entry: &Entry) -> 
     Some(cell(field, entry, satellite, signal))
 }
 
-// Returns a cell with its values, without a loss of lock indicator.
+// Returns a cell with its values, with a loss of lock indicator of 0.
 fn cell(field: LockField, entry: &Entry, satellite: Sat, signal: Signal) -> Cell
     requires entry { IsEntry (codes_of field) entry.now }
     requires same { signal.system ≡ satellite.system }
     ensures value { result ≡ kept_cell (observed (lock_by field entry.now.lock) entry.now satellite signal) 0 }
     ensures observed { IsObserved (heard_cell result) }
 {
-    // By these two calls the prover knows that the satellite and the signal are listed.
+    // From these two calls the prover knows that the satellite and the signal are listed.
     let _ = satellite.id();
     let _ = signal.index();
     Cell {
@@ -52,7 +52,7 @@ fn cell(field: LockField, entry: &Entry, satellite: Sat, signal: Signal) -> Cell
     }
 }
 
-// Returns the lock of an indicator.
+// Returns the lock of a lock time indicator.
 fn lock_of(field: LockField, code: u16) -> Lock
     requires { code < codes_of field }
     ensures { result ≡ lock_by field code }
@@ -63,7 +63,7 @@ fn lock_of(field: LockField, code: u16) -> Lock
     }
 }
 
-/// Returns what a message contains beside its cells.
+/// Returns the contents of a message other than its cells.
 #[tactic(auto, using(crate::proofs::ViewLemmas::summary_heard))]
 pub fn summary_of(view: &View<'_>) -> Summary
     ensures heard { heard_summary result ≡ without_cells (heard (viewed_message view.now)) }
@@ -83,7 +83,7 @@ pub fn system_of(is_galileo: bool) -> System
     }
 }
 
-/// Returns the station values of a station message, with this height if it has none.
+/// Returns the station values of a station message, with this height if the message has none.
 pub fn values_of(parts: &StationParts, height: u16) -> StationValues
     ensures { result ≡ values_by parts.now height }
 {

@@ -1,4 +1,4 @@
-//! Plans: the signals that are wanted.
+//! Plans: the wanted signals of each system.
 ghost use Rattle.std.specs.Prelude.{◌≡◌, ◌<◌, ◌≤◌, ◌+◌, ◌++◌, ◌∷◌, [], ◌==◌, length, slice_index, MatchResult, IfErr, IfSome, IsTrue, ◌↔◌, false, Ok, Err, option_map, Result};
 ghost use Rattle.gnss_obs.specs.declared.system.System.TheVariants.{Gps, Galileo};
 ghost use Rattle.gnss_obs.specs.Signals.{table};
@@ -13,7 +13,7 @@ use gnss_obs::{Signal, System};
 use std::alloc::Global;
 use std::marker::Model;
 
-/// The signals of each system that are wanted, in the order in which they are written: at least one
+/// The wanted signals of each system, in the order in which they are written: at least one signal
 /// in all.
 #[derive(Drop)]
 pub struct Plan {
@@ -34,9 +34,16 @@ impl Model for Plan {
 }
 
 impl Plan {
-    /// Returns the plan of two texts. Each is `all` for all signals in the table's order, `none`,
-    /// or codes with single commas between them, as `1C,2W`. The GPS text is read first, from the
-    /// left; an empty text is one unknown code.
+    /// Parses a plan from one text for each system. A text is `all` for all signals in the order of
+    /// the system's table, `none`, or a list of signal codes separated by single commas, such as
+    /// `1C,2W`. An empty text is a list of one unknown code. The GPS text is parsed first, each
+    /// text from the left.
+    ///
+    /// # Errors
+    ///
+    /// The first fault: `UnknownCode` for a code that isn't in the system's table, `RepeatedCode`
+    /// for a repeated code, `NothingPlanned` if both texts are `none`, `Memory` if an allocation
+    /// failed.
     pub fn parse(alloc: Global, gps: &str, galileo: &str) -> Result<Plan, PlanFault>
         ensures { MatchResult result
             (λ p. plan_of gps.now galileo.now ≡ Ok p)
@@ -61,9 +68,9 @@ impl Plan {
     ///
     /// # Errors
     ///
-    /// `UnknownCode` for a signal of another system and `RepeatedCode` for a repeated one, those
-    /// of GPS first and from the left, `NothingPlanned` for no signal, `Memory` if an allocation
-    /// failed.
+    /// `NothingPlanned` if there is no signal, else the first fault, GPS before Galileo and from
+    /// the left: `UnknownCode` for a signal of the other system, `RepeatedCode` for a repeated
+    /// signal, `Memory` if an allocation failed.
     pub fn from_signals(
         alloc: Global,
         gps: &[Signal],
@@ -90,7 +97,7 @@ impl Plan {
         }
     }
 
-    /// Returns the number of signals of a system that are wanted.
+    /// Returns the number of wanted signals of a system.
     pub fn signals(&self, system: System) -> usize
         ensures count { result ≡ length (planned_of system self.now) }
         ensures bound { result ≤ length (table system) }
@@ -98,7 +105,7 @@ impl Plan {
         self.of(system).len()
     }
 
-    /// Returns the signals of a system that are wanted, in their order.
+    /// Returns the wanted signals of a system, in the order of the plan.
     pub fn of(&self, system: System) -> &[Signal]
         ensures indices { indices result.now ≡ planned_of system self.now }
         ensures system { IsOf system result.now }
@@ -109,7 +116,7 @@ impl Plan {
         }
     }
 
-    /// Returns a signal of a system that is wanted, by its index.
+    /// Returns the wanted signal of a system at this index.
     pub fn signal(&self, system: System, place: usize) -> Signal
         requires { place < length (planned_of system self.now) }
         ensures index { result.index ≡ slice_index (planned_of system self.now) place }
@@ -118,8 +125,8 @@ impl Plan {
         self.of(system)[place]
     }
 
-    /// Returns the index of a signal among those of its system that are wanted, or `None` if it
-    /// isn't wanted.
+    /// Returns the index of a signal among the wanted signals of its system. `None` if it isn't
+    /// wanted.
     pub fn place(&self, signal: Signal) -> Option<usize>
         ensures place { result ≡ place_in signal (planned_of signal.system self.now) }
     {
@@ -130,7 +137,7 @@ impl Plan {
     }
 }
 
-// The functions that can fail append to lists of the caller, so that none of them has to free one.
+// The functions that can fail append to lists of the caller, so none of them has to free a list.
 
 // Appends the signals of both systems, at least one in all.
 fn add_both(
@@ -153,7 +160,7 @@ fn add_both(
     add_signals(galileo, System::Galileo, galileo_signals)
 }
 
-// Appends these signals of a system: none of another system, none twice.
+// Appends these signals of a system: none of the other system, none twice.
 fn add_signals(added: &mut Signals, system: System, signals: &[Signal]) -> Result<(), PlanFault>
     requires { added.old ≡ [] }
     ensures { MatchResult result
@@ -220,7 +227,7 @@ fn read_signals(signals: &mut Signals, system: System, text: &str) -> Result<(),
     read_codes(signals, system, text)
 }
 
-// Appends the signals of a table in its order.
+// Appends all signals of a table in its order.
 fn add_every(signals: &mut Signals, system: System) -> Result<(), PlanFault>
     requires { signals.old ≡ [] }
     ensures { MatchResult result
@@ -240,7 +247,7 @@ fn add_every(signals: &mut Signals, system: System) -> Result<(), PlanFault>
     Ok(())
 }
 
-// Appends the signals of codes with commas between them.
+// Appends the signals of codes separated by commas.
 fn read_codes(signals: &mut Signals, system: System, text: &str) -> Result<(), PlanFault>
     requires { signals.old ≡ [] }
     ensures { MatchResult result

@@ -1,4 +1,4 @@
-//! The number of cells with a value of each signal.
+//! The number of cells with a value, by signal.
 ghost use Rattle.std.specs.Prelude.{◌≡◌, ◌==◌, ◌+◌, ◌<◌, ◌≤◌, ◌^◌, ◌++◌, [], true, Bool, List, length, nat_lt, filter, filter_map};
 ghost use Rattle.std.specs.List.{list_any};
 ghost use Rattle.std.specs.Option.{option_map_or};
@@ -28,7 +28,7 @@ impl Model for SignalCounts {
 }
 
 impl SignalCounts {
-    /// Returns the counts of no cell.
+    /// Returns counts that are all 0.
     pub fn new() -> SignalCounts
         ensures { AreSignalCounts result [] }
     {
@@ -38,7 +38,7 @@ impl SignalCounts {
         }
     }
 
-    /// Returns the number of cells of the signal at an index of a system's table.
+    /// Returns the number of counted cells of the signal at this index of a system's table.
     pub fn count(&self, system: System, index: usize) -> u64
         requires { index < length (table system) }
         ensures { result ≡ counted self.now system index }
@@ -49,7 +49,7 @@ impl SignalCounts {
         }
     }
 
-    /// Returns whether there is a cell of any signal.
+    /// Returns whether a cell of any signal was counted.
     pub fn has_any(&self) -> bool
         ensures { result ≡ has_any self.now }
     {
@@ -59,14 +59,14 @@ impl SignalCounts {
         is_any_positive(self.galileo.as_slice())
     }
 
-    /// Counts the cells of a message, if it is of this station; with `None`, of any station.
+    /// Counts the cells of a message of this station; with `None`, of any station.
     pub fn count_message(&mut self, station: Option<u16>, message: &Message)
         ensures { CountsMessage self.old self.new station (heard message.now) }
     {
         self.count_view(station, &message.view());
     }
 
-    /// Counts as `count_message` does, and reads the cells from the bytes of the message.
+    /// Counts as `count_message` does, but reads the cells from the bytes of the message.
     pub fn count_view(&mut self, station: Option<u16>, view: &View<'_>)
         ensures { CountsMessage self.old self.new station (heard (viewed_message view.now)) }
     {
@@ -109,7 +109,7 @@ fn is_any_positive(counts: &[u64]) -> bool
     counts.iter().any(|n| *n > 0)
 }
 
-// Returns whether a station is the wanted one. Each is, if none is given.
+// Returns whether a station is the wanted one; without a wanted station, each is.
 fn is_wanted(wanted: Option<u16>, station: u16) -> bool
     ensures { result ≡ option_map_or (λ n. station == n) wanted true }
 {

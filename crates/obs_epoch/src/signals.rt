@@ -1,4 +1,4 @@
-//! Signals of a system, each once, in order.
+//! Lists of distinct signals of one system.
 ghost use Rattle.std.specs.Prelude.{◌≡◌, ◌↔◌, ◌==◌, [], IsTrue, length, true, false, Ok};
 ghost use Rattle.std.specs.List.{list_any};
 ghost use Rattle.gnss_obs.specs.Signals.{SignalAt, table};
@@ -10,12 +10,12 @@ use indexmap::IndexSet;
 use std::alloc::{AllocError, Global};
 use std::marker::Model;
 
-/// Signals of a system, each once, in the order in which they were added.
+/// Distinct signals of one system, in the order in which they were added.
 #[derive(Drop)]
 pub struct Signals {
     order: IndexSet<Signal>,
-    // The index of each signal in the order, by its index in the table. Galileo has the longest
-    // table.
+    // The index of each signal in `order`, by its index in the table of its system. The table of
+    // Galileo is the longest.
     places: [Option<usize>; GALILEO_SIGNAL_COUNT],
 }
 
@@ -32,7 +32,7 @@ impl Model for Signals {
 }
 
 impl Signals {
-    /// Returns no signal.
+    /// Returns an empty list.
     pub fn new(alloc: Global) -> Signals
         ensures { result ≡ [] }
     {
@@ -42,7 +42,12 @@ impl Signals {
         }
     }
 
-    /// Adds a signal of the same system as those before it, and returns whether it is new.
+    /// Appends a signal of the same system as the others, and returns whether it is new. A signal
+    /// that is in the list already leaves the list unchanged.
+    ///
+    /// # Errors
+    ///
+    /// `AllocError` if an allocation failed.
     pub fn add(&mut self, signal: Signal) -> Result<bool, AllocError>
         requires { IsOf signal.system self.old }
         ensures new { result ≡ Ok true → IsAdded self.old signal self.new }
@@ -60,28 +65,28 @@ impl Signals {
         }
     }
 
-    /// Returns their number.
+    /// Returns the number of signals.
     pub fn len(&self) -> usize
         ensures { result ≡ length self.now }
     {
         self.as_slice().len()
     }
 
-    /// Returns whether there is none.
+    /// Returns whether there is no signal.
     pub fn is_empty(&self) -> bool
         ensures { IsTrue result ↔ (self.now ≡ []) }
     {
         self.as_slice().is_empty()
     }
 
-    /// Returns all of them in their order.
+    /// Returns the signals in the order in which they were added.
     pub fn as_slice(&self) -> &[Signal]
         ensures { result.now ≡ self.now }
     {
         self.order.as_slice()
     }
 
-    /// Returns the index of a signal of their system, or `None` if it isn't there.
+    /// Returns the index of a signal of the same system, or `None` if the list does not contain it.
     pub fn place(&self, signal: Signal) -> Option<usize>
         ensures { result ≡ place_in signal (indices self.now) }
     {

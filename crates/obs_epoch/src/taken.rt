@@ -11,17 +11,17 @@ use rtcm_msg::Summary;
 /// How the epochs of a station are closed.
 #[derive(Clone, Copy, Debug, PartialEq, Eq)]
 pub enum Gather {
-    /// By a message of a later time, and by the multiple message bit: a message of the station with
-    /// DF393 = 0.
+    /// By observations of a later time, and by the multiple message bit: a message of the station
+    /// with DF393 = 0.
     Bit,
-    /// By a message of a later time alone.
+    /// By observations of a later time alone.
     Time,
 }
 
 /// The outcome of a message.
 #[derive(Clone, Copy, Debug, PartialEq, Eq)]
 pub enum Kind {
-    /// A message of another number than 1005, 1006, 1074, 1077, 1094 and 1097, of any station.
+    /// A message of a number other than 1005, 1006, 1074, 1077, 1094 and 1097, of any station.
     Ignored,
     /// A station message, 1005 or 1006.
     Station,
@@ -31,19 +31,18 @@ pub enum Kind {
     Late,
     /// Observations of week 100,000 or later.
     PastWeeks,
-    /// Observations that were taken, with the outcomes of their cells.
+    /// Observations that were accepted, with the number of cells of each outcome.
     Kept {
         /// Cells that were kept.
         kept: usize,
         /// Cells of an unlisted satellite or signal, or of a signal that isn't planned.
         skipped: usize,
-        /// Cells of a satellite and signal of which the epoch has one already.
+        /// Cells of a satellite and signal of which the epoch has a cell already.
         repeated: usize,
-        /// Cells after 256 of their system were kept.
+        /// Cells of a system of which the epoch has 256 cells already.
         crowded: usize,
     },
-    /// Observations of a later epoch: the pending epoch was closed, and the message is to be passed
-    /// again.
+    /// Observations of a later epoch: the pending epoch was closed. Pass the message again.
     CloseFirst,
 }
 
@@ -65,12 +64,12 @@ pub enum Fate {
     Kept,
 }
 
-/// The outcome of a message, and whether an epoch was closed.
+/// The outcome of a message, and whether the call closed an epoch.
 #[derive(Clone, Copy, Debug, PartialEq, Eq)]
 pub struct Taken {
     /// The outcome of the message.
     pub kind: Kind,
-    /// Whether the call closed an epoch: `Gatherer::closed` returns it.
+    /// Whether the call closed an epoch, which `Gatherer::closed` then returns.
     pub closed: bool,
 }
 
@@ -112,14 +111,14 @@ pub(crate) fn is_by_bit(gather: Gather) -> bool
     matches!(gather, Gather::Bit)
 }
 
-// Returns whether a number has more than 12 bits, so that no station has it.
+// Returns whether a station's number does not fit the 12 bits of DF003.
 pub(crate) fn is_no_station(station: Option<u16>) -> bool
     ensures { result ≡ is_no_station station }
 {
     matches!(station, Some(station) if station > 4_095)
 }
 
-/// Returns the counts of no cell.
+/// Returns counts that are all 0.
 pub(crate) fn no_counts() -> CellCounts
     ensures { result ≡ no_counts }
 {
@@ -131,7 +130,7 @@ pub(crate) fn no_counts() -> CellCounts
     }
 }
 
-/// Returns the counts with one cell more.
+/// Returns the counts after one more cell with this outcome.
 pub(crate) fn counted(fate: Fate, n: CellCounts) -> CellCounts
     requires { n.kept + n.skipped + n.repeated + n.crowded < usize.MAX }
     ensures counts { result ≡ count_in fate n }

@@ -11,8 +11,8 @@ pub(crate) const WEEK: u64 = 604_800_000;
 /// Number of weeks: 0 to 99,999.
 pub(crate) const WEEKS: u64 = 100_000;
 
-/// A time: milliseconds since 1980-01-06 00:00:00 GPS time, in the weeks 0 to 99,999. There are no
-/// leap seconds in it.
+/// A time in milliseconds since 1980-01-06 00:00:00 GPS time, in the weeks 0 to 99,999. GPS time
+/// has no leap seconds.
 #[derive(Clone, Copy, Debug, PartialEq, Eq, PartialOrd, Ord)]
 pub struct GpsTime {
     milliseconds: u64,
@@ -33,7 +33,7 @@ impl Model for GpsTime {
 }
 
 impl GpsTime {
-    /// Returns the time this many milliseconds after 1980-01-06 00:00:00, or `None` from week
+    /// Returns the time this number of milliseconds after 1980-01-06 00:00:00, or `None` from week
     /// 100,000 on.
     pub fn new(milliseconds: u64) -> Option<GpsTime>
         ensures some { IsSome result ↔ (milliseconds < weeks * week) }
@@ -46,7 +46,7 @@ impl GpsTime {
         }
     }
 
-    // Returns the time of a number that is known to lie within the weeks.
+    // Returns the time of a number that is known to be within the weeks.
     pub(crate) fn within(milliseconds: u64) -> GpsTime
         requires { milliseconds < weeks * week }
         ensures { result ≡ milliseconds }
@@ -54,7 +54,7 @@ impl GpsTime {
         GpsTime { milliseconds }
     }
 
-    /// Returns the milliseconds since 1980-01-06 00:00:00.
+    /// Returns the number of milliseconds since 1980-01-06 00:00:00.
     pub fn milliseconds(self) -> u64
         ensures value { result ≡ self }
         ensures bound { result < weeks * week }

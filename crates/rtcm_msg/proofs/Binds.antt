@@ -1,4 +1,4 @@
--- What a chain of reads that succeeded, or failed, did.
+-- The steps of a chain of reads that succeeded or failed.
 use Rattle.std.proofs.Common.{ℕ, ◌≡◌, ◌+◌, ◌^◌, ◌<◌, ◌≤◌, ◌++◌, length, take, drop, Result, Ok, Err, refl, inl, inr, arith, subst, ◌∙◌, sym, ap}
 use Rattle.std.proofs.lemmas.Bool.{cases_lt}
 use Rattle.std.proofs.lemmas.List.{take-append-drop, length-take-le}
@@ -27,11 +27,11 @@ ok_inj x y r e f = cc
 abbrev done : {A : Type 0} → A → Result A MsgFault
 done x = Ok x
 
--- what holds of what was read holds of what it is said to be
+-- A property of the value that was read holds for an equal value.
 pub of_read : {A : Type 0} (P : A → Type 0) (x y : A) → done x ≡ done y → P x → P y
 of_read P x y e p = subst P (ok_inj x y (done x) refl e) p
 
--- what a field that was read is
+-- The properties of a field that was read.
 pub record Took (w : ℕ) (c : Cursor) (x : ℕ × Cursor) : Type 0 where
   pub fits : x.0 < 2 ^ w
   pub room : w ≤ length c.rest

@@ -1,4 +1,4 @@
--- What stands in columns that were read, what is read again, and which fault.
+-- Reading columns: the bits of the columns that were read, reading encoded columns, and the fault.
 use Rattle.std.proofs.Common.{ℕ, zero, suc, ◌≡◌, ◌+◌, ◌*◌, ◌/◌, ◌%◌, ◌^◌, ◌<◌, Bool, List, [], ◌∷◌, ◌++◌, length, map, Ok, refl, sym, ap, subst, ◌∙◌, arith, append_assoc, replicate, add_comm}
 use Rattle.std.specs.List.{flat_map}
 use Rattle.std.proofs.lemmas.List.{length-map}
@@ -13,11 +13,11 @@ use Rattle.rtcm_msg.specs.Columns.{column_at, columns_at, EachBelow}
 use Rattle.rtcm_msg.proofs.Binds.{bind_ok, ok_inj, number_took, Took}
 use Rattle.rtcm_msg.proofs.Combine.{cursor, number_again}
 
--- ---- which fault
+-- ---- the fault
 
 -- ---- what was read
 
--- the high parts
+-- The high parts of numbers.
 abbrev pub highs : ℕ → List ℕ → List ℕ
 highs w ns = map (λ n. n / 2 ^ w) ns
 
@@ -41,7 +41,7 @@ column_took w (p ∷ ps) c x e =
       high = rw (shr_high p w h.0 t.fits, r.high) refl;
     }
 
--- the columns that were read stand there
+-- The bits begin with the columns that were read.
 pub record ColumnsTook (ws ps : List ℕ) (c : Cursor) (x : List ℕ × Cursor) : Type 0 where
   pub bits : c.rest ≡ columns ws x.0 ++ x.1.rest
   pub high : highs (total_width ws) x.0 ≡ ps
@@ -73,7 +73,7 @@ columns_took (w ∷ ws) ps c x e =
       high = sym (highs_highs w (total_width ws) x.0) ∙ (rw b.high a.high);
     }
 
--- ---- what is read again
+-- ---- reading encoded columns
 
 pub column_again : (w : ℕ) (ns : List ℕ) (place : ℕ) (rest : List Bool) → column_at w (highs w ns) (cursor place (flat_map (uint w) ns ++ rest)) ≡ Ok (ns, cursor (place + w * length ns) rest)
 unfolding column_at
@@ -101,7 +101,7 @@ columns_again (w ∷ ws) ns place rest =
     far : (place w t k m : ℕ) → m ≡ k → place + w * m + t * k ≡ place + (w + t) * k
     far place w t k m e = rw e (omega arith)
 
--- numbers below the width have no high parts
+-- Numbers below the width have high parts of 0.
 pub highs_zero : (t : ℕ) (ns : List ℕ) → EachBelow t ns → highs t ns ≡ replicate (length ns) 0
 highs_zero t [] h = refl
 highs_zero t (n ∷ ns) h = let e : n / 2 ^ t ≡ 0 = div_eq_zero n (2 ^ t) (h zero) in rw (e, highs_zero t ns (λ k. h (suc k))) refl

@@ -1,4 +1,4 @@
--- How far the numbers in columns reach.
+-- Bounds of the numbers in columns.
 use Rattle.std.proofs.Common.{[], ℕ, zero, suc, subst, ◌≡◌, ◌+◌, ◌-◌, ◌*◌, ◌^◌, ◌<◌, List, ◌∷◌, length, drop, get_or, Ok, refl, ap, arith, add-one, add-zero, zero-add, add_assoc, replicate}
 use Rattle.std.proofs.Math.Seq.{drop-cons}
 use Rattle.std.proofs.lemmas.Nat.{pow-add, pow_pos}
@@ -8,7 +8,7 @@ use Rattle.rtcm_msg.specs.Packed.{total_width}
 use Rattle.rtcm_msg.proofs.Binds.{bind_ok, ok_inj, number_took}
 use Rattle.rtcm_msg.specs.Columns.{column_at, columns_at, EachBelow}
 
--- a field more in each
+-- One more field in each.
 column_below : (w a : ℕ) (ps : List ℕ) (c : Cursor) (x : List ℕ × Cursor) → column_at w ps c ≡ Ok x → EachBelow a ps → EachBelow (a + w) x.0
 unfolding column_at
 column_below w a [] c x e h = let is : [] ≡ x.0 = ap (λ (y : List ℕ × Cursor). y.0) (ok_inj ([], c) x (column_at w [] c) refl e) in subst (EachBelow (a + w)) is (λ k. pow_pos (a + w))
@@ -42,7 +42,7 @@ columns_below (w ∷ ws) a ps c x e h =
     let P : ℕ → Type 0 = λ n. EachBelow n x.0 in
     subst P (add_assoc a w (total_width ws)) rest
 
--- zeros
+-- Zeros are below every bound.
 pub zeros_below : (a n : ℕ) → EachBelow a (replicate n 0)
 zeros_below a zero k = pow_pos a
 zeros_below a (suc n) zero = pow_pos a

@@ -1,4 +1,4 @@
--- Chains of fields: what was read, what is read again, and which fault.
+-- Chains of fields: the bits that were read, reading encoded fields, and the fault.
 use Rattle.std.proofs.Common.{ℕ, ◌≡◌, ◌+◌, ◌*◌, ◌%◌, ◌^◌, ◌<◌, ◌≤◌, Bool, List, [], ◌∷◌, ◌++◌, length, take, drop, Result, Ok, Err, Some, refl, ap, subst, ◌∙◌, arith, length-append}
 use Rattle.std.proofs.lemmas.Nat.{mod_low}
 use Rattle.rtcm_bits.specs.Bits.{uint, number}
@@ -8,7 +8,7 @@ use Rattle.rtcm_msg.specs.declared.fault.MsgFault.{MsgFault}
 use Rattle.rtcm_msg.specs.Fields.{number_at, ◌>>=◌, first_past}
 use Rattle.rtcm_msg.proofs.Binds.{number_there}
 
--- ---- which fault
+-- ---- the fault
 
 pub past_here : (w : ℕ) (ws : List ℕ) (len place : ℕ) → len < place + w → first_past len place (w ∷ ws) ≡ Some place
 unfolding first_past
@@ -20,7 +20,7 @@ past_next w ws len place h = grind arith
 
 -- ---- what was read
 
--- ---- what is read again
+-- ---- reading encoded fields
 
 abbrev pub cursor : ℕ → List Bool → Cursor
 cursor place rest = record { place = place; rest = rest }

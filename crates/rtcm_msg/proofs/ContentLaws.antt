@@ -8,7 +8,7 @@ use Rattle.rtcm_msg.specs.Packed.{total_width, unpacked}
 use Rattle.rtcm_msg.specs.Fields.{field_at}
 use Rattle.rtcm_msg.specs.Rows.{row_at}
 
--- the contents of the one of place i, where the data of n begin at a place
+-- The contents of item i, when the data of n items begin at a bit.
 abbrev pub contents_at : (t : Table) → ℕ → List Bool → ℕ → ℕ → Contents t
 contents_at [] n bits p i = tt
 contents_at (f ∷ fs) n bits p i = (content f.1 (field_at bits (p + i * width f.1) (width f.1)), contents_at fs n bits (p + n * width f.1) i)
@@ -26,7 +26,7 @@ below n p q r h k = grind arith
 joined : (m f q t r : ℕ) → (m * q + f) * t + r ≡ m * (q * t) + (f * t + r)
 joined m f q t r = grind arith
 
--- what was read before is above the fields of these widths
+-- The bits read before are above the fields of these widths.
 row_split : (ws : List ℕ) (n : ℕ) (bits : List Bool) (p i m : ℕ) → (r : ℕ) × (r < 2 ^ total_width ws) × (row_at ws n bits p i m ≡ m * 2 ^ total_width ws + r)
 unfolding row_at
 row_split [] n bits p i m = (0, lit< tt, omega arith)

@@ -1,4 +1,4 @@
--- How the reading of bits ends: what is there, and else which fault.
+-- The result of reading bits: the value, or the fault.
 use Rattle.std.proofs.Common.{ℕ, zero, suc, ◌≡◌, ◌+◌, ◌*◌, ◌^◌, ◌<◌, ◌≤◌, Bool, List, [], ◌∷◌, ◌++◌, length, Result, Ok, Err, None, refl, sym, ap, ◌∙◌, arith, ◌⊎◌, inl, inr, replicate, count_ones}
 use Rattle.std.proofs.lemmas.Bool.{cases_lt}
 use Rattle.std.proofs.lemmas.List.{length-replicate, length-drop}
@@ -74,9 +74,9 @@ columns_read (w ∷ ws) count ps bits place len h = elim (column_read w ps bits 
     two_more : (place w t n : ℕ) → place + w * n + t * n ≡ place + (w + t) * n
     two_more place w t n = omega arith
 
--- ---- a multiple signal message, whose number stands before
+-- ---- a multiple signal message, after its message number
 
--- the widths after the message number
+-- The widths after the message number.
 abbrev pub msm_widths : List ℕ → List ℕ → List Bool → List ℕ
 msm_widths sw cw bits =
     let width = pairs (field_at bits 73 64) (field_at bits 137 32) in
@@ -85,7 +85,7 @@ msm_widths sw cw bits =
 abbrev pub pairs_of : List Bool → ℕ
 pairs_of bits = pairs (field_at bits 73 64) (field_at bits 137 32)
 
--- how the reading ends
+-- The cases of the result.
 pub data MsmEnd (sw cw : List ℕ) (g : Bool) (bits : List Bool) : Type 0 where
   no_time : (e : MsgFault) → length bits < 54 → ShortAt bits 12 (msm_widths sw cw bits) e → msm_at sw cw g (standing bits 12) ≡ Err e → MsmEnd sw cw g bits
   late : 54 ≤ length bits → week ≤ field_at bits 24 30 → msm_at sw cw g (standing bits 12) ≡ Err BadTime → MsmEnd sw cw g bits
@@ -94,7 +94,7 @@ pub data MsmEnd (sw cw : List ℕ) (g : Bool) (bits : List Bool) : Type 0 where
   short : (e : MsgFault) → field_at bits 24 30 < week → pairs_of bits ≤ 64 → ShortAt bits 12 (msm_widths sw cw bits) e → msm_at sw cw g (standing bits 12) ≡ Err e → MsmEnd sw cw g bits
   good : (v : MsmValue × Cursor) → field_at bits 24 30 < week → pairs_of bits ≤ 64 → first_past (length bits) 12 (msm_widths sw cw bits) ≡ None → msm_at sw cw g (standing bits 12) ≡ Ok v → MsmEnd sw cw g bits
 
--- by the header
+-- The cases of the header.
 data HeaderEnd (bits : List Bool) : Type 0 where
   no_time : (e : MsgFault) → length bits < 54 → ShortAt bits 12 head_widths e → header_at (standing bits 12) ≡ Err e → HeaderEnd bits
   late : 54 ≤ length bits → week ≤ field_at bits 24 30 → header_at (standing bits 12) ≡ Err BadTime → HeaderEnd bits
@@ -115,7 +115,7 @@ header_end bits h = elim (fields_read time_table bits 12 h) [
   ]
 ]
 
--- by the sets
+-- The cases of the masks.
 data SetsEnd (bits : List Bool) : Type 0 where
   no_masks : (e : MsgFault) → length bits < 169 → ShortAt bits 73 mask_widths e → masks_at (standing bits 73) ≡ Err e → SetsEnd bits
   many : 169 ≤ length bits → 64 < pairs_of bits → masks_at (standing bits 73) ≡ Err TooManyCells → SetsEnd bits
@@ -139,7 +139,7 @@ sets_end bits h = elim (fields_read mask_table bits 73 h) [
       ]
 ]
 
--- where the reader stands after the header and after the masks
+-- The position of the reader after the header and after the masks.
 pub record Stands (bits : List Bool) (c : Cursor) : Type 0 where
   pub is : c ≡ standing bits c.place
   pub there : c.place ≤ length bits
@@ -172,7 +172,7 @@ masks_stand bits h s c d room e f =
     let head = header_stands bits h c room e in
     sets_stand bits s d head.1 (sym (ap masks_at head.0) ∙ f)
 
--- by the columns
+-- The cases of the data.
 data DataEnd (sw cw : List ℕ) (satellites cells : ℕ) (bits : List Bool) (place : ℕ) : Type 0 where
   short : (e : MsgFault) → ShortAt bits place (repeated satellites sw ++ repeated cells cw) e → ((f : List ℕ → List ℕ × Cursor → Result (MsmValue × Cursor) MsgFault) → (columns_at sw (replicate satellites 0) (standing bits place) >>= λ s. columns_at cw (replicate cells 0) s.1 >>= λ c. f s.0 c) ≡ Err e) → DataEnd sw cw satellites cells bits place
   good : (s : List ℕ) (c : List ℕ × Cursor) → place + total_width (repeated satellites sw ++ repeated cells cw) ≤ length bits → ((f : List ℕ → List ℕ × Cursor → Result (MsmValue × Cursor) MsgFault) → (columns_at sw (replicate satellites 0) (standing bits place) >>= λ s. columns_at cw (replicate cells 0) s.1 >>= λ c. f s.0 c) ≡ f s c) → DataEnd sw cw satellites cells bits place

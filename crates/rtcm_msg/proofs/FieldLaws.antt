@@ -1,4 +1,4 @@
--- The fields of a table, as one read: what was read, what is read again, and which fault.
+-- The fields of a table, read as one: the bits that were read, reading encoded fields, and the fault.
 use Rattle.std.proofs.Common.{ℕ, true, ◌≡◌, ◌+◌, ◌<◌, ◌≤◌, Bool, List, [], ◌∷◌, ◌++◌, length, drop, Result, Ok, Err, Some, None, refl, sym, ap, subst, ◌∙◌, arith, append_assoc, ◌⊎◌, inl, inr, add_assoc, add-zero}
 use Rattle.std.proofs.lemmas.Bool.{cases_lt}
 use Rattle.std.proofs.lemmas.List.{length-drop, drop-drop}
@@ -14,7 +14,7 @@ use Rattle.rtcm_msg.specs.Packed.{total_width}
 use Rattle.rtcm_msg.proofs.Binds.{ok_inj, number_there, number_short, took_at}
 use Rattle.rtcm_msg.proofs.Combine.{past_here, past_next, cursor, number_again, ok_err, bind_bind}
 
--- the fields as one read
+-- Reads the fields as one.
 abbrev pub fields_at : (t : Table) → Cursor → Result (Contents t × Cursor) MsgFault
 fields_at [] c = Ok (tt, c)
 fields_at (f ∷ fs) c = number_at (width f.1) c >>= λ here. fields_at fs here.1 >>= λ others. Ok ((content f.1 here.0, others.0), others.1)
@@ -30,7 +30,7 @@ reading_is (f ∷ fs) c next = go (λ h. reading_is fs h.1 (λ o. next ((content
 
 -- ---- what was read
 
--- the contents that stand there
+-- The contents of the bits after the cursor.
 abbrev pub values : (t : Table) → Cursor → Contents t
 values [] c = tt
 values (f ∷ fs) c = (content f.1 (unsigned_at (width f.1) c), values fs (advanced c (width f.1)))
@@ -84,7 +84,7 @@ fields_ok t c x signs e = elim (cases_lt (length c.rest) (total_width (widths t)
   | inr there ↦ subst (FieldsTook t c) (ok_inj (values t c, after t c) x (fields_at t c) (fields_there t c there) e) (values_took t c signs there)
 ]
 
--- ---- what is read again
+-- ---- reading encoded fields
 
 pub fields_again : (t : Table) (cs : Contents t) (place : ℕ) (rest : List Bool) → have_signs t ≡ true → FitAll t cs → fields_at t (cursor place (spelled (fields_of t cs) ++ rest)) ≡ Ok (cs, cursor (place + total_width (widths t)) rest)
 unfolding spelled
@@ -97,7 +97,7 @@ fields_again (f ∷ fs) cs place rest signs fit =
     let others = fields_again fs cs.1 (place + w) rest (sign_others (has_sign f.1) (have_signs fs) signs) fit.1 in
     rw (append_assoc (uint w n) (spelled (fields_of fs cs.1)) rest, here, others, content-number f.1 cs.0 sign fit.0, add_assoc place w (total_width (widths fs))) refl
 
--- ---- where fields end
+-- ---- the end of fields
 
 pub past_more : (ws vs : List ℕ) (len place k : ℕ) → first_past len place ws ≡ Some k → first_past len place (ws ++ vs) ≡ Some k
 unfolding first_past
@@ -116,7 +116,7 @@ unfolding first_past
 past_none [] len place h = refl
 past_none (w ∷ ws) len place h = past_next w ws len place (omega arith) ∙ past_none ws len (place + w) (omega arith)
 
--- ---- from a place of bits on
+-- ---- from a bit on
 
 abbrev pub contents_at : (t : Table) → List Bool → ℕ → Contents t
 contents_at [] bits place = tt
@@ -128,7 +128,7 @@ step_on w bits place = ap (cursor (place + w)) (drop-drop w place bits)
 pub number_there_at : (w : ℕ) (bits : List Bool) (place : ℕ) → place + w ≤ length bits → number_at w (standing bits place) ≡ Ok (field_at bits place w, standing bits (place + w))
 number_there_at w bits place h = number_there w (standing bits place) (omega (arith, length-drop place bits)) ∙ rw (step_on w bits place) refl
 
--- the first of these fields that does not end within the bits
+-- The first of these fields that does not end within the bits.
 pub record ShortAt (bits : List Bool) (place : ℕ) (ws : List ℕ) (e : MsgFault) : Type 0 where
   pub first : ℕ
   pub is : e ≡ Short first
@@ -140,7 +140,7 @@ short_at_more ws vs bits place e s = record { first = s.first; is = s.is; past =
 pub short_at_after : (ws vs : List ℕ) (bits : List Bool) (place : ℕ) (e : MsgFault) → place + total_width ws ≤ length bits → ShortAt bits (place + total_width ws) vs e → ShortAt bits place (ws ++ vs) e
 short_at_after ws vs bits place e room s = record { first = s.first; is = s.is; past = past_through ws vs (length bits) place room ∙ s.past }
 
--- either they are there, or one of them is the first that is not
+-- The bits contain all of the fields, or one field is the first that does not end within the bits.
 abbrev pub FieldsRead : Table → List Bool → ℕ → Type 0
 FieldsRead t bits place =
     ((length bits < place + total_width (widths t)) × ((e : MsgFault) × (fields_at t (standing bits place) ≡ Err e) × ShortAt bits place (widths t) e))

@@ -1,4 +1,4 @@
--- Masks and rising lists of IDs are one to one.
+-- Masks and rising lists of IDs correspond one to one.
 use Rattle.std.proofs.Common.{ℕ, zero, suc, ◌≡◌, ◌+◌, ◌==◌, ◌^◌, ◌<◌, ◌≤◌, Bool, true, false, List, [], ◌∷◌, length, refl, sym, ap, subst, ◌∙◌, arith, if◌then◌else◌, inl, inr}
 use Rattle.std.proofs.lemmas.Bool.{cases_eq}
 use Rattle.rtcm_bits.specs.Bits.{uint, number}
@@ -42,7 +42,7 @@ ids_one w m n a b e =
     let bits = up_one 1 (uint w m) (uint w n) (length-uint w m ∙ sym (length-uint w n)) e in
     sym (number_of-uint w m a) ∙ (ap number bits ∙ number_of-uint w n b)
 
--- the bits of a list
+-- The bits of a list of IDs.
 id_bits : ℕ → ℕ → List ℕ → List Bool
 id_bits zero i xs = []
 id_bits (suc w) i [] = false ∷ id_bits w (i + 1) []

@@ -1,4 +1,4 @@
--- Nothing that is read ends after the first 8,184 bits.
+-- No field that is read ends after the first 8,184 bits.
 use Rattle.std.proofs.Common.{ℕ, ◌≡◌, ◌+◌, ◌*◌, ◌≤◌, Bool, true, false, List, ◌∷◌, ◌++◌, length, take, drop, Result, Ok, Err, Option, refl, sym, ap, ◌∙◌, arith, lit≤, inl, inr, append_assoc, nat_lt, nat_le, count_ones, length-append}
 use Rattle.std.proofs.lemmas.Bool.{cases_lt}
 use Rattle.std.proofs.lemmas.Nat.{ones-le, mul-le}
@@ -20,7 +20,7 @@ use Rattle.rtcm_msg.specs.declared.message.Message.TheVariants as messages
 use Rattle.rtcm_msg.specs.Grid4 as grid4
 use Rattle.rtcm_msg.specs.Grid7 as grid7
 
--- a field that is there stays where more follows
+-- A field is the same if more bits follow.
 field_more : (a b : List Bool) (place w : ℕ) → place + w ≤ length a → field_at (a ++ b) place w ≡ field_at a place w
 field_more a b place w h = ap number (ap (take w) (drop-append-le place a b (omega arith)) ∙ take-append-le w (drop place a) b (omega (arith, length-drop place a)))
 
@@ -44,7 +44,7 @@ module _ (a b : List Bool) (long : 8184 ≤ length a) where
   few_more : has_too_many (a ++ b) ≡ has_too_many a
   few_more = rw (number_more, le_more 169 a b (omega (arith, long)), field_more a b 73 64 (omega (arith, long)), field_more a b 137 32 (omega (arith, long))) refl
 
--- the most bits of a message
+-- The largest number of bits of a message.
 total_few : (s c p : ℕ) (sw cw : List ℕ) → total_width sw ≤ 36 → total_width cw ≤ 80 → s ≤ 64 → c ≤ 64 → p ≤ 64 → total_width (12 ∷ 12 ∷ 30 ∷ 1 ∷ 3 ∷ 7 ∷ 2 ∷ 2 ∷ 1 ∷ 3 ∷ 64 ∷ 32 ∷ p ∷ (repeated s sw ++ repeated c cw)) ≤ 8184
 total_few s c p sw cw a b hs hc hp =
     let one : total_width sw * s ≤ 36 * 64 = mul-le (total_width sw) s 36 64 a hs in
@@ -95,7 +95,7 @@ message_more a b long = go (message_of a) refl
     go (Ok v) e = e ∙ sym (read_again (a ++ b) v (reads_more a b long v (message_found a v e).reads))
     go (Err f) e = e ∙ sym (message_only_fault (a ++ b) f (fault_more a b f long (message_fault a f e)))
 
--- the first 1,023 bytes say it all
+-- The first 1,023 bytes determine the message.
 pub message_front : (bytes : List ℕ) → 1023 ≤ length bytes → message_at (take 1023 bytes) ≡ message_at bytes
 message_front bytes h =
     let front = take 1023 bytes in

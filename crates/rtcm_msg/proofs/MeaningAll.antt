@@ -1,4 +1,4 @@
--- Each meaning is one of a value.
+-- Each meaning is that of a value.
 use Rattle.std.proofs.Common.{ℕ, suc, ◌≡◌, ◌+◌, ◌==◌, ◌^◌, ◌<◌, ◌≤◌, Bool, true, false, List, [], ◌∷◌, ◌++◌, length, map, refl, sym, ap, subst, ◌∙◌, arith, count_ones, if◌then◌else◌, ◌⊎◌, inl, inr}
 use Rattle.std.specs.List.{flat_map, zip, enumerate_from}
 use Rattle.std.proofs.lemmas.List.{length-map}
@@ -13,7 +13,7 @@ use Rattle.rtcm_msg.proofs.IdLaws.{weaken, ids_all}
 use Rattle.rtcm_msg.proofs.SeatLaws.{ids_count, pairs_count, seats_count}
 use Rattle.rtcm_msg.proofs.MeaningLaws.{map-map, all_rising}
 
--- the pairs of two lists
+-- The pairs of two lists.
 abbrev cross : List ℕ → List ℕ → List (ℕ × ℕ)
 cross xs gs = flat_map (λ a. map (λ g. (a, g)) gs) xs
 
@@ -36,7 +36,7 @@ chosen-map (b ∷ bits) [] = refl
 chosen-map (true ∷ bits) (x ∷ xs) = ap (λ t. pair x ∷ t) (chosen-map bits xs)
 chosen-map (false ∷ bits) (x ∷ xs) = chosen-map bits xs
 
--- ---- the pairs that are picked from all
+-- ---- the pairs that are chosen from all pairs
 
 pick : List (ℕ × ℕ) → List (ℕ × ℕ) → List Bool
 pick [] ys = []
@@ -65,7 +65,7 @@ in_above low high y (x ∷ xs) r (inr i) = let h = in_above (pair_number x + 1) 
     below : (l m n : ℕ) → l ≤ m → m + 1 ≤ n → l ≤ n
     below l m n h k = omega arith
 
--- those above the first are among the others
+-- Pairs after the first one are among the others.
 others_in : (high : ℕ) (x : ℕ × ℕ) (xs ys : List (ℕ × ℕ)) → Rising (pair_number x + 1) high (map pair_number ys) → Each (λ y. IsIn y (x ∷ xs)) ys → Each (λ y. IsIn y xs) ys
 others_in high x xs [] r h = tt
 others_in high x xs (y ∷ ys) r h = (first y r.0 h.0, others_in high x xs ys (weaken (pair_number x + 1) (pair_number y + 1) high (map pair_number ys) (less (pair_number x) (pair_number y) r.0) r.2) h.1)
@@ -112,7 +112,7 @@ picked low high start top (x ∷ xs) (y ∷ ys) r s h = elim h.0 [
       record { back = rw here p.back; len = rw here (ap suc p.len) }
 ]
 
--- ---- pairs of the lists are among all pairs
+-- ---- the pairs of the lists are among all pairs
 
 in_append : (y : ℕ × ℕ) (xs ys : List (ℕ × ℕ)) → IsIn y xs ⊎ IsIn y ys → IsIn y (xs ++ ys)
 in_append y [] ys (inl i) = absurd i
@@ -141,7 +141,7 @@ zip_back : {A : Type 0} (xs : List (A × ℕ)) → zip (keys xs) (data_of xs) �
 zip_back [] = refl
 zip_back (x ∷ xs) = ap (λ t. x ∷ t) (zip_back xs)
 
--- the cell mask of pairs among those of two masks
+-- The cell mask of these pairs, for two masks.
 pub record Masked (a g : ℕ) (ps : List (ℕ × ℕ)) : Type 0 where
   pub cells : ℕ
   pub fits : cells < 2 ^ pairs a g

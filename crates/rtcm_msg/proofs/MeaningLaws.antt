@@ -1,4 +1,4 @@
--- A value and its meaning are one to one.
+-- A value and its meaning correspond one to one.
 use Rattle.std.proofs.Common.{ℕ, ◌≡◌, ◌+◌, ◌*◌, ◌≤◌, Bool, true, false, List, [], ◌∷◌, ◌++◌, length, map, refl, sym, ap, subst, ◌∙◌, arith}
 use Rattle.std.specs.List.{flat_map, zip, enumerate_from}
 use Rattle.std.proofs.lemmas.List.{length-map}
@@ -11,12 +11,12 @@ use Rattle.rtcm_msg.specs.Meaning.{Meaning, meaning, pair, pair_number, cell_pai
 use Rattle.rtcm_msg.proofs.IdLaws.{weaken, ids_rising, ids_one, cons_tail}
 use Rattle.rtcm_msg.proofs.SeatLaws.{ids_count, pairs_count, seats_count}
 
--- ---- pairs rise
+-- ---- the pairs rise
 
 abbrev pub key : Seat → ℕ
 key x = pair_number (pair x)
 
--- a rising list before one that begins above it
+-- A rising list before one that begins above it.
 rising-append : (low middle high : ℕ) (xs ys : List ℕ) → low ≤ middle + 1 → middle ≤ high → Rising low middle xs → Rising (middle + 1) high ys → Rising low high (xs ++ ys)
 rising-append low middle high [] ys h k r s = weaken low (middle + 1) high ys h s
 rising-append low middle high (x ∷ xs) ys h k r s = (r.0, omega (arith, k, r.1), rising-append (x + 1) middle high xs ys (omega (arith, r.1)) k r.2 s)
@@ -25,7 +25,7 @@ map-append : (f : Seat → ℕ) (xs ys : List Seat) → map f (xs ++ ys) ≡ map
 map-append f [] ys = refl
 map-append f (x ∷ xs) ys = ap (λ t. f x ∷ t) (map-append f xs ys)
 
--- the pairs of one satellite
+-- The pairs of one satellite.
 row_rising : (x : ℕ × ℕ) (low : ℕ) (gs : List ℕ) → Rising low 32 gs → Rising (64 * x.1 + low) (64 * x.1 + 32) (map key (map (seat x) gs))
 row_rising x low [] r = tt
 row_rising x low (g ∷ gs) r =
@@ -58,7 +58,7 @@ map-map (x ∷ xs) = ap (λ t. key x ∷ t) (map-map xs)
 pub pairs_rising : (s : MasksValue) → Rising 65 4128 (map pair_number (cell_pairs s))
 pairs_rising s = rw (map-map (seats s)) (chosen_rising 65 4128 (uint (pairs s.satellites s.signals) s.cells) (all_pairs s) (all_rising s))
 
--- ---- pairs name one mask
+-- ---- the pairs determine one mask
 
 not_above : (n high : ℕ) (xs ys : List ℕ) → Rising (n + 1) high ys → n ∷ xs ≡ ys → ⊥
 not_above n high xs ys r e = let s : Rising (n + 1) high (n ∷ xs) = subst (Rising (n + 1) high) (sym e) r in omega (arith, s.0)
@@ -74,7 +74,7 @@ chosen_one low high (false ∷ bs) (false ∷ cs) (x ∷ xs) l m r e = ap (λ t.
 chosen_one low high (true ∷ bs) (false ∷ cs) (x ∷ xs) l m r e = absurd (not_above (key x) high (map key (chosen bs xs)) (map key (chosen cs xs)) (chosen_rising (key x + 1) high cs xs r.2) e)
 chosen_one low high (false ∷ bs) (true ∷ cs) (x ∷ xs) l m r e = absurd (not_above (key x) high (map key (chosen cs xs)) (map key (chosen bs xs)) (chosen_rising (key x + 1) high bs xs r.2) (sym e))
 
--- masks of the same satellites, signals and pairs
+-- Masks with the same satellites, signals and pairs.
 cells_same : (a g m n : ℕ) → AreMasks (record { satellites = a; signals = g; cells = m }) → AreMasks (record { satellites = a; signals = g; cells = n })
     → cell_pairs (record { satellites = a; signals = g; cells = m }) ≡ cell_pairs (record { satellites = a; signals = g; cells = n }) → m ≡ n
 cells_same a g m n h k e =
@@ -104,7 +104,7 @@ sets_one s t h k a g e =
 nil_cons : {B : Type 0} (x : B) (xs : List B) → Path (List B) [] (x ∷ xs) → ⊥
 nil_cons x xs e = cc
 
--- the first of two lists of entries
+-- The lists after the first entries.
 tails_same : {A : Type 0} (x y : A) (m n : ℕ) (us vs : List (A × ℕ)) → (x, m) ∷ us ≡ (y, n) ∷ vs → us ≡ vs
 tails_same x y m n us vs e = cc
 

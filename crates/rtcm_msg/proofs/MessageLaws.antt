@@ -1,4 +1,4 @@
--- What is read as a message, what is read again, and which fault stands.
+-- Reading a message: the bits that were read, reading an encoding, and the fault.
 use Rattle.std.proofs.Common.{ℕ, ◌≡◌, ◌+◌, ◌==◌, ◌^◌, ◌<◌, ◌≤◌, ◌&&◌, Bool, true, false, List, [], ◌∷◌, ◌++◌, length, drop, Result, Ok, Err, Option, Some, None, refl, sym, ap, subst, ◌∙◌, arith, lit<, ◌⊎◌, inl, inr, append_assoc, nat_lt, nat_le, if◌then◌else◌, is_some, IsTrue, replicate}
 use Rattle.std.proofs.lemmas.Bool.{cases_lt, cases_eq}
 use Rattle.std.proofs.lemmas.Nat.{pow_pos}
@@ -25,7 +25,7 @@ use Rattle.rtcm_msg.specs.declared.message.Message.TheVariants as messages
 use Rattle.rtcm_msg.specs.Grid4 as grid4
 use Rattle.rtcm_msg.specs.Grid7 as grid7
 
--- ---- which number
+-- ---- the message number
 
 abbrev pub station_number : Bool → ℕ
 station_number has = if has then 1006 else 1005
@@ -108,9 +108,9 @@ other_set bits h = elim (cases_lt (length bits) 55) [ inl few ↦ none bits few 
 other_is : (bits : List Bool) → 12 ≤ length bits → other_at (number_of bits) (standing bits 12) ≡ messages.Other (number_of bits) (set_of bits)
 other_is bits h = rw (other_set bits h) refl
 
--- ---- what is read again
+-- ---- reading an encoding
 
--- a message of this number whose bits stand after it
+-- Bits that begin with this message number are read as the fields after it.
 again : (bits : List Bool) (n : ℕ) (tail rest : List Bool) → n < 2 ^ 12 → bits ≡ (uint 12 n ++ tail) ++ rest → message_of bits ≡ body_at n (cursor 12 (tail ++ rest))
 unfolding message_of
 again bits n tail rest small is = rw (is, append_assoc (uint 12 n) tail rest, number_again 12 n 0 (tail ++ rest) small) refl
@@ -148,7 +148,7 @@ message_again bits rest (messages.Other n set) reserved h known small is = cc
 true_false : (b : Bool) → b ≡ true → b ≡ false → ⊥
 true_false b p q = cc
 
--- a value whose bits stand in front is read
+-- Bits that begin with the encoding of a value are read as the value.
 pub read_again : (bits : List Bool) (v : Message) → ReadsMessage bits v → message_of bits ≡ Ok v
 read_again bits v (inl b) = message_again bits b.rest v b.spells.reserved b.is_value b.known b.spells.fits (b.joined ∙ ap (λ t. t ++ b.rest) b.spells.bits_are)
 read_again bits v (inr o) = message_there bits o.number_there ∙ go (number_of bits) (kind_of (number_of bits)) o.unread (standing bits 12) ∙ ap Ok (other_is bits o.number_there ∙ sym o.value)
@@ -168,14 +168,14 @@ pub record Found (bits : List Bool) (v : Message) : Type 0 where
   pub is_message : IsMessage v
   pub reads : ReadsMessage bits v
 
--- the message number and what stands after it
+-- The message number and the bits after it.
 in_front : (bits : List Bool) → 12 ≤ length bits → bits ≡ uint 12 (number_of bits) ++ drop 12 bits
 in_front bits h = (number_took 12 (start bits) (number_of bits, standing bits 12) (number_there_at 12 bits 0 h)).bits
 
 begins : (bits : List Bool) (v : Message) (reserved : ℕ) (rest : List Bool) → IsMessage v → is_other v ≡ false → reserved < 2 ^ reserved_width v → bits ≡ message_bits v reserved ++ rest → Found bits v
 begins bits v reserved rest h known small is = record { is_message = h; reads = inl (record { is_value = h; known = known; front = message_bits v reserved; rest = rest; joined = is; spells = record { reserved = reserved; fits = small; bits_are = refl } }) }
 
--- a number, and a tail after it
+-- A message number and the fields after it.
 with_number : (bits : List Bool) (n : ℕ) (tail rest : List Bool) → bits ≡ uint 12 n ++ drop 12 bits → drop 12 bits ≡ tail ++ rest → bits ≡ (uint 12 n ++ tail) ++ rest
 with_number bits n tail rest e f = e ∙ (ap (λ t. uint 12 n ++ t) f ∙ sym (append_assoc (uint 12 n) tail rest))
 
@@ -227,7 +227,7 @@ message_found bits v read = elim (cases_lt (length bits) 12) [
   | inr there ↦ body_found bits (number_of bits) v there refl (kind_of (number_of bits)) (sym (message_there bits there) ∙ read)
 ]
 
--- ---- which fault
+-- ---- the fault
 
 data MessageEnd (bits : List Bool) : Type 0 where
   faulty : (e : MsgFault) → IsFault bits e → message_of bits ≡ Err e → MessageEnd bits
@@ -267,7 +267,7 @@ not_true b e h = cc
 pub some_none : (r : Option ℕ) (k : ℕ) → r ≡ Some k → r ≡ None → ⊥
 some_none r k e f = cc
 
--- neither of the two faults that come first
+-- Neither of the two faults that are checked first.
 pub record InTime (bits : List Bool) : Type 0 where
   pub time : has_bad_time bits ≡ false
   pub few : has_too_many bits ≡ false
@@ -326,7 +326,7 @@ pub msm7_is_msm : (g : Bool) → is_read_msm (grid7.message_number g) ≡ true
 msm7_is_msm true = refl
 msm7_is_msm false = refl
 
--- how a multiple signal message ends, by the widths of either grid
+-- The result of reading a multiple signal message, for the widths of either grid.
 msm_message_end : (bits : List Bool) (sw cw : List ℕ) (g : Bool) (wrap : MsmValue → Message) → 12 ≤ length bits → is_read_msm (number_of bits) ≡ true → layout bits ≡ 12 ∷ msm_widths sw cw bits
     → message_of bits ≡ (msm_at sw cw g (standing bits 12) >>= λ m. Ok (wrap m.0)) → MsmEnd sw cw g bits → MessageEnd bits
 msm_message_end bits sw cw g wrap h msm lay read end = go end
@@ -409,7 +409,7 @@ message_only_fault bits f fault = go (message_end bits)
     go (faulty d stands is) = is ∙ ap Err (fault_one bits d f stands fault)
     go (sound v none is) = absurd (none f fault)
 
--- ---- what is written
+-- ---- the encoding
 
 pub zero_read : (v : Message) → IsMessage v → is_other v ≡ false → ReadsMessage (filled (message_bits v 0)) v
 zero_read v value known = inl (record { is_value = value; known = known; front = message_bits v 0; rest = replicate (missing (length (message_bits v 0))) false; joined = refl; spells = record { reserved = 0; fits = zero_fits v; bits_are = refl } })

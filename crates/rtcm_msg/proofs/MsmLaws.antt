@@ -1,4 +1,4 @@
--- What is read as a multiple signal message, what is read again, and which fault stands.
+-- Reading a multiple signal message: the bits that were read, reading an encoding, and the fault.
 use Rattle.std.proofs.Common.{ℕ, ◌≡◌, ◌+◌, ◌*◌, ◌^◌, ◌<◌, ◌≤◌, Bool, List, [], ◌∷◌, ◌++◌, length, Result, Ok, Err, refl, sym, ap, ◌∙◌, arith, inl, inr, append_assoc, replicate, count_ones, ◌/◌}
 use Rattle.std.proofs.lemmas.Bool.{cases_lt}
 use Rattle.std.proofs.lemmas.List.{length-map, length-replicate}
@@ -21,7 +21,7 @@ use Rattle.rtcm_msg.proofs.ColumnLaws.{ColumnsTook, columns_took, columns_again,
 
 -- ---- the parts
 
--- the fields after the message number, up to the time, and those after the time
+-- The fields after the message number up to the epoch time, and those after the epoch time.
 abbrev pub head_widths : List ℕ
 head_widths = widths time_table
 
@@ -31,7 +31,7 @@ tail_widths = widths header_table
 abbrev pub mask_widths : List ℕ
 mask_widths = widths mask_table
 
--- the fields of a header after the message number
+-- The fields of a header after the message number.
 abbrev pub header_tail : MsmHeader → ℕ → List (ℕ × ℕ)
 header_tail h reserved = fields_of time_table (time_contents h) ++ fields_of header_table (header_contents h reserved)
 
@@ -45,7 +45,7 @@ pub header_chain : (c : Cursor) → header_at c ≡ (fields_at time_table c >>= 
 unfolding header_at
 header_chain c = reading_is time_table c (λ n. timely n.0.1.0 n.1 >>= λ t. header_rest n.0.0 t.0 t.1)
 
--- two runs of fields, one after the other
+-- Two sequences of fields, one after the other.
 pub both : (fs gs : List (ℕ × ℕ)) (a b d : List Bool) → a ≡ spelled fs ++ b → b ≡ spelled gs ++ d → a ≡ spelled (fs ++ gs) ++ d
 both fs gs a b d e f = e ∙ (ap (λ t. spelled fs ++ t) f ∙ (sym (append_assoc (spelled fs) (spelled gs) d) ∙ ap (λ t. t ++ d) (sym (spelled-append fs gs))))
 
@@ -98,7 +98,7 @@ header_again v reserved place rest h small =
     early : (t : ℕ) → t < week → t < 2 ^ 30
     early t h = omega (arith, h)
 
--- ---- sets
+-- ---- masks
 
 pub sets_chain : (c : Cursor) → masks_at c ≡ (fields_at mask_table c >>= λ n. masks_after n.0.0 n.0.1.0 n.1)
 unfolding masks_at
@@ -114,7 +114,7 @@ pub record AreSetsRead (v : MasksValue) (c d : Cursor) : Type 0 where
   pub are_sets : AreMasks v
   pub bits : c.rest ≡ spelled (mask_fields v) ++ d.rest
 
--- one field is a list of one
+-- One field is a list of one.
 alone : (bits all rest : List Bool) → all ≡ bits ++ rest → all ≡ (bits ++ []) ++ rest
 alone bits all rest e = e ∙ sym (append_assoc bits [] rest)
 
@@ -148,9 +148,9 @@ sets_again v place rest h =
     let second = number_again p v.cells (place + 96) rest h.cells in
     sets_chain c ∙ rw (split, first, few_rest v.satellites v.signals (cursor (place + 96) (spelled ((p, v.cells) ∷ []) ++ rest)) h.few, append_assoc (uint p v.cells) [] rest, second) refl
 
--- ---- the whole
+-- ---- the whole message
 
--- the bits after the message number
+-- The bits after the message number.
 abbrev pub msm_tail : List ℕ → List ℕ → MsmValue → ℕ → List Bool
 msm_tail sw cw v reserved = spelled (header_tail v.header reserved) ++ (spelled (mask_fields v.sets) ++ (columns sw v.satellites ++ columns cw v.cells))
 
@@ -161,7 +161,7 @@ pub record IsMsmRead (sw cw : List ℕ) (g : Bool) (v : MsmValue) (c d : Cursor)
   pub galileo : v.is_galileo ≡ g
   pub bits : c.rest ≡ msm_tail sw cw v reserved ++ d.rest
 
--- as many columns' numbers are read as were asked for
+-- The number of numbers read from columns is the one requested.
 columns_count : (ws : List ℕ) (n : ℕ) (c : Cursor) (x : List ℕ × Cursor) → ColumnsTook ws (replicate n 0) c x → length x.0 ≡ n
 columns_count ws n c x t = sym (length-map x.0 (λ k. k / 2 ^ total_width ws)) ∙ (ap length t.high ∙ length-replicate n 0)
 
@@ -189,7 +189,7 @@ msm_done sw cw g c h s x y a b e f =
     join4 : (p q r t a b c d e : List Bool) → a ≡ p ++ b → b ≡ q ++ c → c ≡ r ++ d → d ≡ t ++ e → a ≡ (p ++ (q ++ (r ++ t))) ++ e
     join4 p q r t a b c d e i j k l = i ∙ (ap (λ z. p ++ z) (j ∙ ap (λ z. q ++ z) (k ∙ ap (λ z. r ++ z) l)) ∙ sym (append_assoc p (q ++ (r ++ t)) e ∙ ap (λ z. p ++ z) (append_assoc q (r ++ t) e ∙ ap (λ z. q ++ z) (append_assoc r t e))))
 
--- numbers in range are read again from zeros
+-- Encoded numbers in range are read from zeros as the same numbers.
 columns_same : (ws ns : List ℕ) (count place : ℕ) (rest : List Bool) → length ns ≡ count → EachBelow (total_width ws) ns → columns_at ws (replicate count 0) (cursor place (columns ws ns ++ rest)) ≡ Ok (ns, cursor (place + total_width ws * length ns) rest)
 columns_same ws ns count place rest len below = rw (← len, ← highs_zero (total_width ws) ns below) (columns_again ws ns place rest)
 

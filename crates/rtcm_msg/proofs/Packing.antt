@@ -1,4 +1,4 @@
--- Numbers that are packed of parts in range.
+-- Numbers packed from parts in range.
 use Rattle.std.proofs.Common.{ℕ, zero, suc, ◌≡◌, ◌^◌, ◌<◌, List, [], ◌∷◌, length, map, take, All, arith, ap, ◌∙◌, subst, sym}
 use Rattle.std.proofs.Math.Seq.{take-length}
 use Rattle.std.proofs.lemmas.Nat.{pow_pos}

@@ -1,4 +1,4 @@
--- How far the numbers of a cell reach.
+-- Bounds of the values of a cell.
 use Rattle.std.proofs.Common.{ℕ, ℤ, pos, negsuc, ◌≡◌, ◌+◌, ◌*◌, ◌-◌, ◌^◌, ◌<◌, ◌≤◌, ◌==◌, ◌+ℤ◌, ◌*ℤ◌, Bool, true, false, List, [], ◌∷◌, map, Option, Some, None, unsigned_abs, arith, lit≤, refl}
 use Rattle.std.specs.Prelude.{if◌then◌else◌, IfSome}
 use Rattle.std.specs.Ordering.{int_eq}
@@ -90,7 +90,7 @@ measured7 v x s c a b = record {
   strength = strength_within c.strength 1 (omega arith) (let few = b.strength in omega (arith, few));
 }
 
--- the fields of any number fit
+-- The fields of every number fit.
 satellite4 : (n : ℕ) → grid4.IsSatelliteData (grid4.satellite_data n)
 satellite4 n = let h = unpacked_fit grid4.satellite_table n refl in record { whole = h.0; fraction = h.1.0 }
 

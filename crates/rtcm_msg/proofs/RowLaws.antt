@@ -1,4 +1,4 @@
--- Data that are read where they lie are those that are read in order.
+-- Data read from their position in the bits are those read in order.
 use Rattle.std.proofs.Common.{[], ℕ, zero, suc, ◌≡◌, ◌+◌, ◌*◌, ◌-◌, ◌%◌, ◌^◌, ◌<◌, ◌≤◌, nat_lt, Bool, true, false, List, ◌∷◌, length, drop, get_or, Result, Ok, Err, refl, sym, ap, ◌∙◌, arith, add-one, replicate, inl, inr}
 use Rattle.std.proofs.Math.Seq.{drop-cons, drop-length}
 use Rattle.std.proofs.Math.Nat.{mod-eq_of_lt, add-mod_right}
@@ -80,7 +80,7 @@ column_row w (p ∷ ps) bits place h =
 two_more : (place n w t : ℕ) → place + n * w + n * t ≡ place + n * (w + t)
 two_more place n w t = omega arith
 
--- what the place after says of the data
+-- The end of the data determines the result of reading them.
 abbrev pub Ends : List Bool → Result ℕ MsgFault → Result (List ℕ × Cursor) MsgFault → Type 0
 Ends bits (Ok e) read = read ≡ Ok (numbers_in read, standing bits e)
 Ends bits (Err f) read = read ≡ Err f
@@ -102,7 +102,7 @@ columns_end (w ∷ ws) ps bits n place len h = elim (cases_lt (length bits) (pla
 pub rows_end : (ws : List ℕ) (bits : List Bool) (n place : ℕ) → place ≤ length bits → Ends bits (end_of_rows ws n (length bits) place) (columns_at ws (replicate n 0) (standing bits place))
 rows_end ws bits n place h = columns_end ws (replicate n 0) bits n place (length-replicate n 0) h
 
--- where the data end
+-- The end of the data.
 pub end_is : (ws : List ℕ) (n len place end : ℕ) → end_of_rows ws n len place ≡ Ok end → end ≡ place + n * total_width ws
 unfolding end_of_rows
 end_is [] n len place end e = let same : place ≡ place + n * 0 = omega arith in sym (ok_inj place end (end_of_rows [] n len place) refl e) ∙ same
@@ -115,7 +115,7 @@ columns_next : (w : ℕ) (ws ps xs : List ℕ) (c d : Cursor) → column_at w ps
 unfolding columns_at
 columns_next w ws ps xs c d e = rw e refl
 
--- the first column was read
+-- The first column was read.
 first_read : (w : ℕ) (ws ps : List ℕ) (bits : List Bool) (n place : ℕ) → length ps ≡ n → (x : (r : List ℕ × Cursor) × (column_at w ps (standing bits place) ≡ Ok r) × ColumnRow w ps bits place r) → columns_at (w ∷ ws) ps (standing bits place) ≡ columns_at ws x.0.0 (standing bits (place + n * w))
 first_read w ws ps bits n place len x =
     let after : x.0.1 ≡ standing bits (place + n * w) = rw len at x.2.after in
@@ -139,7 +139,7 @@ columns_length (w ∷ ws) ps bits n place len h =
     let read = column_row w ps bits place (rw len (omega (arith, room))) in
     ap (λ (r : Result (List ℕ × Cursor) MsgFault). length (numbers_in r)) (first_read w ws ps bits n place len read) ∙ columns_length ws read.0.0 bits n (place + n * w) (read.2.len ∙ len) room
 
--- the one of place i
+-- The data of item i.
 pub row_is : (ws : List ℕ) (bits : List Bool) (n place i : ℕ) → place + n * total_width ws ≤ length bits → i < n → get_or (rows_at ws n bits place) i 0 ≡ row_at ws n bits place i 0
 row_is ws bits n place i h there = columns_row ws (replicate n 0) bits n place i (length-replicate n 0) h there ∙ ap (row_at ws n bits place i) (get_or-replicate n i 0 0 there)
 

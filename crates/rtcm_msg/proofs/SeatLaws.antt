@@ -1,4 +1,4 @@
--- How many IDs, pairs and cells there are.
+-- The number of IDs, pairs and cells.
 use Rattle.std.proofs.Common.{ℕ, zero, suc, ◌≡◌, ◌+◌, ◌*◌, ◌/◌, ◌%◌, ◌==◌, ◌^◌, ◌<◌, ◌≤◌, Bool, true, false, List, [], ◌∷◌, length, map, refl, ap, ◌∙◌, arith, count_ones, length-append}
 use Rattle.std.proofs.lemmas.Nat.{ones_cat, mod_below, pow_pos}
 use Rattle.std.specs.Int.Count.{ones, ones_in}
@@ -12,7 +12,7 @@ use Rattle.rtcm_bits.specs.Bits.{uint}
 use Rattle.rtcm_bits.specs.BitLaws.{length-uint, mod-suc}
 use Rattle.rtcm_msg.specs.Entries.{up_from, ids, chosen, seat, all_pairs, seats}
 
--- ---- how many IDs
+-- ---- the number of IDs
 
 ones_zero : count_ones 0 ≡ 0
 unfolding ones ones_in

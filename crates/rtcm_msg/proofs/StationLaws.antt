@@ -1,4 +1,4 @@
--- What is read as a station, what is read again, and which fault stands.
+-- Reading a station message: the bits that were read, reading an encoding, and the fault.
 use Rattle.std.proofs.Common.{ℕ, ◌≡◌, ◌+◌, ◌^◌, ◌<◌, Bool, true, false, List, [], ◌++◌, Ok, Option, Some, None, refl, sym, ap, ◌∙◌, is_some, subst, append_assoc, IfSome, add-zero}
 use Rattle.rtcm_bits.specs.Bits.{uint}
 use Rattle.rtcm_bits.specs.Reading.{Cursor}
@@ -13,7 +13,7 @@ use Rattle.rtcm_msg.proofs.FieldLaws.{fields_at, reading_is, fields_ok, fields_a
 use Rattle.rtcm_msg.specs.Layout.{widths, Contents, fields_of}
 use Rattle.rtcm_msg.specs.LayoutLaws.{FitAll}
 
--- the fields after the message number, up to the height
+-- The fields after the message number, without the height.
 abbrev pub station_widths : List ℕ
 station_widths = widths station_table
 
@@ -21,7 +21,7 @@ abbrev pub height_widths : Bool → List ℕ
 height_widths false = []
 height_widths true = widths height_table
 
--- the fields of a station message after its number
+-- The fields of a station message after its number.
 abbrev pub station_tail : StationParts → ℕ → List (ℕ × ℕ)
 station_tail s reserved = fields_of station_table (station_contents s reserved) ++ height_fields s.height
 
@@ -29,9 +29,9 @@ pub station_chain : (has : Bool) (c : Cursor) → station_at has c ≡ (fields_a
 unfolding station_at
 station_chain has c = reading_is station_table c (λ s. height_at has s.1 >>= λ h. Ok (station_parts s.0 h.0, h.1))
 
--- ---- what is read as a station
+-- ---- the bits of a station message that was read
 
--- the fields that stand between the message number and what follows are those of the value
+-- The bits between the two cursors encode the fields of the value.
 pub record IsRead (s : StationParts) (has : Bool) (c d : Cursor) : Type 0 where
   pub reserved : ℕ
   pub one : reserved < 2
@@ -46,7 +46,7 @@ in_range_of : (cs : Contents station_table) (h : Option ℕ) → FitAll station_
 in_range_of cs h (station, (realization, (gps, (glonass, (galileo, (reference, (x, (oscillator, (reserved, (y, (quarter, (z, end)))))))))))) height =
     record { station = station; realization = realization; x = x; y = y; quarter = quarter; z = z; height = height }
 
--- the bits of the fields that were read, with those of the height
+-- The bits of the fields that were read, with those of the height.
 took_bits : (has : Bool) (c : Cursor) (n : Contents station_table × Cursor) (h : Option ℕ × Cursor) → FieldsTook station_table c n → IfSome h.0 (λ k. k < 2 ^ 16) → is_some h.0 ≡ has → n.1.rest ≡ spelled (height_fields h.0) ++ h.1.rest
     → IsRead (station_parts n.0 h.0) has c h.1
 took_bits has c n h took fits is bits = record {
@@ -74,7 +74,7 @@ station_took has c v e =
     let second = bind_ok (height_at has first.0.1) _ v first.2 in
     subst (λ (w : StationParts × Cursor). IsRead w.0 has c w.1) (ok_inj _ v _ refl second.2) (by_height has c first.0 second.0 took second.1)
 
--- ---- what is read again
+-- ---- reading an encoding
 
 fit_again : (s : StationParts) (reserved : ℕ) → InRange s → reserved < 2 → FitAll station_table (station_contents s reserved)
 fit_again s reserved r one = (r.station, (r.realization, (tt, (tt, (tt, (tt, (r.x, (tt, (one, (r.y, (r.quarter, (r.z, tt))))))))))))

@@ -1,4 +1,4 @@
--- A message that is looked at is the one that is read.
+-- The message of a view is the one that `decode` returns.
 use Rattle.std.proofs.Common.{ℕ, ◌≡◌, ◌+◌, ◌*◌, ◌<◌, ◌≤◌, Bool, List, length, slice_index, Result, Ok, Err, refl, sym, ap, subst, ◌∙◌, replicate, count_ones}
 use Rattle.rtcm_bits.specs.Bits.{bits_of}
 use Rattle.rtcm_bits.specs.Reading.{Cursor, advanced, unsigned_at}
@@ -19,7 +19,7 @@ use Rattle.rtcm_msg.proofs.FaultLaws.{Stands, masks_stand}
 use Rattle.rtcm_msg.proofs.ColumnSteps.{columns_fit}
 use Rattle.rtcm_msg.proofs.RowLaws.{Ends, rows_end, rows_count, end_is, row_is}
 
--- ---- what is read, by its parts
+-- ---- reading in parts
 
 pub msm_good : (sw cw : List ℕ) (g : Bool) (c0 c1 c2 c3 c4 : Cursor) (h : MsmHeader) (s : MasksValue) (xs ys : List ℕ) → header_at c0 ≡ Ok (h, c1) → masks_at c1 ≡ Ok (s, c2)
     → columns_at sw (replicate (count_ones s.satellites) 0) c2 ≡ Ok (xs, c3) → columns_at cw (replicate (count_ones s.cells) 0) c3 ≡ Ok (ys, c4)
@@ -37,12 +37,12 @@ pub msm_second : (sw cw : List ℕ) (g : Bool) (c0 c1 c2 c3 : Cursor) (h : MsmHe
 unfolding msm_at
 msm_second sw cw g c0 c1 c2 c3 h s xs x e f i j = rw (e, f, i, j) refl
 
--- ---- the same from the places of the data
+-- ---- the same from the positions of the data
 
 pub ends : (bits : List Bool) (r : Result ℕ MsgFault) (read : Result (List ℕ × Cursor) MsgFault) (x : Result ℕ MsgFault) → x ≡ r → Ends bits r read → Ends bits x read
 ends bits r read x e h = subst (λ (y : Result ℕ MsgFault). Ends bits y read) (sym e) h
 
--- so many rows were found to end at a place
+-- The data of a number of items end at a bit.
 abbrev pub data_read : (ws : List ℕ) (bits : List Bool) (n m place : ℕ) (x : Result ℕ MsgFault) → n ≡ m → place ≤ length bits → x ≡ end_of_rows ws n (length bits) place → Ends bits x (columns_at ws (replicate m 0) (standing bits place))
 data_read ws bits n m place x same h e = ends bits (end_of_rows ws m (length bits) place) _ x (e ∙ ap (λ (k : ℕ). end_of_rows ws k (length bits) place) same) (rows_end ws bits m place h)
 
@@ -63,11 +63,11 @@ second_short form g bits c0 c1 c2 h s n m at x e f stands there same same2 first
     let two = data_read (cell_widths form) bits m (count_ones s.cells) at (Err x) same2 room short in
     formed_short form g c0 x (msm_second (satellite_widths form) (cell_widths form) g c0 c1 c2 (standing bits at) h s _ x e f (ap (columns_at (satellite_widths form) (replicate (count_ones s.satellites) 0)) stands ∙ one) two)
 
--- the same, where the code names them otherwise
+-- The same with the terms of the code.
 pub moved : (r : Result ℕ MsgFault) (vs ws : List ℕ) (n a b p q : ℕ) → r ≡ end_of_rows vs n a p → vs ≡ ws → a ≡ b → p ≡ q → r ≡ end_of_rows ws n b q
 moved r vs ws n a b p q e f g h = e ∙ rw (f, g, h) refl
 
--- where the reader stands after the number, and after the masks
+-- The position of the reader after the message number, and after the masks.
 pub number_stands : (bytes : List ℕ) (r c : Cursor) (n : ℕ) → r ≡ record { place = 0; rest = bits_of bytes } → number_at 12 r ≡ Ok (n, c) → (12 ≤ 8 * length bytes) × (c ≡ standing (bits_of bytes) 12)
 number_stands bytes r c n is e =
     let read : number_at 12 (record { place = 0; rest = bits_of bytes }) ≡ Ok (n, c) = ap (number_at 12) (sym is) ∙ e in
@@ -84,7 +84,7 @@ rows_counted ws bytes n place h = rows_count ws (bits_of bytes) n place (rw (len
 pub row_value : (vs ws bytes : List ℕ) (n place i : ℕ) → vs ≡ ws → place + n * total_width ws ≤ 8 * length bytes → i < n → row_at vs n (bits_of bytes) place i 0 ≡ slice_index (rows_at ws n (bits_of bytes) place) i
 row_value vs ws bytes n place i same h there = ap (λ (us : List ℕ). row_at us n (bits_of bytes) place i 0) same ∙ sym (row_is ws (bits_of bytes) n place i (rw (length-bits_of bytes) h) there)
 
--- a message whose data are there
+-- A message whose data are within the bits.
 pub record Found (form : Form) (g : Bool) (bits : List Bool) (c0 : Cursor) (h : MsmHeader) (s : MasksValue) (n place m at : ℕ) : Type 0 where
   pub read : formed_at form g c0 ≡ Ok (message_in form (record { is_galileo = g; header = h; sets = s; satellites = rows_at (satellite_widths form) n bits place; cells = rows_at (cell_widths form) m bits at }))
   pub value : IsValue (satellite_widths form) (cell_widths form) (record { is_galileo = g; header = h; sets = s; satellites = rows_at (satellite_widths form) n bits place; cells = rows_at (cell_widths form) m bits at })
@@ -118,12 +118,12 @@ found form g bits c0 c1 c2 h s n m at end e f stands there same same2 first room
       cells_there = second_end;
     }
 
--- where the data lie, counted in bytes
+-- The bounds of the data, counted in bytes.
 pub laid : (form : Form) (bytes : List ℕ) (n place m at : ℕ) → length bytes ≤ 1023 → place + n * total_width (satellite_widths form) ≤ length (bits_of bytes) → at + m * total_width (cell_widths form) ≤ length (bits_of bytes)
     → LieWithin form (length bytes) n place m at
 laid form bytes n place m at small first second = record { small = small; satellites_there = rw (← length-bits_of bytes) first; cells_there = rw (← length-bits_of bytes) second }
 
--- how many there are, in either form of the data
+-- The number of satellites and cells, in either form of the data.
 pub satellites_counted : (form : Form) (n m : ℕ) (d : Data) → AreDataThere form n m d → length (satellite_rows form n d) ≡ n
 satellites_counted form n m (datas.Bits bytes at cells_at) h = rows_counted (satellite_widths form) bytes.now n at h.there.satellites_there
 satellites_counted form n m (datas.Packed s c) h = h.there.0

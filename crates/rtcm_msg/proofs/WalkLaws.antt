@@ -1,4 +1,4 @@
--- The walk over pairs: sets from which the first ID is taken away.
+-- Iteration over pairs: the first ID is removed from a set.
 use Rattle.std.proofs.Common.{ℕ, zero, suc, ◌≡◌, ◌≢◌, ◌+◌, ◌*◌, ◌-◌, ◌/◌, ◌%◌, ◌^◌, ◌<◌, ◌≤◌, Bool, true, false, List, [], ◌∷◌, ◌++◌, length, map, refl, sym, ap, ◌∙◌, subst, arith, count_ones, inl, inr, zero-add}
 use Rattle.std.specs.Int.Count.{count_leading_zeros}
 use Rattle.std.proofs.lemmas.Nat.{leading_top, pow_pos}
@@ -30,7 +30,7 @@ top_of w m some fits few =
     inside : (j : ℕ) → 2 ^ j ≤ m → j < w
     inside j low = elim (cases_lt j w) [ inl below ↦ below | inr above ↦ let more : 2 ^ w ≤ 2 ^ j = pow_mono w j above in absurd (omega (arith, fits, low, more)) ]
 
--- the top bit, and no other, is there
+-- The number divided by its top bit is 1.
 whole_part : (m w : ℕ) → 2 ^ w ≤ m → m < 2 ^ suc w → m / 2 ^ w ≡ 1
 whole_part m w low high = part m (2 ^ w) low (omega (arith, high))
   where
@@ -94,23 +94,23 @@ rows_none : (k : ℕ) (xs : List ℕ) → rows [] k xs ≡ []
 rows_none k [] = refl
 rows_none k (x ∷ xs) = rows_none (k + 1) xs
 
--- where pairs are left, a satellite is left
+-- If pairs are left, a satellite is left.
 pub satellite_left : (k m : ℕ) (left all : List ℕ) → 0 < length (pairs_from k (ids 64 m) left all) → 0 < m
 satellite_left k zero left all h = let none : pairs_from k (ids 64 0) left all ≡ [] = ap (λ (xs : List ℕ). pairs_from k xs left all) (ids_none 64) in absurd (omega (arith, rw none at h))
 satellite_left k (suc m) left all h = omega arith
 
--- and a signal, if all are left
+-- If pairs are left and no signal was removed, a signal is left.
 pub signal_left : (k : ℕ) (xs : List ℕ) (g : ℕ) → 0 < length (pairs_from k xs (ids 32 g) (ids 32 g)) → 0 < g
 signal_left k xs zero h =
     let none : pairs_from k xs (ids 32 0) (ids 32 0) ≡ [] = sym (rows_are (ids 32 0) k xs) ∙ (ap (λ (gs : List ℕ). rows gs k xs) (ids_none 32) ∙ rows_none k xs) in
     absurd (omega (arith, rw none at h))
 signal_left k xs (suc g) h = omega arith
 
--- no signal is left with the first satellite
+-- No signal of the first satellite is left.
 pub next_row : (k m g x n all : ℕ) → g ≡ 0 → ids 64 m ≡ x ∷ ids 64 n → pairs_from (k + 1) (ids 64 n) (ids 32 all) (ids 32 all) ≡ pairs_from k (ids 64 m) (ids 32 g) (ids 32 all)
 next_row k m g x n all none e = sym (rows_are (ids 32 all) (k + 1) (ids 64 n)) ∙ rw (none, e, ids_none 32) refl
 
--- ---- places
+-- ---- indices
 
 placed_row : (n k x : ℕ) (gs : List ℕ) (others : List Seat) → k < n → ArePlaced n others → ArePlaced n (map (seat (k, x)) gs ++ others)
 placed_row n k x [] others h rest = rest
@@ -120,7 +120,7 @@ pub rows_placed : (n : ℕ) (gs : List ℕ) (k : ℕ) (xs : List ℕ) → k + le
 rows_placed n gs k [] h = tt
 rows_placed n gs k (x ∷ xs) h = placed_row n k x gs (rows gs (k + 1) xs) (omega (arith, h)) (rows_placed n gs (k + 1) xs (omega (arith, h)))
 
--- all pairs
+-- Before the first pair: all pairs are left.
 pub record Start (s : MasksValue) (p : Pairs) : Type 0 where
   pub count : length (pairs_left p) ≡ pairs s.satellites s.signals
   pub walking : IsWalking p
@@ -158,7 +158,7 @@ pub over : (l n : ℕ) (whole xs : List Seat) → l ≡ 0 → whole ≡ chosen (
 unfolding chosen uint
 over l n whole xs none same = same ∙ rw none refl
 
--- one pair less
+-- One pair fewer.
 pub one_less : (l : ℕ) (xs ys : List Seat) (x : Seat) → length xs ≡ l → xs ≡ x ∷ ys → length ys ≡ l - 1
 one_less l xs ys x count e = omega (arith, rw e at count)
 

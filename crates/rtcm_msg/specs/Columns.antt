@@ -1,10 +1,10 @@
--- Reading the data of satellites or cells, field by field: one field of all, then the next field of all.
+-- Reads the data of satellites or cells field by field: one field of all, then the next field of all.
 use Rattle.std.specs.Prelude.{ℕ, ◌+◌, ◌*◌, ◌^◌, ◌<◌, List, [], ◌∷◌, Result, Ok, slice_index}
 use Rattle.rtcm_bits.specs.Reading.{Cursor}
 use Rattle.rtcm_msg.specs.declared.fault.MsgFault.{MsgFault}
 use Rattle.rtcm_msg.specs.Fields.{number_at, ◌>>=◌}
 
--- one field of each: it goes below what was read of each before
+-- Reads one field of each, and appends its bits to the bits read of each before.
 unfoldable pub column_at : ℕ → List ℕ → Cursor → Result (List ℕ × Cursor) MsgFault
 column_at w [] c = Ok ([], c)
 column_at w (p ∷ ps) c = do
@@ -18,6 +18,6 @@ columns_at (w ∷ ws) ps c = do
   next ← column_at w ps c
   columns_at ws next.0 next.1
 
--- each number is below 2 ^ bits
+-- Each number is less than 2 ^ bits.
 abbrev pub EachBelow : ℕ → List ℕ → Type 0
 EachBelow bits ps = (k : ℕ) → slice_index ps k < 2 ^ bits

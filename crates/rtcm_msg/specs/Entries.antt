@@ -1,4 +1,4 @@
--- What a message says, cell by cell: the form in which the layers above see it.
+-- The cells of a message, as entries.
 use Rattle.std.specs.Prelude.{◌<◌, ◌^◌, IfSome, unsigned_abs, ◌≤◌, ℕ, ℤ, ◌+◌, if◌then◌else◌, Bool, List, [], ◌∷◌, map, slice_index, Option}
 use Rattle.std.specs.List.{flat_map, zip, enumerate_from}
 use Rattle.rtcm_bits.specs.Bits.{uint}
@@ -11,44 +11,44 @@ use Rattle.rtcm_msg.specs.Grid4 as grid4
 use Rattle.rtcm_msg.specs.Grid7 as grid7
 use Rattle.rtcm_msg.specs.declared.grid.Grid.{Ghosts}
 
--- those of the items whose bit is set
+-- The items whose bit is set.
 unfoldable pub chosen : {X : Type 0} → List Bool → List X → List X
 chosen [] xs = []
 chosen (b ∷ bits) [] = []
 chosen (b ∷ bits) (x ∷ xs) = if b then x ∷ chosen bits xs else chosen bits xs
 
--- rising numbers from a first one
+-- The indices of the set bits, counted from i.
 unfoldable pub up_from : ℕ → List Bool → List ℕ
 up_from i [] = []
 up_from i (b ∷ bits) = if b then i ∷ up_from (i + 1) bits else up_from (i + 1) bits
 
--- the IDs of a set, rising
+-- The IDs of a set of w bits, rising.
 abbrev pub ids : ℕ → ℕ → List ℕ
 ids w mask = up_from 1 (uint w mask)
 
--- each is at least low and at most high, and above the one before it
+-- Each number is at least `low`, at most `high`, and greater than the one before it.
 abbrev pub Rising : ℕ → ℕ → List ℕ → Type 0
 Rising low high [] = Unit {0}
 Rising low high (x ∷ xs) = (low ≤ x) × (x ≤ high) × Rising (x + 1) high xs
 
--- a pair of a satellite, by its place in the set and its ID, and a signal
+-- A satellite, by its index in the set and its ID, with a signal.
 abbrev pub seat : ℕ × ℕ → ℕ → Seat
 seat x g = record { place = x.0; satellite = x.1; signal = g }
 
--- all pairs, by satellite and within it by signal
+-- All pairs, ordered by satellite, then by signal.
 abbrev pub all_pairs : MasksValue → List Seat
 all_pairs s = flat_map (λ x. map (seat x) (ids signal_mask_bits s.signals)) (enumerate_from 0 (ids satellite_mask_bits s.satellites))
 
--- the pairs that have a cell
+-- The pairs that have a cell.
 abbrev pub seats : MasksValue → List Seat
 seats s = chosen (uint (pairs s.satellites s.signals) s.cells) (all_pairs s)
 
--- a walk over the cells: of which sets, and the seats that are left
+-- An iteration over the cells: the masks, and the pairs that are left.
 pub record Walk : Type 0 where
   pub sets : MasksValue
   pub left : List Seat
 
--- how far the numbers of a cell reach, where there are so many lock time indicators
+-- Bounds of the values of a cell, with `codes` lock time indicators.
 pub record IsEntry (codes : ℕ) (e : Entry) : Type 0 where
   pub range : IfSome e.range (λ r. unsigned_abs r ≤ 2 ^ 40)
   pub phase : IfSome e.phase (λ r. unsigned_abs r ≤ 2 ^ 40)
@@ -56,14 +56,14 @@ pub record IsEntry (codes : ℕ) (e : Entry) : Type 0 where
   pub strength : IfSome e.strength (λ s. s < 2 ^ 10)
   pub lock : e.lock < codes
 
--- what a cell says, in either grid
+-- The entry of a cell, for the functions of a grid.
 abbrev pub entry_by : {S C : Type 0} → (ℕ → S) → (ℕ → C) → (S → C → Option ℤ) → (S → C → Option ℤ) → (S → C → Option ℤ) → (C → Option ℕ) → (C → ℕ) → (C → Bool) → List ℕ → Seat × ℕ → Entry
 entry_by satellite_at cell_at range_of phase_of rate_of strength_of lock_of half_cycle_of satellites x =
     let s = satellite_at (slice_index satellites x.0.place) in
     let c = cell_at x.1 in
     record { satellite = x.0.satellite; signal = x.0.signal; range = range_of s c; phase = phase_of s c; rate = rate_of s c; strength = strength_of c; lock = lock_of c; half_cycle = half_cycle_of c }
 
--- what a cell says, by the meaning that a grid gives to its data and to those of its satellite
+-- The entry of a cell in a grid, from its data and those of its satellite.
 abbrev pub entry_by_grid : {G Satellite Cell : Type 0} → Ghosts G Satellite Cell → List ℕ → Seat × ℕ → Entry
 entry_by_grid grid = entry_by grid.satellite_at grid.cell_at grid.range_of grid.phase_of grid.rate_of grid.strength_of grid.lock_code_of grid.half_cycle_of
 
@@ -73,7 +73,7 @@ entry4 v = entry_by grid4.satellite_data grid4.cell_data grid4.range_of grid4.ph
 abbrev pub entry7 : MsmValue → Seat × ℕ → Entry
 entry7 v = entry_by grid7.satellite_data grid7.cell_data grid7.range_of grid7.phase_of grid7.rate_of grid7.strength_of (λ c. c.lock) (λ c. c.half_cycle) v.satellites
 
--- the cells of a message in order
+-- The cells of a message in order.
 abbrev pub entries : Message → List Entry
 entries (Station s) = []
 entries (Msm4 v) = map (entry4 v) (zip (seats v.sets) v.cells)

@@ -1,4 +1,4 @@
--- Fields of a message: numbers of stated widths, one after the other.
+-- Fields of a message: numbers of given widths, one after the other.
 use Rattle.std.specs.Prelude.{◌≡◌, ℕ, ◌+◌, nat_lt, if◌then◌else◌, Bool, List, [], ◌∷◌, ◌++◌, length, take, drop, Option, Some, None, Result, Ok, Err}
 use Rattle.rtcm_bits.specs.Bits.{uint, number}
 use Rattle.rtcm_bits.specs.Reading.{Cursor, advanced, unsigned_at}
@@ -6,49 +6,49 @@ use Rattle.rtcm_msg.specs.Layout.{Table, Contents, width, content}
 use Rattle.rtcm_msg.specs.declared.fault.MsgFault.{MsgFault}
 use Rattle.rtcm_msg.specs.declared.fault.MsgFault.TheVariants.{Short}
 
--- ---- from a place of bits on
+-- ---- from a bit on
 
 abbrev pub standing : List Bool → ℕ → Cursor
 standing bits place = record { place = place; rest = drop place bits }
 
--- the number of w bits from a place on
+-- The number of the w bits from a bit on.
 abbrev pub field_at : List Bool → ℕ → ℕ → ℕ
 field_at bits place w = number (take w (drop place bits))
 
--- ---- the format: what is spelled
+-- ---- encoding
 
 -- The bits of fields in order. A field is its width and its number.
 unfoldable pub spelled : List (ℕ × ℕ) → List Bool
 spelled [] = []
 spelled (f ∷ fs) = uint f.0 f.1 ++ spelled fs
 
--- how wide the fields are together
+-- The sum of the widths of the fields.
 abbrev pub fields_width : List (ℕ × ℕ) → ℕ
 fields_width [] = 0
 fields_width (f ∷ fs) = f.0 + fields_width fs
 
--- where the first field begins that does not end within len bits
+-- The first bit of the first field that does not end within len bits.
 unfoldable pub first_past : ℕ → ℕ → List ℕ → Option ℕ
 first_past len place [] = None
 first_past len place (w ∷ ws) = if nat_lt len (place + w) then Some place else first_past len (place + w) ws
 
--- ---- reading, from left to right, with the first fault
+-- ---- reading from left to right, with the first fault
 
 infixl 10 ◌>>=◌
 abbrev pub ◌>>=◌ : {A B : Type 0} → Result A MsgFault → (A → Result B MsgFault) → Result B MsgFault
 (Ok x) >>= f = f x
 (Err e) >>= f = Err e
 
--- what a function returned, seen by view, is what reading gives
+-- The result of a function, with its value seen by `view`, is the result of reading.
 abbrev pub GivesViewed : {X Y : Type 0} → (X → Y) → Result X MsgFault → Result Y MsgFault → Type 0
 GivesViewed view (Ok x) read = read ≡ Ok (view x)
 GivesViewed view (Err e) read = read ≡ Err e
 
--- one field: the number and the cursor after it
+-- Reads one field: the number, and the cursor after it.
 unfoldable pub number_at : ℕ → Cursor → Result (ℕ × Cursor) MsgFault
 number_at w c = if nat_lt (length c.rest) w then Err (Short c.place) else Ok (unsigned_at w c, advanced c w)
 
--- the fields of a table one after the other, and then what follows
+-- Reads the fields of a table one after the other, then what follows.
 abbrev pub reading : {B : Type 0} (t : Table) → Cursor → (Contents t × Cursor → Result B MsgFault) → Result B MsgFault
 reading [] c next = next (tt, c)
 reading (f ∷ fs) c next = number_at (width f.1) c >>= λ n. reading fs n.1 (λ others. next ((content f.1 n.0, others.0), others.1))

@@ -2,23 +2,23 @@
 use Rattle.std.specs.Ordering.{int_eq}
 use Rattle.std.specs.Prelude.{ℕ, ℤ, pos, negsuc, ◌+◌, ◌*◌, ◌^◌, ◌+ℤ◌, ◌*ℤ◌, ◌==◌, if◌then◌else◌, Option, Some, None}
 
--- a fine part in units of k, absent where it is the invalid value
+-- A fine part of z units of size k; absent if it is the invalid value.
 abbrev pub scaled : ℤ → ℕ → ℤ → Option ℤ
 scaled invalid k z = if int_eq z invalid then None else Some (z *ℤ pos k)
 
--- a rough range of so many whole milliseconds is invalid
+-- The value of DF397 for an invalid rough range.
 abbrev pub invalid_range : ℕ
 invalid_range = 255
 
--- the rough range in units of 2^-31 ms with a fine part, absent where either is invalid
+-- The rough range in units of 2^-31 ms plus a fine part; absent if either is invalid.
 abbrev pub range_joined : ℕ → ℕ → Option ℤ → Option ℤ
 range_joined whole fraction None = None
 range_joined whole fraction (Some fine) = if whole == invalid_range then None else Some (pos (whole * 2 ^ 31 + fraction * 2 ^ 21) +ℤ fine)
 
--- a rate in 0.0001 m/s
+-- A phase range rate in 0.0001 m/s; absent if its rough or fine part is invalid.
 abbrev pub rate_joined : ℤ → ℤ → Option ℤ
 rate_joined rough fine = if int_eq rough (negsuc 8191) then None else (if int_eq fine (negsuc 16383) then None else Some ((rough *ℤ pos 10000) +ℤ fine))
 
--- a strength in 1/16 dB-Hz, absent where it is 0
+-- A carrier to noise ratio in 1/16 dB-Hz; absent if it is 0.
 abbrev pub strength_of : ℕ → ℕ → Option ℕ
 strength_of n k = if n == 0 then None else Some (n * k)

@@ -1,4 +1,4 @@
--- The fields of MSM4, for a satellite and for a cell.
+-- The fields of MSM4 for a satellite and for a cell.
 use Rattle.std.specs.Prelude.{ℕ, ℤ, negsuc, ◌^◌, ◌<◌, List, [], ◌∷◌, Bool, not, nat_le, Some, None, Option, if◌then◌else◌}
 use Rattle.std.specs.List.{list_any}
 use Rattle.rtcm_msg.specs.declared.fault.Field.{Field}
@@ -12,14 +12,14 @@ use Rattle.rtcm_msg.specs.declared.grid4.Cell4.{Cell4}
 use Rattle.rtcm_msg.specs.declared.fault.Field.TheVariants as fields
 use Rattle.rtcm_msg.specs.Fractions as fractions
 
--- the fields of a satellite in MSM4
+-- The fields of a satellite in MSM4.
 abbrev pub satellite_table : Table
 satellite_table =
     (397, Uint 8)  -- rough range, whole ms, 255 invalid
     ∷ (398, Uint 10)  -- rough range below 1 ms, 2^-10 ms
     ∷ []
 
--- the fields of a cell in MSM4
+-- The fields of a cell in MSM4.
 abbrev pub cell_table : Table
 cell_table =
     (400, Int 15)  -- fine pseudorange, 2^-24 ms, -2^14 invalid
@@ -45,7 +45,7 @@ pub record IsCellData (c : Cell4) : Type 0 where
   pub lock : c.lock < 2 ^ 4
   pub strength : c.strength < 2 ^ 6
 
--- what the fields of a satellite and of a cell hold, and back
+-- The contents of the fields of a satellite and of a cell, and back.
 abbrev pub satellite_contents : Satellite4 → Contents satellite_table
 satellite_contents s = s.whole ▸ s.fraction ▸ tt
 
@@ -58,7 +58,7 @@ cell_contents c = c.range ▸ c.phase ▸ c.lock ▸ c.half_cycle ▸ c.strength
 abbrev pub cell_of : Contents cell_table → Cell4
 cell_of (range, (phase, (lock, (half_cycle, (strength, end))))) = record { range = range; phase = phase; lock = lock; half_cycle = half_cycle; strength = strength }
 
--- in one number, and back
+-- The same packed in one number, and back.
 abbrev pub satellite_number : Satellite4 → ℕ
 satellite_number s = packed satellite_table (satellite_contents s)
 

@@ -1,4 +1,4 @@
--- The fields of MSM7, for a satellite and for a cell.
+-- The fields of MSM7 for a satellite and for a cell.
 use Rattle.std.specs.Prelude.{ℕ, ℤ, negsuc, ◌^◌, ◌<◌, List, [], ◌∷◌, Bool, not, nat_le, Some, None, Option, if◌then◌else◌}
 use Rattle.std.specs.List.{list_any}
 use Rattle.rtcm_msg.specs.declared.fault.Field.{Field}
@@ -12,7 +12,7 @@ use Rattle.rtcm_msg.specs.declared.grid7.Cell7.{Cell7}
 use Rattle.rtcm_msg.specs.declared.fault.Field.TheVariants as fields
 use Rattle.rtcm_msg.specs.Fractions as fractions
 
--- the fields of a satellite in MSM7
+-- The fields of a satellite in MSM7.
 abbrev pub satellite_table : Table
 satellite_table =
     (397, Uint 8)  -- rough range, whole ms, 255 invalid
@@ -21,7 +21,7 @@ satellite_table =
     ∷ (399, Int 14)  -- rough phase range rate, m/s, -2^13 invalid
     ∷ []
 
--- the fields of a cell in MSM7
+-- The fields of a cell in MSM7.
 abbrev pub cell_table : Table
 cell_table =
     (405, Int 20)  -- fine pseudorange, 2^-29 ms, -2^19 invalid
@@ -51,7 +51,7 @@ pub record IsCellData (c : Cell7) : Type 0 where
   pub strength : c.strength < 2 ^ 10
   pub rate : FitsInt 15 c.rate
 
--- what the fields of a satellite and of a cell hold, and back
+-- The contents of the fields of a satellite and of a cell, and back.
 abbrev pub satellite_contents : Satellite7 → Contents satellite_table
 satellite_contents s = s.whole ▸ s.extended ▸ s.fraction ▸ s.rate ▸ tt
 
@@ -64,7 +64,7 @@ cell_contents c = c.range ▸ c.phase ▸ c.lock ▸ c.half_cycle ▸ c.strength
 abbrev pub cell_of : Contents cell_table → Cell7
 cell_of (range, (phase, (lock, (half_cycle, (strength, (rate, end)))))) = record { range = range; phase = phase; lock = lock; half_cycle = half_cycle; strength = strength; rate = rate }
 
--- in one number, and back
+-- The same packed in one number, and back.
 abbrev pub satellite_number : Satellite7 → ℕ
 satellite_number s = packed satellite_table (satellite_contents s)
 

@@ -1,4 +1,4 @@
--- What was packed is unpacked, and the other way round.
+-- Packing and unpacking undo each other.
 use Rattle.std.proofs.Common.{ap, ◌<◌, ℕ, zero, suc, All, get_or, lit≤, ◌≡◌, ◌+◌, ◌^◌, ◌≤◌, refl, arith}
 use Rattle.rtcm_msg.specs.declared.grid7.Satellite7.{Satellite7}
 use Rattle.rtcm_msg.specs.declared.grid7.Cell7.{Cell7}

@@ -1,15 +1,15 @@
--- The layout of a message: its data fields in order, as the tables of RTCM 10403.3 have them.
+-- The layout of a message: its data fields in order, as in the tables of RTCM 10403.3.
 use Rattle.std.specs.Prelude.{ℕ, ℤ, ◌==◌, Bool, List, [], ◌∷◌}
 use Rattle.rtcm_bits.specs.Bits.{bit, raw, signed}
 
--- a whole number or a two's complement of so many bits, one bit that is 1 for yes, or reserved bits
+-- A field: an unsigned or a two's complement number of the given width, one bit that is 1 for true, or reserved bits.
 pub data FieldKind : Type 0 where
   Uint : ℕ → FieldKind
   Int : ℕ → FieldKind
   Flag : FieldKind
   Reserved : ℕ → FieldKind
 
--- a table: of each field the number in the standard, DF.., and the kind
+-- A table: for each field its number in the standard (DF..) and its kind.
 abbrev pub Table : Type 0
 Table = List (ℕ × FieldKind)
 
@@ -23,24 +23,24 @@ abbrev pub widths : Table → List ℕ
 widths [] = []
 widths (f ∷ fs) = width f.1 ∷ widths fs
 
--- what a field of a kind holds
+-- The content of a field of a kind.
 abbrev pub Content : FieldKind → Type 0
 Content (Uint w) = ℕ
 Content (Int w) = ℤ
 Content Flag = Bool
 Content (Reserved w) = ℕ
 
--- what the fields of a table hold, in order
+-- The contents of the fields of a table, in order.
 abbrev pub Contents : Table → Type 0
 Contents [] = Unit {0}
 Contents (f ∷ fs) = Content f.1 × Contents fs
 
--- one field's content, and the contents after it
+-- The content of one field, and the contents after it.
 infixr 5 ◌▸◌
 abbrev pub ◌▸◌ : {A B : Type 0} → A → B → A × B
 a ▸ b = (a, b)
 
--- a content as the number that its bits spell, and back
+-- The number that encodes a content, and back.
 abbrev pub number_of : (k : FieldKind) → Content k → ℕ
 number_of (Uint w) n = n
 number_of (Int w) z = raw w z
@@ -53,12 +53,12 @@ content (Int w) n = signed w n
 content Flag n = n == 1
 content (Reserved w) n = n
 
--- the fields with their contents, each as its width and its number
+-- The fields with their contents, each as its width and its number.
 abbrev pub fields_of : (t : Table) → Contents t → List (ℕ × ℕ)
 fields_of [] cs = []
 fields_of (f ∷ fs) cs = (width f.1, number_of f.1 cs.0) ∷ fields_of fs cs.1
 
--- each message begins with its number
+-- Each message begins with its message number.
 abbrev pub number_table : Table
 number_table =
     (2, Uint 12)  -- message number

@@ -1,4 +1,4 @@
--- Contents and their numbers undo each other, field by field and packed into one number.
+-- Contents and their numbers undo each other, field by field and packed in one number.
 use Rattle.std.proofs.Common.{ℕ, ◌≡◌, ◌+◌, ◌*◌, ◌/◌, ◌%◌, ◌^◌, ◌<◌, ◌==◌, ◌&&◌, Bool, true, false, [], ◌∷◌, refl, sym, ◌∙◌, arith, lit<, ◌⊎◌, inl, inr, nat_lt, add_comm}
 use Rattle.std.proofs.lemmas.Nat.{mod-pow-add, shr_high, pow-add, pow_pos, mod_below}
 use Rattle.std.proofs.Math.Nat.{add-mul-div_right, add-mul-mod_self_right, mod-eq_of_lt, mul_assoc}
@@ -7,9 +7,9 @@ use Rattle.rtcm_bits.specs.BitLaws.{raw_fits, raw-signed, signed-raw, signed-fit
 use Rattle.rtcm_msg.specs.Layout.{FieldKind, Uint, Int, Flag, Reserved, Table, width, widths, Content, Contents, number_of, content}
 use Rattle.rtcm_msg.specs.Packed.{total_width, packed, unpacked}
 
--- ---- one field's content
+-- ---- the content of one field
 
--- a two's complement has a sign
+-- A two's complement number has a sign bit.
 abbrev pub has_sign : FieldKind → Bool
 has_sign (Uint w) = true
 has_sign (Int w) = nat_lt 0 w
@@ -20,7 +20,7 @@ abbrev pub have_signs : Table → Bool
 have_signs [] = true
 have_signs (f ∷ fs) = has_sign f.1 && have_signs fs
 
--- the content fits the field
+-- The content fits the field.
 abbrev pub FitsKind : (k : FieldKind) → Content k → Type 0
 FitsKind (Uint w) n = n < 2 ^ w
 FitsKind (Int w) z = FitsInt w z
@@ -76,7 +76,7 @@ abbrev pub FitAll : (t : Table) → Contents t → Type 0
 FitAll [] cs = Unit {0}
 FitAll (f ∷ fs) cs = FitsKind f.1 cs.0 × FitAll fs cs.1
 
--- ---- packed into one number
+-- ---- packed in one number
 
 below_product : (n p q r : ℕ) → n < p → r < q → n * q + r < p * q
 below_product n p q r h k = grind arith
@@ -88,13 +88,13 @@ packed_fits (f ∷ fs) cs signs fit =
     let others = packed_fits fs cs.1 (sign_others (has_sign f.1) (have_signs fs) signs) fit.1 in
     rw (pow-add 2 (width f.1) (total_width (widths fs))) (below_product (number_of f.1 cs.0) (2 ^ width f.1) (2 ^ total_width (widths fs)) (packed fs cs.1) n others)
 
--- the field above the others
+-- The field above the other ones.
 top_field : (a w t r : ℕ) → (a * 2 ^ (w + t) + r) / 2 ^ t % 2 ^ w ≡ r / 2 ^ t % 2 ^ w
 top_field a w t r =
     let high : a * 2 ^ (w + t) ≡ a * 2 ^ w * 2 ^ t = rw (pow-add 2 w t) (sym (mul_assoc a (2 ^ w) (2 ^ t))) in
     rw (high, add_comm (a * 2 ^ w * 2 ^ t) r, add-mul-div_right r (a * 2 ^ w) (pow_pos t)) (add-mul-mod_self_right (r / 2 ^ t) a (2 ^ w))
 
--- only the low bits count
+-- Only the low bits are used.
 unpacked_low : (t : Table) (a r : ℕ) → unpacked t (a * 2 ^ total_width (widths t) + r) ≡ unpacked t r
 unpacked_low [] a r = refl
 unpacked_low (f ∷ fs) a r =

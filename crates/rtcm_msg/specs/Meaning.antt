@@ -1,5 +1,5 @@
--- What a multiple signal message means: a header, the satellites with their data, the signals, and the
--- cells of pairs of both.
+-- The meaning of a multiple signal message: a header, the satellites with their data, the signals, and the cells of
+-- pairs of both.
 use Rattle.std.specs.Prelude.{ℕ, ◌≡◌, ◌+◌, ◌*◌, ◌≤◌, ◌⊎◌, Bool, List, [], ◌∷◌, map, length}
 use Rattle.std.specs.List.{zip}
 use Rattle.rtcm_msg.specs.declared.header.MsmHeader.{MsmHeader}
@@ -9,8 +9,8 @@ use Rattle.rtcm_msg.specs.Columns.{EachBelow}
 use Rattle.rtcm_msg.specs.Msm.{MsmValue, MasksValue, IsHeader, satellite_mask_bits, signal_mask_bits, most_pairs}
 use Rattle.rtcm_msg.specs.Entries.{ids, seats, Rising}
 
--- Of each satellite the ID and the data, by rising IDs; the IDs of the signals, rising; of each cell the
--- IDs of its satellite and its signal, and the data, rising by satellite and within it by signal.
+-- For each satellite its ID and its data, in rising order of the IDs; the IDs of the signals, rising; for each cell the
+-- IDs of its satellite and its signal, and its data, ordered by satellite, then by signal.
 pub record Meaning : Type 0 where
   pub is_galileo : Bool
   pub header : MsmHeader
@@ -21,15 +21,15 @@ pub record Meaning : Type 0 where
 abbrev pub pair : Seat → ℕ × ℕ
 pair x = (x.satellite, x.signal)
 
--- the pairs of a satellite and a signal that have a cell
+-- The pairs of a satellite and a signal that have a cell.
 abbrev pub cell_pairs : MasksValue → List (ℕ × ℕ)
 cell_pairs s = map pair (seats s)
 
--- a pair as one number, which rises by satellite and within it by signal
+-- A pair as one number, which rises by satellite, then by signal.
 abbrev pub pair_number : ℕ × ℕ → ℕ
 pair_number p = satellite_mask_bits * p.0 + p.1
 
--- those of the first satellite and signal, and of the last
+-- The numbers of the first and of the last pair.
 abbrev pub first_pair : ℕ
 first_pair = 65
 
@@ -45,9 +45,9 @@ meaning v = record {
   cells = zip (cell_pairs v.sets) v.cells;
 }
 
--- ---- which meanings a value has
+-- ---- the meanings of values
 
--- it stands in the list
+-- The list contains it.
 abbrev pub IsIn : {A : Type 0} → A → List A → Type 0
 IsIn y [] = ⊥
 IsIn y (x ∷ xs) = (y ≡ x) ⊎ IsIn y xs
@@ -62,8 +62,8 @@ keys xs = map (λ x. x.0) xs
 abbrev pub data_of : {A : Type 0} → List (A × ℕ) → List ℕ
 data_of xs = map (λ x. x.1) xs
 
--- Satellites and signals rise, with no more pairs than there may be, and the cells' pairs are of these and rise. The
--- data fit the fields.
+-- The satellites and the signals rise, with at most the largest number of pairs. The pairs of the cells are of these
+-- and rise. The data fit the fields.
 pub record IsMeaning (satellite_widths cell_widths : List ℕ) (m : Meaning) : Type 0 where
   pub header : IsHeader m.header
   pub satellites : Rising 1 satellite_mask_bits (keys m.satellites)

@@ -11,39 +11,39 @@ use Rattle.rtcm_msg.specs.Layout.{Table, Uint, Flag, Reserved, Contents, fields_
 use Rattle.rtcm_msg.specs.Packed.{total_width, columns}
 use Rattle.rtcm_msg.specs.Columns.{columns_at, EachBelow}
 
--- milliseconds
+-- A week in milliseconds.
 abbrev pub week : ℕ
 week = 604800000
 
--- the bits of the satellite mask, one for each satellite ID from 1 on
+-- The width of the satellite mask: one bit for each satellite ID, from 1 on.
 abbrev pub satellite_mask_bits : ℕ
 satellite_mask_bits = 64
 
--- the bits of the signal mask, one for each signal ID from 1 on
+-- The width of the signal mask: one bit for each signal ID, from 1 on.
 abbrev pub signal_mask_bits : ℕ
 signal_mask_bits = 32
 
--- the most pairs of a satellite and a signal, so the most bits of the cell mask and the most cells
+-- The largest number of pairs of a satellite and a signal, and so of bits of the cell mask and of cells.
 abbrev pub most_pairs : ℕ
 most_pairs = 64
 
--- the number of lock time indicators
+-- The number of lock time indicators.
 abbrev pub codes_of : LockField → ℕ
 codes_of Df402 = 16
 codes_of Df407 = 1024
 
--- The satellites, the signals, and the pairs of one of each that have a cell. The highest bit of the
--- first two is ID 1, and the highest of the last is the first pair.
+-- The satellites, the signals, and the pairs of both that have a cell. The highest bit of the first two is ID 1, and
+-- the highest bit of the last is the first pair.
 pub record MasksValue : Type 0 where
   pub satellites : ℕ
   pub signals : ℕ
   pub cells : ℕ
 
--- how many pairs of a satellite and a signal there are
+-- The number of pairs of a satellite and a signal.
 abbrev pub pairs : ℕ → ℕ → ℕ
 pairs satellites signals = count_ones satellites * count_ones signals
 
--- a message, where each satellite's and each cell's fields are one number
+-- A message, with the fields of each satellite and of each cell packed in one number.
 pub record MsmValue : Type 0 where
   pub is_galileo : Bool
   pub header : MsmHeader
@@ -65,12 +65,12 @@ pub record AreMasks (s : MasksValue) : Type 0 where
   pub few : pairs s.satellites s.signals ≤ most_pairs
   pub cells : s.cells < 2 ^ pairs s.satellites s.signals
 
--- a message of these parts
+-- A message with these parts.
 abbrev pub msm_of_parts : Bool → MsmHeader → MasksValue → List ℕ → List ℕ → MsmValue
 msm_of_parts is_galileo header sets satellites cells =
     record { is_galileo = is_galileo; header = header; sets = sets; satellites = satellites; cells = cells }
 
--- a value whose fields have these widths
+-- A value whose fields have these widths.
 pub record IsValue (satellite_widths cell_widths : List ℕ) (v : MsmValue) : Type 0 where
   pub header : IsHeader v.header
   pub sets : AreMasks v.sets
@@ -81,14 +81,14 @@ pub record IsValue (satellite_widths cell_widths : List ℕ) (v : MsmValue) : Ty
 
 -- ---- the layout
 
--- the head of a multiple signal message, after the message number
+-- The first fields of a multiple signal message after the message number.
 abbrev pub time_table : Table
 time_table =
     (3, Uint 12)  -- reference station ID
     ∷ (4, Uint 30)  -- GPS epoch time, ms of the week; of Galileo DF248
     ∷ []
 
--- what follows the time
+-- The fields after the epoch time.
 abbrev pub header_table : Table
 header_table =
     (393, Flag)  -- multiple message bit
@@ -100,7 +100,7 @@ header_table =
     ∷ (418, Uint 3)  -- smoothing interval
     ∷ []
 
--- the masks, where the third has a bit for each pair of a satellite and a signal
+-- The masks; the third has a bit for each pair of a satellite and a signal.
 abbrev pub mask_table : Table
 mask_table =
     (394, Uint satellite_mask_bits)  -- satellite mask
@@ -112,7 +112,7 @@ cell_mask_table pairs =
     (396, Uint pairs)  -- cell mask
     ∷ []
 
--- ---- the bits, where the reserved ones are any
+-- ---- the bits, for all values of the reserved ones
 
 abbrev pub time_contents : MsmHeader → Contents time_table
 time_contents h = h.station ▸ h.time ▸ tt
@@ -120,7 +120,7 @@ time_contents h = h.station ▸ h.time ▸ tt
 abbrev pub header_contents : MsmHeader → ℕ → Contents header_table
 header_contents h reserved = h.more ▸ h.iods ▸ reserved ▸ h.steering ▸ h.clock ▸ h.smoothing ▸ h.interval ▸ tt
 
--- the fields up to the masks
+-- The fields before the masks.
 abbrev pub header_fields : ℕ → MsmHeader → ℕ → List (ℕ × ℕ)
 header_fields number h reserved =
     fields_of number_table (number ▸ tt) ++ (fields_of time_table (time_contents h) ++ fields_of header_table (header_contents h reserved))
@@ -128,14 +128,14 @@ header_fields number h reserved =
 abbrev pub mask_fields : MasksValue → List (ℕ × ℕ)
 mask_fields s = fields_of mask_table (s.satellites ▸ s.signals ▸ tt) ++ fields_of (cell_mask_table (pairs s.satellites s.signals)) (s.cells ▸ tt)
 
--- all bits of a message of this number: after the masks a field of all satellites, then the next, then a field of all cells
+-- All bits of a message with this number: after the masks the data of satellites, then of cells, each field by field.
 abbrev pub msm_bits : List ℕ → List ℕ → ℕ → MsmValue → ℕ → List Bool
 msm_bits satellite_widths cell_widths number v reserved =
     spelled (header_fields number v.header reserved) ++ (spelled (mask_fields v.sets) ++ (columns satellite_widths v.satellites ++ columns cell_widths v.cells))
 
 -- ---- reading, after the message number
 
--- a time is judged as soon as it was read
+-- The epoch time is checked as soon as it is read.
 abbrev pub timely : ℕ → Cursor → Result (ℕ × Cursor) MsgFault
 timely time c = if nat_le week time then Err BadTime else Ok (time, c)
 
@@ -143,14 +143,14 @@ abbrev pub header_of : ℕ → ℕ → Contents header_table → MsmHeader
 header_of station time (more, (iods, (reserved, (steering, (clock, (smoothing, (interval, end))))))) =
     record { station = station; time = time; more = more; iods = iods; steering = steering; clock = clock; smoothing = smoothing; interval = interval }
 
--- the header of this station and time
+-- The header with this station and time.
 abbrev pub after_time_at : ℕ → ℕ → Cursor → Result (MsmHeader × Cursor) MsgFault
 after_time_at station time c = reading header_table c (λ m. Ok (header_of station time m.0, m.1))
 
 unfoldable pub header_at : Cursor → Result (MsmHeader × Cursor) MsgFault
 header_at c = reading time_table c (λ n. timely n.0.1.0 n.1 >>= λ time. after_time_at n.0.0 time.0 time.1)
 
--- the pairs are counted as soon as both masks were read
+-- The number of pairs is checked as soon as both masks are read.
 abbrev pub masks_after : ℕ → ℕ → Cursor → Result (MasksValue × Cursor) MsgFault
 masks_after satellites signals c =
     if nat_lt most_pairs (pairs satellites signals) then Err TooManyCells

@@ -1,4 +1,4 @@
--- How far the numbers of a message reach.
+-- Bounds of the values of a message.
 use Rattle.std.specs.Prelude.{ℤ, pos, neg_ℤ, ◌^◌, ◌<◌, ◌≤◌, ◌≤ℤ◌, IfSome, unsigned_abs}
 use Rattle.std.specs.List.{AllByRecursion}
 use Rattle.rtcm_msg.specs.declared.message.Message.{Message}
@@ -7,22 +7,22 @@ use Rattle.rtcm_msg.specs.declared.station.StationParts.{StationParts}
 use Rattle.rtcm_msg.specs.Station.{InRange}
 use Rattle.rtcm_msg.specs.Entries.{entries}
 
--- what a cell says is within these bounds; a strength of 0 is not computed, so absent
+-- Bounds of the values of a cell. A carrier to noise ratio of 0 is not computed, so it is absent.
 pub record IsMeasured (e : Entry) : Type 0 where
   pub range : IfSome e.range (λ r. unsigned_abs r ≤ 2 ^ 40)
   pub phase : IfSome e.phase (λ r. unsigned_abs r ≤ 2 ^ 40)
   pub rate : IfSome e.rate (λ v. unsigned_abs v ≤ 10 ^ 8)
   pub strength : IfSome e.strength (λ s. (0 < s) × (s < 2 ^ 10))
 
--- so it is in each cell of every message, whatever its bits are
+-- These bounds hold for each cell of every message, regardless of its bits.
 abbrev pub EntriesAreMeasured : Type 0
 EntriesAreMeasured = (m : Message) → AllByRecursion IsMeasured (entries m)
 
--- a coordinate of 38 bits, in 0.0001 m
+-- A coordinate of 38 bits, in 0.0001 m.
 abbrev pub IsCoordinate : ℤ → Type 0
 IsCoordinate z = (neg_ℤ (pos 137_438_953_472) ≤ℤ z) × (z ≤ℤ pos 137_438_953_471)
 
--- the point of a station message, and the antenna's height
+-- The point of a station message, and the height of the antenna.
 pub record IsPoint (p : StationParts) : Type 0 where
   pub x : IsCoordinate p.x
   pub y : IsCoordinate p.y

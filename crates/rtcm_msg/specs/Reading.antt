@@ -1,4 +1,4 @@
--- What a message's bits are read as.
+-- The message that bits are decoded to.
 use Rattle.std.specs.Prelude.{ℕ, ◌%◌, ◌==◌, ◌&&◌, nat_lt, nat_le, if◌then◌else◌, Bool, true, false, List, length, Option, Some, None, Result, Ok}
 use Rattle.rtcm_bits.specs.Bits.{bits_of}
 use Rattle.rtcm_bits.specs.Reading.{Cursor, advanced, unsigned_at}
@@ -11,11 +11,11 @@ use Rattle.rtcm_msg.specs.declared.message.Message.TheVariants as messages
 use Rattle.rtcm_msg.specs.Grid4 as grid4
 use Rattle.rtcm_msg.specs.Grid7 as grid7
 
--- the numbers of the multiple signal messages of GPS, GLONASS, Galileo, SBAS, QZSS and BeiDou
+-- The message numbers of the MSMs of GPS, GLONASS, Galileo, SBAS, QZSS and BeiDou.
 abbrev pub is_any_msm : ℕ → Bool
 is_any_msm n = nat_le 1071 n && nat_le n 1127 && nat_le 1 (n % 10) && nat_le (n % 10) 7
 
--- the station and DF393 of a listed message, after its number
+-- The station and DF393 of an MSM, after its message number.
 abbrev pub set_at : Cursor → Option (ℕ × Bool)
 set_at c = if nat_lt (length c.rest) 43 then None else Some (unsigned_at 12 c, unsigned_at 1 (advanced (advanced c 12) 30) == 1)
 
@@ -25,7 +25,7 @@ other_at n c = messages.Other n (if is_any_msm n then set_at c else None)
 abbrev pub start : List Bool → Cursor
 start bits = record { place = 0; rest = bits }
 
--- the value, after the message number n
+-- The value, after the message number n.
 unfoldable pub body_at : ℕ → Cursor → Result Message MsgFault
 body_at n c =
     if n == 1005 then (station_at false c >>= λ s. Ok (messages.Station s.0))
@@ -36,7 +36,7 @@ body_at n c =
     else (if n == 1097 then (msm_at grid7.satellite_widths grid7.cell_widths true c >>= λ m. Ok (messages.Msm7 m.0))
     else Ok (other_at n c))))))
 
--- what bits are read as
+-- The value that bits are decoded to.
 unfoldable pub message_of : List Bool → Result Message MsgFault
 message_of bits = number_at 12 (start bits) >>= λ n. body_at n.0 n.1
 

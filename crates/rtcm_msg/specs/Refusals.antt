@@ -1,4 +1,4 @@
--- Which parts are a value, and else the first refusal.
+-- The parts that make a value, and the first fault of others.
 use Rattle.std.specs.Prelude.{ℕ, List, length, ◌^◌, ◌==◌, ◌&&◌, nat_lt, nat_le, if◌then◌else◌, not, Option, Some, None, Result, Ok, Err, count_ones}
 use Rattle.rtcm_msg.specs.declared.fault.Field.{Field}
 use Rattle.rtcm_msg.specs.declared.header.MsmHeader.{MsmHeader}
@@ -15,7 +15,7 @@ masks_of satellites signals cells =
     else (if nat_le (2 ^ pairs satellites signals) cells then Err (faults.OutOfRange fields.Cells)
     else Ok (record { satellites = satellites; signals = signals; cells = cells }))
 
--- the first part of a station, in the order of the layout, that is out of range
+-- The first field of a station message, in the order of the layout, that is out of range.
 abbrev pub station_fault : StationParts → Option Field
 station_fault s =
     if nat_le (2 ^ 12) s.station then Some fields.Station
@@ -30,7 +30,7 @@ abbrev pub station_made : Option Field → StationParts → Result StationParts 
 station_made None s = Ok s
 station_made (Some f) s = Err (faults.OutOfRange f)
 
--- the first part of a header, in the order of the layout, that is out of range, but for the time
+-- The first field of a header other than the epoch time, in the order of the layout, that is out of range.
 abbrev pub header_fault : MsmHeader → Option Field
 header_fault h =
     if nat_le (2 ^ 12) h.station then Some fields.Station
@@ -40,7 +40,7 @@ header_fault h =
     else (if nat_le (2 ^ 3) h.interval then Some fields.Interval
     else None))))
 
--- the first of these
+-- The first of two faults.
 abbrev pub first_field : Option Field → Option Field → Option Field
 first_field None g = g
 first_field (Some f) g = Some f
@@ -49,7 +49,7 @@ abbrev pub out_of_range : Option Field → Option ValueFault
 out_of_range None = None
 out_of_range (Some f) = Some (faults.OutOfRange f)
 
--- why parts are no message, where the last two are the first bad part of the satellites and of the cells
+-- The fault for which parts are refused; the last two arguments are the first bad field of satellites and of cells.
 abbrev pub msm_refusal : MsmHeader → MasksValue → ℕ → ℕ → Option Field → Option Field → Option ValueFault
 msm_refusal h s satellites cells satellite_fault cell_fault =
     if nat_le week h.time then Some faults.BadTime
@@ -57,7 +57,7 @@ msm_refusal h s satellites cells satellite_fault cell_fault =
     then out_of_range (first_field (header_fault h) (first_field satellite_fault cell_fault))
     else Some faults.CellCount)
 
--- why these data of satellites and cells make no message, where the faults are the first bad part of each kind of data
+-- The fault for which data of satellites and cells are refused; the functions give the first bad field of each.
 abbrev pub data_refusal : {S C : Type 0} → MsmHeader → MasksValue → (List S → Option Field) → List S → (List C → Option Field) → List C → Option ValueFault
 data_refusal h s satellite_fault satellites cell_fault cells =
     msm_refusal h s (length satellites) (length cells) (satellite_fault satellites) (cell_fault cells)

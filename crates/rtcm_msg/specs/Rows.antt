@@ -1,4 +1,4 @@
--- The data of satellites or of cells, read where they lie: one field of all, then the next field of all.
+-- The data of satellites or cells at their position in the bits: one field of all, then the next field of all.
 use Rattle.std.specs.Prelude.{ℕ, ◌+◌, ◌-◌, ◌*◌, ◌%◌, ◌^◌, nat_lt, if◌then◌else◌, Bool, List, [], ◌∷◌, Result, Ok, Err, replicate}
 use Rattle.rtcm_bits.specs.Reading.{Cursor}
 use Rattle.rtcm_msg.specs.declared.fault.MsgFault.{MsgFault}
@@ -6,22 +6,23 @@ use Rattle.rtcm_msg.specs.declared.fault.MsgFault.TheVariants.{Short}
 use Rattle.rtcm_msg.specs.Fields.{standing, field_at}
 use Rattle.rtcm_msg.specs.Columns.{columns_at}
 
--- the numbers that were read, none where they weren't
+-- The numbers that were read; none after a fault.
 abbrev pub numbers_in : Result (List ℕ × Cursor) MsgFault → List ℕ
 numbers_in (Ok x) = x.0
 numbers_in (Err e) = []
 
--- so many satellites or cells, each one's fields in one number, whose data begin at a place
+-- The data of `count` satellites or cells that begin at a bit, the fields of each packed in one number.
 abbrev pub rows_at : List ℕ → ℕ → List Bool → ℕ → List ℕ
 rows_at widths count bits place = numbers_in (columns_at widths (replicate count 0) (standing bits place))
 
--- the place after so many of them in so many bits, or else the first field that isn't there whole
+-- The bit after the data of `count` satellites or cells in len bits; or `Short` with the first field that does not end
+-- within them.
 unfoldable pub end_of_rows : List ℕ → ℕ → ℕ → ℕ → Result ℕ MsgFault
 end_of_rows [] count len place = Ok place
 end_of_rows (w ∷ ws) count len place =
     if nat_lt len (place + count * w) then Err (Short (len - (len - place) % w)) else end_of_rows ws count len (place + count * w)
 
--- the fields of the one of place i, each below what was read of it before
+-- The fields of item i, each appended to the bits read of it before.
 unfoldable pub row_at : List ℕ → ℕ → List Bool → ℕ → ℕ → ℕ → ℕ
 row_at [] count bits place i n = n
 row_at (w ∷ ws) count bits place i n = row_at ws count bits (place + count * w) i (n * 2 ^ w + field_at bits (place + i * w) w)

@@ -1,4 +1,4 @@
--- What spells a message, what is read, and which fault stands.
+-- The encodings of messages, the messages of bits, and the faults of bits.
 use Rattle.std.specs.Prelude.{◌≡◌, ℕ, ◌^◌, ◌<◌, ◌≤◌, ◌==◌, ◌||◌, ◌&&◌, nat_lt, nat_le, if◌then◌else◌, Bool, true, false, List, [], ◌∷◌, ◌++◌, length, Option, Some, None, replicate, count_ones, IsTrue, ◌⊎◌}
 use Rattle.rtcm_bits.specs.Bits.{bits_of, filled}
 use Rattle.rtcm_msg.specs.declared.fault.MsgFault.{MsgFault}
@@ -19,32 +19,32 @@ is_other (Msm4 m) = false
 is_other (Msm7 m) = false
 is_other (Other n set) = true
 
--- a value
+-- A value.
 abbrev pub IsMessage : Message → Type 0
 IsMessage (Station s) = InRange s
 IsMessage (Msm4 m) = IsValue grid4.satellite_widths grid4.cell_widths m
 IsMessage (Msm7 m) = IsValue grid7.satellite_widths grid7.cell_widths m
 IsMessage (Other n set) = Unit {0}
 
--- how many bits are reserved
+-- The number of reserved bits.
 abbrev pub reserved_width : Message → ℕ
 reserved_width (Station s) = 1
 reserved_width (Msm4 m) = 7
 reserved_width (Msm7 m) = 7
 reserved_width (Other n set) = 0
 
--- the bits of a message whose reserved bits are given
+-- The bits of a message with the given reserved bits.
 abbrev pub message_bits : Message → ℕ → List Bool
 message_bits (Station s) reserved = spelled (station_fields s reserved)
 message_bits (Msm4 m) reserved = msm_bits grid4.satellite_widths grid4.cell_widths (grid4.message_number m.is_galileo) m reserved
 message_bits (Msm7 m) reserved = msm_bits grid7.satellite_widths grid7.cell_widths (grid7.message_number m.is_galileo) m reserved
 message_bits (Other n set) reserved = []
 
--- the bytes spell the message with reserved bits of 0, filled up with zero bits to a byte
+-- The bytes encode the message with reserved bits of 0, padded with zero bits to a byte.
 abbrev pub IsEncoding : List ℕ → Message → Type 0
 IsEncoding bytes v = bits_of bytes ≡ filled (message_bits v 0)
 
--- the bits spell the message; its reserved bits are any
+-- The bits encode the message, with any reserved bits.
 pub record IsSpelledBy (v : Message) (bits : List Bool) : Type 0 where
   pub reserved : ℕ
   pub fits : reserved < 2 ^ reserved_width v
@@ -59,17 +59,17 @@ is_read_msm n = n == 1074 || n == 1077 || n == 1094 || n == 1097
 abbrev pub is_read : ℕ → Bool
 is_read n = n == 1005 || n == 1006 || is_read_msm n
 
--- the station and DF393 of a message that is not read
+-- The station and DF393 of a message that isn't decoded.
 abbrev pub set_of : List Bool → Option (ℕ × Bool)
 set_of bits = if is_any_msm (number_of bits) then (if nat_le 55 (length bits) then Some (field_at bits 12 12, field_at bits 54 1 == 1) else None) else None
 
--- a message that is not read
+-- A message that isn't decoded.
 pub record IsOther (bits : List Bool) (v : Message) : Type 0 where
   pub number_there : 12 ≤ length bits
   pub unread : is_read (number_of bits) ≡ false
   pub value : v ≡ Other (number_of bits) (set_of bits)
 
--- the bits are read as the value
+-- The bits begin with an encoding of the value.
 pub record BeginsWith (bits : List Bool) (v : Message) : Type 0 where
   pub is_value : IsMessage v
   pub known : is_other v ≡ false
@@ -83,7 +83,7 @@ ReadsMessage bits v = BeginsWith bits v ⊎ IsOther bits v
 
 -- ---- faults
 
--- The widths of the fields of these bits in order, as far as they are there.
+-- The widths of the fields of these bits in order, as far as the bits contain them.
 abbrev pub repeated : ℕ → List ℕ → List ℕ
 repeated count [] = []
 repeated count (w ∷ ws) = replicate count w ++ repeated count ws
@@ -96,7 +96,7 @@ msm_layout satellite_widths cell_widths bits =
     widths (number_table ++ (time_table ++ (header_table ++ (mask_table ++ cell_mask_table width))))
     ++ (repeated (count_ones satellites) satellite_widths ++ repeated (count_ones (field_at bits 169 width)) cell_widths)
 
--- those of a message of this number
+-- The widths for a message with this number.
 abbrev pub layout_of : ℕ → List Bool → List ℕ
 layout_of n bits =
     if n == 1005 then widths (number_table ++ station_table)
@@ -114,7 +114,7 @@ abbrev pub has_too_many : List Bool → Bool
 has_too_many bits =
     is_read_msm (number_of bits) && nat_le 169 (length bits) && nat_lt most_pairs (pairs (field_at bits 73 satellite_mask_bits) (field_at bits 137 signal_mask_bits))
 
--- which fault stands, if one does
+-- The fault of bits that are refused.
 abbrev pub IsFault : List Bool → MsgFault → Type 0
 IsFault bits BadTime = IsTrue (has_bad_time bits)
 IsFault bits TooManyCells = (has_bad_time bits ≡ false) × IsTrue (has_too_many bits)

@@ -7,7 +7,7 @@ use Rattle.rtcm_msg.specs.declared.station.StationParts.{StationParts}
 use Rattle.rtcm_msg.specs.Layout.{Table, Uint, Int, Flag, Reserved, Contents, fields_of, ◌▸◌, number_table}
 use Rattle.rtcm_msg.specs.Fields.{reading, ◌>>=◌}
 
--- the fields of message 1005, after the message number
+-- The fields of message 1005 after the message number.
 abbrev pub station_table : Table
 station_table =
     (3, Uint 12)  -- reference station ID
@@ -24,13 +24,13 @@ station_table =
     ∷ (27, Int 38)  -- antenna reference point ECEF-Z, 0.0001 m
     ∷ []
 
--- message 1006 has one more
+-- The additional field of message 1006.
 abbrev pub height_table : Table
 height_table =
     (28, Uint 16)  -- antenna height, 0.0001 m
     ∷ []
 
--- what the fields of a value hold, with the reserved bit
+-- The contents of the fields of a value, with the reserved bit.
 abbrev pub station_contents : StationParts → ℕ → Contents station_table
 station_contents s reserved =
     s.station ▸ s.realization ▸ s.gps ▸ s.glonass ▸ s.galileo ▸ s.reference ▸ s.x ▸ s.oscillator ▸ reserved ▸ s.y ▸ s.quarter ▸ s.z ▸ tt
@@ -43,15 +43,15 @@ abbrev pub height_fields : Option ℕ → List (ℕ × ℕ)
 height_fields None = []
 height_fields (Some h) = fields_of height_table (h ▸ tt)
 
--- the fields that both messages have
+-- The fields that both messages have.
 abbrev pub common_fields : ℕ → StationParts → ℕ → List (ℕ × ℕ)
 common_fields number s reserved = fields_of number_table (number ▸ tt) ++ fields_of station_table (station_contents s reserved)
 
--- the fields in order, whose reserved bit is as given
+-- The fields in order, with the given reserved bit.
 abbrev pub station_fields : StationParts → ℕ → List (ℕ × ℕ)
 station_fields s reserved = common_fields (if is_some s.height then 1006 else 1005) s reserved ++ height_fields s.height
 
--- which parts are a value
+-- The parts that make a value.
 pub record InRange (s : StationParts) : Type 0 where
   pub station : s.station < 2 ^ 12
   pub realization : s.realization < 2 ^ 6

@@ -1,11 +1,11 @@
--- What a message contains beside the data of satellites and cells.
+-- The contents of a message other than the data of satellites and cells.
 use Rattle.std.specs.Prelude.{Some, None, option_map}
 use Rattle.rtcm_msg.specs.declared.summary.Summary.{Summary}
 use Rattle.rtcm_msg.specs.declared.header.MsmHeader.{MsmHeader}
 use Rattle.rtcm_msg.specs.declared.message.Message.{Message}
 use Rattle.rtcm_msg.specs.declared.message.Message.TheVariants.{Station, Msm4, Msm7, Other}
 
--- of a multiple signal message with this header
+-- Of a multiple signal message with this header.
 abbrev pub header_summary : MsmHeader → Summary
 header_summary h = record { station = Some h.station; time = Some h.time; more = Some h.more; point = None }
 

@@ -1,4 +1,4 @@
--- What a view of a message gives.
+-- The message of a view, and its cells.
 use Rattle.std.specs.Prelude.{ℕ, List}
 use Rattle.rtcm_msg.specs.declared.message.Message.{Message}
 use Rattle.rtcm_msg.specs.declared.message.Message.TheVariants as messages
@@ -19,17 +19,17 @@ viewed_message (views.Station s) = messages.Station s
 viewed_message (views.Msm m) = formed m
 viewed_message (views.Other number set) = messages.Other number set
 
--- which field the lock time indicator of a message of this form is
+-- The field of the lock time indicators of a message of this form.
 abbrev pub lock_field : Form → LockField
 lock_field forms.Msm4 = Df402
 lock_field forms.Msm7 = Df407
 
--- the data of a cell, by the form of its message
+-- The data of a cell, by the form of its message.
 abbrev pub entry_in : Form → MsmValue → Seat × ℕ → Entry
 entry_in forms.Msm4 v = entry4 v
 entry_in forms.Msm7 v = entry7 v
 
--- a walk over the cells of a message of this form: the data of those that are left
+-- An iteration over the cells of a message of this form: the data of the cells that are left.
 pub record Unread : Type 0 where
   pub form : Form
   pub left : List Entry

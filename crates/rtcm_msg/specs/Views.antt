@@ -1,4 +1,4 @@
--- Messages that are read where their bytes lie.
+-- Messages that are read from their bytes.
 use Rattle.std.specs.Prelude.{◌≡◌, ℕ, ◌+◌, ◌*◌, ◌≤◌, Bool, List, length, Result, Ok}
 use Rattle.rtcm_msg.specs.declared.message.Message.{Message}
 use Rattle.rtcm_msg.specs.declared.message.Message.TheVariants as messages
@@ -17,7 +17,7 @@ use Rattle.rtcm_msg.specs.Packed.{total_width}
 use Rattle.rtcm_msg.specs.Grid4 as grid4
 use Rattle.rtcm_msg.specs.Grid7 as grid7
 
--- ---- what the two forms differ in
+-- ---- the differences of the two forms
 
 abbrev pub satellite_widths : Form → List ℕ
 satellite_widths forms.Msm4 = grid4.satellite_widths
@@ -35,7 +35,7 @@ abbrev pub message_in : Form → MsmValue → Message
 message_in forms.Msm4 v = messages.Msm4 v
 message_in forms.Msm7 v = messages.Msm7 v
 
--- ---- a multiple signal message in one of them
+-- ---- a multiple signal message of one of them
 
 pub record FormedMsm : Type 0 where
   pub form : Form
@@ -44,11 +44,11 @@ pub record FormedMsm : Type 0 where
 abbrev pub formed : FormedMsm → Message
 formed m = message_in m.form m.msm
 
--- what is read after the message number
+-- The result of reading after the message number.
 abbrev pub formed_at : Form → Bool → Cursor → Result Message MsgFault
 formed_at form is_galileo c = msm_at (satellite_widths form) (cell_widths form) is_galileo c >>= λ m. Ok (message_in form m.0)
 
--- the data of n satellites or cells, each one's fields in one number
+-- The data of n satellites or cells, the fields of each packed in one number.
 abbrev pub satellite_rows : Form → ℕ → Data → List ℕ
 satellite_rows form n (datas.Bits bytes satellites_at cells_at) = rows_at (satellite_widths form) n (bits_of bytes.now) satellites_at
 satellite_rows form n (datas.Packed satellites cells) = satellites.now
@@ -57,7 +57,7 @@ abbrev pub cell_rows : Form → ℕ → Data → List ℕ
 cell_rows form n (datas.Bits bytes satellites_at cells_at) = rows_at (cell_widths form) n (bits_of bytes.now) cells_at
 cell_rows form n (datas.Packed satellites cells) = cells.now
 
--- in the bytes there are the data of this many satellites and cells from these bits on, or there are as many numbers
+-- The bytes contain the data of this number of satellites and of cells from these bits on.
 pub record LieWithin (form : Form) (bytes satellites satellites_at cells cells_at : ℕ) : Type 0 where
   pub small : bytes ≤ longest_message
   pub satellites_there : satellites_at + satellites * total_width (satellite_widths form) ≤ 8 * bytes

@@ -3,33 +3,33 @@ ghost use Rattle.std.specs.Prelude.{◌≡◌, ◌<◌, ◌≤◌, ◌^◌, IfSo
 use crate::grid::Grid;
 use crate::seats::Seat;
 
-/// The data of a cell, as exact fractions in either precision.
+/// The data of a cell of MSM4 or MSM7, as exact fractions.
 #[derive(Clone, Copy, Debug, PartialEq, Eq, Default)]
 pub struct Entry {
-    /// The satellite's ID, from 1 to 64: the index of its bit in DF394, counted from 1.
+    /// Satellite ID, 1 to 64: the index of its bit in DF394, counted from 1.
     pub satellite: u8,
-    /// The signal's ID, from 1 to 32: the index of its bit in DF395, counted from 1.
+    /// Signal ID, 1 to 32: the index of its bit in DF395, counted from 1.
     pub signal: u8,
-    /// The pseudorange in 2^-31 ms: DF397 and DF398 with DF400 or DF405.
+    /// Pseudorange in 2^-31 ms: DF397 and DF398 with DF400 or DF405. `None` if invalid.
     pub range: Option<i64>,
-    /// The phase range in 2^-31 ms: DF397 and DF398 with DF401 or DF406.
+    /// Phase range in 2^-31 ms: DF397 and DF398 with DF401 or DF406. `None` if invalid.
     pub phase: Option<i64>,
-    /// The phase range rate in 0.0001 m/s: DF399 with DF404. MSM4 has none.
+    /// Phase range rate in 0.0001 m/s: DF399 with DF404. `None` if invalid, and in MSM4.
     pub rate: Option<i32>,
-    /// The carrier to noise ratio in 1/16 dB-Hz: DF403 or DF408.
+    /// Carrier to noise ratio in 1/16 dB-Hz: DF403 or DF408. `None` if not computed.
     pub strength: Option<u16>,
-    /// The lock time indicator: DF402 or DF407, by `Form::lock_field`.
+    /// Lock time indicator: DF402 or DF407, see `Form::lock_field`.
     pub lock: u16,
-    /// Whether a half-cycle ambiguity is possible: DF420.
+    /// Half-cycle ambiguity indicator, DF420: whether one is possible.
     pub half_cycle: bool,
 }
 
-/// The field of a message's lock time indicators.
+/// The field of the lock time indicators of an MSM.
 #[derive(Clone, Copy, Debug, PartialEq, Eq)]
 pub enum LockField {
-    /// Lock time indicator of 4 bits.
+    /// DF402, lock time indicator: 4 bits.
     Df402,
-    /// Lock time indicator with extended range and resolution, of 10 bits.
+    /// DF407, lock time indicator with extended range and resolution: 10 bits.
     Df407,
 }
 

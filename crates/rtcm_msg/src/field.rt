@@ -5,7 +5,11 @@ ghost use Rattle.rtcm_msg.specs.Fields.{GivesViewed, field_at, number_at};
 use crate::fault::MsgFault;
 use rtcm_bits::{BitReader, number_at, signed_of};
 
-/// Reads the next field.
+/// Reads the next field, of `width` bits.
+///
+/// # Errors
+///
+/// `Short` if the field does not end within the message.
 #[tactic(auto, unfolding(crate::specs::Fields::number_at))]
 pub(crate) fn field(reader: &mut BitReader, width: u32) -> Result<u64, MsgFault>
     requires few { width ≤ 64 }
@@ -19,7 +23,7 @@ pub(crate) fn field(reader: &mut BitReader, width: u32) -> Result<u64, MsgFault>
     }
 }
 
-/// Returns the field that begins at a bit, in two's complement.
+/// Returns the two's complement number of `width` bits that begins at bit `place`.
 #[inline(always)]
 pub(crate) fn signed_at(bytes: &[u8], place: usize, width: u32) -> i64
     requires some { 0 < width }

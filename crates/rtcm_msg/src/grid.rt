@@ -10,13 +10,13 @@ ghost use Rattle.rtcm_msg.specs.Rows.{row_at};
 
 use crate::fault::Field;
 
-/// A precision of multiple signal messages: the fields of a satellite and of a cell, and their
-/// meaning. Reading and writing are the same in each.
+/// The precision of an MSM: the fields of a satellite and of a cell, and their meaning. Reading and
+/// writing are the same in each precision.
 pub trait Grid {
-    /// The data of a satellite.
+    /// Data of a satellite.
     type Satellite: Copy + Drop;
 
-    /// The data of a cell: of a satellite and a signal.
+    /// Data of a cell: of a pair of a satellite and a signal.
     type Cell: Copy + Drop;
 
     /// The widths of a satellite's fields, in order.
@@ -31,19 +31,19 @@ pub trait Grid {
     /// Each part of a cell fits its field.
     ghost is_cell: { Self.Cell → Type 0 };
 
-    /// A satellite's fields in one number, the first in the most significant bits.
+    /// A satellite's fields in one number, the first field in the most significant bits.
     ghost satellite_packed: { Self.Satellite → ℕ };
 
-    /// The satellite whose fields are in the number.
+    /// The satellite whose fields are packed in the number.
     ghost satellite_at: { ℕ → Self.Satellite };
 
-    /// A cell's fields in one number, the first in the most significant bits.
+    /// A cell's fields in one number, the first field in the most significant bits.
     ghost cell_packed: { Self.Cell → ℕ };
 
-    /// The cell whose fields are in the number.
+    /// The cell whose fields are packed in the number.
     ghost cell_at: { ℕ → Self.Cell };
 
-    /// The message number of GPS, or if true, of Galileo.
+    /// The message number of GPS, or of Galileo if true.
     ghost number_of: { Bool → ℕ };
 
     /// Returns the message number, DF002.
@@ -51,10 +51,10 @@ pub trait Grid {
         ensures value { result ≡ number_of is_galileo }
         ensures bound { result < 2 ^ 12 };
 
-    /// The first field, in the order of the layout, that some satellite does not fit.
+    /// The first field, in the order of the layout, that does not fit its bits in some satellite.
     ghost satellite_fault_of: { List Self.Satellite → Option Field };
 
-    /// The first field, in the order of the layout, that some cell does not fit.
+    /// The first field, in the order of the layout, that does not fit its bits in some cell.
     ghost cell_fault_of: { List Self.Cell → Option Field };
 
     /// Returns the first field, in the order of the layout, that does not fit its bits in some
@@ -84,31 +84,31 @@ pub trait Grid {
     /// The lock time indicator.
     ghost lock_code_of: { Self.Cell → ℕ };
 
-    /// Whether a half-cycle ambiguity is possible.
+    /// The half-cycle ambiguity indicator: whether one is possible.
     ghost half_cycle_of: { Self.Cell → Bool };
 
     /// The number of lock time indicators.
     ghost lock_codes: { ℕ };
 
-    /// Returns the pseudorange in 2^-31 ms: the rough range and the cell's fine pseudorange. `None`
-    /// if either is invalid.
+    /// Returns the pseudorange in 2^-31 ms: the sum of the rough range and the fine pseudorange.
+    /// `None` if either is invalid.
     fn range(satellite: &Self::Satellite, cell: &Self::Cell) -> Option<i64>
         ensures value { result ≡ range_of satellite.now cell.now }
         ensures bound { is_satellite satellite.now → is_cell cell.now → IfSome result (λ r. unsigned_abs r ≤ 2 ^ 40) };
 
-    /// Returns the phase range in 2^-31 ms: the rough range and the cell's fine phase range. `None`
-    /// if either is invalid.
+    /// Returns the phase range in 2^-31 ms: the sum of the rough range and the fine phase range.
+    /// `None` if either is invalid.
     fn phase(satellite: &Self::Satellite, cell: &Self::Cell) -> Option<i64>
         ensures value { result ≡ phase_of satellite.now cell.now }
         ensures bound { is_satellite satellite.now → is_cell cell.now → IfSome result (λ r. unsigned_abs r ≤ 2 ^ 40) };
 
-    /// Returns the phase range rate in 0.0001 m/s. `None` if its rough or fine part is invalid, and
-    /// in MSM4.
+    /// Returns the phase range rate in 0.0001 m/s: the sum of the rough and the fine rate. `None`
+    /// if either is invalid, and in MSM4.
     fn rate(satellite: &Self::Satellite, cell: &Self::Cell) -> Option<i32>
         ensures value { result ≡ rate_of satellite.now cell.now }
         ensures bound { is_satellite satellite.now → is_cell cell.now → IfSome result (λ r. unsigned_abs r ≤ 10 ^ 8) };
 
-    /// Returns the carrier to noise ratio in 1/16 dB-Hz. `None` if it was not computed.
+    /// Returns the carrier to noise ratio in 1/16 dB-Hz, DF403 or DF408. `None` if not computed.
     fn strength(cell: &Self::Cell) -> Option<u16>
         ensures value { result ≡ strength_of cell.now }
         ensures bound { is_cell cell.now → IfSome result (λ s. s < 2 ^ 10) };
@@ -118,39 +118,39 @@ pub trait Grid {
         ensures value { result ≡ lock_code_of cell.now }
         ensures bound { is_cell cell.now → result < lock_codes };
 
-    /// Returns whether a half-cycle ambiguity is possible, DF420.
+    /// Returns the half-cycle ambiguity indicator, DF420: whether one is possible.
     fn half_cycle(cell: &Self::Cell) -> bool
         ensures { result ≡ half_cycle_of cell.now };
 
-    /// Returns the widths of a satellite's fields, in the order of the layout.
+    /// Returns the widths of a satellite's fields in bits, in the order of the layout.
     fn satellite_widths() -> &'static [u32]
         ensures { result.now ≡ satellite_widths };
 
-    /// Returns the widths of a cell's fields, in the order of the layout.
+    /// Returns the widths of a cell's fields in bits, in the order of the layout.
     fn cell_widths() -> &'static [u32]
         ensures { result.now ≡ cell_widths };
 
-    /// A satellite's fields in one number, the first in the most significant bits.
+    /// Returns a satellite's fields in one number, the first field in the most significant bits.
     fn satellite_number(satellite: &Self::Satellite) -> u64
         requires { is_satellite satellite.now }
         ensures { result ≡ satellite_packed satellite.now };
 
-    /// The satellite whose fields are in the number.
+    /// Returns the satellite whose fields are packed in the number.
     fn satellite_of(number: u64) -> Self::Satellite
         requires { number < 2 ^ total_width satellite_widths }
         ensures { result ≡ satellite_at number };
 
-    /// A cell's fields in one number, the first in the most significant bits.
+    /// Returns a cell's fields in one number, the first field in the most significant bits.
     fn cell_number(cell: &Self::Cell) -> u128
         requires { is_cell cell.now }
         ensures { result ≡ cell_packed cell.now };
 
-    /// The cell whose fields are in the number.
+    /// Returns the cell whose fields are packed in the number.
     fn cell_of(number: u128) -> Self::Cell
         requires { number < 2 ^ total_width cell_widths }
         ensures { result ≡ cell_at number };
 
-    /// Reads satellite `i` of `count` satellites, whose data begin at bit `place`.
+    /// Reads satellite `i` of `count` satellites whose data begin at bit `place`.
     fn satellite_in(bytes: &[u8], count: usize, place: usize, i: usize) -> Self::Satellite
         requires there { i < count }
         requires few { count ≤ satellite_mask_bits }
@@ -158,7 +158,7 @@ pub trait Grid {
         requires small { length bytes.now ≤ longest_message }
         ensures { result ≡ satellite_at (row_at satellite_widths count (bits_of bytes.now) place i 0) };
 
-    /// Reads cell `i` of `count` cells, whose data begin at bit `place`.
+    /// Reads cell `i` of `count` cells whose data begin at bit `place`.
     fn cell_in(bytes: &[u8], count: usize, place: usize, i: usize) -> Self::Cell
         requires there { i < count }
         requires few { count ≤ most_pairs }
@@ -169,7 +169,7 @@ pub trait Grid {
     // A field has at most 64 bits, and a satellite or a cell fits its number.
     ghost satellite_widths_few: { All (λ w. w ≤ 64) satellite_widths };
 
-    /// The largest message has room.
+    /// So the largest message fits a frame.
     ghost room: { total_width satellite_widths + total_width cell_widths ≤ 124 };
 
     ghost satellite_width: { total_width satellite_widths ≤ 64 };
@@ -199,7 +199,7 @@ pub trait Grid {
     ghost lock_fits: { (c : Self.Cell) → is_cell c → lock_code_of c < lock_codes };
 }
 
-/// Returns a fine part in 2^-31 ms from its number of units, or `None` for the invalid number.
+/// Returns a fine part in 2^-31 ms: `number` units of `unit`, or `None` for the invalid number.
 pub(crate) fn scaled(number: i32, invalid: i32, unit: u32) -> Option<i64>
     requires few { unit ≤ 128 }
     ensures value { result ≡ scaled invalid unit number }
@@ -213,10 +213,11 @@ pub(crate) fn scaled(number: i32, invalid: i32, unit: u32) -> Option<i64>
     }
 }
 
-/// The value of DF397 for no rough range.
+/// The value of DF397 for an invalid rough range.
 const INVALID_RANGE: u8 = 255;
 
-/// Returns the rough range with a fine part, in 2^-31 ms.
+/// Returns the sum of the rough range and a fine part in 2^-31 ms: `whole` milliseconds (DF397) and
+/// `fraction` / 1024 ms (DF398). `None` if either is invalid.
 pub(crate) fn range_joined(whole: u8, fraction: u16, fine: Option<i64>) -> Option<i64>
     requires fits { ForSome fine (λ z. unsigned_abs z ≤ 2 ^ 33) }
     ensures value { result ≡ range_joined whole fraction fine }

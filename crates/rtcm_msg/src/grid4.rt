@@ -8,40 +8,40 @@ use crate::field::signed_at;
 use crate::grid::{Grid, range_joined, scaled};
 use rtcm_bits::{number_at, raw_of, signed_of};
 
-/// The data of a satellite in MSM4.
+/// Data of a satellite in MSM4.
 #[derive(Clone, Copy, Debug, PartialEq, Eq, Drop)]
 pub struct Satellite4 {
-    /// Rough range in whole milliseconds, DF397: 8 bits, 255 for none.
+    /// Rough range in whole milliseconds, DF397: 8 bits, 255 if invalid.
     pub whole: u8,
-    /// Rough range below a millisecond in 2^-10 ms, DF398: 10 bits.
+    /// Rough range modulo 1 ms, in 2^-10 ms, DF398: 10 bits.
     pub fraction: u16,
 }
 
-/// The data of a cell in MSM4.
+/// Data of a cell in MSM4.
 #[derive(Clone, Copy, Debug, PartialEq, Eq, Drop)]
 pub struct Cell4 {
-    /// Fine pseudorange in 2^-24 ms, DF400: 15 bits with a sign, -2^14 for none.
+    /// Fine pseudorange in 2^-24 ms, DF400: 15 bits with a sign, -2^14 if invalid.
     pub range: i16,
-    /// Fine phase range in 2^-29 ms, DF401: 22 bits with a sign, -2^21 for none.
+    /// Fine phase range in 2^-29 ms, DF401: 22 bits with a sign, -2^21 if invalid.
     pub phase: i32,
     /// Lock time indicator, DF402: 4 bits.
     pub lock: u8,
     /// Half-cycle ambiguity indicator, DF420: whether one is possible.
     pub half_cycle: bool,
-    /// Carrier to noise ratio in dB-Hz, DF403: 6 bits, 0 for none.
+    /// Carrier to noise ratio in dB-Hz, DF403: 6 bits, 0 if not computed.
     pub strength: u8,
 }
 
 /// The precision of MSM4: messages 1074 and 1094.
 pub struct Grid4;
 
-/// The widths of DF397 and DF398.
+/// Widths in bits of DF397 and DF398.
 const SATELLITE_WIDTHS: [u32; 2] = [8, 10];
 
-/// The widths of DF400, DF401, DF402, DF420 and DF403.
+/// Widths in bits of DF400, DF401, DF402, DF420 and DF403.
 const CELL_WIDTHS: [u32; 5] = [15, 22, 4, 1, 6];
 
-// The type bounds this part: by the test the prover knows it of each element.
+// The type bounds this part; from the test the prover knows the bound of each element.
 fn has_bad_range_whole(satellites: &[Satellite4]) -> bool
     ensures { result ≡ list_any (λ x. nat_le (2 ^ 8) x.whole) satellites.now }
 {

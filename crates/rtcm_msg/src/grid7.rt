@@ -8,46 +8,46 @@ use crate::field::signed_at;
 use crate::grid::{Grid, range_joined, scaled};
 use rtcm_bits::{number_at, raw_of, signed_of};
 
-/// The data of a satellite in MSM7.
+/// Data of a satellite in MSM7.
 #[derive(Clone, Copy, Debug, PartialEq, Eq, Drop)]
 pub struct Satellite7 {
-    /// Rough range in whole milliseconds, DF397: 8 bits, 255 for none.
+    /// Rough range in whole milliseconds, DF397: 8 bits, 255 if invalid.
     pub whole: u8,
     /// Extended satellite information: 4 bits.
     pub extended: u8,
-    /// Rough range below a millisecond in 2^-10 ms, DF398: 10 bits.
+    /// Rough range modulo 1 ms, in 2^-10 ms, DF398: 10 bits.
     pub fraction: u16,
-    /// Rough phase range rate in m/s, DF399: 14 bits with a sign, -2^13 for none.
+    /// Rough phase range rate in m/s, DF399: 14 bits with a sign, -2^13 if invalid.
     pub rate: i16,
 }
 
-/// The data of a cell in MSM7.
+/// Data of a cell in MSM7.
 #[derive(Clone, Copy, Debug, PartialEq, Eq, Drop)]
 pub struct Cell7 {
-    /// Fine pseudorange in 2^-29 ms, DF405: 20 bits with a sign, -2^19 for none.
+    /// Fine pseudorange in 2^-29 ms, DF405: 20 bits with a sign, -2^19 if invalid.
     pub range: i32,
-    /// Fine phase range in 2^-31 ms, DF406: 24 bits with a sign, -2^23 for none.
+    /// Fine phase range in 2^-31 ms, DF406: 24 bits with a sign, -2^23 if invalid.
     pub phase: i32,
     /// Lock time indicator, DF407: 10 bits.
     pub lock: u16,
     /// Half-cycle ambiguity indicator, DF420: whether one is possible.
     pub half_cycle: bool,
-    /// Carrier to noise ratio in 2^-4 dB-Hz, DF408: 10 bits, 0 for none.
+    /// Carrier to noise ratio in 2^-4 dB-Hz, DF408: 10 bits, 0 if not computed.
     pub strength: u16,
-    /// Fine phase range rate in 0.0001 m/s, DF404: 15 bits with a sign, -2^14 for none.
+    /// Fine phase range rate in 0.0001 m/s, DF404: 15 bits with a sign, -2^14 if invalid.
     pub rate: i16,
 }
 
 /// The precision of MSM7: messages 1077 and 1097.
 pub struct Grid7;
 
-/// The widths of DF397, the extended satellite information, DF398 and DF399.
+/// Widths in bits of DF397, the extended satellite information, DF398 and DF399.
 const SATELLITE_WIDTHS: [u32; 4] = [8, 4, 10, 14];
 
-/// The widths of DF405, DF406, DF407, DF420, DF408 and DF404.
+/// Widths in bits of DF405, DF406, DF407, DF420, DF408 and DF404.
 const CELL_WIDTHS: [u32; 6] = [20, 24, 10, 1, 10, 15];
 
-// The type bounds this part: by the test the prover knows it of each element.
+// The type bounds this part; from the test the prover knows the bound of each element.
 fn has_bad_range_whole(satellites: &[Satellite7]) -> bool
     ensures { result ≡ list_any (λ x. nat_le (2 ^ 8) x.whole) satellites.now }
 {

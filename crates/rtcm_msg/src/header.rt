@@ -10,7 +10,7 @@ use rtcm_bits::BitReader;
 /// Number of milliseconds of a week.
 pub const WEEK: u32 = 604_800_000;
 
-/// The header fields of a multiple signal message (MSM) after its number.
+/// The header fields of a multiple signal message (MSM) after its message number.
 #[derive(Clone, Copy, Debug, PartialEq, Eq)]
 pub struct MsmHeader {
     /// Reference station ID, DF003: 12 bits.
@@ -31,8 +31,12 @@ pub struct MsmHeader {
     pub interval: u8,
 }
 
-/// Reads the header of an MSM after its number. A time of a week or more is a fault as soon as it
-/// is read.
+/// Reads the header of an MSM after its message number. An epoch time of a week or more is refused
+/// as soon as it is read.
+///
+/// # Errors
+///
+/// `Short` if a field does not end within the message, `BadTime` for a time of a week or more.
 #[tactic(auto, unfolding(crate::specs::Msm::header_at, crate::specs::Msm::after_time_at))]
 pub(crate) fn read_header(reader: &mut BitReader) -> Result<MsmHeader, MsgFault>
     ensures read { GivesViewed (λ h. (h, reader.new)) result (header_at reader.old) }
@@ -62,8 +66,8 @@ pub(crate) fn read_header(reader: &mut BitReader) -> Result<MsmHeader, MsgFault>
     })
 }
 
-/// Returns the first field, in the order of the layout, that does not fit its bits. The time was
-/// checked before.
+/// Returns the first field, in the order of the layout, that does not fit its bits. The epoch time
+/// was checked before.
 pub(crate) fn header_fault(header: &MsmHeader) -> Option<Field>
     ensures first { result ≡ header_fault header.now }
     ensures none { header.now.time < 604800000 → IfNone result (IsHeader header.now) }

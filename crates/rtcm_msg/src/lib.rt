@@ -1,7 +1,8 @@
-//! The messages of RTCM 10403.3 that the converter reads, and their values, both ways: station
-//! messages 1005 and 1006, and the multiple signal messages (MSM) 1074, 1077, 1094 and 1097.
-//! `decode` reads a message, `encode` writes one, and `look` returns a `View` that reads its cells
-//! from the bytes one by one, as `Entry`.
+//! Reads and writes the messages of RTCM 10403.3 that the converter uses: station messages 1005 and
+//! 1006, and the multiple signal messages (MSM) 1074, 1077, 1094 and 1097.
+//!
+//! [`decode`] reads a message and [`encode`] writes one. [`look`] returns a [`View`] that reads the
+//! cells of an MSM one by one from its bytes, each as an [`Entry`].
 #![tactic(auto)]
 
 mod entry;

@@ -17,13 +17,14 @@ pub(crate) const SIGNAL_MASK_BITS: u32 = 32;
 /// Largest number of bits of the cell mask, DF396.
 const MOST_CELL_MASK_BITS: u32 = 64;
 
-/// Largest number of satellites of a message, one for each bit of the satellite mask.
+/// Largest number of satellites in a message, one for each bit of the satellite mask.
 pub const MOST_SATELLITES: usize = SATELLITE_MASK_BITS as usize;
 
-/// Largest number of pairs of a satellite and a signal, and so of cells of a message.
+/// Largest number of pairs of a satellite and a signal, and so of cells in a message.
 pub const MOST_PAIRS: usize = MOST_CELL_MASK_BITS as usize;
 
-/// The satellites, the signals, and the pairs of both that have a cell: at most 64 pairs.
+/// The masks of an MSM: its satellites, its signals, and the pairs of both that have a cell. There
+/// are at most 64 pairs.
 #[derive(Clone, Copy, Debug, PartialEq, Eq)]
 pub struct Masks {
     satellites: u64,
@@ -45,8 +46,8 @@ impl Model for Masks {
 
 impl Masks {
     /// Returns the masks of an MSM: satellites DF394, signals DF395, cells DF396. The most
-    /// significant bit of the first two is ID 1. The cell mask has a bit for each pair, by
-    /// satellite and within it by signal, as a number with the first pair in its most significant
+    /// significant bit of the first two is ID 1. The cell mask has one bit for each pair, ordered
+    /// by satellite and then by signal; it is a number with the first pair in its most significant
     /// bit.
     ///
     /// # Errors
@@ -84,7 +85,7 @@ impl Masks {
         self.signals
     }
 
-    /// Returns the cell mask, DF396, as a number.
+    /// Returns the cell mask, DF396, as a number with the last pair in the least significant bit.
     pub fn cells(&self) -> u64
         ensures value { result ≡ self.now.cells }
         ensures sets { AreMasks self.now }
@@ -93,7 +94,11 @@ impl Masks {
     }
 }
 
-/// Reads the masks. More than 64 pairs are a fault as soon as the first two masks are read.
+/// Reads the masks. More than 64 pairs are refused as soon as the first two masks are read.
+///
+/// # Errors
+///
+/// `Short` if a mask does not end within the message, `TooManyCells` for more than 64 pairs.
 #[tactic(auto, unfolding(crate::specs::Msm::masks_at))]
 pub(crate) fn read_masks(reader: &mut BitReader) -> Result<Masks, MsgFault>
     ensures { GivesViewed (λ m. (m, reader.new)) result (masks_at reader.old) }

@@ -28,15 +28,16 @@ pub enum Message {
     Msm4(Msm<Grid4>),
     /// Message 1077 or 1097.
     Msm7(Msm<Grid7>),
-    /// A message of another number, DF002. For a multiple signal message of any type, 1071 to 1127,
-    /// `set` is its station, DF003, and its multiple message bit, DF393, if it contains them.
+    /// A message of any other number, DF002. For an MSM of any type, 1071 to 1127, `set` is its
+    /// station, DF003, and its multiple message bit, DF393, if the message contains them.
     Other {
         number: u16,
         set: Option<(u16, bool)>,
     },
 }
 
-/// Reads the station and DF393 of a multiple signal message after its number, if it contains them.
+/// Reads the station, DF003, and the multiple message bit, DF393, of an MSM after its message
+/// number. `None` if the message does not contain them.
 pub(crate) fn read_set(reader: &mut BitReader) -> Option<(u16, bool)>
     ensures { result ≡ set_at reader.old }
 {
@@ -46,7 +47,7 @@ pub(crate) fn read_set(reader: &mut BitReader) -> Option<(u16, bool)>
     Some((station, more))
 }
 
-/// Returns whether a message of this number is a multiple signal message of any type, 1071 to 1127.
+/// Returns whether a message number is that of an MSM of any type, 1071 to 1127.
 pub(crate) fn is_any_msm(number: u16) -> bool
     ensures { result ≡ is_any_msm number }
 {
@@ -63,7 +64,7 @@ fn read_message(bytes: &[u8]) -> Result<Message, MsgFault>
     }
 }
 
-/// Returns the bytes up to the length of the longest message, after which no field ends.
+/// Returns the bytes up to the length of the longest message. No field ends after it.
 pub(crate) fn front(bytes: &[u8]) -> &[u8]
     ensures few { length result.now ≤ longest_message }
     ensures same { message_at result.now ≡ message_at bytes.now }
@@ -75,18 +76,18 @@ pub(crate) fn front(bytes: &[u8]) -> &[u8]
     }
 }
 
-/// Reads a message. Reserved bits and bits after the last field are ignored. A number other than
-/// the six that are read gives `Message::Other`.
+/// Decodes a message. Reserved bits and bits after the last field are ignored. Each number other
+/// than 1005, 1006, 1074, 1077, 1094 and 1097 gives `Message::Other`.
 ///
 /// # Errors
 ///
-/// The first fault in the order of the fields: `Short` with the number of bits before the first
-/// field that does not end within the message, `BadTime` for an epoch time of a week or more as
-/// soon as it is read, `TooManyCells` for more than 64 pairs of a satellite and a signal as soon
-/// as both masks are read.
+/// The first fault in the order of the fields: `Short` with the index of the first bit of a field
+/// that does not end within the message, `BadTime` for an epoch time of a week or more as soon as
+/// it is read, `TooManyCells` for more than 64 pairs of a satellite and a signal as soon as both
+/// masks are read.
 pub fn decode(bytes: &[u8]) -> Result<Message, MsgFault>
     ensures exact { GivesViewed (λ m. m) result (message_at bytes.now) }
-    // An encoding is read with any reserved bits, and with any bits after it.
+    // An encoding is decoded with any reserved bits, and with any bits after it.
     ensures only { (v : Message) → ReadsMessage (bits_of bytes.now) v → result ≡ Ok v }
     ensures found { IfOk result (λ v. IsMessage v × ReadsMessage (bits_of bytes.now) v) }
     ensures fault { IfErr result (IsFault (bits_of bytes.now)) }
@@ -96,7 +97,7 @@ pub fn decode(bytes: &[u8]) -> Result<Message, MsgFault>
 }
 
 impl Message {
-    /// Returns the message as a view.
+    /// Returns a view of the message.
     pub fn view(&self) -> View<'_>
         ensures { viewed_message result ≡ self.now }
     {
@@ -111,7 +112,7 @@ impl Message {
         }
     }
 
-    /// Returns whether the message is of a number that is not read.
+    /// Returns whether the message is of a number that isn't decoded.
     pub fn is_other(&self) -> bool
         ensures { result ≡ is_other self.now }
     {
@@ -119,7 +120,7 @@ impl Message {
     }
 }
 
-/// Writes a message with its number.
+/// Writes a message with its message number.
 fn write_message(writer: &mut BitWriter, message: &Message)
     requires known { is_other message.now ≡ false }
     requires new { length writer.old ≡ 0 }
@@ -134,8 +135,8 @@ fn write_message(writer: &mut BitWriter, message: &Message)
     }
 }
 
-/// Replaces the bytes by the message, with zero for the reserved bits, and filled up with zero bits
-/// to a byte. `decode` returns the same message.
+/// Replaces `bytes` by the encoding of the message, with reserved bits of zero, padded with zero
+/// bits to a byte. `decode` returns the same message. It must not be a `Message::Other`.
 pub fn encode(message: &Message, bytes: &mut ArrayVec<u8, LONGEST_MESSAGE>)
     requires { is_other message.now ≡ false }
     ensures bits { IsEncoding bytes.new.items message.now }

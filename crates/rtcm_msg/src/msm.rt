@@ -15,9 +15,8 @@ use arrayvec::ArrayVec;
 use rtcm_bits::BitWriter;
 use std::marker::{Model, PhantomData};
 
-/// A multiple signal message of GPS or Galileo, in the precision of the grid: a header, the
-/// satellites and signals that the masks name, data for each satellite, and a cell for each pair
-/// that has one.
+/// A multiple signal message of GPS or Galileo in the precision `G`: a header, the satellites and
+/// signals of the masks, data for each satellite, and a cell for each pair in the cell mask.
 // The fields of each satellite and of each cell are packed into one number.
 #[derive(Drop)]
 pub struct Msm<G: Grid> {
@@ -41,14 +40,14 @@ impl<G: Grid> Model for Msm<G> {
 }
 
 impl<G: Grid> Msm<G> {
-    /// Returns the message of these parts. The satellites are in rising order of their IDs, the
+    /// Returns the message with these parts. The satellites are in rising order of their IDs, the
     /// cells in the order of the cell mask.
     ///
     /// # Errors
     ///
-    /// In this order: `BadTime` if the time is a week or more, `CellCount` if the number of
-    /// satellites or cells isn't that of the masks, `OutOfRange` with the first field, in the order
-    /// of the layout, that does not fit its bits in some satellite or cell.
+    /// In this order: `BadTime` if the epoch time is a week or more; `CellCount` if the number of
+    /// satellites or cells isn't the number in the masks; `OutOfRange` with the first field, in the
+    /// order of the layout, that does not fit its bits.
     pub fn new(
         is_galileo: bool,
         header: MsmHeader,
@@ -90,7 +89,7 @@ impl<G: Grid> Msm<G> {
         })
     }
 
-    /// Returns whether the satellites are those of Galileo, not of GPS.
+    /// Returns whether the satellites are of Galileo; otherwise they are of GPS.
     pub fn is_galileo(&self) -> bool
         ensures { result ≡ self.now.is_galileo }
     {
@@ -113,7 +112,7 @@ impl<G: Grid> Msm<G> {
         self.header
     }
 
-    /// Returns the satellites, signals and pairs of both that the message has data of.
+    /// Returns the masks: the satellites, the signals, and the pairs of both that have a cell.
     pub fn masks(&self) -> Masks
         ensures { result ≡ self.now.sets }
     {
@@ -136,7 +135,7 @@ impl<G: Grid> Msm<G> {
         self.cells.len()
     }
 
-    /// Returns the data of a satellite, by its index in rising order of the IDs.
+    /// Returns the data of satellite `i`, counted from 0 in rising order of the IDs.
     pub fn satellite(&self, i: usize) -> G::Satellite
         requires { i < length self.now.satellites }
         ensures value { result ≡ G.satellite_at (slice_index self.now.satellites i) }
@@ -145,7 +144,7 @@ impl<G: Grid> Msm<G> {
         G::satellite_of(self.satellites[i])
     }
 
-    /// Returns the data of a cell, by its index in the order of the cell mask.
+    /// Returns the data of cell `i`, counted from 0 in the order of the cell mask.
     pub fn cell(&self, i: usize) -> G::Cell
         requires { i < length self.now.cells }
         ensures value { result ≡ G.cell_at (slice_index self.now.cells i) }
@@ -155,7 +154,7 @@ impl<G: Grid> Msm<G> {
     }
 }
 
-/// Returns the satellites of a view, the fields of each in one number.
+/// Returns the satellites of a view, the fields of each packed in one number.
 fn satellites_of<G: Grid>(view: &MsmView<'_>) -> ArrayVec<u64, MOST_SATELLITES>
     requires { G.satellite_widths ≡ views.satellite_widths view.now.form }
     ensures { result.items ≡ view.now.msm.satellites }
@@ -167,7 +166,7 @@ fn satellites_of<G: Grid>(view: &MsmView<'_>) -> ArrayVec<u64, MOST_SATELLITES>
     satellites
 }
 
-/// Returns the cells of a view, the fields of each in one number.
+/// Returns the cells of a view, the fields of each packed in one number.
 fn cells_of<G: Grid>(view: &MsmView<'_>) -> ArrayVec<u128, MOST_PAIRS>
     requires { G.cell_widths ≡ views.cell_widths view.now.form }
     ensures { result.items ≡ view.now.msm.cells }
@@ -179,7 +178,7 @@ fn cells_of<G: Grid>(view: &MsmView<'_>) -> ArrayVec<u128, MOST_PAIRS>
     cells
 }
 
-/// Returns the message as a view.
+/// Returns a view of the message.
 pub(crate) fn view_of<G: Grid>(msm: &Msm<G>, form: Form) -> MsmView<'_>
     requires satellites { G.satellite_widths ≡ views.satellite_widths form }
     requires cells { G.cell_widths ≡ views.cell_widths form }
@@ -199,7 +198,7 @@ pub(crate) fn view_of<G: Grid>(msm: &Msm<G>, form: Form) -> MsmView<'_>
     }
 }
 
-/// Returns the message of a view in the precision of the grid.
+/// Returns the message of a view in the precision `G`.
 pub(crate) fn msm_of<G: Grid>(view: &MsmView<'_>) -> Msm<G>
     requires satellites { G.satellite_widths ≡ views.satellite_widths view.now.form }
     requires cells { G.cell_widths ≡ views.cell_widths view.now.form }
@@ -216,7 +215,7 @@ pub(crate) fn msm_of<G: Grid>(view: &MsmView<'_>) -> Msm<G>
     }
 }
 
-/// Returns the numbers in 128 bits.
+/// Returns the numbers as numbers of 128 bits.
 fn widen(numbers: &ArrayVec<u64, MOST_SATELLITES>) -> ArrayVec<u128, MOST_PAIRS>
     ensures { result.items ≡ numbers.now.items }
 {
@@ -227,7 +226,7 @@ fn widen(numbers: &ArrayVec<u64, MOST_SATELLITES>) -> ArrayVec<u128, MOST_PAIRS>
     wide
 }
 
-/// Writes an MSM, with zero for the reserved bits.
+/// Writes an MSM with its message number, with reserved bits of zero.
 pub(crate) fn write_msm<G: Grid>(writer: &mut BitWriter, msm: &Msm<G>)
     requires { length writer.old ≡ 0 }
     ensures value { IsValue G.satellite_widths G.cell_widths msm.now }

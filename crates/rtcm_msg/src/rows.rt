@@ -5,7 +5,11 @@ ghost use Rattle.rtcm_msg.specs.Rows as rows;
 
 use crate::fault::MsgFault;
 
-/// Returns the end of the data of `count` satellites or cells, whose fields have these widths.
+/// Returns the bit after the data of `count` satellites or cells whose fields have these widths.
+///
+/// # Errors
+///
+/// `Short` if a field does not end within the message.
 pub(crate) fn end_of_rows(
     bits: usize,
     widths: &[u32],

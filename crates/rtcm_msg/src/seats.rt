@@ -31,8 +31,8 @@ fn split_first(mask: u64, width: u32) -> (u8, u64)
 }
 
 /// The pairs of a satellite and a signal that are left: those of the first satellite with the
-/// signals that are left, and those of the following satellites with all signals. In a set of IDs
-/// the highest bit is the first ID.
+/// signals that are left, and those of the other satellites with all signals. In a set of IDs, the
+/// highest bit is the first ID.
 #[derive(Clone, Copy)]
 struct Pairs {
     /// The index of the first satellite in the message.
@@ -42,7 +42,7 @@ struct Pairs {
     all: u64,
 }
 
-/// Returns the same pairs, beginning with a satellite of which a signal is left.
+/// Returns the same pairs, beginning with a satellite that has a signal left.
 fn with_signals(pairs: Pairs) -> Pairs
     requires some { 0 < length (pairs_left pairs) }
     requires walking { IsWalking pairs }
@@ -62,7 +62,7 @@ fn with_signals(pairs: Pairs) -> Pairs
     }
 }
 
-/// Returns the first pair, and the others.
+/// Returns the first pair, and the other pairs.
 fn split_pairs(pairs: Pairs) -> (Seat, Pairs)
     requires some { 0 < length (pairs_left pairs) }
     requires walking { IsWalking pairs }
@@ -79,8 +79,9 @@ fn split_pairs(pairs: Pairs) -> (Seat, Pairs)
     (seat, Pairs { signals, ..pairs })
 }
 
-/// Returns the first of the pairs that are left that has a cell, and the pairs after it. The low
-/// `left` bits of the cell mask are those of the pairs that are left.
+/// Returns the first remaining pair with a cell, the pairs after it, and their number. `None` if no
+/// remaining pair has a cell. The low `left` bits of the cell mask are those of the remaining
+/// pairs.
 fn split_cells(pairs: Pairs, cells: u64, left: u32) -> Option<(Seat, Pairs, u32)>
     requires few { left ≤ most_pairs }
     requires count { length (pairs_left pairs) ≡ left }
@@ -102,7 +103,7 @@ fn split_cells(pairs: Pairs, cells: u64, left: u32) -> Option<(Seat, Pairs, u32)
     None
 }
 
-/// Iterates over the satellites and signals of a message's cells, in the order of the cell mask.
+/// Iterator over the satellites and signals of a message's cells, in the order of the cell mask.
 #[derive(Drop)]
 pub struct Seats {
     masks: Masks,
@@ -124,7 +125,7 @@ impl Model for Seats {
 }
 
 impl Seats {
-    /// Returns the iterator before the first cell.
+    /// Returns an iterator that is before the first cell.
     pub fn new(masks: Masks) -> Seats
         ensures all { result ≡ record { sets = masks; left = seats masks } }
         ensures count { length (seats masks) ≡ count_ones masks.cells }

@@ -10,7 +10,7 @@ use crate::field::field;
 use rtcm_bits::{BitReader, signed_of};
 use std::marker::Model;
 
-/// The fields of a station message. With a height it is message 1006, without one message 1005.
+/// The fields of a station message: message 1006 with a height, message 1005 without one.
 #[derive(Clone, Copy, Debug, PartialEq, Eq)]
 pub struct StationParts {
     /// Reference station ID, DF003: 12 bits.
@@ -23,7 +23,7 @@ pub struct StationParts {
     pub glonass: bool,
     /// Galileo indicator, DF024.
     pub galileo: bool,
-    /// Reference station indicator, DF141: whether the station is not a physical one.
+    /// Reference station indicator, DF141: whether the station is non-physical or computed.
     pub reference: bool,
     /// Antenna reference point ECEF-X, DF025: 38 bits with a sign, in 0.0001 m.
     pub x: i64,
@@ -35,7 +35,7 @@ pub struct StationParts {
     pub quarter: u8,
     /// Antenna reference point ECEF-Z, DF027: 38 bits with a sign, in 0.0001 m.
     pub z: i64,
-    /// Antenna height, DF028, in 0.0001 m; message 1006 alone has it.
+    /// Antenna height, DF028: 16 bits, in 0.0001 m. Only message 1006 has it.
     pub height: Option<u16>,
 }
 
@@ -58,11 +58,11 @@ impl Model for Station {
 }
 
 impl Station {
-    /// Returns the station message of these parts.
+    /// Returns the station message with these fields.
     ///
     /// # Errors
     ///
-    /// `OutOfRange` names the first field, in the order of the message, that does not fit its bits.
+    /// `OutOfRange` with the first field, in the order of the message, that does not fit its bits.
     pub fn new(parts: StationParts) -> Result<Station, ValueFault>
         ensures exact { result ≡ station_made (station_fault parts) parts }
         ensures accepted { InRange parts → result ≡ Ok parts }
@@ -88,7 +88,7 @@ impl Station {
         Ok(Station { parts })
     }
 
-    /// Returns its parts.
+    /// Returns the fields of the message.
     pub fn parts(&self) -> StationParts
         ensures value { result ≡ self.now }
         ensures in_range { InRange result }
@@ -126,7 +126,11 @@ fn read_height(reader: &mut BitReader, has_height: bool) -> Result<Option<u16>, 
     }
 }
 
-/// Reads a station message after its number, field by field in the order of the table.
+/// Reads a station message after its message number, field by field.
+///
+/// # Errors
+///
+/// `Short` if a field does not end within the message.
 #[tactic(auto, unfolding(crate::specs::Station::station_at))]
 pub(crate) fn read_station(reader: &mut BitReader, has_height: bool) -> Result<Station, MsgFault>
     ensures { GivesViewed (λ s. (s, reader.new)) result (station_at has_height reader.old) }

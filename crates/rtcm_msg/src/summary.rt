@@ -7,12 +7,14 @@ ghost use Rattle.rtcm_msg.specs.Viewed.{viewed_message};
 use crate::station::StationParts;
 use crate::view::View;
 
-/// What a message contains beside the data of satellites and cells.
+/// The contents of a message other than the data of satellites and cells. A field is `None` if the
+/// message does not contain it or it isn't decoded.
 #[derive(Clone, Copy, Debug, PartialEq, Eq)]
 pub struct Summary {
     /// Reference station ID, DF003.
     pub station: Option<u16>,
-    /// Epoch time in milliseconds of the week, DF004 or DF248. Only observations have one.
+    /// Epoch time in milliseconds of the week, DF004 or DF248: only messages 1074, 1077, 1094 and
+    /// 1097 have one.
     pub time: Option<u32>,
     /// Multiple message bit, DF393.
     pub more: Option<bool>,
@@ -21,7 +23,7 @@ pub struct Summary {
 }
 
 impl<'a> View<'a> {
-    /// Returns what the message contains beside the data of satellites and cells.
+    /// Returns the contents of the message other than the data of satellites and cells.
     pub fn summary(&self) -> Summary
         ensures value { result ≡ summary (viewed_message self.now) }
         ensures time { ForSome result.time (λ time. time < week) }

@@ -26,7 +26,7 @@ use crate::station::{Station, read_station};
 use rtcm_bits::BitReader;
 use std::marker::Model;
 
-/// The layout and precision of a multiple signal message.
+/// The layout and precision of an MSM.
 #[derive(Clone, Copy, Debug, PartialEq, Eq)]
 pub enum Form {
     /// Messages 1074 and 1094.
@@ -57,7 +57,7 @@ impl Form {
         }
     }
 
-    /// Returns the widths of a satellite's fields, in the order of the layout.
+    /// Returns the widths of a satellite's fields in bits, in the order of the layout.
     fn satellite_widths(self) -> &'static [u32]
         ensures value { result.now ≡ views.satellite_widths self }
         ensures narrow { All (λ w. w ≤ 64) result.now }
@@ -69,7 +69,7 @@ impl Form {
         }
     }
 
-    /// Returns the widths of a cell's fields, in the order of the layout.
+    /// Returns the widths of a cell's fields in bits, in the order of the layout.
     fn cell_widths(self) -> &'static [u32]
         ensures value { result.now ≡ views.cell_widths self }
         ensures narrow { All (λ w. w ≤ 64) result.now }
@@ -85,22 +85,21 @@ impl Form {
 /// The data of a message's satellites and cells.
 #[derive(Clone, Copy)]
 pub(crate) enum Data<'a> {
-    /// In the bytes of a message, from a bit on those of the satellites, from another those of the
-    /// cells.
+    /// The bytes of a message, with the first bits of the satellites' data and of the cells' data.
     Bits {
         bytes: &'a [u8],
         satellites_at: usize,
         cells_at: usize,
     },
-    /// In numbers, one for each satellite and one for each cell.
+    /// Packed numbers, one for each satellite and one for each cell.
     Packed {
         satellites: &'a [u64],
         cells: &'a [u128],
     },
 }
 
-/// A multiple signal message whose header and masks are read. It contains the data of its
-/// satellites and cells, which are read one by one.
+/// A view of an MSM whose header and masks are read. The data of its satellites and cells are read
+/// one by one.
 #[derive(Drop)]
 pub struct MsmView<'a> {
     pub(crate) form: Form,
@@ -141,7 +140,7 @@ impl<'a> Model for MsmView<'a> {
 }
 
 impl<'a> MsmView<'a> {
-    /// Returns its layout.
+    /// Returns the layout and precision.
     pub fn form(&self) -> Form
         ensures form { result ≡ self.now.form }
         ensures value { IsValue (views.satellite_widths self.now.form) (views.cell_widths self.now.form) self.now.msm }
@@ -149,7 +148,7 @@ impl<'a> MsmView<'a> {
         self.form
     }
 
-    /// Returns whether the satellites are those of Galileo, not of GPS.
+    /// Returns whether the satellites are of Galileo; otherwise they are of GPS.
     pub fn is_galileo(&self) -> bool
         ensures { result ≡ self.now.msm.is_galileo }
     {
@@ -172,7 +171,7 @@ impl<'a> MsmView<'a> {
         self.header
     }
 
-    /// Returns the satellites, signals and pairs of both that the message has data of.
+    /// Returns the masks: the satellites, the signals, and the pairs of both that have a cell.
     pub fn masks(&self) -> Masks
         ensures { result ≡ self.now.msm.sets }
     {
@@ -197,7 +196,7 @@ impl<'a> MsmView<'a> {
         self.cells
     }
 
-    /// Returns the data of a satellite, by its index in rising order of the IDs.
+    /// Returns the data of satellite `i`, counted from 0 in rising order of the IDs.
     #[inline(always)]
     pub(crate) fn satellite<G: Grid>(&self, i: usize) -> G::Satellite
         requires there { i < length self.now.msm.satellites }
@@ -219,7 +218,7 @@ impl<'a> MsmView<'a> {
         }
     }
 
-    /// Returns the data of a cell, by its index in the order of the cell mask.
+    /// Returns the data of cell `i`, counted from 0 in the order of the cell mask.
     #[inline(always)]
     pub(crate) fn cell<G: Grid>(&self, i: usize) -> G::Cell
         requires there { i < length self.now.msm.cells }
@@ -241,7 +240,7 @@ impl<'a> MsmView<'a> {
         }
     }
 
-    /// Returns the entry of cell `i`, of this satellite and signal.
+    /// Returns the entry of cell `i`, which is of this satellite and signal.
     fn entry(&self, seat: Seat, i: usize) -> Entry
         requires place { seat.place < length self.now.msm.satellites }
         requires cell { i < length self.now.msm.cells }
@@ -262,7 +261,7 @@ impl<'a> MsmView<'a> {
         }
     }
 
-    /// Returns an iterator over its cells.
+    /// Returns an iterator over the cells, in the order of the cell mask.
     pub fn entries(&self) -> Entries<'_>
         ensures all { result ≡ record { form = self.now.form; left = entries (views.formed self.now) } }
         ensures few { length result.left ≤ most_pairs }
@@ -275,7 +274,7 @@ impl<'a> MsmView<'a> {
         }
     }
 
-    /// The message with its data.
+    /// Returns the decoded message.
     fn message(&self) -> Message
         ensures { result ≡ views.formed self.now }
     {
@@ -286,7 +285,7 @@ impl<'a> MsmView<'a> {
     }
 }
 
-/// Reads the cells of a message one by one from its bytes, in the order of the cell mask.
+/// Iterator over the cells of an MSM, read one by one in the order of the cell mask.
 #[derive(Drop)]
 pub struct Entries<'a> {
     view: &'a MsmView<'a>,
@@ -311,7 +310,7 @@ impl<'a> Model for Entries<'a> {
 }
 
 impl<'a> Entries<'a> {
-    /// Returns the next cell.
+    /// Returns the next cell, or `None` after the last one.
     pub fn next(&mut self) -> Option<Entry>
         ensures some { IfSome result (λ e. (self.old.left ≡ e ∷ self.new.left) × IsEntry (codes_of (lock_field self.old.form)) e) }
         ensures none { IfNone result ((self.old.left ≡ []) × (self.new.left ≡ [])) }
@@ -329,14 +328,14 @@ impl<'a> Entries<'a> {
     }
 }
 
-/// A message of RTCM 10403.3 that is read from its bytes.
+/// A view of a message of RTCM 10403.3.
 #[derive(Drop)]
 pub enum View<'a> {
     /// Message 1005 or 1006.
     Station(Station),
     /// Message 1074, 1077, 1094 or 1097.
     Msm(MsmView<'a>),
-    /// A message of another number, as `Message::Other`.
+    /// A message of any other number, see `Message::Other`.
     Other {
         number: u16,
         set: Option<(u16, bool)>,
@@ -344,7 +343,7 @@ pub enum View<'a> {
 }
 
 impl<'a> View<'a> {
-    /// The message with its data.
+    /// Returns the decoded message.
     pub fn message(self) -> Message
         ensures { result ≡ viewed_message self.entry }
     {
@@ -356,7 +355,7 @@ impl<'a> View<'a> {
     }
 }
 
-/// Reads the header and masks of an MSM after its number.
+/// Reads the header and masks of an MSM after its message number.
 #[tactic(auto, unfolding(crate::specs::Msm::msm_at))]
 fn view_msm<'a>(
     bytes: &'a [u8],
@@ -392,7 +391,7 @@ fn view_msm<'a>(
     }))
 }
 
-/// Reads a message after its number.
+/// Reads a message after its message number.
 #[tactic(auto, unfolding(crate::specs::Reading::body_at))]
 fn view_body<'a>(number: u16, bytes: &'a [u8], reader: &mut BitReader) -> Result<View<'a>, MsgFault>
     requires small { length bytes.now ≤ longest_message }
@@ -418,7 +417,7 @@ fn view_body<'a>(number: u16, bytes: &'a [u8], reader: &mut BitReader) -> Result
     }
 }
 
-/// Reads a message of at most the greatest length.
+/// Reads a message that is not longer than the longest message.
 #[tactic(auto, unfolding(crate::specs::Reading::message_of))]
 fn view_message(bytes: &[u8]) -> Result<View<'_>, MsgFault>
     requires { length bytes.now ≤ longest_message }
@@ -429,8 +428,8 @@ fn view_message(bytes: &[u8]) -> Result<View<'_>, MsgFault>
     view_body(number, bytes, &mut reader)
 }
 
-/// Reads a message as `decode` does, but the data of satellites and cells only when the view is
-/// asked for them.
+/// Reads a message as `decode` does, but reads the data of satellites and cells of an MSM only when
+/// the view is used.
 ///
 /// # Errors
 ///

@@ -12,7 +12,7 @@ use crate::masks::{Masks, SATELLITE_MASK_BITS, SIGNAL_MASK_BITS};
 use crate::station::StationParts;
 use rtcm_bits::{BitWriter, raw_of};
 
-/// Writes fields in order, each a width and a number.
+/// Writes fields in order, each given by its width in bits and its number.
 fn write_fields(writer: &mut BitWriter, fields: &[(u32, u64)])
     requires few { IsTrue (list_all (λ f. nat_le f.0 64) fields.now) }
     requires room { length writer.old + fields_width fields.now ≤ longest_message_bits }
@@ -24,7 +24,7 @@ fn write_fields(writer: &mut BitWriter, fields: &[(u32, u64)])
     }
 }
 
-/// Writes the fields that messages 1005 and 1006 share.
+/// Writes the fields that messages 1005 and 1006 have in common.
 fn write_common(writer: &mut BitWriter, number: u16, parts: &StationParts)
     requires room { length writer.old + 152 ≤ longest_message_bits }
     requires in_range { InRange parts.now }
@@ -54,7 +54,7 @@ fn write_common(writer: &mut BitWriter, number: u16, parts: &StationParts)
     );
 }
 
-/// Writes a station message with its number.
+/// Writes a station message with its message number.
 pub(crate) fn write_station(writer: &mut BitWriter, parts: &StationParts)
     requires room { length writer.old + 168 ≤ longest_message_bits }
     requires in_range { InRange parts.now }
@@ -69,7 +69,7 @@ pub(crate) fn write_station(writer: &mut BitWriter, parts: &StationParts)
     }
 }
 
-/// Writes the header of an MSM with its number.
+/// Writes the header of an MSM with its message number.
 pub(crate) fn write_header(writer: &mut BitWriter, number: u16, header: &MsmHeader)
     requires { length writer.old + 73 ≤ longest_message_bits }
     ensures bits { writer.new ≡ writer.old ++ spelled (header_fields number header.now 0) }
@@ -92,7 +92,7 @@ pub(crate) fn write_header(writer: &mut BitWriter, number: u16, header: &MsmHead
     );
 }
 
-/// Writes the masks.
+/// Writes the masks, DF394 to DF396.
 pub(crate) fn write_masks(writer: &mut BitWriter, masks: &Masks)
     requires { length writer.old + 160 ≤ longest_message_bits }
     ensures bits { writer.new ≡ writer.old ++ spelled (mask_fields masks.now) }
@@ -110,7 +110,8 @@ pub(crate) fn write_masks(writer: &mut BitWriter, masks: &Masks)
     );
 }
 
-/// Writes one field of each satellite or cell.
+/// Writes one field of each satellite or cell: `width` bits above the low `shift` bits of its
+/// number.
 fn write_column(writer: &mut BitWriter, shift: u32, width: u32, numbers: &[u128])
     requires few { width ≤ 64 }
     requires shift { shift < 128 }

@@ -3,7 +3,7 @@ use Rattle.obs_epoch.specs.Order.{cell_seat, spot}
 use Rattle.obs_epoch.specs.Values.{planned_of}
 use Rattle.obs_epoch.proofs.epoch.spot_by_halves.Given as goal
 
--- the spot lies from the low end to the high one
+-- The index is from `low` to `high`.
 abbrev pub invariant-loop-low : goal.invariant-loop-low
 invariant-loop-low l =
     (l.low ≤ spot l.x (map (cell_seat (planned_of l.fn.system l.plan)) l.cells)) × (spot l.x (map (cell_seat (planned_of l.fn.system l.plan)) l.cells) ≤ l.high)

@@ -12,7 +12,7 @@ use Rattle.obs_epoch.specs.Laws.{CodesNameSignals}
 use Rattle.obs_epoch.proofs.PlanLemmas.{of_where}
 use Rattle.obs_epoch.proofs.laws.plans.Goals as goal
 
--- these signals after the earlier ones
+-- These signals after the earlier ones.
 record Read (system : System) (earlier : List ℕ) (codes : List (List ℕ)) (all : List ℕ) : Type 0 where
   more : List ℕ
   is : all ≡ earlier ++ more

@@ -20,7 +20,7 @@ apart h = cc
 apart_too : Gps ≡ Galileo → ⊥
 apart_too h = cc
 
--- the first signals' fault, and that of the second
+-- The fault of the first signals.
 first_unfit : (gps galileo : List SignalAt) (e : PlanFault) → IsUnfit Gps gps e → IsUnplanned gps galileo e
 first_unfit gps galileo (UnknownCode Gps n) h = h
 first_unfit gps galileo (UnknownCode Galileo n) h = absurd (apart h.unfit.0)
@@ -49,7 +49,7 @@ second_fault : (gps galileo : List SignalAt) (e : PlanFault) → IsOf Gps gps �
 second_fault gps galileo e is (inl m) = inl m
 second_fault gps galileo e is (inr u) = inr (second_unfit gps galileo e is u)
 
--- some are planned
+-- At least one signal is planned.
 some_of : (a b : List SignalAt) → (a ≡ [] → b ≡ [] → ⊥) → 0 < length a + length b
 some_of [] [] h = absurd (h refl refl)
 some_of [] (x ∷ b) h = omega arith
@@ -67,7 +67,7 @@ plan_is gps galileo ss ts p is q too some = (
   same : (a b c d : List SignalAt) → a ≡ b → c ≡ d → ◌≡◌ {A = PlanValue} (record { gps = indices a; galileo = indices c }) (record { gps = indices b; galileo = indices d })
   same a b c d e f = ap₂ (λ x y. record { gps = indices x; galileo = indices y }) e f
 
--- what comes of the second signals, where the first fit
+-- The result for the second signals, if the first fit.
 last : (A : Type 0) (gps galileo ss ts : List SignalAt) (r : Result A PlanFault) → ss ≡ gps → IsOf Gps gps → (gps ≡ [] → galileo ≡ [] → ⊥)
     → MatchResult r (λ _. (ts ≡ galileo) × IsOf Galileo galileo) (IsMemoryFaultOr (IsUnfit Galileo galileo))
     → MatchResult r (λ _. ArePlanOf gps galileo ss ts) (IsMemoryFaultOr (IsUnplanned gps galileo))

@@ -20,7 +20,7 @@ none_of : (ss : List SignalAt) → indices ss ≡ [] → ss ≡ []
 none_of [] h = refl
 none_of (s ∷ ss) h = absurd (no_item s.index (indices ss) h)
 
--- both texts plan signals, and some are planned
+-- Both texts are valid, and at least one signal is planned.
 both : (gps galileo ss ts : List ℕ) → signals_of Gps gps ≡ Ok ss → signals_of Galileo galileo ≡ Ok ts → (ss ≡ [] → ts ≡ [] → ⊥)
     → plan_of gps galileo ≡ Ok (record { gps = ss; galileo = ts })
 both gps galileo [] [] p q some = absurd (some refl refl)
@@ -34,7 +34,7 @@ neither gps galileo ss ts p q none empty =
     let second : signals_of Galileo galileo ≡ Ok [] = q ∙ ap (λ l. Ok (indices l)) empty in
     rw (first, second) refl
 
--- the first text's fault, and the second's
+-- The faults of the first and of the second text.
 first_fault : (gps galileo : List ℕ) (e : PlanFault) → IsMemoryFaultOr (λ f. signals_of Gps gps ≡ Err f) e → IsMemoryFaultOr (λ f. plan_of gps galileo ≡ Err f) e
 first_fault gps galileo e (inl m) = inl m
 first_fault gps galileo e (inr p) = inr (rw p refl)

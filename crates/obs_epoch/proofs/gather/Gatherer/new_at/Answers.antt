@@ -24,7 +24,7 @@ not_both b h k = cc
 over : (n most : ℕ) → n < most → most ≤ n → ⊥
 over n most h k = omega (arith, h, k)
 
--- what the fault says of week and station
+-- The fault is `BadWeek` exactly if the week is 100,000 or later.
 by_week : (week : ℕ) (station : Option ℕ) (e : PlanFault) → IsUnfitSetup week station e → ◌≡◌ {A = Result Gathered PlanFault} (Err e) (Err BadWeek) ↔ (weeks ≤ week)
 by_week week station BadWeek h = (λ e. h, λ most. refl)
 by_week week station BadStation h = (λ e. absurd (station_week e), λ most. absurd (over _ _ h.0 most))

@@ -32,7 +32,7 @@ invariant_of-self c =
     let after = order_more p e m planned c.self.invariant free.0 in
     subst (AreInOrder p) (sym (ap (λ (h : Closed). h.epoch) c.hold.ensures ∙ ap (λ n. more_at c.args.x.satellite.system n e m) at ∙ more_is p e m)) after
 
--- the same with other station values
+-- The same with other station values.
 abbrev with_values : Gathered → StationValues → Gathered
 with_values g values = record { clock = g.clock; epoch = g.epoch; locks = g.locks; values = values; handed = g.handed; has_ended = g.has_ended }
 

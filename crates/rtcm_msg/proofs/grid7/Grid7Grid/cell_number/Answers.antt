@@ -4,7 +4,7 @@ use Rattle.rtcm_bits.specs.Bits.{raw}
 use Rattle.rtcm_bits.specs.BitLaws.{byte-bit}
 use Rattle.rtcm_msg.proofs.grid7.Grid7Grid.cell_number.Goals as goal
 
--- the places of the fields in the number
+-- The positions of the fields in the number.
 laid : (a b l h s r : ℕ) → ((((a * 16777216 + b) * 1024 + l) * 2 + h) * 1024 + s) * 32768 + r ≡ a * 1152921504606846976 + (b * 68719476736 + (l * 67108864 + (h * 33554432 + (s * 32768 + (r * 1 + 0)))))
 laid a b l h s r = omega arith
 

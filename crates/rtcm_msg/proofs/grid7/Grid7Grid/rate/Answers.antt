@@ -11,7 +11,7 @@ not_that : {P : Type 0} (b : Bool) → Decides b P → (P → ⊥) → b ≡ fal
 not_that true d other = absurd (other (d.0 refl))
 not_that false d other = refl
 
--- a number of 16 bits with a sign, taken into 32 bits
+-- A number of 16 bits with a sign, converted to 32 bits.
 wide : (z : ℤ) → FitsSigned w16 z → to_z w32 (of_z w32 (to_z w16 (of_z w16 z))) ≡ z
 wide z f = rw (to_z-of_z w16 z f) (to_z-of_z w32 z (omega (arith, ints, f)))
 

@@ -12,7 +12,7 @@ early t h = grind (arith, h)
 same : (n : ℕ) → (n == n) ≡ true
 same n = (Decides-eqb n n).1 refl
 
--- where the time and the counts are right, the first field out of range says why
+-- If the time and the counts are valid, the fault is the first field out of range.
 first : (h : MsmHeader) (s : MasksValue) (n m : ℕ) (a b : Option Field) → h.time < week → n ≡ count_ones s.satellites → m ≡ count_ones s.cells → msm_refusal h s n m a b ≡ out_of_range (first_field (header_fault h) (first_field a b))
 first h s n m a b time sat cel = rw (early h.time time, sat, cel, same (count_ones s.satellites), same (count_ones s.cells)) refl
 

@@ -5,7 +5,7 @@ use Rattle.rtcm_msg.specs.Views.{FormedMsm, AreDataThere, satellite_widths, sate
 use Rattle.rtcm_msg.proofs.ViewLaws.{row_value, satellites_counted}
 use Rattle.rtcm_msg.proofs.view.MsmView.satellite.Goals as goal
 
--- the place is one of as many rows
+-- The index is less than the number of rows.
 below : (i n : ℕ) (xs ys : List ℕ) → length xs ≡ n → xs ≡ ys → i < length ys → i < n
 below i n xs ys count same h = omega (arith, count, ap length same, h)
 
