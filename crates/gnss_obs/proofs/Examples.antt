@@ -44,7 +44,7 @@ last7 = refl
 unknown7 : times7 705 ≡ record { least = None; upper = None }
 unknown7 = refl
 
--- a lock that is as old as the time between was lost, one that is older was not
+-- lock was lost if its upper bound is the elapsed time, not if its upper bound is greater
 as_old : lost (Some 0) (Some 0) (Some 1) 1 ≡ true
 as_old = refl
 

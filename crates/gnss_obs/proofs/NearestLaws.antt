@@ -30,7 +30,7 @@ pub nearest_pos : (a : ℤ) (q : ℕ) → pos 0 ≤ℤ a → nearest a q ≡ pos
 nearest_pos (pos n) q h = refl
 nearest_pos (negsuc n) q h = absurd (omega (arith, ints))
 
--- the difference of two numbers, for its size
+-- the difference of two numbers, by its size
 apart : (s n q : ℕ) → 2 * s ≤ 2 * n + q → 2 * n + q < 2 * s + 2 * q → 2 * unsigned_abs (pos s -ℤ pos n) ≤ q
 apart s n q a b = omega (arith, ints)
 
@@ -71,18 +71,18 @@ product_casts x h m f size room small =
     let carrier : to_z w128 h ≡ pos h = omega (arith, ints) in
     rw carrier (to_z-of_z w128 (x *ℤ pos h) (fits_signed_mul w128 x (pos h) m (2 ^ 31) size (omega arith) room))
 
--- a product stays within its bound
+-- a product is within its bound
 pub product_size : (x : ℤ) (h m b : ℕ) → unsigned_abs x ≤ m → h < 2 ^ 31 → m * 2 ^ 31 ≤ b → unsigned_abs (x *ℤ pos h) ≤ b
 product_size x h m b size small room = rw unsigned_abs-mul (step (unsigned_abs x) h m b size small room)
   where
     step : (y h m b : ℕ) → y ≤ m → h < 2 ^ 31 → m * 2 ^ 31 ≤ b → y * h ≤ b
     step y h m b size small room = let p : y * h ≤ m * 2 ^ 31 = mul-le y h m (2 ^ 31) size (omega arith) in omega arith
 
--- a product stays within that of its factors' bounds
+-- a product is within the product of the bounds of its factors
 pub product_within : (x : ℤ) (h m n : ℕ) → unsigned_abs x ≤ m → h ≤ n → unsigned_abs (x *ℤ pos h) ≤ m * n
 product_within x h m n size small = rw unsigned_abs-mul (mul-le (unsigned_abs x) h m n size small)
 
--- the same product turned round
+-- the same product, negated
 pub turned_casts : (x : ℤ) (h m : ℕ) → FitsSigned w128 x → unsigned_abs x ≤ m → m * 2 ^ 31 < 2 ^ 100 → h < 2 ^ 31 → to_z w128 (of_z w128 (pos 0 -ℤ to_z w128 (of_z w128 (x *ℤ to_z w128 h)))) ≡ pos 0 -ℤ (x *ℤ pos h)
 turned_casts x h m f size room small =
     let bound = product_size x h m (2 ^ 100) size small (omega arith) in
@@ -91,7 +91,7 @@ turned_casts x h m f size room small =
     below : (p : ℤ) → unsigned_abs p ≤ 2 ^ 100 → to_z w128 (of_z w128 (pos 0 -ℤ p)) ≡ pos 0 -ℤ p
     below p b = omega (arith, ints)
 
--- a nearest number under other names
+-- a nearest number in other terms
 pub nearest_named : (a b : ℤ) (q : ℕ) (t u : ℤ) → a ≡ b → t ≡ u → IsNearest a q t → IsNearest b q u
 nearest_named a b q t u same_fraction same_number near = subst (λ x. IsNearest x q u) same_fraction (subst (IsNearest a q) same_number near)
 

@@ -38,7 +38,7 @@ unfolding is_row
 same_row n None row h other = absurd (grind (arith, h, other))
 same_row n (Some i) row h other = (ap Some (is_equal row i (both_second (nat_lt i n) (row == i) h)), rw (is_equal row i (both_second (nat_lt i n) (row == i) h)) (is_less i n (both_first (nat_lt i n) (row == i) h)))
 
--- what is read at an ID
+-- the row at an ID
 read_at : (xs : List ℕ) (id : ℕ) (o : Option (Bor ℕ)) → is_some o ≡ nat_lt id (length xs) → IfSome o (λ x. x.now ≡ slice_index_or xs id x.now)
     → unwrap_or (option_copied o) 255 ≡ unwrap_or (slice_get xs id) 255
 read_at xs id None some h = ap (λ o. unwrap_or o 255) (sym (slice_get_past xs id (grind (arith, some))))

@@ -1,4 +1,4 @@
--- There is one nearest whole number.
+-- The nearest whole number is unique.
 use Rattle.std.proofs.Common.{ℕ, suc, ℤ, pos, negsuc, ◌≡◌, ◌+◌, ◌*◌, ◌<◌, ◌≤◌, ◌-ℤ◌, ◌+ℤ◌, ◌*ℤ◌, ◌<ℤ◌, ◌≤ℤ◌, unsigned_abs, ap, ◌∙◌, arith, ◌⊎◌, inl, inr}
 use Rattle.std.proofs.Math.IntN.{neg_ℤ, negsuc-*ℤ-pos}
 use Rattle.std.proofs.lemmas.Int.{ints}
@@ -39,7 +39,7 @@ zero_times q = ap pos (none q)
     none : (q : ℕ) → 0 * q ≡ 0
     none q = omega arith
 
--- x and y are next to each other, a lies half way: the one that is further from zero is one of them
+-- x and y are adjacent and a is halfway: only one of them is further from zero than a
 clash : (x y a : ℤ) (q : ℕ) → 0 < q → (x +ℤ pos q) ≤ℤ y → 2 * unsigned_abs (x -ℤ a) ≤ q → 2 * unsigned_abs (y -ℤ a) ≤ q
     → (2 * unsigned_abs (x -ℤ a) ≡ q → unsigned_abs a < unsigned_abs x) → (2 * unsigned_abs (y -ℤ a) ≡ q → unsigned_abs a < unsigned_abs y) → (pos 0 ≤ℤ x) ⊎ ((x +ℤ pos q) ≤ℤ pos 0) → ⊥
 clash x y a q some next near_x near_y tie_x tie_y side =

@@ -2,7 +2,7 @@
 use Rattle.std.specs.Prelude.{ℕ, ◌+◌, ◌-◌, ◌*◌, ◌/◌, ◌^◌, ◌==◌, ◌||◌, ◌<◌, ◌≤◌, ◌⊎◌, nat_lt, nat_le, if◌then◌else◌, Bool, false, Option, Some, None}
 use Rattle.std.specs.Option.{IsSomeAnd}
 
--- the least time of a lock in milliseconds, and the time that is not reached; None is unknown
+-- the least lock time in milliseconds, and the excluded upper bound; `None` is unknown
 pub record LockTime : Type 0 where
   pub least : Option ℕ
   pub upper : Option ℕ
@@ -11,22 +11,22 @@ pub record LockTime : Type 0 where
 abbrev pub last4 : ℕ
 last4 = 15
 
--- the last indicator of MSM7 (DF407) that has a time: those above it are an unknown lock
+-- the last indicator of MSM7 (DF407) that has a time; from 705 on the lock is unknown
 abbrev pub last7 : ℕ
 last7 = 704
 
--- the least time of an indicator of MSM4: 0, and from 1 on twice the one before, from 32
+-- the least time of an indicator of MSM4: 0 for 0, 32 for 1, and twice the one before from 2 on
 abbrev pub least4 : ℕ → ℕ
 least4 i = if i == 0 then 0 else 2 ^ (i + 4)
 
--- the upper time is the next indicator's least; the last one has none
+-- the upper bound is the least time of the next indicator; the last one has none
 abbrev pub times4 : ℕ → LockTime
 times4 i = record {
   least = Some (least4 i);
   upper = if i == last4 then None else Some (least4 (i + 1));
 }
 
--- how often the least time's unit has doubled at an indicator of MSM7
+-- the number of doublings of the unit of the least time at an indicator of MSM7
 abbrev pub doublings : ℕ → ℕ
 doublings i = i / 32 - 1
 
@@ -34,7 +34,7 @@ doublings i = i / 32 - 1
 abbrev pub least7 : ℕ → ℕ
 least7 i = (i - 32 * doublings i) * 2 ^ doublings i
 
--- the upper time is the next indicator's least; the last one has none, and none above it is known
+-- the upper bound is the least time of the next indicator; the last one has none, and those above it are unknown
 abbrev pub times7 : ℕ → LockTime
 times7 i =
     if nat_lt last7 i
@@ -44,8 +44,8 @@ times7 i =
       upper = if i == last7 then None else Some (least7 (i + 1));
     }
 
--- lock was lost between two times that are `elapsed` milliseconds apart: both lock times are known, and the later
--- one is less, or is known to be no more than the time between
+-- lock was lost between two times that are `elapsed` milliseconds apart: both locks are known, and the least time of
+-- the later one is below that of the earlier one, or its upper bound is at most the elapsed time
 abbrev pub IsLost : LockTime → LockTime → ℕ → Type 0
 IsLost earlier later elapsed =
     IsSomeAnd earlier.least (λ before. IsSomeAnd later.least (λ least.

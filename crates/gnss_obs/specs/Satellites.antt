@@ -8,7 +8,7 @@ pub record Satellite : Type 0 where
   pub system : System
   pub id : ℕ
 
--- how many satellites each system has
+-- the number of satellites of each system
 abbrev pub gps_satellites : ℕ
 gps_satellites = 32
 
@@ -19,15 +19,15 @@ abbrev pub satellites : System → ℕ
 satellites Gps = gps_satellites
 satellites Galileo = galileo_satellites
 
--- no system has more
+-- the largest number of satellites of a system
 abbrev pub most_satellites : ℕ
 most_satellites = galileo_satellites
 
--- they are numbered from 1
+-- the satellites of a system are numbered from 1
 abbrev pub IsSatellite : Satellite → Type 0
 IsSatellite s = (1 ≤ s.id) × (s.id ≤ satellites s.system)
 
--- the satellite of a number, if there is one
+-- the satellite with this number, if there is one
 abbrev pub satellite_of_id : System → ℕ → Option Satellite
 satellite_of_id system id =
     if nat_le 1 id && nat_le id (satellites system)

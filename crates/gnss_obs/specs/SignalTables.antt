@@ -1,7 +1,7 @@
 -- The signals of each system, by rising signal ID.
--- IDs: the positions in the signal mask, DF395 of RTCM 10403.3, counted from 1 at its most significant bit, by the standard's
--- tables of signal IDs of GPS and Galileo. Codes: the observation codes that RINEX 3.05 lists for each system, without the
--- letter of the kind of observation.
+-- IDs: the positions in the signal mask, DF395 of RTCM 10403.3, counted from 1 at its most significant bit, by the
+-- standard's tables of signal IDs of GPS and Galileo. Codes: the observation codes of RINEX 3.05 for each system,
+-- without the letter of the observation type.
 use Rattle.std.specs.Prelude.{ℕ, List, [], ◌∷◌, ◌-◌, ◌==◌, if◌then◌else◌, codes}
 use Rattle.gnss_obs.specs.declared.tables.ListedSignal.{ListedSignal}
 
@@ -17,7 +17,7 @@ abbrev pub band_of : List ℕ → ℕ
 band_of [] = 0
 band_of (digit ∷ rest) = digit - 48
 
--- the carrier of a band, 0 if there is none
+-- the carrier of a band in hertz, 0 if there is none
 abbrev pub carrier_of : List (ℕ × ℕ) → ℕ → ℕ
 carrier_of [] band = 0
 carrier_of (c ∷ others) band = if c.0 == band then c.1 else carrier_of others band

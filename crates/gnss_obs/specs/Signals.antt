@@ -12,7 +12,7 @@ abbrev pub table : System → List ListedSignal
 table Gps = gps_signals
 table Galileo = galileo_signals
 
--- how many signals each table has
+-- the number of signals in each table
 abbrev pub gps_signal_count : ℕ
 gps_signal_count = 15
 
@@ -23,7 +23,7 @@ abbrev pub signal_count : System → ℕ
 signal_count Gps = gps_signal_count
 signal_count Galileo = galileo_signal_count
 
--- no table has more
+-- the largest number of signals in a table
 abbrev pub most_signals : ℕ
 most_signals = galileo_signal_count
 
@@ -32,7 +32,7 @@ pub record SignalAt : Type 0 where
   pub system : System
   pub index : ℕ
 
--- the index is one of the table's
+-- the index is in the table
 abbrev pub IsSignal : SignalAt → Type 0
 IsSignal s = s.index < length (table s.system)
 
@@ -51,11 +51,11 @@ signal_at system index =
 abbrev pub signal_where : System → (ListedSignal → Bool) → Option SignalAt
 signal_where system test = option_map (λ i. record { system = system; index = i }) (position test (table system))
 
--- the signal of an ID
+-- the signal with this ID, if there is one
 abbrev pub signal_of_id : System → ℕ → Option SignalAt
 signal_of_id system id = signal_where system (λ e. e.0 == id)
 
--- the signal of a code
+-- the signal with this code, if there is one
 abbrev pub signal_of_code : System → List ℕ → Option SignalAt
 signal_of_code system code = signal_where system (λ e. bytes_eq e.1 code)
 
@@ -71,11 +71,11 @@ id_of s = option_map_or (λ e. e.0) (slice_get (table s.system) s.index) 0
 abbrev pub code_of : SignalAt → List ℕ
 code_of s = option_map_or (λ e. e.1) (slice_get (table s.system) s.index) []
 
--- the carriers of a system
+-- the carriers of a system, in hertz
 abbrev pub carriers : System → List (ℕ × ℕ)
 carriers Gps = gps_carriers
 carriers Galileo = galileo_carriers
 
--- the carrier of a signal
+-- the carrier frequency of a signal, in hertz
 abbrev pub hertz_of : SignalAt → ℕ
 hertz_of s = carrier_of (carriers s.system) (band_of (code_of s))

@@ -26,7 +26,7 @@ impl Model for Lock {
     ghost inverse = { λ t. record { least = t.least; upper = t.upper } };
 }
 
-/// The least time of an indicator DF402, in milliseconds.
+/// Returns the least time of an indicator DF402 from 0 to 15, in milliseconds.
 fn least4(code: u8) -> u32
     requires { code ≤ last4 }
     ensures { result ≡ LockTimes.least4 code }
@@ -34,7 +34,7 @@ fn least4(code: u8) -> u32
     if code == 0 { 0 } else { 1 << (code + 4) }
 }
 
-/// The least time of an indicator DF407 from 0 to 704, in milliseconds.
+/// Returns the least time of an indicator DF407 from 0 to 704, in milliseconds.
 fn least7(code: u16) -> u32
     requires { code ≤ last7 }
     ensures { result ≡ LockTimes.least7 code }
@@ -88,8 +88,8 @@ impl Lock {
         self.least
     }
 
-    /// Returns the lock time in milliseconds that is not reached, or `None` if the lock is unknown
-    /// or has no upper time (DF402 15, DF407 704).
+    /// Returns the excluded upper bound of the lock time in milliseconds, or `None` if the lock is
+    /// unknown or has no upper bound (DF402 15, DF407 704).
     pub fn upper(self) -> Option<u32>
         ensures { result ≡ self.upper }
     {
@@ -108,7 +108,7 @@ pub fn is_lost(then: Lock, now: Lock, elapsed: u64) -> bool
     has_fallen(then.least, now.least, now.upper, elapsed)
 }
 
-/// The same, from the lock times that it depends on.
+/// Returns the same from the lock times that the result depends on, in milliseconds.
 fn has_fallen(before: Option<u32>, least: Option<u32>, upper: Option<u32>, elapsed: u64) -> bool
     ensures { result ≡ lost before least upper elapsed }
 {

@@ -42,8 +42,8 @@ pub fn phase(phase: Option<i64>, signal: Signal) -> Option<Thousandths>
 }
 
 /// Returns the Doppler shift in hertz from a phase range rate in units of 0.0001 m/s, the sum of
-/// DF399 and DF404 of RTCM 10403.3. It is positive if the rate is negative: the satellite comes
-/// nearer. `None` if there is no rate.
+/// DF399 and DF404 of RTCM 10403.3. It is positive if the rate is negative: the satellite
+/// approaches. `None` if there is no rate.
 pub fn doppler(rate: Option<i32>, signal: Signal) -> Option<Thousandths>
     requires { ForSome rate (λ v. unsigned_abs v ≤ 10 ^ 8) }
     ensures rounded { IsRounded (λ v. pos 0 -ℤ (v *ℤ pos (hertz_of signal))) (10 * light) rate result }

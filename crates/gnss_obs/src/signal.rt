@@ -24,7 +24,7 @@ impl Model for Signal {
     ghost inverse = { λ s. record { system = s.system; index = s.index } };
 }
 
-/// The table of a system.
+/// Returns the table of a system.
 fn entries(system: System) -> &'static [ListedSignal]
     ensures { result.now ≡ table system }
 {
@@ -34,7 +34,7 @@ fn entries(system: System) -> &'static [ListedSignal]
     }
 }
 
-/// For each signal ID of a system, its row in the table.
+/// Returns, for each signal ID of a system, its row in the table.
 fn rows(system: System) -> &'static [u8]
     ensures { result.now ≡ rows system }
 {
@@ -44,7 +44,7 @@ fn rows(system: System) -> &'static [u8]
     }
 }
 
-/// The row of a signal ID.
+/// Returns the row of a signal ID, or `None` if no signal has it.
 fn row_of_id(system: System, id: u8) -> Option<usize>
     ensures value { result ≡ position (λ e. e.0 == id) (table system) }
     ensures below { IfSome result (λ i. i < length (table system)) }
@@ -57,7 +57,7 @@ fn row_of_id(system: System, id: u8) -> Option<usize>
     }
 }
 
-/// The row of a code.
+/// Returns the row of a code, or `None` if no signal has it.
 fn row_of_code(entries: &[ListedSignal], code: &[u8]) -> Option<usize>
     ensures value { result ≡ position (λ e. bytes_eq e.1 code.now) entries.now }
     ensures below { IfSome result (λ i. i < length entries.now) }
@@ -66,8 +66,8 @@ fn row_of_code(entries: &[ListedSignal], code: &[u8]) -> Option<usize>
 }
 
 impl Signal {
-    /// Returns the signal with this signal ID, the position in the signal mask DF395 of RTCM 10403.3
-    /// counted from 1, or `None` if the system has none.
+    /// Returns the signal with this signal ID, the position in the signal mask DF395 of RTCM
+    /// 10403.3 counted from 1, or `None` if the system has none.
     pub fn from_id(system: System, id: u8) -> Option<Signal>
         ensures { result ≡ signal_of_id system id }
     {
@@ -117,8 +117,8 @@ impl Signal {
         self.system
     }
 
-    /// Returns the index in the table of the system, from 0, by rising signal ID: GPS `1C` 0 to `1X`
-    /// 14, Galileo `1C` 0 to `5X` 18.
+    /// Returns the index in the table of the system, from 0, by rising signal ID: GPS `1C` 0 to
+    /// `1X` 14, Galileo `1C` 0 to `5X` 18.
     pub fn index(self) -> usize
         ensures value { result ≡ self.index }
         ensures listed { IsSignal self }

@@ -17,7 +17,7 @@ impl Model for Thousandths {
 }
 
 impl Thousandths {
-    /// Returns the value of this number of thousandths.
+    /// Returns the value with this number of thousandths.
     pub fn new(value: i64) -> Thousandths
         ensures { result ≡ value }
     {

@@ -42,7 +42,7 @@ unwanted s rows none =
     no_subcommand_wanted (s.arg_required_else_help && not (list_any (λ r. explicit_source r.source) rows)) s.subcommand_required
     (not (s.subcommand_negates_reqs && false) && list_any (λ a. a.required && not (is_given a.id rows)) s.rules) none
 
--- a level that wants a subcommand has one
+-- a level that requires a subcommand has one
 enters_wanted : (s : Shape) (names : Names) (h : Held) (words : List Text) (has : Bool) (below : Kinds) → s.subcommand_required ≡ true
     → level_fault s names h words has below ≡ [] → has ≡ true
 enters_wanted s names h words true below wanted none = refl
@@ -124,13 +124,13 @@ met_name s names w word false (Some name) p free none fault stops =
     subst (λ (b : Bool). (if bytes_eq name (codes "help") && not b then kind.DisplayHelp ∷ kind.InvalidSubcommand ∷ [] else []) ≡ []) free fault in
     subst (λ (n : Text). bytes_eq n (codes "help") ≡ false) same (isnt_help (bytes_eq name (codes "help")) _ quiet (λ e. cc))
 
--- the faults of a word, where a walk stopped or didn't
+-- the faults of a word, by whether a walk has stopped
 TurnFault : (s : Shape) (names : Names) (w : Walk) (word : Text) (stopped : Option (Text × List Text)) → Kinds
 TurnFault s names w word stopped =
     let met = word_met s.rules names w.is_trailing w.waiting w.position word w.held in
     if is_some stopped then [] else or_else (word_fault s names w.is_trailing w.waiting word w.held) (step_fault s w.position met.0 met.1)
 
--- one word more
+-- one more word
 turn_name : (s : Shape) (names : Names) (w : Walk) (word : Text) (p : Text × List Text) → s.disable_help_subcommand ≡ false → w.stopped ≡ None
     → turn_fault s names w word ≡ [] → (walked s.rules names w word).stopped ≡ Some p → bytes_eq p.0 (codes "help") ≡ false
 unfolding walked TurnFault
@@ -148,7 +148,7 @@ kept_name s names (word ∷ rest) w q p at stops =
     kept_name s names rest (walked s.rules names w word) (q.0, q.1 ++ word ∷ []) p
     (ap (λ (o : Option (Text × List Text)). (walked_from s.rules names o w word).stopped) at) stops
 
--- of one more word, where the rest is known
+-- the name after one more word, if the rest is known
 word_name : (s : Shape) (names : Names) (w : Walk) (word : Text) (rest : List Text) (p : Text × List Text) (o : Option (Text × List Text)) → s.disable_help_subcommand ≡ false
     → w.stopped ≡ None → turn_fault s names w word ≡ [] → (walked s.rules names w word).stopped ≡ o
     → ((walked s.rules names w word).stopped ≡ None → bytes_eq p.0 (codes "help") ≡ false)
@@ -182,7 +182,7 @@ found_each P f (x ∷ rest) s all e = by (f x) refl e (λ (i : find f rest ≡ S
   by true t e later = subst P (ap (λ (o : Option Shape). option_map_or (λ y. y) o x) e) (all.0 t)
   by false t e later = later e
 
--- the subcommand of this name, if it is one of these
+-- P holds for the subcommand of this name, if it is one of these
 Answers : (Text → Type 0) → Text → List Shape → Type 0
 Answers P name subs = Each (λ s. answers_to name (label_of s) ≡ true → P s.name) subs
 
@@ -198,7 +198,7 @@ entered_name : (P : Text → Type 0) (a : App) (stop : Option (Text × List Text
 entered_name P a None all some = cc
 entered_name P a (Some p) all some = found_name P a.subs p (find (λ s. answers_to p.0 (label_of s)) a.subs) refl (all p refl) some
 
--- of a command that wants a subcommand
+-- the name of the subcommand of a command that requires one
 name_asked : (P : Text → Type 0) (a : App) (words : List Text) → (built a).top.subcommand_required ≡ true → (built a).top.disable_help_subcommand ≡ false
     → ((name : Text) → bytes_eq name (codes "help") ≡ false → Answers P name (built a).subs) → fault_of a words ≡ []
     → (name : Text) × (options : List Row) × P name × (subcommand_of a words ≡ Some (name, options))
@@ -237,7 +237,7 @@ command_asked a words (names, rules, is) none =
     subst (λ (x : App). fault_of x words ≡ [] → (name : Text) × (options : List Row) × IsCommand name × (subcommand_of x words ≡ Some (name, options))) (sym is)
     (name_asked IsCommand (program names) words refl refl (of_each names)) none
 
--- what a parse finds in words is a command that they ask for
+-- a parse finds the command that the words ask for
 pub found_command : (a : App) (words : List Text) (r : Result ArgMatches Error) → IsProgram a → is_simple_and_free a ≡ true → FailsBy (fault_of a words) r
     → IfOk r (HasMatchesOf a words) → IfOk r (IsFoundIn words)
 found_command a words (Err e) is read fails found = tt

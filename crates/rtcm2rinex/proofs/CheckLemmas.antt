@@ -1,4 +1,4 @@
--- How a check of a file ends.
+-- The end of a check of a file.
 use Rattle.std.proofs.Common.{◌≡◌, refl, sym, subst, ℕ, List, Option, Some, None, Result, Ok, Err, IfSome}
 use Rattle.rtcm_bits.specs.Device.{Device, HasFailed}
 use Rattle.rinex_file.specs.Exact.{IsNoFault}
@@ -16,7 +16,7 @@ use Rattle.rtcm2rinex.specs.Devices.{Ends, ReadFailures}
 use Rattle.rtcm2rinex.specs.Printing.{EndsPrinting}
 use Rattle.rtcm2rinex.specs.Checking.{check_line, ChecksFile, IsCheckedOr, StopsChecking}
 
--- what holds of known bytes
+-- a property of known bytes
 pub where_known : (P Q : List ℕ → Type 0) (r : Option (List ℕ)) → ((input : List ℕ) → P input → Q input) → IfSome r P → IfSome r Q
 where_known P Q None step h = tt
 where_known P Q (Some input) step h = step input h
@@ -43,7 +43,7 @@ read_failures (BadSatellite k) before after failed same = same (λ e. cc)
 read_failures (CutShort k) before after failed same = same (λ e. cc)
 read_failures TooLong before after failed same = same (λ e. cc)
 
--- the line that was made is that of the file
+-- the line built is that of the file
 pub line_of : (line : List ℕ) (counts : Counts) (v : FileValue) → ((f : FileValue) → AreCounts counts f → line ≡ check_line f) → AreCounts counts v → line ≡ check_line v
 line_of line counts v shows are = shows v are
 
@@ -56,7 +56,7 @@ checked left held r r2 w w2 (Err fault) v is text same p =
     subst (λ (f : ToolFault). Ends (Err f) r r2 w w2 (λ (u : ⊤). ChecksFile (left r.inner) (held w.inner) (held w2.inner)) (StopsChecking left r r2 held w w2)) (sym p.0)
     ((same, p.1.0), (v, is, text, p.1.1))
 
--- the same of each file value that was read
+-- the same for each file value that was read
 pub checked_or : {W : Type 0} (held : W → Option (List ℕ)) (w w2 : Device W) (ended : Result ⊤ ToolFault) (v : FileValue) → EndsPrinting ended held w w2 (check_line v)
     → IsCheckedOr v ended (held w.inner) (held w2.inner)
 checked_or held w w2 (Ok u) v p = p.2

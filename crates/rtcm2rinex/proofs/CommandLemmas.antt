@@ -1,4 +1,4 @@
--- What the exit status says.
+-- The meaning of the exit status.
 use Rattle.std.proofs.Common.{◌≡◌, ◌∙◌, inl, inr, sym, subst, codes, ap, ap₂, option_map, ℕ, List, Option, Some, None, Result, Ok, Err, arith}
 use Rattle.std.specs.Prelude.{⊤, ◌≢◌}
 use Rattle.std.specs.Box.{box_value}
@@ -45,7 +45,7 @@ never_zero (faults.Convert f) e = one_zero e
 never_zero (faults.Check f) e = one_zero e
 never_zero faults.NoSignal e = one_zero e
 
--- a command ended so, in other words
+-- the end of a command in other terms
 pub ends_so : {A R W : Type 0} (ended : Result A ToolFault) (r r2 : Device R) (w w2 : Device W) (P Q : A → Type 0) (S T : ToolFault → Type 0)
     → ((x : A) → P x → Q x) → ((fault : ToolFault) → S fault → T fault) → Ends ended r r2 w w2 P S → Ends ended r r2 w w2 Q T
 ends_so (Ok x) r r2 w w2 P Q S T done stopped h = (h.0, done x h.1)
@@ -67,7 +67,7 @@ pub found_rows : (m : ArgMatches) (n : Text) (o : List Row) → Some n ≡ subco
     → subcommand_rows_of m ≡ Some (n, o)
 found_rows m n o e f = sub_found (out-ArgMatches m).subcommand n o e f
 
--- the same command by two finds
+-- a command that was found twice is the same
 asked : (words : List Text) (found : Option (Text × List Row)) (n n2 : Text) (o o2 : List Row) → found ≡ Some (n, o) → found ≡ Some (n2, o2) → Asks words n o → Asks words n2 o2
 asked words found n n2 o o2 p q a = (a.0, a.1, a.2, a.3 ∙ sym p ∙ q)
 
@@ -88,7 +88,7 @@ module _ {R W : Type 0} (left : R → Option (List ℕ)) (held : W → Option (L
   answered_in_part e refused (inl same) unread = inr (inr (unread, same))
   answered_in_part e refused (inr part) unread = inr (inl (is_version words e refused part.0, unread, part.1))
 
--- a command at status 2 is a conversion that is refused before anything is read
+-- a command with status 2 is a conversion that is refused before anything is read
 abbrev IsRefusedBy : {R W : Type 0} → (r r2 : Device R) → (w w2 : Device W) → Text → List Row → ToolFault → Type 0
 IsRefusedBy r r2 w w2 name options fault = (name ≡ codes "convert") × IsSetupRefused options fault × IsUntouched r r2 w w2
 

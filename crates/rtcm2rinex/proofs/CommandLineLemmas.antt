@@ -1,4 +1,4 @@
--- What a command is once an option or a command is added.
+-- A command after an option or a command is added.
 use Rattle.std.proofs.Common.{◌≡◌, ◌+◌, ◌<◌, ◌&&◌, ◌∷◌, [], ℕ, Bool, Result, Ok, Err, IfOk, IfErr, List, Option, Some, true, false, not, is_some, length, map, take, get_or, inl, inr, refl, sym, subst, ap, ap₂, ◌∙◌}
 use Rattle.std.proofs.lemmas.List.{map_more}
 use Rattle.std.proofs.lemmas.List.Sums.{fold-append}
@@ -20,7 +20,7 @@ use Rattle.clap.specs.declared.builder.arg.Arg.{Arg}
 use Rattle.clap.specs.declared.builder.command.Command.{Command}
 use Rattle.clap.specs.declared.builder.command.Command.TheViews.{out-Command}
 
--- where it was made, a command is read so
+-- if the command was made, its definition is this one
 abbrev pub Reads : {E : Type 0} → Result Command E → App → Type 0
 Reads command app = IfOk command (λ c. app_of c ≡ app)
 
@@ -40,7 +40,7 @@ tenth : (a b c d e f g h i j : Bool) → (a && (b && (c && (d && (e && (f && (g 
 tenth a b c d e f g h i j s =
     second i j (second h _ (second g _ (second f _ (second e _ (second d _ (second c _ (second b _ (second a _ s))))))))
 
--- an option that clap's definitions read is of its command alone
+-- an option that clap's definitions read belongs to its command alone
 local : (a : Arg) (r : Rule) → rule_of a ≡ r → r.is_simple ≡ true → a.global ≡ false
 local a r is simple = isnt a.global (tenth (is_empty a.overrides.items) (is_empty a.default_vals_ifs.items) (is_empty a.groups.items)
     (not (is_some a.val_delim)) (not (is_some a.terminator)) (not a.allow_hyphen_values) (not a.allow_negative_numbers)
@@ -52,12 +52,12 @@ has_local c a is plain =
     isnt f.has_globals (first_half (not f.has_globals) _ (second (not f.allow_external_subcommands) _
     (second (is_empty f.groups.items) _ (ap (λ (x : App). x.top.is_plain) is ∙ plain))))
 
--- help says nothing to the words
+-- help texts don't change how words are read
 pub described : (c d e : Command) (a : App) (t u : Option (Bor Text)) → out-Command d ≡ record (out-Command c) { about = t }
     → out-Command e ≡ record (out-Command d) { after_help = u } → app_of c ≡ a → app_of e ≡ a
 described c d e a t u about after was = ap app_of_fields after ∙ ap app_of_fields about ∙ was
 
--- a command with a version, that wants a subcommand
+-- a command with a version that requires a subcommand
 pub versioned : (c d e : Command) (a : App) (t : Bor Text) → out-Command d ≡ record (out-Command c) { version = Some t }
     → out-Command e ≡ record (out-Command d) { subcommand_required = true } → app_of c ≡ a
     → app_of e ≡ on_top (λ s. record s { subcommand_required = true; has_version = true }) a
@@ -65,7 +65,7 @@ versioned c d e a t version wants was =
     ap app_of_fields wants ∙ ap (λ f. app_of_fields (record f { subcommand_required = true })) version
     ∙ ap (on_top (λ s. record s { subcommand_required = true; has_version = true })) was
 
--- one option more
+-- one more option
 pub with_option : {E : Type 0} (old new : Result Command E) (app : App) (r : Rule) → AddsOption old r new → Reads old app → r.is_simple ≡ true
     → Reads new (with_rule app r)
 with_option old (Err e) app r added was simple = tt
@@ -81,7 +81,7 @@ simple name Week = refl
 simple name Station = refl
 simple name Bytes = refl
 
--- a reading that is known
+-- an option whose reading is known
 pub read_as_given : (reading known : Reading) (a b : Rule) → reading ≡ known → b ≡ read_so known a → b ≡ read_so reading a
 read_as_given reading known a b is so = so ∙ ap (λ (r : Reading). read_so r a) (sym is)
 
@@ -89,16 +89,16 @@ read_as_given reading known a b is so = so ∙ ap (λ (r : Reading). read_so r a
 pub simple_given : (row : OptionRow) → (option_set row).is_simple ≡ true
 simple_given row = simple row.name.now row.reading
 
--- the options of a command say nothing of the command itself
+-- the options of a command don't change the command itself
 pub plain : (a : App) (rs : List Rule) → (with_options a rs).top.is_plain ≡ a.top.is_plain
 plain a [] = refl
 plain a (r ∷ rs) = plain (with_rule a r) rs
 
--- nor does the command of a row say more of itself than its name
+-- the command of a row has only a name
 pub plain_given : (row : CommandRow) → (command_set row).top.is_plain ≡ true
 plain_given row = plain (new_app row.name.now) (map option_set row.options.now)
 
--- one command more, of which this much is known
+-- one more command with these properties
 pub with_command : {E : Type 0} (old sub new : Result Command E) (P Q R : App → Type 0) → AddsCommand old sub new → IfOk old (λ c. P (app_of c)) → IfOk sub (λ c. Q (app_of c))
     → ((a below : App) → P a → Q below → (below.top.is_plain ≡ true) × R (with_subcommand a below.top)) → IfOk new (λ c. R (app_of c))
 with_command old sub (Err e) P Q R added was is so = tt
@@ -108,7 +108,7 @@ with_command old sub (Ok new) P Q R (command, below, same, so_below, added) was 
     let both = so (app_of command) (app_of below) p q in
     subst R (sym (added.shape (has_local below (app_of below) refl both.0))) both.1
 
--- one command more, that is known whole
+-- one more command whose definition is known
 pub with_known : {E : Type 0} (old sub new : Result Command E) (app below : App) → AddsCommand old sub new → Reads old app → Reads sub below → below.top.is_plain ≡ true
     → Reads new (with_subcommand app below.top)
 with_known old sub new app below added was is plain =
@@ -123,7 +123,7 @@ is_read names = refl
 pub is_simple_read : (a : App) → is_simple_and_free a ≡ true → is_simple a ≡ true
 is_simple_read a read = first_half (is_simple a) (is_free_app (built a)) read
 
--- why a parse failed, where clap's definitions read the words
+-- the reason why a parse failed, if clap's definitions read the words
 pub why : {T : Type 0} (kinds : Kinds) (r : Result T Error) → FailsBy kinds r → IfErr r (HasKind kinds)
 why kinds (Ok x) h = tt
 why kinds (Err e) h = h
@@ -131,27 +131,27 @@ why kinds (Err e) h = h
 abbrev nothing : Bor (List ℕ)
 nothing = record { ref_ptr = (0, 0); now = [] }
 
--- what stands after the last row
+-- the row after the last one
 abbrev pub no_option : OptionRow
 no_option = record { name = nothing; value = nothing; help = nothing; reading = Given }
 
 abbrev pub no_command : CommandRow
 no_command = record { name = nothing; help = record { about = nothing; examples = nothing }; options = record { ref_ptr = (0, 0); now = [] } }
 
--- one option of the rows more
+-- one more option of the rows
 pub one_option_more : (a : App) (rows : List OptionRow) (n : ℕ) (d : OptionRow) → n < length rows
     → with_rule (with_options a (map option_set (take n rows))) (option_set (get_or rows n d)) ≡ with_options a (map option_set (take (n + 1) rows))
 one_option_more a rows n d lt =
     sym (ap (with_options a) (map_more option_set rows n d lt) ∙ fold-append with_rule a (map option_set (take n rows)) (option_set (get_or rows n d) ∷ []))
 
--- one command of the rows more
+-- one more command of the rows
 pub one_command_more : (a : App) (rows : List CommandRow) (n : ℕ) (d : CommandRow) → n < length rows
     → with_subcommand (with_commands a (map command_set (take n rows))) (command_set (get_or rows n d)).top
     ≡ with_commands a (map command_set (take (n + 1) rows))
 one_command_more a rows n d lt =
     sym (ap (with_commands a) (map_more command_set rows n d lt) ∙ fold-append _ a (map command_set (take n rows)) (command_set (get_or rows n d) ∷ []))
 
--- an answer to the words by the version's text is what they ask for
+-- if the error is the version's text, the words ask for the version
 pub is_version : (words : List Text) (e : Error) → RefusesWords words e → kind_of e ≡ kind.DisplayVersion → IsAnswered words kind.DisplayVersion
 is_version words e (inl memory) version =
     let bad : kind.OutOfMemory ≡ kind.DisplayVersion = sym memory ∙ version in

@@ -1,4 +1,4 @@
--- How a fault stops a conversion.
+-- A conversion that is stopped by a fault.
 use Rattle.std.proofs.Common.{◌≡◌, ◌∙◌, ap, sym, subst, refl, ℕ, ℤ, List, Option, Some, None, Result, Ok, Err, IsErrOf, IfSome, inl, inr}
 use Rattle.std.specs.Prelude.{◌≢◌, ◌↔◌, ◌⊎◌}
 use Rattle.rtcm_bits.specs.Device.{Device}
@@ -65,7 +65,7 @@ given_bad fault e Bad is bad = (
   λ b. ap (λ (f : ToolFault). Err f) is ∙ bad_back fault (bad.1 b),
 )
 
--- ---- what options give
+-- ---- the values of options
 
 err_of : Result StationValues ToolFault → ToolFault
 err_of (Ok v) = faults.BadPosition
@@ -85,7 +85,7 @@ module _ {R W : Type 0} (left : R → Option (List ℕ)) (held : W → Option (L
   by_two e (inl is) h = subst Refuses (sym is) ((refl, refl), inl (h ∙ ap (λ (f : ToolFault). Err f) is, (refl, refl)))
   by_two e (inr is) h = subst Refuses (sym is) ((refl, refl), inl (h ∙ ap (λ (f : ToolFault). Err f) is, (refl, refl)))
 
-  -- a position or a height that is none
+  -- a position or a height that is invalid
   pub values_refused : (e : ToolFault) → values_by_message options ≡ Err e → Refuses e
   values_refused e h = by_two e (only_two _ _ e h) h
 

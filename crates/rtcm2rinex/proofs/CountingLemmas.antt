@@ -24,7 +24,7 @@ use Rattle.rtcm_msg.specs.declared.station.StationParts.{StationParts}
 use Rattle.std.specs.Option.{option_or}
 use Rattle.rtcm2rinex.specs.declared.survey.Survey.{Survey}
 
--- the first station message of one frame more
+-- the first station message of one more frame
 or_more : (a b c : Option StationParts) → option_or a (option_or b c) ≡ option_or (option_or a b) c
 or_more None b c = refl
 or_more (Some x) b c = refl
@@ -49,7 +49,7 @@ none_surveyed c wanted signal_counts none = record {
 pub new_survey : (c : Survey) → Counts c tt [] c tt []
 new_survey c = record { same = refl; surveys = λ few begun. begun }
 
--- one frame more was surveyed
+-- one more frame was surveyed
 pub one_more_surveyed : (c0 c c2 : Survey) (ps fs : List Framed) (f : Framed) → c2.station ≡ c.station
     → ((gs : List Framed) → length gs < 2 ^ 56 → IsCounted c.signal_counts c.station gs → IsCounted c2.signal_counts c.station (gs ++ f ∷ []))
     → c2.first ≡ option_or c.first (station_of c.station f) → (IfSome c.first InRange → IfSome c2.first InRange)
@@ -97,7 +97,7 @@ module _ (v v2 : FramerValue) (c c2 : Survey) (r r2 : Option (List ℕ)) (new : 
   pub counter_fails : {n : ℕ} → BreaksReading Counts NeverFails v c tt c2 tt n r r2 → ⊥
   counter_fails p = (p.breaks c tt [] [] new).broken
 
--- how a fault stops it
+-- the survey was stopped by a fault
 pub counting_stopped : {R F : Type 0} (left : R → Option (List ℕ)) (v v2 : FramerValue) (c c2 : Survey) (rd rd2 : Device R) (n limit : ℕ) (fault : StreamFault F) → v.limit ≡ limit → v.taken ≡ 0
     → HasPassedAll Counts v c tt [] c tt []
     → AtFault fault (Reads (left rd.inner) (left rd2.inner) (Passes Counts v c tt v2 c2 tt)) (Reads (left rd.inner) (left rd2.inner) (PassesToLimit Counts v c tt v2 c2 tt))
@@ -112,7 +112,7 @@ counted_reads stream.Read before after h = h
 counted_reads stream.TooLong before after h = h
 counted_reads (stream.Sink fault) before after h = h
 
--- a fault of counting is one of the command, at which nothing was written
+-- a fault of the counting is one of the command, and nothing was written
 pub survey_stopped : {R W : Type 0} (left : R → Option (List ℕ)) (held : W → Option (List ℕ)) (text : SurveyText) (wanted : Option ℕ) (r r2 : Device R) (w : Device W) (fault : ToolFault)
     → ReadFailures fault r.failures r2.failures → StopsCounting (2 ^ 48) left r r2 fault → HaveFailedBy fault r r2 w w × StopsSurvey text wanted left r r2 held w w fault
 survey_stopped left held text wanted r r2 w faults.Read reads stops = ((reads, refl), refl)

@@ -1,4 +1,4 @@
--- Lines that are made word by word.
+-- Lines that are built word by word.
 use Rattle.std.proofs.Common.{◌≡◌, ℕ, List, [], ◌∷◌, ◌++◌, ◌∙◌, ap, refl, append_assoc}
 use Rattle.std.specs.List.{join_with_byte}
 use Rattle.rtcm2rinex.specs.Lines.{line, with_words}
@@ -11,7 +11,7 @@ words_joined : (x : List ℕ) (ws : List (List ℕ)) → with_words x ws ≡ joi
 words_joined x [] = refl
 words_joined x (w ∷ ws) = words_joined (x ++ 0x20 ∷ w) ws ∙ joined x w ws
 
--- one word more
+-- one more word
 pub add_word : {old new text word same : List ℕ} → new ≡ old ++ 0x20 ∷ word → old ≡ text → word ≡ same → new ≡ text ++ 0x20 ∷ same
 add_word {old} {new} {text} {word} {same} e f g = e ∙ ap (λ (l : List ℕ). l ++ 0x20 ∷ word) f ∙ ap (λ (l : List ℕ). text ++ 0x20 ∷ l) g
 
@@ -19,7 +19,7 @@ add_word {old} {new} {text} {word} {same} e f g = e ∙ ap (λ (l : List ℕ). l
 pub end_line : (first : List ℕ) (words : List (List ℕ)) {text all : List ℕ} → all ≡ text ++ 0x0A ∷ [] → text ≡ with_words first words → all ≡ line (first ∷ words)
 end_line first words {text} {all} e f = e ∙ ap (λ (l : List ℕ). l ++ 0x0A ∷ []) (f ∙ words_joined first words)
 
--- one text more
+-- one more text
 pub add_text : {old new text part same : List ℕ} → new ≡ old ++ part → old ≡ text → part ≡ same → new ≡ text ++ same
 add_text {old} {new} {text} {part} {same} e f g = e ∙ ap (λ (l : List ℕ). l ++ part) f ∙ ap (λ (l : List ℕ). text ++ l) g
 

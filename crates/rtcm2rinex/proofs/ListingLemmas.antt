@@ -16,7 +16,7 @@ use Rattle.rtcm_scan.specs.Scan.{FramerValue}
 use Rattle.rtcm2rinex.specs.declared.listing.Listing.{Listing}
 use Rattle.rtcm2rinex.specs.Listing.{Lists, ListsAll, ListsDecided, StopsListing, ListsPart, ListsToLimit, ListsUpTo, listing_line, listing_lines}
 
--- the lines of one frame more
+-- the lines of one more frame
 lines_more : (k : Listing) (fs : List Framed) (f : Framed) → listing_lines k (fs ++ f ∷ []) ≡ listing_lines k fs ++ listing_line k f
 lines_more k [] f = append-nil (listing_line k f)
 lines_more k (g ∷ fs) f = ap (λ (l : List ℕ). listing_line k g ++ l) (lines_more k fs f) ∙ sym (append_assoc (listing_line k g) (listing_lines k fs) (listing_line k f))
@@ -25,7 +25,7 @@ lines_join : (k : Listing) (fs gs : List Framed) → listing_lines k (fs ++ gs) 
 lines_join k [] gs = refl
 lines_join k (f ∷ fs) gs = ap (λ (l : List ℕ). listing_line k f ++ l) (lines_join k fs gs) ∙ sym (append_assoc (listing_line k f) (listing_lines k fs) (listing_lines k gs))
 
--- the lines of the first frames come first
+-- the lines of a prefix of the frames are a prefix of the lines
 first_lines : (k : Listing) (fs gs : List Framed) → IsPrefix fs gs → IsPrefix (listing_lines k fs) (listing_lines k gs)
 first_lines k fs gs p = (listing_lines k p.0, ap (listing_lines k) p.1 ∙ lines_join k fs p.0)
 
@@ -48,7 +48,7 @@ module _ {W : Type 0} (held : W → Option (List ℕ)) (k0 : Listing) (o0 : Devi
         fine = fine ∙ s.fine;
       }
 
-  -- a prefix of it was
+  -- a prefix of the line was written
   pub stopped_at_line : (k : Listing) (o o2 : Device W) (fs : List Framed) (f : Framed) → AppendsPrefix (held o.inner) (held o2.inner) (listing_line k f) → HasFailed o.failures o2.failures
       → Lists held k0 o0 ps k o fs → ListsUpTo held k0 o0 ps k o2 fs (fs ++ f ∷ [])
   stopped_at_line k o o2 fs f line failed s =
@@ -73,7 +73,7 @@ module _ {W : Type 0} (held : W → Option (List ℕ)) (k0 : Listing) (o0 : Devi
     fine = fine ∙ s.fine;
   }
 
-  -- it couldn't be
+  -- the writer couldn't be flushed
   pub unsent_listed : (k : Listing) (o o2 : Device W) (fs : List Framed) → Keeps (held o.inner) (held o2.inner) → HasFailed o.failures o2.failures → Lists held k0 o0 ps k o fs
       → ListsUpTo held k0 o0 ps k o2 fs fs
   unsent_listed k o o2 fs kept failed s = record {
@@ -144,7 +144,7 @@ module _ {W : Type 0} (held : W → Option (List ℕ)) (v v2 : FramerValue) (k k
         broke.broken.failed,
       )
 
--- how a fault stops it
+-- the listing was stopped by a fault
 pub listing_stopped : {R W F : Type 0} (left : R → Option (List ℕ)) (held : W → Option (List ℕ)) (v v2 : FramerValue) (k k2 : Listing) (o o2 : Device W) (rd rd2 : Device R)
     (n limit : ℕ) (fault : StreamFault F) → n ≡ 65536 → v.limit ≡ limit → v.taken ≡ 0 → v.has_ended ≡ false → HasPassedAll (Lists held) v k o [] k o []
     → AtFault fault (Reads (left rd.inner) (left rd2.inner) (Passes (Lists held) v k o v2 k2 o2)) (Reads (left rd.inner) (left rd2.inner) (PassesToLimit (Lists held) v k o v2 k2 o2))

@@ -1,4 +1,4 @@
--- What options tell.
+-- The values of options.
 use Rattle.std.proofs.Common.{◌≡◌, ◌∙◌, ℕ, List, [], Option, Some, None, Result, Bor, option_map, unwrap_or, refl, sym, ap, subst}
 use Rattle.std.specs.Str.Parse.{ParsesUnsigned}
 use Rattle.clap.specs.Matches.{ReadsOne, first_value, one_text}
@@ -7,14 +7,14 @@ use Rattle.clap.specs.declared.parser.matches.Found.{Found}
 use Rattle.clap.proofs.WalkLemmas.{first_value-rows, one_text-rows}
 use Rattle.rtcm2rinex.specs.SetupOptions.{IsNumberOf, text_set}
 
--- what a typed getter gives is the number that the text spells; P and Q say more of it
+-- a typed getter returns the number whose decimal form the text is; P and Q are further properties of the parse
 number_of : {E : Type 0} (P Q : List ℕ → Result ℕ E → Type 0) (bits : ℕ) (text : Option (List ℕ)) (n : Option ℕ) → (text ≡ None → n ≡ None)
     → ((t : List ℕ) → text ≡ Some t → ReadsOne {T = ℕ} {E = E} (λ bs r. ParsesUnsigned bits 10 bs r × P bs r × Q bs r) t n) → IsNumberOf bits text n
 number_of P Q bits (Some t) None none some = (some t refl).1.0
 number_of P Q bits None n none some = none refl
 number_of P Q bits (Some t) (Some n) none some = (some t refl).0
 
--- and so of the options as clap's definitions list them
+-- the same for the options as clap's definitions list them
 pub number_given : {E : Type 0} (P Q : List ℕ → Result ℕ E → Type 0) (bits : ℕ) (f : Found) (id : List ℕ) (n : Option ℕ)
     → (one_text f id ≡ None → n ≡ None)
     → ((t : List ℕ) → one_text f id ≡ Some t → ReadsOne {T = ℕ} {E = E} (λ bs r. ParsesUnsigned bits 10 bs r × P bs r × Q bs r) t n)
@@ -22,7 +22,7 @@ pub number_given : {E : Type 0} (P Q : List ℕ → Result ℕ E → Type 0) (bi
 number_given P Q bits f id n none some =
     subst (λ (t : Option (List ℕ)). IsNumberOf bits t n) (one_text-rows f id) (number_of P Q bits (one_text f id) n none some)
 
--- the text that an option has, where r is what was found of it
+-- the text of an option, if r is its first value found
 pub text_is : (f : Found) (id : List ℕ) (r o : Option (Bor (List ℕ))) → option_map (λ s. s.now) r ≡ first_value f id → r ≡ o
     → unwrap_or (option_map (λ s. s.now) o) [] ≡ text_set (rows_of f) id
 text_is f id r o is found =

@@ -1,4 +1,4 @@
--- The signals that a stream has make a plan that has a column for each of its values, and their line is read as that plan.
+-- The plan of the signals of a stream has a column for each of its values, and their line is parsed as that plan.
 use Rattle.std.proofs.Common.{◌≡◌, ℕ, zero, suc, ◌+◌, ◌<◌, ◌≤◌, ◌==◌, ◌&&◌, ◌||◌, Bool, true, false, not, List, [], ◌∷◌, ◌++◌, length, refl, sym, ap, ap₂, ◌∙◌, subst, arith, filter, map, All, Some, None, Result, Ok, Err, nat_eq, get_or, append-nil, append_assoc, is_some}
 use Rattle.std.specs.Prelude.{cond, nat_lt, nat_le, position}
 use Rattle.std.specs.List.{list_any, position_or_len}
@@ -18,9 +18,9 @@ use Rattle.obs_epoch.specs.SignalCounts.{is_of_signal, count_of, signal_in}
 use Rattle.rtcm2rinex.specs.Signals.{had, plan_had, code_list, codes_word}
 use Rattle.rtcm2rinex.proofs.SignalLemmas.{own_signal}
 
--- ---- rising places
+-- ---- rising indices
 
--- places from low on and below n, rising
+-- rising indices from low on and below n
 abbrev Climbs : ℕ → ℕ → List ℕ → Type 0
 Climbs low n [] = Unit {0}
 Climbs low n (i ∷ is) = (low ≤ i) × (i < n) × Climbs (i + 1) n is
@@ -45,7 +45,7 @@ filter-climbs p (suc n) = subst (Climbs 0 (suc n)) (sym (filter-append p (below 
 abbrev is_comma : ℕ → Bool
 is_comma b = b == 44
 
--- it begins with a digit, or a byte before it
+-- the text begins with a digit or a smaller byte
 abbrev starts_low : List ℕ → Bool
 starts_low [] = false
 starts_low (b ∷ bs) = nat_lt b 58
@@ -207,7 +207,7 @@ among_filter p (suc n) k within is =
     by true e more = ap (λ (b : Bool). list_any (λ i. i == k) (filter p (below n)) || b) (last e) ∙ or_true (list_any (λ i. i == k) (filter p (below n)))
     by false e more = or_left (list_any (λ i. i == k) (filter p (below n))) (list_any (λ i. i == k) (filter p (n ∷ []))) (more (less n k e within))
 
--- a signal that has cells is one of those that are there
+-- a signal that has cells is in the list of those that have
 own_among : (cells : List HeardCell) (g : SignalAt) → IsSignal g → 0 < count_of g cells → list_any (λ i. i == g.index) (had cells g.system) ≡ true
 own_among cells g listed some = among_filter (λ i. nat_lt 0 (count_of (signal_in g.system i) cells)) (length (table g.system)) g.index listed (positive (count_of g cells) some) where
   positive : (n : ℕ) → 0 < n → nat_lt 0 n ≡ true

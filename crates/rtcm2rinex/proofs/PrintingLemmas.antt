@@ -1,4 +1,4 @@
--- Texts that are written at once, and what a failed call says.
+-- Texts written in one call, and failed calls.
 use Rattle.std.proofs.Common.{◌≡◌, sym, subst, append-nil, ℕ, List, [], Option, Result, Ok, Err, OnErr}
 use Rattle.std.specs.Io.KnownBytes.{Appends, Keeps}
 use Rattle.std.proofs.KnownBytes.{Appends-kept}
@@ -14,10 +14,10 @@ pub both_err : {A E : Type 0} (r : Result A E) (P Q : Type 0) → OnErr r P → 
 both_err (Ok x) P Q p q = tt
 both_err (Err e) P Q p q = (p, q)
 
--- a text that was written and couldn't be flushed
+-- a text that was written but couldn't be flushed
 pub kept_front : (a b c : Option (List ℕ)) (text : List ℕ) → Appends a b text → Keeps b c → AppendsPrefix a c text
 kept_front a b c text h k = ([], (text, sym (append-nil text), Appends-kept a b c text h k))
 
--- the same text in other words
+-- the same text in other terms
 pub same_text : {A W : Type 0} (r : Result A ToolFault) (held : W → Option (List ℕ)) (w w2 : Device W) (x y : List ℕ) → x ≡ y → EndsPrinting r held w w2 x → EndsPrinting r held w w2 y
 same_text r held w w2 x y e h = subst (EndsPrinting r held w w2) e h

@@ -1,4 +1,4 @@
--- Messages, their encodings in frames, and what is read back.
+-- Messages, their encodings in frames, and the messages read back.
 use Rattle.std.proofs.Common.{◌≡◌, ◌∙◌, sym, ap, subst, refl, arith, ℕ, suc, zero, ◌+◌, ◌*◌, ◌/◌, ◌<◌, ◌≤◌, Bool, false, List, [], ◌∷◌, ◌++◌, length, take, drop, map, replicate, All, get_or, flat_map, length-append, length-take, length-drop, take-append-drop}
 use Rattle.rtcm_bits.specs.Bits.{bits_of, filled, missing, uint, number}
 use Rattle.rtcm_bits.specs.FrameOf.{frame_bytes}
@@ -31,7 +31,7 @@ length-filled bits = length-append bits (replicate (missing (length bits)) false
     length-zeros zero = refl
     length-zeros (suc n) = ap suc (length-zeros n)
 
--- an encoding fits a frame
+-- an encoding fits in a frame
 encoding_short : EightBits → FewBits → (bytes : List ℕ) (v : Message) → IsMessage v → IsEncoding bytes v → length bytes ≤ 1023
 encoding_short eight few bytes v is e =
     let bits : 8 * length bytes ≡ length (message_bits v 0) + missing (length (message_bits v 0)) = sym (eight bytes) ∙ ap length e ∙ length-filled (message_bits v 0) in
@@ -65,7 +65,7 @@ reads_back eight few back one frames joined es vs h =
     let are : AreFrames (flat_map frame_bytes es) (placed 0 es) = subst (λ (fs : List Framed). AreFrames (flat_map frame_bytes es) fs) (joined es (encodings_short eight few es vs h)) (frames (flat_map frame_bytes es)) in
     (are, messages_placed 0 es, read_as back one 0 es vs h)
 
--- bytes of 8 k bits
+-- the bytes of 8 k bits
 bytes_from : SpelledBack → (k : ℕ) (bits : List Bool) → length bits ≡ 8 * k → (bytes : List ℕ) × (bits_of bytes ≡ bits)
 unfolding bits_of
 bytes_from law zero [] h = ([], refl)

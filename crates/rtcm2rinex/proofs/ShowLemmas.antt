@@ -19,7 +19,7 @@ shown f r {bytes} e h = ap (read_line f) (sym (ap message_at e) ∙ h)
 pub shown_value : (f : Framed) (v m : Message) {bytes : List ℕ} → bytes ≡ f.message → message_at bytes ≡ Ok v → v ≡ m → show_line f ≡ read_line f (Ok m)
 shown_value f v m e h same = shown f (Ok m) e (h ∙ ap (λ (x : Message). Ok x) same)
 
--- the line of a multiple signal message, in whichever form
+-- the line of an MSM of either form
 pub shown_msm : (f : Framed) (m : FormedMsm) → read_line f (Ok (formed m)) ≡ msm_line f.offset (message_number m.form m.msm.is_galileo) m.msm
 shown_msm f m = by_form m.form m.msm
   where

@@ -1,4 +1,4 @@
--- The text of the signals that a stream has, signal by signal.
+-- The text of the signals of a stream, signal by signal.
 use Rattle.std.proofs.Common.{◌≡◌, ℕ, zero, suc, ◌+◌, ◌<◌, ◌≤◌, ◌==◌, ◌&&◌, ◌||◌, All, Result, Ok, OnOk, Bool, true, false, List, [], ◌∷◌, ◌++◌, length, get_or, refl, sym, ap, ap₂, ◌∙◌, subst, arith, filter, map, append-nil, append_assoc}
 use Rattle.std.proofs.lemmas.List.{map-append}
 use Rattle.std.specs.Prelude.{cond, nat_lt, codes}
@@ -18,7 +18,7 @@ use Rattle.obs_epoch.specs.Heard.{IsKey, HeardCell}
 below-more : (i : ℕ) → below (i + 1) ≡ below i ++ i ∷ []
 below-more i = let e : i + 1 ≡ suc i = omega arith in rw e refl
 
--- one signal more of the table: it is there where it has cells
+-- one more signal of the table: it is in the list if it has cells
 had_more : (c : SignalCountsValue) (cells : List HeardCell) (system : System) (i n : ℕ) → AreSignalCounts c cells → i < length (table system) → n ≡ counted c system i
     → had_below cells system (i + 1) ≡ had_below cells system i ++ cond (nat_lt 0 n) (i ∷ []) []
 had_more c cells system i n h within is =
@@ -42,7 +42,7 @@ had_none c cells system i n h within is none =
 
 -- ---- the codes of a system
 
--- after a start: nothing, or a blank and codes with commas between them
+-- after a start: nothing, or a blank and codes separated by commas
 abbrev pub IsPartly : (start text : List ℕ) (separator : ℕ) (system : System) → List ℕ → Type 0
 IsPartly start text separator system [] = (text ≡ start) × (separator ≡ 0x20)
 IsPartly start text separator system (i ∷ is) = (text ≡ start ++ 0x20 ∷ code_list system (i ∷ is)) × (separator ≡ 0x2C)
@@ -56,7 +56,7 @@ codes-push system i is j =
     ap (λ (l : List (List ℕ)). join_with_byte 0x2C (code_of (signal_in system i) ∷ l)) (map-append (λ i. code_of (signal_in system i)) is (j ∷ []))
     ∙ join-push (code_of (signal_in system i)) (map (λ i. code_of (signal_in system i)) is) (code_of (signal_in system j))
 
--- one code more
+-- one more code
 pub partly_more : (start text more code : List ℕ) (separator : ℕ) (system : System) (is : List ℕ) (j : ℕ) → IsPartly start text separator system is → more ≡ text ++ separator ∷ code
     → code ≡ code_of (signal_in system j) → IsPartly start more 0x2C system (is ++ j ∷ [])
 partly_more start text more code separator system [] j h e same =
@@ -67,7 +67,7 @@ partly_more start text more code separator system (i ∷ is) j h e same = (
   refl,
 )
 
--- with codes, or with the word that says that there are none
+-- the word with codes, or the word for none
 pub word_some : (start text : List ℕ) (separator : ℕ) (system : System) (is : List ℕ) → IsPartly start text separator system is → (separator ≡ 0x20 → ⊥) → text ≡ start ++ 0x20 ∷ codes_word system is
 word_some start text separator system [] h other = absurd (other h.1)
 word_some start text separator system (i ∷ is) h other = h.0
@@ -96,7 +96,7 @@ pub lines_none : (c : SignalCountsValue) (cells : List HeardCell) (system : Syst
 lines_none c cells system i n start text h within is none before =
     before ∙ ap (λ (l : List ℕ). start ++ flat_map (λ (i : ℕ). count_line (signal_in system i) (count_of (signal_in system i) cells)) l) (sym (had_none c cells system i n h within is none))
 
--- at the end of the table all its signals were gone through
+-- at the end of the table, all its signals were processed
 pub at_end : (system : System) (cells : List HeardCell) (i n : ℕ) → n ≡ length (table system) → i ≤ n → n ≤ i → had_below cells system i ≡ had cells system
 at_end system cells i n is within end = let e : i ≡ length (table system) = omega (arith, is, within, end) in ap (had_below cells system) e
 
@@ -121,7 +121,7 @@ any_none (x ∷ xs) h i = by (nat_lt 0 x) refl h (λ rest i. any_none xs rest i)
   by false t h more zero = grind (arith, t)
   by false t h more (suc i) = more h i
 
--- a cell of some signal is a cell
+-- if some signal has a cell, there is a cell
 pub some_cells : (c : SignalCountsValue) (cells : List HeardCell) → AreSignalCounts c cells → has_any c ≡ true → 0 < length cells
 some_cells c cells h any = by (list_any (λ n. nat_lt 0 n) c.gps) refl any where
   found : (system : System) (i : ℕ) → i < length (table system) → 0 < counted c system i → 0 < length cells
@@ -140,7 +140,7 @@ own_signal x = by x.signal.system where
   by Gps = same x.signal.index
   by Galileo = same x.signal.index
 
--- where there is none of any signal, there is no cell
+-- if no signal has a cell, there is no cell
 pub no_cells : (c : SignalCountsValue) (cells : List HeardCell) → AreSignalCounts c cells → All IsKey cells → has_any c ≡ false → cells ≡ []
 no_cells c [] h keys none = refl
 no_cells c (x ∷ xs) h keys none = by (list_any (λ n. nat_lt 0 n) c.gps) refl none where

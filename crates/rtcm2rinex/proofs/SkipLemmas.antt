@@ -1,4 +1,4 @@
--- What a conversion skips with the plan of a stream's signals.
+-- The cells that a conversion skips with the plan of a stream's signals.
 use Rattle.std.proofs.Common.{◌≡◌, ◌+◌, ◌≤◌, ◌==◌, Bool, true, false, not, ℕ, List, [], ◌∷◌, ◌++◌, filter, Option, Some, None, All, refl, subst, arith}
 use Rattle.std.specs.Prelude.{cond}
 use Rattle.std.specs.List.{count_by}
@@ -40,7 +40,7 @@ planned_kept : (p : Bool) (a b : ℕ) → p ≡ true → a ≤ b → one_unless 
 planned_kept true a b e h = omega (arith, h)
 planned_kept false a b e h = cc
 
--- if the cells with a value are planned, the others at most are skipped
+-- if the cells with a value are planned, at most the others are skipped
 few_skipped : (s : GatherSetup) (xs : List HeardCell) → ArePlanned s (filter brings_value xs) → count_by (λ x. not (is_planned s x)) xs ≤ count_by (λ x. not (brings_value x)) xs
 few_skipped s [] h = omega arith
 few_skipped s (x ∷ xs) h = rw (counted (is_planned s) x xs, counted brings_value x xs) (by (brings_value x) h (few_skipped s xs)) where
@@ -51,7 +51,7 @@ few_skipped s (x ∷ xs) h = rw (counted (is_planned s) x xs, counted brings_val
       planned_kept (is_planned s x) _ _ (All-head (λ x. is_planned s x ≡ true) x (filter brings_value xs) h) (more (All-tail (λ x. is_planned s x ≡ true) x (filter brings_value xs) h))
   by false h more = at_most (is_planned s x) _ _ (more h)
 
--- an own message is of the station
+-- a message that the gatherer accepts as its own is of the station
 own_counts : (wanted from : Option ℕ) → option_map_or (λ f. option_map_or (λ w. f == w) wanted true) from false ≡ true → option_map_or (λ w. option_map_or (λ f. f == w) from false) wanted true ≡ true
 own_counts None from h = refl
 own_counts (Some w) None h = h

@@ -8,7 +8,7 @@ use Rattle.rtcm_scan.specs.Known.{known_frames}
 use Rattle.rtcm_scan.specs.Passing.{Coming, HasPassedAll}
 use Rattle.rtcm_scan.specs.Scan.{FramerValue}
 
--- it passed on all frames of no bytes
+-- a new framer has passed on all frames of no bytes
 pub started : {S O : Type 0} (took : Coming S O) (v : FramerValue) (s : S) (o : O) → v.has_ended ≡ false → decided_frames [] ≡ [] → HasExamined v [] [] → IsDrained v [] []
     → IsCountedExactly v [] → took s o [] s o [] → HasPassedAll took v s o [] s o []
 started took v s o going empty examined drained counted same =

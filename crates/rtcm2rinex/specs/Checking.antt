@@ -1,4 +1,5 @@
--- What the command `check` writes. `r` and `w` are what the reader and the writer held before, and w' what the writer holds after.
+-- The output of the command `check`: r is what the reader has left before, w and w' are the bytes written before and
+-- after.
 use Rattle.std.specs.Prelude.{◌≡◌, ◌≤◌, ℕ, List, [], ◌∷◌, length, codes, decimal, Option, Result, Ok, Err, IfSome, ⊤}
 use Rattle.std.specs.List.{sum_by}
 use Rattle.std.specs.Io.KnownBytes.{Appends}
@@ -13,7 +14,7 @@ use Rattle.rtcm2rinex.specs.declared.fault.ToolFault.{ToolFault}
 use Rattle.rtcm2rinex.specs.declared.fault.ToolFault.TheVariants as faults
 use Rattle.rtcm2rinex.specs.Lines.{line}
 
--- how many epochs a file has, how many lines of satellites in all, and how many events
+-- the numbers of epochs, satellite lines and events of a file
 unfoldable pub check_line : FileValue → List ℕ
 check_line v = line (
     codes "epochs" ∷ decimal (length v.epochs)
@@ -21,7 +22,7 @@ check_line v = line (
     ∷ codes "events" ∷ decimal (events_in v.epochs)
     ∷ [])
 
--- the reader had the text of a file value, and of this one's counts so much was written
+-- the reader had the text of a file value, and Writes holds for the line of its counts
 abbrev pub IsFileWith : (List ℕ → Type 0) → Option (List ℕ) → Type 0
 IsFileWith Writes r = (v : FileValue) × IsFileValue v × IfSome r (λ input. input ≡ file_text v) × Writes (check_line v)
 
@@ -29,17 +30,17 @@ IsFileWith Writes r = (v : FileValue) × IsFileValue v × IfSome r (λ input. in
 abbrev pub ChecksFile : (r w w' : Option (List ℕ)) → Type 0
 ChecksFile r w w' = IsFileWith (Appends w w') r
 
--- the writer took a prefix of the counts
+-- the writer accepted a prefix of the counts
 abbrev pub ChecksPart : (r w w' : Option (List ℕ)) → Type 0
 ChecksPart r w w' = IsFileWith (AppendsPrefix w w') r
 
--- Why a file isn't accepted, and that nothing was written; or that the writer failed.
+-- A file isn't accepted for this reason, and nothing was written; or the writer failed.
 abbrev pub StopsChecking : {R W : Type 0} → (R → Option (List ℕ)) → (r r' : Device R) → (W → Option (List ℕ)) → (w w' : Device W) → ToolFault → Type 0
 StopsChecking left r r' held w w' (faults.Check e) = IfSome (left r.inner) (λ input. ExplainsFault input e) × (w' ≡ w)
 StopsChecking left r r' held w w' faults.Write = ChecksPart (left r.inner) (held w.inner) (held w'.inner)
 StopsChecking left r r' held w w' other = ⊥
 
--- what may come of the text of this file value: its counts, unless memory or a device fails
+-- the possible outcomes for the text of this file value: its counts, unless memory runs out or a device fails
 abbrev pub IsCheckedOr : FileValue → Result ⊤ ToolFault → (w w' : Option (List ℕ)) → Type 0
 IsCheckedOr v (Ok u) w w' = Appends w w' (check_line v)
 IsCheckedOr v (Err faults.Write) w w' = AppendsPrefix w w' (check_line v)

@@ -1,4 +1,5 @@
--- The program's command line: its commands and their options, as clap's definitions read words by them. The manual page says the same.
+-- The program's command line: its commands and their options, by which clap's definitions read words. They agree with
+-- the manual page.
 use Rattle.std.specs.Prelude.{◌≡◌, ◌⊎◌, pos, true, List, [], ◌∷◌, map, fold, codes, Some, Result, Ok, IfOk}
 use Rattle.std.specs.Borrow.{Bor}
 use Rattle.clap.specs.Walk.{Row, Rule, Text, rule_of}
@@ -42,21 +43,21 @@ week = read_by (value.Signed (pos 0) (pos 99999)) (required (option (codes "week
 abbrev pub date : Rule
 date = required (option (codes "date"))
 
--- the signals that are planned of a system
+-- the option of the planned signals of a system
 abbrev pub planned : Text → Rule
 planned name = or_else (codes "all") (option name)
 
 abbrev pub station : Rule
 station = read_by (value.Signed (pos 0) (pos 4095)) (option (codes "station"))
 
--- the station values until a message has others
+-- the position that holds until a station message has another
 abbrev pub position : Rule
 position = or_else (codes "0,0,0") (option (codes "position"))
 
 abbrev pub height : Rule
 height = or_else (codes "0") (option (codes "antenna-height"))
 
--- the names of the rules of gathering; where they lie is of no account
+-- the names of the rules of gathering; their addresses don't matter
 abbrev pub AreRules : Bor (List (Bor Text)) → Type 0
 AreRules names = map (λ s. s.now) names.now ≡ codes "bit" ∷ codes "time" ∷ []
 
@@ -70,14 +71,14 @@ limit = read_by (value.Unsigned 0 281474976710656) (or_else (codes "281474976710
 abbrev pub text : Text → Rule
 text name = or_else [] (option name)
 
--- the texts of the header that may be left out
+-- the optional texts of the header
 abbrev pub texts : List Rule
 texts =
     text (codes "run-by") ∷ text (codes "marker") ∷ or_else (codes "GEODETIC") (option (codes "marker-type"))
     ∷ text (codes "observer") ∷ text (codes "agency") ∷ text (codes "rec-number") ∷ text (codes "rec-type")
     ∷ text (codes "rec-version") ∷ text (codes "ant-number") ∷ text (codes "ant-type") ∷ []
 
--- an option whose value is read so
+-- the option with this parser and default of its value
 unfoldable pub read_so : Reading → Rule → Rule
 read_so Given a = required a
 read_so (Or default) a = or_else default.now a
@@ -110,7 +111,7 @@ convert names = with_options (with_options (new_app (codes "convert"))
     (week ∷ date ∷ planned (codes "gps") ∷ planned (codes "galileo") ∷ station ∷ position ∷ height ∷ gather names ∷ limit ∷ []))
     texts
 
--- a command is wanted, and `--version` is known
+-- a command is required, and `--version` is accepted
 abbrev pub start : App
 start = on_top (λ s. record s { subcommand_required = true; has_version = true }) (new_app (codes "rtcm2rinex"))
 
@@ -123,7 +124,7 @@ surveys = with_subcommand (with_subcommand listings (of_station (codes "signals"
 abbrev pub program : Bor (List (Bor Text)) → App
 program names = with_subcommand (with_subcommand surveys (convert names).top) (new_app (codes "check")).top
 
--- these are the commands and options of the program
+-- the commands and options are those of the program
 abbrev pub IsProgram : App → Type 0
 IsProgram a = (names : Bor (List (Bor Text))) × AreRules names × (a ≡ program names)
 
@@ -131,7 +132,7 @@ IsProgram a = (names : Bor (List (Bor Text))) × AreRules names × (a ≡ progra
 abbrev pub AreCommands : List CommandRow → Type 0
 AreCommands rows = IsProgram (with_commands start (map command_set rows))
 
--- What was made is a command that was there and one option or one command more; lack of memory makes none.
+-- The result is the given command with one more option or one more command, unless memory ran out.
 abbrev pub AddsOption : {E : Type 0} → Result Command E → Rule → Result Command E → Type 0
 AddsOption old rule new =
     IfOk new (λ made. (command : Command) × (option : Arg) × (old ≡ Ok command) × (rule_of option ≡ rule) × AddsArg command option made)
@@ -152,7 +153,7 @@ IsCommand name =
 abbrev pub Asks : List Text → Text → List Row → Type 0
 Asks words name options = (a : App) × IsProgram a × (fault_of a words ≡ []) × (subcommand_of a words ≡ Some (name, options))
 
--- with an error of this kind: the words have a fault, or ask for a text
+-- the words have a fault or ask for a text, and this is the kind of the error
 abbrev pub IsAnswered : List Text → ErrorKind → Type 0
 IsAnswered words k = (a : App) × IsProgram a × IsAmong k (fault_of a words)
 
@@ -160,6 +161,6 @@ IsAnswered words k = (a : App) × IsProgram a × IsAmong k (fault_of a words)
 abbrev pub IsFoundIn : List Text → ArgMatches → Type 0
 IsFoundIn words m = (name : Text) × (options : List Row) × IsCommand name × (subcommand_rows_of m ≡ Some (name, options)) × Asks words name options
 
--- why nothing was found in them: memory ran out, or the words themselves
+-- the reason why the words weren't accepted: memory ran out, or the words themselves
 abbrev pub RefusesWords : List Text → Error → Type 0
 RefusesWords words e = (kind_of e ≡ kind.OutOfMemory) ⊎ IsAnswered words (kind_of e)

@@ -1,4 +1,4 @@
--- What the program has done when it ends: the reader was r and is r', the writer was w and is w'.
+-- What the program has read and written when it ends: the reader was r and is r', the writer was w and is w'.
 use Rattle.std.specs.Prelude.{◌≡◌, ◌⊎◌, ◌^◌, ℕ, List, Option, Some, Result, Ok, Err, codes}
 use Rattle.clap.specs.Simple.{subcommand_rows_of}
 use Rattle.clap.specs.Walk.{Row, Text}
@@ -24,8 +24,8 @@ use Rattle.rtcm2rinex.specs.declared.fault.ToolFault.{ToolFault}
 use Rattle.rtcm2rinex.specs.declared.fault.ToolFault.TheVariants as faults
 use Rattle.rtcm2rinex.specs.declared.cli.TheConstants.{VERSION}
 
--- The command of this name did what it is for, with these options: the stream was read to its end and listed, its signals or options were
--- printed, or its file was written and has an epoch; or a file was read back.
+-- The command of this name completed with these options: the stream was read to its end and listed, its signals or
+-- options were printed, or its file was written and has an epoch; or a file was read back.
 abbrev pub HasDone : {R W : Type 0} → (R → Option (List ℕ)) → (r r' : Device R) → (W → Option (List ℕ)) → (w w' : Device W) → Text → List Row → Type 0
 HasDone left r r' held w w' name options =
     ((name ≡ codes "frames") × Moves left r r' held w w' (ListsAll frame_lines))
@@ -35,7 +35,7 @@ HasDone left r r' held w w' name options =
     ⊎ ((name ≡ codes "convert") × IsConverted options (left r.inner) (held w.inner) (held w'.inner))
     ⊎ ((name ≡ codes "check") × ChecksFile (left r.inner) (held w.inner) (held w'.inner))
 
--- a fault stopped it
+-- the command was stopped by a fault
 abbrev pub HasStopped : {R W : Type 0} → (R → Option (List ℕ)) → (r r' : Device R) → (W → Option (List ℕ)) → (w w' : Device W) → Text → List Row → ToolFault → Type 0
 HasStopped left r r' held w w' name options fault =
     ((name ≡ codes "frames") × StopsListing (2 ^ 48) frame_lines left r r' held w w' fault)
@@ -45,7 +45,7 @@ HasStopped left r r' held w w' name options fault =
     ⊎ ((name ≡ codes "convert") × StopsConverting options left r r' held w w' fault)
     ⊎ ((name ≡ codes "check") × StopsChecking left r r' held w w' fault)
 
--- how it ended
+-- how the command ended
 abbrev pub EndsCommand : {A R W : Type 0} → Result A ToolFault → (R → Option (List ℕ)) → (r r' : Device R) → (W → Option (List ℕ)) → (w w' : Device W) → Text → List Row → Type 0
 EndsCommand result left r r' held w w' name options =
     Ends result r r' w w' (λ _. HasDone left r r' held w w' name options) (HasStopped left r r' held w w' name options)
@@ -62,13 +62,15 @@ EndsFound result left r r' held w w' found =
 
 -- ---- the exit status
 
--- The command that the words ask for did what it is for, with the options that they give; or they ask for the version, and it was written.
+-- The command that the words ask for completed with the options that they give; or they ask for the version, and it was
+-- written.
 abbrev pub HasServed : {R W : Type 0} → (R → Option (List ℕ)) → (r r' : Device R) → (W → Option (List ℕ)) → (w w' : Device W) → List Text → Type 0
 HasServed left r r' held w w' words =
     ((name : Text) × (options : List Row) × Asks words name options × AreFine r r' w w' × HasDone left r r' held w w' name options)
     ⊎ (IsAnswered words DisplayVersion × (r' ≡ r) × PrintsText held w w' VERSION.now)
 
--- A fault stopped the command that the words ask for, or the version; or memory ran out before anything was read or written.
+-- The command that the words ask for, or the output of the version, was stopped by a fault; or memory ran out before
+-- anything was read or written.
 abbrev pub HasFailedToServe : {R W : Type 0} → (R → Option (List ℕ)) → (r r' : Device R) → (W → Option (List ℕ)) → (w w' : Device W) → List Text → Type 0
 HasFailedToServe left r r' held w w' words =
     ((name : Text) × (options : List Row) × (fault : ToolFault) × Asks words name options × HaveFailedBy fault r r' w w'
@@ -76,22 +78,23 @@ HasFailedToServe left r r' held w w' words =
     ⊎ (IsAnswered words DisplayVersion × (r' ≡ r) × PrintsPart held w w' VERSION.now)
     ⊎ IsUntouched r r' w w'
 
--- Nothing was written for lack of memory, or the version's text in part.
+-- Nothing was written since memory ran out, or the version's text was written in part.
 abbrev pub StopsAnswering : {W : Type 0} → ErrorKind → (W → Option (List ℕ)) → (w w' : Device W) → Type 0
 StopsAnswering k held w w' = (w' ≡ w) ⊎ ((k ≡ DisplayVersion) × PrintsPart held w w' VERSION.now)
 
--- 2 for an option of another form
+-- the exit status of a fault: 2 for an invalid position or height
 abbrev pub fault_status : ToolFault → ℕ
 fault_status faults.BadPosition = 2
 fault_status faults.BadHeight = 2
 fault_status other = 1
 
--- the status of a command that ended so
+-- the exit status of a command with this result
 abbrev pub status_of : {A : Type 0} → Result A ToolFault → ℕ
 status_of (Ok x) = 0
 status_of (Err fault) = fault_status fault
 
--- An error that isn't the version's text answers the words; or they ask for a conversion whose position or antenna height is none.
+-- The words lead to an error other than the version's text; or they ask for a conversion whose position or antenna
+-- height is invalid.
 abbrev pub AreRefused : List Text → Type 0
 AreRefused words =
     ((k : ErrorKind) × IsAnswered words k × (k ≡ DisplayVersion → ⊥))

@@ -11,17 +11,18 @@ use Rattle.rtcm2rinex.specs.declared.fault.ToolFault.{ToolFault}
 use Rattle.rtcm2rinex.specs.declared.fault.ToolFault.TheVariants as faults
 use Rattle.rtcm2rinex.specs.SetupOptions.{IsStartOf, IsSetupRefused}
 
--- Started as these options ask for, which isn't out of range, a conversion read all that the reader had, and wrote the file of its frames,
--- which has an epoch.
+-- A conversion with the start that these options give, which is in range, read everything that the reader had, and
+-- wrote the file of its frames, which has an epoch.
 abbrev pub IsConverted : List Row → (r w w' : Option (List ℕ)) → Type 0
 IsConverted options r w w' = (x : Start) × IsStartOf options x × (IsBadAt x → ⊥) × IfSome r (IsMade x w w')
 
--- the file of what the reader had left has no epoch, and was written: it is empty
+-- the file of the bytes that the reader had left has no epoch and is empty
 abbrev pub MakesNoEpoch : Start → (r r' w w' : Option (List ℕ)) → Type 0
 MakesNoEpoch x r r' w w' = IfSome r (IsMadeEmpty x w w')
 
--- What a conversion with this start, which is bad if Bad holds, has read and written at a fault: at `Read` the file of the epochs that the
--- bytes before close, at `Write` a part of the file, and after the limit the file of the epochs that the bytes up to it close.
+-- What a conversion with this start, which is out of range if Bad holds, has read and written at a fault: at `Read` the
+-- file of the epochs that the bytes before close, at `Write` a part of the file, and at `TooLong` the file of the
+-- epochs that the bytes up to the limit close.
 abbrev pub StopsConversion : {R W : Type 0} → Type 0 → Start → (R → Option (List ℕ)) → (r r' : Device R) → (W → Option (List ℕ)) → (w w' : Device W) → ToolFault → Type 0
 StopsConversion Bad x left r r' held w w' faults.Read = Moves left r r' held w w' (IsMadeSoFar x) × (w.is_sent ≡ true → w'.is_sent ≡ true)
 StopsConversion Bad x left r r' held w w' faults.Write = Moves left r r' held w w' (IsMadeInPart x)
@@ -31,7 +32,8 @@ StopsConversion Bad x left r r' held w w' (faults.Convert convert.BadSetup) = Ba
 StopsConversion Bad x left r r' held w w' (faults.Convert convert.Memory) = IsUntouched r r' w w'
 StopsConversion Bad x left r r' held w w' other = ⊥
 
--- A text or the plan of these options is refused, and nothing was read or written; or the conversion that they ask for was stopped.
+-- The setup of these options is refused, and nothing was read or written; or the conversion that they ask for was
+-- stopped.
 abbrev pub StopsConverting : {R W : Type 0} → List Row → (R → Option (List ℕ)) → (r r' : Device R) → (W → Option (List ℕ)) → (w w' : Device W) → ToolFault → Type 0
 StopsConverting options left r r' held w w' fault =
     (IsSetupRefused options fault × IsUntouched r r' w w') ⊎ ((x : Start) × IsStartOf options x × StopsConversion (IsBadAt x) x left r r' held w w' fault)

@@ -1,4 +1,4 @@
--- The cells of a stream are counted, signal by signal, while the stream is read.
+-- The counts of the cells of a stream, by signal, while the stream is read.
 use Rattle.std.specs.Prelude.{◌≡◌, ℕ, ◌*◌, ◌<◌, ◌≤◌, ◌^◌, List, length, Option, IfSome, ⊤}
 use Rattle.std.specs.Io.KnownBytes.{Consumes, IsAtEnd}
 use Rattle.rtcm_bits.specs.Device.{Device}
@@ -13,7 +13,7 @@ use Rattle.rtcm2rinex.specs.declared.fault.ToolFault.{ToolFault}
 use Rattle.rtcm2rinex.specs.declared.fault.ToolFault.TheVariants as faults
 use Rattle.rtcm2rinex.specs.declared.survey.Survey.{Survey}
 
--- the counts are those of the cells of these frames, of which each has at most 64
+-- the counts are those of the cells of these frames, each of which has at most 64
 pub record IsCounted (c : SignalCountsValue) (wanted : Option ℕ) (fs : List Framed) : Type 0 where
   pub signal_counts : AreSignalCounts c (valued_in wanted fs)
   pub few : length (valued_in wanted fs) ≤ 64 * length fs
@@ -28,7 +28,7 @@ pub record IsSurvey (s : Survey) (wanted : Option ℕ) (fs : List Framed) : Type
 abbrev pub HasCounted : Survey → Option ℕ → (r r' : Option (List ℕ)) → Type 0
 HasCounted s wanted r r' = (b : List ℕ) × Consumes r r' b × IsAtEnd r' × IsSurvey s wanted (frames_of b)
 
--- what was read when a fault stopped the counting
+-- what was read when the counting was stopped by a fault
 abbrev pub StopsCounting : {R : Type 0} → ℕ → (R → Option (List ℕ)) → (r r' : Device R) → ToolFault → Type 0
 StopsCounting limit left r r' faults.Read = ⊤
 StopsCounting limit left r r' (faults.Scan scan.TooLong) = ReadsTooMuch limit (left r.inner) (left r'.inner)
@@ -37,8 +37,8 @@ StopsCounting limit left r r' other = ⊥
 
 -- ---- a survey as a consumer of frames
 
--- From the survey c0, after the frames ps, to c, after fs: the frames between were surveyed. No count reaches its largest number, since a
--- stream has far fewer frames.
+-- The survey c0 after the frames ps became c after the frames fs: the frames between were surveyed. No count reaches
+-- its largest value, since a stream has far fewer frames.
 pub record Counts (c0 : Survey) (o0 : ⊤) (ps : List Framed) (c : Survey) (o : ⊤) (fs : List Framed) : Type 0 where
   pub same : c.station ≡ c0.station
   pub surveys : length fs < 2 ^ 56 → IsSurvey c0 c0.station ps → IsSurvey c c0.station fs

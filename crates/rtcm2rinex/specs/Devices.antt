@@ -1,4 +1,4 @@
--- What the result of a command says of its devices, which were r and w before and are r' and w' after it.
+-- The state of the devices of a command by its result: they were r and w before, and are r' and w' after it.
 use Rattle.std.specs.Prelude.{◌≡◌, ℕ, true, Result, Ok, Err}
 use Rattle.rtcm_bits.specs.Device.{Device, HasFailed}
 use Rattle.rtcm_scan.specs.declared.feed.StreamFault.{StreamFault}
@@ -10,19 +10,19 @@ use Rattle.rinex_file.specs.declared.read.fault.ReadFault.TheVariants as reading
 use Rattle.rtcm2rinex.specs.declared.fault.ToolFault.{ToolFault}
 use Rattle.rtcm2rinex.specs.declared.fault.ToolFault.TheVariants as faults
 
--- a fault of a conversion: one of a device is that of any command
+-- the fault of a command for a fault of a conversion: a failed device has the same fault in every command
 abbrev pub tool_fault_of : Fault → ToolFault
 tool_fault_of convert.Read = faults.Read
 tool_fault_of convert.Write = faults.Write
 tool_fault_of refusal = faults.Convert refusal
 
--- a fault of a stream whose frames go to a device
+-- the fault of a command for a fault of a stream whose frames are written to a device
 abbrev pub stream_fault : {F : Type 0} → StreamFault F → ToolFault
 stream_fault stream.Read = faults.Read
 stream_fault stream.TooLong = faults.Scan scan.TooLong
 stream_fault (stream.Sink failed) = faults.Write
 
--- the failures of a reader before and after a fault: one more at `Read`, and the same number at any other
+-- the failures of a reader before and after a fault: one more at `Read`, the same number at any other
 abbrev pub ReadFailures : ToolFault → ℕ → ℕ → Type 0
 ReadFailures faults.Read before after = HasFailed before after
 ReadFailures (faults.Check reading.Read) before after = HasFailed before after
@@ -33,7 +33,7 @@ abbrev pub CountsReader : {T A : Type 0} → Result A ToolFault → Device T →
 CountsReader (Ok x) r r' = r'.failures ≡ r.failures
 CountsReader (Err fault) r r' = ReadFailures fault r.failures r'.failures
 
--- the failures of a writer before and after a fault: one more at `Write`, and the same number at any other
+-- the failures of a writer before and after a fault: one more at `Write`, the same number at any other
 abbrev pub WriteFailures : ToolFault → ℕ → ℕ → Type 0
 WriteFailures faults.Write before after = HasFailed before after
 WriteFailures _ before after = after ≡ before
@@ -46,7 +46,8 @@ AreFine r r' w w' = (r'.failures ≡ r.failures) × (w'.failures ≡ w.failures)
 abbrev pub HaveFailedBy : {R W : Type 0} → ToolFault → (r r' : Device R) → (w w' : Device W) → Type 0
 HaveFailedBy fault r r' w w' = ReadFailures fault r.failures r'.failures × WriteFailures fault w.failures w'.failures
 
--- How a command ended: with Done of its value, if no device failed and nothing waits in the writer, or by a fault with Stopped of it.
+-- How a command ended: no device failed, nothing waits in the writer, and Done holds for its value; or Stopped holds
+-- for its fault.
 abbrev pub Ends : {A R W : Type 0} → Result A ToolFault → (r r' : Device R) → (w w' : Device W) → (A → Type 0) → (ToolFault → Type 0) → Type 0
 Ends (Ok x) r r' w w' Done Stopped = AreFine r r' w w' × Done x
 Ends (Err fault) r r' w w' Done Stopped = HaveFailedBy fault r r' w w' × Stopped fault

@@ -13,15 +13,15 @@ use Rattle.rtcm2rinex.specs.Lines.{line}
 use Rattle.rtcm2rinex.specs.Metres.{metres}
 use Rattle.rtcm2rinex.specs.Signals.{codes_word, plan_had, valued_in}
 
--- the content of a station message (1005 or 1006) of the station that is wanted; if none is given, of any station
+-- the content of a station message (1005 or 1006) of the wanted station; if none is given, of any station
 abbrev pub point_of : Option ℕ → Heard → Option StationParts
 point_of wanted m = if is_of_station wanted m then m.point else None
 
--- the same of a frame; its message may be refused
+-- the same for a frame, whose message may be refused
 abbrev pub station_of : Option ℕ → Framed → Option StationParts
 station_of wanted f = option_map_or (point_of wanted) (heard_in f) None
 
--- that of the first of these frames that has one
+-- the content of the first station message in these frames
 abbrev pub first_station : Option ℕ → List Framed → Option StationParts
 first_station wanted [] = None
 first_station wanted (f ∷ fs) = option_or (station_of wanted f) (first_station wanted fs)
@@ -39,10 +39,10 @@ abbrev pub station_words : Option StationParts → List (List ℕ)
 station_words None = []
 station_words (Some s) = position_word s ∷ antenna_words s.height
 
--- the options that plan these signals, and those with the values of this station message
+-- the line of the options that plan these signals, and of those with the values of this station message
 unfoldable pub options_line : PlanValue → Option StationParts → List ℕ
 options_line p first = line (codes "--gps" ∷ codes_word Gps p.gps ∷ codes "--galileo" ∷ codes_word Galileo p.galileo ∷ station_words first)
 
--- what `options` prints of these frames
+-- the output of `options` for these frames
 abbrev pub options_text : Option ℕ → List Framed → List ℕ
 options_text wanted fs = options_line (plan_had (valued_in wanted fs)) (first_station wanted fs)

@@ -11,11 +11,11 @@ use Rattle.rtcm2rinex.specs.declared.fault.ToolFault.TheVariants.{BadPosition, B
 abbrev pub number_of : ℕ → List ℕ → Option ℕ
 number_of most text = if nat_le 1 (length text) && nat_le (length text) most && list_all is_digit text then Some (digits_in text) else None
 
--- the texts before and after the first of these bytes, if there is one
+-- the texts before and after the first separator, if there is one
 abbrev pub cut : ℕ → List ℕ → Option (List ℕ × List ℕ)
 cut separator text = option_map (λ i. (take i text, drop (i + 1) text)) (position (λ b. b == separator) text)
 
--- one to four decimals
+-- one to four decimals, in units of 0.0001
 abbrev pub decimals_of : List ℕ → Option ℕ
 decimals_of text = option_map (λ n. n * 10 ^ (4 - length text)) (number_of 4 text)
 
@@ -31,7 +31,7 @@ length_of text = length_by text (cut 0x2E text)
 abbrev pub length_below : ℕ → List ℕ → Option ℕ
 length_below bound text = option_and_then (λ n. if nat_lt n bound then Some n else None) (length_of text)
 
--- a length of 38 bits, after a minus sign (0x2D), if there is one
+-- a length that fits 38 bits, after a minus sign (0x2D) if there is one
 abbrev pub coordinate_by : List ℕ → Option (List ℕ) → Option ℤ
 coordinate_by text None = option_map pos (length_below (2 ^ 37) text)
 coordinate_by text (Some size) = option_map (λ n. neg_ℤ (pos n)) (length_below (2 ^ 37 + 1) size)
@@ -46,7 +46,7 @@ position_of text =
     option_and_then (λ x. option_and_then (λ y. option_map (λ z. (x, y, z)) (coordinate_of q.1)) (coordinate_of q.0)) (coordinate_of p.0))
     (cut 0x2C p.1)) (cut 0x2C text)
 
--- the station values of a position and an antenna height, or which of the two texts isn't one
+-- the station values of a position and an antenna height, or the fault of the text that isn't one
 abbrev pub values_by : Option (ℤ × ℤ × ℤ) → Option ℕ → Result StationValues ToolFault
 values_by None height = Err BadPosition
 values_by (Some p) None = Err BadHeight

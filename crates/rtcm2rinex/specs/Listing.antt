@@ -22,11 +22,12 @@ abbrev pub listing_line : Listing → Framed → List ℕ
 listing_line Frames f = frame_line f
 listing_line Messages f = show_line f
 
--- those of frames, one after the other
+-- the lines of frames, one after the other
 abbrev pub listing_lines : Listing → List Framed → List ℕ
 listing_lines listing fs = flat_map (listing_line listing) fs
 
--- The reader had r left and now has r', and the writer held w and now holds w'. `lines` are those of a list of frames.
+-- The reader had r left and now has r', and the writer had written w and now has written w'. `lines` gives the lines of
+-- a list of frames.
 
 -- the stream was read to its end, and the lines of its frames were written
 abbrev pub ListsAll : (List Framed → List ℕ) → (r r' w w' : Option (List ℕ)) → Type 0
@@ -40,8 +41,8 @@ ListsDecided lines r r' w w' = (b : List ℕ) × Consumes r r' b × Appends w w'
 abbrev pub ListsToLimit : ℕ → (List Framed → List ℕ) → (r r' w w' : Option (List ℕ)) → Type 0
 ListsToLimit limit lines r r' w w' = (b : List ℕ) × Consumes r r' b × (limit < length b) × Appends w w' (lines (decided_frames (take limit b)))
 
--- The bytes read end in a piece of at most 65,536. At least the lines of the frames that the bytes before it decide were written, and at most
--- those of the frames that all of them decide or, at the end of the stream, have.
+-- The bytes read end in a piece of at most 65,536. At least the lines of the frames that the bytes before it decide
+-- were written, and at most those of the frames that all bytes read decide or, at the end of the stream, have.
 pub record ListsPart (lines : List Framed → List ℕ) (r r' w w' : Option (List ℕ)) : Type 0 where
   pub front : List ℕ
   pub piece : List ℕ
@@ -51,7 +52,8 @@ pub record ListsPart (lines : List Framed → List ℕ) (r r' w w' : Option (Lis
   pub at_end : ended ≡ true → IsAtEnd r'
   pub between : IsBetween w w' (lines (decided_frames front)) (lines (known_frames ended (front ++ piece)))
 
--- What a listing of at most so many bytes that stopped by a fault has read and written. Nothing waits but at `Write`.
+-- What a listing of at most `limit` bytes has read and written when it was stopped by a fault. Nothing waits in the
+-- writer except at `Write`.
 abbrev pub StopsListing : {R W : Type 0} → ℕ → (List Framed → List ℕ) → (R → Option (List ℕ)) → (r r' : Device R) → (W → Option (List ℕ)) → (w w' : Device W) → ToolFault → Type 0
 StopsListing limit lines left r r' held w w' faults.Read = Moves left r r' held w w' (ListsDecided lines) × (w'.is_sent ≡ true)
 StopsListing limit lines left r r' held w w' faults.Write = Moves left r r' held w w' (ListsPart lines)
@@ -61,13 +63,14 @@ StopsListing limit lines left r r' held w w' other = ⊥
 
 -- ---- a listing as a consumer of frames
 
--- From the device o0, after the frames ps, to o, after fs: the lines of the frames between were written, and no call failed.
+-- The device o0 after the frames ps became o after the frames fs: the lines of the frames between were written, and no
+-- call failed.
 pub record Lists {W : Type 0} (held : W → Option (List ℕ)) (k0 : Listing) (o0 : Device W) (ps : List Framed) (k : Listing) (o : Device W) (fs : List Framed) : Type 0 where
   pub same : k ≡ k0
   pub out : (w : Option (List ℕ)) → Appends w (held o0.inner) (listing_lines k0 ps) → Appends w (held o.inner) (listing_lines k0 fs)
   pub fine : o.failures ≡ o0.failures
 
--- One call failed: the lines of fs were written, and a part of those that gs has beside.
+-- One call failed: at least the lines of fs were written, and at most those of gs.
 pub record ListsUpTo {W : Type 0} (held : W → Option (List ℕ)) (k0 : Listing) (o0 : Device W) (ps : List Framed) (k : Listing) (o : Device W) (fs gs : List Framed) : Type 0 where
   pub out : (w : Option (List ℕ)) → Appends w (held o0.inner) (listing_lines k0 ps) → IsBetween w (held o.inner) (listing_lines k0 fs) (listing_lines k0 gs)
   pub failed : HasFailed o0.failures o.failures

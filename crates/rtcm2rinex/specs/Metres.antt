@@ -13,7 +13,7 @@ four_digits n = digit (n / 1000) ∷ digit (n / 100) ∷ digit (n / 10) ∷ digi
 abbrev pub size_text : ℕ → List ℕ
 size_text n = decimal (n / 10000) ++ codes "." ++ four_digits n
 
--- with a minus where it is negative
+-- the same with a minus sign if it is negative
 abbrev pub metres : ℤ → List ℕ
 metres (pos n) = size_text n
 metres (negsuc n) = codes "-" ++ size_text (n + 1)

@@ -1,15 +1,15 @@
--- Texts that are written at once: held w is what the writer holds before, and held w' after.
+-- Texts written in one call: `held w` are the bytes written before, and `held w'` those after.
 use Rattle.std.specs.Prelude.{◌≡◌, ℕ, true, List, Option, Result, Ok, Err}
 use Rattle.std.specs.Io.KnownBytes.{Appends}
 use Rattle.rtcm_bits.specs.Device.{Device, HasFailed, AppendsPrefix}
 use Rattle.rtcm2rinex.specs.declared.fault.ToolFault.{ToolFault}
 use Rattle.rtcm2rinex.specs.declared.fault.ToolFault.TheVariants.{Write}
 
--- the text was written, nothing of it waits, and the writer didn't fail
+-- the text was written, nothing waits in the writer, and it didn't fail
 abbrev pub PrintsText : {W : Type 0} → (W → Option (List ℕ)) → (w w' : Device W) → List ℕ → Type 0
 PrintsText held w w' text = (w'.failures ≡ w.failures) × (w'.is_sent ≡ true) × Appends (held w.inner) (held w'.inner) text
 
--- the writer failed once, and took a prefix of the text
+-- the writer failed once, and accepted a prefix of the text
 abbrev pub PrintsPart : {W : Type 0} → (W → Option (List ℕ)) → (w w' : Device W) → List ℕ → Type 0
 PrintsPart held w w' text = HasFailed w.failures w'.failures × AppendsPrefix (held w.inner) (held w'.inner) text
 

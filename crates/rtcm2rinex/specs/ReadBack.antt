@@ -1,4 +1,4 @@
--- Messages, their encodings in frames, and what is read back.
+-- Messages, their encodings in frames, and the messages read back.
 use Rattle.std.specs.Prelude.{◌≡◌, ℕ, false, List, [], ◌∷◌, map, ⊤}
 use Rattle.std.specs.List.{flat_map}
 use Rattle.rtcm_bits.specs.Bits.{bits_of}
@@ -12,7 +12,7 @@ use Rattle.rtcm_msg.specs.Spelling.{IsEncoding, IsMessage, ReadsMessage, is_othe
 abbrev pub IsKnown : Message → Type 0
 IsKnown v = IsMessage v × (is_other v ≡ false)
 
--- each encoding in its turn
+-- the byte lists encode the messages, one for one
 abbrev pub AreEncoded : List (List ℕ) → List Message → Type 0
 AreEncoded [] [] = ⊤
 AreEncoded [] (v ∷ vs) = ⊥
@@ -24,14 +24,14 @@ pub record IsReadAs (bytes : List ℕ) (v : Message) : Type 0 where
   pub reads : ReadsMessage (bits_of bytes) v
   pub only : (w : Message) → ReadsMessage (bits_of bytes) w → w ≡ v
 
--- the message of each frame in its turn
+-- the frames are read as the messages, one for one
 abbrev pub AreReadAs : List Framed → List Message → Type 0
 AreReadAs [] [] = ⊤
 AreReadAs [] (v ∷ vs) = ⊥
 AreReadAs (f ∷ fs) [] = ⊥
 AreReadAs (f ∷ fs) (v ∷ vs) = IsReadAs f.message v × AreReadAs fs vs
 
--- The frames of encoded messages, joined, have exactly these frames, one after the other from place 0 on, with the
+-- The joined frames of encoded messages have exactly these frames, one after the other from place 0 on, with the
 -- encodings as their messages; and these are read back as the messages.
 abbrev pub ReadsBack : List (List ℕ) → List Message → Type 0
 ReadsBack es vs = AreFrames (flat_map frame_bytes es) (placed 0 es) × (map (λ f. f.message) (placed 0 es) ≡ es) × AreReadAs (placed 0 es) vs

@@ -1,4 +1,4 @@
--- What the options of `convert` tell a conversion.
+-- The settings that the options of `convert` give.
 use Rattle.std.specs.Prelude.{◌≡◌, ◌<◌, ◌^◌, ℕ, List, [], ◌∷◌, map, Option, Some, None, Result, Ok, Err, codes, unwrap_or, not, ◌⊎◌}
 use Rattle.std.specs.Str.{bytes_eq}
 use Rattle.std.specs.Str.Parse.{IsNumeral, digits_value, without_leading_plus}
@@ -20,7 +20,7 @@ use Rattle.rtcm2rinex.specs.declared.fault.ToolFault.TheVariants as faults
 abbrev pub options_of : ArgMatches → List Row
 options_of m = rows_of (found_of m)
 
--- the text that an option has; an option that has none counts as empty
+-- the text of an option; empty if it has none
 abbrev pub text_set : List Row → List ℕ → List ℕ
 text_set options name = unwrap_or (first_of name options) []
 
@@ -31,17 +31,17 @@ texts_set options =
     (codes "run-by" ∷ codes "date" ∷ codes "marker" ∷ codes "marker-type" ∷ codes "observer" ∷ codes "agency"
     ∷ codes "rec-number" ∷ codes "rec-type" ∷ codes "rec-version" ∷ codes "ant-number" ∷ codes "ant-type" ∷ [])
 
--- a text spells a number of so many bits
+-- a text is the decimal form of a number of `bits` bits, with or without a leading plus sign
 abbrev pub SpellsNumber : ℕ → List ℕ → Type 0
 SpellsNumber bits text = IsNumeral 10 (without_leading_plus text) × (digits_value 10 (without_leading_plus text) < 2 ^ bits)
 
--- the number of so many bits that a text spells, if there is a text and it spells one
+-- the number of `bits` bits in a text, if there is a text and it is the decimal form of one
 abbrev pub IsNumberOf : ℕ → Option (List ℕ) → Option ℕ → Type 0
 IsNumberOf bits None n = n ≡ None
 IsNumberOf bits (Some text) None = SpellsNumber bits text → ⊥
 IsNumberOf bits (Some text) (Some n) = SpellsNumber bits text × (n ≡ digits_value 10 (without_leading_plus text))
 
--- an option's number, or another where it has none
+-- the number of an option, or `otherwise` if it has none
 abbrev pub IsNumberOr : ℕ → ℕ → Option (List ℕ) → ℕ → Type 0
 IsNumberOr bits otherwise text n = (found : Option ℕ) × IsNumberOf bits text found × (n ≡ unwrap_or found otherwise)
 
@@ -54,16 +54,16 @@ pub record IsSetupOf (options : List Row) (x : Setup) : Type 0 where
   pub gather : is_by_bit x.gather ≡ not (bytes_eq (text_set options (codes "gather")) (codes "time"))
   pub limit : IsNumberOr 64 (2 ^ 48) (one_of (codes "limit") options) x.limit
 
--- the station values that the options give, or which of the two isn't one
+-- the station values that the options give, or the fault of the option that is invalid
 abbrev pub values_by_message : List Row → Result StationValues ToolFault
 values_by_message options = values_in (text_set options (codes "position")) (text_set options (codes "antenna-height"))
 
--- what the options start a conversion with
+-- the start of a conversion that the options give
 abbrev pub IsStartOf : List Row → Start → Type 0
 IsStartOf options x = IsSetupOf options x.setup × (values_by_message options ≡ Ok x.initial)
 
--- Nothing can be converted with these options: the position or the height is none; or a text of the header has this fault; or all of these are
--- good and the plan has, or memory ran out for it.
+-- These options are refused with this fault: the position or the height is invalid; or a text of the header has this
+-- fault; or the texts are valid and the plan has this fault, or memory ran out for it.
 abbrev pub IsSetupRefused : List Row → ToolFault → Type 0
 IsSetupRefused options faults.BadPosition = values_by_message options ≡ Err faults.BadPosition
 IsSetupRefused options faults.BadHeight = values_by_message options ≡ Err faults.BadHeight

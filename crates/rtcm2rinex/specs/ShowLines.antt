@@ -21,12 +21,13 @@ abbrev pub height_words : Option ℕ → List (List ℕ)
 height_words None = []
 height_words (Some h) = metres (pos h) ∷ []
 
--- a station message: place, number, station (DF003), X, Y and Z (DF025 to DF027), and the height where it has one
+-- a station message: offset, number, station (DF003), X, Y and Z (DF025 to DF027), and the height (DF028) if it has one
 unfoldable pub station_line : ℕ → StationParts → List ℕ
 station_line offset s =
     line (decimal offset ∷ decimal (if is_some s.height then 1006 else 1005) ∷ decimal s.station ∷ metres s.x ∷ metres s.y ∷ metres s.z ∷ height_words s.height)
 
--- an MSM: place, number, station (DF003), time (ms of the week), DF393, and how many satellites, signals and cells
+-- an MSM: offset, number, station (DF003), time (ms of the week), DF393, and the numbers of satellites, signals and
+-- cells
 unfoldable pub msm_line : ℕ → ℕ → MsmValue → List ℕ
 msm_line offset number m =
     line (decimal offset ∷ decimal number ∷ decimal m.header.station ∷ decimal m.header.time ∷ decimal (bit m.header.more)
@@ -37,7 +38,7 @@ fault_words (Short bits) = codes "Short" ∷ decimal bits ∷ []
 fault_words TooManyCells = codes "TooManyCells" ∷ []
 fault_words BadTime = codes "BadTime" ∷ []
 
--- a refused message: place, number, and the fault
+-- a refused message: offset, number, and the fault
 unfoldable pub fault_line : ℕ → List ℕ → MsgFault → List ℕ
 fault_line offset message fault = line (decimal offset ∷ number_word message ∷ fault_words fault)
 
@@ -53,6 +54,6 @@ read_line f (Err fault) = fault_line f.offset f.message fault
 unfoldable pub show_line : Framed → List ℕ
 show_line f = read_line f (message_at f.message)
 
--- those of frames, one after the other
+-- the lines of frames, one after the other
 abbrev pub show_lines : List Framed → List ℕ
 show_lines fs = flat_map show_line fs

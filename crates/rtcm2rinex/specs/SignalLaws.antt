@@ -1,4 +1,4 @@
--- What the signals that are printed of a stream are good for.
+-- The plan of the signals printed for a stream loses no value.
 use Rattle.std.specs.Prelude.{◌≡◌, ℕ, ◌+◌, ◌<◌, ◌≤◌, true, not, List, length, Option, Some, Ok}
 use Rattle.std.specs.List.{All, count_by}
 use Rattle.gnss_obs.specs.declared.system.System.TheVariants.{Gps, Galileo}
@@ -12,7 +12,8 @@ use Rattle.rtcm_convert.specs.Converted.{heard_in}
 use Rattle.obs_epoch.specs.Plans.{plan_of}
 use Rattle.rtcm2rinex.specs.Signals.{valued_in, had, plan_had, codes_word}
 
--- what is counted as skipped of the message of a frame after these has no value, or an unlisted satellite or signal
+-- the cells counted as skipped of the message of a frame after these are no more than those without a value and those
+-- of unlisted satellites or signals
 abbrev pub SkipsOnly : GatherSetup → List Timed → Framed → Type 0
 SkipsOnly s earlier f =
     (m : Heard) → heard_in f ≡ Some m → (counts_of_message s earlier m).skipped ≤ m.unlisted + count_by (λ x. not (brings_value x)) m.cells
@@ -21,12 +22,12 @@ SkipsOnly s earlier f =
 abbrev pub LeavesNoneOut : Type 0
 LeavesNoneOut = (s : GatherSetup) (fs : List Framed) → s.plan ≡ plan_had (valued_in s.station fs) → All (λ x. is_planned s x ≡ true) (valued_in s.station fs)
 
--- the two words of the options are read as this plan
+-- the two words of the options are parsed as this plan
 abbrev pub AreReadAsPlan : Type 0
 AreReadAsPlan = (wanted : Option ℕ) (fs : List Framed) → 0 < length (valued_in wanted fs)
     → plan_of (codes_word Gps (had (valued_in wanted fs) Gps)) (codes_word Galileo (had (valued_in wanted fs) Galileo)) ≡ Ok (plan_had (valued_in wanted fs))
 
--- Of a message of these frames, a conversion with this plan counts as skipped only cells of unlisted satellites or signals and cells without a
--- value, whatever messages came before.
+-- Of a message of these frames, a conversion with this plan counts as skipped only cells of unlisted satellites or
+-- signals and cells without a value, for every list of messages before.
 abbrev pub SkipsNoValue : Type 0
 SkipsNoValue = (s : GatherSetup) (fs : List Framed) → s.plan ≡ plan_had (valued_in s.station fs) → (earlier : List Timed) → All (SkipsOnly s earlier) fs

@@ -1,4 +1,4 @@
--- The signals of a stream, and the texts printed of them.
+-- The signals of a stream, and their texts.
 use Rattle.std.specs.Prelude.{ℕ, nat_lt, List, [], ◌∷◌, ◌++◌, map, filter, flat_map, length, codes, decimal, Option}
 use Rattle.std.specs.Option.{option_map_or}
 use Rattle.std.specs.List.{join_with_byte}
@@ -15,17 +15,17 @@ use Rattle.obs_epoch.specs.Heard.{HeardCell}
 
 -- ---- the cells that count
 
--- a frame's cells of listed satellites and signals that have a value; its message may be refused
+-- the cells of a frame that have a value and are of listed satellites and signals; the message may be refused
 abbrev pub valued_of : Option ℕ → Framed → List HeardCell
 valued_of wanted f = option_map_or (valued wanted) (heard_in f) []
 
--- those of a list of frames in order, regardless of their times
+-- the same for a list of frames in order, regardless of their times
 abbrev pub valued_in : Option ℕ → List Framed → List HeardCell
 valued_in wanted fs = flat_map (valued_of wanted) fs
 
 -- ---- the signals that they are of
 
--- the signals of a system that have a cell, among the first n of its table, by their places
+-- the indices of the signals of a system that have a cell, among the first n of its table
 abbrev pub had_below : List HeardCell → System → ℕ → List ℕ
 had_below cells system n = filter (λ i. nat_lt 0 (count_of (signal_in system i) cells)) (below n)
 
@@ -38,7 +38,7 @@ plan_had cells = record { gps = had cells Gps; galileo = had cells Galileo }
 
 -- ---- the text
 
--- codes with single commas between them, as an option wants them
+-- codes separated by single commas, as an option requires
 abbrev pub code_list : System → List ℕ → List ℕ
 code_list system is = join_with_byte 0x2C (map (λ i. code_of (signal_in system i)) is)
 
@@ -62,6 +62,6 @@ lines_below cells system n = flat_map (λ i. count_line (signal_in system i) (co
 abbrev pub count_lines : List HeardCell → System → List ℕ
 count_lines cells system = lines_below cells system (length (table system))
 
--- what `signals` prints of these frames
+-- the output of `signals` for these frames
 abbrev pub signals_text : Option ℕ → List Framed → List ℕ
 signals_text wanted fs = count_lines (valued_in wanted fs) Gps ++ count_lines (valued_in wanted fs) Galileo

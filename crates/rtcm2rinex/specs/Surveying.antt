@@ -1,5 +1,5 @@
--- What the commands `signals` and `options` have read and written. The reader had r left and now has r', and the writer held w and now holds
--- w'. `text` is what is printed of the frames of a stream, for a station or for every one.
+-- What the commands `signals` and `options` have read and written. The reader had r left and now has r', and the writer
+-- had written w and now has written w'. `text` is the output for the frames of a stream, for one station or for all.
 use Rattle.std.specs.Prelude.{◌≡◌, ℕ, ◌<◌, ◌^◌, List, [], length, Option, codes}
 use Rattle.std.specs.Io.KnownBytes.{Appends, Consumes, IsAtEnd}
 use Rattle.clap.specs.Walk.{Row, one_of}
@@ -24,7 +24,7 @@ ReadsCells wanted r r' Does = (b : List ℕ) × Consumes r r' b × IsAtEnd r' ×
 abbrev pub PrintsSurvey : SurveyText → Option ℕ → (r r' w w' : Option (List ℕ)) → Type 0
 PrintsSurvey text wanted r r' w w' = ReadsCells wanted r r' (λ fs. Appends w w' (text wanted fs))
 
--- a prefix of it was
+-- a prefix of it was written
 abbrev pub PrintsSurveyPart : SurveyText → Option ℕ → (r r' w w' : Option (List ℕ)) → Type 0
 PrintsSurveyPart text wanted r r' w w' = ReadsCells wanted r r' (λ fs. AppendsPrefix w w' (text wanted fs))
 
@@ -36,7 +36,7 @@ HasNoSignal wanted r r' = (b : List ℕ) × Consumes r r' b × IsAtEnd r' × (va
 abbrev pub ReadsTooMuch : ℕ → (r r' : Option (List ℕ)) → Type 0
 ReadsTooMuch limit r r' = (b : List ℕ) × Consumes r r' b × (limit < length b)
 
--- What was read and written at a fault: anything was written only at `Write`.
+-- What was read and written at a fault: only at `Write` was anything written.
 abbrev pub StopsSurvey : {R W : Type 0} → SurveyText → Option ℕ → (R → Option (List ℕ)) → (r r' : Device R) → (W → Option (List ℕ)) → (w w' : Device W) → ToolFault → Type 0
 StopsSurvey text wanted left r r' held w w' faults.Read = w' ≡ w
 StopsSurvey text wanted left r r' held w w' faults.Write = Moves left r r' held w w' (PrintsSurveyPart text wanted)
@@ -50,10 +50,10 @@ StopsSurvey text wanted left r r' held w w' other = ⊥
 abbrev pub OfStation : List Row → (Option ℕ → Type 0) → Type 0
 OfStation options Does = (wanted : Option ℕ) × IsNumberOf 16 (one_of (codes "station") options) wanted × Does wanted
 
--- of the station that these options name, or of every station, the text was printed
+-- the text was printed for the station that these options give, or for all stations
 abbrev pub PrintsAsked : SurveyText → List Row → (r r' w w' : Option (List ℕ)) → Type 0
 PrintsAsked text options r r' w w' = OfStation options (λ wanted. PrintsSurvey text wanted r r' w w')
 
--- a fault stopped that
+-- the same was stopped by a fault
 abbrev pub StopsAsked : {R W : Type 0} → SurveyText → List Row → (R → Option (List ℕ)) → (r r' : Device R) → (W → Option (List ℕ)) → (w w' : Device W) → ToolFault → Type 0
 StopsAsked text options left r r' held w w' fault = OfStation options (λ wanted. StopsSurvey text wanted left r r' held w w' fault)

@@ -1,4 +1,4 @@
-//! The command `check`: whether the input is a file as `convert` writes it, and how much it holds.
+//! The command `check`: whether the input is a file as `convert` writes it, and its counts.
 ghost use Rattle.std.specs.Prelude.{◌≡◌};
 ghost use Rattle.rinex_file.specs.Value.{FileValue};
 ghost use Rattle.rinex_file.specs.Blocks.{LeavesRest};
@@ -14,7 +14,7 @@ use rtcm_bits::Counted;
 use std::alloc::Global;
 use std::io::{Read, Write};
 
-/// The line of a file: how many epochs it has, how many lines of satellites, and how many events.
+/// Returns the line of a file: its numbers of epochs, satellite lines and events.
 #[tactic(auto, unfolding(crate::specs::Checking::check_line))]
 fn check_line(counts: Counts) -> Line
     ensures { (v : FileValue) → AreCounts counts v → result ≡ check_line v }
@@ -29,8 +29,12 @@ fn check_line(counts: Counts) -> Line
     line
 }
 
-/// Reads a file to its end and writes how many epochs, satellites and events it has. It is accepted
-/// exactly if it is encoded as `convert` encodes files; otherwise the error names a line that isn't.
+/// Reads a file to its end and writes its numbers of epochs, satellite lines and events. It is
+/// accepted exactly if it is encoded as `convert` encodes files.
+///
+/// # Errors
+///
+/// `Check` with the fault of `check_file`, and `Write` if the writer failed.
 pub fn run_check<R: Read, W: Write>(
     alloc: Global,
     reader: &mut Counted<R>,

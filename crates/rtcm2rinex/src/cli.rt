@@ -14,7 +14,11 @@ use std::alloc::{AllocError, Global};
 /// The name, the version, and the kit that it is proved and built with, as `rt version` prints it.
 pub const VERSION: &str = "rtcm2rinex 1.1.0 (rattle-kit-13b logic dac8208d650f15bf)\n";
 
-/// What the words ask for, the first of which is the program's name.
+/// Parses the words of the command line, the first of which is the program's name.
+///
+/// # Errors
+///
+/// The error of clap if the words aren't accepted, ask for help or the version, or memory ran out.
 pub fn parse<'a>(alloc: Global, words: &'a [&'a str]) -> Result<ArgMatches<'a>, Error>
     ensures asked { IfOk result (IsFoundIn (texts words.now)) }
     ensures refused { IfErr result (RefusesWords (texts words.now)) }
@@ -23,7 +27,7 @@ pub fn parse<'a>(alloc: Global, words: &'a [&'a str]) -> Result<ArgMatches<'a>, 
     program.try_get_matches_from(words)
 }
 
-/// The program and its commands.
+/// Returns the program with its commands.
 fn program<'a>(alloc: Global, commands: &[CommandRow<'a>]) -> Result<Command<'a>, AllocError>
     requires { line.AreCommands commands.now }
     ensures { IfOk result (λ c. IsProgram (app_of c)) }
@@ -34,7 +38,7 @@ fn program<'a>(alloc: Global, commands: &[CommandRow<'a>]) -> Result<Command<'a>
     with_commands(alloc, program, commands)
 }
 
-/// The program with a command for each of these rows.
+/// Returns the program with a command for each of these rows.
 fn with_commands<'a>(
     alloc: Global,
     program: Command<'a>,
@@ -49,14 +53,14 @@ fn with_commands<'a>(
     program
 }
 
-/// A command with its help and its options.
+/// Returns a command with its help and its options.
 fn command<'a>(alloc: Global, row: &CommandRow<'a>) -> Result<Command<'a>, AllocError>
     ensures { IfOk result (λ c. app_of c ≡ command_set row.now) }
 {
     with_options(alloc, described(alloc, row.name, &row.help), row.options)
 }
 
-/// The command with an option for each of these rows.
+/// Returns the command with an option for each of these rows.
 fn with_options<'a>(
     alloc: Global,
     command: Command<'a>,
@@ -71,10 +75,10 @@ fn with_options<'a>(
     command
 }
 
-// The two that follow take a command for which memory may have been wanting, and answer one: so no
-// loop has a way out at which it would have to drop what was made before.
+// The two functions that follow accept and return the result of an allocation, so that the loops
+// above have no early exit at which they would have to drop the commands made before.
 
-/// The program with one command more.
+/// Returns the program with one more command.
 fn with_command<'a>(
     program: Result<Command<'a>, AllocError>,
     command: Result<Command<'a>, AllocError>,
@@ -96,7 +100,7 @@ fn with_command<'a>(
     }
 }
 
-/// A command with one option more.
+/// Returns a command with one more option.
 fn with_option<'a>(
     alloc: Global,
     command: Result<Command<'a>, AllocError>,
@@ -107,7 +111,7 @@ fn with_option<'a>(
     command?.arg(option(alloc, row))
 }
 
-/// A command of this name with its help.
+/// Returns a command of this name with its help.
 fn described<'a>(alloc: Global, name: &'a str, help: &Help) -> Command<'a>
     ensures { app_of result ≡ new_app name.entry.now }
 {
@@ -116,7 +120,7 @@ fn described<'a>(alloc: Global, name: &'a str, help: &Help) -> Command<'a>
         .after_help(help.examples)
 }
 
-/// An option with its help, as its value is read.
+/// Returns an option with its help and the parser of its value.
 fn option<'a>(alloc: Global, row: &OptionRow<'a>) -> Arg<'a>
     ensures { rule_of result ≡ option_set row.now }
 {
@@ -127,7 +131,7 @@ fn option<'a>(alloc: Global, row: &OptionRow<'a>) -> Arg<'a>
     )
 }
 
-/// An option whose value is read so.
+/// Returns the option with the parser and the default of its value.
 fn read_by<'a>(option: Arg<'a>, reading: Reading<'a>) -> Arg<'a>
     ensures { rule_of result ≡ line.read_so reading.entry (rule_of option.entry) }
 {

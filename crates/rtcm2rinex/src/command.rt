@@ -41,15 +41,15 @@ pub fn command<R: Read, W: Write, E: Write>(
 ) -> u8
     ensures status { result ≤ 2 }
 
-    // By clap's own definitions under the program's options, the words ask for a command, and it did
-    // what it is for with these options; or they ask for the version, and it was written.
+    // By clap's definitions under the program's options, the words ask for a command, which
+    // completed with these options; or they ask for the version, which was written.
     ensures good { result ≡ 0 → HasServed R.remaining reader.old reader.new W.contents writer.old writer.new (texts words.now) }
 
-    // They ask for a command that this fault stopped.
+    // They ask for a command that was stopped by a fault.
     ensures stopped { result ≡ 1 → HasFailedToServe R.remaining reader.old reader.new W.contents writer.old writer.new (texts words.now) }
 
-    // They have a fault, or ask for help, or to convert with a position or height that is none.
-    // Nothing was read, and nothing written to the output.
+    // They aren't accepted, ask for help, or ask to convert with an invalid position or height.
+    // Nothing was read, and nothing was written to the output.
     ensures refused { result ≡ 2 → AreRefused (texts words.now) × IsUntouched reader.old reader.new writer.old writer.new }
 {
     match parse(alloc, words) {
@@ -131,8 +131,7 @@ fn convert<R: Read, W: Write, E: Write>(
     }
 }
 
-/// Prints the version if the words ask for it, else what is wrong with them. Returns the exit
-/// status.
+/// Prints the version if the words ask for it, else clap's error. Returns the exit status.
 fn answer<W: Write, E: Write>(error: &clap::Error, writer: &mut Counted<W>, faults: &mut E) -> u8
     ensures status { result ≤ 2 }
     ensures good { result ≡ 0 → (kind_of error.now ≡ DisplayVersion) × PrintsText W.contents writer.old writer.new VERSION.now }
@@ -161,8 +160,9 @@ pub fn refuse_words<E: Write>(error: &io::Error, faults: &mut E) -> u8
     2
 }
 
-/// The exit status of a command that ended so, after a fault was printed on one line: 2 if an option
-/// has another form. A failure of this writer is ignored.
+/// Prints the fault of a command, if any, on one line, and returns the exit status: 0 after
+/// success, 2 if the position or the height is invalid, else 1. A failure of this writer is
+/// ignored.
 fn exit_status<E: Write>(ended: Result<(), ToolFault>, faults: &mut E) -> u8
     ensures value { result ≡ status_of ended }
     ensures range { result ≤ 2 }
@@ -176,7 +176,7 @@ fn exit_status<E: Write>(ended: Result<(), ToolFault>, faults: &mut E) -> u8
     }
 }
 
-/// The exit status of a fault.
+/// Returns the exit status of a fault.
 fn fault_status(fault: ToolFault) -> u8
     ensures value { result ≡ fault_status fault }
     ensures range { (1 ≤ result) × (result ≤ 2) }

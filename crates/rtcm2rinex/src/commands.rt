@@ -1,4 +1,4 @@
-//! The commands and their options, a row each, as the manual page lists them.
+//! The commands and their options, one row each, as listed in the manual page.
 use crate::help;
 use crate::help::Help;
 
@@ -14,7 +14,7 @@ pub struct CommandRow<'a> {
 #[derive(Clone, Copy)]
 pub struct OptionRow<'a> {
     pub name: &'a str,
-    /// What help calls its value.
+    /// The name of its value in the help text.
     pub value: &'a str,
     pub help: &'a str,
     pub reading: Reading<'a>,
@@ -25,15 +25,15 @@ pub struct OptionRow<'a> {
 pub enum Reading<'a> {
     /// A required text.
     Given,
-    /// A text, or this.
+    /// A text, with this default.
     Or(&'a str),
-    /// One of these words, or this.
+    /// One of these words, with this default.
     Among(&'a [&'a str], &'a str),
-    /// A required GPS week.
+    /// A required GPS week, 0 to 99,999.
     Week,
-    /// A reference station (DF003), or none.
+    /// An optional reference station (DF003), 0 to 4,095.
     Station,
-    /// A number of bytes, or the greatest.
+    /// A number of bytes, 0 to 2^48, with the default 2^48.
     Bytes,
 }
 

@@ -13,10 +13,14 @@ use rtcm_convert::{Fault, Report, Setup, convert_stream, convert_stream_at};
 use std::alloc::Global;
 use std::io::{Read, Write};
 
-/// Makes the observation file of a stream that is read to its end: for every stream, however the
-/// reader cuts it, and every starting week and plan, the file written is exactly the one defined
-/// from the stream's valid frames in order. It has an epoch; where there is none, the answer is
-/// `NoEpoch`.
+/// Writes the observation file of a stream that is read to its end. For every stream, regardless of
+/// the sizes of the reads, and for every starting week and plan, the file written is exactly the
+/// one defined from the stream's valid frames in order, and has an epoch.
+///
+/// # Errors
+///
+/// `Read`, `Write`, and `Convert` with the other faults of `convert_stream`, of which `NoEpoch`
+/// means that the file has no epoch.
 pub fn run_convert<R: Read, W: Write>(
     alloc: Global,
     setup: Setup,
@@ -35,8 +39,12 @@ pub fn run_convert<R: Read, W: Write>(
     }
 }
 
-/// Makes the observation file of a stream as `run_convert` does, with the station values `initial`
+/// Writes the observation file of a stream as `run_convert` does, with the station values `initial`
 /// until a station message has others.
+///
+/// # Errors
+///
+/// Those of `run_convert`.
 pub fn run_convert_at<R: Read, W: Write>(
     alloc: Global,
     setup: Setup,
@@ -56,8 +64,8 @@ pub fn run_convert_at<R: Read, W: Write>(
     }
 }
 
-/// Prints one line of all counts, each after its name. A failure of this writer is ignored: the file
-/// is written.
+/// Prints one line of all counts, each after its name. A failure of this writer is ignored, since
+/// the file is already written.
 pub fn print_report<E: Write>(report: &Report, faults: &mut E) {
     let _ = writeln!(
         faults,

@@ -11,21 +11,21 @@ use rtcm_convert::Fault;
 use rtcm_scan::{ScanFault, StreamFault};
 use std::fmt;
 
-/// Why a command stopped. It is shown as the fault's own name, and after it each thing that the
+/// Why a command stopped. It is displayed as the fault's name, followed by the values that the
 /// fault carries.
 #[derive(Clone, Copy, Drop)]
 pub enum ToolFault {
-    /// There is no memory to read the words.
+    /// Out of memory while reading the words.
     Memory,
     /// The reader failed.
     Read,
-    /// The writer failed, or took none of the bytes that it was offered.
+    /// The writer failed, or accepted none of the bytes of a write.
     Write,
     /// The framer refused.
     Scan(ScanFault),
-    /// The text of `--position` is no position.
+    /// The text of `--position` isn't a position.
     BadPosition,
-    /// The text of `--antenna-height` is no height.
+    /// The text of `--antenna-height` isn't a height.
     BadHeight,
     /// A text of the header was refused.
     Header(HeadFault),
@@ -33,7 +33,7 @@ pub enum ToolFault {
     Plan(PlanFault),
     /// The converter refused.
     Convert(Fault),
-    /// The file that was to be checked was refused.
+    /// The file checked was refused.
     Check(ReadFault),
     /// No cell of the stream has a value.
     NoSignal,
@@ -118,7 +118,7 @@ impl fmt::Display for ToolFault {
     }
 }
 
-/// Why a text of the header was refused, and the text's name.
+/// Writes why a text of the header was refused, and the text's name.
 fn show_head_fault<W: fmt::Write>(fault: HeadFault, f: &mut fmt::Formatter<W>) -> fmt::Result {
     match fault {
         HeadFault::TooLong(field) => write!(f, "TooLong {}", field.name()),
@@ -127,7 +127,7 @@ fn show_head_fault<W: fmt::Write>(fault: HeadFault, f: &mut fmt::Formatter<W>) -
     }
 }
 
-/// Why the plan was refused, and the system and the place of the code.
+/// Writes why the plan was refused, and the system and the index of the code.
 fn show_plan_fault<W: fmt::Write>(fault: PlanFault, f: &mut fmt::Formatter<W>) -> fmt::Result {
     match fault {
         PlanFault::UnknownCode(system, place) => {
@@ -140,7 +140,7 @@ fn show_plan_fault<W: fmt::Write>(fault: PlanFault, f: &mut fmt::Formatter<W>) -
     }
 }
 
-/// Why a file was refused, and the line.
+/// Writes why a file was refused, and the number of the line.
 fn show_read_fault<W: fmt::Write>(fault: ReadFault, f: &mut fmt::Formatter<W>) -> fmt::Result {
     let (name, line) = match fault {
         ReadFault::BadHeader(line) => ("BadHeader", line),
@@ -153,7 +153,7 @@ fn show_read_fault<W: fmt::Write>(fault: ReadFault, f: &mut fmt::Formatter<W>) -
     write!(f, "{name} {line}")
 }
 
-/// The letter of a system in RINEX.
+/// Returns the letter of a system in RINEX.
 fn letter_of(system: System) -> &'static str {
     match system {
         System::Gps => "G",

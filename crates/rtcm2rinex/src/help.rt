@@ -1,11 +1,11 @@
-//! What the program says of itself and of its commands.
+//! The help texts of the program and of its commands.
 
 /// The help of a command.
 #[derive(Clone, Copy)]
 pub struct Help {
     /// What it does.
     pub about: &'static str,
-    /// How it is called, and what a line that it prints means.
+    /// How it is called, and the meaning of the lines that it prints.
     pub examples: &'static str,
 }
 

@@ -4,8 +4,8 @@ ghost use Rattle.rtcm_msg.specs.declared.message.Message.{Message};
 ghost use Rattle.rtcm2rinex.specs.ReadBack.{AreKnown, AreEncoded, ReadsBack};
 ghost use Rattle.rtcm2rinex.specs.SignalLaws.{LeavesNoneOut, AreReadAsPlan, SkipsNoValue};
 
-/// For every list of messages of known layouts: they have encodings, and whatever these are, their
-/// frames, joined, have exactly these frames, and are read back as that list.
+/// Every list of messages of known layouts has encodings. For every choice of these, their frames,
+/// joined, are a stream with exactly these frames, which is read back as that list.
 pub fn read_back()
     ensures encoded { (vs : List Message) → AreKnown vs → (es : List (List ℕ)) × AreEncoded es vs }
     ensures back { (es : List (List ℕ)) (vs : List Message) → AreEncoded es vs → ReadsBack es vs }

@@ -10,7 +10,7 @@ use rtcm_bits::Counted;
 use std::io::Write;
 use std::marker::Model;
 
-/// A line that is made word by word, with single blanks between the words.
+/// A line of at most 320 bytes, built word by word with single blanks between the words.
 #[derive(Drop)]
 pub struct Line {
     text: ArrayVec<u8, 320>,
@@ -27,7 +27,7 @@ impl Model for Line {
 }
 
 impl Line {
-    /// A line whose first word is a number.
+    /// Returns a line whose first word is this number.
     pub fn starting_with(number: u64) -> Line
         ensures text { result ≡ decimal number }
         ensures short { length result ≤ 20 }
@@ -39,7 +39,7 @@ impl Line {
         line
     }
 
-    /// A line with this first word.
+    /// Returns a line with this first word.
     pub fn starting_with_word(word: &str) -> Line
         requires { length word.now ≤ 320 }
         ensures text { result ≡ word.now }
@@ -51,7 +51,7 @@ impl Line {
         line
     }
 
-    /// One more word, a number.
+    /// Appends a blank and a number.
     pub fn add_number(&mut self, number: u64)
         requires { length self.old ≤ 235 }
         ensures text { self.new ≡ self.old ++ 0x20 ∷ decimal number }
@@ -61,7 +61,7 @@ impl Line {
         self.put(Buffer::new().format(number).as_bytes());
     }
 
-    /// One more word.
+    /// Appends a blank and a word.
     pub fn add_word(&mut self, word: &str)
         requires { length self.old + length word.now + 1 ≤ 320 }
         ensures text { self.new ≡ self.old ++ 0x20 ∷ word.now }
@@ -71,7 +71,7 @@ impl Line {
         self.put(word.as_bytes());
     }
 
-    /// A byte that parts, and a text after it.
+    /// Appends a separator and a text.
     pub fn add_part(&mut self, separator: u8, part: &[u8])
         requires { length self.old + length part.now + 1 ≤ 320 }
         ensures text { self.new ≡ self.old ++ separator ∷ part.now }
@@ -81,7 +81,7 @@ impl Line {
         self.put(part);
     }
 
-    /// Adds a separator and a length in units of 0.0001 m, in metres with four decimals.
+    /// Appends a separator and a length, given in units of 0.0001 m, in metres with four decimals.
     pub fn add_metres(&mut self, separator: u8, value: i64)
         requires { length self.old ≤ 293 }
         ensures text { self.new ≡ self.old ++ separator ∷ metres value }
@@ -108,7 +108,7 @@ impl Line {
         self.put(decimals.as_slice());
     }
 
-    /// The line feed after the last word.
+    /// Appends the line feed.
     pub fn finish(&mut self)
         requires { length self.old < 320 }
         ensures { self.new ≡ self.old ++ 0x0A ∷ [] }
@@ -116,7 +116,7 @@ impl Line {
         self.put(b"\n");
     }
 
-    /// The line's bytes.
+    /// Returns the line's bytes.
     pub fn as_bytes(&self) -> &[u8]
         ensures text { result.now ≡ self.now }
         ensures short { length result.now ≤ 320 }
@@ -132,7 +132,11 @@ impl Line {
     }
 }
 
-/// Writes a text at once, and flushes the writer.
+/// Writes a text, and flushes the writer.
+///
+/// # Errors
+///
+/// `Write` if the writer failed.
 pub fn print_text<W: Write>(text: &[u8], writer: &mut Counted<W>) -> Result<(), ToolFault>
     ensures { EndsPrinting result W.contents writer.old writer.new text.now }
 {
@@ -143,7 +147,7 @@ pub fn print_text<W: Write>(text: &[u8], writer: &mut Counted<W>) -> Result<(), 
     }
 }
 
-/// The last digit of a number.
+/// Returns the last decimal digit of a number, in ASCII.
 fn digit(number: u64) -> u8
     ensures { result ≡ digit number }
 {

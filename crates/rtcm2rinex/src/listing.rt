@@ -16,10 +16,10 @@ use rtcm_scan::{Frame, FrameSink, Framer, MOST_BYTES, ScanFault, laws};
 use std::alloc::Global;
 use std::io::{Read, Write};
 
-/// Largest number of bytes that are read at a time.
+/// Largest number of bytes read at a time.
 pub const PIECE_BYTES: usize = 65_536;
 
-/// Which lines are written of a stream.
+/// The lines that are written for a stream.
 #[derive(Clone, Copy)]
 pub enum Listing {
     /// A line for each frame.
@@ -68,8 +68,12 @@ fn write_line<W: Write>(
     }
 }
 
-/// Writes a line for each frame of the stream: its offset, the length of its message and the
-/// message's number.
+/// Writes a line for each frame of the stream: its offset and the length of its message in bytes,
+/// and the message number (DF002).
+///
+/// # Errors
+///
+/// Those of `list`.
 pub fn run_frames<R: Read, W: Write>(
     alloc: Global,
     reader: &mut Counted<R>,
@@ -84,6 +88,10 @@ pub fn run_frames<R: Read, W: Write>(
 
 /// Writes a line for each message of the stream that is read or refused: a station, the head of an
 /// MSM, or the fault.
+///
+/// # Errors
+///
+/// Those of `list`.
 pub fn run_show<R: Read, W: Write>(
     alloc: Global,
     reader: &mut Counted<R>,
@@ -98,6 +106,11 @@ pub fn run_show<R: Read, W: Write>(
 
 /// Writes the lines of a stream of at most `limit` bytes, and flushes the writer after each piece
 /// that is read.
+///
+/// # Errors
+///
+/// `Read` if the reader failed, `Write` if the writer failed, and `Scan` if the stream is longer
+/// than the limit or memory ran out.
 pub fn list<R: Read, W: Write>(
     alloc: Global,
     listing: Listing,
@@ -110,7 +123,7 @@ pub fn list<R: Read, W: Write>(
         (λ _. Moves R.remaining reader.old reader.new W.contents writer.old writer.new (ListsAll (listing_lines listing)))
         (StopsListing limit (listing_lines listing) R.remaining reader.old reader.new W.contents writer.old writer.new) }
 {
-    // The limit is valid, so a framer is refused for lack of memory alone.
+    // The limit is valid, so a framer is refused only when out of memory.
     let Ok(mut framer) = Framer::new(alloc, limit) else {
         return Err(ToolFault::Scan(ScanFault::Memory));
     };

@@ -1,6 +1,6 @@
-//! Reads an RTCM 3 stream from standard input, and writes what it says to standard output: its
-//! frames, its messages, its signals, or the RINEX 3.05 observation file of its observations. It
-//! reads such a file back, too, and says whether it is one.
+//! Reads an RTCM 3 stream from standard input, and writes its content to standard output: its
+//! frames, its messages, its signals, or the RINEX 3.05 observation file of its observations. The
+//! command `check` reads such a file back and reports whether it is accepted.
 #![tactic(auto)]
 
 mod check;
@@ -29,7 +29,7 @@ use std::io;
 use std::io::BufReader;
 use std::process::ExitCode;
 
-/// So many bytes of standard input are asked for at a time: what a pipe holds.
+/// Size of the buffer of standard input, in bytes: the capacity of a pipe.
 const INPUT_BYTES: usize = 65_536;
 
 fn main(rt: HostRuntime) -> ExitCode {
@@ -40,8 +40,8 @@ fn main(rt: HostRuntime) -> ExitCode {
     ExitCode::from(status)
 }
 
-/// Runs the command that the program's words ask for, and answers the exit status, unless the words
-/// can't be had.
+/// Runs the command of the command line, and returns the exit status, or an error if the words of
+/// the command line can't be read or memory ran out.
 fn run(rt: &HostRuntime) -> io::Result<u8> {
     let alloc: Global = rt.alloc();
     let owned: Vec<String> = std::env::args(rt)?.collect(alloc)?;
@@ -52,13 +52,13 @@ fn run(rt: &HostRuntime) -> io::Result<u8> {
     run_over_streams(rt, alloc, words.as_slice())
 }
 
-/// Runs the command over the standard streams, and answers the exit status.
+/// Runs the command over the standard streams, and returns the exit status.
 fn run_over_streams(rt: &HostRuntime, alloc: Global, words: &[&str]) -> io::Result<u8> {
-    // A file is read line by line and a stream in small pieces, and lines are written one by one:
-    // none should ask the system for each.
+    // Files are read line by line, streams in small pieces, and lines are written one by one. The
+    // buffers avoid a system call for each.
     let input = BufReader::with_capacity(alloc, INPUT_BYTES, rt.stdin())?;
     let mut reader = Counted::new(input);
-    // The commands send on what waits before they ask for more.
+    // The commands flush the buffer before they read more.
     let mut writer = Counted::new(Buffered::new(alloc, rt.stdout())?);
     Ok(command(alloc, words, &mut reader, &mut writer, &mut rt.stderr()))
 }

@@ -8,7 +8,7 @@ ghost use Rattle.rtcm2rinex.specs.Lengths.{coordinate_of, cut, decimals_of, leng
 use crate::fault::ToolFault;
 use obs_epoch::StationValues;
 
-/// The station values of the texts of `--position` and `--antenna-height`.
+/// Returns the station values of the texts of `--position` and `--antenna-height`.
 ///
 /// # Errors
 ///
@@ -30,7 +30,7 @@ pub fn values_in(position: &str, height: &str) -> Result<StationValues, ToolFaul
     }
 }
 
-/// X, Y and Z, separated by commas.
+/// Parses X, Y and Z, separated by commas.
 fn position_of(text: &[u8]) -> Option<(i64, i64, i64)>
     ensures { result ≡ position_of text.now }
 {
@@ -39,7 +39,7 @@ fn position_of(text: &[u8]) -> Option<(i64, i64, i64)>
     Some((coordinate_of(x)?, coordinate_of(y)?, coordinate_of(z)?))
 }
 
-/// A length of 38 bits, with or without a minus sign.
+/// Parses a length that fits 38 bits, with or without a minus sign, in units of 0.0001 m.
 fn coordinate_of(text: &[u8]) -> Option<i64>
     ensures { result ≡ coordinate_of text.now }
 {
@@ -49,7 +49,7 @@ fn coordinate_of(text: &[u8]) -> Option<i64>
     }
 }
 
-/// The text after a minus sign, if it begins with one.
+/// Returns the text after a minus sign, or `None` if it doesn't begin with one.
 fn without_minus(text: &[u8]) -> Option<&[u8]>
     ensures { MatchOption result (strip_byte 0x2D text.now ≡ None) (λ r. strip_byte 0x2D text.now ≡ Some r.now) }
 {
@@ -63,7 +63,7 @@ fn without_minus(text: &[u8]) -> Option<&[u8]>
     }
 }
 
-/// A length less than a bound.
+/// Parses a length below a bound, in units of 0.0001 m.
 fn length_below(text: &[u8], bound: u64) -> Option<u64>
     ensures value { result ≡ length_below bound text.now }
     ensures below { IfSome result (λ n. n < bound) }
@@ -72,7 +72,7 @@ fn length_below(text: &[u8], bound: u64) -> Option<u64>
     if length < bound { Some(length) } else { None }
 }
 
-/// A length of at most eight digits, a point and four decimals.
+/// Parses a length of at most eight digits, a point and four decimals, in units of 0.0001 m.
 fn length_of(text: &[u8]) -> Option<u64>
     ensures { result ≡ length_of text.now }
 {
@@ -85,7 +85,7 @@ fn length_of(text: &[u8]) -> Option<u64>
     }
 }
 
-/// One to four decimals.
+/// Parses one to four decimals, in units of 0.0001.
 fn decimals_of(text: &[u8]) -> Option<u64>
     ensures value { result ≡ decimals_of text.now }
     ensures small { IfSome result (λ n. n < 10 ^ 12) }
@@ -100,7 +100,7 @@ fn decimals_of(text: &[u8]) -> Option<u64>
     Some(number * unit)
 }
 
-/// The texts before and after the first of these bytes, if there is one.
+/// Returns the texts before and after the first separator, or `None` if there is none.
 fn cut(text: &[u8], separator: u8) -> Option<(&[u8], &[u8])>
     ensures { MatchOption result (cut separator text.now ≡ None) (λ p. cut separator text.now ≡ Some (p.0.now, p.1.now)) }
 {
@@ -117,7 +117,7 @@ fn place_of(text: &[u8], separator: u8) -> Option<usize>
     text.iter().position(|b| *b == separator)
 }
 
-/// The number of one to `most` digits.
+/// Parses a number of one to `most` digits.
 fn number_of(text: &[u8], most: usize) -> Option<u64>
     requires { most ≤ 8 }
     ensures value { result ≡ number_of most text.now }
@@ -142,7 +142,7 @@ fn are_digits(text: &[u8]) -> bool
     text.iter().all(|b| b.is_ascii_digit())
 }
 
-/// The digits of a text as one number; other bytes are passed over.
+/// Returns the digits of a text as one number; other bytes are ignored.
 fn digits_in(text: &[u8]) -> u64
     requires { length text.now ≤ 8 }
     ensures value { result ≡ digits_in text.now }

@@ -1,4 +1,4 @@
-//! What the options of the commands ask for.
+//! The values of the options of the commands.
 ghost use Rattle.std.specs.Prelude.{◌≡◌, MatchResult, codes, not};
 ghost use Rattle.clap.specs.Walk.{one_of};
 ghost use Rattle.std.specs.Str.{bytes_eq};
@@ -15,7 +15,11 @@ use rtcm_convert::Setup;
 use rtcm_scan::MOST_BYTES;
 use std::alloc::Global;
 
-/// Returns what a conversion begins with. The texts of the header are judged before the plan.
+/// Returns the settings of a conversion. The texts of the header are checked before the plan.
+///
+/// # Errors
+///
+/// `Header` if a text of the header is refused, and `Plan` if the plan is.
 pub fn setup_of(alloc: Global, options: &ArgMatches) -> Result<Setup, ToolFault>
     ensures { MatchResult result (IsSetupOf (options_of options.now)) (IsSetupRefused (options_of options.now)) }
 {
@@ -31,7 +35,7 @@ pub fn setup_of(alloc: Global, options: &ArgMatches) -> Result<Setup, ToolFault>
     })
 }
 
-/// The texts of the header.
+/// Returns the texts of the header.
 fn texts_of<'a>(options: &ArgMatches<'a>) -> Texts<'a>
     ensures { lists_of result ≡ texts_set (options_of options.now) }
 {
@@ -50,7 +54,7 @@ fn texts_of<'a>(options: &ArgMatches<'a>) -> Texts<'a>
     }
 }
 
-/// The rule of gathering of this name.
+/// Returns the rule of gathering of this name.
 fn gather_of(name: &str) -> Gather
     ensures { is_by_bit result ≡ not (bytes_eq name.now (codes "time")) }
 {
@@ -60,7 +64,7 @@ fn gather_of(name: &str) -> Gather
     }
 }
 
-/// The value of an option: each that is asked for is required or has a default.
+/// Returns the value of an option that is required or has a default.
 fn text<'a>(options: &ArgMatches<'a>, name: &str) -> &'a str
     ensures { result.now ≡ text_set (options_of options.now) name.now }
 {
@@ -70,14 +74,18 @@ fn text<'a>(options: &ArgMatches<'a>, name: &str) -> &'a str
     }
 }
 
-/// The station whose messages count, if one is given.
+/// Returns the station whose messages count, or `None` if the option isn't given.
 pub fn station_of(options: &ArgMatches) -> Option<u16>
     ensures { IsNumberOf 16 (one_of (codes "station") (options_of options.now)) result }
 {
     options.get_one::<u16>("station")
 }
 
-/// The station values that are given.
+/// Returns the station values of the options.
+///
+/// # Errors
+///
+/// `BadPosition` or `BadHeight` if a text has another form, or a length that no message can have.
 pub fn values_of(options: &ArgMatches) -> Result<StationValues, ToolFault>
     ensures { result ≡ values_by_message (options_of options.now) }
 {

@@ -22,9 +22,12 @@ use rtcm_scan::MOST_BYTES;
 use std::alloc::Global;
 use std::io::{Read, Write};
 
-/// Writes a line of the options of `convert` that fit the stream: the signals of the cells that have
-/// a value, and the values of the first station message, of a station or of every one. A stream
-/// without a signal is `NoSignal`.
+/// Writes a line of the options of `convert` that fit the stream: the signals of the cells that
+/// have a value, and the values of the first station message, of one station or of all.
+///
+/// # Errors
+///
+/// `NoSignal` if no cell has a value, `Write` if the writer failed, and those of `survey_stream`.
 pub fn run_options<R: Read, W: Write>(
     alloc: Global,
     station: Option<u16>,
@@ -45,7 +48,8 @@ pub fn run_options<R: Read, W: Write>(
     print_text(options_line(&survey).as_bytes(), writer)
 }
 
-/// The options that plan the signals counted, and those of the station message.
+/// Returns the line of the options that plan the counted signals, and of those of the station
+/// message.
 fn options_line(survey: &Survey) -> Line
     requires { IfSome survey.now.first InRange }
     ensures { (cells : List HeardCell) → AreSignalCounts survey.now.signal_counts cells → result ≡ options_line (plan_had cells) survey.now.first }

@@ -13,7 +13,8 @@ use rtcm_bits::BitReader;
 use rtcm_msg::{MsgFault, MsmView, StationParts, View, look};
 use rtcm_scan::Frame;
 
-/// The line of a frame: its offset, the length of its message, and the message's number.
+/// Returns the line of a frame: its offset and the length of its message in bytes, and the message
+/// number (DF002).
 pub fn frame_line(frame: &Frame) -> Line
     ensures { result ≡ frame_line (framed frame.now) }
 {
@@ -37,7 +38,7 @@ fn add_message_number(line: &mut Line, message: &[u8])
     }
 }
 
-/// Returns the line of a frame's message; one that is neither read nor refused has none.
+/// Returns the line of a frame's message, or `None` if it is neither read nor refused.
 // Inlined into the loop of `frames`, its buffers would be cleared for every frame.
 #[inline(never)]
 pub fn message_line(frame: &Frame) -> Option<Line>
@@ -51,8 +52,8 @@ pub fn message_line(frame: &Frame) -> Option<Line>
     }
 }
 
-/// The line of a station message: place, number, station, X, Y and Z in metres, and the height of a
-/// 1006.
+/// Returns the line of a station message: offset, number, station, X, Y and Z in metres, and the
+/// height of a 1006 in metres.
 fn station_line(offset: u64, station: StationParts) -> Line
     requires { InRange station }
     ensures { result ≡ station_line offset station }
@@ -80,7 +81,7 @@ fn add_height(line: &mut Line, height: Option<u16>)
     }
 }
 
-/// The number of a station message: 1006 where it has a height.
+/// Returns the number of a station message: 1006 if it has a height, else 1005.
 fn station_number(height: Option<u16>) -> u64
     ensures { result ≡ if is_some height then 1006 else 1005 }
 {
@@ -90,8 +91,8 @@ fn station_number(height: Option<u16>) -> u64
     }
 }
 
-/// The line of an MSM: place, number, station, time, DF393, and how many satellites, signals and
-/// cells it has.
+/// Returns the line of an MSM: offset, number, station, epoch time, DF393, and the numbers of
+/// satellites, signals and cells.
 fn msm_line(offset: u64, msm: &MsmView<'_>) -> Line
     ensures { result ≡ msm_line offset (message_number msm.now.form msm.now.msm.is_galileo) msm.now.msm }
 {
@@ -108,7 +109,7 @@ fn msm_line(offset: u64, msm: &MsmView<'_>) -> Line
     line
 }
 
-/// The line of a refused message: place, number and fault.
+/// Returns the line of a refused message: offset, number and fault.
 fn fault_line(offset: u64, message: &[u8], fault: MsgFault) -> Line
     requires { length message.now ≤ longest_message }
     ensures { result ≡ fault_line offset message.now fault }
@@ -120,7 +121,7 @@ fn fault_line(offset: u64, message: &[u8], fault: MsgFault) -> Line
     line
 }
 
-/// Adds a fault by its name, with the bit of a field that is cut off.
+/// Adds the name of a fault and, for `Short`, the index of the first bit of the field.
 fn add_fault(line: &mut Line, fault: MsgFault)
     requires { length line.old ≤ 200 }
     ensures text { line.new ≡ with_words line.old (fault_words fault) }

@@ -23,8 +23,12 @@ use std::io::{Read, Write};
 /// Room for a line of each signal: 34 of at most 26 bytes.
 const TEXT_BYTES: usize = 1_024;
 
-/// Writes the table of the signals of a stream, those of the cells that have a value, of a station or
-/// of every one. A stream without any is `NoSignal`.
+/// Writes the table of the signals of a stream that have a cell with a value, of one station or of
+/// all.
+///
+/// # Errors
+///
+/// `NoSignal` if no cell has a value, `Write` if the writer failed, and those of `survey_stream`.
 pub fn run_signals<R: Read, W: Write>(
     alloc: Global,
     station: Option<u16>,
@@ -45,7 +49,7 @@ pub fn run_signals<R: Read, W: Write>(
     print_text(count_lines(&survey.signal_counts).as_slice(), writer)
 }
 
-/// The code of the signal at a place of a system's table.
+/// Returns the RINEX code of the signal at an index of a system's table, in ASCII.
 pub fn code_at(system: System, index: usize) -> [u8; 2]
     requires { index < length (table system) }
     ensures value { result ≡ code_of (signal_in system index) }
@@ -57,7 +61,7 @@ pub fn code_at(system: System, index: usize) -> [u8; 2]
     }
 }
 
-/// A line for each signal that has a cell.
+/// Returns a line for each signal that has a cell.
 fn count_lines(signal_counts: &SignalCounts) -> ArrayVec<u8, TEXT_BYTES>
     ensures { (cells : List HeardCell) → AreSignalCounts signal_counts.now cells → result.items ≡ count_lines cells Gps ++ count_lines cells Galileo }
 {
@@ -82,7 +86,7 @@ fn add_lines(text: &mut ArrayVec<u8, TEXT_BYTES>, signal_counts: &SignalCounts, 
     }
 }
 
-/// The line of a signal: the letter of its system, its code, and the number of its cells.
+/// Returns the line of a signal: the letter of its system, its code, and the number of its cells.
 fn count_line(system: System, index: usize, count: u64) -> Line
     requires { index < length (table system) }
     ensures text { result ≡ count_line (signal_in system index) count }
@@ -95,7 +99,7 @@ fn count_line(system: System, index: usize, count: u64) -> Line
     line
 }
 
-/// The letter of a system in RINEX.
+/// Returns the letter of a system in RINEX.
 fn letter(system: System) -> &'static str
     ensures { result.now ≡ letter system }
 {

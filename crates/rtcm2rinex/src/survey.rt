@@ -53,8 +53,8 @@ impl FrameSink<()> for Survey {
     }
 }
 
-/// Counts the cells of a frame's message, and keeps the first station message. A message that is
-/// refused has none.
+/// Counts the cells of a frame's message, and keeps the first station message. A refused message
+/// has no cells.
 fn survey_frame(
     station: Option<u16>,
     signal_counts: &mut SignalCounts,
@@ -74,7 +74,7 @@ fn survey_frame(
     }
 }
 
-/// The first station message after another message.
+/// Returns the first station message after another message is processed.
 fn first_of(
     first: Option<StationParts>,
     station: Option<u16>,
@@ -89,7 +89,7 @@ fn first_of(
     }
 }
 
-/// The content of a station message of the station, or of any.
+/// Returns the content of a station message of the station, or of any if none is given.
 fn point_of(station: Option<u16>, view: &View<'_>) -> Option<StationParts>
     ensures value { result ≡ point_of station (heard (viewed_message view.now)) }
     ensures in_range { IfSome result InRange }
@@ -107,7 +107,7 @@ fn point_of(station: Option<u16>, view: &View<'_>) -> Option<StationParts>
     }
 }
 
-/// Whether a station is the one that is wanted; if none is given, each is.
+/// Returns whether a station is the wanted one; if none is given, every station is.
 fn is_wanted(wanted: Option<u16>, station: u16) -> bool
     ensures { result ≡ option_map_or (λ n. station == n) wanted true }
 {
@@ -117,7 +117,12 @@ fn is_wanted(wanted: Option<u16>, station: u16) -> bool
     }
 }
 
-/// Surveys a stream of at most `limit` bytes, for a station or for every one.
+/// Surveys a stream of at most `limit` bytes, for one station or for all.
+///
+/// # Errors
+///
+/// `Read` if the reader failed, and `Scan` if the stream is longer than the limit or memory ran
+/// out.
 pub fn survey_stream<R: Read>(
     alloc: Global,
     station: Option<u16>,

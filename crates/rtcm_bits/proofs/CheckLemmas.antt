@@ -101,7 +101,7 @@ unfolding after_bits
 after_bits-append r [] ys = refl
 after_bits-append r (x ∷ xs) ys = after_bits-append (after_bit r x) xs ys
 
--- the remainder is what a register of zeros comes to
+-- the remainder is the final state of a register of zeros
 pub remainder_is : (m : List Bool) → bits_remainder m ≡ after_bits (replicate 24 false) m
 unfolding bits_remainder
 remainder_is m = ap (remainder (length m)) (sym (zeros_to_front 24 (m ++ replicate 24 false))) ∙ divide_all (replicate 24 false) m refl

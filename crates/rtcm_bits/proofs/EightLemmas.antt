@@ -1,5 +1,5 @@
--- Eight bytes at once: the register is added to the first three of them, and then each byte has a table of its own, whose
--- entries are the checks of that byte with the others 0.
+-- Eight bytes at once: the register is added to the first three of them; each byte has its own table, whose entries are
+-- the CRCs of that byte with the others 0.
 use Rattle.std.proofs.Common.{◌≡◌, ℕ, ◌+◌, ◌*◌, ◌/◌, ◌%◌, ◌^◌, ◌<◌, ◌≤◌, Bool, false, List, [], ◌∷◌, ◌++◌, length, drop, take, map, get_or, replicate, refl, sym, ap, ◌∙◌, arith, suc, zero, bit_and, bit_xor, length-append, lit<, lit≤}
 use Rattle.std.specs.Int.Bits.{xor_zero_r}
 use Rattle.std.proofs.lemmas.List.{get_or-drop, get_or-map, get_or-take, length-take-le, length-replicate, replicate-append-replicate}
@@ -45,7 +45,7 @@ unfolding bits_of uint
 zero_bits [] = refl
 zero_bits (x ∷ xs) = ap (λ (t : List Bool). replicate 8 false ++ t) (zero_bits xs)
 
--- the CRC of bytes is the sum of that of the first, followed by zeros, and that of the others
+-- the CRC of bytes is the sum of the CRC of the first, followed by zeros, and the CRC of the others
 front_bits : (c : ℕ) (rest : List ℕ) → uint 8 c ++ bits_of rest ≡ add_front (replicate 8 false ++ bits_of rest) (uint 8 c ++ bits_of (replicate (length rest) 0))
 front_bits c rest =
     let r : List Bool = bits_of rest in
@@ -74,7 +74,7 @@ check_front c rest =
     number_is (check (c ∷ rest)) (bit_xor (check rest) (check (c ∷ replicate (length rest) 0))) (check_below (c ∷ rest))
     (xor_lt 24 (check rest) (check (c ∷ replicate (length rest) 0)) (check_below rest) (check_below (c ∷ replicate (length rest) 0))) e
 
--- the register goes into the first three bytes
+-- the register is added to the first three bytes
 three_bytes : (h m l : ℕ) → m < 256 → l < 256 → uint 24 (h * 65536 + (m * 256 + l)) ≡ uint 8 h ++ (uint 8 m ++ uint 8 l)
 three_bytes h m l j k = uint-split 8 16 h (m * 256 + l) (omega (arith, j, k)) ∙ ap (λ (t : List Bool). uint 8 h ++ t) (uint-split 8 8 m l k)
 

@@ -49,7 +49,7 @@ part_of_bytes (x ∷ xs) (suc q) r n h k =
     let e : 8 * suc q + r ≡ suc (suc (suc (suc (suc (suc (suc (suc (8 * q + r)))))))) = omega arith in
     rw e (part_of_bytes xs q r n (omega arith) k)
 
--- n bits more
+-- n more bits
 pub number-more : (l : List Bool) (place i n : ℕ) → place + i + n ≤ length l
     → number (take (i + n) (drop place l)) ≡ number (take i (drop place l)) * 2 ^ n + number (take n (drop (place + i) l))
 number-more l place i n h =

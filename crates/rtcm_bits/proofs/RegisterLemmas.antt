@@ -7,7 +7,7 @@ use Rattle.rtcm_bits.specs.BitLaws.{uint-number, number-fits, bits_of-append, nu
 use Rattle.rtcm_bits.proofs.BitLemmas.{bits_of-push}
 use Rattle.rtcm_bits.proofs.CheckLemmas.{after_bits-append, remainder-append, length-bits_remainder}
 
--- the bits of a check are the remainder
+-- the bits of a CRC are the remainder
 pub check_is : (m : List ℕ) → uint 24 (check m) ≡ bits_remainder (bits_of m)
 unfolding check
 check_is m =
@@ -43,7 +43,7 @@ pub steps_more : (r : List Bool) (bytes more all : List ℕ) (x y : ℕ) → all
 steps_more r bytes more all x y m e f =
     f ∙ ap (λ t. after_bits t (bits_of more)) e ∙ sym (after_bits-append r (bits_of bytes) (bits_of more)) ∙ ap (after_bits r) (sym (bits_of-append bytes more) ∙ ap bits_of (sym m))
 
--- many bytes more
+-- several more bytes
 pub check_append : (m bytes : List ℕ) (x y : ℕ) → x ≡ check m → y < 2 ^ 24 → uint 24 y ≡ after_bits (uint 24 x) (bits_of bytes) → y ≡ check (m ++ bytes)
 check_append m bytes x y e h f =
     let g : uint 24 x ≡ bits_remainder (bits_of m) = ap (uint 24) e ∙ check_is m in

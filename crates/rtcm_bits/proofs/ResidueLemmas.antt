@@ -47,7 +47,7 @@ get_or-add_front (a ∷ g) [] i h l = absurd (omega arith)
 get_or-add_front (a ∷ g) (c ∷ p) zero h l = refl
 get_or-add_front (a ∷ g) (c ∷ p) (suc i) h l = get_or-add_front g p i (omega (arith, h)) (omega (arith, l))
 
--- the register's step loses nothing: only zeros become zeros
+-- a step of the register with a bit of 0 gives zeros only from zeros
 last_generator : get_or (drop 1 generator) 23 false ≡ true
 unfolding generator uint
 last_generator = refl

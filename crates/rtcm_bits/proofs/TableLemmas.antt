@@ -1,4 +1,4 @@
--- A table of the checks of single bytes gives the register after eight bits.
+-- A table of the CRCs of single bytes gives the register after eight bits.
 use Rattle.std.proofs.Common.{◌≡◌, ℕ, ◌+◌, ◌*◌, ◌/◌, ◌%◌, ◌^◌, ◌<◌, ◌≤◌, Bool, true, false, eqb, List, [], ◌∷◌, ◌++◌, length, drop, get_or, replicate, refl, sym, ap, ◌∙◌, arith, length-append, suc, zero, bit_and, bit_xor}
 use Rattle.std.proofs.lemmas.Bool.{agree_below_at, eqb-true}
 use Rattle.std.proofs.lemmas.List.{append-nil, length-replicate}

@@ -66,7 +66,7 @@ kept b b' more h e =
     let z : length (b.items ++ more) - b.capacity ≡ 0 = omega (arith, h, length-append b.items more) in
     e ∙ ap (λ (n : ℕ). buffer (drop n (b.items ++ more)) b.capacity) z
 
--- all items were taken out, and put back
+-- all items were moved out and back in
 pub moved_through : (b b' b'' : Buffer ℕ) (z z' : List ℕ) (n : ℕ) → length b.items ≤ length z → length z ≤ b.capacity → n ≡ min (length z) (length b.items)
     → z' ≡ take n b.items ++ drop n z → b' ≡ buffer (drop n b.items) b.capacity → b'' ≡ buffer (keep_last b'.capacity (b'.items ++ take n z')) b'.capacity → b'' ≡ b
 moved_through b b' b'' z z' n h g m r d e =
@@ -100,7 +100,7 @@ in_step b b' c c' more zeros i a z h e f =
     let y : c' ≡ buffer (c.items ++ zeros) c.capacity = kept c c' zeros (omega (arith, h, z, i.1, i.3)) f in
     rw (x, y) (i.0, i.1, omega (arith, h, length-append b.items more), omega (arith, z, i.3, length-append b.items more, length-append c.items zeros), All-append (λ (b : ℕ). b < 256) b.items more i.4 a)
 
--- the window that the contract states
+-- the state of the window in the contract
 pub view_pushed : (b b' c c' : Buffer ℕ) (more : List ℕ) (e m : ℕ) → InStep b c → length b.items + length more ≤ longest_frame
     → b' ≡ buffer (keep_last b.capacity (b.items ++ more)) b.capacity → c' ≡ buffer (keep_last c.capacity (c.items ++ replicate (length more) 0)) c.capacity
     → held_of b'.items c'.items e m ≡ pushed_all (held_of b.items c.items e m) more
@@ -110,7 +110,7 @@ view_pushed b b' c c' more e m i h p q =
     let y : c' ≡ buffer (c.items ++ replicate (length more) 0) c.capacity = kept c c' (replicate (length more) 0) (omega (arith, h, l, i.1, i.3)) q in
     rw (x, y) refl
 
--- one look more at each byte of a range
+-- one more look at each byte of a range
 pub view_looked : (b xs ys : List ℕ) (e e' m m' start n : ℕ) (w : WindowValue) → held_of b xs e m ≡ w → e ≤ 18446744073709551615 → length ys ≡ length xs
     → ((ws : List ℕ) → length ws ≡ length xs → refill (length xs) xs ws ≡ ws)
     → ys ≡ (looked_through (counts_alone xs m) start n).looks → m' ≡ (looked_through (counts_alone xs m) start n).most → e' ≡ min (e + n) 18446744073709551615

@@ -24,13 +24,13 @@ part_is k n p b h f g =
     join : (p a b q : ℕ) → p < a → b < q → p * q + b < a * q
     join p a b q f g = grind arith
 
--- the bits with a part more, if the byte isn't full yet
+-- the bits with one more part, if the byte isn't full yet
 pub part_put : (xs : List ℕ) (k n p b : ℕ) (now : List Bool) → bits_of xs ++ uint k p ≡ now → b < 2 ^ n → Part k n p b
     → bits_of xs ++ uint (k + n) (p * 2 ^ n % 65536 + b) ≡ now ++ uint n b
 part_put xs k n p b now v g t =
     ap (λ x. bits_of xs ++ uint (k + n) x) t.whole ∙ ap (λ r. bits_of xs ++ r) (uint-split k n p b g) ∙ sym (append_assoc (bits_of xs) (uint k p) (uint n b)) ∙ ap (λ r. r ++ uint n b) v
 
--- the bits with a part more that fills the byte
+-- the bits with one more part that fills the byte
 pub byte_put : (xs : List ℕ) (k n p b : ℕ) (now : List Bool) → k + n ≡ 8 → bits_of xs ++ uint k p ≡ now → b < 2 ^ n → Part k n p b
     → bits_of (xs ++ (p * 2 ^ n % 65536 + b) ∷ []) ++ uint 0 0 ≡ now ++ uint n b
 unfolding uint

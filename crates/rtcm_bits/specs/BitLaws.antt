@@ -81,7 +81,7 @@ uint-low (suc w) a n = cons2 (head w a n) (rw (double w a) (uint-low w (2 * a) n
     head : (w a n : ℕ) → odd ((a * 2 ^ suc w + n) / 2 ^ w) ≡ odd (n / 2 ^ w)
     head w a n = rw (double w a, add_comm (2 * a * 2 ^ w) n, add-mul-div_right n (2 * a) (pow_pos w)) (odd-even a (n / 2 ^ w))
 
--- bits are those of their number
+-- the bits of the number that they encode
 pub uint-number : (bits : List Bool) (a : ℕ) → uint (length bits) (number_from a bits) ≡ bits
 unfolding uint number_from
 uint-number [] a = refl
@@ -105,7 +105,7 @@ length-bits_of (x ∷ xs) = length-append (uint 8 x) (bits_of xs) ∙ omega (ari
 pub number-take-fits : (l : List Bool) (w : ℕ) → w ≤ length l → number (take w l) < 2 ^ w
 number-take-fits l w h = let P : ℕ → Type 0 = λ n. number (take w l) < 2 ^ n in subst P (length-take-le w l h) (number-fits (take w l))
 
--- a bool as a number
+-- a boolean as a number
 pub byte-bit : (b : Bool) → bool_byte b ≡ bit b
 byte-bit false = refl
 byte-bit true = refl

@@ -2,7 +2,8 @@
 use Rattle.std.specs.Prelude.{ℕ, Bool, List, Option}
 use Rattle.std.specs.Io.KnownBytes.{append_known}
 
--- device: the writer; waiting: the bytes that it was not yet given, or didn't accept; has_failed: a call of it failed
+-- device: the writer; waiting: the bytes that weren't passed to it yet, or that it didn't accept; has_failed: a call of
+-- it failed
 pub record Buffering (W : Type 0) : Type 0 where
   pub device : W
   pub waiting : List ℕ

@@ -1,5 +1,5 @@
--- The check of a list of bytes: the remainder of a division of polynomials over the field of two elements.
--- A polynomial is the list of its coefficients, that of the greatest power first.
+-- The CRC of a list of bytes: the remainder of a division of polynomials over the field of two elements. A polynomial
+-- is the list of its coefficients, that of the greatest power first.
 use Rattle.std.specs.Prelude.{ℕ, zero, suc, ◌++◌, Bool, true, false, not, List, [], ◌∷◌, length, drop, replicate, if◌then◌else◌}
 use Rattle.rtcm_bits.specs.Bits.{uint, number, bits_of}
 
@@ -18,8 +18,8 @@ add_front (a ∷ g) (c ∷ p) = plus a c ∷ add_front g p
 unfoldable pub generator : List Bool
 generator = uint 25 0x1864CFB
 
--- long division by the generator, while the quotient has n more coefficients: if the first coefficient
--- of the dividend is 1, the generator is taken away below it, and that coefficient goes
+-- long division by the generator, while the quotient has n more coefficients: if the first coefficient of the dividend
+-- is 1, the generator is subtracted; then that coefficient is dropped
 unfoldable pub remainder : ℕ → List Bool → List Bool
 remainder zero p = p
 remainder (suc n) [] = []
@@ -29,6 +29,6 @@ remainder (suc n) (c ∷ p) = remainder n (if c then add_front (drop 1 generator
 unfoldable pub bits_remainder : List Bool → List Bool
 bits_remainder m = remainder (length m) (m ++ replicate 24 false)
 
--- the check of these bytes, a number of 24 bits
+-- the CRC of these bytes, a number of 24 bits
 unfoldable pub check : List ℕ → ℕ
 check m = number (bits_remainder (bits_of m))

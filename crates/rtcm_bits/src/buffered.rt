@@ -40,7 +40,8 @@ impl<W> Buffered<W> {
     /// Returns the device with an empty buffer.
     ///
     /// # Errors
-    /// `AllocError` if there is no memory for the buffer. The device is then dropped.
+    ///
+    /// `AllocError` if the memory for the buffer can't be allocated. The device is then dropped.
     pub fn new(alloc: Global, device: W) -> Result<Buffered<W>, AllocError>
     where
         W: Drop,

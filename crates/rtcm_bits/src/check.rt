@@ -8,7 +8,7 @@ ghost use Rattle.rtcm_bits.specs.Register.{after_bits};
 use crate::tables::entry;
 use std::marker::Model;
 
-/// The CRC-24Q of the bytes that it was given.
+/// The CRC-24Q of the bytes processed.
 #[derive(Drop)]
 pub struct CheckRegister {
     register: u32,
@@ -23,7 +23,7 @@ impl Model for CheckRegister {
 }
 
 impl CheckRegister {
-    /// Returns a register that was given no byte.
+    /// Returns the register of no bytes.
     pub fn new() -> CheckRegister
         ensures { result ≡ check [] }
     {
@@ -63,7 +63,7 @@ pub fn crc24q(bytes: &[u8]) -> u32
     register.value()
 }
 
-/// The register after these bytes, which are processed eight at a time except for the last ones.
+/// Returns the register after these bytes, processed eight at a time and the rest one by one.
 fn after_all(register: u32, bytes: &[u8]) -> u32
     requires { register < 2 ^ 24 }
     ensures bound { result < 2 ^ 24 }
@@ -78,7 +78,7 @@ fn after_all(register: u32, bytes: &[u8]) -> u32
     after_each(after, &bytes[taken..])
 }
 
-/// The register after these bytes, one by one.
+/// Returns the register after these bytes, processed one by one.
 fn after_each(register: u32, bytes: &[u8]) -> u32
     requires { register < 2 ^ 24 }
     ensures bound { result < 2 ^ 24 }
@@ -91,8 +91,8 @@ fn after_each(register: u32, bytes: &[u8]) -> u32
     after
 }
 
-/// The register after eight bytes. It is added to the first three, and then the entries of the bytes,
-/// each in a table of its own, are added.
+/// Returns the register after eight bytes. The register is added to the first three bytes, and then
+/// the table entries of all eight are added, each from its own table.
 fn after_eight(register: u32, bytes: &[u8]) -> u32
     requires below { register < 2 ^ 24 }
     requires eight { length bytes.now ≡ 8 }
@@ -112,7 +112,7 @@ fn after_eight(register: u32, bytes: &[u8]) -> u32
         ^ entry(7, first)
 }
 
-/// The register after the eight bits of a byte, by the first table.
+/// Returns the register after the eight bits of a byte, by the first table.
 fn by_table(register: u32, byte: u8) -> u32
     requires { register < 2 ^ 24 }
     ensures bound { result < 2 ^ 24 }

@@ -43,7 +43,7 @@ impl<'a> PieceReader<'a> {
         self.asked
     }
 
-    /// The number of bytes left of the piece, or of the next one if there are none.
+    /// Returns the number of bytes left of the piece, or of the next one if none are left.
     fn piece_left(&mut self) -> usize
         ensures some { 0 < result }
         ensures left { self.new.left ≡ result }
@@ -104,7 +104,7 @@ pub struct ShortWriter<W> {
 
 impl<W> ShortWriter<W> {
     /// Returns a writer that passes at most `most` bytes of a write to `inner`, `total` in all, and
-    /// then does as `end` says.
+    /// then behaves as given by `end`.
     pub fn new(inner: W, most: usize, total: usize, end: WriteEnd) -> ShortWriter<W> {
         ShortWriter {
             inner,
@@ -119,7 +119,7 @@ impl<W> ShortWriter<W> {
         self.inner
     }
 
-    /// The result of a write after the last accepted byte.
+    /// Returns the result of a write after the last accepted byte.
     fn refuse(&mut self) -> io::Result<usize>
         ensures none { IfOk result (λ n. n ≡ 0) }
         ensures inner { self.new.inner ≡ self.old.inner }

@@ -35,7 +35,7 @@ pub(crate) fn unwrap_counts(counts: &mut HeapCircularBuffer<u16>)
     }
 }
 
-/// `move_through` with a buffer of its own, which most looks don't need.
+/// Calls `move_through` with a local buffer, which most looks don't need.
 #[inline(never)]
 fn begin_anew(counts: &mut HeapCircularBuffer<u16>)
     requires few { length counts.old.items ≤ longest_frame }
@@ -46,7 +46,7 @@ fn begin_anew(counts: &mut HeapCircularBuffer<u16>)
     move_through(counts, &mut spare);
 }
 
-/// Takes all counts out and puts them back, so that they begin where they ended.
+/// Moves all counts out and back in, so that they begin at the position at which they ended.
 fn move_through(counts: &mut HeapCircularBuffer<u16>, spare: &mut [u16])
     requires few { length counts.old.items ≤ length spare.old }
     requires room { length spare.old ≤ counts.old.capacity }
@@ -66,7 +66,7 @@ pub(crate) fn raise(greatest: &mut u16, looks: u16)
     }
 }
 
-/// The `n` bytes from index `start` on of two consecutive slices.
+/// Returns the `n` bytes from index `start` on of two consecutive slices.
 pub(crate) fn part_of<'a>(
     front: &'a [u8],
     back: &'a [u8],
@@ -82,7 +82,7 @@ pub(crate) fn part_of<'a>(
     (&front[from..to], &back[start - from..start + n - to])
 }
 
-/// The number of bytes of two consecutive slices before the first one that is equal to `byte`.
+/// Returns the number of bytes of two consecutive slices before the first one equal to `byte`.
 pub(crate) fn others_in(front: &[u8], back: &[u8], byte: u8) -> usize
     ensures within { result ≤ length front.now + length back.now }
     ensures others { (i : ℕ) → i < result → slice_index (front.now ++ back.now) i ≢ byte }
@@ -96,7 +96,7 @@ pub(crate) fn others_in(front: &[u8], back: &[u8], byte: u8) -> usize
     }
 }
 
-/// The number of bytes before the first one that is equal to `byte`.
+/// Returns the number of bytes before the first one equal to `byte`.
 fn others_before(bytes: &[u8], byte: u8) -> usize
     ensures within { result ≤ length bytes.now }
     ensures others { (i : ℕ) → i < result → slice_index bytes.now i ≢ byte }

@@ -1,4 +1,4 @@
-//! The tables of CRC-24Q: the part of each byte, by the number of bytes that follow it.
+//! The tables of CRC-24Q: the contribution of each byte, by the number of bytes that follow it.
 ghost use Rattle.std.specs.Prelude.{◌≡◌, ◌^◌, ◌<◌, ◌∷◌, replicate};
 ghost use Rattle.rtcm_bits.specs.Check.{check};
 
@@ -234,7 +234,7 @@ const TABLES: [u32; 2048] = [
     0x5D5F82, 0x1CB8C2, 0xE9B36D, 0x70E367, 0x85E8C8,
 ];
 
-/// The CRC of one byte followed by bytes of 0.
+/// Returns the CRC of one byte followed by `zeros` bytes of 0.
 pub(crate) fn entry(zeros: usize, byte: u8) -> u32
     requires { zeros < 8 }
     ensures value { result ≡ check (byte ∷ replicate zeros 0) }

@@ -13,7 +13,7 @@ use Rattle.rtcm_convert.proofs.ExactLemmas.{outcomes_length}
 use Rattle.rtcm_convert.specs.Laws.{IsCountedOnce}
 use Rattle.rtcm_convert.specs.declared.tally.Tally.{Tally}
 
--- what no frame becomes
+-- the outcome that no frame has
 abbrev is_first : Option Kind → Bool
 is_first None = false
 is_first (Some k) = is_close_first k

@@ -20,7 +20,7 @@ use Rattle.rtcm_convert.proofs.ExactLemmas.{tally_whole, whole_epochs, epochs_fe
 use Rattle.rtcm_convert.proofs.PartLemmas.{goes_on-trans, breaks_off-after, breaks_off-before}
 use Rattle.rtcm_convert.proofs.StreamLemmas.{files_self, so_far-front}
 
--- no byte over the limit was taken
+-- at most 2^48 bytes were accepted
 within : (v : FramerValue) (w : FileWriter) (s : SetupValue) (bytes : List ℕ) → Drained v w s bytes → length bytes ≤ 2 ^ 48
 within v w s bytes d = let t = d.framer.stands.taken in let a = d.framer.within in let b = d.framer.limit in omega arith
 
@@ -28,7 +28,7 @@ abbrev pub Few : Type 0
 Few = (b : List ℕ) → 6 * length (frames_of b) ≤ length b
 
 module _ {W : Type 0} (c : W → Option (List ℕ)) (v v' : FramerValue) (w w' : FileWriter) (o o' : Device W) where
-  -- the frames that were left were passed on
+  -- the remaining frames were passed on
   passed_all : PassesKnown (Files c) v w o v' w' o' → (s : SetupValue) (bytes : List ℕ) → Drained v w s bytes → HasPassedAll (Files c) v' w o (known_frames v.has_ended bytes) w' o' bytes
   passed_all k s bytes d = k w o (known_frames v.has_ended bytes) bytes (known_frames v.has_ended bytes) (record { framer = d.framer; taken = files_self c w o (known_frames v.has_ended bytes) })
 
@@ -65,7 +65,7 @@ module _ {W : Type 0} (c : W → Option (List ℕ)) (v v' : FramerValue) (w w' :
         gathered = gathers s (frames_of bytes) p.0;
       }
 
-  -- a prefix of it was
+  -- a prefix of it was written
   pub ended_part : (e : Option (List ℕ)) → v.has_ended ≡ false → v'.has_ended ≡ true → PassesKnown (Files c) v w o v' w' o' → BreaksInRest w' (c o'.inner) e
       → (s : SetupValue) (bytes : List ℕ) → Drained v w s bytes → AppendsPrefixOfRest (c o.inner) e s bytes bytes
   ended_part e before after k rest s bytes d =
@@ -94,7 +94,7 @@ pub drain_failed : {W : Type 0} → (c : W → Option (List ℕ)) (v : FramerVal
     → HasPassedAll (Files c) v w o (known_frames v.has_ended b) w o b → HasFailed o.failures o'.failures × (o'.widest ≡ o.widest)
 drain_failed c v w w' o o' k b x = let p = k w o (known_frames v.has_ended b) b (known_frames v.has_ended b) x.passed in (p.broken.failed, p.broken.widest)
 
--- what is written of some bytes is a prefix of the file of more bytes, and of what is written of them
+-- the decided frames of some bytes are a prefix of the frames of more bytes, and of their decided frames
 abbrev pub FramesStay : Type 0
 FramesStay = (b t : List ℕ) → IsPrefix (decided_frames b) (frames_of (b ++ t))
 

@@ -1,4 +1,5 @@
--- No count of a stream reaches the greatest number that is counted: a frame has six bytes at least, and 64 cells at most.
+-- No count of a stream reaches the greatest number that is counted: a frame has at least six bytes and at most 64
+-- cells.
 use Rattle.rtcm_msg.specs.declared.entry.LockField.{LockField}
 use Rattle.rtcm_msg.specs.declared.entry.LockField.TheVariants.{Df402, Df407}
 use Rattle.std.proofs.Common.{◌≡◌, ℕ, ◌+◌, ◌-◌, ◌*◌, ◌≤◌, ◌^◌, List, [], ◌∷◌, ◌++◌, Bool, true, false, refl, sym, ap, subst, ◌∙◌, arith, length, length-append, add-zero, suc, zero, nat_lt, Option, Some, None, is_some, not}
@@ -86,7 +87,7 @@ unlisted_few : (field : LockField) (system : System) (es : List Entry) → unlis
 unlisted_few field system [] = omega arith
 unlisted_few field system (e ∷ es) = unlisted_step (is_some (seen_in field system e)) (unlisted_in field system es) (length es) (unlisted_few field system es)
 
--- what is heard of a message has so few cells
+-- the content of a message has at most 64 cells, and at most 64 unlisted ones
 record HasFew (m : Heard) : Type 0 where
   cells : length m.cells ≤ 64
   unlisted : m.unlisted ≤ 64
@@ -218,7 +219,7 @@ pub outcomes_length : (s : SetupValue) (before fs : List Framed) → length (out
 outcomes_length s before [] = refl
 outcomes_length s before (f ∷ fs) = ap (λ n. suc n) (outcomes_length s (before ++ f ∷ []) fs)
 
--- ---- as many epochs as frames at most
+-- ---- at most as many epochs as frames
 
 timed_step : (o : Option ℕ) (ts : List ℕ) (n : ℕ) → length ts ≤ n → length (option_map_or (λ t. t ∷ filter (λ u. nat_lt t u) ts) o ts) ≤ suc n
 timed_step None ts n le = omega arith

@@ -1,4 +1,4 @@
--- What a result says of the devices, passed on from call to call.
+-- The state of the devices by the result, passed on from call to call.
 use Rattle.std.proofs.Common.{◌≡◌, ◌≤◌, ℕ, max, refl, sym, ap, subst, ◌∙◌, arith, inl, inr, Bool, true, false, Option, Some, None, Result, Ok, Err, IfErr, true≢false}
 use Rattle.std.specs.Prelude.{if◌then◌else◌, IsErrOf}
 use Rattle.rtcm_bits.specs.Device.{Device}
@@ -7,7 +7,7 @@ use Rattle.rtcm_convert.specs.Faults.{FailsWithReader, FailsWithWriter, ReaderFa
 use Rattle.rtcm_convert.specs.declared.fault.Fault.{Fault}
 use Rattle.rtcm_convert.specs.declared.fault.Fault.TheVariants.{BadSetup, Failed, Finished, Memory, NoEpoch, Read, TooLong, Write}
 
--- ---- the writer, since a call before which it was as well as now
+-- ---- the writer, over consecutive calls
 
 pub writer_after : (fault : Fault) (a b c : ℕ) → b ≡ a → WriterFailures fault b c → WriterFailures fault a c
 writer_after fault a b c e h = subst (λ (n : ℕ). WriterFailures fault n c) e h
@@ -31,14 +31,14 @@ ended_badly : (fault : Fault) (a c : ℕ) → IsFinishFault fault → c ≡ a �
 ended_badly fault a c (inl e) same = subst (λ (f : Fault). ReaderFailures f a c) (sym e) same
 ended_badly fault a c (inr e) same = subst (λ (f : Fault). ReaderFailures f a c) (sym e) same
 
--- it did well up to its end
+-- the reader didn't fail before its end
 pub reader_ended : {T A : Type 0} (r : Result A Fault) (a b : Device T) → IfErr r IsFinishFault → b.failures ≡ a.failures → b.widest ≤ max a.widest 1029 → FailsWithReader r a b
 reader_ended (Ok x) a b only e w = (tt, e, w)
 reader_ended (Err fault) a b only e w = (ended_badly fault a.failures b.failures only e, tt, w)
 
 -- ---- faults before any call of a device
 
--- neither device is called
+-- the fault of a call that uses neither device
 abbrev pub IsOfNone : Fault → Type 0
 IsOfNone fault = (n : ℕ) → WriterFailures fault n n × ReaderFailures fault n n
 
@@ -57,7 +57,7 @@ refused false false fault e = absurd cc
 pub of_refusal : (v : Conversion) (fault : Fault) → Some fault ≡ refusal v → IsOfNone fault
 of_refusal v fault e = refused v.has_ended v.has_failed fault e
 
--- ---- which faults a refusal, a setup, and bytes that are fed, have
+-- ---- the faults of a refusal, of a setup, and of `feed`
 
 abbrev pub is_refusal : Fault → Bool
 is_refusal Failed = true
@@ -107,7 +107,7 @@ stopped false false fault e h k = cc
 pub not_going : (v : Conversion) (fault : Fault) → Some fault ≡ refusal v → IsGoing v → ⊥
 not_going v fault e going = stopped v.has_ended v.has_failed fault e going.more going.fine
 
--- ---- what a call leaves
+-- ---- the state after a call
 
 pub kinds_of : {A : Type 0} (r : Result A Fault) (K P : Fault → Type 0) → IfErr r (λ f. K f × P f) → IfErr r K
 kinds_of (Ok x) K P h = tt
@@ -122,7 +122,7 @@ pub finish_in_run : {A : Type 0} (r : Result A Fault) (P : Fault → Type 0) →
 finish_in_run (Ok x) P h = tt
 finish_in_run (Err fault) P h = (inr (inr h.0), h.1)
 
--- what was sent since
+-- whether everything was sent, over consecutive calls
 pub sent_fault : (fault : Fault) (a b c : Bool) → (a ≡ true → b ≡ true) → IsSentAtFault fault b c → IsSentAtFault fault a c
 sent_fault Write a b c f g = tt
 sent_fault TooLong a b c f g = g

@@ -1,4 +1,4 @@
--- A piece that a converter takes, and the end of its stream.
+-- A piece that a converter accepts, and the end of its stream.
 use Rattle.std.proofs.Common.{◌≡◌, ℕ, ◌<◌, ◌++◌, List, Bool, true, false, sym, ap, subst, ◌∙◌, Option, length, suc, zero, arith, refl}
 use Rattle.rtcm_bits.specs.Device.{Device}
 use Rattle.rtcm_scan.specs.Decided.{skipped_before}
@@ -69,7 +69,7 @@ some : (n m : ℕ) → n ≡ m → (n ≡ 0 → ⊥) → 0 < m
 some zero m e h = absurd (h refl)
 some (suc n) m e h = omega (arith, e)
 
--- what is held and was examined at the end
+-- what is held and was examined after the end
 abbrev pub KeepsAtEnd : Conversion → Type 0
 KeepsAtEnd x = (s : SetupValue) (b : List ℕ) → HasFinished x s b → IsKeptAtEnd s b (kept_of x)
 

@@ -1,4 +1,4 @@
--- What a converter keeps.
+-- What a converter holds.
 use Rattle.std.proofs.Common.{◌≡◌, ℕ, List, [], ◌∷◌, true, false, refl, sym, ap, ◌∙◌, Option, None}
 use Rattle.std.specs.Prelude.{map, length, if◌then◌else◌}
 use Rattle.rtcm_scan.specs.Frames.{Framed, frames_of}
@@ -18,7 +18,7 @@ use Rattle.rtcm_convert.specs.Filed.{Settled}
 use Rattle.rtcm_convert.specs.Kept.{locks_at, locks_kept, locks_in_all}
 use Rattle.rtcm_convert.specs.Conversion.{Conversion, IsFit, HasConverted, HasFinished}
 
--- the times of epochs are read off them
+-- the times of the epochs of these times
 times_back : (s : GatherSetup) (ms : List Heard) (ts : List ℕ) → map (λ (c : Closed). c.epoch.time) (closed_list_at s ms ts) ≡ ts
 times_back s ms [] = refl
 times_back s ms (t ∷ ts) = ap (λ l. t ∷ l) (times_back s ms ts)
@@ -26,7 +26,7 @@ times_back s ms (t ∷ ts) = ap (λ l. t ∷ l) (times_back s ms ts)
 same_times : (s : GatherSetup) (ms : List Heard) (ts us : List ℕ) → closed_list_at s ms ts ≡ closed_list_at s ms us → ts ≡ us
 same_times s ms ts us e = sym (times_back s ms ts) ∙ ap (map (λ (c : Closed). c.epoch.time)) e ∙ times_back s ms us
 
--- the epochs that count for the locks are those that are closed, and when no message follows all
+-- the epochs that count for the lock records are the closed ones; all, if no message follows
 closed_now : (v : Gathered) (s : GatherSetup) (ms : List Heard) (es : List Closed) → HasGatheredEpochs v s ms es None → v.has_ended ≡ false → closed_so_far s (timed s ms) (is_done v s ms None) ≡ closed_times s (timed s ms)
 closed_now v s ms es x going =
     same_times s ms (closed_so_far s (timed s ms) (is_done v s ms None)) (closed_times s (timed s ms))

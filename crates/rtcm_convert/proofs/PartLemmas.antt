@@ -1,4 +1,4 @@
--- Bytes that go out one part after the other.
+-- Bytes that are written one part after the other.
 use Rattle.std.proofs.Common.{◌≡◌, ℕ, List, [], ◌++◌, sym, ap, ◌∙◌, Option, Result, Ok, Err, OnErr, append_assoc, append-nil}
 use Rattle.std.specs.Prelude.{IsErrOf}
 use Rattle.std.specs.Io.KnownBytes.{Appends, Keeps}
@@ -43,11 +43,11 @@ breaks_off-before a b x y z f p = record {
   out = f.out;
 }
 
--- all of what the text went on by
+-- all of what the later text adds
 pub goes_on-by : (a b : Option (List ℕ)) (x y z : List ℕ) → z ≡ x ++ y → Appends a b y → AppendsBetween a b x z
 goes_on-by a b x y z e o = record { part = y; text = e; out = o }
 
--- a part of it
+-- a prefix of what it adds
 pub breaks_off-by : (a b : Option (List ℕ)) (x y z : List ℕ) → z ≡ x ++ y → AppendsPrefix a b y → AppendsPrefixBetween a b x z
 breaks_off-by a b x y z e p = record {
   part = p.1.0;
@@ -56,11 +56,11 @@ breaks_off-by a b x y z e p = record {
   out = p.1.2;
 }
 
--- what is sent on stays as it is known
+-- a flush keeps the known bytes
 pub goes_on-kept : (a b c : Option (List ℕ)) (x y : List ℕ) → AppendsBetween a b x y → Keeps b c → AppendsBetween a c x y
 goes_on-kept a b c x y f k = record { part = f.part; text = f.text; out = Appends-kept a b c f.part f.out k }
 
--- what went on whole is a front
+-- the whole is also a prefix
 pub goes_on-front : (a b : Option (List ℕ)) (x y : List ℕ) → AppendsBetween a b x y → AppendsPrefixBetween a b x y
 goes_on-front a b x y f = record { part = f.part; rest = []; text = f.text ∙ sym (append-nil (x ++ f.part)); out = f.out }
 
@@ -70,6 +70,6 @@ prefix-refl xs = ([], sym (append-nil xs))
 pub prefix-trans : {A : Type 0} (xs ys zs : List A) → IsPrefix xs ys → IsPrefix ys zs → IsPrefix xs zs
 prefix-trans xs ys zs p q = (p.0 ++ q.0, q.1 ∙ ap (λ l. l ++ q.0) p.1 ∙ append_assoc xs p.0 q.0)
 
--- the fault of a call, passed on as the fault of another
+-- the fault of a call that is returned by another
 pub same_fault : {T U E : Type 0} (x e : E) → IsErrOf {T = T} {E = E} (Err x) e → IsErrOf {T = U} {E = E} (Err x) e
 same_fault x e h = let same : x ≡ e = cc in ap Err same

@@ -1,4 +1,4 @@
--- Pieces that a converter takes up to the end of its stream.
+-- Pieces that a converter accepts up to the end of its stream.
 use Rattle.std.proofs.Common.{◌≡◌, ℕ, ◌+◌, ◌<◌, ◌≤◌, inl, inr, List, [], ◌∷◌, ◌++◌, sym, ap, subst, ◌∙◌, arith, Option, Result, Ok, Err, IfOk, IfErr, append-nil, append_assoc, length, length-append, take, drop, get_or}
 use Rattle.std.specs.Prelude.{flat_map, Vec}
 use Rattle.std.proofs.lemmas.List.{take_more, take-append-drop, take-append-le}
@@ -26,11 +26,11 @@ pieces_more bytes pieces i d lt =
 pub pieces_all : {X : Type 0} (bytes : X → List ℕ) (pieces : List X) (i : ℕ) → i ≤ length pieces → length pieces ≤ i → flat_map bytes (take i pieces) ≡ flat_map bytes pieces
 pieces_all bytes pieces i le ge = let e : i ≡ length pieces = omega arith in ap (λ k. flat_map bytes (take k pieces)) e ∙ ap (flat_map bytes) (take-length pieces)
 
--- the first of some pieces and the rest of them make all
+-- the first pieces and the rest make all
 pieces_split : {X : Type 0} (bytes : X → List ℕ) (pieces : List X) (i : ℕ) → flat_map bytes pieces ≡ flat_map bytes (take i pieces) ++ flat_map bytes (drop i pieces)
 pieces_split bytes pieces i = ap (flat_map bytes) (sym (take-append-drop i pieces)) ∙ flat_map-append bytes (take i pieces) (drop i pieces)
 
--- these bytes were taken, and what they add went out
+-- these bytes were accepted, and what they add was written
 abbrev pub HasTaken : Conversion → Conversion → Option (List ℕ) → Option (List ℕ) → List ℕ → Type 0
 HasTaken v w a b front = (s : SetupValue) (bytes : List ℕ) → HasConverted v s bytes → HasConverted w s (bytes ++ front) × AppendsDecided a b s bytes (bytes ++ front)
 
@@ -66,7 +66,7 @@ module _ (v w x : Conversion) (a b c : Option (List ℕ)) (front : List ℕ) (ca
 
   -- ---- a piece
 
-  -- a piece that goes over the limit: what went out is that of all the pieces up to it
+  -- a piece that goes over the limit: the bytes written are those of all pieces up to the limit
   pub pieces_long : (piece all rest : List ℕ) → w.scan.limit ≡ v.scan.limit → w.scan.taken ≡ v.scan.taken + length front → all ≡ (front ++ piece) ++ rest → CutsAtLimit w x b c piece → CutsAtLimit v x a c all
   pieces_long piece all rest same taken e q = record {
     adds = λ s bytes y.

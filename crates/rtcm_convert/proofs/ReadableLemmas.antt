@@ -1,4 +1,4 @@
--- What is written is the text of a file value.
+-- The bytes written are the text of a file value.
 use Rattle.std.proofs.Common.{◌≡◌, ℕ, ◌<◌, inl, inr, Bool, true, false, List, [], ◌∷◌, ◌++◌, length, filter, refl, sym, subst, arith, Option, Some, None, Result, Ok, Err, nat_lt, append-nil}
 use Rattle.std.specs.Prelude.{cond, IfSome}
 use Rattle.std.specs.List.{AllByRecursion, cons_option}
@@ -21,7 +21,7 @@ use Rattle.rtcm_convert.specs.Converted.{SetupValue, heard_of, heard_in, message
 use Rattle.rtcm_convert.specs.Laws.{IsFileText}
 use Rattle.rtcm_convert.specs.Readable.{HasValue, IsReadable, AreSound}
 
--- what the crates below say of messages, epochs and files
+-- the laws of the crates below on messages, epochs and files
 pub record Known : Type 0 where
   pub value : (bytes : List ℕ) (m : Message) → message_at bytes ≡ Ok m → IsMessage m
   pub heard : MessagesAreHeard

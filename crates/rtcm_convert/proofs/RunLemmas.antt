@@ -18,7 +18,7 @@ flags true failed e = absurd cc
 flags false true e = absurd cc
 flags false false e = (refl, refl)
 
--- a converter that refuses nothing goes on
+-- a converter without a refusal has neither failed nor ended
 pub going_on : (v : Conversion) → None ≡ refusal v → IsGoing v
 going_on v e = let p = flags v.has_ended v.has_failed e in record { fine = p.0; more = p.1 }
 
@@ -59,7 +59,7 @@ pub run_read : (v w x : Conversion) (r r' r'' a b c : Option (List ℕ)) → Tak
 run_read v w x r r' r'' a b c p k e same =
     (p.0, Consumes-kept r r' r'' p.0 p.1 k, same ∙ p.2, λ s bytes y. subst (λ (o : Option (List ℕ)). AppendsDecided a o s bytes (bytes ++ p.0)) (sym e) (p.3 s bytes y).out)
 
--- the held bytes are those that are not decided
+-- the held bytes are the undecided ones
 held_near : (w : Conversion) (s : SetupValue) (bytes : List ℕ) (n : ℕ) → w.scan.has_ended ≡ false → HasConverted w s bytes → length w.scan.held + n ≤ 1029 → (length bytes - decided bytes) + n ≤ 1029
 held_near w s bytes n going x le =
     let e : length w.scan.held ≡ length bytes - decided bytes =
@@ -116,7 +116,7 @@ above None r'' front P c f = tt
 above (Some xs) None front P c f = absurd c
 above (Some xs) (Some ys) front P c f = f xs ys c
 
--- a piece went over the limit, after others
+-- a piece after others goes over the limit
 pub ran_long : (v w x : Conversion) (r r' r'' a b c : Option (List ℕ)) → TakesFromReader v w r r' a b → w.scan.limit ≡ v.scan.limit → ReadOverLimit w x r' r'' b c → RanToLimit v x r r'' a c
 ran_long v w x r r' r'' a b c p same q = record {
   front = p.0 ++ q.0;

@@ -1,4 +1,4 @@
--- One message passed to the gatherer, and what that adds to the file.
+-- One message passed to the gatherer, and what it adds to the file.
 use Rattle.std.proofs.Common.{◌≡◌, ℕ, List, [], ◌∷◌, ◌++◌, Bool, true, false, append-nil, sym, ap, subst, ◌∙◌, Option, Some, None, inl, inr}
 use Rattle.std.specs.Prelude.{option_to_list}
 use Rattle.std.specs.Io.KnownBytes.{Appends}
@@ -18,7 +18,7 @@ use Rattle.rtcm_convert.specs.declared.file_writer.FileWriter.{FileWriter}
 use Rattle.rtcm_convert.proofs.PartLemmas.{goes_on-by, breaks_off-by, breaks_off-before}
 use Rattle.rtcm_convert.proofs.TextLemmas.{last, text-closed, count-closed, last-closed, text-more}
 
--- what the gatherer says of a message that was passed to it
+-- the contract of the gatherer for a message that was passed to it
 pub record Took (old new : Gathered) (kind : Kind) (m : Heard) : Type 0 where
   pub first : (s : GatherSetup) (ms : List Heard) (es : List Closed) → HasGatheredEpochs old s ms es None → is_close_first kind ≡ true
       → HasGatheredEpochs new s ms (es ++ closed_by (closed_in new) new.values) (Some m)
@@ -27,7 +27,7 @@ pub record Took (old new : Gathered) (kind : Kind) (m : Heard) : Type 0 where
   pub again : (s : GatherSetup) (ms : List Heard) (es : List Closed) → HasGatheredEpochs old s ms es (Some m) → is_close_first kind ≡ false
   pub ended : new.has_ended ≡ false
 
--- what the file_writer wrote of the epoch that was closed
+-- what the file writer wrote for the epoch that was closed
 pub record Wrote (old new : FileWriter) (now : Gathered) (a b : Option (List ℕ)) : Type 0 where
   pub gatherer : new.gatherer ≡ now
   pub texts : new.texts ≡ old.texts
@@ -50,7 +50,7 @@ wrote_all v w g a b s ms ms' es again again' o x y =
       goes_on-by a b _ _ _ (text-closed s es (closed_in g) g.values) out,
     )
 
--- a gatherer of that plan, which closed these epochs among those that these messages close
+-- a gatherer with that plan, and a prefix of the epochs that these messages close
 abbrev Front : Gathered → GatherSetup → List Heard → List Closed → Type 0
 Front g s ms es = (plan_in g ≡ s.plan) × IsPrefix es (closed_epochs s ms)
 
@@ -60,7 +60,7 @@ front g s ms es again going x = (x.plan, subst (λ (e : Bool). IsPrefix es (know
 front_none : (g : Gathered) (s : GatherSetup) (ms : List Heard) (es : List Closed) → g.has_ended ≡ false → HasGatheredEpochs g s ms es None → Front g s ms es
 front_none g s ms es going x = subst (λ (l : List Heard). Front g s l es) (append-nil ms) (front g s ms es None going x)
 
--- what was closed is among the epochs that the message closes
+-- the closed epochs are a prefix of those that the messages close
 closed_front : (v g : Gathered) (k : Kind) (m : Heard) (s : GatherSetup) (ms : List Heard) (es : List Closed) (again : Option Heard)
     → Took v g k m → IsAwaited again m → HasGatheredEpochs v s ms es again → Front g s (ms ++ m ∷ []) (es ++ closed_by (closed_in g) g.values)
 closed_front v g k m s ms es None t f x = elim (cases_Bool (is_close_first k)) [
@@ -71,7 +71,7 @@ closed_front v g k m s ms es (Some n) t f x =
     let y : HasGatheredEpochs v s ms es (Some m) = subst (λ (q : Heard). HasGatheredEpochs v s ms es (Some q)) (sym f) x in
     front_none g s (ms ++ m ∷ []) _ t.ended (t.taken s ms es (Some n) x f (t.again s ms es y))
 
--- what was added, by the words of the definitions
+-- the part added, in the terms of the definitions
 pub part_of : (v : FileWriter) (g : Gathered) (a b : Option (List ℕ)) (s : SetupValue) (ms : List Heard) (es : List Closed) (again : Option Heard) → HasFiledEpochs v s ms es again → plan_in g ≡ s.gather.plan
     → AppendsPrefix a b (added v.texts (plan_in g) v.values (closed_in g) g.values) → AppendsPrefix a b (added s.texts s.gather.plan (last es) (closed_in g) g.values)
 part_of v g a b s ms es again x plan p = rw (← x.texts, ← plan, ← x.values) p

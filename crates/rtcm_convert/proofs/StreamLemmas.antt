@@ -31,7 +31,7 @@ module _ {W : Type 0} (c : W → Option (List ℕ)) where
   pub files_self : (w : FileWriter) (o : Device W) (ps : List Framed) → Files c w o ps w o ps
   files_self w o ps = record { fine = refl; widest = refl; files = λ s x. (x, goes_on-refl (c o.inner) (so_far s ps)) }
 
-  -- a frame more
+  -- one more frame
   pub files_more : (v0 v v' : FileWriter) (o0 o o' : Device W) (ps fs : List Framed) (f : Framed) → TakesFrame v v' f (c o.inner) (c o'.inner) → o'.failures ≡ o.failures → o'.widest ≡ o.widest
       → Files c v0 o0 ps v o fs → Files c v0 o0 ps v' o' (fs ++ f ∷ [])
   files_more v0 v v' o0 o o' ps fs f t fine widest x = record {
@@ -64,7 +64,7 @@ module _ {W : Type 0} (c : W → Option (List ℕ)) where
     part = λ s y. (goes_on-front (c o0.inner) (c o'.inner) _ _ (goes_on-kept (c o0.inner) (c o.inner) (c o'.inner) _ _ (x.files s y).1 k));
   }
 
-  -- all frames that are known were passed on
+  -- all known frames were passed on
   pub passed_here : (v : FramerValue) (w : FileWriter) (o : Device W) (b : List ℕ) → HasDrained v b → HasPassedAll (Files c) v w o (known_frames v.has_ended b) w o b
   passed_here v w o b d = record {
     passed = record { framer = d.framer; taken = files_self w o (known_frames v.has_ended b) };
@@ -75,7 +75,7 @@ module _ {W : Type 0} (c : W → Option (List ℕ)) where
   scan_of : (v : FramerValue) (w : FileWriter) (s : SetupValue) (b : List ℕ) → Drained v w s b → HasDrained v b
   scan_of v w s b d = record { framer = d.framer; drained = d.drained; counted = d.counted }
 
-  -- a piece was taken
+  -- a piece was accepted
   pub piece_whole : (v v' : FramerValue) (w w' : FileWriter) (o o' : Device W) (piece : List ℕ) → v.has_ended ≡ false → v'.has_ended ≡ false → Passes (Files c) v w o v' w' o' piece
       → (s : SetupValue) (bytes : List ℕ) → Drained v w s bytes → Drained v' w' s (bytes ++ piece) × AppendsDecided (c o.inner) (c o'.inner) s bytes (bytes ++ piece)
   piece_whole v v' w w' o o' piece before after k s bytes d =
@@ -94,7 +94,7 @@ module _ {W : Type 0} (c : W → Option (List ℕ)) where
       let q = breaks_off-before (c o.inner) (c o'.inner) _ _ _ (p.broken.part s d.file_writer) (so_far-front grows s p.reached (known_frames v.has_ended (bytes ++ piece)) p.known) in
       subst (λ (e : Bool). AppendsPrefixBetween (c o.inner) (c o'.inner) (so_far s (known_frames e bytes)) (so_far s (known_frames e (bytes ++ piece)))) before q
 
-  -- what a piece did with the device, and that all that is known was passed on
+  -- the device after a piece, of which all known frames were passed on
   pub piece_fine : (v v' : FramerValue) (w w' : FileWriter) (o o' : Device W) (piece : List ℕ) → Passes (Files c) v w o v' w' o' piece → HasDrainedSome v
       → HasDrainedSome v' × (o'.failures ≡ o.failures) × (o'.widest ≡ o.widest)
   piece_fine v v' w w' o o' piece k d =

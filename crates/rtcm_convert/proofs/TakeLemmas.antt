@@ -1,4 +1,4 @@
--- A message, and a frame, taken whole.
+-- A message and a frame that are processed whole.
 use Rattle.std.proofs.Common.{◌≡◌, ℕ, List, [], ◌∷◌, ◌++◌, true, false, refl, sym, ap, subst, ◌∙◌, Option, Some, None, Result, Ok, Err, IfOk, OnOk, append-nil, append_assoc, ◌+◌, arith}
 use Rattle.std.specs.Prelude.{sum_by}
 use Rattle.std.proofs.lemmas.Grind.{common_steps}
@@ -31,7 +31,7 @@ pub if_ok_both : {T E : Type 0} (r : Result T E) (A B : T → Type 0) (P : Type 
 if_ok_both (Ok k) A B P f a b = f k a b
 if_ok_both (Err e) A B P f a b = tt
 
--- what was written then, and which epochs these are
+-- the epochs written after these, and their text
 abbrev pub Written : FileWriter → SetupValue → List Heard → Option Heard → Option (List ℕ) → Option (List ℕ) → List Closed → Type 0
 Written w s ms again a b es = (all : List Closed) × HasFiledEpochs w s ms all again × AppendsBetween a b (text_with s es) (text_with s all)
 
@@ -64,7 +64,7 @@ pub part_again : (w : FileWriter) (m : Heard) (a b c : Option (List ℕ)) (s : S
     → Written w s ms (Some m) a b (closed_epochs s.gather ms) → IsPart w m b c → Breaks a c s ms (ms ++ m ∷ [])
 part_again w m a b c s ms first p = breaks_off-after a b c _ _ _ first.2 (p s ms first.0 (Some m) refl first.1)
 
--- the messages of one frame more
+-- the messages of one more frame
 messages_more : (fs : List Framed) (f : Framed) (m : Message) → message_at f.message ≡ Ok m → messages_of (fs ++ f ∷ []) ≡ messages_of fs ++ heard m ∷ []
 messages_more fs f m e =
     let one : messages_of (f ∷ []) ≡ heard m ∷ [] = rw e refl in
@@ -75,7 +75,7 @@ messages_same fs f d e =
     let none : messages_of (f ∷ []) ≡ [] = rw e refl in
     filter_map-append heard_in fs (f ∷ []) ∙ ap (λ l. messages_of fs ++ l) none ∙ append-nil (messages_of fs)
 
--- one outcome more
+-- one more outcome
 outcomes_after-one : (s : SetupValue) (before fs : List Framed) (f : Framed) → outcomes_after s before (fs ++ f ∷ []) ≡ outcomes_after s before fs ++ outcome s (before ++ fs) f ∷ []
 outcomes_after-one s before [] f = ap (λ l. outcome s l f ∷ []) (sym (append-nil before))
 outcomes_after-one s before (g ∷ fs) f =
@@ -108,7 +108,7 @@ tally_one : (s : SetupValue) (fs : List Framed) (f : Framed) (r r' : Tally) (o :
 tally_one s fs f r r' o is old new =
     new ∙ ap (λ x. tallies_added x (tally_of_one o)) old ∙ tally_more (outcomes s fs) o ∙ ap (λ x. capped_tally (tally_of (outcomes s fs ++ x ∷ []))) is ∙ ap (λ l. capped_tally (tally_of l)) (sym (outcomes_after-one s [] fs f))
 
--- so few cells as that no count is capped
+-- one more frame has few cells, too, so that no count is capped
 few_one : (s : SetupValue) (fs : List Framed) (f : Framed) (o : Option Kind) → o ≡ outcome s fs f → AreFew (outcomes s fs) → IsFew (tally_of_one o) → AreFew (outcomes s (fs ++ f ∷ []))
 few_one s fs f o is few one =
     subst (λ (l : List (Option Kind)). AreFew l) (sym (outcomes_after-one s [] fs f)) (subst (λ (x : Option Kind). AreFew (outcomes s fs ++ x ∷ [])) is (few_more (outcomes s fs) o few one))
@@ -190,7 +190,7 @@ file_part v g a b p over t s fs x =
     let out : AppendsPrefix a b (added s.texts s.gather.plan (last es) (closed_in g) g.values) = part_of v g a b s ms es None x.settled now.plan p in
     subst (λ (all : List Closed). AppendsPrefixBetween a b (so_far s fs) (text_with s all)) e (breaks_off-by a b _ _ _ (text-closed s es (closed_in g) g.values) out)
 
--- a message that was passed twice
+-- a message that is passed twice
 pub taken_again : {E : Type 0} (v w x : FileWriter) (m : Heard) (a b c : Option (List ℕ)) (r : Result Kind E) → x.gatherer.has_ended ≡ false
     → ((s : SetupValue) (ms : List Heard) (es : List Closed) → HasFiledEpochs v s ms es None → Written w s ms (Some m) a b es)
     → IfOk r (λ k. is_close_first k ≡ false → (s : SetupValue) (ms : List Heard) (es : List Closed) (again : Option Heard) → IsAwaited again m → HasFiledEpochs w s ms es again → Written x s (ms ++ m ∷ []) None b c es)

@@ -1,4 +1,4 @@
--- The text of a file as its epochs come.
+-- The text of a file, epoch by epoch.
 use Rattle.std.proofs.Common.{◌≡◌, ℕ, List, [], ◌∷◌, ◌++◌, Bool, true, false, refl, sym, ap, subst, ◌∙◌, arith, Option, Some, None, append_assoc, append-nil, nat_lt, length, length-append, ◌+◌, ◌<◌}
 use Rattle.std.specs.Prelude.{◌==◌, if◌then◌else◌}
 use Rattle.std.proofs.lemmas.Cmp.{int_eq_equiv}
@@ -19,7 +19,7 @@ use Rattle.rtcm_convert.specs.Outcomes.{capped}
 use Rattle.rtcm_convert.specs.Filed.{opening, added, epochs_after, values_after, values_following_closed, last_values}
 use Rattle.rtcm_convert.proofs.PartLemmas.{prefix_more, prefix_after}
 
--- a count that is capped, and counts on
+-- a capped count that is increased
 pub cap_more : (n k : ℕ) → capped (capped n + k) ≡ capped (n + k)
 cap_more n k = omega arith
 
@@ -50,7 +50,7 @@ closed_text-append p v (c ∷ cs) ds =
     ∙ ap (λ l. change_text v c.values ++ l) (sym (append_assoc (epoch_text p c.epoch) (closed_text p c.values cs) rest))
     ∙ sym (append_assoc (change_text v c.values) (epoch_text p c.epoch ++ closed_text p c.values cs) rest)
 
--- more epochs go after a file with one, and make one if there is none
+-- the text of some epochs is a prefix of the text of these and more
 pub text_of-append : (t : HeaderLists) (p : PlanValue) (es fs : List Closed) → IsPrefix (text_of_epochs t p es) (text_of_epochs t p (es ++ fs))
 unfolding text_of_epochs
 text_of-append t p [] fs = (text_of_epochs t p fs, refl)
@@ -60,7 +60,7 @@ text_of-append t p (e ∷ es) fs = (
       ∙ sym (append_assoc (header_text t p e.values e.epoch.time) (closed_text p e.values (e ∷ es)) (closed_text p (values_following_closed e.values (e ∷ es)) fs)),
 )
 
--- one epoch more
+-- one more epoch
 text_of-one : (t : HeaderLists) (p : PlanValue) (es : List Closed) (c : Closed)
     → text_of_epochs t p (es ++ c ∷ []) ≡ text_of_epochs t p es ++ (opening t p (last_values es) c.epoch c.values ++ epoch_text p c.epoch)
 unfolding text_of_epochs
@@ -73,7 +73,7 @@ text_of-one t p (e ∷ es) c =
     ap (λ l. header_text t p e.values e.epoch.time ++ l) (closed_text-append p e.values (e ∷ es) (c ∷ []) ∙ ap (λ l. closed_text p e.values (e ∷ es) ++ (change_text before c.values ++ l)) (append-nil (epoch_text p c.epoch)))
     ∙ sym (append_assoc (header_text t p e.values e.epoch.time) (closed_text p e.values (e ∷ es)) last)
 
--- one epoch more, if it is written
+-- one more epoch, if it is written
 text_of-maybe : (t : HeaderLists) (p : PlanValue) (es : List Closed) (c : Closed) (b : Bool)
     → text_of_epochs t p (es ++ (if b then c ∷ [] else [])) ≡ text_of_epochs t p es ++ (if b then opening t p (last_values es) c.epoch c.values ++ epoch_text p c.epoch else [])
 text_of-maybe t p es c true = text_of-one t p es c
@@ -95,11 +95,11 @@ count-maybe : (es : List Closed) (c : Closed) (b : Bool) → capped (length (es 
 count-maybe es c true = ap capped (length-append es (c ∷ [])) ∙ sym (cap_more (length es) 1)
 count-maybe es c false = ap (λ l. capped (length l)) (append-nil es)
 
--- how many epochs are in the text, as they are counted
+-- the number of epochs in the text, capped
 abbrev pub count : List Closed → ℕ
 count es = capped (length (written_epochs es))
 
--- the station values in the text that were written last
+-- the station values that were written last in the text
 abbrev pub last : List Closed → Option StationValues
 last es = last_values (written_epochs es)
 
@@ -121,7 +121,7 @@ count-closed es (Some e) v = rw filter-append (count-maybe (written_epochs es) (
 pub text-more : (s : SetupValue) (es fs : List Closed) → IsPrefix es fs → IsPrefix (text_with s es) (text_with s fs)
 text-more s es fs p = rw (p.1, filter-append) (text_of-append s.texts s.gather.plan (written_epochs es) (written_epochs p.0))
 
--- what is closed stays so, and is among all epochs in the end
+-- the closed epochs are a prefix of those that more messages close, and of all epochs
 abbrev pub ClosedStay : Type 0
 ClosedStay = (s : GatherSetup) (ms more : List Heard) → IsPrefix (closed_epochs s ms) (closed_epochs s (ms ++ more))
 
@@ -151,7 +151,7 @@ added_is : (t : HeaderLists) (p : PlanValue) (n : Option StationValues) (k : ℕ
 added_is t p n k o e v is count none =
     sym (ap (λ q. added t p n q v) is) ∙ ap (λ (b : Bool). if b then opening t p n e v ++ epoch_text p e else []) (sym (ap (λ m. nat_lt 0 m) count) ∙ lt_true k none)
 
--- one without adds nothing
+-- an epoch without a satellite adds nothing
 added_not : (t : HeaderLists) (p : PlanValue) (n : Option StationValues) (k : ℕ) (o : Option EpochValue) (e : EpochValue) (v : StationValues) → Some e ≡ o → k ≡ satellites_written e → k ≡ 0 → added t p n o v ≡ []
 added_not t p n k o e v is count none =
     sym (ap (λ q. added t p n q v) is) ∙ ap (λ (b : Bool). if b then opening t p n e v ++ epoch_text p e else []) (sym (ap (λ m. nat_lt 0 m) count) ∙ lt_false k none)
@@ -171,21 +171,21 @@ part_open : (a b : Option (List ℕ)) (t : HeaderLists) (p : PlanValue) (n : Opt
     → AppendsPrefix a b (opening t p n e v) → AppendsPrefix a b (added t p n o v)
 part_open a b t p n k o e v is count none x = rw (added_is t p n k o e v is count none) (prefix_more a b (opening t p n e v) (epoch_text p e) x)
 
--- and in the epoch
+-- the writer failed in the epoch
 part_epoch : (a b c : Option (List ℕ)) (t : HeaderLists) (p q : PlanValue) (n : Option StationValues) (k : ℕ) (o : Option EpochValue) (e : EpochValue) (v : StationValues) → Some e ≡ o → k ≡ satellites_written e → (k ≡ 0 → ⊥) → q ≡ p
     → Appends a b (opening t p n e v) → AppendsPrefix b c (epoch_text q e) → AppendsPrefix a c (added t p n o v)
 part_epoch a b c t p q n k o e v is count none same first x =
     let y : AppendsPrefix b c (epoch_text p e) = subst (λ (r : PlanValue). AppendsPrefix b c (epoch_text r e)) same x in
     rw (added_is t p n k o e v is count none) (prefix_after a b c (opening t p n e v) (epoch_text p e) first y)
 
--- an epoch that the gatherer lends is the one that it closed last, with the station values that are known
+-- the epoch that the gatherer returns is the one that it closed last, with the known station values
 lent : (e : Closed) (o : Option EpochValue) (v : StationValues) → e ∷ [] ≡ closed_by o v → (Some e.epoch ≡ o) × (e.values ≡ v)
 lent e None v h = cc
 lent e (Some x) v h = same h where
   same : e ∷ [] ≡ record { epoch = x; values = v } ∷ [] → (Some e.epoch ≡ Some x) × (e.values ≡ v)
   same h = let is : e ≡ record { epoch = x; values = v } = cc in (ap (λ (c : Closed). Some c.epoch) is, ap (λ (c : Closed). c.values) is)
 
--- the same of an epoch that the gatherer lends
+-- the same for the epoch that the gatherer returns
 module _ (t : HeaderLists) (p : PlanValue) (n : Option StationValues) (k : ℕ) (o : Option EpochValue) (e : Closed) (v : StationValues) (is : e ∷ [] ≡ closed_by o v) (size : k ≡ satellites_written e.epoch) where
   pub none_lent : (a : Option (List ℕ)) → k ≡ 0 → Appends a a (added t p n o v)
   none_lent a none = whole_none a t p n k o e.epoch v (lent e o v is).0 size none
@@ -205,7 +205,7 @@ module _ (t : HeaderLists) (p : PlanValue) (n : Option StationValues) (k : ℕ) 
       let l = lent e o v is in
       subst (λ (w : StationValues). AppendsPrefix a c (added t p n o w)) l.1 (part_epoch a b c t p q n k o e.epoch e.values l.0 size some same first x)
 
-  -- what was written last, and how many epochs
+  -- the values written last, and the number of epochs
   pub now_none : (m : ℕ) → k ≡ 0 → (m ≡ epochs_after m o) × (n ≡ values_after n o v)
   now_none m none =
       let l = lent e o v is in
@@ -222,12 +222,12 @@ module _ (t : HeaderLists) (p : PlanValue) (n : Option StationValues) (k : ℕ) 
         sym (sym (ap (λ q. values_after n q v) l.0) ∙ ap (λ (b : Bool). if b then Some v else n) yes ∙ ap Some (sym l.1)),
       )
 
--- nothing is written of no frames
+-- no frames have an empty text
 pub so_far-none : ((s : GatherSetup) → closed_epochs s [] ≡ []) → (s : SetupValue) → so_far s [] ≡ []
 unfolding text_of_epochs
 so_far-none none s = ap (text_with s) (none s.gather)
 
--- the text of one epoch and more is that of a file value
+-- the text of one or more epochs is that of a file value
 pub text_of-file : ((t : HeaderLists) (p : PlanValue) (v : StationValues) (c : Closed) (cs : List Closed) → header_text t p v c.epoch.time ++ closed_text p v (c ∷ cs) ≡ file_text (gathered t p v (c ∷ cs)))
     → (t : HeaderLists) (p : PlanValue) (c : Closed) (cs : List Closed) → text_of_epochs t p (c ∷ cs) ≡ file_text (gathered t p c.values (c ∷ cs))
 unfolding text_of_epochs

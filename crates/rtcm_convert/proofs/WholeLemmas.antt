@@ -29,7 +29,7 @@ some_weaker : (o : Option (List ℕ)) (P Q : List ℕ → Type 0) → ((x : List
 some_weaker None P Q f h = h
 some_weaker (Some x) P Q f h = f x h
 
--- all was taken within the limit that a setup says
+-- the bytes accepted are within the limit of the setup
 same_limit : (v w : Conversion) (n limit : ℕ) → n ≤ w.scan.limit → w.scan.limit ≡ v.scan.limit → v.scan.limit ≡ limit → n ≤ limit
 same_limit v w n limit le same e = subst (λ (k : ℕ). n ≤ k) (same ∙ e) le
 
@@ -80,7 +80,7 @@ run_long v w x r r' a b nothing y e p = record {
   );
 }
 
--- what these bytes make went out, and then a front of what follows
+-- what these bytes make was written, and then a prefix of what follows
 between : (a b c : Option (List ℕ)) (s : SetupValue) (front upper : List ℕ) → NothingYet → AppendsDecided a b s [] front → AppendsPrefixBetween b c (so_far s (decided_frames front)) upper
     → IsBetween a c (so_far s (decided_frames front)) upper
 between a b c s front upper nothing before last = record {
@@ -104,7 +104,7 @@ pub run_write : (v w : Conversion) (s : SetupValue) (r r' a b : Option (List ℕ
 run_write v w s r r' a b nothing x (inl p) = inl (p.0, p.1, p.2, broken a b s p.0 p.1 nothing (p.4 s [] x))
 run_write v w s r r' a b nothing x (inr p) = inr (p.0, p.1, p.2, broken_at_end a b s p.0 nothing (p.4 s [] x))
 
--- pieces that go over the limit, and those at which the writer failed
+-- pieces that go over the limit, and pieces at which the writer failed
 pub pieces_cut : {Z : Type 0} → (v w : Conversion) (x : Start) (a b : Option (List ℕ)) (pieces : List (Vec ℕ Z)) → NothingYet → HasConverted v (start_value x) [] → v.scan.limit ≡ x.setup.limit → v.scan.taken ≡ 0
     → CutsAtLimit v w a b (joined_pieces pieces) → AreMadeToLimit x a b pieces
 pieces_cut v w x a b pieces nothing y e none p = record {
@@ -117,7 +117,7 @@ pub pieces_failed : {Z : Type 0} → (v : Conversion) (s : SetupValue) (a b : Op
 pieces_failed v s a b pieces nothing y (inl p) = let f = p.2 s [] y in inl (p.0, p.1, between a f.mid b s (joined_pieces (take p.0 pieces)) (of_first s (p.0 + 1) pieces) nothing f.before f.last)
 pieces_failed v s a b pieces nothing y (inr p) = let f = p s [] y in inr (between a f.mid b s (joined_pieces pieces) (file s (frames_of (joined_pieces pieces))) nothing f.before f.last)
 
--- ---- faults that a new converter doesn't answer
+-- ---- faults that a call of a new converter doesn't return
 
 abbrev pub is_running : Fault → Bool
 is_running Read = true
@@ -150,12 +150,12 @@ is_made (Err e) = false
 made_or_not : (made : Result Conversion Fault) (converter : Conversion) (fault : Fault) → made ≡ Ok converter → made ≡ Err fault → ⊥
 made_or_not made converter fault a b = true≢false (sym (ap is_made a) ∙ ap is_made b)
 
--- a converter that was made has no bad setup
+-- a converter that was made has a valid setup
 pub not_bad : (made : Result Conversion Fault) (converter : Conversion) (bad : Type 0) (r : Result Report Fault) → made ≡ Ok converter → made ≡ Err BadSetup ↔ bad → IfErr r IsRunFault
     → r ≡ Err BadSetup ↔ bad
 not_bad made converter bad r is iff only = (λ e. absurd (not_running r BadSetup only refl e), λ b. absurd (made_or_not made converter BadSetup is (iff.1 b)))
 
--- ---- faults that the end of a stream doesn't answer
+-- ---- faults that the end of a stream doesn't return
 
 abbrev pub is_ending : Fault → Bool
 is_ending NoEpoch = true
@@ -177,7 +177,7 @@ not_ending (Err other) fault only hard e = true≢false (sym (ending other only)
 pub not_long : (r : Result Report Fault) (P : Type 0) → IfErr r IsFinishFault → r ≡ Err TooLong → P
 not_long r P only e = absurd (not_ending r TooLong only refl e)
 
--- ---- faults that pieces up to the end don't answer
+-- ---- faults that pieces up to the end don't return
 
 abbrev pub is_in_pieces : Fault → Bool
 is_in_pieces TooLong = true

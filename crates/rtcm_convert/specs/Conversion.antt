@@ -1,4 +1,4 @@
--- What a contract sees of a converter, and the bytes that it may have accepted.
+-- The state of a converter that contracts cite, and the bytes that it may have accepted.
 use Rattle.std.specs.Prelude.{◌≡◌, ◌⊎◌, ℕ, ◌+◌, ◌-◌, ◌<◌, ◌≤◌, List, ◌++◌, take, length}
 use Rattle.std.specs.Prelude.{Bool, true, false, Option, Some, None, IfSome, if◌then◌else◌, Result, IfErr}
 use Rattle.std.specs.Io.KnownBytes.{Consumes, IsAtEnd}
@@ -22,20 +22,21 @@ use Rattle.rtcm_convert.specs.declared.report.Report.{Report}
 use Rattle.rtcm_convert.specs.declared.fault.Fault.{Fault}
 use Rattle.rtcm_convert.specs.declared.fault.Fault.TheVariants.{Failed, Finished, NoEpoch}
 
--- scan: what is seen of its framer; file_writer: what writes the epochs; has_failed: an earlier call failed; has_ended: the
--- stream was ended
+-- scan: the state of its framer; file_writer: the state of the file writer; has_failed: an earlier call failed;
+-- has_ended: the stream was ended
 pub record Conversion : Type 0 where
   pub scan : FramerValue
   pub file_writer : FileWriter
   pub has_failed : Bool
   pub has_ended : Bool
 
--- nothing failed, and the stream goes on
+-- no call failed, and the stream wasn't ended
 pub record IsGoing (v : Conversion) : Type 0 where
   pub fine : v.has_failed ≡ false
   pub more : v.has_ended ≡ false
 
--- a converter that goes on can take bytes; the framer has accepted some bytes at every moment
+-- a converter that has neither failed nor ended can accept bytes; at every moment the framer has examined some list of
+-- bytes
 pub record IsFit (v : Conversion) : Type 0 where
   pub going : IsGoing v → v.file_writer.gatherer.has_ended ≡ false
   pub listening : IsGoing v → v.scan.has_ended ≡ false
@@ -43,17 +44,18 @@ pub record IsFit (v : Conversion) : Type 0 where
   pub drained : IsGoing v → HasDrainedSome v.scan
   pub examined : HasExaminedSome v.scan
 
--- the fault of every call from then on
+-- the fault of every later call
 abbrev pub refusal : Conversion → Option Fault
 refusal v = (if v.has_ended then Some Finished else if v.has_failed then Some Failed else None)
 
--- Made with these settings, the converter took these bytes: it holds those that are not decided, examined what the
--- decided ones ask for, and wrote the epochs that their frames close.
+-- A converter made with these settings accepted these bytes: it holds the undecided ones, examined the candidates up to
+-- the first undecided offset, and wrote the epochs that the decided frames close.
 pub record HasConverted (v : Conversion) (s : SetupValue) (b : List ℕ) : Type 0 where
   pub going : IsGoing v
   pub drained : Drained v.scan v.file_writer s b
 
--- the stream of these bytes, which are no more than the limit, was ended: all of it was taken, decided, examined and gathered
+-- the stream of these bytes, which are no more than the limit, was ended: all of them were accepted, decided, examined
+-- and gathered
 pub record HasFinished (v : Conversion) (s : SetupValue) (b : List ℕ) : Type 0 where
   pub ended : v.scan.has_ended ≡ true
   pub taken : v.scan.taken ≡ length b
@@ -62,7 +64,7 @@ pub record HasFinished (v : Conversion) (s : SetupValue) (b : List ℕ) : Type 0
   pub counted : IsCountedExactly v.scan b
   pub gathered : HasGathered v.file_writer s (frames_of b)
 
--- what it holds and has examined
+-- what a converter holds and has examined
 abbrev pub kept_of : Conversion → Kept
 kept_of v = record {
   held = length v.scan.held;
@@ -73,70 +75,70 @@ kept_of v = record {
   most = v.scan.most;
 }
 
--- those are the values for the bytes that it took, within the bounds
+-- they are the values for the bytes that it accepted, within the bounds
 pub record KeepsNow (v : Conversion) : Type 0 where
   pub bounds : IsWithinBounds v.scan.taken (kept_of v)
   pub values : (s : SetupValue) (b : List ℕ) → HasConverted v s b → IsKeptNow s b (kept_of v)
 
--- it took n bytes more, within the same limit, and goes on
+-- it accepted n more bytes, within the same limit, and neither failed nor ended
 abbrev pub GoesOnBy : Conversion → Conversion → ℕ → Type 0
 GoesOnBy v w n = IsGoing w × (w.scan.limit ≡ v.scan.limit) × (w.scan.taken ≡ v.scan.taken + n) × (0 < n → w.scan.taken ≤ w.scan.limit)
 
--- The converter took the bytes up to `all`: what they add went out, and what it holds and has examined are the values for all of them,
--- within the bounds.
+-- The converter accepted the bytes up to `all`: what they add was written, and what it holds and has examined are the
+-- values for all of them, within the bounds.
 pub record Continued (w : Conversion) (a b : Option (List ℕ)) (s : SetupValue) (bytes all : List ℕ) : Type 0 where
   pub converted : HasConverted w s all
   pub out : AppendsDecided a b s bytes all
   pub kept : IsKeptNow s all (kept_of w)
   pub bounds : IsWithinBounds (length all) (kept_of w)
 
--- it took these bytes more
+-- it accepted these further bytes
 abbrev pub TakesPiece : Conversion → Conversion → Option (List ℕ) → Option (List ℕ) → List ℕ → Type 0
 TakesPiece v w a b piece = (s : SetupValue) (bytes : List ℕ) → HasConverted v s bytes → Continued w a b s bytes (bytes ++ piece)
 
--- it took these bytes up to its limit, and what they add went out
+-- it accepted these bytes up to its limit, and what they add was written
 abbrev pub TakesToLimit : Conversion → Option (List ℕ) → Option (List ℕ) → List ℕ → Type 0
 TakesToLimit v a b piece = (s : SetupValue) (bytes : List ℕ) → HasConverted v s bytes → AppendsDecided a b s bytes (take v.scan.limit (bytes ++ piece))
 
--- these bytes go over the limit; they were taken up to it, and what they add went out
+-- these bytes go over the limit; they were accepted up to it, and what they add was written
 pub record CutsAtLimit (v w : Conversion) (a b : Option (List ℕ)) (piece : List ℕ) : Type 0 where
   pub adds : TakesToLimit v a b piece
   pub full : w.scan.taken ≡ v.scan.limit
   pub over : v.scan.limit < v.scan.taken + length piece
 
--- a prefix of what these bytes add went out
+-- a prefix of what these bytes add was written
 abbrev pub WritesPrefixOfAdded : Conversion → Option (List ℕ) → Option (List ℕ) → List ℕ → Type 0
 WritesPrefixOfAdded v a b piece = (s : SetupValue) (bytes : List ℕ) → HasConverted v s bytes → AppendsPrefixOfDecided a b s bytes (bytes ++ piece)
 
--- the stream ends here, and a front of the rest of its file went out
+-- the stream ends here, and a prefix of the rest of its file was written
 abbrev pub StopsAtEnd : Conversion → Option (List ℕ) → Option (List ℕ) → Type 0
 StopsAtEnd v a b = (s : SetupValue) (bytes : List ℕ) → HasConverted v s bytes → AppendsPrefixOfRest a b s bytes bytes
 
--- with these bytes more, the stream is longer than the limit
+-- with these further bytes, the stream is longer than the limit
 abbrev pub IsPastLimit : Conversion → List ℕ → Type 0
 IsPastLimit v rest = (s : SetupValue) (bytes : List ℕ) → HasConverted v s bytes → v.scan.limit < length (bytes ++ rest)
 
--- some bytes more were read and taken, and what they add went out
+-- some further bytes were read and accepted, and what they add was written
 abbrev pub TakesFromReader : Conversion → Conversion → Option (List ℕ) → Option (List ℕ) → Option (List ℕ) → Option (List ℕ) → Type 0
 TakesFromReader v w r r' a b = (front : List ℕ) × Consumes r r' front × (w.scan.taken ≡ v.scan.taken + length front) × TakesPiece v w a b front
 
--- what these bytes add went out
+-- what these bytes add was written
 abbrev pub WritesAdded : Conversion → Option (List ℕ) → Option (List ℕ) → List ℕ → Type 0
 WritesAdded v a b front = (s : SetupValue) (bytes : List ℕ) → HasConverted v s bytes → AppendsDecided a b s bytes (bytes ++ front)
 
--- some bytes more were read and taken, and what they add went out; then the reader failed
+-- some further bytes were read and accepted, and what they add was written; then the reader failed
 abbrev pub RanToFault : Conversion → Conversion → Option (List ℕ) → Option (List ℕ) → Option (List ℕ) → Option (List ℕ) → Type 0
 RanToFault v w r r' a b = (front : List ℕ) × Consumes r r' front × (w.scan.taken ≡ v.scan.taken + length front) × WritesAdded v a b front
 
--- a piece of n bytes was read, none at the end, and taken; what it adds went out
+-- a piece of n bytes, 0 only at the end, was read and accepted, and what it adds was written
 abbrev pub PullsPiece : Conversion → Conversion → ℕ → Option (List ℕ) → Option (List ℕ) → Option (List ℕ) → Option (List ℕ) → Type 0
 PullsPiece v w n r r' a b = TakesFromReader v w r r' a b × (n ≡ 0 → IsAtEnd r') × GoesOnBy v w n
 
--- a piece was read that goes over the limit, and was taken up to it
+-- a piece that goes over the limit was read, and accepted up to the limit
 abbrev pub ReadOverLimit : Conversion → Conversion → Option (List ℕ) → Option (List ℕ) → Option (List ℕ) → Option (List ℕ) → Type 0
 ReadOverLimit v w r r' a b = (piece : List ℕ) × Consumes r r' piece × CutsAtLimit v w a b piece
 
--- the stream is longer than the limit; some bytes more were read, and taken up to it; what these add went out
+-- the stream is longer than the limit; some further bytes were read, and accepted up to it; what these add was written
 pub record RanToLimit (v w : Conversion) (r r' a b : Option (List ℕ)) : Type 0 where
   pub front : List ℕ
   pub consumes : Consumes r r' front
@@ -144,36 +146,37 @@ pub record RanToLimit (v w : Conversion) (r r' a b : Option (List ℕ)) : Type 0
   pub full : w.scan.taken ≡ v.scan.limit
   pub over : IfSome r (IsPastLimit v)
 
--- What these bytes add went out, up to `mid`, and a prefix of what a last piece adds; the piece fits beside the bytes that were not decided.
+-- What these bytes add was written, up to `mid`, and a prefix of what a last piece adds; the piece fits beside the
+-- undecided bytes.
 pub record FailsAtPiece (a b : Option (List ℕ)) (s : SetupValue) (bytes piece : List ℕ) (all : List ℕ) : Type 0 where
   pub mid : Option (List ℕ)
   pub before : AppendsDecided a mid s bytes all
   pub last : AppendsPrefixOfDecided mid b s all (all ++ piece)
   pub near : (length all - decided all) + length piece ≤ longest_frame
 
--- What these bytes add went out, up to `mid`, and then a prefix of the rest of their file.
+-- What these bytes add was written, up to `mid`, and then a prefix of the rest of their file.
 pub record FailsAtEnd (a b : Option (List ℕ)) (s : SetupValue) (bytes all : List ℕ) : Type 0 where
   pub mid : Option (List ℕ)
   pub before : AppendsDecided a mid s bytes all
   pub last : AppendsPrefixOfRest mid b s all all
 
--- at least n bytes more were taken, and at most m
+-- at least n more bytes were accepted, and at most m
 pub record IsTakenFrom (v w : Conversion) (n m : ℕ) : Type 0 where
   pub least : v.scan.taken + n ≤ w.scan.taken
   pub most : w.scan.taken ≤ v.scan.taken + m
 
--- a piece was read at which the writer failed; it fits beside the bytes held
+-- the writer failed at a piece that was read; the piece fits beside the bytes held
 abbrev pub StopsAtPiece : Conversion → Conversion → Option (List ℕ) → Option (List ℕ) → Option (List ℕ) → Option (List ℕ) → Type 0
 StopsAtPiece v w r r' a b = (piece : List ℕ) × Consumes r r' piece × (length v.scan.held + length piece ≤ longest_frame)
     × IsTakenFrom v w 0 (length piece) × WritesPrefixOfAdded v a b piece × (v.scan.has_ended ≡ false)
 
--- the bytes that were read split into some that were taken and a last piece at which the writer failed
+-- the bytes read split into those accepted and a last piece at which the writer failed
 abbrev pub FailsFeeding : Conversion → Conversion → Option (List ℕ) → Option (List ℕ) → Option (List ℕ) → Option (List ℕ) → Type 0
 FailsFeeding v w r r' a b = (front : List ℕ) × (piece : List ℕ) × Consumes r r' (front ++ piece)
     × IsTakenFrom v w (length front) (length front + length piece)
     × ((s : SetupValue) (bytes : List ℕ) → HasConverted v s bytes → FailsAtPiece a b s bytes piece (bytes ++ front))
 
--- all was read, and the writer failed in what was left to write
+-- all was read, and the writer failed in the rest of the file
 abbrev pub FailsFinishing : Conversion → Conversion → Option (List ℕ) → Option (List ℕ) → Option (List ℕ) → Option (List ℕ) → Type 0
 FailsFinishing v w r r' a b = (front : List ℕ) × Consumes r r' front × IsAtEnd r' × (w.scan.taken ≡ v.scan.taken + length front)
     × ((s : SetupValue) (bytes : List ℕ) → HasConverted v s bytes → FailsAtEnd a b s bytes (bytes ++ front))
@@ -182,8 +185,9 @@ FailsFinishing v w r r' a b = (front : List ℕ) × Consumes r r' front × IsAtE
 abbrev pub StopsRunning : Conversion → Conversion → Option (List ℕ) → Option (List ℕ) → Option (List ℕ) → Option (List ℕ) → Type 0
 StopsRunning v w r r' a b = FailsFeeding v w r r' a b ⊎ FailsFinishing v w r r' a b
 
--- The rest of the file of all these bytes was written, which has an epoch; that is the report; all was decided and examined; and
--- what the converter holds and has examined has its values for these bytes, within the bounds.
+-- The rest of the file of all these bytes, which has an epoch, was written; `report` is its report; all bytes were
+-- decided and examined; and what the converter holds and has examined are the values for these bytes, within the
+-- bounds.
 pub record Completed (w : Conversion) (a b : Option (List ℕ)) (s : SetupValue) (bytes all : List ℕ) (report : Report) : Type 0 where
   pub out : AppendsRest a b s bytes all
   pub some : 0 < epochs_in s (frames_of all)
@@ -192,7 +196,7 @@ pub record Completed (w : Conversion) (a b : Option (List ℕ)) (s : SetupValue)
   pub kept : IsKeptAtEnd s all (kept_of w)
   pub bounds : IsWithinBounds (length all) (kept_of w)
 
--- The file of all these bytes has no epoch; the rest of it, which is nothing, went out; and all was decided and examined.
+-- The file of all these bytes has no epoch and is empty; all bytes were decided and examined.
 pub record CompletedEmpty (w : Conversion) (a b : Option (List ℕ)) (s : SetupValue) (bytes all : List ℕ) : Type 0 where
   pub none : epochs_in s (frames_of all) ≡ 0
   pub out : AppendsRest a b s bytes all
@@ -204,31 +208,33 @@ pub record CompletedEmpty (w : Conversion) (a b : Option (List ℕ)) (s : SetupV
 abbrev pub FinishesNow : Conversion → Conversion → Option (List ℕ) → Option (List ℕ) → Report → Type 0
 FinishesNow v w a b report = (s : SetupValue) (bytes : List ℕ) → HasConverted v s bytes → Completed w a b s bytes bytes report
 
--- it was completed and is empty
+-- the stream ends here, and the file was completed and is empty
 abbrev pub FinishesEmptyNow : Conversion → Conversion → Option (List ℕ) → Option (List ℕ) → Type 0
 FinishesEmptyNow v w a b = (s : SetupValue) (bytes : List ℕ) → HasConverted v s bytes → CompletedEmpty w a b s bytes bytes
 
--- with these bytes more, the file was completed
+-- with these further bytes, the file was completed
 abbrev pub CompletesFile : Conversion → Conversion → Option (List ℕ) → Option (List ℕ) → Report → List ℕ → Type 0
 CompletesFile v w a b report rest = (s : SetupValue) (bytes : List ℕ) → HasConverted v s bytes → Completed w a b s bytes (bytes ++ rest) report
 
--- with these bytes more, it was completed and is empty
+-- with these further bytes, the file was completed and is empty
 abbrev pub CompletesEmptyFile : Conversion → Conversion → Option (List ℕ) → Option (List ℕ) → List ℕ → Type 0
 CompletesEmptyFile v w a b rest = (s : SetupValue) (bytes : List ℕ) → HasConverted v s bytes → CompletedEmpty w a b s bytes (bytes ++ rest)
 
--- with all that was left to read, the file was completed
+-- with the rest of the stream, the file was completed
 abbrev pub CompletesFileOfAll : Conversion → Conversion → Report → Option (List ℕ) → Option (List ℕ) → Option (List ℕ) → Option (List ℕ) → Type 0
 CompletesFileOfAll v w report r r' a b = IfSome r (CompletesFile v w a b report)
 
--- with all that was left to read, it was completed and is empty
+-- with the rest of the stream, the file was completed and is empty
 abbrev pub CompletesEmptyFileOfAll : Conversion → Conversion → Option (List ℕ) → Option (List ℕ) → Option (List ℕ) → Option (List ℕ) → Type 0
 CompletesEmptyFileOfAll v w r r' a b = IfSome r (CompletesEmptyFile v w a b)
 
--- what a refused call leaves of a converter that went on: one that is finished, or one that has failed
+-- the state of a converter after a fault of a call, if it had neither failed nor ended before: finished after
+-- `NoEpoch`, else failed
 abbrev pub LeftBy : Fault → Conversion → Type 0
 LeftBy NoEpoch v = v.has_ended ≡ true
 LeftBy _ v = (v.has_failed ≡ true) × (v.has_ended ≡ false)
 
--- how a call leaves a converter: within the same limit and, if it went on before, as its fault says, which is one of these
+-- the state of a converter after a call: the limit is unchanged; if it had neither failed nor ended before, a fault is
+-- one of these, and the state is that after this fault
 abbrev pub IsLeft : {A : Type 0} → (Fault → Type 0) → Conversion → Conversion → Result A Fault → Type 0
 IsLeft kinds v w result = (w.scan.limit ≡ v.scan.limit) × (IsGoing v → IfErr result (λ fault. kinds fault × LeftBy fault w))

@@ -16,16 +16,16 @@ pub record SetupValue : Type 0 where
   pub gather : GatherSetup
   pub texts : HeaderLists
 
--- what is heard of a message that was read; nothing of one that was refused
+-- the content of a message that was read; none of one that was refused
 abbrev pub heard_of : Result Message MsgFault → Option Heard
 heard_of (Ok m) = Some (heard m)
 heard_of (Err e) = None
 
--- what is heard in a frame
+-- the content of a frame's message
 abbrev pub heard_in : Framed → Option Heard
 heard_in f = heard_of (message_at f.message)
 
--- the messages of these frames in order, refused ones left out
+-- the messages of these frames in order, without refused ones
 abbrev pub messages_of : List Framed → List Heard
 messages_of fs = filter_map heard_in fs
 
@@ -33,8 +33,9 @@ messages_of fs = filter_map heard_in fs
 abbrev pub written_epochs : List Closed → List Closed
 written_epochs es = filter (λ e. nat_lt 0 (satellites_written e.epoch)) es
 
--- a header with the first epoch's time and the station values known when it was closed, then the epochs, each after an event
--- if the station values known when it was closed differ from those of the epoch before; nothing if there is no epoch
+-- a header with the time of the first epoch and the station values known when it was closed, then the epochs, each
+-- after an event if the station values known when it was closed differ from those of the epoch before; empty if there
+-- is no epoch
 unfoldable pub text_of_epochs : HeaderLists → PlanValue → List Closed → List ℕ
 text_of_epochs texts plan [] = []
 text_of_epochs texts plan (e ∷ es) = header_text texts plan e.values e.epoch.time ++ closed_text plan e.values (e ∷ es)
@@ -47,7 +48,7 @@ text_with s es = text_of_epochs s.texts s.gather.plan (written_epochs es)
 abbrev pub file : SetupValue → List Framed → List ℕ
 file s fs = text_with s (all_epochs s.gather (messages_of fs))
 
--- as far as its epochs are closed by these frames
+-- the file of the epochs that these frames close
 abbrev pub so_far : SetupValue → List Framed → List ℕ
 so_far s fs = text_with s (closed_epochs s.gather (messages_of fs))
 

@@ -1,12 +1,12 @@
--- What a result says of the devices that a call reads and writes.
+-- The state of the devices that a call reads and writes, by its result.
 use Rattle.std.specs.Prelude.{◌≡◌, ◌≤◌, ◌⊎◌, ℕ, max, ⊤, Bool, true, Result, Ok, Err, OnOk, IfErr}
 use Rattle.rtcm_bits.specs.Device.{Device, HasFailed, FailsWith}
 use Rattle.rtcm_bits.specs.FrameOf.{longest_frame}
 use Rattle.rtcm_convert.specs.declared.fault.Fault.{Fault}
 use Rattle.rtcm_convert.specs.declared.fault.Fault.TheVariants.{BadSetup, Memory, Read, TooLong, NoEpoch, Write}
 
--- Nothing waits in the writer, unless the writer failed. A call that was refused, or whose reader failed, leaves none waiting if
--- none waited before.
+-- Nothing waits in the writer, unless the writer failed. After a call that was refused, or whose reader failed, nothing
+-- waits if nothing waited before.
 abbrev pub IsSentAtFault : Fault → Bool → Bool → Type 0
 IsSentAtFault Write before after = ⊤
 IsSentAtFault TooLong before after = after ≡ true
@@ -17,7 +17,7 @@ abbrev pub IsSentAfter : {A : Type 0} → Result A Fault → Bool → Bool → T
 IsSentAfter (Ok x) before after = after ≡ true
 IsSentAfter (Err fault) before after = IsSentAtFault fault before after
 
--- `Write` is the one fault of the call, and is returned only if a failure of the writer was counted; else none was
+-- `Write` is the only fault of the call, and is returned exactly if a failure of the writer was counted
 abbrev pub FailsToWrite : {T A : Type 0} → Result A Fault → Device T → Device T → Type 0
 FailsToWrite result old new = IfErr result (λ fault. fault ≡ Write) × FailsWith result old new
 
@@ -31,20 +31,20 @@ abbrev pub ReaderFailures : Fault → ℕ → ℕ → Type 0
 ReaderFailures Read before after = HasFailed before after
 ReaderFailures _ before after = after ≡ before
 
--- `Write` is returned only if a failure of the writer was counted, and anything else only if none was; nothing was
+-- `Write` is returned exactly if one failure of the writer was counted, any other result only if none was; nothing was
 -- read from it
 abbrev pub FailsWithWriter : {T A : Type 0} → Result A Fault → Device T → Device T → Type 0
 FailsWithWriter result old new =
     IfErr result (λ fault. WriterFailures fault old.failures new.failures) × OnOk result (new.failures ≡ old.failures) × (new.widest ≡ old.widest)
 
--- `Read` is returned only if a failure of the reader was counted, and anything else only if none was; it was asked
--- for no more bytes at a time than can be held
+-- `Read` is returned exactly if one failure of the reader was counted, any other result only if none was; no read asked
+-- for more than 1,029 bytes
 abbrev pub FailsWithReader : {T A : Type 0} → Result A Fault → Device T → Device T → Type 0
 FailsWithReader result old new =
     IfErr result (λ fault. ReaderFailures fault old.failures new.failures) × OnOk result (new.failures ≡ old.failures)
     × (new.widest ≤ max old.widest longest_frame)
 
--- so it is of both devices
+-- the same for both devices
 abbrev pub FailsWithDevices : {R W A : Type 0} → Result A Fault → (r r' : Device R) → (w w' : Device W) → Type 0
 FailsWithDevices result r r' w w' = FailsWithReader result r r' × FailsWithWriter result w w'
 
@@ -56,8 +56,7 @@ IsUntouched r r' w w' = (r' ≡ r) × (w' ≡ w)
 abbrev pub IsSetupFault : Fault → Type 0
 IsSetupFault fault = (fault ≡ BadSetup) ⊎ (fault ≡ Memory)
 
--- the faults of bytes that are fed, of a piece that is read, of the end, of pieces up to the end, and of a whole run, if no call
--- failed before
+-- the faults of `feed`, of a piece that is read, of `finish`, of `take_pieces`, and of `run`, if no call failed before
 abbrev pub IsFeedFault : Fault → Type 0
 IsFeedFault fault = (fault ≡ TooLong) ⊎ (fault ≡ Write)
 

@@ -1,4 +1,4 @@
--- The content of the file when the epochs of some messages were written.
+-- The content of the file after the epochs of some messages were written.
 use Rattle.std.specs.Prelude.{◌≡◌, ℕ, ◌+◌, nat_lt, true, List, [], ◌∷◌, ◌++◌, length, Option, Some, None, if◌then◌else◌}
 use Rattle.rtcm_scan.specs.Frames.{Framed}
 use Rattle.obs_epoch.specs.Values.{PlanValue, EpochValue, Closed, satellites_written}
@@ -11,39 +11,41 @@ use Rattle.rtcm_convert.specs.Converted.{SetupValue, messages_of, written_epochs
 use Rattle.rtcm_convert.specs.Outcomes.{outcomes, tally_of, capped, capped_tally, AreFew}
 use Rattle.rtcm_convert.specs.declared.file_writer.FileWriter.{FileWriter}
 
--- the text before an epoch if these station values were written last: an event if they have changed, and the header if none were
+-- the text before an epoch if these station values were written last: an event if they have changed, and the header if
+-- none were written
 abbrev pub opening : HeaderLists → PlanValue → Option StationValues → EpochValue → StationValues → List ℕ
 opening texts plan None e values = header_text texts plan values e.time
 opening texts plan (Some before) e values = change_text before values
 
--- what an epoch that was closed adds to a file
+-- what a closed epoch adds to a file
 abbrev pub added : HeaderLists → PlanValue → Option StationValues → Option EpochValue → StationValues → List ℕ
 added texts plan before None values = []
 added texts plan before (Some e) values = (if nat_lt 0 (satellites_written e) then opening texts plan before e values ++ epoch_text plan e else [])
 
--- the station values that were written last then
+-- the station values that are then written last
 abbrev pub values_after : Option StationValues → Option EpochValue → StationValues → Option StationValues
 values_after before None values = before
 values_after before (Some e) values = (if nat_lt 0 (satellites_written e) then Some values else before)
 
--- the number of epochs that the file has then
+-- the number of epochs in the file after that
 abbrev pub epochs_after : ℕ → Option EpochValue → ℕ
 epochs_after n None = n
 epochs_after n (Some e) = (if nat_lt 0 (satellites_written e) then capped (n + 1) else n)
 
--- what the file_writer writes before an epoch
+-- what the file writer writes before an epoch
 abbrev pub opening_of : FileWriter → Closed → List ℕ
 opening_of v c = opening v.texts (plan_in v.gatherer) v.values c.epoch c.values
 
--- what the file_writer adds to its file for the epoch that its gatherer closed last
+-- what the file writer adds to its file for the epoch that its gatherer closed last
 abbrev pub added_by : FileWriter → List ℕ
 added_by v = added v.texts (plan_in v.gatherer) v.values (closed_in v.gatherer) v.gatherer.values
 
--- the file_writer has counted the epoch that its gatherer closed last, and remembers the station values that were written last
+-- the file writer has counted the epoch that its gatherer closed last, and stores the station values that were written
+-- last
 abbrev pub StandsAfterClosed : FileWriter → FileWriter → Type 0
 StandsAfterClosed v w = (w.epochs ≡ epochs_after v.epochs (closed_in v.gatherer)) × (w.values ≡ values_after v.values (closed_in v.gatherer) v.gatherer.values)
 
--- the station values after these epochs, if these were written before them
+-- the station values written last after these epochs, if the given ones were written before them
 abbrev pub values_following_closed : StationValues → List Closed → StationValues
 values_following_closed v [] = v
 values_following_closed v (c ∷ cs) = values_following_closed c.values cs
@@ -53,24 +55,24 @@ abbrev pub last_values : List Closed → Option StationValues
 last_values [] = None
 last_values (c ∷ cs) = Some (values_following_closed c.values cs)
 
--- the file_writer took these messages and wrote these epochs; if `again` is a message, it is to be passed again
+-- the file writer processed these messages and wrote these epochs; if `again` is a message, it must be passed again
 pub record HasFiledEpochs (v : FileWriter) (s : SetupValue) (ms : List Heard) (es : List Closed) (again : Option Heard) : Type 0 where
   pub texts : v.texts ≡ s.texts
   pub gatherer : HasGatheredEpochs v.gatherer s.gather ms es again
   pub epochs : v.epochs ≡ capped (length (written_epochs es))
   pub values : v.values ≡ last_values (written_epochs es)
 
--- the file_writer took these messages and wrote the epochs that they close
+-- the file writer processed these messages and wrote the epochs that they close
 abbrev pub Settled : FileWriter → SetupValue → List Heard → Type 0
 Settled v s ms = HasFiledEpochs v s ms (closed_epochs s.gather ms) None
 
--- the file_writer took the messages of these frames, and no more will come
+-- the file writer processed the messages of these frames, and was ended
 pub record HasGathered (v : FileWriter) (s : SetupValue) (fs : List Framed) : Type 0 where
   pub ended : v.gatherer.has_ended ≡ true
   pub epochs : List Closed
   pub gathers : HasGatheredEpochs v.gatherer s.gather (messages_of fs) epochs None
 
--- the file_writer took the messages of these frames and wrote the epochs that they close
+-- the file writer processed the messages of these frames and wrote the epochs that they close
 pub record HasFiledFrames (v : FileWriter) (s : SetupValue) (fs : List Framed) : Type 0 where
   pub settled : Settled v s (messages_of fs)
   pub tally : v.tally ≡ capped_tally (tally_of (outcomes s fs))

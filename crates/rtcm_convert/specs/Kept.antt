@@ -1,4 +1,4 @@
--- What a converter keeps of the frames that it processed.
+-- What a converter holds of the frames that it processed.
 use Rattle.std.specs.Prelude.{◌≡◌, ℕ, ◌*◌, ◌≤◌, List, drop, length}
 use Rattle.gnss_obs.specs.declared.system.System.{System}
 use Rattle.gnss_obs.specs.declared.system.System.TheVariants.{Gps, Galileo}
@@ -24,15 +24,16 @@ timed_of s fs = timed s.gather (messages_of fs)
 abbrev pub cells_kept : SetupValue → System → List Framed → ℕ
 cells_kept s system fs = length (cells_of system (held_at s.gather (timed_of s fs)))
 
--- the satellites and signals of which an epoch of these times has a kept cell with a valid phase and a known lock
+-- the number of satellites and signals of which an epoch of these times has a kept cell with a valid phase and a known
+-- lock
 abbrev pub locks_at : SetupValue → List Framed → List ℕ → ℕ
 locks_at s fs ts = length (firsts (locked_in s.gather (timed_of s fs) ts))
 
--- of the epochs that these frames close
+-- the number of lock records after the epochs that these frames close
 abbrev pub locks_kept : SetupValue → List Framed → ℕ
 locks_kept s fs = locks_at s fs (closed_times s.gather (timed_of s fs))
 
--- of all epochs, when the stream has ended
+-- the number of lock records after all epochs, when the stream has ended
 abbrev pub locks_in_all : SetupValue → List Framed → ℕ
 locks_in_all s fs = locks_at s fs (times (timed_of s fs))
 
@@ -47,7 +48,7 @@ pub record IsWithinBounds (taken : ℕ) (k : Kept) : Type 0 where
   pub examined : k.examined ≤ most_looks * taken
   pub most : k.most ≤ most_looks
 
--- the values when these bytes were taken
+-- the values after these bytes were accepted
 pub record IsKeptNow (s : SetupValue) (b : List ℕ) (k : Kept) : Type 0 where
   pub held : k.held ≡ length (drop (decided b) b)
   pub gps_cells : k.gps_cells ≡ cells_kept s Gps (decided_frames b)
@@ -56,7 +57,7 @@ pub record IsKeptNow (s : SetupValue) (b : List ℕ) (k : Kept) : Type 0 where
   pub examined : k.examined ≡ examined_now b
   pub most : k.most ≡ most_now b
 
--- the values when the stream of these bytes was ended
+-- the values after the stream of these bytes was ended
 pub record IsKeptAtEnd (s : SetupValue) (b : List ℕ) (k : Kept) : Type 0 where
   pub held : k.held ≡ 0
   pub gps_cells : k.gps_cells ≡ cells_kept s Gps (frames_of b)

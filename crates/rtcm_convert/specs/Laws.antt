@@ -37,12 +37,12 @@ pub record IsCountedOnce (r : Report) (frames : ℕ) : Type 0 where
   pub all : r.frames ≡ frames
   pub once : r.faulty + (r.station + (r.other + (r.ignored + (r.late + (r.past + r.taken))))) ≡ frames
 
--- so it is in the report of each stream that a converter takes
+-- this holds for the report of every stream
 abbrev pub CountedOnce : Type 0
 CountedOnce = (s : SetupValue) (b : List ℕ) → IsCountedOnce (report_of s b) (length (frames_of b))
 
--- epochs in which a satellite has a value make the text of a file value, with the station values known when the first was closed,
--- and a change of them wherever those of the next are others
+-- epochs in which a satellite has a value make the text of a file value, with the station values known when the first
+-- was closed, and an event before each epoch whose station values differ from those before
 abbrev pub IsFileText : Type 0
 IsFileText = (texts : HeaderLists) (plan : PlanValue) (e : Closed) (es : List Closed)
     → text_of_epochs texts plan (e ∷ es) ≡ file_text (gathered texts plan e.values (e ∷ es))

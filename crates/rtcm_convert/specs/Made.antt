@@ -1,4 +1,4 @@
--- The file that was made of a whole stream.
+-- The file written of a whole stream.
 use Rattle.std.specs.Prelude.{◌≡◌, ℕ, ◌<◌, ◌≤◌, List, length, Option, IfSome, Vec}
 use Rattle.std.specs.Io.KnownBytes.{Appends}
 use Rattle.rtcm_scan.specs.Frames.{frames_of}
@@ -9,20 +9,22 @@ use Rattle.rtcm_convert.specs.Readable.{HasValue}
 use Rattle.rtcm_convert.specs.SetupValues.{Start, start_value}
 use Rattle.rtcm_convert.specs.declared.report.Report.{Report}
 
--- These bytes are no more than the limit, and the file of their frames, which has an epoch, was written: the text of a file value.
+-- These bytes are no more than the limit, and the file of their frames, which has an epoch, was written: the text of a
+-- file value.
 pub record IsMade (x : Start) (a b : Option (List ℕ)) (bytes : List ℕ) : Type 0 where
   pub within : length bytes ≤ x.setup.limit
   pub some : 0 < epochs_in (start_value x) (frames_of bytes)
   pub value : HasValue (file (start_value x) (frames_of bytes))
   pub out : Appends a b (file (start_value x) (frames_of bytes))
 
--- They are no more than the limit, and the file of their frames has no epoch; it is empty.
+-- These bytes are no more than the limit, and the file of their frames has no epoch; it is empty.
 pub record IsMadeEmpty (x : Start) (a b : Option (List ℕ)) (bytes : List ℕ) : Type 0 where
   pub within : length bytes ≤ x.setup.limit
   pub none : epochs_in (start_value x) (frames_of bytes) ≡ 0
   pub out : Appends a b (file (start_value x) (frames_of bytes))
 
--- The stream is longer than the limit; what went out is the file of the epochs that the bytes read up to the limit close.
+-- The stream is longer than the limit; the bytes written are the file of the epochs that the bytes read up to the limit
+-- close.
 pub record IsMadeToLimit (x : Start) (r r' a b : Option (List ℕ)) : Type 0 where
   pub over : IfSome r (λ bytes. x.setup.limit < length bytes)
   pub out : WroteToLimit r r' a b (start_value x) x.setup.limit
@@ -32,18 +34,18 @@ pub record AreMadeToLimit {Z : Type 0} (x : Start) (a b : Option (List ℕ)) (pi
   pub over : x.setup.limit < length (joined_pieces pieces)
   pub out : WrotePieces a b (start_value x) x.setup.limit pieces
 
--- what went out is the file of the epochs that the bytes read close
+-- the bytes written are the file of the epochs that the bytes read close
 abbrev pub IsMadeSoFar : Start → Option (List ℕ) → Option (List ℕ) → Option (List ℕ) → Option (List ℕ) → Type 0
 IsMadeSoFar x r r' a b = WroteSoFar r r' a b (start_value x)
 
--- the writer failed at one of the pieces read or when all was read, and a part of the file went out
+-- the writer failed at one of the pieces read or after all was read, and a part of the file was written
 abbrev pub IsMadeInPart : Start → Option (List ℕ) → Option (List ℕ) → Option (List ℕ) → Option (List ℕ) → Type 0
 IsMadeInPart x r r' a b = BrokeReading r r' a b (start_value x)
 
--- that is the report of these bytes
+-- `report` is the report of these bytes
 abbrev pub IsReportOf : Start → Report → List ℕ → Type 0
 IsReportOf x report bytes = report ≡ report_of (start_value x) bytes
 
--- the file of these bytes was written, and that is its report
+-- the file of these bytes was written, and `report` is its report
 abbrev pub IsMadeWith : Start → Report → Option (List ℕ) → Option (List ℕ) → List ℕ → Type 0
 IsMadeWith x report a b bytes = IsMade x a b bytes × IsReportOf x report bytes

@@ -1,4 +1,4 @@
--- What becomes of each frame, and the counts of that.
+-- The outcome of each frame, and the counts of the outcomes.
 use Rattle.std.specs.Prelude.{ℕ, ◌≤◌, ◌+◌, ◌-◌, ◌^◌, min, List, [], ◌∷◌, ◌++◌, length, sum_by, Option, Some, None, option_map}
 use Rattle.rtcm_scan.specs.Frames.{Framed, frames_of}
 use Rattle.rtcm_scan.specs.Decided.{skipped_before}
@@ -9,7 +9,7 @@ use Rattle.rtcm_convert.specs.Converted.{SetupValue, messages_of, heard_in, epoc
 use Rattle.rtcm_convert.specs.declared.report.Report.{Report}
 use Rattle.rtcm_convert.specs.declared.tally.Tally.{Tally}
 
--- the outcome of a frame after these: none if its message is refused, else that of the message
+-- the outcome of a frame after these: `None` if its message is refused, else that of the message
 abbrev pub outcome : SetupValue → List Framed → Framed → Option Kind
 outcome s before f = option_map (λ m. kind_of s.gather (messages_of before) m) (heard_in f)
 
@@ -17,7 +17,7 @@ abbrev pub outcomes_after : SetupValue → List Framed → List Framed → List 
 outcomes_after s before [] = []
 outcomes_after s before (f ∷ fs) = outcome s before f ∷ outcomes_after s (before ++ f ∷ []) fs
 
--- what becomes of each frame
+-- the outcome of each frame
 abbrev pub outcomes : SetupValue → List Framed → List (Option Kind)
 outcomes s fs = outcomes_after s [] fs
 
@@ -62,7 +62,7 @@ tallies_added a b = record {
   crowded = capped (a.crowded + b.crowded);
 }
 
--- each count up to the greatest number that is counted; no stream that a converter takes comes near it
+-- each count up to the greatest number that is counted; no stream that a converter accepts reaches it
 abbrev pub capped_tally : Tally → Tally
 capped_tally t = record {
   frames = capped t.frames;
@@ -78,7 +78,7 @@ capped_tally t = record {
   crowded = capped t.crowded;
 }
 
--- one frame adds so little to each count
+-- one frame adds at most 128 to each count
 pub record IsFew (t : Tally) : Type 0 where
   pub frames : t.frames ≤ 128
   pub faulty : t.faulty ≤ 128

@@ -5,7 +5,7 @@ use Rattle.rtcm_convert.specs.Converted.{SetupValue}
 use Rattle.rtcm_convert.specs.Conversion.{Conversion, HasConverted, FailsAtEnd}
 use Rattle.rtcm_convert.specs.Stream.{AppendsDecided, AppendsPrefixOfDecided}
 
--- What the bytes up to `all` add went out, up to `mid`, and then a prefix of what those up to `more` add.
+-- What the bytes up to `all` add was written, up to `mid`, and then a prefix of what those up to `more` add.
 pub record FailsBetween (a b : Option (List ℕ)) (s : SetupValue) (bytes all more : List ℕ) : Type 0 where
   pub mid : Option (List ℕ)
   pub before : AppendsDecided a mid s bytes all

@@ -1,4 +1,4 @@
--- What is written is read back: it is the text of a file value, which `rinex_file::read_file` accepts.
+-- The file written can be read back: it is the text of a file value, which `rinex_file::read_file` accepts.
 use Rattle.std.specs.Prelude.{◌≡◌, ℕ, ◌<◌, ◌⊎◌, List, []}
 use Rattle.rtcm_scan.specs.Frames.{Framed}
 use Rattle.obs_epoch.specs.Reach.{AreStationValues}
@@ -16,21 +16,21 @@ pub record IsTextOf (v : FileValue) (text : List ℕ) : Type 0 where
 abbrev pub HasValue : List ℕ → Type 0
 HasValue text = (v : FileValue) × IsTextOf v text
 
--- nothing, or the text of a file value
+-- empty, or the text of a file value
 abbrev pub IsReadable : List ℕ → Type 0
 IsReadable text = (text ≡ []) ⊎ HasValue text
 
--- texts that fit their columns, listed signals, and station values that a message can have: those of a setup are
+-- the texts fit their columns, the signals are listed, and a message can have the station values, as in every setup
 pub record AreSound (s : SetupValue) : Type 0 where
   pub texts : AreTexts s.texts
   pub plan : AreSignals s.gather.plan
   pub initial : AreStationValues s.gather.initial
 
--- the file that frames make, and what is written of it so far
+-- the file that frames make is readable
 abbrev pub FilesAreReadable : Type 0
 FilesAreReadable = (s : SetupValue) (fs : List Framed) → AreSound s → IsReadable (file s fs)
 
--- if an epoch is written the file isn't empty
+-- if the file has an epoch, it is the text of a file value
 abbrev pub FilesHaveValues : Type 0
 FilesHaveValues = (s : SetupValue) (fs : List Framed) → AreSound s → 0 < epochs_in s fs → HasValue (file s fs)
 

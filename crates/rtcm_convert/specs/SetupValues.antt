@@ -1,4 +1,4 @@
--- What a conversion begins with, as its definitions see it.
+-- The settings of a conversion that its definitions cite.
 use Rattle.std.specs.Prelude.{◌≡◌, ◌^◌, ◌<◌, ◌≤◌, ◌⊎◌, true}
 use Rattle.obs_epoch.specs.Weeks.{weeks}
 use Rattle.obs_epoch.specs.Epochs.{no_values}
@@ -8,19 +8,19 @@ use Rattle.obs_epoch.specs.declared.cell.StationValues.{StationValues}
 use Rattle.rtcm_convert.specs.declared.setup.Setup.{Setup}
 use Rattle.rtcm_convert.specs.Converted.{SetupValue}
 
--- with the station values that hold until a station message has others
+-- the settings with the station values that hold until a station message has others
 abbrev pub setup_value_at : Setup → StationValues → SetupValue
 setup_value_at x initial = record { gather = setup_at x.plan x.start_week x.station x.gather initial; texts = x.texts }
 
--- with station values of 0
+-- the settings with station values of 0
 abbrev pub setup_value : Setup → SetupValue
 setup_value x = setup_value_at x no_values
 
--- a week that there is not, or a station that there is not
+-- a week or a station out of range
 abbrev pub IsBadStart : Setup → Type 0
 IsBadStart x = (weeks ≤ x.start_week) ⊎ (is_no_station x.station ≡ true)
 
--- a limit of more than 2^48 bytes, a week that there is not, or a station that there is not
+-- a limit above 2^48 bytes, or a week or a station out of range
 abbrev pub IsBad : Setup → Type 0
 IsBad x = (2 ^ 48 < x.limit) ⊎ IsBadStart x
 
@@ -38,6 +38,6 @@ start_zero x = start_at x no_values
 abbrev pub start_value : Start → SetupValue
 start_value x = setup_value_at x.setup x.initial
 
--- or station values that no message can have
+-- the same, or station values that no message can have
 abbrev pub IsBadAt : Start → Type 0
 IsBadAt x = (AreStationValues x.initial → ⊥) ⊎ IsBad x.setup

@@ -1,4 +1,4 @@
--- What the calls of the file_writer do, for all messages and frames before.
+-- What the calls of the file writer do, for all messages and frames before.
 use Rattle.std.specs.Prelude.{◌≡◌, ℕ, true, false, List, [], ◌∷◌, ◌++◌, Option, Some, None}
 use Rattle.rtcm_scan.specs.Frames.{Framed}
 use Rattle.obs_epoch.specs.Values.{Closed}
@@ -14,61 +14,61 @@ use Rattle.rtcm_convert.specs.declared.file_writer.FileWriter.{FileWriter}
 
 -- ---- a message that is passed, for the first time or again
 
--- the message was not taken: an epoch is closed first, and then it is to be passed again
+-- the message was not processed: an epoch is closed first, and then the message must be passed again
 abbrev pub IsCloseFirst : Kind → Type 0
 IsCloseFirst kind = is_close_first kind ≡ true
 
--- that is what became of the message, which was taken
+-- the outcome of a message that was processed
 abbrev pub IsFinalKind : Kind → Type 0
 IsFinalKind kind = is_close_first kind ≡ false
 
--- the epoch that was closed first was written, and the message is to be passed again
+-- the epoch that was closed first was written, and the message must be passed again
 abbrev pub WritesFirst : FileWriter → FileWriter → Heard → Option (List ℕ) → Option (List ℕ) → Type 0
 WritesFirst v w m a b = (s : SetupValue) (ms : List Heard) (es : List Closed) → HasFiledEpochs v s ms es None
     → (all : List Closed) × HasFiledEpochs w s ms all (Some m) × AppendsBetween a b (text_with s es) (text_with s all)
 
--- the message was taken, and the epoch that it closed was written
+-- the message was processed, and the epoch that it closed was written
 abbrev pub TakesMessage : FileWriter → FileWriter → Heard → Option (List ℕ) → Option (List ℕ) → Type 0
 TakesMessage v w m a b = (s : SetupValue) (ms : List Heard) (es : List Closed) (again : Option Heard) → IsAwaited again m → HasFiledEpochs v s ms es again
     → (all : List Closed) × HasFiledEpochs w s (ms ++ m ∷ []) all None × AppendsBetween a b (text_with s es) (text_with s all)
 
--- if it was passed again it was taken
+-- a message that is passed again is processed
 abbrev pub IsTakenAgain : FileWriter → Heard → Kind → Type 0
 IsTakenAgain v m kind = (s : SetupValue) (ms : List Heard) (es : List Closed) → HasFiledEpochs v s ms es (Some m) → IsFinalKind kind
 
--- that is what becomes of it
+-- the outcome of the message
 abbrev pub IsKindOf : FileWriter → Heard → Kind → Type 0
 IsKindOf v m kind = (s : SetupValue) (ms : List Heard) (es : List Closed) (again : Option Heard) → IsAwaited again m → HasFiledEpochs v s ms es again
     → kind ≡ kind_of s.gather ms m
 
--- a front of what it closes went out
+-- a prefix of what it closes was written
 abbrev pub BreaksInMessage : FileWriter → Heard → Option (List ℕ) → Option (List ℕ) → Type 0
 BreaksInMessage v m a b = (s : SetupValue) (ms : List Heard) (es : List Closed) (again : Option Heard) → IsAwaited again m → HasFiledEpochs v s ms es again
     → AppendsPrefixBetween a b (text_with s es) (text_with s (closed_epochs s.gather (ms ++ m ∷ [])))
 
 -- ---- the next message
 
--- it was taken, and the epochs that it closes were written
+-- it was processed, and the epochs that it closes were written
 abbrev pub TakesNext : FileWriter → FileWriter → Heard → Option (List ℕ) → Option (List ℕ) → Type 0
 TakesNext v w m a b = (s : SetupValue) (ms : List Heard) → Settled v s ms → Settled w s (ms ++ m ∷ [])
     × AppendsBetween a b (text_with s (closed_epochs s.gather ms)) (text_with s (closed_epochs s.gather (ms ++ m ∷ [])))
 
--- that is what becomes of it
+-- the outcome of the message
 abbrev pub IsKindOfNext : FileWriter → Heard → Kind → Type 0
 IsKindOfNext v m kind = (s : SetupValue) (ms : List Heard) → Settled v s ms → kind ≡ kind_of s.gather ms m
 
--- a front of what it closes went out
+-- a prefix of what it closes was written
 abbrev pub BreaksInNext : FileWriter → Heard → Option (List ℕ) → Option (List ℕ) → Type 0
 BreaksInNext v m a b = (s : SetupValue) (ms : List Heard) → Settled v s ms
     → AppendsPrefixBetween a b (text_with s (closed_epochs s.gather ms)) (text_with s (closed_epochs s.gather (ms ++ m ∷ [])))
 
 -- ---- the next frame, and the end
 
--- the frame was taken, and the epochs that it closes were written
+-- the frame was processed, and the epochs that it closes were written
 abbrev pub TakesFrame : FileWriter → FileWriter → Framed → Option (List ℕ) → Option (List ℕ) → Type 0
 TakesFrame v w f a b = (s : SetupValue) (fs : List Framed) → HasFiledFrames v s fs → HasFiledFrames w s (fs ++ f ∷ []) × AppendsBetween a b (so_far s fs) (so_far s (fs ++ f ∷ []))
 
--- a front of what it closes went out
+-- a prefix of what it closes was written
 abbrev pub BreaksInFrame : FileWriter → Framed → Option (List ℕ) → Option (List ℕ) → Type 0
 BreaksInFrame v f a b = (s : SetupValue) (fs : List Framed) → HasFiledFrames v s fs → AppendsPrefixBetween a b (so_far s fs) (so_far s (fs ++ f ∷ []))
 
@@ -76,7 +76,7 @@ BreaksInFrame v f a b = (s : SetupValue) (fs : List Framed) → HasFiledFrames v
 abbrev pub WritesRest : FileWriter → Option (List ℕ) → Option (List ℕ) → Type 0
 WritesRest v a b = (s : SetupValue) (fs : List Framed) → HasFiledFrames v s fs → AppendsBetween a b (so_far s fs) (file s fs)
 
--- a front of the rest of the file went out
+-- a prefix of the rest of the file was written
 abbrev pub BreaksInRest : FileWriter → Option (List ℕ) → Option (List ℕ) → Type 0
 BreaksInRest v a b = (s : SetupValue) (fs : List Framed) → HasFiledFrames v s fs → AppendsPrefixBetween a b (so_far s fs) (file s fs)
 

@@ -1,4 +1,4 @@
--- A framer and a file_writer that go on together.
+-- The framer and the file writer of a stream.
 use Rattle.std.specs.Prelude.{◌≡◌, ◌≤◌, ℕ, true, List, length, Option}
 use Rattle.rtcm_bits.specs.Device.{Device, HasFailed}
 use Rattle.rtcm_scan.specs.Frames.{Framed, frames_of}
@@ -13,43 +13,43 @@ use Rattle.rtcm_convert.specs.Filed.{HasFiledFrames, HasGathered}
 use Rattle.rtcm_convert.specs.Outcomes.{outcomes, tally_of}
 use Rattle.rtcm_convert.specs.declared.file_writer.FileWriter.{FileWriter}
 
--- b was taken and examined, all frames that are known were passed on, and the epochs that these close were written
+-- b was accepted and examined, all known frames were passed on, and the epochs that these close were written
 pub record Drained (v : FramerValue) (w : FileWriter) (s : SetupValue) (b : List ℕ) : Type 0 where
   pub framer : HasExamined v b (known_frames v.has_ended b)
   pub drained : IsDrained v b (known_frames v.has_ended b)
   pub counted : IsCountedExactly v b
   pub file_writer : HasFiledFrames w s (known_frames v.has_ended b)
 
--- b was taken and examined, and all frames that are known were passed on
+-- b was accepted and examined, and all known frames were passed on
 pub record HasDrained (v : FramerValue) (b : List ℕ) : Type 0 where
   pub framer : HasExamined v b (known_frames v.has_ended b)
   pub drained : IsDrained v b (known_frames v.has_ended b)
   pub counted : IsCountedExactly v b
 
--- so it was for some bytes
+-- the same for some bytes
 abbrev pub HasDrainedSome : FramerValue → Type 0
 HasDrainedSome v = (b : List ℕ) × HasDrained v b
 
--- known bytes grow by what the decided frames of the later bytes make after those of the earlier ones
+-- the known bytes grow by what the decided frames of the later bytes add to those of the earlier ones
 abbrev pub AppendsDecided : Option (List ℕ) → Option (List ℕ) → SetupValue → List ℕ → List ℕ → Type 0
 AppendsDecided old new s b c = AppendsBetween old new (so_far s (decided_frames b)) (so_far s (decided_frames c))
 
--- known bytes grow by a prefix of that
+-- the known bytes grow by a prefix of that
 abbrev pub AppendsPrefixOfDecided : Option (List ℕ) → Option (List ℕ) → SetupValue → List ℕ → List ℕ → Type 0
 AppendsPrefixOfDecided old new s b c = AppendsPrefixBetween old new (so_far s (decided_frames b)) (so_far s (decided_frames c))
 
--- known bytes grow by what the whole file has after that of the decided frames
+-- the known bytes grow by what follows the text of the decided frames in the whole file
 abbrev pub AppendsRest : Option (List ℕ) → Option (List ℕ) → SetupValue → List ℕ → List ℕ → Type 0
 AppendsRest old new s b c = AppendsBetween old new (so_far s (decided_frames b)) (file s (frames_of c))
 
--- known bytes grow by a prefix of that
+-- the known bytes grow by a prefix of that
 abbrev pub AppendsPrefixOfRest : Option (List ℕ) → Option (List ℕ) → SetupValue → List ℕ → List ℕ → Type 0
 AppendsPrefixOfRest old new s b c = AppendsPrefixBetween old new (so_far s (decided_frames b)) (file s (frames_of c))
 
 -- ---- the file writer as a sink of frames
 
--- From the first file writer and device on, those after the frames ps, it took the frames up to fs, and wrote the epochs that they
--- close; no call of the device failed.
+-- The first file writer and device, after the frames ps, became the second after the frames fs: the epochs that the
+-- frames between close were written, and no call of the device failed.
 pub record Files {W : Type 0} (contents : W → Option (List ℕ)) (v0 : FileWriter) (o0 : Device W) (ps : List Framed) (v : FileWriter) (o : Device W) (fs : List Framed) : Type 0 where
   pub fine : o.failures ≡ o0.failures
   pub widest : o.widest ≡ o0.widest
@@ -63,7 +63,8 @@ pub record BreaksFiling {W : Type 0} (contents : W → Option (List ℕ)) (v0 : 
 
 -- ---- the end of a stream
 
--- The rest of the file of these bytes was written; all of them were decided and counted, and all messages gathered.
+-- The rest of the file of these bytes was written; all of them were decided and counted, and all messages were
+-- gathered.
 pub record IsEnded (v : FramerValue) (w : FileWriter) (a b : Option (List ℕ)) (s : SetupValue) (bytes : List ℕ) : Type 0 where
   pub over : v.has_ended ≡ true
   pub out : AppendsRest a b s bytes bytes
@@ -75,7 +76,7 @@ pub record IsEnded (v : FramerValue) (w : FileWriter) (a b : Option (List ℕ)) 
   pub counted : IsCountedExactly v bytes
   pub gathered : HasGathered w s (frames_of bytes)
 
--- so it is of all bytes before
+-- the same for all bytes accepted before
 abbrev pub EndsBytes : FramerValue → FileWriter → FramerValue → FileWriter → Option (List ℕ) → Option (List ℕ) → Type 0
 EndsBytes v w v' w' a b = (s : SetupValue) (bytes : List ℕ) → Drained v w s bytes → IsEnded v' w' a b s bytes
 

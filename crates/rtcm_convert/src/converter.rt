@@ -59,7 +59,7 @@ impl Model for Converter {
 }
 
 impl Converter {
-    /// Returns a converter that has taken no byte. Only this call and `new_at` allocate.
+    /// Returns a converter that has accepted no byte. Only this call and `new_at` allocate.
     ///
     /// # Errors
     ///
@@ -344,7 +344,9 @@ impl Converter {
         }
     }
 
-    /// Returns what the converter holds and has examined: the values of the calls below.
+    /// Returns what the converter holds and has examined: the values of [`held`](Converter::held),
+    /// [`cells`](Converter::cells), [`locks`](Converter::locks), [`examined`](Converter::examined)
+    /// and [`most`](Converter::most).
     pub fn kept(&self) -> Kept
         ensures value { result ≡ kept_of self.now }
         ensures bounds { IsWithinBounds self.now.scan.taken (kept_of self.now) }
@@ -366,8 +368,8 @@ impl Converter {
         ensures value { result ≡ length self.now.scan.held }
         ensures bound { result ≤ longest_frame }
         ensures room { IsGoing self.now → result ≤ most_undecided }
-        // The held bytes are those from the first undecided place on; when the stream was ended,
-        // none.
+        // The held bytes are those from the first undecided offset on; none after the end of the
+        // stream.
         ensures undecided { (s : SetupValue) (b : List ℕ) → HasConverted self.now s b → self.now.scan.held ≡ drop (decided b) b }
         ensures nothing { (s : SetupValue) (b : List ℕ) → HasFinished self.now s b → result ≡ 0 }
     {

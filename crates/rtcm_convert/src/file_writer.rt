@@ -52,7 +52,7 @@ fn write_change<W: Write>(
 }
 
 impl FileWriter {
-    /// Returns a file writer that has taken no frame. A week or a station out of range is
+    /// Returns a file writer that has processed no frame. A week or a station out of range is
     /// `BadSetup`.
     pub(crate) fn new(
         alloc: Global,

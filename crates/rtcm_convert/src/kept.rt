@@ -1,18 +1,19 @@
 //! What a converter holds and has examined.
 
-/// What a converter holds, and how often it has examined its input.
+/// What a converter holds, and the number of times it has read its input.
 #[derive(Clone, Copy, Debug, PartialEq, Eq)]
 pub struct Kept {
-    /// The bytes that are not decided.
+    /// Number of undecided bytes held, 0 to 1,029.
     pub held: usize,
-    /// The GPS cells of the pending epoch or, if none is pending, of the one closed last.
+    /// Number of GPS cells of the pending epoch or, if none is pending, of the one closed last; at
+    /// most 256.
     pub gps_cells: usize,
-    /// The Galileo cells of that epoch.
+    /// Number of Galileo cells of that epoch, at most 256.
     pub galileo_cells: usize,
-    /// The lock records.
+    /// Number of lock records, at most 1,164.
     pub locks: usize,
-    /// The reads of bytes in all.
+    /// Number of reads of bytes in all.
     pub examined: u64,
-    /// The largest number of reads of any single byte.
+    /// Largest number of reads of any single byte, at most 1,030.
     pub most: u16,
 }

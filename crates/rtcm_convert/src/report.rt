@@ -1,14 +1,14 @@
-//! What a conversion reports.
+//! The report of a conversion.
 
-/// The counts of a whole stream. Each frame is counted once among `faulty`, `station`,
-/// `other`, `ignored`, `late`, `past` and `taken`.
+/// The counts of a whole stream. Each frame is counted once among `faulty`, `station`, `other`,
+/// `ignored`, `late`, `past` and `taken`.
 #[derive(Clone, Copy, Debug, PartialEq, Eq)]
 pub struct Report {
-    /// Bytes of the stream.
+    /// Number of bytes of the stream.
     pub bytes: u64,
-    /// Bytes that are in no frame.
+    /// Number of bytes that are in no frame.
     pub skipped_bytes: u64,
-    /// Frames.
+    /// Number of frames.
     pub frames: u64,
     /// Frames whose message was refused.
     pub faulty: u64,
@@ -24,12 +24,12 @@ pub struct Report {
     pub past: u64,
     /// Messages whose cells were gathered.
     pub taken: u64,
-    /// Cells of satellites or signals that aren't planned.
+    /// Cells of satellites or signals that aren't in the plan.
     pub skipped: u64,
     /// Cells of a satellite and signal of which the epoch had one already.
     pub repeated: u64,
     /// Cells beyond the 256 cells of a system in an epoch.
     pub crowded: u64,
-    /// Epochs in the file.
+    /// Number of epochs in the file.
     pub epochs: u64,
 }

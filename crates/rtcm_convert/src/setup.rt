@@ -1,9 +1,9 @@
-//! What a conversion begins with.
+//! The settings of a conversion.
 
 use obs_epoch::{Gather, Plan};
 use rinex_file::HeaderTexts;
 
-/// What a conversion begins with.
+/// The settings of a conversion.
 #[derive(Drop)]
 pub struct Setup {
     /// The signals to be written.
@@ -12,11 +12,11 @@ pub struct Setup {
     pub texts: HeaderTexts,
     /// The GPS week of the first observations, from 0 to 99,999, without wrapping.
     pub start_week: u32,
-    /// The reference station (DF003, below 4,096) whose messages count; `None` takes those of every
-    /// station.
+    /// The reference station (DF003, 0 to 4,095) whose messages are used; `None` uses those of
+    /// every station.
     pub station: Option<u16>,
     /// What closes an epoch.
     pub gather: Gather,
-    /// The most bytes that are taken, up to 2^48.
+    /// Largest number of bytes accepted, up to 2^48.
     pub limit: u64,
 }

@@ -22,7 +22,7 @@ pub(crate) struct Tally {
 }
 
 impl Tally {
-    /// The counts of no frame.
+    /// Returns the counts of no frame.
     pub(crate) fn new() -> Tally
         ensures { result ≡ no_tally }
     {
@@ -41,7 +41,8 @@ impl Tally {
         }
     }
 
-    /// The counts of one frame: `None` if its message was refused, else the message's outcome.
+    /// Returns the counts of one frame: `None` if its message was refused, else the outcome of the
+    /// message.
     fn of(outcome: Option<Kind>) -> Tally
         ensures { result ≡ tally_of_one outcome }
     {

@@ -59,9 +59,13 @@ pub fn convert_stream<R: Read, W: Write>(
     convert_stream_at(alloc, setup, StationValues::zero(), reader, writer)
 }
 
-/// Makes the observation file of a stream as [`convert_stream`] does, whose station values are
-/// `initial` until a station message has others. `BadSetup` also for coordinates that don't fit 38
-/// bits (DF025 to DF027).
+/// Writes the observation file of a stream as [`convert_stream`] does. The station values are
+/// `initial` until a station message has others.
+///
+/// # Errors
+///
+/// Those of [`convert_stream`], and `BadSetup` for coordinates that don't fit 38 bits (DF025 to
+/// DF027).
 pub fn convert_stream_at<R: Read, W: Write>(
     alloc: Global,
     setup: Setup,

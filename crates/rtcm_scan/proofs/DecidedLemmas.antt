@@ -1,4 +1,4 @@
--- How far a stream is decided.
+-- The decided part of a stream.
 use Rattle.std.proofs.Common.{ℕ, ◌≡◌, ◌+◌, ◌-◌, ◌<◌, ◌≤◌, Bool, true, false, not, cond, ◌&&◌, ◌||◌, ltb, List, [], ◌∷◌, ◌++◌, length, drop, get_or, refl, ap, ◌∙◌, arith, suc, zero, ◌⊎◌, ⊎_elim, inl, inr}
 use Rattle.std.specs.List.{filter, list_any}
 use Rattle.std.proofs.lemmas.Bool.{cases_lt, cases_eq, lt-ltb, le-ltb, and_from, and_left, and_right}
@@ -37,7 +37,7 @@ or_second : (x y : Bool) → y ≡ true → (x || y) ≡ true
 or_second true y h = refl
 or_second false y h = h
 
--- a place before the end of what was scanned isn't open, or is inside a frame
+-- a place before the end of the scan isn't open, or is inside a frame
 pub place_scanned : (b : List ℕ) (from to k : ℕ) (fs : List Framed) → Scanned false b from to fs → from ≤ k → k < to → (is_open (drop k b) ≡ false) ⊎ (list_any (is_inside k) fs ≡ true)
 place_scanned b from to k [] s h i = inl ((s.1 k h i).closed refl)
 place_scanned b from to k (f ∷ fs) s h i =
@@ -54,7 +54,7 @@ place_scanned b from to k (f ∷ fs) s h i =
     (cases_eq k f.offset))
     (cases_lt k f.offset)
 
--- no frame that was scanned goes past the end
+-- no scanned frame goes past the end of the scan
 pub none_past : (e : Bool) (b : List ℕ) (from to : ℕ) (fs : List Framed) → Scanned e b from to fs → list_any (is_inside to) fs ≡ false
 none_past e b from to [] s = refl
 none_past e b from to (f ∷ fs) s =
@@ -92,7 +92,7 @@ none_before to p zero (x ∷ s) h =
       | false ↦ none_before to (p + 1) 0 s (omega arith)
     ]
 
--- the frames of b are those scanned and those from there on
+-- the frames of b are the scanned ones and those after the scan
 pub frames_split : (e : Bool) (b : List ℕ) (to : ℕ) (fs : List Framed) → to ≤ length b → Scanned e b 0 to fs → frames_of b ≡ fs ++ frames_from to 0 (drop to b)
 unfolding frames_of
 frames_split e b to fs h s = scanned_frames e b 0 to fs h s

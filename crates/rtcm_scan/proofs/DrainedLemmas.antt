@@ -1,4 +1,4 @@
--- When all is decided that can be.
+-- Everything that can be decided is decided.
 use Rattle.std.proofs.Common.{ℕ, ◌≡◌, ◌+◌, ◌<◌, ◌≤◌, true, false, List, [], length, drop, sym, ap, ◌∙◌, arith, sum_by}
 use Rattle.std.proofs.lemmas.List.{drop_all}
 use Rattle.rtcm_scan.specs.Frame.{is_open}
@@ -10,7 +10,7 @@ use Rattle.rtcm_scan.proofs.ScanLemmas.{scanned_all}
 use Rattle.rtcm_scan.proofs.DecidedLemmas.{decided_is, decided_frames_are}
 use Rattle.rtcm_scan.proofs.SkippedLemmas.{given_up_is}
 
--- all is decided if nothing is held, and if what is held is open
+-- everything is decided if nothing is held, or if the held bytes are open
 pub drained_ended : (v : FramerValue) (b : List ℕ) (fs : List Framed) → v.has_ended ≡ true → v.held ≡ [] → HasFramed v b fs → IsDrained v b fs
 drained_ended v b fs e h s =
     let l : length v.held ≡ 0 = ap length h in

@@ -11,7 +11,7 @@ empty_message : frames_of (0xD3 ∷ 0 ∷ 0 ∷ 0x47 ∷ 0xEA ∷ 0x4B ∷ []) �
 unfolding frames_of frames_from begins_frame check bits_remainder remainder add_front generator uint number_from bits_of
 empty_message = refl
 
--- the first place claims 768 message bytes
+-- the header at the first place has a length of 768 bytes
 late_frame : frames_of (0xD3 ∷ 0xD3 ∷ 0 ∷ 0 ∷ 0x47 ∷ 0xEA ∷ 0x4B ∷ []) ≡ record { offset = 1; message = [] } ∷ []
 unfolding frames_of frames_from begins_frame check bits_remainder remainder add_front generator uint number_from bits_of
 late_frame = refl
@@ -45,7 +45,7 @@ ten_preambles_most : most (replicate 10 0xD3) ≡ 10
 unfolding spans_of greatest_below tried places is_tried frames_of frames_from begins_frame check bits_remainder remainder add_front generator uint number_from bits_of
 ten_preambles_most = refl
 
--- `D3 00 06 D3 00 00 47 EA 4B 00 00 00`: the outer check is wrong
+-- `D3 00 06 D3 00 00 47 EA 4B 00 00 00`: the outer CRC is invalid
 inner_frame : examined (0xD3 ∷ 0 ∷ 6 ∷ 0xD3 ∷ 0 ∷ 0 ∷ 0x47 ∷ 0xEA ∷ 0x4B ∷ 0 ∷ 0 ∷ 0 ∷ []) ≡ 23
 unfolding spans_of tried places is_tried frames_of frames_from begins_frame check bits_remainder remainder add_front generator uint number_from bits_of
 inner_frame = refl

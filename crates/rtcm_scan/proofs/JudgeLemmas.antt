@@ -1,4 +1,4 @@
--- What a candidate comes to.
+-- The decision about a candidate.
 use Rattle.std.proofs.Common.{ℕ, ◌≡◌, ◌+◌, ◌*◌, ◌<◌, ◌≤◌, ◌↔◌, Bool, true, false, cond, eqb, List, [], ◌∷◌, ◌++◌, length, take, drop, get_or, slice_index, refl, sym, ap, ◌∙◌, arith, ◌⊎◌, ⊎_elim, inl, inr, take-append-drop, append_assoc}
 use Rattle.std.proofs.lemmas.Bool.{cases_lt, cases_eq, eq-eqb, ne_eqb}
 use Rattle.std.proofs.lemmas.List.{length-take-le, take_more}
@@ -16,11 +16,11 @@ use Rattle.rtcm_scan.proofs.DecisionLemmas.{decision_without, decision_short, de
 abbrev AreBytes : List ℕ → Type 0
 AreBytes s = (i : ℕ) → slice_index s i < 256
 
--- the law of the check over its own three bytes
+-- the law of the CRC of bytes followed by their CRC
 abbrev pub Residue : Type 0
 Residue = (bytes : List ℕ) (x y z : ℕ) → x < 256 → y < 256 → z < 256 → ((check (bytes ++ x ∷ y ∷ z ∷ []) ≡ 0) ↔ (x * 65536 + y * 256 + z ≡ check bytes))
 
--- the places that ask for more than one byte begin with the preamble
+-- a place that is decided by more than one byte begins with the preamble
 pub wanted_cases : (s : List ℕ) → ((slice_index s 0 ≡ 0xD3) × (wanted_by s ≡ frame_length s)) ⊎ ((slice_index s 0 ≡ 0xD3 → ⊥) × (wanted_by s ≡ 1))
 wanted_cases s = ⊎_elim
     (λ (e : slice_index s 0 ≡ 0xD3). let p : eqb (slice_index s 0) 0xD3 ≡ true = eq-eqb _ _ e in inl (e, rw p refl))
@@ -53,7 +53,7 @@ take_three s n h =
     ∙ ap (λ q. q ++ get_or s (n + 3 + 2) 0 ∷ []) (append_assoc (take (n + 3) s) (get_or s (n + 3) 0 ∷ []) (get_or s (n + 3 + 1) 0 ∷ []))
     ∙ append_assoc (take (n + 3) s) (get_or s (n + 3) 0 ∷ get_or s (n + 3 + 1) 0 ∷ []) (get_or s (n + 3 + 2) 0 ∷ [])
 
--- a whole candidate whose check is 0 has the valid CRC
+-- a whole candidate whose register is 0 has a valid CRC
 right_check : Residue → (s : List ℕ) → AreBytes s → frame_length s ≤ length s → check (take (frame_length s) s) ≡ 0 → sent_check s (message_length s + 3) ≡ check (take (message_length s + 3) s)
 right_check law s b h e =
     let n = message_length s in
@@ -77,7 +77,7 @@ judge_missing c e s l t a h =
     let x : wanted_by (take c.count s) ≡ wanted_by s = wanted_take s c.count (omega arith) k in absurd (omega arith))
     (cases_lt (length s) (wanted_by s))
 
--- a candidate that asks for no more
+-- a candidate that needs no more bytes has exactly those that decide it
 whole : (c : Candidate) (s : List ℕ) → HasTaken c (take c.count s) → c.count ≡ asked s → (c.count < c.wanted → ⊥) → (c.count ≡ wanted_by s) × (c.wanted ≡ wanted_by s)
 whole c s t a h =
     let m : length (take c.count s) ≡ c.count = length-take-le c.count s (omega arith) in

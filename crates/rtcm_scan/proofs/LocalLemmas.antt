@@ -16,7 +16,7 @@ use Rattle.rtcm_scan.proofs.FrameLemmas.{length-message}
 use Rattle.rtcm_scan.proofs.DecisionLemmas.{frame_length_bound}
 use Rattle.rtcm_scan.proofs.LawLemmas.{frames_scanned, same_frame}
 
--- what a list begins with: header, message, check and what follows
+-- the parts of a list: header, message, CRC and the rest
 spread : (m rest : List ℕ) → frame_bytes m ++ rest ≡ (frame_header m ++ m) ++ (three_bytes (check (frame_header m ++ m)) ++ rest)
 spread m rest = append_assoc (frame_header m ++ m) (three_bytes (check (frame_header m ++ m))) rest
 
@@ -90,12 +90,12 @@ ends : (b : List ℕ) → frames_from (length b) 0 (drop (length b) b) ≡ []
 unfolding frames_from
 ends b = let d : drop (length b) b ≡ [] = drop_all (length b) b (omega arith) in rw d refl
 
--- there is one scan of all from a place on
+-- the scan of all bytes from a place on is unique
 scanned_one : (b : List ℕ) (x : ℕ) (fs gs : List Framed) → Scanned true b x (length b) fs → Scanned true b x (length b) gs → fs ≡ gs
 scanned_one b x fs gs s t =
     sym (append-nil fs) ∙ ap (λ r. fs ++ r) (sym (ends b)) ∙ sym (scanned_frames true b x (length b) fs (omega arith) s) ∙ scanned_frames true b x (length b) gs (omega arith) t ∙ ap (λ r. gs ++ r) (ends b) ∙ append-nil gs
 
--- each message of the list is there
+-- the frame of each message is in the list
 list_contains : (p i : ℕ) (ms : List (List ℕ)) → i < length ms → Contains (placed p ms) (record { offset = p + length (flat_map frame_bytes (take i ms)); message = get_or ms i [] })
 list_contains p i [] h = absurd (omega arith)
 list_contains p zero (m ∷ ms) h = (0, omega arith, ap (λ (x : ℕ). let r : Framed = record { offset = x; message = m } in r) (omega arith))
@@ -125,7 +125,7 @@ frame_number bytes ms i h a =
     let e : stream_after bytes ms ≡ stream_after bytes (take i ms) ++ (frame_bytes (get_or ms i []) ++ flat_map frame_bytes (drop (i + 1) ms)) = cut_at bytes ms i ∙ ap (λ x. stream_after bytes (take i ms) ++ flat_map frame_bytes x) d in
     subst (λ (x : List ℕ). IsFrameOf x (record { offset = frame_place bytes ms i; message = get_or ms i [] })) (sym e) (frame_here (stream_after bytes (take i ms)) (get_or ms i []) (flat_map frame_bytes (drop (i + 1) ms)) (a i [] h))
 
--- it ends where the next begins, and so before each later one begins
+-- a frame ends at the offset of the next, and so before each later one begins
 frame_ends : (bytes : List ℕ) (ms : List (List ℕ)) (i k : ℕ) → i < k → k < length ms → frame_place bytes ms i + (length (get_or ms i []) + 6) ≤ frame_place bytes ms k
 frame_ends bytes ms i k h l =
     let z : i + suc (k - (i + 1)) ≡ k = omega arith in
@@ -185,6 +185,6 @@ stays_local bytes ms k a l far quiet i hi li =
     ends_within : (x y z : ℕ) → x ≡ y + z → y ≤ x
     ends_within x y z e = omega arith
 
--- a stream of frames alone has these frames
+-- a stream of frames without other bytes has these frames
 pub joined : (ms : List (List ℕ)) → All (λ m. length m ≤ 1023) ms → frames_of (flat_map frame_bytes ms) ≡ placed 0 ms
 joined ms a = scanned_all true (flat_map frame_bytes ms) (placed 0 ms) (scanned_list [] ms (flat_map frame_bytes ms) 0 (length (flat_map frame_bytes ms)) refl refl refl a)

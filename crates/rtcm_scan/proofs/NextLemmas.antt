@@ -1,4 +1,4 @@
--- What the steps of `next` leave.
+-- The state after the steps of `next`.
 use Rattle.std.proofs.Common.{ℕ, ◌≡◌, ◌+◌, ◌-◌, ◌<◌, ◌≤◌, true, false, List, [], ◌∷◌, ◌++◌, length, drop, refl, sym, ap, ◌∙◌, arith, ⊎_elim}
 use Rattle.std.proofs.lemmas.Bool.{cases_Bool}
 use Rattle.std.proofs.lemmas.List.{nil_from_length}
@@ -18,11 +18,11 @@ use Rattle.rtcm_scan.specs.Drained.{IsDrained}
 use Rattle.rtcm_scan.proofs.StandsLemmas.{stands_give_up, stands_take, stands_ready}
 use Rattle.rtcm_scan.proofs.DrainedLemmas.{drained_ended, drained_waiting}
 
--- other counts change nothing of what a framer has accepted
+-- other counts don't change what a framer has accepted
 pub stands_looks : (v : FramerValue) (w : WindowValue) (t : ℕ) (b : List ℕ) (fs : List Framed) → HasFramed v b fs → HasFramed (with_looks v w t) b fs
 stands_looks v w t b fs s = record { taken = s.taken; held = s.held; fits = s.fits; scanned = s.scanned; first = s.first; skipped = s.skipped }
 
--- what give_up and take_frame make of a framer
+-- the state after give_up and after take_frame
 abbrev pub passed : FramerValue → FramerValue
 passed u = record (with_window u (without_front (window_of u) 1) 0) { skipped = u.skipped + 1 }
 
@@ -56,7 +56,7 @@ same_framed f g o m = ap (λ (p : ℕ). let r : Framed = record { offset = p; me
 abbrev found : FramerValue → Framed
 found v = record { offset = first_held v; message = framed_message v.held }
 
--- the frame at the front is taken
+-- the frame at the front is returned
 pub step_found : (v w : FramerValue) (b : List ℕ) (fs : List Framed) (size : ℕ) (f : Framed) → w ≡ frame_taken v size → size ≡ frame_length v.held → begins_frame v.held ≡ true
     → f.offset ≡ first_held v → f.message ≡ framed_message v.held → HasFramed v b fs → HasFramed w b (fs ++ f ∷ [])
 step_found v w b fs size f g z h o m s =

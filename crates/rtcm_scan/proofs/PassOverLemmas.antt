@@ -1,4 +1,4 @@
--- Bytes that begin no frame are given up together, as if one by one.
+-- Bytes that begin no frame are dropped together, as if one by one.
 use Rattle.std.proofs.Common.{ℕ, ◌≡◌, ◌≢◌, ◌+◌, ◌-◌, ◌<◌, ◌≤◌, ◌^◌, min, Bool, false, List, [], ◌∷◌, length, take, drop, get_or, refl, sym, ap, ◌∙◌, arith, suc, zero, slice_index, slice_set, subst}
 use Rattle.std.proofs.lemmas.List.{drop-drop, length-drop, get_or-drop}
 use Rattle.std.proofs.lemmas.Bool.{ne_eqb}
@@ -31,7 +31,7 @@ through_after : (w : WindowValue) (start n : ℕ) → looked_through (without_fr
 through_after w start zero = refl
 through_after w start (suc n) = ap (λ (u : WindowValue). looked u (start + n)) (through_after w start n) ∙ looked_after (looked_through w (start + 1) n) (start + n) (start + 1 + n) (omega arith)
 
--- the first of them by itself, and then the others
+-- the first byte by itself, and then the others
 front_once : (w : WindowValue) (n : ℕ) → without_front (looked_through w 0 (suc n)) (suc n) ≡ without_front (looked_through (without_front (looked_through w 0 1) 1) 0 n) n
 front_once w n =
     let a : 1 + n ≡ suc n = omega arith in
@@ -40,7 +40,7 @@ front_once w n =
     ap (λ (k : ℕ). without_front (looked_through w 0 k) k) (sym a) ∙ ap (λ (v : WindowValue). without_front v (1 + n)) (sym (looked_twice w 0 1 n)) ∙ sym d
     ∙ ap (λ (v : WindowValue). without_front v n) (sym (through_after (looked_through w 0 1) 0 n))
 
--- a framer whose first n bytes were looked at once and given up
+-- a framer whose first bytes were looked at once and dropped
 abbrev with_given_up : FramerValue → WindowValue → ℕ → FramerValue
 with_given_up v w skipped = record (with_window v w 0) { skipped = skipped }
 
@@ -102,7 +102,7 @@ through_others w n k =
     let a : n + 0 ≡ 0 + n = omega arith in
     after_others (looked_through w 0 n) n 0 k ∙ ap (λ (q : ℕ). without_front (looked_through (looked_through w 0 n) q k) n) a ∙ ap (λ (u : WindowValue). without_front u n) (looked_twice w 0 n k)
 
--- a framer that went on over n bytes, and whose next candidate was examined up to k bytes
+-- a framer that passed over n bytes, and whose next candidate was examined up to k bytes
 abbrev pub passed_to : FramerValue → ℕ → ℕ → FramerValue
 passed_to v n k = with_looks (passed_over v n) (looked_through (window_of (passed_over v n)) 0 k) k
 
@@ -141,18 +141,18 @@ view_passed v limit place skipped tried n k w w' ended ready e f h =
 pub others_held : (v : FramerValue) (bytes : List ℕ) (n : ℕ) → bytes ≡ v.held → n ≤ length bytes → ((i : ℕ) → i < n → slice_index bytes i ≢ 0xD3) → (n ≤ length v.held) × ((i : ℕ) → i < n → slice_index v.held i ≢ 0xD3)
 others_held v bytes n e l o = rw (← e) (l, o)
 
--- a candidate that has taken nothing
+-- a candidate that has read no byte
 pub taken_nothing : (c : Candidate) (s : List ℕ) → c.count ≡ 0 → HasTaken c (take c.count s) → HasTaken c []
 taken_nothing c s e h = let a : take c.count s ≡ [] = ap (λ (k : ℕ). take k s) e in rw a at h
 
--- what is left after the bytes that are dropped
+-- the bytes left after the dropped ones
 after_bytes : (w w' : WindowValue) (n m : ℕ) → w' ≡ without_front (looked_through w 0 m) n → w'.bytes ≡ drop n w.bytes
 after_bytes w w' n m f = ap (λ (y : WindowValue). y.bytes) f ∙ ap (drop n) (looked_bytes w 0 m)
 
 pub after_length : (w w' : WindowValue) (n m : ℕ) → w' ≡ without_front (looked_through w 0 m) n → length w'.bytes ≡ length w.bytes - n
 after_length w w' n m f = ap length (after_bytes w w' n m f) ∙ length-drop n w.bytes
 
--- a candidate that has taken the preamble after them
+-- a candidate that has read the preamble after them
 pub taken_preamble : (c : Candidate) (w w' : WindowValue) (n m : ℕ) → w' ≡ without_front (looked_through w 0 m) n → n < length w.bytes → slice_index w.bytes n ≡ 0xD3 → c.count ≡ 1
     → HasTaken c (0xD3 ∷ []) → HasTaken c (take c.count w'.bytes)
 taken_preamble c w w' n m f l e k t =

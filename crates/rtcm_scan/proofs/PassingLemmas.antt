@@ -1,4 +1,4 @@
--- Frames that go to a sink, piece by piece.
+-- Frames that are passed to a sink, piece by piece.
 use Rattle.std.proofs.Common.{◌≡◌, ℕ, ◌+◌, ◌-◌, ◌<◌, ◌≤◌, Bool, true, false, List, [], ◌∷◌, ◌++◌, ◌∙◌, ap, sym, refl, arith, length, take, drop, append_assoc, append-nil, subst, take-append-drop, length-drop, slice_range, ⊎_elim}
 use Rattle.std.proofs.lemmas.Bool.{cases_lt}
 use Rattle.std.proofs.Math.Seq.{take-add}
@@ -16,7 +16,7 @@ prefix_trans xs ys zs p q = (p.0 ++ q.0, q.1 ∙ ap (λ l. l ++ q.0) p.1 ∙ app
 pub prefix_one_more : {A : Type 0} (xs ys : List A) (z : A) → IsPrefix xs ys → IsPrefix xs (ys ++ z ∷ [])
 prefix_one_more xs ys z p = prefix_trans xs ys (ys ++ z ∷ []) p (z ∷ [], refl)
 
--- what is known stays so
+-- known frames stay known
 pub known_later : (e : Bool) (b t : List ℕ) → (e ≡ true → length t ≡ 0) → IsPrefix (known_frames e b) (known_frames e (b ++ t))
 known_later true b [] h = ([], ap frames_of (append-nil b) ∙ sym (append-nil (frames_of b)))
 known_later true b (x ∷ t) h = absurd (omega (arith, h refl))
@@ -32,7 +32,8 @@ pub at_limit : (taken limit room : ℕ) → (taken < limit → 0 < room) → roo
 at_limit taken limit room some none within =
     ⊎_elim (λ (h : taken < limit). absurd (let k : 0 < room = some h in omega (arith, k, none))) (λ (h : limit ≤ taken). omega (arith, h, none, within)) (cases_lt taken limit)
 
--- a prefix of what the first n bytes of a piece make known is one of what the piece makes known
+-- a prefix of the frames that are known with the first n bytes of a piece is a prefix of those known with the whole
+-- piece
 pub prefix_later : (e u : Bool) (b piece : List ℕ) (n : ℕ) (fs : List Framed) → u ≡ e → (e ≡ true → length piece ≡ 0) → IsPrefix fs (known_frames u (b ++ take n piece)) → IsPrefix fs (known_frames e (b ++ piece))
 prefix_later e u b piece n fs same going q =
     let p : IsPrefix fs (known_frames e (b ++ take n piece)) = subst (λ (x : Bool). IsPrefix fs (known_frames x (b ++ take n piece))) same q in

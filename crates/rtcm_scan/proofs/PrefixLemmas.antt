@@ -1,4 +1,4 @@
--- What is decided stays so when bytes follow.
+-- Decided frames stay decided when bytes follow.
 use Rattle.std.proofs.Common.{ℕ, ◌≡◌, ◌+◌, ◌-◌, ◌*◌, ◌<◌, ◌≤◌, Bool, true, false, List, [], ◌∷◌, ◌++◌, length, drop, refl, sym, ap, ◌∙◌, arith, suc, zero, ⊎_elim, length-append}
 use Rattle.std.proofs.lemmas.Bool.{cases_Bool, cases_lt}
 use Rattle.rtcm_scan.specs.Frame.{begins_frame, is_open}
@@ -13,7 +13,7 @@ use Rattle.rtcm_scan.proofs.LawLemmas.{scanned_prepend, framed_valid, frames_sca
 use Rattle.rtcm_scan.proofs.DecisionLemmas.{open_bound}
 use Rattle.std.proofs.lemmas.List.{length-drop}
 
--- from a place on, b is scanned up to where bytes are missing
+-- from a place on, b is scanned up to the place at which bytes are missing
 record ScannedOn (b : List ℕ) (from : ℕ) : Type 0 where
   pub to : ℕ
   pub frames : List Framed
@@ -48,7 +48,7 @@ scanned_join e b from mid to [] [] s r = (omega (arith, s.0, r.0), passed_join e
 scanned_join e b from mid to [] (g ∷ gs) s r = (omega (arith, s.0, r.0), passed_join e b from mid g.offset s.1 r.1, r.2, r.3)
 scanned_join e b from mid to (f ∷ fs) gs s r = (s.0, s.1, s.2, scanned_join e b (frame_end f) mid to fs gs s.3 r)
 
--- the decided frames of b begin those of each longer stream, decided or not
+-- the decided frames of b are a prefix of the frames of each longer stream, decided or not
 pub stays_decided : (b t : List ℕ) → ((rest : List Framed) × (decided_frames (b ++ t) ≡ decided_frames b ++ rest)) × ((rest : List Framed) × (frames_of (b ++ t) ≡ decided_frames b ++ rest)) × (decided b ≤ decided (b ++ t))
 stays_decided b t =
     let r = scan_on (length b) b 0 (omega arith) (omega arith) in
@@ -68,19 +68,19 @@ stays_decided b t =
       omega arith,
     )
 
--- what was scanned begins the decided frames
+-- the scanned frames are a prefix of the decided frames
 scanned_first : (b : List ℕ) (to : ℕ) (fs : List Framed) → to ≤ length b → Scanned false b 0 to fs → IsPrefix fs (decided_frames b)
 scanned_first b to fs h s =
     let u = scan_on (length b) b to (omega arith) h in
     let j : Scanned false b 0 u.to (fs ++ u.frames) = scanned_join false b 0 to u.to fs u.frames s u.scanned in
     (u.frames, decided_frames_are b u.to (fs ++ u.frames) u.within j u.stops)
 
--- and the known ones
+-- the scanned frames are a prefix of the known frames
 pub known_first : (e : Bool) (b : List ℕ) (to : ℕ) (fs : List Framed) → to ≤ length b → Scanned e b 0 to fs → IsPrefix fs (known_frames e b)
 known_first true b to fs h s = (frames_from to 0 (drop to b), frames_split true b to fs h s)
 known_first false b to fs h s = scanned_first b to fs h s
 
--- the undecided bytes are fewer than the greatest frame has
+-- at most 1,028 bytes are undecided
 pub decided_near : (b : List ℕ) → (decided b ≤ length b) × (length b ≤ decided b + 1028)
 decided_near b =
     let r = scan_on (length b) b 0 (omega arith) (omega arith) in
@@ -93,12 +93,12 @@ decided_near b =
     (cases_lt r.to (length b)) in
     (omega arith, omega arith)
 
--- nothing is decided of nothing
+-- no bytes have no decided frames
 pub decided_nothing : decided_frames [] ≡ []
 unfolding decided_frames frames_of frames_before frames_from
 decided_nothing = refl
 
--- each frame has six bytes or more
+-- each frame has at least six bytes
 scanned_six : (e : Bool) (b : List ℕ) (from to : ℕ) (fs : List Framed) → Scanned e b from to fs → from + 6 * length fs ≤ to
 scanned_six e b from to [] s = let h : from ≤ to = s.0 in omega arith
 scanned_six e b from to (f ∷ fs) s =

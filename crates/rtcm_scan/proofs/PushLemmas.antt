@@ -8,11 +8,11 @@ use Rattle.rtcm_scan.specs.Examined.{HasExamined}
 use Rattle.rtcm_scan.proofs.StandsLemmas.{stands_push, stands_ready}
 use Rattle.rtcm_scan.proofs.StepLemmas.{step_push}
 
--- one byte, as a push takes it
+-- the state after one byte is pushed
 abbrev pub with_byte : FramerValue → ℕ → FramerValue
 with_byte v x = record v { taken = v.taken + 1; held = v.held ++ x ∷ []; looks = v.looks ++ 0 ∷ []; is_ready = false }
 
--- none, and then one byte more and those after it
+-- no bytes; then one byte and those after it
 with_none : (v : FramerValue) → with_bytes v [] ≡ record v { is_ready = false }
 with_none v =
     let z : v.taken + 0 ≡ v.taken = omega arith in
@@ -27,7 +27,7 @@ with_more v x xs =
     let l : v.looks ++ 0 ∷ [] ++ replicate (length xs) 0 ≡ v.looks ++ (0 ∷ replicate (length xs) 0) = append_assoc v.looks (0 ∷ []) (replicate (length xs) 0) in
     rw (z, h, l) refl
 
--- what holds of a stream after each byte holds of it after them all
+-- a property that each pushed byte keeps is kept by all of them
 push_each : (P : FramerValue → List ℕ → Type 0) → ((v : FramerValue) (b : List ℕ) → P v b → P (record v { is_ready = false }) b)
     → ((v : FramerValue) (b : List ℕ) (x : ℕ) → v.has_ended ≡ false → v.taken < v.limit → P v b → P (with_byte v x) (b ++ x ∷ []))
     → (v : FramerValue) (b xs : List ℕ) → v.has_ended ≡ false → v.taken + length xs ≤ v.limit → P v b → P (with_bytes v xs) (b ++ xs)

@@ -11,13 +11,13 @@ use Rattle.rtcm_scan.proofs.PassingLemmas.{prefix_self}
 use Rattle.rtcm_scan.specs.declared.feed.StreamFault.{StreamFault}
 use Rattle.rtcm_scan.specs.declared.feed.StreamFault.TheVariants.{Read, TooLong, Sink}
 
--- a fault of a piece that was taken is one of the piece that was read
+-- a fault of `feed` is one of the piece that was read
 pub fault_of_piece : {F : Type 0} (f : StreamFault F) (K L B Sent L' B' : Type 0) → (L → Sent → L') → (B → B') → AtFault f ⊥ L B → AtFault f Sent Sent ⊤ → AtFault f K L' B'
 fault_of_piece Read K L B Sent L' B' long sink a s = absurd a
 fault_of_piece TooLong K L B Sent L' B' long sink a s = long a s
 fault_of_piece (Sink x) K L B Sent L' B' long sink a s = sink a
 
--- at each fault one thing gives another
+-- at each fault, one proposition implies another
 pub at_each : {F : Type 0} (f : StreamFault F) (P Q R P' Q' R' : Type 0) → (P → P') → (Q → Q') → (R → R') → AtFault f P Q R → AtFault f P' Q' R'
 at_each Read P Q R P' Q' R' p q r a = p a
 at_each TooLong P Q R P' Q' R' p q r a = q a
@@ -118,7 +118,7 @@ module _ {S O : Type 0} (took : Coming S O) (broke : Breaking S O) where
     at_end = λ e. absurd (true≢false (sym e ∙ going));
   }
 
-  -- all was read, and the frames that are left were passed on
+  -- all was read, and the remaining frames were passed on
   pub passes_end : (v v' v2 : FramerValue) (s s' s2 : S) (o o' o2 : O) (r r' : Option (List ℕ)) → IsAtEnd r'
       → Reads r r' (λ front. Passes took v s o v' s' o' front × (v'.taken ≡ v.taken + length front)) → PassesKnown took v' s' o' v2 s2 o2 → PassesAll took v s o v2 s2 o2 r r'
   passes_end v v' v2 s s' s2 o o' o2 r r' e p k = (

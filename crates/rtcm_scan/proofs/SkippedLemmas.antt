@@ -1,4 +1,4 @@
--- The places in no frame are as many as the bytes that the frames leave over.
+-- The number of places in no frame is the number of bytes outside the frames.
 use Rattle.std.proofs.Common.{ℕ, ◌≡◌, ◌+◌, ◌-◌, ◌<◌, ◌≤◌, Bool, true, false, not, cond, ◌&&◌, ltb, leb, List, [], ◌∷◌, ◌++◌, length, drop, sum_by, refl, sym, ap, ◌∙◌, arith, suc, zero}
 use Rattle.std.specs.List.{list_any, count_by}
 use Rattle.std.proofs.lemmas.Bool.{lt-ltb, le-ltb, le-leb, lt-leb, and_left, and_right}
@@ -32,7 +32,7 @@ count_none t from (suc d) h =
     let s : count_by t (places (from + d) ++ (from + d) ∷ []) ≡ count_by t (places (from + d)) + cond (t (from + d)) 1 0 = sum_by_push (λ q. cond (t q) 1 0) (places (from + d)) (from + d) in
     rw z (s ∙ ap (λ v. count_by t (places (from + d)) + cond v 1 0) y ∙ (omega (arith, r)))
 
--- a place before the frames, or before where they are looked for, is in none
+-- a place before the frames, or before the scanned part, is in no frame
 none_ahead : (e : Bool) (b : List ℕ) (from to q : ℕ) (fs : List Framed) → Scanned e b from to fs → q < from → list_any (is_within q) fs ≡ false
 none_ahead e b from to q [] s l = refl
 none_ahead e b from to q (f ∷ fs) s l =
@@ -51,7 +51,7 @@ none_from q p zero (x ∷ s) h =
       | false ↦ none_from q (p + 1) 0 s (omega arith)
     ]
 
--- how the two counts go on over one frame
+-- both counts over one frame
 over_frame : (before ahead inside after all bytes from offset size to : ℕ) → ahead ≡ before + (offset - from) → inside ≡ ahead → after + bytes ≡ inside + (to - (offset + size))
     → all ≡ size + bytes → from ≤ offset → offset + size ≤ to → after + all ≡ before + (to - from)
 over_frame before ahead inside after all bytes from offset size to a b c d e f = omega arith

@@ -1,4 +1,4 @@
--- The counts of a framer as it goes on.
+-- The counts of a framer, step by step.
 use Rattle.std.proofs.Common.{ℕ, ◌≡◌, ◌+◌, ◌-◌, ◌*◌, ◌<◌, ◌≤◌, ◌^◌, min, max, Bool, true, false, not, cond, ◌&&◌, ltb, leb, List, [], ◌∷◌, ◌++◌, length, map, drop, set, get_or, refl, sym, ap, ◌∙◌, arith, suc, zero, ⊎_elim, subst, length-set, length-append, length-drop}
 use Rattle.std.specs.List.{filter, list_any, AllByRecursion as ByRecursion}
 use Rattle.std.proofs.lemmas.Bool.{cases_lt, lt-ltb, le-ltb}
@@ -155,7 +155,7 @@ step_examined_to v n b fs h a0 a1 x =
 pub step_examined : (v : FramerValue) (b : List ℕ) (fs : List Framed) → v.tried ≤ asked v.held → HasExamined v b fs → HasExamined (with_candidate_examined v) b fs
 step_examined v b fs h x = let a = asked_bound v.held in step_examined_to v (asked v.held) b fs h a.0 a.1 x
 
--- a place is given up
+-- the byte at a place is dropped
 pub step_give_up : (v : FramerValue) (b : List ℕ) (fs : List Framed) → 0 < length v.held → v.tried ≡ asked v.held → IsPassed v.has_ended v.held → HasExamined v b fs
     → HasExamined (record (with_window v (without_front (window_of v) 1) 0) { skipped = v.skipped + 1 }) b fs
 step_give_up v b fs h a p x =
@@ -181,7 +181,7 @@ step_give_up v b fs h a p x =
       counts = subst (λ (q : ℕ). CountsLooks (spans_at b fs q 0) q (length b) (drop 1 v.looks) v.examined v.most) e d;
     }
 
--- spans that look alike
+-- spans with equal looks
 pub counts_same : (xs ys : List Span) (p n : ℕ) (looks : List ℕ) (all most : ℕ) → ((i : ℕ) → looks_at xs i ≡ looks_at ys i) → all_looks xs ≡ all_looks ys → CountsLooks xs p n looks all most → CountsLooks ys p n looks all most
 counts_same xs ys p n looks all most e t c = record {
   each = λ j l. c.each j l ∙ e (p + j);

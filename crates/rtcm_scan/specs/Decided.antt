@@ -1,4 +1,4 @@
--- How much of a stream is decided by the bytes that are there.
+-- The part of a stream that is decided by the bytes accepted.
 use Rattle.std.specs.Prelude.{ℕ, zero, suc, ◌&&◌, min, not, nat_lt, nat_le, Bool, List, [], ◌∷◌, ◌++◌, length, drop, if◌then◌else◌}
 use Rattle.std.specs.List.{filter, list_any, position_or_len, count_by}
 use Rattle.rtcm_scan.specs.Frame.{has_preamble, frame_length, is_open}
@@ -25,7 +25,7 @@ tried b = filter (is_tried b) (places (length b))
 unfoldable pub decided : List ℕ → ℕ
 decided b = position_or_len (λ p. is_tried b p && is_open (drop p b)) (places (length b))
 
--- fewer bytes than the longest frame has are undecided
+-- the largest number of undecided bytes, one fewer than the longest frame has
 abbrev pub most_undecided : ℕ
 most_undecided = 1028
 
@@ -37,7 +37,7 @@ frames_before p fs = filter (λ f. nat_lt f.offset p) fs
 unfoldable pub decided_frames : List ℕ → List Framed
 decided_frames b = frames_before (decided b) (frames_of b)
 
--- whether a place is one of a frame's
+-- whether a place is in a frame
 abbrev pub is_within : ℕ → Framed → Bool
 is_within p f = nat_le f.offset p && nat_lt p (frame_end f)
 
@@ -45,6 +45,7 @@ is_within p f = nat_le f.offset p && nat_lt p (frame_end f)
 abbrev pub skipped_before : ℕ → List Framed → ℕ
 skipped_before p fs = count_by (λ q. not (list_any (is_within q) fs)) (places p)
 
--- what trying place p examines: the bytes of the frame that may stand there, as far as they are there, or one byte
+-- the number of bytes examined when place p is tried: those of the frame that may begin there, as far as they are in b,
+-- or one byte
 abbrev pub cost : List ℕ → ℕ → ℕ
 cost b p = (if has_preamble (drop p b) then min (frame_length (drop p b)) (length (drop p b)) else 1)

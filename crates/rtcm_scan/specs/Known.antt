@@ -1,4 +1,4 @@
--- What is known of a stream: all of it once it has ended, and what its bytes decide before.
+-- The known part of a stream: all of it after its end, before that the part that its bytes decide.
 use Rattle.std.specs.Prelude.{ℕ, Bool, true, false, List, length}
 use Rattle.rtcm_scan.specs.Frames.{Framed, frames_of}
 use Rattle.rtcm_scan.specs.Decided.{decided, decided_frames}

@@ -14,16 +14,17 @@ stream_after bytes messages = bytes ++ flat_map frame_bytes messages
 abbrev pub frame_place : List ℕ → List (List ℕ) → ℕ → ℕ
 frame_place bytes messages k = length (stream_after bytes (take k messages))
 
--- each message fits a frame
+-- each message fits in a frame
 abbrev pub FitFrames : List (List ℕ) → Type 0
 FitFrames messages = All (λ m. length m ≤ longest_message) messages
 
--- after the bytes and before the frame with number k, nothing looks like a frame but these frames themselves
+-- after the bytes and before the frame with number k, no frame begins except these frames
 abbrev pub IsQuiet : List ℕ → List (List ℕ) → ℕ → Type 0
 IsQuiet bytes messages k = (q : ℕ) → length bytes ≤ q → q < frame_place bytes messages k → begins_frame (drop q (stream_after bytes messages)) ≡ true
     → (i : ℕ) × (i < k) × (q ≡ frame_place bytes messages i)
 
--- from the frame with number k on, which begins at least the largest number of undecided bytes after these, all frames are found
+-- if the frame with number k begins at least the largest number of undecided bytes after the end of these bytes, it and
+-- all later frames are found
 abbrev pub StaysLocal : List ℕ → List (List ℕ) → ℕ → Type 0
 StaysLocal bytes messages k = FitFrames messages → k < length messages → length bytes + most_undecided ≤ frame_place bytes messages k → IsQuiet bytes messages k
     → (i : ℕ) → k ≤ i → i < length messages

@@ -1,4 +1,4 @@
--- What becomes of the frames that a framer passes to a sink, for every history.
+-- The frames that a framer passes to a sink, for every history.
 use Rattle.std.specs.Prelude.{◌≡◌, ℕ, ◌+◌, ◌-◌, ◌<◌, ◌≤◌, max, ⊤, Bool, true, List, ◌++◌, take, length, Option, Result, Ok, Err, OnOk, IfErr}
 use Rattle.rtcm_bits.specs.Device.{Device, HasFailed}
 use Rattle.std.specs.Io.KnownBytes.{Consumes, IsAtEnd}
@@ -11,26 +11,26 @@ use Rattle.rtcm_scan.specs.Scan.{FramerValue}
 use Rattle.rtcm_scan.specs.declared.feed.StreamFault.{StreamFault}
 use Rattle.rtcm_scan.specs.declared.feed.StreamFault.TheVariants.{Read, TooLong, Sink}
 
--- From the first sink and output, those after the first frames, to the second, those after the second.
+-- A relation of a sink and an output after the first frames with those after the second frames.
 abbrev pub Coming : (S O : Type 0) → Type 1
 Coming S O = S → O → List Framed → S → O → List Framed → Type 0
 
--- The same for a sink that failed: it took the second frames, and at most a part of the third.
+-- The same for a sink that failed: it processed the second frames, and at most a part of the third.
 abbrev pub Breaking : (S O : Type 0) → Type 1
 Breaking S O = S → O → List Framed → S → O → List Framed → List Framed → Type 0
 
--- A framer took b and passed on fs, and the sink took them.
+-- A framer accepted b and passed on fs, and the sink processed them.
 pub record HasPassed {S O : Type 0} (took : Coming S O) (v : FramerValue) (s0 : S) (o0 : O) (ps : List Framed) (s : S) (o : O) (b : List ℕ) (fs : List Framed) : Type 0 where
   pub framer : HasExamined v b fs
   pub taken : took s0 o0 ps s o fs
 
--- A framer took b, passed on all frames that are known of it, and the sink took them.
+-- A framer accepted b and passed on all known frames of it, and the sink processed them.
 pub record HasPassedAll {S O : Type 0} (took : Coming S O) (v : FramerValue) (s0 : S) (o0 : O) (ps : List Framed) (s : S) (o : O) (b : List ℕ) : Type 0 where
   pub passed : HasPassed took v s0 o0 ps s o b (known_frames v.has_ended b)
   pub drained : IsDrained v b (known_frames v.has_ended b)
   pub counted : IsCountedExactly v b
 
--- The sink failed: it took at least the frames `least`, and at most those that are known of b.
+-- The sink failed: it processed at least the frames `least`, and at most the known frames of b.
 pub record HasBroken {S O : Type 0} (broke : Breaking S O) (ended : Bool) (s0 : S) (o0 : O) (ps : List Framed) (s : S) (o : O) (least : List Framed) (b : List ℕ) : Type 0 where
   pub taken : List Framed
   pub reached : List Framed
@@ -40,35 +40,36 @@ pub record HasBroken {S O : Type 0} (broke : Breaking S O) (ended : Bool) (s0 : 
 
 -- ---- what a call does, for everything accepted before
 
--- all frames that are known were passed on
+-- all known frames were passed on
 abbrev pub PassesKnown : {S O : Type 0} → Coming S O → FramerValue → S → O → FramerValue → S → O → Type 0
 PassesKnown {S} {O} took v s o v' s' o' = (s0 : S) (o0 : O) (ps : List Framed) (b : List ℕ) (fs : List Framed) → HasPassed took v s0 o0 ps s o b fs → HasPassedAll took v' s0 o0 ps s' o' b
 
--- the sink failed at one of those that are known, or are at the end
+-- the sink failed at one of the known frames, if `ended` at one of those known at the end
 abbrev pub BreaksKnown : {S O : Type 0} → Coming S O → Breaking S O → Bool → FramerValue → S → O → S → O → Type 0
 BreaksKnown {S} {O} took broke ended v s o s' o' =
     (s0 : S) (o0 : O) (ps : List Framed) (b : List ℕ) (fs : List Framed) → HasPassed took v s0 o0 ps s o b fs → HasBroken broke ended s0 o0 ps s' o' fs b
 
--- the next bytes were taken, and the sink took all frames that are known
+-- the next bytes were accepted, and the sink processed all known frames
 abbrev pub Passes : {S O : Type 0} → Coming S O → FramerValue → S → O → FramerValue → S → O → List ℕ → Type 0
 Passes {S} {O} took v s o v' s' o' next = (s0 : S) (o0 : O) (ps : List Framed) (b : List ℕ) → HasPassedAll took v s0 o0 ps s o b → HasPassedAll took v' s0 o0 ps s' o' (b ++ next)
 
--- the sink failed at a frame of these bytes: it took those that are known before them, and at most those that are known with them
+-- the sink failed at a frame of these bytes: it processed at least the frames known before them, and at most those
+-- known with them
 abbrev pub Breaks : {S O : Type 0} → Coming S O → Breaking S O → FramerValue → S → O → S → O → List ℕ → Type 0
 Breaks {S} {O} took broke v s o s' o' piece = (s0 : S) (o0 : O) (ps : List Framed) (b : List ℕ) → HasPassedAll took v s0 o0 ps s o b
     → HasBroken broke v.has_ended s0 o0 ps s' o' (known_frames v.has_ended b) (b ++ piece)
 
--- those of the next bytes that the framer's limit lets it take
+-- those of the next bytes that are within the framer's limit
 abbrev pub up_to_limit : FramerValue → List ℕ → List ℕ
 up_to_limit v next = take (v.limit - v.taken) next
 
--- the next bytes go over the limit, and were taken up to it
+-- the next bytes go over the limit, and were accepted up to it
 pub record PassesToLimit {S O : Type 0} (took : Coming S O) (v : FramerValue) (s : S) (o : O) (v' : FramerValue) (s' : S) (o' : O) (next : List ℕ) : Type 0 where
   pub passes : Passes took v s o v' s' o' (up_to_limit v next)
   pub full : v'.taken ≡ v.limit
   pub over : v.limit < v.taken + length next
 
--- at most n bytes more were taken, within the same limit, and the framer is one of some stream still
+-- at most n more bytes were accepted, within the same limit, and the framer still has examined some stream
 pub record GoesOn (v v' : FramerValue) (n : ℕ) : Type 0 where
   pub least : v.taken ≤ v'.taken
   pub most : v'.taken ≤ v.taken + n
@@ -77,7 +78,7 @@ pub record GoesOn (v v' : FramerValue) (n : ℕ) : Type 0 where
   pub ended : v'.has_ended ≡ v.has_ended
   pub some : HasExaminedSome v → HasExaminedSome v'
 
--- no byte more was taken
+-- no further byte was accepted
 pub record IsSameStream (v v' : FramerValue) : Type 0 where
   pub limit : v'.limit ≡ v.limit
   pub taken : v'.taken ≡ v.taken
@@ -85,7 +86,7 @@ pub record IsSameStream (v v' : FramerValue) : Type 0 where
 
 -- ---- a stream that is read
 
--- some bytes were read, of which this holds
+-- some bytes were read, for which P holds
 abbrev pub Reads : Option (List ℕ) → Option (List ℕ) → (List ℕ → Type 0) → Type 0
 Reads r r' P = (front : List ℕ) × Consumes r r' front × P front
 
@@ -93,8 +94,8 @@ Reads r r' P = (front : List ℕ) × Consumes r r' front × P front
 abbrev pub PassesAll : {S O : Type 0} → Coming S O → FramerValue → S → O → FramerValue → S → O → Option (List ℕ) → Option (List ℕ) → Type 0
 PassesAll took v s o v' s' o' r r' = Reads r r' (Passes took v s o v' s' o') × IsAtEnd r'
 
--- The bytes read split into some whose frames were passed on and a last piece at which the sink failed; if all was read, that piece
--- is empty, and the sink failed at the frames that the end makes known.
+-- The bytes read split into some whose frames were passed on and a last piece at which the sink failed; if `ended`, all
+-- was read, and the sink failed at the frames known at the end.
 pub record BreaksReading {S O : Type 0} (took : Coming S O) (broke : Breaking S O) (v : FramerValue) (s : S) (o : O) (s' : S) (o' : O) (most : ℕ) (r r' : Option (List ℕ)) : Type 0 where
   pub front : List ℕ
   pub piece : List ℕ
@@ -105,7 +106,8 @@ pub record BreaksReading {S O : Type 0} (took : Coming S O) (broke : Breaking S 
   pub few : length piece ≤ most
   pub at_end : ended ≡ true → IsAtEnd r'
 
--- the state of the sink, the framer and the buffer, of n bytes before and m after, when a call that reads pieces returns
+-- the state of the sink, the framer and the buffer, of n bytes before and m after, when a call that reads pieces
+-- returns
 pub record IsReadingOn {S : Type 0} (can_take : S → Type 0) (s : S) (v v' : FramerValue) (n m : ℕ) : Type 0 where
   pub can : can_take s
   pub limit : v'.limit ≡ v.limit
@@ -114,18 +116,18 @@ pub record IsReadingOn {S : Type 0} (can_take : S → Type 0) (s : S) (v v' : Fr
 
 -- ---- what holds at which fault
 
--- one thing at `Read`, another at `TooLong`, and another at a fault of the sink
+-- P at `Read`, Q at `TooLong`, and R at a fault of the sink
 abbrev pub AtFault : {F : Type 0} → StreamFault F → (read long sink : Type 0) → Type 0
 AtFault Read P Q R = P
 AtFault TooLong P Q R = Q
 AtFault (Sink fault) P Q R = R
 
--- it holds unless the sink failed
+-- P holds unless the sink failed
 abbrev pub UnlessBroken : {A F : Type 0} → Result A (StreamFault F) → Type 0 → Type 0
 UnlessBroken (Ok x) P = P
 UnlessBroken (Err fault) P = AtFault fault P P ⊤
 
--- the reader failed once at `Read`, and else not; it was asked for at most n bytes at a time
+-- the reader failed once at `Read`, and otherwise not; its reads asked for at most n bytes at a time
 abbrev pub CountsReads : {T A F : Type 0} → Result A (StreamFault F) → Device T → Device T → ℕ → Type 0
 CountsReads result old new n =
     IfErr result (λ fault. AtFault fault (HasFailed old.failures new.failures) (new.failures ≡ old.failures) (new.failures ≡ old.failures))

@@ -1,4 +1,4 @@
--- What a contract sees of a framer, and the streams that it may have accepted.
+-- The state of a framer that contracts cite, and the streams that it may have accepted.
 use Rattle.std.specs.Prelude.{◌≡◌, ℕ, ◌+◌, ◌-◌, ◌^◌, ◌<◌, ◌≤◌, Bool, false, List, [], ◌∷◌, ◌++◌, length, drop, replicate}
 use Rattle.std.specs.List.{sum_by}
 use Rattle.rtcm_scan.specs.Frame.{begins_frame, is_open}
@@ -7,10 +7,10 @@ use Rattle.rtcm_bits.specs.Prefix.{IsPrefix}
 use Rattle.rtcm_scan.specs.Known.{known_frames}
 use Rattle.rtcm_bits.specs.Window.{WindowValue}
 
--- limit: the most bytes that it takes; taken: how many it took; held: the held bytes; has_ended: no byte follows;
--- is_ready: nothing was taken since all was decided; skipped: bytes given up that are in no frame;
--- tried: how many of the held bytes were examined as a candidate; looks: how often each held byte was looked at;
--- examined: all looks; most: the greatest count that any byte reached
+-- limit: the largest number of bytes accepted; taken: the number of bytes accepted; held: the held bytes; has_ended: no
+-- byte follows; is_ready: no byte was accepted since everything was decided; skipped: the number of dropped bytes that
+-- are in no frame; tried: the number of held bytes that were examined as a candidate; looks: the number of looks at
+-- each held byte; examined: the number of all looks; most: the largest number of looks at any single byte
 pub record FramerValue : Type 0 where
   pub limit : ℕ
   pub taken : ℕ
@@ -23,11 +23,11 @@ pub record FramerValue : Type 0 where
   pub examined : ℕ
   pub most : ℕ
 
--- the most bytes of a stream
+-- the largest number of bytes of a stream
 abbrev pub most_bytes : ℕ
 most_bytes = 2 ^ 48
 
--- by its parts
+-- the state with these parts
 abbrev pub scan_of : ℕ → ℕ → WindowValue → Bool → Bool → ℕ → ℕ → FramerValue
 scan_of limit place w has_ended is_ready skipped tried =
     record {
@@ -43,23 +43,23 @@ scan_of limit place w has_ended is_ready skipped tried =
       most = w.most;
     }
 
--- its window
+-- the window of the framer
 abbrev pub window_of : FramerValue → WindowValue
 window_of v = record { bytes = v.held; looks = v.looks; examined = v.examined; most = v.most }
 
--- with other counts, and a candidate that was examined so far
+-- with other counts, and a candidate of which `tried` bytes were examined
 abbrev pub with_looks : FramerValue → WindowValue → ℕ → FramerValue
 with_looks v w tried = record v { looks = w.looks; examined = w.examined; most = w.most; tried = tried }
 
--- with another window, whose candidate was examined so far
+-- with another window, and a candidate of which `tried` bytes were examined
 abbrev pub with_window : FramerValue → WindowValue → ℕ → FramerValue
 with_window v w tried = record v { held = w.bytes; looks = w.looks; examined = w.examined; most = w.most; tried = tried }
 
--- with this byte more, which nothing has looked at
+-- with one more byte, without a look
 abbrev pub with_byte : FramerValue → ℕ → FramerValue
 with_byte v byte = record v { taken = v.taken + 1; held = v.held ++ byte ∷ []; looks = v.looks ++ 0 ∷ []; is_ready = false }
 
--- with these bytes more, which nothing has looked at
+-- with these further bytes, without a look
 abbrev pub with_bytes : FramerValue → List ℕ → FramerValue
 with_bytes v bytes = record v { taken = v.taken + length bytes; held = v.held ++ bytes; looks = v.looks ++ replicate (length bytes) 0; is_ready = false }
 
@@ -75,12 +75,12 @@ pub record IsPassed (has_ended : Bool) (s : List ℕ) : Type 0 where
 abbrev pub AllPassed : Bool → List ℕ → ℕ → ℕ → Type 0
 AllPassed has_ended b from to = (q : ℕ) → from ≤ q → q < to → IsPassed has_ended (drop q b)
 
--- from one place up to another, b has these frames and between them places that are passed
+-- from one place up to another, b has these frames, and the places between them are passed
 abbrev pub Scanned : Bool → List ℕ → ℕ → ℕ → List Framed → Type 0
 Scanned has_ended b from to [] = (from ≤ to) × AllPassed has_ended b from to
 Scanned has_ended b from to (f ∷ fs) = (from ≤ f.offset) × AllPassed has_ended b from f.offset × IsFrameOf b f × Scanned has_ended b (frame_end f) to fs
 
--- the framer has accepted b, and returned these frames of it, the first of those that are known
+-- the framer has accepted b, and returned these frames of it, a prefix of the known frames
 pub record HasFramed (v : FramerValue) (b : List ℕ) (fs : List Framed) : Type 0 where
   pub taken : v.taken ≡ length b
   pub held : v.held ≡ drop (first_held v) b
@@ -89,11 +89,11 @@ pub record HasFramed (v : FramerValue) (b : List ℕ) (fs : List Framed) : Type 
   pub first : IsPrefix fs (known_frames v.has_ended b)
   pub skipped : v.skipped + sum_by (λ f. length f.message + 6) fs ≡ first_held v
 
--- for all bytes and frames before, it has returned this frame after them
+-- for all bytes accepted and frames returned before, it has returned this frame after them
 abbrev pub HandsOut : FramerValue → FramerValue → Framed → Type 0
 HandsOut old new f = (b : List ℕ) (fs : List Framed) → HasFramed old b fs → HasFramed new b (fs ++ f ∷ [])
 
--- no byte was taken, and no more are held than before
+-- no byte was accepted, and no more are held than before
 pub record IsScannedOn (v v' : FramerValue) : Type 0 where
   pub held : length v'.held ≤ length v.held
   pub limit : v'.limit ≡ v.limit

@@ -32,7 +32,7 @@ pub const MOST_BYTES: u64 = 1 << 48;
 /// Why a call of a framer failed. The framer is then unchanged.
 #[derive(Clone, Copy, Debug, PartialEq, Eq, Error)]
 pub enum ScanFault {
-    /// There is no memory for the held bytes.
+    /// Out of memory: the held bytes can't be allocated.
     #[error("no memory for the window")]
     Memory,
     /// The limit is above 2^48 bytes.
@@ -56,7 +56,7 @@ pub struct Frame {
 }
 
 impl Frame {
-    /// An empty buffer for frames.
+    /// Returns an empty buffer for frames.
     pub(crate) fn new() -> Frame {
         Frame {
             offset: 0,
@@ -105,8 +105,8 @@ impl Framer {
     ///
     /// # Errors
     ///
-    /// `BadLimit` if the limit is above 2^48, and `Memory` if there is no memory for the held
-    /// bytes.
+    /// `BadLimit` if the limit is above 2^48, and `Memory` if the memory for the held bytes can't
+    /// be allocated.
     pub fn new(alloc: Global, limit: u64) -> Result<Framer, ScanFault>
         ensures new { IfOk result (λ f. f ≡ new_scan limit) }
         ensures stands { IfOk result (λ f. HasFramed f [] []) }

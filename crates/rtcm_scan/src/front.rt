@@ -1,5 +1,4 @@
-//! The candidate at the front of the held bytes: those of its bytes that are held are read, and
-//! then it is decided.
+//! The candidate at the front of the held bytes: its held bytes are read, and then it is decided.
 ghost use Rattle.std.specs.Prelude.{◌≡◌, ◌≢◌, ◌+◌, ◌-◌, ◌<◌, ◌≤◌, ℕ, [], min, length, slice_index, take};
 ghost use Rattle.rtcm_scan.specs.Candidate.{HasTaken, wanted_by};
 ghost use Rattle.rtcm_scan.specs.Pending.{asked};
@@ -74,8 +73,8 @@ fn examine_rest(window: &mut Window, candidate: &mut Candidate)
     }
 }
 
-/// Drops the bytes before the next preamble, and returns their number. The preamble, which was read
-/// once, as they were, begins the candidate.
+/// Drops the bytes before the next preamble, and returns their number. Each of them is read once,
+/// and so is the preamble, which begins the candidate.
 pub(crate) fn pass_others(window: &mut Window, candidate: &mut Candidate) -> usize
     requires { HasTaken candidate.old [] }
     ensures within { result ≤ length window.old.bytes }
@@ -91,7 +90,7 @@ pub(crate) fn pass_others(window: &mut Window, candidate: &mut Candidate) -> usi
     n
 }
 
-/// Decides about a candidate whose held bytes were all read.
+/// Returns the decision about a candidate whose held bytes were all read.
 pub(crate) fn judge(candidate: &Candidate, has_ended: bool) -> Decision
     ensures { ComesTo candidate.now has_ended result }
 {
@@ -106,7 +105,7 @@ pub(crate) fn judge(candidate: &Candidate, has_ended: bool) -> Decision
     }
 }
 
-/// The decision if bytes are missing.
+/// Returns the decision if bytes are missing.
 fn missing(has_ended: bool) -> Decision
     ensures { result ≡ if_missing has_ended }
 {

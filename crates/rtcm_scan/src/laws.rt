@@ -10,7 +10,7 @@ ghost use Rattle.rtcm_scan.specs.Local.{FitFrames, StaysLocal, placed};
 ghost use Rattle.rtcm_scan.specs.Looks.{most_looks, most, examined, most_now, examined_now};
 ghost use Rattle.rtcm_scan.specs.Frames.{Framed, AreFrames, frames_of};
 
-/// Each list of bytes has these frames, and no other list is that of its frames.
+/// `frames_of` gives the frames of each list of bytes, and no other list of frames is theirs.
 pub fn frames()
     ensures are { (b : List ℕ) → AreFrames b (frames_of b) }
     ensures only { (b : List ℕ) (fs : List Framed) → AreFrames b fs → fs ≡ frames_of b }
@@ -30,13 +30,13 @@ pub fn local()
     ensures { (junk : List ℕ) (messages : List (List ℕ)) (k : ℕ) → StaysLocal junk messages k }
 {}
 
-/// Frames alone, one after the other, are found, each at its offset.
+/// In a stream of frames without other bytes, each frame is found at its offset.
 pub fn joined()
     ensures { (messages : List (List ℕ)) → FitFrames messages → frames_of (flat_map frame_bytes messages) ≡ placed 0 messages }
 {}
 
-/// What is decided stays so: the decided frames begin those of each longer stream, decided or not.
-/// A stream has at most one frame for each six bytes.
+/// Decisions are final: the decided frames are a prefix of the frames of every longer stream,
+/// decided or not. A stream has at most one frame for each six bytes.
 pub fn prefix()
     ensures decided { (b t : List ℕ) → IsPrefix (decided_frames b) (decided_frames (b ++ t)) }
     ensures frames { (b t : List ℕ) → IsPrefix (decided_frames b) (frames_of (b ++ t)) }
@@ -45,13 +45,13 @@ pub fn prefix()
     ensures few { (b : List ℕ) → 6 * length (frames_of b) ≤ length b }
 {}
 
-/// Fewer bytes are undecided than the longest frame has.
+/// At most 1,028 bytes are undecided, one fewer than the longest frame has.
 pub fn undecided()
     ensures within { (b : List ℕ) → decided b ≤ length b }
     ensures near { (b : List ℕ) → length b ≤ decided b + most_undecided }
 {}
 
-/// The frames that a framer has returned are the first of those that are known.
+/// The frames that a framer has returned are a prefix of the known frames.
 pub fn handed()
     ensures { (v : FramerValue) (b : List ℕ) (fs : List Framed) → HasFramed v b fs → IsPrefix fs (known_frames v.has_ended b) }
 {}

@@ -10,17 +10,18 @@ pub trait FrameSink<O> {
     /// Why a frame was not processed.
     type Fault;
 
-    // Holds as long as a frame may be passed to it.
+    // A frame may be passed to the sink.
     ghost can_take: { Self → Type 0 } = { λ _. ⊤ };
 
     // Nothing waits in the output.
     ghost is_sent: { O → Type 0 } = { λ _. ⊤ };
 
-    // From the first sink and output, those after the first frames, it took the frames up to the
-    // second, and is the second sink, with the second output.
+    // The first sink and output, which processed the first frames, become the second sink and
+    // output, which processed the second frames.
     ghost took: { Self → O → List Framed → Self → O → List Framed → Type 0 };
 
-    // The same, but it failed: it took the second frames, and at most a part of the third.
+    // The same for a sink that failed: it processed the second frames, and at most a part of the
+    // third.
     ghost broke: { Self → O → List Framed → Self → O → List Framed → List Framed → Type 0 };
 
     /// Processes the next frame.
