@@ -1,5 +1,6 @@
 -- Fractions rounded to whole numbers.
-use Rattle.std.specs.Prelude.{◌≡◌, ℕ, ℤ, pos, negsuc, ◌+◌, ◌*◌, ◌/◌, ◌<◌, ◌≤◌, ◌*ℤ◌, ◌-ℤ◌, unsigned_abs, Option, Some, None}
+use Rattle.std.specs.Prelude.{◌≡◌, ℕ, ℤ, pos, negsuc, ◌+◌, ◌*◌, ◌/◌, ◌<◌, ◌≤◌, ◌*ℤ◌, ◌-ℤ◌, unsigned_abs, Option, Some}
+use Rattle.std.specs.Prelude.{None}
 
 -- t is nearest to a / q; of two nearest numbers it is the one further from zero
 pub record IsNearest (a : ℤ) (q : ℕ) (t : ℤ) : Type 0 where

@@ -1,11 +1,13 @@
 -- The signals of each system.
-use Rattle.std.specs.Prelude.{ℕ, List, [], ◌+◌, Bool, ◌==◌, ◌<◌, nat_lt, if◌then◌else◌, Option, Some, None, option_map, length, position, slice_get}
+use Rattle.std.specs.Prelude.{ℕ, List, [], ◌+◌, Bool, ◌==◌, ◌<◌, nat_lt, if◌then◌else◌, Option, Some, None, option_map}
+use Rattle.std.specs.Prelude.{length, position, slice_get}
 use Rattle.std.specs.Option.{option_map_or}
 use Rattle.std.specs.Str.{bytes_eq}
 use Rattle.gnss_obs.specs.declared.tables.ListedSignal.{ListedSignal}
 use Rattle.gnss_obs.specs.declared.system.System.{System}
 use Rattle.gnss_obs.specs.declared.system.System.TheVariants.{Gps, Galileo}
-use Rattle.gnss_obs.specs.SignalTables.{gps_signals, galileo_signals, gps_carriers, galileo_carriers, band_of, carrier_of}
+use Rattle.gnss_obs.specs.SignalTables.{gps_signals, galileo_signals, gps_carriers, galileo_carriers, band_of}
+use Rattle.gnss_obs.specs.SignalTables.{carrier_of}
 
 -- the table of a system
 abbrev pub table : System → List ListedSignal

@@ -3,7 +3,8 @@ ghost use Rattle.std.specs.Prelude.{◌≡◌, ◌+◌, ◌*◌, ◌^◌, ◌<�
 ghost use Rattle.gnss_obs.specs.LockTimes.{last4, last7, least4, least7};
 ghost use Rattle.gnss_obs.specs.Rounding.{IsNearest, nearest};
 ghost use Rattle.gnss_obs.specs.Observables.{nearest_pseudorange, nearest_phase, nearest_doppler, nearest_strength};
-ghost use Rattle.gnss_obs.specs.Signals.{SignalAt, IsSignal, greatest_signal_id, after, id_of, code_of, hertz_of, signal_of_id, signal_of_code};
+ghost use Rattle.gnss_obs.specs.Signals.{SignalAt, IsSignal, greatest_signal_id, after, id_of, code_of, hertz_of};
+ghost use Rattle.gnss_obs.specs.Signals.{signal_of_id, signal_of_code};
 
 /// Exactly one whole number is nearest to a fraction, and `nearest` computes it.
 pub fn one_nearest()
@@ -34,7 +35,10 @@ pub fn lock_times()
 /// 99,999 thousandths.
 pub fn sizes()
     ensures metres { (r : ℤ) → unsigned_abs r ≤ 2 ^ 40 → unsigned_abs (nearest_pseudorange r) < 10 ^ 12 }
-    ensures cycles { (s : SignalAt) (p : ℤ) → unsigned_abs p ≤ 2 ^ 40 → unsigned_abs (nearest_phase (hertz_of s) p) < 10 ^ 12 }
-    ensures shift { (s : SignalAt) (v : ℤ) → unsigned_abs v ≤ 10 ^ 8 → unsigned_abs (nearest_doppler (hertz_of s) v) < 10 ^ 12 }
-    ensures decibels { (s : ℕ) → 0 < s → s < 2 ^ 10 → (pos 1 ≤ℤ nearest_strength s) × (nearest_strength s ≤ℤ pos 99_999) }
+    ensures cycles { (s : SignalAt) (p : ℤ) → unsigned_abs p ≤ 2 ^ 40
+        → unsigned_abs (nearest_phase (hertz_of s) p) < 10 ^ 12 }
+    ensures shift { (s : SignalAt) (v : ℤ) → unsigned_abs v ≤ 10 ^ 8
+        → unsigned_abs (nearest_doppler (hertz_of s) v) < 10 ^ 12 }
+    ensures decibels { (s : ℕ) → 0 < s → s < 2 ^ 10
+        → (pos 1 ≤ℤ nearest_strength s) × (nearest_strength s ≤ℤ pos 99_999) }
 {}

@@ -1,7 +1,8 @@
 ghost use Rattle.std.specs.Prelude.{◌≡◌, ◌*◌, ◌^◌, ◌<◌, ◌≤◌, ◌*ℤ◌, ◌-ℤ◌, ◌≤ℤ◌, ◌<ℤ◌, unsigned_abs, pos, IfSome};
 ghost use Rattle.std.specs.Option.{option_map, ForSome};
 ghost use Rattle.gnss_obs.specs.Rounding.{IsRounded};
-ghost use Rattle.gnss_obs.specs.Observables.{light, nearest_pseudorange, nearest_phase, nearest_doppler, nearest_strength, strength_digit};
+ghost use Rattle.gnss_obs.specs.Observables.{light, nearest_pseudorange, nearest_phase, nearest_doppler};
+ghost use Rattle.gnss_obs.specs.Observables.{nearest_strength, strength_digit};
 ghost use Rattle.gnss_obs.specs.Signals.{hertz_of};
 
 use crate::rounding::nearest_whole;

@@ -1,6 +1,7 @@
 ghost use Rattle.std.specs.Prelude.{◌≡◌, ◌-◌, ◌<◌, ◌≤◌, ◌==◌, length, position, IfSome};
 ghost use Rattle.std.specs.Str.{bytes_eq};
-ghost use Rattle.gnss_obs.specs.Signals.{SignalAt, IsSignal, table, signal_at, signal_of_id, signal_of_code, code_of, hertz_of};
+ghost use Rattle.gnss_obs.specs.Signals.{SignalAt, IsSignal, table, signal_at, signal_of_id, signal_of_code, code_of};
+ghost use Rattle.gnss_obs.specs.Signals.{hertz_of};
 ghost use Rattle.gnss_obs.specs.SignalRows.{rows};
 
 use crate::System;
@@ -25,7 +26,7 @@ impl Model for Signal {
 }
 
 /// Returns the table of a system.
-fn entries(system: System) -> &'static [ListedSignal]
+fn listed(system: System) -> &'static [ListedSignal]
     ensures { result.now ≡ table system }
 {
     match system {
@@ -79,7 +80,7 @@ impl Signal {
     pub fn from_code(system: System, code: &str) -> Option<Signal>
         ensures { result ≡ signal_of_code system code.now }
     {
-        let index = row_of_code(entries(system), code.as_bytes())?;
+        let index = row_of_code(listed(system), code.as_bytes())?;
         Some(Signal { system, index })
     }
 
@@ -98,7 +99,7 @@ impl Signal {
     pub fn code(self) -> [u8; 2]
         ensures { result ≡ code_of self }
     {
-        entries(self.system)[self.index].1
+        listed(self.system)[self.index].1
     }
 
     /// Returns the carrier frequency, in hertz.
@@ -107,7 +108,7 @@ impl Signal {
         ensures positive { 0 < result }
         ensures bound { result ≤ 1575420000 }
     {
-        entries(self.system)[self.index].2
+        listed(self.system)[self.index].2
     }
 
     /// Returns the system of the signal.

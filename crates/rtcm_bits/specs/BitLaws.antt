@@ -1,5 +1,7 @@
 -- Laws of the definitions of Bits: numbers of w bits, lists of bits and two's complements.
-use Rattle.std.proofs.Common.{ℕ, zero, suc, ℤ, pos, negsuc, ◌≡◌, ◌+◌, ◌-◌, ◌*◌, ◌/◌, ◌%◌, ◌^◌, ◌<◌, ◌≤◌, Bool, true, false, List, [], ◌∷◌, ◌++◌, length, take, refl, sym, ap, ◌∙◌, arith, append_assoc, length-append, subst, ◌⊎◌, inl, inr, add_comm}
+use Rattle.std.proofs.Common.{ℕ, zero, suc, ℤ, pos, negsuc, ◌≡◌, ◌+◌, ◌-◌, ◌*◌, ◌/◌, ◌%◌, ◌^◌, ◌<◌, ◌≤◌, Bool, true}
+use Rattle.std.proofs.Common.{false, List, [], ◌∷◌, ◌++◌, length, take, refl, sym, ap, ◌∙◌, arith, append_assoc}
+use Rattle.std.proofs.Common.{length-append, subst, ◌⊎◌, inl, inr, add_comm}
 use Rattle.std.proofs.lemmas.Nat.{mod-pow-add, shr_high, pow_pos}
 use Rattle.std.proofs.Math.Nat.{add-mul-div_right, mod-eq_of_lt, pow-le-pow_right}
 use Rattle.std.proofs.lemmas.Bool.{cases_lt}
@@ -36,7 +38,8 @@ pub number-uint : (w a n : ℕ) → number_from a (uint w n) ≡ a * 2 ^ w + n %
 unfolding uint number_from
 number-uint zero a n = omega arith
 number-uint (suc w) a n =
-    number-uint w (2 * a + bit (odd (n / 2 ^ w))) n ∙ rw (mod-suc w n, bit_odd (n / 2 ^ w)) (horner a (n / 2 ^ w % 2) (2 ^ w) (n % 2 ^ w) (2 ^ suc w) (pow-double w))
+    number-uint w (2 * a + bit (odd (n / 2 ^ w))) n ∙ rw (mod-suc w n, bit_odd (n / 2 ^ w))
+    (horner a (n / 2 ^ w % 2) (2 ^ w) (n % 2 ^ w) (2 ^ suc w) (pow-double w))
 
 -- a number is encoded by its bits
 pub number_of-uint : (w n : ℕ) → n < 2 ^ w → number (uint w n) ≡ n
@@ -50,7 +53,9 @@ bit-small true = omega arith
 pub number-split : (bits : List Bool) (a : ℕ) → number_from a bits ≡ a * 2 ^ length bits + number bits
 unfolding number_from
 number-split [] a = omega arith
-number-split (b ∷ bits) a = number-split bits (2 * a + bit b) ∙ step a (bit b) _ _ (2 ^ suc (length bits)) (pow-double (length bits)) _ (number-split bits (2 * 0 + bit b))
+number-split (b ∷ bits) a =
+    number-split bits (2 * a + bit b) ∙ step a (bit b) _ _ (2 ^ suc (length bits)) (pow-double (length bits)) _
+    (number-split bits (2 * 0 + bit b))
   where
     step : (a t p r q : ℕ) → q ≡ 2 * p → (m : ℕ) → m ≡ (2 * 0 + t) * p + r → (2 * a + t) * p + r ≡ a * q + m
     step a t p r q e m f = rw (e, f) (omega arith)
@@ -58,7 +63,9 @@ number-split (b ∷ bits) a = number-split bits (2 * a + bit b) ∙ step a (bit 
 pub number-fits : (bits : List Bool) → number bits < 2 ^ length bits
 unfolding number_from
 number-fits [] = omega arith
-number-fits (b ∷ bits) = rw (number-split bits (2 * 0 + bit b), pow-double (length bits)) (step (bit b) (2 ^ length bits) (number bits) (bit-small b) (number-fits bits))
+number-fits (b ∷ bits) =
+    rw (number-split bits (2 * 0 + bit b), pow-double (length bits))
+    (step (bit b) (2 ^ length bits) (number bits) (bit-small b) (number-fits bits))
   where
     step : (t p r : ℕ) → t < 2 → r < p → (2 * 0 + t) * p + r < 2 * p
     step t p r s f = grind arith
@@ -79,7 +86,8 @@ uint-low (suc w) a n = cons2 (head w a n) (rw (double w a) (uint-low w (2 * a) n
     odd-even a m = let e : (m + 2 * a) % 2 ≡ m % 2 = omega arith in rw e refl
 
     head : (w a n : ℕ) → odd ((a * 2 ^ suc w + n) / 2 ^ w) ≡ odd (n / 2 ^ w)
-    head w a n = rw (double w a, add_comm (2 * a * 2 ^ w) n, add-mul-div_right n (2 * a) (pow_pos w)) (odd-even a (n / 2 ^ w))
+    head w a n =
+        rw (double w a, add_comm (2 * a * 2 ^ w) n, add-mul-div_right n (2 * a) (pow_pos w)) (odd-even a (n / 2 ^ w))
 
 -- the bits of the number that they encode
 pub uint-number : (bits : List Bool) (a : ℕ) → uint (length bits) (number_from a bits) ≡ bits
@@ -95,7 +103,8 @@ uint-number (b ∷ bits) a = cons2 (ap odd (top bits (2 * a + bit b)) ∙ odd_bi
 pub bits_of-append : (xs ys : List ℕ) → bits_of (xs ++ ys) ≡ bits_of xs ++ bits_of ys
 unfolding bits_of
 bits_of-append [] ys = refl
-bits_of-append (x ∷ xs) ys = ap (λ t. uint 8 x ++ t) (bits_of-append xs ys) ∙ sym (append_assoc (uint 8 x) (bits_of xs) (bits_of ys))
+bits_of-append (x ∷ xs) ys =
+    ap (λ t. uint 8 x ++ t) (bits_of-append xs ys) ∙ sym (append_assoc (uint 8 x) (bits_of xs) (bits_of ys))
 
 pub length-bits_of : (xs : List ℕ) → length (bits_of xs) ≡ 8 * length xs
 unfolding bits_of
@@ -103,7 +112,8 @@ length-bits_of [] = refl
 length-bits_of (x ∷ xs) = length-append (uint 8 x) (bits_of xs) ∙ omega (arith, length-uint 8 x, length-bits_of xs)
 
 pub number-take-fits : (l : List Bool) (w : ℕ) → w ≤ length l → number (take w l) < 2 ^ w
-number-take-fits l w h = let P : ℕ → Type 0 = λ n. number (take w l) < 2 ^ n in subst P (length-take-le w l h) (number-fits (take w l))
+number-take-fits l w h =
+    let P : ℕ → Type 0 = λ n. number (take w l) < 2 ^ n in subst P (length-take-le w l h) (number-fits (take w l))
 
 -- a boolean as a number
 pub byte-bit : (b : Bool) → bool_byte b ≡ bit b

@@ -1,6 +1,7 @@
 -- The CRC of a list of bytes: the remainder of a division of polynomials over the field of two elements. A polynomial
 -- is the list of its coefficients, that of the greatest power first.
-use Rattle.std.specs.Prelude.{ℕ, zero, suc, ◌++◌, Bool, true, false, not, List, [], ◌∷◌, length, drop, replicate, if◌then◌else◌}
+use Rattle.std.specs.Prelude.{ℕ, zero, suc, ◌++◌, Bool, true, false, not, List, [], ◌∷◌, length, drop, replicate}
+use Rattle.std.specs.Prelude.{if◌then◌else◌}
 use Rattle.rtcm_bits.specs.Bits.{uint, number, bits_of}
 
 -- the sum of two coefficients

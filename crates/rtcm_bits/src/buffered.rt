@@ -1,5 +1,6 @@
 //! A buffer before a writer, so that many small writes make few calls of a device.
-ghost use Rattle.std.specs.Prelude.{◌≡◌, ◌+◌, ◌-◌, ◌<◌, ◌≤◌, [], ◌++◌, true, false, length, min, take, Ok, OnOk, OnErr, IfOk, IsErr, vec_len, vec_capacity};
+ghost use Rattle.std.specs.Prelude.{◌≡◌, ◌+◌, ◌-◌, ◌<◌, ◌≤◌, [], ◌++◌, true, false, length, min, take, Ok, OnOk, OnErr};
+ghost use Rattle.std.specs.Prelude.{IfOk, IsErr, vec_len, vec_capacity};
 ghost use Rattle.std.specs.Io.{WritesAtMost};
 ghost use Rattle.std.specs.Io.KnownBytes.{Keeps, Appends, WriteAppends};
 ghost use Rattle.rtcm_bits.specs.Buffering.{contents_of};
@@ -33,7 +34,8 @@ impl<W> Model for Buffered<W> {
 
     ghost view = { λ b. record { device = b.device; waiting = drop b.sent b.bytes.items; has_failed = b.failed } };
 
-    ghost invariant = { λ b. (length b.bytes.items ≤ 65536) × (65536 ≤ vec_capacity b.bytes) × (b.failed ≡ false → b.sent ≡ 0) };
+    ghost invariant = { λ b. (length b.bytes.items ≤ 65536) × (65536 ≤ vec_capacity b.bytes)
+        × (b.failed ≡ false → b.sent ≡ 0) };
 }
 
 impl<W> Buffered<W> {
@@ -94,7 +96,8 @@ impl<W: Write> Write for Buffered<W> {
 
     fn write(&mut self, buf: &[u8]) -> io::Result<usize>
         ensures bound { WritesAtMost result buf.now }
-        ensures bytes { WriteAppends (contents_of W.contents self.old) (contents_of W.contents self.new) result buf.now }
+        ensures bytes { WriteAppends (contents_of W.contents self.old) (contents_of W.contents self.new) result
+            buf.now }
         ensures failed { OnErr result (self.new.has_failed ≡ true) }
         ensures over { self.old.has_failed ≡ true → IsErr result × (self.new ≡ self.old) }
         ensures room { self.old.has_failed ≡ false → length self.old.waiting < 65536

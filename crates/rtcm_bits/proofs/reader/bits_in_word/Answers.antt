@@ -1,5 +1,5 @@
 use Rattle.rtcm_bits.proofs.WordLemmas.{part_of_a_word}
-use Rattle.rtcm_bits.proofs.reader.part_of_word.Goals as goal
+use Rattle.rtcm_bits.proofs.reader.bits_in_word.Goals as goal
 
 pub returns : goal.returns
 returns c = part_of_a_word c.args.word c.args.skip c.args.width c.requires.within
