@@ -1,13 +1,18 @@
 -- A stream that is read piece by piece.
 use Rattle.std.specs.Prelude.{⊤}
-use Rattle.std.proofs.Common.{◌≡◌, ℕ, ◌+◌, ◌-◌, ◌<◌, ◌≤◌, Bool, true, false, List, [], ◌∷◌, ◌++◌, ◌∙◌, ap, sym, refl, arith, length, suc, take, append_assoc, append-nil, subst, length-append, Option, true≢false}
+use Rattle.std.proofs.Common.{◌≡◌, ℕ, ◌+◌, ◌-◌, ◌<◌, ◌≤◌, Bool, true, false, List, [], ◌∷◌, ◌++◌, ◌∙◌, ap, sym, refl, arith, length, suc, take, drop, max, append_assoc, append-nil, subst, length-append, Option, true≢false}
 use Rattle.std.specs.Io.KnownBytes.{Consumes, Keeps, IsAtEnd}
 use Rattle.std.proofs.KnownBytes.{Consumes-trans, Consumes-nil, Consumes-kept}
 use Rattle.rtcm_scan.specs.Frames.{Framed}
-use Rattle.rtcm_scan.specs.Known.{known_frames}
+use Rattle.std.proofs.lemmas.List.{length-drop}
+use Rattle.rtcm_bits.specs.FrameOf.{longest_frame}
+use Rattle.rtcm_scan.specs.Decided.{decided}
+use Rattle.rtcm_scan.specs.Drained.{IsDrained}
+use Rattle.rtcm_scan.specs.Known.{known_frames, known_place}
 use Rattle.rtcm_scan.specs.Scan.{FramerValue}
-use Rattle.rtcm_scan.specs.Passing.{Coming, Breaking, HasPassedAll, HasBroken, Passes, Breaks, BreaksKnown, PassesKnown, PassesToLimit, PassesAll, BreaksReading, Reads, AtFault}
+use Rattle.rtcm_scan.specs.Passing.{Coming, Breaking, HasPassedAll, HasBroken, Passes, BreaksKnown, PassesKnown, PassesToLimit, PassesAll, BreaksAt, BreaksAfter, BreaksReading, Reads, ReadsOn, AtFault}
 use Rattle.rtcm_scan.proofs.PassingLemmas.{prefix_self}
+use Rattle.rtcm_scan.proofs.PrefixLemmas.{decided_near}
 use Rattle.rtcm_scan.specs.declared.feed.StreamFault.{StreamFault}
 use Rattle.rtcm_scan.specs.declared.feed.StreamFault.TheVariants.{Read, TooLong, Sink}
 
@@ -32,6 +37,14 @@ take_over (x ∷ front) piece k n e =
 limit_after : (limit taken w : ℕ) (front piece : List ℕ) → w ≡ taken + length front → w ≤ limit → front ++ take (limit - w) piece ≡ take (limit - taken) (front ++ piece)
 limit_after limit taken w front piece e le = sym (take_over front piece (limit - w) (limit - taken) (omega (arith, e, le)))
 
+-- a piece that fits into the buffer beside the held bytes
+near_held : (v : FramerValue) (b : List ℕ) (n most : ℕ) → v.has_ended ≡ false → IsDrained v b (known_frames v.has_ended b) → length v.held + n ≤ max most (length v.held + 1)
+    → (length b - decided b) + n ≤ max most longest_frame
+near_held v b n most going d fits =
+    let e : length v.held ≡ length b - decided b = ap length d.held ∙ ap (λ (h : Bool). length (drop (known_place h b) b)) going ∙ length-drop (decided b) b in
+    let u : length b ≤ decided b + 1028 = (decided_near b).1 in
+    omega (arith, e, u, fits)
+
 module _ {S O : Type 0} (took : Coming S O) (broke : Breaking S O) where
   -- no byte
   pub passes_none : (v : FramerValue) (s : S) (o o' : O) → ((s0 : S) (o0 : O) (ps fs : List Framed) → took s0 o0 ps s o fs → took s0 o0 ps s o' fs) → Passes took v s o v s o' []
@@ -47,8 +60,8 @@ module _ {S O : Type 0} (took : Coming S O) (broke : Breaking S O) where
       subst (λ (l : List ℕ). HasPassedAll took v2 s0 o0 ps s2 o2 l) (append_assoc b front piece) (q s0 o0 ps (b ++ front) (p s0 o0 ps b x))
 
   pub reads_more : (v v' v2 : FramerValue) (s s' s2 : S) (o o' o2 : O) (r r' r2 : Option (List ℕ)) (n : ℕ)
-      → Reads r r' (λ front. Passes took v s o v' s' o' front × (v'.taken ≡ v.taken + length front)) → Reads r' r2 (λ piece. Passes took v' s' o' v2 s2 o2 piece × (n ≡ length piece)) → v2.taken ≡ v'.taken + n
-      → Reads r r2 (λ front. Passes took v s o v2 s2 o2 front × (v2.taken ≡ v.taken + length front))
+      → ReadsOn took v s o v' s' o' r r' → Reads r' r2 (λ piece. Passes took v' s' o' v2 s2 o2 piece × (n ≡ length piece)) → v2.taken ≡ v'.taken + n
+      → ReadsOn took v s o v2 s2 o2 r r2
   reads_more v v' v2 s s' s2 o o' o2 r r' r2 n p q t =
       let l : length (p.0 ++ q.0) ≡ length p.0 + length q.0 = length-append p.0 q.0 in
       let a : v'.taken ≡ v.taken + length p.0 = p.2.1 in
@@ -56,18 +69,20 @@ module _ {S O : Type 0} (took : Coming S O) (broke : Breaking S O) where
       (p.0 ++ q.0, Consumes-trans r r' r2 p.0 q.0 p.1 q.1, (passes_more v v' v2 s s' s2 o o' o2 p.0 q.0 p.2.0 q.2.0, omega (arith, l, a, e, t)))
 
   -- nothing was read after others
-  pub read_on : (v v' v2 : FramerValue) (s s' s2 : S) (o o' o2 : O) (r r' r2 : Option (List ℕ)) → Keeps r' r2 × (v2 ≡ v') × (s2 ≡ s') × (o2 ≡ o')
-      → Reads r r' (λ front. Passes took v s o v' s' o' front × (v'.taken ≡ v.taken + length front)) → Reads r r2 (Passes took v s o v2 s2 o2)
+  pub read_on : (v v' v2 : FramerValue) (s s' s2 : S) (o o' o2 : O) (r r' r2 : Option (List ℕ)) → Keeps r' r2 × (v2 ≡ v') × (s2 ≡ s') × (o2 ≡ o') → ReadsOn took v s o v' s' o' r r' → ReadsOn took v s o v2 s2 o2 r r2
   read_on v v' v2 s s' s2 o o' o2 r r' r2 e p = (
     p.0,
     Consumes-kept r r' r2 p.0 p.1 e.0,
-    λ s0 o0 ps b x. (subst (λ (y : O). HasPassedAll took v2 s0 o0 ps s2 y (b ++ p.0)) (sym e.3) (subst (λ (y : S). HasPassedAll took v2 s0 o0 ps y o' (b ++ p.0)) (sym e.2)
-        (subst (λ (y : FramerValue). HasPassedAll took y s0 o0 ps s' o' (b ++ p.0)) (sym e.1) (p.2.0 s0 o0 ps b x)))),
+    (
+      λ s0 o0 ps b x. (subst (λ (y : O). HasPassedAll took v2 s0 o0 ps s2 y (b ++ p.0)) (sym e.3) (subst (λ (y : S). HasPassedAll took v2 s0 o0 ps y o' (b ++ p.0)) (sym e.2)
+          (subst (λ (y : FramerValue). HasPassedAll took y s0 o0 ps s' o' (b ++ p.0)) (sym e.1) (p.2.0 s0 o0 ps b x)))),
+      ap (λ (y : FramerValue). y.taken) e.1 ∙ p.2.1,
+    ),
   )
 
   -- a piece that goes over the limit, after others
   pub limit_more : (v v' v2 : FramerValue) (s s' s2 : S) (o o' o2 : O) (r r' r2 : Option (List ℕ)) → v'.limit ≡ v.limit → v'.taken ≤ v.limit
-      → Reads r r' (λ front. Passes took v s o v' s' o' front × (v'.taken ≡ v.taken + length front)) → Reads r' r2 (PassesToLimit took v' s' o' v2 s2 o2) → Reads r r2 (PassesToLimit took v s o v2 s2 o2)
+      → ReadsOn took v s o v' s' o' r r' → Reads r' r2 (PassesToLimit took v' s' o' v2 s2 o2) → Reads r r2 (PassesToLimit took v s o v2 s2 o2)
   limit_more v v' v2 s s' s2 o o' o2 r r' r2 same within p q =
       let front : List ℕ = p.0 in
       let piece : List ℕ = q.0 in
@@ -85,27 +100,32 @@ module _ {S O : Type 0} (took : Coming S O) (broke : Breaking S O) where
       )
 
   -- the sink failed at a piece after others
-  pub breaks_more : (v v' : FramerValue) (s s' s2 : S) (o o' o2 : O) (r r' r2 : Option (List ℕ)) (most size : ℕ) → size ≡ most → v'.has_ended ≡ v.has_ended → v.has_ended ≡ false
-      → Reads r r' (λ front. Passes took v s o v' s' o' front × (v'.taken ≡ v.taken + length front)) → Reads r' r2 (λ piece. Breaks took broke v' s' o' s2 o2 piece × (length piece ≤ size))
-      → BreaksReading took broke v s o s2 o2 most r r2
-  breaks_more v v' s s' s2 o o' o2 r r' r2 most size same_size same going p q = record {
-    front = p.0;
-    piece = q.0;
-    ended = v.has_ended;
-    consumes = Consumes-trans r r' r2 p.0 q.0 p.1 q.1;
-    breaks = λ s0 o0 ps b x. (subst (λ (l : List ℕ). HasBroken broke v.has_ended s0 o0 ps s2 o2 (known_frames v.has_ended (b ++ p.0)) l) (append_assoc b p.0 q.0)
-        (subst (λ (e : Bool). HasBroken broke e s0 o0 ps s2 o2 (known_frames e (b ++ p.0)) ((b ++ p.0) ++ q.0)) same (q.2.0 s0 o0 ps (b ++ p.0) (p.2.0 s0 o0 ps b x))));
-    few = subst (λ (n : ℕ). length q.0 ≤ n) same_size q.2.1;
-    at_end = λ e. absurd (true≢false (sym e ∙ going));
-  }
+  pub breaks_more : (v v' v2 : FramerValue) (s s' s2 : S) (o o' o2 : O) (r r' r2 : Option (List ℕ)) (most size : ℕ) → size ≡ most → v'.has_ended ≡ false → v.has_ended ≡ false
+      → ReadsOn took v s o v' s' o' r r' → Reads r' r2 (BreaksAt took broke v' s' o' v2 s2 o2 size) → BreaksAfter took broke v s o v2 s2 o2 most r r2
+  breaks_more v v' v2 s s' s2 o o' o2 r r' r2 most size same_size after before p q =
+      let few : length q.0 ≤ most = subst (λ (n : ℕ). length q.0 ≤ n) same_size q.2.few in
+      let fits : length v'.held + length q.0 ≤ max most (length v'.held + 1) = subst (λ (n : ℕ). length v'.held + length q.0 ≤ max n (length v'.held + 1)) same_size q.2.near in
+      let least : v'.taken ≤ v2.taken = q.2.goes.least in
+      let greatest : v2.taken ≤ v'.taken + length q.0 = q.2.goes.most in
+      let taken : v'.taken ≡ v.taken + length p.0 = p.2.1 in
+      record {
+        front = p.0;
+        piece = q.0;
+        consumes = Consumes-trans r r' r2 p.0 q.0 p.1 q.1;
+        breaks = λ s0 o0 ps b x. (subst (λ (l : List ℕ). HasBroken broke v.has_ended s0 o0 ps s2 o2 (known_frames v.has_ended (b ++ p.0)) l) (append_assoc b p.0 q.0)
+            (subst (λ (e : Bool). HasBroken broke e s0 o0 ps s2 o2 (known_frames e (b ++ p.0)) ((b ++ p.0) ++ q.0)) (after ∙ sym before) (q.2.breaks s0 o0 ps (b ++ p.0) (p.2.0 s0 o0 ps b x))));
+        near = λ s0 o0 ps b x. near_held v' (b ++ p.0) (length q.0) most after (p.2.0 s0 o0 ps b x).drained fits;
+        few = few;
+        least = omega (arith, taken, least);
+        greatest = omega (arith, taken, greatest);
+      }
 
   -- the sink failed before any byte was read
-  pub breaks_first : (v : FramerValue) (s : S) (o o' : O) (r : Option (List ℕ)) (most : ℕ) → v.has_ended ≡ false → ((s0 : S) (o0 : O) (ps fs : List Framed) → took s0 o0 ps s o fs → broke s0 o0 ps s o' fs fs)
-      → BreaksReading took broke v s o s o' most r r
-  breaks_first v s o o' r most going send = record {
+  pub breaks_first : (v : FramerValue) (s : S) (o o' : O) (r : Option (List ℕ)) (most : ℕ) → ((s0 : S) (o0 : O) (ps fs : List Framed) → took s0 o0 ps s o fs → broke s0 o0 ps s o' fs fs)
+      → BreaksAfter took broke v s o v s o' most r r
+  breaks_first v s o o' r most send = record {
     front = [];
     piece = [];
-    ended = v.has_ended;
     consumes = Consumes-nil r;
     breaks = λ s0 o0 ps b x. (subst (λ (l : List ℕ). HasBroken broke v.has_ended s0 o0 ps s o' (known_frames v.has_ended l) l) (sym (append-nil b)) (record {
       taken = known_frames v.has_ended b;
@@ -114,13 +134,27 @@ module _ {S O : Type 0} (took : Coming S O) (broke : Breaking S O) where
       known = prefix_self (known_frames v.has_ended b);
       broken = send s0 o0 ps (known_frames v.has_ended b) x.passed.taken;
     }));
+    near = λ s0 o0 ps b x. (let u : length (b ++ []) ≤ decided (b ++ []) + 1028 = (decided_near (b ++ [])).1 in omega (arith, u));
     few = omega arith;
+    least = omega arith;
+    greatest = omega arith;
+  }
+
+  -- the same for a stream that was to be ended
+  pub breaks_reading : (v v' : FramerValue) (s s' : S) (o o' : O) (r r' : Option (List ℕ)) (most : ℕ) → v.has_ended ≡ false → BreaksAfter took broke v s o v' s' o' most r r' → BreaksReading took broke v s o s' o' most r r'
+  breaks_reading v v' s s' o o' r r' most going q = record {
+    front = q.front;
+    piece = q.piece;
+    ended = v.has_ended;
+    consumes = q.consumes;
+    breaks = q.breaks;
+    few = q.few;
     at_end = λ e. absurd (true≢false (sym e ∙ going));
   }
 
   -- all was read, and the remaining frames were passed on
   pub passes_end : (v v' v2 : FramerValue) (s s' s2 : S) (o o' o2 : O) (r r' : Option (List ℕ)) → IsAtEnd r'
-      → Reads r r' (λ front. Passes took v s o v' s' o' front × (v'.taken ≡ v.taken + length front)) → PassesKnown took v' s' o' v2 s2 o2 → PassesAll took v s o v2 s2 o2 r r'
+      → ReadsOn took v s o v' s' o' r r' → PassesKnown took v' s' o' v2 s2 o2 → PassesAll took v s o v2 s2 o2 r r'
   passes_end v v' v2 s s' s2 o o' o2 r r' e p k = (
     (p.0, p.1, λ s0 o0 ps b x. (let d = p.2.0 s0 o0 ps b x in k s0 o0 ps (b ++ p.0) (known_frames v'.has_ended (b ++ p.0)) d.passed)),
     e,
@@ -128,7 +162,7 @@ module _ {S O : Type 0} (took : Coming S O) (broke : Breaking S O) where
 
   -- the sink failed at one of them
   pub breaks_end : (v v' : FramerValue) (s s' s2 : S) (o o' o2 : O) (r r' : Option (List ℕ)) (most : ℕ) → v'.has_ended ≡ v.has_ended → IsAtEnd r'
-      → Reads r r' (λ front. Passes took v s o v' s' o' front × (v'.taken ≡ v.taken + length front)) → BreaksKnown took broke true v' s' o' s2 o2 → BreaksReading took broke v s o s2 o2 most r r'
+      → ReadsOn took v s o v' s' o' r r' → BreaksKnown took broke true v' s' o' s2 o2 → BreaksReading took broke v s o s2 o2 most r r'
   breaks_end v v' s s' s2 o o' o2 r r' most same e p k = record {
     front = p.0;
     piece = [];

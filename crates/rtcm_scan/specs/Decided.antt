@@ -1,5 +1,6 @@
 -- The part of a stream that is decided by the bytes accepted.
-use Rattle.std.specs.Prelude.{ℕ, zero, suc, ◌&&◌, min, not, nat_lt, nat_le, Bool, List, [], ◌∷◌, ◌++◌, length, drop, if◌then◌else◌}
+use Rattle.std.specs.Prelude.{ℕ, zero, suc, ◌&&◌, min, not, nat_lt, nat_le, Bool, List, [], ◌∷◌, ◌++◌, length, drop}
+use Rattle.std.specs.Prelude.{if◌then◌else◌}
 use Rattle.std.specs.List.{filter, list_any, position_or_len, count_by}
 use Rattle.rtcm_scan.specs.Frame.{has_preamble, frame_length, is_open}
 use Rattle.rtcm_scan.specs.Frames.{Framed, frame_end, frames_of}

@@ -1,5 +1,6 @@
 -- The state of a framer that contracts cite, and the streams that it may have accepted.
-use Rattle.std.specs.Prelude.{◌≡◌, ℕ, ◌+◌, ◌-◌, ◌^◌, ◌<◌, ◌≤◌, Bool, false, List, [], ◌∷◌, ◌++◌, length, drop, replicate}
+use Rattle.std.specs.Prelude.{◌≡◌, ℕ, ◌+◌, ◌-◌, ◌^◌, ◌<◌, ◌≤◌, Bool, false, List, [], ◌∷◌, ◌++◌, length, drop}
+use Rattle.std.specs.Prelude.{replicate}
 use Rattle.std.specs.List.{sum_by}
 use Rattle.rtcm_scan.specs.Frame.{begins_frame, is_open}
 use Rattle.rtcm_scan.specs.Frames.{Framed, IsFrameOf, frame_end}
@@ -53,15 +54,23 @@ with_looks v w tried = record v { looks = w.looks; examined = w.examined; most =
 
 -- with another window, and a candidate of which `tried` bytes were examined
 abbrev pub with_window : FramerValue → WindowValue → ℕ → FramerValue
-with_window v w tried = record v { held = w.bytes; looks = w.looks; examined = w.examined; most = w.most; tried = tried }
+with_window v w tried =
+    record v { held = w.bytes; looks = w.looks; examined = w.examined; most = w.most; tried = tried }
 
 -- with one more byte, without a look
 abbrev pub with_byte : FramerValue → ℕ → FramerValue
-with_byte v byte = record v { taken = v.taken + 1; held = v.held ++ byte ∷ []; looks = v.looks ++ 0 ∷ []; is_ready = false }
+with_byte v byte =
+    record v { taken = v.taken + 1; held = v.held ++ byte ∷ []; looks = v.looks ++ 0 ∷ []; is_ready = false }
 
 -- with these further bytes, without a look
 abbrev pub with_bytes : FramerValue → List ℕ → FramerValue
-with_bytes v bytes = record v { taken = v.taken + length bytes; held = v.held ++ bytes; looks = v.looks ++ replicate (length bytes) 0; is_ready = false }
+with_bytes v bytes =
+    record v {
+      taken = v.taken + length bytes;
+      held = v.held ++ bytes;
+      looks = v.looks ++ replicate (length bytes) 0;
+      is_ready = false;
+    }
 
 -- the place of the first held byte
 abbrev pub first_held : FramerValue → ℕ
@@ -78,7 +87,8 @@ AllPassed has_ended b from to = (q : ℕ) → from ≤ q → q < to → IsPassed
 -- from one place up to another, b has these frames, and the places between them are passed
 abbrev pub Scanned : Bool → List ℕ → ℕ → ℕ → List Framed → Type 0
 Scanned has_ended b from to [] = (from ≤ to) × AllPassed has_ended b from to
-Scanned has_ended b from to (f ∷ fs) = (from ≤ f.offset) × AllPassed has_ended b from f.offset × IsFrameOf b f × Scanned has_ended b (frame_end f) to fs
+Scanned has_ended b from to (f ∷ fs) =
+    (from ≤ f.offset) × AllPassed has_ended b from f.offset × IsFrameOf b f × Scanned has_ended b (frame_end f) to fs
 
 -- the framer has accepted b, and returned these frames of it, a prefix of the known frames
 pub record HasFramed (v : FramerValue) (b : List ℕ) (fs : List Framed) : Type 0 where

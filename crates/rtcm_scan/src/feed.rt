@@ -28,7 +28,8 @@ impl Framer {
         requires { S.can_take sink.old }
         ensures goes { S.can_take sink.new }
         ensures whole { OnOk result (PassesKnown S.took self.old sink.old out.old self.new sink.new out.new) }
-        ensures part { OnErr result (BreaksKnown S.took S.broke self.old.has_ended self.old sink.old out.old sink.new out.new) }
+        ensures part { OnErr result
+            (BreaksKnown S.took S.broke self.old.has_ended self.old sink.old out.old sink.new out.new) }
         ensures ready { OnOk result (self.new.is_ready ≡ true) }
         ensures ended { self.new.has_ended ≡ self.old.has_ended }
         ensures same { IsSameStream self.old self.new }
@@ -47,13 +48,15 @@ impl Framer {
     fn take_piece<O, S: FrameSink<O>>(
         &mut self,
         piece: &[u8],
+        frame: &mut Frame,
         sink: &mut S,
         out: &mut O,
     ) -> Result<usize, S::Fault>
         requires can { S.can_take sink.old }
         requires going { self.old.has_ended ≡ true → length piece.now ≡ 0 }
         ensures goes { S.can_take sink.new }
-        ensures whole { IfOk result (λ n. Passes S.took self.old sink.old out.old self.new sink.new out.new (take n piece.now)) }
+        ensures whole { IfOk result
+            (λ n. Passes S.took self.old sink.old out.old self.new sink.new out.new (take n piece.now)) }
         ensures part { OnErr result (Breaks S.took S.broke self.old sink.old out.old sink.new out.new piece.now) }
         ensures most { IfOk result (λ n. n ≤ length piece.now) }
         ensures taken { IfOk result (λ n. self.new.taken ≡ self.old.taken + n) }
@@ -63,10 +66,9 @@ impl Framer {
     {
         // Brings the bound on the number of accepted bytes into the proof.
         let _ = self.taken();
-        let mut frame = Frame::new();
         let mut taken = 0;
         loop {
-            if let Err(fault) = self.drain_into(&mut frame, sink, out) {
+            if let Err(fault) = self.drain_into(frame, sink, out) {
                 return Err(fault);
             }
             let next = taken + self.room().min(piece.len() - taken);
@@ -81,7 +83,7 @@ impl Framer {
     }
 
     /// Accepts these bytes up to the limit, passes each frame to the sink as soon as it is decided,
-    /// and flushes the output.
+    /// and flushes the output. `frame` is the buffer of the frames.
     ///
     /// # Errors
     ///
@@ -89,6 +91,7 @@ impl Framer {
     pub fn feed<O, S: FrameSink<O>>(
         &mut self,
         piece: &[u8],
+        frame: &mut Frame,
         sink: &mut S,
         out: &mut O,
     ) -> Result<(), StreamFault<S::Fault>>
@@ -104,7 +107,7 @@ impl Framer {
         ensures ready { OnOk result (self.new.is_ready ≡ true) }
         ensures same { GoesOn self.old self.new (length piece.now) }
     {
-        let taken = match self.take_piece(piece, sink, out) {
+        let taken = match self.take_piece(piece, frame, sink, out) {
             Ok(taken) => taken,
             Err(fault) => return Err(StreamFault::Sink(fault)),
         };

@@ -4,10 +4,12 @@
 //! offset, it is returned, and the scan continues after it; if none can begin there, the scan
 //! continues one byte further; if bytes are missing, it waits for them. So a frame inside a damaged
 //! frame is found. Each byte of a candidate is read once, for every way to cut the stream.
-ghost use Rattle.std.specs.Prelude.{◌≡◌, ◌+◌, ◌-◌, ◌*◌, ◌<◌, ◌≤◌, ◌^◌, ◌⊎◌, ℕ, List, [], ◌∷◌, ◌++◌, min, length, take, true, false, IsTrue, IfOk, OnOk, OnErr, IfErr, IfSome, IfNone, OnSome, ◌↔◌};
+ghost use Rattle.std.specs.Prelude.{◌≡◌, ◌+◌, ◌-◌, ◌*◌, ◌<◌, ◌≤◌, ◌^◌, ◌⊎◌, ℕ, List, [], ◌∷◌, ◌++◌, min, length, take};
+ghost use Rattle.std.specs.Prelude.{true, false, IsTrue, IfOk, OnOk, OnErr, IfErr, IfSome, IfNone, OnSome, ◌↔◌};
 ghost use Rattle.rtcm_scan.specs.Frame.{begins_frame, frame_length, framed_message};
 ghost use Rattle.rtcm_scan.specs.Frames.{Framed};
-ghost use Rattle.rtcm_scan.specs.Scan.{HasFramed, HandsOut, IsScannedOn, most_bytes, first_held, window_of, with_window, with_byte, with_bytes};
+ghost use Rattle.rtcm_scan.specs.Scan.{HasFramed, HandsOut, IsScannedOn, most_bytes, first_held, window_of};
+ghost use Rattle.rtcm_scan.specs.Scan.{with_window, with_byte, with_bytes};
 ghost use Rattle.rtcm_scan.specs.Candidate.{HasTaken};
 ghost use Rattle.rtcm_scan.specs.Examined.{HasExamined, IsCountedExactly, CountsFrame, CountsKnown};
 ghost use Rattle.rtcm_scan.specs.Pending.{asked, HasFrame, with_candidate_examined};
@@ -29,20 +31,20 @@ use thiserror::Error;
 /// Largest number of bytes of a stream, 2^48.
 pub const MOST_BYTES: u64 = 1 << 48;
 
-/// Why a call of a framer failed. The framer is then unchanged.
+/// Why a call of a framer failed. The framer is then unchanged. It is displayed by its name.
 #[derive(Clone, Copy, Debug, PartialEq, Eq, Error)]
 pub enum ScanFault {
     /// Out of memory: the held bytes can't be allocated.
-    #[error("no memory for the window")]
+    #[error("Memory")]
     Memory,
     /// The limit is above 2^48 bytes.
-    #[error("the limit is above 2^48 bytes")]
+    #[error("BadLimit")]
     BadLimit,
     /// The stream is longer than the framer's limit.
-    #[error("the stream is longer than its limit")]
+    #[error("TooLong")]
     TooLong,
     /// The stream has ended.
-    #[error("the stream has ended")]
+    #[error("Ended")]
     Ended,
 }
 
@@ -57,7 +59,7 @@ pub struct Frame {
 
 impl Frame {
     /// Returns an empty buffer for frames.
-    pub(crate) fn new() -> Frame {
+    pub fn new() -> Frame {
         Frame {
             offset: 0,
             message: ArrayVec::new(),
@@ -95,7 +97,8 @@ impl Model for Framer {
 
     ghost view = { λ f. scan_of f.limit f.place f.window f.ended f.drained f.given_up f.candidate.count };
 
-    ghost invariant = { λ f. (f.place + length f.window.bytes ≤ f.limit) × (f.limit ≤ most_bytes) × (f.given_up ≤ f.place)
+    ghost invariant = { λ f. (f.place + length f.window.bytes ≤ f.limit) × (f.limit ≤ most_bytes)
+        × (f.given_up ≤ f.place)
         × (length f.window.bytes ≤ longest_frame) × (f.drained ≡ true → length f.window.bytes < longest_frame)
         × HasTaken f.candidate (take f.candidate.count f.window.bytes) × (f.candidate.count ≤ length f.window.bytes) };
 }
@@ -150,8 +153,10 @@ impl Framer {
     pub fn push(&mut self, byte: u8) -> Result<(), ScanFault>
         requires { IsTrue self.old.is_ready }
         ensures answer { result ≡ push_answer self.old }
-        ensures stands { OnOk result ((b : List ℕ) (fs : List Framed) → HasFramed self.old b fs → HasFramed self.new (b ++ byte ∷ []) fs) }
-        ensures counts { OnOk result ((b : List ℕ) (fs : List Framed) → HasExamined self.old b fs → HasExamined self.new (b ++ byte ∷ []) fs) }
+        ensures stands { OnOk result
+            ((b : List ℕ) (fs : List Framed) → HasFramed self.old b fs → HasFramed self.new (b ++ byte ∷ []) fs) }
+        ensures counts { OnOk result
+            ((b : List ℕ) (fs : List Framed) → HasExamined self.old b fs → HasExamined self.new (b ++ byte ∷ []) fs) }
         ensures ok { OnOk result (self.new ≡ with_byte self.old byte) }
         ensures full { OnErr result (self.old.has_ended ≡ false → self.old.taken ≡ self.old.limit) }
         ensures err { OnErr result (self.new ≡ self.old) }
@@ -180,8 +185,10 @@ impl Framer {
         requires ready { IsTrue self.old.is_ready }
         requires room { length self.old.held + length bytes.now ≤ longest_frame }
         ensures answer { result ≡ push_all_answer self.old (length bytes.now) }
-        ensures stands { OnOk result ((b : List ℕ) (fs : List Framed) → HasFramed self.old b fs → HasFramed self.new (b ++ bytes.now) fs) }
-        ensures counts { OnOk result ((b : List ℕ) (fs : List Framed) → HasExamined self.old b fs → HasExamined self.new (b ++ bytes.now) fs) }
+        ensures stands { OnOk result
+            ((b : List ℕ) (fs : List Framed) → HasFramed self.old b fs → HasFramed self.new (b ++ bytes.now) fs) }
+        ensures counts { OnOk result
+            ((b : List ℕ) (fs : List Framed) → HasExamined self.old b fs → HasExamined self.new (b ++ bytes.now) fs) }
         ensures ok { OnOk result (self.new ≡ with_bytes self.old bytes.now) }
         ensures long { OnErr result (self.old.has_ended ≡ false → self.old.limit < self.old.taken + length bytes.now) }
         ensures err { OnErr result (self.new ≡ self.old) }
@@ -264,7 +271,9 @@ impl Framer {
     /// Returns the next frame that the accepted bytes decide, if there is one.
     pub fn next(&mut self) -> Option<Frame>
         ensures some { IfSome result (λ f. HandsOut self.old self.new (framed f)) }
-        ensures none { IfNone result ((b : List ℕ) (fs : List Framed) → HasFramed self.old b fs → HasFramed self.new b fs × IsDrained self.new b fs) }
+        ensures none { IfNone result
+            ((b : List ℕ) (fs : List Framed) → HasFramed self.old b fs
+            → HasFramed self.new b fs × IsDrained self.new b fs) }
         ensures some_counts { IfSome result (λ f. CountsFrame self.old self.new (framed f)) }
         ensures none_counts { IfNone result (CountsKnown self.old self.new) }
         ensures ready { IfNone result (self.new.is_ready ≡ true) }
@@ -284,8 +293,11 @@ impl Framer {
     /// buffer's content by its message. If there is no frame, the buffer is unchanged.
     pub fn next_into(&mut self, message: &mut ArrayVec<u8, LONGEST_MESSAGE>) -> Option<u64>
         ensures some { IfSome result (λ offset. HandsOut self.old self.new (frame_at offset message.new.items)) }
-        ensures none { IfNone result ((b : List ℕ) (fs : List Framed) → HasFramed self.old b fs → HasFramed self.new b fs × IsDrained self.new b fs) }
-        ensures some_counts { IfSome result (λ offset. CountsFrame self.old self.new (frame_at offset message.new.items)) }
+        ensures none { IfNone result
+            ((b : List ℕ) (fs : List Framed) → HasFramed self.old b fs
+            → HasFramed self.new b fs × IsDrained self.new b fs) }
+        ensures some_counts { IfSome result
+            (λ offset. CountsFrame self.old self.new (frame_at offset message.new.items)) }
         ensures none_counts { IfNone result (CountsKnown self.old self.new) }
         ensures ready { IfNone result (self.new.is_ready ≡ true) }
         ensures room { IfNone result (length self.new.held < longest_frame) }
@@ -306,8 +318,10 @@ impl Framer {
         ensures begins { IfSome result (HasFrame self.new) }
         ensures stands { (b : List ℕ) (fs : List Framed) → HasFramed self.old b fs → HasFramed self.new b fs }
         ensures counts { (b : List ℕ) (fs : List Framed) → HasExamined self.old b fs → HasExamined self.new b fs }
-        ensures none { IfNone result ((b : List ℕ) (fs : List Framed) → HasFramed self.old b fs → IsDrained self.new b fs) }
-        ensures none_counts { IfNone result ((b : List ℕ) (fs : List Framed) → HasExamined self.old b fs → IsCountedExactly self.new b) }
+        ensures none { IfNone result
+            ((b : List ℕ) (fs : List Framed) → HasFramed self.old b fs → IsDrained self.new b fs) }
+        ensures none_counts { IfNone result
+            ((b : List ℕ) (fs : List Framed) → HasExamined self.old b fs → IsCountedExactly self.new b) }
         ensures ready { IfNone result (self.new.is_ready ≡ true) }
         ensures room { IfNone result (length self.new.held < longest_frame) }
         ensures waits { OnSome result (self.new.is_ready ≡ self.old.is_ready) }
@@ -341,7 +355,11 @@ impl Framer {
     /// Drops the byte at the front, which is in no frame.
     fn give_up(&mut self)
         requires { 0 < length self.old.held }
-        ensures { self.new ≡ record (with_window self.old (without_front (window_of self.old) 1) 0) { skipped = self.old.skipped + 1 } }
+        ensures { self.new
+            ≡ record (with_window self.old (without_front (window_of self.old) 1) 0) {
+              skipped = self.old.skipped
+                  + 1;
+            } }
     {
         self.window.drop_front(1);
         self.candidate = Candidate::new();
@@ -369,7 +387,8 @@ impl Framer {
         requires size { size ≡ frame_length self.old.held }
         ensures offset { result ≡ first_held self.old }
         ensures message { message.new.items ≡ framed_message self.old.held }
-        ensures taken { self.new ≡ with_window self.old (without_front (looked_through (window_of self.old) 3 (size - 6)) size) 0 }
+        ensures taken { self.new
+            ≡ with_window self.old (without_front (looked_through (window_of self.old) 3 (size - 6)) size) 0 }
     {
         self.window.hand_over(3, size - 6, message);
         let offset = self.place;

@@ -27,7 +27,8 @@ pub(crate) fn examine(window: &mut Window, candidate: &mut Candidate)
     ensures taken { HasTaken candidate.new (take candidate.new.count window.old.bytes) }
     ensures all { candidate.new.count ≡ min (wanted_by window.old.bytes) (length window.old.bytes) }
     ensures more { candidate.old.count ≤ candidate.new.count }
-    ensures window { window.new ≡ looked_through window.old candidate.old.count (candidate.new.count - candidate.old.count) }
+    ensures window { window.new
+        ≡ looked_through window.old candidate.old.count (candidate.new.count - candidate.old.count) }
     ensures bytes { window.new.bytes ≡ window.old.bytes }
     ensures numbers { (i : ℕ) → slice_index window.old.bytes i < 256 }
 {
@@ -43,7 +44,8 @@ fn examine_header(window: &mut Window, candidate: &mut Candidate)
     ensures within { candidate.new.count ≤ length window.old.bytes }
     ensures all { candidate.new.count < candidate.new.wanted → min (length window.old.bytes) 3 ≤ candidate.new.count }
     ensures more { candidate.old.count ≤ candidate.new.count }
-    ensures window { window.new ≡ looked_through window.old candidate.old.count (candidate.new.count - candidate.old.count) }
+    ensures window { window.new
+        ≡ looked_through window.old candidate.old.count (candidate.new.count - candidate.old.count) }
     ensures bytes { window.new.bytes ≡ window.old.bytes }
 {
     let header = window.held().min(3);
@@ -57,11 +59,13 @@ fn examine_header(window: &mut Window, candidate: &mut Candidate)
 fn examine_rest(window: &mut Window, candidate: &mut Candidate)
     requires taken { HasTaken candidate.old (take candidate.old.count window.old.bytes) }
     requires within { candidate.old.count ≤ length window.old.bytes }
-    requires header { candidate.old.count < candidate.old.wanted → min (length window.old.bytes) 3 ≤ candidate.old.count }
+    requires header { candidate.old.count < candidate.old.wanted
+        → min (length window.old.bytes) 3 ≤ candidate.old.count }
     ensures taken { HasTaken candidate.new (take candidate.new.count window.old.bytes) }
     ensures all { candidate.new.count ≡ asked window.old.bytes }
     ensures more { candidate.old.count ≤ candidate.new.count }
-    ensures window { window.new ≡ looked_through window.old candidate.old.count (candidate.new.count - candidate.old.count) }
+    ensures window { window.new
+        ≡ looked_through window.old candidate.old.count (candidate.new.count - candidate.old.count) }
     ensures bytes { window.new.bytes ≡ window.old.bytes }
     ensures numbers { (i : ℕ) → slice_index window.old.bytes i < 256 }
 {

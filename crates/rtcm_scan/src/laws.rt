@@ -32,7 +32,8 @@ pub fn local()
 
 /// In a stream of frames without other bytes, each frame is found at its offset.
 pub fn joined()
-    ensures { (messages : List (List ℕ)) → FitFrames messages → frames_of (flat_map frame_bytes messages) ≡ placed 0 messages }
+    ensures { (messages : List (List ℕ)) → FitFrames messages
+        → frames_of (flat_map frame_bytes messages) ≡ placed 0 messages }
 {}
 
 /// Decisions are final: the decided frames are a prefix of the frames of every longer stream,
@@ -53,5 +54,6 @@ pub fn undecided()
 
 /// The frames that a framer has returned are a prefix of the known frames.
 pub fn handed()
-    ensures { (v : FramerValue) (b : List ℕ) (fs : List Framed) → HasFramed v b fs → IsPrefix fs (known_frames v.has_ended b) }
+    ensures { (v : FramerValue) (b : List ℕ) (fs : List Framed) → HasFramed v b fs
+        → IsPrefix fs (known_frames v.has_ended b) }
 {}

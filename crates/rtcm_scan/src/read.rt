@@ -1,10 +1,11 @@
 //! A stream that is read to its end.
 ghost use Rattle.std.specs.Prelude.{◌≡◌, ◌+◌, ◌≤◌, ◌<◌, ⊤, true, false, length, OnOk, IfOk, IfErr};
 ghost use Rattle.std.specs.Io.KnownBytes.{Keeps, IsAtEnd};
-ghost use Rattle.rtcm_scan.specs.Passing.{Passes, Breaks, PassesToLimit, PassesAll, BreaksReading, Reads, CountsReads, IsReadingOn, AtFault, UnlessBroken};
+ghost use Rattle.rtcm_scan.specs.Passing.{Passes, PassesToLimit, PassesAll, BreaksAt, BreaksAfter, BreaksReading};
+ghost use Rattle.rtcm_scan.specs.Passing.{Reads, ReadsOn, CountsReads, IsReadingOn, AtFault, UnlessBroken};
 
 use crate::feed::StreamFault;
-use crate::framer::Framer;
+use crate::framer::{Frame, Framer};
 use crate::sink::FrameSink;
 use rtcm_bits::Counted;
 use std::io::Read;
@@ -15,6 +16,7 @@ impl Framer {
         &mut self,
         reader: &mut Counted<R>,
         buffer: &mut [u8],
+        frame: &mut Frame,
         sink: &mut S,
         out: &mut O,
     ) -> Result<usize, StreamFault<S::Fault>>
@@ -23,34 +25,84 @@ impl Framer {
         requires going { self.old.has_ended ≡ false }
         ensures whole { IfOk result (λ n. Reads (R.remaining reader.old.inner) (R.remaining reader.new.inner)
             (λ piece. Passes S.took self.old sink.old out.old self.new sink.new out.new piece × (n ≡ length piece))) }
-        ensures end { IfOk result (λ n. n ≡ 0 → IsAtEnd (R.remaining reader.new.inner)) }
+        ensures end { IfOk result (λ n. (n ≡ 0 → IsAtEnd (R.remaining reader.new.inner)) × (self.new.is_ready ≡ true)) }
         ensures taken { IfOk result (λ n. (self.new.taken ≡ self.old.taken + n) × (self.new.taken ≤ self.old.limit)) }
         ensures fault { IfErr result (λ fault. AtFault fault
-            (Keeps (R.remaining reader.old.inner) (R.remaining reader.new.inner) × (self.new ≡ self.old) × (sink.new ≡ sink.old) × (out.new ≡ out.old))
-            (Reads (R.remaining reader.old.inner) (R.remaining reader.new.inner) (PassesToLimit S.took self.old sink.old out.old self.new sink.new out.new) × S.is_sent out.new)
+            (Keeps (R.remaining reader.old.inner) (R.remaining reader.new.inner)
+            × (self.new ≡ self.old) × (sink.new ≡ sink.old) × (out.new ≡ out.old))
             (Reads (R.remaining reader.old.inner) (R.remaining reader.new.inner)
-            (λ piece. Breaks S.took S.broke self.old sink.old out.old sink.new out.new piece × (length piece ≤ length buffer.old)))) }
+            (PassesToLimit S.took self.old sink.old out.old self.new sink.new out.new) × S.is_sent out.new)
+            (Reads (R.remaining reader.old.inner) (R.remaining reader.new.inner)
+            (BreaksAt S.took S.broke self.old sink.old out.old self.new sink.new out.new (length buffer.old)))) }
         ensures sent { OnOk result (S.is_sent out.new) }
         ensures reader { CountsReads result reader.old reader.new (length buffer.old) }
         ensures same { IsReadingOn S.can_take sink.new self.old self.new (length buffer.old) (length buffer.new) }
     {
-        let n = match reader.read(buffer) {
+        // The piece fits into the buffer beside the held bytes.
+        let room = buffer.len().saturating_sub(self.held()).max(1);
+        let piece = &mut buffer[..room];
+        let n = match reader.read(piece) {
             Ok(n) => n,
             Err(_) => return Err(StreamFault::Read),
         };
-        match self.feed(&buffer[..n], sink, out) {
+        match self.feed(&piece[..n], frame, sink, out) {
             Ok(()) => Ok(n),
             Err(fault) => Err(fault),
         }
     }
 
-    /// Reads to the end of the stream, at most `buffer.len()` bytes at a time, passes each frame to
-    /// the sink as soon as it is decided, and flushes the output after each piece.
+    /// Reads to the end of the stream, passes each frame to the sink as soon as it is decided, and
+    /// flushes the output before the first piece and after each. A piece fits into `buffer` beside
+    /// the held bytes; `frame` is the buffer of the frames. The stream may go on: `finish` ends it.
     ///
     /// # Errors
     ///
     /// `Read` if the reader failed, `TooLong` if the stream goes over the framer's limit, and
     /// `Sink` if the sink failed.
+    pub fn read_pieces<R: Read, O, S: FrameSink<O>>(
+        &mut self,
+        reader: &mut Counted<R>,
+        buffer: &mut [u8],
+        frame: &mut Frame,
+        sink: &mut S,
+        out: &mut O,
+    ) -> Result<(), StreamFault<S::Fault>>
+        requires can { S.can_take sink.old }
+        requires room { 0 < length buffer.old }
+        requires going { self.old.has_ended ≡ false }
+        ensures whole { OnOk result (ReadsOn S.took self.old sink.old out.old self.new sink.new out.new
+            (R.remaining reader.old.inner) (R.remaining reader.new.inner)) }
+        ensures end { OnOk result (IsAtEnd (R.remaining reader.new.inner) × (self.new.is_ready ≡ true)) }
+        ensures fault { IfErr result (λ fault. AtFault fault
+            (ReadsOn S.took self.old sink.old out.old self.new sink.new out.new
+            (R.remaining reader.old.inner) (R.remaining reader.new.inner))
+            (Reads (R.remaining reader.old.inner) (R.remaining reader.new.inner)
+            (PassesToLimit S.took self.old sink.old out.old self.new sink.new out.new))
+            (BreaksAfter S.took S.broke self.old sink.old out.old self.new sink.new out.new (length buffer.old)
+            (R.remaining reader.old.inner) (R.remaining reader.new.inner))) }
+        ensures sent { UnlessBroken result (S.is_sent out.new) }
+        ensures reader { CountsReads result reader.old reader.new (length buffer.old) }
+        ensures same { IsReadingOn S.can_take sink.new self.old self.new (length buffer.old) (length buffer.new) }
+    {
+        // Brings the bound on the number of accepted bytes into the proof.
+        let _ = self.taken();
+        if let Err(fault) = sink.send(out) {
+            return Err(StreamFault::Sink(fault));
+        }
+        loop {
+            match self.read_piece(reader, buffer, frame, sink, out) {
+                Ok(0) => return Ok(()),
+                Ok(_) => {}
+                Err(fault) => return Err(fault),
+            }
+        }
+    }
+
+    /// Reads to the end of the stream as [`read_pieces`](Framer::read_pieces) does, and ends it.
+    ///
+    /// # Errors
+    ///
+    /// Those of `read_pieces`, and `Sink` if the sink failed at the end.
     pub fn read_frames<R: Read, O, S: FrameSink<O>>(
         &mut self,
         reader: &mut Counted<R>,
@@ -64,31 +116,26 @@ impl Framer {
         ensures whole { OnOk result (PassesAll S.took self.old sink.old out.old self.new sink.new out.new
             (R.remaining reader.old.inner) (R.remaining reader.new.inner)) }
         ensures fault { IfErr result (λ fault. AtFault fault
-            (Reads (R.remaining reader.old.inner) (R.remaining reader.new.inner) (Passes S.took self.old sink.old out.old self.new sink.new out.new))
-            (Reads (R.remaining reader.old.inner) (R.remaining reader.new.inner) (PassesToLimit S.took self.old sink.old out.old self.new sink.new out.new))
+            (Reads (R.remaining reader.old.inner) (R.remaining reader.new.inner)
+            (Passes S.took self.old sink.old out.old self.new sink.new out.new))
+            (Reads (R.remaining reader.old.inner) (R.remaining reader.new.inner)
+            (PassesToLimit S.took self.old sink.old out.old self.new sink.new out.new))
             (BreaksReading S.took S.broke self.old sink.old out.old sink.new out.new (length buffer.old)
             (R.remaining reader.old.inner) (R.remaining reader.new.inner))) }
         ensures sent { UnlessBroken result (S.is_sent out.new) }
         ensures reader { CountsReads result reader.old reader.new (length buffer.old) }
         ensures ended { OnOk result (self.new.has_ended ≡ true) }
-        ensures going { IfErr result (λ fault. AtFault fault (self.new.has_ended ≡ false) (self.new.has_ended ≡ false) ⊤) }
+        ensures going { IfErr result
+            (λ fault. AtFault fault (self.new.has_ended ≡ false) (self.new.has_ended ≡ false) ⊤) }
         ensures goes { S.can_take sink.new }
     {
-        // Brings the bound on the number of accepted bytes into the proof.
-        let _ = self.taken();
-        if let Err(fault) = sink.send(out) {
-            return Err(StreamFault::Sink(fault));
-        }
-        loop {
-            match self.read_piece(reader, buffer, sink, out) {
-                Ok(0) => break,
-                Ok(_) => {}
-                Err(fault) => return Err(fault),
-            }
-        }
-        match self.finish(sink, out) {
-            Ok(()) => Ok(()),
-            Err(fault) => Err(StreamFault::Sink(fault)),
+        let mut frame = Frame::new();
+        match self.read_pieces(reader, buffer, &mut frame, sink, out) {
+            Ok(()) => match self.finish(sink, out) {
+                Ok(()) => Ok(()),
+                Err(fault) => Err(StreamFault::Sink(fault)),
+            },
+            Err(fault) => Err(fault),
         }
     }
 }

@@ -465,10 +465,10 @@ fn says(alloc: Global, fault: ScanFault, text: &str) -> Result<bool, AllocError>
 }
 
 static TEXTS: [(ScanFault, &str); 4] = [
-    (ScanFault::Memory, "no memory for the window"),
-    (ScanFault::BadLimit, "the limit is above 2^48 bytes"),
-    (ScanFault::TooLong, "the stream is longer than its limit"),
-    (ScanFault::Ended, "the stream has ended"),
+    (ScanFault::Memory, "Memory"),
+    (ScanFault::BadLimit, "BadLimit"),
+    (ScanFault::TooLong, "TooLong"),
+    (ScanFault::Ended, "Ended"),
 ];
 
 #[test]

@@ -1,17 +1,18 @@
 use Rattle.std.proofs.Common.{◌≡◌, ◌+◌, ◌-◌, ◌≤◌, false, length, max}
-use Rattle.rtcm_scan.specs.Passing.{Passes, Reads}
-use Rattle.rtcm_scan.proofs.framer.Framer.read_frames.Given as goal
+use Rattle.rtcm_scan.specs.Examined.{HasExaminedSome}
+use Rattle.rtcm_scan.specs.Passing.{ReadsOn}
+use Rattle.rtcm_scan.proofs.framer.Framer.read_pieces.Given as goal
 
 abbrev pub invariant-loop-fault : goal.invariant-loop-fault
 invariant-loop-fault g l =
     let remaining = g.R.Read.remaining in
     record {
-      came : Reads (remaining l.fn.reader.inner) (remaining l.reader.inner)
-          (λ front. Passes g.S.FrameSink.took l.fn.self l.fn.sink l.fn.out l.self l.sink l.out front × (l.self.taken ≡ l.fn.self.taken + length front));
+      came : ReadsOn g.S.FrameSink.took l.fn.self l.fn.sink l.fn.out l.self l.sink l.out (remaining l.fn.reader.inner) (remaining l.reader.inner);
       can : g.S.FrameSink.can_take l.sink;
       sent : g.S.FrameSink.is_sent l.out;
       going : l.self.has_ended ≡ false;
       limit : l.self.limit ≡ l.fn.self.limit;
+      some : HasExaminedSome l.fn.self → HasExaminedSome l.self;
       within : l.self.taken ≤ l.fn.self.limit;
       size : length l.buffer ≡ length l.fn.buffer;
       reader : l.reader.failures ≡ l.fn.reader.failures;
