@@ -1,5 +1,5 @@
 -- Bounds of the numbers in columns.
-use Rattle.std.proofs.Common.{[], ℕ, zero, suc, subst, ◌≡◌, ◌+◌, ◌-◌, ◌*◌, ◌^◌, ◌<◌, List, ◌∷◌, length, drop, get_or, Ok, refl, ap, arith, add-one, add-zero, zero-add, add_assoc, replicate}
+use Rattle.std.proofs.Common.{[], ℕ, zero, suc, subst, ◌≡◌, ◌+◌, ◌*◌, ◌^◌, ◌<◌, List, ◌∷◌, length, drop, get_or, Ok, refl, ap, arith, add-one, add-zero, zero-add, add_assoc, replicate}
 use Rattle.std.proofs.Math.Seq.{drop-cons}
 use Rattle.std.proofs.lemmas.Nat.{pow-add, pow_pos}
 use Rattle.rtcm_bits.specs.Reading.{Cursor}

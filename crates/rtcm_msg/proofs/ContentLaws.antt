@@ -1,19 +1,24 @@
 -- The data of one satellite or cell, read field by field.
-use Rattle.std.proofs.Common.{ℕ, ◌≡◌, ◌+◌, ◌*◌, ◌/◌, ◌%◌, ◌^◌, ◌<◌, ◌≤◌, Bool, List, [], ◌∷◌, length, take, drop, refl, ap, ap₂, ◌∙◌, arith, lit<}
+use Rattle.std.proofs.Common.{ℕ, ℤ, w16, w32, w64, to_z, of_z, FitsSigned, ◌≡◌, ◌+◌, ◌*◌, ◌/◌, ◌%◌, ◌^◌, ◌<◌, ◌≤◌, Bool, List, [], ◌∷◌, length, take, drop, refl, ap, ap₂, ◌∙◌, arith, lit<}
 use Rattle.std.proofs.lemmas.Nat.{mod_low, shr_high, pow-add}
 use Rattle.std.proofs.lemmas.List.{length-take}
+use Rattle.std.proofs.lemmas.Int.{ints, to_z-of_z}
 use Rattle.rtcm_bits.specs.BitLaws.{number-fits, pow_mono}
-use Rattle.rtcm_msg.specs.Layout.{Table, width, widths, Contents, content}
+use Rattle.rtcm_msg.specs.Layout.{Table, FieldKind, width, widths, Contents, content}
 use Rattle.rtcm_msg.specs.Packed.{total_width, unpacked}
 use Rattle.rtcm_msg.specs.Fields.{field_at}
 use Rattle.rtcm_msg.specs.Rows.{row_at}
 
--- The contents of item i, when the data of n items begin at a bit.
+-- The contents of item i, when the data of n items begin at a bit; the fields before them have k bits.
+abbrev pub contents_after : (t : Table) → ℕ → List Bool → ℕ → ℕ → ℕ → Contents t
+contents_after [] n bits p k i = tt
+contents_after (f ∷ fs) n bits p k i = (content f.1 (field_at bits (p + n * k + i * width f.1) (width f.1)), contents_after fs n bits p (k + width f.1) i)
+
 abbrev pub contents_at : (t : Table) → ℕ → List Bool → ℕ → ℕ → Contents t
 contents_at [] n bits p i = tt
-contents_at (f ∷ fs) n bits p i = (content f.1 (field_at bits (p + i * width f.1) (width f.1)), contents_at fs n bits (p + n * width f.1) i)
+contents_at (f ∷ fs) n bits p i = (content f.1 (field_at bits (p + i * width f.1) (width f.1)), contents_after fs n bits p (width f.1) i)
 
-field_fits : (bits : List Bool) (p w : ℕ) → field_at bits p w < 2 ^ w
+pub field_fits : (bits : List Bool) (p w : ℕ) → field_at bits p w < 2 ^ w
 field_fits bits p w =
     let few : length (take w (drop p bits)) ≤ w = omega (arith, length-take w (drop p bits)) in
     let fits = number-fits (take w (drop p bits)) in
@@ -39,14 +44,33 @@ row_split (w ∷ ws) n bits p i m =
       rest.2 ∙ rw (pow-add 2 w (total_width ws)) (joined m here (2 ^ w) t rest.0),
     )
 
+first_unpacked : (f : ℕ × FieldKind) (fs : Table) (n : ℕ) (bits : List Bool) (q i m : ℕ) (rest : Contents fs) → unpacked fs (row_at (widths fs) n bits (q + n * width f.1) i (m * 2 ^ width f.1 + field_at bits (q + i * width f.1) (width f.1))) ≡ rest → unpacked (f ∷ fs) (row_at (widths (f ∷ fs)) n bits q i m) ≡ (content f.1 (field_at bits (q + i * width f.1) (width f.1)), rest)
+unfolding row_at
+first_unpacked f fs n bits q i m rest e =
+    let w = width f.1 in
+    let here = field_at bits (q + i * w) w in
+    let k = m * 2 ^ w + here in
+    let after = row_split (widths fs) n bits (q + n * w) i k in
+    let top : row_at (widths fs) n bits (q + n * w) i k / 2 ^ total_width (widths fs) ≡ k = rw after.2 (shr_high k (total_width (widths fs)) after.0 after.1) in
+    let low : k % 2 ^ w ≡ here = mod_low m w here (field_fits bits (q + i * w) w) in
+    ap₂ (λ a b. (content f.1 a, b)) (ap (λ (x : ℕ). x % 2 ^ w) top ∙ low) e
+
+next_place : (p n k w : ℕ) → p + n * k + n * w ≡ p + n * (k + w)
+next_place p n k w = grind arith
+
+unpacked_after : (t : Table) (n : ℕ) (bits : List Bool) (p k i m : ℕ) → unpacked t (row_at (widths t) n bits (p + n * k) i m) ≡ contents_after t n bits p k i
+unfolding row_at
+unpacked_after [] n bits p k i m = refl
+unpacked_after (f ∷ fs) n bits p k i m = first_unpacked f fs n bits (p + n * k) i m (contents_after fs n bits p (k + width f.1) i) (rw (next_place p n k (width f.1)) (unpacked_after fs n bits p (k + width f.1) i _))
+
 pub unpacked_row : (t : Table) (n : ℕ) (bits : List Bool) (p i m : ℕ) → unpacked t (row_at (widths t) n bits p i m) ≡ contents_at t n bits p i
 unfolding row_at
 unpacked_row [] n bits p i m = refl
-unpacked_row (f ∷ fs) n bits p i m =
-    let w = width f.1 in
-    let here = field_at bits (p + i * w) w in
-    let k = m * 2 ^ w + here in
-    let rest = row_split (widths fs) n bits (p + n * w) i k in
-    let top : row_at (widths fs) n bits (p + n * w) i k / 2 ^ total_width (widths fs) ≡ k = rw rest.2 (shr_high k (total_width (widths fs)) rest.0 rest.1) in
-    let low : k % 2 ^ w ≡ here = mod_low m w here (field_fits bits (p + i * w) w) in
-    ap₂ (λ a b. (content f.1 a, b)) (ap (λ (x : ℕ). x % 2 ^ w) top ∙ low) (unpacked_row fs n bits (p + n * w) i k)
+unpacked_row (f ∷ fs) n bits p i m = first_unpacked f fs n bits p i m (contents_after fs n bits p (width f.1) i) (unpacked_after fs n bits p (width f.1) i _)
+
+-- A number in two's complement that was narrowed.
+pub narrow_16 : (z : ℤ) → FitsSigned w16 z → to_z w16 (of_z w16 (to_z w64 (of_z w64 z))) ≡ z
+narrow_16 z f = rw (to_z-of_z w64 z (omega (arith, ints, f))) (to_z-of_z w16 z f)
+
+pub narrow_32 : (z : ℤ) → FitsSigned w32 z → to_z w32 (of_z w32 (to_z w64 (of_z w64 z))) ≡ z
+narrow_32 z f = rw (to_z-of_z w64 z (omega (arith, ints, f))) (to_z-of_z w32 z f)

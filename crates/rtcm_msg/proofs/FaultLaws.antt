@@ -143,11 +143,12 @@ sets_end bits h = elim (fields_read mask_table bits 73 h) [
 pub record Stands (bits : List Bool) (c : Cursor) : Type 0 where
   pub is : c ≡ standing bits c.place
   pub there : c.place ≤ length bits
+  pub after : 64 ≤ c.place
 
-stands_at : (bits : List Bool) (c : Cursor) (place : ℕ) → c ≡ standing bits place → place ≤ length bits → Stands bits c
-stands_at bits c place e h =
+stands_at : (bits : List Bool) (c : Cursor) (place : ℕ) → c ≡ standing bits place → place ≤ length bits → 64 ≤ place → Stands bits c
+stands_at bits c place e h after =
     let same : c.place ≡ place = ap (λ (x : Cursor). x.place) e in
-    record { is = e ∙ ap (standing bits) (sym same); there = rw same h }
+    record { is = e ∙ ap (standing bits) (sym same); there = rw same h; after = rw same after }
 
 header_stands : (bits : List Bool) (h : MsmHeader) (c : Cursor) → 12 ≤ length bits → header_at (standing bits 12) ≡ Ok (h, c) → (c ≡ standing bits 73) × (73 ≤ length bits)
 header_stands bits h c room e = by_end (header_end bits room)
@@ -165,7 +166,7 @@ sets_stand bits s c room e = by_end (sets_end bits room)
     by_end (no_masks f few t is) = absurd (ok_err (s, c) f (masks_at (standing bits 73)) e is)
     by_end (many there over is) = absurd (ok_err (s, c) TooManyCells (masks_at (standing bits 73)) e is)
     by_end (short f few t is) = absurd (ok_err (s, c) f (masks_at (standing bits 73)) e is)
-    by_end (good few there is) = stands_at bits c (169 + pairs_of bits) (ap (λ (x : MasksValue × Cursor). x.1) (ok_inj (s, c) _ (masks_at (standing bits 73)) e is)) there
+    by_end (good few there is) = stands_at bits c (169 + pairs_of bits) (ap (λ (x : MasksValue × Cursor). x.1) (ok_inj (s, c) _ (masks_at (standing bits 73)) e is)) there (omega arith)
 
 pub masks_stand : (bits : List Bool) (h : MsmHeader) (s : MasksValue) (c d : Cursor) → 12 ≤ length bits → header_at (standing bits 12) ≡ Ok (h, c) → masks_at c ≡ Ok (s, d) → Stands bits d
 masks_stand bits h s c d room e f =

@@ -1,5 +1,5 @@
 -- The message of a view is the one that `decode` returns.
-use Rattle.std.proofs.Common.{ℕ, ◌≡◌, ◌+◌, ◌*◌, ◌<◌, ◌≤◌, Bool, List, length, slice_index, Result, Ok, Err, refl, sym, ap, subst, ◌∙◌, replicate, count_ones}
+use Rattle.std.proofs.Common.{ℕ, ◌≡◌, ◌+◌, ◌*◌, ◌^◌, ◌<◌, ◌≤◌, Bool, List, length, slice_index, Result, Ok, Err, refl, sym, ap, subst, ◌∙◌, arith, replicate, count_ones}
 use Rattle.rtcm_bits.specs.Bits.{bits_of}
 use Rattle.rtcm_bits.specs.Reading.{Cursor, advanced, unsigned_at}
 use Rattle.rtcm_bits.specs.BitLaws.{length-bits_of}
@@ -88,6 +88,7 @@ row_value vs ws bytes n place i same h there = ap (λ (us : List ℕ). row_at us
 pub record Found (form : Form) (g : Bool) (bits : List Bool) (c0 : Cursor) (h : MsmHeader) (s : MasksValue) (n place m at : ℕ) : Type 0 where
   pub read : formed_at form g c0 ≡ Ok (message_in form (record { is_galileo = g; header = h; sets = s; satellites = rows_at (satellite_widths form) n bits place; cells = rows_at (cell_widths form) m bits at }))
   pub value : IsValue (satellite_widths form) (cell_widths form) (record { is_galileo = g; header = h; sets = s; satellites = rows_at (satellite_widths form) n bits place; cells = rows_at (cell_widths form) m bits at })
+  pub order : place ≤ at
   pub satellites_there : place + n * total_width (satellite_widths form) ≤ length bits
   pub cells_there : at + m * total_width (cell_widths form) ≤ length bits
 
@@ -114,14 +115,28 @@ found form g bits c0 c1 c2 h s n m at end e f stands there same same2 first room
         satellites = subst (EachBelow (total_width sw)) (sym xs) (columns_fit sw (count_ones s.satellites) (standing bits c2.place) (rows_at sw (count_ones s.satellites) bits c2.place, standing bits at) one);
         cells = subst (EachBelow (total_width cw)) (sym ys) (columns_fit cw (count_ones s.cells) (standing bits at) (rows_at cw (count_ones s.cells) bits at, standing bits end) two);
       };
+      order = omega (arith, end_is sw n (length bits) c2.place at (sym first));
       satellites_there = first_end;
       cells_there = second_end;
     }
 
+-- The message whose data end within the bits, in the terms of the code.
+pub whole : (form : Form) (g : Bool) (bytes sw cw : List ℕ) (c0 c1 c2 : Cursor) (h : MsmHeader) (s : MasksValue) (n m p at end : ℕ) → 12 ≤ 8 * length bytes → c0 ≡ standing (bits_of bytes) 12 → header_at c0 ≡ Ok (h, c1) → masks_at c1 ≡ Ok (s, c2)
+    → p ≡ c2.place → sw ≡ satellite_widths form → cw ≡ cell_widths form → n ≡ s.satellites → m ≡ s.cells → Ok at ≡ end_of_rows sw (count_ones n) (8 * length bytes) p → at ≤ 8 * length bytes → Ok end ≡ end_of_rows cw (count_ones m) (8 * length bytes) at
+    → end ≤ 8 * length bytes → IsHeader h → AreMasks s → Found form g (bits_of bytes) c0 h s (count_ones n) p (count_ones m) at
+whole form g bytes sw cw c0 c1 c2 h s n m p at end number stands e f place sws cws ns ms first room second last is_header are_sets =
+    let bits = bits_of bytes in
+    let there = stood bytes c0 c1 c2 h s number stands e f in
+    let len : 8 * length bytes ≡ length bits = sym (length-bits_of bytes) in
+    let one = moved (Ok at) sw (satellite_widths form) (count_ones n) _ (length bits) p c2.place first sws len place in
+    let two = moved (Ok end) cw (cell_widths form) (count_ones m) _ (length bits) at at second cws len refl in
+    let all = found form g bits c0 c1 c2 h s (count_ones n) (count_ones m) at end e f there.is there.there (ap count_ones ns) (ap count_ones ms) one (rw (← len) room) two (rw (← len) last) is_header are_sets in
+    subst (λ (q : ℕ). Found form g bits c0 h s (count_ones n) q (count_ones m) at) (sym place) all
+
 -- The bounds of the data, counted in bytes.
-pub laid : (form : Form) (bytes : List ℕ) (n place m at : ℕ) → length bytes ≤ 1023 → place + n * total_width (satellite_widths form) ≤ length (bits_of bytes) → at + m * total_width (cell_widths form) ≤ length (bits_of bytes)
+pub laid : (form : Form) (bytes : List ℕ) (n place m at : ℕ) → length bytes ≤ 1023 → 64 ≤ place → place ≤ at → place + n * total_width (satellite_widths form) ≤ length (bits_of bytes) → at + m * total_width (cell_widths form) ≤ length (bits_of bytes)
     → LieWithin form (length bytes) n place m at
-laid form bytes n place m at small first second = record { small = small; satellites_there = rw (← length-bits_of bytes) first; cells_there = rw (← length-bits_of bytes) second }
+laid form bytes n place m at small after order first second = record { small = small; satellites_after = after; cells_after = omega (arith, after, order); satellites_there = rw (← length-bits_of bytes) first; cells_there = rw (← length-bits_of bytes) second }
 
 -- The number of satellites and cells, in either form of the data.
 pub satellites_counted : (form : Form) (n m : ℕ) (d : Data) → AreDataThere form n m d → length (satellite_rows form n d) ≡ n
@@ -131,3 +146,10 @@ satellites_counted form n m (datas.Packed s c) h = h.there.0
 pub cells_counted : (form : Form) (n m : ℕ) (d : Data) → AreDataThere form n m d → length (cell_rows form m d) ≡ m
 cells_counted form n m (datas.Bits bytes at cells_at) h = rows_counted (cell_widths form) bytes.now m cells_at h.there.cells_there
 cells_counted form n m (datas.Packed s c) h = h.there.1
+
+-- The index is less than the number of rows.
+pub below : (i n : ℕ) (xs ys : List ℕ) → length xs ≡ n → xs ≡ ys → i < length ys → i < n
+below i n xs ys count same h = omega (arith, count, ap length same, h)
+
+pub fits : (x y : ℕ) (vs ws : List ℕ) → x ≡ y → vs ≡ ws → x < 2 ^ total_width ws → y < 2 ^ total_width vs
+fits x y vs ws e f h = rw (f, ← e) h

@@ -1,5 +1,6 @@
 -- The cells of a message, as entries.
-use Rattle.std.specs.Prelude.{◌<◌, ◌^◌, IfSome, unsigned_abs, ◌≤◌, ℕ, ℤ, ◌+◌, if◌then◌else◌, Bool, List, [], ◌∷◌, map, slice_index, Option}
+use Rattle.std.specs.Prelude.{◌<◌, ◌^◌, IfSome, unsigned_abs, ◌≤◌, ℕ, ℤ, ◌+◌, if◌then◌else◌, Bool, List, [], ◌∷◌, map}
+use Rattle.std.specs.Prelude.{slice_index, Option}
 use Rattle.std.specs.List.{flat_map, zip, enumerate_from}
 use Rattle.rtcm_bits.specs.Bits.{uint}
 use Rattle.rtcm_msg.specs.declared.message.Message.{Message}
@@ -9,7 +10,6 @@ use Rattle.rtcm_msg.specs.declared.entry.Entry.{Entry}
 use Rattle.rtcm_msg.specs.Msm.{MsmValue, MasksValue, pairs, satellite_mask_bits, signal_mask_bits}
 use Rattle.rtcm_msg.specs.Grid4 as grid4
 use Rattle.rtcm_msg.specs.Grid7 as grid7
-use Rattle.rtcm_msg.specs.declared.grid.Grid.{Ghosts}
 
 -- The items whose bit is set.
 unfoldable pub chosen : {X : Type 0} → List Bool → List X → List X
@@ -37,16 +37,13 @@ seat x g = record { place = x.0; satellite = x.1; signal = g }
 
 -- All pairs, ordered by satellite, then by signal.
 abbrev pub all_pairs : MasksValue → List Seat
-all_pairs s = flat_map (λ x. map (seat x) (ids signal_mask_bits s.signals)) (enumerate_from 0 (ids satellite_mask_bits s.satellites))
+all_pairs s =
+    flat_map (λ x. map (seat x) (ids signal_mask_bits s.signals))
+    (enumerate_from 0 (ids satellite_mask_bits s.satellites))
 
 -- The pairs that have a cell.
 abbrev pub seats : MasksValue → List Seat
 seats s = chosen (uint (pairs s.satellites s.signals) s.cells) (all_pairs s)
-
--- An iteration over the cells: the masks, and the pairs that are left.
-pub record Walk : Type 0 where
-  pub sets : MasksValue
-  pub left : List Seat
 
 -- Bounds of the values of a cell, with `codes` lock time indicators.
 pub record IsEntry (codes : ℕ) (e : Entry) : Type 0 where
@@ -57,21 +54,31 @@ pub record IsEntry (codes : ℕ) (e : Entry) : Type 0 where
   pub lock : e.lock < codes
 
 -- The entry of a cell, for the functions of a grid.
-abbrev pub entry_by : {S C : Type 0} → (ℕ → S) → (ℕ → C) → (S → C → Option ℤ) → (S → C → Option ℤ) → (S → C → Option ℤ) → (C → Option ℕ) → (C → ℕ) → (C → Bool) → List ℕ → Seat × ℕ → Entry
+abbrev pub entry_by : {S C : Type 0} → (ℕ → S) → (ℕ → C) → (S → C → Option ℤ) → (S → C → Option ℤ) → (S → C → Option ℤ)
+    → (C → Option ℕ) → (C → ℕ) → (C → Bool) → List ℕ → Seat × ℕ → Entry
 entry_by satellite_at cell_at range_of phase_of rate_of strength_of lock_of half_cycle_of satellites x =
     let s = satellite_at (slice_index satellites x.0.place) in
     let c = cell_at x.1 in
-    record { satellite = x.0.satellite; signal = x.0.signal; range = range_of s c; phase = phase_of s c; rate = rate_of s c; strength = strength_of c; lock = lock_of c; half_cycle = half_cycle_of c }
-
--- The entry of a cell in a grid, from its data and those of its satellite.
-abbrev pub entry_by_grid : {G Satellite Cell : Type 0} → Ghosts G Satellite Cell → List ℕ → Seat × ℕ → Entry
-entry_by_grid grid = entry_by grid.satellite_at grid.cell_at grid.range_of grid.phase_of grid.rate_of grid.strength_of grid.lock_code_of grid.half_cycle_of
+    record {
+      satellite = x.0.satellite;
+      signal = x.0.signal;
+      range = range_of s c;
+      phase = phase_of s c;
+      rate = rate_of s c;
+      strength = strength_of c;
+      lock = lock_of c;
+      half_cycle = half_cycle_of c;
+    }
 
 abbrev pub entry4 : MsmValue → Seat × ℕ → Entry
-entry4 v = entry_by grid4.satellite_data grid4.cell_data grid4.range_of grid4.phase_of grid4.rate_of grid4.strength_of (λ c. c.lock) (λ c. c.half_cycle) v.satellites
+entry4 v =
+    entry_by grid4.satellite_data grid4.cell_data grid4.range_of grid4.phase_of grid4.rate_of grid4.strength_of
+    (λ c. c.lock) (λ c. c.half_cycle) v.satellites
 
 abbrev pub entry7 : MsmValue → Seat × ℕ → Entry
-entry7 v = entry_by grid7.satellite_data grid7.cell_data grid7.range_of grid7.phase_of grid7.rate_of grid7.strength_of (λ c. c.lock) (λ c. c.half_cycle) v.satellites
+entry7 v =
+    entry_by grid7.satellite_data grid7.cell_data grid7.range_of grid7.phase_of grid7.rate_of grid7.strength_of
+    (λ c. c.lock) (λ c. c.half_cycle) v.satellites
 
 -- The cells of a message in order.
 abbrev pub entries : Message → List Entry

@@ -1,5 +1,6 @@
 -- Fields of a message: numbers of given widths, one after the other.
-use Rattle.std.specs.Prelude.{◌≡◌, ℕ, ◌+◌, nat_lt, if◌then◌else◌, Bool, List, [], ◌∷◌, ◌++◌, length, take, drop, Option, Some, None, Result, Ok, Err}
+use Rattle.std.specs.Prelude.{◌≡◌, ℕ, ◌+◌, nat_lt, if◌then◌else◌, Bool, List, [], ◌∷◌, ◌++◌, length, take, drop, Option}
+use Rattle.std.specs.Prelude.{Some, None, Result, Ok, Err}
 use Rattle.rtcm_bits.specs.Bits.{uint, number}
 use Rattle.rtcm_bits.specs.Reading.{Cursor, advanced, unsigned_at}
 use Rattle.rtcm_msg.specs.Layout.{Table, Contents, width, content}
@@ -51,4 +52,5 @@ number_at w c = if nat_lt (length c.rest) w then Err (Short c.place) else Ok (un
 -- Reads the fields of a table one after the other, then what follows.
 abbrev pub reading : {B : Type 0} (t : Table) → Cursor → (Contents t × Cursor → Result B MsgFault) → Result B MsgFault
 reading [] c next = next (tt, c)
-reading (f ∷ fs) c next = number_at (width f.1) c >>= λ n. reading fs n.1 (λ others. next ((content f.1 n.0, others.0), others.1))
+reading (f ∷ fs) c next =
+    number_at (width f.1) c >>= λ n. reading fs n.1 (λ others. next ((content f.1 n.0, others.0), others.1))

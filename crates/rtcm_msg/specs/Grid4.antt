@@ -1,5 +1,6 @@
 -- The fields of MSM4 for a satellite and for a cell.
-use Rattle.std.specs.Prelude.{ℕ, ℤ, negsuc, ◌^◌, ◌<◌, List, [], ◌∷◌, Bool, not, nat_le, Some, None, Option, if◌then◌else◌}
+use Rattle.std.specs.Prelude.{ℕ, ℤ, negsuc, ◌^◌, ◌<◌, List, [], ◌∷◌, Bool, not, nat_le, Some, None, Option}
+use Rattle.std.specs.Prelude.{if◌then◌else◌}
 use Rattle.std.specs.List.{list_any}
 use Rattle.rtcm_msg.specs.declared.fault.Field.{Field}
 use Rattle.rtcm_msg.specs.Ranges.{fits_int}
@@ -56,7 +57,8 @@ abbrev pub cell_contents : Cell4 → Contents cell_table
 cell_contents c = c.range ▸ c.phase ▸ c.lock ▸ c.half_cycle ▸ c.strength ▸ tt
 
 abbrev pub cell_of : Contents cell_table → Cell4
-cell_of (range, (phase, (lock, (half_cycle, (strength, end))))) = record { range = range; phase = phase; lock = lock; half_cycle = half_cycle; strength = strength }
+cell_of (range, (phase, (lock, (half_cycle, (strength, end))))) =
+    record { range = range; phase = phase; lock = lock; half_cycle = half_cycle; strength = strength }
 
 -- The same packed in one number, and back.
 abbrev pub satellite_number : Satellite4 → ℕ
@@ -73,6 +75,18 @@ cell_data p = cell_of (unpacked cell_table p)
 
 abbrev pub message_number : Bool → ℕ
 message_number is_galileo = if is_galileo then 1094 else 1074
+
+-- A field of a satellite does not fit its bits; the last one for any field that is not named.
+abbrev pub is_bad_satellite : Field → Satellite4 → Bool
+is_bad_satellite fields.RangeWhole x = nat_le (2 ^ 8) x.whole
+is_bad_satellite field x = nat_le (2 ^ 10) x.fraction
+
+-- A field of a cell does not fit its bits; the last one for any field that is not named.
+abbrev pub is_bad_cell : Field → Cell4 → Bool
+is_bad_cell fields.FineRange x = not (fits_int 15 x.range)
+is_bad_cell fields.FinePhase x = not (fits_int 22 x.phase)
+is_bad_cell fields.Lock x = nat_le (2 ^ 4) x.lock
+is_bad_cell field x = nat_le (2 ^ 6) x.strength
 
 abbrev pub satellite_fault : List Satellite4 → Option Field
 satellite_fault xs =

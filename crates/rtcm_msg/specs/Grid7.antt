@@ -1,5 +1,6 @@
 -- The fields of MSM7 for a satellite and for a cell.
-use Rattle.std.specs.Prelude.{ℕ, ℤ, negsuc, ◌^◌, ◌<◌, List, [], ◌∷◌, Bool, not, nat_le, Some, None, Option, if◌then◌else◌}
+use Rattle.std.specs.Prelude.{ℕ, ℤ, negsuc, ◌^◌, ◌<◌, List, [], ◌∷◌, Bool, not, nat_le, Some, None, Option}
+use Rattle.std.specs.Prelude.{if◌then◌else◌}
 use Rattle.std.specs.List.{list_any}
 use Rattle.rtcm_msg.specs.declared.fault.Field.{Field}
 use Rattle.rtcm_msg.specs.Ranges.{fits_int}
@@ -56,13 +57,15 @@ abbrev pub satellite_contents : Satellite7 → Contents satellite_table
 satellite_contents s = s.whole ▸ s.extended ▸ s.fraction ▸ s.rate ▸ tt
 
 abbrev pub satellite_of : Contents satellite_table → Satellite7
-satellite_of (whole, (extended, (fraction, (rate, end)))) = record { whole = whole; extended = extended; fraction = fraction; rate = rate }
+satellite_of (whole, (extended, (fraction, (rate, end)))) =
+    record { whole = whole; extended = extended; fraction = fraction; rate = rate }
 
 abbrev pub cell_contents : Cell7 → Contents cell_table
 cell_contents c = c.range ▸ c.phase ▸ c.lock ▸ c.half_cycle ▸ c.strength ▸ c.rate ▸ tt
 
 abbrev pub cell_of : Contents cell_table → Cell7
-cell_of (range, (phase, (lock, (half_cycle, (strength, (rate, end)))))) = record { range = range; phase = phase; lock = lock; half_cycle = half_cycle; strength = strength; rate = rate }
+cell_of (range, (phase, (lock, (half_cycle, (strength, (rate, end)))))) =
+    record { range = range; phase = phase; lock = lock; half_cycle = half_cycle; strength = strength; rate = rate }
 
 -- The same packed in one number, and back.
 abbrev pub satellite_number : Satellite7 → ℕ
@@ -79,6 +82,21 @@ cell_data p = cell_of (unpacked cell_table p)
 
 abbrev pub message_number : Bool → ℕ
 message_number is_galileo = if is_galileo then 1097 else 1077
+
+-- A field of a satellite does not fit its bits; the last one for any field that is not named.
+abbrev pub is_bad_satellite : Field → Satellite7 → Bool
+is_bad_satellite fields.RangeWhole x = nat_le (2 ^ 8) x.whole
+is_bad_satellite fields.Extended x = nat_le (2 ^ 4) x.extended
+is_bad_satellite fields.RangeFraction x = nat_le (2 ^ 10) x.fraction
+is_bad_satellite field x = not (fits_int 14 x.rate)
+
+-- A field of a cell does not fit its bits; the last one for any field that is not named.
+abbrev pub is_bad_cell : Field → Cell7 → Bool
+is_bad_cell fields.FineRange x = not (fits_int 20 x.range)
+is_bad_cell fields.FinePhase x = not (fits_int 24 x.phase)
+is_bad_cell fields.Lock x = nat_le (2 ^ 10) x.lock
+is_bad_cell fields.Strength x = nat_le (2 ^ 10) x.strength
+is_bad_cell field x = not (fits_int 15 x.rate)
 
 abbrev pub satellite_fault : List Satellite7 → Option Field
 satellite_fault xs =

@@ -1,11 +1,14 @@
 -- Packing and unpacking undo each other.
-use Rattle.std.proofs.Common.{ap, ◌<◌, ℕ, zero, suc, All, get_or, lit≤, ◌≡◌, ◌+◌, ◌^◌, ◌≤◌, refl, arith}
+use Rattle.std.proofs.Common.{ap, ◌<◌, ℕ, All, lit≤, ◌≡◌, ◌+◌, ◌^◌, ◌≤◌, refl}
+use Rattle.std.proofs.lemmas.List.Elements.{All-from_recursion}
 use Rattle.rtcm_msg.specs.declared.grid7.Satellite7.{Satellite7}
 use Rattle.rtcm_msg.specs.declared.grid7.Cell7.{Cell7}
 use Rattle.rtcm_msg.specs.Layout.{Contents}
 use Rattle.rtcm_msg.specs.LayoutLaws.{FitAll, packed_fits, unpacked-packed, unpacked_fit, packed-unpacked}
 use Rattle.rtcm_msg.specs.Packed.{total_width, unpacked}
-use Rattle.rtcm_msg.specs.Grid7.{satellite_table, cell_table, satellite_contents, satellite_of, cell_contents, cell_of, satellite_widths, cell_widths, IsSatelliteData, IsCellData, satellite_number, satellite_data, cell_number, cell_data}
+use Rattle.rtcm_msg.specs.Grid7.{satellite_table, cell_table, satellite_contents, satellite_of, cell_contents, cell_of}
+use Rattle.rtcm_msg.specs.Grid7.{satellite_widths, cell_widths, IsSatelliteData, IsCellData, satellite_number}
+use Rattle.rtcm_msg.specs.Grid7.{satellite_data, cell_number, cell_data}
 
 satellite_fit : (s : Satellite7) → IsSatelliteData s → FitAll satellite_table (satellite_contents s)
 satellite_fit s h = (h.whole, (h.extended, (h.fraction, (h.rate, tt))))
@@ -44,29 +47,11 @@ pub cell_same : (n : ℕ) → n < 2 ^ total_width cell_widths → cell_number (c
 cell_same n h = packed-unpacked cell_table n refl h
 
 pub satellite_widths_few : All (λ w. w ≤ 64) satellite_widths
-satellite_widths_few k d h = few k d h
-  where
-    few : (k d : ℕ) → k < 4 → get_or satellite_widths k d ≤ 64
-    few zero d h = lit≤ tt
-    few (suc zero) d h = lit≤ tt
-    few (suc (suc zero)) d h = lit≤ tt
-    few (suc (suc (suc zero))) d h = lit≤ tt
-    few (suc (suc (suc (suc k)))) d h = absurd (omega arith)
-
-pub satellite_width : total_width satellite_widths ≤ 64
-satellite_width = lit≤ tt
+satellite_widths_few = All-from_recursion (λ w. w ≤ 64) satellite_widths (lit≤ tt, (lit≤ tt, (lit≤ tt, (lit≤ tt, tt))))
 
 pub cell_widths_few : All (λ w. w ≤ 64) cell_widths
-cell_widths_few k d h = few k d h
-  where
-    few : (k d : ℕ) → k < 6 → get_or cell_widths k d ≤ 64
-    few zero d h = lit≤ tt
-    few (suc zero) d h = lit≤ tt
-    few (suc (suc zero)) d h = lit≤ tt
-    few (suc (suc (suc zero))) d h = lit≤ tt
-    few (suc (suc (suc (suc zero)))) d h = lit≤ tt
-    few (suc (suc (suc (suc (suc zero))))) d h = lit≤ tt
-    few (suc (suc (suc (suc (suc (suc k)))))) d h = absurd (omega arith)
+cell_widths_few =
+    All-from_recursion (λ w. w ≤ 64) cell_widths (lit≤ tt, (lit≤ tt, (lit≤ tt, (lit≤ tt, (lit≤ tt, (lit≤ tt, tt))))))
 
 pub cell_width : total_width cell_widths ≤ 128
 cell_width = lit≤ tt

@@ -1,10 +1,12 @@
 -- Contents and their numbers undo each other, field by field and packed in one number.
-use Rattle.std.proofs.Common.{ℕ, ◌≡◌, ◌+◌, ◌*◌, ◌/◌, ◌%◌, ◌^◌, ◌<◌, ◌==◌, ◌&&◌, Bool, true, false, [], ◌∷◌, refl, sym, ◌∙◌, arith, lit<, ◌⊎◌, inl, inr, nat_lt, add_comm}
+use Rattle.std.proofs.Common.{ℕ, ◌≡◌, ◌+◌, ◌*◌, ◌/◌, ◌%◌, ◌^◌, ◌<◌, ◌==◌, ◌&&◌, Bool, true, false, [], ◌∷◌, refl, sym}
+use Rattle.std.proofs.Common.{◌∙◌, arith, lit<, ◌⊎◌, inl, inr, nat_lt, add_comm}
 use Rattle.std.proofs.lemmas.Nat.{mod-pow-add, shr_high, pow-add, pow_pos, mod_below}
 use Rattle.std.proofs.Math.Nat.{add-mul-div_right, add-mul-mod_self_right, mod-eq_of_lt, mul_assoc}
 use Rattle.rtcm_bits.specs.Bits.{bit, FitsInt}
 use Rattle.rtcm_bits.specs.BitLaws.{raw_fits, raw-signed, signed-raw, signed-fits}
-use Rattle.rtcm_msg.specs.Layout.{FieldKind, Uint, Int, Flag, Reserved, Table, width, widths, Content, Contents, number_of, content}
+use Rattle.rtcm_msg.specs.Layout.{FieldKind, Uint, Int, Flag, Reserved, Table, width, widths, Content, Contents}
+use Rattle.rtcm_msg.specs.Layout.{number_of, content}
 use Rattle.rtcm_msg.specs.Packed.{total_width, packed, unpacked}
 
 -- ---- the content of one field
@@ -81,18 +83,21 @@ FitAll (f ∷ fs) cs = FitsKind f.1 cs.0 × FitAll fs cs.1
 below_product : (n p q r : ℕ) → n < p → r < q → n * q + r < p * q
 below_product n p q r h k = grind arith
 
-pub packed_fits : (t : Table) (cs : Contents t) → have_signs t ≡ true → FitAll t cs → packed t cs < 2 ^ total_width (widths t)
+pub packed_fits : (t : Table) (cs : Contents t) → have_signs t ≡ true → FitAll t cs
+    → packed t cs < 2 ^ total_width (widths t)
 packed_fits [] cs signs fit = lit< tt
 packed_fits (f ∷ fs) cs signs fit =
     let n = number_fits f.1 cs.0 (sign_first (has_sign f.1) (have_signs fs) signs) fit.0 in
     let others = packed_fits fs cs.1 (sign_others (has_sign f.1) (have_signs fs) signs) fit.1 in
-    rw (pow-add 2 (width f.1) (total_width (widths fs))) (below_product (number_of f.1 cs.0) (2 ^ width f.1) (2 ^ total_width (widths fs)) (packed fs cs.1) n others)
+    rw (pow-add 2 (width f.1) (total_width (widths fs)))
+    (below_product (number_of f.1 cs.0) (2 ^ width f.1) (2 ^ total_width (widths fs)) (packed fs cs.1) n others)
 
 -- The field above the other ones.
 top_field : (a w t r : ℕ) → (a * 2 ^ (w + t) + r) / 2 ^ t % 2 ^ w ≡ r / 2 ^ t % 2 ^ w
 top_field a w t r =
     let high : a * 2 ^ (w + t) ≡ a * 2 ^ w * 2 ^ t = rw (pow-add 2 w t) (sym (mul_assoc a (2 ^ w) (2 ^ t))) in
-    rw (high, add_comm (a * 2 ^ w * 2 ^ t) r, add-mul-div_right r (a * 2 ^ w) (pow_pos t)) (add-mul-mod_self_right (r / 2 ^ t) a (2 ^ w))
+    rw (high, add_comm (a * 2 ^ w * 2 ^ t) r, add-mul-div_right r (a * 2 ^ w) (pow_pos t))
+    (add-mul-mod_self_right (r / 2 ^ t) a (2 ^ w))
 
 -- Only the low bits are used.
 unpacked_low : (t : Table) (a r : ℕ) → unpacked t (a * 2 ^ total_width (widths t) + r) ≡ unpacked t r
@@ -110,22 +115,35 @@ unpacked-packed (f ∷ fs) cs signs fit =
     let sign = sign_first (has_sign f.1) (have_signs fs) signs in
     let signs' = sign_others (has_sign f.1) (have_signs fs) signs in
     let n = number_of f.1 cs.0 in
-    let top : (n * 2 ^ total_width (widths fs) + packed fs cs.1) / 2 ^ total_width (widths fs) ≡ n = shr_high n (total_width (widths fs)) (packed fs cs.1) (packed_fits fs cs.1 signs' fit.1) in
+    let top : (n * 2 ^ total_width (widths fs) + packed fs cs.1) / 2 ^ total_width (widths fs)
+    ≡ n = shr_high n (total_width (widths fs)) (packed fs cs.1) (packed_fits fs cs.1 signs' fit.1) in
     let same : n % 2 ^ width f.1 ≡ n = mod-eq_of_lt (number_fits f.1 cs.0 sign fit.0) in
-    rw (top, same, content-number f.1 cs.0 sign fit.0, unpacked_low fs n (packed fs cs.1), unpacked-packed fs cs.1 signs' fit.1) refl
+    rw (
+      top,
+      same,
+      content-number f.1 cs.0 sign fit.0,
+      unpacked_low fs n (packed fs cs.1),
+      unpacked-packed fs cs.1 signs' fit.1,
+    ) refl
 
 pub unpacked_fit : (t : Table) (p : ℕ) → have_signs t ≡ true → FitAll t (unpacked t p)
 unpacked_fit [] p signs = tt
-unpacked_fit (f ∷ fs) p signs =
-    (content_fits f.1 (p / 2 ^ total_width (widths fs) % 2 ^ width f.1) (sign_first (has_sign f.1) (have_signs fs) signs) (mod_below (p / 2 ^ total_width (widths fs)) (2 ^ width f.1) (pow_pos (width f.1))), unpacked_fit fs p (sign_others (has_sign f.1) (have_signs fs) signs))
+unpacked_fit (f ∷ fs) p signs = (
+  content_fits f.1 (p / 2 ^ total_width (widths fs) % 2 ^ width f.1)
+      (sign_first (has_sign f.1) (have_signs fs) signs)
+      (mod_below (p / 2 ^ total_width (widths fs)) (2 ^ width f.1) (pow_pos (width f.1))),
+  unpacked_fit fs p (sign_others (has_sign f.1) (have_signs fs) signs),
+)
 
 packed_mod : (t : Table) (p : ℕ) → have_signs t ≡ true → packed t (unpacked t p) ≡ p % 2 ^ total_width (widths t)
 packed_mod [] p signs = omega arith
 packed_mod (f ∷ fs) p signs =
     let w = width f.1 in
     let u = total_width (widths fs) in
-    let one = number-content f.1 (p / 2 ^ u % 2 ^ w) (sign_first (has_sign f.1) (have_signs fs) signs) (mod_below (p / 2 ^ u) (2 ^ w) (pow_pos w)) in
+    let one = number-content f.1 (p / 2 ^ u % 2 ^ w) (sign_first (has_sign f.1) (have_signs fs) signs)
+    (mod_below (p / 2 ^ u) (2 ^ w) (pow_pos w)) in
     rw (one, packed_mod fs p (sign_others (has_sign f.1) (have_signs fs) signs)) (sym (mod-pow-add p w u))
 
-pub packed-unpacked : (t : Table) (p : ℕ) → have_signs t ≡ true → p < 2 ^ total_width (widths t) → packed t (unpacked t p) ≡ p
+pub packed-unpacked : (t : Table) (p : ℕ) → have_signs t ≡ true → p < 2 ^ total_width (widths t)
+    → packed t (unpacked t p) ≡ p
 packed-unpacked t p signs h = packed_mod t p signs ∙ mod-eq_of_lt h

@@ -1,5 +1,6 @@
 -- The values of multiple signal messages.
-use Rattle.std.specs.Prelude.{[], ◌≡◌, ℕ, ◌*◌, ◌^◌, ◌<◌, ◌≤◌, nat_lt, nat_le, if◌then◌else◌, Bool, List, ◌∷◌, ◌++◌, length, Result, Ok, Err, replicate, count_ones}
+use Rattle.std.specs.Prelude.{[], ◌≡◌, ℕ, ◌*◌, ◌^◌, ◌<◌, ◌≤◌, nat_lt, nat_le, if◌then◌else◌, Bool, List, ◌∷◌, ◌++◌}
+use Rattle.std.specs.Prelude.{length, Result, Ok, Err, replicate, count_ones}
 use Rattle.rtcm_bits.specs.Reading.{Cursor}
 use Rattle.rtcm_msg.specs.declared.fault.MsgFault.{MsgFault}
 use Rattle.rtcm_msg.specs.declared.fault.MsgFault.TheVariants.{TooManyCells, BadTime}
@@ -123,15 +124,18 @@ header_contents h reserved = h.more ▸ h.iods ▸ reserved ▸ h.steering ▸ h
 -- The fields before the masks.
 abbrev pub header_fields : ℕ → MsmHeader → ℕ → List (ℕ × ℕ)
 header_fields number h reserved =
-    fields_of number_table (number ▸ tt) ++ (fields_of time_table (time_contents h) ++ fields_of header_table (header_contents h reserved))
+    fields_of number_table (number ▸ tt)
+    ++ (fields_of time_table (time_contents h) ++ fields_of header_table (header_contents h reserved))
 
 abbrev pub mask_fields : MasksValue → List (ℕ × ℕ)
-mask_fields s = fields_of mask_table (s.satellites ▸ s.signals ▸ tt) ++ fields_of (cell_mask_table (pairs s.satellites s.signals)) (s.cells ▸ tt)
+mask_fields s = fields_of mask_table (s.satellites ▸ s.signals ▸ tt)
+    ++ fields_of (cell_mask_table (pairs s.satellites s.signals)) (s.cells ▸ tt)
 
 -- All bits of a message with this number: after the masks the data of satellites, then of cells, each field by field.
 abbrev pub msm_bits : List ℕ → List ℕ → ℕ → MsmValue → ℕ → List Bool
 msm_bits satellite_widths cell_widths number v reserved =
-    spelled (header_fields number v.header reserved) ++ (spelled (mask_fields v.sets) ++ (columns satellite_widths v.satellites ++ columns cell_widths v.cells))
+    spelled (header_fields number v.header reserved)
+    ++ (spelled (mask_fields v.sets) ++ (columns satellite_widths v.satellites ++ columns cell_widths v.cells))
 
 -- ---- reading, after the message number
 
@@ -141,7 +145,16 @@ timely time c = if nat_le week time then Err BadTime else Ok (time, c)
 
 abbrev pub header_of : ℕ → ℕ → Contents header_table → MsmHeader
 header_of station time (more, (iods, (reserved, (steering, (clock, (smoothing, (interval, end))))))) =
-    record { station = station; time = time; more = more; iods = iods; steering = steering; clock = clock; smoothing = smoothing; interval = interval }
+    record {
+      station = station;
+      time = time;
+      more = more;
+      iods = iods;
+      steering = steering;
+      clock = clock;
+      smoothing = smoothing;
+      interval = interval;
+    }
 
 -- The header with this station and time.
 abbrev pub after_time_at : ℕ → ℕ → Cursor → Result (MsmHeader × Cursor) MsgFault
@@ -154,7 +167,8 @@ header_at c = reading time_table c (λ n. timely n.0.1.0 n.1 >>= λ time. after_
 abbrev pub masks_after : ℕ → ℕ → Cursor → Result (MasksValue × Cursor) MsgFault
 masks_after satellites signals c =
     if nat_lt most_pairs (pairs satellites signals) then Err TooManyCells
-    else reading (cell_mask_table (pairs satellites signals)) c (λ cells. Ok (record { satellites = satellites; signals = signals; cells = cells.0.0 }, cells.1))
+    else reading (cell_mask_table (pairs satellites signals)) c
+    (λ cells. Ok (record { satellites = satellites; signals = signals; cells = cells.0.0 }, cells.1))
 
 unfoldable pub masks_at : Cursor → Result (MasksValue × Cursor) MsgFault
 masks_at c = reading mask_table c (λ m. masks_after m.0.0 m.0.1.0 m.1)
@@ -165,4 +179,7 @@ msm_at satellite_widths cell_widths is_galileo c = do
   sets ← masks_at header.1
   satellites ← columns_at satellite_widths (replicate (count_ones sets.0.satellites) 0) sets.1
   cells ← columns_at cell_widths (replicate (count_ones sets.0.cells) 0) satellites.1
-  Ok (record { is_galileo = is_galileo; header = header.0; sets = sets.0; satellites = satellites.0; cells = cells.0 }, cells.1)
+  Ok (
+    record { is_galileo = is_galileo; header = header.0; sets = sets.0; satellites = satellites.0; cells = cells.0 },
+    cells.1,
+  )

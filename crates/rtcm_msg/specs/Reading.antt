@@ -1,5 +1,6 @@
 -- The message that bits are decoded to.
-use Rattle.std.specs.Prelude.{ℕ, ◌%◌, ◌==◌, ◌&&◌, nat_lt, nat_le, if◌then◌else◌, Bool, true, false, List, length, Option, Some, None, Result, Ok}
+use Rattle.std.specs.Prelude.{ℕ, ◌%◌, ◌==◌, ◌&&◌, nat_lt, nat_le, if◌then◌else◌, Bool, true, false, List, length}
+use Rattle.std.specs.Prelude.{Option, Some, None, Result, Ok}
 use Rattle.rtcm_bits.specs.Bits.{bits_of}
 use Rattle.rtcm_bits.specs.Reading.{Cursor, advanced, unsigned_at}
 use Rattle.rtcm_msg.specs.declared.fault.MsgFault.{MsgFault}
@@ -17,10 +18,14 @@ is_any_msm n = nat_le 1071 n && nat_le n 1127 && nat_le 1 (n % 10) && nat_le (n 
 
 -- The station and DF393 of an MSM, after its message number.
 abbrev pub set_at : Cursor → Option (ℕ × Bool)
-set_at c = if nat_lt (length c.rest) 43 then None else Some (unsigned_at 12 c, unsigned_at 1 (advanced (advanced c 12) 30) == 1)
+set_at c = if nat_lt (length c.rest) 43 then None
+    else Some (unsigned_at 12 c, unsigned_at 1 (advanced (advanced c 12) 30) == 1)
+
+abbrev pub set_of : ℕ → Cursor → Option (ℕ × Bool)
+set_of n c = if is_any_msm n then set_at c else None
 
 abbrev pub other_at : ℕ → Cursor → Message
-other_at n c = messages.Other n (if is_any_msm n then set_at c else None)
+other_at n c = messages.Other n (set_of n c)
 
 abbrev pub start : List Bool → Cursor
 start bits = record { place = 0; rest = bits }

@@ -1,5 +1,6 @@
 -- The parts that make a value, and the first fault of others.
-use Rattle.std.specs.Prelude.{ℕ, List, length, ◌^◌, ◌==◌, ◌&&◌, nat_lt, nat_le, if◌then◌else◌, not, Option, Some, None, Result, Ok, Err, count_ones}
+use Rattle.std.specs.Prelude.{ℕ, List, length, ◌^◌, ◌==◌, ◌&&◌, nat_lt, nat_le, if◌then◌else◌, not, Option, Some, None}
+use Rattle.std.specs.Prelude.{Result, Ok, Err, count_ones}
 use Rattle.rtcm_msg.specs.declared.fault.Field.{Field}
 use Rattle.rtcm_msg.specs.declared.header.MsmHeader.{MsmHeader}
 use Rattle.rtcm_msg.specs.declared.station.StationParts.{StationParts}
@@ -58,6 +59,7 @@ msm_refusal h s satellites cells satellite_fault cell_fault =
     else Some faults.CellCount)
 
 -- The fault for which data of satellites and cells are refused; the functions give the first bad field of each.
-abbrev pub data_refusal : {S C : Type 0} → MsmHeader → MasksValue → (List S → Option Field) → List S → (List C → Option Field) → List C → Option ValueFault
+abbrev pub data_refusal : {S C : Type 0} → MsmHeader → MasksValue → (List S → Option Field) → List S
+    → (List C → Option Field) → List C → Option ValueFault
 data_refusal h s satellite_fault satellites cell_fault cells =
     msm_refusal h s (length satellites) (length cells) (satellite_fault satellites) (cell_fault cells)

@@ -1,5 +1,6 @@
 -- The data of satellites or cells at their position in the bits: one field of all, then the next field of all.
-use Rattle.std.specs.Prelude.{ℕ, ◌+◌, ◌-◌, ◌*◌, ◌%◌, ◌^◌, nat_lt, if◌then◌else◌, Bool, List, [], ◌∷◌, Result, Ok, Err, replicate}
+use Rattle.std.specs.Prelude.{ℕ, ◌+◌, ◌-◌, ◌*◌, ◌%◌, ◌^◌, nat_lt, if◌then◌else◌, Bool, List, [], ◌∷◌, Result, Ok, Err}
+use Rattle.std.specs.Prelude.{replicate}
 use Rattle.rtcm_bits.specs.Reading.{Cursor}
 use Rattle.rtcm_msg.specs.declared.fault.MsgFault.{MsgFault}
 use Rattle.rtcm_msg.specs.declared.fault.MsgFault.TheVariants.{Short}
@@ -20,9 +21,11 @@ rows_at widths count bits place = numbers_in (columns_at widths (replicate count
 unfoldable pub end_of_rows : List ℕ → ℕ → ℕ → ℕ → Result ℕ MsgFault
 end_of_rows [] count len place = Ok place
 end_of_rows (w ∷ ws) count len place =
-    if nat_lt len (place + count * w) then Err (Short (len - (len - place) % w)) else end_of_rows ws count len (place + count * w)
+    if nat_lt len (place + count * w) then Err (Short (len - (len - place) % w))
+    else end_of_rows ws count len (place + count * w)
 
 -- The fields of item i, each appended to the bits read of it before.
 unfoldable pub row_at : List ℕ → ℕ → List Bool → ℕ → ℕ → ℕ → ℕ
 row_at [] count bits place i n = n
-row_at (w ∷ ws) count bits place i n = row_at ws count bits (place + count * w) i (n * 2 ^ w + field_at bits (place + i * w) w)
+row_at (w ∷ ws) count bits place i n =
+    row_at ws count bits (place + count * w) i (n * 2 ^ w + field_at bits (place + i * w) w)

@@ -1,5 +1,6 @@
 -- The encodings of messages, the messages of bits, and the faults of bits.
-use Rattle.std.specs.Prelude.{◌≡◌, ℕ, ◌^◌, ◌<◌, ◌≤◌, ◌==◌, ◌||◌, ◌&&◌, nat_lt, nat_le, if◌then◌else◌, Bool, true, false, List, [], ◌∷◌, ◌++◌, length, Option, Some, None, replicate, count_ones, IsTrue, ◌⊎◌}
+use Rattle.std.specs.Prelude.{◌≡◌, ℕ, ◌^◌, ◌<◌, ◌≤◌, ◌==◌, ◌||◌, ◌&&◌, nat_lt, nat_le, if◌then◌else◌, Bool, true, false}
+use Rattle.std.specs.Prelude.{List, [], ◌∷◌, ◌++◌, length, Option, Some, None, replicate, count_ones, IsTrue, ◌⊎◌}
 use Rattle.rtcm_bits.specs.Bits.{bits_of, filled}
 use Rattle.rtcm_msg.specs.declared.fault.MsgFault.{MsgFault}
 use Rattle.rtcm_msg.specs.declared.fault.MsgFault.TheVariants.{Short, TooManyCells, BadTime}
@@ -7,7 +8,8 @@ use Rattle.rtcm_msg.specs.declared.message.Message.{Message}
 use Rattle.rtcm_msg.specs.declared.message.Message.TheVariants.{Station, Msm4, Msm7, Other}
 use Rattle.rtcm_msg.specs.Fields.{spelled, first_past, field_at}
 use Rattle.rtcm_msg.specs.Station.{station_fields, InRange, station_table, height_table}
-use Rattle.rtcm_msg.specs.Msm.{msm_bits, IsValue, pairs, week, time_table, header_table, mask_table, cell_mask_table, satellite_mask_bits, signal_mask_bits, most_pairs}
+use Rattle.rtcm_msg.specs.Msm.{msm_bits, IsValue, pairs, week, time_table, header_table, mask_table, cell_mask_table}
+use Rattle.rtcm_msg.specs.Msm.{satellite_mask_bits, signal_mask_bits, most_pairs}
 use Rattle.rtcm_msg.specs.Layout.{widths, number_table}
 use Rattle.rtcm_msg.specs.Reading.{is_any_msm}
 use Rattle.rtcm_msg.specs.Grid4 as grid4
@@ -36,8 +38,10 @@ reserved_width (Other n set) = 0
 -- The bits of a message with the given reserved bits.
 abbrev pub message_bits : Message → ℕ → List Bool
 message_bits (Station s) reserved = spelled (station_fields s reserved)
-message_bits (Msm4 m) reserved = msm_bits grid4.satellite_widths grid4.cell_widths (grid4.message_number m.is_galileo) m reserved
-message_bits (Msm7 m) reserved = msm_bits grid7.satellite_widths grid7.cell_widths (grid7.message_number m.is_galileo) m reserved
+message_bits (Msm4 m) reserved =
+    msm_bits grid4.satellite_widths grid4.cell_widths (grid4.message_number m.is_galileo) m reserved
+message_bits (Msm7 m) reserved =
+    msm_bits grid7.satellite_widths grid7.cell_widths (grid7.message_number m.is_galileo) m reserved
 message_bits (Other n set) reserved = []
 
 -- The bytes encode the message with reserved bits of 0, padded with zero bits to a byte.
@@ -61,7 +65,8 @@ is_read n = n == 1005 || n == 1006 || is_read_msm n
 
 -- The station and DF393 of a message that isn't decoded.
 abbrev pub set_of : List Bool → Option (ℕ × Bool)
-set_of bits = if is_any_msm (number_of bits) then (if nat_le 55 (length bits) then Some (field_at bits 12 12, field_at bits 54 1 == 1) else None) else None
+set_of bits = if is_any_msm (number_of bits)
+    then (if nat_le 55 (length bits) then Some (field_at bits 12 12, field_at bits 54 1 == 1) else None) else None
 
 -- A message that isn't decoded.
 pub record IsOther (bits : List Bool) (v : Message) : Type 0 where
@@ -94,7 +99,8 @@ msm_layout satellite_widths cell_widths bits =
     let signals = field_at bits 137 signal_mask_bits in
     let width = pairs satellites signals in
     widths (number_table ++ (time_table ++ (header_table ++ (mask_table ++ cell_mask_table width))))
-    ++ (repeated (count_ones satellites) satellite_widths ++ repeated (count_ones (field_at bits 169 width)) cell_widths)
+    ++ (repeated (count_ones satellites) satellite_widths
+    ++ repeated (count_ones (field_at bits 169 width)) cell_widths)
 
 -- The widths for a message with this number.
 abbrev pub layout_of : ℕ → List Bool → List ℕ
@@ -112,7 +118,8 @@ has_bad_time bits = is_read_msm (number_of bits) && nat_le 54 (length bits) && n
 
 abbrev pub has_too_many : List Bool → Bool
 has_too_many bits =
-    is_read_msm (number_of bits) && nat_le 169 (length bits) && nat_lt most_pairs (pairs (field_at bits 73 satellite_mask_bits) (field_at bits 137 signal_mask_bits))
+    is_read_msm (number_of bits) && nat_le 169 (length bits)
+    && nat_lt most_pairs (pairs (field_at bits 73 satellite_mask_bits) (field_at bits 137 signal_mask_bits))
 
 -- The fault of bits that are refused.
 abbrev pub IsFault : List Bool → MsgFault → Type 0

@@ -1,5 +1,6 @@
 -- Messages 1005 and 1006.
-use Rattle.std.specs.Prelude.{ℕ, ◌^◌, ◌<◌, if◌then◌else◌, Bool, true, false, List, [], ◌∷◌, ◌++◌, Option, Some, None, Result, Ok, is_some, IfSome}
+use Rattle.std.specs.Prelude.{ℕ, ◌^◌, ◌<◌, if◌then◌else◌, Bool, true, false, List, [], ◌∷◌, ◌++◌, Option, Some, None}
+use Rattle.std.specs.Prelude.{Result, Ok, is_some, IfSome}
 use Rattle.rtcm_bits.specs.Bits.{FitsInt}
 use Rattle.rtcm_bits.specs.Reading.{Cursor}
 use Rattle.rtcm_msg.specs.declared.fault.MsgFault.{MsgFault}
@@ -33,11 +34,29 @@ height_table =
 -- The contents of the fields of a value, with the reserved bit.
 abbrev pub station_contents : StationParts → ℕ → Contents station_table
 station_contents s reserved =
-    s.station ▸ s.realization ▸ s.gps ▸ s.glonass ▸ s.galileo ▸ s.reference ▸ s.x ▸ s.oscillator ▸ reserved ▸ s.y ▸ s.quarter ▸ s.z ▸ tt
+    s.station ▸ s.realization ▸ s.gps ▸ s.glonass ▸ s.galileo ▸ s.reference ▸ s.x ▸ s.oscillator ▸ reserved ▸ s.y ▸
+    s.quarter ▸ s.z ▸ tt
 
 abbrev pub station_parts : Contents station_table → Option ℕ → StationParts
-station_parts (station, (realization, (gps, (glonass, (galileo, (reference, (x, (oscillator, (reserved, (y, (quarter, (z, end)))))))))))) height =
-    record { station = station; realization = realization; gps = gps; glonass = glonass; galileo = galileo; reference = reference; x = x; oscillator = oscillator; y = y; quarter = quarter; z = z; height = height }
+station_parts (
+  station,
+  (realization, (gps, (glonass, (galileo, (reference, (x, (oscillator, (reserved, (y, (quarter, (z, end))))))))))),
+)
+    height =
+    record {
+      station = station;
+      realization = realization;
+      gps = gps;
+      glonass = glonass;
+      galileo = galileo;
+      reference = reference;
+      x = x;
+      oscillator = oscillator;
+      y = y;
+      quarter = quarter;
+      z = z;
+      height = height;
+    }
 
 abbrev pub height_fields : Option ℕ → List (ℕ × ℕ)
 height_fields None = []
@@ -45,7 +64,8 @@ height_fields (Some h) = fields_of height_table (h ▸ tt)
 
 -- The fields that both messages have.
 abbrev pub common_fields : ℕ → StationParts → ℕ → List (ℕ × ℕ)
-common_fields number s reserved = fields_of number_table (number ▸ tt) ++ fields_of station_table (station_contents s reserved)
+common_fields number s reserved =
+    fields_of number_table (number ▸ tt) ++ fields_of station_table (station_contents s reserved)
 
 -- The fields in order, with the given reserved bit.
 abbrev pub station_fields : StationParts → ℕ → List (ℕ × ℕ)
@@ -68,4 +88,5 @@ height_at false c = Ok (None, c)
 height_at true c = reading height_table c (λ h. Ok (Some h.0.0, h.1))
 
 unfoldable pub station_at : Bool → Cursor → Result (StationParts × Cursor) MsgFault
-station_at has_height c = reading station_table c (λ s. height_at has_height s.1 >>= λ h. Ok (station_parts s.0 h.0, h.1))
+station_at has_height c =
+    reading station_table c (λ s. height_at has_height s.1 >>= λ h. Ok (station_parts s.0 h.0, h.1))

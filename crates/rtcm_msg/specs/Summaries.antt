@@ -13,4 +13,5 @@ abbrev pub summary : Message → Summary
 summary (Station p) = record { station = Some p.station; time = None; more = None; point = Some p }
 summary (Msm4 m) = header_summary m.header
 summary (Msm7 m) = header_summary m.header
-summary (Other number set) = record { station = option_map (λ p. p.0) set; time = None; more = option_map (λ p. p.1) set; point = None }
+summary (Other number set) =
+    record { station = option_map (λ p. p.0) set; time = None; more = option_map (λ p. p.1) set; point = None }

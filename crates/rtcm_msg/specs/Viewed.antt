@@ -1,5 +1,5 @@
 -- The message of a view, and its cells.
-use Rattle.std.specs.Prelude.{ℕ, List}
+use Rattle.std.specs.Prelude.{◌≡◌, ℕ, pos, ◌<◌, List, length, slice_index}
 use Rattle.rtcm_msg.specs.declared.message.Message.{Message}
 use Rattle.rtcm_msg.specs.declared.message.Message.TheVariants as messages
 use Rattle.rtcm_msg.specs.declared.view.View.{View}
@@ -10,9 +10,13 @@ use Rattle.rtcm_msg.specs.declared.entry.Entry.{Entry}
 use Rattle.rtcm_msg.specs.declared.entry.LockField.{LockField}
 use Rattle.rtcm_msg.specs.declared.entry.LockField.TheVariants.{Df402, Df407}
 use Rattle.rtcm_msg.specs.declared.seats.Seat.{Seat}
+use Rattle.rtcm_msg.specs.declared.grid4.Satellite4.{Satellite4}
+use Rattle.rtcm_msg.specs.declared.grid7.Satellite7.{Satellite7}
 use Rattle.rtcm_msg.specs.Msm.{MsmValue}
 use Rattle.rtcm_msg.specs.Entries.{entry4, entry7}
 use Rattle.rtcm_msg.specs.Views.{formed}
+use Rattle.rtcm_msg.specs.Grid4 as grid4
+use Rattle.rtcm_msg.specs.Grid7 as grid7
 
 abbrev pub viewed_message : View → Message
 viewed_message (views.Station s) = messages.Station s
@@ -28,6 +32,19 @@ lock_field forms.Msm7 = Df407
 abbrev pub entry_in : Form → MsmValue → Seat × ℕ → Entry
 entry_in forms.Msm4 v = entry4 v
 entry_in forms.Msm7 v = entry7 v
+
+-- The data of a satellite of MSM4 as those of MSM7, without rate and extended information.
+abbrev pub widened : Satellite4 → Satellite7
+widened s = record { whole = s.whole; extended = 0; fraction = s.fraction; rate = pos 0 }
+
+-- The data of the satellite whose fields are packed in the number, by the form of its message.
+abbrev pub rough : Form → ℕ → Satellite7
+rough forms.Msm4 n = widened (grid4.satellite_data n)
+rough forms.Msm7 n = grid7.satellite_data n
+
+-- The data of the satellite at an index are kept, if there is one.
+abbrev pub Keeps : Form → List ℕ → ℕ → Satellite7 → Type 0
+Keeps form satellites place kept = place < length satellites → kept ≡ rough form (slice_index satellites place)
 
 -- An iteration over the cells of a message of this form: the data of the cells that are left.
 pub record Unread : Type 0 where

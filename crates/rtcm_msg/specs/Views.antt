@@ -46,11 +46,13 @@ formed m = message_in m.form m.msm
 
 -- The result of reading after the message number.
 abbrev pub formed_at : Form → Bool → Cursor → Result Message MsgFault
-formed_at form is_galileo c = msm_at (satellite_widths form) (cell_widths form) is_galileo c >>= λ m. Ok (message_in form m.0)
+formed_at form is_galileo c =
+    msm_at (satellite_widths form) (cell_widths form) is_galileo c >>= λ m. Ok (message_in form m.0)
 
 -- The data of n satellites or cells, the fields of each packed in one number.
 abbrev pub satellite_rows : Form → ℕ → Data → List ℕ
-satellite_rows form n (datas.Bits bytes satellites_at cells_at) = rows_at (satellite_widths form) n (bits_of bytes.now) satellites_at
+satellite_rows form n (datas.Bits bytes satellites_at cells_at) =
+    rows_at (satellite_widths form) n (bits_of bytes.now) satellites_at
 satellite_rows form n (datas.Packed satellites cells) = satellites.now
 
 abbrev pub cell_rows : Form → ℕ → Data → List ℕ
@@ -60,11 +62,14 @@ cell_rows form n (datas.Packed satellites cells) = cells.now
 -- The bytes contain the data of this number of satellites and of cells from these bits on.
 pub record LieWithin (form : Form) (bytes satellites satellites_at cells cells_at : ℕ) : Type 0 where
   pub small : bytes ≤ longest_message
+  pub satellites_after : 64 ≤ satellites_at
+  pub cells_after : 64 ≤ cells_at
   pub satellites_there : satellites_at + satellites * total_width (satellite_widths form) ≤ 8 * bytes
   pub cells_there : cells_at + cells * total_width (cell_widths form) ≤ 8 * bytes
 
 abbrev pub Lie : Form → ℕ → ℕ → Data → Type 0
-Lie form satellites cells (datas.Bits bytes satellites_at cells_at) = LieWithin form (length bytes.now) satellites satellites_at cells cells_at
+Lie form satellites cells (datas.Bits bytes satellites_at cells_at) =
+    LieWithin form (length bytes.now) satellites satellites_at cells cells_at
 Lie form satellites cells (datas.Packed s c) = (length s.now ≡ satellites) × (length c.now ≡ cells)
 
 pub record AreDataThere (form : Form) (satellites cells : ℕ) (rows : Data) : Type 0 where

@@ -1,9 +1,9 @@
-ghost use Rattle.std.specs.Prelude.{◌≡◌, ◌+◌, ◌*◌, ◌^◌, ◌<◌, ◌≤◌, IfOk, length};
-ghost use Rattle.rtcm_bits.specs.Bits.{bits_of, signed, FitsInt};
+ghost use Rattle.std.specs.Prelude.{◌≡◌, ◌+◌, ◌-◌, ◌*◌, ◌^◌, ◌<◌, ◌≤◌, IfOk, length, take, drop};
+ghost use Rattle.rtcm_bits.specs.Bits.{bits_of, uint, signed, FitsInt};
 ghost use Rattle.rtcm_msg.specs.Fields.{GivesViewed, field_at, number_at};
 
 use crate::fault::MsgFault;
-use rtcm_bits::{BitReader, number_at, signed_of};
+use rtcm_bits::{BitReader, signed_of};
 
 /// Reads the next field, of `width` bits.
 ///
@@ -23,15 +23,37 @@ pub(crate) fn field(reader: &mut BitReader, width: u32) -> Result<u64, MsgFault>
     }
 }
 
-/// Returns the two's complement number of `width` bits that begins at bit `place`.
+/// Returns the number in the `width` bits, 1 to 57, from bit `place` on, which is not in the first
+/// eight bytes. The eight bytes that end with the last bit's byte contain them all.
+#[inline(always)]
+pub(crate) fn short_at(bytes: &[u8], place: usize, width: u32) -> u64
+    requires some { 0 < width }
+    requires few { width ≤ 57 }
+    requires there { place + width ≤ 8 * length bytes.now }
+    requires small { 8 * length bytes.now < 2 ^ 63 }
+    requires after { 64 ≤ place }
+    ensures value { result ≡ field_at (bits_of bytes.now) place width }
+    ensures fits { result < 2 ^ width }
+{
+    let end = (place + width as usize + 7) / 8;
+    let skip = place + 64 - 8 * end;
+    let word = &bytes[end - 8..end];
+    let word = u64::from_be_bytes([
+        word[0], word[1], word[2], word[3], word[4], word[5], word[6], word[7],
+    ]);
+    (word << skip) >> (64 - width)
+}
+
+/// Returns the two's complement number of `width` bits, at most 57, that begins at bit `place`.
 #[inline(always)]
 pub(crate) fn signed_at(bytes: &[u8], place: usize, width: u32) -> i64
     requires some { 0 < width }
-    requires few { width ≤ 64 }
+    requires few { width ≤ 57 }
     requires there { place + width ≤ 8 * length bytes.now }
-    requires small { 8 * length bytes.now < 2 ^ 64 }
+    requires small { 8 * length bytes.now < 2 ^ 63 }
+    requires after { 64 ≤ place }
     ensures value { result ≡ signed width (field_at (bits_of bytes.now) place width) }
     ensures fits { FitsInt width result }
 {
-    signed_of(number_at(bytes, place, width), width)
+    signed_of(short_at(bytes, place, width), width)
 }

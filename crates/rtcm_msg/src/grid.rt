@@ -1,4 +1,5 @@
-ghost use Rattle.std.specs.Prelude.{◌≡◌, All, Bool, length, ◌+◌, ◌*◌, ℕ, ℤ, List, ◌^◌, ◌<◌, ◌≤◌, Option, IfNone, IfSome, unsigned_abs};
+ghost use Rattle.std.specs.Prelude.{◌≡◌, ◌+◌, ◌*◌, ◌^◌, ◌<◌, ◌≤◌, ℕ, ℤ, Bool, List, Option, length};
+ghost use Rattle.std.specs.Prelude.{All, IfNone, IfSome, unsigned_abs};
 ghost use Rattle.std.specs.Option.{ForSome};
 ghost use Rattle.rtcm_msg.specs.Fractions.{range_joined, scaled};
 ghost use Rattle.rtcm_msg.specs.Packed.{total_width};
@@ -131,12 +132,12 @@ pub trait Grid {
         ensures { result.now ≡ cell_widths };
 
     /// Returns a satellite's fields in one number, the first field in the most significant bits.
-    fn satellite_number(satellite: &Self::Satellite) -> u64
+    fn satellite_number(satellite: &Self::Satellite) -> u128
         requires { is_satellite satellite.now }
         ensures { result ≡ satellite_packed satellite.now };
 
     /// Returns the satellite whose fields are packed in the number.
-    fn satellite_of(number: u64) -> Self::Satellite
+    fn satellite_of(number: u128) -> Self::Satellite
         requires { number < 2 ^ total_width satellite_widths }
         ensures { result ≡ satellite_at number };
 
@@ -150,36 +151,19 @@ pub trait Grid {
         requires { number < 2 ^ total_width cell_widths }
         ensures { result ≡ cell_at number };
 
-    /// Reads satellite `i` of `count` satellites whose data begin at bit `place`.
-    fn satellite_in(bytes: &[u8], count: usize, place: usize, i: usize) -> Self::Satellite
-        requires there { i < count }
-        requires few { count ≤ satellite_mask_bits }
-        requires within { place + count * total_width satellite_widths ≤ 8 * length bytes.now }
-        requires small { length bytes.now ≤ longest_message }
-        ensures { result ≡ satellite_at (row_at satellite_widths count (bits_of bytes.now) place i 0) };
-
-    /// Reads cell `i` of `count` cells whose data begin at bit `place`.
-    fn cell_in(bytes: &[u8], count: usize, place: usize, i: usize) -> Self::Cell
-        requires there { i < count }
-        requires few { count ≤ most_pairs }
-        requires within { place + count * total_width cell_widths ≤ 8 * length bytes.now }
-        requires small { length bytes.now ≤ longest_message }
-        ensures { result ≡ cell_at (row_at cell_widths count (bits_of bytes.now) place i 0) };
-
     // A field has at most 64 bits, and a satellite or a cell fits its number.
     ghost satellite_widths_few: { All (λ w. w ≤ 64) satellite_widths };
 
     /// So the largest message fits a frame.
     ghost room: { total_width satellite_widths + total_width cell_widths ≤ 124 };
 
-    ghost satellite_width: { total_width satellite_widths ≤ 64 };
-
     ghost cell_widths_few: { All (λ w. w ≤ 64) cell_widths };
 
     ghost cell_width: { total_width cell_widths ≤ 128 };
 
     // Packing and unpacking undo each other.
-    ghost satellite_fits: { (s : Self.Satellite) → is_satellite s → satellite_packed s < 2 ^ total_width satellite_widths };
+    ghost satellite_fits: { (s : Self.Satellite) → is_satellite s
+        → satellite_packed s < 2 ^ total_width satellite_widths };
 
     ghost satellite_back: { (s : Self.Satellite) → is_satellite s → satellite_at (satellite_packed s) ≡ s };
 
@@ -199,6 +183,27 @@ pub trait Grid {
     ghost lock_fits: { (c : Self.Cell) → is_cell c → lock_code_of c < lock_codes };
 }
 
+/// Reads the satellites and cells of a precision from the bytes of a message.
+pub(crate) trait ReadGrid: Grid {
+    /// Reads satellite `i` of `count` satellites whose data begin at bit `place`.
+    fn satellite_in(bytes: &[u8], count: usize, place: usize, i: usize) -> Self::Satellite
+        requires there { i < count }
+        requires few { count ≤ satellite_mask_bits }
+        requires within { place + count * total_width Self.satellite_widths ≤ 8 * length bytes.now }
+        requires small { length bytes.now ≤ longest_message }
+        requires after { 64 ≤ place }
+        ensures { result ≡ Self.satellite_at (row_at Self.satellite_widths count (bits_of bytes.now) place i 0) };
+
+    /// Reads cell `i` of `count` cells whose data begin at bit `place`.
+    fn cell_in(bytes: &[u8], count: usize, place: usize, i: usize) -> Self::Cell
+        requires there { i < count }
+        requires few { count ≤ most_pairs }
+        requires within { place + count * total_width Self.cell_widths ≤ 8 * length bytes.now }
+        requires small { length bytes.now ≤ longest_message }
+        requires after { 64 ≤ place }
+        ensures { result ≡ Self.cell_at (row_at Self.cell_widths count (bits_of bytes.now) place i 0) };
+}
+
 /// Returns a fine part in 2^-31 ms: `number` units of `unit`, or `None` for the invalid number.
 pub(crate) fn scaled(number: i32, invalid: i32, unit: u32) -> Option<i64>
     requires few { unit ≤ 128 }
@@ -206,11 +211,7 @@ pub(crate) fn scaled(number: i32, invalid: i32, unit: u32) -> Option<i64>
     ensures fits { unsigned_abs number * unit ≤ 2 ^ 33 → IfSome result (λ z. unsigned_abs z ≤ 2 ^ 33) }
     ensures small { unsigned_abs number * unit ≤ 2 ^ 26 → IfSome result (λ z. unsigned_abs z ≤ 2 ^ 26) }
 {
-    if number == invalid {
-        None
-    } else {
-        Some(number as i64 * unit as i64)
-    }
+    (number != invalid).then_some(number as i64 * unit as i64)
 }
 
 /// The value of DF397 for an invalid rough range.
@@ -221,16 +222,11 @@ const INVALID_RANGE: u8 = 255;
 pub(crate) fn range_joined(whole: u8, fraction: u16, fine: Option<i64>) -> Option<i64>
     requires fits { ForSome fine (λ z. unsigned_abs z ≤ 2 ^ 33) }
     ensures value { result ≡ range_joined whole fraction fine }
-    ensures bound { fraction < 2 ^ 10 → ForSome fine (λ z. unsigned_abs z ≤ 2 ^ 26) → IfSome result (λ r. unsigned_abs r ≤ 2 ^ 40) }
+    ensures bound { fraction < 2 ^ 10 → ForSome fine (λ z. unsigned_abs z ≤ 2 ^ 26)
+        → IfSome result (λ r. unsigned_abs r ≤ 2 ^ 40) }
 {
-    match fine {
-        None => None,
-        Some(fine) => {
-            if whole == INVALID_RANGE {
-                None
-            } else {
-                Some((whole as u64 * (1 << 31) + fraction as u64 * (1 << 21)) as i64 + fine)
-            }
-        }
+    if whole == INVALID_RANGE {
+        return None;
     }
+    Some((whole as u64 * (1 << 31) + fraction as u64 * (1 << 21)) as i64 + fine?)
 }

@@ -1,12 +1,11 @@
-ghost use Rattle.std.specs.Prelude.{◌≡◌, ◌^◌, nat_le, not};
+ghost use Rattle.std.specs.Prelude.{◌≡◌};
 ghost use Rattle.std.specs.List.{list_any};
-ghost use Rattle.rtcm_msg.specs.Ranges.{fits_int};
 ghost use Rattle.rtcm_msg.specs.Grid4 as grid4;
 
 use crate::fault::Field;
-use crate::field::signed_at;
-use crate::grid::{Grid, range_joined, scaled};
-use rtcm_bits::{number_at, raw_of, signed_of};
+use crate::field::{short_at, signed_at};
+use crate::grid::{Grid, ReadGrid, range_joined, scaled};
+use rtcm_bits::{raw_of, signed_of};
 
 /// Data of a satellite in MSM4.
 #[derive(Clone, Copy, Debug, PartialEq, Eq, Drop)]
@@ -35,49 +34,27 @@ pub struct Cell4 {
 /// The precision of MSM4: messages 1074 and 1094.
 pub struct Grid4;
 
-/// Widths in bits of DF397 and DF398.
-const SATELLITE_WIDTHS: [u32; 2] = [8, 10];
-
-/// Widths in bits of DF400, DF401, DF402, DF420 and DF403.
-const CELL_WIDTHS: [u32; 5] = [15, 22, 4, 1, 6];
-
-// The type bounds this part; from the test the prover knows the bound of each element.
-fn has_bad_range_whole(satellites: &[Satellite4]) -> bool
-    ensures { result ≡ list_any (λ x. nat_le (2 ^ 8) x.whole) satellites.now }
+/// Returns whether a field does not fit its bits in some satellite.
+// The type bounds the first; from the test the prover knows the bound of each element.
+fn has_bad_satellite(satellites: &[Satellite4], field: Field) -> bool
+    ensures { result ≡ list_any (grid4.is_bad_satellite field) satellites.now }
 {
-    satellites.iter().any(|x| x.whole as u16 >= 256)
+    satellites.iter().any(|x| match field {
+        Field::RangeWhole => x.whole as u16 >= 256,
+        _ => x.fraction >= 1024,
+    })
 }
 
-fn has_bad_range_fraction(satellites: &[Satellite4]) -> bool
-    ensures { result ≡ list_any (λ x. nat_le (2 ^ 10) x.fraction) satellites.now }
+/// Returns whether a field does not fit its bits in some cell.
+fn has_bad_cell(cells: &[Cell4], field: Field) -> bool
+    ensures { result ≡ list_any (grid4.is_bad_cell field) cells.now }
 {
-    satellites.iter().any(|x| x.fraction >= 1024)
-}
-
-fn has_bad_fine_range(cells: &[Cell4]) -> bool
-    ensures { result ≡ list_any (λ x. not (fits_int 15 x.range)) cells.now }
-{
-    cells.iter().any(|x| x.range < -16384 || x.range >= 16384)
-}
-
-fn has_bad_fine_phase(cells: &[Cell4]) -> bool
-    ensures { result ≡ list_any (λ x. not (fits_int 22 x.phase)) cells.now }
-{
-    cells
-        .iter()
-        .any(|x| x.phase < -2097152 || x.phase >= 2097152)
-}
-
-fn has_bad_lock(cells: &[Cell4]) -> bool
-    ensures { result ≡ list_any (λ x. nat_le (2 ^ 4) x.lock) cells.now }
-{
-    cells.iter().any(|x| x.lock >= 16)
-}
-
-fn has_bad_strength(cells: &[Cell4]) -> bool
-    ensures { result ≡ list_any (λ x. nat_le (2 ^ 6) x.strength) cells.now }
-{
-    cells.iter().any(|x| x.strength >= 64)
+    cells.iter().any(|x| match field {
+        Field::FineRange => x.range < -16384 || x.range >= 16384,
+        Field::FinePhase => x.phase < -2097152 || x.phase >= 2097152,
+        Field::Lock => x.lock >= 16,
+        _ => x.strength >= 64,
+    })
 }
 
 impl Grid for Grid4 {
@@ -116,29 +93,27 @@ impl Grid for Grid4 {
     ghost cell_fault_of = { grid4.cell_fault };
 
     fn satellite_fault(satellites: &[Satellite4]) -> Option<Field> {
-        if has_bad_range_whole(satellites) {
-            return Some(Field::RangeWhole);
+        if has_bad_satellite(satellites, Field::RangeWhole) {
+            Some(Field::RangeWhole)
+        } else if has_bad_satellite(satellites, Field::RangeFraction) {
+            Some(Field::RangeFraction)
+        } else {
+            None
         }
-        if has_bad_range_fraction(satellites) {
-            return Some(Field::RangeFraction);
-        }
-        None
     }
 
     fn cell_fault(cells: &[Cell4]) -> Option<Field> {
-        if has_bad_fine_range(cells) {
-            return Some(Field::FineRange);
+        if has_bad_cell(cells, Field::FineRange) {
+            Some(Field::FineRange)
+        } else if has_bad_cell(cells, Field::FinePhase) {
+            Some(Field::FinePhase)
+        } else if has_bad_cell(cells, Field::Lock) {
+            Some(Field::Lock)
+        } else if has_bad_cell(cells, Field::Strength) {
+            Some(Field::Strength)
+        } else {
+            None
         }
-        if has_bad_fine_phase(cells) {
-            return Some(Field::FinePhase);
-        }
-        if has_bad_lock(cells) {
-            return Some(Field::Lock);
-        }
-        if has_bad_strength(cells) {
-            return Some(Field::Strength);
-        }
-        None
     }
 
     ghost range_of = { grid4.range_of };
@@ -156,19 +131,13 @@ impl Grid for Grid4 {
     ghost lock_codes = { msm.codes_of Df402 };
 
     fn range(satellite: &Satellite4, cell: &Cell4) -> Option<i64> {
-        range_joined(
-            satellite.whole,
-            satellite.fraction,
-            scaled(cell.range as i32, -16384, 128),
-        )
+        let fine = scaled(cell.range as i32, -16384, 128);
+        range_joined(satellite.whole, satellite.fraction, fine)
     }
 
     fn phase(satellite: &Satellite4, cell: &Cell4) -> Option<i64> {
-        range_joined(
-            satellite.whole,
-            satellite.fraction,
-            scaled(cell.phase, -2097152, 4),
-        )
+        let fine = scaled(cell.phase, -2097152, 4);
+        range_joined(satellite.whole, satellite.fraction, fine)
     }
 
     fn rate(_satellite: &Satellite4, _cell: &Cell4) -> Option<i32> {
@@ -176,11 +145,7 @@ impl Grid for Grid4 {
     }
 
     fn strength(cell: &Cell4) -> Option<u16> {
-        if cell.strength == 0 {
-            None
-        } else {
-            Some(cell.strength as u16 * 16)
-        }
+        (cell.strength != 0).then_some(cell.strength as u16 * 16)
     }
 
     fn lock_code(cell: &Cell4) -> u16 {
@@ -192,18 +157,18 @@ impl Grid for Grid4 {
     }
 
     fn satellite_widths() -> &'static [u32] {
-        &SATELLITE_WIDTHS
+        &[8, 10]
     }
 
     fn cell_widths() -> &'static [u32] {
-        &CELL_WIDTHS
+        &[15, 22, 4, 1, 6]
     }
 
-    fn satellite_number(satellite: &Satellite4) -> u64 {
-        satellite.whole as u64 * 1024 + satellite.fraction as u64
+    fn satellite_number(satellite: &Satellite4) -> u128 {
+        satellite.whole as u128 * 1024 + satellite.fraction as u128
     }
 
-    fn satellite_of(number: u64) -> Satellite4 {
+    fn satellite_of(number: u128) -> Satellite4 {
         Satellite4 {
             whole: (number / 1024 % 256) as u8,
             fraction: (number % 1024) as u16,
@@ -213,10 +178,8 @@ impl Grid for Grid4 {
     fn cell_number(cell: &Cell4) -> u128 {
         let range = raw_of(cell.range as i64, 15);
         let phase = raw_of(cell.phase as i64, 22);
-        (((range as u128 * (1 << 22) + phase as u128) * 16 + cell.lock as u128) * 2
-            + cell.half_cycle as u128)
-            * 64
-            + cell.strength as u128
+        let number = (range as u128 * (1 << 22) + phase as u128) * 16 + cell.lock as u128;
+        (number * 2 + cell.half_cycle as u128) * 64 + cell.strength as u128
     }
 
     fn cell_of(number: u128) -> Cell4 {
@@ -229,37 +192,11 @@ impl Grid for Grid4 {
         }
     }
 
-    #[inline(always)]
-    fn satellite_in(bytes: &[u8], count: usize, place: usize, i: usize) -> Satellite4 {
-        let fractions = place + count * 8;
-        Satellite4 {
-            whole: number_at(bytes, place + i * 8, 8) as u8,
-            fraction: number_at(bytes, fractions + i * 10, 10) as u16,
-        }
-    }
-
-    #[inline(always)]
-    fn cell_in(bytes: &[u8], count: usize, place: usize, i: usize) -> Cell4 {
-        let phases = place + count * 15;
-        let locks = phases + count * 22;
-        let half_cycles = locks + count * 4;
-        let strengths = half_cycles + count * 1;
-        Cell4 {
-            range: signed_at(bytes, place + i * 15, 15) as i16,
-            phase: signed_at(bytes, phases + i * 22, 22) as i32,
-            lock: number_at(bytes, locks + i * 4, 4) as u8,
-            half_cycle: number_at(bytes, half_cycles + i * 1, 1) == 1,
-            strength: number_at(bytes, strengths + i * 6, 6) as u8,
-        }
-    }
-
     ghost use Rattle.rtcm_msg.specs.Grid4Laws as laws;
 
     ghost satellite_widths_few = { laws.satellite_widths_few };
 
     ghost room = { laws.room };
-
-    ghost satellite_width = { laws.satellite_width };
 
     ghost cell_widths_few = { laws.cell_widths_few };
 
@@ -282,4 +219,25 @@ impl Grid for Grid4 {
     ghost cell_same = { laws.cell_same };
 
     ghost lock_fits = { λ c h. h.lock };
+}
+
+impl ReadGrid for Grid4 {
+    #[inline(always)]
+    fn satellite_in(bytes: &[u8], count: usize, place: usize, i: usize) -> Satellite4 {
+        Satellite4 {
+            whole: short_at(bytes, place + i * 8, 8) as u8,
+            fraction: short_at(bytes, place + count * 8 + i * 10, 10) as u16,
+        }
+    }
+
+    #[inline(always)]
+    fn cell_in(bytes: &[u8], count: usize, place: usize, i: usize) -> Cell4 {
+        Cell4 {
+            range: signed_at(bytes, place + i * 15, 15) as i16,
+            phase: signed_at(bytes, place + count * 15 + i * 22, 22) as i32,
+            lock: short_at(bytes, place + count * (15 + 22) + i * 4, 4) as u8,
+            half_cycle: short_at(bytes, place + count * (15 + 22 + 4) + i * 1, 1) == 1,
+            strength: short_at(bytes, place + count * (15 + 22 + 4 + 1) + i * 6, 6) as u8,
+        }
+    }
 }

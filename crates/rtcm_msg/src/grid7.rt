@@ -1,15 +1,14 @@
-ghost use Rattle.std.specs.Prelude.{◌≡◌, ◌^◌, nat_le, not};
+ghost use Rattle.std.specs.Prelude.{◌≡◌};
 ghost use Rattle.std.specs.List.{list_any};
-ghost use Rattle.rtcm_msg.specs.Ranges.{fits_int};
 ghost use Rattle.rtcm_msg.specs.Grid7 as grid7;
 
 use crate::fault::Field;
-use crate::field::signed_at;
-use crate::grid::{Grid, range_joined, scaled};
-use rtcm_bits::{number_at, raw_of, signed_of};
+use crate::field::{short_at, signed_at};
+use crate::grid::{Grid, ReadGrid, range_joined, scaled};
+use rtcm_bits::{raw_of, signed_of};
 
 /// Data of a satellite in MSM7.
-#[derive(Clone, Copy, Debug, PartialEq, Eq, Drop)]
+#[derive(Clone, Copy, Debug, Default, PartialEq, Eq, Drop)]
 pub struct Satellite7 {
     /// Rough range in whole milliseconds, DF397: 8 bits, 255 if invalid.
     pub whole: u8,
@@ -41,67 +40,37 @@ pub struct Cell7 {
 /// The precision of MSM7: messages 1077 and 1097.
 pub struct Grid7;
 
-/// Widths in bits of DF397, the extended satellite information, DF398 and DF399.
-const SATELLITE_WIDTHS: [u32; 4] = [8, 4, 10, 14];
-
-/// Widths in bits of DF405, DF406, DF407, DF420, DF408 and DF404.
-const CELL_WIDTHS: [u32; 6] = [20, 24, 10, 1, 10, 15];
-
-// The type bounds this part; from the test the prover knows the bound of each element.
-fn has_bad_range_whole(satellites: &[Satellite7]) -> bool
-    ensures { result ≡ list_any (λ x. nat_le (2 ^ 8) x.whole) satellites.now }
+/// Returns whether a field does not fit its bits in some satellite.
+// The type bounds the first; from the test the prover knows the bound of each element.
+fn has_bad_satellite(satellites: &[Satellite7], field: Field) -> bool
+    ensures { result ≡ list_any (grid7.is_bad_satellite field) satellites.now }
 {
-    satellites.iter().any(|x| x.whole as u16 >= 256)
+    satellites.iter().any(|x| match field {
+        Field::RangeWhole => x.whole as u16 >= 256,
+        Field::Extended => x.extended >= 16,
+        Field::RangeFraction => x.fraction >= 1024,
+        _ => x.rate < -8192 || x.rate >= 8192,
+    })
 }
 
-fn has_bad_extended(satellites: &[Satellite7]) -> bool
-    ensures { result ≡ list_any (λ x. nat_le (2 ^ 4) x.extended) satellites.now }
+/// Returns whether a field of a cell does not fit its bits.
+fn is_bad_cell(x: &Cell7, field: Field) -> bool
+    ensures { result ≡ grid7.is_bad_cell field x.now }
 {
-    satellites.iter().any(|x| x.extended >= 16)
+    match field {
+        Field::FineRange => x.range < -524288 || x.range >= 524288,
+        Field::FinePhase => x.phase < -8388608 || x.phase >= 8388608,
+        Field::Lock => x.lock >= 1024,
+        Field::Strength => x.strength >= 1024,
+        _ => x.rate < -16384 || x.rate >= 16384,
+    }
 }
 
-fn has_bad_range_fraction(satellites: &[Satellite7]) -> bool
-    ensures { result ≡ list_any (λ x. nat_le (2 ^ 10) x.fraction) satellites.now }
+/// Returns whether a field does not fit its bits in some cell.
+fn has_bad_cell(cells: &[Cell7], field: Field) -> bool
+    ensures { result ≡ list_any (grid7.is_bad_cell field) cells.now }
 {
-    satellites.iter().any(|x| x.fraction >= 1024)
-}
-
-fn has_bad_rough_rate(satellites: &[Satellite7]) -> bool
-    ensures { result ≡ list_any (λ x. not (fits_int 14 x.rate)) satellites.now }
-{
-    satellites.iter().any(|x| x.rate < -8192 || x.rate >= 8192)
-}
-
-fn has_bad_fine_range(cells: &[Cell7]) -> bool
-    ensures { result ≡ list_any (λ x. not (fits_int 20 x.range)) cells.now }
-{
-    cells.iter().any(|x| x.range < -524288 || x.range >= 524288)
-}
-
-fn has_bad_fine_phase(cells: &[Cell7]) -> bool
-    ensures { result ≡ list_any (λ x. not (fits_int 24 x.phase)) cells.now }
-{
-    cells
-        .iter()
-        .any(|x| x.phase < -8388608 || x.phase >= 8388608)
-}
-
-fn has_bad_lock(cells: &[Cell7]) -> bool
-    ensures { result ≡ list_any (λ x. nat_le (2 ^ 10) x.lock) cells.now }
-{
-    cells.iter().any(|x| x.lock >= 1024)
-}
-
-fn has_bad_strength(cells: &[Cell7]) -> bool
-    ensures { result ≡ list_any (λ x. nat_le (2 ^ 10) x.strength) cells.now }
-{
-    cells.iter().any(|x| x.strength >= 1024)
-}
-
-fn has_bad_fine_rate(cells: &[Cell7]) -> bool
-    ensures { result ≡ list_any (λ x. not (fits_int 15 x.rate)) cells.now }
-{
-    cells.iter().any(|x| x.rate < -16384 || x.rate >= 16384)
+    cells.iter().any(|x| is_bad_cell(x, field))
 }
 
 impl Grid for Grid7 {
@@ -140,38 +109,33 @@ impl Grid for Grid7 {
     ghost cell_fault_of = { grid7.cell_fault };
 
     fn satellite_fault(satellites: &[Satellite7]) -> Option<Field> {
-        if has_bad_range_whole(satellites) {
-            return Some(Field::RangeWhole);
+        if has_bad_satellite(satellites, Field::RangeWhole) {
+            Some(Field::RangeWhole)
+        } else if has_bad_satellite(satellites, Field::Extended) {
+            Some(Field::Extended)
+        } else if has_bad_satellite(satellites, Field::RangeFraction) {
+            Some(Field::RangeFraction)
+        } else if has_bad_satellite(satellites, Field::RoughRate) {
+            Some(Field::RoughRate)
+        } else {
+            None
         }
-        if has_bad_extended(satellites) {
-            return Some(Field::Extended);
-        }
-        if has_bad_range_fraction(satellites) {
-            return Some(Field::RangeFraction);
-        }
-        if has_bad_rough_rate(satellites) {
-            return Some(Field::RoughRate);
-        }
-        None
     }
 
     fn cell_fault(cells: &[Cell7]) -> Option<Field> {
-        if has_bad_fine_range(cells) {
-            return Some(Field::FineRange);
+        if has_bad_cell(cells, Field::FineRange) {
+            Some(Field::FineRange)
+        } else if has_bad_cell(cells, Field::FinePhase) {
+            Some(Field::FinePhase)
+        } else if has_bad_cell(cells, Field::Lock) {
+            Some(Field::Lock)
+        } else if has_bad_cell(cells, Field::Strength) {
+            Some(Field::Strength)
+        } else if has_bad_cell(cells, Field::FineRate) {
+            Some(Field::FineRate)
+        } else {
+            None
         }
-        if has_bad_fine_phase(cells) {
-            return Some(Field::FinePhase);
-        }
-        if has_bad_lock(cells) {
-            return Some(Field::Lock);
-        }
-        if has_bad_strength(cells) {
-            return Some(Field::Strength);
-        }
-        if has_bad_fine_rate(cells) {
-            return Some(Field::FineRate);
-        }
-        None
     }
 
     ghost range_of = { grid7.range_of };
@@ -189,37 +153,24 @@ impl Grid for Grid7 {
     ghost lock_codes = { msm.codes_of Df407 };
 
     fn range(satellite: &Satellite7, cell: &Cell7) -> Option<i64> {
-        range_joined(
-            satellite.whole,
-            satellite.fraction,
-            scaled(cell.range as i32, -524288, 4),
-        )
+        let fine = scaled(cell.range, -524288, 4);
+        range_joined(satellite.whole, satellite.fraction, fine)
     }
 
     fn phase(satellite: &Satellite7, cell: &Cell7) -> Option<i64> {
-        range_joined(
-            satellite.whole,
-            satellite.fraction,
-            scaled(cell.phase, -8388608, 1),
-        )
+        let fine = scaled(cell.phase, -8388608, 1);
+        range_joined(satellite.whole, satellite.fraction, fine)
     }
 
     fn rate(satellite: &Satellite7, cell: &Cell7) -> Option<i32> {
-        if satellite.rate == -8192 {
-            return None;
-        }
-        if cell.rate == -16384 {
+        if satellite.rate == -8192 || cell.rate == -16384 {
             return None;
         }
         Some(satellite.rate as i32 * 10000 + cell.rate as i32)
     }
 
     fn strength(cell: &Cell7) -> Option<u16> {
-        if cell.strength == 0 {
-            None
-        } else {
-            Some(cell.strength)
-        }
+        (cell.strength != 0).then_some(cell.strength)
     }
 
     fn lock_code(cell: &Cell7) -> u16 {
@@ -231,27 +182,25 @@ impl Grid for Grid7 {
     }
 
     fn satellite_widths() -> &'static [u32] {
-        &SATELLITE_WIDTHS
+        &[8, 4, 10, 14]
     }
 
     fn cell_widths() -> &'static [u32] {
-        &CELL_WIDTHS
+        &[20, 24, 10, 1, 10, 15]
     }
 
-    fn satellite_number(satellite: &Satellite7) -> u64 {
+    fn satellite_number(satellite: &Satellite7) -> u128 {
         let rate = raw_of(satellite.rate as i64, 14);
-        ((satellite.whole as u64 * 16 + satellite.extended as u64) * 1024
-            + satellite.fraction as u64)
-            * 16384
-            + rate
+        let number = satellite.whole as u128 * 16 + satellite.extended as u128;
+        (number * 1024 + satellite.fraction as u128) * 16384 + rate as u128
     }
 
-    fn satellite_of(number: u64) -> Satellite7 {
+    fn satellite_of(number: u128) -> Satellite7 {
         Satellite7 {
             whole: (number / (1 << 28) % 256) as u8,
             extended: (number / (1 << 24) % 16) as u8,
             fraction: (number / 16384 % 1024) as u16,
-            rate: signed_of(number % 16384, 14) as i16,
+            rate: signed_of((number % 16384) as u64, 14) as i16,
         }
     }
 
@@ -259,12 +208,9 @@ impl Grid for Grid7 {
         let range = raw_of(cell.range as i64, 20);
         let phase = raw_of(cell.phase as i64, 24);
         let rate = raw_of(cell.rate as i64, 15);
-        ((((range as u128 * (1 << 24) + phase as u128) * 1024 + cell.lock as u128) * 2
-            + cell.half_cycle as u128)
-            * 1024
-            + cell.strength as u128)
-            * 32768
-            + rate as u128
+        let number = (range as u128 * (1 << 24) + phase as u128) * 1024 + cell.lock as u128;
+        let number = (number * 2 + cell.half_cycle as u128) * 1024 + cell.strength as u128;
+        number * 32768 + rate as u128
     }
 
     fn cell_of(number: u128) -> Cell7 {
@@ -278,43 +224,11 @@ impl Grid for Grid7 {
         }
     }
 
-    #[inline(always)]
-    fn satellite_in(bytes: &[u8], count: usize, place: usize, i: usize) -> Satellite7 {
-        let extended = place + count * 8;
-        let fractions = extended + count * 4;
-        let rates = fractions + count * 10;
-        Satellite7 {
-            whole: number_at(bytes, place + i * 8, 8) as u8,
-            extended: number_at(bytes, extended + i * 4, 4) as u8,
-            fraction: number_at(bytes, fractions + i * 10, 10) as u16,
-            rate: signed_at(bytes, rates + i * 14, 14) as i16,
-        }
-    }
-
-    #[inline(always)]
-    fn cell_in(bytes: &[u8], count: usize, place: usize, i: usize) -> Cell7 {
-        let phases = place + count * 20;
-        let locks = phases + count * 24;
-        let half_cycles = locks + count * 10;
-        let strengths = half_cycles + count * 1;
-        let rates = strengths + count * 10;
-        Cell7 {
-            range: signed_at(bytes, place + i * 20, 20) as i32,
-            phase: signed_at(bytes, phases + i * 24, 24) as i32,
-            lock: number_at(bytes, locks + i * 10, 10) as u16,
-            half_cycle: number_at(bytes, half_cycles + i * 1, 1) == 1,
-            strength: number_at(bytes, strengths + i * 10, 10) as u16,
-            rate: signed_at(bytes, rates + i * 15, 15) as i16,
-        }
-    }
-
     ghost use Rattle.rtcm_msg.specs.Grid7Laws as laws;
 
     ghost satellite_widths_few = { laws.satellite_widths_few };
 
     ghost room = { laws.room };
-
-    ghost satellite_width = { laws.satellite_width };
 
     ghost cell_widths_few = { laws.cell_widths_few };
 
@@ -337,4 +251,28 @@ impl Grid for Grid7 {
     ghost cell_same = { laws.cell_same };
 
     ghost lock_fits = { λ c h. h.lock };
+}
+
+impl ReadGrid for Grid7 {
+    #[inline(always)]
+    fn satellite_in(bytes: &[u8], count: usize, place: usize, i: usize) -> Satellite7 {
+        Satellite7 {
+            whole: short_at(bytes, place + i * 8, 8) as u8,
+            extended: short_at(bytes, place + count * 8 + i * 4, 4) as u8,
+            fraction: short_at(bytes, place + count * (8 + 4) + i * 10, 10) as u16,
+            rate: signed_at(bytes, place + count * (8 + 4 + 10) + i * 14, 14) as i16,
+        }
+    }
+
+    #[inline(always)]
+    fn cell_in(bytes: &[u8], count: usize, place: usize, i: usize) -> Cell7 {
+        Cell7 {
+            range: signed_at(bytes, place + i * 20, 20) as i32,
+            phase: signed_at(bytes, place + count * 20 + i * 24, 24) as i32,
+            lock: short_at(bytes, place + count * (20 + 24) + i * 10, 10) as u16,
+            half_cycle: short_at(bytes, place + count * (20 + 24 + 10) + i * 1, 1) == 1,
+            strength: short_at(bytes, place + count * (20 + 24 + 10 + 1) + i * 10, 10) as u16,
+            rate: signed_at(bytes, place + count * (20 + 24 + 10 + 1 + 10) + i * 15, 15) as i16,
+        }
+    }
 }

@@ -50,19 +50,15 @@ pub(crate) fn read_header(reader: &mut BitReader) -> Result<MsmHeader, MsgFault>
     let more = field(reader, 1)? == 1;
     let iods = field(reader, 3)? as u8;
     let _reserved = field(reader, 7)?;
-    let steering = field(reader, 2)? as u8;
-    let clock = field(reader, 2)? as u8;
-    let smoothing = field(reader, 1)? == 1;
-    let interval = field(reader, 3)? as u8;
     Ok(MsmHeader {
         station,
         time,
         more,
         iods,
-        steering,
-        clock,
-        smoothing,
-        interval,
+        steering: field(reader, 2)? as u8,
+        clock: field(reader, 2)? as u8,
+        smoothing: field(reader, 1)? == 1,
+        interval: field(reader, 3)? as u8,
     })
 }
 

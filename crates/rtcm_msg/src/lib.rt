@@ -16,7 +16,6 @@ pub mod laws;
 mod masks;
 mod message;
 mod msm;
-mod rows;
 mod seats;
 mod station;
 mod summary;

@@ -17,11 +17,8 @@ pub(crate) const SIGNAL_MASK_BITS: u32 = 32;
 /// Largest number of bits of the cell mask, DF396.
 const MOST_CELL_MASK_BITS: u32 = 64;
 
-/// Largest number of satellites in a message, one for each bit of the satellite mask.
-pub const MOST_SATELLITES: usize = SATELLITE_MASK_BITS as usize;
-
 /// Largest number of pairs of a satellite and a signal, and so of cells in a message.
-pub const MOST_PAIRS: usize = MOST_CELL_MASK_BITS as usize;
+pub(crate) const MOST_PAIRS: usize = MOST_CELL_MASK_BITS as usize;
 
 /// The masks of an MSM: its satellites, its signals, and the pairs of both that have a cell. There
 /// are at most 64 pairs.
@@ -109,10 +106,9 @@ pub(crate) fn read_masks(reader: &mut BitReader) -> Result<Masks, MsgFault>
     if count > MOST_CELL_MASK_BITS {
         return Err(MsgFault::TooManyCells);
     }
-    let cells = field(reader, count)?;
     Ok(Masks {
         satellites,
         signals,
-        cells,
+        cells: field(reader, count)?,
     })
 }

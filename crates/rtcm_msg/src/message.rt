@@ -6,14 +6,14 @@ ghost use Rattle.rtcm_msg.specs.Spelling.{message_bits, is_other, ReadsMessage, 
 ghost use Rattle.rtcm_msg.specs.declared.message.Message.{Message};
 ghost use Rattle.rtcm_msg.specs.declared.fault.MsgFault.{MsgFault};
 ghost use Rattle.rtcm_msg.specs.Viewed.{viewed_message};
-ghost use Rattle.rtcm_msg.specs.Reading.{message_at, set_at, is_any_msm};
+ghost use Rattle.rtcm_msg.specs.Reading.{message_at, set_of};
 ghost use Rattle.rtcm_msg.specs.declared.message.Message.TheVariants as messages;
 
 use crate::fault::MsgFault;
 use crate::grid4::Grid4;
 use crate::grid7::Grid7;
 use crate::msm::{Msm, view_of, write_msm};
-use crate::station::{Station, copy_of};
+use crate::station::Station;
 use crate::view::{Form, View, look};
 use crate::writing::write_station;
 use arrayvec::ArrayVec;
@@ -36,44 +36,18 @@ pub enum Message {
     },
 }
 
-/// Reads the station, DF003, and the multiple message bit, DF393, of an MSM after its message
-/// number. `None` if the message does not contain them.
-pub(crate) fn read_set(reader: &mut BitReader) -> Option<(u16, bool)>
-    ensures { result ≡ set_at reader.old }
+/// Reads the station, DF003, and the multiple message bit, DF393, of an MSM of any type, 1071 to
+/// 1127, after its message number. `None` for another number, or if the message does not contain
+/// them.
+pub(crate) fn read_set(number: u16, reader: &mut BitReader) -> Option<(u16, bool)>
+    ensures { result ≡ set_of number reader.old }
 {
+    if number < 1071 || number > 1127 || number % 10 < 1 || number % 10 > 7 {
+        return None;
+    }
     let station = reader.unsigned(12)? as u16;
     reader.unsigned(30)?;
-    let more = reader.unsigned(1)? == 1;
-    Some((station, more))
-}
-
-/// Returns whether a message number is that of an MSM of any type, 1071 to 1127.
-pub(crate) fn is_any_msm(number: u16) -> bool
-    ensures { result ≡ is_any_msm number }
-{
-    number >= 1071 && number <= 1127 && number % 10 >= 1 && number % 10 <= 7
-}
-
-/// Reads a message through its view.
-fn read_message(bytes: &[u8]) -> Result<Message, MsgFault>
-    ensures { GivesViewed (λ m. m) result (message_at bytes.now) }
-{
-    match look(bytes) {
-        Ok(view) => Ok(view.message()),
-        Err(fault) => Err(fault),
-    }
-}
-
-/// Returns the bytes up to the length of the longest message. No field ends after it.
-pub(crate) fn front(bytes: &[u8]) -> &[u8]
-    ensures few { length result.now ≤ longest_message }
-    ensures same { message_at result.now ≡ message_at bytes.now }
-{
-    if bytes.len() > LONGEST_MESSAGE {
-        &bytes[..LONGEST_MESSAGE]
-    } else {
-        bytes
-    }
+    Some((station, reader.unsigned(1)? == 1))
 }
 
 /// Decodes a message. Reserved bits and bits after the last field are ignored. Each number other
@@ -93,7 +67,7 @@ pub fn decode(bytes: &[u8]) -> Result<Message, MsgFault>
     ensures fault { IfErr result (IsFault (bits_of bytes.now)) }
     ensures only_fault { (f : MsgFault) → IsFault (bits_of bytes.now) f → result ≡ Err f }
 {
-    read_message(bytes)
+    look(bytes).map(View::message)
 }
 
 impl Message {
@@ -102,7 +76,7 @@ impl Message {
         ensures { viewed_message result ≡ self.now }
     {
         match self {
-            Message::Station(station) => View::Station(copy_of(station)),
+            Message::Station(station) => View::Station(*station),
             Message::Msm4(msm) => View::Msm(view_of(msm, Form::Msm4)),
             Message::Msm7(msm) => View::Msm(view_of(msm, Form::Msm7)),
             Message::Other { number, set } => View::Other {

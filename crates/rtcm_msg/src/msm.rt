@@ -1,4 +1,5 @@
-ghost use Rattle.std.specs.Prelude.{◌≡◌, ◌<◌, ◌^◌, All, map, IfErr, Some, None, ◌++◌, ◌≤◌, IfOk, length, slice_index, count_ones};
+ghost use Rattle.std.specs.Prelude.{◌≡◌, ◌<◌, ◌^◌, ◌++◌, ◌≤◌, All, map, length, slice_index, count_ones};
+ghost use Rattle.std.specs.Prelude.{Some, None, IfOk, IfErr};
 ghost use Rattle.rtcm_msg.specs.Msm.{IsHeader, msm_bits, msm_of_parts, IsValue, satellite_mask_bits, most_pairs};
 ghost use Rattle.rtcm_msg.specs.Packed.{total_width};
 ghost use Rattle.rtcm_msg.specs.Refusals.{data_refusal};
@@ -6,9 +7,9 @@ ghost use Rattle.rtcm_msg.specs.Columns.{EachBelow};
 ghost use Rattle.rtcm_msg.specs.Views as views;
 
 use crate::fault::ValueFault;
-use crate::grid::Grid;
+use crate::grid::{Grid, ReadGrid};
 use crate::header::{MsmHeader, WEEK, header_fault};
-use crate::masks::{MOST_PAIRS, MOST_SATELLITES, Masks};
+use crate::masks::{MOST_PAIRS, Masks};
 use crate::view::{Data, Form, MsmView};
 use crate::writing::{write_columns, write_header, write_masks};
 use arrayvec::ArrayVec;
@@ -23,20 +24,20 @@ pub struct Msm<G: Grid> {
     is_galileo: bool,
     header: MsmHeader,
     masks: Masks,
-    satellites: ArrayVec<u64, MOST_SATELLITES>,
+    satellites: ArrayVec<u128, MOST_PAIRS>,
     cells: ArrayVec<u128, MOST_PAIRS>,
     grid: PhantomData<G>,
 }
 
 impl<G: Grid> Model for Msm<G> {
-    ghost use Rattle.rtcm_msg.specs.Msm.{MsmValue, IsValue};
+    ghost use Rattle.rtcm_msg.specs.Msm.{MsmValue, IsValue, msm_of_parts};
 
     ghost Value = { MsmValue };
 
-    ghost view = { λ m. record { is_galileo = m.is_galileo; header = m.header; sets = m.masks; satellites = m.satellites.items; cells = m.cells.items } };
+    ghost view = { λ m. msm_of_parts m.is_galileo m.header m.masks m.satellites.items m.cells.items };
 
     ghost invariant = { λ m. IsValue G.satellite_widths G.cell_widths
-        (record { is_galileo = m.is_galileo; header = m.header; sets = m.masks; satellites = m.satellites.items; cells = m.cells.items }) };
+        (msm_of_parts m.is_galileo m.header m.masks m.satellites.items m.cells.items) };
 }
 
 impl<G: Grid> Msm<G> {
@@ -70,13 +71,8 @@ impl<G: Grid> Msm<G> {
         {
             return Err(ValueFault::CellCount);
         }
-        if let Some(field) = header_fault(&header) {
-            return Err(ValueFault::OutOfRange(field));
-        }
-        if let Some(field) = G::satellite_fault(satellites) {
-            return Err(ValueFault::OutOfRange(field));
-        }
-        if let Some(field) = G::cell_fault(cells) {
+        let fault = G::satellite_fault(satellites).or(G::cell_fault(cells));
+        if let Some(field) = header_fault(&header).or(fault) {
             return Err(ValueFault::OutOfRange(field));
         }
         Ok(Msm {
@@ -155,7 +151,7 @@ impl<G: Grid> Msm<G> {
 }
 
 /// Returns the satellites of a view, the fields of each packed in one number.
-fn satellites_of<G: Grid>(view: &MsmView<'_>) -> ArrayVec<u64, MOST_SATELLITES>
+fn satellites_of<G: ReadGrid>(view: &MsmView<'_>) -> ArrayVec<u128, MOST_PAIRS>
     requires { G.satellite_widths ≡ views.satellite_widths view.now.form }
     ensures { result.items ≡ view.now.msm.satellites }
 {
@@ -167,7 +163,7 @@ fn satellites_of<G: Grid>(view: &MsmView<'_>) -> ArrayVec<u64, MOST_SATELLITES>
 }
 
 /// Returns the cells of a view, the fields of each packed in one number.
-fn cells_of<G: Grid>(view: &MsmView<'_>) -> ArrayVec<u128, MOST_PAIRS>
+fn cells_of<G: ReadGrid>(view: &MsmView<'_>) -> ArrayVec<u128, MOST_PAIRS>
     requires { G.cell_widths ≡ views.cell_widths view.now.form }
     ensures { result.items ≡ view.now.msm.cells }
 {
@@ -191,15 +187,12 @@ pub(crate) fn view_of<G: Grid>(msm: &Msm<G>, form: Form) -> MsmView<'_>
         masks: msm.masks,
         satellites: msm.satellites.len(),
         cells: msm.cells.len(),
-        rows: Data::Packed {
-            satellites: msm.satellites.as_slice(),
-            cells: msm.cells.as_slice(),
-        },
+        rows: Data::Packed(msm.satellites.as_slice(), msm.cells.as_slice()),
     }
 }
 
 /// Returns the message of a view in the precision `G`.
-pub(crate) fn msm_of<G: Grid>(view: &MsmView<'_>) -> Msm<G>
+pub(crate) fn msm_of<G: ReadGrid>(view: &MsmView<'_>) -> Msm<G>
     requires satellites { G.satellite_widths ≡ views.satellite_widths view.now.form }
     requires cells { G.cell_widths ≡ views.cell_widths view.now.form }
     ensures { result ≡ view.now.msm }
@@ -215,35 +208,21 @@ pub(crate) fn msm_of<G: Grid>(view: &MsmView<'_>) -> Msm<G>
     }
 }
 
-/// Returns the numbers as numbers of 128 bits.
-fn widen(numbers: &ArrayVec<u64, MOST_SATELLITES>) -> ArrayVec<u128, MOST_PAIRS>
-    ensures { result.items ≡ numbers.now.items }
-{
-    let mut wide = ArrayVec::new();
-    for number in numbers.as_slice() {
-        wide.push(*number as u128);
-    }
-    wide
-}
-
 /// Writes an MSM with its message number, with reserved bits of zero.
 pub(crate) fn write_msm<G: Grid>(writer: &mut BitWriter, msm: &Msm<G>)
     requires { length writer.old ≡ 0 }
     ensures value { IsValue G.satellite_widths G.cell_widths msm.now }
-    ensures bits { writer.new ≡ writer.old ++ msm_bits G.satellite_widths G.cell_widths (G.number_of msm.now.is_galileo) msm.now 0 }
+    ensures bits { writer.new ≡ writer.old
+        ++ msm_bits G.satellite_widths G.cell_widths (G.number_of msm.now.is_galileo) msm.now 0 }
 {
     write_header(writer, G::number_of(msm.is_galileo), &msm.header);
     write_masks(writer, &msm.masks);
-    write_columns(
-        writer,
-        G::satellite_widths(),
-        widen(&msm.satellites).as_slice(),
-    );
+    write_columns(writer, G::satellite_widths(), msm.satellites.as_slice());
     write_columns(writer, G::cell_widths(), msm.cells.as_slice());
 }
 
 /// Packs the fields of each satellite into one number.
-fn pack_satellites<G: Grid>(satellites: &[G::Satellite]) -> ArrayVec<u64, MOST_SATELLITES>
+fn pack_satellites<G: Grid>(satellites: &[G::Satellite]) -> ArrayVec<u128, MOST_PAIRS>
     requires few { length satellites.now ≤ satellite_mask_bits }
     requires in_range { All G.is_satellite satellites.now }
     ensures items { result.items ≡ map G.satellite_packed satellites.now }

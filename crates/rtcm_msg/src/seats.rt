@@ -2,14 +2,13 @@ ghost use Rattle.std.specs.Prelude.{[], ◌≡◌, ◌<◌, ◌≤◌, ◌^◌, 
 ghost use Rattle.rtcm_bits.specs.Bits.{uint};
 ghost use Rattle.rtcm_msg.specs.Msm.{most_pairs};
 ghost use Rattle.rtcm_msg.specs.Entries.{ids, seats, chosen};
-ghost use Rattle.rtcm_msg.specs.Walks.{pairs_left, IsWalking, ArePlaced, SplitsCells};
+ghost use Rattle.rtcm_msg.specs.Walks.{pairs_left, AreLeft, IsWalking, ArePlaced, SplitsCells};
 
 use crate::masks::{Masks, SATELLITE_MASK_BITS, SIGNAL_MASK_BITS};
-use std::marker::Model;
 
 /// The satellite and the signal of a cell.
 #[derive(Clone, Copy, Debug, PartialEq, Eq, Default)]
-pub struct Seat {
+pub(crate) struct Seat {
     /// The index of the satellite among the message's satellites.
     pub place: usize,
     /// The satellite's ID, from 1 to 64.
@@ -34,7 +33,7 @@ fn split_first(mask: u64, width: u32) -> (u8, u64)
 /// signals that are left, and those of the other satellites with all signals. In a set of IDs, the
 /// highest bit is the first ID.
 #[derive(Clone, Copy)]
-struct Pairs {
+pub(crate) struct Pairs {
     /// The index of the first satellite in the message.
     place: usize,
     satellites: u64,
@@ -43,7 +42,7 @@ struct Pairs {
 }
 
 /// Returns the same pairs, beginning with a satellite that has a signal left.
-fn with_signals(pairs: Pairs) -> Pairs
+fn with_signals(mut pairs: Pairs) -> Pairs
     requires some { 0 < length (pairs_left pairs) }
     requires walking { IsWalking pairs }
     ensures same { pairs_left result ≡ pairs_left pairs }
@@ -51,15 +50,12 @@ fn with_signals(pairs: Pairs) -> Pairs
     ensures satellite { 0 < result.satellites }
     ensures signal { 0 < result.signals }
 {
-    if pairs.signals > 0 {
-        return pairs;
+    if pairs.signals == 0 {
+        pairs.place += 1;
+        pairs.satellites = split_first(pairs.satellites, SATELLITE_MASK_BITS).1;
+        pairs.signals = pairs.all;
     }
-    Pairs {
-        place: pairs.place + 1,
-        satellites: split_first(pairs.satellites, SATELLITE_MASK_BITS).1,
-        signals: pairs.all,
-        all: pairs.all,
-    }
+    pairs
 }
 
 /// Returns the first pair, and the other pairs.
@@ -82,16 +78,15 @@ fn split_pairs(pairs: Pairs) -> (Seat, Pairs)
 /// Returns the first remaining pair with a cell, the pairs after it, and their number. `None` if no
 /// remaining pair has a cell. The low `left` bits of the cell mask are those of the remaining
 /// pairs.
-fn split_cells(pairs: Pairs, cells: u64, left: u32) -> Option<(Seat, Pairs, u32)>
+pub(crate) fn split_cells(mut pairs: Pairs, cells: u64, mut left: u32) -> Option<(Seat, Pairs, u32)>
     requires few { left ≤ most_pairs }
     requires count { length (pairs_left pairs) ≡ left }
     requires walking { IsWalking pairs }
     ensures some { IfSome result (λ x. SplitsCells left cells pairs x.0 x.1 x.2) }
-    ensures placed { IfSome result (λ x. (n : ℕ) → ArePlaced n (pairs_left pairs) → (x.0.place < n) × ArePlaced n (pairs_left x.1)) }
+    ensures placed { IfSome result (λ x. (n : ℕ) → ArePlaced n (pairs_left pairs)
+        → (x.0.place < n) × ArePlaced n (pairs_left x.1)) }
     ensures none { IfNone result (chosen (uint left cells) (pairs_left pairs) ≡ []) }
 {
-    let mut pairs = pairs;
-    let mut left = left;
     while left > 0 {
         left -= 1;
         let (seat, after) = split_pairs(pairs);
@@ -103,60 +98,20 @@ fn split_cells(pairs: Pairs, cells: u64, left: u32) -> Option<(Seat, Pairs, u32)
     None
 }
 
-/// Iterator over the satellites and signals of a message's cells, in the order of the cell mask.
-#[derive(Drop)]
-pub struct Seats {
-    masks: Masks,
-    pairs: Pairs,
-    left: u32,
-}
-
-impl Model for Seats {
-    ghost use Rattle.rtcm_msg.specs.Entries.{Walk, chosen};
-    ghost use Rattle.rtcm_msg.specs.Walks.{pairs_left, AreLeft};
-    ghost use Rattle.rtcm_bits.specs.Bits.{uint};
-    ghost use Rattle.std.specs.Prelude.{count_ones};
-
-    ghost Value = { Walk };
-
-    ghost view = { λ s. record { sets = s.masks; left = chosen (uint s.left s.masks.cells) (pairs_left s.pairs) } };
-
-    ghost invariant = { λ s. AreLeft (count_ones s.masks.satellites) s.left s.pairs };
-}
-
-impl Seats {
-    /// Returns an iterator that is before the first cell.
-    pub fn new(masks: Masks) -> Seats
-        ensures all { result ≡ record { sets = masks; left = seats masks } }
-        ensures count { length (seats masks) ≡ count_ones masks.cells }
-    {
-        let _ = masks.cells();
-        let signals = masks.signals() as u64;
-        Seats {
-            masks,
-            pairs: Pairs {
-                place: 0,
-                satellites: masks.satellites(),
-                signals,
-                all: signals,
-            },
-            left: masks.satellites().count_ones() * signals.count_ones(),
-        }
-    }
-
-    /// Returns the satellite and signal of the next cell.
-    pub fn next(&mut self) -> Option<Seat>
-        ensures some { IfSome result (λ x. (self.old.left ≡ x ∷ self.new.left) × (x.place < count_ones self.old.sets.satellites)) }
-        ensures none { IfNone result ((self.old.left ≡ []) × (self.new.left ≡ [])) }
-        ensures same { self.new.sets ≡ self.old.sets }
-    {
-        match split_cells(self.pairs, self.masks.cells(), self.left) {
-            Some((seat, pairs, left)) => {
-                self.pairs = pairs;
-                self.left = left;
-                Some(seat)
-            }
-            None => None,
-        }
-    }
+/// Returns the pairs of all satellites and signals, and their number.
+pub(crate) fn first_pairs(masks: Masks) -> (Pairs, u32)
+    ensures all { chosen (uint result.1 masks.cells) (pairs_left result.0) ≡ seats masks }
+    ensures count { length (seats masks) ≡ count_ones masks.cells }
+    ensures left { AreLeft (count_ones masks.satellites) result.1 result.0 }
+{
+    let _ = masks.cells();
+    let signals = masks.signals() as u64;
+    let pairs = Pairs {
+        place: 0,
+        satellites: masks.satellites(),
+        signals,
+        all: signals,
+    };
+    let count = masks.satellites().count_ones() * signals.count_ones();
+    (pairs, count)
 }

@@ -40,7 +40,7 @@ pub struct StationParts {
 }
 
 /// A station message, 1005 or 1006, whose fields are all in range.
-#[derive(Drop)]
+#[derive(Clone, Copy)]
 pub struct Station {
     parts: StationParts,
 }
@@ -55,6 +55,8 @@ impl Model for Station {
     ghost view = { λ s. s.parts };
 
     ghost invariant = { λ s. InRange s.parts };
+
+    ghost inverse = { λ s. record { parts = s } };
 }
 
 impl Station {
@@ -68,24 +70,20 @@ impl Station {
         ensures accepted { InRange parts → result ≡ Ok parts }
     {
         if parts.station >= 1 << 12 {
-            return Err(ValueFault::OutOfRange(Field::Station));
+            Err(ValueFault::OutOfRange(Field::Station))
+        } else if parts.realization >= 1 << 6 {
+            Err(ValueFault::OutOfRange(Field::Realization))
+        } else if parts.x < -(1 << 37) || parts.x >= 1 << 37 {
+            Err(ValueFault::OutOfRange(Field::X))
+        } else if parts.y < -(1 << 37) || parts.y >= 1 << 37 {
+            Err(ValueFault::OutOfRange(Field::Y))
+        } else if parts.quarter >= 1 << 2 {
+            Err(ValueFault::OutOfRange(Field::Quarter))
+        } else if parts.z < -(1 << 37) || parts.z >= 1 << 37 {
+            Err(ValueFault::OutOfRange(Field::Z))
+        } else {
+            Ok(Station { parts })
         }
-        if parts.realization >= 1 << 6 {
-            return Err(ValueFault::OutOfRange(Field::Realization));
-        }
-        if !fits_coordinate(parts.x) {
-            return Err(ValueFault::OutOfRange(Field::X));
-        }
-        if !fits_coordinate(parts.y) {
-            return Err(ValueFault::OutOfRange(Field::Y));
-        }
-        if parts.quarter >= 1 << 2 {
-            return Err(ValueFault::OutOfRange(Field::Quarter));
-        }
-        if !fits_coordinate(parts.z) {
-            return Err(ValueFault::OutOfRange(Field::Z));
-        }
-        Ok(Station { parts })
     }
 
     /// Returns the fields of the message.
@@ -94,35 +92,6 @@ impl Station {
         ensures in_range { InRange result }
     {
         self.parts
-    }
-}
-
-/// Returns a copy of the message.
-pub(crate) fn copy_of(station: &Station) -> Station
-    ensures { result ≡ station.now }
-{
-    Station {
-        parts: station.parts,
-    }
-}
-
-/// Returns whether a coordinate fits 38 bits with a sign.
-fn fits_coordinate(z: i64) -> bool
-    ensures value { result ≡ fits_int 38 z }
-    ensures fits { IsTrue result ↔ FitsInt 38 z }
-{
-    z >= -(1 << 37) && z < 1 << 37
-}
-
-fn read_height(reader: &mut BitReader, has_height: bool) -> Result<Option<u16>, MsgFault>
-    ensures read { GivesViewed (λ h. (h, reader.new)) result (height_at has_height reader.old) }
-    ensures in_range { IfOk result (λ h. IfSome h (λ n. n < 2 ^ 16)) }
-{
-    if has_height {
-        let height = field(reader, 16)?;
-        Ok(Some(height as u16))
-    } else {
-        Ok(None)
     }
 }
 
@@ -135,32 +104,26 @@ fn read_height(reader: &mut BitReader, has_height: bool) -> Result<Option<u16>, 
 pub(crate) fn read_station(reader: &mut BitReader, has_height: bool) -> Result<Station, MsgFault>
     ensures { GivesViewed (λ s. (s, reader.new)) result (station_at has_height reader.old) }
 {
-    let station = field(reader, 12)? as u16;
-    let realization = field(reader, 6)? as u8;
-    let gps = field(reader, 1)? == 1;
-    let glonass = field(reader, 1)? == 1;
-    let galileo = field(reader, 1)? == 1;
-    let reference = field(reader, 1)? == 1;
-    let x = signed_of(field(reader, 38)?, 38);
-    let oscillator = field(reader, 1)? == 1;
-    let _reserved = field(reader, 1)?;
-    let y = signed_of(field(reader, 38)?, 38);
-    let quarter = field(reader, 2)? as u8;
-    let z = signed_of(field(reader, 38)?, 38);
-    let height = read_height(reader, has_height)?;
     let parts = StationParts {
-        station,
-        realization,
-        gps,
-        glonass,
-        galileo,
-        reference,
-        x,
-        oscillator,
-        y,
-        quarter,
-        z,
-        height,
+        station: field(reader, 12)? as u16,
+        realization: field(reader, 6)? as u8,
+        gps: field(reader, 1)? == 1,
+        glonass: field(reader, 1)? == 1,
+        galileo: field(reader, 1)? == 1,
+        reference: field(reader, 1)? == 1,
+        x: signed_of(field(reader, 38)?, 38),
+        oscillator: field(reader, 1)? == 1,
+        y: {
+            let _reserved = field(reader, 1)?;
+            signed_of(field(reader, 38)?, 38)
+        },
+        quarter: field(reader, 2)? as u8,
+        z: signed_of(field(reader, 38)?, 38),
+        height: if has_height {
+            Some(field(reader, 16)? as u16)
+        } else {
+            None
+        },
     };
     Ok(Station { parts })
 }

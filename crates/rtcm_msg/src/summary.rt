@@ -29,23 +29,12 @@ impl<'a> View<'a> {
         ensures time { ForSome result.time (λ time. time < week) }
     {
         let (station, time, more, point) = match self {
-            View::Station(station) => {
-                let parts = station.parts();
-                (Some(parts.station), None, None, Some(parts))
-            }
+            View::Station(s) => (Some(s.parts().station), None, None, Some(s.parts())),
             View::Msm(msm) => {
-                let header = msm.header();
-                (
-                    Some(header.station),
-                    Some(header.time),
-                    Some(header.more),
-                    None,
-                )
+                let h = msm.header();
+                (Some(h.station), Some(h.time), Some(h.more), None)
             }
-            View::Other { number: _, set } => match set {
-                None => (None, None, None, None),
-                Some(set) => (Some(set.0), None, Some(set.1), None),
-            },
+            View::Other { set, .. } => (set.map(|set| set.0), None, set.map(|set| set.1), None),
         };
         Summary {
             station,

@@ -1,29 +1,29 @@
-ghost use Rattle.std.specs.Prelude.{[], ◌≡◌, ◌*◌, ◌<◌, ◌≤◌, ◌^◌, ◌∷◌, All, IfOk, IfSome, IfNone, length, slice_index, count_ones};
+ghost use Rattle.std.specs.Prelude.{[], ◌≡◌, ◌*◌, ◌<◌, ◌≤◌, ◌^◌, ◌∷◌, length, slice_index, count_ones};
+ghost use Rattle.std.specs.Prelude.{All, IfOk, IfSome, IfNone};
 ghost use Rattle.rtcm_bits.specs.Bits.{bits_of};
 ghost use Rattle.rtcm_bits.specs.FrameOf.{longest_message};
 ghost use Rattle.rtcm_msg.specs.Fields.{GivesViewed, standing};
 ghost use Rattle.rtcm_msg.specs.Msm.{codes_of, IsHeader, IsValue, satellite_mask_bits, most_pairs};
-ghost use Rattle.rtcm_msg.specs.Packed.{total_width};
 ghost use Rattle.rtcm_msg.specs.Reading.{message_at, body_at};
-ghost use Rattle.rtcm_msg.specs.Viewed.{viewed_message, entry_in, lock_field};
+ghost use Rattle.rtcm_msg.specs.Viewed.{viewed_message, entry_in, lock_field, rough, Keeps};
 ghost use Rattle.rtcm_msg.specs.Entries.{IsEntry, entries};
 ghost use Rattle.rtcm_msg.specs.Spelling.{IsMessage};
+ghost use Rattle.rtcm_msg.specs.Rows as rows;
 ghost use Rattle.rtcm_msg.specs.Views as views;
 
 use crate::entry::{Entry, LockField, entry_of};
 use crate::fault::MsgFault;
 use crate::field::field;
-use crate::grid::Grid;
-use crate::grid4::Grid4;
-use crate::grid7::Grid7;
+use crate::grid::{Grid, ReadGrid};
+use crate::grid4::{Grid4, Satellite4};
+use crate::grid7::{Grid7, Satellite7};
 use crate::header::{MsmHeader, read_header};
 use crate::masks::{Masks, read_masks};
-use crate::message::{Message, front, is_any_msm, read_set};
+use crate::message::{Message, read_set};
 use crate::msm::msm_of;
-use crate::rows::end_of_rows;
-use crate::seats::{Seat, Seats};
+use crate::seats::{Pairs, Seat, first_pairs, split_cells};
 use crate::station::{Station, read_station};
-use rtcm_bits::BitReader;
+use rtcm_bits::{BitReader, LONGEST_MESSAGE};
 use std::marker::Model;
 
 /// The layout and precision of an MSM.
@@ -46,38 +46,17 @@ impl Form {
         }
     }
 
-    /// Returns the message number, DF002.
-    fn number(self, is_galileo: bool) -> u16
-        ensures value { result ≡ views.message_number self is_galileo }
-        ensures bound { result < 2 ^ 12 }
+    /// Returns the widths in bits of the fields of a satellite and of a cell, in the order of the
+    /// layout.
+    fn widths(self) -> (&'static [u32], &'static [u32])
+        ensures satellites { result.0.now ≡ views.satellite_widths self }
+        ensures cells { result.1.now ≡ views.cell_widths self }
+        ensures satellites_narrow { All (λ w. w ≤ 64) result.0.now }
+        ensures cells_narrow { All (λ w. w ≤ 64) result.1.now }
     {
         match self {
-            Form::Msm4 => Grid4::number_of(is_galileo),
-            Form::Msm7 => Grid7::number_of(is_galileo),
-        }
-    }
-
-    /// Returns the widths of a satellite's fields in bits, in the order of the layout.
-    fn satellite_widths(self) -> &'static [u32]
-        ensures value { result.now ≡ views.satellite_widths self }
-        ensures narrow { All (λ w. w ≤ 64) result.now }
-        ensures wide { total_width result.now ≤ 64 }
-    {
-        match self {
-            Form::Msm4 => Grid4::satellite_widths(),
-            Form::Msm7 => Grid7::satellite_widths(),
-        }
-    }
-
-    /// Returns the widths of a cell's fields in bits, in the order of the layout.
-    fn cell_widths(self) -> &'static [u32]
-        ensures value { result.now ≡ views.cell_widths self }
-        ensures narrow { All (λ w. w ≤ 64) result.now }
-        ensures wide { total_width result.now ≤ 128 }
-    {
-        match self {
-            Form::Msm4 => Grid4::cell_widths(),
-            Form::Msm7 => Grid7::cell_widths(),
+            Form::Msm4 => (Grid4::satellite_widths(), Grid4::cell_widths()),
+            Form::Msm7 => (Grid7::satellite_widths(), Grid7::cell_widths()),
         }
     }
 }
@@ -85,17 +64,10 @@ impl Form {
 /// The data of a message's satellites and cells.
 #[derive(Clone, Copy)]
 pub(crate) enum Data<'a> {
-    /// The bytes of a message, with the first bits of the satellites' data and of the cells' data.
-    Bits {
-        bytes: &'a [u8],
-        satellites_at: usize,
-        cells_at: usize,
-    },
+    /// The bytes of a message, and the first bits of the satellites' data and of the cells' data.
+    Bits(&'a [u8], usize, usize),
     /// Packed numbers, one for each satellite and one for each cell.
-    Packed {
-        satellites: &'a [u64],
-        cells: &'a [u128],
-    },
+    Packed(&'a [u128], &'a [u128]),
 }
 
 /// A view of an MSM whose header and masks are read. The data of its satellites and cells are read
@@ -112,7 +84,8 @@ pub struct MsmView<'a> {
 }
 
 impl<'a> Model for MsmView<'a> {
-    ghost use Rattle.rtcm_msg.specs.Views.{FormedMsm, AreDataThere, satellite_widths, cell_widths, satellite_rows, cell_rows};
+    ghost use Rattle.rtcm_msg.specs.Views.{FormedMsm, AreDataThere, satellite_rows, cell_rows};
+    ghost use Rattle.rtcm_msg.specs.Views.{satellite_widths, cell_widths};
     ghost use Rattle.rtcm_msg.specs.Msm.{IsValue};
 
     ghost Value = { FormedMsm };
@@ -160,7 +133,10 @@ impl<'a> MsmView<'a> {
         ensures value { result ≡ views.message_number self.now.form self.now.msm.is_galileo }
         ensures bound { result < 2 ^ 12 }
     {
-        self.form.number(self.is_galileo)
+        match self.form {
+            Form::Msm4 => Grid4::number_of(self.is_galileo),
+            Form::Msm7 => Grid7::number_of(self.is_galileo),
+        }
     }
 
     /// Returns the header fields.
@@ -198,7 +174,7 @@ impl<'a> MsmView<'a> {
 
     /// Returns the data of satellite `i`, counted from 0 in rising order of the IDs.
     #[inline(always)]
-    pub(crate) fn satellite<G: Grid>(&self, i: usize) -> G::Satellite
+    pub(crate) fn satellite<G: ReadGrid>(&self, i: usize) -> G::Satellite
         requires there { i < length self.now.msm.satellites }
         requires widths { G.satellite_widths ≡ views.satellite_widths self.now.form }
         ensures value { result ≡ G.satellite_at (slice_index self.now.msm.satellites i) }
@@ -206,21 +182,14 @@ impl<'a> MsmView<'a> {
         ensures same { G.satellite_packed result ≡ slice_index self.now.msm.satellites i }
     {
         match self.rows {
-            Data::Bits {
-                bytes,
-                satellites_at,
-                cells_at: _,
-            } => G::satellite_in(bytes, self.satellites, satellites_at, i),
-            Data::Packed {
-                satellites,
-                cells: _,
-            } => G::satellite_of(satellites[i]),
+            Data::Bits(bytes, place, _) => G::satellite_in(bytes, self.satellites, place, i),
+            Data::Packed(satellites, _) => G::satellite_of(satellites[i]),
         }
     }
 
     /// Returns the data of cell `i`, counted from 0 in the order of the cell mask.
     #[inline(always)]
-    pub(crate) fn cell<G: Grid>(&self, i: usize) -> G::Cell
+    pub(crate) fn cell<G: ReadGrid>(&self, i: usize) -> G::Cell
         requires there { i < length self.now.msm.cells }
         requires widths { G.cell_widths ≡ views.cell_widths self.now.form }
         ensures value { result ≡ G.cell_at (slice_index self.now.msm.cells i) }
@@ -228,36 +197,54 @@ impl<'a> MsmView<'a> {
         ensures same { G.cell_packed result ≡ slice_index self.now.msm.cells i }
     {
         match self.rows {
-            Data::Bits {
-                bytes,
-                satellites_at: _,
-                cells_at,
-            } => G::cell_in(bytes, self.cells, cells_at, i),
-            Data::Packed {
-                satellites: _,
-                cells,
-            } => G::cell_of(cells[i]),
+            Data::Bits(bytes, _, cells_at) => G::cell_in(bytes, self.cells, cells_at, i),
+            Data::Packed(_, cells) => G::cell_of(cells[i]),
+        }
+    }
+
+    /// Returns the data of satellite `i` in the form of MSM7: `kept`, if those are of satellite `i`.
+    /// MSM4 has no rate and no extended information.
+    fn rough(&self, i: usize, place: usize, kept: Satellite7) -> Satellite7
+        requires there { i < length self.now.msm.satellites }
+        requires keeps { Keeps self.now.form self.now.msm.satellites place kept }
+        ensures { result ≡ rough self.now.form (slice_index self.now.msm.satellites i) }
+    {
+        if i == place {
+            return kept;
+        }
+        match self.form() {
+            Form::Msm4 => {
+                let satellite = self.satellite::<Grid4>(i);
+                Satellite7 {
+                    whole: satellite.whole,
+                    extended: 0,
+                    fraction: satellite.fraction,
+                    rate: 0,
+                }
+            }
+            Form::Msm7 => self.satellite::<Grid7>(i),
         }
     }
 
     /// Returns the entry of cell `i`, which is of this satellite and signal.
-    fn entry(&self, seat: Seat, i: usize) -> Entry
-        requires place { seat.place < length self.now.msm.satellites }
+    #[inline(always)]
+    fn entry(&self, seat: Seat, satellite: &Satellite7, i: usize) -> Entry
+        requires rough { satellite.now ≡ rough self.now.form (slice_index self.now.msm.satellites seat.place) }
         requires cell { i < length self.now.msm.cells }
         ensures value { result ≡ entry_in self.now.form self.now.msm (seat, slice_index self.now.msm.cells i) }
         ensures bounds { IsEntry (codes_of (lock_field self.now.form)) result }
     {
         match self.form() {
-            Form::Msm4 => entry_of::<Grid4>(
-                seat,
-                &self.satellite::<Grid4>(seat.place),
-                &self.cell::<Grid4>(i),
-            ),
-            Form::Msm7 => entry_of::<Grid7>(
-                seat,
-                &self.satellite::<Grid7>(seat.place),
-                &self.cell::<Grid7>(i),
-            ),
+            Form::Msm4 => {
+                let Satellite7 {
+                    whole,
+                    fraction,
+                    ..
+                } = *satellite;
+                let cell = self.cell::<Grid4>(i);
+                entry_of::<Grid4>(seat, &Satellite4 { whole, fraction }, &cell)
+            }
+            Form::Msm7 => entry_of::<Grid7>(seat, satellite, &self.cell::<Grid7>(i)),
         }
     }
 
@@ -267,20 +254,14 @@ impl<'a> MsmView<'a> {
         ensures few { length result.left ≤ most_pairs }
     {
         let _ = self.cells();
+        let (pairs, left) = first_pairs(self.masks());
         Entries {
             view: self,
-            seats: Seats::new(self.masks()),
+            pairs,
+            left,
             next: 0,
-        }
-    }
-
-    /// Returns the decoded message.
-    fn message(&self) -> Message
-        ensures { result ≡ views.formed self.now }
-    {
-        match self.form() {
-            Form::Msm4 => Message::Msm4(msm_of(self)),
-            Form::Msm7 => Message::Msm7(msm_of(self)),
+            place: self.satellites(),
+            satellite: Satellite7::default(),
         }
     }
 }
@@ -289,42 +270,53 @@ impl<'a> MsmView<'a> {
 #[derive(Drop)]
 pub struct Entries<'a> {
     view: &'a MsmView<'a>,
-    seats: Seats,
+    /// The satellites and signals of the pairs that are left, and the number of these pairs.
+    pairs: Pairs,
+    left: u32,
     next: usize,
+    /// The index of the satellite whose data were read last, or the number of satellites.
+    place: usize,
+    satellite: Satellite7,
 }
 
 impl<'a> Model for Entries<'a> {
-    ghost use Rattle.std.specs.Prelude.{◌≡◌, ◌+◌, map, drop, length};
+    ghost use Rattle.std.specs.Prelude.{◌≡◌, ◌+◌, map, drop, length, count_ones};
     ghost use Rattle.std.specs.List.{zip};
-    ghost use Rattle.rtcm_msg.specs.Viewed.{Unread, entry_in};
+    ghost use Rattle.rtcm_msg.specs.Walks.{seats_left, AreLeft};
+    ghost use Rattle.rtcm_msg.specs.Viewed.{Unread, Keeps, entry_in};
 
     ghost Value = { Unread };
 
     ghost view = { λ e. record {
       form = e.view.now.form;
-      left = map (entry_in e.view.now.form e.view.now.msm) (zip e.seats.left (drop e.next e.view.now.msm.cells));
+      left = map (entry_in e.view.now.form e.view.now.msm)
+          (zip (seats_left e.left e.view.now.msm.sets e.pairs) (drop e.next e.view.now.msm.cells));
     } };
 
-    ghost invariant = { λ e. (e.seats.sets ≡ e.view.now.msm.sets)
-        × (length e.seats.left + e.next ≡ length e.view.now.msm.cells) };
+    ghost invariant = { λ e. AreLeft (count_ones e.view.now.msm.sets.satellites) e.left e.pairs
+        × (length (seats_left e.left e.view.now.msm.sets e.pairs) + e.next ≡ length e.view.now.msm.cells)
+        × Keeps e.view.now.form e.view.now.msm.satellites e.place e.satellite };
 }
 
 impl<'a> Entries<'a> {
     /// Returns the next cell, or `None` after the last one.
+    #[inline(always)]
     pub fn next(&mut self) -> Option<Entry>
-        ensures some { IfSome result (λ e. (self.old.left ≡ e ∷ self.new.left) × IsEntry (codes_of (lock_field self.old.form)) e) }
+        ensures some { IfSome result (λ e. (self.old.left ≡ e ∷ self.new.left)
+            × IsEntry (codes_of (lock_field self.old.form)) e) }
         ensures none { IfNone result ((self.old.left ≡ []) × (self.new.left ≡ [])) }
         ensures same { self.new.form ≡ self.old.form }
     {
-        match self.seats.next() {
-            None => None,
-            Some(seat) => {
-                let _ = (self.view.satellites(), self.view.cells());
-                let entry = self.view.entry(seat, self.next);
-                self.next += 1;
-                Some(entry)
-            }
-        }
+        let (seat, pairs, left) = split_cells(self.pairs, self.view.masks().cells(), self.left)?;
+        let _ = (self.view.satellites(), self.view.cells());
+        let satellite = self.view.rough(seat.place, self.place, self.satellite);
+        let entry = self.view.entry(seat, &satellite, self.next);
+        self.pairs = pairs;
+        self.left = left;
+        self.place = seat.place;
+        self.satellite = satellite;
+        self.next += 1;
+        Some(entry)
     }
 }
 
@@ -349,10 +341,37 @@ impl<'a> View<'a> {
     {
         match self {
             View::Station(station) => Message::Station(station),
-            View::Msm(msm) => msm.message(),
+            View::Msm(msm) => match msm.form() {
+                Form::Msm4 => Message::Msm4(msm_of(&msm)),
+                Form::Msm7 => Message::Msm7(msm_of(&msm)),
+            },
             View::Other { number, set } => Message::Other { number, set },
         }
     }
+}
+
+/// Returns the bit after the data of `count` satellites or cells whose fields have these widths.
+///
+/// # Errors
+///
+/// `Short` if a field does not end within the message.
+fn end_of_rows(bits: usize, widths: &[u32], count: usize, place: usize) -> Result<usize, MsgFault>
+    requires narrow { All (λ w. w ≤ 64) widths.now }
+    requires few { count ≤ 64 }
+    requires within { place ≤ bits }
+    requires small { bits < 2 ^ 62 }
+    ensures exact { result ≡ rows.end_of_rows widths.now count bits place }
+    ensures within { IfOk result (λ end. end ≤ bits) }
+{
+    let mut place = place;
+    for width in widths {
+        let end = place + count * *width as usize;
+        if bits < end {
+            return Err(MsgFault::Short(bits - (bits - place) % *width as usize));
+        }
+        place = end;
+    }
+    Ok(place)
 }
 
 /// Reads the header and masks of an MSM after its message number.
@@ -373,9 +392,9 @@ fn view_msm<'a>(
     let satellites = masks.satellites().count_ones() as usize;
     let cells = masks.cells().count_ones() as usize;
     let satellites_at = reader.place();
-    let bits = 8 * bytes.len();
-    let cells_at = end_of_rows(bits, form.satellite_widths(), satellites, satellites_at)?;
-    end_of_rows(bits, form.cell_widths(), cells, cells_at)?;
+    let (satellite_widths, cell_widths) = form.widths();
+    let cells_at = end_of_rows(8 * bytes.len(), satellite_widths, satellites, satellites_at)?;
+    end_of_rows(8 * bytes.len(), cell_widths, cells, cells_at)?;
     Ok(View::Msm(MsmView {
         form,
         is_galileo,
@@ -383,11 +402,7 @@ fn view_msm<'a>(
         masks,
         satellites,
         cells,
-        rows: Data::Bits {
-            bytes,
-            satellites_at,
-            cells_at,
-        },
+        rows: Data::Bits(bytes, satellites_at, cells_at),
     }))
 }
 
@@ -408,24 +423,9 @@ fn view_body<'a>(number: u16, bytes: &'a [u8], reader: &mut BitReader) -> Result
         1097 => view_msm(bytes, reader, Form::Msm7, true),
         _ => Ok(View::Other {
             number,
-            set: if is_any_msm(number) {
-                read_set(reader)
-            } else {
-                None
-            },
+            set: read_set(number, reader),
         }),
     }
-}
-
-/// Reads a message that is not longer than the longest message.
-#[tactic(auto, unfolding(crate::specs::Reading::message_of))]
-fn view_message(bytes: &[u8]) -> Result<View<'_>, MsgFault>
-    requires { length bytes.now ≤ longest_message }
-    ensures { GivesViewed viewed_message result (message_at bytes.now) }
-{
-    let mut reader = BitReader::new(bytes);
-    let number = field(&mut reader, 12)? as u16;
-    view_body(number, bytes, &mut reader)
 }
 
 /// Reads a message as `decode` does, but reads the data of satellites and cells of an MSM only when
@@ -434,9 +434,14 @@ fn view_message(bytes: &[u8]) -> Result<View<'_>, MsgFault>
 /// # Errors
 ///
 /// Those of `decode`.
+#[tactic(auto, unfolding(crate::specs::Reading::message_of))]
 pub fn look(bytes: &[u8]) -> Result<View<'_>, MsgFault>
     ensures exact { GivesViewed viewed_message result (message_at bytes.now) }
     ensures message { IfOk result (λ v. IsMessage (viewed_message v)) }
 {
-    view_message(front(bytes))
+    // no field ends after the longest message
+    let bytes = bytes.get(..LONGEST_MESSAGE).unwrap_or(bytes);
+    let mut reader = BitReader::new(bytes);
+    let number = field(&mut reader, 12)? as u16;
+    view_body(number, bytes, &mut reader)
 }

@@ -3,7 +3,7 @@ ghost use Rattle.std.specs.List.{list_all, flat_map};
 ghost use Rattle.rtcm_bits.specs.Bits.{uint};
 ghost use Rattle.rtcm_bits.specs.FrameOf.{longest_message_bits};
 ghost use Rattle.rtcm_msg.specs.Fields.{spelled, fields_width};
-ghost use Rattle.rtcm_msg.specs.Station.{InRange, common_fields, station_fields};
+ghost use Rattle.rtcm_msg.specs.Station.{InRange, station_fields};
 ghost use Rattle.rtcm_msg.specs.Msm.{header_fields, mask_fields};
 ghost use Rattle.rtcm_msg.specs.Packed.{columns, total_width};
 
@@ -24,48 +24,30 @@ fn write_fields(writer: &mut BitWriter, fields: &[(u32, u64)])
     }
 }
 
-/// Writes the fields that messages 1005 and 1006 have in common.
-fn write_common(writer: &mut BitWriter, number: u16, parts: &StationParts)
-    requires room { length writer.old + 152 ≤ longest_message_bits }
-    requires in_range { InRange parts.now }
-    ensures bits { writer.new ≡ writer.old ++ spelled (common_fields number parts.now 0) }
-    ensures len { length writer.new ≡ length writer.old + 152 }
-{
-    let x = raw_of(parts.x, 38);
-    let y = raw_of(parts.y, 38);
-    let z = raw_of(parts.z, 38);
-    write_fields(
-        writer,
-        &[
-            (12, number as u64),
-            (12, parts.station as u64),
-            (6, parts.realization as u64),
-            (1, parts.gps as u64),
-            (1, parts.glonass as u64),
-            (1, parts.galileo as u64),
-            (1, parts.reference as u64),
-            (38, x),
-            (1, parts.oscillator as u64),
-            (1, 0),
-            (38, y),
-            (2, parts.quarter as u64),
-            (38, z),
-        ],
-    );
-}
-
 /// Writes a station message with its message number.
 pub(crate) fn write_station(writer: &mut BitWriter, parts: &StationParts)
     requires room { length writer.old + 168 ≤ longest_message_bits }
     requires in_range { InRange parts.now }
     ensures { writer.new ≡ writer.old ++ spelled (station_fields parts.now 0) }
 {
-    match parts.height {
-        Some(height) => {
-            write_common(writer, 1006, parts);
-            write_fields(writer, &[(16, height as u64)]);
-        }
-        None => write_common(writer, 1005, parts),
+    let fields = [
+        (12, 1005 + parts.height.is_some() as u64),
+        (12, parts.station as u64),
+        (6, parts.realization as u64),
+        (1, parts.gps as u64),
+        (1, parts.glonass as u64),
+        (1, parts.galileo as u64),
+        (1, parts.reference as u64),
+        (38, raw_of(parts.x, 38)),
+        (1, parts.oscillator as u64),
+        (1, 0),
+        (38, raw_of(parts.y, 38)),
+        (2, parts.quarter as u64),
+        (38, raw_of(parts.z, 38)),
+    ];
+    write_fields(writer, &fields);
+    if let Some(height) = parts.height {
+        write_fields(writer, &[(16, height as u64)]);
     }
 }
 
@@ -75,21 +57,19 @@ pub(crate) fn write_header(writer: &mut BitWriter, number: u16, header: &MsmHead
     ensures bits { writer.new ≡ writer.old ++ spelled (header_fields number header.now 0) }
     ensures len { length writer.new ≡ length writer.old + 73 }
 {
-    write_fields(
-        writer,
-        &[
-            (12, number as u64),
-            (12, header.station as u64),
-            (30, header.time as u64),
-            (1, header.more as u64),
-            (3, header.iods as u64),
-            (7, 0),
-            (2, header.steering as u64),
-            (2, header.clock as u64),
-            (1, header.smoothing as u64),
-            (3, header.interval as u64),
-        ],
-    );
+    let fields = [
+        (12, number as u64),
+        (12, header.station as u64),
+        (30, header.time as u64),
+        (1, header.more as u64),
+        (3, header.iods as u64),
+        (7, 0),
+        (2, header.steering as u64),
+        (2, header.clock as u64),
+        (1, header.smoothing as u64),
+        (3, header.interval as u64),
+    ];
+    write_fields(writer, &fields);
 }
 
 /// Writes the masks, DF394 to DF396.
@@ -100,14 +80,12 @@ pub(crate) fn write_masks(writer: &mut BitWriter, masks: &Masks)
 {
     let _ = masks.cells();
     let pairs = masks.satellites().count_ones() * masks.signals().count_ones();
-    write_fields(
-        writer,
-        &[
-            (SATELLITE_MASK_BITS, masks.satellites()),
-            (SIGNAL_MASK_BITS, masks.signals() as u64),
-            (pairs, masks.cells()),
-        ],
-    );
+    let fields = [
+        (SATELLITE_MASK_BITS, masks.satellites()),
+        (SIGNAL_MASK_BITS, masks.signals() as u64),
+        (pairs, masks.cells()),
+    ];
+    write_fields(writer, &fields);
 }
 
 /// Writes one field of each satellite or cell: `width` bits above the low `shift` bits of its

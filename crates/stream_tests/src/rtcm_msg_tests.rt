@@ -1,3 +1,4 @@
+mod texts;
 mod values;
 
 ghost use Rattle.std.specs.Prelude.{◌≤◌};
@@ -5,9 +6,8 @@ ghost use Rattle.std.specs.Prelude.{◌≤◌};
 use arrayvec::ArrayVec;
 use rtcm_msg::{
     Cell7, Entry, Field, Form, Grid7, Message, MsgFault, Msm, MsmHeader, Satellite7, StationParts,
-    ValueFault, View, decode, encode, look,
+    View, decode, encode, look,
 };
-use std::alloc::{AllocError, Global};
 use std::test::*;
 
 /// Message 1005 of station 2003, from a public example of the standard's frames.
@@ -160,7 +160,7 @@ fn messages_are_written_back(rt: HostRuntime) {
 
 /// The parts of a station message.
 fn parts_of(sent: &Sent) -> Option<StationParts> {
-    match look(&sent.bytes()[..sent.size()]) {
+    match &look(&sent.bytes()[..sent.size()]) {
         Ok(View::Station(station)) => Some(station.parts()),
         _ => None,
     }
@@ -462,51 +462,5 @@ static OTHERS: [(&[u8], u16, Option<(u16, bool)>); 7] = [
 fn other_messages_are_given(rt: HostRuntime) {
     for (message, number, set) in &OTHERS {
         assert!(rt; other_of(message) == Some((*number, *set)));
-    }
-}
-
-fn message_fault_says(alloc: Global, fault: MsgFault, text: &str) -> Result<bool, AllocError> {
-    Ok(fault.to_string(alloc)?.as_str() == text)
-}
-
-fn value_fault_says(alloc: Global, fault: ValueFault, text: &str) -> Result<bool, AllocError> {
-    Ok(fault.to_string(alloc)?.as_str() == text)
-}
-
-static MESSAGE_TEXTS: [(MsgFault, &str); 3] = [
-    (
-        MsgFault::Short(114),
-        "the field at bit 114 does not end within the message",
-    ),
-    (
-        MsgFault::TooManyCells,
-        "more than 64 pairs of a satellite and a signal",
-    ),
-    (MsgFault::BadTime, "an epoch time of a week or more"),
-];
-
-static VALUE_TEXTS: [(ValueFault, &str); 4] = [
-    (
-        ValueFault::OutOfRange(Field::FineRange),
-        "the field FineRange is out of range",
-    ),
-    (
-        ValueFault::TooManyCells,
-        "more than 64 pairs of a satellite and a signal",
-    ),
-    (
-        ValueFault::CellCount,
-        "another number of satellites or cells than in the masks",
-    ),
-    (ValueFault::BadTime, "an epoch time of a week or more"),
-];
-
-#[test]
-fn faults_have_texts(rt: HostRuntime) {
-    for (fault, text) in &MESSAGE_TEXTS {
-        assert!(rt; message_fault_says(rt.alloc(), *fault, text) == Ok(true));
-    }
-    for (fault, text) in &VALUE_TEXTS {
-        assert!(rt; value_fault_says(rt.alloc(), *fault, text) == Ok(true));
     }
 }

@@ -23,17 +23,17 @@ size w f z a b h = omega (arith, ints, a, b, h)
 not_255 : (w : ℕ) → w ≢ 255 → (w == 255) ≡ false
 not_255 w h = grind (arith, h)
 
-pub overflow_add-result-else-whole-eq-INVALID_RANGE : goal.overflow_add-result-else-whole-eq-INVALID_RANGE
-overflow_add-result-else-whole-eq-INVALID_RANGE c =
-    sum_fits c.args.whole c.args.fraction c.in-Some.fine c.ranges.whole.fits c.ranges.fraction.fits (c.requires.fits c.in-Some.fine c.in-Some.is)
+pub overflow_add-result-2 : goal.overflow_add-result-2
+overflow_add-result-2 c =
+    sum_fits c.args.whole c.args.fraction c.in_ok-fine.field-0 c.ranges.whole.fits c.ranges.fraction.fits (c.requires.fits c.in_ok-fine.field-0 c.in_ok-fine.was)
 
-pub returns-else-whole-eq-INVALID_RANGE-clause-value : goal.returns-else-whole-eq-INVALID_RANGE-clause-value
-returns-else-whole-eq-INVALID_RANGE-clause-value c =
-    let h = c.requires.fits c.in-Some.fine c.in-Some.is in
-    rw (c.in-Some.is, not_255 c.args.whole c.if-whole-eq-INVALID_RANGE.false) (ap Some (sum_is c.args.whole c.args.fraction c.in-Some.fine c.ranges.whole.fits c.ranges.fraction.fits h))
+pub returns-clause-value : goal.returns-clause-value
+returns-clause-value c =
+    let h = c.requires.fits c.in_ok-fine.field-0 c.in_ok-fine.was in
+    rw (c.in_ok-fine.was, not_255 c.args.whole c.if-whole-eq-INVALID_RANGE.false) (ap Some (sum_is c.args.whole c.args.fraction c.in_ok-fine.field-0 c.ranges.whole.fits c.ranges.fraction.fits h))
 
-pub returns-else-whole-eq-INVALID_RANGE-clause-bound : goal.returns-else-whole-eq-INVALID_RANGE-clause-bound
-returns-else-whole-eq-INVALID_RANGE-clause-bound c =
-    let h = c.requires.fits c.in-Some.fine c.in-Some.is in
-    λ small fine. rw (sum_is c.args.whole c.args.fraction c.in-Some.fine c.ranges.whole.fits c.ranges.fraction.fits h)
-    (size c.args.whole c.args.fraction c.in-Some.fine c.ranges.whole.fits small (fine c.in-Some.fine c.in-Some.is))
+pub returns-clause-bound : goal.returns-clause-bound
+returns-clause-bound c =
+    let h = c.requires.fits c.in_ok-fine.field-0 c.in_ok-fine.was in
+    λ small fine. rw (sum_is c.args.whole c.args.fraction c.in_ok-fine.field-0 c.ranges.whole.fits c.ranges.fraction.fits h)
+    (size c.args.whole c.args.fraction c.in_ok-fine.field-0 c.ranges.whole.fits small (fine c.in_ok-fine.field-0 c.in_ok-fine.was))

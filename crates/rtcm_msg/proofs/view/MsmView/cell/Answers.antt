@@ -1,16 +1,8 @@
-use Rattle.std.proofs.Common.{ℕ, List, ◌≡◌, ◌^◌, ◌<◌, ◌∙◌, ap, sym, subst, arith, length, slice_index}
+use Rattle.std.proofs.Common.{◌∙◌, ap, sym, subst, slice_index}
 use Rattle.rtcm_msg.specs.declared.view.Data.{Data}
-use Rattle.rtcm_msg.specs.Packed.{total_width}
 use Rattle.rtcm_msg.specs.Views.{FormedMsm, AreDataThere, cell_widths, cell_rows}
-use Rattle.rtcm_msg.proofs.ViewLaws.{row_value, cells_counted}
+use Rattle.rtcm_msg.proofs.ViewLaws.{row_value, below, fits, cells_counted}
 use Rattle.rtcm_msg.proofs.view.MsmView.cell.Goals as goal
-
--- The index is less than the number of rows.
-below : (i n : ℕ) (xs ys : List ℕ) → length xs ≡ n → xs ≡ ys → i < length ys → i < n
-below i n xs ys count same h = omega (arith, count, ap length same, h)
-
-fits : (x y : ℕ) (vs ws : List ℕ) → x ≡ y → vs ≡ ws → x < 2 ^ total_width ws → y < 2 ^ total_width vs
-fits x y vs ws e f h = rw (f, ← e) h
 
 pub cell_in-requires-clause-there : goal.cell_in-requires-clause-there
 cell_in-requires-clause-there g c = below c.args.i c.self.inside.cells _ _ (cells_counted c.self.inside.form c.self.inside.satellites c.self.inside.cells c.self.inside.rows c.self.invariant.1) (ap (λ (v : FormedMsm). v.msm.cells) c.self.view_is) c.requires.there

@@ -1,16 +1,8 @@
-use Rattle.std.proofs.Common.{ℕ, List, ◌≡◌, ◌^◌, ◌<◌, ◌∙◌, ap, sym, subst, arith, length, slice_index}
+use Rattle.std.proofs.Common.{◌∙◌, ap, sym, subst, slice_index}
 use Rattle.rtcm_msg.specs.declared.view.Data.{Data}
-use Rattle.rtcm_msg.specs.Packed.{total_width}
 use Rattle.rtcm_msg.specs.Views.{FormedMsm, AreDataThere, satellite_widths, satellite_rows}
-use Rattle.rtcm_msg.proofs.ViewLaws.{row_value, satellites_counted}
+use Rattle.rtcm_msg.proofs.ViewLaws.{row_value, below, fits, satellites_counted}
 use Rattle.rtcm_msg.proofs.view.MsmView.satellite.Goals as goal
-
--- The index is less than the number of rows.
-below : (i n : ℕ) (xs ys : List ℕ) → length xs ≡ n → xs ≡ ys → i < length ys → i < n
-below i n xs ys count same h = omega (arith, count, ap length same, h)
-
-fits : (x y : ℕ) (vs ws : List ℕ) → x ≡ y → vs ≡ ws → x < 2 ^ total_width ws → y < 2 ^ total_width vs
-fits x y vs ws e f h = rw (f, ← e) h
 
 pub satellite_in-requires-clause-there : goal.satellite_in-requires-clause-there
 satellite_in-requires-clause-there g c = below c.args.i c.self.inside.satellites _ _ (satellites_counted c.self.inside.form c.self.inside.satellites c.self.inside.cells c.self.inside.rows c.self.invariant.1) (ap (λ (v : FormedMsm). v.msm.satellites) c.self.view_is) c.requires.there
@@ -21,7 +13,7 @@ returns-in-Bits-clause-value g c =
     let h = below c.args.i c.self.inside.satellites _ _ (satellites_counted c.self.inside.form c.self.inside.satellites c.self.inside.cells c.self.inside.rows c.self.invariant.1) (ap (λ (v : FormedMsm). v.msm.satellites) c.self.view_is) c.requires.there in
     let widths = c.requires.widths ∙ sym (ap (λ (v : FormedMsm). satellite_widths v.form) c.self.view_is) in
     c.satellite_in.ensures
-    ∙ ap g.G.Grid.satellite_at (row_value g.G.Grid.satellite_widths (satellite_widths c.self.inside.form) c.in-Bits.bytes.now c.self.inside.satellites c.in-Bits.satellites_at c.args.i widths there.there.satellites_there h
+    ∙ ap g.G.Grid.satellite_at (row_value g.G.Grid.satellite_widths (satellite_widths c.self.inside.form) c.in-Bits.bytes.now c.self.inside.satellites c.in-Bits.place c.args.i widths there.there.satellites_there h
     ∙ (ap (λ (d : Data). slice_index (satellite_rows c.self.inside.form c.self.inside.satellites d) c.args.i) (sym c.in-Bits.is)
     ∙ ap (λ (v : FormedMsm). slice_index v.msm.satellites c.args.i) c.self.view_is))
 

@@ -1,10 +1,9 @@
-use Rattle.std.proofs.Common.{ℕ, ℤ, ◌≡◌, ◌==◌, ◌∙◌, ap, sym, refl, rules, arith, w16, w32, w64, to_z, of_z, FitsSigned}
-use Rattle.std.proofs.lemmas.Int.{ints, to_z-of_z}
+use Rattle.std.proofs.Common.{ℕ, ℤ, ◌≡◌, ◌==◌, ◌∙◌, ap, sym, refl, rules, w16, w32, FitsSigned}
 use Rattle.rtcm_bits.specs.Bits.{bits_of}
 use Rattle.rtcm_msg.specs.declared.grid4.Cell4.{Cell4}
 use Rattle.rtcm_msg.specs.Grid4.{cell_of, cell_table}
-use Rattle.rtcm_msg.proofs.ContentLaws.{unpacked_row}
-use Rattle.rtcm_msg.proofs.grid4.Grid4Grid.cell_in.Goals as goal
+use Rattle.rtcm_msg.proofs.ContentLaws.{unpacked_row, narrow_16, narrow_32}
+use Rattle.rtcm_msg.proofs.grid4.Grid4ReadGrid.cell_in.Goals as goal
 
 abbrev cell : ℤ → ℤ → ℕ → ℕ → ℕ → Cell4
 cell range phase lock half_cycle strength = record { range = range; phase = phase; lock = lock; half_cycle = (half_cycle == 1); strength = strength }
@@ -12,15 +11,9 @@ cell range phase lock half_cycle strength = record { range = range; phase = phas
 same : (range range2 : ℤ) (phase phase2 : ℤ) (lock lock2 : ℕ) (half_cycle half_cycle2 : ℕ) (strength strength2 : ℕ) → range ≡ range2 → phase ≡ phase2 → lock ≡ lock2 → half_cycle ≡ half_cycle2 → strength ≡ strength2 → cell range phase lock half_cycle strength ≡ cell range2 phase2 lock2 half_cycle2 strength2
 same range range2 phase phase2 lock lock2 half_cycle half_cycle2 strength strength2 e0 e1 e2 e3 e4 = rw (e0, e1, e2, e3, e4) refl
 
-narrow_16 : (z : ℤ) → FitsSigned w16 z → to_z w16 (of_z w16 (to_z w64 (of_z w64 z))) ≡ z
-narrow_16 z f = rw (to_z-of_z w64 z (omega (arith, ints, f))) (to_z-of_z w16 z f)
-
-narrow_32 : (z : ℤ) → FitsSigned w32 z → to_z w32 (of_z w32 (to_z w64 (of_z w64 z))) ≡ z
-narrow_32 z f = rw (to_z-of_z w64 z (omega (arith, ints, f))) (to_z-of_z w32 z f)
-
 pub returns : goal.returns
 returns c =
     let f0 : FitsSigned w16 c.signed_at.result = search rules in
     let f1 : FitsSigned w32 c.signed_at-2.result = search rules in
-    same _ _ _ _ _ _ _ _ _ _ (narrow_16 c.signed_at.result f0 ∙ c.signed_at.ensures.value) (narrow_32 c.signed_at-2.result f1 ∙ c.signed_at-2.ensures.value) c.number_at.ensures.value c.number_at-2.ensures.value c.number_at-3.ensures.value
+    same _ _ _ _ _ _ _ _ _ _ (narrow_16 c.signed_at.result f0 ∙ c.signed_at.ensures.value) (narrow_32 c.signed_at-2.result f1 ∙ c.signed_at-2.ensures.value) c.short_at.ensures.value c.short_at-2.ensures.value c.short_at-3.ensures.value
     ∙ sym (ap cell_of (unpacked_row cell_table c.args.count (bits_of c.args.bytes.now) c.args.place c.args.i 0))

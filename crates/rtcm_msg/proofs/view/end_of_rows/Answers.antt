@@ -1,6 +1,6 @@
 use Rattle.std.proofs.Common.{arith, sym, ◌∙◌}
 use Rattle.rtcm_msg.proofs.RowLaws.{end_step, end_short, end_over}
-use Rattle.rtcm_msg.proofs.rows.end_of_rows.Goals as goal
+use Rattle.rtcm_msg.proofs.view.end_of_rows.Goals as goal
 
 pub returns-then-bits-end-clause-exact : goal.returns-then-bits-end-clause-exact
 returns-then-bits-end-clause-exact c = sym (end_short c.loop-width.width-index c.args.widths.now c.args.count c.args.bits c.loop-width.place c.loop-width-test.true c.if-bits-end.true) ∙ c.loop-width.invariant.same

@@ -1,6 +1,6 @@
 use Rattle.std.proofs.Common.{◌≡◌, ◌≤◌, drop}
 use Rattle.rtcm_msg.specs.Rows.{end_of_rows}
-use Rattle.rtcm_msg.proofs.rows.end_of_rows.Given as goal
+use Rattle.rtcm_msg.proofs.view.end_of_rows.Given as goal
 
 abbrev pub invariant-loop-width : goal.invariant-loop-width
 invariant-loop-width l = record {

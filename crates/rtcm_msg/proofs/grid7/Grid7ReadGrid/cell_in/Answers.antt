@@ -1,10 +1,9 @@
-use Rattle.std.proofs.Common.{ℕ, ℤ, ◌≡◌, ◌==◌, ◌∙◌, ap, sym, refl, rules, arith, w16, w32, w64, to_z, of_z, FitsSigned}
-use Rattle.std.proofs.lemmas.Int.{ints, to_z-of_z}
+use Rattle.std.proofs.Common.{ℕ, ℤ, ◌≡◌, ◌==◌, ◌∙◌, ap, sym, refl, rules, w16, w32, FitsSigned}
 use Rattle.rtcm_bits.specs.Bits.{bits_of}
 use Rattle.rtcm_msg.specs.declared.grid7.Cell7.{Cell7}
 use Rattle.rtcm_msg.specs.Grid7.{cell_of, cell_table}
-use Rattle.rtcm_msg.proofs.ContentLaws.{unpacked_row}
-use Rattle.rtcm_msg.proofs.grid7.Grid7Grid.cell_in.Goals as goal
+use Rattle.rtcm_msg.proofs.ContentLaws.{unpacked_row, narrow_16, narrow_32}
+use Rattle.rtcm_msg.proofs.grid7.Grid7ReadGrid.cell_in.Goals as goal
 
 abbrev cell : ℤ → ℤ → ℕ → ℕ → ℕ → ℤ → Cell7
 cell range phase lock half_cycle strength rate = record { range = range; phase = phase; lock = lock; half_cycle = (half_cycle == 1); strength = strength; rate = rate }
@@ -12,16 +11,10 @@ cell range phase lock half_cycle strength rate = record { range = range; phase =
 same : (range range2 : ℤ) (phase phase2 : ℤ) (lock lock2 : ℕ) (half_cycle half_cycle2 : ℕ) (strength strength2 : ℕ) (rate rate2 : ℤ) → range ≡ range2 → phase ≡ phase2 → lock ≡ lock2 → half_cycle ≡ half_cycle2 → strength ≡ strength2 → rate ≡ rate2 → cell range phase lock half_cycle strength rate ≡ cell range2 phase2 lock2 half_cycle2 strength2 rate2
 same range range2 phase phase2 lock lock2 half_cycle half_cycle2 strength strength2 rate rate2 e0 e1 e2 e3 e4 e5 = rw (e0, e1, e2, e3, e4, e5) refl
 
-narrow_32 : (z : ℤ) → FitsSigned w32 z → to_z w32 (of_z w32 (to_z w64 (of_z w64 z))) ≡ z
-narrow_32 z f = rw (to_z-of_z w64 z (omega (arith, ints, f))) (to_z-of_z w32 z f)
-
-narrow_16 : (z : ℤ) → FitsSigned w16 z → to_z w16 (of_z w16 (to_z w64 (of_z w64 z))) ≡ z
-narrow_16 z f = rw (to_z-of_z w64 z (omega (arith, ints, f))) (to_z-of_z w16 z f)
-
 pub returns : goal.returns
 returns c =
     let f0 : FitsSigned w32 c.signed_at.result = search rules in
     let f1 : FitsSigned w32 c.signed_at-2.result = search rules in
     let f2 : FitsSigned w16 c.signed_at-3.result = search rules in
-    same _ _ _ _ _ _ _ _ _ _ _ _ (narrow_32 c.signed_at.result f0 ∙ c.signed_at.ensures.value) (narrow_32 c.signed_at-2.result f1 ∙ c.signed_at-2.ensures.value) c.number_at.ensures.value c.number_at-2.ensures.value c.number_at-3.ensures.value (narrow_16 c.signed_at-3.result f2 ∙ c.signed_at-3.ensures.value)
+    same _ _ _ _ _ _ _ _ _ _ _ _ (narrow_32 c.signed_at.result f0 ∙ c.signed_at.ensures.value) (narrow_32 c.signed_at-2.result f1 ∙ c.signed_at-2.ensures.value) c.short_at.ensures.value c.short_at-2.ensures.value c.short_at-3.ensures.value (narrow_16 c.signed_at-3.result f2 ∙ c.signed_at-3.ensures.value)
     ∙ sym (ap cell_of (unpacked_row cell_table c.args.count (bits_of c.args.bytes.now) c.args.place c.args.i 0))
