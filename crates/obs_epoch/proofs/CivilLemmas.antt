@@ -1,5 +1,5 @@
 -- Dates and times of day in the calendar of the library.
-use Rattle.std.proofs.Common.{true≢false, ◌≡◌, ◌<◌, ◌≤◌, ◌+◌, ◌*◌, ◌/◌, ◌%◌, ◌∙◌, ℕ, ℤ, pos, negsuc, ◌+ℤ◌, ◌-ℤ◌, ◌*ℤ◌, neg_ℤ, ◌≤ℤ◌, rules, refl, sym, subst, arith, nat_abs, to_z, of_z, to_z-of_z, FitsSigned, w8, w16, w32, w64, ap, ap₂, T, Fits, true, false, Result, Err, IsOk}
+use Rattle.std.proofs.Common.{true≢false, ◌≡◌, ◌<◌, ◌≤◌, ◌+◌, ◌*◌, ◌/◌, ◌%◌, ◌∙◌, ℕ, ℤ, pos, negsuc, ◌+ℤ◌, ◌-ℤ◌, ◌*ℤ◌, neg_ℤ, ◌≤ℤ◌, refl, sym, subst, arith, nat_abs, to_z, of_z, to_z-of_z, FitsSigned, w8, w16, w32, w64, ap, ap₂, T, Fits, true, false, Result, Err, IsOk}
 use lib.Signed.{non_neg}
 use Rattle.std.specs.Int.{w128}
 use Rattle.std.specs.Prelude.{int_div, int_lt}
@@ -12,10 +12,10 @@ use Rattle.jiff_core.specs.DateTime.{civil_nanos}
 use Rattle.jiff_core.specs.Time.{time_nanos, IsHms, IsTime}
 use Rattle.jiff_core.proofs.SignedLemmas.{signed_arith}
 use Rattle.jiff_core.proofs.DateLemmas.{civil as valid_date, epoch_day_range}
-use Rattle.jiff_core.proofs.CalendarLemmas.{days_in_month_bounds}
 use Rattle.obs_epoch.specs.Dates.{IsCivil, IsCivilOf, clock_of}
 use Rattle.obs_epoch.specs.declared.civil.Civil.{Civil}
 use Rattle.obs_epoch.proofs.Days.{first_day}
+use Rattle.std.proofs.lemmas.Grind.{common_steps}
 
 abbrev pub day_nanos : ℕ
 day_nanos = 86_400_000_000_000
@@ -88,10 +88,7 @@ made_of at t year month day hour minute second milli e y m d h i s f =
           subst (λ z. days_from_civil (pos year) month day -ℤ z ≡ pos (t / 86_400_000)) (sym first_day) (ap (λ z. z -ℤ pos 3657) same ∙ e)
 
 pub day_below : (d : Date) → d.day < 128
-day_below d =
-    let most = (days_in_month_bounds d.year d.month).0 in
-    let last = d.day_in.1 in
-    omega (arith, most, last)
+day_below d = grind (arith, common_steps)
 
 -- ---- the time of these parts
 
@@ -104,20 +101,10 @@ clock_below : (c : Civil) → IsCivil c → clock_of c < 86_400_000
 clock_below c is = omega (arith, is.hour, is.minute, is.millisecond)
 
 pub is_of : (c : Civil) (t : ℕ) (since : ℤ) → IsCivil c → since ≡ (days_from_civil (pos c.year) c.month c.day -ℤ pos 3657) *ℤ pos 86_400_000 +ℤ pos (clock_of c) → since ≡ pos t → IsCivilOf t c
-is_of c t since valid e is =
-    let below = clock_below c valid in
-    let days : days_from_civil (pos c.year) c.month c.day -ℤ pos 3657 ≡ pos (t / 86_400_000) = omega (arith, signed_arith, e, is, below) in
-    record {
-      valid = valid;
-      days = rw first_day days;
-      clock = omega (arith, signed_arith, e, is, below);
-    }
+is_of c t since valid e is = grind (arith, common_steps, clock_below, signed_arith, first_day)
 
 pub only_one : (c : Civil) (t : ℕ) (since : ℤ) → since ≡ (days_from_civil (pos c.year) c.month c.day -ℤ pos 3657) *ℤ pos 86_400_000 +ℤ pos (clock_of c) → IsCivilOf t c → since ≡ pos t
-only_one c t since e is =
-    let days : days_from_civil (pos c.year) c.month c.day -ℤ pos 3657 ≡ pos (t / 86_400_000) = subst (λ z. days_from_civil (pos c.year) c.month c.day -ℤ z ≡ pos (t / 86_400_000)) first_day is.days in
-    let clock = is.clock in
-    omega (arith, signed_arith, e, days, clock)
+only_one c t since e is = grind (arith, common_steps, first_day, signed_arith)
 
 -- ---- numbers of milliseconds
 
@@ -140,24 +127,14 @@ pub record IsSince (z : ℤ) (n : ℕ) : Type 0 where
   pub small : n ≤ 1_000_000_000_000_000
 
 pub not_below : (z : ℤ) → (neg_ℤ (pos 1_000_000_000_000_000) ≤ℤ z) × (z ≤ℤ pos 1_000_000_000_000_000) → int_lt (to_z w128 (of_z w128 z)) (pos 0) ≡ false → (n : ℕ) × IsSince z n
-not_below (pos n) range h =
-    let small : n ≤ 1_000_000_000_000_000 = omega (arith, signed_arith, range.1) in
-    (n, record { is = refl; back = back_wide (pos n) n refl small; small = small })
-not_below (negsuc n) range h =
-    let fits : FitsSigned w128 (negsuc n) = omega (arith, signed_arith, range.0) in
-    absurd (below (negsuc n) n refl (ap (λ z. int_lt z (pos 0)) (sym (to_z-of_z fits)) ∙ h)) where
-      below : (z : ℤ) (n : ℕ) → z ≡ negsuc n → int_lt z (pos 0) ≡ false → ⊥
-      below z n e h = grind (arith, e, h)
+not_below (pos n) range h = grind (arith, common_steps, signed_arith, back, back_wide)
+not_below (negsuc n) range h = grind (arith, common_steps, signed_arith)
 
 pub below_none : (z : ℤ) (t : ℕ) → z ≡ pos t → t < 60_480_000_000_000 → int_lt (to_z w128 (of_z w128 z)) (pos 0) ≡ true → ⊥
-below_none z t e small h = absurd (at_least t (ap (λ v. int_lt v (pos 0)) (sym (back_wide z t e (omega (arith, small)))) ∙ h)) where
-  at_least : (n : ℕ) → int_lt (pos n) (pos 0) ≡ true → ⊥
-  at_least n h = grind (arith, h)
+below_none z t e small h = grind (arith, common_steps)
 
 pub cast_fits : (z : ℤ) (n : ℕ) → to_z w128 (of_z w128 z) ≡ pos n → n ≤ 1_000_000_000_000_000 → (T (non_neg (to_z w128 (of_z w128 z)))) × Fits w64 (nat_abs (to_z w128 (of_z w128 z)))
-cast_fits z n e small = rw e (plain n small) where
-  plain : (n : ℕ) → n ≤ 1_000_000_000_000_000 → (T (non_neg (pos n))) × Fits w64 n
-  plain n small = search rules
+cast_fits z n e small = grind (arith, common_steps)
 
 pub cast_is : (z : ℤ) (n : ℕ) → to_z w128 (of_z w128 z) ≡ pos n → nat_abs (to_z w128 (of_z w128 z)) ≡ n
 cast_is z n e = rw e refl
@@ -187,13 +164,8 @@ small_to_z n h = grind arith
 year_to_z : (n : ℕ) → n ≤ 9999 → to_z w16 n ≡ pos n
 year_to_z n h = grind arith
 
-part_to_z : (n : ℕ) → n < 1000 → to_z w32 n ≡ pos n
-part_to_z n h = grind arith
-
 nanos_to_z : (n : ℕ) → n < 1000 → to_z w32 (of_z w32 (to_z w32 n *ℤ pos 1_000_000)) ≡ pos (n * 1_000_000)
-nanos_to_z n h = ap (λ z. to_z w32 (of_z w32 (z *ℤ pos 1_000_000))) (part_to_z n h) ∙ whole (n * 1_000_000) (omega (arith, h)) where
-  whole : (m : ℕ) → m < 1_000_000_000 → to_z w32 (of_z w32 (pos m)) ≡ pos m
-  whole m h = let fits : FitsSigned w32 (pos m) = omega (arith, signed_arith, h) in to_z-of_z fits
+nanos_to_z n h = grind (arith, common_steps)
 
 positive : (a b : ℕ) → pos a ≡ pos b → a ≡ b
 positive a b e = omega (arith, signed_arith, e)
@@ -225,25 +197,10 @@ is_at c at small date time =
       ap₂ (λ (z : ℤ) (n : ℕ). z *ℤ pos day_nanos +ℤ pos n) day nanos,
     )
 
-dated : (y : ℤ) (m d : ℕ) → IsCivilDate y m d → IsDate y (pos m) (pos d)
-dated y m d is = (is.0, (omega (arith, signed_arith, is.1.0), omega (arith, signed_arith, is.1.1)), (omega (arith, signed_arith, is.2.0), omega (arith, signed_arith, is.2.1)))
-
 -- A valid date is accepted by the library.
 pub is_taken : (c : Civil) → IsSmall c → IsCivil c → IsDate (to_z w16 c.year) (to_z w8 c.month) (to_z w8 c.day)
     × IsTime (to_z w8 c.hour) (to_z w8 c.minute) (to_z w8 (c.millisecond / 1_000)) (to_z w32 (of_z w32 (to_z w32 (c.millisecond % 1_000) *ℤ pos 1_000_000)))
-is_taken c small valid =
-    let y = year_to_z c.year small.year in
-    let m = small_to_z c.month (omega (arith, small.month)) in
-    let d = small_to_z c.day (omega (arith, small.day)) in
-    let h = small_to_z c.hour (omega (arith, small.hour)) in
-    let i = small_to_z c.minute (omega (arith, small.minute)) in
-    let s = small_to_z (c.millisecond / 1_000) (omega (arith, small.millisecond)) in
-    let f = nanos_to_z (c.millisecond % 1_000) (omega arith) in (
-      rw (y, m, d) (dated (pos c.year) c.month c.day valid.date),
-      rw (h, i, s, f) (timed c.hour c.minute (c.millisecond / 1_000) (c.millisecond % 1_000 * 1_000_000) (omega (arith, small.hour)) (omega (arith, small.minute)) (omega (arith, small.millisecond)) (omega arith)),
-    ) where
-      timed : (h m s f : ℕ) → h ≤ 23 → m ≤ 59 → s ≤ 59 → f ≤ 999_999_999 → IsTime (pos h) (pos m) (pos s) (pos f)
-      timed h m s f a b c d = ((omega (arith, signed_arith), omega (arith, signed_arith, a)), (omega (arith, signed_arith), omega (arith, signed_arith, b)), (omega (arith, signed_arith), omega (arith, signed_arith, c)), (omega (arith, signed_arith), omega (arith, signed_arith, d)))
+is_taken c small valid = grind (arith, common_steps)
 
 pub no_ok : {A E : Type 0} (r : Result A E) (e : E) → r ≡ Err e → IsOk r → ⊥
 no_ok r e is ok = absurd (true≢false (sym (subst IsOk is ok)))

@@ -1,5 +1,5 @@
 -- A step of the clock adds one message to the list.
-use Rattle.std.proofs.Common.{◌≡◌, ℕ, zero, suc, ◌+◌, ◌*◌, ◌<◌, Bool, true, false, not, ◌||◌, ◌&&◌, List, [], ◌∷◌, ◌++◌, refl, sym, ap, ap₂, ◌∙◌, subst, arith, Option, Some, None, nat_lt}
+use Rattle.std.proofs.Common.{◌≡◌, ℕ, zero, suc, ◌+◌, ◌*◌, ◌<◌, Bool, true, false, not, ◌||◌, ◌&&◌, List, [], ◌∷◌, ◌++◌, refl, ap, ap₂, ◌∙◌, subst, arith, Option, Some, None, nat_lt}
 use Rattle.std.specs.Prelude.{◌==◌}
 use Rattle.std.specs.Option.{option_map_or}
 use Rattle.obs_epoch.specs.declared.clock.Answer.TheVariants.{CloseFirst}
@@ -9,6 +9,7 @@ use Rattle.rtcm_msg.specs.Msm.{week}
 use Rattle.obs_epoch.specs.Clock.{State, is_pending, closes_first, answer_of}
 use Rattle.obs_epoch.specs.Step.{answer_by, step_by, is_late_at, is_first_at, ended_where}
 use Rattle.obs_epoch.proofs.TimesLemmas.{next, greatest-push, greatest-present, greater-absent, none-absent, closed-push, closed-new}
+use Rattle.std.proofs.lemmas.Grind.{common_steps}
 
 -- A message without a time doesn't change the greatest time.
 max_none : (a : Option ℕ) → max_known a None ≡ a
@@ -18,17 +19,7 @@ max_none (Some a) = refl
 -- A message that isn't accepted changes no time, and may close the pending epoch.
 pub same_time : (s : GatherSetup) (xs : List Timed) (x : Timed) → x.time ≡ None
     → (greatest_time (xs ++ x ∷ []) ≡ greatest_time xs) × (is_pending s (xs ++ x ∷ []) ≡ (is_pending s xs && not (ends_epoch s x.message)))
-same_time s xs x e =
-    let same : greatest_time (xs ++ x ∷ []) ≡ greatest_time xs = greatest-push xs x ∙ ap (max_known (greatest_time xs)) e ∙ max_none (greatest_time xs) in
-    (same, ap (λ g. option_map_or (λ t. not (is_closed s t (xs ++ x ∷ []))) g false) same ∙ by_greatest (greatest_time xs) refl) where
-      not_or : (a b : Bool) → not (a || b) ≡ (not a && not b)
-      not_or true b = refl
-      not_or false b = refl
-
-      by_greatest : (g : Option ℕ) → greatest_time xs ≡ g
-          → option_map_or (λ t. not (is_closed s t (xs ++ x ∷ []))) g false ≡ (option_map_or (λ t. not (is_closed s t xs)) g false && not (ends_epoch s x.message))
-      by_greatest None h = refl
-      by_greatest (Some t) h = ap not (closed-push s t xs x (greatest-present xs t h)) ∙ not_or _ _
+same_time s xs x e = grind (arith, common_steps, greatest-push, max_none, closed-push, greatest-present)
 
 -- An accepted message of time u is of the greatest time, whose epoch isn't closed, or of a greater time.
 pub data Follows (s : GatherSetup) (xs : List Timed) (u : ℕ) : Type 0 where
@@ -62,22 +53,13 @@ standing s xs shut = record { setup = s; latest = greatest_time xs; pending = is
 
 pub same_state : (g : State) (s : GatherSetup) (latest : Option ℕ) (pending : Bool) → g.setup ≡ s → g.latest ≡ latest → g.pending ≡ pending
     → g ≡ record { setup = s; latest = latest; pending = pending }
-same_state g s latest pending a b c =
-    ap (λ x. record { setup = x; latest = g.latest; pending = g.pending }) a
-    ∙ ap (λ x. record { setup = s; latest = x; pending = g.pending }) b ∙ ap (λ x. record { setup = s; latest = latest; pending = x }) c
+same_state g s latest pending a b c = grind (arith, common_steps)
 
 -- The message isn't of the station.
 not_own : (s : GatherSetup) (xs : List Timed) (m : Heard) (shut : Bool) → is_own s m ≡ false → closes_first s xs m ≡ shut
     → (answer_by (standing s xs shut) m ≡ answer_of s xs m)
     × (step_by (standing s xs shut) m ≡ standing s (xs ++ next s xs m ∷ []) false)
-not_own s xs m shut own closes =
-    let untaken : taken_at s xs m ≡ None = grind (arith, own) in
-    let same = same_time s xs (next s xs m) untaken in
-    let not_last : ends_epoch s m ≡ false = grind (arith, own) in
-    let open_still : shut ≡ false = grind (arith, own) in
-    let kept : step_by (standing s xs shut) m ≡ standing s xs shut = grind (arith, own) in
-    let pending : (is_pending s xs && not shut) ≡ (is_pending s (xs ++ next s xs m ∷ []) && not false) = grind (arith, same.1, not_last, open_still) in
-    (grind (arith, own), kept ∙ same_state (standing s xs shut) s _ _ refl (sym same.0) pending)
+not_own s xs m shut own closes = grind (arith, common_steps, same_time, next, same_state)
 
 pub and_true : (a : Bool) → a ≡ (a && true)
 and_true true = refl
@@ -110,21 +92,13 @@ ended_to : (s : GatherSetup) (xs : List Timed) (m : Heard) (latest : Option ℕ)
     → greatest_time (xs ++ next s xs m ∷ []) ≡ latest
     → is_pending s (xs ++ next s xs m ∷ []) ≡ (pending && not (ends_epoch s m))
     → ended_where (ends_epoch_by s m) (record { setup = s; latest = latest; pending = pending }) ≡ standing s (xs ++ next s xs m ∷ []) false
-ended_to s xs m latest pending own at is =
-    ended-is (ends_epoch_by s m) s latest pending
-    ∙ same_fields s _ _ _ _ (sym at) (ap (λ b. pending && not b) (sym (own_mark s m own)) ∙ sym is ∙ and_true _)
+ended_to s xs m latest pending own at is = grind (arith, common_steps)
 
 -- An own message without a time.
 no_time : (s : GatherSetup) (xs : List Timed) (m : Heard) (shut : Bool) → is_own s m ≡ true → m.tow ≡ None → closes_first s xs m ≡ shut
     → (answer_by (standing s xs shut) m ≡ answer_of s xs m)
     × (step_by (standing s xs shut) m ≡ standing s (xs ++ next s xs m ∷ []) false)
-no_time s xs m shut own none closes =
-    let untaken : taken_at s xs m ≡ None = grind (arith, own, none) in
-    let same = same_time s xs (next s xs m) untaken in
-    let open_still : shut ≡ false = grind (arith, own, none) in
-    let step : step_by (standing s xs shut) m ≡ ended_where (ends_epoch_by s m) (record { setup = s; latest = greatest_time xs; pending = is_pending s xs }) =
-    grind (arith, own, none, open_still, and_true) in
-    (grind (arith, own, none), step ∙ ended_to s xs m (greatest_time xs) (is_pending s xs) own same.0 same.1)
+no_time s xs m shut own none closes = grind (arith, common_steps, same_time, next, and_true, ended_to)
 
 not_later : (s : GatherSetup) (xs : List Timed) (m : Heard) (tow t : ℕ) (shut : Bool) → m.tow ≡ Some tow → greatest_time xs ≡ Some t
     → closes_first s xs m ≡ shut → ahead t tow ≡ 0 → shut ≡ false
@@ -134,9 +108,7 @@ late_by : (s : GatherSetup) (xs : List Timed) (m : Heard) (tow : ℕ) (shut : Bo
     → is_late_at (record { setup = s; latest = g; pending = is_pending s xs && not shut }) tow
     ≡ option_map_or (λ t. nat_lt 302_400_000 (ahead t tow) || ((ahead t tow == 0) && is_closed s t xs)) g false
 late_by s xs m tow shut None at some closes = refl
-late_by s xs m tow shut (Some t) at some closes =
-    let none_shut = not_later s xs m tow t shut some at closes in
-    grind (arith, at, none_shut)
+late_by s xs m tow shut (Some t) at some closes = grind (arith, common_steps, not_later, closes)
 
 late_same : (s : GatherSetup) (xs : List Timed) (m : Heard) (tow : ℕ) (shut : Bool) → m.tow ≡ Some tow → closes_first s xs m ≡ shut
     → is_late_at (standing s xs shut) tow ≡ is_late s xs tow
@@ -147,14 +119,7 @@ not_taken : (s : GatherSetup) (xs : List Timed) (m : Heard) (tow : ℕ) (shut : 
     → (is_late s xs tow || is_past (time_of s xs tow)) ≡ true
     → (answer_by (standing s xs shut) m ≡ answer_of s xs m)
     × (step_by (standing s xs shut) m ≡ standing s (xs ++ next s xs m ∷ []) false)
-not_taken s xs m tow shut own some closes bad =
-    let untaken : taken_at s xs m ≡ None = grind (arith, own, some, bad) in
-    let same = same_time s xs (next s xs m) untaken in
-    let open_still : shut ≡ false = grind (arith, own, some, bad) in
-    let late = late_same s xs m tow shut some closes in
-    let step : step_by (standing s xs shut) m ≡ ended_where (ends_epoch_by s m) (record { setup = s; latest = greatest_time xs; pending = is_pending s xs }) =
-    grind (arith, own, some, open_still, and_true, late, bad) in
-    (grind (arith, own, some, late, bad), step ∙ ended_to s xs m (greatest_time xs) (is_pending s xs) own same.0 same.1)
+not_taken s xs m tow shut own some closes bad = grind (arith, common_steps, same_time, next, late_same, closes, and_true)
 
 pub follows : (s : GatherSetup) (xs : List Timed) (tow : ℕ) → is_late s xs tow ≡ false → Follows s xs (time_of s xs tow)
 follows s xs tow early = by (greatest_time xs) refl early where
@@ -169,10 +134,7 @@ follows s xs tow early = by (greatest_time xs) refl early where
 
 no_first : (s : GatherSetup) (xs : List Timed) (m : Heard) (tow : ℕ) (shut : Bool) → is_own s m ≡ true → m.tow ≡ Some tow → closes_first s xs m ≡ shut
     → is_late s xs tow ≡ false → is_past (time_of s xs tow) ≡ false → is_first_at (standing s xs shut) tow ≡ false
-no_first s xs m tow shut own some closes early within = by (greatest_time xs) refl where
-  by : (g : Option ℕ) → greatest_time xs ≡ g → is_first_at (record { setup = s; latest = g; pending = is_pending s xs && not shut }) tow ≡ false
-  by None at = grind arith
-  by (Some t) at = grind (arith, own, some, closes, early, within, at)
+no_first s xs m tow shut own some closes early within = grind (arith, common_steps)
 
 -- An own message that is accepted.
 is_taken : (s : GatherSetup) (xs : List Timed) (m : Heard) (tow : ℕ) (shut : Bool) → is_own s m ≡ true → m.tow ≡ Some tow → closes_first s xs m ≡ shut
@@ -209,27 +171,4 @@ takes s xs m shut closes = by_own (is_own s m) m.tow refl refl where
 -- A message that closes first isn't.
 pub closes : (s : GatherSetup) (xs : List Timed) (m : Heard) → closes_first s xs m ≡ true
     → (answer_by (standing s xs false) m ≡ CloseFirst) × (step_by (standing s xs false) m ≡ standing s xs true)
-closes s xs m h = by_tow m.tow refl where
-  own : is_own s m ≡ true
-  own = grind (arith, h)
-
-  by_first : (tow t : ℕ) → m.tow ≡ Some tow → greatest_time xs ≡ Some t
-      → (answer_by (standing s xs false) m ≡ CloseFirst) × (step_by (standing s xs false) m ≡ standing s xs true)
-  by_first tow t some at =
-      let early : is_late s xs tow ≡ false = grind (arith, h, own, some, at) in
-      let within : is_past (time_of s xs tow) ≡ false = grind (arith, h, own, some, at) in
-      let pending : is_pending s xs ≡ true = grind (arith, h, own, some, at) in
-      let ahead_of : (ahead t tow == 0) ≡ false = grind (arith, h, own, some, at) in
-      let late_now : is_late_at (standing s xs false) tow ≡ false = grind (arith, own, some, at, early, pending, ahead_of) in
-      let step : step_by (standing s xs false) m ≡ ended_where (ends_epoch_by s m) (state s (greatest_time xs) false) =
-      grind (arith, own, some, at, late_now, within, pending, ahead_of) in (
-        grind (arith, own, some, at, early, within, pending, ahead_of),
-        step ∙ ended-is (ends_epoch_by s m) s (greatest_time xs) false ∙ same_fields s _ _ _ _ refl (and_false (is_pending s xs)),
-      )
-
-  by_tow : (tow : Option ℕ) → m.tow ≡ tow → (answer_by (standing s xs false) m ≡ CloseFirst) × (step_by (standing s xs false) m ≡ standing s xs true)
-  by_tow None none = absurd (grind (arith, h, own, none))
-  by_tow (Some tow) some = by_at tow (greatest_time xs) some refl where
-    by_at : (tow : ℕ) (g : Option ℕ) → m.tow ≡ Some tow → greatest_time xs ≡ g → (answer_by (standing s xs false) m ≡ CloseFirst) × (step_by (standing s xs false) m ≡ standing s xs true)
-    by_at tow None some at = absurd (grind (arith, h, own, some, at))
-    by_at tow (Some t) some at = by_first tow t some at
+closes s xs m h = grind (arith, common_steps, ended-is, same_fields, and_false)

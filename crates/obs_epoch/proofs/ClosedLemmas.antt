@@ -10,6 +10,7 @@ use Rattle.obs_epoch.specs.Loss.{times}
 use Rattle.obs_epoch.specs.Epochs.{is_shut, closed_times}
 use Rattle.obs_epoch.proofs.TimesLemmas.{some_eq, greatest-push, max_known-none, greatest-present, greater-absent, none-absent, closed-push, closed-new, next, timed-push}
 use Rattle.obs_epoch.proofs.ClockLemmas.{at_self, Follows, follows, first, greater, equal}
+use Rattle.std.proofs.lemmas.Grind.{common_steps}
 
 -- All are less than g.
 abbrev pub Below : ℕ → List ℕ → Type 0
@@ -59,11 +60,7 @@ front time ts = option_map_or (λ t. t ∷ filter (λ u. nat_lt t u) ts) time ts
 ends_step : (time rest : Option ℕ) (ts : List ℕ) (g : ℕ) → max_known time rest ≡ Some g → ((h : ℕ) → rest ≡ Some h → Ends ts h) → (rest ≡ None → ts ≡ [])
     → Ends (front time ts) g
 ends_step None rest ts g e some none = some g e
-ends_step (Some t) None ts g e some none = record {
-  init = [];
-  is = ap (λ l. t ∷ filter (λ u. nat_lt t u) l) (none refl) ∙ ap (λ v. v ∷ []) (some_eq t g e);
-  below = tt;
-}
+ends_step (Some t) None ts g e some none = grind (arith, common_steps, some_eq)
 ends_step (Some t) (Some h) ts g e some none = by (by_less t h) where
   last : Ends ts h
   last = some h refl
@@ -110,10 +107,8 @@ IsLess u (Some g) = g < u
 
 push_step : (time rest : Option ℕ) (u : ℕ) (ts new : List ℕ) → IsLess u (max_known time rest) → (IsLess u rest → new ≡ ts ++ u ∷ []) → front time new ≡ front time ts ++ u ∷ []
 push_step None rest u ts new h r = r h
-push_step (Some t) None u ts new h r =
-    ap (λ l. t ∷ filter (λ v. nat_lt t v) l) (r tt) ∙ ap (λ l. t ∷ l) (filter-append (λ v. nat_lt t v) ts (u ∷ []) ∙ ap (λ l. filter (λ v. nat_lt t v) ts ++ l) (one_passes (λ v. nat_lt t v) u (less_true t u h)))
-push_step (Some t) (Some g) u ts new h r =
-    ap (λ l. t ∷ filter (λ v. nat_lt t v) l) (r (omega (arith, h))) ∙ ap (λ l. t ∷ l) (filter-append (λ v. nat_lt t v) ts (u ∷ []) ∙ ap (λ l. filter (λ v. nat_lt t v) ts ++ l) (one_passes (λ v. nat_lt t v) u (less_true t u (omega (arith, h)))))
+push_step (Some t) None u ts new h r = grind (arith, common_steps, filter-append, one_passes, less_true)
+push_step (Some t) (Some g) u ts new h r = grind (arith, common_steps, filter-append, one_passes, less_true)
 
 pub times-push_new : (xs : List Timed) (x : Timed) (u : ℕ) → x.time ≡ Some u → IsLess u (greatest_time xs) → times (xs ++ x ∷ []) ≡ times xs ++ u ∷ []
 times-push_new [] x u e h = ap (λ t. front t []) e
@@ -122,18 +117,7 @@ times-push_new (y ∷ ys) x u e h = push_step y.time (greatest_time ys) u (times
 same_step : (time rest : Option ℕ) (u : ℕ) (ts new : List ℕ) → max_known time rest ≡ Some u → (rest ≡ Some u → new ≡ ts) → (IsLess u rest → new ≡ ts ++ u ∷ [])
     → front time new ≡ front time ts
 same_step None rest u ts new e same more = same e
-same_step (Some t) rest u ts new e same more = by rest e same more where
-  dropped : t ≡ u → new ≡ ts ++ u ∷ [] → front (Some t) new ≡ front (Some t) ts
-  dropped is n =
-      ap (λ l. t ∷ filter (λ v. nat_lt t v) l) n
-      ∙ ap (λ l. t ∷ l) (filter-append (λ v. nat_lt t v) ts (u ∷ []) ∙ ap (λ l. filter (λ v. nat_lt t v) ts ++ l) (one_fails (λ v. nat_lt t v) u (less_false t u (omega (arith, is)))) ∙ append-nil _)
-
-  by : (r : Option ℕ) → max_known (Some t) r ≡ Some u → (r ≡ Some u → new ≡ ts) → (IsLess u r → new ≡ ts ++ u ∷ []) → front (Some t) new ≡ front (Some t) ts
-  by None e' same' more' = dropped (some_eq t u e') (more' tt)
-  by (Some g) e' same' more' = elim (by_less g u) [
-    | inl lt ↦ dropped (omega (arith, some_eq _ _ e', lt)) (more' lt)
-    | inr le ↦ ap (front (Some t)) (same' (ap Some (omega (arith, some_eq _ _ e', le))))
-  ]
+same_step (Some t) rest u ts new e same more = grind (arith, common_steps, filter-append, one_fails, less_false, append-nil, some_eq)
 
 pub times-push_same : (xs : List Timed) (x : Timed) (u : ℕ) → x.time ≡ Some u → greatest_time xs ≡ Some u → times (xs ++ x ∷ []) ≡ times xs
 times-push_same [] x u e h = absurd (grind arith)
@@ -162,9 +146,7 @@ when b g = if b then g ∷ [] else []
 -- The closed epochs are all but the last, and the last if it is closed.
 pub closed_is : (s : GatherSetup) (ys : List Timed) (g : ℕ) (init : List ℕ) → greatest_time ys ≡ Some g → times ys ≡ init ++ g ∷ [] → Below g init
     → closed_times s ys ≡ init ++ when (is_closed s g ys) g
-closed_is s ys g init e is below =
-    ap (filter (is_shut s ys)) is ∙ filter-append (is_shut s ys) init (g ∷ [])
-    ∙ ap₂ (λ a b. a ++ b) (passes_all (is_shut s ys) g init (λ t. shut_below s ys g t e) below) (ap (λ b. cond b (g ∷ []) []) (shut_at s ys g e))
+closed_is s ys g init e is below = grind (arith, common_steps, filter-append, passes_all, shut_below, shut_at)
 
 pub Below-more : (u g : ℕ) (ts : List ℕ) → g < u → Below g ts → Below u (ts ++ g ∷ [])
 Below-more u g [] lt h = (lt, tt)
@@ -220,9 +202,7 @@ closed-push_first s xs x u some e =
     ∙ ap (λ l. filter (is_shut s xs) l ++ when (ends_epoch s x.message) u) (sym (no_times xs e))
 
 pub no_greatest : (s : GatherSetup) (xs : List Timed) (x : Timed) → x.time ≡ None → greatest_time xs ≡ None → closed_times s (xs ++ x ∷ []) ≡ closed_times s xs ++ []
-no_greatest s xs x none e =
-    ap (filter (is_shut s (xs ++ x ∷ []))) (times-push_none xs x none ∙ no_times xs e)
-    ∙ ap (λ l. filter (is_shut s xs) l) (sym (no_times xs e)) ∙ sym (append-nil _)
+no_greatest s xs x none e = grind (arith, common_steps, times-push_none, no_times, append-nil)
 
 -- After any message the closed epochs are the same, and more may follow.
 pub grows : (s : GatherSetup) (xs : List Timed) (x : Timed) → ((u : ℕ) → x.time ≡ Some u → Follows s xs u)

@@ -6,12 +6,13 @@ use Rattle.obs_epoch.specs.declared.clock.Answer.{Answer}
 use Rattle.obs_epoch.specs.declared.clock.Answer.TheVariants.{OtherStation, Ignored, Late, PastWeeks, Kept, CloseFirst}
 use Rattle.obs_epoch.specs.Heard.{GatherSetup, Heard, ends_epoch, is_own}
 use Rattle.obs_epoch.specs.Times.{Timed, greatest_time, is_closed, taken_at, is_late, is_past, time_of}
-use Rattle.obs_epoch.specs.Clock.{State, is_pending, closes_first, answer_of}
+use Rattle.obs_epoch.specs.Clock.{is_pending, closes_first, answer_of}
 use Rattle.obs_epoch.specs.Step.{closed_of, closed_by}
 use Rattle.obs_epoch.specs.Epochs.{closed_times, closed_so_far}
 use Rattle.obs_epoch.proofs.TimesLemmas.{next}
 use Rattle.obs_epoch.proofs.ClockLemmas.{standing, takes, ends_epoch_by, own_mark, same_time, Follows, first, greater, equal, new_time}
 use Rattle.obs_epoch.proofs.ClosedLemmas.{when, no_greatest, taken_follows, closed-push_none, closed-push_greater, closed-push_same, closed-push_first}
+use Rattle.std.proofs.lemmas.Grind.{common_steps}
 
 either : (m c : Bool) (g : ℕ) → when (not c && m) g ≡ option_to_list (if m && not c then Some g else None)
 either true true g = refl
@@ -54,23 +55,12 @@ pub record Parts (s : GatherSetup) (xs : List Timed) (m : Heard) (u : ℕ) : Typ
   pub time : time_of s xs tow ≡ u
 
 pub parts : (s : GatherSetup) (xs : List Timed) (m : Heard) (u : ℕ) → taken_at s xs m ≡ Some u → Parts s xs m u
-parts s xs m u e = by_tow m.tow refl where
-  by_late : (tow : ℕ) (late past : Bool) → m.tow ≡ Some tow → is_late s xs tow ≡ late → is_past (time_of s xs tow) ≡ past → Parts s xs m u
-  by_late tow true past some late is_over = absurd (grind (arith, e, some, late))
-  by_late tow false true some late is_over = absurd (grind (arith, e, some, late, is_over))
-  by_late tow false false some late is_over = record { tow = tow; some = some; early = late; within = is_over; time = grind (arith, e, some, late, is_over) }
-
-  by_tow : (tow : Option ℕ) → m.tow ≡ tow → Parts s xs m u
-  by_tow None none = absurd (grind (arith, e, none))
-  by_tow (Some tow) some = by_late tow _ _ some refl refl
+parts s xs m u e = grind (arith, common_steps)
 
 -- If a message is accepted, an epoch is closed first exactly if one is pending and its time is less.
 first_is : (s : GatherSetup) (xs : List Timed) (m : Heard) (u t : ℕ) → is_own s m ≡ true → taken_at s xs m ≡ Some u → greatest_time xs ≡ Some t
     → closes_first s xs m ≡ (not (is_closed s t xs) && nat_lt t u)
-first_is s xs m u t own some e =
-    let p = parts s xs m u some in
-    let tow = p.some in let early = p.early in let within = p.within in let time = p.time in
-    grind (arith, own, e, tow, early, within, time)
+first_is s xs m u t own some e = grind (arith, common_steps)
 
 shut_text : (c shut l : Bool) (t : ℕ) (g : Option ℕ) → g ≡ Some t → l ≡ true → (not c && l) ≡ shut → when (not c) t ≡ (if shut then option_to_list g else [])
 shut_text c shut l t g e lt h = grind (arith, e, lt, h)
@@ -101,9 +91,7 @@ abbrev closed_in : GatherSetup → List Timed → Heard → Bool → Option ℕ
 closed_in s xs m shut = closed_of (answer_of s xs m) (ends_epoch_by s m) (is_pending s xs && not shut) (greatest_time xs) (greatest_time (xs ++ next s xs m ∷ []))
 
 closed_in_is : (s : GatherSetup) (xs : List Timed) (m : Heard) (shut : Bool) → closes_first s xs m ≡ shut → closed_by (standing s xs shut) m ≡ closed_in s xs m shut
-closed_in_is s xs m shut h =
-    let step = takes s xs m shut h in
-    ap₂ (λ k (g : State). closed_of k (ends_epoch_by s m) (is_pending s xs && not shut) (greatest_time xs) g.latest) step.0 step.1
+closed_in_is s xs m shut h = grind (arith, common_steps, takes, ends_epoch_by)
 
 -- A message that isn't accepted.
 closing_none : (s : GatherSetup) (xs : List Timed) (m : Heard) (shut : Bool) → taken_at s xs m ≡ None → closes_first s xs m ≡ shut

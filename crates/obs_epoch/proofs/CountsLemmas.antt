@@ -4,7 +4,6 @@ use Rattle.std.specs.Prelude.{if◌then◌else◌, cond, count_by}
 use Rattle.std.proofs.lemmas.List.Sums.{sum_by-cons}
 use Rattle.std.proofs.lemmas.List.Folds.{list_any-append}
 use Rattle.std.proofs.lemmas.List.{length-take-le, take_all}
-use Rattle.std.proofs.lemmas.Map.Steps.{list_any_congr}
 use Rattle.gnss_obs.specs.declared.system.System.{System}
 use Rattle.gnss_obs.specs.declared.system.System.TheVariants.{Gps, Galileo}
 use Rattle.obs_epoch.specs.declared.taken.Fate.TheVariants.{Skipped, Repeated, Crowded, Kept}
@@ -17,6 +16,7 @@ use Rattle.obs_epoch.proofs.CellsLemmas.{kept-add, mine, mine-among, among-push,
 use Rattle.obs_epoch.proofs.NotingLemmas.{kept_apart}
 use Rattle.obs_epoch.proofs.LoadLemmas.{counts_after, fate_after, planned_one}
 use Rattle.obs_epoch.specs.declared.taken.CellCounts.{CellCounts}
+use Rattle.std.proofs.lemmas.Grind.{common_steps}
 
 or_false : (a : Bool) → (a || false) ≡ a
 or_false true = refl
@@ -47,20 +47,7 @@ all_kept system xs h = take_all most_cells (mine system xs) (by (nat_le most_cel
 
 -- For every next cell, an earlier cell is kept as before.
 known-push : (system : System) (xs : List HeardCell) (y p : HeardCell) → is_of_system system p ≡ true → is_among xs p ≡ true → is_among (kept system (xs ++ y ∷ [])) p ≡ is_among (kept system xs) p
-known-push system xs y p o there = ap (λ l. is_among l p) (kept-add system xs y) ∙ by (is_of_system system y) (is_among (kept system xs) y) (nat_le most_cells (length (kept system xs))) refl refl where
-  same_case : (b : Bool) → has_same_key p y ≡ b → is_among (kept system xs) y ≡ false → nat_le most_cells (length (kept system xs)) ≡ false → (is_among (kept system xs) p || b) ≡ is_among (kept system xs) p
-  same_case false e f g = or_false _
-  same_case true e f g =
-      let here : is_among (kept system xs) y ≡ true =
-      ap (λ l. is_among l y) (all_kept system xs g) ∙ mine-among system xs y (sym (key_system system p y e) ∙ o) ∙ sym (list_any_congr same_key_laws p y xs e) ∙ there in
-      absurd (grind (arith, here, f))
-
-  by : (b a n : Bool) → is_among (kept system xs) y ≡ a → nat_le most_cells (length (kept system xs)) ≡ n
-      → is_among (if b && not (a || n) then kept system xs ++ y ∷ [] else kept system xs) p ≡ is_among (kept system xs) p
-  by false a n e f = refl
-  by true true n e f = refl
-  by true false true e f = refl
-  by true false false e f = among-push (kept system xs) y p ∙ same_case (has_same_key p y) refl e f
+known-push system xs y p o there = grind (arith, common_steps, kept-add, or_false, all_kept, mine-among, key_system)
 
 known-more : (system : System) (xs ys : List HeardCell) (p : HeardCell) → is_of_system system p ≡ true → is_among xs p ≡ true → is_among (kept system (xs ++ ys)) p ≡ is_among (kept system xs) p
 known-more system xs [] p o there = ap (λ l. is_among (kept system l) p) (append-nil xs)
@@ -71,11 +58,7 @@ known-more system xs (y ∷ ys) p o there =
 
 length-add : (system : System) (xs : List HeardCell) (y : HeardCell) (b : Bool) → (is_of_system system y && not (is_among (kept system xs) y || nat_le most_cells (length (kept system xs)))) ≡ b
     → length (kept system (xs ++ y ∷ [])) ≡ length (kept system xs) + (if b then 1 else 0)
-length-add system xs y b e = ap length (kept-add system xs y) ∙ by b e where
-  by : (c : Bool) → (is_of_system system y && not (is_among (kept system xs) y || nat_le most_cells (length (kept system xs)))) ≡ c
-      → length (if is_of_system system y && not (is_among (kept system xs) y || nat_le most_cells (length (kept system xs))) then kept system xs ++ y ∷ [] else kept system xs) ≡ length (kept system xs) + (if c then 1 else 0)
-  by true f = ap (λ v. length (if v then kept system xs ++ y ∷ [] else kept system xs)) f ∙ length-append (kept system xs) (y ∷ [])
-  by false f = ap (λ v. length (if v then kept system xs ++ y ∷ [] else kept system xs)) f ∙ (let n : length (kept system xs) ≡ length (kept system xs) + 0 = omega arith in n)
+length-add system xs y b e = grind (arith, common_steps, kept-add, length-append)
 
 not_own : (here other : System) (y : HeardCell) → y.satellite.system ≡ here → (is_of_system other y ≡ false) → (a n : Bool) → (is_of_system other y && not (a || n)) ≡ false
 not_own here other y e f a n = ap (λ b. b && not (a || n)) f
@@ -83,38 +66,13 @@ not_own here other y e f a n = ap (λ b. b && not (a || n)) f
 not_galileo : (y : HeardCell) → y.satellite.system ≡ Gps → is_of_system Galileo y ≡ false
 not_galileo y e = grind (arith, e)
 
-not_gps : (y : HeardCell) → y.satellite.system ≡ Galileo → is_of_system Gps y ≡ false
-not_gps y e = grind (arith, e)
-
-sum_first : (a b c d k : ℕ) → a ≡ b + k → c ≡ d + 0 → a + c ≡ (b + d) + k
-sum_first a b c d k g h = omega (arith, g, h)
-
-sum_second : (a b c d k : ℕ) → c ≡ d + k → a ≡ b + 0 → a + c ≡ (b + d) + k
-sum_second a b c d k g h = omega (arith, g, h)
-
 -- The number of kept cells after one more cell.
 both-length : (xs : List HeardCell) (y : HeardCell) (a n : Bool) → is_among (kept y.satellite.system xs) y ≡ a → nat_le most_cells (length (kept y.satellite.system xs)) ≡ n
     → length (kept_of_both (xs ++ y ∷ [])) ≡ length (kept_of_both xs) + (if not (a || n) then 1 else 0)
-both-length xs y a n e f =
-    length-append (kept Gps (xs ++ y ∷ [])) (kept Galileo (xs ++ y ∷ [])) ∙ by y.satellite.system refl ∙ ap (λ k. k + (if not (a || n) then 1 else 0)) (sym (length-append (kept Gps xs) (kept Galileo xs))) where
-      by : (system : System) → y.satellite.system ≡ system
-          → length (kept Gps (xs ++ y ∷ [])) + length (kept Galileo (xs ++ y ∷ [])) ≡ (length (kept Gps xs) + length (kept Galileo xs)) + (if not (a || n) then 1 else 0)
-      by Gps g =
-          let mine_is = length-add Gps xs y (not (a || n)) (ap (λ b. b && not (is_among (kept Gps xs) y || nat_le most_cells (length (kept Gps xs)))) (own Gps y g)
-          ∙ ap (λ c. not (is_among (kept c xs) y || nat_le most_cells (length (kept c xs)))) (sym g) ∙ ap₂ (λ b c. not (b || c)) e f) in
-          let other = length-add Galileo xs y false (not_own Gps Galileo y g (not_galileo y g) (is_among (kept Galileo xs) y) (nat_le most_cells (length (kept Galileo xs)))) in
-          sum_first _ _ _ _ _ mine_is other
-      by Galileo g =
-          let mine_is = length-add Galileo xs y (not (a || n)) (ap (λ b. b && not (is_among (kept Galileo xs) y || nat_le most_cells (length (kept Galileo xs)))) (own Galileo y g)
-          ∙ ap (λ c. not (is_among (kept c xs) y || nat_le most_cells (length (kept c xs)))) (sym g) ∙ ap₂ (λ b c. not (b || c)) e f) in
-          let other = length-add Gps xs y false (not_own Galileo Gps y g (not_gps y g) (is_among (kept Gps xs) y) (nat_le most_cells (length (kept Gps xs)))) in
-          sum_second _ _ _ _ _ mine_is other
+both-length xs y a n e f = grind (arith, common_steps, length-append, length-add, own, not_own, not_galileo)
 
 self_system : (y : HeardCell) → is_of_system y.satellite.system y ≡ true
-self_system y = by y.satellite.system refl where
-  by : (system : System) → y.satellite.system ≡ system → is_of_system y.satellite.system y ≡ true
-  by Gps e = grind (arith, e)
-  by Galileo e = grind (arith, e)
+self_system y = grind (arith, common_steps)
 
 -- Whether the key of the new cell is kept then.
 now-among : (xs ys : List HeardCell) (y : HeardCell) (a n : Bool) → is_among (kept y.satellite.system xs) y ≡ a → nat_le most_cells (length (kept y.satellite.system xs)) ≡ n
@@ -142,13 +100,6 @@ record Sums (N n : CellCounts) (b a skipped known crowded : ℕ) : Type 0 where
   pub knows : N.repeated + N.kept ≡ (n.repeated + n.kept) + known
   pub crowds : N.crowded ≡ n.crowded + crowded
 
--- Numbers that grow by d, of which the rest is counted already.
-more_by : (n m d u N : ℕ) → m ≡ n + d → N ≡ m + u → N ≡ n + (d + u)
-more_by n m d u N g h = omega (arith, g, h)
-
-kept_by : (k m d b b' e K : ℕ) → m ≡ k + d → b' ≡ b + d → K + b' ≡ m + e → K + b ≡ k + e
-kept_by k m d b b' e K g f h = omega (arith, g, f, h)
-
 same_as : (n : ℕ) → n ≡ n + 0
 same_as n = omega arith
 
@@ -160,26 +111,17 @@ one_kept r k = omega arith
 
 sum_by_one : (N n m : CellCounts) (b b' e k s r c skipped known crowded : ℕ) → Sums N m b' e skipped known crowded → b' ≡ b + k → m.kept ≡ n.kept + k → m.skipped ≡ n.skipped + s
     → m.repeated + m.kept ≡ (n.repeated + n.kept) + r → m.crowded ≡ n.crowded + c → Sums N n b e (s + skipped) (r + known) (c + crowded)
-sum_by_one N n m b b' e k s r c skipped known crowded h g one two three four = record {
-  kept = kept_by n.kept m.kept k b b' e N.kept one g h.kept;
-  skips = more_by n.skipped m.skipped s skipped N.skipped two h.skips;
-  knows = more_by (n.repeated + n.kept) (m.repeated + m.kept) r known (N.repeated + N.kept) three h.knows;
-  crowds = more_by n.crowded m.crowded c crowded N.crowded four h.crowds;
-}
+sum_by_one N n m b b' e k s r c skipped known crowded h g one two three four = grind (arith, common_steps)
 
 -- One more cell at the beginning.
 one_sum : (N n : CellCounts) (p a f : Bool) (b b' e skipped known crowded : ℕ)
     → Sums N (count_in (if p then (if a then Repeated else (if f then Crowded else Kept)) else Skipped) n) b' e skipped known crowded
     → b' ≡ b + (if p then (if not (a || f) then 1 else 0) else 0)
     → Sums N n b e ((if not p then 1 else 0) + skipped) ((if p then (if (a || not f) then 1 else 0) else 0) + known) ((if p then (if not (a || not f) then 1 else 0) else 0) + crowded)
-one_sum N n false a f b b' e skipped known crowded h g =
-    sum_by_one N n (count_in Skipped n) b b' e 0 1 0 0 skipped known crowded h g (same_as n.kept) refl (same_as (n.repeated + n.kept)) (same_as n.crowded)
-one_sum N n true true f b b' e skipped known crowded h g =
-    sum_by_one N n (count_in Repeated n) b b' e 0 0 1 0 skipped known crowded h g (same_as n.kept) (same_as n.skipped) (one_repeated n.repeated n.kept) (same_as n.crowded)
-one_sum N n true false true b b' e skipped known crowded h g =
-    sum_by_one N n (count_in Crowded n) b b' e 0 0 0 1 skipped known crowded h g (same_as n.kept) (same_as n.skipped) (same_as (n.repeated + n.kept)) refl
-one_sum N n true false false b b' e skipped known crowded h g =
-    sum_by_one N n (count_in Kept n) b b' e 1 0 1 0 skipped known crowded h g refl (same_as n.skipped) (one_kept n.repeated n.kept) (same_as n.crowded)
+one_sum N n false a f b b' e skipped known crowded h g = grind (arith, common_steps, sum_by_one, same_as)
+one_sum N n true true f b b' e skipped known crowded h g = grind (arith, common_steps, sum_by_one, same_as, one_repeated)
+one_sum N n true false true b b' e skipped known crowded h g = grind (arith, common_steps, sum_by_one, same_as)
+one_sum N n true false false b b' e skipped known crowded h g = grind (arith, common_steps, sum_by_one, same_as, one_kept)
 
 change : (N n : CellCounts) (b e u v w u' v' w' : ℕ) → u ≡ u' → v ≡ v' → w ≡ w' → Sums N n b e u v w → Sums N n b e u' v' w'
 change N n b e u v w u' v' w' p q r h = record { kept = h.kept; skips = h.skips ∙ ap (λ k. n.skipped + k) p; knows = h.knows ∙ ap (λ k. (n.repeated + n.kept) + k) q; crowds = h.crowds ∙ ap (λ k. n.crowded + k) r }
@@ -237,18 +179,8 @@ tally_step s xs n y ys h =
       crowds false = let none : (n : ℕ) → n ≡ 0 + n = λ n. omega arith in none _
 
 tally : (s : GatherSetup) (xs : List HeardCell) (n : CellCounts) (ys : List HeardCell) → Tally s xs n ys
-tally s xs n [] = record {
-  kept = ap (λ l. n.kept + length (kept_of_both l)) (sym (append-nil xs));
-  skips = omega arith;
-  knows = omega arith;
-  crowds = omega arith;
-}
+tally s xs n [] = grind (arith, common_steps, append-nil)
 tally s xs n (y ∷ ys) = tally_step s xs n y ys (tally s (xs ++ planned_one s y) (count_in (fate_after s xs y) n) ys)
 
 pub counts_are : (s : GatherSetup) (xs ys : List HeardCell) → counts_after s xs no_counts ys ≡ counts_of s xs ys
-counts_are s xs ys =
-    let h = tally s xs no_counts ys in
-    same_counts (counts_after s xs no_counts ys) _ (omega (arith, h.kept)) (omega (arith, h.skips)) (omega (arith, h.knows, h.kept)) (omega (arith, h.crowds)) where
-      same_counts : (a b : CellCounts) → a.kept ≡ b.kept → a.skipped ≡ b.skipped → a.repeated ≡ b.repeated → a.crowded ≡ b.crowded → a ≡ b
-      same_counts a b p q r t =
-          ap₂ (λ k l. record { kept = k; skipped = l; repeated = a.repeated; crowded = a.crowded }) p q ∙ ap₂ (λ k l. record { kept = b.kept; skipped = b.skipped; repeated = k; crowded = l }) r t
+counts_are s xs ys = grind (arith, common_steps, tally, counts_after)

@@ -13,14 +13,13 @@ use Rattle.obs_epoch.specs.Held.{count_in}
 use Rattle.obs_epoch.specs.Gather.{Loaded, load, load_one, load_entries, with_unlisted, fate_in, hold}
 use Rattle.obs_epoch.specs.declared.taken.CellCounts.{CellCounts}
 use Rattle.obs_epoch.specs.declared.taken.Fate.{Fate}
+use Rattle.std.proofs.lemmas.Grind.{common_steps}
 
 later_count : (k : Fate) (n : ℕ) (c : CellCounts) → count_in k (with_skipped n c) ≡ with_skipped n (count_in k c)
 later_count Kept n c = refl
 later_count Repeated n c = refl
 later_count Crowded n c = refl
-later_count Skipped n c = ap (λ v. record c { skipped = v }) (swap c.skipped n) where
-  swap : (a b : ℕ) → a + b + 1 ≡ a + 1 + b
-  swap a b = omega arith
+later_count Skipped n c = grind (arith, common_steps)
 
 later_one : (n : ℕ) (l : Loaded) (x : HeardCell) → load_one (with_unlisted n l) x ≡ with_unlisted n (load_one l x)
 later_one n l x = ap (λ c. record { state = hold l.state x; counts = c }) (later_count (fate_in l.state x) n l.counts)
@@ -30,9 +29,7 @@ later n l [] = refl
 later n l (x ∷ xs) = ap (λ v. load v xs) (later_one n l x) ∙ later n (load_one l x) xs
 
 twice : (n m : ℕ) (l : Loaded) → with_unlisted n (with_unlisted m l) ≡ with_unlisted (m + n) l
-twice n m l = ap (λ v. record { state = l.state; counts = record l.counts { skipped = v } }) (sum l.counts.skipped m n) where
-  sum : (a b c : ℕ) → a + b + c ≡ a + (b + c)
-  sum a b c = omega arith
+twice n m l = grind (arith, common_steps)
 
 abbrev listed : LockField → System → List Entry → List HeardCell
 listed field system es = filter_map (seen_in field system) es
@@ -41,9 +38,7 @@ abbrev others : LockField → System → List Entry → ℕ
 others field system es = unlisted_in field system es
 
 none_more : (l : Loaded) → l ≡ with_unlisted 0 l
-none_more l = ap (λ v. record { state = l.state; counts = record l.counts { skipped = v } }) (plus-zero l.counts.skipped) where
-  plus-zero : (n : ℕ) → n ≡ n + 0
-  plus-zero n = omega arith
+none_more l = grind (arith, common_steps)
 
 pub load_entries_is : (field : LockField) (system : System) (l : Loaded) (es : List Entry)
     → load_entries field system l es ≡ with_unlisted (others field system es) (load l (listed field system es))

@@ -1,36 +1,28 @@
 -- A closed epoch is the same after every message.
 use Rattle.std.proofs.Common.{◌≡◌, ℕ, ◌<◌, Bool, true, false, List, [], ◌∷◌, ◌++◌, map, filter, refl, sym, ap, ap₂, ◌∙◌, subst, arith, Option, Some, None, nat_lt, append-nil}
-use Rattle.std.specs.Prelude.{◌==◌, cond, flat_map, filter_map, find, option_and_then}
-use Rattle.std.specs.Option.{option_map_or}
+use Rattle.std.specs.Prelude.{cond, filter_map}
 use Rattle.std.proofs.lemmas.List.Elements.{filter-append}
 use Rattle.gnss_obs.specs.declared.system.System.{System}
-use Rattle.gnss_obs.specs.declared.system.System.TheVariants.{Gps, Galileo}
-use Rattle.obs_epoch.specs.Heard.{GatherSetup, HeardCell, kept_cell}
-use Rattle.obs_epoch.specs.Times.{Timed, is_at, greatest_time}
-use Rattle.obs_epoch.specs.Cells.{offered, kept, kept_at, is_planned, has_same_key}
+use Rattle.obs_epoch.specs.Heard.{GatherSetup, HeardCell}
+use Rattle.obs_epoch.specs.Times.{Timed, greatest_time}
+use Rattle.obs_epoch.specs.Cells.{offered, kept, kept_at}
 use Rattle.obs_epoch.specs.Order.{sorted}
 use Rattle.obs_epoch.specs.Values.{planned_of}
-use Rattle.obs_epoch.specs.Loss.{times, lock_of, locked_at, previous, last_of, lli_of, lli_with}
-use Rattle.std.specs.List.{cons_option}
+use Rattle.obs_epoch.specs.Loss.{times, locked_at, previous, lli_of}
 use Rattle.obs_epoch.specs.Epochs.{cells_with_lli, epoch_at, closed_times}
 use Rattle.obs_epoch.specs.Times.{is_closed}
 use Rattle.obs_epoch.specs.Epochs.{is_shut}
 use Rattle.obs_epoch.proofs.ClockLemmas.{Follows, first, greater, equal}
 use Rattle.obs_epoch.proofs.ClosedLemmas.{Below, IsLess, when, one_fails, less_false, times-push_new, times-push_same, times-push_none, no_times, ends, closed_is}
+use Rattle.std.proofs.lemmas.Grind.{common_steps}
 
 -- The message isn't accepted, or has a later time.
 abbrev pub IsLater : ℕ → Option ℕ → Type 0
 IsLater t None = Unit {0}
 IsLater t (Some u) = t < u
 
-not_at : (t : ℕ) (time : Option ℕ) → IsLater t time → option_map_or (λ u. u == t) time false ≡ false
-not_at t None h = refl
-not_at t (Some u) h = grind arith
-
 pub offered-push : (s : GatherSetup) (t : ℕ) (xs : List Timed) (x : Timed) → IsLater t x.time → offered s t (xs ++ x ∷ []) ≡ offered s t xs
-offered-push s t xs x h =
-    ap (flat_map (λ y. filter (is_planned s) y.message.cells))
-    (filter-append (is_at t) xs (x ∷ []) ∙ ap (λ b. filter (is_at t) xs ++ cond b (x ∷ []) []) (not_at t x.time h) ∙ append-nil _)
+offered-push s t xs x h = grind (arith, common_steps)
 
 pub kept_at-push : (s : GatherSetup) (t : ℕ) (xs : List Timed) (x : Timed) (system : System) → IsLater t x.time → kept_at s t (xs ++ x ∷ []) system ≡ kept_at s t xs system
 kept_at-push s t xs x system h = ap (λ l. sorted (planned_of system s.plan) (kept system l)) (offered-push s t xs x h)
@@ -42,10 +34,7 @@ earlier u t (Some v) lt h = omega (arith, lt, h)
 locked_all : (s : GatherSetup) (xs : List Timed) (x : Timed) (key : HeardCell) (t : ℕ) (us : List ℕ) → IsLater t x.time → Below t us
     → filter_map (locked_at s (xs ++ x ∷ []) key) us ≡ filter_map (locked_at s xs key) us
 locked_all s xs x key t [] h b = refl
-locked_all s xs x key t (u ∷ us) h b =
-    ap₂ (λ o l. cons_option o l)
-    (ap (λ l. option_and_then (lock_of u) (find (has_same_key key) l)) (kept_at-push s u xs x key.satellite.system (earlier u t x.time b.0 h)))
-    (locked_all s xs x key t us h b.1)
+locked_all s xs x key t (u ∷ us) h b = grind (arith, common_steps, kept_at-push, earlier, locked_all s xs x key t us h b.1)
 
 below_cond : (t u : ℕ) (us : List ℕ) (b : Bool) → nat_lt u t ≡ b → Below t us → Below t (cond b (u ∷ us) us)
 below_cond t u us true e h = (grind (arith, e), h)
@@ -57,28 +46,21 @@ below_filter t (u ∷ us) = below_cond t u (filter (λ v. nat_lt v t) us) (nat_l
 
 previous-push : (s : GatherSetup) (xs : List Timed) (x : Timed) (t : ℕ) (key : HeardCell) → IsLater t x.time
     → filter (λ u. nat_lt u t) (times (xs ++ x ∷ [])) ≡ filter (λ u. nat_lt u t) (times xs) → previous s (xs ++ x ∷ []) t key ≡ previous s xs t key
-previous-push s xs x t key h same =
-    ap (λ us. last_of (filter_map (locked_at s (xs ++ x ∷ []) key) us)) same
-    ∙ ap last_of (locked_all s xs x key t (filter (λ u. nat_lt u t) (times xs)) h (below_filter t (times xs)))
+previous-push s xs x t key h same = grind (arith, common_steps, locked_all, below_filter)
 
 lli_of-push : (s : GatherSetup) (xs : List Timed) (x : Timed) (t : ℕ) (c : HeardCell) → IsLater t x.time
     → filter (λ u. nat_lt u t) (times (xs ++ x ∷ [])) ≡ filter (λ u. nat_lt u t) (times xs) → lli_of s (xs ++ x ∷ []) t c ≡ lli_of s xs t c
-lli_of-push s xs x t c h same =
-    ap (λ o. lli_with t c o) (previous-push s xs x t c h same)
+lli_of-push s xs x t c h same = grind (arith, common_steps, previous-push)
 
 with_lli-push : (s : GatherSetup) (xs : List Timed) (x : Timed) (t : ℕ) (cs : List HeardCell) → IsLater t x.time
     → filter (λ u. nat_lt u t) (times (xs ++ x ∷ [])) ≡ filter (λ u. nat_lt u t) (times xs) → cells_with_lli s (xs ++ x ∷ []) t cs ≡ cells_with_lli s xs t cs
 with_lli-push s xs x t [] h same = refl
-with_lli-push s xs x t (c ∷ cs) h same =
-    ap₂ (λ m l. (kept_cell c m) ∷ l) (lli_of-push s xs x t c h same) (with_lli-push s xs x t cs h same)
+with_lli-push s xs x t (c ∷ cs) h same = grind (arith, common_steps, lli_of-push, with_lli-push s xs x t cs h same)
 
 -- The epoch of time t doesn't change.
 pub epoch_at-push : (s : GatherSetup) (xs : List Timed) (x : Timed) (t : ℕ) → IsLater t x.time
     → filter (λ u. nat_lt u t) (times (xs ++ x ∷ [])) ≡ filter (λ u. nat_lt u t) (times xs) → epoch_at s (xs ++ x ∷ []) t ≡ epoch_at s xs t
-epoch_at-push s xs x t h same =
-    ap₂ (λ a b. record { time = t; gps = a; galileo = b })
-    (ap (cells_with_lli s (xs ++ x ∷ []) t) (kept_at-push s t xs x Gps h) ∙ with_lli-push s xs x t (kept_at s t xs Gps) h same)
-    (ap (cells_with_lli s (xs ++ x ∷ []) t) (kept_at-push s t xs x Galileo h) ∙ with_lli-push s xs x t (kept_at s t xs Galileo) h same)
+epoch_at-push s xs x t h same = grind (arith, common_steps, kept_at-push, with_lli-push)
 
 -- ---- all closed epochs
 

@@ -1,5 +1,5 @@
 -- The epochs of a list after one more message, with their station values.
-use Rattle.std.proofs.Common.{◌≡◌, ℕ, Bool, true, false, not, ◌||◌, List, [], ◌∷◌, ◌++◌, filter, refl, sym, ap, ap₂, ◌∙◌, subst, arith, Option, Some, None, nat_lt, append_assoc, append-nil}
+use Rattle.std.proofs.Common.{◌≡◌, ℕ, Bool, true, false, not, List, [], ◌∷◌, ◌++◌, filter, refl, sym, ap, ap₂, ◌∙◌, subst, arith, Option, Some, None, nat_lt, append_assoc, append-nil}
 use Rattle.std.specs.Prelude.{if◌then◌else◌, cond, option_to_list}
 use Rattle.std.specs.Option.{option_map_or}
 use Rattle.std.specs.List.{list_any}
@@ -15,16 +15,13 @@ use Rattle.obs_epoch.proofs.TimesLemmas.{next, timed-push, greatest-push}
 use Rattle.obs_epoch.proofs.ClosedLemmas.{ends, no_times, closed_is, when, taken_follows, grows_by}
 use Rattle.obs_epoch.proofs.EpochLemmas.{AllLater, IsLater, epoch_at-push, times_before, all_later}
 use Rattle.obs_epoch.specs.Values.{EpochValue}
+use Rattle.std.proofs.lemmas.Grind.{common_steps}
 
 -- ---- a closed epoch stays closed
 
 any-more : (s : GatherSetup) (ys : List Timed) (x : Timed) → list_any (λ (y : Timed). ends_epoch s y.message) ys ≡ true → list_any (λ (y : Timed). ends_epoch s y.message) (ys ++ x ∷ []) ≡ true
 any-more s [] x h = absurd (grind (arith, h))
-any-more s (y ∷ ys) x h = by (ends_epoch s y.message) h (any-more s ys x) where
-  by : (b : Bool) → (b || list_any (λ (y : Timed). ends_epoch s y.message) ys) ≡ true → (list_any (λ (y : Timed). ends_epoch s y.message) ys ≡ true → list_any (λ (y : Timed). ends_epoch s y.message) (ys ++ x ∷ []) ≡ true)
-      → (b || list_any (λ (y : Timed). ends_epoch s y.message) (ys ++ x ∷ [])) ≡ true
-  by true h more = refl
-  by false h more = more h
+any-more s (y ∷ ys) x h = grind (arith, common_steps)
 
 closed-more : (s : GatherSetup) (t : ℕ) (xs : List Timed) (x : Timed) → is_closed s t xs ≡ true → is_closed s t (xs ++ x ∷ []) ≡ true
 closed-more s t [] x h = absurd (grind (arith, h))
@@ -40,21 +37,7 @@ later_known t (Some u) None h = h
 later_known t (Some u) (Some v) h = grind (arith, h)
 
 pub shut-more : (s : GatherSetup) (t : ℕ) (xs : List Timed) (x : Timed) → is_shut s xs t ≡ true → is_shut s (xs ++ x ∷ []) t ≡ true
-shut-more s t xs x h = by (is_closed s t xs) (is_closed s t (xs ++ x ∷ [])) h (closed-more s t xs x) where
-  later : option_map_or (λ u. nat_lt t u) (greatest_time xs) false ≡ true → option_map_or (λ u. nat_lt t u) (greatest_time (xs ++ x ∷ [])) false ≡ true
-  later e = ap (λ o. option_map_or (λ u. nat_lt t u) o false) (greatest-push xs x) ∙ later_known t (greatest_time xs) x.time e
-
-  or_right : (a b : Bool) → b ≡ true → (a || b) ≡ true
-  or_right true b e = refl
-  or_right false b e = e
-
-  or_left : (a b : Bool) → a ≡ true → (a || b) ≡ true
-  or_left true b e = refl
-  or_left false b e = absurd (grind (arith, e))
-
-  by : (b c : Bool) → (b || option_map_or (λ u. nat_lt t u) (greatest_time xs) false) ≡ true → (b ≡ true → c ≡ true) → (c || option_map_or (λ u. nat_lt t u) (greatest_time (xs ++ x ∷ [])) false) ≡ true
-  by true c h more = or_left c _ (more refl)
-  by false c h more = or_right c _ (later h)
+shut-more s t xs x h = grind (arith, common_steps, closed-more, greatest-push, later_known)
 
 pub shut-push : (s : GatherSetup) (t : ℕ) (ms : List Heard) (m : Heard) → is_shut s (timed s ms) t ≡ true → is_shut s (timed s (ms ++ m ∷ [])) t ≡ true
 shut-push s t ms m h = ap (λ l. is_shut s l t) (timed-push s ms m) ∙ shut-more s t (timed s ms) (next s (timed s ms) m) h
@@ -71,10 +54,7 @@ not_both true e f = grind (arith, f)
 not_both false e f = grind (arith, e)
 
 still_open : (s : GatherSetup) (t : ℕ) (ms more : List Heard) → is_shut s (timed s (ms ++ more)) t ≡ false → is_shut s (timed s ms) t ≡ false
-still_open s t ms more h = by (is_shut s (timed s ms) t) refl where
-  by : (b : Bool) → is_shut s (timed s ms) t ≡ b → b ≡ false
-  by true e = absurd (not_both _ (shut-append s t ms more e) h)
-  by false e = refl
+still_open s t ms more h = grind (arith, common_steps, not_both, shut-append)
 
 -- If the epoch isn't closed: all messages.
 open_all : (s : GatherSetup) (t : ℕ) (earlier ms : List Heard) → is_shut s (timed s (earlier ++ ms)) t ≡ false → open_after s t earlier ms ≡ earlier ++ ms
@@ -88,9 +68,7 @@ open_all s t earlier (m ∷ ms) h =
 -- If the last message closes the epoch: all messages but that.
 open_last : (s : GatherSetup) (t : ℕ) (earlier ms : List Heard) (m : Heard) → is_shut s (timed s (earlier ++ ms)) t ≡ false → is_shut s (timed s ((earlier ++ ms) ++ m ∷ [])) t ≡ true
     → open_after s t earlier (ms ++ m ∷ []) ≡ earlier ++ ms
-open_last s t earlier [] m h k =
-    let now : is_shut s (timed s (earlier ++ m ∷ [])) t ≡ true = ap (λ l. is_shut s (timed s (l ++ m ∷ [])) t) (sym (append-nil earlier)) ∙ k in
-    ap (λ b. if b then earlier else earlier ++ m ∷ []) now ∙ sym (append-nil earlier)
+open_last s t earlier [] m h k = grind (arith, common_steps, append-nil)
 open_last s t earlier (n ∷ ms) m h k =
     let same = append_assoc earlier (n ∷ []) ms in
     let h2 : is_shut s (timed s ((earlier ++ n ∷ []) ++ ms)) t ≡ false = ap (λ l. is_shut s (timed s l) t) same ∙ h in
@@ -116,10 +94,7 @@ pub before_all : (s : GatherSetup) (t : ℕ) (ms : List Heard) → is_shut s (ti
 before_all s t ms h = open_all s t [] ms h
 
 pub before-push : (s : GatherSetup) (t : ℕ) (ms : List Heard) (m : Heard) → is_shut s (timed s (ms ++ m ∷ [])) t ≡ true → before_closing s t (ms ++ m ∷ []) ≡ before_closing s t ms
-before-push s t ms m k = by (is_shut s (timed s ms) t) refl where
-  by : (b : Bool) → is_shut s (timed s ms) t ≡ b → before_closing s t (ms ++ m ∷ []) ≡ before_closing s t ms
-  by true e = open_same s t [] ms m refl e
-  by false e = open_last s t [] ms m e k ∙ sym (before_all s t ms e)
+before-push s t ms m k = grind (arith, common_steps, open_same, open_last, before_all)
 
 -- ---- the closed epochs stay
 
@@ -212,12 +187,4 @@ all-prefix s ms =
 -- ---- the pending epoch
 
 pub pending_open : (s : GatherSetup) (xs : List Timed) (t : ℕ) → greatest_time xs ≡ Some t → is_pending s xs ≡ true → is_shut s xs t ≡ false
-pending_open s xs t e p =
-    let open_still : is_closed s t xs ≡ false = not_true (is_closed s t xs) (ap (λ o. option_map_or (λ u. not (is_closed s u xs)) o false) (sym e) ∙ p) in
-    ap₂ (λ (b : Bool) o. b || option_map_or (λ u. nat_lt t u) o false) open_still e ∙ not_less t where
-      not_true : (b : Bool) → not b ≡ true → b ≡ false
-      not_true true h = grind (arith, h)
-      not_true false h = refl
-
-      not_less : (t : ℕ) → nat_lt t t ≡ false
-      not_less t = grind arith
+pending_open s xs t e p = grind (arith, common_steps)

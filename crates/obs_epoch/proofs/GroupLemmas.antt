@@ -1,13 +1,14 @@
 -- The cells of one satellite, in a list in the order of satellites.
-use Rattle.std.proofs.Common.{◌≡◌, ℕ, zero, suc, ◌+◌, ◌-◌, ◌<◌, ◌≤◌, ◌==◌, Bool, true, false, ◌||◌, ◌&&◌, List, [], ◌∷◌, map, filter, take, drop, refl, sym, ap, ap₂, ◌∙◌, subst, arith, length, nat_lt, All}
-use Rattle.std.specs.Prelude.{if◌then◌else◌, cond}
+use Rattle.std.proofs.Common.{◌≡◌, ℕ, zero, suc, ◌+◌, ◌<◌, ◌≤◌, ◌==◌, Bool, true, false, ◌||◌, ◌&&◌, List, [], ◌∷◌, map, filter, drop, refl, sym, ap, ap₂, ◌∙◌, subst, arith, length, not, All}
+use Rattle.std.specs.Prelude.{if◌then◌else◌}
 use Rattle.std.specs.List.{AllByRecursion}
 use Rattle.std.proofs.lemmas.List.Elements.{All-head, All-tail}
-use Rattle.std.proofs.lemmas.List.{drop-drop}
 use Rattle.gnss_obs.specs.declared.system.System.{System}
+use Rattle.gnss_obs.specs.Satellites.{satellites as satellites_in}
 use Rattle.obs_epoch.specs.declared.cell.Cell.{Cell}
-use Rattle.obs_epoch.specs.Values.{IsHeld, AreHeld, has_value, is_written, written_among, is_of_satellite, run}
+use Rattle.obs_epoch.specs.Values.{IsHeld, AreHeld, has_value, is_written, written_among, is_of_satellite}
 use Rattle.obs_epoch.specs.Order.{is_before, SeatsRise, cell_seat, AreSorted}
+use Rattle.std.proofs.lemmas.Grind.{common_steps}
 
 -- ---- cells in the order of satellites
 
@@ -19,9 +20,7 @@ Climb (c ∷ cells) = AllByRecursion (λ (d : Cell). c.satellite.id ≤ d.satell
 before_climbs : (planned : List ℕ) (c : Cell) (cells : List Cell) → AllByRecursion (λ t. is_before (cell_seat planned c) t ≡ true) (map (cell_seat planned) cells)
     → AllByRecursion (λ (d : Cell). c.satellite.id ≤ d.satellite.id) cells
 before_climbs planned c [] h = tt
-before_climbs planned c (d ∷ cells) h = (first c.satellite.id d.satellite.id _ _ h.0, before_climbs planned c cells h.1) where
-  first : (a b p q : ℕ) → (nat_lt a b || ((a == b) && nat_lt p q)) ≡ true → a ≤ b
-  first a b p q h = grind (arith, h)
+before_climbs planned c (d ∷ cells) h = grind (arith, common_steps, before_climbs planned c cells h.1)
 
 rise_climbs : (planned : List ℕ) (cells : List Cell) → SeatsRise (map (cell_seat planned) cells) → Climb cells
 rise_climbs planned [] h = tt
@@ -30,78 +29,16 @@ rise_climbs planned (c ∷ cells) h = (before_climbs planned c cells h.0, rise_c
 pub sorted_climbs : (cells : List Cell) → AreSorted cells → Climb cells
 sorted_climbs cells h = rise_climbs h.0 cells h.1
 
-pub climb-drop : (n : ℕ) (cells : List Cell) → Climb cells → Climb (drop n cells)
-climb-drop zero cells h = h
-climb-drop (suc n) [] h = tt
-climb-drop (suc n) (c ∷ cells) h = climb-drop n cells h.1
-
 -- ---- the first group of cells
 
 abbrev pub Above : ℕ → List Cell → Type 0
 Above n cells = AllByRecursion (λ (c : Cell). n < c.satellite.id) cells
 
-pub record Parted (id : ℕ) (cells : List Cell) : Type 0 where
-  pub group : filter (is_of_satellite id) cells ≡ take (run id cells) cells
-  pub above : Above id (drop (run id cells) cells)
-  pub rest : (later : ℕ) → id < later → filter (is_of_satellite later) cells ≡ filter (is_of_satellite later) (drop (run id cells) cells)
-
 all_above : (n m : ℕ) (cells : List Cell) → n < m → AllByRecursion (λ (d : Cell). m ≤ d.satellite.id) cells → Above n cells
 all_above n m [] lt h = tt
 all_above n m (c ∷ cells) lt h = (omega (arith, lt, h.0), all_above n m cells lt h.1)
 
-none_above : (n : ℕ) (cells : List Cell) → Above n cells → filter (is_of_satellite n) cells ≡ []
-none_above n [] h = refl
-none_above n (c ∷ cells) h = by (c.satellite.id == n) refl (none_above n cells h.1) where
-  by : (b : Bool) → (c.satellite.id == n) ≡ b → filter (is_of_satellite n) cells ≡ [] → cond b (c ∷ filter (is_of_satellite n) cells) (filter (is_of_satellite n) cells) ≡ []
-  by true e k = absurd (grind (arith, e, h.0))
-  by false e k = k
-
-parted_by : (n id : ℕ) (c : Cell) (cells : List Cell) (b : Bool) → is_of_satellite id c ≡ b → n < c.satellite.id → id ≡ suc n → AllByRecursion (λ (d : Cell). c.satellite.id ≤ d.satellite.id) cells
-    → Parted id cells → Parted id (c ∷ cells)
-parted_by n id c cells true e lt is up h = record {
-  group = ap₂ (λ b k. cond b (c ∷ filter (is_of_satellite id) cells) (filter (is_of_satellite id) cells)) e (refl {a = zero}) ∙ ap (λ l. c ∷ l) h.group ∙ ap (λ k. take k (c ∷ cells)) (sym one);
-  above = subst (λ k. Above id (drop k (c ∷ cells))) (sym one) h.above;
-  rest = λ later l. ap (λ b. cond b (c ∷ filter (is_of_satellite later) cells) (filter (is_of_satellite later) cells)) (other later l) ∙ h.rest later l ∙ ap (λ k. filter (is_of_satellite later) (drop k (c ∷ cells))) (sym one);
-} where
-  one : run id (c ∷ cells) ≡ suc (run id cells)
-  one = ap (λ b. if b then suc (run id cells) else 0) e
-
-  other : (later : ℕ) → id < later → is_of_satellite later c ≡ false
-  other later l = grind (arith, e, l)
-parted_by n id c cells false e lt is up h = record {
-  group = none_above id (c ∷ cells) all ∙ ap (λ k. take k (c ∷ cells)) (sym none);
-  above = subst (λ k. Above id (drop k (c ∷ cells))) (sym none) all;
-  rest = λ later l. ap (λ k. filter (is_of_satellite later) (drop k (c ∷ cells))) (sym none);
-} where
-  none : run id (c ∷ cells) ≡ 0
-  none = ap (λ b. if b then suc (run id cells) else 0) e
-
-  over : id < c.satellite.id
-  over = grind (arith, e, lt, is)
-
-  all : Above id (c ∷ cells)
-  all = (over, all_above id c.satellite.id cells over up)
-
--- The cells of a satellite come first if no cell of a lower number does.
-pub parted : (n id : ℕ) (cells : List Cell) → id ≡ suc n → Climb cells → Above n cells → Parted id cells
-parted n id [] is up h = record { group = refl; above = tt; rest = λ later l. refl }
-parted n id (c ∷ cells) is up h = parted_by n id c cells (is_of_satellite id c) refl h.0 is up.0 (parted n id cells is up.1 h.1)
-
--- Whether a satellite is written depends on its own cells only.
-pub any_from : (id : ℕ) (cells : List Cell) → is_written (filter (is_of_satellite id) cells) id ≡ is_written cells id
-any_from id [] = refl
-any_from id (c ∷ cells) = by (c.satellite.id == id) refl (any_from id cells) where
-  by : (b : Bool) → (c.satellite.id == id) ≡ b → is_written (filter (is_of_satellite id) cells) id ≡ is_written cells id
-      → is_written (cond b (c ∷ filter (is_of_satellite id) cells) (filter (is_of_satellite id) cells)) id ≡ ((b && has_value c) || is_written cells id)
-  by true e h = ap₂ (λ v w. (v && has_value c) || w) e h
-  by false e h = h
-
--- ---- some of the kept cells
-
 -- ---- the terms of the code
-
-drop_plus : (a b : ℕ) (cells : List Cell) → drop b (drop a cells) ≡ drop (a + b) cells
-drop_plus a b cells = drop-drop b a cells
 
 -- The cells of later satellites that are left are all cells of these satellites.
 pub record Left (n from : ℕ) (cells : List Cell) : Type 0 where
@@ -119,29 +56,130 @@ left_all system cells h = record {
   listed [] h = tt
   listed (c ∷ cells) h = (let one = All-head (IsHeld system) c cells h in omega (arith, one.number.0), listed cells (All-tail (IsHeld system) c cells h))
 
--- One more satellite.
-pub record Further (n from to id : ℕ) (cells : List Cell) : Type 0 where
-  pub group : filter (is_of_satellite id) cells ≡ take (to - from) (drop from cells)
-  pub left : Left id to cells
+-- ---- the number of satellites to write
 
-pub further : (n from to id : ℕ) (cells : List Cell) → id ≡ suc n → to ≡ from + run id (drop from cells) → to ≤ length cells → Climb cells → Left n from cells → Further n from to id cells
-further n from to id cells is at within climb h =
-    let part = parted n id (drop from cells) is (climb-drop from cells climb) h.above in
-    let size : to - from ≡ run id (drop from cells) = omega (arith, at) in
-    let lower : n < id = omega (arith, is) in
-    let same : drop (run id (drop from cells)) (drop from cells) ≡ drop to cells = drop_plus from (run id (drop from cells)) cells ∙ ap (λ k. drop k cells) (sym at) in
-    record {
-      group = h.rest id lower ∙ part.group ∙ ap (λ k. take k (drop from cells)) (sym size);
-      left = record {
-        within = within;
-        above = subst (Above id) same part.above;
-        rest = λ later l. h.rest later (omega (arith, lower, l)) ∙ part.rest later l ∙ ap (filter (is_of_satellite later)) same;
-      };
-    }
+-- The number of satellites to write, each counted at its first cell with a value that follows a cell of `last`.
+abbrev pub counted_after : ℕ → List Cell → ℕ
+counted_after last [] = 0
+counted_after last (c ∷ cells) = if has_value c && not (c.satellite.id == last) then suc (counted_after c.satellite.id cells) else counted_after last cells
 
--- One more satellite is counted if it is written.
-pub count_more : (cells : List Cell) (n m count new : ℕ) (b : Bool) → m ≡ suc n → is_written cells m ≡ b → count ≡ written_among cells n → new ≡ count + (if b then 1 else 0)
-    → new ≡ written_among cells m
+abbrev one_if : Bool → ℕ
+one_if b = if b then 1 else 0
+
+-- No cell is of a satellite above n.
+abbrev Within : ℕ → List Cell → Type 0
+Within n cells = AllByRecursion (λ (c : Cell). c.satellite.id ≤ n) cells
+
+none_written : (n : ℕ) (cells : List Cell) → Above n cells → is_written cells n ≡ false
+none_written n [] h = refl
+none_written n (c ∷ cells) h = grind (arith, common_steps, none_written n cells h.1)
+
+-- One more cell changes nothing if it has no value, or among lower numbers.
+no_value : (c : Cell) (cells : List Cell) (n : ℕ) → has_value c ≡ false → written_among (c ∷ cells) n ≡ written_among cells n
 unfolding written_among
-count_more cells n m count new b is here before now =
-    now ∙ ap₂ (λ k v. k + (if v then 1 else 0)) before (sym here ∙ ap (is_written cells) is) ∙ ap (written_among cells) (sym is)
+no_value c cells zero h = refl
+no_value c cells (suc n) h = ap₂ (λ k b. k + one_if b) (no_value c cells n h) (by (c.satellite.id == suc n) (has_value c) h) where
+  by : (a v : Bool) → v ≡ false → ((a && v) || is_written cells (suc n)) ≡ is_written cells (suc n)
+  by true false h = refl
+  by false v h = refl
+  by true true h = absurd (grind (arith, h))
+
+lower : (c : Cell) (cells : List Cell) (n : ℕ) → n < c.satellite.id → written_among (c ∷ cells) n ≡ written_among cells n
+unfolding written_among
+lower c cells zero lt = refl
+lower c cells (suc n) lt = ap₂ (λ k b. k + one_if ((b && has_value c) || is_written cells (suc n))) (lower c cells n (omega (arith, lt))) (unlike c.satellite.id (suc n) lt) where
+  unlike : (a n : ℕ) → n < a → (a == n) ≡ false
+  unlike a n lt = grind (arith, lt)
+
+one_more : (c : Cell) (cells : List Cell) (n : ℕ) → 1 ≤ c.satellite.id → c.satellite.id ≤ n → has_value c ≡ true
+    → written_among (c ∷ cells) n ≡ written_among cells n + one_if (not (is_written cells c.satellite.id))
+unfolding written_among
+one_more c cells zero low high h = absurd (omega (arith, low, high))
+one_more c cells (suc n) low high h = by (c.satellite.id == suc n) refl (λ less. one_more c cells n low less h) where
+  sum : (k : ℕ) (a : Bool) → k + 1 ≡ k + one_if a + one_if (not a)
+  sum k true = omega arith
+  sum k false = omega arith
+
+  swap : (k a b : ℕ) → k + a + b ≡ k + b + a
+  swap k a b = omega arith
+
+  by : (b : Bool) → (c.satellite.id == suc n) ≡ b
+      → (c.satellite.id ≤ n → written_among (c ∷ cells) n ≡ written_among cells n + one_if (not (is_written cells c.satellite.id)))
+      → written_among (c ∷ cells) (suc n) ≡ written_among cells (suc n) + one_if (not (is_written cells c.satellite.id))
+  by true e more =
+      let is : c.satellite.id ≡ suc n = grind (arith, e) in
+      ap₂ (λ k v. k + one_if v) (lower c cells n (omega (arith, is))) (ap₂ (λ a v. (a && v) || is_written cells (suc n)) e h)
+      ∙ sum (written_among cells n) (is_written cells (suc n)) ∙ ap (λ m. written_among cells n + one_if (is_written cells (suc n)) + one_if (not (is_written cells m))) (sym is)
+  by false e more =
+      let less : c.satellite.id ≤ n = grind (arith, e, high) in
+      ap₂ (λ k a. k + one_if ((a && has_value c) || is_written cells (suc n))) (more less) e
+      ∙ swap (written_among cells n) (one_if (not (is_written cells c.satellite.id))) (one_if (is_written cells (suc n)))
+
+none_among : (n : ℕ) → written_among [] n ≡ 0
+unfolding written_among
+none_among zero = refl
+none_among (suc n) = ap (λ k. k + 0) (none_among n)
+
+-- Cells in the order of satellites, none of one below `last`.
+counted_is : (n last : ℕ) (cells : List Cell) → Climb cells → Within n cells → Above 0 cells → AllByRecursion (λ (c : Cell). last ≤ c.satellite.id) cells
+    → written_among cells n ≡ counted_after last cells + one_if (is_written cells last)
+counted_is n last [] up within above from = none_among n
+counted_is n last (c ∷ cells) up within above from = by (has_value c) (c.satellite.id == last) refl refl (λ m from. counted_is n m cells up.1 within.1 above.1 from) where
+  by : (v s : Bool) → has_value c ≡ v → (c.satellite.id == last) ≡ s
+      → ((m : ℕ) → AllByRecursion (λ (d : Cell). m ≤ d.satellite.id) cells → written_among cells n ≡ counted_after m cells + one_if (is_written cells m))
+      → written_among (c ∷ cells) n ≡ (if v && not s then suc (counted_after c.satellite.id cells) else counted_after last cells) + one_if ((s && v) || is_written cells last)
+  by false true e f more = no_value c cells n e ∙ more last from.1
+  by false false e f more = no_value c cells n e ∙ more last from.1
+  by true true e f more =
+      one_more c cells n above.0 within.0 e ∙ ap₂ (λ k m. k + one_if (not (is_written cells m))) (more last from.1) (same c.satellite.id last f)
+      ∙ sum (counted_after last cells) (is_written cells last) where
+        same : (a b : ℕ) → (a == b) ≡ true → a ≡ b
+        same a b h = grind (arith, h)
+
+        sum : (k : ℕ) (a : Bool) → k + one_if a + one_if (not a) ≡ k + 1
+        sum k true = omega arith
+        sum k false = omega arith
+  by true false e f more =
+      let later : last < c.satellite.id = grind (arith, f, from.0) in
+      one_more c cells n above.0 within.0 e ∙ ap (λ k. k + one_if (not (is_written cells c.satellite.id))) (more c.satellite.id up.0)
+      ∙ sum (counted_after c.satellite.id cells) (is_written cells c.satellite.id)
+      ∙ ap (λ b. suc (counted_after c.satellite.id cells) + one_if b) (sym (none_written last cells (all_above last c.satellite.id cells later up.0))) where
+        sum : (k : ℕ) (a : Bool) → k + one_if a + one_if (not a) ≡ suc k + 0
+        sum k true = omega arith
+        sum k false = omega arith
+
+few_written : (cells : List Cell) (n : ℕ) → written_among cells n ≤ n
+unfolding written_among
+few_written cells zero = omega arith
+few_written cells (suc n) = by (is_written cells (suc n)) (few_written cells n) where
+  by : (b : Bool) → written_among cells n ≤ n → written_among cells n + one_if b ≤ suc n
+  by true h = omega (arith, h)
+  by false h = omega (arith, h)
+
+pub all_counted : (count last i : ℕ) (cells : List Cell) → length cells ≤ i → count + counted_after last (drop i cells) ≡ counted_after 0 cells → count ≡ counted_after 0 cells
+all_counted count last i cells end h = grind (arith, common_steps)
+
+-- The satellites of kept cells in order are counted one by one.
+pub counted_all : (system : System) (cells : List Cell) → AreHeld system cells → AreSorted cells
+    → (counted_after 0 cells ≡ written_among cells (satellites_in system)) × (counted_after 0 cells ≤ satellites_in system)
+counted_all system cells held sorted = (is, subst (λ k. k ≤ satellites_in system) (sym is) (few_written cells (satellites_in system))) where
+  within : (cells : List Cell) → All (IsHeld system) cells → Within (satellites_in system) cells
+  within [] h = tt
+  within (c ∷ cells) h =
+      let one = All-head (IsHeld system) c cells h in
+      (subst (λ s. c.satellite.id ≤ satellites_in s) one.satellite one.number.1, within cells (All-tail (IsHeld system) c cells h))
+
+  above : (cells : List Cell) → Above 0 cells → AllByRecursion (λ (c : Cell). 0 ≤ c.satellite.id) cells
+  above [] h = tt
+  above (c ∷ cells) h = (omega arith, above cells h.1)
+
+  all : Above 0 cells
+  all = (left_all system cells held).above
+
+  is : counted_after 0 cells ≡ written_among cells (satellites_in system)
+  is =
+      let sum = counted_is (satellites_in system) 0 cells (sorted_climbs cells sorted) (within cells held.each) all (above cells all) in
+      let none = none_written 0 cells all in
+      sym (sum ∙ ap (λ b. counted_after 0 cells + one_if b) none ∙ plus (counted_after 0 cells)) where
+        plus : (k : ℕ) → k + 0 ≡ k
+        plus k = omega arith

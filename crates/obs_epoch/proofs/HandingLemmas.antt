@@ -1,5 +1,5 @@
 -- A call of the gatherer returns the epoch that the longer list closes.
-use Rattle.std.proofs.Common.{◌≡◌, ℕ, ◌<◌, Bool, true, false, ◌||◌, ◌&&◌, List, [], ◌∷◌, ◌++◌, refl, sym, ap, ap₂, ◌∙◌, subst, arith, Option, Some, None, is_some, nat_lt, append-nil}
+use Rattle.std.proofs.Common.{◌≡◌, ℕ, Bool, true, false, ◌||◌, ◌&&◌, List, [], ◌∷◌, ◌++◌, refl, sym, ap, ap₂, ◌∙◌, subst, arith, Option, Some, None, is_some, nat_lt, append-nil}
 use Rattle.std.specs.Prelude.{if◌then◌else◌, option_to_list}
 use Rattle.std.specs.Option.{option_map_or}
 use Rattle.std.specs.List.{list_any}
@@ -22,6 +22,7 @@ use Rattle.obs_epoch.proofs.ClosingLemmas.{closing}
 use Rattle.obs_epoch.proofs.StandingLemmas.{closed_later}
 use Rattle.obs_epoch.proofs.TakeLemmas.{taken, closes_it, ended, Ended, times_taken, time_taken, pending_taken, IsSet, no_point_given, same_values, handed_is, ended_is}
 use Rattle.obs_epoch.proofs.GatheringLemmas.{Each, each_filter, each_front, each_back, list-push, before_all, before-push, pending_open, with_pending, prefix_self}
+use Rattle.std.proofs.lemmas.Grind.{common_steps}
 
 -- ---- which epoch is new
 
@@ -38,13 +39,8 @@ open_by s xs t a b = ap₂ (λ (p q : Bool). p || q) a b
 
 open_follows : (s : GatherSetup) (xs : List Timed) (u : ℕ) → Follows s xs u → is_shut s xs u ≡ false
 open_follows s xs u (first e) = open_by s xs u (closed_absent s u xs (none-absent xs u e)) (ap (λ o. option_map_or (λ v. nat_lt u v) o false) e)
-open_follows s xs u (greater g e lt) =
-    open_by s xs u (closed_absent s u xs (greater-absent xs g u e lt)) (ap (λ o. option_map_or (λ v. nat_lt u v) o false) e ∙ above g u lt) where
-      above : (g u : ℕ) → g < u → nat_lt u g ≡ false
-      above g u h = grind arith
-open_follows s xs u (equal e c) = open_by s xs u c (ap (λ o. option_map_or (λ v. nat_lt u v) o false) e ∙ itself u) where
-  itself : (u : ℕ) → nat_lt u u ≡ false
-  itself u = grind arith
+open_follows s xs u (greater g e lt) = grind (arith, common_steps, open_by, closed_absent, greater-absent)
+open_follows s xs u (equal e c) = grind (arith, common_steps, open_by)
 
 some_is : (a b : ℕ) → Some a ≡ Some b → a ≡ b
 some_is a b e = grind (arith, e)
@@ -110,13 +106,7 @@ new_closed g s ms m shut h early given (Some t) e has =
 -- The pending epoch, as it is returned.
 pending_closed : (v : Gathered) (s : GatherSetup) (ms : List Heard) (t : ℕ) → greatest_time (timed s ms) ≡ Some t → is_pending s (timed s ms) ≡ true
     → v.epoch ≡ held_at s (timed s ms) → v.values ≡ values_of s ms → v.handed ≡ true → handed_over v ≡ closed_list_at s ms (option_to_list (greatest_time (timed s ms)))
-pending_closed v s ms t e p epoch values has =
-    let xs = timed s ms in
-    let here : v.epoch ≡ epoch_at s xs t = epoch ∙ ap (λ o. option_map_or (epoch_at s xs) o no_epoch) e in
-    let known : v.values ≡ values_of s (before_closing s t ms) = values ∙ ap (values_of s) (sym (before_all s t ms (pending_open s xs t e p))) in
-    ap (λ b. closed_by (if b then Some (v.epoch) else None) v.values) has
-    ∙ ap₂ (λ (a : EpochValue) w. record { epoch = a; values = w } ∷ []) here known
-    ∙ ap (λ o. closed_list_at s ms (option_to_list o)) (sym e)
+pending_closed v s ms t e p epoch values has = grind (arith, common_steps, before_all, pending_open)
 
 -- ---- the calls
 
@@ -205,10 +195,7 @@ gathers_first g s ms es m h going early point = by (greatest_time (timed s ms)) 
       }
 
 pub has_closed : (v : Gathered) → v.handed ≡ is_some (closed_in v)
-has_closed v = by v.handed where
-  by : (b : Bool) → b ≡ is_some (if b then Some (v.epoch) else None)
-  by true = refl
-  by false = refl
+has_closed v = grind (arith, common_steps)
 
 pub end_ended : (b : Bool) (h : Gathered) → h.has_ended ≡ true → (if b then noted h else h).has_ended ≡ true
 end_ended true h e = e

@@ -8,15 +8,16 @@ use Rattle.obs_epoch.specs.Heard.{GatherSetup, HeardCell, kept_cell}
 use Rattle.obs_epoch.specs.Cells.{is_of_system, has_same_key, is_among, kept, add, is_planned}
 use Rattle.obs_epoch.specs.Loss.{lli_with}
 use Rattle.obs_epoch.specs.Held.{lookup, is_held, fate_of, count_in}
-use Rattle.obs_epoch.specs.Gather.{Gathered, with_more_in, with_more, fate_in, hold, hold_by, load}
+use Rattle.obs_epoch.specs.Gather.{Gathered, with_more, fate_in, hold, hold_by, load}
 use Rattle.obs_epoch.specs.Values.{PlanValue, planned_of, most_cells, EpochValue, cells_of}
-use Rattle.obs_epoch.specs.Order.{insert_by, is_before, seat_of, sorted, cell_seat}
+use Rattle.obs_epoch.specs.Order.{insert_by, seat_of, sorted, cell_seat}
 use Rattle.obs_epoch.proofs.CellsLemmas.{kept-add}
 use Rattle.obs_epoch.proofs.OrderLemmas.{sorted-push, among-sorted, length-sorted}
 use Rattle.obs_epoch.specs.declared.cell.Cell.{Cell}
 use Rattle.obs_epoch.specs.declared.locks.KnownLock.{KnownLock}
 use Rattle.obs_epoch.specs.declared.taken.CellCounts.{CellCounts}
 use Rattle.obs_epoch.specs.declared.taken.Fate.{Fate}
+use Rattle.std.proofs.lemmas.Grind.{common_steps}
 
 -- Cells with their loss of lock indicators, from the earlier locks of their keys.
 abbrev pub with_lli_by : (HeardCell → Option KnownLock) → ℕ → List HeardCell → List Cell
@@ -26,14 +27,7 @@ with_lli_by f t (x ∷ xs) = kept_cell x (lli_with t x (f x)) ∷ with_lli_by f 
 with_lli_by-insert : (planned : List ℕ) (f : HeardCell → Option KnownLock) (t : ℕ) (xs : List HeardCell) (x : HeardCell)
     → with_lli_by f t (insert_by (seat_of planned) x xs) ≡ insert_by (cell_seat planned) (kept_cell x (lli_with t x (f x))) (with_lli_by f t xs)
 with_lli_by-insert planned f t [] x = refl
-with_lli_by-insert planned f t (y ∷ xs) x = by (is_before (seat_of planned x) (seat_of planned y)) (with_lli_by-insert planned f t xs x) where
-  one : HeardCell → Cell
-  one z = kept_cell z (lli_with t z (f z))
-
-  by : (b : Bool) → with_lli_by f t (insert_by (seat_of planned) x xs) ≡ insert_by (cell_seat planned) (one x) (with_lli_by f t xs)
-      → with_lli_by f t (if b then x ∷ y ∷ xs else y ∷ insert_by (seat_of planned) x xs) ≡ (if b then one x ∷ one y ∷ with_lli_by f t xs else one y ∷ insert_by (cell_seat planned) (one x) (with_lli_by f t xs))
-  by true e = refl
-  by false e = ap (λ l. one y ∷ l) e
+with_lli_by-insert planned f t (y ∷ xs) x = grind (arith, common_steps, with_lli_by-insert planned f t xs x)
 
 -- A kept cell is inserted at its index in the order.
 with_lli_by-push : (planned : List ℕ) (f : HeardCell → Option KnownLock) (t : ℕ) (xs : List HeardCell) (x : HeardCell)
@@ -65,24 +59,14 @@ cells_in_of Gps p f t xs = refl
 cells_in_of Galileo p f t xs = refl
 
 pub fate_is : (s : GatherSetup) (f : HeardCell → Option KnownLock) (t : ℕ) (xs : List HeardCell) (x : HeardCell) → fate_of s (cells_of x.satellite.system (epoch_of s.plan f t xs)) x ≡ fate_after s xs x
-fate_is s f t xs x =
-    ap (λ ms. fate_of s ms x) (cells_in_of x.satellite.system s.plan f t xs)
-    ∙ ap₂ (λ b n. if is_planned s x then (if b then Repeated else (if nat_le most_cells n then Crowded else Kept)) else Skipped)
-    (with_lli_by-held f t (sorted planned (kept x.satellite.system xs)) x ∙ among-sorted planned (kept x.satellite.system xs) x)
-    (with_lli_by-length f t (sorted planned (kept x.satellite.system xs)) ∙ length-sorted planned (kept x.satellite.system xs)) where
-      planned : List ℕ
-      planned = planned_of x.satellite.system s.plan
+fate_is s f t xs x = grind (arith, common_steps, cells_in_of, with_lli_by-held, among-sorted, with_lli_by-length, length-sorted)
 
 -- The cells of the other system don't change.
 add_other : (system : System) (ks : List HeardCell) (x : HeardCell) → is_of_system system x ≡ false → add system ks x ≡ ks
 add_other system ks x h = ap (λ b. if b && not (is_among ks x || nat_le most_cells (length ks)) then ks ++ x ∷ [] else ks) h
 
 add_own : (system : System) (ks : List HeardCell) (x : HeardCell) → is_of_system system x ≡ true → add system ks x ≡ (if is_among ks x || nat_le most_cells (length ks) then ks else ks ++ x ∷ [])
-add_own system ks x h =
-    ap (λ b. if b && not (is_among ks x || nat_le most_cells (length ks)) then ks ++ x ∷ [] else ks) h ∙ by (is_among ks x || nat_le most_cells (length ks)) where
-      by : (b : Bool) → (if not b then ks ++ x ∷ [] else ks) ≡ (if b then ks else ks ++ x ∷ [])
-      by true = refl
-      by false = refl
+add_own system ks x h = grind (arith, common_steps)
 
 abbrev pub epoch_by : PlanValue → Fate → (HeardCell → Option KnownLock) → EpochValue → HeardCell → EpochValue
 epoch_by p Kept f e x = with_more p e (kept_cell x (lli_with e.time x (f x)))
@@ -93,54 +77,14 @@ one_gps : (s : GatherSetup) (f : HeardCell → Option KnownLock) (t : ℕ) (xs :
     → is_planned s x ≡ p → is_among (kept Gps xs) x ≡ a → nat_le most_cells (length (kept Gps xs)) ≡ n
     → epoch_by s.plan (if p then (if a then Repeated else (if n then Crowded else Kept)) else Skipped) f (epoch_of s.plan f t xs) x ≡ epoch_of s.plan f t (xs ++ (if p then x ∷ [] else []))
 one_gps s f t xs x false a n g e h k = ap (epoch_of s.plan f t) (sym (append-nil xs))
-one_gps s f t xs x true a n g e h k = by a n h k where
-  other : kept Galileo (xs ++ x ∷ []) ≡ kept Galileo xs
-  other = kept-add Galileo xs x ∙ add_other Galileo (kept Galileo xs) x (grind (arith, g))
-
-  own : kept Gps (xs ++ x ∷ []) ≡ (if is_among (kept Gps xs) x || nat_le most_cells (length (kept Gps xs)) then kept Gps xs else kept Gps xs ++ x ∷ [])
-  own = kept-add Gps xs x ∙ add_own Gps (kept Gps xs) x (grind (arith, g))
-
-  same : kept Gps (xs ++ x ∷ []) ≡ kept Gps xs → epoch_of s.plan f t xs ≡ epoch_of s.plan f t (xs ++ x ∷ [])
-  same e = sym (ap₂ (λ u v. record { time = t; gps = with_lli_by f t (sorted s.plan.gps u); galileo = with_lli_by f t (sorted s.plan.galileo v) }) e other)
-
-  more : kept Gps (xs ++ x ∷ []) ≡ kept Gps xs ++ x ∷ [] → with_more s.plan (epoch_of s.plan f t xs) (kept_cell x (lli_with t x (f x))) ≡ epoch_of s.plan f t (xs ++ x ∷ [])
-  more e =
-      ap (λ c. with_more_in c s.plan (epoch_of s.plan f t xs) (kept_cell x (lli_with t x (f x)))) g
-      ∙ ap (λ l. record { time = t; gps = l; galileo = with_lli_by f t (sorted s.plan.galileo (kept Galileo xs)) }) (sym (with_lli_by-push s.plan.gps f t (kept Gps xs) x))
-      ∙ sym (ap₂ (λ u v. record { time = t; gps = with_lli_by f t (sorted s.plan.gps u); galileo = with_lli_by f t (sorted s.plan.galileo v) }) e other)
-
-  by : (a n : Bool) → is_among (kept Gps xs) x ≡ a → nat_le most_cells (length (kept Gps xs)) ≡ n
-      → epoch_by s.plan (if a then Repeated else (if n then Crowded else Kept)) f (epoch_of s.plan f t xs) x ≡ epoch_of s.plan f t (xs ++ x ∷ [])
-  by true n h k = same (own ∙ ap (λ b. if b || nat_le most_cells (length (kept Gps xs)) then kept Gps xs else kept Gps xs ++ x ∷ []) h)
-  by false true h k = same (own ∙ ap₂ (λ b c. if b || c then kept Gps xs else kept Gps xs ++ x ∷ []) h k)
-  by false false h k = more (own ∙ ap₂ (λ b c. if b || c then kept Gps xs else kept Gps xs ++ x ∷ []) h k)
+one_gps s f t xs x true a n g e h k = grind (arith, common_steps, kept-add, add_other, add_own, with_lli_by-push)
 
 -- A cell of Galileo.
 one_galileo : (s : GatherSetup) (f : HeardCell → Option KnownLock) (t : ℕ) (xs : List HeardCell) (x : HeardCell) (p a n : Bool) → x.satellite.system ≡ Galileo
     → is_planned s x ≡ p → is_among (kept Galileo xs) x ≡ a → nat_le most_cells (length (kept Galileo xs)) ≡ n
     → epoch_by s.plan (if p then (if a then Repeated else (if n then Crowded else Kept)) else Skipped) f (epoch_of s.plan f t xs) x ≡ epoch_of s.plan f t (xs ++ (if p then x ∷ [] else []))
 one_galileo s f t xs x false a n g e h k = ap (epoch_of s.plan f t) (sym (append-nil xs))
-one_galileo s f t xs x true a n g e h k = by a n h k where
-  other : kept Gps (xs ++ x ∷ []) ≡ kept Gps xs
-  other = kept-add Gps xs x ∙ add_other Gps (kept Gps xs) x (grind (arith, g))
-
-  own : kept Galileo (xs ++ x ∷ []) ≡ (if is_among (kept Galileo xs) x || nat_le most_cells (length (kept Galileo xs)) then kept Galileo xs else kept Galileo xs ++ x ∷ [])
-  own = kept-add Galileo xs x ∙ add_own Galileo (kept Galileo xs) x (grind (arith, g))
-
-  same : kept Galileo (xs ++ x ∷ []) ≡ kept Galileo xs → epoch_of s.plan f t xs ≡ epoch_of s.plan f t (xs ++ x ∷ [])
-  same e = sym (ap₂ (λ u v. record { time = t; gps = with_lli_by f t (sorted s.plan.gps u); galileo = with_lli_by f t (sorted s.plan.galileo v) }) other e)
-
-  more : kept Galileo (xs ++ x ∷ []) ≡ kept Galileo xs ++ x ∷ [] → with_more s.plan (epoch_of s.plan f t xs) (kept_cell x (lli_with t x (f x))) ≡ epoch_of s.plan f t (xs ++ x ∷ [])
-  more e =
-      ap (λ c. with_more_in c s.plan (epoch_of s.plan f t xs) (kept_cell x (lli_with t x (f x)))) g
-      ∙ ap (λ l. record { time = t; gps = with_lli_by f t (sorted s.plan.gps (kept Gps xs)); galileo = l }) (sym (with_lli_by-push s.plan.galileo f t (kept Galileo xs) x))
-      ∙ sym (ap₂ (λ u v. record { time = t; gps = with_lli_by f t (sorted s.plan.gps u); galileo = with_lli_by f t (sorted s.plan.galileo v) }) other e)
-
-  by : (a n : Bool) → is_among (kept Galileo xs) x ≡ a → nat_le most_cells (length (kept Galileo xs)) ≡ n
-      → epoch_by s.plan (if a then Repeated else (if n then Crowded else Kept)) f (epoch_of s.plan f t xs) x ≡ epoch_of s.plan f t (xs ++ x ∷ [])
-  by true n h k = same (own ∙ ap (λ b. if b || nat_le most_cells (length (kept Galileo xs)) then kept Galileo xs else kept Galileo xs ++ x ∷ []) h)
-  by false true h k = same (own ∙ ap₂ (λ b c. if b || c then kept Galileo xs else kept Galileo xs ++ x ∷ []) h k)
-  by false false h k = more (own ∙ ap₂ (λ b c. if b || c then kept Galileo xs else kept Galileo xs ++ x ∷ []) h k)
+one_galileo s f t xs x true a n g e h k = grind (arith, common_steps, kept-add, add_other, add_own, with_lli_by-push)
 
 -- After one more cell, the kept epoch is that of the longer list.
 one_more : (s : GatherSetup) (f : HeardCell → Option KnownLock) (t : ℕ) (xs : List HeardCell) (x : HeardCell)

@@ -1,6 +1,6 @@
 -- A closing: the locks of the kept epoch are recorded.
-use Rattle.std.proofs.Common.{◌≡◌, ℕ, Bool, true, false, not, ◌||◌, ◌&&◌, List, [], ◌∷◌, ◌++◌, filter, refl, sym, ap, ap₂, ◌∙◌, subst, arith, length, append_assoc, append-nil, Option, Some, None, nat_le}
-use Rattle.std.specs.Prelude.{if◌then◌else◌, cond, flat_map, find, option_and_then, filter_map, unwrap_or}
+use Rattle.std.proofs.Common.{◌≡◌, ℕ, true, false, List, [], ◌∷◌, ◌++◌, filter, refl, sym, ap, ap₂, ◌∙◌, subst, arith, length, append_assoc, append-nil, Option, Some, None}
+use Rattle.std.specs.Prelude.{flat_map, find, option_and_then, filter_map, unwrap_or}
 use Rattle.std.specs.Option.{option_or}
 use Rattle.std.specs.List.{IsDistinct, cons_option}
 use Rattle.std.proofs.lemmas.List.Elements.{filter-append}
@@ -11,27 +11,23 @@ use Rattle.gnss_obs.specs.declared.system.System.TheVariants.{Gps, Galileo}
 use Rattle.obs_epoch.specs.Heard.{GatherSetup, HeardCell}
 use Rattle.obs_epoch.specs.Times.{Timed, is_at}
 use Rattle.obs_epoch.specs.Cells.{is_of_system, has_listed_key, is_planned, has_same_key, is_among, kept, kept_at, add, offered}
-use Rattle.obs_epoch.specs.Values.{most_cells, planned_of, EpochValue}
+use Rattle.obs_epoch.specs.Values.{planned_of, EpochValue}
 use Rattle.obs_epoch.proofs.OrderLemmas.{among-sorted, all-sorted, distinct-sorted}
 use Rattle.obs_epoch.specs.Loss.{lock_of, locked_at, latest_in, last_of, is_locked}
 use Rattle.obs_epoch.specs.Epochs.{cells_with_lli, epoch_at}
 use Rattle.obs_epoch.specs.Held.{lookup, note_all, most_locks, TracksLocks}
 use Rattle.obs_epoch.specs.Gather.{Gathered, noted}
 use Rattle.obs_epoch.specs.Standing.{locked_in, Locked}
-use Rattle.obs_epoch.proofs.CellsLemmas.{kept-add, same_key_laws, among-push, key_system}
+use Rattle.obs_epoch.proofs.CellsLemmas.{kept-add, same_key_laws}
 use Rattle.obs_epoch.proofs.LockLemmas.{seens, lookup-note_all, note_all_size, tracks_all, locked, find_none, AllListed}
 use Rattle.obs_epoch.specs.declared.cell.Cell.{Cell}
 use Rattle.obs_epoch.specs.declared.locks.KnownLock.{KnownLock}
+use Rattle.std.proofs.lemmas.Grind.{common_steps}
 
 -- ---- the kept cells have different keys, all of one system
 
 add_distinct : (system : System) (ks : List HeardCell) (y : HeardCell) → IsDistinct has_same_key ks → IsDistinct has_same_key (add system ks y)
-add_distinct system ks y d = by (is_of_system system y) (is_among ks y) (nat_le most_cells (length ks)) refl where
-  by : (o a n : Bool) → is_among ks y ≡ a → IsDistinct has_same_key (if o && not (a || n) then ks ++ y ∷ [] else ks)
-  by false a n e = d
-  by true true n e = d
-  by true false true e = d
-  by true false false e = IsDistinct-push same_key_laws ks y d e
+add_distinct system ks y d = grind (arith, common_steps, IsDistinct-push, same_key_laws)
 
 distinct_more : (system : System) (xs ys : List HeardCell) → IsDistinct has_same_key (kept system xs) → IsDistinct has_same_key (kept system (xs ++ ys))
 distinct_more system xs [] d = subst (λ l. IsDistinct has_same_key (kept system l)) (sym (append-nil xs)) d
@@ -48,14 +44,7 @@ unfolding IsDistinct
 kept_distinct system xs = distinct_more system [] xs (subst (IsDistinct has_same_key) (sym (kept_none system)) tt)
 
 add_apart : (system : System) (ks : List HeardCell) (y key : HeardCell) → is_of_system system key ≡ false → is_among ks key ≡ false → is_among (add system ks y) key ≡ false
-add_apart system ks y key o h = by (is_of_system system y) (is_among ks y || nat_le most_cells (length ks)) refl where
-  by : (b n : Bool) → is_of_system system y ≡ b → is_among (if b && not n then ks ++ y ∷ [] else ks) key ≡ false
-  by false n e = h
-  by true true e = h
-  by true false e = among-push ks y key ∙ ap (λ v. v || has_same_key key y) h ∙ other (has_same_key key y) refl where
-    other : (v : Bool) → has_same_key key y ≡ v → v ≡ false
-    other false f = refl
-    other true f = let same = key_system system key y f in absurd (grind (arith, same, e, o))
+add_apart system ks y key o h = grind (arith, common_steps)
 
 apart_more : (system : System) (xs ys : List HeardCell) (key : HeardCell) → is_of_system system key ≡ false → is_among (kept system xs) key ≡ false → is_among (kept system (xs ++ ys)) key ≡ false
 apart_more system xs [] key o h = subst (λ l. is_among (kept system l) key ≡ false) (sym (append-nil xs)) h
@@ -81,20 +70,14 @@ listed_append (x ∷ xs) ys h k = (h.0, listed_append xs ys h.1 k)
 
 listed_planned : (s : GatherSetup) (xs : List HeardCell) → AllListed (filter (is_planned s) xs)
 listed_planned s [] = tt
-listed_planned s (x ∷ xs) = by (is_planned s x) refl (listed_planned s xs) where
-  by : (b : Bool) → is_planned s x ≡ b → AllListed (filter (is_planned s) xs) → AllListed (cond b (x ∷ filter (is_planned s) xs) (filter (is_planned s) xs))
-  by true e h = (grind (arith, e), h)
-  by false e h = h
+listed_planned s (x ∷ xs) = grind (arith, common_steps, AllListed, listed_planned s xs)
 
 listed_offered : (s : GatherSetup) (xs : List Timed) → AllListed (flat_map (λ (x : Timed). filter (is_planned s) x.message.cells) xs)
 listed_offered s [] = tt
 listed_offered s (x ∷ xs) = listed_append (filter (is_planned s) x.message.cells) _ (listed_planned s x.message.cells) (listed_offered s xs)
 
 add_listed : (system : System) (ks : List HeardCell) (y : HeardCell) → has_listed_key y ≡ true → AllListed ks → AllListed (add system ks y)
-add_listed system ks y l h = by (is_of_system system y && not (is_among ks y || nat_le most_cells (length ks))) where
-  by : (b : Bool) → AllListed (if b then ks ++ y ∷ [] else ks)
-  by true = listed_append ks (y ∷ []) h (l, tt)
-  by false = h
+add_listed system ks y l h = grind (arith, common_steps)
 
 listed_more : (system : System) (xs ys : List HeardCell) → AllListed ys → AllListed (kept system xs) → AllListed (kept system (xs ++ ys))
 listed_more system xs [] l d = subst (λ v. AllListed (kept system v)) (sym (append-nil xs)) d
@@ -115,10 +98,7 @@ last_push (x ∷ xs) (Some l) = ap (λ o. Some (unwrap_or o x)) (last_push xs (S
 
 filter_map_push : (f : ℕ → Option KnownLock) (ts : List ℕ) (t : ℕ) → filter_map f (ts ++ t ∷ []) ≡ filter_map f ts ++ cons_option (f t) []
 filter_map_push f [] t = refl
-filter_map_push f (u ∷ ts) t = ap (cons_option (f u)) (filter_map_push f ts t) ∙ by (f u) where
-  by : (o : Option KnownLock) → cons_option o (filter_map f ts ++ cons_option (f t) []) ≡ cons_option o (filter_map f ts) ++ cons_option (f t) []
-  by None = refl
-  by (Some l) = refl
+filter_map_push f (u ∷ ts) t = grind (arith, common_steps, filter_map_push f ts t)
 
 pub latest_in-push : (s : GatherSetup) (xs : List Timed) (ts : List ℕ) (t : ℕ) (key : HeardCell)
     → latest_in s xs (ts ++ t ∷ []) key ≡ option_or (locked_at s xs key t) (latest_in s xs ts key)

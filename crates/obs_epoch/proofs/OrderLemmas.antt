@@ -1,5 +1,5 @@
 -- Cells in order, and one more cell.
-use Rattle.std.proofs.Common.{◌≡◌, ℕ, zero, suc, ◌+◌, ◌<◌, ◌≤◌, Bool, true, false, ◌||◌, List, [], ◌∷◌, ◌++◌, map, refl, sym, ap, ap₂, ◌∙◌, subst, arith, length, get_or, insert}
+use Rattle.std.proofs.Common.{◌≡◌, ℕ, zero, suc, ◌+◌, ◌<◌, ◌≤◌, Bool, true, false, ◌||◌, List, [], ◌∷◌, ◌++◌, map, refl, sym, ap, ◌∙◌, subst, arith, length, get_or, insert}
 use Rattle.std.specs.Prelude.{if◌then◌else◌, fold}
 use Rattle.std.proofs.lemmas.List.{get_or-map, length-map}
 use Rattle.std.specs.List.{list_any, AllByRecursion, IsDistinct}
@@ -12,6 +12,7 @@ use Rattle.obs_epoch.specs.declared.cell.Cell.{Cell}
 use Rattle.obs_epoch.specs.Values.{PlanValue, planned_of}
 use Rattle.obs_epoch.specs.Order.{is_before, SeatsRise, insert_by, spot, cell_seat, seat_of, sorted}
 use Rattle.obs_epoch.specs.Heard.{HeardCell}
+use Rattle.std.proofs.lemmas.Grind.{common_steps}
 
 -- ---- sort keys
 
@@ -22,13 +23,7 @@ pub before_trans : (a b c : Seat) → is_before a b ≡ true → is_before b c �
 before_trans a b c h k = grind (arith, h, k)
 
 pub before_other : (a b : Seat) → is_before a b ≡ false → (a ≡ b → ⊥) → is_before b a ≡ true
-before_other a b h other = by (is_before b a) refl where
-  by : (v : Bool) → is_before b a ≡ v → v ≡ true
-  by true e = refl
-  by false e =
-      let one : a.satellite ≡ b.satellite = grind (arith, h, e) in
-      let two : a.place ≡ b.place = grind (arith, h, e) in
-      absurd (other (ap₂ (λ s p. record { satellite = s; place = p }) one two))
+before_other a b h other = grind (arith, common_steps)
 
 abbrev pub Before : Seat → List Seat → Type 0
 Before s ts = AllByRecursion (λ t. is_before s t ≡ true) ts
@@ -41,50 +36,25 @@ before_all a b (t ∷ ts) h k = (before_trans a b t h k.0, before_all a b ts h k
 
 pub length-insert_by : {X : Type 0} (at : X → Seat) (x : X) (ys : List X) → length (insert_by at x ys) ≡ suc (length ys)
 length-insert_by at x [] = refl
-length-insert_by at x (y ∷ ys) = by (is_before (at x) (at y)) (length-insert_by at x ys) where
-  by : (b : Bool) → length (insert_by at x ys) ≡ suc (length ys) → length (if b then x ∷ y ∷ ys else y ∷ insert_by at x ys) ≡ suc (length (y ∷ ys))
-  by true e = refl
-  by false e = ap suc e
+length-insert_by at x (y ∷ ys) = grind (arith, common_steps, length-insert_by at x ys)
 
 pub any-insert_by : {X : Type 0} (p : X → Bool) (at : X → Seat) (x : X) (ys : List X) → list_any p (insert_by at x ys) ≡ (p x || list_any p ys)
 any-insert_by p at x [] = refl
-any-insert_by p at x (y ∷ ys) = by (is_before (at x) (at y)) (any-insert_by p at x ys) where
-  turn : (a b c : Bool) → (b || (a || c)) ≡ (a || (b || c))
-  turn true true c = refl
-  turn true false c = refl
-  turn false true c = refl
-  turn false false c = refl
-
-  by : (b : Bool) → list_any p (insert_by at x ys) ≡ (p x || list_any p ys) → list_any p (if b then x ∷ y ∷ ys else y ∷ insert_by at x ys) ≡ (p x || (p y || list_any p ys))
-  by true e = refl
-  by false e = ap (λ v. p y || v) e ∙ turn (p x) (p y) (list_any p ys)
+any-insert_by p at x (y ∷ ys) = grind (arith, common_steps, any-insert_by p at x ys)
 
 pub all-insert_by : {X : Type 0} (P : X → Type 0) (at : X → Seat) (x : X) (ys : List X) → P x → AllByRecursion P ys → AllByRecursion P (insert_by at x ys)
 all-insert_by P at x [] h k = (h, tt)
-all-insert_by P at x (y ∷ ys) h k = by (is_before (at x) (at y)) (all-insert_by P at x ys h k.1) where
-  by : (b : Bool) → AllByRecursion P (insert_by at x ys) → AllByRecursion P (if b then x ∷ y ∷ ys else y ∷ insert_by at x ys)
-  by true e = (h, k)
-  by false e = (k.0, e)
+all-insert_by P at x (y ∷ ys) h k = grind (arith, common_steps, all-insert_by P at x ys h k.1)
 
 pub map-insert_by : {X Y : Type 0} (f : X → Y) (at : X → Seat) (to : Y → Seat) → ((x : X) → to (f x) ≡ at x) → (x : X) (ys : List X)
     → map f (insert_by at x ys) ≡ insert_by to (f x) (map f ys)
 map-insert_by f at to same x [] = refl
-map-insert_by f at to same x (y ∷ ys) =
-    by (is_before (at x) (at y)) (map-insert_by f at to same x ys)
-    ∙ ap₂ (λ s t. if is_before s t then f x ∷ f y ∷ map f ys else f y ∷ insert_by to (f x) (map f ys)) (sym (same x)) (sym (same y)) where
-      by : (b : Bool) → map f (insert_by at x ys) ≡ insert_by to (f x) (map f ys)
-          → map f (if b then x ∷ y ∷ ys else y ∷ insert_by at x ys) ≡ (if b then f x ∷ f y ∷ map f ys else f y ∷ insert_by to (f x) (map f ys))
-      by true e = refl
-      by false e = ap (λ l. f y ∷ l) e
+map-insert_by f at to same x (y ∷ ys) = grind (arith, common_steps, map-insert_by f at to same x ys)
 
 -- The item is inserted at its index.
 pub insert_spot : {X : Type 0} (at : X → Seat) (x : X) (ys : List X) → insert ys (spot (at x) (map at ys)) x ≡ insert_by at x ys
 insert_spot at x [] = refl
-insert_spot at x (y ∷ ys) = by (is_before (at x) (at y)) (insert_spot at x ys) where
-  by : (b : Bool) → insert ys (spot (at x) (map at ys)) x ≡ insert_by at x ys
-      → insert (y ∷ ys) (if b then 0 else suc (spot (at x) (map at ys))) x ≡ (if b then x ∷ y ∷ ys else y ∷ insert_by at x ys)
-  by true e = refl
-  by false e = ap (λ l. y ∷ l) e
+insert_spot at x (y ∷ ys) = grind (arith, common_steps, insert_spot at x ys)
 
 pub rise-insert_by : {X : Type 0} (at : X → Seat) (x : X) (ys : List X) → SeatsRise (map at ys) → AllByRecursion (λ y. at x ≡ at y → ⊥) ys → SeatsRise (map at (insert_by at x ys))
 rise-insert_by at x [] r other = (tt, tt)
@@ -99,10 +69,7 @@ rise-insert_by at x (y ∷ ys) r other = by (is_before (at x) (at y)) refl (rise
 -- ---- the search for the index
 
 not_before : (s a b : Seat) → is_before a b ≡ true → is_before s b ≡ false → is_before s a ≡ false
-not_before s a b h k = by (is_before s a) refl where
-  by : (v : Bool) → is_before s a ≡ v → v ≡ false
-  by false e = refl
-  by true e = let l = before_trans s a b e h in absurd (grind (arith, l, k))
+not_before s a b h k = grind (arith, common_steps)
 
 pub get_before : (a : Seat) (ts : List Seat) (k : ℕ) (d : Seat) → k < length ts → Before a ts → is_before a (get_or ts k d) ≡ true
 get_before a [] k d h all = absurd (omega (arith, h))
@@ -111,18 +78,12 @@ get_before a (t ∷ ts) (suc k) d h all = get_before a ts k d (omega (arith, h))
 
 spot_most : (s : Seat) (ts : List Seat) → spot s ts ≤ length ts
 spot_most s [] = omega arith
-spot_most s (t ∷ ts) = by (is_before s t) (spot_most s ts) where
-  by : (b : Bool) → spot s ts ≤ length ts → (if b then 0 else suc (spot s ts)) ≤ suc (length ts)
-  by true h = omega arith
-  by false h = omega (arith, h)
+spot_most s (t ∷ ts) = grind (arith, common_steps, spot_most s ts)
 
 spot_upper : (s : Seat) (ts : List Seat) (k : ℕ) (d : Seat) → k < length ts → is_before s (get_or ts k d) ≡ true → spot s ts ≤ k
 spot_upper s [] k d h after = absurd (omega (arith, h))
 spot_upper s (t ∷ ts) zero d h after = let e : spot s (t ∷ ts) ≡ 0 = ap (λ b. if b then 0 else suc (spot s ts)) after in omega (arith, e)
-spot_upper s (t ∷ ts) (suc k) d h after = by (is_before s t) (spot_upper s ts k d (omega (arith, h)) after) where
-  by : (b : Bool) → spot s ts ≤ k → (if b then 0 else suc (spot s ts)) ≤ suc k
-  by true h = omega arith
-  by false h = omega (arith, h)
+spot_upper s (t ∷ ts) (suc k) d h after = grind (arith, common_steps, spot_upper s ts k d (omega (arith, h)) after)
 
 spot_lower : (s : Seat) (ts : List Seat) (k : ℕ) (d : Seat) → SeatsRise ts → k < length ts → is_before s (get_or ts k d) ≡ false → suc k ≤ spot s ts
 spot_lower s [] k d r h front = absurd (omega (arith, h))
@@ -158,19 +119,13 @@ own_seat system p x cell b v same is e = ap (λ s. is_before x (cell_seat (plann
 -- ---- the same cells
 
 pub sorted-push : (planned : List ℕ) (xs : List HeardCell) (x : HeardCell) → sorted planned (xs ++ x ∷ []) ≡ insert_by (seat_of planned) x (sorted planned xs)
-sorted-push planned xs x = from [] xs where
-  from : (ys xs : List HeardCell) → fold (λ zs z. insert_by (seat_of planned) z zs) ys (xs ++ x ∷ []) ≡ insert_by (seat_of planned) x (fold (λ zs z. insert_by (seat_of planned) z zs) ys xs)
-  from ys [] = refl
-  from ys (z ∷ xs) = from (insert_by (seat_of planned) z ys) xs
+sorted-push planned xs x = grind (arith, common_steps)
 
 abbrev onto : List ℕ → List HeardCell → List HeardCell → List HeardCell
 onto planned ys xs = fold (λ zs z. insert_by (seat_of planned) z zs) ys xs
 
 among-onto : (planned : List ℕ) (key : HeardCell) (ys xs : List HeardCell) → is_among (onto planned ys xs) key ≡ (is_among ys key || is_among xs key)
-among-onto planned key ys [] = by (is_among ys key) where
-  by : (b : Bool) → b ≡ (b || false)
-  by true = refl
-  by false = refl
+among-onto planned key ys [] = grind (arith, common_steps)
 among-onto planned key ys (x ∷ xs) =
     among-onto planned key (insert_by (seat_of planned) x ys) xs
     ∙ ap (λ b. b || is_among xs key) (any-insert_by (has_same_key key) (seat_of planned) x ys)
@@ -186,10 +141,7 @@ among-sorted planned xs key = among-onto planned key [] xs
 
 length-onto : (planned : List ℕ) (ys xs : List HeardCell) → length (onto planned ys xs) ≡ length ys + length xs
 length-onto planned ys [] = omega arith
-length-onto planned ys (x ∷ xs) =
-    let more = length-onto planned (insert_by (seat_of planned) x ys) xs in
-    let one = length-insert_by (seat_of planned) x ys in
-    omega (arith, more, one)
+length-onto planned ys (x ∷ xs) = grind (arith, common_steps, length-insert_by, length-onto planned (insert_by (seat_of planned) x ys) xs)
 
 pub length-sorted : (planned : List ℕ) (xs : List HeardCell) → length (sorted planned xs) ≡ length xs
 length-sorted planned xs = let is = length-onto planned [] xs in omega (arith, is)
@@ -225,10 +177,7 @@ Apart ys xs = AllByRecursion (λ x. is_among ys x ≡ false) xs
 
 still_apart : (planned : List ℕ) (x : HeardCell) (ys xs : List HeardCell) → AllByRecursion (λ z. has_same_key x z ≡ false) xs → Apart ys xs → Apart (insert_by (seat_of planned) x ys) xs
 still_apart planned x ys [] h k = tt
-still_apart planned x ys (z ∷ xs) h k = (
-  any-insert_by (has_same_key z) (seat_of planned) x ys ∙ ap₂ (λ a b. a || b) (same_key_laws.symm z x ∙ h.0) k.0,
-  still_apart planned x ys xs h.1 k.1,
-)
+still_apart planned x ys (z ∷ xs) h k = grind (arith, common_steps, any-insert_by, same_key_laws, still_apart planned x ys xs h.1 k.1)
 
 distinct-onto : (planned : List ℕ) (ys xs : List HeardCell) → IsDistinct has_same_key ys → IsDistinct has_same_key xs → Apart ys xs → IsDistinct has_same_key (onto planned ys xs)
 distinct-onto planned ys [] d e a = d

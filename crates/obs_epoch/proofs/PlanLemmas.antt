@@ -1,6 +1,6 @@
 -- Codes separated by commas, and the signals of a plan.
-use Rattle.std.proofs.Common.{◌≡◌, ℕ, suc, zero, ◌+◌, ◌<◌, ◌≤◌, ◌==◌, ◌||◌, Bool, true, false, not, List, [], ◌∷◌, ◌++◌, length, take, drop, All, nat_eq, nat_lt, refl, sym, ap, ap₂, ◌∙◌, subst, arith, Option, Some, None, Result, Ok, Err, rules}
-use Rattle.std.specs.Prelude.{cond, if◌then◌else◌, option_map, unwrap_or, codes}
+use Rattle.std.proofs.Common.{◌≡◌, ℕ, suc, zero, ◌+◌, ◌<◌, ◌≤◌, ◌==◌, ◌||◌, Bool, true, false, not, List, [], ◌∷◌, ◌++◌, length, take, drop, All, nat_eq, refl, sym, ap, ap₂, ◌∙◌, subst, arith, Option, Some, None, Result, Ok, Err, rules, true≢false}
+use Rattle.std.specs.Prelude.{cond, if◌then◌else◌, codes, is_err}
 use Rattle.std.specs.Str.{bytes_eq}
 use Rattle.std.proofs.Common.{Bor}
 use Rattle.std.proofs.lemmas.Cmp.{nat_eq_equiv}
@@ -9,13 +9,14 @@ use Rattle.std.proofs.lemmas.Map.Steps.{length-le_from_distinct_below}
 use Rattle.std.proofs.lemmas.List.Elements.{All-push, All-head, All-tail}
 use Rattle.std.proofs.lemmas.Str.Pattern.{IsSplitOnceResult, split_once_first}
 use Rattle.gnss_obs.specs.declared.tables.ListedSignal.{ListedSignal}
-use Rattle.obs_epoch.specs.declared.fault.PlanFault.TheVariants.{UnknownCode, RepeatedCode}
+use Rattle.obs_epoch.specs.declared.fault.PlanFault.TheVariants.{RepeatedCode}
 use Rattle.std.specs.List.{list_any, position_or_len, before_first, after_first, IsDistinct}
 use Rattle.gnss_obs.specs.declared.system.System.{System}
 use Rattle.gnss_obs.specs.Signals.{SignalAt, IsSignal, table, signal_where, signal_at}
 use Rattle.obs_epoch.specs.declared.fault.PlanFault.{PlanFault}
 use Rattle.obs_epoch.specs.Plans.{between_commas, onto_first, one_signal_more, below, signals_of, signals_after}
 use Rattle.obs_epoch.specs.Signals.{indices, IsOf}
+use Rattle.std.proofs.lemmas.Grind.{common_steps}
 
 abbrev comma : ℕ → Bool
 comma b = b == 44
@@ -97,20 +98,12 @@ is_of-push system ss s h same listed new = record {
 
 -- ---- one more code
 
-pub has_now : (b v : Bool) (n : ℕ) (s : SignalAt) (slice : List SignalAt) → (b ≡ list_any (λ (r : SignalAt). n == r.index) slice) → n ≡ s.index → {ss : List SignalAt} → slice ≡ ss → b ≡ v
-    → list_any (λ (r : SignalAt). s.index == r.index) ss ≡ v
-has_now b v n s slice is at {ss} e h = ap₂ (λ (k : ℕ) l. list_any (λ (r : SignalAt). k == r.index) l) (sym at) (sym e) ∙ sym is ∙ h
-
 pub repeated : (system : System) (ss : List SignalAt) (o : Option SignalAt) (s : SignalAt) (rest : List ℕ → Result (List ℕ) PlanFault) → o ≡ Some s
     → list_any (λ (r : SignalAt). s.index == r.index) ss ≡ true → one_signal_more system (indices ss) o rest ≡ Err (RepeatedCode system (length ss))
 repeated system ss o s rest is has =
     ap (λ o. one_signal_more system (indices ss) o rest) is
     ∙ ap (λ b. if b then Err (RepeatedCode system (length (indices ss))) else rest (indices ss ++ s.index ∷ [])) (sym (any_index s.index ss) ∙ has)
     ∙ ap (λ n. Err (RepeatedCode system n)) (length_indices ss)
-
-pub unknown : (system : System) (ss : List SignalAt) (o : Option SignalAt) (rest : List ℕ → Result (List ℕ) PlanFault) → o ≡ None
-    → one_signal_more system (indices ss) o rest ≡ Err (UnknownCode system (length ss))
-unknown system ss o rest is = ap (λ o. one_signal_more system (indices ss) o rest) is ∙ ap (λ n. Err (UnknownCode system n)) (length_indices ss)
 
 pub accepted : (system : System) (ss : List SignalAt) (o : Option SignalAt) (s : SignalAt) (rest : List ℕ → Result (List ℕ) PlanFault) → o ≡ Some s
     → list_any (λ (r : SignalAt). s.index == r.index) ss ≡ false → one_signal_more system (indices ss) o rest ≡ rest (indices (ss ++ s ∷ []))
@@ -119,44 +112,22 @@ accepted system ss o s rest is has =
     ∙ ap (λ b. if b then Err (RepeatedCode system (length (indices ss))) else rest (indices ss ++ s.index ∷ [])) (sym (any_index s.index ss) ∙ has)
     ∙ ap rest (sym (indices-push ss s))
 
-some_same : {x y : SignalAt} → Some x ≡ Some y → x ≡ y
-some_same {x} {y} e = ap (λ o. unwrap_or o x) e
-
-test_lt : (a b : ℕ) → nat_lt a b ≡ true → a < b
-test_lt a b e = grind (arith, e)
-
 -- The signal of a code is one of the system's table.
 pub of_where : (system : System) (test : ListedSignal → Bool) (s : SignalAt) → signal_where system test ≡ Some s → (s.system ≡ system) × IsSignal s
-of_where system test s h = by (nat_lt (position_or_len test (table system)) (length (table system))) refl h where
-  by : (b : Bool) → nat_lt (position_or_len test (table system)) (length (table system)) ≡ b
-      → option_map (λ i. record { system = system; index = i }) (cond b (Some (position_or_len test (table system))) None) ≡ Some s → (s.system ≡ system) × IsSignal s
-  by true lt e =
-      let is : record { system = system; index = position_or_len test (table system) } ≡ s = some_same e in
-      (subst (λ (v : SignalAt). v.system ≡ system) is refl, subst IsSignal is (test_lt _ _ lt))
-  by false lt e = absurd (grind (arith, e))
+of_where system test s h = grind (arith, common_steps)
 
 -- ---- all signals of a table
 
 pub at_index : (system : System) (i : ℕ) (s : SignalAt) → signal_at system i ≡ Some s → (s.system ≡ system) × IsSignal s × (s.index ≡ i)
-at_index system i s h = by (nat_lt i (length (table system))) refl h where
-  by : (b : Bool) → nat_lt i (length (table system)) ≡ b → (if b then Some (record { system = system; index = i }) else None) ≡ Some s → (s.system ≡ system) × IsSignal s × (s.index ≡ i)
-  by true lt e =
-      let is : record { system = system; index = i } ≡ s = some_same e in
-      (subst (λ (v : SignalAt). v.system ≡ system) is refl, subst IsSignal is (test_lt i (length (table system)) lt), subst (λ (v : SignalAt). v.index ≡ i) is refl)
-  by false lt e = absurd (grind (arith, e))
+at_index system i s h = grind (arith, common_steps)
 
 any-append : (q : ℕ) (xs ys : List ℕ) → list_any (nat_eq q) (xs ++ ys) ≡ (list_any (nat_eq q) xs || list_any (nat_eq q) ys)
 any-append q [] ys = refl
-any-append q (x ∷ xs) ys = ap (λ b. nat_eq q x || b) (any-append q xs ys) ∙ or_assoc (nat_eq q x) (list_any (nat_eq q) xs) (list_any (nat_eq q) ys) where
-  or_assoc : (a b c : Bool) → (a || (b || c)) ≡ ((a || b) || c)
-  or_assoc true b c = refl
-  or_assoc false b c = refl
+any-append q (x ∷ xs) ys = grind (arith, common_steps, any-append q xs ys)
 
 none_below : (m n : ℕ) → m ≤ n → list_any (nat_eq n) (below m) ≡ false
 none_below zero n le = refl
-none_below (suc m) n le = any-append n (below m) (m ∷ []) ∙ ap₂ (λ a b. a || (b || false)) (none_below m n (omega (arith, le))) (unlike n m (omega (arith, le))) where
-  unlike : (a b : ℕ) → b < a → nat_eq a b ≡ false
-  unlike a b h = grind (arith, h)
+none_below (suc m) n le = grind (arith, common_steps, any-append, none_below m n (omega (arith, le)))
 
 below-more : (i : ℕ) → below (i + 1) ≡ below i ++ i ∷ []
 below-more i = let e : i + 1 ≡ suc i = omega arith in rw e refl
@@ -171,17 +142,15 @@ one_index system i s ss new so of is e =
     )
 
 -- The next signal of a table is not among the earlier ones.
-pub index_added : {E : Type 0} (system : System) (i : ℕ) (s : SignalAt) (ss new : List SignalAt) (r : Result Bool E) (b : Bool) → r ≡ Ok b → below i ≡ indices ss → IsOf system ss
+pub index_added : {E : Type 0} (system : System) (i : ℕ) (s : SignalAt) (ss new : List SignalAt) (r : Result Bool E) → is_err r ≡ false → below i ≡ indices ss → IsOf system ss
     → signal_at system i ≡ Some s → (r ≡ Ok true → (new ≡ ss ++ s ∷ []) × (list_any (λ (q : SignalAt). s.index == q.index) ss ≡ false) × IsOf s.system new)
     → (r ≡ Ok false → (new ≡ ss) × (list_any (λ (q : SignalAt). s.index == q.index) ss ≡ true)) → (below (i + 1) ≡ indices new) × IsOf system new
-index_added system i s ss new r true is so of at added there = one_index system i s ss new so of at (added is).0
-index_added system i s ss new r false is so of at added there =
+index_added system i s ss new (Ok true) is so of at added there = one_index system i s ss new so of at (added refl).0
+index_added system i s ss new (Ok false) is so of at added there =
     let here = at_index system i s at in
     let none = any_index s.index ss ∙ ap₂ (λ n l. list_any (nat_eq n) l) here.2 (sym so) ∙ none_below i i (omega arith) in
-    absurd (unlike _ (there is).1 none)
-  where
-    unlike : (b : Bool) → b ≡ true → b ≡ false → ⊥
-    unlike b h k = grind (arith, h, k)
+    absurd (true≢false (sym (there refl).1 ∙ none))
+index_added system i s ss new (Err e) is so of at added there = absurd (true≢false is)
 
 pub when_none : (system : System) (text : List ℕ) (r : List SignalAt) → bytes_eq text (codes "all") ≡ false → bytes_eq text (codes "none") ≡ true → r ≡ []
     → (signals_of system text ≡ Ok (indices r)) × IsOf system r

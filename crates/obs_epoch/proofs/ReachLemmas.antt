@@ -1,39 +1,36 @@
 -- Bounds of the values of epochs.
 use Rattle.rtcm_msg.specs.declared.entry.LockField.{LockField}
 use Rattle.rtcm_msg.specs.declared.entry.LockField.TheVariants.{Df402, Df407}
-use Rattle.std.proofs.Common.{◌≡◌, ℕ, zero, suc, ℤ, pos, ◌+◌, ◌*◌, ◌^◌, ◌<◌, ◌≤◌, ◌≤ℤ◌, ◌==◌, Bool, true, false, ◌||◌, ◌&&◌, List, [], ◌∷◌, ◌++◌, filter, take, refl, sym, ap, ◌∙◌, subst, arith, Option, Some, None, nat_lt, nat_le, is_some, unsigned_abs, lit<}
-use Rattle.std.specs.Prelude.{if◌then◌else◌, cond, flat_map, filter_map, option_map, option_and_then, IfSome, fold}
-use Rattle.std.specs.Option.{option_map_or}
+use Rattle.std.proofs.Common.{◌≡◌, ℕ, zero, suc, ℤ, pos, ◌+◌, ◌*◌, ◌^◌, ◌<◌, ◌≤◌, ◌≤ℤ◌, Bool, true, false, List, [], ◌∷◌, ◌++◌, filter, take, ap, arith, Option, Some, None, nat_lt, is_some, unsigned_abs}
+use Rattle.std.specs.Prelude.{if◌then◌else◌, flat_map, filter_map, option_map, option_and_then, IfSome, fold}
 use Rattle.std.specs.List.{AllByRecursion, IsDistinct, cons_option}
-use Rattle.std.proofs.lemmas.Int.{ints}
 use Rattle.gnss_obs.specs.declared.system.System.{System}
 use Rattle.gnss_obs.specs.declared.system.System.TheVariants.{Gps, Galileo}
-use Rattle.gnss_obs.specs.Satellites.{Satellite, satellite_of_id, satellites}
+use Rattle.gnss_obs.specs.Satellites.{Satellite, satellite_of_id}
 use Rattle.gnss_obs.specs.Signals.{SignalAt, signal_of_id, hertz_of}
 use Rattle.gnss_obs.specs.Observables.{nearest_pseudorange, nearest_phase, nearest_doppler, nearest_strength}
 use Rattle.gnss_obs.specs.LockTimes.{LockTime}
-use Rattle.rtcm_msg.specs.declared.station.StationParts.{StationParts}
 use Rattle.rtcm_msg.specs.declared.entry.Entry.{Entry}
 use Rattle.rtcm_msg.specs.declared.message.Message.{Message}
 use Rattle.rtcm_msg.specs.declared.message.Message.TheVariants.{Station, Msm4, Msm7, Other}
 use Rattle.rtcm_msg.specs.Spelling.{IsMessage}
-use Rattle.rtcm_msg.specs.Reach.{IsMeasured, EntriesAreMeasured, IsCoordinate, IsPoint, PointsAreInRange}
+use Rattle.rtcm_msg.specs.Reach.{IsMeasured, EntriesAreMeasured, PointsAreInRange}
 use Rattle.rtcm_msg.specs.Entries.{entries}
 use Rattle.obs_epoch.specs.declared.cell.StationValues.{StationValues}
 use Rattle.rtcm_msg.specs.Msm.{week}
 use Rattle.obs_epoch.specs.Weeks.{weeks}
 use Rattle.obs_epoch.specs.Values.{Closed, HasTwelveDigits, cells_of, planned_of, most_cells}
-use Rattle.obs_epoch.specs.Plans.{place_in}
-use Rattle.obs_epoch.specs.Heard.{GatherSetup, Heard, heard, observed, seen_in, lock_by, is_own, HeardCell, kept_cell}
-use Rattle.obs_epoch.specs.Times.{Timed, is_at, timed, timed_after, taken_at, is_late, is_past, time_of}
-use Rattle.obs_epoch.specs.Cells.{is_of_system, is_system, is_planned, has_listed_key, is_among, has_same_key, offered, firsts_after, firsts, kept, kept_at}
-use Rattle.obs_epoch.specs.Loss.{times, lli_with, lli_of, has_lost, previous}
-use Rattle.obs_epoch.specs.Epochs.{cells_with_lli, epoch_at, values_by_message, no_values, is_shut}
+use Rattle.obs_epoch.specs.Heard.{GatherSetup, Heard, heard, observed, seen_in, lock_by, HeardCell, kept_cell}
+use Rattle.obs_epoch.specs.Times.{Timed, is_at, timed, timed_after, taken_at}
+use Rattle.obs_epoch.specs.Cells.{is_of_system, is_planned, has_same_key, offered, firsts_after, firsts, kept, kept_at}
+use Rattle.obs_epoch.specs.Loss.{times, lli_with, lli_of, has_lost}
+use Rattle.obs_epoch.specs.Epochs.{cells_with_lli, epoch_at, values_by_message, is_shut}
 use Rattle.obs_epoch.specs.Gathering.{open_after, before_closing, closed_list_at, all_epochs}
 use Rattle.obs_epoch.specs.Reach.{IsStrength, IsHeardCell, IsHeard, IsGathered, same_place, AreGathered, AreStationValues, IsGatheredEpoch, TimesRise, AreGatheredEpochs}
 use Rattle.obs_epoch.proofs.OrderLemmas.{all-sorted, distinct-sorted}
 use Rattle.obs_epoch.proofs.NotingLemmas.{kept_distinct}
 use Rattle.obs_epoch.specs.declared.locks.KnownLock.{KnownLock}
+use Rattle.std.proofs.lemmas.Grind.{common_steps}
 
 -- ---- properties of each item
 
@@ -43,18 +40,12 @@ all_append P (x ∷ xs) ys h k = (h.0, all_append P xs ys h.1 k)
 
 all_filter : {X : Type 0} (P : X → Type 0) (p : X → Bool) (xs : List X) → AllByRecursion P xs → AllByRecursion P (filter p xs)
 all_filter P p [] h = tt
-all_filter P p (x ∷ xs) h = by (p x) (all_filter P p xs h.1) where
-  by : (b : Bool) → AllByRecursion P (filter p xs) → AllByRecursion P (cond b (x ∷ filter p xs) (filter p xs))
-  by true k = (h.0, k)
-  by false k = k
+all_filter P p (x ∷ xs) h = grind (arith, common_steps, all_filter P p xs h.1)
 
 -- Each item of a filtered list passes the test.
 all_passed : {X : Type 0} (P : X → Type 0) (p : X → Bool) (xs : List X) → AllByRecursion P xs → AllByRecursion (λ x. P x × (p x ≡ true)) (filter p xs)
 all_passed P p [] h = tt
-all_passed P p (x ∷ xs) h = by (p x) refl (all_passed P p xs h.1) where
-  by : (b : Bool) → p x ≡ b → AllByRecursion (λ y. P y × (p y ≡ true)) (filter p xs) → AllByRecursion (λ y. P y × (p y ≡ true)) (cond b (x ∷ filter p xs) (filter p xs))
-  by true e k = ((h.0, e), k)
-  by false e k = k
+all_passed P p (x ∷ xs) h = grind (arith, common_steps, all_passed P p xs h.1)
 
 all_take : {X : Type 0} (P : X → Type 0) (n : ℕ) (xs : List X) → AllByRecursion P xs → AllByRecursion P (take n xs)
 all_take P zero xs h = tt
@@ -113,17 +104,7 @@ record IsTimed (x : Timed) : Type 0 where
   time : IfSome x.time IsWithin
 
 taken_within : (s : GatherSetup) (earlier : List Timed) (m : Heard) → IfSome (taken_at s earlier m) IsWithin
-taken_within s earlier m = by (is_own s m) m.tow where
-  by_tow : (tow : ℕ) (late past : Bool) → is_past (time_of s earlier tow) ≡ past → IfSome (if late || past then None else Some (time_of s earlier tow)) IsWithin
-  by_tow tow true past e = tt
-  by_tow tow false true e = tt
-  by_tow tow false false e = grind (arith, e)
-
-  by : (own : Bool) (o : Option ℕ)
-      → IfSome (if own then option_and_then (λ tow. if is_late s earlier tow || is_past (time_of s earlier tow) then None else Some (time_of s earlier tow)) o else None) IsWithin
-  by false o = tt
-  by true None = tt
-  by true (Some tow) = by_tow tow (is_late s earlier tow) (is_past (time_of s earlier tow)) refl
+taken_within s earlier m = grind (arith, common_steps)
 
 timed_more : (s : GatherSetup) (earlier : List Timed) (ms : List Heard) → AllByRecursion IsTimed earlier → AllByRecursion IsHeard ms → AllByRecursion IsTimed (timed_after s earlier ms)
 timed_more s earlier [] h k = h
@@ -141,32 +122,19 @@ Rise (t ∷ ts) = AllByRecursion (λ u. t < u) ts × Rise ts
 
 rise_filter : (p : ℕ → Bool) (ts : List ℕ) → Rise ts → Rise (filter p ts)
 rise_filter p [] h = tt
-rise_filter p (t ∷ ts) h = by (p t) (rise_filter p ts h.1) where
-  by : (b : Bool) → Rise (filter p ts) → Rise (cond b (t ∷ filter p ts) (filter p ts))
-  by true k = (all_filter (λ u. t < u) p ts h.0, k)
-  by false k = k
+rise_filter p (t ∷ ts) h = grind (arith, common_steps, all_filter, rise_filter p ts h.1)
 
 all_less : (t : ℕ) (ts : List ℕ) → AllByRecursion (λ u. t < u) (filter (λ u. nat_lt t u) ts)
 all_less t [] = tt
-all_less t (u ∷ ts) = by (nat_lt t u) refl (all_less t ts) where
-  by : (b : Bool) → nat_lt t u ≡ b → AllByRecursion (λ v. t < v) (filter (λ v. nat_lt t v) ts)
-      → AllByRecursion (λ v. t < v) (cond b (u ∷ filter (λ v. nat_lt t v) ts) (filter (λ v. nat_lt t v) ts))
-  by true e k = (grind (arith, e), k)
-  by false e k = k
+all_less t (u ∷ ts) = grind (arith, common_steps, all_less t ts)
 
 times_rise : (xs : List Timed) → Rise (times xs)
 times_rise [] = tt
-times_rise (x ∷ xs) = by x.time (times_rise xs) where
-  by : (o : Option ℕ) → Rise (times xs) → Rise (option_map_or (λ t. t ∷ filter (λ u. nat_lt t u) (times xs)) o (times xs))
-  by None h = h
-  by (Some t) h = (all_less t (times xs), rise_filter (λ u. nat_lt t u) (times xs) h)
+times_rise (x ∷ xs) = grind (arith, common_steps, all_less, rise_filter, times_rise xs)
 
 times_within : (xs : List Timed) → AllByRecursion IsTimed xs → AllByRecursion IsWithin (times xs)
 times_within [] h = tt
-times_within (x ∷ xs) h = by x.time h.0.time (times_within xs h.1) where
-  by : (o : Option ℕ) → IfSome o IsWithin → AllByRecursion IsWithin (times xs) → AllByRecursion IsWithin (option_map_or (λ t. t ∷ filter (λ u. nat_lt t u) (times xs)) o (times xs))
-  by None k l = l
-  by (Some t) k l = (k, all_filter IsWithin (λ u. nat_lt t u) (times xs) l)
+times_within (x ∷ xs) h = grind (arith, common_steps, all_filter, times_within xs h.1)
 
 -- ---- cells
 
@@ -180,10 +148,7 @@ all_offered s (x ∷ xs) h = all_append (IsOffered s) (filter (is_planned s) x.m
 
 all_firsts : (P : HeardCell → Type 0) (earlier xs : List HeardCell) → AllByRecursion P xs → AllByRecursion P (firsts_after earlier xs)
 all_firsts P earlier [] h = tt
-all_firsts P earlier (x ∷ xs) h = by (is_among earlier x) (all_firsts P (earlier ++ x ∷ []) xs h.1) where
-  by : (b : Bool) → AllByRecursion P (firsts_after (earlier ++ x ∷ []) xs) → AllByRecursion P ((if b then [] else x ∷ []) ++ firsts_after (earlier ++ x ∷ []) xs)
-  by true k = k
-  by false k = (h.0, k)
+all_firsts P earlier (x ∷ xs) h = grind (arith, common_steps, all_firsts P (earlier ++ x ∷ []) xs h.1)
 
 -- The same, of a system.
 abbrev IsKept : GatherSetup → System → HeardCell → Type 0
@@ -196,71 +161,24 @@ all_kept s t xs system h =
     (all_passed (IsOffered s) (is_of_system system) (firsts (offered s t xs))
     (all_firsts (IsOffered s) [] (offered s t xs) (all_offered s (filter (is_at t) xs) (all_filter IsTimed (is_at t) xs h)))))
 
-system_is : (a b : System) → is_system a b ≡ true → b ≡ a
-system_is Gps Gps h = refl
-system_is Gps Galileo h = absurd (grind (arith, h))
-system_is Galileo Gps h = absurd (grind (arith, h))
-system_is Galileo Galileo h = refl
-
-first_of : (a b : Bool) → (a && b) ≡ true → a ≡ true
-first_of true b h = refl
-first_of false b h = h
-
-second_of : (a b : Bool) → (a && b) ≡ true → b ≡ true
-second_of true b h = h
-second_of false b h = absurd (grind (arith, h))
-
 small_lli : (t : ℕ) (x : HeardCell) (before : Option KnownLock) → lli_with t x before < 4
-small_lli t x before = by (is_some x.l) (has_lost t x before) x.half_cycle where
-  by : (l a b : Bool) → (if l then (if a then 1 else 0) + (if b then 2 else 0) else 0) < 4
-  by false a b = lit< tt
-  by true false false = lit< tt
-  by true false true = lit< tt
-  by true true false = lit< tt
-  by true true true = lit< tt
+small_lli t x before = grind (arith, common_steps)
 
 no_lli : (t : ℕ) (x : HeardCell) (before : Option KnownLock) → x.l ≡ None → lli_with t x before ≡ 0
 no_lli t x before e = ap (λ (o : Option ℤ). if is_some o then (if has_lost t x before then 1 else 0) + (if x.half_cycle then 2 else 0) else 0) e
 
-number_is : (n most : ℕ) (rest : Bool) → (nat_lt 0 n && nat_le n most && rest) ≡ true → (1 ≤ n) × (n ≤ most)
-number_is n most rest h = (grind (arith, h), grind (arith, h))
-
 gathered : (s : GatherSetup) (system : System) (x : HeardCell) (lli : ℕ) → IsKept s system x → lli < 4 → (x.l ≡ None → lli ≡ 0)
     → IsGathered system (planned_of system s.plan) (kept_cell x lli)
-gathered s system x lli h few none =
-    let here : x.satellite.system ≡ system = system_is system x.satellite.system h.1 in
-    let listed : has_listed_key x ≡ true = first_of (has_listed_key x) _ h.0.1 in
-    let planned : is_some (place_in x.signal (planned_of x.satellite.system s.plan)) ≡ true = second_of (has_listed_key x) _ h.0.1 in
-    let number = number_is x.satellite.id (satellites x.satellite.system) _ listed in
-    record {
-      number = (number.0, subst (λ n. x.satellite.id ≤ n) (ap satellites here) number.1);
-      planned = subst (λ c. is_some (place_in x.signal (planned_of c s.plan)) ≡ true) here planned;
-      c = h.0.0.c;
-      l = h.0.0.l;
-      d = h.0.0.d;
-      s = h.0.0.s;
-      lli = few;
-      without_phase = none;
-    }
+gathered s system x lli h few none = grind (arith, common_steps)
 
 each_gathered : (s : GatherSetup) (xs : List Timed) (t : ℕ) (system : System) (cs : List HeardCell) → AllByRecursion (IsKept s system) cs
     → AllByRecursion (IsGathered system (planned_of system s.plan)) ((cells_with_lli s xs t cs))
 each_gathered s xs t system [] h = tt
-each_gathered s xs t system (c ∷ cs) h =
-    let before = previous s xs t c in
-    (gathered s system c (lli_of s xs t c) h.0 (small_lli t c before) (no_lli t c before), each_gathered s xs t system cs h.1)
-
-same_system : (a b c : System) → is_system a b ≡ true → is_system a c ≡ true → is_system b c ≡ true
-same_system Gps Gps c h k = k
-same_system Gps Galileo c h k = absurd (grind (arith, h))
-same_system Galileo Gps c h k = absurd (grind (arith, h))
-same_system Galileo Galileo c h k = k
+each_gathered s xs t system (c ∷ cs) h = grind (arith, common_steps, gathered, small_lli, no_lli, each_gathered s xs t system cs h.1)
 
 other_place : (system : System) (x y : HeardCell) (m n : ℕ) → is_of_system system x ≡ true → is_of_system system y ≡ true → has_same_key x y ≡ false
     → same_place (kept_cell x m) (kept_cell y n) ≡ false
-other_place system x y m n h k other =
-    let same = same_system system x.satellite.system y.satellite.system h k in
-    sym (ap (λ b. b && (x.satellite.id == y.satellite.id) && (x.signal.index == y.signal.index)) same) ∙ other
+other_place system x y m n h k other = grind (arith, common_steps)
 
 all_other : (s : GatherSetup) (xs : List Timed) (t : ℕ) (system : System) (c : HeardCell) (m : ℕ) (cs : List HeardCell) → is_of_system system c ≡ true → AllByRecursion (IsKept s system) cs
     → AllByRecursion (λ y. has_same_key c y ≡ false) cs
@@ -276,13 +194,7 @@ places_apart s xs t system (c ∷ cs) h d = (all_other s xs t system c (lli_of s
 
 cells_gathered : (s : GatherSetup) (xs : List Timed) (t : ℕ) (system : System) → AllByRecursion IsTimed xs
     → AreGathered system (planned_of system s.plan) ((cells_with_lli s xs t (kept_at s t xs system)))
-cells_gathered s xs t system h =
-    let cs = kept_at s t xs system in
-    let all = all_kept s t xs system h in
-    record {
-      each = each_gathered s xs t system cs all;
-      apart = places_apart s xs t system cs all (distinct-sorted (planned_of system s.plan) (kept system (offered s t xs)) (kept_distinct system (offered s t xs)));
-    }
+cells_gathered s xs t system h = grind (arith, common_steps, all_kept, each_gathered, places_apart, distinct-sorted, kept_distinct)
 
 cells_at : (s : GatherSetup) (xs : List Timed) (t : ℕ) → AllByRecursion IsTimed xs → (system : System) → AreGathered system (planned_of system s.plan) (cells_of system ((epoch_at s xs t)))
 cells_at s xs t h Gps = cells_gathered s xs t Gps h
@@ -290,30 +202,12 @@ cells_at s xs t h Galileo = cells_gathered s xs t Galileo h
 
 -- ---- station values
 
-height_within : (h : Option ℕ) (before : ℕ) → IfSome h (λ n. n < 2 ^ 16) → before < 2 ^ 16 → option_map_or (λ n. n) h before < 2 ^ 16
-height_within None before k l = l
-height_within (Some n) before k l = k
-
-point_in_range : (v : StationValues) (o : Option StationParts) → IfSome o IsPoint → AreStationValues v
-    → AreStationValues (option_map_or (λ (p : StationParts). record { x = p.x; y = p.y; z = p.z; height = option_map_or (λ h. h) p.height v.height }) o v)
-point_in_range v None k h = h
-point_in_range v (Some p) k h = record { x = k.x; y = k.y; z = k.z; height = height_within p.height v.height k.height h.height }
-
 values_in_range : (s : GatherSetup) (v : StationValues) (m : Heard) → IsHeard m → AreStationValues v → AreStationValues (values_by_message s v m)
-values_in_range s v m k h = by (is_own s m) where
-  by : (b : Bool)
-      → AreStationValues (if b then option_map_or (λ (p : StationParts). record { x = p.x; y = p.y; z = p.z; height = option_map_or (λ h. h) p.height v.height }) m.point v else v)
-  by true = point_in_range v m.point k.point h
-  by false = h
+values_in_range s v m k h = grind (arith, common_steps)
 
 values_from : (s : GatherSetup) (v : StationValues) (ms : List Heard) → AllByRecursion IsHeard ms → AreStationValues v → AreStationValues (fold (values_by_message s) v ms)
 values_from s v [] k h = h
 values_from s v (m ∷ ms) k h = values_from s (values_by_message s v m) ms k.1 (values_in_range s v m k.0 h)
-
-pub zero_in_range : AreStationValues no_values
-zero_in_range = record { x = zero_between; y = zero_between; z = zero_between; height = lit< tt } where
-  zero_between : IsCoordinate (pos 0)
-  zero_between = (omega (arith, ints), omega (arith, ints))
 
 open_heard : (s : GatherSetup) (t : ℕ) (earlier ms : List Heard) → AllByRecursion IsHeard earlier → AllByRecursion IsHeard ms → AllByRecursion IsHeard (open_after s t earlier ms)
 open_heard s t earlier [] h k = h
@@ -345,7 +239,4 @@ epochs_rise s ms [] h = tt
 epochs_rise s ms (t ∷ ts) h = (all_later s ms t ts h.0, epochs_rise s ms ts h.1)
 
 pub epochs_gathered : (s : GatherSetup) (ms : List Heard) → AreStationValues s.initial → AllByRecursion IsHeard ms → AreGatheredEpochs s.plan (all_epochs s ms)
-epochs_gathered s ms v h = record {
-  each = each_epoch s ms (times (timed s ms)) v h (times_within (timed s ms) (timed_all s ms h));
-  rise = epochs_rise s ms (times (timed s ms)) (times_rise (timed s ms));
-}
+epochs_gathered s ms v h = grind (arith, common_steps, each_epoch, times_within, timed_all, epochs_rise, times_rise)

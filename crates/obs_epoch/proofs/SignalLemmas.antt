@@ -3,13 +3,13 @@ use Rattle.std.proofs.Common.{◌≡◌, ◌≢◌, ℕ, suc, ◌+◌, ◌<◌, 
 use Rattle.std.specs.Prelude.{cond, position}
 use Rattle.std.proofs.lemmas.List.{get_or-set_other, length_push}
 use Rattle.std.proofs.lemmas.List.Folds.{position_or_len_push}
-use Rattle.std.proofs.lemmas.List.Sums.{prefix_len-le-length}
 use Rattle.std.proofs.lemmas.Grind.{get_or-set_at}
 use Rattle.std.proofs.lemmas.List.Elements.{All-head, All-tail}
 use Rattle.std.specs.List.{list_any, position_or_len, IsDistinct}
 use Rattle.gnss_obs.specs.Signals.{SignalAt, IsSignal}
 use Rattle.obs_epoch.specs.Signals.{AreFound, IsOf}
 use Rattle.obs_epoch.proofs.PlanLemmas.{is_of-push}
+use Rattle.std.proofs.lemmas.Grind.{common_steps}
 
 pub none_before : {X : Type 0} (p : X → Bool) (xs : List X) → list_any p xs ≡ false → position_or_len p xs ≡ length xs
 none_before p [] h = refl
@@ -53,34 +53,18 @@ module _ (eq : SignalAt → SignalAt → Bool) (same : (a b : SignalAt) → a.sy
 
 -- ---- one more number
 
--- The first index in a longer list.
-longer : (k n next long : ℕ) → k ≤ n → next ≡ cond (nat_eq k n) (n + 1) k → long ≡ n + 1 → cond (nat_lt next long) (Some next) None ≡ cond (nat_lt k n) (Some k) None
-longer k n next long le is len = by (nat_eq k n) refl is where
-  by : (b : Bool) → nat_eq k n ≡ b → next ≡ cond b (n + 1) k → cond (nat_lt next long) (Some next) None ≡ cond (nat_lt k n) (Some k) None
-  by true e i = grind (arith, e, i, len)
-  by false e i = grind (arith, e, i, len, le)
-
 first_skip : (p : ℕ → Bool) (xs : List ℕ) (x : ℕ) → p x ≡ false → position p (xs ++ x ∷ []) ≡ position p xs
-first_skip p xs x h =
-    longer (position_or_len p xs) (length xs) _ _ (prefix_len-le-length (λ y. not (p y)) xs)
-    (position_or_len_push p xs x ∙ ap (λ b. cond (nat_eq (position_or_len p xs) (length xs)) (length xs + cond b 0 1) (position_or_len p xs)) h) (length_push xs x)
+first_skip p xs x h = grind (arith, common_steps)
 
 here : (k n next long : ℕ) → k ≡ n → next ≡ cond (nat_eq k n) (n + 0) k → long ≡ n + 1 → cond (nat_lt next long) (Some next) None ≡ Some n
-here k n next long e is len = by (nat_eq k n) refl is where
-  by : (b : Bool) → nat_eq k n ≡ b → next ≡ cond b (n + 0) k → cond (nat_lt next long) (Some next) None ≡ Some n
-  by true t i = grind (arith, i, len)
-  by false t i = grind (arith, t, e)
+here k n next long e is len = grind (arith, common_steps)
 
 first_here : (p : ℕ → Bool) (xs : List ℕ) (x : ℕ) → p x ≡ true → list_any p xs ≡ false → position p (xs ++ x ∷ []) ≡ Some (length xs)
-first_here p xs x h none =
-    here (position_or_len p xs) (length xs) _ _ (none_before p xs none)
-    (position_or_len_push p xs x ∙ ap (λ b. cond (nat_eq (position_or_len p xs) (length xs)) (length xs + cond b 0 1) (position_or_len p xs)) h) (length_push xs x)
+first_here p xs x h none = grind (arith, common_steps, here, none_before, position_or_len_push, length_push)
 
 any_flip : (i : ℕ) (xs : List ℕ) → list_any (λ j. j == i) xs ≡ list_any (nat_eq i) xs
 any_flip i [] = refl
-any_flip i (x ∷ xs) = ap₂ (λ a b. a || b) (flip x i) (any_flip i xs) where
-  flip : (a b : ℕ) → nat_eq a b ≡ nat_eq b a
-  flip a b = grind arith
+any_flip i (x ∷ xs) = grind (arith, common_steps, any_flip i xs)
 
 pub found_more : (places : List (Option ℕ)) (xs new : List ℕ) (i place : ℕ) → AreFound places xs → i < 19 → 19 ≤ length places → list_any (nat_eq i) xs ≡ false
     → place ≡ length xs → new ≡ xs ++ i ∷ [] → AreFound (set places i (Some place)) new

@@ -1,5 +1,5 @@
 -- The order of an epoch's cells, and one more cell.
-use Rattle.std.proofs.Common.{◌+◌, take, drop, ◌≡◌, ℕ, zero, suc, ◌-◌, ◌<◌, ◌≤◌, ◌==◌, Bool, true, false, ◌||◌, ◌&&◌, List, [], ◌∷◌, map, refl, sym, ap, ap₂, ◌∙◌, subst, arith, length, get_or, insert, Option, Some, None, is_some, nat_le, not}
+use Rattle.std.proofs.Common.{◌+◌, take, drop, ◌≡◌, ℕ, zero, suc, ◌-◌, ◌<◌, ◌≤◌, ◌==◌, Bool, true, false, ◌||◌, List, [], ◌∷◌, map, refl, sym, ap, ap₂, ◌∙◌, subst, arith, length, get_or, insert, Option, Some, None, is_some, nat_le}
 use Rattle.std.specs.Prelude.{if◌then◌else◌, position}
 use Rattle.std.specs.Option.{option_map_or}
 use Rattle.std.specs.List.{list_any, AllByRecursion}
@@ -10,20 +10,19 @@ use Rattle.obs_epoch.specs.declared.cell.Cell.{Cell}
 use Rattle.obs_epoch.specs.declared.epoch.Seat.{Seat}
 use Rattle.obs_epoch.specs.Values.{EpochValue, PlanValue, planned_of, cells_of, most_cells, AreHeld, IsHeld}
 use Rattle.obs_epoch.specs.Plans.{place_in}
-use Rattle.gnss_obs.specs.Signals.{table}
-use Rattle.obs_epoch.specs.Cells.{has_same_key, same_key, has_listed_key, is_planned}
+use Rattle.obs_epoch.specs.Cells.{has_same_key, same_key, is_planned}
 use Rattle.obs_epoch.specs.Heard.{IsKey, IsObserved, GatherSetup, Heard, HeardCell, kept_cell, heard_cell}
 use Rattle.obs_epoch.specs.Order.{is_before, SeatsRise, insert_by, spot, seat_of, cell_seat, AreOrderedBy, AreSorted}
 use Rattle.obs_epoch.specs.Held.{is_held, lookup}
 use Rattle.obs_epoch.specs.Gather.{Gathered, with_more_in, more_at, with_more, spot_in, AreInPlanOrder, AreInOrder, fate_in, hold, hold_by}
-use Rattle.obs_epoch.specs.declared.taken.Fate.TheVariants.{Kept, Skipped, Repeated, Crowded}
+use Rattle.obs_epoch.specs.declared.taken.Fate.TheVariants.{Kept, Repeated, Crowded}
 use Rattle.obs_epoch.specs.Clock.{State}
-use Rattle.obs_epoch.specs.Step.{step_by, step_at, ended_where, is_own_summary, is_late_at, is_first_at, time_at}
-use Rattle.obs_epoch.specs.Times.{is_past}
+use Rattle.obs_epoch.specs.Step.{step_by}
 use Rattle.obs_epoch.specs.Loss.{lli_with}
 use Rattle.obs_epoch.proofs.OrderLemmas.{before_self, before_all, Before, get_before, insert_spot, rise-insert_by, all-insert_by}
 use Rattle.std.proofs.lemmas.List.Elements.{All-append, All-take, All-drop, All-cons}
 use Rattle.std.proofs.lemmas.List.Edits.{length-insert}
+use Rattle.std.proofs.lemmas.Grind.{common_steps}
 
 -- ---- of a system
 
@@ -35,10 +34,7 @@ stand_in Galileo p e h = h.galileo
 
 spot_below : (s : Seat) (ts : List Seat) → spot s ts ≤ length ts
 spot_below s [] = omega arith
-spot_below s (t ∷ ts) = by (is_before s t) (spot_below s ts) where
-  by : (b : Bool) → spot s ts ≤ length ts → (if b then 0 else suc (spot s ts)) ≤ length (t ∷ ts)
-  by true h = omega arith
-  by false h = omega (arith, h)
+spot_below s (t ∷ ts) = grind (arith, common_steps, spot_below s ts)
 
 last_step : (s t : Seat) (ts : List Seat) (d : Seat) → is_before s t ≡ false → ((m : ℕ) → spot s ts ≡ suc m → is_before s (get_or ts m d) ≡ false)
     → (n m : ℕ) → spot s ts ≡ n → suc n ≡ suc m → is_before s (get_or (t ∷ ts) m d) ≡ false
@@ -59,13 +55,7 @@ Agrees {X} p f s = (x : X) → p x ≡ true → f x ≡ s
 
 none_later : {X : Type 0} (p : X → Bool) (f : X → Seat) (s : Seat) → Agrees p f s → (xs : List X) → Before s (map f xs) → list_any p xs ≡ false
 none_later p f s a [] h = refl
-none_later p f s a (x ∷ xs) h = by (p x) refl (none_later p f s a xs h.1) where
-  by : (b : Bool) → p x ≡ b → list_any p xs ≡ false → (b || list_any p xs) ≡ false
-  by false e k = k
-  by true e k =
-      let self = before_self s in
-      let one : is_before s s ≡ true = ap (is_before s) (sym (a x e)) ∙ h.0 in
-      absurd (grind (arith, self, one))
+none_later p f s a (x ∷ xs) h = grind (arith, common_steps, before_self, none_later p f s a xs h.1)
 
 pub any_none : {X : Type 0} (p : X → Bool) (f : X → Seat) (s : Seat) → Agrees p f s → (xs : List X) → SeatsRise (map f xs) → spot s (map f xs) ≡ 0 → list_any p xs ≡ false
 any_none p f s a [] r e = refl
@@ -102,15 +92,7 @@ any_last p f s a (x ∷ xs) n d r e = any_by p f s a x xs n d r (λ m g. any_las
 
 -- A cell of a key has the sort key of that key.
 same_seat : (planned : List ℕ) (x : HeardCell) (c : Cell) → same_key x.satellite x.signal c.satellite c.signal ≡ true → cell_seat planned c ≡ seat_of planned x
-same_seat planned x c h = by x.satellite.system c.satellite.system refl refl where
-  of : x.satellite.id ≡ c.satellite.id → x.signal.index ≡ c.signal.index → cell_seat planned c ≡ seat_of planned x
-  of e f = ap₂ (λ i j. record { satellite = i; place = option_map_or (λ q. q) (position (λ k. k == j) planned) 0 }) (sym e) (sym f)
-
-  by : (a b : System) → x.satellite.system ≡ a → c.satellite.system ≡ b → cell_seat planned c ≡ seat_of planned x
-  by Gps Gps p q = of (grind (arith, p, q, h)) (grind (arith, p, q, h))
-  by Galileo Galileo p q = of (grind (arith, p, q, h)) (grind (arith, p, q, h))
-  by Gps Galileo p q = absurd (grind (arith, p, q, h))
-  by Galileo Gps p q = absurd (grind (arith, p, q, h))
+same_seat planned x c h = grind (arith, common_steps)
 
 -- A key is kept exactly if the last cell before its index is of that key.
 pub held_is_last : (planned : List ℕ) (x : HeardCell) (cells : List Cell) (at : ℕ) (r : Bool) → AreOrderedBy planned cells → at ≡ spot (seat_of planned x) (map (cell_seat planned) cells)
@@ -170,16 +152,7 @@ stand_more system planned m ms a h s none = record {
 -- The epoch with one more cell is in order.
 pub order_more : (p : PlanValue) (e : EpochValue) (m : Cell) → is_some (place_in m.signal (planned_of m.satellite.system p)) ≡ true → AreInOrder p e
     → is_held (cells_of m.satellite.system e) (heard_cell m) ≡ false → AreInOrder p (with_more p e m)
-order_more p e m h o none = by m.satellite.system refl where
-  by : (system : System) → m.satellite.system ≡ system → AreInOrder p (with_more_in m.satellite.system p e m)
-  by Gps f = subst (λ s. AreInOrder p (with_more_in s p e m)) (sym f) (record {
-    gps = stand_more Gps p.gps m e.gps f (ap (λ s. is_some (place_in m.signal (planned_of s p))) (sym f) ∙ h) o.gps (ap (λ s. is_held (cells_of s e) (heard_cell m)) (sym f) ∙ none);
-    galileo = o.galileo;
-  })
-  by Galileo f = subst (λ s. AreInOrder p (with_more_in s p e m)) (sym f) (record {
-    gps = o.gps;
-    galileo = stand_more Galileo p.galileo m e.galileo f (ap (λ s. is_some (place_in m.signal (planned_of s p))) (sym f) ∙ h) o.galileo (ap (λ s. is_held (cells_of s e) (heard_cell m)) (sym f) ∙ none);
-  })
+order_more p e m h o none = grind (arith, common_steps, stand_more)
 
 -- The cell is inserted at its index.
 pub more_is : (p : PlanValue) (e : EpochValue) (m : Cell) → more_at m.satellite.system (spot_in p e (heard_cell m)) e m ≡ with_more p e m
@@ -220,27 +193,12 @@ held_more system cells at x held within room is observed low =
 
 -- A listed cell of a signal that has an index in the plan is planned.
 pub planned_is : (s : GatherSetup) (x : HeardCell) → IsKey x → is_some (place_in x.signal (planned_of x.satellite.system s.plan)) ≡ true → is_planned s x ≡ true
-planned_is s x key h =
-    let id = key.satellite in
-    let index : x.signal.index < length (table x.satellite.system) = subst (λ t. x.signal.index < length (table t)) key.same key.signal in
-    let listed : has_listed_key x ≡ true = grind (arith, id, index) in
-    ap₂ (λ a b. a && b) listed h
-
--- The result of a search for the index of a key that isn't kept.
-pub free_spot : (n : ℕ) (b : Bool) (m : ℕ) → Some n ≡ (if b then None else Some m) → (b ≡ false) × (n ≡ m)
-free_spot n true m e = absurd (grind (arith, e))
-free_spot n false m e = (refl, grind (arith, e))
-
-pub no_spot : (b : Bool) (m : ℕ) → None ≡ (if b then None else Some m) → b ≡ true
-no_spot true m e = refl
-no_spot false m e = absurd (grind (arith, e))
+planned_is s x key h = grind (arith, common_steps)
 
 -- The outcome of a planned cell.
 pub fate_by : (g : Gathered) (x : HeardCell) (held full : Bool) → is_planned g.clock.setup x ≡ true → is_held (cells_of x.satellite.system g.epoch) x ≡ held
     → nat_le most_cells (length (cells_of x.satellite.system g.epoch)) ≡ full → fate_in g x ≡ (if held then Repeated else (if full then Crowded else Kept))
-fate_by g x held full planned h f =
-    ap (λ b. if b then (if is_held (cells_of x.satellite.system g.epoch) x then Repeated else (if nat_le most_cells (length (cells_of x.satellite.system g.epoch)) then Crowded else Kept)) else Skipped) planned
-    ∙ ap₂ (λ b c. if b then Repeated else (if c then Crowded else Kept)) h f
+fate_by g x held full planned h f = grind (arith, common_steps)
 
 -- A cell that is kept is inserted in the kept epoch.
 pub kept_is : (g : Gathered) (x : HeardCell) (at lli : ℕ) (e : EpochValue) → fate_in g x ≡ Kept → lli ≡ lli_with g.epoch.time x (lookup g.locks x)
@@ -250,26 +208,8 @@ kept_is g x at lli e fate mark_is at_is e_is =
     ap (λ v. record g { epoch = v }) (e_is ∙ ap₂ (λ i n. more_at x.satellite.system i g.epoch (kept_cell x n)) at_is mark_is ∙ more_is g.clock.setup.plan g.epoch m)
     ∙ ap (λ k. hold_by k g x) (sym fate)
 
--- A step of the clock doesn't change the plan.
-step_at_setup : (g : State) (tow : ℕ) → (step_at g tow).setup ≡ g.setup
-step_at_setup g tow = by (is_late_at g tow) (is_past (time_at g tow)) (is_first_at g tow) where
-  by : (a b c : Bool) → (if a then g else (if b then g else (if c then record g { pending = false } else record g { latest = Some (time_at g tow); pending = true }))).setup ≡ g.setup
-  by true b c = refl
-  by false true c = refl
-  by false false true = refl
-  by false false false = refl
-
 pub step_setup : (g : State) (m : Heard) → (step_by g m).setup ≡ g.setup
-step_setup g m = by (is_own_summary g m.station) (g.setup.by_bit && option_map_or not m.more false) m.tow where
-  by : (a b : Bool) (tow : Option ℕ) → (if a then ended_where b (option_map_or (step_at g) tow g) else g).setup ≡ g.setup
-  by false b tow = refl
-  by true true None = refl
-  by true false None = refl
-  by true true (Some tow) = step_at_setup g tow
-  by true false (Some tow) = step_at_setup g tow
+step_setup g m = grind (arith, common_steps)
 
 pub not_full : (n : ℕ) → n < most_cells → nat_le most_cells n ≡ false
 not_full n h = grind (arith, h)
-
-pub is_full : (n : ℕ) → most_cells ≤ n → nat_le most_cells n ≡ true
-is_full n h = grind (arith, h)

@@ -1,54 +1,46 @@
 -- A step of the gatherer adds one message to the list.
-use Rattle.std.proofs.Common.{◌≡◌, ℕ, zero, suc, replicate, is_some, ◌-◌, ◌<◌, Bool, true, false, not, ◌||◌, List, [], ◌∷◌, ◌++◌, filter, take, refl, sym, ap, ap₂, ◌∙◌, subst, arith, length, append-nil, length-append, Option, Some, None, nat_lt}
-use Rattle.std.specs.Prelude.{if◌then◌else◌, cond, filter_map, flat_map, option_and_then, find}
+use Rattle.std.proofs.Common.{◌≡◌, ℕ, zero, suc, replicate, ◌<◌, Bool, true, false, not, ◌||◌, List, [], ◌∷◌, ◌++◌, filter, refl, sym, ap, ap₂, ◌∙◌, subst, arith, length, append-nil, Option, Some, None, nat_lt}
+use Rattle.std.specs.Prelude.{if◌then◌else◌, cond, filter_map, flat_map}
 use Rattle.std.specs.Option.{option_map_or}
-use Rattle.std.specs.List.{list_any, cons_option}
-use Rattle.std.proofs.lemmas.List.{take_at}
+use Rattle.std.specs.List.{list_any}
 use Rattle.std.proofs.lemmas.List.Elements.{filter-append}
-use Rattle.std.proofs.lemmas.Grind.{flat_map-append}
 use Rattle.gnss_obs.specs.declared.system.System.TheVariants.{Gps, Galileo}
 use Rattle.obs_epoch.specs.Heard.{GatherSetup, Heard, is_own, ends_epoch, HeardCell, kept_cell}
 use Rattle.obs_epoch.specs.Times.{Timed, is_at, greatest_time, is_closed, taken_at}
-use Rattle.obs_epoch.specs.Cells.{kept_at, offered, is_planned, has_same_key}
-use Rattle.obs_epoch.specs.Loss.{lock_of, locked_at, latest_in, previous, times, last_of, is_locked, lli_with}
+use Rattle.obs_epoch.specs.Cells.{kept_at, offered, is_planned}
+use Rattle.obs_epoch.specs.Loss.{locked_at, latest_in, previous, times, lli_with}
 use Rattle.obs_epoch.specs.Epochs.{cells_with_lli, epoch_at, closed_so_far}
-use Rattle.obs_epoch.specs.Held.{lookup, no_locks, most_locks, recorded, TracksLocks}
+use Rattle.obs_epoch.specs.Held.{lookup, no_locks}
 use Rattle.obs_epoch.specs.Clock.{State, closes_first}
 use Rattle.obs_epoch.specs.Gather.{Gathered, no_epoch, no_counts, load, epoch_begun, is_same}
 use Rattle.obs_epoch.specs.Standing.{locked_in, held_at, Locked}
 use Rattle.obs_epoch.proofs.TimesLemmas.{next, greater-absent, none-absent}
-use Rattle.obs_epoch.proofs.ClockLemmas.{standing, same_time, Follows, first, greater, equal, new_time, at_self}
+use Rattle.obs_epoch.proofs.ClockLemmas.{standing, same_time, Follows, first, greater, equal, new_time}
 use Rattle.obs_epoch.proofs.ClosedLemmas.{Below, when, ends, closed_is, passes_all, one_fails, less_true, less_false, taken_follows, times-push_same}
 use Rattle.obs_epoch.proofs.ClosingLemmas.{taken_by}
 use Rattle.obs_epoch.proofs.EpochLemmas.{IsLater, AllLater, all_none, all_below, kept_at-push, times_before, epoch_at-push}
 use Rattle.obs_epoch.proofs.LockLemmas.{none_found, none_recorded}
 use Rattle.obs_epoch.proofs.LoadLemmas.{with_lli_by, epoch_of, load_is, counts_after}
 use Rattle.obs_epoch.specs.declared.locks.KnownLock.{KnownLock}
+use Rattle.std.proofs.lemmas.Grind.{common_steps}
 
 -- ---- after every message, a closed epoch is the same
 
 latest-push : (s : GatherSetup) (xs : List Timed) (x : Timed) (ts : List ℕ) (key : HeardCell) → AllLater x.time ts → filter_map (locked_at s (xs ++ x ∷ []) key) ts ≡ filter_map (locked_at s xs key) ts
 latest-push s xs x [] key h = refl
-latest-push s xs x (t ∷ ts) key h =
-    ap₂ (λ o l. cons_option o l) (ap (λ l. option_and_then (lock_of t) (find (has_same_key key) l)) (kept_at-push s t xs x key.satellite.system h.0)) (latest-push s xs x ts key h.1)
+latest-push s xs x (t ∷ ts) key h = grind (arith, common_steps, kept_at-push, latest-push s xs x ts key h.1)
 
 locked_in-push : (s : GatherSetup) (xs : List Timed) (x : Timed) (ts : List ℕ) → AllLater x.time ts → locked_in s (xs ++ x ∷ []) ts ≡ locked_in s xs ts
 locked_in-push s xs x [] h = refl
-locked_in-push s xs x (t ∷ ts) h =
-    ap₂ (λ a b. a ++ b) (ap₂ (λ a b. filter is_locked (a ++ b)) (kept_at-push s t xs x Gps h.0) (kept_at-push s t xs x Galileo h.0)) (locked_in-push s xs x ts h.1)
+locked_in-push s xs x (t ∷ ts) h = grind (arith, common_steps, kept_at-push, locked_in-push s xs x ts h.1)
 
 pub locked-push : (g : Gathered) (s : GatherSetup) (xs : List Timed) (x : Timed) (ts : List ℕ) → AllLater x.time ts → Locked g s xs ts → Locked g s (xs ++ x ∷ []) ts
-locked-push g s xs x ts later h = record {
-  found = λ key. h.found key ∙ ap last_of (sym (latest-push s xs x ts key later));
-  tracks = subst (TracksLocks g.locks) (sym (locked_in-push s xs x ts later)) h.tracks;
-}
+locked-push g s xs x ts later h = grind (arith, common_steps, latest-push, locked_in-push)
 
 -- ---- an accepted message: the closed epochs are those before its time
 
 cancel : (a b : List ℕ) (u : ℕ) → a ++ u ∷ [] ≡ b ++ u ∷ [] → a ≡ b
-cancel a b u e =
-    let one : (l : List ℕ) → length l ≡ length (l ++ u ∷ []) - 1 = λ l. omega (arith, length-append l (u ∷ [])) in
-    sym (take_at a (u ∷ []) _ (one a)) ∙ ap (λ l. take (length l - 1) l) e ∙ take_at b (u ∷ []) _ (one b)
+cancel a b u e = grind (arith, common_steps)
 
 cancel_when : (a b : List ℕ) (c : Bool) (u : ℕ) → a ++ when c u ≡ b ++ when c u → a ≡ b
 cancel_when a b true u e = cancel a b u e
@@ -61,10 +53,7 @@ not_same true false e = grind (arith, e)
 not_same false true e = grind (arith, e)
 
 pub own_of : (s : GatherSetup) (xs : List Timed) (m : Heard) (u : ℕ) → taken_at s xs m ≡ Some u → is_own s m ≡ true
-own_of s xs m u some = by (is_own s m) refl where
-  by : (own : Bool) → is_own s m ≡ own → own ≡ true
-  by true e = refl
-  by false e = absurd (grind (arith, e, some))
+own_of s xs m u some = grind (arith, common_steps)
 
 -- The times before that of an accepted message are those of the closed epochs.
 pub before_taken : (s : GatherSetup) (xs : List Timed) (m : Heard) (u : ℕ) (shut : Bool) → taken_at s xs m ≡ Some u → closes_first s xs m ≡ shut
@@ -103,10 +92,7 @@ epoch_is : (s : GatherSetup) (xs : List Timed) (f : HeardCell → Option KnownLo
 epoch_is s xs f t h = ap₂ (λ a b. record { time = t; gps = a; galileo = b }) (with_lli_is s xs f t (kept_at s t xs Gps) h) (with_lli_is s xs f t (kept_at s t xs Galileo) h)
 
 offered-more : (s : GatherSetup) (xs : List Timed) (m : Heard) (u : ℕ) → taken_at s xs m ≡ Some u → offered s u (xs ++ next s xs m ∷ []) ≡ offered s u xs ++ filter (is_planned s) m.cells
-offered-more s xs m u some =
-    let p = λ (x : Timed). filter (is_planned s) x.message.cells in
-    ap (flat_map p) (filter-append (is_at u) xs (next s xs m ∷ []) ∙ ap (λ b. filter (is_at u) xs ++ cond b (next s xs m ∷ []) []) (at_self u (taken_at s xs m) some))
-    ∙ flat_map-append p (filter (is_at u) xs) (next s xs m ∷ []) ∙ ap (λ l. offered s u xs ++ l) (append-nil (filter (is_planned s) m.cells))
+offered-more s xs m u some = grind (arith, common_steps)
 
 none_at : (u : ℕ) (xs : List Timed) → list_any (is_at u) xs ≡ false → filter (is_at u) xs ≡ []
 none_at u [] h = refl
@@ -193,11 +179,4 @@ none_sized zero = refl
 none_sized (suc n) = ap suc (none_sized n)
 
 pub none_locked : (g : Gathered) (s : GatherSetup) → g.locks ≡ no_locks → Locked g s [] (closed_so_far s [] false)
-none_locked g s e = record {
-  found = λ key. ap (λ l. lookup l key) e ∙ none_found key;
-  tracks = record {
-    has = λ key. ap (λ l. is_some (lookup l key)) e ∙ ap is_some (none_found key);
-    count = ap recorded e ∙ none_recorded;
-    size = ap length e ∙ none_sized most_locks;
-  };
-}
+none_locked g s e = grind (arith, common_steps, none_found, none_recorded, none_sized)

@@ -9,33 +9,30 @@ use Rattle.rtcm_msg.specs.declared.message.Message.TheVariants as message
 use Rattle.obs_epoch.specs.declared.clock.Answer.{Answer}
 use Rattle.obs_epoch.specs.declared.clock.Answer.TheVariants as answers
 use Rattle.obs_epoch.specs.Heard.{GatherSetup, Heard, heard, is_own, HeardCell}
-use Rattle.obs_epoch.specs.Times.{Timed, greatest_time, taken_at, timed, is_late, is_past, time_of}
+use Rattle.obs_epoch.specs.Times.{Timed, greatest_time, taken_at, timed}
 use Rattle.obs_epoch.specs.Cells.{with_skipped, offered, counts_of}
 use Rattle.obs_epoch.specs.Epochs.{epoch_at, closed_so_far, closed_times, values_of, values_by_message}
 use Rattle.obs_epoch.specs.Clock.{State, HasHeardMessages, is_pending, closes_first, answer_of}
 use Rattle.obs_epoch.specs.Step.{answer_by, step_by, closed_by, closed_of}
-use Rattle.obs_epoch.specs.Gather.{with_unlisted, Gathered, Loaded, no_epoch, no_counts, noted, load, loaded_by, epoch_begun, is_same, fate_in, load_one, ticked, closed_if, take_step, end_step}
+use Rattle.obs_epoch.specs.Gather.{with_unlisted, Gathered, Loaded, no_epoch, no_counts, noted, load, loaded_by, fate_in, load_one, ticked, closed_if, take_step, end_step}
 use Rattle.obs_epoch.specs.Standing.{held_at, Locked, HasTakenMessages, closed_list, counts_of_message, handed_out}
 use Rattle.obs_epoch.proofs.TimesLemmas.{next, timed-push}
 use Rattle.obs_epoch.proofs.ClockLemmas.{standing, same_state, takes, closes, new_time}
 use Rattle.obs_epoch.proofs.ClosedLemmas.{taken_follows}
-use Rattle.obs_epoch.proofs.ClosingLemmas.{closing, parts}
+use Rattle.obs_epoch.proofs.ClosingLemmas.{closing}
 use Rattle.obs_epoch.proofs.EpochLemmas.{same_epochs}
 use Rattle.obs_epoch.proofs.CountsLemmas.{counts_are}
 use Rattle.obs_epoch.proofs.LoadLemmas.{hold_is}
 use Rattle.obs_epoch.proofs.NotingLemmas.{noted_locked}
-use Rattle.obs_epoch.proofs.StandingLemmas.{locked-push, closed_later, own_of, loaded_taken, held_same}
+use Rattle.obs_epoch.proofs.StandingLemmas.{locked-push, closed_later, loaded_taken, held_same}
 use Rattle.obs_epoch.specs.Values.{EpochValue}
+use Rattle.std.proofs.lemmas.Grind.{common_steps}
 
 pub clock_is : (g : State) (s : GatherSetup) (ms : List Heard) (shut : Bool) → HasHeardMessages g s ms shut → g ≡ standing s (timed s ms) shut
 clock_is g s ms shut h = same_state g s _ _ h.setup h.latest h.pending
 
 pub clock_stands : (g : State) (s : GatherSetup) (ms : List Heard) (xs : List Timed) (shut : Bool) → timed s ms ≡ xs → g ≡ standing s xs shut → HasHeardMessages g s ms shut
-clock_stands g s ms xs shut same e = record {
-  setup = ap (λ (x : State). x.setup) e;
-  latest = ap (λ (x : State). x.latest) e ∙ ap greatest_time (sym same);
-  pending = ap (λ (x : State). x.pending) e ∙ ap (λ ys. is_pending s ys && not shut) (sym same);
-}
+clock_stands g s ms xs shut same e = grind (arith, common_steps)
 
 values-push : (s : GatherSetup) (ms : List Heard) (m : Heard) → values_of s (ms ++ m ∷ []) ≡ values_by_message s (values_of s ms) m
 values-push s ms m = fold-append (values_by_message s) s.initial ms (m ∷ [])
@@ -51,12 +48,7 @@ pub record Mid (g : Gathered) (s : GatherSetup) (ms : List Heard) (shut : Bool) 
 pub assemble : (g : Gathered) (s : GatherSetup) (ms : List Heard) (shut : Bool) (ts : List ℕ) (o : Option ℕ) → Mid g s ms shut ts
     → ((t : ℕ) → o ≡ Some t → greatest_time (timed s ms) ≡ Some t) → closed_so_far s (timed s ms) shut ≡ ts ++ option_to_list o
     → HasTakenMessages (if is_some o then noted g else g) s ms shut
-assemble g s ms shut ts None h at closed = record {
-  clock = h.clock;
-  epoch = h.epoch;
-  locks = subst (Locked g s (timed s ms)) (sym (closed ∙ append-nil ts)) h.locks;
-  values = h.values;
-}
+assemble g s ms shut ts None h at closed = grind (arith, common_steps, append-nil)
 assemble g s ms shut ts (Some t) h at closed = record {
   clock = h.clock;
   epoch = h.epoch;
@@ -82,16 +74,7 @@ after_closed answers.PastWeeks true false before after t unlike e = grind (arith
 after_closed answers.PastWeeks false p before after t unlike e = grind (arith, e)
 
 pub not_first : (s : GatherSetup) (xs : List Timed) (m : Heard) → answer_of s xs m ≡ answers.CloseFirst → ⊥
-not_first s xs m e = by (is_own s m) m.tow refl refl where
-  late : (tow : ℕ) (a b : Bool) → is_own s m ≡ true → m.tow ≡ Some tow → is_late s xs tow ≡ a → is_past (time_of s xs tow) ≡ b → ⊥
-  late tow true b p q f g = grind (arith, e, p, q, f)
-  late tow false true p q f g = grind (arith, e, p, q, f, g)
-  late tow false false p q f g = grind (arith, e, p, q, f, g)
-
-  by : (own : Bool) (tow : Option ℕ) → is_own s m ≡ own → m.tow ≡ tow → ⊥
-  by false tow p q = grind (arith, e, p)
-  by true None p q = grind (arith, e, p, q)
-  by true (Some tow) p q = late tow _ _ p q refl refl
+not_first s xs m e = grind (arith, common_steps)
 
 -- A message of another outcome adds no cells.
 others : (k : Answer) (before : Option ℕ) (g : Gathered) (m : Heard) → (k ≡ answers.Kept → ⊥) → loaded_by k before g m ≡ record { state = g; counts = no_counts }
@@ -103,11 +86,7 @@ others answers.PastWeeks before g m unlike = refl
 others answers.CloseFirst before g m unlike = refl
 
 kept_kind : (s : GatherSetup) (xs : List Timed) (m : Heard) (u : ℕ) → taken_at s xs m ≡ Some u → answer_of s xs m ≡ answers.Kept
-kept_kind s xs m u some =
-    let own = own_of s xs m u some in
-    let p = parts s xs m u some in
-    let tow = p.some in let early = p.early in let within = p.within in
-    grind (arith, own, tow, early, within)
+kept_kind s xs m u some = grind (arith, common_steps)
 
 other_kind : (s : GatherSetup) (xs : List Timed) (m : Heard) → taken_at s xs m ≡ None → answer_of s xs m ≡ answers.Kept → ⊥
 other_kind s xs m none e = grind (arith, none, e)
@@ -231,10 +210,7 @@ taken g s ms m shut h early =
 -- The times of the closed epochs grow by that of the epoch that the step closes.
 pub times_taken : (g : Gathered) (s : GatherSetup) (ms : List Heard) (m : Heard) (shut : Bool) → HasTakenMessages g s ms shut → closes_first s (timed s ms) m ≡ shut
     → closed_so_far s (timed s (ms ++ m ∷ [])) false ≡ closed_so_far s (timed s ms) shut ++ option_to_list (closed_by g.clock m)
-times_taken g s ms m shut h early =
-    let xs = timed s ms in
-    let was = clock_is g.clock s ms shut h.clock in
-    ap (λ l. closed_so_far s l false) (timed-push s ms m) ∙ closing s xs m shut early ∙ ap (λ c. closed_so_far s xs shut ++ option_to_list (closed_by c m)) (sym was)
+times_taken g s ms m shut h early = grind (arith, common_steps, clock_is, timed-push, closing)
 
 -- That time is the greatest then.
 pub time_taken : (g : Gathered) (s : GatherSetup) (ms : List Heard) (m : Heard) (shut : Bool) → HasTakenMessages g s ms shut → closes_first s (timed s ms) m ≡ shut
@@ -289,16 +265,11 @@ closes_none g m tow more = grind (arith, tow, more)
 
 pub no_point_given : (g : State) (m : Heard) (t : ℕ) → IsSet m → closed_by g m ≡ Some t → m.point ≡ None
 no_point_given g m t (inl none) e = none
-no_point_given g m t (inr both) e = absurd (unlike (closes_none g m both.0 both.1) e) where
-  unlike : {o : Option ℕ} → o ≡ None → o ≡ Some t → ⊥
-  unlike {o} a b = grind (arith, a, b)
+no_point_given g m t (inr both) e = grind (arith, common_steps, closes_none)
 
 -- A message without a point doesn't change the station values.
 pub same_values : (s : GatherSetup) (ms : List Heard) (m : Heard) → m.point ≡ None → values_of s (ms ++ m ∷ []) ≡ values_of s ms
-same_values s ms m none = values-push s ms m ∙ by (is_own s m) where
-  by : (b : Bool) → (if b then option_map_or (λ p. record { x = p.x; y = p.y; z = p.z; height = option_map_or (λ h. h) p.height (values_of s ms).height }) m.point (values_of s ms) else values_of s ms) ≡ values_of s ms
-  by true = ap (λ o. option_map_or (λ p. record { x = p.x; y = p.y; z = p.z; height = option_map_or (λ h. h) p.height (values_of s ms).height }) o (values_of s ms)) none
-  by false = refl
+same_values s ms m none = grind (arith, common_steps)
 
 pub record First (g : Gathered) (s : GatherSetup) (ms : List Heard) (m : Heard) : Type 0 where
   pub kind : answer_by g.clock m ≡ answers.CloseFirst
@@ -369,27 +340,11 @@ ended_by : (g : Gathered) (s : GatherSetup) (ms : List Heard) (shut : Bool) (b :
     → HasTakenMessages (if b then noted (stopping g) else stopping g) s ms (shut || b)
     → closed_list s (timed s ms) (shut || b) ≡ closed_list s (timed s ms) shut ++ handed_out b (if b then noted (stopping g) else stopping g).epoch
     → Ended g s ms shut
-ended_by g s ms shut b is was after closed = record {
-  was = was;
-  after = subst (λ v. HasTakenMessages (if v then noted (stopping g) else stopping g) s ms (shut || v)) (sym is) after;
-  closed = subst (λ v. closed_list s (timed s ms) (shut || v) ≡ closed_list s (timed s ms) shut ++ handed_out v (if v then noted (stopping g) else stopping g).epoch) (sym is) closed;
-}
-
-or_none : (b : Bool) → (b || false) ≡ b
-or_none true = refl
-or_none false = refl
+ended_by g s ms shut b is was after closed = grind (arith, common_steps)
 
 -- No epoch was pending.
 ended_none : (g : Gathered) (s : GatherSetup) (ms : List Heard) (shut : Bool) → HasTakenMessages g s ms shut → g.clock.pending ≡ false → Ended g s ms shut
-ended_none g s ms shut h f =
-    ended_by g s ms shut false f h.clock.pending
-    (subst (HasTakenMessages (stopping g) s ms) (sym (or_none shut)) (record {
-      clock = record { setup = h.clock.setup; latest = h.clock.latest; pending = sym f ∙ h.clock.pending };
-      epoch = h.epoch;
-      locks = record { found = h.locks.found; tracks = h.locks.tracks };
-      values = h.values;
-    }))
-    (ap (closed_list s (timed s ms)) (or_none shut) ∙ sym (append-nil (closed_list s (timed s ms) shut)))
+ended_none g s ms shut h f = grind (arith, common_steps)
 
 and_not_true : (b : Bool) → false ≡ (b && not true)
 and_not_true true = refl
@@ -419,10 +374,7 @@ ended_some g s ms h f = by (greatest_time (timed s ms)) refl where
 
 -- No message follows.
 pub ended : (g : Gathered) (s : GatherSetup) (ms : List Heard) (shut : Bool) → HasTakenMessages g s ms shut → Ended g s ms shut
-ended g s ms true h = by g.clock.pending refl where
-  by : (p : Bool) → g.clock.pending ≡ p → Ended g s ms true
-  by true f = absurd (grind (arith, f, h.clock.pending))
-  by false f = ended_none g s ms true h f
+ended g s ms true h = grind (arith, common_steps, ended_none)
 ended g s ms false h = by g.clock.pending refl where
   by : (p : Bool) → g.clock.pending ≡ p → Ended g s ms false
   by true f = ended_some g s ms h f
@@ -446,9 +398,7 @@ begun_handed true g e h = refl
 begun_handed false g e h = h
 
 loaded_handed : (k : Answer) (before : Option ℕ) (g : Gathered) (m : Heard) → (loaded_by k before g m).state.handed ≡ g.handed
-loaded_handed answers.Kept before g m =
-    load_handed (record { state = epoch_begun before g; counts = no_counts }) m.cells
-    ∙ begun_handed (is_same before g.clock.latest) g (record g { epoch = record { time = option_map_or (λ t. t) g.clock.latest 0; gps = []; galileo = [] } }) refl
+loaded_handed answers.Kept before g m = grind (arith, common_steps, load_handed, begun_handed)
 loaded_handed answers.OtherStation before g m = refl
 loaded_handed answers.Ignored before g m = refl
 loaded_handed answers.Late before g m = refl
@@ -456,10 +406,7 @@ loaded_handed answers.PastWeeks before g m = refl
 loaded_handed answers.CloseFirst before g m = refl
 
 pub handed_is : (g : Gathered) (m : Heard) → (take_step g m).state.handed ≡ is_some (closed_by g.clock m)
-handed_is g m = by (is_some (closed_by g.clock m)) (loaded_by (answer_by g.clock m) g.clock.latest (ticked g m) m).state ∙ loaded_handed (answer_by g.clock m) g.clock.latest (ticked g m) m where
-  by : (b : Bool) (v : Gathered) → (if b then noted v else v).handed ≡ v.handed
-  by true v = refl
-  by false v = refl
+handed_is g m = grind (arith, common_steps, loaded_handed)
 
 -- ---- whether it has ended
 
@@ -472,9 +419,7 @@ begun_ended true g e h = refl
 begun_ended false g e h = h
 
 loaded_ended : (k : Answer) (before : Option ℕ) (g : Gathered) (m : Heard) → (loaded_by k before g m).state.has_ended ≡ g.has_ended
-loaded_ended answers.Kept before g m =
-    load_ended (record { state = epoch_begun before g; counts = no_counts }) m.cells
-    ∙ begun_ended (is_same before g.clock.latest) g (record g { epoch = record { time = option_map_or (λ t. t) g.clock.latest 0; gps = []; galileo = [] } }) refl
+loaded_ended answers.Kept before g m = grind (arith, common_steps, load_ended, begun_ended)
 loaded_ended answers.OtherStation before g m = refl
 loaded_ended answers.Ignored before g m = refl
 loaded_ended answers.Late before g m = refl
@@ -482,7 +427,4 @@ loaded_ended answers.PastWeeks before g m = refl
 loaded_ended answers.CloseFirst before g m = refl
 
 pub ended_is : (g : Gathered) (m : Heard) → (take_step g m).state.has_ended ≡ g.has_ended
-ended_is g m = by (is_some (closed_by g.clock m)) (loaded_by (answer_by g.clock m) g.clock.latest (ticked g m) m).state ∙ loaded_ended (answer_by g.clock m) g.clock.latest (ticked g m) m where
-  by : (b : Bool) (v : Gathered) → (if b then noted v else v).has_ended ≡ v.has_ended
-  by true v = refl
-  by false v = refl
+ended_is g m = grind (arith, common_steps, loaded_ended)

@@ -9,6 +9,7 @@ use Rattle.obs_epoch.specs.declared.civil.Civil.{Civil}
 use Rattle.rtcm_msg.specs.Msm.{week}
 use Rattle.obs_epoch.specs.Weeks.{weeks}
 use Rattle.obs_epoch.specs.Dates.{YearMonthDay, month_on, year_on, month_length, year_length, date_of, civil_of, IsCivil, IsCivilOf, clock_of}
+use Rattle.std.proofs.lemmas.Grind.{common_steps}
 
 -- A date of the calendar, a number of days after 1 January of the year -10000.
 record IsOn (d : YearMonthDay) (count : ℕ) : Type 0 where
@@ -17,10 +18,7 @@ record IsOn (d : YearMonthDay) (count : ℕ) : Type 0 where
 
 here_in : (y m days count : ℕ) → y ≤ 9999 → 1 ≤ m → m ≤ 12 → day_count (pos y) m 1 + days ≡ count → days < month_length y m
     → IsOn (record { year = y; month = m; day = days + 1 }) count
-here_in y m days count year low high e lt = record {
-  valid = (((omega (arith, signed_arith), omega (arith, signed_arith, year))), (low, high), (omega arith, omega (arith, lt)));
-  here = omega (arith, e, day_count-day (pos y) m 1 (days + 1) (omega arith) (omega arith));
-}
+here_in y m days count year low high e lt = grind (arith, common_steps, signed_arith, day_count-day)
 
 below : (a b : ℕ) → nat_lt a b ≡ true → a < b
 below a b e = grind (arith, e)

@@ -30,7 +30,8 @@ AwaitsMessage old new m kind =
 abbrev pub GathersMessage : Gathered → Gathered → Heard → Kind → Type 0
 GathersMessage old new m kind =
     (s : GatherSetup) (ms : List Heard) (es : List Closed) (again : Option Heard) → HasGatheredEpochs old s ms es again
-    → IsAwaited again m → is_close_first kind ≡ false → HasGatheredEpochs new s (ms ++ m ∷ []) (es ++ handed_over new) None
+    → IsAwaited again m → is_close_first kind ≡ false
+    → HasGatheredEpochs new s (ms ++ m ∷ []) (es ++ handed_over new) None
 
 -- If the message is processed, the kind is its outcome after the others.
 abbrev pub TellsKindOfTaken : Gathered → Heard → Kind → Type 0
@@ -41,7 +42,8 @@ TellsKindOfTaken old m kind =
 -- A message that is expected again is processed.
 abbrev pub TakesAwaited : Gathered → Heard → Kind → Type 0
 TakesAwaited old m kind =
-    (s : GatherSetup) (ms : List Heard) (es : List Closed) → HasGatheredEpochs old s ms es (Some m) → is_close_first kind ≡ false
+    (s : GatherSetup) (ms : List Heard) (es : List Closed) → HasGatheredEpochs old s ms es (Some m)
+    → is_close_first kind ≡ false
 
 -- The result of a call with a message: the pending epoch is closed first exactly if the message's time is greater and
 -- within the weeks, and then the message is expected again; every other message is processed, and the epoch that it

@@ -1,5 +1,6 @@
 -- The cells of an epoch: the first of each key, and of these the first ones of each system, up to the largest number.
-use Rattle.std.specs.Prelude.{ℕ, ◌+◌, ◌-◌, ◌==◌, ◌&&◌, ◌||◌, Bool, true, false, not, nat_le, nat_lt, List, [], ◌∷◌, ◌++◌, filter, flat_map, take, length, count_by, is_some, if◌then◌else◌}
+use Rattle.std.specs.Prelude.{ℕ, ◌+◌, ◌-◌, ◌==◌, ◌&&◌, ◌||◌, Bool, true, false, not, nat_le, nat_lt, List, [], ◌∷◌}
+use Rattle.std.specs.Prelude.{◌++◌, filter, flat_map, take, length, count_by, is_some, if◌then◌else◌}
 use Rattle.std.specs.List.{list_any}
 use Rattle.gnss_obs.specs.declared.system.System.{System}
 use Rattle.gnss_obs.specs.declared.system.System.TheVariants.{Gps, Galileo}
@@ -26,7 +27,8 @@ is_of_system system x = is_system system x.satellite.system
 -- The same system, satellite and signal.
 abbrev pub same_key : Satellite → SignalAt → Satellite → SignalAt → Bool
 same_key satellite signal other_satellite other_signal =
-    is_system satellite.system other_satellite.system && (satellite.id == other_satellite.id) && (signal.index == other_signal.index)
+    is_system satellite.system other_satellite.system && (satellite.id == other_satellite.id)
+    && (signal.index == other_signal.index)
 
 abbrev pub has_same_key : HeardCell → HeardCell → Bool
 has_same_key a b = same_key a.satellite a.signal b.satellite b.signal
@@ -34,7 +36,8 @@ has_same_key a b = same_key a.satellite a.signal b.satellite b.signal
 -- The satellite is one of its system, and the signal is in that system's table.
 abbrev pub has_listed_key : HeardCell → Bool
 has_listed_key x =
-    nat_lt 0 x.satellite.id && nat_le x.satellite.id (satellites x.satellite.system) && nat_lt x.signal.index (length (table x.satellite.system))
+    nat_lt 0 x.satellite.id && nat_le x.satellite.id (satellites x.satellite.system)
+    && nat_lt x.signal.index (length (table x.satellite.system))
 
 -- The satellite and the signal are listed, and the signal is planned.
 abbrev pub is_planned : GatherSetup → HeardCell → Bool
@@ -63,7 +66,8 @@ kept system xs = take most_cells (filter (is_of_system system) (firsts xs))
 
 -- One more cell: it is kept if it is of the system, if no cell of its key is kept, and if there is room.
 abbrev pub add : System → List HeardCell → HeardCell → List HeardCell
-add system ks y = if is_of_system system y && not (is_among ks y || nat_le most_cells (length ks)) then ks ++ y ∷ [] else ks
+add system ks y =
+    if is_of_system system y && not (is_among ks y || nat_le most_cells (length ks)) then ks ++ y ∷ [] else ks
 
 -- The kept cells of a system in the epoch of time t, by satellite, then by the order of the plan.
 abbrev pub kept_at : GatherSetup → ℕ → List Timed → System → List HeardCell

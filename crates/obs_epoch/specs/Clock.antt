@@ -34,7 +34,9 @@ closes_first s xs m =
 abbrev pub answer_of : GatherSetup → List Timed → Heard → Answer
 answer_of s xs m =
     if is_own s m
-    then option_map_or (λ tow. if is_late s xs tow then Late else (if is_past (time_of s xs tow) then PastWeeks else Kept)) m.tow Ignored
+    then option_map_or
+    (λ tow. if is_late s xs tow then Late else (if is_past (time_of s xs tow) then PastWeeks else Kept)) m.tow
+    Ignored
     else OtherStation
 
 -- The clock has processed these messages; if `shut`, the pending epoch was closed after the last of them.

@@ -1,5 +1,6 @@
 -- GPS time as a civil date and time of day: its definition by the calendar, and a walk from 1980 on that computes it.
-use Rattle.std.specs.Prelude.{◌≡◌, ℕ, zero, suc, ◌+◌, ◌-◌, ◌*◌, ◌/◌, ◌%◌, ◌<◌, ◌==◌, ◌&&◌, ◌||◌, Bool, not, nat_lt, ℤ, pos, ◌-ℤ◌, ◌*ℤ◌, ◌+ℤ◌, if◌then◌else◌}
+use Rattle.std.specs.Prelude.{◌≡◌, ℕ, zero, suc, ◌+◌, ◌-◌, ◌*◌, ◌/◌, ◌%◌, ◌<◌, ◌==◌, ◌&&◌, ◌||◌, Bool, not, nat_lt, ℤ}
+use Rattle.std.specs.Prelude.{pos, ◌-ℤ◌, ◌*ℤ◌, ◌+ℤ◌, if◌then◌else◌}
 use Rattle.jiff_core.specs.Calendar.{IsCivilDate, days_from_civil}
 use Rattle.obs_epoch.specs.declared.civil.Civil.{Civil}
 use Rattle.obs_epoch.specs.Weeks.{day as day_length}
@@ -37,7 +38,8 @@ year_length y = if is_leap y then 366 else 365
 
 abbrev pub month_length : ℕ → ℕ → ℕ
 month_length y m =
-    if m == 2 then (if is_leap y then 29 else 28) else (if (m == 4) || (m == 6) || (m == 9) || (m == 11) then 30 else 31)
+    if m == 2 then (if is_leap y then 29 else 28)
+    else (if (m == 4) || (m == 6) || (m == 9) || (m == 11) then 30 else 31)
 
 pub record YearMonthDay : Type 0 where
   pub year : ℕ
@@ -48,12 +50,14 @@ pub record YearMonthDay : Type 0 where
 abbrev pub month_on : ℕ → ℕ → ℕ → ℕ → YearMonthDay
 month_on zero y m days = record { year = y; month = m; day = days + 1 }
 month_on (suc months) y m days =
-    if nat_lt days (month_length y m) then record { year = y; month = m; day = days + 1 } else month_on months y (m + 1) (days - month_length y m)
+    if nat_lt days (month_length y m) then record { year = y; month = m; day = days + 1 }
+    else month_on months y (m + 1) (days - month_length y m)
 
 -- The date a number of days after the first day of a year, with at most `years` more years.
 abbrev pub year_on : ℕ → ℕ → ℕ → YearMonthDay
 year_on zero y days = month_on 11 y 1 days
-year_on (suc years) y days = if nat_lt days (year_length y) then month_on 11 y 1 days else year_on years (y + 1) (days - year_length y)
+year_on (suc years) y days =
+    if nat_lt days (year_length y) then month_on 11 y 1 days else year_on years (y + 1) (days - year_length y)
 
 -- The date a number of days after 1980-01-06.
 abbrev pub date_of : ℕ → YearMonthDay

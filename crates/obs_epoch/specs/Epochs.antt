@@ -1,5 +1,6 @@
 -- The epochs of a list of messages.
-use Rattle.std.specs.Prelude.{ℕ, ◌||◌, Bool, false, nat_lt, List, [], ◌∷◌, ◌++◌, filter, fold, map, if◌then◌else◌, option_to_list, pos}
+use Rattle.std.specs.Prelude.{ℕ, ◌||◌, Bool, false, nat_lt, List, [], ◌∷◌, ◌++◌, filter, fold, map, if◌then◌else◌}
+use Rattle.std.specs.Prelude.{option_to_list, pos}
 use Rattle.std.specs.Option.{option_map_or}
 use Rattle.gnss_obs.specs.declared.system.System.TheVariants.{Gps, Galileo}
 use Rattle.rtcm_msg.specs.declared.station.StationParts.{StationParts}

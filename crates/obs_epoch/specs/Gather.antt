@@ -1,5 +1,6 @@
 -- The value of a gatherer, and its steps in parts.
-use Rattle.std.specs.Prelude.{ℕ, ◌≡◌, ◌==◌, Bool, true, false, List, [], ◌∷◌, map, insert, if◌then◌else◌, Option, Some, None, is_some}
+use Rattle.std.specs.Prelude.{ℕ, ◌≡◌, ◌==◌, Bool, true, false, List, [], ◌∷◌, map, insert, if◌then◌else◌, Option, Some}
+use Rattle.std.specs.Prelude.{None, is_some}
 use Rattle.std.specs.Option.{option_map_or}
 use Rattle.gnss_obs.specs.declared.system.System.{System}
 use Rattle.gnss_obs.specs.declared.system.System.TheVariants.{Gps, Galileo}
@@ -76,7 +77,8 @@ abbrev pub fate_in : Gathered → HeardCell → Fate
 fate_in g x = fate_of g.clock.setup (cells_of x.satellite.system g.epoch) x
 
 abbrev pub hold_by : Fate → Gathered → HeardCell → Gathered
-hold_by Kept g x = record g { epoch = with_more g.clock.setup.plan g.epoch (kept_cell x (lli_with g.epoch.time x (lookup g.locks x))) }
+hold_by Kept g x =
+    record g { epoch = with_more g.clock.setup.plan g.epoch (kept_cell x (lli_with g.epoch.time x (lookup g.locks x))) }
 hold_by _ g x = g
 
 -- One more cell.
@@ -129,7 +131,8 @@ is_same (Some a) (Some b) = a == b
 -- The epoch of the greatest time, without cells if that time is new.
 abbrev pub epoch_begun : Option ℕ → Gathered → Gathered
 epoch_begun before g =
-    if is_same before g.clock.latest then g else record g { epoch = record { time = option_map_or (λ t. t) g.clock.latest 0; gps = []; galileo = [] } }
+    if is_same before g.clock.latest then g
+    else record g { epoch = record { time = option_map_or (λ t. t) g.clock.latest 0; gps = []; galileo = [] } }
 
 abbrev pub loaded_by : Answer → Option ℕ → Gathered → Heard → Loaded
 loaded_by answers.Kept before g m = load_heard (record { state = epoch_begun before g; counts = no_counts }) m
@@ -137,13 +140,19 @@ loaded_by _ before g m = record { state = g; counts = no_counts }
 
 -- The clock and the station values process the message.
 abbrev pub ticked : Gathered → Heard → Gathered
-ticked g m = record g { clock = step_by g.clock m; values = values_by_message g.clock.setup g.values m; handed = is_some (closed_by g.clock m) }
+ticked g m =
+    record g {
+      clock = step_by g.clock m;
+      values = values_by_message g.clock.setup g.values m;
+      handed = is_some (closed_by g.clock m);
+    }
 
 abbrev pub closed_if : Bool → Loaded → Loaded
 closed_if b l = record { state = if b then noted l.state else l.state; counts = l.counts }
 
 abbrev pub take_step : Gathered → Heard → Loaded
-take_step g m = closed_if (is_some (closed_by g.clock m)) (loaded_by (answer_by g.clock m) g.clock.latest (ticked g m) m)
+take_step g m =
+    closed_if (is_some (closed_by g.clock m)) (loaded_by (answer_by g.clock m) g.clock.latest (ticked g m) m)
 
 -- The last call closed no epoch.
 abbrev pub rested : Gathered → Gathered

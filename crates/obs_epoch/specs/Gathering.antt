@@ -1,5 +1,6 @@
 -- The history of a gatherer: its messages, the epochs that it returned, and a message that is expected again.
-use Rattle.std.specs.Prelude.{ℕ, ◌≡◌, ◌&&◌, ◌||◌, Bool, true, List, [], ◌∷◌, ◌++◌, map, if◌then◌else◌, Option, Some, None, is_some, option_to_list}
+use Rattle.std.specs.Prelude.{ℕ, ◌≡◌, ◌&&◌, ◌||◌, Bool, true, List, [], ◌∷◌, ◌++◌, map, if◌then◌else◌, Option, Some}
+use Rattle.std.specs.Prelude.{None, is_some, option_to_list}
 use Rattle.std.specs.Option.{IfSome, option_map_or}
 use Rattle.rtcm_bits.specs.Prefix.{IsPrefix}
 use Rattle.obs_epoch.specs.declared.cell.StationValues.{StationValues}
@@ -69,7 +70,8 @@ abbrev pub IsAwaited : Option Heard → Heard → Type 0
 IsAwaited again m = IfSome again (λ awaited. m ≡ awaited)
 
 -- The gatherer has processed these messages, has returned these epochs, and expects the message `again`, if any.
-pub record HasGatheredEpochs (v : Gathered) (s : GatherSetup) (ms : List Heard) (es : List Closed) (again : Option Heard) : Type 0 where
+pub record HasGatheredEpochs (v : Gathered) (s : GatherSetup) (ms : List Heard) (es : List Closed)
+    (again : Option Heard) : Type 0 where
   pub standing : HasTakenMessages v s ms (is_done v s ms again)
   pub handed : es ≡ closed_list_at s ms (closed_so_far s (timed s ms) (is_done v s ms again))
   pub epochs : again ≡ None → es ≡ known_epochs v.has_ended s ms

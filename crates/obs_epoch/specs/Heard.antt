@@ -1,5 +1,6 @@
 -- The setup of a gatherer, and the parts of a message that it uses.
-use Rattle.std.specs.Prelude.{ℕ, ℤ, ◌≡◌, IfSome, ◌==◌, ◌&&◌, Bool, true, false, not, List, [], ◌∷◌, if◌then◌else◌, Option, Some, None, option_map, option_and_then, filter_map, ◌+◌, is_some}
+use Rattle.std.specs.Prelude.{ℕ, ℤ, ◌≡◌, IfSome, ◌==◌, ◌&&◌, Bool, true, false, not, List, [], ◌∷◌, if◌then◌else◌}
+use Rattle.std.specs.Prelude.{Option, Some, None, option_map, option_and_then, filter_map, ◌+◌, is_some}
 use Rattle.std.specs.Option.{option_map_or}
 use Rattle.gnss_obs.specs.declared.system.System.{System}
 use Rattle.gnss_obs.specs.declared.system.System.TheVariants.{Gps, Galileo}
@@ -109,7 +110,8 @@ observed lock e satellite signal = record {
 -- A cell of a message, if its satellite and its signal are listed.
 abbrev pub seen_by : LockTime → System → Entry → Option HeardCell
 seen_by lock system e =
-    option_and_then (λ satellite. option_map (observed lock e satellite) (signal_of_id system e.signal)) (satellite_of_id system e.satellite)
+    option_and_then (λ satellite. option_map (observed lock e satellite) (signal_of_id system e.signal))
+    (satellite_of_id system e.satellite)
 
 abbrev pub system_of : Bool → System
 system_of is_galileo = if is_galileo then Galileo else Gps
@@ -139,11 +141,19 @@ heard_msm field m es = record {
 }
 
 abbrev pub heard : Message → Heard
-heard (message.Station p) = record { station = Some p.station; tow = None; more = None; cells = []; unlisted = 0; point = Some p }
+heard (message.Station p) =
+    record { station = Some p.station; tow = None; more = None; cells = []; unlisted = 0; point = Some p }
 heard (message.Msm4 m) = heard_msm Df402 m (entries (message.Msm4 m))
 heard (message.Msm7 m) = heard_msm Df407 m (entries (message.Msm7 m))
 heard (message.Other number set) =
-    record { station = option_map (λ p. p.0) set; tow = None; more = option_map (λ p. p.1) set; cells = []; unlisted = 0; point = None }
+    record {
+      station = option_map (λ p. p.0) set;
+      tow = None;
+      more = option_map (λ p. p.1) set;
+      cells = [];
+      unlisted = 0;
+      point = None;
+    }
 
 -- A message without its cells.
 abbrev pub without_cells : Heard → Heard

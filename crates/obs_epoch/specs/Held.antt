@@ -1,5 +1,6 @@
 -- The kept cells and the lock records, and one step of each.
-use Rattle.std.specs.Prelude.{[], ℕ, ◌+◌, ◌-◌, ◌*◌, ◌≡◌, Bool, nat_le, List, ◌∷◌, length, get_or, set, replicate, count_by, if◌then◌else◌, Option, Some, None, is_some}
+use Rattle.std.specs.Prelude.{[], ℕ, ◌+◌, ◌-◌, ◌*◌, ◌≡◌, Bool, nat_le, List, ◌∷◌, length, get_or, set, replicate}
+use Rattle.std.specs.Prelude.{count_by, if◌then◌else◌, Option, Some, None, is_some}
 use Rattle.std.specs.Option.{option_map_or}
 use Rattle.std.specs.List.{list_any}
 use Rattle.gnss_obs.specs.declared.system.System.{System}
@@ -77,7 +78,8 @@ is_cell_of x c = same_key x.satellite x.signal c.satellite c.signal
 
 abbrev pub fate_of : GatherSetup → List Cell → HeardCell → Fate
 fate_of s ms x =
-    if is_planned s x then (if is_held ms x then Repeated else (if nat_le most_cells (length ms) then Crowded else Kept)) else Skipped
+    if is_planned s x
+    then (if is_held ms x then Repeated else (if nat_le most_cells (length ms) then Crowded else Kept)) else Skipped
 
 abbrev pub count_in : Fate → CellCounts → CellCounts
 count_in Kept n = record n { kept = n.kept + 1 }

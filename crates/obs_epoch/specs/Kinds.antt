@@ -1,5 +1,5 @@
 -- The outcome of a message.
-use Rattle.std.specs.Prelude.{◌≡◌, ◌<◌, ◌≤◌, ℕ, Bool, true, false, List, Option, is_some, if◌then◌else◌}
+use Rattle.std.specs.Prelude.{ℕ, Bool, true, false, List, Option, is_some, if◌then◌else◌}
 use Rattle.obs_epoch.specs.declared.clock.Answer.{Answer}
 use Rattle.obs_epoch.specs.declared.clock.Answer.TheVariants as answers
 use Rattle.obs_epoch.specs.declared.taken.Kind.{Kind}
@@ -9,9 +9,6 @@ use Rattle.std.specs.Option.{option_map_or}
 use Rattle.obs_epoch.specs.declared.taken.Gather.{Gather}
 use Rattle.obs_epoch.specs.declared.taken.Gather.TheVariants as gathers
 use Rattle.obs_epoch.specs.Values.{PlanValue}
-use Rattle.obs_epoch.specs.Weeks.{weeks}
-use Rattle.obs_epoch.specs.declared.fault.PlanFault.{PlanFault}
-use Rattle.obs_epoch.specs.declared.fault.PlanFault.TheVariants as faults
 use Rattle.obs_epoch.specs.Heard.{GatherSetup, Heard}
 use Rattle.obs_epoch.specs.declared.cell.StationValues.{StationValues}
 use Rattle.obs_epoch.specs.Epochs.{no_values}
@@ -64,10 +61,3 @@ setup_of plan start_week station gather = setup_at plan start_week station gathe
 -- The number of the station does not fit the 12 bits of DF003.
 abbrev pub is_no_station : Option ℕ → Bool
 is_no_station station = option_map_or (λ n. nat_lt 4_095 n) station false
-
--- The fault for which a gatherer of this week and station is refused.
-abbrev pub IsUnfitSetup : ℕ → Option ℕ → PlanFault → Type 0
-IsUnfitSetup week station faults.BadWeek = weeks ≤ week
-IsUnfitSetup week station faults.BadStation = (week < weeks) × (is_no_station station ≡ true)
-IsUnfitSetup week station faults.Memory = (week < weeks) × (is_no_station station ≡ false)
-IsUnfitSetup week station other = ⊥

@@ -1,5 +1,6 @@
 -- Loss of lock indicators.
-use Rattle.std.specs.Prelude.{ℕ, ◌+◌, ◌-◌, ◌&&◌, Bool, false, nat_lt, List, [], ◌∷◌, filter, filter_map, find, unwrap_or, if◌then◌else◌, Option, Some, None, is_some, option_and_then}
+use Rattle.std.specs.Prelude.{ℕ, ◌+◌, ◌-◌, ◌&&◌, Bool, false, nat_lt, List, [], ◌∷◌, filter, filter_map, find}
+use Rattle.std.specs.Prelude.{unwrap_or, if◌then◌else◌, Option, Some, None, is_some, option_and_then}
 use Rattle.std.specs.Option.{option_map_or}
 use Rattle.gnss_obs.specs.LockTimes.{lost}
 use Rattle.obs_epoch.specs.Heard.{GatherSetup, HeardCell}

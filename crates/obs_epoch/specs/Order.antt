@@ -1,5 +1,6 @@
 -- The order of kept cells: by satellite, then by the order of the plan.
-use Rattle.std.specs.Prelude.{ℕ, suc, ◌≡◌, ◌≤◌, ◌==◌, ◌&&◌, ◌||◌, ⊤, Bool, true, nat_lt, List, [], ◌∷◌, fold, map, if◌then◌else◌}
+use Rattle.std.specs.Prelude.{ℕ, suc, ◌≡◌, ◌≤◌, ◌==◌, ◌&&◌, ◌||◌, ⊤, Bool, true, nat_lt, List, [], ◌∷◌, fold, map}
+use Rattle.std.specs.Prelude.{if◌then◌else◌}
 use Rattle.std.specs.Option.{option_map_or}
 use Rattle.std.specs.List.{AllByRecursion}
 use Rattle.gnss_obs.specs.declared.system.System.{System}
@@ -13,7 +14,8 @@ use Rattle.obs_epoch.specs.Heard.{HeardCell}
 
 -- The sort key of a satellite and signal: the satellite's number, and the index of the signal among the planned ones.
 abbrev pub plan_seat : List ℕ → Satellite → SignalAt → Seat
-plan_seat planned satellite signal = record { satellite = satellite.id; place = option_map_or (λ p. p) (place_in signal planned) 0 }
+plan_seat planned satellite signal =
+    record { satellite = satellite.id; place = option_map_or (λ p. p) (place_in signal planned) 0 }
 
 -- By satellite, then by index.
 abbrev pub is_before : Seat → Seat → Bool

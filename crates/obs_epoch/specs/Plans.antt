@@ -1,5 +1,6 @@
 -- The plan of two texts.
-use Rattle.std.specs.Prelude.{◌≡◌, ℕ, zero, suc, ◌==◌, List, [], ◌∷◌, ◌++◌, length, codes, nat_eq, if◌then◌else◌, Option, Some, None, Result, Ok, Err, position}
+use Rattle.std.specs.Prelude.{◌≡◌, ℕ, zero, suc, ◌==◌, List, [], ◌∷◌, ◌++◌, length, codes, nat_eq, if◌then◌else◌}
+use Rattle.std.specs.Prelude.{Option, Some, None, Result, Ok, Err, position}
 use Rattle.std.specs.List.{list_any}
 use Rattle.std.specs.Str.{bytes_eq}
 use Rattle.gnss_obs.specs.declared.system.System.{System}
@@ -23,7 +24,8 @@ between_commas [] = [] ∷ []
 between_commas (b ∷ bs) = if b == 44 then [] ∷ between_commas bs else onto_first b (between_commas bs)
 
 -- The signals after one more signal, passed to `rest`; or the fault of that signal.
-abbrev pub one_signal_more : System → List ℕ → Option SignalAt → (List ℕ → Result (List ℕ) PlanFault) → Result (List ℕ) PlanFault
+abbrev pub one_signal_more : System → List ℕ → Option SignalAt → (List ℕ → Result (List ℕ) PlanFault)
+    → Result (List ℕ) PlanFault
 one_signal_more system earlier None rest = Err (UnknownCode system (length earlier))
 one_signal_more system earlier (Some s) rest =
     if list_any (nat_eq s.index) earlier
@@ -32,11 +34,13 @@ one_signal_more system earlier (Some s) rest =
 
 -- A code's signal is accepted after these signals, and the result is those.
 abbrev pub IsTaken : System → List ℕ → Option SignalAt → List ℕ → Type 0
-IsTaken system earlier s now = (rest : List ℕ → Result (List ℕ) PlanFault) → one_signal_more system earlier s rest ≡ rest now
+IsTaken system earlier s now =
+    (rest : List ℕ → Result (List ℕ) PlanFault) → one_signal_more system earlier s rest ≡ rest now
 
 -- A code's signal is refused with that fault.
 abbrev pub IsRefused : System → List ℕ → Option SignalAt → PlanFault → Type 0
-IsRefused system earlier s fault = (rest : List ℕ → Result (List ℕ) PlanFault) → one_signal_more system earlier s rest ≡ Err fault
+IsRefused system earlier s fault =
+    (rest : List ℕ → Result (List ℕ) PlanFault) → one_signal_more system earlier s rest ≡ Err fault
 
 -- The signals of codes, after those of the earlier codes. The first code from the left that isn't in the table, or
 -- whose signal came before, is the fault, with its index counted from 0.

@@ -1,5 +1,6 @@
 -- Bounds of the values in the epochs of decoded messages.
-use Rattle.std.specs.Prelude.{◌≡◌, ℕ, ℤ, pos, ◌*◌, ◌^◌, ◌<◌, ◌≤◌, ◌≤ℤ◌, ◌==◌, ◌&&◌, Bool, true, List, [], ◌∷◌, IfSome, None, is_some, ⊤}
+use Rattle.std.specs.Prelude.{◌≡◌, ℕ, ℤ, pos, ◌*◌, ◌^◌, ◌<◌, ◌≤◌, ◌≤ℤ◌, ◌==◌, ◌&&◌, Bool, true, List, [], ◌∷◌, IfSome}
+use Rattle.std.specs.Prelude.{None, is_some, ⊤}
 use Rattle.std.specs.List.{AllByRecursion, IsDistinct}
 use Rattle.gnss_obs.specs.declared.system.System.{System}
 use Rattle.gnss_obs.specs.Satellites.{satellites}
@@ -83,4 +84,5 @@ abbrev pub MessagesAreHeard : Type 0
 MessagesAreHeard = (m : Message) → IsMessage m → IsHeard (heard m)
 
 abbrev pub EpochsAreGathered : Type 0
-EpochsAreGathered = (s : GatherSetup) (ms : List Heard) → AreStationValues s.initial → AllByRecursion IsHeard ms → AreGatheredEpochs s.plan (all_epochs s ms)
+EpochsAreGathered = (s : GatherSetup) (ms : List Heard) → AreStationValues s.initial → AllByRecursion IsHeard ms
+    → AreGatheredEpochs s.plan (all_epochs s ms)

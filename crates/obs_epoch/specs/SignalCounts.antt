@@ -1,5 +1,6 @@
 -- The number of cells with a value in messages, by signal.
-use Rattle.std.specs.Prelude.{◌≡◌, ℕ, ◌+◌, ◌-◌, ◌<◌, ◌≤◌, ◌^◌, ◌==◌, ◌&&◌, ◌||◌, Bool, true, false, min, nat_lt, List, [], ◌++◌, length, get_or, set, filter, filter_map, Option, None, is_some, if◌then◌else◌}
+use Rattle.std.specs.Prelude.{◌≡◌, ℕ, ◌+◌, ◌-◌, ◌<◌, ◌≤◌, ◌^◌, ◌==◌, ◌&&◌, ◌||◌, Bool, true, false, min, nat_lt, List}
+use Rattle.std.specs.Prelude.{[], ◌++◌, length, get_or, set, filter, filter_map, Option, None, is_some, if◌then◌else◌}
 use Rattle.std.specs.Option.{option_map_or}
 use Rattle.std.specs.List.{list_any}
 use Rattle.gnss_obs.specs.declared.system.System.{System}
@@ -72,7 +73,8 @@ abbrev pub entry_value : Entry → Bool
 entry_value e = is_some e.range || is_some e.phase || is_some e.rate || is_some e.strength
 
 abbrev pub entry_signal : System → Entry → Option SignalAt
-entry_signal system e = if is_some (satellite_of_id system e.satellite) && entry_value e then signal_of_id system e.signal else None
+entry_signal system e =
+    if is_some (satellite_of_id system e.satellite) && entry_value e then signal_of_id system e.signal else None
 
 -- ---- all cells so far
 
@@ -80,15 +82,18 @@ entry_signal system e = if is_some (satellite_of_id system e.satellite) && entry
 pub record AreSignalCounts (c : SignalCountsValue) (cells : List HeardCell) : Type 0 where
   pub gps : length c.gps ≡ length (table Gps)
   pub galileo : length c.galileo ≡ length (table Galileo)
-  pub each : (system : System) (i : ℕ) → i < length (table system) → counted c system i ≡ count_of (signal_in system i) cells
+  pub each : (system : System) (i : ℕ) → i < length (table system)
+      → counted c system i ≡ count_of (signal_in system i) cells
 
 -- From c to c' the cells of these entries that have a value were counted, regardless of the earlier cells and for every
 -- lock field.
 abbrev pub CountsEntries : (c c' : SignalCountsValue) → System → List Entry → Type 0
-CountsEntries c c' system entries = (field : LockField) (cells : List HeardCell) → length cells + length entries < 2 ^ 63 → AreSignalCounts c cells
+CountsEntries c c' system entries =
+    (field : LockField) (cells : List HeardCell) → length cells + length entries < 2 ^ 63 → AreSignalCounts c cells
     → AreSignalCounts c' (cells ++ filter brings_value (filter_map (seen_in field system) entries))
 
 -- From c to c' the cells of a message that have a value were counted.
 pub record CountsMessage (c c' : SignalCountsValue) (wanted : Option ℕ) (m : Heard) : Type 0 where
-  pub counts : (cells : List HeardCell) → length cells < 2 ^ 62 → AreSignalCounts c cells → AreSignalCounts c' (cells ++ valued wanted m)
+  pub counts : (cells : List HeardCell) → length cells < 2 ^ 62 → AreSignalCounts c cells
+      → AreSignalCounts c' (cells ++ valued wanted m)
   pub few : length (valued wanted m) ≤ 64

@@ -39,7 +39,8 @@ closed_list s xs shut = map (epoch_at s xs) (closed_so_far s xs shut)
 
 -- The outcomes of the cells of a message after these messages.
 abbrev pub counts_of_message : GatherSetup → List Timed → Heard → CellCounts
-counts_of_message s xs m = option_map_or (λ u. with_skipped m.unlisted (counts_of s (offered s u xs) m.cells)) (taken_at s xs m) no_counts
+counts_of_message s xs m =
+    option_map_or (λ u. with_skipped m.unlisted (counts_of s (offered s u xs) m.cells)) (taken_at s xs m) no_counts
 
 -- The epoch, if the call closed one.
 abbrev pub handed_out : Bool → EpochValue → List EpochValue

@@ -1,5 +1,6 @@
 -- The time of each message, and which messages are accepted.
-use Rattle.std.specs.Prelude.{ℕ, ◌+◌, ◌-◌, ◌*◌, ◌%◌, ◌==◌, ◌&&◌, ◌||◌, Bool, false, not, max, nat_lt, List, [], ◌∷◌, ◌++◌, if◌then◌else◌, Option, Some, None, option_and_then}
+use Rattle.std.specs.Prelude.{ℕ, ◌+◌, ◌-◌, ◌*◌, ◌%◌, ◌==◌, ◌&&◌, ◌||◌, Bool, false, not, max, nat_lt, List, [], ◌∷◌}
+use Rattle.std.specs.Prelude.{◌++◌, if◌then◌else◌, Option, Some, None, option_and_then}
 use Rattle.std.specs.Option.{option_map_or}
 use Rattle.std.specs.List.{list_any}
 use Rattle.rtcm_msg.specs.Msm.{week}
@@ -46,7 +47,8 @@ time_of s earlier tow = option_map_or (λ t. t + ahead t tow) (greatest_time ear
 -- More than half a week ahead, so before the greatest time; or equal to the greatest time, if its epoch is closed.
 abbrev pub is_late : GatherSetup → List Timed → ℕ → Bool
 is_late s earlier tow =
-    option_map_or (λ t. nat_lt 302_400_000 (ahead t tow) || ((ahead t tow == 0) && is_closed s t earlier)) (greatest_time earlier) false
+    option_map_or (λ t. nat_lt 302_400_000 (ahead t tow) || ((ahead t tow == 0) && is_closed s t earlier))
+    (greatest_time earlier) false
 
 -- After the last week.
 abbrev pub is_past : ℕ → Bool
@@ -56,7 +58,9 @@ is_past t = not (nat_lt t (weeks * week))
 abbrev pub taken_at : GatherSetup → List Timed → Heard → Option ℕ
 taken_at s earlier m =
     if is_own s m
-    then option_and_then (λ tow. if is_late s earlier tow || is_past (time_of s earlier tow) then None else Some (time_of s earlier tow)) m.tow
+    then option_and_then
+    (λ tow. if is_late s earlier tow || is_past (time_of s earlier tow) then None else Some (time_of s earlier tow))
+    m.tow
     else None
 
 -- The earlier messages, and then these with their times: a time depends on the earlier messages.

@@ -1,5 +1,6 @@
 -- The values of plans, cells and epochs.
-use Rattle.std.specs.Prelude.{◌≡◌, ℕ, zero, suc, ℤ, ◌+◌, ◌<◌, ◌≤◌, ◌^◌, ◌==◌, ◌&&◌, ◌||◌, Bool, List, [], ◌∷◌, length, All, IfSome, is_some, Option, unsigned_abs, if◌then◌else◌}
+use Rattle.std.specs.Prelude.{◌≡◌, ℕ, zero, suc, ℤ, ◌+◌, ◌<◌, ◌≤◌, ◌^◌, ◌==◌, ◌&&◌, ◌||◌, Bool, List, [], ◌∷◌, length}
+use Rattle.std.specs.Prelude.{All, IfSome, is_some, unsigned_abs, if◌then◌else◌}
 use Rattle.std.specs.Ordering.{int_eq}
 use Rattle.std.specs.List.{list_any}
 use Rattle.gnss_obs.specs.Satellites.{satellites as satellites_in, IsSatellite}
@@ -87,10 +88,6 @@ satellites_written e = written_among e.gps (satellites_in Gps) + written_among e
 -- The largest number of satellites to write.
 abbrev pub most_written : ℕ
 most_written = satellites_in Gps + satellites_in Galileo
-
--- The number of satellites to write, if it was counted.
-abbrev pub IsCount : Option ℕ → EpochValue → Type 0
-IsCount counted e = IfSome counted (λ n. (n ≡ satellites_written e) × (n ≤ most_written))
 
 -- All four values are equal.
 abbrev pub same_values : StationValues → StationValues → Bool

@@ -1,6 +1,6 @@
 //! The times of messages.
 ghost use Rattle.std.specs.Prelude.{◌==◌, ◌≡◌, ◌<◌, ◌*◌, [], true, false};
-ghost use Rattle.std.specs.Option.{ForSome};
+ghost use Rattle.std.specs.Option.{ForSome, option_map_or};
 ghost use Rattle.rtcm_msg.specs.Msm.{week};
 ghost use Rattle.obs_epoch.specs.Heard.{heard_summary};
 ghost use Rattle.obs_epoch.specs.Kinds.{setup_at};
@@ -8,7 +8,7 @@ ghost use Rattle.obs_epoch.specs.Weeks.{weeks};
 
 use crate::cell::StationValues;
 use crate::plan::Plan;
-use crate::taken::{Gather, is_by_bit};
+use crate::taken::Gather;
 use crate::time::{WEEK, WEEKS};
 use rtcm_msg::Summary;
 use std::marker::Model;
@@ -43,7 +43,14 @@ impl Model for Clock {
     ghost Value = { State };
 
     ghost view = { λ c. record {
-      setup = record { plan = c.plan; start_week = c.start_week; station = c.station; by_bit = c.by_bit; initial = c.initial };
+      setup =
+          record {
+            plan = c.plan;
+            start_week = c.start_week;
+            station = c.station;
+            by_bit = c.by_bit;
+            initial = c.initial;
+          };
       latest = c.latest;
       pending = c.pending;
     } };
@@ -72,7 +79,7 @@ impl Clock {
             plan,
             start_week,
             station,
-            by_bit: is_by_bit(gather),
+            by_bit: matches!(gather, Gather::Bit),
             initial,
             latest: None,
             pending: false,
@@ -105,16 +112,22 @@ impl Clock {
     }
 
     /// Processes a message, and returns its outcome and the time of the epoch that it closes.
-    pub fn step_closing(&mut self, said: &Summary) -> (Answer, Option<u64>)
+    pub fn step(&mut self, said: &Summary) -> (Answer, Option<u64>)
         requires { ForSome said.now.time (λ tow. tow < week) }
         ensures answer { result.0 ≡ answer_by self.old (heard_summary said.now) }
         ensures closed { result.1 ≡ closed_by self.old (heard_summary said.now) }
         ensures step { self.new ≡ step_by self.old (heard_summary said.now) }
     {
+        if !self.is_own(said.station) {
+            return (Answer::OtherStation, None);
+        }
         let is_mark = self.by_bit && said.more == Some(false);
         let was = self.pending;
         let before = self.latest;
-        let answer = self.step(said);
+        let answer = self.place(said.time);
+        if is_mark {
+            self.pending = false;
+        }
         let closed = match answer {
             Answer::CloseFirst => before,
             Answer::Kept if is_mark => self.latest,
@@ -122,25 +135,6 @@ impl Clock {
             _ => None,
         };
         (answer, closed)
-    }
-
-    fn step(&mut self, said: &Summary) -> Answer
-        requires { ForSome said.now.time (λ tow. tow < week) }
-        ensures answer { result ≡ answer_by self.old (heard_summary said.now) }
-        ensures step { self.new ≡ step_by self.old (heard_summary said.now) }
-    {
-        if !self.is_own(said.station) {
-            return Answer::OtherStation;
-        }
-        let is_mark = self.by_bit && said.more == Some(false);
-        let answer = match said.time {
-            None => Answer::Ignored,
-            Some(tow) => self.place(tow),
-        };
-        if is_mark && answer != Answer::CloseFirst {
-            self.pending = false;
-        }
-        answer
     }
 
     pub fn is_own(&self, station: Option<u16>) -> bool
@@ -153,12 +147,15 @@ impl Clock {
         }
     }
 
-    // Processes observations of this time of week in milliseconds.
-    fn place(&mut self, tow: u32) -> Answer
-        requires { tow < week }
-        ensures answer { result ≡ answer_at self.old tow }
-        ensures step { self.new ≡ step_at self.old tow }
+    // Processes a message with this time of week in milliseconds.
+    fn place(&mut self, tow: Option<u32>) -> Answer
+        requires { ForSome tow (λ tow. tow < week) }
+        ensures answer { result ≡ option_map_or (answer_at self.old) tow Answer.Ignored }
+        ensures step { self.new ≡ option_map_or (step_at self.old) tow self.old }
     {
+        let Some(tow) = tow else {
+            return Answer::Ignored;
+        };
         let mut time = self.start_week as u64 * WEEK + tow as u64;
         if let Some(latest) = self.latest {
             let ahead = (tow as u64 + (WEEK - latest % WEEK)) % WEEK;

@@ -1,16 +1,18 @@
 //! Epochs: the observations of one time.
-ghost use Rattle.std.specs.Prelude.{◌≡◌, ◌+◌, ◌-◌, ◌<◌, ◌≤◌, [], false, length, drop, IfOk, IfSome, Option, Some, None, insert, map, slice_index_or, if◌then◌else◌};
+ghost use Rattle.std.specs.Prelude.{◌≡◌, ◌+◌, ◌-◌, ◌<◌, ◌≤◌, [], false, length, drop, IfOk, insert, map};
+ghost use Rattle.std.specs.Prelude.{slice_index_or, if◌then◌else◌};
 ghost use Rattle.std.specs.Vec.{vec_len, vec_capacity};
 ghost use Rattle.obs_epoch.specs.declared.cell.Cell.{Cell};
-ghost use Rattle.obs_epoch.specs.Values.{AreHeld, MayBeHeld, cells_of, satellites_written, is_written, written_among, most_cells, most_written, planned_of, run};
+ghost use Rattle.obs_epoch.specs.Values.{AreHeld, MayBeHeld, cells_of, satellites_written, is_written, written_among};
+ghost use Rattle.obs_epoch.specs.Values.{most_cells, most_written, planned_of, run};
 ghost use Rattle.obs_epoch.specs.Heard.{heard_cell, IsKey, IsObserved};
-ghost use Rattle.obs_epoch.specs.Held.{is_held as is_held_lem, is_cell_of, note_all};
-ghost use Rattle.obs_epoch.specs.Gather.{no_epoch, more_at, spot_in, AreInOrder};
+ghost use Rattle.obs_epoch.specs.Held.{is_held, is_cell_of, note_all};
+ghost use Rattle.obs_epoch.specs.Gather.{more_at, spot_in, AreInOrder};
 ghost use Rattle.obs_epoch.specs.Order.{AreSorted, AreOrderedBy, plan_seat, is_before, cell_seat, spot as spot_of};
 ghost use Rattle.gnss_obs.specs.Satellites.{satellites as satellites_in};
 
 use crate::cell::{Cell, StationValues};
-use crate::locks::{Locks, insert_within, is_same_key, push_within};
+use crate::locks::{Locks, insert_within, is_same_system};
 use crate::plan::Plan;
 use crate::time::GpsTime;
 use gnss_obs::{Sat, Signal, System};
@@ -35,28 +37,28 @@ pub struct Epoch {
     gps: Vec<Cell>,
     galileo: Vec<Cell>,
     values: StationValues,
-    // Number of satellites to write, if it was counted.
-    counted: Option<usize>,
 }
 
 impl Model for Epoch {
     ghost use Rattle.std.specs.Vec.{vec_capacity};
     ghost use Rattle.gnss_obs.specs.declared.system.System.TheVariants.{Gps, Galileo};
-    ghost use Rattle.obs_epoch.specs.Values.{Closed, IsCount};
+    ghost use Rattle.obs_epoch.specs.Values.{Closed};
     ghost use Rattle.obs_epoch.specs.Order.{AreHeldIn};
 
     ghost Value = { Closed };
 
-    ghost view = { λ e. record { epoch = record { time = e.time; gps = e.gps.items; galileo = e.galileo.items }; values = e.values } };
+    ghost view = { λ e.
+        record { epoch = record { time = e.time; gps = e.gps.items; galileo = e.galileo.items }; values = e.values } };
 
-    ghost invariant = { λ e. AreHeldIn Gps (vec_capacity e.gps) e.gps.items × AreHeldIn Galileo (vec_capacity e.galileo) e.galileo.items
-        × IsCount e.counted (record { time = e.time; gps = e.gps.items; galileo = e.galileo.items }) };
+    ghost invariant = { λ e. AreHeldIn Gps (vec_capacity e.gps) e.gps.items
+        × AreHeldIn Galileo (vec_capacity e.galileo) e.galileo.items };
 }
 
 impl Epoch {
     // Returns an epoch without cells, with room for all cells that it can keep.
     pub(crate) fn new(alloc: Global, values: StationValues) -> Result<Epoch, AllocError>
-        ensures { IfOk result (λ e. e ≡ record { epoch = record { time = 0; gps = []; galileo = [] }; values = values }) }
+        ensures { IfOk result
+            (λ e. e ≡ record { epoch = record { time = 0; gps = []; galileo = [] }; values = values }) }
     {
         let gps = Vec::with_capacity(alloc, MOST_CELLS)?;
         let galileo = Vec::with_capacity(alloc, MOST_CELLS)?;
@@ -65,18 +67,17 @@ impl Epoch {
             gps,
             galileo,
             values,
-            counted: None,
         })
     }
 
     // Begins the epoch of another time, without cells.
     pub(crate) fn begin(&mut self, time: GpsTime)
-        ensures { self.new ≡ record { epoch = record { time = time; gps = []; galileo = [] }; values = self.old.values } }
+        ensures { self.new
+            ≡ record { epoch = record { time = time; gps = []; galileo = [] }; values = self.old.values } }
     {
         self.time = time;
         self.gps.clear();
         self.galileo.clear();
-        self.counted = None;
     }
 
     // Sets the station values.
@@ -86,47 +87,44 @@ impl Epoch {
         self.values = values;
     }
 
-    // Returns the insertion index of the key of a cell, or `None` if a cell of that key is kept.
-    pub(crate) fn seek(&self, plan: &Plan, x: &Cell) -> Option<usize>
+    // Returns the insertion index of a cell, and whether a cell of its key is kept.
+    #[inline(always)]
+    pub(crate) fn place_of(&self, plan: &Plan, x: &Cell) -> (usize, bool)
         requires key { IsKey (heard_cell x.now) }
         requires order { AreInOrder plan.now self.now.epoch }
-        ensures at { result ≡ (if is_held_lem (cells_of x.now.satellite.system self.now.epoch) (heard_cell x.now) then None
-            else Some (spot_in plan.now self.now.epoch (heard_cell x.now))) }
-        ensures within { IfSome result (λ at. at ≤ length (cells_of x.now.satellite.system self.now.epoch)) }
+        ensures at { result.0 ≡ spot_in plan.now self.now.epoch (heard_cell x.now) }
+        ensures kept { result.1 ≡ is_held (cells_of x.now.satellite.system self.now.epoch) (heard_cell x.now) }
+        ensures within { result.0 ≤ length (cells_of x.now.satellite.system self.now.epoch) }
     {
         let system = x.satellite.system();
         let cells = self.cells(system);
         let at = spot(cells, plan, seat_at(plan, x.satellite, x.signal), system);
-        if is_last(cells, at, x) {
-            None
-        } else {
-            Some(at)
-        }
+        (at, is_last(cells, at, x))
     }
 
     // Inserts a cell at an index.
-    pub(crate) fn hold(&mut self, at: usize, x: Cell)
+    #[inline(always)]
+    pub(crate) fn insert(&mut self, at: usize, x: Cell)
         requires observed { IsObserved (heard_cell x) }
         requires indicator { x.lli < 4 }
         requires room { length (cells_of x.satellite.system self.old.epoch) < most_cells }
         requires within { at ≤ length (cells_of x.satellite.system self.old.epoch) }
         requires order { AreSorted (insert (cells_of x.satellite.system self.old.epoch) at x) }
-        ensures { self.new ≡ record { epoch = more_at x.satellite.system at self.old.epoch x; values = self.old.values } }
+        ensures { self.new
+            ≡ record { epoch = more_at x.satellite.system at self.old.epoch x; values = self.old.values } }
     {
-        self.counted = None;
         match x.satellite.system() {
             System::Gps => insert_cell(&mut self.gps, at, x),
             System::Galileo => insert_cell(&mut self.galileo, at, x),
         }
     }
 
-    // Closes the epoch: counts its satellites once for all callers, and records its locks.
-    pub(crate) fn close(&mut self, locks: &mut Locks)
-        ensures same { self.new ≡ self.old }
-        ensures noted { locks.new ≡ note_all self.old.epoch.time (note_all self.old.epoch.time locks.old self.old.epoch.gps) self.old.epoch.galileo }
+    // Records the locks of the cells when the epoch is closed.
+    pub(crate) fn note_locks(&self, locks: &mut Locks)
+        ensures { locks.new
+            ≡ note_all self.now.epoch.time (note_all self.now.epoch.time locks.old self.now.epoch.gps)
+            self.now.epoch.galileo }
     {
-        let count = self.count();
-        self.counted = Some(count);
         let time = self.time.milliseconds();
         note_cells(locks, time, self.gps.as_slice());
         note_cells(locks, time, self.galileo.as_slice());
@@ -166,17 +164,6 @@ impl Epoch {
         ensures count { result ≡ satellites_written self.now.epoch }
         ensures bound { result ≤ most_written }
     {
-        match self.counted {
-            Some(count) => count,
-            None => self.count(),
-        }
-    }
-
-    // Counts the satellites to write.
-    fn count(&self) -> usize
-        ensures count { result ≡ satellites_written self.now.epoch }
-        ensures bound { result ≤ most_written }
-    {
         written(self.gps.as_slice(), System::Gps)
             + written(self.galileo.as_slice(), System::Galileo)
     }
@@ -196,55 +183,27 @@ fn seat_at(plan: &Plan, satellite: Sat, signal: Signal) -> Seat
 fn is_before(a: Seat, b: Seat) -> bool
     ensures { result ≡ is_before a b }
 {
-    if a.satellite == b.satellite {
-        return a.place < b.place;
-    }
-    a.satellite < b.satellite
+    a.satellite < b.satellite || a.satellite == b.satellite && a.place < b.place
 }
 
 // Returns the number of cells whose sort key isn't greater. Cells usually arrive in this order, so
-// the last cell is compared first.
+// the search begins at the last cell.
+#[inline(always)]
 fn spot(cells: &[Cell], plan: &Plan, x: Seat, system: System) -> usize
     requires held { AreHeld system cells.now }
     requires order { AreOrderedBy (planned_of system plan.now) cells.now }
     ensures spot { result ≡ spot_of x (map (cell_seat (planned_of system plan.now)) cells.now) }
     ensures bound { result ≤ length cells.now }
 {
-    let end = cells.len();
-    if end == 0 {
-        return 0;
-    }
-    if !is_after(&cells[end - 1], plan, x) {
-        return end;
-    }
-    spot_by_halves(cells, plan, x, system)
-}
-
-// Returns the same number, found by bisection.
-fn spot_by_halves(cells: &[Cell], plan: &Plan, x: Seat, system: System) -> usize
-    requires held { AreHeld system cells.now }
-    requires order { AreOrderedBy (planned_of system plan.now) cells.now }
-    ensures spot { result ≡ spot_of x (map (cell_seat (planned_of system plan.now)) cells.now) }
-    ensures bound { result ≤ length cells.now }
-{
-    let mut low = 0;
-    let mut high = cells.len();
-    while low < high {
-        let middle = low + (high - low) / 2;
-        if is_after(&cells[middle], plan, x) {
-            high = middle;
-        } else {
-            low = middle + 1;
+    let mut at = cells.len();
+    while at > 0 {
+        let cell = &cells[at - 1];
+        if !is_before(x, seat_at(plan, cell.satellite, cell.signal)) {
+            return at;
         }
+        at -= 1;
     }
-    low
-}
-
-// Returns whether the sort key of a cell is greater than this one.
-fn is_after(cell: &Cell, plan: &Plan, x: Seat) -> bool
-    ensures { result ≡ is_before x (cell_seat (planned_of cell.now.signal.system plan.now) cell.now) }
-{
-    is_before(x, seat_at(plan, cell.satellite, cell.signal))
+    at
 }
 
 /// Returns the end of the run of cells of a satellite that begins at this index.
@@ -271,7 +230,6 @@ pub fn is_written(cells: &[Cell], id: u8) -> bool
 }
 
 // Returns the number of satellites of a system that have a cell with a value.
-#[tactic(auto, unfolding(crate::specs::Values::written_among))]
 fn written(cells: &[Cell], system: System) -> usize
     requires held { AreHeld system cells.now }
     requires order { AreSorted cells.now }
@@ -279,13 +237,13 @@ fn written(cells: &[Cell], system: System) -> usize
     ensures bound { result ≤ satellites_in system }
 {
     let mut count = 0;
-    let mut from = 0;
-    for before in 0..system.satellites() {
-        let to = end_of(cells, from, before + 1);
-        if is_written(&cells[from..to], before + 1) {
+    let mut last = 0;
+    for i in 0..cells.len() {
+        let id = cells[i].satellite.id();
+        if cells[i].has_value() && id != last {
             count += 1;
+            last = id;
         }
-        from = to;
     }
     count
 }
@@ -298,19 +256,10 @@ fn insert_cell(cells: &mut Vec<Cell>, at: usize, x: Cell)
     ensures len { vec_len cells.new ≡ vec_len cells.old + 1 }
     ensures room { vec_capacity cells.old ≤ vec_capacity cells.new }
 {
-    let cell = Cell {
-        satellite: x.satellite,
-        signal: x.signal,
-        c: x.c,
-        l: x.l,
-        d: x.d,
-        s: x.s,
-        lli: x.lli,
-        lock: x.lock,
-        half_cycle: x.half_cycle,
-    };
+    // A copy: the prover doesn't find the types of the fields of a cell that is only passed on.
+    let cell = Cell { lli: x.lli, ..x };
     if at == cells.len() {
-        push_within(cells, cell);
+        let _ = cells.push(cell);
     } else {
         insert_within(cells, at, cell);
     }
@@ -326,7 +275,9 @@ fn is_last(cells: &[Cell], at: usize, x: &Cell) -> bool
         return false;
     }
     let c = &cells[at - 1];
-    is_same_key(x.satellite, x.signal, c.satellite, c.signal)
+    is_same_system(x.satellite.system(), c.satellite.system())
+        && x.satellite.id() == c.satellite.id()
+        && x.signal.index() == c.signal.index()
 }
 
 fn note_cells(locks: &mut Locks, time: u64, cells: &[Cell])

@@ -1,24 +1,24 @@
 //! Gathers messages into epochs, with loss of lock indicators.
-ghost use Rattle.std.specs.Prelude.{[], ◌≡◌, ◌↔◌, ◌⊎◌, ◌<◌, ◌≤◌, true, false, length, None, Some, is_some, IfOk, IfErr, IfSome, MatchResult, IsOk, Err, option_map, option_to_list, not, List, Option, All};
+ghost use Rattle.std.specs.Prelude.{[], ◌≡◌, ◌↔◌, ◌⊎◌, ◌<◌, ◌≤◌, true, false, length, None, Some, is_some, IfOk, IfErr};
+ghost use Rattle.std.specs.Prelude.{IfSome, IsOk, Err, option_map, option_to_list, not, List, Option};
 ghost use Rattle.rtcm_msg.specs.Entries.{IsEntry};
 ghost use Rattle.rtcm_msg.specs.Msm.{codes_of, most_pairs, week};
 ghost use Rattle.rtcm_msg.specs.Viewed.{viewed_message, lock_field};
 ghost use Rattle.obs_epoch.specs.Weeks.{weeks};
-ghost use Rattle.obs_epoch.specs.Clock.{HasHeardMessages};
 ghost use Rattle.obs_epoch.specs.Heard.{GatherSetup, Heard, heard, heard_summary, system_of};
 ghost use Rattle.obs_epoch.specs.Order.{StandByPlan};
 ghost use Rattle.obs_epoch.specs.Plans.{place_in};
 ghost use Rattle.obs_epoch.specs.Heard.{heard_cell, IsObserved};
 ghost use Rattle.obs_epoch.specs.Epochs.{values_by_message, values_of};
-ghost use Rattle.obs_epoch.specs.Held.{count_in, most_locks, no_locks, recorded};
+ghost use Rattle.obs_epoch.specs.Held.{count_in, most_locks, recorded};
 ghost use Rattle.obs_epoch.specs.Step.{answer_by, closed_by as closes};
-ghost use Rattle.obs_epoch.specs.Standing.{HasTakenMessages};
 ghost use Rattle.obs_epoch.specs.Values.{Closed, cells_of, most_cells, planned_of};
-ghost use Rattle.obs_epoch.specs.Kinds.{kind_by, is_no_station, setup_at, setup_of, IsUnfitSetup};
+ghost use Rattle.obs_epoch.specs.Kinds.{kind_by, is_no_station, setup_at, setup_of};
 ghost use Rattle.obs_epoch.specs.Gathering.{HasGatheredEpochs, closed_by, closed_in, plan_in};
 ghost use Rattle.obs_epoch.specs.Calls.{TakesMessage, EndsPendingEpoch, StaysEnded, HoldsCells, HoldsLockedKeys};
 ghost use Rattle.obs_epoch.specs.declared.fault.PlanFault.{PlanFault};
-ghost use Rattle.obs_epoch.specs.Gather.{take_step, end_step, loaded_by, load_heard, load_entry, load_entries, epoch_begun, no_counts, load, noted, rested, fate_in, hold, no_epoch};
+ghost use Rattle.obs_epoch.specs.Gather.{take_step, end_step, loaded_by, load_entry, load_entries, epoch_begun};
+ghost use Rattle.obs_epoch.specs.Gather.{no_counts, load, rested, fate_in, hold};
 ghost use Rattle.obs_epoch.specs.declared.taken.CellCounts.{CellCounts};
 
 use crate::cell::{Cell, StationValues};
@@ -26,13 +26,13 @@ use crate::clock::{Answer, Clock};
 use crate::epoch::{Epoch, MOST_CELLS};
 use crate::fault::PlanFault;
 use crate::locks::{Locks, lli};
-use crate::observe::{observe, summary_of, system_of, values_of};
+use crate::observe::{observe, system_of};
 use crate::plan::Plan;
-use crate::taken::{CellCounts, Fate, Gather, Taken, counted, is_no_station, kind_by, no_counts};
+use crate::taken::{CellCounts, Fate, Gather, Taken, counted, kind_by, no_counts};
 use crate::time::{GpsTime, WEEKS};
 use gnss_obs::System;
 use rtcm_msg::{Entries, Entry, LockField, Message, Summary, View};
-use std::alloc::{AllocError, Global};
+use std::alloc::Global;
 use std::marker::Model;
 
 /// Messages of a station, gathered into epochs.
@@ -85,17 +85,13 @@ impl Gatherer {
         ensures none { IfOk result (λ g. closed_in g ≡ None) }
         ensures accepted { IsOk result → (start_week < weeks) × (is_no_station station ≡ false) }
         ensures week { (result ≡ Err PlanFault.BadWeek) ↔ (weeks ≤ start_week) }
-        ensures station { (result ≡ Err PlanFault.BadStation) ↔ ((start_week < weeks) × (is_no_station station ≡ true)) }
-        ensures only { IfErr result (λ e. (e ≡ PlanFault.BadWeek) ⊎ ((e ≡ PlanFault.BadStation) ⊎ (e ≡ PlanFault.Memory))) }
+        ensures station { (result ≡ Err PlanFault.BadStation)
+            ↔ ((start_week < weeks) × (is_no_station station ≡ true)) }
+        ensures only { IfErr result
+            (λ e. (e ≡ PlanFault.BadWeek) ⊎ ((e ≡ PlanFault.BadStation) ⊎ (e ≡ PlanFault.Memory))) }
     {
-        Gatherer::new_at(
-            alloc,
-            plan,
-            start_week,
-            station,
-            gather,
-            StationValues::zero(),
-        )
+        let zero = StationValues::zero();
+        Gatherer::new_at(alloc, plan, start_week, station, gather, zero)
     }
 
     /// Returns a gatherer as `new` does, with `initial` as the station values until a station
@@ -112,42 +108,36 @@ impl Gatherer {
         gather: Gather,
         initial: StationValues,
     ) -> Result<Gatherer, PlanFault>
-        ensures stands { IfOk result (λ g. HasGatheredEpochs g (setup_at plan start_week station gather initial) [] [] None) }
+        ensures stands { IfOk result
+            (λ g. HasGatheredEpochs g (setup_at plan start_week station gather initial) [] [] None) }
         ensures going { IfOk result (λ g. g.has_ended ≡ false) }
         ensures none { IfOk result (λ g. closed_in g ≡ None) }
         ensures accepted { IsOk result → (start_week < weeks) × (is_no_station station ≡ false) }
         ensures week { (result ≡ Err PlanFault.BadWeek) ↔ (weeks ≤ start_week) }
-        ensures station { (result ≡ Err PlanFault.BadStation) ↔ ((start_week < weeks) × (is_no_station station ≡ true)) }
-        ensures only { IfErr result (λ e. (e ≡ PlanFault.BadWeek) ⊎ ((e ≡ PlanFault.BadStation) ⊎ (e ≡ PlanFault.Memory))) }
+        ensures station { (result ≡ Err PlanFault.BadStation)
+            ↔ ((start_week < weeks) × (is_no_station station ≡ true)) }
+        ensures only { IfErr result
+            (λ e. (e ≡ PlanFault.BadWeek) ⊎ ((e ≡ PlanFault.BadStation) ⊎ (e ≡ PlanFault.Memory))) }
     {
-        match reserved(alloc, start_week, station, initial) {
-            Ok((epoch, locks)) => {
-                let clock = Clock::new(plan, start_week, station, gather, initial);
-                Ok(Gatherer::made(clock, epoch, locks))
-            }
-            Err(fault) => {
-                drop(plan);
-                Err(fault)
-            }
+        if start_week as u64 >= WEEKS {
+            return Err(PlanFault::BadWeek);
         }
-    }
-
-    // Returns a gatherer before the first message.
-    fn made(clock: Clock, epoch: Epoch, locks: Locks) -> Gatherer
-        requires stands { HasHeardMessages clock clock.setup [] false }
-        requires epoch { epoch ≡ record { epoch = no_epoch; values = clock.setup.initial } }
-        requires locks { locks ≡ no_locks }
-        ensures stands { HasTakenMessages result clock.setup [] false }
-        ensures going { result.has_ended ≡ false }
-        ensures none { closed_in result ≡ None }
-    {
-        Gatherer {
-            clock,
+        if station.is_some_and(|number| number > 4_095) {
+            return Err(PlanFault::BadStation);
+        }
+        let Ok(locks) = Locks::new(alloc) else {
+            return Err(PlanFault::Memory);
+        };
+        let Ok(epoch) = Epoch::new(alloc, initial) else {
+            return Err(PlanFault::Memory);
+        };
+        Ok(Gatherer {
+            clock: Clock::new(plan, start_week, station, gather, initial),
             epoch,
             locks,
             handed: false,
             has_ended: false,
-        }
+        })
     }
 
     /// Processes a message of any kind; `end` must not have been called. If the kind is
@@ -189,7 +179,8 @@ impl Gatherer {
     pub fn closed(&self) -> Option<&Epoch>
         ensures order { IfSome (option_map (λ e. e.now.epoch) result) (StandByPlan (plan_in self.now)) }
         // The last epoch returned, with the station values that were known when it was closed.
-        ensures closed { option_to_list (option_map (λ e. e.now) result) ≡ closed_by (closed_in self.now) self.now.values }
+        ensures closed { option_to_list (option_map (λ e. e.now) result)
+            ≡ closed_by (closed_in self.now) self.now.values }
     {
         if self.handed { Some(&self.epoch) } else { None }
     }
@@ -224,7 +215,8 @@ impl Gatherer {
     /// Returns the current station values.
     pub fn station_values(&self) -> StationValues
         ensures now { result ≡ self.now.values }
-        ensures given { (s : GatherSetup) (ms : List Heard) (es : List Closed) (again : Option Heard) → HasGatheredEpochs self.now s ms es again
+        ensures given { (s : GatherSetup) (ms : List Heard) (es : List Closed) (again : Option Heard)
+            → HasGatheredEpochs self.now s ms es again
             → result ≡ values_of s ms }
     {
         self.epoch.station_values()
@@ -237,21 +229,23 @@ impl Gatherer {
         self.clock.plan()
     }
 
+    #[tactic(auto, using(crate::proofs::ViewLemmas::summary_heard))]
     fn step(&mut self, view: &View<'_>) -> Taken
-        ensures kind { result.kind ≡ kind_by (heard (viewed_message view.now)) (answer_by self.old.clock (heard (viewed_message view.now)))
+        ensures kind { result.kind
+            ≡ kind_by (heard (viewed_message view.now)) (answer_by self.old.clock (heard (viewed_message view.now)))
             (take_step self.old (heard (viewed_message view.now))).counts }
         ensures closed { result.closed ≡ is_some (closes self.old.clock (heard (viewed_message view.now))) }
         ensures step { self.new ≡ (take_step self.old (heard (viewed_message view.now))).state }
     {
         let before = self.clock.latest();
-        let said = summary_of(view);
+        let said = view.summary();
         let values = self.values_after(&said);
         self.epoch.set_values(values);
-        let (answer, closed) = self.clock.step_closing(&said);
+        let (answer, closed) = self.clock.step(&said);
         self.handed = closed.is_some();
         let counts = self.load(answer, before, view);
         if closed.is_some() {
-            self.close_pending();
+            self.epoch.note_locks(&mut self.locks);
         }
         Taken {
             kind: kind_by(&said, answer, counts),
@@ -268,7 +262,7 @@ impl Gatherer {
         self.has_ended = true;
         self.handed = was;
         if was {
-            self.close_pending();
+            self.epoch.note_locks(&mut self.locks);
         }
         was
     }
@@ -279,37 +273,30 @@ impl Gatherer {
     {
         let values = self.epoch.station_values();
         match said.point {
-            None => values,
-            Some(parts) => {
-                if self.clock.is_own(said.station) {
-                    values_of(&parts, values.height)
-                } else {
-                    values
-                }
-            }
+            Some(parts) if self.clock.is_own(said.station) => StationValues {
+                x: parts.x,
+                y: parts.y,
+                z: parts.z,
+                height: parts.height.unwrap_or(values.height),
+            },
+            _ => values,
         }
     }
 
     fn load(&mut self, answer: Answer, before: Option<u64>, view: &View<'_>) -> CellCounts
-        ensures { record { state = self.new; counts = result } ≡ loaded_by answer before self.old (heard (viewed_message view.now)) }
+        ensures { record { state = self.new; counts = result }
+            ≡ loaded_by answer before self.old (heard (viewed_message view.now)) }
     {
-        match answer {
-            Answer::Kept => {
-                self.begin(before);
-                match view {
-                    View::Msm(m) => self.take_entries(
-                        m.form().lock_field(),
-                        system_of(m.is_galileo()),
-                        &mut m.entries(),
-                    ),
-                    View::Station(_) | View::Other { number: _, set: _ } => no_counts(),
-                }
+        let Answer::Kept = answer else {
+            return no_counts();
+        };
+        self.begin(before);
+        match view {
+            View::Msm(m) => {
+                let system = system_of(m.is_galileo());
+                self.take_all(m.form().lock_field(), system, &mut m.entries())
             }
-            Answer::OtherStation
-            | Answer::Ignored
-            | Answer::Late
-            | Answer::PastWeeks
-            | Answer::CloseFirst => no_counts(),
+            View::Station(_) | View::Other { number: _, set: _ } => no_counts(),
         }
     }
 
@@ -323,45 +310,42 @@ impl Gatherer {
     }
 
     // Keeps a cell of a planned signal, unless a cell of its key is kept or there is no room.
-    fn take_cell(&mut self, x: Cell) -> Fate
+    #[inline(always)]
+    fn take_cell(&mut self, mut x: Cell) -> Fate
         requires observed { IsObserved (heard_cell x) }
-        requires planned { is_some (place_in x.signal (planned_of x.satellite.system self.old.clock.setup.plan)) ≡ true }
+        requires planned { is_some (place_in x.signal (planned_of x.satellite.system self.old.clock.setup.plan))
+            ≡ true }
         ensures fate { result ≡ fate_in self.old (heard_cell x) }
         ensures step { self.new ≡ hold self.old (heard_cell x) }
     {
-        match self.epoch.seek(self.clock.plan(), &x) {
-            None => Fate::Repeated,
-            Some(at) => {
-                if self.epoch.cells(x.satellite.system()).len() >= MOST_CELLS {
-                    return Fate::Crowded;
-                }
-                let mut x = x;
-                x.lli = lli(&x, self.epoch.time().milliseconds(), self.locks.latest(&x));
-                self.epoch.hold(at, x);
-                Fate::Kept
-            }
+        let (at, is_kept) = self.epoch.place_of(self.clock.plan(), &x);
+        if is_kept {
+            return Fate::Repeated;
         }
+        if self.epoch.cells(x.satellite.system()).len() >= MOST_CELLS {
+            return Fate::Crowded;
+        }
+        x.lli = lli(&x, self.epoch.time().milliseconds(), self.locks.latest(&x));
+        self.epoch.insert(at, x);
+        Fate::Kept
     }
 
     // Processes the cells of a message, and returns their outcomes.
-    fn take_entries(
-        &mut self,
-        field: LockField,
-        system: System,
-        entries: &mut Entries<'_>,
-    ) -> CellCounts
-        requires form { field ≡ lock_field entries.old.form }
-        requires few { length entries.old.left ≤ most_pairs }
-        ensures { record { state = self.new; counts = result } ≡ load_entries field system (record { state = self.old; counts = no_counts }) entries.old.left }
+    fn take_all(&mut self, field: LockField, system: System, cells: &mut Entries<'_>) -> CellCounts
+        requires form { field ≡ lock_field cells.old.form }
+        requires few { length cells.old.left ≤ most_pairs }
+        ensures { record { state = self.new; counts = result }
+            ≡ load_entries field system (record { state = self.old; counts = no_counts }) cells.old.left }
     {
         let mut counts = no_counts();
-        while let Some(entry) = entries.next() {
+        while let Some(entry) = cells.next() {
             counts = counted(self.take_entry(field, system, &entry), counts);
         }
         counts
     }
 
     // Processes a cell of a message, and returns its outcome.
+    #[inline(always)]
     fn take_entry(&mut self, field: LockField, system: System, entry: &Entry) -> Fate
         requires { IsEntry (codes_of field) entry.now }
         ensures { (n : CellCounts) → record { state = self.new; counts = count_in result n }
@@ -372,43 +356,4 @@ impl Gatherer {
             Some(x) => self.take_cell(x),
         }
     }
-
-    // Closes the pending epoch.
-    fn close_pending(&mut self)
-        ensures { self.new ≡ noted self.old }
-    {
-        self.epoch.close(&mut self.locks);
-    }
-}
-
-// Checks the week and the station, then allocates room for an epoch and the lock records.
-fn reserved(
-    alloc: Global,
-    start_week: u32,
-    station: Option<u16>,
-    initial: StationValues,
-) -> Result<(Epoch, Locks), PlanFault>
-    ensures { MatchResult result
-        (λ r. (r.0 ≡ record { epoch = no_epoch; values = initial }) × (r.1 ≡ no_locks) × (start_week < weeks) × (is_no_station station ≡ false))
-        (IsUnfitSetup start_week station) }
-{
-    if start_week as u64 >= WEEKS {
-        return Err(PlanFault::BadWeek);
-    }
-    if is_no_station(station) {
-        return Err(PlanFault::BadStation);
-    }
-    match empty(alloc, initial) {
-        Ok(room) => Ok(room),
-        Err(_) => Err(PlanFault::Memory),
-    }
-}
-
-// Returns an epoch without cells, and no lock record.
-fn empty(alloc: Global, initial: StationValues) -> Result<(Epoch, Locks), AllocError>
-    ensures { IfOk result (λ r. (r.0 ≡ record { epoch = no_epoch; values = initial }) × (r.1 ≡ no_locks)) }
-{
-    let locks = Locks::new(alloc)?;
-    let epoch = Epoch::new(alloc, initial)?;
-    Ok((epoch, locks))
 }

@@ -27,7 +27,8 @@ pub fn plans()
 /// Each time has a date and a time of day.
 pub fn calendar()
     ensures civil { (t : ℕ) → t < weeks * week → IsCivilOf t (civil_of t) }
-    ensures small { (t : ℕ) → t < weeks * week → ((civil_of t).year ≤ 9999) × ((civil_of t).month ≤ 12) × ((civil_of t).day ≤ 31) }
+    ensures small { (t : ℕ) → t < weeks * week
+        → ((civil_of t).year ≤ 9999) × ((civil_of t).month ≤ 12) × ((civil_of t).day ≤ 31) }
 {}
 
 /// The epochs of decoded messages: their times rise and are within the weeks, their cells are of

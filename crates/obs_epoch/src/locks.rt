@@ -1,11 +1,11 @@
 //! Lock records: for each satellite and signal, the latest known lock in a closed epoch. The loss
 //! of lock indicators of the next epoch are computed from them.
-ghost use Rattle.std.specs.Prelude.{IsTrue, ◌↔◌, ◌≡◌, ◌+◌, ◌<◌, ◌≤◌, [], length, IfOk, ◌++◌, ◌∷◌, insert};
+ghost use Rattle.std.specs.Prelude.{IsTrue, ◌↔◌, ◌≡◌, ◌+◌, ◌<◌, ◌≤◌, length, IfOk, insert};
 ghost use Rattle.std.specs.Vec.{vec_len, vec_capacity};
-ghost use Rattle.obs_epoch.specs.Held.{lock_place, lookup, most_locks, no_locks, note, one_if_new, recorded};
-ghost use Rattle.obs_epoch.specs.Cells.{is_system, same_key};
+ghost use Rattle.obs_epoch.specs.Held.{lock_place, lookup, most_locks, no_locks, note, recorded};
+ghost use Rattle.obs_epoch.specs.Cells.{is_system};
 ghost use Rattle.obs_epoch.specs.Heard.{IsKey, heard_cell};
-ghost use Rattle.obs_epoch.specs.Loss.{lli_with, lock_of};
+ghost use Rattle.obs_epoch.specs.Loss.{lli_with};
 
 use crate::cell::Cell;
 use gnss_obs::{
@@ -59,8 +59,7 @@ impl Locks {
     pub fn new(alloc: Global) -> Result<Locks, AllocError>
         ensures { IfOk result (λ l. l ≡ no_locks) }
     {
-        let mut entries = Vec::with_capacity(alloc, MOST_LOCKS)?;
-        clear(&mut entries);
+        let entries = vec![in alloc; None; MOST_LOCKS]?;
         Ok(Locks { entries, count: 0 })
     }
 
@@ -85,33 +84,14 @@ impl Locks {
         requires { IsKey (heard_cell x.now) }
         ensures { self.new ≡ note time self.old (heard_cell x.now) }
     {
-        if let Some(lock) = lock_at(time, x) {
+        if x.l.is_some() && x.lock.least().is_some() {
             let entry = lock_place(x);
-            let count = self.count + one_if_new(self.entries[entry]);
-            self.entries[entry] = Some(lock);
-            self.count = count;
+            let is_new = self.entries[entry].is_none();
+            self.entries[entry] = Some(KnownLock { time, lock: x.lock });
+            if is_new {
+                self.count += 1;
+            }
         }
-    }
-}
-
-// Appends an empty entry for each key.
-fn clear(entries: &mut Vec<Option<KnownLock>>)
-    requires empty { entries.old.items ≡ [] }
-    requires room { MOST_LOCKS ≤ vec_capacity entries.old }
-    ensures { entries.new.items ≡ no_locks }
-{
-    for _ in 0..MOST_LOCKS {
-        push_within(entries, None);
-    }
-}
-
-// Returns 1 if a key had no record, else 0.
-fn one_if_new(before: Option<KnownLock>) -> usize
-    ensures { result ≡ one_if_new before }
-{
-    match before {
-        None => 1,
-        Some(_) => 0,
     }
 }
 
@@ -126,18 +106,6 @@ fn lock_place(x: &Cell) -> usize
     match x.satellite.system() {
         System::Gps => GPS_SIGNAL_COUNT * (id - 1) + index,
         System::Galileo => GPS_KEYS + GALILEO_SIGNAL_COUNT * (id - 1) + index,
-    }
-}
-
-/// Returns the lock of a cell of an epoch of this time. `None` without a valid phase and a known
-/// lock.
-pub fn lock_at(time: u64, x: &Cell) -> Option<KnownLock>
-    ensures { result ≡ lock_of time (heard_cell x.now) }
-{
-    if x.l.is_some() && x.lock.least().is_some() {
-        Some(KnownLock { time, lock: x.lock })
-    } else {
-        None
     }
 }
 
@@ -159,17 +127,6 @@ pub fn lli(x: &Cell, time: u64, before: Option<KnownLock>) -> u8
     if lost { 1 + half } else { half }
 }
 
-/// Appends an item within the capacity, without allocation.
-#[inline(always)]
-pub fn push_within<T: Drop>(xs: &mut Vec<T>, x: T)
-    requires { vec_len xs.old < vec_capacity xs.old }
-    ensures items { xs.new.items ≡ xs.old.items ++ x ∷ [] }
-    ensures len { vec_len xs.new ≡ vec_len xs.old + 1 }
-    ensures room { vec_capacity xs.old ≤ vec_capacity xs.new }
-{
-    let _ = xs.push(x);
-}
-
 /// Inserts an item within the capacity, without allocation. Most cells are appended, so this
 /// function is not inlined.
 #[inline(never)]
@@ -181,15 +138,6 @@ pub fn insert_within<T: Drop>(xs: &mut Vec<T>, at: usize, x: T)
     ensures room { vec_capacity xs.old ≤ vec_capacity xs.new }
 {
     let _ = xs.insert(at, x);
-}
-
-/// Returns whether two pairs of a satellite and a signal are the same.
-pub fn is_same_key(satellite: Sat, signal: Signal, other: Sat, other_signal: Signal) -> bool
-    ensures { result ≡ same_key satellite signal other other_signal }
-{
-    is_same_system(satellite.system(), other.system())
-        && satellite.id() == other.id()
-        && signal.index() == other_signal.index()
 }
 
 /// Returns whether two systems are the same.

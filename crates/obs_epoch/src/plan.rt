@@ -1,10 +1,12 @@
 //! Plans: the wanted signals of each system.
-ghost use Rattle.std.specs.Prelude.{◌≡◌, ◌<◌, ◌≤◌, ◌+◌, ◌++◌, ◌∷◌, [], ◌==◌, length, slice_index, MatchResult, IfErr, IfSome, IsTrue, ◌↔◌, false, Ok, Err, option_map, Result};
+ghost use Rattle.std.specs.Prelude.{◌≡◌, ◌<◌, ◌≤◌, ◌+◌, ◌∷◌, [], length, slice_index, IfErr, IfSome, Err, option_map};
 ghost use Rattle.gnss_obs.specs.declared.system.System.TheVariants.{Gps, Galileo};
 ghost use Rattle.gnss_obs.specs.Signals.{table};
 ghost use Rattle.obs_epoch.specs.Values.{planned_of};
-ghost use Rattle.obs_epoch.specs.Plans.{plan_of, signals_of, signals_coded, between_commas, below, place_in};
-ghost use Rattle.obs_epoch.specs.Signals.{indices, IsOf, codes_in, ArePlanned, TakesCode, RefusesCode, IsMemoryFaultOr, IsUnfitAfter, IsUnfit, IsUnplanned, IsPlanOf, ArePlanOf};
+ghost use Rattle.obs_epoch.specs.Plans.{plan_of, signals_of, signals_coded, between_commas, place_in};
+ghost use Rattle.obs_epoch.specs.Signals.{indices, IsOf, codes_in, ArePlanned, AreOfPlan, HasEvery, IsPushed};
+ghost use Rattle.obs_epoch.specs.Signals.{TakesCode, RefusesCode, IsDefined, DoneOr, IsUnfitAfter, IsUnfit};
+ghost use Rattle.obs_epoch.specs.Signals.{IsUnplanned, IsPlanResult, ArePlanOf};
 
 use crate::fault::PlanFault;
 use crate::locks::is_same_system;
@@ -45,23 +47,15 @@ impl Plan {
     /// for a repeated code, `NothingPlanned` if both texts are `none`, `Memory` if an allocation
     /// failed.
     pub fn parse(alloc: Global, gps: &str, galileo: &str) -> Result<Plan, PlanFault>
-        ensures { MatchResult result
-            (λ p. plan_of gps.now galileo.now ≡ Ok p)
-            (IsMemoryFaultOr (λ e. plan_of gps.now galileo.now ≡ Err e)) }
+        ensures { IsDefined (plan_of gps.now galileo.now) result }
     {
         let mut first = Signals::new(alloc);
         let mut second = Signals::new(alloc);
-        match read_both(&mut first, &mut second, gps, galileo) {
-            Ok(()) => Ok(Plan {
-                gps: first,
-                galileo: second,
-            }),
-            Err(fault) => {
-                drop(first);
-                drop(second);
-                Err(fault)
-            }
-        }
+        read_both(&mut first, &mut second, gps, galileo)?;
+        Ok(Plan {
+            gps: first,
+            galileo: second,
+        })
     }
 
     /// Returns the plan of these signals in this order.
@@ -76,25 +70,17 @@ impl Plan {
         gps: &[Signal],
         galileo: &[Signal],
     ) -> Result<Plan, PlanFault>
-        ensures cases { MatchResult result
-            (λ p. IsPlanOf gps.now galileo.now p)
-            (IsMemoryFaultOr (IsUnplanned gps.now galileo.now)) }
+        ensures cases { IsPlanResult gps.now galileo.now result }
         ensures planned { IsOf Gps gps.now → IsOf Galileo galileo.now → 0 < length gps.now + length galileo.now
             → IfErr result (λ e. e ≡ PlanFault.Memory) }
     {
         let mut first = Signals::new(alloc);
         let mut second = Signals::new(alloc);
-        match add_both(&mut first, &mut second, gps, galileo) {
-            Ok(()) => Ok(Plan {
-                gps: first,
-                galileo: second,
-            }),
-            Err(fault) => {
-                drop(first);
-                drop(second);
-                Err(fault)
-            }
-        }
+        add_both(&mut first, &mut second, gps, galileo)?;
+        Ok(Plan {
+            gps: first,
+            galileo: second,
+        })
     }
 
     /// Returns the number of wanted signals of a system.
@@ -138,34 +124,27 @@ impl Plan {
 }
 
 // The functions that can fail append to lists of the caller, so none of them has to free a list.
+type Added = Result<(), PlanFault>;
 
 // Appends the signals of both systems, at least one in all.
-fn add_both(
-    gps: &mut Signals,
-    galileo: &mut Signals,
-    gps_signals: &[Signal],
-    galileo_signals: &[Signal],
-) -> Result<(), PlanFault>
-    requires { (gps.old ≡ []) × (galileo.old ≡ []) }
-    ensures cases { MatchResult result
-        (λ _. ArePlanOf gps_signals.now galileo_signals.now gps.new galileo.new)
-        (IsMemoryFaultOr (IsUnplanned gps_signals.now galileo_signals.now)) }
-    ensures planned { IsOf Gps gps_signals.now → IsOf Galileo galileo_signals.now → 0 < length gps_signals.now + length galileo_signals.now
+fn add_both(first: &mut Signals, second: &mut Signals, gps: &[Signal], galileo: &[Signal]) -> Added
+    requires { (first.old ≡ []) × (second.old ≡ []) }
+    ensures cases { DoneOr (IsUnplanned gps.now galileo.now) (ArePlanOf gps.now galileo.now first.new second.new)
+        result }
+    ensures planned { IsOf Gps gps.now → IsOf Galileo galileo.now → 0 < length gps.now + length galileo.now
         → IfErr result (λ e. e ≡ PlanFault.Memory) }
 {
-    if gps_signals.is_empty() && galileo_signals.is_empty() {
+    if gps.is_empty() && galileo.is_empty() {
         return Err(PlanFault::NothingPlanned);
     }
-    add_signals(gps, System::Gps, gps_signals)?;
-    add_signals(galileo, System::Galileo, galileo_signals)
+    add_signals(first, System::Gps, gps)?;
+    add_signals(second, System::Galileo, galileo)
 }
 
 // Appends these signals of a system: none of the other system, none twice.
-fn add_signals(added: &mut Signals, system: System, signals: &[Signal]) -> Result<(), PlanFault>
+fn add_signals(added: &mut Signals, system: System, signals: &[Signal]) -> Added
     requires { added.old ≡ [] }
-    ensures { MatchResult result
-        (λ _. (added.new ≡ signals.now) × IsOf system signals.now)
-        (IsMemoryFaultOr (IsUnfit system signals.now)) }
+    ensures { DoneOr (IsUnfit system signals.now) ((added.new ≡ signals.now) × IsOf system signals.now) result }
 {
     for i in 0..signals.len() {
         add_signal(added, system, signals[i])?;
@@ -174,11 +153,9 @@ fn add_signals(added: &mut Signals, system: System, signals: &[Signal]) -> Resul
 }
 
 // Appends a signal.
-fn add_signal(signals: &mut Signals, system: System, signal: Signal) -> Result<(), PlanFault>
+fn add_signal(signals: &mut Signals, system: System, signal: Signal) -> Added
     requires { IsOf system signals.old }
-    ensures { MatchResult result
-        (λ _. (signals.new ≡ signals.old ++ signal ∷ []) × IsOf system signals.new)
-        (IsMemoryFaultOr (IsUnfitAfter system signals.old signal)) }
+    ensures { DoneOr (IsUnfitAfter system signals.old signal) (IsPushed system signals.old signal signals.new) result }
 {
     let place = signals.len();
     if !is_same_system(signal.system(), system) {
@@ -192,31 +169,24 @@ fn add_signal(signals: &mut Signals, system: System, signal: Signal) -> Result<(
 }
 
 // Appends the signals of two texts, at least one in all.
-fn read_both(
-    gps: &mut Signals,
-    galileo: &mut Signals,
-    gps_text: &str,
-    galileo_text: &str,
-) -> Result<(), PlanFault>
-    requires { (gps.old ≡ []) × (galileo.old ≡ []) }
-    ensures { MatchResult result
-        (λ _. (plan_of gps_text.now galileo_text.now ≡ Ok (record { gps = indices gps.new; galileo = indices galileo.new })) × IsOf Gps gps.new × IsOf Galileo galileo.new)
-        (IsMemoryFaultOr (λ e. plan_of gps_text.now galileo_text.now ≡ Err e)) }
+fn read_both(first: &mut Signals, second: &mut Signals, gps: &str, galileo: &str) -> Added
+    requires { (first.old ≡ []) × (second.old ≡ []) }
+    ensures { DoneOr (λ e. plan_of gps.now galileo.now ≡ Err e)
+        (AreOfPlan (plan_of gps.now galileo.now) first.new second.new) result }
 {
-    read_signals(gps, System::Gps, gps_text)?;
-    read_signals(galileo, System::Galileo, galileo_text)?;
-    if gps.is_empty() && galileo.is_empty() {
+    read_signals(first, System::Gps, gps)?;
+    read_signals(second, System::Galileo, galileo)?;
+    if first.is_empty() && second.is_empty() {
         return Err(PlanFault::NothingPlanned);
     }
     Ok(())
 }
 
 // Appends the signals of a text.
-fn read_signals(signals: &mut Signals, system: System, text: &str) -> Result<(), PlanFault>
+fn read_signals(signals: &mut Signals, system: System, text: &str) -> Added
     requires { signals.old ≡ [] }
-    ensures { MatchResult result
-        (λ _. ArePlanned system (signals_of system text.now) signals.new)
-        (IsMemoryFaultOr (λ e. signals_of system text.now ≡ Err e)) }
+    ensures { DoneOr (λ e. signals_of system text.now ≡ Err e)
+        (ArePlanned system (signals_of system text.now) signals.new) result }
 {
     if text == "all" {
         return add_every(signals, system);
@@ -228,31 +198,26 @@ fn read_signals(signals: &mut Signals, system: System, text: &str) -> Result<(),
 }
 
 // Appends all signals of a table in its order.
-fn add_every(signals: &mut Signals, system: System) -> Result<(), PlanFault>
+fn add_every(signals: &mut Signals, system: System) -> Added
     requires { signals.old ≡ [] }
-    ensures { MatchResult result
-        (λ _. (below (length (table system)) ≡ indices signals.new) × IsOf system signals.new)
-        (λ e. e ≡ PlanFault.Memory) }
+    ensures { HasEvery system signals.new result }
 {
     for index in 0..system.signals() {
-        let signal = match Signal::from_index(system, index) {
-            Some(signal) => signal,
-            None => unreachable!(),
+        let Some(signal) = Signal::from_index(system, index) else {
+            unreachable!()
         };
-        match signals.add(signal) {
-            Ok(_) => {}
-            Err(_) => return Err(PlanFault::Memory),
+        if signals.add(signal).is_err() {
+            return Err(PlanFault::Memory);
         }
     }
     Ok(())
 }
 
 // Appends the signals of codes separated by commas.
-fn read_codes(signals: &mut Signals, system: System, text: &str) -> Result<(), PlanFault>
+fn read_codes(signals: &mut Signals, system: System, text: &str) -> Added
     requires { signals.old ≡ [] }
-    ensures { MatchResult result
-        (λ _. ArePlanned system (signals_coded system text.now) signals.new)
-        (IsMemoryFaultOr (λ e. signals_coded system text.now ≡ Err e)) }
+    ensures { DoneOr (λ e. signals_coded system text.now ≡ Err e)
+        (ArePlanned system (signals_coded system text.now) signals.new) result }
 {
     let mut rest = Some(text);
     while let Some(codes) = rest {
@@ -275,20 +240,13 @@ fn first_code(codes: &str) -> (&str, Option<&str>)
 }
 
 // Appends the signal of a code.
-fn add_code(signals: &mut Signals, system: System, code: &str) -> Result<(), PlanFault>
+fn add_code(signals: &mut Signals, system: System, code: &str) -> Added
     requires { IsOf system signals.old }
-    ensures { MatchResult result
-        (λ _. TakesCode system code.now signals.old signals.new)
-        (IsMemoryFaultOr (RefusesCode system code.now signals.old)) }
+    ensures { DoneOr (RefusesCode system code.now signals.old) (TakesCode system code.now signals.old signals.new)
+        result }
 {
-    let place = signals.len();
-    let signal = match Signal::from_code(system, code) {
-        Some(signal) => signal,
-        None => return Err(PlanFault::UnknownCode(system, place)),
-    };
-    match signals.add(signal) {
-        Ok(true) => Ok(()),
-        Ok(false) => Err(PlanFault::RepeatedCode(system, place)),
-        Err(_) => Err(PlanFault::Memory),
+    match Signal::from_code(system, code) {
+        Some(signal) => add_signal(signals, system, signal),
+        None => Err(PlanFault::UnknownCode(system, signals.len())),
     }
 }

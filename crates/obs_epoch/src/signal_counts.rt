@@ -1,10 +1,10 @@
 //! The number of cells with a value, by signal.
-ghost use Rattle.std.specs.Prelude.{◌≡◌, ◌==◌, ◌+◌, ◌<◌, ◌≤◌, ◌^◌, ◌++◌, [], true, Bool, List, length, nat_lt, filter, filter_map};
+ghost use Rattle.std.specs.Prelude.{◌≡◌, ◌<◌, [], length, nat_lt};
 ghost use Rattle.std.specs.List.{list_any};
-ghost use Rattle.std.specs.Option.{option_map_or};
 ghost use Rattle.gnss_obs.specs.Signals.{table};
-ghost use Rattle.obs_epoch.specs.Heard.{heard, seen_in, HeardCell};
-ghost use Rattle.obs_epoch.specs.SignalCounts.{brings_value, valued, counted, has_any, counted_of, entry_value, entry_signal, CountsEntries, CountsMessage, AreSignalCounts};
+ghost use Rattle.obs_epoch.specs.Heard.{heard};
+ghost use Rattle.obs_epoch.specs.SignalCounts.{counted, has_any, counted_of, entry_value, entry_signal, CountsEntries};
+ghost use Rattle.obs_epoch.specs.SignalCounts.{CountsMessage, AreSignalCounts};
 ghost use Rattle.rtcm_msg.specs.Viewed.{viewed_message};
 
 use crate::observe::system_of;
@@ -53,10 +53,7 @@ impl SignalCounts {
     pub fn has_any(&self) -> bool
         ensures { result ≡ has_any self.now }
     {
-        if is_any_positive(self.gps.as_slice()) {
-            return true;
-        }
-        is_any_positive(self.galileo.as_slice())
+        is_any_positive(self.gps.as_slice()) || is_any_positive(self.galileo.as_slice())
     }
 
     /// Counts the cells of a message of this station; with `None`, of any station.
@@ -70,13 +67,11 @@ impl SignalCounts {
     pub fn count_view(&mut self, station: Option<u16>, view: &View<'_>)
         ensures { CountsMessage self.old self.new station (heard (viewed_message view.now)) }
     {
-        match view {
-            View::Msm(m) => {
-                if is_wanted(station, m.header().station) {
-                    self.count_entries(system_of(m.is_galileo()), &mut m.entries());
-                }
+        if let View::Msm(m) = view {
+            let own = m.header().station;
+            if station.unwrap_or(own) == own {
+                self.count_entries(system_of(m.is_galileo()), &mut m.entries());
             }
-            View::Station(_) | View::Other { number: _, set: _ } => {}
         }
     }
 
@@ -107,16 +102,6 @@ fn is_any_positive(counts: &[u64]) -> bool
     ensures { result ≡ list_any (λ n. nat_lt 0 n) counts.now }
 {
     counts.iter().any(|n| *n > 0)
-}
-
-// Returns whether a station is the wanted one; without a wanted station, each is.
-fn is_wanted(wanted: Option<u16>, station: u16) -> bool
-    ensures { result ≡ option_map_or (λ n. station == n) wanted true }
-{
-    match wanted {
-        None => true,
-        Some(wanted) => station == wanted,
-    }
 }
 
 // Returns the signal of a cell, if its satellite and signal are listed and it has a value.

@@ -51,7 +51,8 @@ impl Signals {
     pub fn add(&mut self, signal: Signal) -> Result<bool, AllocError>
         requires { IsOf signal.system self.old }
         ensures new { result ≡ Ok true → IsAdded self.old signal self.new }
-        ensures old { result ≡ Ok false → (self.new ≡ self.old) × (list_any (λ s. signal.index == s.index) self.old ≡ true) }
+        ensures old { result ≡ Ok false
+            → (self.new ≡ self.old) × (list_any (λ s. signal.index == s.index) self.old ≡ true) }
     {
         let index = signal.index();
         match self.order.insert_full(signal) {

@@ -3,7 +3,7 @@ ghost use Rattle.std.specs.Prelude.{◌≡◌, ◌+◌, ◌<◌};
 ghost use Rattle.obs_epoch.specs.Heard.{heard_summary};
 ghost use Rattle.obs_epoch.specs.Held.{count_in};
 ghost use Rattle.obs_epoch.specs.Gather.{no_counts};
-ghost use Rattle.obs_epoch.specs.Kinds.{is_close_first, kind_by, is_by_bit, is_no_station};
+ghost use Rattle.obs_epoch.specs.Kinds.{is_close_first, kind_by};
 
 use crate::clock::Answer;
 use rtcm_msg::Summary;
@@ -105,19 +105,6 @@ pub(crate) fn kind_by(said: &Summary, answer: Answer, counts: CellCounts) -> Kin
     }
 }
 
-pub(crate) fn is_by_bit(gather: Gather) -> bool
-    ensures { result ≡ is_by_bit gather }
-{
-    matches!(gather, Gather::Bit)
-}
-
-// Returns whether a station's number does not fit the 12 bits of DF003.
-pub(crate) fn is_no_station(station: Option<u16>) -> bool
-    ensures { result ≡ is_no_station station }
-{
-    matches!(station, Some(station) if station > 4_095)
-}
-
 /// Returns counts that are all 0.
 pub(crate) fn no_counts() -> CellCounts
     ensures { result ≡ no_counts }
@@ -131,12 +118,12 @@ pub(crate) fn no_counts() -> CellCounts
 }
 
 /// Returns the counts after one more cell with this outcome.
-pub(crate) fn counted(fate: Fate, n: CellCounts) -> CellCounts
+pub(crate) fn counted(fate: Fate, mut n: CellCounts) -> CellCounts
     requires { n.kept + n.skipped + n.repeated + n.crowded < usize.MAX }
     ensures counts { result ≡ count_in fate n }
-    ensures all { result.kept + result.skipped + result.repeated + result.crowded ≡ n.kept + n.skipped + n.repeated + n.crowded + 1 }
+    ensures all { result.kept + result.skipped + result.repeated + result.crowded
+        ≡ n.kept + n.skipped + n.repeated + n.crowded + 1 }
 {
-    let mut n = n;
     match fate {
         Fate::Kept => n.kept += 1,
         Fate::Skipped => n.skipped += 1,

@@ -5,18 +5,12 @@ use std::alloc::Global;
 use std::test::*;
 
 static TEXTS: [(PlanFault, &str); 6] = [
-    (
-        PlanFault::UnknownCode(System::Gps, 3),
-        "unknown code at place 3",
-    ),
-    (
-        PlanFault::RepeatedCode(System::Galileo, 1),
-        "repeated code at place 1",
-    ),
-    (PlanFault::NothingPlanned, "nothing is planned"),
-    (PlanFault::BadWeek, "the week is over 99,999"),
-    (PlanFault::BadStation, "the station is over 4,095"),
-    (PlanFault::Memory, "no memory"),
+    (PlanFault::UnknownCode(System::Gps, 3), "UnknownCode G 3"),
+    (PlanFault::RepeatedCode(System::Galileo, 1), "RepeatedCode E 1"),
+    (PlanFault::NothingPlanned, "NothingPlanned"),
+    (PlanFault::BadWeek, "BadWeek"),
+    (PlanFault::BadStation, "BadStation"),
+    (PlanFault::Memory, "Memory"),
 ];
 
 fn says(alloc: Global, fault: PlanFault, text: &str) -> bool {

@@ -1,7 +1,6 @@
-use Rattle.std.proofs.Common.{◌≡◌, ◌≤◌}
-use Rattle.obs_epoch.specs.Values.{written_among}
-use Rattle.obs_epoch.proofs.GroupLemmas.{Left}
+use Rattle.std.proofs.Common.{◌≡◌, ◌+◌, ◌≤◌, drop}
+use Rattle.obs_epoch.proofs.GroupLemmas.{counted_after}
 use Rattle.obs_epoch.proofs.epoch.written.Given as goal
 
-abbrev pub invariant-loop-before : goal.invariant-loop-before
-invariant-loop-before l = (l.count ≡ written_among l.cells l.before) × (l.count ≤ l.before) × Left l.before l.from l.cells
+abbrev pub invariant-loop-i : goal.invariant-loop-i
+invariant-loop-i l = (l.count + counted_after l.last (drop l.i l.cells) ≡ counted_after 0 l.cells) × (l.count ≤ l.i)

@@ -1,10 +1,9 @@
 use Rattle.std.proofs.Common.{arith, ◌≡◌, ℕ, ◌+◌, ◌*◌, ◌/◌, ◌%◌, ◌<◌, ◌≤◌, pos}
 use Rattle.jiff_core.specs.Calendar.{IsCivilDate}
-use Rattle.jiff_core.proofs.SignedLemmas.{signed_arith}
-use Rattle.jiff_core.proofs.CalendarLemmas.{days_in_month_bounds}
 use Rattle.obs_epoch.specs.Dates.{date_of}
 use Rattle.obs_epoch.proofs.WalkLemmas.{date_of_is}
 use Rattle.obs_epoch.proofs.laws.calendar.Goals as goal
+use Rattle.std.proofs.lemmas.Grind.{common_steps}
 
 clock_is : (c : ℕ) → c / 3_600_000 * 3_600_000 + c / 60_000 % 60 * 60_000 + c % 60_000 ≡ c
 clock_is c = omega arith
@@ -13,12 +12,7 @@ hours : (c : ℕ) → c < 86_400_000 → c / 3_600_000 < 24
 hours c h = omega (arith, h)
 
 small : (y m d : ℕ) → IsCivilDate (pos y) m d → (y ≤ 9999) × (m ≤ 12) × (d ≤ 31)
-small y m d is =
-    let year = is.0.1 in
-    let month = is.1.1 in
-    let day = is.2.1 in
-    let most = (days_in_month_bounds (pos y) m).0 in
-    (omega (arith, signed_arith, year), month, omega (arith, day, most))
+small y m d is = grind (arith, common_steps)
 
 pub returns-clause-small : goal.returns-clause-small
 returns-clause-small c = λ t less.

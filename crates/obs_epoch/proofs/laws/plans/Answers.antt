@@ -11,6 +11,7 @@ use Rattle.obs_epoch.specs.Plans.{signals_after, one_signal_more}
 use Rattle.obs_epoch.specs.Laws.{CodesNameSignals}
 use Rattle.obs_epoch.proofs.PlanLemmas.{of_where}
 use Rattle.obs_epoch.proofs.laws.plans.Goals as goal
+use Rattle.std.proofs.lemmas.Grind.{common_steps}
 
 -- These signals after the earlier ones.
 record Read (system : System) (earlier : List ℕ) (codes : List (List ℕ)) (all : List ℕ) : Type 0 where
@@ -37,9 +38,7 @@ unknown_not : {A : Type 0} (system : System) (earlier : List ℕ) (c : List ℕ)
 unknown_not system earlier c rest all e h = absurd (no_fault _ all (ap (λ o. one_signal_more system earlier o rest) (sym e) ∙ h))
 
 read : (system : System) (codes : List (List ℕ)) (earlier all : List ℕ) → IsDistinct nat_eq earlier → signals_after system earlier codes ≡ Ok all → Read system earlier codes all
-read system [] earlier all apart h =
-    let is = same_signals (signals_after system earlier []) earlier all refl h in
-    record { more = []; is = sym is ∙ sym (append-nil earlier); spelled = tt; apart = subst (IsDistinct nat_eq) is apart }
+read system [] earlier all apart h = grind (arith, common_steps, same_signals, append-nil)
 read system (c ∷ codes) earlier all apart h = by (signal_of_code system c) refl (λ more d e. read system codes more all d e) where
   by : (o : Option SignalAt) → signal_of_code system c ≡ o
       → ((more : List ℕ) → IsDistinct nat_eq more → signals_after system more codes ≡ Ok all → Read system more codes all) → Read system earlier (c ∷ codes) all

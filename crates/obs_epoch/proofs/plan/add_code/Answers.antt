@@ -1,27 +1,32 @@
-use Rattle.std.proofs.Common.{◌≡◌, inr, sym, ap, ◌∙◌, subst, length, rules}
-use Rattle.std.specs.Prelude.{Err}
-use Rattle.gnss_obs.specs.Signals.{signal_of_code}
-use Rattle.obs_epoch.specs.declared.fault.PlanFault.TheVariants.{RepeatedCode}
-use Rattle.obs_epoch.specs.Signals.{indices, IsOf}
+use Rattle.std.proofs.Common.{◌≡◌, ◌++◌, ◌∷◌, [], ℕ, List, inl, inr, sym, ◌∙◌, Result, Ok, Err, Some}
+use Rattle.std.specs.Prelude.{MatchResult}
+use Rattle.gnss_obs.specs.declared.system.System.{System}
+use Rattle.gnss_obs.specs.Signals.{SignalAt, signal_of_code}
+use Rattle.obs_epoch.specs.declared.fault.PlanFault.{PlanFault}
+use Rattle.obs_epoch.specs.declared.fault.PlanFault.TheVariants.{UnknownCode, RepeatedCode, NothingPlanned, BadWeek, BadStation, Memory}
+use Rattle.obs_epoch.specs.Signals.{IsOf, TakesCode, RefusesCode, IsMemoryFaultOr, IsUnfitAfter}
+use Rattle.obs_epoch.proofs.FitLemmas.{not_before}
 use Rattle.obs_epoch.proofs.PlanLemmas.{repeated, accepted, of_where}
 use Rattle.obs_epoch.proofs.plan.add_code.Goals as goal
+use Rattle.std.proofs.Common.{arith}
+use Rattle.std.proofs.lemmas.Grind.{common_steps}
 
-pub add-requires : goal.add-requires
-add-requires c =
-    let of = of_where c.args.system _ c.in-Some.signal (sym c.from_code.ensures ∙ c.in-Some.is) in
-    subst (λ system. IsOf system c.args.signals.now) (sym of.0) c.requires
+-- The fault of a code's signal is that of the code.
+refused : (system : System) (code : List ℕ) (ss : List SignalAt) (s : SignalAt) (e : PlanFault) → signal_of_code system code ≡ Some s → IsUnfitAfter system ss s e
+    → RefusesCode system code ss e
+refused system code ss s (RepeatedCode named place) is u = grind (arith, common_steps, repeated)
+refused system code ss s (UnknownCode named place) is u = absurd (u.2 (of_where system _ s is).0)
+refused system code ss s NothingPlanned is u = absurd u
+refused system code ss s BadWeek is u = absurd u
+refused system code ss s BadStation is u = absurd u
+refused system code ss s Memory is u = absurd u
 
-pub returns-in-Ok-true : goal.returns-in-Ok-true
-returns-in-Ok-true c =
-    let is = sym c.from_code.ensures ∙ c.in-Some.is in
-    let of = of_where c.args.system _ c.in-Some.signal is in
-    let new = c.add.ensures.new (search rules) in (
-      λ rest. accepted c.args.system c.args.signals.now (signal_of_code c.args.system c.args.code.now) c.in-Some.signal rest is new.1 ∙ ap (λ l. rest (indices l)) (sym new.0),
-      subst (λ system. IsOf system c.add.new.self) of.0 new.2,
-    )
+added : (A : Type 0) (system : System) (code : List ℕ) (ss new : List SignalAt) (s : SignalAt) (r : Result A PlanFault) → signal_of_code system code ≡ Some s
+    → MatchResult r (λ _. (new ≡ ss ++ s ∷ []) × IsOf system new) (IsMemoryFaultOr (IsUnfitAfter system ss s))
+    → MatchResult r (λ _. TakesCode system code ss new) (IsMemoryFaultOr (RefusesCode system code ss))
+added A system code ss new s (Ok u) is h = grind (arith, common_steps, accepted, not_before)
+added A system code ss new s (Err e) is (inl m) = inl m
+added A system code ss new s (Err e) is (inr u) = inr (refused system code ss s e is u)
 
-pub returns-in-Ok-false : goal.returns-in-Ok-false
-returns-in-Ok-false c = inr (λ rest.
-    let old = c.add.ensures.old (search rules) in
-    repeated c.args.system c.args.signals.now (signal_of_code c.args.system c.args.code.now) c.in-Some.signal rest (sym c.from_code.ensures ∙ c.in-Some.is) old.1
-    ∙ ap (λ n. Err (RepeatedCode c.args.system n)) (sym (let n : c.len-place.result ≡ length c.args.signals.now = c.len-place.ensures in n)))
+pub returns-in-Some : goal.returns-in-Some
+returns-in-Some c = added _ c.args.system c.args.code.now c.args.signals.now _ c.in-Some.signal c.add_signal.result (sym c.from_code.ensures ∙ c.in-Some.is) c.add_signal.ensures

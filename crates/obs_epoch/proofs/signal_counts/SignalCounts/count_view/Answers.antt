@@ -1,6 +1,5 @@
-use Rattle.std.proofs.Common.{◌∙◌, ◌≡◌, ◌≤◌, ◌<◌, ◌+◌, ◌^◌, ◌==◌, ap, ap₂, sym, refl, ℕ, List, true, length, arith, filter}
-use Rattle.std.specs.Prelude.{filter_map}
-use Rattle.std.specs.Option.{option_map_or}
+use Rattle.std.proofs.Common.{◌∙◌, ◌≡◌, ◌≤◌, ◌<◌, ◌+◌, ◌^◌, ap, ap₂, sym, refl, subst, ℕ, List, length, arith, filter}
+use Rattle.std.specs.Prelude.{filter_map, unwrap_or}
 use Rattle.rtcm_msg.specs.declared.entry.Entry.{Entry}
 use Rattle.rtcm_msg.specs.declared.header.MsmHeader.{MsmHeader}
 use Rattle.rtcm_msg.specs.Entries.{entries}
@@ -15,8 +14,8 @@ use Rattle.obs_epoch.proofs.signal_counts.SignalCounts.count_view.Goals as goal
 room : (a b : ℕ) → a < 2 ^ 62 → b ≤ 64 → a + b < 2 ^ 63
 room a b x y = omega (arith, x, y)
 
-pub returns-then-is_wanted : goal.returns-then-is_wanted
-returns-then-is_wanted c =
+pub returns-then-unwrap_or-own : goal.returns-then-unwrap_or-own
+returns-then-unwrap_or-own c =
     let m : FormedMsm = c.in-Msm.m in
     let field = lock_field m.form in
     let wanted = c.args.station in
@@ -24,8 +23,8 @@ returns-then-is_wanted c =
     let es : List Entry = c.entries.result.left in
     let same : valued wanted (heard (viewed_message c.args.view.now)) ≡ filter brings_value (filter_map (seen_in field system) es) =
     ap (λ v. valued wanted (heard (viewed_message v))) c.in-Msm.is ∙ ap (valued wanted) (heard_formed m)
-    ∙ wanted_cells wanted m.msm.header.station (heard_msm field m.msm (entries (formed m))) c.is_wanted.result refl
-    (c.is_wanted.ensures ∙ ap (λ (x : MsmHeader). option_map_or (λ n. x.station == n) wanted true) c.header.ensures.value) c.if-is_wanted.true
+    ∙ wanted_cells wanted m.msm.header.station (heard_msm field m.msm (entries (formed m))) refl
+    (subst (λ (x : MsmHeader). unwrap_or wanted x.station ≡ x.station) c.header-own.ensures.value (sym c.unwrap_or.ensures ∙ c.if-unwrap_or-own.true))
     ∙ ap (filter brings_value) (ap₂ (λ s l. filter_map (seen_in field s) l) (sym (c.system_of.ensures ∙ ap system_of c.is_galileo.ensures)) (sym (ap (λ (u : Unread). u.left) c.entries.ensures.all))) in
     record {
       counts = λ cells few h.

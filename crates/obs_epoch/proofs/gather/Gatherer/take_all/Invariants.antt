@@ -1,0 +1,14 @@
+use Rattle.std.proofs.Common.{◌≡◌, ◌+◌, ◌≤◌, length}
+use Rattle.obs_epoch.specs.Gather.{no_counts, load_entries}
+use Rattle.obs_epoch.proofs.gather.Gatherer.take_all.Given as goal
+
+abbrev pub invariant-loop-entry : goal.invariant-loop-entry
+invariant-loop-entry l = record {
+  same : load_entries l.field l.system (record { state = l.self; counts = l.counts }) l.cells.left
+      ≡ load_entries l.field l.system (record { state = l.fn.self; counts = no_counts }) l.fn.cells.left;
+  form : l.cells.form ≡ l.fn.cells.form;
+  counted : l.counts.kept + l.counts.skipped + l.counts.repeated + l.counts.crowded + length l.cells.left ≤ 64;
+}
+
+abbrev pub decreases-loop-entry : goal.decreases-loop-entry
+decreases-loop-entry l = length l.cells.left
